@@ -1,0 +1,133 @@
+// A list in a public record.
+ghost use Rattle.std.specs.Prelude.{◌≡◌, ℕ, ◌<◌, [], ◌∷◌, ◌++◌, length, slice_get, option_copied, if◌then◌else◌, is_ok, ◌==◌, Some};
+ghost use Rattle.std.specs.Cmp.Lexicographic.{pointwise, lists_per, lists_equiv};
+ghost use Rattle.std.specs.List.{AllZip};
+ghost use Rattle.std.specs.Slice.Iter.{iter_rest};
+
+use std::alloc::{AllocError, AllocFailed, Global};
+use std::marker::Model;
+use std::ops::Index;
+use std::slice::Iter;
+
+/// A list, which contracts see as such.
+#[derive(Debug, Drop)]
+pub struct Items<T> {
+    items: Vec<T>,
+}
+
+/// The contents of a file, or a part of them.
+pub type Bytes = Items<u8>;
+
+/// The UTF-16 units of a string constant.
+pub type Units = Items<u16>;
+
+impl<T> Model for Items<T> {
+    ghost use Rattle.std.specs.Prelude.{List};
+
+    ghost Value = { List T };
+
+    ghost view = { λ a. a.items.items };
+}
+
+impl<T> Items<T> {
+    /// The empty list, which takes no memory.
+    pub fn new(alloc: Global) -> Self
+        ensures { result ≡ [] }
+    {
+        Items {
+            items: Vec::new(alloc),
+        }
+    }
+
+    /// The list of a vector's elements, which takes no memory.
+    pub fn from_vec(items: Vec<T>) -> Self
+        ensures { result ≡ items.items }
+    {
+        Items { items }
+    }
+
+    /// The vector of the elements, which takes no memory.
+    pub fn into_vec(self) -> Vec<T>
+        ensures { result.items ≡ self }
+    {
+        self.items
+    }
+
+    /// How many elements there are.
+    pub fn len(&self) -> usize
+        ensures { result ≡ length self.now }
+    {
+        self.items.len()
+    }
+
+    /// Whether there is no element.
+    pub fn is_empty(&self) -> bool
+        ensures { result ≡ (length self.now == 0) }
+    {
+        self.items.is_empty()
+    }
+
+    /// The elements.
+    pub fn as_slice(&self) -> &[T]
+        ensures { result.now ≡ self.now }
+    {
+        self.items.as_slice()
+    }
+
+    /// The element at an index, if there is one.
+    pub fn get(&self, index: usize) -> Option<&T>
+        ensures { option_copied result ≡ slice_get self.now index }
+    {
+        self.items.as_slice().get(index)
+    }
+
+    /// Goes over the elements.
+    pub fn iter(&self) -> Iter<'_, T>
+        ensures { iter_rest result ≡ self.now }
+    {
+        self.items.as_slice().iter()
+    }
+
+    /// Appends an element; where memory is wanting, the list is as it was.
+    pub fn push(&mut self, item: T) -> Result<(), AllocFailed<T>>
+        ensures { self.new ≡ (if is_ok result then self.old ++ item ∷ [] else self.old) }
+    {
+        self.items.push(item)
+    }
+}
+
+impl<T> Index<usize> for Items<T> {
+    type Output = T;
+
+    ghost can_index = { λ s i. i < length s };
+
+    ghost index_gives = { λ s i r. slice_get s i ≡ Some r };
+
+    fn index(&self, index: usize) -> &T {
+        &self.items[index]
+    }
+}
+
+impl<T: PartialEq> PartialEq for Items<T> {
+    ghost eq = { pointwise T.eq };
+
+    ghost laws = { lists_per T.laws };
+
+    fn eq(&self, other: &Items<T>) -> bool {
+        self.items == other.items
+    }
+}
+
+impl<T: Eq> Eq for Items<T> {
+    ghost laws = { lists_equiv T.Eq.laws };
+}
+
+impl<T: Clone> Clone for Items<T> {
+    ghost is_clone = { λ a b. AllZip T.is_clone a b };
+
+    fn clone(&self) -> Result<Items<T>, AllocError> {
+        Ok(Items {
+            items: self.items.clone()?,
+        })
+    }
+}
