@@ -1,0 +1,17 @@
+//! The symbolic class: a class file without pool indices and offsets, and the definitions that say
+//! which bytes spell it (JVMS 4).
+#![tactic(auto)]
+
+mod class;
+mod code;
+mod constant;
+mod frame;
+mod op;
+mod pool;
+
+pub use class::{Class, Constant, Field, LeftKind, LeftOut, Method};
+pub use code::{Code, Handler, Ins};
+pub use constant::PoolConstant;
+pub use frame::{Frame, FrameAt, VType};
+pub use op::{ArithOp, Case, Cond, ConvOp, Elem, Kind, LogicOp, MemberRef, Num, Op, ShiftOp};
+pub use pool::{Entry, Pool};
