@@ -1,5 +1,5 @@
 -- A place in bytes, and what is read there.
-use Rattle.std.specs.Prelude.{◌≡◌, ℕ, ◌+◌, ◌-◌, List, length, slice_range, Result, Ok, Err, nat_lt, if◌then◌else◌}
+use Rattle.std.specs.Prelude.{◌≡◌, ℕ, ◌+◌, ◌-◌, List, length, take, slice_range, Result, Ok, Err, nat_lt, if◌then◌else◌}
 use Rattle.std.specs.Int.{Width, byte_len, from_be_bytes}
 use Rattle.jv_base.specs.declared.cursor.End.{End}
 
@@ -25,6 +25,16 @@ abbrev pub taken_at : ℕ → Place → Result (List ℕ × Place) End
 taken_at n p =
     if nat_lt (length p.bytes - p.at) n then Err (ended p)
     else Ok (slice_range p.bytes p.at (p.at + n), after n p)
+
+-- the same place, where the bytes end n bytes further on
+abbrev pub cut_off : ℕ → Place → Place
+cut_off n p = record { bytes = take (p.at + n) p.bytes; at = p.at }
+
+-- the next n bytes as a part, in which each place is that of the whole
+abbrev pub part_at : ℕ → Place → Result (Place × Place) End
+part_at n p =
+    if nat_lt (length p.bytes - p.at) n then Err (ended p)
+    else Ok (cut_off n p, after n p)
 
 -- the big-endian number in the next bytes
 abbrev pub number_at : Width → Place → Result (ℕ × Place) End

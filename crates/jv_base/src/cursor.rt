@@ -1,6 +1,6 @@
 // Reading bytes from left to right.
 ghost use Rattle.std.specs.Prelude.{◌≡◌, ◌==◌, ◌<◌, ◌≤◌, length, IfOk};
-ghost use Rattle.jv_base.specs.Place.{Place, Moves, MovesTo, number_at, taken_at, start};
+ghost use Rattle.jv_base.specs.Place.{Place, Moves, MovesTo, number_at, taken_at, part_at, start};
 ghost use Rattle.jv_base.specs.declared.outcome.Or.TheVariants.{Fault};
 ghost use Rattle.std.specs.Int.{w8, w16, w32};
 
@@ -95,6 +95,23 @@ impl<'a> Cursor<'a> {
         ensures below { IfOk result (λ x. length x.now < 4294967295) }
     {
         self.front(n as usize)
+    }
+
+    /// A cursor on the next `n` bytes, which ends with them; its places are those of the whole. This
+    /// one moves past them.
+    pub fn part(&mut self, n: u32) -> Result<Cursor<'a>, End>
+        ensures { Moves result self.old self.new (part_at n self.old) }
+    {
+        let n = n as usize;
+        if self.bytes.len() - self.at < n {
+            return Err(End(self.bytes.len() as u32));
+        }
+        let at = self.at;
+        self.at += n;
+        Ok(Cursor {
+            bytes: &self.bytes[..self.at],
+            at,
+        })
     }
 
     fn front(&mut self, n: usize) -> Result<&'a [u8], End>
