@@ -1,0 +1,35 @@
+-- Names in internal form (JVMS 4.2), seen as their bytes in UTF-8.
+use Rattle.std.specs.Prelude.{ℕ, Bool, not, ◌&&◌, ◌||◌, List, [], ◌∷◌, length, nat_le, nat_eq, ◌==◌, codes}
+use Rattle.std.specs.Char.{is_ascii_alphanumeric}
+use Rattle.std.specs.Cmp.Lexicographic.{pointwise}
+use Rattle.std.specs.List.{list_all, list_any, slice_split}
+
+-- two texts are the same
+abbrev pub is_text : List ℕ → List ℕ → Bool
+is_text text other = pointwise nat_eq text other
+
+-- an ASCII letter or digit, `_`, `$`, `-`, or a byte of a character from U+0080 on. In UTF-8 such a character has no byte
+-- below 128, and every other one is a single byte, so testing the bytes is testing the characters
+unfoldable pub is_name_byte : ℕ → Bool
+is_name_byte b = nat_le 128 b || is_ascii_alphanumeric b || b == 95 || b == 36 || b == 45
+
+-- a name without a separator
+unfoldable pub is_member_name : List ℕ → Bool
+is_member_name name = not (length name == 0) && list_all is_name_byte name
+
+-- the name of a method, instance initialisation and class initialisation included (JVMS 2.9)
+unfoldable pub is_method_name : List ℕ → Bool
+is_method_name name = is_member_name name || is_text name (codes "<init>") || is_text name (codes "<clinit>")
+
+-- the words that stand for another type in Java source
+abbrev pub keywords_of_types : List (List ℕ)
+keywords_of_types = codes "boolean" ∷ codes "byte" ∷ codes "char" ∷ codes "short" ∷ codes "int" ∷ codes "long"
+    ∷ codes "float" ∷ codes "double" ∷ codes "void" ∷ []
+
+-- the parts of a name between its separators, `/`
+abbrev pub name_parts : List ℕ → List (List ℕ)
+name_parts name = slice_split (λ b. b == 47) name
+
+-- the name of a class or an interface, arrays aside
+unfoldable pub is_class_name : List ℕ → Bool
+is_class_name name = list_all is_member_name (name_parts name) && not (list_any (is_text name) keywords_of_types)
