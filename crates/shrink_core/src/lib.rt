@@ -1,4 +1,6 @@
 //! The command `shrink`: what it answers, what it writes and what it says.
 #![tactic(auto)]
 
+mod path;
 mod small;
+mod words;
