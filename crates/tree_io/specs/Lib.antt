@@ -1,4 +1,5 @@
 pub mod Below
+pub mod Calls
 pub mod Count
 pub mod Files
 pub mod Memory

@@ -1,8 +1,9 @@
 // Text in memory.
-ghost use Rattle.std.specs.Prelude.{◌≡◌, ◌≤◌, Some, IfOk};
+ghost use Rattle.std.specs.Prelude.{◌≡◌, ◌↔◌, ◌++◌, Some, IsTrue, if◌then◌else◌, is_ok, IfOk, IsErrOf};
+ghost use Rattle.tree_io.specs.Calls.{called, fails_next};
 ghost use Rattle.tree_io.specs.Memory.{sink_of};
 
-use crate::calls::{counted, is_named};
+use crate::calls::Calls;
 use crate::{PutFault, Sink};
 use jv_base::{Items, M};
 use std::alloc::Global;
@@ -12,9 +13,7 @@ use std::marker::Model;
 #[derive(Drop)]
 pub struct MemorySink {
     text: Vec<u8>,
-    fails: Items<u64>,
-    calls: u64,
-    faults: u64,
+    calls: Calls,
 }
 
 impl Model for MemorySink {
@@ -22,7 +21,7 @@ impl Model for MemorySink {
 
     ghost Value = { MemoryText };
 
-    ghost view = { λ s. record { text = s.text.items; fails = s.fails; calls = s.calls; faults = s.faults } };
+    ghost view = { λ s. record { text = s.text.items; counts = s.calls } };
 }
 
 impl MemorySink {
@@ -32,9 +31,7 @@ impl MemorySink {
     {
         Ok(MemorySink {
             text: Vec::new(alloc),
-            fails,
-            calls: 0,
-            faults: 0,
+            calls: Calls::new(fails),
         })
     }
 
@@ -49,13 +46,14 @@ impl MemorySink {
 impl Sink for MemorySink {
     ghost written = { λ s. Some s.text };
 
-    ghost faults = { λ s. s.faults };
+    ghost faults = { λ s. s.counts.faults };
 
-    fn put(&mut self, bytes: &[u8]) -> Result<(), PutFault> {
-        let fails = is_named(&self.fails, self.calls);
-        self.calls = counted(self.calls);
-        if fails {
-            self.faults = counted(self.faults);
+    fn put(&mut self, bytes: &[u8]) -> Result<(), PutFault>
+        ensures named { IsErrOf result PutFault.Failed ↔ IsTrue (fails_next self.old.counts) }
+        ensures after { self.new ≡ record { text = if is_ok result then self.old.text ++ bytes.now else self.old.text; counts = called self.old.counts } }
+    {
+        if self.calls.begin() {
+            self.calls.fail();
             return Err(PutFault::Failed);
         }
         self.text.extend_from_slice(bytes)?;

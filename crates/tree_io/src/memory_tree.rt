@@ -1,11 +1,13 @@
 // Files in memory.
-ghost use Rattle.std.specs.Prelude.{◌≡◌, ◌≤◌, ℕ, Some, List, length, take, OnOk, OnErr, IfOk};
+ghost use Rattle.std.specs.Prelude.{◌≡◌, ◌↔◌, ◌≤◌, Some, IsTrue, length, OnOk, OnErr, IfOk, IsErrOf};
 ghost use Rattle.std.specs.Option.{option_copied};
 ghost use Rattle.std.specs.FinMap as map;
 ghost use Rattle.tree_io.specs.Below.{front_of, rest_after, paths_below, IsAscending};
-ghost use Rattle.tree_io.specs.Memory.{told, overlaid, tree_of};
+ghost use Rattle.tree_io.specs.Calls.{called, fails_next};
+ghost use Rattle.tree_io.specs.Tree.{due_list, due_read, Lists, Reads};
+ghost use Rattle.tree_io.specs.Memory.{told, overlaid, tree_of, Writes};
 
-use crate::calls::{counted, is_named};
+use crate::calls::Calls;
 use crate::{FileAt, ListFault, ReadFault, Tree, WriteFault};
 use jv_base::{Bytes, Items, M, Text};
 use std::alloc::{AllocError, Global};
@@ -16,9 +18,7 @@ use std::marker::Model;
 #[derive(Drop)]
 pub struct MemoryTree {
     files: BTreeMap<Text, Bytes>,
-    fails: Items<u64>,
-    calls: u64,
-    faults: u64,
+    calls: Calls,
 }
 
 impl Model for MemoryTree {
@@ -28,7 +28,7 @@ impl Model for MemoryTree {
 
     ghost coded = { memory_files_code };
 
-    ghost view = { λ t. record { files = told t.files.entries; fails = t.fails; calls = t.calls; faults = t.faults } };
+    ghost view = { λ t. record { files = told t.files.entries; counts = t.calls } };
 }
 
 impl MemoryTree {
@@ -40,21 +40,26 @@ impl MemoryTree {
     {
         Ok(MemoryTree {
             files: overlaid(alloc, files)?,
-            fails,
-            calls: 0,
-            faults: 0,
+            calls: Calls::new(fails),
         })
     }
 
     /// A copy of a file's bytes, if there is one at the path. It isn't counted as a call.
-    pub fn file(&self, path: &Text) -> M<Option<Bytes>>
+    pub fn file(&self, alloc: Global, path: &Text) -> M<Option<Bytes>>
         ensures { IfOk result (λ bytes. bytes ≡ map.get self.now.files path.now) }
     {
         match at_path(&self.files, path) {
-            Some(bytes) => Ok(Some(bytes.clone()?)),
+            Some(bytes) => Ok(Some(copy_of(alloc, bytes.as_slice())?)),
             None => Ok(None),
         }
     }
+}
+
+// A copy of bytes.
+fn copy_of(alloc: Global, bytes: &[u8]) -> Result<Bytes, AllocError>
+    ensures { IfOk result (λ copy. copy ≡ bytes.now) }
+{
+    Ok(Items::from_vec(bytes.to_vec(alloc)?))
 }
 
 // The files of a list, put one after the other.
@@ -94,7 +99,7 @@ fn put_copy(
     ensures ok { OnOk result (told files.new.entries ≡ map.insert (told files.old.entries) path.now bytes.now) }
     ensures err { OnErr result (told files.new.entries ≡ told files.old.entries) }
 {
-    put(files, path.clone()?, Items::from_vec(bytes.to_vec(alloc)?))
+    put(files, path.clone()?, copy_of(alloc, bytes)?)
 }
 
 // What a path has after a front.
@@ -135,13 +140,17 @@ fn paths_below(
 impl Tree for MemoryTree {
     ghost files = { λ t. Some t.files };
 
-    ghost faults = { λ t. t.faults };
+    ghost faults = { λ t. t.counts.faults };
 
-    fn list(&mut self, alloc: Global, dir: &Text, max: u32) -> Result<Items<Text>, ListFault> {
-        let fails = is_named(&self.fails, self.calls);
-        self.calls = counted(self.calls);
-        if fails {
-            self.faults = counted(self.faults);
+    fn list(&mut self, alloc: Global, dir: &Text, max: u32) -> Result<Items<Text>, ListFault>
+        ensures named { IsErrOf result ListFault.Failed ↔ IsTrue (fails_next self.old.counts) }
+        ensures after { self.new ≡ record self.old { counts = called self.old.counts } }
+        ensures told { Lists result (due_list self.old.files dir.now max) }
+        ensures count { IfOk result (λ paths. length paths ≤ max) }
+        ensures ascending { IfOk result (λ paths. IsAscending paths) }
+    {
+        if self.calls.begin() {
+            self.calls.fail();
             return Err(ListFault::Failed);
         }
         let paths = paths_below(alloc, &self.files, dir)?;
@@ -151,11 +160,14 @@ impl Tree for MemoryTree {
         Ok(Items::from_vec(paths))
     }
 
-    fn read(&mut self, _alloc: Global, path: &Text, max: u64) -> Result<Bytes, ReadFault> {
-        let fails = is_named(&self.fails, self.calls);
-        self.calls = counted(self.calls);
-        if fails {
-            self.faults = counted(self.faults);
+    fn read(&mut self, alloc: Global, path: &Text, max: u64) -> Result<Bytes, ReadFault>
+        ensures named { IsErrOf result ReadFault.Failed ↔ IsTrue (fails_next self.old.counts) }
+        ensures after { self.new ≡ record self.old { counts = called self.old.counts } }
+        ensures told { Reads result (due_read (map.get self.old.files path.now) max) }
+        ensures length { IfOk result (λ bytes. length bytes ≤ max) }
+    {
+        if self.calls.begin() {
+            self.calls.fail();
             return Err(ReadFault::Failed);
         }
         let Some(bytes) = at_path(&self.files, path) else {
@@ -164,12 +176,13 @@ impl Tree for MemoryTree {
         if bytes.len() as u64 > max {
             return Err(ReadFault::TooLong);
         }
-        Ok(bytes.clone()?)
+        Ok(copy_of(alloc, bytes.as_slice())?)
     }
 
-    fn write(&mut self, alloc: Global, path: &Text, bytes: &[u8]) -> Result<(), WriteFault> {
-        let fails = is_named(&self.fails, self.calls);
-        self.calls = counted(self.calls);
+    fn write(&mut self, alloc: Global, path: &Text, bytes: &[u8]) -> Result<(), WriteFault>
+        ensures cases { Writes result path.now bytes.now self.old self.new }
+    {
+        let fails = self.calls.begin();
         let kept = if fails {
             &bytes[..bytes.len() / 2]
         } else {
@@ -177,7 +190,7 @@ impl Tree for MemoryTree {
         };
         put_copy(alloc, &mut self.files, path, kept)?;
         if fails {
-            self.faults = counted(self.faults);
+            self.calls.fail();
             return Err(WriteFault::Failed);
         }
         Ok(())
