@@ -1,3 +1,5 @@
 pub mod Small
 pub mod Path
 pub mod Words
+pub mod Refusal
+pub mod Due

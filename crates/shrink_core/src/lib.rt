@@ -2,5 +2,7 @@
 #![tactic(auto)]
 
 mod path;
+mod refusal;
+mod shrink;
 mod small;
 mod words;

@@ -1,5 +1,26 @@
 // Small classes: the class `Main` whose static methods compute with ints.
+ghost use Rattle.std.specs.Prelude.{◌≡◌, ◌<◌, IfOk, length};
+ghost use Rattle.shrink_core.specs.Small.{IsSmall, Refuses};
+ghost use Rattle.class_model.specs.Layout.{layout};
+
+use class_model::Class;
+use jv_base::{Bytes, M, Or, OutOfMemory};
+use std::alloc::Global;
 
 /// The bytes are no small class.
 #[derive(Clone, Copy, Debug, PartialEq, Eq)]
 pub struct NotBuilt;
+
+pub fn read_small(alloc: Global, bytes: &[u8]) -> Result<Class, Or<NotBuilt>>
+    requires { length bytes.now < 4294967295 }
+    ensures found { IfOk result (λ class. IsSmall bytes.now class) }
+    ensures refused { Refuses result bytes.now }
+{
+    Err(Or::OutOfMemory)
+}
+
+pub fn write_small(alloc: Global, class: &Class) -> M<Bytes>
+    ensures { IfOk result (λ bytes. bytes ≡ layout class.now) }
+{
+    Err(OutOfMemory)
+}

@@ -1,0 +1,38 @@
+-- What a command is to do on told files, and what it may have done where a device failed or memory was wanting.
+use Rattle.std.specs.Prelude.{◌≡◌, ◌⊎◌, ◌≤◌, ℕ, List, [], length, Option, Some, None, Result, Ok, Err, take}
+use Rattle.std.specs.FinMap.{get}
+use Rattle.tree_io.specs.Files.{Files, put_at, MayChangeAt}
+use Rattle.tree_io.specs.Count.{Rose}
+use Rattle.tree_io.specs.Sink.{followed_by, GainsFront}
+use Rattle.tree_io.specs.declared.file_at.FileAt.{FileAt}
+use Rattle.class_model.specs.declared.class.Class.{Class}
+use Rattle.class_model.specs.Layout.{layout}
+use Rattle.shrink_core.specs.Small.{IsSmall}
+use Rattle.shrink_core.specs.Path.{main_path}
+use Rattle.shrink_core.specs.Words.{directories_in}
+use Rattle.shrink_core.specs.declared.words.Directories.{Directories}
+use Rattle.shrink_core.specs.declared.refusal.Refusal.{Refusal}
+use Rattle.shrink_core.specs.declared.refusal.Refusal.TheVariants.{Words, NotBuilt}
+use Rattle.shrink_core.specs.declared.refusal.Stop.{Stop}
+use Rattle.shrink_core.specs.declared.refusal.Stop.TheVariants.{Refused, Device, OutOfMemory}
+
+-- a told file of at most 64 MiB spells this small class
+abbrev pub HasSmall : Files → List ℕ → Class → Type 0
+HasSmall files path class = (bytes : List ℕ) × (get files path ≡ Some bytes) × (length bytes ≤ 67108864) × IsSmall bytes class
+
+-- the file that is to be written for the class which stands in the input directory
+abbrev pub IsResult : Files → Directories → FileAt → Type 0
+IsResult files named file = (class : Class) × HasSmall files (main_path named.input) class × (file ≡ record { path = main_path named.output; bytes = layout class })
+
+-- what `shrink IN OUT` is to write, or why it is refused
+abbrev pub IsDue : List (List ℕ) → Files → Result FileAt Refusal → Type 0
+IsDue words files (Ok file) = (named : Directories) × (directories_in words ≡ Some named) × IsResult files named file
+IsDue words files (Err Words) = directories_in words ≡ None
+IsDue words files (Err (NotBuilt path)) = (named : Directories) × (directories_in words ≡ Some named) × (path ≡ main_path named.input) × ((class : Class) → HasSmall files path class → ⊥)
+
+-- the file was written; or, where the device failed, it may hold anything; else the files are as they were
+abbrev pub EndsSo : Result (Unit {0}) Stop → List (List ℕ) → Files → Option Files → Option Files → Type 0
+EndsSo (Ok _) words files old new = (file : FileAt) × IsDue words files (Ok file) × (new ≡ put_at old file.path file.bytes)
+EndsSo (Err (Refused r)) words files old new = IsDue words files (Err r) × (new ≡ old)
+EndsSo (Err Device) words files old new = (new ≡ old) ⊎ ((file : FileAt) × IsDue words files (Ok file) × MayChangeAt file.path old new)
+EndsSo (Err OutOfMemory) words files old new = new ≡ old
