@@ -20,9 +20,13 @@ use Rattle.shrink_core.specs.declared.refusal.Stop.TheVariants.{Refused, Device,
 abbrev pub HasSmall : Files → List ℕ → Class → Type 0
 HasSmall files path class = (bytes : List ℕ) × (get files path ≡ Some bytes) × (length bytes ≤ 67108864) × IsSmall bytes class
 
--- the file that is to be written for the class which stands in the input directory
+-- the file that is written for a class
+abbrev pub file_for : List ℕ → Class → FileAt
+file_for output class = record { path = main_path output; bytes = layout class }
+
+-- the file for the class which stands in the input directory
 abbrev pub IsResult : Files → Directories → FileAt → Type 0
-IsResult files named file = (class : Class) × HasSmall files (main_path named.input) class × (file ≡ record { path = main_path named.output; bytes = layout class })
+IsResult files named file = (class : Class) × HasSmall files (main_path named.input) class × (file ≡ file_for named.output class)
 
 -- what `shrink IN OUT` is to write, or why it is refused
 abbrev pub IsDue : List (List ℕ) → Files → Result FileAt Refusal → Type 0
@@ -30,9 +34,53 @@ IsDue words files (Ok file) = (named : Directories) × (directories_in words ≡
 IsDue words files (Err Words) = directories_in words ≡ None
 IsDue words files (Err (NotBuilt path)) = (named : Directories) × (directories_in words ≡ Some named) × (path ≡ main_path named.input) × ((class : Class) → HasSmall files path class → ⊥)
 
+-- the file or the refusal is the one that is due, unless the device failed or memory was wanting
+abbrev pub Plans : Result FileAt Stop → List (List ℕ) → Files → Type 0
+Plans (Ok file) words files = IsDue words files (Ok file)
+Plans (Err (Refused r)) words files = IsDue words files (Err r)
+Plans (Err Device) words files = Unit {0}
+Plans (Err OutOfMemory) words files = Unit {0}
+
 -- the file was written; or, where the device failed, it may hold anything; else the files are as they were
 abbrev pub EndsSo : Result (Unit {0}) Stop → List (List ℕ) → Files → Option Files → Option Files → Type 0
 EndsSo (Ok _) words files old new = (file : FileAt) × IsDue words files (Ok file) × (new ≡ put_at old file.path file.bytes)
 EndsSo (Err (Refused r)) words files old new = IsDue words files (Err r) × (new ≡ old)
 EndsSo (Err Device) words files old new = (new ≡ old) ⊎ ((file : FileAt) × IsDue words files (Ok file) × MayChangeAt file.path old new)
 EndsSo (Err OutOfMemory) words files old new = new ≡ old
+
+-- a refusal names this path
+abbrev pub NamesPath : {T : Type 0} → Result T Stop → List ℕ → Type 0
+NamesPath (Err (Refused Words)) path = ⊥
+NamesPath (Err (Refused (NotBuilt named))) path = named ≡ path
+NamesPath (Err Device) path = Unit {0}
+NamesPath (Err OutOfMemory) path = Unit {0}
+NamesPath (Ok _) path = Unit {0}
+
+-- the bytes at a path were found, or no small class stands there
+abbrev pub FindsBytes : Result (List ℕ) Stop → Files → List ℕ → Type 0
+FindsBytes (Ok bytes) files path = (get files path ≡ Some bytes) × (length bytes ≤ 67108864)
+FindsBytes (Err (Refused _)) files path = (class : Class) → HasSmall files path class → ⊥
+FindsBytes (Err Device) files path = Unit {0}
+FindsBytes (Err OutOfMemory) files path = Unit {0}
+
+-- the class that bytes spell, or they spell none
+abbrev pub SpellsSmall : Result Class Stop → List ℕ → Type 0
+SpellsSmall (Ok class) bytes = IsSmall bytes class
+SpellsSmall (Err (Refused _)) bytes = (class : Class) → IsSmall bytes class → ⊥
+SpellsSmall (Err Device) bytes = ⊥
+SpellsSmall (Err OutOfMemory) bytes = Unit {0}
+
+-- the class that stands at a path was found, or none does
+abbrev pub Finds : Result Class Stop → Files → List ℕ → Type 0
+Finds (Ok class) files path = HasSmall files path class
+Finds (Err (Refused _)) files path = (class : Class) → HasSmall files path class → ⊥
+Finds (Err Device) files path = Unit {0}
+Finds (Err OutOfMemory) files path = Unit {0}
+
+-- a refusal names the words or the path that they give; any other answer comes after words that are taken
+abbrev pub AnswersWords : {T : Type 0} → Result T Stop → List (List ℕ) → Type 0
+AnswersWords (Err (Refused Words)) words = directories_in words ≡ None
+AnswersWords (Err (Refused (NotBuilt path))) words = (named : Directories) × (directories_in words ≡ Some named) × (path ≡ main_path named.input)
+AnswersWords (Err OutOfMemory) words = Unit {0}
+AnswersWords (Err Device) words = (named : Directories) × (directories_in words ≡ Some named)
+AnswersWords (Ok _) words = (named : Directories) × (directories_in words ≡ Some named)

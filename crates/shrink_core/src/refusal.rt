@@ -24,6 +24,14 @@ pub enum Stop {
     OutOfMemory,
 }
 
+impl From<AllocError> for Stop {
+    ghost from_gives = { λ _ stop. stop ≡ no_memory };
+
+    fn from(_: AllocError) -> Self {
+        Stop::OutOfMemory
+    }
+}
+
 impl From<OutOfMemory> for Stop {
     ghost from_gives = { λ _ stop. stop ≡ no_memory };
 
