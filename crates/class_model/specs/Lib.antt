@@ -1,0 +1,5 @@
+pub mod Pool
+pub mod Structure
+pub mod Instructions
+pub mod File
+pub mod Layout

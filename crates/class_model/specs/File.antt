@@ -1,0 +1,101 @@
+-- Which bytes spell a class (JVMS 4). So far: classes without interfaces, fields and attributes, whose methods are static and
+-- have the one attribute Code, without handlers and attributes.
+use Rattle.std.specs.Prelude.{◌≡◌, ◌≢◌, ◌⊎◌, ℕ, ◌^◌, ◌<◌, List, [], ◌∷◌, length, Option, Some, None, AllPairs, IsTrue, bit_and, codes, false}
+use Rattle.std.specs.List.{AllZip}
+use Rattle.jv_base.specs.declared.access.Access.{Access}
+use Rattle.jv_base.specs.Names.{is_member_name}
+use Rattle.jv_base.specs.Types.{method_text, IsMethodType}
+use Rattle.class_model.specs.declared.pool.Entry.{Entry}
+use Rattle.class_model.specs.declared.code.Code.{Code}
+use Rattle.class_model.specs.declared.class.Method.{Method}
+use Rattle.class_model.specs.declared.class.Class.{Class}
+use Rattle.class_model.specs.Pool.{IsPool, IsTextAt, IsClassAt}
+use Rattle.class_model.specs.Structure.{AttributeInfo, MemberInfo, CodeInfo, code_info, ClassFile, class_file}
+use Rattle.class_model.specs.Instructions.{IsCodeText}
+
+-- the flags of these bits
+abbrev pub flags_of : ℕ → Access
+flags_of bits = record { 0 = bits }
+
+-- of public, private and protected at most one (JVMS 4.6)
+abbrev pub HasOneAccess : ℕ → Type 0
+HasOneAccess flags = bit_and flags 7 < 3 ⊎ (bit_and flags 7 ≡ 4)
+
+-- ---- code
+
+-- the contents of a Code attribute (JVMS 4.7.3)
+pub record IsCode (raw : CodeInfo) (code : Code) : Type 0 where
+  pub max_stack : (raw.max_stack < 2 ^ 16) × (code.max_stack ≡ raw.max_stack)
+  pub max_locals : (raw.max_locals < 2 ^ 16) × (code.max_locals ≡ raw.max_locals)
+  pub length_from : 0 < length raw.code
+  pub length_to : length raw.code < 2 ^ 16
+  pub instructions : IsCodeText raw.code code.ins
+  pub handlers : (raw.exception_table ≡ []) × (code.handlers ≡ [])
+  pub frames : (raw.attributes ≡ []) × (code.frames ≡ [])
+
+-- the attribute is a Code (JVMS 4.7.3)
+pub record IsCodeAttribute (pool : List Entry) (attribute : AttributeInfo) (code : Code) : Type 0 where
+  pub name : IsTextAt pool attribute.attribute_name_index (codes "Code")
+  pub contents : (raw : CodeInfo) × (attribute.info ≡ code_info raw) × IsCode raw code
+
+-- the attributes of a method are this code
+abbrev pub IsBody : List Entry → List AttributeInfo → Option Code → Type 0
+IsBody pool (attribute ∷ []) (Some code) = IsCodeAttribute pool attribute code
+IsBody pool _ _ = ⊥
+
+-- ---- methods
+
+-- the flags of a method that is static and neither native nor abstract; those that mean nothing are dropped (JVMS 4.6)
+pub record AreMethodFlags (bits : ℕ) (flags : Access) : Type 0 where
+  pub fit : bits < 2 ^ 16
+  pub is : flags ≡ flags_of (bit_and bits 0x1DFF)
+  pub one_access : HasOneAccess bits
+  pub static : bit_and bits 0x0008 ≡ 0x0008
+  pub has_body : bit_and bits 0x0500 ≡ 0
+
+-- method_info (JVMS 4.6); class and instance initialisation methods are for later
+pub record IsMethod (pool : List Entry) (raw : MemberInfo) (method : Method) : Type 0 where
+  pub flags : AreMethodFlags raw.access_flags method.flags
+  pub name : IsTextAt pool raw.name_index method.name
+  pub named : IsTrue (is_member_name method.name)
+  pub descriptor : IsTextAt pool raw.descriptor_index (method_text method.ty)
+  pub typed : IsMethodType method.ty
+  pub body : IsBody pool raw.attributes method.code
+  pub throws : method.throws ≡ []
+  pub synthetic : method.synthetic ≡ false
+  pub deprecated : method.deprecated ≡ false
+
+-- the methods differ in name or descriptor (JVMS 4.6)
+abbrev pub Differ : Method → Method → Type 0
+Differ one other = ¬ ((one.name ≡ other.name) × (method_text one.ty ≡ method_text other.ty))
+
+-- ---- the class
+
+-- the flags of a class that is neither an annotation nor an enum; those that mean nothing are dropped (JVMS 4.1)
+pub record AreClassFlags (bits : ℕ) (flags : Access) : Type 0 where
+  pub fit : bits < 2 ^ 16
+  pub is : flags ≡ flags_of (bit_and bits 0x7631)
+  pub plain : bit_and bits 0x6000 ≡ 0
+  pub final_or_abstract : bit_and bits 0x0410 ≢ 0x0410
+  pub interface_abstract : bit_and bits 0x0600 ≢ 0x0200
+
+-- ClassFile (JVMS 4.1)
+pub record IsClass (raw : ClassFile) (class : Class) (pool : List Entry) : Type 0 where
+  pub constant_pool : IsPool raw.constant_pool pool
+  pub flags : AreClassFlags raw.access_flags class.flags
+  pub name : IsClassAt pool raw.this_class class.name
+  pub super_name : IsClassAt pool raw.super_class class.super_name
+  pub interfaces : (raw.interfaces ≡ []) × (class.interfaces ≡ [])
+  pub fields : (raw.fields ≡ []) × (class.fields ≡ [])
+  pub methods_count : length raw.methods < 2 ^ 16
+  pub methods : AllZip (IsMethod pool) raw.methods class.methods
+  pub methods_differ : AllPairs Differ class.methods
+  pub attributes : raw.attributes ≡ []
+  pub source : class.source ≡ None
+  pub synthetic : class.synthetic ≡ false
+  pub deprecated : class.deprecated ≡ false
+  pub left_out : class.left_out ≡ None
+
+-- the bytes are a spelling of the class
+abbrev pub File : List ℕ → Class → Type 0
+File bytes class = (raw : ClassFile) × (bytes ≡ class_file raw) × (pool : List Entry) × IsClass raw class pool

@@ -1,0 +1,136 @@
+-- The canonical spelling of a class. So far: of the classes that File takes.
+use Rattle.std.specs.Prelude.{ℕ, ◌+◌, Bool, false, List, [], ◌∷◌, ◌++◌, map, Option, Some, None, nat_lt, nat_eq, ◌&&◌, if◌then◌else◌, codes, ℤ, pos, negsuc, ◌+ℤ◌, int_le}
+use Rattle.std.specs.Int.{w8, w16, cast_unsigned, to_be_bytes}
+use Rattle.std.specs.List.{flat_map, position_or_len}
+use Rattle.std.specs.Cmp.Lexicographic.{pointwise}
+use Rattle.indexmap.specs.IndexSet.{insert_all}
+use Rattle.jv_base.specs.Utf16.{units_of}
+use Rattle.jv_base.specs.Types.{method_text}
+use Rattle.class_model.specs.declared.constant.PoolConstant.{PoolConstant}
+use Rattle.class_model.specs.declared.constant.PoolConstant.TheVariants.{Utf8, Class as ClassOf}
+use Rattle.class_model.specs.declared.pool.Entry.{Entry}
+use Rattle.class_model.specs.declared.pool.Entry.TheVariants as entry
+use Rattle.class_model.specs.declared.op.Op.{Op}
+use Rattle.class_model.specs.declared.op.Op.TheVariants as op
+use Rattle.class_model.specs.declared.op.Kind.TheVariants as kind
+use Rattle.class_model.specs.declared.op.Num.TheVariants as num
+use Rattle.class_model.specs.declared.op.ArithOp.TheVariants as arith
+use Rattle.class_model.specs.declared.code.Ins.{Ins}
+use Rattle.class_model.specs.declared.code.Code.{Code}
+use Rattle.class_model.specs.declared.class.Method.{Method}
+use Rattle.class_model.specs.declared.class.Class.{Class}
+use Rattle.class_model.specs.Structure.{AttributeInfo, MemberInfo, CodeInfo, code_info, ClassFile, class_file}
+
+-- ---- the pool
+
+-- the constants are one
+abbrev pub same : PoolConstant → PoolConstant → Bool
+same (Utf8 a) (Utf8 b) = pointwise nat_eq a b
+same (ClassOf a) (ClassOf b) = pointwise nat_eq a b
+same _ _ = false
+
+-- the constants of a text
+abbrev pub text_constants : List ℕ → List PoolConstant
+text_constants text = Utf8 (units_of text) ∷ []
+
+-- the constants of a class that is named, the text before the class
+abbrev pub class_constants : List ℕ → List PoolConstant
+class_constants name = Utf8 (units_of name) ∷ ClassOf (units_of name) ∷ []
+
+-- the constants of a method: its name, its descriptor and its attribute's name
+abbrev pub method_constants : Method → List PoolConstant
+method_constants m = text_constants m.name ++ (text_constants (method_text m.ty) ++ text_constants (codes "Code"))
+
+-- the constants that a class needs, in the order of the file
+abbrev pub constants_of : Class → List PoolConstant
+constants_of c = class_constants c.name ++ (class_constants c.super_name ++ flat_map method_constants c.methods)
+
+-- the pool from index 1 on: each constant once, where it is needed first
+unfoldable pub pool_of : Class → List PoolConstant
+pool_of c = insert_all same [] (constants_of c)
+
+-- the index of a constant
+abbrev pub index_of : List PoolConstant → PoolConstant → ℕ
+index_of pool k = 1 + position_or_len (same k) pool
+
+abbrev pub entry_of : List PoolConstant → PoolConstant → Entry
+entry_of pool (Utf8 units) = entry.Utf8 units
+entry_of pool (ClassOf units) = entry.Class (index_of pool (Utf8 units))
+
+-- ---- code
+
+-- a number is one of these
+abbrev pub int_between : ℤ → ℤ → ℤ → Bool
+int_between low high n = int_le low n && int_le n high
+
+-- iconst_<i> from -1 to 5, bipush from -128 to 127, else sipush
+abbrev pub push_bytes : ℤ → List ℕ
+push_bytes n =
+    if int_between (negsuc 0) (pos 5) n then cast_unsigned w8 (n +ℤ pos 3) ∷ []
+    else if int_between (negsuc 127) (pos 127) n then 0x10 ∷ cast_unsigned w8 n ∷ []
+    else 0x11 ∷ to_be_bytes w16 (cast_unsigned w16 n)
+
+-- the opcode that names a slot below 4, else the opcode and the slot
+abbrev pub slot_bytes : ℕ → ℕ → ℕ → List ℕ
+slot_bytes opcode first slot = if nat_lt slot 4 then (first + slot) ∷ [] else opcode ∷ slot ∷ []
+
+-- the shortest spelling of an instruction; of those that File doesn't take there is none
+abbrev pub op_bytes : Op → List ℕ
+op_bytes op.Nop = 0x00 ∷ []
+op_bytes (op.PushInt n) = push_bytes n
+op_bytes (op.Load kind.Int slot) = slot_bytes 0x15 0x1A slot
+op_bytes (op.Store kind.Int slot) = slot_bytes 0x36 0x3B slot
+op_bytes op.Pop = 0x57 ∷ []
+op_bytes (op.Arith arith.Add num.Int) = 0x60 ∷ []
+op_bytes (op.Arith arith.Sub num.Int) = 0x64 ∷ []
+op_bytes (op.Arith arith.Mul num.Int) = 0x68 ∷ []
+op_bytes (op.Arith arith.Div num.Int) = 0x6C ∷ []
+op_bytes (op.Arith arith.Rem num.Int) = 0x70 ∷ []
+op_bytes (op.Neg num.Int) = 0x74 ∷ []
+op_bytes (op.Inc slot delta) = 0x84 ∷ slot ∷ cast_unsigned w8 delta ∷ []
+op_bytes (op.Return (Some kind.Int)) = 0xAC ∷ []
+op_bytes _ = []
+
+-- the bytes of a code
+unfoldable pub code_bytes : List Ins → List ℕ
+code_bytes ins = flat_map (λ (i : Ins). op_bytes i.op) ins
+
+abbrev pub code_raw : Code → CodeInfo
+code_raw code = record {
+  max_stack = code.max_stack;
+  max_locals = code.max_locals;
+  code = code_bytes code.ins;
+  exception_table = [];
+  attributes = [];
+}
+
+-- ---- methods and the class
+
+-- the attribute Code, where there is code
+abbrev pub code_attributes : List PoolConstant → Option Code → List AttributeInfo
+code_attributes pool None = []
+code_attributes pool (Some code) = record { attribute_name_index = index_of pool (Utf8 (units_of (codes "Code"))); info = code_info (code_raw code) } ∷ []
+
+abbrev pub method_raw : List PoolConstant → Method → MemberInfo
+method_raw pool m = record {
+  access_flags = m.flags.0;
+  name_index = index_of pool (Utf8 (units_of m.name));
+  descriptor_index = index_of pool (Utf8 (units_of (method_text m.ty)));
+  attributes = code_attributes pool m.code;
+}
+
+abbrev pub class_raw : List PoolConstant → Class → ClassFile
+class_raw pool c = record {
+  constant_pool = map (entry_of pool) pool;
+  access_flags = c.flags.0;
+  this_class = index_of pool (ClassOf (units_of c.name));
+  super_class = index_of pool (ClassOf (units_of c.super_name));
+  interfaces = [];
+  fields = [];
+  methods = map (method_raw pool) c.methods;
+  attributes = [];
+}
+
+-- the one canonical spelling
+unfoldable pub layout : Class → List ℕ
+layout c = class_file (class_raw (pool_of c) c)

@@ -1,0 +1,24 @@
+-- The classes that are built so far.
+use Rattle.std.specs.Prelude.{◌≡◌, ℕ, List, Some, codes}
+use Rattle.std.specs.List.{AllByRecursion}
+use Rattle.jv_base.specs.declared.types.Base.TheVariants.{Int}
+use Rattle.jv_base.specs.declared.types.FieldType.{FieldType}
+use Rattle.class_model.specs.declared.class.Method.{Method}
+use Rattle.class_model.specs.declared.class.Class.{Class}
+use Rattle.class_model.specs.File.{File}
+
+-- the type int
+abbrev pub int_type : FieldType
+int_type = record { dims = 0; base = Int }
+
+-- a method of ints that gives an int
+pub record IsIntMethod (method : Method) : Type 0 where
+  pub args : AllByRecursion (λ ty. ty ≡ int_type) method.ty.args
+  pub ret : method.ty.ret ≡ Some int_type
+
+-- the bytes spell a small class
+pub record IsSmall (bytes : List ℕ) (class : Class) : Type 0 where
+  pub file : File bytes class
+  pub name : class.name ≡ codes "Main"
+  pub super_name : class.super_name ≡ codes "java/lang/Object"
+  pub methods : AllByRecursion IsIntMethod class.methods
