@@ -9,7 +9,7 @@ use Rattle.class_model.specs.declared.class.Class.{Class}
 use Rattle.class_model.specs.Layout.{layout}
 use Rattle.shrink_core.specs.Small.{IsSmall}
 use Rattle.shrink_core.specs.Path.{main_path}
-use Rattle.shrink_core.specs.Words.{directories_in}
+use Rattle.shrink_core.specs.Words.{directories_in, AreTaken}
 use Rattle.shrink_core.specs.declared.words.Directories.{Directories}
 use Rattle.shrink_core.specs.declared.refusal.Refusal.{Refusal}
 use Rattle.shrink_core.specs.declared.refusal.Refusal.TheVariants.{Words, NotBuilt}
@@ -77,10 +77,10 @@ Finds (Err (Refused _)) files path = (class : Class) → HasSmall files path cla
 Finds (Err Device) files path = Unit {0}
 Finds (Err OutOfMemory) files path = Unit {0}
 
--- a refusal names the words or the path that they give; any other answer comes after words that are taken
+-- other words are refused as such, and nothing else is; another refusal names the path that the words give
 abbrev pub AnswersWords : {T : Type 0} → Result T Stop → List (List ℕ) → Type 0
 AnswersWords (Err (Refused Words)) words = directories_in words ≡ None
 AnswersWords (Err (Refused (NotBuilt path))) words = (named : Directories) × (directories_in words ≡ Some named) × (path ≡ main_path named.input)
-AnswersWords (Err OutOfMemory) words = Unit {0}
-AnswersWords (Err Device) words = (named : Directories) × (directories_in words ≡ Some named)
-AnswersWords (Ok _) words = (named : Directories) × (directories_in words ≡ Some named)
+AnswersWords (Err Device) words = AreTaken words
+AnswersWords (Err OutOfMemory) words = AreTaken words
+AnswersWords (Ok _) words = AreTaken words

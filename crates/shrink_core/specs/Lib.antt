@@ -3,3 +3,4 @@ pub mod Path
 pub mod Words
 pub mod Refusal
 pub mod Due
+pub mod Answer

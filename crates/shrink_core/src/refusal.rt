@@ -1,6 +1,6 @@
 // Why a command ends without its result, and what is said then.
 ghost use Rattle.std.specs.Prelude.{◌≡◌, IfOk};
-ghost use Rattle.shrink_core.specs.Refusal.{status_of, not_built_text};
+ghost use Rattle.shrink_core.specs.Refusal.{not_built_text};
 ghost use Rattle.shrink_core.specs.declared.refusal.Stop.TheVariants.{OutOfMemory as no_memory};
 
 use jv_base::{M, OutOfMemory, Text};
@@ -37,18 +37,6 @@ impl From<OutOfMemory> for Stop {
 
     fn from(_: OutOfMemory) -> Self {
         Stop::OutOfMemory
-    }
-}
-
-/// The status with which the program ends.
-pub fn status_of(stop: &Stop) -> u8
-    ensures { result ≡ status_of stop.now }
-{
-    match stop {
-        Stop::Refused(Refusal::Words) => 1,
-        Stop::Refused(Refusal::NotBuilt(_)) => 4,
-        Stop::Device => 7,
-        Stop::OutOfMemory => 10,
     }
 }
 

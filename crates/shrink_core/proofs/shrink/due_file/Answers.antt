@@ -7,4 +7,4 @@ pub returns-in_err-class-clause-told : goal.returns-in_err-class-clause-told
 returns-in_err-class-clause-told g c =
     let files = g.T.Tree.files c.args.tree.now in
     let p = err_from_is_err_and c.from_residual-in_err-class.result c.from_residual-in_err-class.ensures.1 in
-    rw (p.1, p.2) (not_found_told files c.args.words.now c.in-Some.named c.in_err-class.field-0.0 (sym c.in_ok-named.ensures ∙ c.in-Some.is) c.in_err-class.ensures.path c.in_err-class.ensures.told)
+    rw (p.1, p.2) (not_found_told files c.args.words.now c.in-Some.named c.in_err-class.field-0.0 (sym c.in_ok-named.ensures.named ∙ c.in-Some.is) c.in_err-class.ensures.path c.in_err-class.ensures.told)
