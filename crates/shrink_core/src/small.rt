@@ -1,4 +1,5 @@
 // Small classes: the class `Main` whose static methods compute with ints.
+mod writing;
 
 /// The bytes are no small class.
 #[derive(Clone, Copy, Debug, PartialEq, Eq)]
