@@ -4,7 +4,7 @@ use Rattle.std.proofs.lemmas.List.{at_drop_all}
 use Rattle.indexmap.specs.IndexSet.{insert_all}
 use Rattle.class_model.specs.declared.class.Method.{Method}
 use Rattle.class_model.specs.Layout.{same, method_constants, pool_of}
-use Rattle.shrink_core.proofs.small.writing.pool_of.Goals as goal
+use Rattle.shrink_core.proofs.small.writing.constants.pool_of.Goals as goal
 
 pub returns : goal.returns
 unfolding pool_of

@@ -3,7 +3,7 @@ use Rattle.std.specs.List.{position_or_len}
 use Rattle.std.proofs.lemmas.List.Sums.{prefix_len-le-length}
 use Rattle.class_model.specs.declared.constant.PoolConstant.{PoolConstant}
 use Rattle.shrink_core.proofs.Places.{unwrap_or-position, derived_is_same}
-use Rattle.shrink_core.proofs.small.writing.index_of.Goals as goal
+use Rattle.shrink_core.proofs.small.writing.constants.index_of.Goals as goal
 
 pub returns : goal.returns
 returns c =
