@@ -1,4 +1,5 @@
 pub mod Small
+pub mod Writable
 pub mod Path
 pub mod Words
 pub mod Refusal

@@ -3,7 +3,7 @@ ghost use Rattle.std.specs.Prelude.{◌≡◌, ◌≤◌, ◌⊎◌, ℕ, List, 
 ghost use Rattle.tree_io.specs.Count.{Rose};
 ghost use Rattle.tree_io.specs.Files.{put_at, MayChangeAt};
 ghost use Rattle.shrink_core.specs.Path.{main_path};
-ghost use Rattle.shrink_core.specs.Words.{directories_in};
+ghost use Rattle.shrink_core.specs.Writable.{CanLayOut};
 ghost use Rattle.shrink_core.specs.Due.{NamesPath, FindsBytes, SpellsSmall, Finds, file_for, AnswersWords, Plans, EndsSo};
 
 use crate::path::main_path;
@@ -42,6 +42,7 @@ fn class_of(alloc: Global, path: Text, bytes: &[u8]) -> Result<Class, Stop>
     requires { length bytes.now ≤ 67108864 }
     ensures path { NamesPath result path }
     ensures spelled { SpellsSmall result bytes.now }
+    ensures writable { IfOk result (λ class. CanLayOut class) }
 {
     match read_small(alloc, bytes) {
         Ok(class) => Ok(class),
@@ -57,6 +58,7 @@ fn read_main<T: Tree>(alloc: Global, input: &Text, tree: &mut T) -> Result<Class
     ensures device { IsErrOf result Stop.Device → Rose (T.faults tree.old) (T.faults tree.new) }
     ensures path { NamesPath result (main_path input.now) }
     ensures told { IfSome (T.files tree.old) (λ fs. Finds result fs (main_path input.now)) }
+    ensures writable { IfOk result (λ class. CanLayOut class) }
 {
     let path = main_path(alloc, input.as_str())?;
     let bytes = read_bytes(alloc, &path, tree)?;
@@ -65,6 +67,7 @@ fn read_main<T: Tree>(alloc: Global, input: &Text, tree: &mut T) -> Result<Class
 
 // The file that is written for a class.
 fn file_for(alloc: Global, output: &Text, class: &Class) -> M<FileAt>
+    requires { CanLayOut class.now }
     ensures { IfOk result (λ file. file ≡ file_for output.now class.now) }
 {
     let path = main_path(alloc, output.as_str())?;

@@ -1,11 +1,13 @@
 // Small classes: the class `Main` whose static methods compute with ints.
-ghost use Rattle.std.specs.Prelude.{◌≡◌, ◌<◌, IfOk, length};
+ghost use Rattle.std.specs.Prelude.{◌<◌, IfOk, length};
 ghost use Rattle.shrink_core.specs.Small.{IsSmall, Refuses};
-ghost use Rattle.class_model.specs.Layout.{layout};
+
+mod writing;
 
 use class_model::Class;
-use jv_base::{Bytes, M, Or, OutOfMemory};
+use jv_base::Or;
 use std::alloc::Global;
+pub(crate) use writing::write_small;
 
 /// The bytes are no small class.
 #[derive(Clone, Copy, Debug, PartialEq, Eq)]
@@ -17,10 +19,4 @@ pub fn read_small(alloc: Global, bytes: &[u8]) -> Result<Class, Or<NotBuilt>>
     ensures refused { Refuses result bytes.now }
 {
     Err(Or::OutOfMemory)
-}
-
-pub fn write_small(alloc: Global, class: &Class) -> M<Bytes>
-    ensures { IfOk result (λ bytes. bytes ≡ layout class.now) }
-{
-    Err(OutOfMemory)
 }
