@@ -27,7 +27,13 @@ const OTHER_POOL: &[u8] = b"\xCA\xFE\xBA\xBE\0\0\0\x34\0\x0A\
 const EDGES: &[u8] = b"\xCA\xFE\xBA\xBE\0\0\0\x34\0\x08\
 \x01\0\x04Main\x07\0\x01\x01\0\x10java/lang/Object\x07\0\x03\x01\0\x01f\x01\0\x03()I\x01\0\x04Code\
 \0\x20\0\x02\0\x04\0\0\0\0\0\x01\0\x08\0\x05\0\x06\0\x01\
-\0\x07\0\0\0\x1D\0\x05\0\x05\0\0\0\x11\x02\x10\x7F\x10\x80\x11\0\x80\x11\x80\0\x3E\x36\x04\x74\xAC\0\0\0\0\0\0";
+\0\x07\0\0\0\x1C\0\x05\0\x05\0\0\0\x10\x02\x10\x7F\x10\x80\x11\0\x80\x11\x80\0\x3E\x36\x04\x74\xAC\0\0\0\0\0\0";
+
+// The same with each number spelled by a longer form.
+const LONGER_EDGES: &[u8] = b"\xCA\xFE\xBA\xBE\0\0\0\x34\0\x08\
+\x01\0\x04Main\x07\0\x01\x01\0\x10java/lang/Object\x07\0\x03\x01\0\x01f\x01\0\x03()I\x01\0\x04Code\
+\0\x20\0\x02\0\x04\0\0\0\0\0\x01\0\x08\0\x05\0\x06\0\x01\
+\0\x07\0\0\0\x20\0\x05\0\x05\0\0\0\x14\x10\xFF\x11\0\x7F\x11\xFF\x80\x11\0\x80\x11\x80\0\x36\x03\x36\x04\x74\xAC\0\0\0\0\0\0";
 
 fn text(alloc: Global, text: &str) -> M<Text> {
     Ok(Text::from_str(alloc, text)?)
@@ -69,6 +75,7 @@ fn small_classes_are_written_canonically(rt: HostRuntime) -> Result<(), Fail> {
         (LONGER_CODE, CANONICAL),
         (OTHER_POOL, CANONICAL),
         (EDGES, EDGES),
+        (LONGER_EDGES, EDGES),
     ] {
         let mut tree = tree_of(alloc, "in/Main.class", bytes, &[])?;
         let mut out = MemorySink::new(alloc, Items::new(alloc))?;
