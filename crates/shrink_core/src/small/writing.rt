@@ -175,3 +175,6 @@ fn put_attribute(name_index: u16, info: &[u8], out: &mut Vec<u8>) -> M<()>
     put_u4(out, info.len() as u32)?;
     put(out, info)
 }
+
+#[cfg(test)]
+mod tests;
