@@ -49,8 +49,10 @@ fn put_class_file(
     put_head(out)?;
     put_pool(alloc, pool, out)?;
     put_class_head(alloc, pool, class, out)?;
+    // interfaces_count and fields_count
     put(out, &[0, 0, 0, 0])?;
     put_methods(alloc, pool, &class.methods, out)?;
+    // attributes_count
     put_u2(out, 0)
 }
 
@@ -159,7 +161,7 @@ fn code_info(alloc: Global, code: &Code) -> M<Vec<u8>>
     put_u2(&mut info, code.max_locals)?;
     put_u4(&mut info, bytes.len() as u32)?;
     put(&mut info, &bytes)?;
-    // no handlers and no attributes
+    // exception_table_length and attributes_count
     put_u2(&mut info, 0)?;
     put_u2(&mut info, 0)?;
     Ok(info)
