@@ -1,3 +1,8 @@
 pub mod Small
 pub mod Writable
 pub mod Example
+pub mod Path
+pub mod Words
+pub mod Refusal
+pub mod Due
+pub mod Answer

@@ -12,14 +12,12 @@ mod constants;
 mod instructions;
 
 use crate::small::writing::bytes::{put, put_u2, put_u4};
-use crate::small::writing::constants::{
-    index_of_class, index_of_text, method_text, pool_of, put_pool,
-};
+use crate::small::writing::constants::{index_of_class, index_of_text, pool_of, put_pool};
 use crate::small::writing::instructions::code_bytes;
 use bitflags::Flags;
 use class_model::{Class, Code, Method, PoolConstant};
 use indexmap::IndexSet;
-use jv_base::{Bytes, Items, M, Text};
+use jv_base::{Bytes, Items, M, Text, method_text};
 use std::alloc::Global;
 
 /// The canonical spelling of a small class.
