@@ -1,57 +1,33 @@
--- The class of `static int f(int a) { return a + 1; }`, and the bytes that it is written as.
-use Rattle.std.proofs.Common.{◌≡◌, ℕ, List, [], ◌∷◌, Some, None, false, refl, codes, pos, negsuc}
+-- The class of `static int f(int a) { return a + 1; }` is written as its bytes, and some instructions as theirs.
+use Rattle.std.proofs.Common.{◌≡◌, ℕ, suc, ◌+◌, ◌^◌, ◌<◌, List, [], ◌∷◌, length, Some, None, false, refl, codes, pos, negsuc, arith, lit<, All}
 use Rattle.std.specs.Str.{chars}
+use Rattle.std.proofs.Math.Facts.{sfits_lit}
+use Rattle.std.proofs.lemmas.List.Elements.{All-from_recursion}
 use Rattle.jv_base.specs.Mutf8.{mutf8, unit_bytes}
 use Rattle.jv_base.specs.Utf16.{units_of}
 use Rattle.jv_base.specs.Types.{method_text, field_text, result_text, base_text}
 use Rattle.class_model.specs.declared.op.Op.TheVariants as op
 use Rattle.class_model.specs.declared.op.Kind.TheVariants as kind
-use Rattle.class_model.specs.declared.op.Num.TheVariants as num
-use Rattle.class_model.specs.declared.op.ArithOp.TheVariants as arith_op
-use Rattle.class_model.specs.declared.op.Op.{Op}
 use Rattle.class_model.specs.declared.code.Ins.{Ins}
-use Rattle.class_model.specs.declared.class.Class.{Class}
 use Rattle.class_model.specs.Layout.{pool_of, code_bytes, op_bytes, layout}
-use Rattle.shrink_core.specs.Small.{int_type}
+use Rattle.shrink_core.specs.Writable.{TextFits, OperandsFit, CodeFits, MethodFits, CanLayOut}
+use Rattle.shrink_core.specs.Example.{adder, adder_ins, adder_bytes}
 
-abbrev adder : Class
-adder = record {
-  flags = record { 0 = 0x0021 };
-  name = codes "Main";
-  super_name = codes "java/lang/Object";
-  interfaces = [];
-  fields = [];
-  methods = record {
-    flags = record { 0 = 0x0009 };
-    name = codes "f";
-    ty = record { args = int_type ∷ []; ret = Some int_type };
-    code = Some (record {
-      max_stack = 2;
-      max_locals = 1;
-      ins = record { op = op.Load kind.Int 0; line = None } ∷ record { op = op.PushInt (pos 1); line = None } ∷ record { op = op.Arith arith_op.Add num.Int; line = None } ∷ record { op = op.Return (Some kind.Int); line = None } ∷ [];
-      handlers = [];
-      frames = [];
-    });
-    throws = [];
-    synthetic = false;
-    deprecated = false;
-  } ∷ [];
-  source = None;
-  synthetic = false;
-  deprecated = false;
-  left_out = None;
-}
-
-adder_is_written : layout adder ≡ 0xCA ∷ 0xFE ∷ 0xBA ∷ 0xBE ∷ 0 ∷ 0 ∷ 0 ∷ 0x34 ∷ 0 ∷ 8
-    ∷ 1 ∷ 0 ∷ 4 ∷ 0x4D ∷ 0x61 ∷ 0x69 ∷ 0x6E ∷ 7 ∷ 0 ∷ 1
-    ∷ 1 ∷ 0 ∷ 0x10 ∷ 0x6A ∷ 0x61 ∷ 0x76 ∷ 0x61 ∷ 0x2F ∷ 0x6C ∷ 0x61 ∷ 0x6E ∷ 0x67 ∷ 0x2F ∷ 0x4F ∷ 0x62 ∷ 0x6A ∷ 0x65 ∷ 0x63 ∷ 0x74 ∷ 7 ∷ 0 ∷ 3
-    ∷ 1 ∷ 0 ∷ 1 ∷ 0x66 ∷ 1 ∷ 0 ∷ 4 ∷ 0x28 ∷ 0x49 ∷ 0x29 ∷ 0x49 ∷ 1 ∷ 0 ∷ 4 ∷ 0x43 ∷ 0x6F ∷ 0x64 ∷ 0x65
-    ∷ 0 ∷ 0x21 ∷ 0 ∷ 2 ∷ 0 ∷ 4 ∷ 0 ∷ 0 ∷ 0 ∷ 0 ∷ 0 ∷ 1
-    ∷ 0 ∷ 9 ∷ 0 ∷ 5 ∷ 0 ∷ 6 ∷ 0 ∷ 1
-    ∷ 0 ∷ 7 ∷ 0 ∷ 0 ∷ 0 ∷ 0x10 ∷ 0 ∷ 2 ∷ 0 ∷ 1 ∷ 0 ∷ 0 ∷ 0 ∷ 4 ∷ 0x1A ∷ 4 ∷ 0x60 ∷ 0xAC ∷ 0 ∷ 0 ∷ 0 ∷ 0
-    ∷ 0 ∷ 0 ∷ []
+pub adder_is_written : layout adder ≡ adder_bytes
 unfolding chars layout pool_of code_bytes units_of mutf8 unit_bytes method_text result_text field_text base_text
 adder_is_written = refl
+
+operands_fit : All (λ (i : Ins). OperandsFit i.op) adder_ins
+operands_fit = All-from_recursion (λ (i : Ins). OperandsFit i.op) adder_ins (lit< tt, (sfits_lit tt, (tt, (tt, tt))))
+
+pub adder_fits : CanLayOut adder
+unfolding chars pool_of code_bytes units_of mutf8 unit_bytes method_text result_text field_text base_text
+adder_fits = record {
+  constant_pool_count = lit< tt;
+  texts = All-from_recursion TextFits (pool_of adder) (lit< tt, (tt, (lit< tt, (tt, (lit< tt, (lit< tt, (lit< tt, tt)))))));
+  methods_count = lit< tt;
+  methods = All-from_recursion MethodFits adder.methods (record { operands = operands_fit; code_length = lit< tt }, tt);
+}
 
 -- iconst_<i>, bipush and sipush at the ends of what they hold
 pushes : (op_bytes (op.PushInt (negsuc 128)) ≡ 0x11 ∷ 0xFF ∷ 0x7F ∷ [])

@@ -1,5 +1,6 @@
 pub mod Small
 pub mod Writable
+pub mod Example
 pub mod Path
 pub mod Words
 pub mod Refusal

@@ -12,14 +12,12 @@ mod constants;
 mod instructions;
 
 use crate::small::writing::bytes::{put, put_u2, put_u4};
-use crate::small::writing::constants::{
-    index_of_class, index_of_text, method_text, pool_of, put_pool,
-};
+use crate::small::writing::constants::{index_of_class, index_of_text, pool_of, put_pool};
 use crate::small::writing::instructions::code_bytes;
 use bitflags::Flags;
 use class_model::{Class, Code, Method, PoolConstant};
 use indexmap::IndexSet;
-use jv_base::{Bytes, Items, M, Text};
+use jv_base::{Bytes, Items, M, Text, method_text};
 use std::alloc::Global;
 
 /// The canonical spelling of a small class.
@@ -49,8 +47,10 @@ fn put_class_file(
     put_head(out)?;
     put_pool(alloc, pool, out)?;
     put_class_head(alloc, pool, class, out)?;
+    // interfaces_count and fields_count
     put(out, &[0, 0, 0, 0])?;
     put_methods(alloc, pool, &class.methods, out)?;
+    // attributes_count
     put_u2(out, 0)
 }
 
@@ -159,7 +159,7 @@ fn code_info(alloc: Global, code: &Code) -> M<Vec<u8>>
     put_u2(&mut info, code.max_locals)?;
     put_u4(&mut info, bytes.len() as u32)?;
     put(&mut info, &bytes)?;
-    // no handlers and no attributes
+    // exception_table_length and attributes_count
     put_u2(&mut info, 0)?;
     put_u2(&mut info, 0)?;
     Ok(info)
@@ -175,3 +175,6 @@ fn put_attribute(name_index: u16, info: &[u8], out: &mut Vec<u8>) -> M<()>
     put_u4(out, info.len() as u32)?;
     put(out, info)
 }
+
+#[cfg(test)]
+mod tests;

@@ -4,7 +4,6 @@ ghost use Rattle.std.specs.Int.{w16, to_be_bytes};
 ghost use Rattle.std.specs.List.{flat_map};
 ghost use Rattle.indexmap.specs.IndexSet.{insert_key, insert_all};
 ghost use Rattle.jv_base.specs.Mutf8.{mutf8};
-ghost use Rattle.jv_base.specs.Types as types;
 ghost use Rattle.jv_base.specs.Utf16.{units_of};
 ghost use Rattle.class_model.specs.Layout as canonical;
 ghost use Rattle.class_model.specs.Pool.{cp_info};
@@ -13,7 +12,7 @@ ghost use Rattle.shrink_core.specs.Writable.{TextFits};
 use crate::small::writing::bytes::{put, put_u2};
 use class_model::{Class, Entry, Method, PoolConstant};
 use indexmap::IndexSet;
-use jv_base::{Items, M, Text, Units, mutf8_of_units, units_of_text};
+use jv_base::{Items, M, Text, Units, method_text, mutf8_of_units, units_of_text};
 use std::alloc::Global;
 
 /// The constants that a class needs, each once, where the file needs it first. That of index i stands
@@ -156,10 +155,4 @@ fn copied(alloc: Global, units: &Units) -> M<Units>
     ensures { IfOk result (λ copy. copy ≡ units.now) }
 {
     Ok(Items::from_vec(units.as_slice().to_vec(alloc)?))
-}
-
-pub(crate) fn method_text(alloc: Global, ty: &jv_base::MethodType) -> M<Text>
-    ensures { IfOk result (λ text. text ≡ types.method_text ty.now) }
-{
-    Err(jv_base::OutOfMemory)
 }
