@@ -1,12 +1,12 @@
 -- What stays while the worklist grows, and what a marked item makes due.
-use Rattle.std.proofs.Common.{◌≡◌, ◌⊎◌, ℕ, IsTrue, inl, inr, ⊎_elim, ◌∙◌, refl}
+use Rattle.std.proofs.Common.{ℕ, IsTrue, inl, inr, ⊎_elim, ◌∙◌, refl}
 use Rattle.std.specs.List.{All, Contains}
 use Rattle.std.proofs.lemmas.List.Elements.{All-contains}
 use Rattle.mark_core.specs.declared.system.System.{System}
 use Rattle.mark_core.specs.declared.system.Pair.{Pair}
 use Rattle.mark_core.specs.declared.plain.Worklist.{Worklist}
-use Rattle.mark_core.specs.Marks.{Closed, IsMarked, needs_of}
-use Rattle.mark_core.specs.Worklist.{left, Grows, IsDone}
+use Rattle.mark_core.specs.Marks.{IsMarked, needs_of}
+use Rattle.mark_core.specs.Worklist.{Grows, IsDone}
 
 pub grows_refl : (work : Worklist) → Grows work work
 grows_refl work = record { keeps = λ x has. has; waits = λ x w. w; fresh = λ x has. inl has; left = refl }

@@ -1,7 +1,7 @@
 -- The index of the pairs after one more place.
-use Rattle.std.proofs.Common.{◌≡◌, ◌≢◌, ℕ, ◌+◌, ◌*◌, ◌/◌, ◌%◌, ◌<◌, List, [], ◌∷◌, ◌++◌, length, get_or, set, replicate, ⊎_elim, subst, sym, ◌∙◌, ap, arith, refl, get_or-set_same, get_or-set_other, length-set, zero, suc}
+use Rattle.std.proofs.Common.{◌≡◌, ◌≢◌, ℕ, ◌+◌, ◌*◌, ◌/◌, ◌%◌, ◌<◌, [], ◌∷◌, length, get_or, ⊎_elim, subst, sym, ◌∙◌, ap, arith, refl, get_or-set_same, get_or-set_other, length-set}
 use Rattle.std.proofs.lemmas.Bool.{cases_eq}
-use Rattle.std.proofs.lemmas.List.{length-replicate, length_push, get_or_push, get_or_append_left}
+use Rattle.std.proofs.lemmas.List.{length_push, get_or_push, get_or_append_left}
 use Rattle.mark_core.specs.declared.system.System.{System}
 use Rattle.mark_core.specs.declared.pair_index.PairIndex.{PairIndex}
 use Rattle.mark_core.specs.PairIndex.{pair_at, item_at, front_of, link_of, IsIndexOf, LinksNext}
@@ -77,18 +77,3 @@ module _ (sys : System) (m x : ℕ) (old new : PairIndex) (index : IsIndexOf sys
     link_has = link_has;
     link_ends = link_ends;
   }
-
-no_front : (n x : ℕ) → get_or (replicate n (let none : ℕ = 0 in none)) x 0 ≡ 0
-no_front zero x = refl
-no_front (suc n) zero = refl
-no_front (suc n) (suc x) = no_front n x
-
-pub index_first : (sys : System) (index : PairIndex) → index.fronts.items ≡ replicate sys.n (let none : ℕ = 0 in none) → index.links.items ≡ [] → IsIndexOf sys 0 index
-index_first sys index fronts links = record {
-  items = ap length fronts ∙ length-replicate sys.n 0;
-  places = ap length links;
-  front_has = λ p lt. absurd (omega (arith, lt));
-  front_ends = λ x p is. let e : 0 ≡ p + 1 = sym (ap (λ l. get_or l x 0) fronts ∙ no_front sys.n x) ∙ is in absurd (omega (arith, e));
-  link_has = λ p q before lt same. absurd (omega (arith, lt));
-  link_ends = λ p q lt is. absurd (omega (arith, lt));
-}

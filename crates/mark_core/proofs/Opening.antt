@@ -1,37 +1,12 @@
--- What is done at the start, once an item was taken, and at the end.
-use Rattle.std.proofs.Common.{◌≡◌, ◌⊎◌, ℕ, ◌<◌, IsTrue, [], ◌∷◌, ◌++◌, length, get_or, inl, inr, ⊎_elim, subst, sym, ◌∙◌, ap, arith, refl, replicate, zero, suc, true, false}
-use Rattle.std.proofs.lemmas.List.{length-replicate}
+-- What is done once an item was taken, and at the end.
+use Rattle.std.proofs.Common.{◌≡◌, ◌⊎◌, ℕ, ◌<◌, IsTrue, [], ◌∷◌, ◌++◌, length, get_or, inl, inr, ⊎_elim, subst, sym, arith}
 use Rattle.std.specs.List.{All, Contains}
-use Rattle.std.proofs.lemmas.List.Elements.{All-nil, All-weaker, Contains-push_cases}
+use Rattle.std.proofs.lemmas.List.Elements.{All-weaker, Contains-push_cases}
 use Rattle.mark_core.specs.declared.system.System.{System}
 use Rattle.mark_core.specs.declared.system.Pair.{Pair}
 use Rattle.mark_core.specs.declared.plain.Worklist.{Worklist}
-use Rattle.mark_core.specs.Marks.{Closed, Marks, needs_of, set_of}
+use Rattle.mark_core.specs.Marks.{Marks, needs_of, set_of}
 use Rattle.mark_core.specs.Worklist.{Has, Waits, IsSound, Grows, IsDone, AllPairsDone, IsOpen}
-
-none_set : (n x : ℕ) → get_or (replicate n false) x false ≡ false
-none_set zero x = refl
-none_set (suc n) zero = refl
-none_set (suc n) (suc x) = none_set n x
-
--- before the seeds are marked
-module _ (sys : System) (work : Worklist) (marks : work.marks.items ≡ replicate sys.n false) where
-  none : (x : ℕ) → Has work x → ⊥
-  none x has = (let e : false ≡ true = sym (none_set sys.n x) ∙ subst (λ ms. IsTrue (set_of ms x)) marks has in cc)
-
-  pub sound_first : work.waiting.items ≡ [] → IsSound sys work
-  sound_first waiting = record {
-    count = ap length marks ∙ length-replicate sys.n false;
-    below = subst (λ l. All (λ x. x < sys.n) l) (sym waiting) (All-nil (λ x. x < sys.n));
-    marked = subst (λ l. All (Has work) l) (sym waiting) (All-nil (Has work));
-    due = λ x has. absurd (none x has);
-  }
-
-  -- once they are
-  pub open_first : (new : Worklist) → IsSound sys new → Grows work new → All (Has new) sys.seeds → IsOpen sys new
-  open_first new sound grows seeds =
-      let waits : (x : ℕ) → Has new x → Waits new x = λ x has. ⊎_elim (λ had. absurd (none x had)) (λ w. w) (grows.fresh x has) in
-      record { sound = sound; seeds = seeds; needs = λ x has. inl (waits x has); pairs = λ k d lt one two. inl (waits _ one) }
 
 -- x was popped from old, which left mid, and what it requires was marked, which gave new
 pub open_after : (sys : System) (old mid new : Worklist) (x : ℕ) → IsOpen sys old → mid.marks.items ≡ old.marks.items → old.waiting.items ≡ mid.waiting.items ++ x ∷ []
