@@ -1,5 +1,5 @@
 -- The places at which items stand in the pairs, and an index of them.
-use Rattle.std.specs.Prelude.{◌≡◌, ◌∷◌, ◌++◌, ℕ, ◌+◌, ◌/◌, ◌%◌, ◌<◌, [], nat_eq, if◌then◌else◌, length, slice_index_or, slice_set}
+use Rattle.std.specs.Prelude.{◌≡◌, ◌∷◌, ◌++◌, ℕ, ◌+◌, ◌*◌, ◌/◌, ◌%◌, ◌<◌, [], nat_eq, if◌then◌else◌, length, slice_index_or, slice_set}
 use Rattle.mark_core.specs.declared.system.System.{System}
 use Rattle.mark_core.specs.declared.system.Pair.{Pair}
 use Rattle.mark_core.specs.declared.pair_index.PairIndex.{PairIndex}
@@ -28,6 +28,10 @@ pub record IsIndexOf (sys : System) (m : ℕ) (index : PairIndex) : Type 0 where
   pub front_ends : (x p : ℕ) → front_of index x ≡ p + 1 → (p < m) × (item_at sys p ≡ x)
   pub link_has : (p q : ℕ) → p < q → q < m → item_at sys p ≡ item_at sys q → p < link_of index q
   pub link_ends : (p q : ℕ) → q < m → link_of index q ≡ p + 1 → (p < q) × (item_at sys p ≡ item_at sys q)
+
+-- all places of the system's pairs are indexed
+abbrev pub IsIndex : System → PairIndex → Type 0
+IsIndex sys index = IsIndexOf sys (2 * length sys.pairs) index
 
 -- the next place is linked to the item's front, which then ends with it
 pub record LinksNext (old new : PairIndex) (item : ℕ) : Type 0 where

@@ -1,8 +1,8 @@
 //! For each item the pairs in which it stands, in two flat lists that one pass over the pairs builds.
 //!
 //! Pair `k` has the places `2 * k` for its item `one` and `2 * k + 1` for its item `two`.
-ghost use Rattle.std.specs.Prelude.{◌≡◌, ◌+◌, ◌*◌, ◌<◌, IfOk, OnOk, length};
-ghost use Rattle.mark_core.specs.PairIndex.{IsIndexOf, front_of, item_at, LinksNext};
+ghost use Rattle.std.specs.Prelude.{◌<◌, IfOk, OnOk, length};
+ghost use Rattle.mark_core.specs.PairIndex.{IsIndex, LinksNext};
 ghost use Rattle.mark_core.specs.Valid.{Valid};
 
 use crate::system::System;
@@ -32,7 +32,7 @@ fn link(index: &mut PairIndex, item: u32) -> M<()>
 /// The index of all pairs of the system.
 pub fn index_of(alloc: Global, sys: &System) -> M<PairIndex>
     requires { Valid sys.now }
-    ensures { IfOk result (IsIndexOf sys.now (2 * length sys.now.pairs)) }
+    ensures { IfOk result (IsIndex sys.now) }
 {
     let pairs = sys.pairs.as_slice();
     let mut index = PairIndex {

@@ -1,11 +1,11 @@
 //! The least closed set by a worklist. Each item is taken once; its needs are looked at then, and each
 //! pair in which it stands.
-ghost use Rattle.std.specs.Prelude.{◌≡◌, ◌⊎◌, ℕ, ◌*◌, ◌<◌, IfOk, OnOk, length};
+ghost use Rattle.std.specs.Prelude.{◌≡◌, ◌<◌, IfOk, OnOk, length};
 ghost use Rattle.std.specs.List.{All, Contains};
 ghost use Rattle.mark_core.specs.Marks.{IsMarked, Marks, needs_of};
-ghost use Rattle.mark_core.specs.PairIndex.{IsIndexOf};
+ghost use Rattle.mark_core.specs.PairIndex.{IsIndex};
 ghost use Rattle.mark_core.specs.Valid.{PairBelow, Valid};
-ghost use Rattle.mark_core.specs.Worklist.{AllPairsDone, Grows, Has, IsDone, IsOpen, IsSound, Waits};
+ghost use Rattle.mark_core.specs.Worklist.{AllPairsDone, Grows, Has, IsDone, IsOpen, IsSound};
 
 use crate::pair_index::{PairIndex, index_of};
 use crate::system::{Pair, System};
@@ -20,6 +20,9 @@ struct Worklist {
 }
 
 /// The least closed set: for each item whether it is marked.
+///
+/// With three items, the seeds 0 and 1, no needs and the pair (0, 1, 2), all three are marked; with the
+/// seed 0 alone only 0 is.
 pub fn plain_marks(alloc: Global, sys: &System) -> M<Items<bool>>
     requires { Valid sys.now }
     ensures { IfOk result (Marks sys.now) }
@@ -37,7 +40,7 @@ pub fn plain_marks(alloc: Global, sys: &System) -> M<Items<bool>>
 /// Takes the items that wait, until none does.
 fn take_all(sys: &System, index: &PairIndex, work: &mut Worklist) -> M<()>
     requires valid { Valid sys.now }
-    requires index { IsIndexOf sys.now (2 * length sys.now.pairs) index.now }
+    requires index { IsIndex sys.now index.now }
     requires open { IsOpen sys.now work.old }
     ensures open { OnOk result (IsOpen sys.now work.new) }
     ensures empty { OnOk result (length work.new.waiting.items ≡ 0) }
@@ -51,7 +54,7 @@ fn take_all(sys: &System, index: &PairIndex, work: &mut Worklist) -> M<()>
 /// Marks what a marked item requires by its needs and by its pairs.
 fn take(sys: &System, index: &PairIndex, work: &mut Worklist, item: u32) -> M<()>
     requires valid { Valid sys.now }
-    requires index { IsIndexOf sys.now (2 * length sys.now.pairs) index.now }
+    requires index { IsIndex sys.now index.now }
     requires sound { IsSound sys.now work.old }
     requires item { item < sys.now.n }
     requires due { IsMarked sys.now item }
@@ -68,7 +71,7 @@ fn take(sys: &System, index: &PairIndex, work: &mut Worklist, item: u32) -> M<()
 /// Marks the derived item of each pair that has `item` and whose items are both marked.
 fn mark_pairs(sys: &System, index: &PairIndex, work: &mut Worklist, item: u32) -> M<()>
     requires valid { Valid sys.now }
-    requires index { IsIndexOf sys.now (2 * length sys.now.pairs) index.now }
+    requires index { IsIndex sys.now index.now }
     requires sound { IsSound sys.now work.old }
     requires item { item < sys.now.n }
     ensures sound { OnOk result (IsSound sys.now work.new) }
@@ -123,7 +126,6 @@ fn mark(sys: &System, work: &mut Worklist, item: u32) -> M<()>
     ensures grows { OnOk result (Grows work.old work.new) }
     ensures has { OnOk result (Has work.new item) }
 {
-    let _n = sys.n;
     if !work.marks[item as usize] {
         work.marks[item as usize] = true;
         work.waiting.push(item)?;
