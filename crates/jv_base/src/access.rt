@@ -6,7 +6,7 @@ use bitflags::{Flag, Flags, bitflag_items};
 /// The access flags of a class, a field or a method. Of three bits the meaning depends on where they
 /// stand: each of these has two names.
 #[derive(Clone, Copy, PartialEq, Eq, Debug)]
-pub struct Access(u16);
+pub struct Access(pub u16);
 
 bitflag_items! {
     impl Access: u16 {

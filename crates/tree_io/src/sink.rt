@@ -24,5 +24,6 @@ pub trait Sink {
         ensures ok { OnOk result (written self.new ≡ followed_by (written self.old) bytes.now) }
         ensures failed { IsErrOf result PutFault.Failed → Rose (faults self.old) (faults self.new) }
         ensures partly { IsErrOf result PutFault.Failed → GainsFront bytes.now (written self.old) (written self.new) }
-        ensures no_memory { IsErrOf result PutFault.OutOfMemory → written self.new ≡ written self.old };
+        ensures no_memory { IsErrOf result PutFault.OutOfMemory → written self.new ≡ written self.old }
+        ensures no_fault { IsErrOf result PutFault.OutOfMemory → faults self.new ≡ faults self.old };
 }

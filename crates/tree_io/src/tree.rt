@@ -32,7 +32,8 @@ pub trait Tree {
         ensures failed { IsErrOf result ListFault.Failed → Rose (faults self.old) (faults self.new) }
         ensures count { IfOk result (λ paths. length paths ≤ max) }
         ensures ascending { IfOk result (λ paths. IsAscending paths) }
-        ensures told { IfSome (files self.old) (λ fs. Lists result (due_list fs dir.now max)) };
+        ensures told { IfSome (files self.old) (λ fs. Lists result (due_list fs dir.now max)) }
+        ensures no_fault { IsErrOf result ListFault.OutOfMemory → faults self.new ≡ faults self.old };
 
     /// The bytes of a file. No file changes.
     ///
@@ -45,7 +46,8 @@ pub trait Tree {
         ensures later { faults self.old ≤ faults self.new }
         ensures failed { IsErrOf result ReadFault.Failed → Rose (faults self.old) (faults self.new) }
         ensures length { IfOk result (λ bytes. length bytes ≤ max) }
-        ensures told { IfSome (files self.old) (λ fs. Reads result (due_read (map.get fs path.now) max)) };
+        ensures told { IfSome (files self.old) (λ fs. Reads result (due_read (map.get fs path.now) max)) }
+        ensures no_fault { IsErrOf result ReadFault.OutOfMemory → faults self.new ≡ faults self.old };
 
     /// Puts bytes at a path, in place of any before.
     ///
