@@ -13,7 +13,8 @@ use Rattle.shrink_core.specs.Words.{directories_in}
 use Rattle.shrink_core.specs.declared.words.Directories.{Directories}
 use Rattle.shrink_core.specs.declared.refusal.Refusal.{Refusal}
 use Rattle.shrink_core.specs.declared.refusal.Refusal.TheVariants.{Words, NotBuilt}
-use Rattle.shrink_core.specs.Due.{HasSmall, NamesPath, FindsBytes, SpellsSmall, Finds, file_for, Plans}
+use Rattle.shrink_core.specs.Due.{HasSmall, file_for}
+use Rattle.shrink_core.specs.Steps.{NamesPath, FindsBytes, SpellsSmall, Finds, Plans}
 
 same_bytes : (a b : List ℕ) → (let O : Option (List ℕ) = Some a in O) ≡ Some b → a ≡ b
 same_bytes a b e = cc

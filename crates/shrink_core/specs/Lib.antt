@@ -6,3 +6,4 @@ pub mod Words
 pub mod Refusal
 pub mod Due
 pub mod Answer
+pub mod Steps

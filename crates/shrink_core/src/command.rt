@@ -2,7 +2,9 @@
 ghost use Rattle.std.specs.Prelude.{◌≡◌, ◌⊎◌, ◌≤◌, ◌↔◌, ℕ, List, Option, Some, None, IfSome, codes};
 ghost use Rattle.tree_io.specs.Count.{Rose};
 ghost use Rattle.shrink_core.specs.Words.{directories_in};
-ghost use Rattle.shrink_core.specs.Answer.{Runs, Puts, SaysLine, Says, text_of_status};
+ghost use Rattle.shrink_core.specs.Refusal.{Ending};
+ghost use Rattle.shrink_core.specs.Answer.{Puts, Ended};
+ghost use Rattle.shrink_core.specs.Steps.{SaysLine, Says};
 ghost use Rattle.shrink_core.specs.declared.refusal.Refusal.TheVariants.{NotBuilt as not_built};
 ghost use Rattle.shrink_core.specs.declared.refusal.Stop.TheVariants.{Refused as refused, OutOfMemory as no_memory};
 
@@ -78,11 +80,9 @@ pub fn run<Rt: Threads + Sync, T: Tree, S: Sink, G: Gate>(
     // The device is blamed only where its count rose.
     ensures device { result ≡ 7 → Rose (T.faults tree.old) (T.faults tree.new) }
 
-    // The status and the files are those that are due on the told files.
-    ensures told { IfSome (T.files tree.old) (λ files. Runs result words.now files (T.files tree.old) (T.files tree.new)) }
-
-    // The text is that of the status, whole unless the sink failed or memory was wanting.
-    ensures text { Puts (text_of_status result words.now) (S.written out.old) (S.written out.new) (S.faults out.old) (S.faults out.new) }
+    // The run has an ending, which tells its status, what became of the told files and what was said.
+    ensures ended { (ending : Ending) × Ended ending result words.now (T.files tree.old) (T.files tree.new)
+        (S.written out.old) (S.written out.new) (S.faults out.old) (S.faults out.new) }
 {
     match shrink(alloc, words, tree) {
         Ok(()) => 0,

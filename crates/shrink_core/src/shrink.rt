@@ -4,7 +4,9 @@ ghost use Rattle.tree_io.specs.Count.{Rose};
 ghost use Rattle.tree_io.specs.Files.{put_at, MayChangeAt};
 ghost use Rattle.shrink_core.specs.Path.{main_path};
 ghost use Rattle.shrink_core.specs.Writable.{CanLayOut};
-ghost use Rattle.shrink_core.specs.Due.{NamesPath, FindsBytes, SpellsSmall, Finds, file_for, AnswersWords, Plans, EndsSo};
+ghost use Rattle.shrink_core.specs.Due.{file_for};
+ghost use Rattle.shrink_core.specs.Answer.{FollowsFrom, EndsSo};
+ghost use Rattle.shrink_core.specs.Steps.{NamesPath, FindsBytes, SpellsSmall, Finds, Plans};
 
 use crate::path::main_path;
 use crate::refusal::{Refusal, Stop};
@@ -80,7 +82,7 @@ fn due_file<T: Tree>(alloc: Global, words: &Items<Text>, tree: &mut T) -> Result
     ensures files { T.files tree.new ≡ T.files tree.old }
     ensures later { T.faults tree.old ≤ T.faults tree.new }
     ensures device { IsErrOf result Stop.Device → Rose (T.faults tree.old) (T.faults tree.new) }
-    ensures words { AnswersWords result words.now }
+    ensures words { FollowsFrom result words.now }
     ensures told { IfSome (T.files tree.old) (λ fs. Plans result words.now fs) }
 {
     let Some(named) = read_words(alloc, words)? else {
@@ -94,7 +96,7 @@ fn due_file<T: Tree>(alloc: Global, words: &Items<Text>, tree: &mut T) -> Result
 pub fn shrink<T: Tree>(alloc: Global, words: &Items<Text>, tree: &mut T) -> Result<(), Stop>
     ensures later { T.faults tree.old ≤ T.faults tree.new }
     ensures device { IsErrOf result Stop.Device → Rose (T.faults tree.old) (T.faults tree.new) }
-    ensures words { AnswersWords result words.now }
+    ensures words { FollowsFrom result words.now }
     ensures told { IfSome (T.files tree.old) (λ fs. EndsSo result words.now fs (T.files tree.old) (T.files tree.new)) }
 {
     let file = due_file(alloc, words, tree)?;

@@ -101,7 +101,10 @@ fn other_files_are_refused(rt: HostRuntime) -> Result<(), Fail> {
         let mut tree = tree_of(alloc, path, bytes, &[])?;
         let mut out = MemorySink::new(alloc, Items::new(alloc))?;
         assert_eq!(rt; run(&rt, alloc, &words, &mut tree, &mut out, &OpenGate), 4);
-        assert_eq!(rt; out.written(), b"error 4 format in/Main.class 0 NotBuilt\n".as_slice());
+        assert_eq!(rt;
+            out.written(),
+            b"error 4 format in/Main.class 0 NotBuilt\n".as_slice()
+        );
         assert!(rt; wrote(alloc, &tree, None)?);
     }
     Ok(())

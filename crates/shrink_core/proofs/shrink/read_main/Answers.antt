@@ -1,7 +1,7 @@
 use Rattle.std.proofs.Common.{◌≡◌, ℕ, List, ap, subst, ◌∙◌}
 use Rattle.std.specs.Prelude.{IfSome}
 use Rattle.shrink_core.specs.Path.{main_path}
-use Rattle.shrink_core.specs.Due.{SpellsSmall, Finds}
+use Rattle.shrink_core.specs.Steps.{SpellsSmall, Finds}
 use Rattle.shrink_core.proofs.ToldFiles.{found_told}
 use Rattle.shrink_core.proofs.shrink.read_main.Goals as goal
 
