@@ -63,9 +63,15 @@ fn say<S: Sink>(alloc: Global, stop: &Stop, out: &mut S) -> u8
 /// |---|---|---|
 /// | 0 | where the file was written | none |
 /// | 1 | exactly where the words aren't those | `error 1 words` |
-/// | 4 | exactly where IN has no file `Main.class` of at most 64 MiB that spells a small class | `error 4 format IN/Main.class 0 NotBuilt` |
+/// | 4 | exactly where IN has no file `Main.class` of at most 64 MiB that spells a small class, but for 7 and 10 | `error 4 format IN/Main.class 0 NotBuilt` |
 /// | 7 | only where the tree's count of faults rose | `error 7 device` |
 /// | 10 | where memory is wanting | `error 10 memory` |
+///
+/// A small class is named `Main` and has the superclass `java/lang/Object`. It has no interface,
+/// field or attribute. Each method is static, takes ints, gives an int and has the one attribute
+/// Code, without handlers and attributes, of the instructions nop, iconst, bipush, sipush, iload,
+/// istore, pop, iadd, isub, imul, idiv, irem, ineg, iinc and ireturn. The pool holds Utf8 and Class
+/// entries alone.
 pub fn run<Rt: Threads + Sync, T: Tree, S: Sink, G: Gate>(
     _rt: &Rt,
     alloc: Global,
