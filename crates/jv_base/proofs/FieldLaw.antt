@@ -236,7 +236,7 @@ goes_in_by in_part false true b bs s f h = (true, refl, h, name_goes_on b f)
 goes_in_by in_part false false b bs s f h = absurd cc
 
 -- a byte that goes on in a class name
-goes_in : (in_part : Bool) (b : ℕ) (bs : List ℕ) → parts_whole in_part (b ∷ bs) ≡ true → (then_part : Bool) × (part_after in_part b ≡ Some then_part) × (parts_whole then_part bs ≡ true) × (nat_eq b 59 ≡ false)
+pub goes_in : (in_part : Bool) (b : ℕ) (bs : List ℕ) → parts_whole in_part (b ∷ bs) ≡ true → (then_part : Bool) × (part_after in_part b ≡ Some then_part) × (parts_whole then_part bs ≡ true) × (nat_eq b 59 ≡ false)
 unfolding part_after
 goes_in in_part b bs h = goes_in_by in_part (nat_eq b 47) (is_name_byte b) b bs refl refl h
 
@@ -255,7 +255,7 @@ path_name (b ∷ bs) dims text in_part h valid =
     let deep : P ((text ++ b ∷ []) ++ bs) = λ v. path_name bs dims (text ++ b ∷ []) g.0 g.2 v in
     inr (name dims (text ++ b ∷ []) g.0, one, subst P (sym whole_) deep valid)
 
-class_parts : (text : List ℕ) → is_class_name text ≡ true → parts_whole false text ≡ true
+pub class_parts : (text : List ℕ) → is_class_name text ≡ true → parts_whole false text ≡ true
 class_parts text h = first (parts_whole false text) (not (is_keyword text)) (sym (class_name_is text) ∙ h)
   where
     first : (a b : Bool) → (a && b) ≡ true → a ≡ true

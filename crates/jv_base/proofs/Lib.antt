@@ -1,10 +1,12 @@
 pub mod Coding
 pub mod Due
 pub mod Equality
+pub mod ExternalLaw
 pub mod FieldLaw
 pub mod MethodLaw
 pub mod Naming
 pub mod Places
+pub mod Swapping
 pub mod Utf16Text
 pub mod WalkLaw
 pub mod Walking

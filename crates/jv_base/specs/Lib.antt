@@ -1,6 +1,7 @@
 pub mod Decoding
 pub mod DescriptorPlaces
 pub mod Descriptors
+pub mod External
 pub mod Longest
 pub mod Mutf8
 pub mod Names

@@ -325,7 +325,7 @@ fn field_read(alloc: Global, text: &str) -> Result<FieldType, Or<BadDescriptor>>
     }
 }
 
-fn bad_descriptor(place: usize) -> Or<BadDescriptor>
+pub(crate) fn bad_descriptor(place: usize) -> Or<BadDescriptor>
     requires { place < 4294967295 }
     ensures { result ≡ Or.Fault (record { place = place }) }
 {

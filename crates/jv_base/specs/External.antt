@@ -1,0 +1,127 @@
+-- Types as Java source spells them.
+use Rattle.std.specs.Prelude.{◌≡◌, ℕ, ◌+◌, ◌<◌, ◌≤◌, ◌&&◌, Bool, false, List, [], ◌∷◌, ◌++◌, map, take, nat_lt, ◌==◌, Option, Some, None, Result, codes, if◌then◌else◌}
+use Rattle.std.specs.List.{repeat}
+use Rattle.jv_base.specs.Descriptors.{typed, bad_descriptor}
+use Rattle.jv_base.specs.Names.{is_class_name, is_text, part_after}
+use Rattle.jv_base.specs.Types.{IsFieldType}
+use Rattle.jv_base.specs.Walk.{walk}
+use Rattle.jv_base.specs.declared.descriptors.BadDescriptor.{BadDescriptor}
+use Rattle.jv_base.specs.declared.external_form.ExternalRead as kept
+use Rattle.jv_base.specs.declared.external_form.ExternalRead.TheVariants as read
+use Rattle.jv_base.specs.declared.types.Base.{Base}
+use Rattle.jv_base.specs.declared.types.Base.TheVariants.{Boolean, Byte, Char, Short, Int, Long, Float, Double, Class}
+use Rattle.jv_base.specs.declared.types.FieldType.{FieldType}
+
+-- one byte in place of another
+abbrev pub swapped : ℕ → ℕ → ℕ → ℕ
+swapped from to b = if b == from then to else b
+
+-- a class name with dots in place of slashes, and back
+abbrev pub dotted : List ℕ → List ℕ
+dotted name = map (swapped 47 46) name
+
+abbrev pub slashed : List ℕ → List ℕ
+slashed text = map (swapped 46 47) text
+
+-- the word of a base type, or a class name with dots
+unfoldable pub word_text : Base → List ℕ
+word_text Boolean = codes "boolean"
+word_text Byte = codes "byte"
+word_text Char = codes "char"
+word_text Short = codes "short"
+word_text Int = codes "int"
+word_text Long = codes "long"
+word_text Float = codes "float"
+word_text Double = codes "double"
+word_text (Class name) = dotted name
+
+-- the base type, and `[]` for each dimension
+unfoldable pub external_text : FieldType → List ℕ
+external_text ty = word_text ty.base ++ repeat ty.dims (codes "[]")
+
+-- the text is the type's spelling
+abbrev pub SpellsExternal : List ℕ → FieldType → Type 0
+SpellsExternal text ty = IsFieldType ty × (external_text ty ≡ text)
+
+-- the base type of a word that is no class name
+unfoldable pub keyword_base : List ℕ → Option Base
+keyword_base word =
+    if is_text word (codes "boolean") then Some Boolean
+    else if is_text word (codes "byte") then Some Byte
+    else if is_text word (codes "char") then Some Char
+    else if is_text word (codes "short") then Some Short
+    else if is_text word (codes "int") then Some Int
+    else if is_text word (codes "long") then Some Long
+    else if is_text word (codes "float") then Some Float
+    else if is_text word (codes "double") then Some Double
+    else None
+
+abbrev pub or_class : List ℕ → Option Base → Option Base
+or_class word (Some base) = Some base
+or_class word None = if is_class_name word then Some (Class word) else None
+
+-- the base type of a word, in which slashes stand for dots
+unfoldable pub word_base : List ℕ → Option Base
+word_base word = or_class word (keyword_base word)
+
+-- what was read: so much of a word, whose last part may be begun; a `[` behind so many `[]`; or so many `[]`
+pub data External : Type 0 where
+  word : List ℕ → Bool → External
+  opened : ℕ → Base → External
+  closed : ℕ → Base → External
+
+abbrev pub word_on : List ℕ → Option Bool → Option External
+word_on text (Some in_part) = Some (word text in_part)
+word_on text None = None
+
+abbrev pub word_opened : Option Base → Option External
+word_opened (Some base) = Some (opened 0 base)
+word_opened None = None
+
+abbrev pub word_byte : List ℕ → Bool → ℕ → Option External
+word_byte text in_part b =
+    if b == 91 then word_opened (word_base text)
+    else if b == 47 then None
+    else word_on (text ++ swapped 46 47 b ∷ []) (part_after in_part (swapped 46 47 b))
+
+unfoldable pub external_byte : External → ℕ → Option External
+external_byte (word text in_part) b = word_byte text in_part b
+external_byte (opened dims base) b = if b == 93 then Some (closed (dims + 1) base) else None
+external_byte (closed dims base) b = if b == 91 && nat_lt dims 255 then Some (opened dims base) else None
+
+abbrev pub word_whole : Option Base → Option FieldType
+word_whole (Some base) = Some (typed 0 base)
+word_whole None = None
+
+unfoldable pub external_end : External → Option FieldType
+external_end (word text in_part) = word_whole (word_base text)
+external_end (opened dims base) = None
+external_end (closed dims base) = Some (typed dims base)
+
+-- the type that the text spells, or how long its longest prefix is that is a prefix of a spelling
+unfoldable pub read_external : List ℕ → Result FieldType BadDescriptor
+read_external text = bad_descriptor (walk external_byte external_end (word [] false) 0 text)
+
+-- what the reader keeps before a place
+abbrev pub external_at : List ℕ → ℕ → kept.ExternalRead → External
+external_at text at (read.Word in_part) = word (slashed (take at text)) in_part
+external_at text at (read.Opened dims base) = opened dims base
+external_at text at (read.Closed dims base) = closed dims base
+
+abbrev pub external_next_at : List ℕ → ℕ → Option kept.ExternalRead → Option External
+external_next_at text at (Some r) = Some (external_at text at r)
+external_next_at text at None = None
+
+-- one more dimension fits
+abbrev pub HasRoom : kept.ExternalRead → Type 0
+HasRoom (read.Word in_part) = Unit {0}
+HasRoom (read.Opened dims base) = dims < 255
+HasRoom (read.Closed dims base) = dims ≤ 255
+
+abbrev pub NextHasRoom : Option kept.ExternalRead → Type 0
+NextHasRoom (Some r) = HasRoom r
+NextHasRoom None = Unit {0}
+
+abbrev pub word_read : Option Bool → Option kept.ExternalRead
+word_read (Some in_part) = Some (read.Word in_part)
+word_read None = None
