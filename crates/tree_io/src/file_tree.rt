@@ -1,5 +1,5 @@
 // The files of the system.
-ghost use Rattle.std.specs.Prelude.{◌≤◌, None, IfOk, length};
+ghost use Rattle.std.specs.Prelude.{◌≡◌, ◌≤◌, None, IfOk, length};
 
 use crate::calls::counted;
 use crate::faults::DeviceFailed;
@@ -10,19 +10,37 @@ use jv_base::{Bytes, Items, Or, Text};
 use std::alloc::Global;
 use std::fs;
 use std::io::ErrorKind;
+use std::marker::Model;
 use std::path::Path;
 use std::rt::Files;
 
-/// A tree of the system's files. It doesn't tell what they are.
+/// A tree of the system's files. It doesn't tell what they are, and contracts see its count of
+/// faults alone.
+///
+/// The count rises at each error of the system, but where `list` or `read` opens what isn't there.
+/// It also rises where a file takes none of the bytes that are left to write, at a name that isn't
+/// UTF-8, and where the folders of a listing have more than 1,048,576 entries. `write` makes parent
+/// folders and takes no memory. `list` follows no symbolic link and leaves links out; it fails where
+/// the directory's own path ends in one.
 #[derive(Drop)]
 pub struct FileTree<'a, R: Files> {
     rt: &'a R,
     faults: u64,
 }
 
+impl<'a, R: Files> Model for FileTree<'a, R> {
+    ghost use Rattle.std.specs.Prelude.{ℕ};
+
+    ghost Value = { ℕ };
+
+    ghost view = { λ t. t.faults };
+}
+
 impl<'a, R: Files> FileTree<'a, R> {
     /// The files that the runtime reaches.
-    pub fn new(rt: &'a R) -> Self {
+    pub fn new(rt: &'a R) -> Self
+        ensures { result ≡ 0 }
+    {
         FileTree { rt, faults: 0 }
     }
 }
@@ -55,7 +73,7 @@ fn write_file(rt: &impl Files, path: &str, bytes: &[u8]) -> Result<(), DeviceFai
 impl<'a, R: Files> Tree for FileTree<'a, R> {
     ghost files = { λ _. None };
 
-    ghost faults = { λ t. t.faults };
+    ghost faults = { λ t. t };
 
     fn list(&mut self, alloc: Global, dir: &Text, max: u32) -> Result<Items<Text>, ListFault> {
         match files_below(self.rt, alloc, dir.as_str()) {

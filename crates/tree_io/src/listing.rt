@@ -3,16 +3,15 @@ ghost use Rattle.std.specs.Prelude.{IfOk};
 ghost use Rattle.tree_io.specs.Below.{IsAscending};
 
 use crate::faults::DeviceFailed;
+use crate::pieces::PIECE;
 use jv_base::{Or, Text};
 use std::alloc::{AllocError, Global};
 use std::io::{ErrorKind, Read};
 use std::rt::Files;
 use std::str;
 
+// How many entries the folders of one listing may have, so that it takes bounded memory.
 const MAX_ENTRIES: u32 = 1_048_576;
-
-// It has room for the names of many entries, each of at most 255 bytes.
-const PIECE: usize = 16_384;
 
 /// The paths of the files below a folder, each from there on, in ascending order. A folder that is
 /// missing has none.

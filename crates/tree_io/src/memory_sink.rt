@@ -9,7 +9,10 @@ use jv_base::{Items, M};
 use std::alloc::Global;
 use std::marker::Model;
 
-/// A sink that keeps its text in memory, and whose named calls fail.
+/// A sink that keeps its text in memory. Contracts see its text and its counts of calls.
+///
+/// Each call of `put` counts, whatever it answers, from 0 on; at 2^64 - 1 the count stands still. A
+/// call fails just where its number is named, and then it appends nothing.
 #[derive(Drop)]
 pub struct MemorySink {
     text: Vec<u8>,

@@ -14,7 +14,12 @@ use std::alloc::{AllocError, Global};
 use std::collections::BTreeMap;
 use std::marker::Model;
 
-/// A tree whose files are in memory, and whose named calls fail.
+/// A tree whose files are in memory. Contracts see its files and its counts of calls.
+///
+/// Each call of `list`, `read` and `write` counts, whatever it answers, from 0 on; at 2^64 - 1 the
+/// count stands still. A call fails just where its number is named. A write that fails leaves the
+/// first half of the bytes, rounded down, at the path; where memory for it is wanting it answers
+/// that, and no file has changed.
 #[derive(Drop)]
 pub struct MemoryTree {
     files: BTreeMap<Text, Bytes>,

@@ -6,7 +6,8 @@ use crate::faults::DeviceFailed;
 use std::alloc::Global;
 use std::io::{Read, Write};
 
-const PIECE: usize = 16_384;
+/// How many bytes are read at a time. A folder's names, each of at most 255 bytes, fit in too.
+pub const PIECE: usize = 16_384;
 
 /// What a file has left, which is at most `max` bytes; else `TooLong`. `Failed` at an error of the
 /// device.

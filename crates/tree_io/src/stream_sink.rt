@@ -1,21 +1,36 @@
 // Standard output.
-ghost use Rattle.std.specs.Prelude.{None};
+ghost use Rattle.std.specs.Prelude.{◌≡◌, None};
 
 use crate::calls::counted;
 use crate::faults::DeviceFailed;
 use crate::pieces::print_all;
 use crate::{PutFault, Sink};
+use std::marker::Model;
 
-/// A sink that writes to standard output. It doesn't tell what was written.
+/// A sink that writes to standard output. It doesn't tell what was written, and contracts see its
+/// count of faults alone.
+///
+/// The count rises at each error of the system, and where the output takes none of the bytes that
+/// are left.
 #[derive(Drop)]
 pub struct StreamSink<'a, R: Print> {
     rt: &'a R,
     faults: u64,
 }
 
+impl<'a, R: Print> Model for StreamSink<'a, R> {
+    ghost use Rattle.std.specs.Prelude.{ℕ};
+
+    ghost Value = { ℕ };
+
+    ghost view = { λ s. s.faults };
+}
+
 impl<'a, R: Print> StreamSink<'a, R> {
     /// The standard output of the runtime.
-    pub fn new(rt: &'a R) -> Self {
+    pub fn new(rt: &'a R) -> Self
+        ensures { result ≡ 0 }
+    {
         StreamSink { rt, faults: 0 }
     }
 }
@@ -23,7 +38,7 @@ impl<'a, R: Print> StreamSink<'a, R> {
 impl<'a, R: Print> Sink for StreamSink<'a, R> {
     ghost written = { λ _. None };
 
-    ghost faults = { λ s. s.faults };
+    ghost faults = { λ s. s };
 
     fn put(&mut self, bytes: &[u8]) -> Result<(), PutFault> {
         match print_all(self.rt, bytes) {
