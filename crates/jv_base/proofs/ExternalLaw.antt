@@ -8,7 +8,7 @@ use Rattle.std.proofs.lemmas.Bool.Decides.{nat_tests}
 use Rattle.jv_base.specs.Descriptors.{typed, bad_descriptor}
 use Rattle.jv_base.specs.External.{SpellsExternal, External, word, opened, closed, dotted, swapped, word_text, external_text, keyword_base, or_class, word_base, word_on, word_opened, word_byte, external_byte, word_whole, external_end, read_external}
 use Rattle.jv_base.specs.Longest.{GoesOn, IsLongest}
-use Rattle.jv_base.specs.Names.{is_class_name, is_keyword, is_name_byte, is_text, part_after, parts_whole}
+use Rattle.jv_base.specs.Names.{is_class_name, is_primitive_or_void, is_name_byte, is_text, part_after, parts_whole}
 use Rattle.jv_base.specs.Types.{IsBase}
 use Rattle.jv_base.specs.Walk.{walk, walk_from, or_fault}
 use Rattle.jv_base.specs.declared.descriptors.BadDescriptor.{BadDescriptor}
@@ -93,8 +93,8 @@ from_char = codes "char" ∷ from_short
 abbrev from_byte : List (List ℕ)
 from_byte = codes "byte" ∷ from_char
 
-not_one : (text : List ℕ) → is_keyword text ≡ false → keyword_base text ≡ None
-unfolding is_keyword keyword_base
+not_one : (text : List ℕ) → is_primitive_or_void text ≡ false → keyword_base text ≡ None
+unfolding is_primitive_or_void keyword_base
 not_one text h =
     let a = skip text (codes "boolean") from_byte h in
     let b = skip text (codes "byte") from_char a.1 in
@@ -109,8 +109,8 @@ not_one text h =
 class_word : (text : List ℕ) → is_class_name text ≡ true → word_base text ≡ Some (Class text)
 unfolding word_base
 class_word text h =
-    let p = both_true (parts_whole false text) (not (is_keyword text)) (sym (class_name_is text) ∙ h) in
-    rw (not_one text (negated (is_keyword text) p.1), h) refl
+    let p = both_true (parts_whole false text) (not (is_primitive_or_void text)) (sym (class_name_is text) ∙ h) in
+    rw (not_one text (negated (is_primitive_or_void text) p.1), h) refl
   where
     negated : (b : Bool) → not b ≡ true → b ≡ false
     negated true k = absurd cc

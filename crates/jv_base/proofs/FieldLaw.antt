@@ -7,7 +7,7 @@ use Rattle.std.proofs.lemmas.Bool.{eqb-true}
 use Rattle.std.proofs.lemmas.Bool.Decides.{nat_tests}
 use Rattle.jv_base.specs.Descriptors.{SpellsField, typed, letter_base, Begun, brackets, name, Grown, more, whole, letter_grown, name_on, grown, FieldRead, field_begun, field_whole, field_on, field_byte, field_end, bad_descriptor, read_field}
 use Rattle.jv_base.specs.Longest.{GoesOn, IsLongest}
-use Rattle.jv_base.specs.Names.{is_class_name, is_keyword, is_name_byte, is_text, part_after, parts_whole}
+use Rattle.jv_base.specs.Names.{is_class_name, is_primitive_or_void, is_name_byte, is_text, part_after, parts_whole}
 use Rattle.jv_base.specs.Types.{base_text, field_text, IsBase, IsFieldType, words_of}
 use Rattle.jv_base.specs.Walk.{walk, walk_from}
 use Rattle.jv_base.specs.declared.descriptors.BadDescriptor.{BadDescriptor}
@@ -50,8 +50,8 @@ letters_whole : (in_part : Bool) → parts_whole in_part letters ≡ true
 unfolding is_name_byte
 letters_whole in_part = refl
 
-not_keyword : (text : List ℕ) → 8 ≤ length text → is_keyword text ≡ false
-unfolding is_keyword
+not_keyword : (text : List ℕ) → 8 ≤ length text → is_primitive_or_void text ≡ false
+unfolding is_primitive_or_void
 not_keyword text long =
     let differs : (word : List ℕ) → length word < 8 → is_text text word ≡ false = λ word short. unequal nat_eq text word (λ e. omega arith) in
     rw (
@@ -256,7 +256,7 @@ path_name (b ∷ bs) dims text in_part h valid =
     inr (name dims (text ++ b ∷ []) g.0, one, subst P (sym whole_) deep valid)
 
 pub class_parts : (text : List ℕ) → is_class_name text ≡ true → parts_whole false text ≡ true
-class_parts text h = first (parts_whole false text) (not (is_keyword text)) (sym (class_name_is text) ∙ h)
+class_parts text h = first (parts_whole false text) (not (is_primitive_or_void text)) (sym (class_name_is text) ∙ h)
   where
     first : (a b : Bool) → (a && b) ≡ true → a ≡ true
     first true b h = refl

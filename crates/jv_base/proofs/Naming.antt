@@ -2,7 +2,7 @@
 use Rattle.std.proofs.Common.{◌≡◌, ℕ, Bool, true, false, not, ◌&&◌, ◌||◌, cond, List, [], ◌∷◌, length, refl, sym, ap, ◌∙◌, arith}
 use Rattle.std.specs.Prelude.{nat_eq}
 use Rattle.std.specs.List.{list_all, onto_first}
-use Rattle.jv_base.specs.Names.{all_name_bytes, is_class_name, is_keyword, is_member_name, is_name_byte, name_parts, parts_whole}
+use Rattle.jv_base.specs.Names.{all_name_bytes, is_class_name, is_primitive_or_void, is_member_name, is_name_byte, name_parts, parts_whole}
 
 -- each part is whole, but that the first may be empty where it was begun before
 abbrev checked : Bool → List (List ℕ) → Bool
@@ -31,6 +31,6 @@ parts_checked [] true = refl
 parts_checked [] false = refl
 parts_checked (b ∷ bs) in_part = by_byte b (name_parts bs) in_part (nat_eq b 47) _ _ (parts_checked bs false) (parts_checked bs true)
 
-pub class_name_is : (name : List ℕ) → is_class_name name ≡ parts_whole false name && not (is_keyword name)
+pub class_name_is : (name : List ℕ) → is_class_name name ≡ parts_whole false name && not (is_primitive_or_void name)
 unfolding is_class_name
-class_name_is name = ap (λ (t : Bool). t && not (is_keyword name)) (sym (parts_checked name false ∙ whole_first (name_parts name)))
+class_name_is name = ap (λ (t : Bool). t && not (is_primitive_or_void name)) (sym (parts_checked name false ∙ whole_first (name_parts name)))

@@ -1,4 +1,5 @@
--- Names in internal form (JVMS 4.2), seen as their bytes in UTF-8.
+-- Names in internal form (JVMS 4.2), seen as their bytes in UTF-8. Of the names that the standard allows only those are taken
+-- whose characters are the ones below; the standard forbids no more than `.`, `;`, `[`, `/` and, in method names, `<` and `>`.
 use Rattle.std.specs.Prelude.{ℕ, Bool, true, false, not, ◌&&◌, ◌||◌, List, [], ◌∷◌, length, nat_le, nat_eq, ◌==◌, codes, Option, Some, None, if◌then◌else◌}
 use Rattle.std.specs.Char.{is_ascii_alphanumeric}
 use Rattle.std.specs.Cmp.Lexicographic.{pointwise}
@@ -13,29 +14,30 @@ is_text text other = pointwise nat_eq text other
 unfoldable pub is_name_byte : ℕ → Bool
 is_name_byte b = nat_le 128 b || is_ascii_alphanumeric b || b == 95 || b == 36 || b == 45
 
+-- each byte is one of a name
 abbrev pub all_name_bytes : List ℕ → Bool
 all_name_bytes bytes = list_all is_name_byte bytes
 
--- a name without a separator
+-- an unqualified name, of a field or of a method that initialises nothing (JVMS 4.2.2)
 unfoldable pub is_member_name : List ℕ → Bool
 is_member_name name = not (length name == 0) && all_name_bytes name
 
--- the name of a method, instance initialisation and class initialisation included (JVMS 2.9)
+-- the name of a method, instance initialisation and class initialisation included (JVMS 2.9, 4.2.2)
 unfoldable pub is_method_name : List ℕ → Bool
 is_method_name name = is_member_name name || is_text name (codes "<init>") || is_text name (codes "<clinit>")
 
--- a word that stands for another type in Java source
-unfoldable pub is_keyword : List ℕ → Bool
-is_keyword text = list_any (is_text text)
+-- a word that stands for another type, or for none, in Java source; by a choice of our own it names no class
+unfoldable pub is_primitive_or_void : List ℕ → Bool
+is_primitive_or_void text = list_any (is_text text)
     (codes "boolean" ∷ codes "byte" ∷ codes "char" ∷ codes "short" ∷ codes "int" ∷ codes "long" ∷ codes "float" ∷ codes "double" ∷ codes "void" ∷ [])
 
 -- the parts of a name between its separators, `/`
 abbrev pub name_parts : List ℕ → List (List ℕ)
 name_parts name = slice_split (λ b. b == 47) name
 
--- the name of a class or an interface, arrays aside
+-- the name of a class or an interface, arrays aside: such names joined by `/` (JVMS 4.2.1)
 unfoldable pub is_class_name : List ℕ → Bool
-is_class_name name = list_all is_member_name (name_parts name) && not (is_keyword name)
+is_class_name name = list_all is_member_name (name_parts name) && not (is_primitive_or_void name)
 
 -- the same of its parts, read from left to right: whether a part is begun, and each part is whole
 abbrev pub parts_whole : Bool → List ℕ → Bool

@@ -1,6 +1,6 @@
 // Names in internal form (JVMS 4.2).
 ghost use Rattle.std.specs.Prelude.{◌≡◌, false};
-ghost use Rattle.jv_base.specs.Names.{all_name_bytes, is_class_name, is_keyword, is_member_name, is_method_name, is_name_byte, part_after, parts_whole};
+ghost use Rattle.jv_base.specs.Names.{all_name_bytes, is_class_name, is_primitive_or_void, is_member_name, is_method_name, is_name_byte, part_after, parts_whole};
 
 /// Whether a text is the name of a field, or of a method that initialises nothing (JVMS 4.2.2): at least one
 /// character, each an ASCII letter or digit, `_`, `$`, `-` or one from U+0080 on.
@@ -25,12 +25,12 @@ pub fn is_method_name(text: &str) -> bool
 pub fn is_class_name(text: &str) -> bool
     ensures { result ≡ is_class_name text.now }
 {
-    has_whole_parts(text.as_bytes()) && !is_keyword(text)
+    has_whole_parts(text.as_bytes()) && !is_primitive_or_void(text)
 }
 
-#[tactic(auto, unfolding(crate::specs::Names::is_keyword))]
-fn is_keyword(text: &str) -> bool
-    ensures { result ≡ is_keyword text.now }
+#[tactic(auto, unfolding(crate::specs::Names::is_primitive_or_void))]
+fn is_primitive_or_void(text: &str) -> bool
+    ensures { result ≡ is_primitive_or_void text.now }
 {
     matches!(
         text,
