@@ -121,21 +121,30 @@ class_by pool i (Some e) units at is = class_entry pool i e units at is
 pub has_class : (pool : List Entry) (i : ℕ) (name : List ℕ) → IsClassAt pool i name → HasClass pool (units_of name)
 has_class pool i name h = class_by pool i (slice_get pool i) (units_of name) refl h.1.1
 
--- ---- lengths
+-- ---- texts
 
-entry_fits : (pool : List Entry) (e : Entry) (ks : List PoolConstant) → HasBytes e → AllByRecursion TextFits ks → AllByRecursion TextFits (cons_option (symbol pool e) ks)
-entry_fits pool (entry.Utf8 units) ks h all = (h.1, all)
-entry_fits pool (entry.Class n) ks h all = class_fits (units_at pool n)
+-- the text has bytes
+abbrev pub HasText : PoolConstant → Type 0
+HasText (Utf8 units) = HasBytes (entry.Utf8 units)
+HasText (ClassOf units) = Unit {0}
+
+pub text_fits : (k : PoolConstant) → HasText k → TextFits k
+text_fits (Utf8 units) h = h.1
+text_fits (ClassOf units) h = tt
+
+entry_has : (pool : List Entry) (e : Entry) (ks : List PoolConstant) → HasBytes e → AllByRecursion HasText ks → AllByRecursion HasText (cons_option (symbol pool e) ks)
+entry_has pool (entry.Utf8 units) ks h all = (h, all)
+entry_has pool (entry.Class n) ks h all = class_has (units_at pool n)
   where
-    class_fits : (o : Option (List ℕ)) → AllByRecursion TextFits (cons_option (option_map (λ units. ClassOf units) o) ks)
-    class_fits None = all
-    class_fits (Some units) = (tt, all)
-entry_fits pool _ ks h all = all
+    class_has : (o : Option (List ℕ)) → AllByRecursion HasText (cons_option (option_map (λ units. ClassOf units) o) ks)
+    class_has None = all
+    class_has (Some units) = (tt, all)
+entry_has pool _ ks h all = all
 
--- each text that was read fits
-pub symbols_fit : (pool entries : List Entry) → AllByRecursion HasBytes entries → AllByRecursion TextFits (symbols pool entries)
-symbols_fit pool [] all = tt
-symbols_fit pool (e ∷ entries) all = entry_fits pool e (symbols pool entries) all.0 (symbols_fit pool entries all.1)
+-- each text that was read has bytes
+pub symbols_have : (pool entries : List Entry) → AllByRecursion HasBytes entries → AllByRecursion HasText (symbols pool entries)
+symbols_have pool [] all = tt
+symbols_have pool (e ∷ entries) all = entry_has pool e (symbols pool entries) all.0 (symbols_have pool entries all.1)
 
 module _ (P : PoolConstant → Type 0) where
   among_by : (b : Bool) (k x : PoolConstant) (ks : List PoolConstant) → same k x ≡ b → (b || list_any (same k) ks) ≡ true → P x → (Has ks k → P k) → P k

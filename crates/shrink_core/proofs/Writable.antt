@@ -20,7 +20,7 @@ use Rattle.class_model.specs.File.{IsCode, IsBody, IsMethod, IsClass, File}
 use Rattle.class_model.specs.Layout.{same, method_constants, constants_of, pool_of, code_bytes}
 use Rattle.shrink_core.specs.Small.{IsSmall}
 use Rattle.shrink_core.specs.Writable.{TextFits, OperandsFit, CodeFits, MethodFits, CanLayOut}
-use Rattle.shrink_core.proofs.Constants.{Has, symbols, symbols_most, symbols_fit, has_text, has_class, all_among, same_laws, all_inserted, all_appended, distinct_inserted}
+use Rattle.shrink_core.proofs.Constants.{Has, HasText, text_fits, symbols, symbols_most, symbols_have, has_text, has_class, all_among, same_laws, all_inserted, all_appended, distinct_inserted}
 use Rattle.shrink_core.proofs.Shortest.{AreWithin, code_within}
 
 -- ---- codes
@@ -81,11 +81,11 @@ pool_short raw class pool h =
     let count : length pool ≡ suc (length raw.constant_pool) = ap length numbers in
     omega (arith, most, entries, count, symbols_most pool raw.constant_pool, h.constant_pool.count)
 
-pool_fits : (raw : ClassFile) (class : Class) (pool : List Entry) → IsClass raw class pool → All TextFits (pool_of class)
-pool_fits raw class pool h =
+pub pool_texts : (raw : ClassFile) (class : Class) (pool : List Entry) → IsClass raw class pool → All HasText (pool_of class)
+pool_texts raw class pool h =
     let said = symbols pool pool in
-    let fit : AllByRecursion TextFits said = subst (λ (es : List Entry). AllByRecursion TextFits (symbols pool es)) (sym h.constant_pool.numbers) (symbols_fit pool raw.constant_pool h.constant_pool.bytes) in
-    All-weaker (Has said) TextFits (λ k among. all_among TextFits said k fit among) (pool_of class) (All-from_recursion (Has said) (pool_of class) (pool_has raw class pool h))
+    let have : AllByRecursion HasText said = subst (λ (es : List Entry). AllByRecursion HasText (symbols pool es)) (sym h.constant_pool.numbers) (symbols_have pool raw.constant_pool h.constant_pool.bytes) in
+    All-weaker (Has said) HasText (λ k among. all_among HasText said k have among) (pool_of class) (All-from_recursion (Has said) (pool_of class) (pool_has raw class pool h))
 
 as_many : (pool : List Entry) (raws : List MemberInfo) (methods : List Method) → AllZip (IsMethod pool) raws methods → length methods ≡ length raws
 as_many pool [] [] all = refl
@@ -93,10 +93,10 @@ as_many pool [] (m ∷ methods) all = absurd all
 as_many pool (raw ∷ raws) [] all = absurd all
 as_many pool (raw ∷ raws) (m ∷ methods) all = ap suc (as_many pool raws methods all.1)
 
-class_fits : (raw : ClassFile) (class : Class) (pool : List Entry) → IsClass raw class pool → CanLayOut class
+pub class_fits : (raw : ClassFile) (class : Class) (pool : List Entry) → IsClass raw class pool → CanLayOut class
 class_fits raw class pool h = record {
   constant_pool_count = pool_short raw class pool h;
-  texts = pool_fits raw class pool h;
+  texts = All-weaker HasText TextFits text_fits (pool_of class) (pool_texts raw class pool h);
   methods_count = subst (λ (n : ℕ). n < 2 ^ 16) (sym (as_many pool raw.methods class.methods h.methods)) h.methods_count;
   methods = All-from_recursion MethodFits class.methods (methods_fit pool raw.methods class.methods h.methods);
 }

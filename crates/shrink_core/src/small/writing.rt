@@ -5,7 +5,7 @@ ghost use Rattle.std.specs.List.{flat_map};
 ghost use Rattle.class_model.specs.Layout as canonical;
 ghost use Rattle.class_model.specs.Structure as structure;
 ghost use Rattle.class_model.specs.Structure.{AttributeInfo, attribute_info, member_info, class_file, head};
-ghost use Rattle.shrink_core.specs.Writable.{CodeFits, MethodFits, CanLayOut};
+ghost use Rattle.shrink_core.specs.Writable.{CodeFits, MethodFits, CanLayOut, CanonicalIsSmall};
 
 mod bytes;
 mod constants;
@@ -31,6 +31,11 @@ pub(crate) fn write_small(alloc: Global, class: &Class) -> M<Bytes>
     put_class_file(alloc, &pool, class, &mut out)?;
     Ok(Items::from_vec(out))
 }
+
+/// What is written of a class that some bytes spell is a spelling of it too.
+pub fn canonical_is_small()
+    ensures { CanonicalIsSmall }
+{}
 
 /// ClassFile (JVMS 4.1), without interfaces, fields and attributes.
 fn put_class_file(
