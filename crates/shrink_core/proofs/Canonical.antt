@@ -1,30 +1,27 @@
 -- The canonical spelling of a small class is a spelling of it.
-use Rattle.std.proofs.Common.{◌≡◌, ◌≢◌, ◌⊎◌, ⊎_elim, inl, inr, ℕ, suc, ◌+◌, ◌^◌, ◌<◌, ◌≤◌, true, List, [], ◌∷◌, ◌++◌, length, map, Option, Some, None, refl, sym, ap, subst, ◌∙◌, arith, codes, bit_and, IsUtf8, IsTrue, length-append}
-use Rattle.std.specs.List.{AllZip, AllByRecursion, list_any, flat_map}
+use Rattle.std.proofs.Common.{◌≡◌, inl, inr, ℕ, ◌+◌, ◌^◌, ◌<◌, ◌≤◌, List, [], ◌∷◌, length, map, Option, Some, refl, sym, ap, subst, ◌∙◌, arith, codes, bit_and, IsUtf8, IsTrue}
+use Rattle.std.specs.List.{AllZip, AllByRecursion, flat_map}
 use Rattle.std.proofs.lemmas.List.{length-map}
 use Rattle.std.proofs.lemmas.List.Elements.{recursion_from_All}
 use Rattle.std.proofs.lemmas.Nat.{and_assoc, and_le_r}
 use Rattle.jv_base.specs.declared.access.Access.{Access}
-use Rattle.jv_base.specs.Mutf8.{IsUnits}
 use Rattle.jv_base.specs.Names.{is_class_name}
 use Rattle.jv_base.specs.Utf16.{units_of}
 use Rattle.jv_base.specs.Types.{method_text}
 use Rattle.class_model.specs.declared.constant.PoolConstant.{PoolConstant}
 use Rattle.class_model.specs.declared.constant.PoolConstant.TheVariants.{Utf8, Class as ClassOf}
 use Rattle.class_model.specs.declared.pool.Entry.{Entry}
-use Rattle.class_model.specs.declared.pool.Entry.TheVariants as entry
 use Rattle.class_model.specs.declared.code.Code.{Code}
 use Rattle.class_model.specs.declared.class.Method.{Method}
 use Rattle.class_model.specs.declared.class.Class.{Class}
-use Rattle.class_model.specs.Pool.{HasBytes, NamesRight, IsPool, IsTextAt}
+use Rattle.class_model.specs.Pool.{HasBytes, NamesRight, IsPool}
 use Rattle.class_model.specs.Structure.{AttributeInfo, MemberInfo, CodeInfo, ClassFile}
 use Rattle.class_model.specs.Instructions.{info_bytes}
-use Rattle.class_model.specs.File.{flags_of, HasOneAccess, IsCode, IsCodeAttribute, IsBody, AreMethodFlags, IsMethod, AreClassFlags, IsClass, File}
-use Rattle.class_model.specs.Layout.{same, class_constants, method_constants, constants_of, pool_of, index_of, entry_of, code_bytes, code_raw, code_attributes, method_raw, class_raw, layout}
+use Rattle.class_model.specs.File.{flags_of, HasOneAccess, IsCode, IsBody, AreMethodFlags, IsMethod, AreClassFlags, IsClass}
+use Rattle.class_model.specs.Layout.{method_constants, constants_of, pool_of, entry_of, code_raw, code_attributes, method_raw, class_raw, layout}
 use Rattle.shrink_core.specs.Small.{IsSmall}
-use Rattle.shrink_core.specs.Writable.{CanLayOut}
 use Rattle.shrink_core.proofs.Constants.{Has, HasText, all_inserted}
-use Rattle.shrink_core.proofs.Shortest.{AreWithin, code_within}
+use Rattle.shrink_core.proofs.Shortest.{code_within}
 use Rattle.shrink_core.proofs.Indexed.{wanted_have, pool_read, index_fits, text_there, class_there, units_there}
 use Rattle.shrink_core.proofs.Writable.{class_fits, pool_texts}
 

@@ -1,19 +1,17 @@
 -- The constants that a class is written with stand in the pool that was read.
-use Rattle.std.proofs.Common.{◌≡◌, ℕ, zero, suc, ◌+◌, ◌^◌, ◌<◌, ◌≤◌, Bool, true, false, cond, ◌||◌, List, [], ◌∷◌, ◌++◌, length, Option, Some, None, option_map, option_and_then, slice_get, refl, sym, ap, subst, ◌∙◌, arith, codes, Decides}
+use Rattle.std.proofs.Common.{◌≡◌, ℕ, zero, suc, ◌≤◌, Bool, true, false, cond, ◌||◌, List, [], ◌∷◌, ◌++◌, length, Option, Some, None, option_map, option_and_then, slice_get, refl, sym, ap, subst, ◌∙◌, arith, Decides}
 use Rattle.std.specs.Cmp.{IsEquivalence, decided}
-use Rattle.std.specs.List.{AllZip, AllByRecursion, IsDistinct, list_any, fold, flat_map, filter_map, cons_option}
-use Rattle.std.proofs.lemmas.Bool.{or_left, or_right, cases_Bool}
+use Rattle.std.specs.List.{AllByRecursion, IsDistinct, list_any, filter_map, cons_option}
+use Rattle.std.proofs.lemmas.Bool.{or_left, or_right}
 use Rattle.std.proofs.lemmas.Map.Keys.{IsDistinct-push}
-use Rattle.std.proofs.lemmas.Map.Made.{length-le_from_is_member}
 use Rattle.indexmap.specs.IndexSet.{insert_key, insert_all}
-use Rattle.jv_base.specs.Mutf8.{mutf8}
 use Rattle.jv_base.specs.Utf16.{units_of}
 use Rattle.jv_base.proofs.Equality.{text_Decides}
 use Rattle.class_model.specs.declared.constant.PoolConstant.{PoolConstant}
 use Rattle.class_model.specs.declared.constant.PoolConstant.TheVariants.{Utf8, Class as ClassOf}
 use Rattle.class_model.specs.declared.pool.Entry.{Entry}
 use Rattle.class_model.specs.declared.pool.Entry.TheVariants as entry
-use Rattle.class_model.specs.Pool.{HasBytes, units_in, name_index_in, units_at, class_units_at, IsTextAt, IsClassAt}
+use Rattle.class_model.specs.Pool.{HasBytes, units_in, name_index_in, units_at, IsTextAt, IsClassAt}
 use Rattle.class_model.specs.Layout.{same}
 use Rattle.shrink_core.specs.Writable.{TextFits}
 

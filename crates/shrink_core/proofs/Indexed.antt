@@ -1,5 +1,5 @@
 -- The pool that is written, by its indices.
-use Rattle.std.proofs.Common.{◌≡◌, ℕ, zero, suc, ◌+◌, ◌^◌, ◌<◌, ◌≤◌, Bool, true, false, cond, not, ◌||◌, List, [], ◌∷◌, ◌++◌, length, map, Option, Some, None, option_and_then, slice_get, refl, sym, ap, subst, ◌∙◌, arith, one-add, IsUtf8, IsTrue}
+use Rattle.std.proofs.Common.{◌≡◌, ℕ, ◌+◌, ◌^◌, ◌<◌, ◌≤◌, Bool, true, false, cond, not, ◌||◌, List, [], ◌∷◌, ◌++◌, length, map, Some, option_and_then, slice_get, refl, sym, ap, ◌∙◌, arith, one-add, IsUtf8, IsTrue}
 use Rattle.std.specs.List.{AllByRecursion, list_any, position_or_len}
 use Rattle.std.proofs.lemmas.Bool.{or_left, or_right}
 use Rattle.std.proofs.lemmas.List.Sums.{prefix_len-le-length}
@@ -9,8 +9,7 @@ use Rattle.jv_base.specs.Utf16.{units_of}
 use Rattle.class_model.specs.declared.constant.PoolConstant.{PoolConstant}
 use Rattle.class_model.specs.declared.constant.PoolConstant.TheVariants.{Utf8, Class as ClassOf}
 use Rattle.class_model.specs.declared.pool.Entry.{Entry}
-use Rattle.class_model.specs.declared.pool.Entry.TheVariants as entry
-use Rattle.class_model.specs.Pool.{numbered, units_in, name_index_in, units_at, class_units_at, IsTextAt, IsClassAt}
+use Rattle.class_model.specs.Pool.{numbered, units_in, name_index_in, units_at, IsTextAt, IsClassAt}
 use Rattle.class_model.specs.Layout.{same, index_of, entry_of}
 use Rattle.shrink_core.proofs.Constants.{Has, same_Decides}
 

@@ -1,27 +1,24 @@
 -- A small class that was read can be written.
-use Rattle.std.proofs.Common.{◌≡◌, ℕ, suc, ◌+◌, ◌^◌, ◌<◌, ◌≤◌, true, List, [], ◌∷◌, ◌++◌, length, Option, Some, None, IfSome, refl, sym, ap, subst, arith, codes, All}
-use Rattle.std.specs.List.{AllZip, AllByRecursion, IsDistinct, list_any, flat_map}
+use Rattle.std.proofs.Common.{◌≡◌, ℕ, suc, ◌+◌, ◌^◌, ◌<◌, List, [], ◌∷◌, length, Option, Some, IfSome, refl, sym, ap, subst, arith, codes, All}
+use Rattle.std.specs.List.{AllZip, AllByRecursion, IsDistinct, flat_map}
 use Rattle.std.proofs.lemmas.List.Elements.{All-from_recursion, All-weaker}
 use Rattle.std.proofs.lemmas.Map.Made.{length-le_from_is_member}
-use Rattle.indexmap.specs.IndexSet.{insert_all}
 use Rattle.jv_base.specs.Utf16.{units_of}
 use Rattle.jv_base.specs.Types.{method_text}
-use Rattle.class_model.specs.declared.constant.PoolConstant.{PoolConstant}
-use Rattle.class_model.specs.declared.constant.PoolConstant.TheVariants.{Utf8, Class as ClassOf}
+use Rattle.class_model.specs.declared.constant.PoolConstant.TheVariants.{Utf8}
 use Rattle.class_model.specs.declared.pool.Entry.{Entry}
 use Rattle.class_model.specs.declared.code.Ins.{Ins}
 use Rattle.class_model.specs.declared.code.Code.{Code}
 use Rattle.class_model.specs.declared.class.Method.{Method}
 use Rattle.class_model.specs.declared.class.Class.{Class}
-use Rattle.class_model.specs.Pool.{numbered, IsPool}
 use Rattle.class_model.specs.Structure.{AttributeInfo, MemberInfo, CodeInfo, ClassFile}
 use Rattle.class_model.specs.Instructions.{info_bytes}
-use Rattle.class_model.specs.File.{IsCode, IsBody, IsMethod, IsClass, File}
-use Rattle.class_model.specs.Layout.{same, method_constants, constants_of, pool_of, code_bytes}
+use Rattle.class_model.specs.File.{IsCode, IsBody, IsMethod, IsClass}
+use Rattle.class_model.specs.Layout.{same, method_constants, constants_of, pool_of}
 use Rattle.shrink_core.specs.Small.{IsSmall}
 use Rattle.shrink_core.specs.Writable.{TextFits, OperandsFit, CodeFits, MethodFits, CanLayOut}
-use Rattle.shrink_core.proofs.Constants.{Has, HasText, text_fits, symbols, symbols_most, symbols_have, has_text, has_class, all_among, same_laws, all_inserted, all_appended, distinct_inserted}
-use Rattle.shrink_core.proofs.Shortest.{AreWithin, code_within}
+use Rattle.shrink_core.proofs.Constants.{Has, HasText, text_fits, symbols, symbols_most, symbols_have, has_text, has_class, all_among, same_laws, all_inserted, distinct_inserted}
+use Rattle.shrink_core.proofs.Shortest.{code_within}
 
 -- ---- codes
 
