@@ -9,3 +9,6 @@ mod small;
 mod words;
 
 pub use command::run;
+
+#[cfg(test)]
+mod tests;

@@ -3,7 +3,7 @@ ghost use Rattle.std.specs.Prelude.{◌≤◌, None, IfOk, length};
 
 use crate::calls::counted;
 use crate::faults::DeviceFailed;
-use crate::listing::list_all;
+use crate::listing::files_below;
 use crate::pieces::{read_all, write_all};
 use crate::{ListFault, ReadFault, Tree, WriteFault};
 use jv_base::{Bytes, Items, Or, Text};
@@ -52,13 +52,13 @@ fn write_file(rt: &impl Files, path: &str, bytes: &[u8]) -> Result<(), DeviceFai
     }
 }
 
-impl<'a, R: Files + AllocGlobal + Clone + Drop> Tree for FileTree<'a, R> {
+impl<'a, R: Files> Tree for FileTree<'a, R> {
     ghost files = { λ _. None };
 
     ghost faults = { λ t. t.faults };
 
     fn list(&mut self, alloc: Global, dir: &Text, max: u32) -> Result<Items<Text>, ListFault> {
-        match list_all(self.rt, alloc, dir.as_str()) {
+        match files_below(self.rt, alloc, dir.as_str()) {
             Ok(paths) if paths.len() > max as usize => Err(ListFault::TooMany),
             Ok(paths) => Ok(Items::from_vec(paths)),
             Err(Or::OutOfMemory) => Err(ListFault::OutOfMemory),

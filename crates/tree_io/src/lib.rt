@@ -25,3 +25,6 @@ pub use memory_tree::MemoryTree;
 pub use sink::Sink;
 pub use stream_sink::StreamSink;
 pub use tree::Tree;
+
+#[cfg(test)]
+mod tests;
