@@ -31,9 +31,6 @@ one_access : (flags mask : ℕ) → bit_and mask 7 ≡ 7 → HasOneAccess flags 
 one_access flags mask e (inl h) = inl (rw (and_assoc 7 flags mask, e) h)
 one_access flags mask e (inr h) = inr (rw (and_assoc 7 flags mask, e) h)
 
-below_16 : (n : ℕ) → n ≤ 0xFFFF → n < 2 ^ 16
-below_16 n h = omega arith
-
 method_bits : (bits : ℕ) (flags : Access) → AreMethodFlags bits flags → AreMethodFlags (bit_and bits 0x1DFF) (flags_of (bit_and bits 0x1DFF))
 method_bits bits flags h = record {
   fit = let g : bit_and bits 0x1DFF ≤ 0x1DFF = and_le_r bits 0x1DFF in omega arith;

@@ -40,10 +40,6 @@ module _ (P : PoolConstant → Type 0) where
   all_inserted [] ks all more = all
   all_inserted (k ∷ wanted) ks all more = all_inserted wanted (insert_key same ks k) (key_by (list_any (same k) ks) ks k all more.0) more.1
 
-  pub all_appended : (ks js : List PoolConstant) → AllByRecursion P ks → AllByRecursion P js → AllByRecursion P (ks ++ js)
-  all_appended [] js all more = more
-  all_appended (k ∷ ks) js all more = (all.0, all_appended ks js all.1 more)
-
 distinct_by : (b : Bool) (ks : List PoolConstant) (k : PoolConstant) → list_any (same k) ks ≡ b → IsDistinct same ks → IsDistinct same (cond b ks (ks ++ k ∷ []))
 distinct_by true ks k e h = h
 distinct_by false ks k e h = IsDistinct-push same_laws ks k h e

@@ -12,7 +12,7 @@ mod constants;
 mod instructions;
 
 use crate::small::writing::bytes::{put, put_u2, put_u4};
-use crate::small::writing::constants::{index_of_class, index_of_text, pool_of, put_pool};
+use crate::small::writing::constants::{CODE, index_of_class, index_of_text, pool_of, put_pool};
 use crate::small::writing::instructions::code_bytes;
 use bitflags::Flags;
 use class_model::{Class, Code, Method, PoolConstant};
@@ -144,7 +144,7 @@ fn put_attributes(
             let info = code_info(alloc, code)?;
             put_u2(out, 1)?;
             put_attribute(
-                index_of_text(alloc, pool, &Text::from_str(alloc, "Code")?)?,
+                index_of_text(alloc, pool, &Text::from_str(alloc, CODE)?)?,
                 &info,
                 out,
             )
