@@ -1,19 +1,17 @@
 -- The constants that a class is written with stand in the pool that was read.
-use Rattle.std.proofs.Common.{◌≡◌, ℕ, zero, suc, ◌+◌, ◌^◌, ◌<◌, ◌≤◌, Bool, true, false, cond, ◌||◌, List, [], ◌∷◌, ◌++◌, length, Option, Some, None, option_map, option_and_then, slice_get, refl, sym, ap, subst, ◌∙◌, arith, codes, Decides}
+use Rattle.std.proofs.Common.{◌≡◌, ℕ, zero, suc, ◌≤◌, Bool, true, false, cond, ◌||◌, List, [], ◌∷◌, ◌++◌, length, Option, Some, None, option_map, option_and_then, slice_get, refl, sym, ap, subst, ◌∙◌, arith, Decides}
 use Rattle.std.specs.Cmp.{IsEquivalence, decided}
-use Rattle.std.specs.List.{AllZip, AllByRecursion, IsDistinct, list_any, fold, flat_map, filter_map, cons_option}
-use Rattle.std.proofs.lemmas.Bool.{or_left, or_right, cases_Bool}
+use Rattle.std.specs.List.{AllByRecursion, IsDistinct, list_any, filter_map, cons_option}
+use Rattle.std.proofs.lemmas.Bool.{or_left, or_right}
 use Rattle.std.proofs.lemmas.Map.Keys.{IsDistinct-push}
-use Rattle.std.proofs.lemmas.Map.Made.{length-le_from_is_member}
 use Rattle.indexmap.specs.IndexSet.{insert_key, insert_all}
-use Rattle.jv_base.specs.Mutf8.{mutf8}
 use Rattle.jv_base.specs.Utf16.{units_of}
 use Rattle.jv_base.proofs.Equality.{text_Decides}
 use Rattle.class_model.specs.declared.constant.PoolConstant.{PoolConstant}
 use Rattle.class_model.specs.declared.constant.PoolConstant.TheVariants.{Utf8, Class as ClassOf}
 use Rattle.class_model.specs.declared.pool.Entry.{Entry}
 use Rattle.class_model.specs.declared.pool.Entry.TheVariants as entry
-use Rattle.class_model.specs.Pool.{HasBytes, units_in, name_index_in, units_at, class_units_at, IsTextAt, IsClassAt}
+use Rattle.class_model.specs.Pool.{HasBytes, units_in, name_index_in, units_at, IsTextAt, IsClassAt}
 use Rattle.class_model.specs.Layout.{same}
 use Rattle.shrink_core.specs.Writable.{TextFits}
 
@@ -41,10 +39,6 @@ module _ (P : PoolConstant → Type 0) where
   pub all_inserted : (wanted ks : List PoolConstant) → AllByRecursion P ks → AllByRecursion P wanted → AllByRecursion P (insert_all same ks wanted)
   all_inserted [] ks all more = all
   all_inserted (k ∷ wanted) ks all more = all_inserted wanted (insert_key same ks k) (key_by (list_any (same k) ks) ks k all more.0) more.1
-
-  pub all_appended : (ks js : List PoolConstant) → AllByRecursion P ks → AllByRecursion P js → AllByRecursion P (ks ++ js)
-  all_appended [] js all more = more
-  all_appended (k ∷ ks) js all more = (all.0, all_appended ks js all.1 more)
 
 distinct_by : (b : Bool) (ks : List PoolConstant) (k : PoolConstant) → list_any (same k) ks ≡ b → IsDistinct same ks → IsDistinct same (cond b ks (ks ++ k ∷ []))
 distinct_by true ks k e h = h
@@ -121,21 +115,30 @@ class_by pool i (Some e) units at is = class_entry pool i e units at is
 pub has_class : (pool : List Entry) (i : ℕ) (name : List ℕ) → IsClassAt pool i name → HasClass pool (units_of name)
 has_class pool i name h = class_by pool i (slice_get pool i) (units_of name) refl h.1.1
 
--- ---- lengths
+-- ---- texts
 
-entry_fits : (pool : List Entry) (e : Entry) (ks : List PoolConstant) → HasBytes e → AllByRecursion TextFits ks → AllByRecursion TextFits (cons_option (symbol pool e) ks)
-entry_fits pool (entry.Utf8 units) ks h all = (h.1, all)
-entry_fits pool (entry.Class n) ks h all = class_fits (units_at pool n)
+-- the text has bytes
+abbrev pub HasText : PoolConstant → Type 0
+HasText (Utf8 units) = HasBytes (entry.Utf8 units)
+HasText (ClassOf units) = Unit {0}
+
+pub text_fits : (k : PoolConstant) → HasText k → TextFits k
+text_fits (Utf8 units) h = h.1
+text_fits (ClassOf units) h = tt
+
+entry_has : (pool : List Entry) (e : Entry) (ks : List PoolConstant) → HasBytes e → AllByRecursion HasText ks → AllByRecursion HasText (cons_option (symbol pool e) ks)
+entry_has pool (entry.Utf8 units) ks h all = (h, all)
+entry_has pool (entry.Class n) ks h all = class_has (units_at pool n)
   where
-    class_fits : (o : Option (List ℕ)) → AllByRecursion TextFits (cons_option (option_map (λ units. ClassOf units) o) ks)
-    class_fits None = all
-    class_fits (Some units) = (tt, all)
-entry_fits pool _ ks h all = all
+    class_has : (o : Option (List ℕ)) → AllByRecursion HasText (cons_option (option_map (λ units. ClassOf units) o) ks)
+    class_has None = all
+    class_has (Some units) = (tt, all)
+entry_has pool _ ks h all = all
 
--- each text that was read fits
-pub symbols_fit : (pool entries : List Entry) → AllByRecursion HasBytes entries → AllByRecursion TextFits (symbols pool entries)
-symbols_fit pool [] all = tt
-symbols_fit pool (e ∷ entries) all = entry_fits pool e (symbols pool entries) all.0 (symbols_fit pool entries all.1)
+-- each text that was read has bytes
+pub symbols_have : (pool entries : List Entry) → AllByRecursion HasBytes entries → AllByRecursion HasText (symbols pool entries)
+symbols_have pool [] all = tt
+symbols_have pool (e ∷ entries) all = entry_has pool e (symbols pool entries) all.0 (symbols_have pool entries all.1)
 
 module _ (P : PoolConstant → Type 0) where
   among_by : (b : Bool) (k x : PoolConstant) (ks : List PoolConstant) → same k x ≡ b → (b || list_any (same k) ks) ≡ true → P x → (Has ks k → P k) → P k

@@ -1,5 +1,5 @@
 -- The class of `static int f(int a) { return a + 1; }` is written as its bytes, and some instructions as theirs.
-use Rattle.std.proofs.Common.{◌≡◌, ℕ, suc, ◌+◌, ◌^◌, ◌<◌, List, [], ◌∷◌, length, Some, None, false, refl, codes, pos, negsuc, arith, lit<, All}
+use Rattle.std.proofs.Common.{◌≡◌, [], ◌∷◌, refl, pos, negsuc, lit<, All}
 use Rattle.std.specs.Str.{chars}
 use Rattle.std.proofs.Math.Facts.{sfits_lit}
 use Rattle.std.proofs.lemmas.List.Elements.{All-from_recursion}
@@ -10,7 +10,7 @@ use Rattle.class_model.specs.declared.op.Op.TheVariants as op
 use Rattle.class_model.specs.declared.op.Kind.TheVariants as kind
 use Rattle.class_model.specs.declared.code.Ins.{Ins}
 use Rattle.class_model.specs.Layout.{pool_of, code_bytes, op_bytes, layout}
-use Rattle.shrink_core.specs.Writable.{TextFits, OperandsFit, CodeFits, MethodFits, CanLayOut}
+use Rattle.shrink_core.specs.Writable.{TextFits, OperandsFit, MethodFits, CanLayOut}
 use Rattle.shrink_core.specs.Example.{adder, adder_ins, adder_bytes}
 
 pub adder_is_written : layout adder ≡ adder_bytes

@@ -1,27 +1,24 @@
 -- A small class that was read can be written.
-use Rattle.std.proofs.Common.{◌≡◌, ℕ, suc, ◌+◌, ◌^◌, ◌<◌, ◌≤◌, true, List, [], ◌∷◌, ◌++◌, length, Option, Some, None, IfSome, refl, sym, ap, subst, arith, codes, All}
-use Rattle.std.specs.List.{AllZip, AllByRecursion, IsDistinct, list_any, flat_map}
+use Rattle.std.proofs.Common.{◌≡◌, ℕ, suc, ◌+◌, ◌^◌, ◌<◌, List, [], ◌∷◌, length, Option, Some, IfSome, refl, sym, ap, subst, arith, codes, All}
+use Rattle.std.specs.List.{AllZip, AllByRecursion, IsDistinct, flat_map}
 use Rattle.std.proofs.lemmas.List.Elements.{All-from_recursion, All-weaker}
 use Rattle.std.proofs.lemmas.Map.Made.{length-le_from_is_member}
-use Rattle.indexmap.specs.IndexSet.{insert_all}
 use Rattle.jv_base.specs.Utf16.{units_of}
 use Rattle.jv_base.specs.Types.{method_text}
-use Rattle.class_model.specs.declared.constant.PoolConstant.{PoolConstant}
-use Rattle.class_model.specs.declared.constant.PoolConstant.TheVariants.{Utf8, Class as ClassOf}
+use Rattle.class_model.specs.declared.constant.PoolConstant.TheVariants.{Utf8}
 use Rattle.class_model.specs.declared.pool.Entry.{Entry}
 use Rattle.class_model.specs.declared.code.Ins.{Ins}
 use Rattle.class_model.specs.declared.code.Code.{Code}
 use Rattle.class_model.specs.declared.class.Method.{Method}
 use Rattle.class_model.specs.declared.class.Class.{Class}
-use Rattle.class_model.specs.Pool.{numbered, IsPool}
 use Rattle.class_model.specs.Structure.{AttributeInfo, MemberInfo, CodeInfo, ClassFile}
 use Rattle.class_model.specs.Instructions.{info_bytes}
-use Rattle.class_model.specs.File.{IsCode, IsBody, IsMethod, IsClass, File}
-use Rattle.class_model.specs.Layout.{same, method_constants, constants_of, pool_of, code_bytes}
+use Rattle.class_model.specs.File.{IsCode, IsBody, IsMethod, IsClass}
+use Rattle.class_model.specs.Layout.{same, method_constants, constants_of, pool_of}
 use Rattle.shrink_core.specs.Small.{IsSmall}
 use Rattle.shrink_core.specs.Writable.{TextFits, OperandsFit, CodeFits, MethodFits, CanLayOut}
-use Rattle.shrink_core.proofs.Constants.{Has, symbols, symbols_most, symbols_fit, has_text, has_class, all_among, same_laws, all_inserted, all_appended, distinct_inserted}
-use Rattle.shrink_core.proofs.Shortest.{AreWithin, code_within}
+use Rattle.shrink_core.proofs.Constants.{Has, HasText, text_fits, symbols, symbols_most, symbols_have, has_text, has_class, all_among, same_laws, all_inserted, distinct_inserted}
+use Rattle.shrink_core.proofs.Shortest.{code_within}
 
 -- ---- codes
 
@@ -81,11 +78,11 @@ pool_short raw class pool h =
     let count : length pool ≡ suc (length raw.constant_pool) = ap length numbers in
     omega (arith, most, entries, count, symbols_most pool raw.constant_pool, h.constant_pool.count)
 
-pool_fits : (raw : ClassFile) (class : Class) (pool : List Entry) → IsClass raw class pool → All TextFits (pool_of class)
-pool_fits raw class pool h =
+pub pool_texts : (raw : ClassFile) (class : Class) (pool : List Entry) → IsClass raw class pool → All HasText (pool_of class)
+pool_texts raw class pool h =
     let said = symbols pool pool in
-    let fit : AllByRecursion TextFits said = subst (λ (es : List Entry). AllByRecursion TextFits (symbols pool es)) (sym h.constant_pool.numbers) (symbols_fit pool raw.constant_pool h.constant_pool.bytes) in
-    All-weaker (Has said) TextFits (λ k among. all_among TextFits said k fit among) (pool_of class) (All-from_recursion (Has said) (pool_of class) (pool_has raw class pool h))
+    let have : AllByRecursion HasText said = subst (λ (es : List Entry). AllByRecursion HasText (symbols pool es)) (sym h.constant_pool.numbers) (symbols_have pool raw.constant_pool h.constant_pool.bytes) in
+    All-weaker (Has said) HasText (λ k among. all_among HasText said k have among) (pool_of class) (All-from_recursion (Has said) (pool_of class) (pool_has raw class pool h))
 
 as_many : (pool : List Entry) (raws : List MemberInfo) (methods : List Method) → AllZip (IsMethod pool) raws methods → length methods ≡ length raws
 as_many pool [] [] all = refl
@@ -93,10 +90,10 @@ as_many pool [] (m ∷ methods) all = absurd all
 as_many pool (raw ∷ raws) [] all = absurd all
 as_many pool (raw ∷ raws) (m ∷ methods) all = ap suc (as_many pool raws methods all.1)
 
-class_fits : (raw : ClassFile) (class : Class) (pool : List Entry) → IsClass raw class pool → CanLayOut class
+pub class_fits : (raw : ClassFile) (class : Class) (pool : List Entry) → IsClass raw class pool → CanLayOut class
 class_fits raw class pool h = record {
   constant_pool_count = pool_short raw class pool h;
-  texts = pool_fits raw class pool h;
+  texts = All-weaker HasText TextFits text_fits (pool_of class) (pool_texts raw class pool h);
   methods_count = subst (λ (n : ℕ). n < 2 ^ 16) (sym (as_many pool raw.methods class.methods h.methods)) h.methods_count;
   methods = All-from_recursion MethodFits class.methods (methods_fit pool raw.methods class.methods h.methods);
 }

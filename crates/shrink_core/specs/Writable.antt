@@ -12,7 +12,8 @@ use Rattle.class_model.specs.declared.code.Ins.{Ins}
 use Rattle.class_model.specs.declared.code.Code.{Code}
 use Rattle.class_model.specs.declared.class.Method.{Method}
 use Rattle.class_model.specs.declared.class.Class.{Class}
-use Rattle.class_model.specs.Layout.{pool_of, code_bytes}
+use Rattle.class_model.specs.Layout.{pool_of, code_bytes, layout}
+use Rattle.shrink_core.specs.Small.{IsSmall}
 
 -- the length of a text fits two bytes (JVMS 4.4.7)
 abbrev pub TextFits : PoolConstant → Type 0
@@ -42,3 +43,7 @@ pub record CanLayOut (class : Class) : Type 0 where
   pub texts : All TextFits (pool_of class)
   pub methods_count : length class.methods < 2 ^ 16
   pub methods : All MethodFits class.methods
+
+-- the canonical spelling of a class that some bytes spell is a spelling of it
+abbrev pub CanonicalIsSmall : Type 0
+CanonicalIsSmall = (bytes : List ℕ) (class : Class) → IsSmall bytes class → IsSmall (layout class) class

@@ -5,14 +5,14 @@ ghost use Rattle.std.specs.List.{flat_map};
 ghost use Rattle.class_model.specs.Layout as canonical;
 ghost use Rattle.class_model.specs.Structure as structure;
 ghost use Rattle.class_model.specs.Structure.{AttributeInfo, attribute_info, member_info, class_file, head};
-ghost use Rattle.shrink_core.specs.Writable.{CodeFits, MethodFits, CanLayOut};
+ghost use Rattle.shrink_core.specs.Writable.{CodeFits, MethodFits, CanLayOut, CanonicalIsSmall};
 
 mod bytes;
 mod constants;
 mod instructions;
 
 use crate::small::writing::bytes::{put, put_u2, put_u4};
-use crate::small::writing::constants::{index_of_class, index_of_text, pool_of, put_pool};
+use crate::small::writing::constants::{CODE, index_of_class, index_of_text, pool_of, put_pool};
 use crate::small::writing::instructions::code_bytes;
 use bitflags::Flags;
 use class_model::{Class, Code, Method, PoolConstant};
@@ -31,6 +31,11 @@ pub(crate) fn write_small(alloc: Global, class: &Class) -> M<Bytes>
     put_class_file(alloc, &pool, class, &mut out)?;
     Ok(Items::from_vec(out))
 }
+
+/// What is written of a class that some bytes spell is a spelling of it too.
+pub fn canonical_is_small()
+    ensures { CanonicalIsSmall }
+{}
 
 /// ClassFile (JVMS 4.1), without interfaces, fields and attributes.
 fn put_class_file(
@@ -139,7 +144,7 @@ fn put_attributes(
             let info = code_info(alloc, code)?;
             put_u2(out, 1)?;
             put_attribute(
-                index_of_text(alloc, pool, &Text::from_str(alloc, "Code")?)?,
+                index_of_text(alloc, pool, &Text::from_str(alloc, CODE)?)?,
                 &info,
                 out,
             )

@@ -15,6 +15,9 @@ use indexmap::IndexSet;
 use jv_base::{Items, M, Text, Units, method_text, mutf8_of_units, units_of_text};
 use std::alloc::Global;
 
+/// The name of the attribute that holds a method's code (JVMS 4.7.3).
+pub(crate) const CODE: &str = "Code";
+
 /// The constants that a class needs, each once, where the file needs it first. That of index i stands
 /// at place i - 1.
 pub(crate) fn pool_of(alloc: Global, class: &Class) -> M<IndexSet<PoolConstant>>
@@ -45,7 +48,7 @@ fn add_method(alloc: Global, pool: &mut IndexSet<PoolConstant>, method: &Method)
 {
     add_text(alloc, pool, &method.name)?;
     add_text(alloc, pool, &method_text(alloc, &method.ty)?)?;
-    add_text(alloc, pool, &Text::from_str(alloc, "Code")?)
+    add_text(alloc, pool, &Text::from_str(alloc, CODE)?)
 }
 
 fn add_text(alloc: Global, pool: &mut IndexSet<PoolConstant>, text: &Text) -> M<()>
