@@ -1,1 +1,3 @@
 pub mod Small
+pub mod SmallReading
+pub mod Stub

@@ -1,4 +1,6 @@
 // Small classes: the class `Main` whose static methods compute with ints.
+mod raw;
+mod stub;
 
 /// The bytes are no small class.
 #[derive(Clone, Copy, Debug, PartialEq, Eq)]
