@@ -1,3 +1,4 @@
 pub mod Small
+pub mod SmallStructure
 pub mod SmallReading
 pub mod Stub

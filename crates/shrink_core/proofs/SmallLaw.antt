@@ -1,0 +1,201 @@
+-- The structure of a small class is read exactly where it is spelled.
+use Rattle.std.proofs.Common.{◌≡◌, ◌⊎◌, ℕ, zero, suc, ◌+◌, ◌-◌, ◌^◌, ◌<◌, Bool, true, false, cond, not, ◌&&◌, ltb, eqb, List, [], ◌∷◌, ◌++◌, length, map, Result, Ok, Err, refl, sym, ap, subst, ◌∙◌, arith, append_assoc}
+use Rattle.std.specs.Int.{w8, w16, w32, to_be_bytes}
+use Rattle.std.specs.List.{flat_map, AllByRecursion}
+use Rattle.std.proofs.lemmas.Bool.{eqb-true, eqb-false, eq-eqb, ne_eqb, lt-ltb, ltb-true}
+use Rattle.std.proofs.lemmas.List.{append-nil, length-append, length-map}
+use Rattle.std.proofs.lemmas.List.Folds.{flat_map-map}
+use Rattle.jv_base.specs.Mutf8.{mutf8, IsUnits}
+use Rattle.jv_base.specs.Place.{Place, start, after}
+use Rattle.format_reading.specs.Fault.{fault}
+use Rattle.format_reading.specs.declared.fault.FormatFault.{FormatFault}
+use Rattle.format_reading.specs.declared.fault.FormatKind.{FormatKind}
+use Rattle.format_reading.specs.declared.fault.FormatKind.TheVariants as kind
+use Rattle.format_reading.specs.Reader.{Reader, u1, u2, u4, bytes, lead, item, bind, give, here, told, many}
+use Rattle.format_reading.specs.Spelling.{Spells}
+use Rattle.format_reading.proofs.Exact.{Exact, Leads, Takes, IsBytes, left, as_raw, lead_exact, item_exact, bind_exact, map_exact, told_exact, leads_if, u1_exact, u2_exact, u4_exact, bytes_exact, nothing}
+use Rattle.class_model.specs.declared.pool.Entry.{Entry}
+use Rattle.class_model.specs.declared.pool.Entry.TheVariants.{Utf8, Class}
+use Rattle.class_model.specs.Pool.{cp_info, HasBytes, numbered}
+use Rattle.class_model.specs.Structure.{head as head_bytes, member_info, class_file}
+use Rattle.shrink_core.specs.declared.small.raw.RawMethod.{RawMethod}
+use Rattle.shrink_core.specs.declared.small.raw.RawClass.{RawClass}
+use Rattle.shrink_core.specs.Stub.{read_mutf8}
+use Rattle.shrink_core.specs.declared.small.stub.BadUtf8.{BadUtf8}
+use Rattle.shrink_core.specs.SmallStructure.{member_of, entries_of, structure_of, FitsMethod, FitsPool, FitsClass}
+use Rattle.shrink_core.specs.SmallReading.{is_wanted, u2_is, head, or_fault, units_or_kind, units_at, utf8, class_entry, tagged, entry, entry_count, pool, code_length, code, method_of, method, class_of, structure, ending, read}
+use Rattle.shrink_core.proofs.StubLaw.{mutf8_found, mutf8_only}
+use Rattle.shrink_core.proofs.PlainLaw.{Plain, plain_as, plain_bind, plain_map, plain_many, plain_here, u2_plain, u4_plain}
+
+-- ---- a number that has to stand there
+
+wanted_by : (b : Bool) (wanted n : ℕ) (k : FormatKind) (u : Unit {0}) → eqb n wanted ≡ b → (let R : Result (Unit {0}) FormatKind = cond b (Ok tt) (Err k) in R) ≡ Ok u → n ≡ wanted
+wanted_by true wanted n k u e h = eqb-true n wanted e
+wanted_by false wanted n k u e h = absurd cc
+
+wanted_is : (wanted : ℕ) (k : FormatKind) → is_wanted wanted k wanted ≡ Ok tt
+wanted_is wanted k = let e : eqb wanted wanted ≡ true = eq-eqb wanted wanted refl in rw e refl
+
+-- a number that is read whole, and has to be this one
+wanted_exact : {r : Reader ℕ} (s : ℕ → List ℕ) (limit wanted : ℕ) (k : FormatKind) → wanted < limit → Exact r (Spells s (λ _ w x. (w < limit) × (x ≡ w))) → Plain (item r (is_wanted wanted k)) (λ (u : Unit {0}). s wanted) (λ u. Unit {0}) (λ u. tt)
+wanted_exact s limit wanted k lt e = as_raw (λ (u : Unit {0}). s wanted) _ (λ w. tt) (λ u. wanted)
+    (λ at w y h. (ap s (sym h.1.1 ∙ wanted_by (eqb h.0 wanted) wanted h.0 k y refl h.2), (tt, refl)))
+    (λ at u y h. (refl, (wanted, (lt, refl), wanted_is wanted k)))
+    (item_exact (is_wanted wanted k) e)
+
+u2_is_plain : (wanted : ℕ) (k : FormatKind) → wanted < 2 ^ 16 → Plain (u2_is wanted k) (λ (u : Unit {0}). to_be_bytes w16 wanted) (λ u. Unit {0}) (λ u. tt)
+u2_is_plain wanted k lt = wanted_exact (to_be_bytes w16) (2 ^ 16) wanted k lt u2_exact
+
+-- such a number, and then more
+skip : {B S : Type 0} (wanted : ℕ) (k : FormatKind) (f : Unit {0} → Reader B) (t : S → List ℕ) (Q : S → Type 0) (z : S → B) → wanted < 2 ^ 16 → Plain (f tt) t Q z → Plain (bind (u2_is wanted k) f) (λ (w : S). to_be_bytes w16 wanted ++ t w) Q z
+skip wanted k f t Q z lt e = plain_as (λ w. to_be_bytes w16 wanted ++ t w) Q z (λ w. w.1) (λ w. (tt, w))
+    (λ w h. (refl, h.1, refl))
+    (λ w h. (refl, (tt, h), refl))
+    (plain_bind f t (λ u. Q) (λ u. z) (u2_is_plain wanted k lt) (λ w h. e))
+
+head_plain : Plain head (λ (u : Unit {0}). head_bytes) (λ u. Unit {0}) (λ u. tt)
+unfolding head
+head_plain = plain_as (λ (u : Unit {0}). head_bytes) (λ u. Unit {0}) (λ u. tt) (λ w. tt) (λ u. (tt, tt))
+    (λ w h. (refl, tt, refl))
+    (λ w h. (refl, (tt, tt), refl))
+    (plain_bind (λ magic. bind (u2_is 0 kind.BadVersion) (λ minor. u2_is 52 kind.BadVersion)) (λ (u : Unit {0}). to_be_bytes w16 0 ++ to_be_bytes w16 52) (λ x u. Unit {0}) (λ x u. tt)
+    (wanted_exact (to_be_bytes w32) (2 ^ 32) 0xCAFEBABE kind.BadMagic (omega arith) u4_exact)
+    (λ w h. skip 0 kind.BadVersion (λ minor. u2_is 52 kind.BadVersion) (λ (u : Unit {0}). to_be_bytes w16 52) (λ u. Unit {0}) (λ u. tt) (omega arith) (u2_is_plain 52 kind.BadVersion (omega arith))))
+
+-- ---- the pool
+
+-- an entry behind its tag
+abbrev tag_of : Entry → ℕ
+tag_of (Utf8 units) = 1
+tag_of (Class name_index) = 7
+tag_of _ = 0
+
+abbrev contents : Entry → List ℕ
+contents (Utf8 units) = to_be_bytes w16 (length (mutf8 units)) ++ mutf8 units
+contents (Class name_index) = to_be_bytes w16 name_index
+contents _ = []
+
+abbrev Behind : ℕ → Entry → Type 0
+Behind tag e = (tag_of e ≡ tag) × HasBytes e
+
+-- the units of a text, where it has some
+abbrev units_or_none : Result (List ℕ) BadUtf8 → List ℕ
+units_or_none (Ok units) = units
+units_or_none (Err e) = []
+
+abbrev units_of_text : List ℕ → List ℕ
+units_of_text text = units_or_none (read_mutf8 text)
+
+units_ok : (at : ℕ) (r : Result (List ℕ) BadUtf8) (units : List ℕ) → or_fault at (units_or_kind r) ≡ Ok units → r ≡ Ok units
+units_ok at (Ok x) units h = let e : x ≡ units = cc in ap (λ v. Ok v) e
+units_ok at (Err e) units h = absurd cc
+
+units_is : (at : ℕ) (text units : List ℕ) → read_mutf8 text ≡ Ok units → units_at at text ≡ Ok units
+units_is at text units h = ap (λ r. or_fault at (units_or_kind r)) h
+
+-- the bytes of units, so many
+units_plain : (k n : ℕ) → Plain (bind (bytes n) (λ text. bind (told (units_at k text)) (λ units. give (Utf8 units)))) mutf8 (λ units. IsUnits units × (length (mutf8 units) ≡ n)) (λ units. Utf8 units)
+units_plain k n = as_raw mutf8 _ (λ w. units_of_text w.0) (λ units. (mutf8 units, tt))
+    (λ at w y h.
+    let r : read_mutf8 w.0 ≡ Ok h.2.0 = ap read_mutf8 (sym h.1.1) ∙ units_ok k (read_mutf8 h.0) h.2.0 h.2.1 in
+    let is : units_of_text w.0 ≡ h.2.0 = ap units_or_none r in
+    let f = mutf8_found w.0 h.2.0 r in
+    let whole : mutf8 (units_of_text w.0) ≡ w.0 = ap mutf8 is ∙ f.1 in
+    (append-nil w.0 ∙ sym whole, ((subst (λ (u : List ℕ). IsUnits u) (sym is) f.0, ap length whole ∙ h.1.0), h.2.2 ∙ ap (λ u. Utf8 u) (sym is))))
+    (λ at units y h. (sym (append-nil (mutf8 units)), (mutf8 units, (h.0.1, refl), (units, units_is k (mutf8 units) units (mutf8_only (mutf8 units) units h.0.0 refl), h.1))))
+    (bind_exact (λ text. bind (told (units_at k text)) (λ units. give (Utf8 units))) nothing (λ text _ u y. (x : List ℕ) × (units_at k text ≡ Ok x) × (y ≡ Utf8 x)) (bytes_exact n) (λ text. map_exact (λ units. Utf8 units) (told_exact (units_at k text))))
+
+abbrev units_of : Entry → List ℕ
+units_of (Utf8 units) = units
+units_of _ = []
+
+utf8_back : (e : Entry) → Behind 1 e → (contents e ≡ to_be_bytes w16 (length (mutf8 (units_of e))) ++ mutf8 (units_of e)) × ((length (mutf8 (units_of e)) < 2 ^ 16) × (IsUnits (units_of e) × (length (mutf8 (units_of e)) ≡ length (mutf8 (units_of e))))) × (e ≡ Utf8 (units_of e))
+utf8_back (Utf8 units) h = (refl, (h.1.1, (h.1.0, refl)), refl)
+utf8_back (Class i) h = absurd (omega (arith, h.0))
+utf8_back _ h = absurd h.1
+
+utf8_plain : Plain utf8 contents (Behind 1) (λ e. e)
+unfolding utf8
+utf8_plain = plain_as contents (Behind 1) (λ e. e) (λ w. Utf8 w.1) (λ e. (length (mutf8 (units_of e)), units_of e))
+    (λ w h. (ap (λ k. to_be_bytes w16 k ++ mutf8 w.1) (sym h.1.1), (refl, (h.1.0, omega (arith, h.0, h.1.1))), refl))
+    utf8_back
+    (plain_bind (λ n. bind here (λ at. bind (bytes n) (λ text. bind (told (units_at at text)) (λ units. give (Utf8 units))))) mutf8 (λ n units. IsUnits units × (length (mutf8 units) ≡ n)) (λ n units. Utf8 units) u2_plain
+    (λ n lt. plain_here (λ at. bind (bytes n) (λ text. bind (told (units_at at text)) (λ units. give (Utf8 units)))) mutf8 (λ units. IsUnits units × (length (mutf8 units) ≡ n)) (λ units. Utf8 units) (λ k. units_plain k n)))
+
+abbrev index_of : Entry → ℕ
+index_of (Class i) = i
+index_of _ = 0
+
+class_back : (e : Entry) → Behind 7 e → (contents e ≡ to_be_bytes w16 (index_of e)) × (index_of e < 2 ^ 16) × (e ≡ Class (index_of e))
+class_back (Class i) h = (refl, h.1, refl)
+class_back (Utf8 units) h = absurd (omega (arith, h.0))
+class_back _ h = absurd h.1
+
+class_plain : Plain class_entry contents (Behind 7) (λ e. e)
+class_plain = plain_as contents (Behind 7) (λ e. e) (λ i. Class i) index_of
+    (λ w h. (refl, (refl, h), refl))
+    class_back
+    (plain_map (λ i. Class i) u2_plain)
+
+-- no entry has another tag
+other_tag : (tag : ℕ) → eqb tag 1 ≡ false → eqb tag 7 ≡ false → (e : Entry) → Behind tag e → ⊥
+other_tag tag f1 f7 (Utf8 units) h = let g : true ≡ false = subst (λ (j : ℕ). eqb j 1 ≡ false) (sym h.0) f1 in cc
+other_tag tag f1 f7 (Class i) h = let g : true ≡ false = subst (λ (j : ℕ). eqb j 7 ≡ false) (sym h.0) f7 in cc
+other_tag tag f1 f7 _ h = h.1
+
+tag_exact : (tag : ℕ) → Leads (tagged tag) (Spells contents (λ _ e y. Behind tag e × (y ≡ e)))
+tag_exact tag =
+    let g = Spells contents (λ _ e y. Behind tag e × (y ≡ e)) in
+    leads_if _ _ g (eqb tag 1) (λ t1. subst (λ (k : ℕ). Plain utf8 contents (Behind k) (λ e. e)) (sym (eqb-true tag 1 t1)) utf8_plain) (λ f1.
+    leads_if _ _ g (eqb tag 7) (λ t7. subst (λ (k : ℕ). Plain class_entry contents (Behind k) (λ e. e)) (sym (eqb-true tag 7 t7)) class_plain) (λ f7.
+    λ at t y h. other_tag tag f1 f7 h.0 h.2.0))
+
+tag_below : (e : Entry) → tag_of e < 256
+tag_below (Utf8 units) = omega arith
+tag_below (Class i) = omega arith
+tag_below _ = omega arith
+
+cp_is : (e : Entry) → HasBytes e → cp_info e ≡ to_be_bytes w8 (tag_of e) ++ contents e
+cp_is (Utf8 units) h = refl
+cp_is (Class i) h = refl
+cp_is _ h = absurd h
+
+entry_plain : Plain entry cp_info HasBytes (λ e. e)
+unfolding entry
+entry_plain = as_raw cp_info _ (λ w. w.1) (λ e. (tag_of e, e))
+    (λ at w y h. (ap (λ k. to_be_bytes w8 k ++ contents w.1) (sym h.1.1 ∙ sym h.2.0.0) ∙ sym (cp_is w.1 h.2.0.1), (h.2.0.1, h.2.1)))
+    (λ at e y h. (cp_is e h.0, (tag_of e, (tag_below e, refl), ((refl, h.0), h.1))))
+    (lead_exact tagged contents (λ tag _ e y. Behind tag e × (y ≡ e)) u1_exact tag_exact)
+
+count_by : (b : Bool) (n k : ℕ) → eqb n 0 ≡ b → (let R : Result ℕ FormatKind = cond b (Err kind.BadIndex) (Ok (n - 1)) in R) ≡ Ok k → (0 < n) × (k ≡ n - 1)
+count_by true n k e h = absurd cc
+count_by false n k e h = (let d : n ≡ 0 → ⊥ = eqb-false n 0 e in omega arith, sym (let f : n - 1 ≡ k = cc in f))
+
+count_is : (n : ℕ) → entry_count (n + 1) ≡ Ok n
+count_is n =
+    let z : eqb (n + 1) 0 ≡ false = ne_eqb (n + 1) 0 (λ e. absurd (omega (arith, e))) in
+    let one : n + 1 - 1 ≡ n = omega arith in
+    rw (z, one) refl
+
+count_plain : Plain (item u2 entry_count) (λ n. to_be_bytes w16 (n + 1)) (λ n. n + 1 < 2 ^ 16) (λ n. n)
+count_plain = as_raw (λ n. to_be_bytes w16 (n + 1)) _ (λ k. k - 1) (λ n. n + 1)
+    (λ at k y h.
+    let c = count_by (eqb h.0 0) h.0 y refl h.2 in
+    let e : k ≡ (k - 1) + 1 = omega (arith, c.0, h.1.1) in
+    (ap (to_be_bytes w16) e, (omega (arith, c.0, h.1.0, h.1.1), c.1 ∙ ap (λ j. j - 1) h.1.1)))
+    (λ at n y h. (refl, (n + 1, (h.0, refl), count_is n ∙ ap (λ v. Ok v) (sym h.1))))
+    (item_exact entry_count u2_exact)
+
+abbrev pool_bytes : List Entry → List ℕ
+pool_bytes es = to_be_bytes w16 (length es + 1) ++ flat_map cp_info es
+
+abbrev HavePool : List Entry → Type 0
+HavePool es = (length es + 1 < 2 ^ 16) × AllByRecursion HasBytes es
+
+pool_plain : Plain pool pool_bytes HavePool numbered
+unfolding pool
+pool_plain = plain_as pool_bytes HavePool numbered (λ w. w.1) (λ es. (length es, es))
+    (λ w h. (ap (λ k. to_be_bytes w16 (k + 1) ++ flat_map cp_info w.1) (sym h.1.0), (omega (arith, h.0, h.1.0), h.1.1), refl))
+    (λ es h. (refl, (h.0, (refl, h.1)), refl))
+    (plain_bind (λ count. bind (many count entry) (λ es. give (numbered es))) (flat_map cp_info) (λ n es. (length es ≡ n) × AllByRecursion HasBytes es) (λ n es. numbered es) count_plain
+    (λ n h. plain_map numbered (plain_many n entry_plain)))
