@@ -1,1 +1,6 @@
+pub mod Coding
+pub mod Due
 pub mod Equality
+pub mod Naming
+pub mod WalkLaw
+pub mod Walking
