@@ -17,14 +17,14 @@ use Rattle.format_reading.proofs.Exact.{Exact, Leads, Takes, IsBytes, left, as_r
 use Rattle.class_model.specs.declared.pool.Entry.{Entry}
 use Rattle.class_model.specs.declared.pool.Entry.TheVariants.{Utf8, Class}
 use Rattle.class_model.specs.Pool.{cp_info, HasBytes, numbered}
-use Rattle.class_model.specs.Structure.{head as head_bytes, member_info, class_file}
+use Rattle.class_model.specs.Structure.{head as head_bytes, attribute_info, member_info, code_info, class_file}
 use Rattle.shrink_core.specs.declared.small.raw.RawMethod.{RawMethod}
 use Rattle.shrink_core.specs.declared.small.raw.RawClass.{RawClass}
-use Rattle.shrink_core.specs.Stub.{read_mutf8}
-use Rattle.shrink_core.specs.declared.small.stub.BadUtf8.{BadUtf8}
-use Rattle.shrink_core.specs.SmallStructure.{member_of, entries_of, structure_of, FitsMethod, FitsPool, FitsClass}
+use Rattle.jv_base.specs.Decoding.{read_mutf8}
+use Rattle.jv_base.specs.declared.mutf8.BadUtf8.{BadUtf8}
+use Rattle.shrink_core.specs.SmallStructure.{code_of, attribute_of, member_of, entries_of, structure_of, FitsMethod, FitsPool, FitsClass}
 use Rattle.shrink_core.specs.SmallReading.{is_wanted, u2_is, head, or_fault, units_or_kind, units_at, utf8, class_entry, tagged, entry, entry_count, pool, code_length, code, method_of, method, class_of, structure, ending, read}
-use Rattle.shrink_core.proofs.StubLaw.{mutf8_found, mutf8_only}
+use Rattle.jv_base.proofs.Coding.{read_mutf8-found, read_mutf8-only}
 use Rattle.shrink_core.proofs.PlainLaw.{Plain, plain_as, plain_bind, plain_map, plain_many, plain_here, u2_plain, u4_plain}
 
 -- ---- a number that has to stand there
@@ -99,10 +99,10 @@ units_plain k n = as_raw mutf8 _ (λ w. units_of_text w.0) (λ units. (mutf8 uni
     (λ at w y h.
     let r : read_mutf8 w.0 ≡ Ok h.2.0 = ap read_mutf8 (sym h.1.1) ∙ units_ok k (read_mutf8 h.0) h.2.0 h.2.1 in
     let is : units_of_text w.0 ≡ h.2.0 = ap units_or_none r in
-    let f = mutf8_found w.0 h.2.0 r in
+    let f = read_mutf8-found w.0 h.2.0 r in
     let whole : mutf8 (units_of_text w.0) ≡ w.0 = ap mutf8 is ∙ f.1 in
     (append-nil w.0 ∙ sym whole, ((subst (λ (u : List ℕ). IsUnits u) (sym is) f.0, ap length whole ∙ h.1.0), h.2.2 ∙ ap (λ u. Utf8 u) (sym is))))
-    (λ at units y h. (sym (append-nil (mutf8 units)), (mutf8 units, (h.0.1, refl), (units, units_is k (mutf8 units) units (mutf8_only (mutf8 units) units h.0.0 refl), h.1))))
+    (λ at units y h. (sym (append-nil (mutf8 units)), (mutf8 units, (h.0.1, refl), (units, units_is k (mutf8 units) units (read_mutf8-only (mutf8 units) units (h.0.0, refl)), h.1))))
     (bind_exact (λ text. bind (told (units_at k text)) (λ units. give (Utf8 units))) nothing (λ text _ u y. (x : List ℕ) × (units_at k text ≡ Ok x) × (y ≡ Utf8 x)) (bytes_exact n) (λ text. map_exact (λ units. Utf8 units) (told_exact (units_at k text))))
 
 abbrev units_of : Entry → List ℕ
@@ -199,3 +199,172 @@ pool_plain = plain_as pool_bytes HavePool numbered (λ w. w.1) (λ es. (length e
     (λ es h. (refl, (h.0, (refl, h.1)), refl))
     (plain_bind (λ count. bind (many count entry) (λ es. give (numbered es))) (flat_map cp_info) (λ n es. (length es ≡ n) × AllByRecursion HasBytes es) (λ n es. numbered es) count_plain
     (λ n h. plain_map numbered (plain_many n entry_plain)))
+
+-- ---- methods
+
+length_by : (z l c : Bool) (al n k : ℕ) → eqb n 0 ≡ z → ltb n 65536 ≡ l → eqb al (n + 12) ≡ c
+    → (let R : Result ℕ FormatKind = cond (not z && l) (cond c (Ok n) (Err kind.BadAttribute)) (Err kind.BadCode) in R) ≡ Ok k → (0 < n) × (n < 65536) × (al ≡ n + 12) × (k ≡ n)
+length_by true l c al n k e0 e1 e2 h = absurd cc
+length_by false false c al n k e0 e1 e2 h = absurd cc
+length_by false true false al n k e0 e1 e2 h = absurd cc
+length_by false true true al n k e0 e1 e2 h = (let d : n ≡ 0 → ⊥ = eqb-false n 0 e0 in omega arith, ltb-true _ _ e1, eqb-true _ _ e2, sym (let e : n ≡ k = cc in e))
+
+length_is : (al n : ℕ) → 0 < n → n < 2 ^ 16 → al ≡ n + 12 → code_length al n ≡ Ok n
+length_is al n lo hi e =
+    let z : eqb n 0 ≡ false = ne_eqb n 0 (λ e. absurd (omega (arith, e))) in
+    let l : ltb n 65536 ≡ true = lt-ltb n 65536 (omega (arith, hi)) in
+    let c : eqb al (n + 12) ≡ true = eq-eqb al (n + 12) e in
+    rw (z, l, c) refl
+
+-- a length of a code that fills an attribute of a length
+abbrev IsLength : ℕ → ℕ → Type 0
+IsLength al n = (0 < n) × (n < 2 ^ 16) × (al ≡ n + 12)
+
+length_plain : (al : ℕ) → Plain (item u4 (code_length al)) (to_be_bytes w32) (IsLength al) (λ n. n)
+length_plain al = as_raw (to_be_bytes w32) _ (λ n. n) (λ n. n)
+    (λ at n y h.
+    let c = length_by (eqb h.0 0) (ltb h.0 65536) (eqb al (h.0 + 12)) al h.0 y refl refl refl h.2 in
+    (refl, ((omega (arith, c.0, h.1.1), omega (arith, c.1, h.1.1), omega (arith, c.2, h.1.1)), c.3 ∙ h.1.1)))
+    (λ at n y h. (refl, (n, (omega (arith, h.0.1), refl), length_is al n h.0.0 h.0.1 h.0.2 ∙ ap (λ v. Ok v) (sym h.1))))
+    (item_exact (code_length al) u4_exact)
+
+abbrev code_bytes : List ℕ → List ℕ
+code_bytes c = to_be_bytes w32 (length c) ++ c
+
+code_plain : (al : ℕ) → Plain (code al) code_bytes (λ c. IsLength al (length c)) (λ c. c)
+unfolding code
+code_plain al = as_raw code_bytes _ (λ w. w.1) (λ c. (length c, c))
+    (λ at w y h.
+    let len : length w.1 ≡ w.0 = h.2.0 ∙ h.1.1 in
+    (ap (λ k. to_be_bytes w32 k ++ w.1) (sym len), (subst (λ (k : ℕ). IsLength al k) (sym len) h.1.0, h.2.1)))
+    (λ at c y h. (refl, (length c, (h.0, refl), (refl, h.1))))
+    (bind_exact (λ n. bytes n) (λ t. t) (λ n _ t x. (length t ≡ n) × (x ≡ t)) (length_plain al) (λ n. bytes_exact n))
+
+-- ---- from the last number of a method back to the first
+
+abbrev ends : List ℕ
+ends = to_be_bytes w16 0 ++ to_be_bytes w16 0
+
+tail_plain : (m : RawMethod) → Plain (bind (u2_is 0 kind.BadHandler) (λ e. bind (u2_is 0 kind.BadAttribute) (λ a. give m))) (λ (u : Unit {0}). ends) (λ u. Unit {0}) (λ u. m)
+tail_plain m = skip 0 kind.BadHandler (λ e. bind (u2_is 0 kind.BadAttribute) (λ a. give m)) (λ (u : Unit {0}). to_be_bytes w16 0) (λ u. Unit {0}) (λ u. m) (omega arith) (plain_map (λ a. m) (u2_is_plain 0 kind.BadAttribute (omega arith)))
+
+abbrev T8 : Type 0
+T8 = List ℕ × Unit {0}
+
+abbrev s8 : T8 → List ℕ
+s8 w = code_bytes w.0 ++ ends
+
+abbrev P8 : ℕ → T8 → Type 0
+P8 al w = IsLength al (length w.0) × Unit {0}
+
+abbrev r8 : ℕ → ℕ → ℕ → ℕ → ℕ → ℕ → ℕ → Reader RawMethod
+r8 fl nm ds an al ms ml = bind (code al) (λ c. bind (u2_is 0 kind.BadHandler) (λ e. bind (u2_is 0 kind.BadAttribute) (λ a. give (method_of fl nm ds an ms ml c))))
+
+plain8 : (fl nm ds an al ms ml : ℕ) → Plain (r8 fl nm ds an al ms ml) s8 (P8 al) (λ w. method_of fl nm ds an ms ml w.0)
+plain8 fl nm ds an al ms ml = plain_bind (λ c. bind (u2_is 0 kind.BadHandler) (λ e. bind (u2_is 0 kind.BadAttribute) (λ a. give (method_of fl nm ds an ms ml c)))) (λ (u : Unit {0}). ends) (λ c u. Unit {0}) (λ c u. method_of fl nm ds an ms ml c) (code_plain al)
+    (λ c h. tail_plain (method_of fl nm ds an ms ml c))
+
+-- a number of two bytes before
+abbrev Before : {S : Type 0} → (ℕ → S → Type 0) → ℕ × S → Type 0
+Before Q w = (w.0 < 2 ^ 16) × Q w.0 w.1
+
+abbrev text2 : {S : Type 0} → (S → List ℕ) → ℕ × S → List ℕ
+text2 t w = to_be_bytes w16 w.0 ++ t w.1
+
+two : {B S : Type 0} (f : ℕ → Reader B) (t : S → List ℕ) (Q : ℕ → S → Type 0) (z : ℕ → S → B) → ((x : ℕ) → Plain (f x) t (Q x) (z x)) → Plain (bind u2 f) (text2 t) (Before Q) (λ (w : ℕ × S). z w.0 w.1)
+two f t Q z e = plain_bind f t Q z u2_plain (λ x h. e x)
+
+abbrev T6 : Type 0
+T6 = ℕ × (ℕ × T8)
+
+abbrev s6 : T6 → List ℕ
+s6 w = text2 (text2 s8) w
+
+abbrev P6 : ℕ → T6 → Type 0
+P6 al w = Before (λ _. Before (λ _. P8 al)) w
+
+abbrev r6 : ℕ → ℕ → ℕ → ℕ → ℕ → Reader RawMethod
+r6 fl nm ds an al = bind u2 (λ ms. bind u2 (λ ml. r8 fl nm ds an al ms ml))
+
+plain6 : (fl nm ds an al : ℕ) → Plain (r6 fl nm ds an al) s6 (P6 al) (λ w. method_of fl nm ds an w.0 w.1.0 w.1.1.0)
+plain6 fl nm ds an al = two (λ ms. bind u2 (λ ml. r8 fl nm ds an al ms ml)) (text2 s8) (λ _. Before (λ _. P8 al)) (λ ms w. method_of fl nm ds an ms w.0 w.1.0)
+    (λ ms. two (λ ml. r8 fl nm ds an al ms ml) s8 (λ _. P8 al) (λ ml w. method_of fl nm ds an ms ml w.0) (λ ml. plain8 fl nm ds an al ms ml))
+
+abbrev T5 : Type 0
+T5 = ℕ × T6
+
+abbrev s5 : T5 → List ℕ
+s5 w = to_be_bytes w32 w.0 ++ s6 w.1
+
+abbrev P5 : T5 → Type 0
+P5 w = (w.0 < 2 ^ 32) × P6 w.0 w.1
+
+plain5 : (fl nm ds an : ℕ) → Plain (bind u4 (λ al. r6 fl nm ds an al)) s5 P5 (λ w. method_of fl nm ds an w.1.0 w.1.1.0 w.1.1.1.0)
+plain5 fl nm ds an = plain_bind (λ al. r6 fl nm ds an al) s6 P6 (λ al w. method_of fl nm ds an w.0 w.1.0 w.1.1.0) u4_plain (λ al h. plain6 fl nm ds an al)
+
+abbrev r4 : ℕ → ℕ → ℕ → Reader RawMethod
+r4 fl nm ds = bind (u2_is 1 kind.BadAttribute) (λ c. bind u2 (λ an. bind u4 (λ al. r6 fl nm ds an al)))
+
+abbrev s4 : ℕ × T5 → List ℕ
+s4 w = to_be_bytes w16 1 ++ text2 s5 w
+
+plain4 : (fl nm ds : ℕ) → Plain (r4 fl nm ds) s4 (Before (λ _. P5)) (λ w. method_of fl nm ds w.0 w.1.1.0 w.1.1.1.0 w.1.1.1.1.0)
+plain4 fl nm ds = skip 1 kind.BadAttribute (λ c. bind u2 (λ an. bind u4 (λ al. r6 fl nm ds an al))) (text2 s5) (Before (λ _. P5)) (λ w. method_of fl nm ds w.0 w.1.1.0 w.1.1.1.0 w.1.1.1.1.0) (omega arith)
+    (two (λ an. bind u4 (λ al. r6 fl nm ds an al)) s5 (λ _. P5) (λ an w. method_of fl nm ds an w.1.0 w.1.1.0 w.1.1.1.0) (λ an. plain5 fl nm ds an))
+
+abbrev T1 : Type 0
+T1 = ℕ × (ℕ × (ℕ × (ℕ × T5)))
+
+abbrev s1 : T1 → List ℕ
+s1 w = text2 (text2 (text2 s4)) w
+
+abbrev P1 : T1 → Type 0
+P1 w = Before (λ _. Before (λ _. Before (λ _. Before (λ _. P5)))) w
+
+abbrev v1 : T1 → RawMethod
+v1 w = method_of w.0 w.1.0 w.1.1.0 w.1.1.1.0 w.1.1.1.1.1.0 w.1.1.1.1.1.1.0 w.1.1.1.1.1.1.1.0
+
+parts1 : Plain (bind u2 (λ fl. bind u2 (λ nm. bind u2 (λ ds. r4 fl nm ds)))) s1 P1 v1
+parts1 = two (λ fl. bind u2 (λ nm. bind u2 (λ ds. r4 fl nm ds))) (text2 (text2 s4)) (λ _. Before (λ _. Before (λ _. Before (λ _. P5)))) (λ fl w. method_of fl w.0 w.1.0 w.1.1.0 w.1.1.1.1.0 w.1.1.1.1.1.0 w.1.1.1.1.1.1.0)
+    (λ fl. two (λ nm. bind u2 (λ ds. r4 fl nm ds)) (text2 s4) (λ _. Before (λ _. Before (λ _. P5))) (λ nm w. method_of fl nm w.0 w.1.0 w.1.1.1.0 w.1.1.1.1.0 w.1.1.1.1.1.0)
+    (λ nm. two (λ ds. r4 fl nm ds) s4 (λ _. Before (λ _. P5)) (λ ds w. method_of fl nm ds w.0 w.1.1.0 w.1.1.1.0 w.1.1.1.1.0) (λ ds. plain4 fl nm ds)))
+
+abbrev parts_of : RawMethod → T1
+parts_of m = (m.access_flags, (m.name_index, (m.descriptor_index, (m.attribute_name_index, (length m.code + 12, (m.max_stack, (m.max_locals, (m.code, tt))))))))
+
+abbrev method_bytes : RawMethod → List ℕ
+method_bytes m = member_info (member_of m)
+
+info_length : (m : RawMethod) → length (code_info (code_of m)) ≡ length m.code + 12
+info_length m = omega (arith, length-append m.code ends)
+
+method_is : (m : RawMethod) → method_bytes m ≡ s1 (parts_of m)
+method_is m =
+    ap (λ t. to_be_bytes w16 m.access_flags ++ (to_be_bytes w16 m.name_index ++ (to_be_bytes w16 m.descriptor_index ++ (to_be_bytes w16 1 ++ t)))) (append-nil (attribute_info (attribute_of m)))
+    ∙ ap (λ n. to_be_bytes w16 m.access_flags ++ (to_be_bytes w16 m.name_index ++ (to_be_bytes w16 m.descriptor_index ++ (to_be_bytes w16 1 ++ (to_be_bytes w16 m.attribute_name_index ++ (to_be_bytes w32 n ++ code_info (code_of m))))))) (info_length m)
+
+method_plain : Plain method method_bytes FitsMethod (λ m. m)
+unfolding method
+method_plain = plain_as method_bytes FitsMethod (λ m. m) v1 parts_of
+    (λ w h.
+    let k = h.1.1.1.1 in
+    let al : w.1.1.1.1.0 ≡ length w.1.1.1.1.1.1.1.0 + 12 = k.1.1.1.0.2 in (
+      ap (λ n. to_be_bytes w16 w.0 ++ (to_be_bytes w16 w.1.0 ++ (to_be_bytes w16 w.1.1.0 ++ (to_be_bytes w16 1 ++ (to_be_bytes w16 w.1.1.1.0 ++ (to_be_bytes w32 n ++ s6 w.1.1.1.1.1)))))) al ∙ sym (method_is (v1 w)),
+      record {
+        access_flags = h.0;
+        name_index = h.1.0;
+        descriptor_index = h.1.1.0;
+        attribute_name_index = h.1.1.1.0;
+        max_stack = k.1.0;
+        max_locals = k.1.1.0;
+        length_from = k.1.1.1.0.0;
+        length_to = k.1.1.1.0.1;
+      },
+      refl,
+    ))
+    (λ m h. (
+      method_is m,
+      (h.access_flags, (h.name_index, (h.descriptor_index, (h.attribute_name_index, (omega (arith, h.length_to), (h.max_stack, (h.max_locals, ((h.length_from, h.length_to, refl), tt)))))))),
+      refl,
+    ))
+    parts1

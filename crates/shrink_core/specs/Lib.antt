@@ -1,4 +1,3 @@
 pub mod Small
 pub mod SmallStructure
 pub mod SmallReading
-pub mod Stub

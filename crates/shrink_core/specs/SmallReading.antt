@@ -1,8 +1,8 @@
 -- Reading the structure of a small class from left to right (JVMS 4.1, 4.4, 4.6 and 4.7.3).
 use Rattle.std.specs.Prelude.{ℕ, ◌+◌, ◌-◌, List, ◌∷◌, length, Result, Ok, Err, nat_lt, ◌==◌, ◌&&◌, not, if◌then◌else◌}
 use Rattle.jv_base.specs.Place.{Place, start}
-use Rattle.shrink_core.specs.Stub.{read_mutf8}
-use Rattle.shrink_core.specs.declared.small.stub.BadUtf8.{BadUtf8}
+use Rattle.jv_base.specs.Decoding.{read_mutf8}
+use Rattle.jv_base.specs.declared.mutf8.BadUtf8.{BadUtf8}
 use Rattle.format_reading.specs.Fault.{fault}
 use Rattle.format_reading.specs.declared.fault.FormatFault.{FormatFault}
 use Rattle.format_reading.specs.declared.fault.FormatKind.{FormatKind}

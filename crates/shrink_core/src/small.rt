@@ -1,6 +1,5 @@
 // Small classes: the class `Main` whose static methods compute with ints.
 mod raw;
-mod stub;
 
 /// The bytes are no small class.
 #[derive(Clone, Copy, Debug, PartialEq, Eq)]

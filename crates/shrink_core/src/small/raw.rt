@@ -7,10 +7,9 @@ ghost use Rattle.class_model.specs.declared.pool.Entry.TheVariants.{Gap};
 ghost use Rattle.jv_base.specs.Outcome.{IsDue};
 ghost use Rattle.shrink_core.specs.SmallReading.{u2_is, units_at, code_length, head, utf8, entry, pool, code, method, structure, read};
 
-use crate::small::stub::units_of_mutf8;
 use class_model::Entry;
 use format_reading::{FormatFault, FormatKind};
-use jv_base::{Bytes, Cursor, Items, Or, Units};
+use jv_base::{Bytes, Cursor, Items, Or, Units, units_of_mutf8};
 use std::alloc::Global;
 
 /// The bytes of a class without interfaces, fields and attributes, whose pool has the tags 1 and 7
