@@ -2,5 +2,6 @@ pub mod Coding
 pub mod Due
 pub mod Equality
 pub mod Naming
+pub mod Utf16Text
 pub mod WalkLaw
 pub mod Walking
