@@ -3,7 +3,7 @@ use Rattle.std.proofs.Common.{◌≡◌, ◌⊎◌, ℕ, zero, suc, ◌+◌, ◌
 use Rattle.std.specs.Int.{w8, w16, w32, to_be_bytes}
 use Rattle.std.specs.List.{flat_map, AllByRecursion}
 use Rattle.std.proofs.lemmas.Bool.{eqb-true, eqb-false, eq-eqb, ne_eqb, lt-ltb, ltb-true}
-use Rattle.std.proofs.lemmas.List.{append-nil, length-append, length-map}
+use Rattle.std.proofs.lemmas.List.{append-nil, length-append, length-drop, length-map, nil_from_length, drop_all}
 use Rattle.std.proofs.lemmas.List.Folds.{flat_map-map}
 use Rattle.jv_base.specs.Mutf8.{mutf8, IsUnits}
 use Rattle.jv_base.specs.Place.{Place, start, after}
@@ -368,3 +368,137 @@ method_plain = plain_as method_bytes FitsMethod (λ m. m) v1 parts_of
       refl,
     ))
     parts1
+
+-- ---- from the last number of a class back to the first
+
+abbrev C9 : Type 0
+C9 = List RawMethod × Unit {0}
+
+abbrev b9 : C9 → List ℕ
+b9 w = flat_map method_bytes w.0 ++ to_be_bytes w16 0
+
+abbrev F9 : ℕ → C9 → Type 0
+F9 n w = ((length w.0 ≡ n) × AllByRecursion FitsMethod w.0) × Unit {0}
+
+abbrev q9 : List Entry → ℕ → ℕ → ℕ → ℕ → Reader RawClass
+q9 es fl th su n = bind (many n method) (λ ms. bind (u2_is 0 kind.BadAttribute) (λ a. give (class_of es fl th su ms)))
+
+class9 : (es : List Entry) (fl th su n : ℕ) → Plain (q9 es fl th su n) b9 (F9 n) (λ w. class_of es fl th su w.0)
+class9 es fl th su n = plain_bind (λ ms. bind (u2_is 0 kind.BadAttribute) (λ a. give (class_of es fl th su ms))) (λ (u : Unit {0}). to_be_bytes w16 0) (λ ms u. Unit {0}) (λ ms u. class_of es fl th su ms) (plain_many n method_plain)
+    (λ ms h. plain_map (λ a. class_of es fl th su ms) (u2_is_plain 0 kind.BadAttribute (omega arith)))
+
+abbrev q6 : List Entry → ℕ → ℕ → ℕ → Reader RawClass
+q6 es fl th su = bind (u2_is 0 kind.BadIndex) (λ i. bind (u2_is 0 kind.BadIndex) (λ f. bind u2 (λ n. q9 es fl th su n)))
+
+abbrev b6 : ℕ × C9 → List ℕ
+b6 w = to_be_bytes w16 0 ++ (to_be_bytes w16 0 ++ text2 b9 w)
+
+class6 : (es : List Entry) (fl th su : ℕ) → Plain (q6 es fl th su) b6 (Before F9) (λ w. class_of es fl th su w.1.0)
+class6 es fl th su = skip 0 kind.BadIndex (λ i. bind (u2_is 0 kind.BadIndex) (λ f. bind u2 (λ n. q9 es fl th su n))) (λ w. to_be_bytes w16 0 ++ text2 b9 w) (Before F9) (λ w. class_of es fl th su w.1.0) (omega arith)
+    (skip 0 kind.BadIndex (λ f. bind u2 (λ n. q9 es fl th su n)) (text2 b9) (Before F9) (λ w. class_of es fl th su w.1.0) (omega arith)
+    (two (λ n. q9 es fl th su n) b9 F9 (λ n w. class_of es fl th su w.0) (λ n. class9 es fl th su n)))
+
+abbrev C3 : Type 0
+C3 = ℕ × (ℕ × (ℕ × (ℕ × C9)))
+
+abbrev b3 : C3 → List ℕ
+b3 w = text2 (text2 (text2 b6)) w
+
+abbrev F3 : C3 → Type 0
+F3 w = Before (λ _. Before (λ _. Before (λ _. Before F9))) w
+
+abbrev q3 : List Entry → Reader RawClass
+q3 es = bind u2 (λ fl. bind u2 (λ th. bind u2 (λ su. q6 es fl th su)))
+
+class3 : (es : List Entry) → Plain (q3 es) b3 F3 (λ w. class_of es w.0 w.1.0 w.1.1.0 w.1.1.1.1.0)
+class3 es = two (λ fl. bind u2 (λ th. bind u2 (λ su. q6 es fl th su))) (text2 (text2 b6)) (λ _. Before (λ _. Before (λ _. Before F9))) (λ fl w. class_of es fl w.0 w.1.0 w.1.1.1.0)
+    (λ fl. two (λ th. bind u2 (λ su. q6 es fl th su)) (text2 b6) (λ _. Before (λ _. Before F9)) (λ th w. class_of es fl th w.0 w.1.1.0)
+    (λ th. two (λ su. q6 es fl th su) b6 (λ _. Before F9) (λ su w. class_of es fl th su w.1.0) (λ su. class6 es fl th su)))
+
+abbrev b2 : List Entry × C3 → List ℕ
+b2 w = pool_bytes w.0 ++ b3 w.1
+
+abbrev F2 : List Entry × C3 → Type 0
+F2 w = HavePool w.0 × F3 w.1
+
+class2 : Plain (bind pool (λ es. q3 es)) b2 F2 (λ w. class_of (numbered w.0) w.1.0 w.1.1.0 w.1.1.1.0 w.1.1.1.1.1.0)
+class2 = plain_bind (λ es. q3 es) b3 (λ es. F3) (λ es w. class_of es w.0 w.1.0 w.1.1.0 w.1.1.1.1.0) pool_plain (λ es h. class3 (numbered es))
+
+abbrev class_parts : RawClass → Unit {0} × (List Entry × C3)
+class_parts raw = (tt, (entries_of raw.pool, (raw.access_flags, (raw.this_class, (raw.super_class, (length raw.methods, (raw.methods, tt)))))))
+
+abbrev class_value : Unit {0} × (List Entry × C3) → RawClass
+class_value v = let w = v.1 in class_of (numbered w.0) w.1.0 w.1.1.0 w.1.1.1.0 w.1.1.1.1.1.0
+
+abbrev class_bytes : RawClass → List ℕ
+class_bytes raw = class_file (structure_of raw)
+
+abbrev class_text : Unit {0} × (List Entry × C3) → List ℕ
+class_text v = head_bytes ++ b2 v.1
+
+-- the bytes of a class, of so many methods with these bytes
+abbrev with_methods : RawClass → ℕ → List ℕ → List ℕ
+with_methods raw n text = head_bytes ++ (pool_bytes (entries_of raw.pool) ++ (to_be_bytes w16 raw.access_flags ++ (to_be_bytes w16 raw.this_class ++ (to_be_bytes w16 raw.super_class
+    ++ (to_be_bytes w16 0 ++ (to_be_bytes w16 0 ++ (to_be_bytes w16 n ++ (text ++ to_be_bytes w16 0))))))))
+
+class_is : (raw : RawClass) → class_bytes raw ≡ class_text (class_parts raw)
+class_is raw = ap (λ n. with_methods raw n (flat_map member_info (map member_of raw.methods))) (length-map raw.methods member_of) ∙ ap (with_methods raw (length raw.methods)) (flat_map-map member_info member_of raw.methods)
+
+structure_plain : Plain structure class_bytes FitsClass (λ raw. raw)
+unfolding structure
+structure_plain = plain_as class_bytes FitsClass (λ raw. raw) class_value class_parts
+    (λ v h.
+    let w = v.1 in
+    let f = h.1 in
+    let m = f.1.1.1.1 in
+    let n : w.1.1.1.1.0 ≡ length w.1.1.1.1.1.0 = sym m.1.0.0 in (
+      ap (λ k. head_bytes ++ (pool_bytes w.0 ++ (to_be_bytes w16 w.1.0 ++ (to_be_bytes w16 w.1.1.0 ++ (to_be_bytes w16 w.1.1.1.0 ++ (to_be_bytes w16 0 ++ (to_be_bytes w16 0 ++ (to_be_bytes w16 k ++ b9 w.1.1.1.1.1)))))))) n ∙ sym (class_is (class_value v)),
+      record {
+        pool = record { numbers = refl; count = omega (arith, f.0.0); bytes = f.0.1 };
+        access_flags = f.1.0;
+        this_class = f.1.1.0;
+        super_class = f.1.1.1.0;
+        methods_count = omega (arith, m.0, n);
+        methods = m.1.0.1;
+      },
+      refl,
+    ))
+    (λ raw h. (
+      class_is raw,
+      (tt, ((omega (arith, h.pool.count, ap length h.pool.numbers), h.pool.bytes), (h.access_flags, (h.this_class, (h.super_class, (h.methods_count, ((refl, h.methods), tt))))))),
+      ap (λ p. class_of p raw.access_flags raw.this_class raw.super_class raw.methods) h.pool.numbers,
+    ))
+    (plain_bind (λ first. bind pool (λ es. q3 es)) b2 (λ u. F2) (λ u w. class_of (numbered w.0) w.1.0 w.1.1.0 w.1.1.1.0 w.1.1.1.1.1.0) head_plain (λ u h. class2))
+
+-- ---- the whole text
+
+guard_ended : {A X : Type 0} (b : Bool) (d : X) (x y : A) → cond b (Ok x) (Err d) ≡ Ok y → (b ≡ true) × (x ≡ y)
+guard_ended true d x y e = (refl, cc)
+guard_ended false d x y e = absurd cc
+
+was_whole : (r : Result (RawClass × Place) FormatFault) (raw : RawClass) → ending r ≡ Ok raw → (q : Place) × (r ≡ Ok (raw, q)) × (q.at ≡ length q.bytes)
+was_whole (Ok y) raw h =
+    let g = guard_ended (eqb y.1.at (length y.1.bytes)) (fault y.1.at kind.Trailing) y.0 raw h in
+    (y.1, ap (λ (v : RawClass). let R : Result (RawClass × Place) FormatFault = Ok (v, y.1) in R) g.1, eqb-true _ _ g.0)
+was_whole (Err f) raw h = absurd cc
+
+-- what is read is spelled
+pub read_found : (bytes : List ℕ) (raw : RawClass) → IsBytes bytes → read bytes ≡ Ok raw → (bytes ≡ class_file (structure_of raw)) × FitsClass raw
+unfolding read
+read_found bytes raw fits h =
+    let o = was_whole (structure (start bytes)) raw h in
+    let f = structure_plain.found (start bytes) raw o.0 fits o.1 in
+    let none : left o.0 ≡ [] = nil_from_length (left o.0) (omega (arith, length-drop o.0.at o.0.bytes, o.2)) in
+    let all : bytes ≡ f.0 = f.2.parts ∙ ap (λ (u : List ℕ). f.0 ++ u) none ∙ append-nil f.0 in
+    let is : f.1.0 ≡ raw = sym f.1.2.1 in
+    (all ∙ f.1.1 ∙ ap class_bytes is, subst (λ (x : RawClass). FitsClass x) is f.1.2.0)
+
+-- what is spelled is read
+pub read_only : (bytes : List ℕ) (raw : RawClass) → bytes ≡ class_file (structure_of raw) → FitsClass raw → read bytes ≡ Ok raw
+unfolding read
+read_only bytes raw h fits =
+    let q : Place = after (length bytes) (start bytes) in
+    let none : left q ≡ [] = drop_all (0 + length bytes) bytes (omega arith) in
+    let t : Takes (start bytes) bytes q = record { parts = sym (append-nil bytes) ∙ ap (λ (u : List ℕ). bytes ++ u) (sym none); moved = refl } in
+    let end : eqb (0 + length bytes) (length bytes) ≡ true = eq-eqb _ _ (omega arith) in
+    rw (structure_plain.only (start bytes) bytes raw q (raw, h, (fits, refl)) t, end) refl
