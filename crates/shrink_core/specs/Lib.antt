@@ -1,3 +1,6 @@
+pub mod Finding
 pub mod Small
 pub mod SmallStructure
 pub mod SmallReading
+pub mod SmallMeaning
+pub mod Stub
