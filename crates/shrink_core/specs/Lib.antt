@@ -3,4 +3,5 @@ pub mod Small
 pub mod SmallStructure
 pub mod SmallReading
 pub mod SmallMeaning
+pub mod SmallInstructions
 pub mod Stub

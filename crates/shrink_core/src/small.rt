@@ -1,5 +1,6 @@
 // Small classes: the class `Main` whose static methods compute with ints.
 mod flags;
+mod instructions;
 mod pool;
 mod raw;
 mod stub;
