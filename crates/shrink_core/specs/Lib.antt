@@ -4,4 +4,3 @@ pub mod SmallStructure
 pub mod SmallReading
 pub mod SmallMeaning
 pub mod SmallInstructions
-pub mod Stub

@@ -3,7 +3,6 @@ mod flags;
 mod instructions;
 mod pool;
 mod raw;
-mod stub;
 
 ghost use Rattle.std.specs.Prelude.{◌≡◌};
 ghost use Rattle.jv_base.specs.declared.outcome.Or.TheVariants.{Fault};

@@ -108,3 +108,19 @@ fn op(cursor: &mut Cursor) -> Result<Op, FormatFault>
         }),
     }
 }
+
+/// The instructions that these bytes are.
+pub fn instructions(alloc: Global, code: &[u8]) -> Result<Items<Ins>, Or<NotBuilt>>
+    requires { length code.now < 4294967295 }
+    ensures { FindsOnly result (IsCodeText code.now) }
+{
+    let mut cursor = Cursor::new(code);
+    let mut instructions = Items::new(alloc);
+    while !cursor.is_at_end() {
+        match op(&mut cursor) {
+            Ok(op) => instructions.push(Ins { op, line: None })?,
+            Err(_) => return Err(Or::Fault(NotBuilt)),
+        }
+    }
+    Ok(instructions)
+}
