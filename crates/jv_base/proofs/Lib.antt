@@ -1,6 +1,8 @@
 pub mod Coding
 pub mod Due
 pub mod Equality
+pub mod FieldLaw
+pub mod MethodLaw
 pub mod Naming
 pub mod Places
 pub mod Utf16Text

@@ -1,12 +1,13 @@
 // Descriptors of fields and methods (JVMS 4.3).
-ghost use Rattle.std.specs.Prelude.{◌≡◌, ℕ, ◌+◌, ◌≤◌, ◌<◌, List, [], length, slice_index, slice_range, IfOk, OnOk, Some, None, codes, replicate, ◌++◌, if◌then◌else◌};
+ghost use Rattle.std.specs.Prelude.{◌≡◌, ℕ, ◌+◌, ◌≤◌, ◌<◌, List, [], length, slice_index, slice_range, IfOk, OnOk, Ok, Some, None, codes, replicate, ◌++◌, if◌then◌else◌};
 ghost use Rattle.std.specs.List.{flat_map};
 ghost use Rattle.std.specs.Str.{IsCharBoundary};
 ghost use Rattle.jv_base.specs.DescriptorPlaces.{AreCounted, begun_at, class_whole, field_at, field_of, field_read_at, grown_at, IsFieldPlaced, IsFieldReadPlaced, IsGrownPlaced, IsMethodNextPlaced, IsMethodPlaced, IsPlaced, method_next_at, method_read_at, more_of};
-ghost use Rattle.jv_base.specs.Descriptors.{before, brackets, field_byte, grown, is_fresh, letter_base, method_byte, parameter_byte, parameter_on, read_field, read_method, returned_byte, returned_on, whole};
+ghost use Rattle.jv_base.specs.Descriptors.{before, brackets, field_byte, grown, is_fresh, letter_base, method_byte, parameter_byte, parameter_on, read_field, read_method, returned_byte, returned_on, SpellsField, SpellsMethod, whole};
+ghost use Rattle.jv_base.specs.Longest.{IfFault, IsLongest};
 ghost use Rattle.jv_base.specs.Names.{is_class_name};
 ghost use Rattle.jv_base.specs.Outcome.{IsDue};
-ghost use Rattle.jv_base.specs.Types.{base_text, field_text, method_text, result_text, words_of};
+ghost use Rattle.jv_base.specs.Types.{base_text, field_text, IsFieldType, IsMethodType, method_text, result_text, words_of};
 
 use crate::names::part_after;
 use crate::{Base, FieldType, Items, M, MethodType, Name, Or, Text, is_class_name};
@@ -22,6 +23,9 @@ pub struct BadDescriptor {
 /// most 255 dimensions.
 pub fn read_field_type(alloc: Global, text: &Text) -> Result<FieldType, Or<BadDescriptor>>
     requires { length text.now < 4294967295 }
+    ensures found { IfOk result (λ ty. SpellsField text.now ty) }
+    ensures only { (ty : FieldType) → SpellsField text.now ty → IsDue result (Ok ty) }
+    ensures longest { IfFault result (λ e. IsLongest SpellsField text.now e.place) }
     ensures exact { IsDue result (read_field text.now) }
 {
     field_read(alloc, text.as_str())
@@ -31,6 +35,9 @@ pub fn read_field_type(alloc: Global, text: &Text) -> Result<FieldType, Or<BadDe
 /// one for `this`.
 pub fn read_method_type(alloc: Global, text: &Text) -> Result<MethodType, Or<BadDescriptor>>
     requires { length text.now < 4294967295 }
+    ensures found { IfOk result (λ ty. SpellsMethod text.now ty) }
+    ensures only { (ty : MethodType) → SpellsMethod text.now ty → IsDue result (Ok ty) }
+    ensures longest { IfFault result (λ e. IsLongest SpellsMethod text.now e.place) }
     ensures exact { IsDue result (read_method text.now) }
 {
     method_read(alloc, text.as_str())
@@ -39,6 +46,7 @@ pub fn read_method_type(alloc: Global, text: &Text) -> Result<MethodType, Or<Bad
 /// The descriptor of a field type (JVMS 4.3.2).
 pub fn field_text(alloc: Global, ty: &FieldType) -> M<Text>
     ensures written { IfOk result (λ text. text ≡ field_text ty.now) }
+    ensures read_back { IsFieldType ty.now → IfOk result (λ text. read_field text ≡ Ok ty.now) }
 {
     let mut text = Text::from_string(String::new(alloc));
     push_field(&mut text, ty)?;
@@ -48,6 +56,7 @@ pub fn field_text(alloc: Global, ty: &FieldType) -> M<Text>
 /// The descriptor of a method type (JVMS 4.3.3).
 pub fn method_text(alloc: Global, ty: &MethodType) -> M<Text>
     ensures written { IfOk result (λ text. text ≡ method_text ty.now) }
+    ensures read_back { IsMethodType ty.now → IfOk result (λ text. read_method text ≡ Ok ty.now) }
 {
     let mut text = Text::from_string(String::new(alloc));
     text.push_str("(")?;
