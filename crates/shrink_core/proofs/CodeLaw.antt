@@ -1,7 +1,8 @@
 -- Instructions are read up to the end of a code exactly where the code is theirs.
-use Rattle.std.proofs.Common.{◌≡◌, ◌⊎◌, ℕ, ◌+◌, ◌-◌, ◌^◌, ◌<◌, ◌≤◌, Bool, true, false, List, [], ◌∷◌, ◌++◌, length, get_or, drop, Option, Some, None, Result, Ok, Err, refl, sym, ap, subst, ◌∙◌, append_assoc, arith}
+use Rattle.std.proofs.Common.{◌≡◌, ◌⊎◌, ℕ, ◌+◌, ◌-◌, ◌^◌, ◌<◌, ◌≤◌, Bool, true, false, eqb, List, [], ◌∷◌, ◌++◌, length, get_or, drop, Option, Some, None, Result, Ok, Err, refl, sym, ap, subst, ◌∙◌, append_assoc, arith}
 use Rattle.std.specs.List.{flat_map, AllZip}
 use Rattle.std.proofs.lemmas.List.{append-nil, length-append, length-drop, nil_from_length, drop-drop, drop_at}
+use Rattle.std.proofs.lemmas.Bool.{eqb-true, eqb-false}
 use Rattle.jv_base.specs.Place.{Place, start, after}
 use Rattle.format_reading.specs.declared.fault.FormatFault.{FormatFault}
 use Rattle.format_reading.proofs.Exact.{Takes, IsBytes, left}
@@ -53,6 +54,22 @@ left_is_long code p e lt = omega (arith, length-drop p.at p.bytes, ap length e)
 ok_is : (x y : Op × Place) → (let R : Result (Op × Place) FormatFault = Ok x in R) ≡ Ok y → x ≡ y
 ok_is x y h = cc
 
+info_is_there : (i : Info) → 1 ≤ length (info_bytes i)
+info_is_there (Plain c) = omega arith
+info_is_there (Byte c n) = omega arith
+info_is_there (Short c n) = omega arith
+info_is_there (Bytes c m n) = omega arith
+
+-- not at the end is before it
+pub before_end : (code : List ℕ) (p : Place) (front : List Ins) → eqb p.at (length p.bytes) ≡ false → ReadUpTo code p front → p.at < length code
+before_end code p front h r = let d : p.at ≡ length p.bytes → ⊥ = eqb-false _ _ h in let n = ap length r.bytes in let w = r.within in grind arith
+
+-- the bytes of an instruction that was read
+pub moves_on : (code : List ℕ) (p q : Place) (front : List Ins) (op : Op) → IsBytes code → p.at < length code → op_at p ≡ Ok (op, q) → ReadUpTo code p front → length code - q.at < length code - p.at
+moves_on code p q front op fits lt h r =
+    let f = op_exact.found p op q (subst (λ (b : List ℕ). IsBytes b) (sym r.bytes) fits) h in
+    omega (arith, ap (λ (z : Place). z.at) f.2.moved, ap length f.1.1, info_is_there f.1.0)
+
 -- one more instruction
 pub goes_on : (code : List ℕ) (p q : Place) (front : List Ins) (op : Op) → IsBytes code → p.at < length code → op_at p ≡ Ok (op, q) → ReadUpTo code p front → ReadUpTo code q (front ++ ins_of op ∷ [])
 goes_on code p q front op fits lt h r =
@@ -85,21 +102,15 @@ fails code p front f lt h r all c =
     let e : (let R : Result (Op × Place) FormatFault = Err f in R) ≡ Ok (g.2.op, k.0) = sym h ∙ k.1 in
     cc
 
-info_is_there : (i : Info) → 1 ≤ length (info_bytes i)
-info_is_there (Plain c) = omega arith
-info_is_there (Byte c n) = omega arith
-info_is_there (Short c n) = omega arith
-info_is_there (Bytes c m n) = omega arith
-
 none_of_none : (infos : List Info) (rest : List Ins) → [] ≡ flat_map info_bytes infos → AllZip IsIns infos rest → rest ≡ []
 none_of_none [] [] h z = refl
 none_of_none [] (y ∷ ys) h z = absurd z
 none_of_none (i ∷ others) rest h z = absurd (omega (arith, ap length h, length-append (info_bytes i) (flat_map info_bytes others), info_is_there i))
 
 -- at the end they are the code's
-pub is_done : (code : List ℕ) (p : Place) (front : List Ins) → p.at ≡ length p.bytes → ReadUpTo code p front → IsCodeText code front × ((all : List Ins) → IsCodeText code all → all ≡ front)
+pub is_done : (code : List ℕ) (p : Place) (front : List Ins) → eqb p.at (length p.bytes) ≡ true → ReadUpTo code p front → IsCodeText code front × ((all : List Ins) → IsCodeText code all → all ≡ front)
 is_done code p front end r =
-    let none : left p ≡ [] = nil_from_length (left p) (omega (arith, length-drop p.at p.bytes, end)) in
+    let none : left p ≡ [] = nil_from_length (left p) (omega (arith, length-drop p.at p.bytes, eqb-true _ _ end)) in
     let empty : IsCodeText (left p) [] = ([], none, tt) in
     (subst (λ (v : List Ins). IsCodeText code v) (append-nil front) (r.before [] empty),
     λ all c. let b = r.behind all c in b.1 ∙ ap (λ (v : List Ins). front ++ v) (none_of_none b.2.0 b.0 (sym none ∙ b.2.1) b.2.2) ∙ append-nil front)
