@@ -111,6 +111,7 @@ none_of_none (i ∷ others) rest h z = absurd (omega (arith, ap length h, length
 pub is_done : (code : List ℕ) (p : Place) (front : List Ins) → eqb p.at (length p.bytes) ≡ true → ReadUpTo code p front → IsCodeText code front × ((all : List Ins) → IsCodeText code all → all ≡ front)
 is_done code p front end r =
     let none : left p ≡ [] = nil_from_length (left p) (omega (arith, length-drop p.at p.bytes, eqb-true _ _ end)) in
-    let empty : IsCodeText (left p) [] = ([], none, tt) in
-    (subst (λ (v : List Ins). IsCodeText code v) (append-nil front) (r.before [] empty),
-    λ all c. let b = r.behind all c in b.1 ∙ ap (λ (v : List Ins). front ++ v) (none_of_none b.2.0 b.0 (sym none ∙ b.2.1) b.2.2) ∙ append-nil front)
+    let empty : IsCodeText (left p) [] = ([], none, tt) in (
+      subst (λ (v : List Ins). IsCodeText code v) (append-nil front) (r.before [] empty),
+      λ all c. let b = r.behind all c in b.1 ∙ ap (λ (v : List Ins). front ++ v) (none_of_none b.2.0 b.0 (sym none ∙ b.2.1) b.2.2) ∙ append-nil front,
+    )

@@ -12,6 +12,7 @@ use Rattle.class_model.specs.Pool.{IsTextAt, IsClassAt, NamesRight}
 use Rattle.class_model.specs.Instructions.{IsCodeText}
 use Rattle.class_model.specs.File.{AreMethodFlags, AreClassFlags, Differ}
 use Rattle.shrink_core.specs.Small.{int_type, IsIntMethod}
+use Rattle.shrink_core.specs.declared.small.methods.Signature.{Signature}
 use Rattle.shrink_core.specs.declared.small.raw.RawMethod.{RawMethod}
 use Rattle.shrink_core.specs.declared.small.raw.RawClass.{RawClass}
 
@@ -45,6 +46,10 @@ pub record IsMethodOf (pool : List Entry) (raw : RawMethod) (method : Method) : 
   pub throws : method.throws ≡ []
   pub synthetic : method.synthetic ≡ false
   pub deprecated : method.deprecated ≡ false
+
+-- what tells a method from the others of its class (JVMS 4.6)
+abbrev pub signature_of : Method → Signature
+signature_of m = record { name = m.name; descriptor = method_text m.ty }
 
 -- an index names a class that has this name
 pub record NamesClass (pool : List Entry) (index : ℕ) (wanted name : List ℕ) : Type 0 where

@@ -1,6 +1,7 @@
 // Small classes: the class `Main` whose static methods compute with ints.
 mod flags;
 mod instructions;
+mod methods;
 mod pool;
 mod raw;
 

@@ -9,7 +9,9 @@ ghost use Rattle.shrink_core.specs.SmallMeaning.{NamesClass, IsNameAt};
 
 use crate::small::NotBuilt;
 use class_model::Entry;
-use jv_base::{FieldType, Items, Name, Or, Text, is_class_name, is_member_name, read_field_type, text_of_units};
+use jv_base::{
+    FieldType, Items, Name, Or, Text, is_class_name, is_member_name, read_field_type, text_of_units,
+};
 use std::alloc::Global;
 
 fn units_in(entry: &Entry) -> Option<&[u16]>
