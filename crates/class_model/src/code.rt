@@ -2,12 +2,15 @@
 use crate::{FrameAt, Op};
 use jv_base::{Items, Name};
 
-/// The attribute Code. Places in it are instruction indices.
+/// The attribute Code. Its instructions are numbered from 0, and places in it are such numbers.
 #[derive(Debug, Drop)]
 pub struct Code {
+    /// How many words the operand stack takes at most.
     pub max_stack: u16,
+    /// How many words the local variables take.
     pub max_locals: u16,
     pub ins: Items<Ins>,
+    /// The exception table: of the handlers that cover an instruction and catch a class the first counts.
     pub handlers: Items<Handler>,
     /// The frames of the attribute StackMapTable, ascending (JVMS 4.7.4).
     pub frames: Items<FrameAt>,
@@ -20,12 +23,15 @@ pub struct Ins {
     pub line: Option<u16>,
 }
 
-/// A row of the exception table: the instructions from `from` to before `to` are covered. With no
-/// `caught` it catches everything.
+/// An exception handler, a row of the exception table (JVMS 4.7.3).
 #[derive(Debug, Drop)]
 pub struct Handler {
+    /// The first instruction that it covers.
     pub from: u32,
+    /// The instruction behind the last that it covers, or the number of instructions.
     pub to: u32,
+    /// The instruction at which it begins.
     pub entry: u32,
+    /// The class that it catches with its subclasses. Without one it catches everything.
     pub caught: Option<Name>,
 }

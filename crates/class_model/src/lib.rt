@@ -8,6 +8,7 @@ mod constant;
 mod frame;
 mod op;
 mod pool;
+mod same;
 
 pub use class::{Class, Constant, Field, LeftKind, LeftOut, Method};
 pub use code::{Code, Handler, Ins};
@@ -15,3 +16,4 @@ pub use constant::PoolConstant;
 pub use frame::{Frame, FrameAt, VType};
 pub use op::{ArithOp, Case, Cond, ConvOp, Elem, Kind, LogicOp, MemberRef, Num, Op, ShiftOp};
 pub use pool::{Entry, Pool};
+pub use same::same_op;

@@ -1,14 +1,15 @@
 // Instructions by families (JVMS 6.5).
 use jv_base::{Base, FieldType, Items, Name, Text, Units};
 
-/// The type of a number.
+/// The type of the numbers that an instruction computes with.
 #[derive(Clone, Copy, Debug, PartialEq, Eq)]
 pub enum Num {
     Int,
     Long,
 }
 
-/// The type of a value on the stack: an int, a long or a reference.
+/// The type of a value that an instruction moves: an int, a long or a reference. An int may be a
+/// boolean, byte, char or short.
 #[derive(Clone, Copy, Debug, PartialEq, Eq)]
 pub enum Kind {
     Int,
@@ -27,7 +28,7 @@ pub enum Elem {
     Short,
 }
 
-/// Arithmetic of two operands.
+/// Arithmetic of two numbers.
 #[derive(Clone, Copy, Debug, PartialEq, Eq)]
 pub enum ArithOp {
     Add,
@@ -37,7 +38,7 @@ pub enum ArithOp {
     Rem,
 }
 
-/// Shifts: left, right, and right without the sign.
+/// A shift: left, right, and right without the sign.
 #[derive(Clone, Copy, Debug, PartialEq, Eq)]
 pub enum ShiftOp {
     Shl,
@@ -45,7 +46,7 @@ pub enum ShiftOp {
     Ushr,
 }
 
-/// Logic on bits.
+/// Logic on the bits of two numbers.
 #[derive(Clone, Copy, Debug, PartialEq, Eq)]
 pub enum LogicOp {
     And,
@@ -53,7 +54,7 @@ pub enum LogicOp {
     Xor,
 }
 
-/// Conversions.
+/// A conversion between numbers.
 #[derive(Clone, Copy, Debug, PartialEq, Eq)]
 pub enum ConvOp {
     I2l,
@@ -63,7 +64,7 @@ pub enum ConvOp {
     I2s,
 }
 
-/// A comparison with 0, or of two ints.
+/// A comparison of an int with 0, or of two ints.
 #[derive(Clone, Copy, Debug, PartialEq, Eq)]
 pub enum Cond {
     Eq,
@@ -74,7 +75,7 @@ pub enum Cond {
     Le,
 }
 
-/// A case of a LookupSwitch.
+/// A case of a LookupSwitch: a key, and the instruction to which it leads.
 #[derive(Clone, Copy, Debug, PartialEq, Eq)]
 pub struct Case {
     pub key: i32,
@@ -84,77 +85,128 @@ pub struct Case {
 /// A symbolic reference to a field or a method (JVMS 4.4.2).
 #[derive(Clone, Debug, Drop, PartialEq, Eq)]
 pub struct MemberRef {
+    /// The class, interface or array type that it names.
     pub class: FieldType,
     pub name: Name,
-    /// The descriptor.
+    /// The descriptor of the member (JVMS 4.3).
     pub ty: Text,
+    /// Whether the entry is an InterfaceMethodref.
     pub of_interface: bool,
 }
 
-/// An instruction. A target is the index of an instruction.
+/// An instruction (JVMS 6.5), whichever of its spellings the class file has. A target is the number of
+/// an instruction of the code, a slot the number of a local variable.
 #[derive(Debug, Drop)]
 pub enum Op {
+    /// nop.
     Nop,
+    /// aconst_null.
     PushNull,
+    /// iconst_<i>, bipush, sipush, and ldc and ldc_w of an int.
     PushInt(i32),
+    /// lconst_<l>, and ldc2_w of a long.
     PushLong(i64),
+    /// ldc and ldc_w of a string, in UTF-16.
     PushText(Units),
+    /// iload, lload and aload, of a slot.
     Load(Kind, u16),
+    /// istore, lstore and astore, to a slot.
     Store(Kind, u16),
+    /// iinc: a slot, and what is added.
     Inc(u16, i16),
+    /// iaload, laload, aaload, baload, caload and saload.
     ALoad(Elem),
+    /// iastore, lastore, aastore, bastore, castore and sastore.
     AStore(Elem),
+    /// pop.
     Pop,
+    /// pop2.
     Pop2,
+    /// dup.
     Dup,
+    /// dup_x1.
     DupX1,
+    /// dup_x2.
     DupX2,
+    /// dup2.
     Dup2,
+    /// dup2_x1.
     Dup2X1,
+    /// dup2_x2.
     Dup2X2,
+    /// swap.
     Swap,
+    /// iadd, ladd and the like.
     Arith(ArithOp, Num),
+    /// ineg and lneg.
     Neg(Num),
+    /// ishl, lshl and the like.
     Shift(ShiftOp, Num),
+    /// iand, land and the like.
     Logic(LogicOp, Num),
+    /// i2l, l2i, i2b, i2c and i2s.
     Conv(ConvOp),
+    /// lcmp.
     LCmp,
+    /// if<cond>: a comparison of an int with 0, and the target.
     IfZero(Cond, u32),
+    /// if_icmp<cond>: a comparison of two ints, and the target.
     IfCmp(Cond, u32),
+    /// if_acmpeq, and if_acmpne where `eq` is false.
     IfRef {
         eq: bool,
         to: u32,
     },
+    /// ifnull, and ifnonnull where `null` is false.
     IfNull {
         null: bool,
         to: u32,
     },
+    /// goto and goto_w: the target.
     Goto(u32),
+    /// tableswitch: the least key, the default target, and the targets of the keys in ascending order.
     TableSwitch {
         low: i32,
-        /// The default target.
         other: u32,
         cases: Items<u32>,
     },
+    /// lookupswitch: the default target, and the cases.
     LookupSwitch {
         other: u32,
         cases: Items<Case>,
     },
+    /// ireturn, lreturn, areturn, and return where nothing is returned.
     Return(Option<Kind>),
+    /// getstatic.
     GetStatic(MemberRef),
+    /// putstatic.
     PutStatic(MemberRef),
+    /// getfield.
     GetField(MemberRef),
+    /// putfield.
     PutField(MemberRef),
+    /// invokevirtual.
     InvokeVirtual(MemberRef),
+    /// invokespecial.
     InvokeSpecial(MemberRef),
+    /// invokestatic.
     InvokeStatic(MemberRef),
+    /// invokeinterface. Its count follows from the descriptor.
     InvokeInterface(MemberRef),
+    /// new: the class.
     New(Name),
+    /// newarray: the type of the elements.
     NewArray(Base),
+    /// anewarray: the type of the elements.
     ANewArray(FieldType),
+    /// arraylength.
     ArrayLength,
+    /// athrow.
     Throw,
+    /// checkcast: the type.
     CheckCast(FieldType),
+    /// instanceof: the type.
     InstanceOf(FieldType),
+    /// multianewarray: the type of the array, and how many of its dimensions are made.
     MultiNewArray(FieldType, u8),
 }

@@ -1,5 +1,5 @@
 -- Instructions are read up to the end of a code exactly where the code is theirs.
-use Rattle.std.proofs.Common.{◌≡◌, ◌⊎◌, ℕ, ◌+◌, ◌-◌, ◌^◌, ◌<◌, ◌≤◌, Bool, true, false, eqb, List, [], ◌∷◌, ◌++◌, length, get_or, drop, Option, Some, None, Result, Ok, Err, refl, sym, ap, subst, ◌∙◌, append_assoc, arith}
+use Rattle.std.proofs.Common.{◌≡◌, ℕ, ◌-◌, ◌<◌, ◌≤◌, true, false, eqb, List, [], ◌∷◌, ◌++◌, length, drop, None, Result, Ok, Err, refl, sym, ap, subst, ◌∙◌, append_assoc, arith}
 use Rattle.std.specs.List.{flat_map, AllZip}
 use Rattle.std.proofs.lemmas.List.{append-nil, length-append, length-drop, nil_from_length, drop-drop, drop_at}
 use Rattle.std.proofs.lemmas.Bool.{eqb-true, eqb-false}
@@ -8,9 +8,9 @@ use Rattle.format_reading.specs.declared.fault.FormatFault.{FormatFault}
 use Rattle.format_reading.proofs.Exact.{Takes, IsBytes, left}
 use Rattle.class_model.specs.declared.op.Op.{Op}
 use Rattle.class_model.specs.declared.code.Ins.{Ins}
-use Rattle.class_model.specs.Instructions.{Info, Plain, Byte, Short, Bytes, info_bytes, Fits, op_of, IsIns, IsCodeText}
+use Rattle.class_model.specs.Instructions.{Info, Plain, Byte, Short, Bytes, info_bytes, IsIns, IsCodeText}
 use Rattle.shrink_core.specs.SmallInstructions.{op_at}
-use Rattle.shrink_core.proofs.InstructionLaw.{IsOp, op_exact}
+use Rattle.shrink_core.proofs.InstructionLaw.{op_exact}
 
 -- an instruction without a line
 abbrev pub ins_of : Op → Ins

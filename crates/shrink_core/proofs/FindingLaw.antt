@@ -1,11 +1,11 @@
 -- Looking for a value of which a fact holds: from one fact to another, and over a list.
-use Rattle.std.proofs.Common.{◌≡◌, ℕ, ◌+◌, ◌<◌, ◌≤◌, List, [], ◌∷◌, ◌++◌, length, get_or, take, drop, add-one, drop-cons, append_assoc, Result, Ok, Err, refl, sym, ap, subst, ◌∙◌, arith}
+use Rattle.std.proofs.Common.{◌≡◌, ℕ, ◌+◌, ◌<◌, ◌≤◌, List, [], ◌∷◌, ◌++◌, length, get_or, take, drop, add-one, drop-cons, append_assoc, Result, Ok, Err, refl, sym, ap, subst, ◌∙◌}
 use Rattle.std.specs.List.{All, AllByRecursion, AllZip}
 use Rattle.std.proofs.lemmas.List.{take_all, drop_all, append-nil}
-use Rattle.std.proofs.lemmas.List.Elements.{All-from_recursion, recursion_from_All, All-same}
+use Rattle.std.proofs.lemmas.List.Elements.{All-from_recursion, recursion_from_All}
 use Rattle.jv_base.specs.declared.outcome.Or.{Or}
 use Rattle.jv_base.specs.declared.outcome.Or.TheVariants.{Fault, OutOfMemory}
-use Rattle.shrink_core.specs.Finding.{FindsNone, Finds, FindsOnly}
+use Rattle.shrink_core.specs.Finding.{FindsNone, FindsSuch}
 
 -- where nothing is found for the one fact, there is nothing for another one that needs it
 pub none_other : {A B X : Type 0} (e : Or X) (P : A → Type 0) (Q : B → Type 0) → ((y : B) → Q y → (x : A) × P x) → FindsNone e P → FindsNone e Q
@@ -13,7 +13,7 @@ none_other (Fault f) P Q back h = λ y q. let b = back y q in h b.0 b.1
 none_other OutOfMemory P Q back h = tt
 
 -- the same value, with a fact that says the same
-pub finds_other : {A X : Type 0} (r : Result A (Or X)) (P Q : A → Type 0) → ((x : A) → P x → Q x) → ((x : A) → Q x → P x) → Finds r P → Finds r Q
+pub finds_other : {A X : Type 0} (r : Result A (Or X)) (P Q : A → Type 0) → ((x : A) → P x → Q x) → ((x : A) → Q x → P x) → FindsSuch r P → FindsSuch r Q
 finds_other (Ok x) P Q on back h = on x h
 finds_other (Err e) P Q on back h = none_other e P Q (λ x q. (x, back x q)) h
 

@@ -1,13 +1,10 @@
 -- Readers of structures of which each stands for one value, wherever it stands.
-use Rattle.std.proofs.Common.{◌≡◌, ℕ, zero, suc, ◌+◌, ◌^◌, ◌<◌, Bool, true, false, cond, eqb, List, [], ◌∷◌, ◌++◌, length, Result, Ok, Err, refl, sym, ap, subst, ◌∙◌, arith}
-use Rattle.std.specs.Int.{w8, w16, w32, to_be_bytes}
+use Rattle.std.proofs.Common.{◌≡◌, ℕ, ◌+◌, ◌^◌, ◌<◌, List, [], ◌∷◌, ◌++◌, length, refl, sym, ap, subst, ◌∙◌}
+use Rattle.std.specs.Int.{w16, w32, to_be_bytes}
 use Rattle.std.specs.List.{flat_map, AllByRecursion}
-use Rattle.std.proofs.lemmas.Bool.{eqb-true, eq-eqb}
-use Rattle.std.proofs.lemmas.List.{append-nil}
-use Rattle.format_reading.specs.declared.fault.FormatKind.{FormatKind}
-use Rattle.format_reading.specs.Reader.{Reader, u1, u2, u4, bytes, lead, item, bind, give, here, many}
-use Rattle.format_reading.specs.Spelling.{Spells, AllStand, ManyStand}
-use Rattle.format_reading.proofs.Exact.{Exact, as_raw, bind_exact, bind_exact_of, map_exact, item_exact, give_exact, here_exact, many_exact, u2_exact, u4_exact, nothing}
+use Rattle.format_reading.specs.Reader.{Reader, u2, u4, bind, give, here, many}
+use Rattle.format_reading.specs.Spelling.{Spells, AllStand}
+use Rattle.format_reading.proofs.Exact.{Exact, as_raw, bind_exact, bind_exact_of, map_exact, here_exact, many_exact, u2_exact, u4_exact}
 
 -- the reader takes exactly the spellings of the structures of which a fact holds, and gives the value of each
 abbrev pub Plain : {A R : Type 0} → Reader A → (R → List ℕ) → (R → Type 0) → (R → A) → Type 0

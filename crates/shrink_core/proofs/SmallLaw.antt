@@ -1,5 +1,5 @@
 -- The structure of a small class is read exactly where it is spelled.
-use Rattle.std.proofs.Common.{◌≡◌, ◌⊎◌, ℕ, zero, suc, ◌+◌, ◌-◌, ◌^◌, ◌<◌, Bool, true, false, cond, not, ◌&&◌, ltb, eqb, List, [], ◌∷◌, ◌++◌, length, map, Result, Ok, Err, refl, sym, ap, subst, ◌∙◌, arith, append_assoc}
+use Rattle.std.proofs.Common.{◌≡◌, ℕ, ◌+◌, ◌-◌, ◌^◌, ◌<◌, Bool, true, false, cond, not, ◌&&◌, ltb, eqb, List, [], ◌++◌, length, map, Result, Ok, Err, refl, sym, ap, subst, ◌∙◌, arith}
 use Rattle.std.specs.Int.{w8, w16, w32, to_be_bytes}
 use Rattle.std.specs.List.{flat_map, AllByRecursion}
 use Rattle.std.proofs.lemmas.Bool.{eqb-true, eqb-false, eq-eqb, ne_eqb, lt-ltb, ltb-true}
@@ -11,7 +11,7 @@ use Rattle.format_reading.specs.Fault.{fault}
 use Rattle.format_reading.specs.declared.fault.FormatFault.{FormatFault}
 use Rattle.format_reading.specs.declared.fault.FormatKind.{FormatKind}
 use Rattle.format_reading.specs.declared.fault.FormatKind.TheVariants as kind
-use Rattle.format_reading.specs.Reader.{Reader, u1, u2, u4, bytes, lead, item, bind, give, here, told, many}
+use Rattle.format_reading.specs.Reader.{Reader, u2, u4, bytes, item, bind, give, here, told, many}
 use Rattle.format_reading.specs.Spelling.{Spells}
 use Rattle.format_reading.proofs.Exact.{Exact, Leads, Takes, IsBytes, left, as_raw, lead_exact, item_exact, bind_exact, map_exact, told_exact, leads_if, u1_exact, u2_exact, u4_exact, bytes_exact, nothing}
 use Rattle.class_model.specs.declared.pool.Entry.{Entry}
@@ -22,7 +22,7 @@ use Rattle.shrink_core.specs.declared.small.raw.RawMethod.{RawMethod}
 use Rattle.shrink_core.specs.declared.small.raw.RawClass.{RawClass}
 use Rattle.jv_base.specs.Decoding.{read_mutf8}
 use Rattle.jv_base.specs.declared.mutf8.BadUtf8.{BadUtf8}
-use Rattle.shrink_core.specs.SmallStructure.{code_of, attribute_of, member_of, entries_of, structure_of, FitsMethod, FitsPool, FitsClass}
+use Rattle.shrink_core.specs.SmallStructure.{code_of, attribute_of, member_of, entries_of, structure_of, FitsMethod, FitsClass, IsSpelled}
 use Rattle.shrink_core.specs.SmallReading.{is_wanted, u2_is, head, or_fault, units_or_kind, units_at, utf8, class_entry, tagged, entry, entry_count, pool, code_length, code, method_of, method, class_of, structure, ending, read}
 use Rattle.jv_base.proofs.Coding.{read_mutf8-found, read_mutf8-only}
 use Rattle.shrink_core.proofs.PlainLaw.{Plain, plain_as, plain_bind, plain_map, plain_many, plain_here, u2_plain, u4_plain}
@@ -502,3 +502,16 @@ read_only bytes raw h fits =
     let t : Takes (start bytes) bytes q = record { parts = sym (append-nil bytes) ∙ ap (λ (u : List ℕ). bytes ++ u) (sym none); moved = refl } in
     let end : eqb (0 + length bytes) (length bytes) ≡ true = eq-eqb _ _ (omega arith) in
     rw (structure_plain.only (start bytes) bytes raw q (raw, h, (fits, refl)) t, end) refl
+
+ok_class : (x y : RawClass) → (let R : Result RawClass FormatFault = Ok x in R) ≡ Ok y → x ≡ y
+ok_class x y h = cc
+
+-- what is read is the only structure that the bytes spell
+pub spelled_found : (bytes : List ℕ) (raw : RawClass) → IsBytes bytes → read bytes ≡ Ok raw → IsSpelled bytes raw × ((y : RawClass) → IsSpelled bytes y → y ≡ raw)
+spelled_found bytes raw fits h =
+    let f = read_found bytes raw fits h in
+    (record { text = f.0; fits = f.1 }, λ y s. ok_class y raw (sym (read_only bytes y s.text s.fits) ∙ h))
+
+-- where there is a fault, they spell none
+pub spelled_refused : (bytes : List ℕ) (f : FormatFault) → read bytes ≡ Err f → (y : RawClass) → IsSpelled bytes y → ⊥
+spelled_refused bytes f h y s = let e : (let R : Result RawClass FormatFault = Err f in R) ≡ Ok y = sym h ∙ read_only bytes y s.text s.fits in cc

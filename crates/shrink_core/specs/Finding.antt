@@ -9,9 +9,9 @@ FindsNone (Fault f) P = (x : _) → P x → ⊥
 FindsNone OutOfMemory P = Unit {0}
 
 -- such a value, or the fault where there is none
-abbrev pub Finds : {A X : Type 0} → Result A (Or X) → (A → Type 0) → Type 0
-Finds (Ok x) P = P x
-Finds (Err e) P = FindsNone e P
+abbrev pub FindsSuch : {A X : Type 0} → Result A (Or X) → (A → Type 0) → Type 0
+FindsSuch (Ok x) P = P x
+FindsSuch (Err e) P = FindsNone e P
 
 -- the only such value, or the fault where there is none
 abbrev pub FindsOnly : {A X : Type 0} → Result A (Or X) → (A → Type 0) → Type 0

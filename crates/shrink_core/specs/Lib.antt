@@ -4,3 +4,10 @@ pub mod SmallStructure
 pub mod SmallReading
 pub mod SmallMeaning
 pub mod SmallInstructions
+pub mod Writable
+pub mod Example
+pub mod Path
+pub mod Words
+pub mod Refusal
+pub mod Due
+pub mod Answer

@@ -2,7 +2,7 @@
 use Rattle.std.specs.Prelude.{ℕ, Option, Some, None, Result, Ok, Err, ◌==◌, if◌then◌else◌}
 use Rattle.format_reading.specs.declared.fault.FormatKind.{FormatKind}
 use Rattle.format_reading.specs.declared.fault.FormatKind.TheVariants.{BadOpcode}
-use Rattle.format_reading.specs.Reader.{Reader, u1, u2, lead, item, bind, give, ◌>>=◌}
+use Rattle.format_reading.specs.Reader.{Reader, u1, u2, item, give, ◌>>=◌}
 use Rattle.class_model.specs.declared.op.Op.{Op}
 use Rattle.shrink_core.specs.declared.small.instructions.Shape.{Shape}
 use Rattle.shrink_core.specs.declared.small.instructions.Shape.TheVariants.{Alone, OneByte, TwoBytes, BytePair}

@@ -1,5 +1,5 @@
 -- Which class the structure of a small class stands for.
-use Rattle.std.specs.Prelude.{◌≡◌, ℕ, List, [], Option, Some, None, AllPairs, IsTrue, codes, false}
+use Rattle.std.specs.Prelude.{◌≡◌, ℕ, List, [], Some, None, AllPairs, IsTrue, codes, false}
 use Rattle.std.specs.List.{AllZip, AllByRecursion}
 use Rattle.jv_base.specs.Names.{is_member_name}
 use Rattle.jv_base.specs.Types.{method_text, IsMethodType}
@@ -11,7 +11,7 @@ use Rattle.class_model.specs.declared.class.Class.{Class}
 use Rattle.class_model.specs.Pool.{IsTextAt, IsClassAt, NamesRight}
 use Rattle.class_model.specs.Instructions.{IsCodeText}
 use Rattle.class_model.specs.File.{AreMethodFlags, AreClassFlags, Differ}
-use Rattle.shrink_core.specs.Small.{int_type, IsIntMethod}
+use Rattle.shrink_core.specs.Small.{int_type}
 use Rattle.shrink_core.specs.declared.small.methods.Signature.{Signature}
 use Rattle.shrink_core.specs.declared.small.raw.RawMethod.{RawMethod}
 use Rattle.shrink_core.specs.declared.small.raw.RawClass.{RawClass}

@@ -1,5 +1,5 @@
 -- Reading the structure of a small class from left to right (JVMS 4.1, 4.4, 4.6 and 4.7.3).
-use Rattle.std.specs.Prelude.{ℕ, ◌+◌, ◌-◌, List, ◌∷◌, length, Result, Ok, Err, nat_lt, ◌==◌, ◌&&◌, not, if◌then◌else◌}
+use Rattle.std.specs.Prelude.{ℕ, ◌+◌, ◌-◌, List, length, Result, Ok, Err, nat_lt, ◌==◌, ◌&&◌, not, if◌then◌else◌}
 use Rattle.jv_base.specs.Place.{Place, start}
 use Rattle.jv_base.specs.Decoding.{read_mutf8}
 use Rattle.jv_base.specs.declared.mutf8.BadUtf8.{BadUtf8}
@@ -7,7 +7,7 @@ use Rattle.format_reading.specs.Fault.{fault}
 use Rattle.format_reading.specs.declared.fault.FormatFault.{FormatFault}
 use Rattle.format_reading.specs.declared.fault.FormatKind.{FormatKind}
 use Rattle.format_reading.specs.declared.fault.FormatKind.TheVariants as kind
-use Rattle.format_reading.specs.Reader.{Reader, u1, u2, u4, bytes, lead, item, bind, give, here, told, many, ◌>>=◌}
+use Rattle.format_reading.specs.Reader.{Reader, u1, u2, u4, bytes, lead, item, give, here, told, many, ◌>>=◌}
 use Rattle.class_model.specs.declared.pool.Entry.{Entry}
 use Rattle.class_model.specs.declared.pool.Entry.TheVariants.{Utf8, Class}
 use Rattle.class_model.specs.Pool.{numbered}

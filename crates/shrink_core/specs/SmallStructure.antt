@@ -3,7 +3,7 @@ use Rattle.std.specs.Prelude.{◌≡◌, ℕ, ◌^◌, ◌<◌, List, [], ◌∷
 use Rattle.std.specs.List.{AllByRecursion}
 use Rattle.class_model.specs.declared.pool.Entry.{Entry}
 use Rattle.class_model.specs.Pool.{numbered, HasBytes}
-use Rattle.class_model.specs.Structure.{AttributeInfo, MemberInfo, CodeInfo, code_info, ClassFile}
+use Rattle.class_model.specs.Structure.{AttributeInfo, MemberInfo, CodeInfo, code_info, ClassFile, class_file}
 use Rattle.shrink_core.specs.declared.small.raw.RawMethod.{RawMethod}
 use Rattle.shrink_core.specs.declared.small.raw.RawClass.{RawClass}
 
@@ -67,3 +67,8 @@ pub record FitsClass (raw : RawClass) : Type 0 where
   pub super_class : raw.super_class < 2 ^ 16
   pub methods_count : length raw.methods < 2 ^ 16
   pub methods : AllByRecursion FitsMethod raw.methods
+
+-- the bytes are the spelling of the structure
+pub record IsSpelled (bytes : List ℕ) (raw : RawClass) : Type 0 where
+  pub text : bytes ≡ class_file (structure_of raw)
+  pub fits : FitsClass raw

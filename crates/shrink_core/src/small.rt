@@ -1,14 +1,18 @@
 // Small classes: the class `Main` whose static methods compute with ints.
+ghost use Rattle.std.specs.Prelude.{◌≡◌};
+ghost use Rattle.jv_base.specs.declared.outcome.Or.TheVariants.{Fault};
+
 mod flags;
 mod instructions;
 mod methods;
 mod pool;
 mod raw;
-
-ghost use Rattle.std.specs.Prelude.{◌≡◌};
-ghost use Rattle.jv_base.specs.declared.outcome.Or.TheVariants.{Fault};
+mod reading;
+mod writing;
 
 use jv_base::Or;
+pub(crate) use reading::read_small;
+pub(crate) use writing::write_small;
 
 /// The bytes are no small class.
 #[derive(Clone, Copy, Debug, PartialEq, Eq)]

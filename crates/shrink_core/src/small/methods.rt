@@ -2,7 +2,7 @@
 ghost use Rattle.std.specs.Prelude.{◌≡◌, ◌<◌, ◌↔◌, ℕ, IsTrue, Some, AllPairs, length, IfOk};
 ghost use Rattle.std.specs.List.{AllByRecursion, AllZip};
 ghost use Rattle.class_model.specs.File.{Differ};
-ghost use Rattle.shrink_core.specs.Finding.{Finds, FindsOnly};
+ghost use Rattle.shrink_core.specs.Finding.{FindsSuch, FindsOnly};
 ghost use Rattle.shrink_core.specs.Small.{int_type};
 ghost use Rattle.shrink_core.specs.SmallStructure.{FitsMethod, FitsPool};
 ghost use Rattle.shrink_core.specs.SmallMeaning.{IsCodeOf, IsIntDescriptor, IsMethodOf, signature_of};
@@ -129,7 +129,7 @@ fn signature_of(alloc: Global, method: &Method) -> M<Signature>
 
 /// Whether no two methods have the same name and descriptor.
 pub fn check_methods_differ(alloc: Global, methods: &Items<Method>) -> Result<(), Or<NotBuilt>>
-    ensures { Finds result (λ _. AllPairs Differ methods.now) }
+    ensures { FindsSuch result (λ _. AllPairs Differ methods.now) }
 {
     let mut seen = IndexSet::new(alloc);
     for method in methods.as_slice() {

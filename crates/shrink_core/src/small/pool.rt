@@ -4,7 +4,7 @@ ghost use Rattle.std.specs.Option.{option_copied};
 ghost use Rattle.std.specs.List.{AllByRecursion};
 ghost use Rattle.class_model.specs.Pool.{units_in, name_index_in, units_at, class_units_at, IsText, IsTextAt, IsClassAt, IsTypeText, NamesRight};
 ghost use Rattle.shrink_core.specs.SmallStructure.{FitsPool};
-ghost use Rattle.shrink_core.specs.Finding.{Finds, FindsOnly};
+ghost use Rattle.shrink_core.specs.Finding.{FindsSuch, FindsOnly};
 ghost use Rattle.shrink_core.specs.SmallMeaning.{NamesClass, IsNameAt};
 
 use crate::small::NotBuilt;
@@ -76,7 +76,7 @@ pub fn text_at(alloc: Global, pool: &Items<Entry>, index: u16) -> Result<Text, O
 /// (JVMS 4.4.1).
 fn check_type(alloc: Global, text: &Text) -> Result<(), Or<NotBuilt>>
     requires { length text.now < 4294967295 }
-    ensures { Finds result (λ _. IsTypeText text.now) }
+    ensures { FindsSuch result (λ _. IsTypeText text.now) }
 {
     if is_class_name(text.as_str()) {
         return Ok(());
@@ -91,7 +91,7 @@ fn check_type(alloc: Global, text: &Text) -> Result<(), Or<NotBuilt>>
 /// Whether what an entry names is there.
 fn check_entry(alloc: Global, pool: &Items<Entry>, entry: &Entry) -> Result<(), Or<NotBuilt>>
     requires { FitsPool pool.now }
-    ensures { Finds result (λ _. NamesRight pool.now entry.now) }
+    ensures { FindsSuch result (λ _. NamesRight pool.now entry.now) }
 {
     match entry {
         Entry::Class(name_index) => {
@@ -105,7 +105,7 @@ fn check_entry(alloc: Global, pool: &Items<Entry>, entry: &Entry) -> Result<(), 
 /// Whether what each entry names is there.
 pub fn check_entries(alloc: Global, pool: &Items<Entry>) -> Result<(), Or<NotBuilt>>
     requires { FitsPool pool.now }
-    ensures { Finds result (λ _. AllByRecursion (NamesRight pool.now) pool.now) }
+    ensures { FindsSuch result (λ _. AllByRecursion (NamesRight pool.now) pool.now) }
 {
     for entry in pool.as_slice() {
         check_entry(alloc, pool, entry)?;
@@ -152,7 +152,7 @@ pub fn check_text(
     wanted: &str,
 ) -> Result<(), Or<NotBuilt>>
     requires { FitsPool pool.now }
-    ensures { Finds result (λ _. IsTextAt pool.now index wanted.now) }
+    ensures { FindsSuch result (λ _. IsTextAt pool.now index wanted.now) }
 {
     if text_at(alloc, pool, index)?.as_str() == wanted {
         Ok(())

@@ -5,8 +5,11 @@ ghost use Rattle.std.specs.Prelude.{◌≡◌, ◌==◌, ◌≤◌, ◌<◌, ◌
 ghost use Rattle.format_reading.specs.Reader.{Reads, ReadsOr, behind, many};
 ghost use Rattle.class_model.specs.declared.pool.Entry.TheVariants.{Gap};
 ghost use Rattle.jv_base.specs.Outcome.{IsDue};
+ghost use Rattle.shrink_core.specs.Finding.{FindsOnly};
+ghost use Rattle.shrink_core.specs.SmallStructure.{IsSpelled};
 ghost use Rattle.shrink_core.specs.SmallReading.{u2_is, units_at, code_length, head, utf8, entry, pool, code, method, structure, read};
 
+use crate::small::NotBuilt;
 use class_model::Entry;
 use format_reading::{FormatFault, FormatKind};
 use jv_base::{Bytes, Cursor, Items, Or, Units, units_of_mutf8};
@@ -34,6 +37,19 @@ pub struct RawMethod {
     pub max_stack: u16,
     pub max_locals: u16,
     pub code: Bytes,
+}
+
+/// The structure that these bytes are.
+#[tactic(auto)]
+pub fn read_structure(alloc: Global, bytes: &[u8]) -> Result<RawClass, Or<NotBuilt>>
+    requires { length bytes.now < 4294967295 }
+    ensures { FindsOnly result (IsSpelled bytes.now) }
+{
+    match read(alloc, bytes) {
+        Ok(raw) => Ok(raw),
+        Err(Or::Fault(_)) => Err(Or::Fault(NotBuilt)),
+        Err(Or::OutOfMemory) => Err(Or::OutOfMemory),
+    }
 }
 
 fn fault(offset: u32, kind: FormatKind) -> FormatFault
@@ -211,9 +227,9 @@ fn structure(alloc: Global, cursor: &mut Cursor) -> Result<RawClass, Or<FormatFa
     })
 }
 
-/// The structure that the bytes are, or the first fault.
+/// The same, or the first fault.
 #[tactic(auto, unfolding(crate::specs::SmallReading::read))]
-pub fn read(alloc: Global, bytes: &[u8]) -> Result<RawClass, Or<FormatFault>>
+fn read(alloc: Global, bytes: &[u8]) -> Result<RawClass, Or<FormatFault>>
     requires { length bytes.now < 4294967295 }
     ensures { IsDue result (read bytes.now) }
 {

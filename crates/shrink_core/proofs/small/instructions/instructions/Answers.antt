@@ -1,4 +1,4 @@
-use Rattle.std.proofs.Common.{◌≡◌, ◌<◌, ◌++◌, ◌∷◌, [], length, arith, sym, ap, subst, ◌∙◌}
+use Rattle.std.proofs.Common.{◌≡◌, ◌<◌, ◌++◌, ◌∷◌, [], length, arith, sym, ◌∙◌}
 use Rattle.shrink_core.proofs.CodeLaw.{ins_of, before_end, goes_on, fails, is_done, moves_on}
 use Rattle.shrink_core.proofs.small.instructions.instructions.Goals as goal
 

@@ -1,4 +1,4 @@
-use Rattle.std.proofs.Common.{◌≡◌, Some, codes, refl, sym, ap, ◌∙◌}
+use Rattle.std.proofs.Common.{Some, codes, refl, sym, ap, ◌∙◌}
 use Rattle.std.proofs.lemmas.Result.{err_from_is_err_and}
 use Rattle.class_model.specs.declared.class.Method.{Method}
 use Rattle.class_model.specs.Pool.{IsTextAt}

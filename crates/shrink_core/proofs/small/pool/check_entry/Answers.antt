@@ -1,5 +1,5 @@
 use Rattle.std.proofs.Common.{subst, List, ℕ, sym, ◌∙◌}
-use Rattle.class_model.specs.Pool.{IsTypeText, NamesRight}
+use Rattle.class_model.specs.Pool.{IsTypeText}
 use Rattle.shrink_core.proofs.FindingLaw.{finds_other}
 use Rattle.shrink_core.proofs.small.pool.check_entry.Goals as goal
 

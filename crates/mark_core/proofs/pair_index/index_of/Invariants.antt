@@ -1,0 +1,6 @@
+use Rattle.std.proofs.Common.{◌*◌}
+use Rattle.mark_core.specs.PairIndex.{IsIndexOf}
+use Rattle.mark_core.proofs.pair_index.index_of.Given as goal
+
+abbrev pub invariant-loop-pair : goal.invariant-loop-pair
+invariant-loop-pair l = IsIndexOf l.sys (2 * l.pair-index) l.index

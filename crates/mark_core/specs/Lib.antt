@@ -1,0 +1,4 @@
+pub mod Valid
+pub mod Marks
+pub mod PairIndex
+pub mod Worklist
