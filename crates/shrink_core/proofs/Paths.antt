@@ -1,7 +1,7 @@
 -- Texts with slashes.
-use Rattle.std.proofs.Common.{◌≡◌, ◌≢◌, ◌⊎◌, ℕ, ◌+◌, ◌≤◌, ◌<◌, ◌&&◌, Bool, true, false, cond, not, List, [], ◌∷◌, ◌++◌, length, take, drop, Option, Some, None, refl, sym, ap, ◌∙◌, arith, eqb, inl, inr}
+use Rattle.std.proofs.Common.{◌≡◌, ◌≢◌, ℕ, ◌+◌, ◌≤◌, ◌<◌, ◌&&◌, Bool, true, false, cond, not, List, [], ◌∷◌, ◌++◌, length, take, drop, Option, Some, None, refl, sym, ap, ◌∙◌, arith, eqb}
 use Rattle.std.specs.Prelude.{position, IfSome, IfNone}
-use Rattle.std.specs.List.{list_all, slice_split, onto_first, prefix_len, position_or_len}
+use Rattle.std.specs.List.{list_all, slice_split, onto_first, position_or_len}
 use Rattle.std.proofs.lemmas.Bool.{eqb-true, ltb-true, ltb-false}
 use Rattle.std.proofs.lemmas.List.Splits.{slice_split_first}
 use Rattle.shrink_core.specs.Path.{is_slash, is_segment, EndsFirst, are_segments, without_slash}

@@ -11,7 +11,6 @@ use Rattle.tree_io.specs.declared.file_at.FileAt.{FileAt}
 use Rattle.shrink_core.specs.Path.{main_path}
 use Rattle.shrink_core.specs.Words.{directories_in}
 use Rattle.shrink_core.specs.declared.words.Directories.{Directories}
-use Rattle.shrink_core.specs.declared.refusal.Refusal.{Refusal}
 use Rattle.shrink_core.specs.declared.refusal.Refusal.TheVariants.{Words, NotBuilt}
 use Rattle.shrink_core.specs.Due.{HasSmall, file_for}
 use Rattle.shrink_core.specs.Steps.{NamesPath, FindsBytes, SpellsSmall, Finds, Plans}

@@ -1,4 +1,9 @@
+pub mod Finding
 pub mod Small
+pub mod SmallStructure
+pub mod SmallReading
+pub mod SmallMeaning
+pub mod SmallInstructions
 pub mod Writable
 pub mod Example
 pub mod Path

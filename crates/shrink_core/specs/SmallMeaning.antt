@@ -1,0 +1,72 @@
+-- Which class the structure of a small class stands for.
+use Rattle.std.specs.Prelude.{◌≡◌, ℕ, List, [], Some, None, AllPairs, IsTrue, codes, false}
+use Rattle.std.specs.List.{AllZip, AllByRecursion}
+use Rattle.jv_base.specs.Names.{is_member_name}
+use Rattle.jv_base.specs.Types.{method_text, IsMethodType}
+use Rattle.jv_base.specs.declared.types.MethodType.{MethodType}
+use Rattle.class_model.specs.declared.pool.Entry.{Entry}
+use Rattle.class_model.specs.declared.code.Code.{Code}
+use Rattle.class_model.specs.declared.class.Method.{Method}
+use Rattle.class_model.specs.declared.class.Class.{Class}
+use Rattle.class_model.specs.Pool.{IsTextAt, IsClassAt, NamesRight}
+use Rattle.class_model.specs.Instructions.{IsCodeText}
+use Rattle.class_model.specs.File.{AreMethodFlags, AreClassFlags, Differ}
+use Rattle.shrink_core.specs.Small.{int_type}
+use Rattle.shrink_core.specs.declared.small.methods.Signature.{Signature}
+use Rattle.shrink_core.specs.declared.small.raw.RawMethod.{RawMethod}
+use Rattle.shrink_core.specs.declared.small.raw.RawClass.{RawClass}
+
+-- the descriptor at an index is that of a method of ints that gives an int
+pub record IsIntDescriptor (pool : List Entry) (index : ℕ) (ty : MethodType) : Type 0 where
+  pub descriptor : IsTextAt pool index (method_text ty)
+  pub typed : IsMethodType ty
+  pub args : AllByRecursion (λ arg. arg ≡ int_type) ty.args
+  pub ret : ty.ret ≡ Some int_type
+
+-- the name at an index is a member's
+pub record IsNameAt (pool : List Entry) (index : ℕ) (name : List ℕ) : Type 0 where
+  pub text : IsTextAt pool index name
+  pub named : IsTrue (is_member_name name)
+
+-- the code of a method
+pub record IsCodeOf (raw : RawMethod) (code : Code) : Type 0 where
+  pub max_stack : code.max_stack ≡ raw.max_stack
+  pub max_locals : code.max_locals ≡ raw.max_locals
+  pub instructions : IsCodeText raw.code code.ins
+  pub handlers : code.handlers ≡ []
+  pub frames : code.frames ≡ []
+
+-- a structure stands for a method of ints
+pub record IsMethodOf (pool : List Entry) (raw : RawMethod) (method : Method) : Type 0 where
+  pub flags : AreMethodFlags raw.access_flags method.flags
+  pub name : IsNameAt pool raw.name_index method.name
+  pub ty : IsIntDescriptor pool raw.descriptor_index method.ty
+  pub attribute : IsTextAt pool raw.attribute_name_index (codes "Code")
+  pub code : (code : Code) × (method.code ≡ Some code) × IsCodeOf raw code
+  pub throws : method.throws ≡ []
+  pub synthetic : method.synthetic ≡ false
+  pub deprecated : method.deprecated ≡ false
+
+-- what tells a method from the others of its class (JVMS 4.6)
+abbrev pub signature_of : Method → Signature
+signature_of m = record { name = m.name; descriptor = method_text m.ty }
+
+-- an index names a class that has this name
+pub record NamesClass (pool : List Entry) (index : ℕ) (wanted name : List ℕ) : Type 0 where
+  pub at : IsClassAt pool index name
+  pub is : name ≡ wanted
+
+-- a structure stands for a small class
+pub record IsClassOf (raw : RawClass) (class : Class) : Type 0 where
+  pub names : AllByRecursion (NamesRight raw.pool) raw.pool
+  pub flags : AreClassFlags raw.access_flags class.flags
+  pub name : NamesClass raw.pool raw.this_class (codes "Main") class.name
+  pub super_name : NamesClass raw.pool raw.super_class (codes "java/lang/Object") class.super_name
+  pub interfaces : class.interfaces ≡ []
+  pub fields : class.fields ≡ []
+  pub methods : AllZip (IsMethodOf raw.pool) raw.methods class.methods
+  pub methods_differ : AllPairs Differ class.methods
+  pub source : class.source ≡ None
+  pub synthetic : class.synthetic ≡ false
+  pub deprecated : class.deprecated ≡ false
+  pub left_out : class.left_out ≡ None
