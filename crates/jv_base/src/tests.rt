@@ -22,45 +22,49 @@ fn text(rt: &HostRuntime, text: &str) -> Result<Text, Fail> {
     Ok(Text::from_str(rt.alloc(), text)?)
 }
 
-/// A letter so many times, and then a text.
-fn repeated(rt: &HostRuntime, letter: &str, count: u32, end: &str) -> Result<Text, Fail> {
-    let mut made = text(rt, "")?;
+/// A text, then another so many times, and an end.
+fn repeated(
+    rt: &HostRuntime,
+    start: &str,
+    piece: &str,
+    count: u32,
+    end: &str,
+) -> Result<Text, Fail> {
+    let mut made = text(rt, start)?;
     for _ in 0..count {
-        made.push_str(letter)?;
+        made.push_str(piece)?;
     }
     made.push_str(end)?;
     Ok(made)
 }
 
-/// The place of a fault, or none where a type is read.
+/// The place of the fault, if there is one.
+fn place<T: Drop>(read: Result<T, Or<BadDescriptor>>) -> Option<u32> {
+    match read {
+        Err(Or::Fault(bad)) => Some(bad.place),
+        _ => None,
+    }
+}
+
 fn field_place(rt: &HostRuntime, text: &Text) -> Option<u32> {
     if text.len() > 100_000 {
         return None;
     }
-    match read_field_type(rt.alloc(), text) {
-        Err(Or::Fault(bad)) => Some(bad.place),
-        _ => None,
-    }
+    place(read_field_type(rt.alloc(), text))
 }
 
 fn method_place(rt: &HostRuntime, text: &Text) -> Option<u32> {
     if text.len() > 100_000 {
         return None;
     }
-    match read_method_type(rt.alloc(), text) {
-        Err(Or::Fault(bad)) => Some(bad.place),
-        _ => None,
-    }
+    place(read_method_type(rt.alloc(), text))
 }
 
 fn external_place(rt: &HostRuntime, text: &Text) -> Option<u32> {
     if text.len() > 100_000 {
         return None;
     }
-    match read_external(rt.alloc(), text) {
-        Err(Or::Fault(bad)) => Some(bad.place),
-        _ => None,
-    }
+    place(read_external(rt.alloc(), text))
 }
 
 fn utf8_offset(rt: &HostRuntime, bytes: &[u8]) -> Option<u32> {
@@ -73,80 +77,96 @@ fn utf8_offset(rt: &HostRuntime, bytes: &[u8]) -> Option<u32> {
     }
 }
 
+const SPELLED: [u8; 14] = [
+    0x41, 0xC0, 0x80, 0xC3, 0xA9, 0xE2, 0x82, 0xAC, 0xED, 0xA0, 0xBD, 0xED, 0xB8, 0x80,
+];
+
+const UNITS: [u16; 6] = [0x41, 0, 0xE9, 0x20AC, 0xD83D, 0xDE00];
+
 #[test]
-fn modified_utf8_has_the_shortest_form_but_for_zero(rt: HostRuntime) -> Result<(), Fail> {
+fn modified_utf8_is_written(rt: HostRuntime) -> Result<(), Fail> {
     let alloc = rt.alloc();
-    let spelled: [u8; 14] = [
-        0x41, 0xC0, 0x80, 0xC3, 0xA9, 0xE2, 0x82, 0xAC, 0xED, 0xA0, 0xBD, 0xED, 0xB8, 0x80,
-    ];
-    let given: [u16; 6] = [0x41, 0, 0xE9, 0x20AC, 0xD83D, 0xDE00];
-    let units = Items::from_vec(given.to_vec(alloc)?);
-    assert!(rt;
-        mutf8_of_units(alloc, &units).is_ok_and(|bytes| bytes.as_slice() == spelled.as_slice())
-    );
-    assert!(rt; units_of_mutf8(alloc, &spelled).is_ok_and(|read| read == units));
+    let units = Items::from_vec(UNITS.to_vec(alloc)?);
+    let bytes = mutf8_of_units(alloc, &units)?;
+    assert!(rt; bytes.as_slice() == SPELLED.as_slice());
+    Ok(())
+}
+
+#[test]
+fn modified_utf8_is_read(rt: HostRuntime) -> Result<(), Fail> {
+    let units = units_of_mutf8(rt.alloc(), &SPELLED)?;
+    assert!(rt; units.as_slice() == UNITS.as_slice());
+    Ok(())
+}
+
+#[test]
+fn modified_utf8_has_one_spelling(rt: HostRuntime) {
     assert!(rt; utf8_offset(&rt, &[0x41, 0x00]) == Some(1));
     assert!(rt; utf8_offset(&rt, &[0xC1, 0x81]) == Some(0));
     assert!(rt; utf8_offset(&rt, &[0xC0, 0x81]) == Some(1));
     assert!(rt; utf8_offset(&rt, &[0xE0, 0x9F, 0xBF]) == Some(1));
     assert!(rt; utf8_offset(&rt, &[0x41, 0xE2, 0x82]) == Some(3));
-    assert!(rt; utf8_offset(&rt, &[0xE2, 0x82, 0x41]) == Some(2));
     assert!(rt; utf8_offset(&rt, &[0xF0, 0x9F]) == Some(0));
-    assert!(rt; utf8_offset(&rt, &[0x80]) == Some(0));
-    Ok(())
+}
+
+fn text_is(rt: &HostRuntime, units: &[u16], wanted: Option<Text>) -> bool {
+    match text_of_units(rt.alloc(), units) {
+        Ok(made) => made == wanted,
+        Err(_) => false,
+    }
 }
 
 #[test]
-fn a_text_has_units_and_unpaired_surrogates_have_none(rt: HostRuntime) -> Result<(), Fail> {
-    let alloc = rt.alloc();
+fn a_text_has_units(rt: HostRuntime) -> Result<(), Fail> {
     let smile = text(&rt, "é😀")?;
-    let units: [u16; 3] = [0xE9, 0xD83D, 0xDE00];
-    let lone: [u16; 2] = [0xD83D, 0x41];
-    assert!(rt; units_of_text(alloc, &smile).is_ok_and(|made| made.as_slice() == units.as_slice()));
-    assert!(rt; text_of_units(alloc, &units).is_ok_and(|made| made.is_some_and(|t| t == smile)));
-    assert!(rt; text_of_units(alloc, &lone).is_ok_and(|made| made.is_none()));
+    let units = units_of_text(rt.alloc(), &smile)?;
+    assert!(rt; units.as_slice() == [0xE9, 0xD83D, 0xDE00].as_slice());
+    assert!(rt; text_is(&rt, units.as_slice(), Some(smile)));
+    assert!(rt; text_is(&rt, &[0xD83D, 0x41], None));
     Ok(())
 }
 
 #[test]
-fn names(rt: HostRuntime) {
-    for name in ["a", "$1", "a-b_c", "é", "Object0"] {
-        assert!(rt;
-            is_member_name(name) && is_method_name(name) && is_class_name(name),
-            "{name}"
-        );
+fn names_of_members(rt: HostRuntime) {
+    for name in ["a", "$1", "a-b_c", "é", "int"] {
+        assert!(rt; is_member_name(name) && is_method_name(name), "{name}");
     }
-    for name in ["java/lang/Object", "p/int"] {
-        assert!(rt; is_class_name(name) && !is_member_name(name), "{name}");
-    }
-    for name in ["", "a.b", "a b", "/", "a/", "/a", "a//b", "a;", "[a", "<a>"] {
-        assert!(rt;
-            !is_class_name(name) && !is_member_name(name) && !is_method_name(name),
-            "{name}"
-        );
-    }
-    for name in ["int", "void", "boolean"] {
-        assert!(rt; !is_class_name(name) && is_member_name(name), "{name}");
+    for name in ["", "a.b", "a b", "a/b", "a;", "[a", "<a>"] {
+        assert!(rt; !is_member_name(name) && !is_method_name(name), "{name}");
     }
     for name in ["<init>", "<clinit>"] {
-        assert!(rt;
-            is_method_name(name) && !is_member_name(name) && !is_class_name(name),
-            "{name}"
-        );
+        assert!(rt; is_method_name(name) && !is_member_name(name), "{name}");
     }
 }
 
 #[test]
-fn field_descriptors(rt: HostRuntime) -> Result<(), Fail> {
-    let alloc = rt.alloc();
-    let spelled = text(&rt, "[[Ljava/lang/String;")?;
-    let strings = FieldType {
-        dims: 2,
-        base: Base::Class(text(&rt, "java/lang/String")?),
-    };
-    assert!(rt; spelled.len() < 100);
-    assert!(rt; read_field_type(alloc, &spelled).is_ok_and(|ty| ty == strings));
-    assert!(rt; field_text(alloc, &strings).is_ok_and(|written| written == spelled));
+fn names_of_classes(rt: HostRuntime) {
+    for name in ["java/lang/Object", "p/int", "é/$"] {
+        assert!(rt; is_class_name(name), "{name}");
+    }
+    for name in ["", "/", "a/", "/a", "a//b", "a.b", "int", "void", "<init>"] {
+        assert!(rt; !is_class_name(name), "{name}");
+    }
+}
+
+fn strings(rt: &HostRuntime, dims: u8) -> Result<FieldType, Fail> {
+    Ok(FieldType {
+        dims,
+        base: Base::Class(text(rt, "java/lang/String")?),
+    })
+}
+
+#[test]
+fn a_field_descriptor(rt: HostRuntime) -> Result<(), Fail> {
+    let wanted = strings(&rt, 2)?;
+    let written = field_text(rt.alloc(), &wanted)?;
+    assert!(rt; written.as_str() == "[[Ljava/lang/String;" && written.len() < 100);
+    assert!(rt; read_field_type(rt.alloc(), &written)? == wanted);
+    Ok(())
+}
+
+#[test]
+fn no_field_descriptor(rt: HostRuntime) -> Result<(), Fail> {
     for (wrong, place) in [
         ("", 0),
         ("V", 0),
@@ -160,37 +180,35 @@ fn field_descriptors(rt: HostRuntime) -> Result<(), Fail> {
         ("II", 1),
         ("Lé.b;", 3),
     ] {
-        assert!(rt;
-            field_place(&rt, &text(&rt, wrong)?) == Some(place),
-            "{wrong}"
-        );
+        let wrong = text(&rt, wrong)?;
+        assert!(rt; field_place(&rt, &wrong) == Some(place));
     }
-    assert!(rt; field_place(&rt, &repeated(&rt, "[", 255, "J")?).is_none());
-    assert!(rt; field_place(&rt, &repeated(&rt, "[", 256, "J")?) == Some(255));
     Ok(())
 }
 
 #[test]
-fn method_descriptors(rt: HostRuntime) -> Result<(), Fail> {
+fn most_dimensions(rt: HostRuntime) -> Result<(), Fail> {
+    for (count, place) in [(255, None), (256, Some(255))] {
+        let brackets = repeated(&rt, "", "[", count, "J")?;
+        assert!(rt; field_place(&rt, &brackets) == place);
+    }
+    Ok(())
+}
+
+#[test]
+fn a_method_descriptor(rt: HostRuntime) -> Result<(), Fail> {
     let alloc = rt.alloc();
-    let spelled = text(&rt, "(I[JLa/B;)V")?;
     let mut args = Items::new(alloc);
-    args.push(FieldType {
-        dims: 0,
-        base: Base::Int,
-    })?;
-    args.push(FieldType {
-        dims: 1,
-        base: Base::Long,
-    })?;
-    args.push(FieldType {
-        dims: 0,
-        base: Base::Class(text(&rt, "a/B")?),
-    })?;
-    let ty = MethodType { args, ret: None };
-    assert!(rt; spelled.len() < 100);
-    assert!(rt; read_method_type(alloc, &spelled).is_ok_and(|read| read == ty));
-    assert!(rt; method_text(alloc, &ty).is_ok_and(|written| written == spelled));
+    args.push(strings(&rt, 1)?)?;
+    let wanted = MethodType { args, ret: None };
+    let written = method_text(alloc, &wanted)?;
+    assert!(rt; written.as_str() == "([Ljava/lang/String;)V" && written.len() < 100);
+    assert!(rt; read_method_type(alloc, &written)? == wanted);
+    Ok(())
+}
+
+#[test]
+fn no_method_descriptor(rt: HostRuntime) -> Result<(), Fail> {
     for (wrong, place) in [
         ("", 0),
         ("I", 0),
@@ -201,43 +219,38 @@ fn method_descriptors(rt: HostRuntime) -> Result<(), Fail> {
         ("(I", 2),
         ("(L;)V", 2),
     ] {
-        assert!(rt;
-            method_place(&rt, &text(&rt, wrong)?) == Some(place),
-            "{wrong}"
-        );
+        let wrong = text(&rt, wrong)?;
+        assert!(rt; method_place(&rt, &wrong) == Some(place));
     }
-    let mut whole = text(&rt, "(")?;
-    whole.push_str(repeated(&rt, "I", 253, "D)V")?.as_str())?;
-    assert!(rt; method_place(&rt, &whole).is_none());
-    let mut full = text(&rt, "(")?;
-    full.push_str(repeated(&rt, "I", 255, "I)V")?.as_str())?;
-    assert!(rt; method_place(&rt, &full) == Some(256));
-    let mut wide = text(&rt, "(")?;
-    wide.push_str(repeated(&rt, "I", 254, "J)V")?.as_str())?;
-    assert!(rt; method_place(&rt, &wide) == Some(255));
-    let mut array = text(&rt, "(")?;
-    array.push_str(repeated(&rt, "I", 254, "[J)V")?.as_str())?;
-    assert!(rt; method_place(&rt, &array).is_none());
     Ok(())
 }
 
 #[test]
-fn types_of_java_source(rt: HostRuntime) -> Result<(), Fail> {
-    let alloc = rt.alloc();
-    let spelled = text(&rt, "java.lang.String[]")?;
-    let strings = FieldType {
-        dims: 1,
-        base: Base::Class(text(&rt, "java/lang/String")?),
-    };
-    assert!(rt; spelled.len() < 100);
-    assert!(rt; read_external(alloc, &spelled).is_ok_and(|ty| ty == strings));
-    assert!(rt; external(alloc, &strings).is_ok_and(|written| written == spelled));
-    for right in ["int", "boolean[]", "int.x", "voids"] {
-        assert!(rt;
-            external_place(&rt, &text(&rt, right)?).is_none(),
-            "{right}"
-        );
+fn most_argument_words(rt: HostRuntime) -> Result<(), Fail> {
+    for (count, end, place) in [
+        (253, "D)V", None),
+        (254, "J)V", Some(255)),
+        (254, "[J)V", None),
+        (255, ")V", None),
+        (255, "I)V", Some(256)),
+    ] {
+        let ints = repeated(&rt, "(", "I", count, end)?;
+        assert!(rt; method_place(&rt, &ints) == place);
     }
+    Ok(())
+}
+
+#[test]
+fn a_type_of_java_source(rt: HostRuntime) -> Result<(), Fail> {
+    let wanted = strings(&rt, 1)?;
+    let written = external(rt.alloc(), &wanted)?;
+    assert!(rt; written.as_str() == "java.lang.String[]" && written.len() < 100);
+    assert!(rt; read_external(rt.alloc(), &written)? == wanted);
+    Ok(())
+}
+
+#[test]
+fn no_type_of_java_source(rt: HostRuntime) -> Result<(), Fail> {
     for (wrong, place) in [
         ("", 0),
         ("void", 4),
@@ -250,15 +263,21 @@ fn types_of_java_source(rt: HostRuntime) -> Result<(), Fail> {
         ("a/b", 1),
         ("int []", 3),
     ] {
-        assert!(rt;
-            external_place(&rt, &text(&rt, wrong)?) == Some(place),
-            "{wrong}"
-        );
+        let wrong = text(&rt, wrong)?;
+        assert!(rt; external_place(&rt, &wrong) == Some(place));
     }
-    let mut most = text(&rt, "int")?;
-    most.push_str(repeated(&rt, "[]", 255, "")?.as_str())?;
-    assert!(rt; external_place(&rt, &most).is_none());
-    most.push_str("[]")?;
-    assert!(rt; external_place(&rt, &most) == Some(513));
+    for right in ["int", "boolean[]", "int.x", "voids"] {
+        let right = text(&rt, right)?;
+        assert!(rt; external_place(&rt, &right).is_none());
+    }
+    Ok(())
+}
+
+#[test]
+fn most_pairs_of_brackets(rt: HostRuntime) -> Result<(), Fail> {
+    for (count, place) in [(255, None), (256, Some(513))] {
+        let pairs = repeated(&rt, "int", "[]", count, "")?;
+        assert!(rt; external_place(&rt, &pairs) == place);
+    }
     Ok(())
 }
