@@ -1,5 +1,6 @@
 use Rattle.std.proofs.Common.{◌≤◌, vec_len}
+use Rattle.std.specs.Io.KnownBytes.{Consumes}
 use Rattle.tree_io.proofs.pieces.read_all.Given as goal
 
 abbrev pub invariant-loop : goal.invariant-loop
-invariant-loop g l = vec_len l.bytes ≤ l.max
+invariant-loop g l = (vec_len l.bytes ≤ l.max) × Consumes (g.F.Read.remaining l.fn.file) (g.F.Read.remaining l.file) l.bytes.items
