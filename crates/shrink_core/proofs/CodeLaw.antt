@@ -31,11 +31,13 @@ at_start code = record { bytes = refl; within = omega arith; before = λ rest h.
 abbrev First : List ℕ → List Ins → Type 0
 First text rest = (i : Info) × (others : List Info) × (y : Ins) × (ys : List Ins) × (rest ≡ y ∷ ys) × (text ≡ info_bytes i ++ flat_map info_bytes others) × IsIns i y × AllZip IsIns others ys
 
+-- a code that is not empty has a first instruction
 first_of : (text : List ℕ) (infos : List Info) (rest : List Ins) → 0 < length text → text ≡ flat_map info_bytes infos → AllZip IsIns infos rest → First text rest
 first_of text [] rest some h z = absurd (omega (arith, ap length h))
 first_of text (i ∷ others) [] some h z = absurd z
 first_of text (i ∷ others) (y ∷ ys) some h z = (i, others, y, ys, refl, h, z.0, z.1)
 
+-- a text that stands first is taken
 takes_front : (p : Place) (x rest : List ℕ) → left p ≡ x ++ rest → Takes p x (after (length x) p) × (left (after (length x) p) ≡ rest)
 takes_front p x rest h =
     let e : left (after (length x) p) ≡ rest = sym (drop-drop (length x) p.at p.bytes) ∙ ap (drop (length x)) h ∙ drop_at x rest (length x) refl in
@@ -48,12 +50,15 @@ read_first p text rest e f =
     let q : Place = after (length (info_bytes f.0)) p in
     (q, op_exact.only p (info_bytes f.0) f.2.op q (f.0, refl, (f.6.0, f.6.1)) t.0, t.1)
 
+-- bytes are left before the end
 left_is_long : (code : List ℕ) (p : Place) → p.bytes ≡ code → p.at < length code → 0 < length (left p)
 left_is_long code p e lt = omega (arith, length-drop p.at p.bytes, ap length e)
 
+-- an instruction that was read is one
 ok_is : (x y : Op × Place) → (let R : Result (Op × Place) FormatFault = Ok x in R) ≡ Ok y → x ≡ y
 ok_is x y h = cc
 
+-- an instruction takes a byte at least
 info_is_there : (i : Info) → 1 ≤ length (info_bytes i)
 info_is_there (Plain c) = omega arith
 info_is_there (Byte c n) = omega arith
@@ -102,6 +107,7 @@ fails code p front f lt h r all c =
     let e : (let R : Result (Op × Place) FormatFault = Err f in R) ≡ Ok (g.2.op, k.0) = sym h ∙ k.1 in
     cc
 
+-- no byte is the code of no instruction
 none_of_none : (infos : List Info) (rest : List Ins) → [] ≡ flat_map info_bytes infos → AllZip IsIns infos rest → rest ≡ []
 none_of_none [] [] h z = refl
 none_of_none [] (y ∷ ys) h z = absurd z

@@ -15,6 +15,7 @@ use Rattle.class_model.specs.File.{Differ}
 use Rattle.shrink_core.specs.declared.small.methods.Signature.{Signature}
 use Rattle.shrink_core.specs.SmallMeaning.{signature_of}
 
+-- whether two signatures are one
 abbrev pub same : Signature → Signature → Bool
 same a b = pointwise nat_eq a.name b.name && pointwise nat_eq a.descriptor b.descriptor
 
@@ -30,6 +31,7 @@ pub record HasSeen (methods : List Method) (i : ℕ) (seen : List Signature) : T
   pub keys : seen ≡ map signature_of (take i methods)
   pub differ : AllPairs Differ (take i methods)
 
+-- neither test passes
 or_none : (a b : Bool) → (a || b) ≡ false → (a ≡ false) × (b ≡ false)
 or_none true b h = absurd cc
 or_none false b h = (refl, h)
@@ -40,6 +42,7 @@ none_is eq tells [] x h k d lt e = absurd (omega arith)
 none_is eq tells (y ∷ ks) x h zero d lt e = let n : eq x y ≡ false = (or_none _ _ h).0 in let t : eq x y ≡ true = (tells x y).1 (sym e) in let f : true ≡ false = sym t ∙ n in cc
 none_is eq tells (y ∷ ks) x h (suc k) d lt e = none_is eq tells ks x (or_none _ _ h).1 k d (omega arith) e
 
+-- methods that do not differ have one signature
 same_pair : (a b : Method) → (a.name ≡ b.name) × (method_text a.ty ≡ method_text b.ty) → signature_of a ≡ signature_of b
 same_pair a b h i = record { name = h.0 i; descriptor = h.1 i }
 
@@ -79,6 +82,7 @@ pub was_there : (b : Bool) (r : Bool) → r ≡ not b → r ≡ false → b ≡ 
 was_there true r e h = refl
 was_there false r e h = absurd cc
 
+-- and that it was not
 pub was_new : (b : Bool) (r : Bool) → r ≡ not b → r ≡ true → b ≡ false
 was_new true r e h = absurd cc
 was_new false r e h = refl

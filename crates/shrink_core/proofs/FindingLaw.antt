@@ -32,6 +32,7 @@ pub record Matched {A B : Type 0} (P : A → B → Type 0) (xs : List A) (i : �
   pub before : (rest : List B) → AllZip P (drop i xs) rest → AllZip P xs (ys ++ rest)
   pub behind : (all : List B) → AllZip P xs all → (rest : List B) × (all ≡ ys ++ rest) × AllZip P (drop i xs) rest
 
+-- before the first element
 pub match_start : {A B : Type 0} (P : A → B → Type 0) (xs : List A) → Matched P xs 0 []
 match_start P xs = record { before = λ rest z. z; behind = λ all z. (all, refl, z) }
 
@@ -40,6 +41,7 @@ first_matched : {A B : Type 0} (P : A → B → Type 0) (x : A) (xs : List A) (y
 first_matched P x xs [] h = absurd h
 first_matched P x xs (z ∷ zs) h = (z, zs, refl, h.0, h.1)
 
+-- the next element stands first among the others
 next_of : {A : Type 0} (xs : List A) (i : ℕ) (x : A) → i < length xs → x ≡ get_or xs i x → drop i xs ≡ x ∷ drop (i + 1) xs
 next_of xs i x lt at = (let e : drop i xs ≡ get_or xs i x ∷ drop (i + 1) xs = rw (add-one, drop-cons xs i x) refl in e) ∙ ap (λ (y : _). y ∷ drop (i + 1) xs) (sym at)
 
@@ -66,6 +68,7 @@ match_none e P xs i x ys lt at h m = none_other e (P x) (AllZip P xs)
     (f.0, f.3))
     h
 
+-- no element has no value
 none_left : {A B : Type 0} (P : A → B → Type 0) (ys : List B) → AllZip P [] ys → ys ≡ []
 none_left P [] h = refl
 none_left P (y ∷ ys) h = absurd h

@@ -12,18 +12,21 @@ use Rattle.shrink_core.specs.declared.small.instructions.Shape.{Shape}
 use Rattle.shrink_core.specs.declared.small.instructions.Shape.TheVariants.{Alone, OneByte, TwoBytes, BytePair}
 use Rattle.shrink_core.specs.SmallInstructions.{shape_of, operands, info, op_or_kind, op_at}
 
+-- the opcode of these bytes
 abbrev opcode_of : Info → ℕ
 opcode_of (Plain c) = c
 opcode_of (Byte c n) = c
 opcode_of (Short c n) = c
 opcode_of (Bytes c m n) = c
 
+-- the shape of these bytes
 abbrev shape_for : Info → Shape
 shape_for (Plain c) = Alone
 shape_for (Byte c n) = OneByte
 shape_for (Short c n) = TwoBytes
 shape_for (Bytes c m n) = BytePair
 
+-- the bytes behind the opcode
 abbrev operand_text : Info → List ℕ
 operand_text (Plain c) = []
 operand_text (Byte c n) = to_be_bytes w8 n
@@ -34,9 +37,11 @@ operand_text (Bytes c m n) = to_be_bytes w8 m ++ to_be_bytes w8 n
 abbrev HasShape : Info → Type 0
 HasShape i = (opcode_of i < 256) × (shape_of (opcode_of i) ≡ shape_for i) × Fits i
 
+-- a byte is its own spelling
 byte_is : (n : ℕ) → n < 256 → to_be_bytes w8 n ≡ n ∷ []
 byte_is n lt = ap (λ k. k ∷ []) (omega arith)
 
+-- the bytes are the opcode and its operands
 text_is : (i : Info) → HasShape i → info_bytes i ≡ to_be_bytes w8 (opcode_of i) ++ operand_text i
 text_is (Plain c) h = sym (byte_is c h.0)
 text_is (Byte c n) h = sym (ap (λ t. t ++ to_be_bytes w8 n) (byte_is c h.0) ∙ ap (λ t. c ∷ t) (byte_is n h.2))
@@ -45,6 +50,7 @@ text_is (Bytes c m n) h = sym (ap (λ t. t ++ (to_be_bytes w8 m ++ to_be_bytes w
 
 -- ---- what follows an opcode
 
+-- these bytes begin with this opcode
 abbrev Behind : ℕ → Info → Info → Type 0
 Behind c i y = (opcode_of i ≡ c) × HasShape i × (y ≡ i)
 
@@ -52,17 +58,22 @@ Behind c i y = (opcode_of i ≡ c) × HasShape i × (y ≡ i)
 shape_is : (c : ℕ) (i y : Info) (s : Shape) → shape_of c ≡ s → Behind c i y → shape_for i ≡ s
 shape_is c i y s e h = sym h.1.1 ∙ ap shape_of h.0 ∙ e
 
+-- the one operand
 abbrev operand : Info → ℕ
 operand (Plain c) = 0
 operand (Byte c n) = n
 operand (Short c n) = n
 operand (Bytes c m n) = n
 
+-- an operand below a limit, and what is made of it
 abbrev One : (ℕ → Info) → ℕ → ℕ → Info → Type 0
 One made limit raw y = (x : ℕ) × ((raw < limit) × (x ≡ raw)) × (y ≡ made x)
 
+-- of each shape: the operands that spell it
 plain_back : (c : ℕ) (i y : Info) → shape_for i ≡ Alone → Behind c i y → (operand_text i ≡ []) × (y ≡ Plain c)
+-- of each shape: the operands that spell it
 plain_back c (Plain d) y e h = (refl, h.2 ∙ ap (λ k. Plain k) h.0)
+-- of each shape: the operands that spell it
 plain_back c _ y e h = absurd cc
 
 byte_back : (c : ℕ) (i y : Info) → shape_for i ≡ OneByte → Behind c i y → (operand_text i ≡ to_be_bytes w8 (operand i)) × One (λ n. Byte c n) 256 (operand i) y
@@ -73,10 +84,12 @@ short_back : (c : ℕ) (i y : Info) → shape_for i ≡ TwoBytes → Behind c i 
 short_back c (Short d n) y e h = (refl, (n, (h.1.2, refl), h.2 ∙ ap (λ k. Short k n) h.0))
 short_back c _ y e h = absurd cc
 
+-- the two operands
 abbrev pair_of : Info → ℕ × ℕ
 pair_of (Bytes c m n) = (m, n)
 pair_of _ = (0, 0)
 
+-- two operands of a byte, and what is made of them
 abbrev Two : ℕ → ℕ × ℕ → Info → Type 0
 Two c w y = (x : ℕ) × ((w.0 < 256) × (x ≡ w.0)) × One (λ n. Bytes c x n) 256 w.1 y
 
@@ -84,6 +97,7 @@ pair_back : (c : ℕ) (i y : Info) → shape_for i ≡ BytePair → Behind c i y
 pair_back c (Bytes d m n) y e h = (refl, (m, (h.1.2.0, refl), (n, (h.1.2.1, refl), h.2 ∙ ap (λ k. Bytes k m n) h.0)))
 pair_back c _ y e h = absurd cc
 
+-- the operands of a shape are read exactly where they are spelled
 operands_exact : (c : ℕ) (s : Shape) → c < 256 → shape_of c ≡ s → Exact (operands c s) (Spells operand_text (λ _. Behind c))
 operands_exact c Alone lt e = as_raw operand_text (λ _. Behind c) (λ u. Plain c) (λ i. tt)
     (λ at u y h. (refl, (refl, (lt, e, tt), h)))
@@ -102,6 +116,7 @@ operands_exact c BytePair lt e = as_raw operand_text (λ _. Behind c) (λ w. Byt
     (λ at i y h. pair_back c i y (shape_is c i y _ e h) h)
     (bind_exact (λ first. bind u1 (λ second. give (Bytes c first second))) (to_be_bytes w8) (λ x at raw y. One (λ n. Bytes c x n) 256 raw y) u1_exact (λ first. map_exact (λ second. Bytes c first second) u1_exact))
 
+-- the bytes of an instruction
 info_exact : Exact info (Spells info_bytes (λ _ i y. HasShape i × (y ≡ i)))
 unfolding info
 info_exact = as_raw info_bytes _ (λ w. w.1) (λ i. (opcode_of i, i))
@@ -116,12 +131,15 @@ chosen : {A : Type 0} (b : Bool) (x y : A) (o : Option A) → cond b (Some x) o 
 chosen true x y o h = inl refl
 chosen false x y o h = inr h
 
+-- an opcode has the shape that the table gives it
 at_opcode : (c k : ℕ) (s : Shape) → k < 256 → shape_of k ≡ s → eqb c k ≡ true → (c < 256) × (shape_of c ≡ s)
 at_opcode c k s lt e t = let is : c ≡ k = eqb-true c k t in (omega (arith, lt, is), ap shape_of is ∙ e)
 
+-- there is nothing behind the last test
 no_more : {A : Type 0} (y : A) → None ≡ Some y → ⊥
 no_more y h = cc
 
+-- bipush, iload, istore
 byte_shape : (c n : ℕ) (y : Op) → byte_op c n ≡ Some y → (c < 256) × (shape_of c ≡ OneByte)
 byte_shape c n y h = elim (chosen (eqb c 0x10) _ y _ h) [
   | inl t ↦ at_opcode c 0x10 OneByte (omega arith) refl t
@@ -131,19 +149,24 @@ byte_shape c n y h = elim (chosen (eqb c 0x10) _ y _ h) [
   ]
 ]
 
+-- sipush
 short_shape : (c n : ℕ) (y : Op) → short_op c n ≡ Some y → (c < 256) × (shape_of c ≡ TwoBytes)
 short_shape c n y h = elim (chosen (eqb c 0x11) _ y None h) [ inl t ↦ at_opcode c 0x11 TwoBytes (omega arith) refl t | inr none ↦ absurd (no_more y none) ]
 
+-- iinc
 pair_shape : (c m n : ℕ) (y : Op) → bytes_op c m n ≡ Some y → (c < 256) × (shape_of c ≡ BytePair)
 pair_shape c m n y h = elim (chosen (eqb c 0x84) _ y None h) [ inl t ↦ at_opcode c 0x84 BytePair (omega arith) refl t | inr none ↦ absurd (no_more y none) ]
 
+-- no opcode of another shape stands alone
 not_alone : (b : Bool) (c k : ℕ) (y : Op) → plain_op k ≡ None → plain_op c ≡ Some y → eqb c k ≡ b → b ≡ false
 not_alone true c k y none h e = absurd (no_more y (sym none ∙ ap plain_op (sym (eqb-true c k e)) ∙ h))
 not_alone false c k y none h e = refl
 
+-- an opcode is a byte
 none_above : (c : ℕ) → 256 ≤ c → plain_op c ≡ None
 none_above c le = grind (arith, nat_tests)
 
+-- an opcode that stands alone
 plain_shape : (c : ℕ) (y : Op) → plain_op c ≡ Some y → (c < 256) × (shape_of c ≡ Alone)
 plain_shape c y h =
     let f1 : eqb c 0x10 ≡ false = not_alone (eqb c 0x10) c 0x10 y refl h refl in
@@ -154,12 +177,14 @@ plain_shape c y h =
     let shape : shape_of c ≡ Alone = rw (f1, f2, f3, f4, f5) refl in
     elim (cases_lt c 256) [ inl lt ↦ (lt, shape) | inr le ↦ absurd (no_more y (sym (none_above c le) ∙ h)) ]
 
+-- bytes that stand for an instruction have the shape of their opcode
 has_shape : (i : Info) (y : Op) → Fits i → op_of i ≡ Some y → HasShape i
 has_shape (Plain c) y f h = let s = plain_shape c y h in (s.0, s.1, f)
 has_shape (Byte c n) y f h = let s = byte_shape c n y h in (s.0, s.1, f)
 has_shape (Short c n) y f h = let s = short_shape c n y h in (s.0, s.1, f)
 has_shape (Bytes c m n) y f h = let s = pair_shape c m n y h in (s.0, s.1, f)
 
+-- an instruction that was found
 op_ok : (o : Option Op) (y : Op) → op_or_kind o ≡ Ok y → o ≡ Some y
 op_ok (Some x) y h = let e : x ≡ y = cc in ap (λ v. Some v) e
 op_ok None y h = absurd cc
@@ -168,6 +193,7 @@ op_ok None y h = absurd cc
 abbrev pub IsOp : ℕ → Info → Op → Type 0
 IsOp at i y = Fits i × (op_of i ≡ Some y)
 
+-- an instruction is read exactly where its bytes stand for it
 pub op_exact : Exact op_at (Spells info_bytes IsOp)
 unfolding op_at
 op_exact = as_raw info_bytes IsOp (λ i. i) (λ i. i)

@@ -30,6 +30,7 @@ units_below (u ∷ us) = omega (arith, length-append (unit_bytes u) (flat_map un
 char_below : (c : ℕ) → len_utf8 c ≤ 3 * length (encode_utf16 c)
 char_below c = grind (arith, nat_tests)
 
+-- the same of all characters
 chars_below : (cs : List ℕ) → length (encode_utf8_all cs) ≤ 3 * length (flat_map encode_utf16 cs)
 chars_below [] = omega arith
 chars_below (c ∷ cs) =
@@ -40,15 +41,18 @@ pub text_below : (text units : List ℕ) → IsTextOf text units → length text
 unfolding units_of
 text_below text units h = omega (arith, ap length (encodes-chars text h.0), chars_below (chars text), ap length h.1)
 
+-- the units of an entry are few enough
 in_entry : (e : Entry) (us : List ℕ) → HasBytes e → units_in e ≡ Some us → length us < 65536
 in_entry (Utf8 units) us h is = omega (arith, h.1, units_below units, ap length (let e : units ≡ us = cc in e))
 in_entry _ us h is = absurd cc
 
+-- the same by index
 in_entries : (es : List Entry) (index : ℕ) (us : List ℕ) → AllByRecursion HasBytes es → units_at es index ≡ Some us → length us < 65536
 in_entries [] index us h is = absurd cc
 in_entries (e ∷ es) zero us h is = in_entry e us h.0 is
 in_entries (e ∷ es) (suc index) us h is = in_entries es index us h.1 is
 
+-- the same where index 0 is no entry
 in_numbered : (es : List Entry) (index : ℕ) (us : List ℕ) → AllByRecursion HasBytes es → units_at (numbered es) index ≡ Some us → length us < 65536
 in_numbered es zero us h is = absurd cc
 in_numbered es (suc index) us h is = in_entries es index us h is

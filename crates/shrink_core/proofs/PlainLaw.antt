@@ -50,6 +50,7 @@ all_there s P at [] (x ∷ xs) h = absurd h
 all_there s P at (w ∷ ws) [] h = absurd h
 all_there s P at (w ∷ ws) (x ∷ xs) h = let k = all_there s P (at + length (s w)) ws xs h.1 in ((h.0.0, k.0), λ i. h.0.1 i ∷ k.1 i)
 
+-- and the other way
 all_back : {R : Type 0} (s : R → List ℕ) (P : R → Type 0) (at : ℕ) (ws : List R) → AllByRecursion P ws → AllStand s (λ _ w x. P w × (x ≡ w)) at ws ws
 all_back s P at [] h = tt
 all_back s P at (w ∷ ws) h = ((h.0, refl), all_back s P (at + length (s w)) ws h.1)

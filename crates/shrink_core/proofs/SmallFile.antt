@@ -22,6 +22,7 @@ use Rattle.shrink_core.specs.Finding.{FindsNone, FindsSuch}
 
 -- ---- from the structure to the grammar
 
+-- a method
 method_there : (pool : List Entry) (raw : RawMethod) (m : Method) → FitsMethod raw → IsMethodOf pool raw m → IsMethod pool (member_of raw) m
 method_there pool raw m fits h =
     let code = h.code.2 in
@@ -47,6 +48,7 @@ method_there pool raw m fits h =
       deprecated = h.deprecated;
     }
 
+-- all methods
 methods_there : (pool : List Entry) (raws : List RawMethod) (ms : List Method) → AllByRecursion FitsMethod raws → AllZip (IsMethodOf pool) raws ms → AllZip (IsMethod pool) (map member_of raws) ms × AllByRecursion IsIntMethod ms
 methods_there pool [] [] fits h = (tt, tt)
 methods_there pool [] (m ∷ ms) fits h = absurd h
@@ -55,6 +57,7 @@ methods_there pool (raw ∷ raws) (m ∷ ms) fits h =
     let others = methods_there pool raws ms fits.1 h.1 in
     ((method_there pool raw m fits.0 h.0, others.0), (record { args = h.0.ty.args; ret = h.0.ty.ret }, others.1))
 
+-- what holds of all entries holds of those from index 1 on
 behind_first : (P : Entry → Type 0) (es : List Entry) → AllByRecursion P es → AllByRecursion P (entries_of es)
 behind_first P [] h = tt
 behind_first P (e ∷ es) h = h.1
@@ -85,6 +88,7 @@ small_there bytes raw class spelled h =
 
 -- ---- from the grammar to the structure
 
+-- a body is one attribute with its code
 body_is : (pool : List Entry) (attributes : List AttributeInfo) (o : Option Code) → IsBody pool attributes o
     → (attribute : AttributeInfo) × (code : Code) × (attributes ≡ attribute ∷ []) × (o ≡ Some code) × IsCodeAttribute pool attribute code
 body_is pool [] o h = absurd h
@@ -92,6 +96,7 @@ body_is pool (a ∷ []) None h = absurd h
 body_is pool (a ∷ []) (Some code) h = (a, code, refl, refl, h)
 body_is pool (a ∷ b ∷ others) o h = absurd h
 
+-- a method
 method_back : (pool : List Entry) (s : MemberInfo) (m : Method) → IsMethod pool s m → IsIntMethod m → (raw : RawMethod) × (s ≡ member_of raw) × FitsMethod raw × IsMethodOf pool raw m
 method_back pool s m h ints =
     let body = body_is pool s.attributes m.code h.body in
@@ -139,6 +144,7 @@ method_back pool s m h ints =
       },
     )
 
+-- all methods
 methods_back : (pool : List Entry) (ss : List MemberInfo) (ms : List Method) → AllZip (IsMethod pool) ss ms → AllByRecursion IsIntMethod ms
     → (raws : List RawMethod) × (ss ≡ map member_of raws) × AllByRecursion FitsMethod raws × AllZip (IsMethodOf pool) raws ms
 methods_back pool [] [] h ints = ([], refl, tt, tt)
@@ -149,6 +155,7 @@ methods_back pool (s ∷ ss) (m ∷ ms) h ints =
     let others = methods_back pool ss ms h.1 ints.1 in
     (one.0 ∷ others.0, λ i. one.1 i ∷ others.1 i, (one.2, others.2), (one.3, others.3))
 
+-- the class
 class_back : (bytes : List ℕ) (s : ClassFile) (class : Class) → bytes ≡ class_file s → IsClass s class (numbered s.constant_pool) → class.name ≡ codes "Main" → class.super_name ≡ codes "java/lang/Object" → AllByRecursion IsIntMethod class.methods
     → (raw : RawClass) × IsSpelled bytes raw × IsClassOf raw class
 class_back bytes s class text k name super_name ints =

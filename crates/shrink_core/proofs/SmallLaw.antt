@@ -29,6 +29,7 @@ use Rattle.shrink_core.proofs.PlainLaw.{Plain, plain_as, plain_bind, plain_map, 
 
 -- ---- a number that has to stand there
 
+-- a number that was accepted is the wanted one
 wanted_by : (b : Bool) (wanted n : ℕ) (k : FormatKind) (u : Unit {0}) → eqb n wanted ≡ b → (let R : Result (Unit {0}) FormatKind = cond b (Ok tt) (Err k) in R) ≡ Ok u → n ≡ wanted
 wanted_by true wanted n k u e h = eqb-true n wanted e
 wanted_by false wanted n k u e h = absurd cc
@@ -43,6 +44,7 @@ wanted_exact s limit wanted k lt e = as_raw (λ (u : Unit {0}). s wanted) _ (λ 
     (λ at u y h. (refl, (wanted, (lt, refl), wanted_is wanted k)))
     (item_exact (is_wanted wanted k) e)
 
+-- the same of two bytes
 u2_is_plain : (wanted : ℕ) (k : FormatKind) → wanted < 2 ^ 16 → Plain (u2_is wanted k) (λ (u : Unit {0}). to_be_bytes w16 wanted) (λ u. Unit {0}) (λ u. tt)
 u2_is_plain wanted k lt = wanted_exact (to_be_bytes w16) (2 ^ 16) wanted k lt u2_exact
 
@@ -53,6 +55,7 @@ skip wanted k f t Q z lt e = plain_as (λ w. to_be_bytes w16 wanted ++ t w) Q z 
     (λ w h. (refl, (tt, h), refl))
     (plain_bind f t (λ u. Q) (λ u. z) (u2_is_plain wanted k lt) (λ w h. e))
 
+-- the head is read exactly where it is spelled
 head_plain : Plain head (λ (u : Unit {0}). head_bytes) (λ u. Unit {0}) (λ u. tt)
 unfolding head
 head_plain = plain_as (λ (u : Unit {0}). head_bytes) (λ u. Unit {0}) (λ u. tt) (λ w. tt) (λ u. (tt, tt))
@@ -70,6 +73,7 @@ tag_of (Utf8 units) = 1
 tag_of (Class name_index) = 7
 tag_of _ = 0
 
+-- the bytes behind the tag
 abbrev contents : Entry → List ℕ
 contents (Utf8 units) = to_be_bytes w16 (length (mutf8 units)) ++ mutf8 units
 contents (Class name_index) = to_be_bytes w16 name_index
@@ -86,6 +90,7 @@ units_or_none (Err e) = []
 abbrev units_of_text : List ℕ → List ℕ
 units_of_text text = units_or_none (read_mutf8 text)
 
+-- what was no fault of the bytes was read
 units_ok : (at : ℕ) (r : Result (List ℕ) BadUtf8) (units : List ℕ) → or_fault at (units_or_kind r) ≡ Ok units → r ≡ Ok units
 units_ok at (Ok x) units h = let e : x ≡ units = cc in ap (λ v. Ok v) e
 units_ok at (Err e) units h = absurd cc
@@ -105,6 +110,7 @@ units_plain k n = as_raw mutf8 _ (λ w. units_of_text w.0) (λ units. (mutf8 uni
     (λ at units y h. (sym (append-nil (mutf8 units)), (mutf8 units, (h.0.1, refl), (units, units_is k (mutf8 units) units (read_mutf8-only (mutf8 units) units (h.0.0, refl)), h.1))))
     (bind_exact (λ text. bind (told (units_at k text)) (λ units. give (Utf8 units))) nothing (λ text _ u y. (x : List ℕ) × (units_at k text ≡ Ok x) × (y ≡ Utf8 x)) (bytes_exact n) (λ text. map_exact (λ units. Utf8 units) (told_exact (units_at k text))))
 
+-- the units of a CONSTANT_Utf8
 abbrev units_of : Entry → List ℕ
 units_of (Utf8 units) = units
 units_of _ = []
@@ -114,6 +120,7 @@ utf8_back (Utf8 units) h = (refl, (h.1.1, (h.1.0, refl)), refl)
 utf8_back (Class i) h = absurd (omega (arith, h.0))
 utf8_back _ h = absurd h.1
 
+-- a CONSTANT_Utf8 behind its tag
 utf8_plain : Plain utf8 contents (Behind 1) (λ e. e)
 unfolding utf8
 utf8_plain = plain_as contents (Behind 1) (λ e. e) (λ w. Utf8 w.1) (λ e. (length (mutf8 (units_of e)), units_of e))
@@ -122,6 +129,7 @@ utf8_plain = plain_as contents (Behind 1) (λ e. e) (λ w. Utf8 w.1) (λ e. (len
     (plain_bind (λ n. bind here (λ at. bind (bytes n) (λ text. bind (told (units_at at text)) (λ units. give (Utf8 units))))) mutf8 (λ n units. IsUnits units × (length (mutf8 units) ≡ n)) (λ n units. Utf8 units) u2_plain
     (λ n lt. plain_here (λ at. bind (bytes n) (λ text. bind (told (units_at at text)) (λ units. give (Utf8 units)))) mutf8 (λ units. IsUnits units × (length (mutf8 units) ≡ n)) (λ units. Utf8 units) (λ k. units_plain k n)))
 
+-- the name_index of a CONSTANT_Class
 abbrev index_of : Entry → ℕ
 index_of (Class i) = i
 index_of _ = 0
@@ -131,6 +139,7 @@ class_back (Class i) h = (refl, h.1, refl)
 class_back (Utf8 units) h = absurd (omega (arith, h.0))
 class_back _ h = absurd h.1
 
+-- a CONSTANT_Class behind its tag
 class_plain : Plain class_entry contents (Behind 7) (λ e. e)
 class_plain = plain_as contents (Behind 7) (λ e. e) (λ i. Class i) index_of
     (λ w h. (refl, (refl, h), refl))
@@ -143,6 +152,7 @@ other_tag tag f1 f7 (Utf8 units) h = let g : true ≡ false = subst (λ (j : ℕ
 other_tag tag f1 f7 (Class i) h = let g : true ≡ false = subst (λ (j : ℕ). eqb j 7 ≡ false) (sym h.0) f7 in cc
 other_tag tag f1 f7 _ h = h.1
 
+-- what a tag leads to
 tag_exact : (tag : ℕ) → Leads (tagged tag) (Spells contents (λ _ e y. Behind tag e × (y ≡ e)))
 tag_exact tag =
     let g = Spells contents (λ _ e y. Behind tag e × (y ≡ e)) in
@@ -155,11 +165,13 @@ tag_below (Utf8 units) = omega arith
 tag_below (Class i) = omega arith
 tag_below _ = omega arith
 
+-- an entry is its tag and what follows
 cp_is : (e : Entry) → HasBytes e → cp_info e ≡ to_be_bytes w8 (tag_of e) ++ contents e
 cp_is (Utf8 units) h = refl
 cp_is (Class i) h = refl
 cp_is _ h = absurd h
 
+-- an entry is read exactly where it is spelled
 entry_plain : Plain entry cp_info HasBytes (λ e. e)
 unfolding entry
 entry_plain = as_raw cp_info _ (λ w. w.1) (λ e. (tag_of e, e))
@@ -167,6 +179,7 @@ entry_plain = as_raw cp_info _ (λ w. w.1) (λ e. (tag_of e, e))
     (λ at e y h. (cp_is e h.0, (tag_of e, (tag_below e, refl), ((refl, h.0), h.1))))
     (lead_exact tagged contents (λ tag _ e y. Behind tag e × (y ≡ e)) u1_exact tag_exact)
 
+-- a count is one more than the entries that follow
 count_by : (b : Bool) (n k : ℕ) → eqb n 0 ≡ b → (let R : Result ℕ FormatKind = cond b (Err kind.BadIndex) (Ok (n - 1)) in R) ≡ Ok k → (0 < n) × (k ≡ n - 1)
 count_by true n k e h = absurd cc
 count_by false n k e h = (let d : n ≡ 0 → ⊥ = eqb-false n 0 e in omega arith, sym (let f : n - 1 ≡ k = cc in f))
@@ -186,170 +199,188 @@ count_plain = as_raw (λ n. to_be_bytes w16 (n + 1)) _ (λ k. k - 1) (λ n. n + 
     (λ at n y h. (refl, (n + 1, (h.0, refl), count_is n ∙ ap (λ v. Ok v) (sym h.1))))
     (item_exact entry_count u2_exact)
 
+-- the pool with its count
 abbrev pool_bytes : List Entry → List ℕ
-pool_bytes es = to_be_bytes w16 (length es + 1) ++ flat_map cp_info es
+pool_bytes entries = to_be_bytes w16 (length entries + 1) ++ flat_map cp_info entries
 
 abbrev HavePool : List Entry → Type 0
-HavePool es = (length es + 1 < 2 ^ 16) × AllByRecursion HasBytes es
+HavePool entries = (length entries + 1 < 2 ^ 16) × AllByRecursion HasBytes entries
 
+-- a pool is read exactly where it is spelled
 pool_plain : Plain pool pool_bytes HavePool numbered
 unfolding pool
-pool_plain = plain_as pool_bytes HavePool numbered (λ w. w.1) (λ es. (length es, es))
+pool_plain = plain_as pool_bytes HavePool numbered (λ w. w.1) (λ entries. (length entries, entries))
     (λ w h. (ap (λ k. to_be_bytes w16 (k + 1) ++ flat_map cp_info w.1) (sym h.1.0), (omega (arith, h.0, h.1.0), h.1.1), refl))
-    (λ es h. (refl, (h.0, (refl, h.1)), refl))
-    (plain_bind (λ count. bind (many count entry) (λ es. give (numbered es))) (flat_map cp_info) (λ n es. (length es ≡ n) × AllByRecursion HasBytes es) (λ n es. numbered es) count_plain
+    (λ entries h. (refl, (h.0, (refl, h.1)), refl))
+    (plain_bind (λ count. bind (many count entry) (λ entries. give (numbered entries))) (flat_map cp_info) (λ n entries. (length entries ≡ n) × AllByRecursion HasBytes entries) (λ n entries. numbered entries) count_plain
     (λ n h. plain_map numbered (plain_many n entry_plain)))
 
 -- ---- methods
 
-length_by : (z l c : Bool) (al n k : ℕ) → eqb n 0 ≡ z → ltb n 65536 ≡ l → eqb al (n + 12) ≡ c
-    → (let R : Result ℕ FormatKind = cond (not z && l) (cond c (Ok n) (Err kind.BadAttribute)) (Err kind.BadCode) in R) ≡ Ok k → (0 < n) × (n < 65536) × (al ≡ n + 12) × (k ≡ n)
-length_by true l c al n k e0 e1 e2 h = absurd cc
-length_by false false c al n k e0 e1 e2 h = absurd cc
-length_by false true false al n k e0 e1 e2 h = absurd cc
-length_by false true true al n k e0 e1 e2 h = (let d : n ≡ 0 → ⊥ = eqb-false n 0 e0 in omega arith, ltb-true _ _ e1, eqb-true _ _ e2, sym (let e : n ≡ k = cc in e))
+-- a length of a code is not 0, has two bytes at most, and leaves 12 bytes of the attribute
+length_by : (z l c : Bool) (size n k : ℕ) → eqb n 0 ≡ z → ltb n 65536 ≡ l → eqb size (n + 12) ≡ c
+    → (let R : Result ℕ FormatKind = cond (not z && l) (cond c (Ok n) (Err kind.BadAttribute)) (Err kind.BadCode) in R) ≡ Ok k → (0 < n) × (n < 65536) × (size ≡ n + 12) × (k ≡ n)
+length_by true l c size n k e0 e1 e2 h = absurd cc
+length_by false false c size n k e0 e1 e2 h = absurd cc
+length_by false true false size n k e0 e1 e2 h = absurd cc
+length_by false true true size n k e0 e1 e2 h = (let d : n ≡ 0 → ⊥ = eqb-false n 0 e0 in omega arith, ltb-true _ _ e1, eqb-true _ _ e2, sym (let e : n ≡ k = cc in e))
 
-length_is : (al n : ℕ) → 0 < n → n < 2 ^ 16 → al ≡ n + 12 → code_length al n ≡ Ok n
-length_is al n lo hi e =
+length_is : (size n : ℕ) → 0 < n → n < 2 ^ 16 → size ≡ n + 12 → code_length size n ≡ Ok n
+length_is size n lo hi e =
     let z : eqb n 0 ≡ false = ne_eqb n 0 (λ e. absurd (omega (arith, e))) in
     let l : ltb n 65536 ≡ true = lt-ltb n 65536 (omega (arith, hi)) in
-    let c : eqb al (n + 12) ≡ true = eq-eqb al (n + 12) e in
+    let c : eqb size (n + 12) ≡ true = eq-eqb size (n + 12) e in
     rw (z, l, c) refl
 
 -- a length of a code that fills an attribute of a length
 abbrev IsLength : ℕ → ℕ → Type 0
-IsLength al n = (0 < n) × (n < 2 ^ 16) × (al ≡ n + 12)
+IsLength size n = (0 < n) × (n < 2 ^ 16) × (size ≡ n + 12)
 
-length_plain : (al : ℕ) → Plain (item u4 (code_length al)) (to_be_bytes w32) (IsLength al) (λ n. n)
-length_plain al = as_raw (to_be_bytes w32) _ (λ n. n) (λ n. n)
+-- such a length
+length_plain : (size : ℕ) → Plain (item u4 (code_length size)) (to_be_bytes w32) (IsLength size) (λ n. n)
+length_plain size = as_raw (to_be_bytes w32) _ (λ n. n) (λ n. n)
     (λ at n y h.
-    let c = length_by (eqb h.0 0) (ltb h.0 65536) (eqb al (h.0 + 12)) al h.0 y refl refl refl h.2 in
+    let c = length_by (eqb h.0 0) (ltb h.0 65536) (eqb size (h.0 + 12)) size h.0 y refl refl refl h.2 in
     (refl, ((omega (arith, c.0, h.1.1), omega (arith, c.1, h.1.1), omega (arith, c.2, h.1.1)), c.3 ∙ h.1.1)))
-    (λ at n y h. (refl, (n, (omega (arith, h.0.1), refl), length_is al n h.0.0 h.0.1 h.0.2 ∙ ap (λ v. Ok v) (sym h.1))))
-    (item_exact (code_length al) u4_exact)
+    (λ at n y h. (refl, (n, (omega (arith, h.0.1), refl), length_is size n h.0.0 h.0.1 h.0.2 ∙ ap (λ v. Ok v) (sym h.1))))
+    (item_exact (code_length size) u4_exact)
 
+-- a code behind its length
 abbrev code_bytes : List ℕ → List ℕ
 code_bytes c = to_be_bytes w32 (length c) ++ c
 
-code_plain : (al : ℕ) → Plain (code al) code_bytes (λ c. IsLength al (length c)) (λ c. c)
+code_plain : (size : ℕ) → Plain (code size) code_bytes (λ c. IsLength size (length c)) (λ c. c)
 unfolding code
-code_plain al = as_raw code_bytes _ (λ w. w.1) (λ c. (length c, c))
+code_plain size = as_raw code_bytes _ (λ w. w.1) (λ c. (length c, c))
     (λ at w y h.
     let len : length w.1 ≡ w.0 = h.2.0 ∙ h.1.1 in
-    (ap (λ k. to_be_bytes w32 k ++ w.1) (sym len), (subst (λ (k : ℕ). IsLength al k) (sym len) h.1.0, h.2.1)))
+    (ap (λ k. to_be_bytes w32 k ++ w.1) (sym len), (subst (λ (k : ℕ). IsLength size k) (sym len) h.1.0, h.2.1)))
     (λ at c y h. (refl, (length c, (h.0, refl), (refl, h.1))))
-    (bind_exact (λ n. bytes n) (λ t. t) (λ n _ t x. (length t ≡ n) × (x ≡ t)) (length_plain al) (λ n. bytes_exact n))
+    (bind_exact (λ n. bytes n) (λ t. t) (λ n _ t x. (length t ≡ n) × (x ≡ t)) (length_plain size) (λ n. bytes_exact n))
 
 -- ---- from the last number of a method back to the first
 
+-- no handler and no attribute
 abbrev ends : List ℕ
 ends = to_be_bytes w16 0 ++ to_be_bytes w16 0
 
+-- what follows a code
 tail_plain : (m : RawMethod) → Plain (bind (u2_is 0 kind.BadHandler) (λ e. bind (u2_is 0 kind.BadAttribute) (λ a. give m))) (λ (u : Unit {0}). ends) (λ u. Unit {0}) (λ u. m)
 tail_plain m = skip 0 kind.BadHandler (λ e. bind (u2_is 0 kind.BadAttribute) (λ a. give m)) (λ (u : Unit {0}). to_be_bytes w16 0) (λ u. Unit {0}) (λ u. m) (omega arith) (plain_map (λ a. m) (u2_is_plain 0 kind.BadAttribute (omega arith)))
 
-abbrev T8 : Type 0
-T8 = List ℕ × Unit {0}
+-- from the code on: the structure, its bytes, what fits, and the reader
+abbrev FromCode : Type 0
+FromCode = List ℕ × Unit {0}
 
-abbrev s8 : T8 → List ℕ
-s8 w = code_bytes w.0 ++ ends
+abbrev from_code : FromCode → List ℕ
+from_code w = code_bytes w.0 ++ ends
 
-abbrev P8 : ℕ → T8 → Type 0
-P8 al w = IsLength al (length w.0) × Unit {0}
+abbrev FitsFromCode : ℕ → FromCode → Type 0
+FitsFromCode size w = IsLength size (length w.0) × Unit {0}
 
-abbrev r8 : ℕ → ℕ → ℕ → ℕ → ℕ → ℕ → ℕ → Reader RawMethod
-r8 fl nm ds an al ms ml = bind (code al) (λ c. bind (u2_is 0 kind.BadHandler) (λ e. bind (u2_is 0 kind.BadAttribute) (λ a. give (method_of fl nm ds an ms ml c))))
+abbrev reads_from_code : ℕ → ℕ → ℕ → ℕ → ℕ → ℕ → ℕ → Reader RawMethod
+reads_from_code flags name descriptor attribute size stack locals = bind (code size) (λ c. bind (u2_is 0 kind.BadHandler) (λ e. bind (u2_is 0 kind.BadAttribute) (λ a. give (method_of flags name descriptor attribute stack locals c))))
 
-plain8 : (fl nm ds an al ms ml : ℕ) → Plain (r8 fl nm ds an al ms ml) s8 (P8 al) (λ w. method_of fl nm ds an ms ml w.0)
-plain8 fl nm ds an al ms ml = plain_bind (λ c. bind (u2_is 0 kind.BadHandler) (λ e. bind (u2_is 0 kind.BadAttribute) (λ a. give (method_of fl nm ds an ms ml c)))) (λ (u : Unit {0}). ends) (λ c u. Unit {0}) (λ c u. method_of fl nm ds an ms ml c) (code_plain al)
-    (λ c h. tail_plain (method_of fl nm ds an ms ml c))
+from_code_plain : (flags name descriptor attribute size stack locals : ℕ) → Plain (reads_from_code flags name descriptor attribute size stack locals) from_code (FitsFromCode size) (λ w. method_of flags name descriptor attribute stack locals w.0)
+from_code_plain flags name descriptor attribute size stack locals = plain_bind (λ c. bind (u2_is 0 kind.BadHandler) (λ e. bind (u2_is 0 kind.BadAttribute) (λ a. give (method_of flags name descriptor attribute stack locals c)))) (λ (u : Unit {0}). ends) (λ c u. Unit {0}) (λ c u. method_of flags name descriptor attribute stack locals c) (code_plain size)
+    (λ c h. tail_plain (method_of flags name descriptor attribute stack locals c))
 
 -- a number of two bytes before
 abbrev Before : {S : Type 0} → (ℕ → S → Type 0) → ℕ × S → Type 0
 Before Q w = (w.0 < 2 ^ 16) × Q w.0 w.1
 
+-- its bytes, and then those of the rest
 abbrev text2 : {S : Type 0} → (S → List ℕ) → ℕ × S → List ℕ
 text2 t w = to_be_bytes w16 w.0 ++ t w.1
 
+-- such a number, and then more
 two : {B S : Type 0} (f : ℕ → Reader B) (t : S → List ℕ) (Q : ℕ → S → Type 0) (z : ℕ → S → B) → ((x : ℕ) → Plain (f x) t (Q x) (z x)) → Plain (bind u2 f) (text2 t) (Before Q) (λ (w : ℕ × S). z w.0 w.1)
 two f t Q z e = plain_bind f t Q z u2_plain (λ x h. e x)
 
-abbrev T6 : Type 0
-T6 = ℕ × (ℕ × T8)
+-- the same from max_stack on
+abbrev FromStack : Type 0
+FromStack = ℕ × (ℕ × FromCode)
 
-abbrev s6 : T6 → List ℕ
-s6 w = text2 (text2 s8) w
+abbrev from_stack : FromStack → List ℕ
+from_stack w = text2 (text2 from_code) w
 
-abbrev P6 : ℕ → T6 → Type 0
-P6 al w = Before (λ _. Before (λ _. P8 al)) w
+abbrev FitsFromStack : ℕ → FromStack → Type 0
+FitsFromStack size w = Before (λ _. Before (λ _. FitsFromCode size)) w
 
-abbrev r6 : ℕ → ℕ → ℕ → ℕ → ℕ → Reader RawMethod
-r6 fl nm ds an al = bind u2 (λ ms. bind u2 (λ ml. r8 fl nm ds an al ms ml))
+abbrev reads_from_stack : ℕ → ℕ → ℕ → ℕ → ℕ → Reader RawMethod
+reads_from_stack flags name descriptor attribute size = bind u2 (λ stack. bind u2 (λ locals. reads_from_code flags name descriptor attribute size stack locals))
 
-plain6 : (fl nm ds an al : ℕ) → Plain (r6 fl nm ds an al) s6 (P6 al) (λ w. method_of fl nm ds an w.0 w.1.0 w.1.1.0)
-plain6 fl nm ds an al = two (λ ms. bind u2 (λ ml. r8 fl nm ds an al ms ml)) (text2 s8) (λ _. Before (λ _. P8 al)) (λ ms w. method_of fl nm ds an ms w.0 w.1.0)
-    (λ ms. two (λ ml. r8 fl nm ds an al ms ml) s8 (λ _. P8 al) (λ ml w. method_of fl nm ds an ms ml w.0) (λ ml. plain8 fl nm ds an al ms ml))
+from_stack_plain : (flags name descriptor attribute size : ℕ) → Plain (reads_from_stack flags name descriptor attribute size) from_stack (FitsFromStack size) (λ w. method_of flags name descriptor attribute w.0 w.1.0 w.1.1.0)
+from_stack_plain flags name descriptor attribute size = two (λ stack. bind u2 (λ locals. reads_from_code flags name descriptor attribute size stack locals)) (text2 from_code) (λ _. Before (λ _. FitsFromCode size)) (λ stack w. method_of flags name descriptor attribute stack w.0 w.1.0)
+    (λ stack. two (λ locals. reads_from_code flags name descriptor attribute size stack locals) from_code (λ _. FitsFromCode size) (λ locals w. method_of flags name descriptor attribute stack locals w.0) (λ locals. from_code_plain flags name descriptor attribute size stack locals))
 
-abbrev T5 : Type 0
-T5 = ℕ × T6
+-- the same from attribute_length on
+abbrev FromSize : Type 0
+FromSize = ℕ × FromStack
 
-abbrev s5 : T5 → List ℕ
-s5 w = to_be_bytes w32 w.0 ++ s6 w.1
+abbrev from_size : FromSize → List ℕ
+from_size w = to_be_bytes w32 w.0 ++ from_stack w.1
 
-abbrev P5 : T5 → Type 0
-P5 w = (w.0 < 2 ^ 32) × P6 w.0 w.1
+abbrev FitsFromSize : FromSize → Type 0
+FitsFromSize w = (w.0 < 2 ^ 32) × FitsFromStack w.0 w.1
 
-plain5 : (fl nm ds an : ℕ) → Plain (bind u4 (λ al. r6 fl nm ds an al)) s5 P5 (λ w. method_of fl nm ds an w.1.0 w.1.1.0 w.1.1.1.0)
-plain5 fl nm ds an = plain_bind (λ al. r6 fl nm ds an al) s6 P6 (λ al w. method_of fl nm ds an w.0 w.1.0 w.1.1.0) u4_plain (λ al h. plain6 fl nm ds an al)
+from_size_plain : (flags name descriptor attribute : ℕ) → Plain (bind u4 (λ size. reads_from_stack flags name descriptor attribute size)) from_size FitsFromSize (λ w. method_of flags name descriptor attribute w.1.0 w.1.1.0 w.1.1.1.0)
+from_size_plain flags name descriptor attribute = plain_bind (λ size. reads_from_stack flags name descriptor attribute size) from_stack FitsFromStack (λ size w. method_of flags name descriptor attribute w.0 w.1.0 w.1.1.0) u4_plain (λ size h. from_stack_plain flags name descriptor attribute size)
 
-abbrev r4 : ℕ → ℕ → ℕ → Reader RawMethod
-r4 fl nm ds = bind (u2_is 1 kind.BadAttribute) (λ c. bind u2 (λ an. bind u4 (λ al. r6 fl nm ds an al)))
+-- the same from attributes_count on
+abbrev reads_from_count : ℕ → ℕ → ℕ → Reader RawMethod
+reads_from_count flags name descriptor = bind (u2_is 1 kind.BadAttribute) (λ c. bind u2 (λ attribute. bind u4 (λ size. reads_from_stack flags name descriptor attribute size)))
 
-abbrev s4 : ℕ × T5 → List ℕ
-s4 w = to_be_bytes w16 1 ++ text2 s5 w
+abbrev from_count : ℕ × FromSize → List ℕ
+from_count w = to_be_bytes w16 1 ++ text2 from_size w
 
-plain4 : (fl nm ds : ℕ) → Plain (r4 fl nm ds) s4 (Before (λ _. P5)) (λ w. method_of fl nm ds w.0 w.1.1.0 w.1.1.1.0 w.1.1.1.1.0)
-plain4 fl nm ds = skip 1 kind.BadAttribute (λ c. bind u2 (λ an. bind u4 (λ al. r6 fl nm ds an al))) (text2 s5) (Before (λ _. P5)) (λ w. method_of fl nm ds w.0 w.1.1.0 w.1.1.1.0 w.1.1.1.1.0) (omega arith)
-    (two (λ an. bind u4 (λ al. r6 fl nm ds an al)) s5 (λ _. P5) (λ an w. method_of fl nm ds an w.1.0 w.1.1.0 w.1.1.1.0) (λ an. plain5 fl nm ds an))
+from_count_plain : (flags name descriptor : ℕ) → Plain (reads_from_count flags name descriptor) from_count (Before (λ _. FitsFromSize)) (λ w. method_of flags name descriptor w.0 w.1.1.0 w.1.1.1.0 w.1.1.1.1.0)
+from_count_plain flags name descriptor = skip 1 kind.BadAttribute (λ c. bind u2 (λ attribute. bind u4 (λ size. reads_from_stack flags name descriptor attribute size))) (text2 from_size) (Before (λ _. FitsFromSize)) (λ w. method_of flags name descriptor w.0 w.1.1.0 w.1.1.1.0 w.1.1.1.1.0) (omega arith)
+    (two (λ attribute. bind u4 (λ size. reads_from_stack flags name descriptor attribute size)) from_size (λ _. FitsFromSize) (λ attribute w. method_of flags name descriptor attribute w.1.0 w.1.1.0 w.1.1.1.0) (λ attribute. from_size_plain flags name descriptor attribute))
 
-abbrev T1 : Type 0
-T1 = ℕ × (ℕ × (ℕ × (ℕ × T5)))
+-- all items of a method
+abbrev Items : Type 0
+Items = ℕ × (ℕ × (ℕ × (ℕ × FromSize)))
 
-abbrev s1 : T1 → List ℕ
-s1 w = text2 (text2 (text2 s4)) w
+abbrev items_bytes : Items → List ℕ
+items_bytes w = text2 (text2 (text2 from_count)) w
 
-abbrev P1 : T1 → Type 0
-P1 w = Before (λ _. Before (λ _. Before (λ _. Before (λ _. P5)))) w
+abbrev FitItems : Items → Type 0
+FitItems w = Before (λ _. Before (λ _. Before (λ _. Before (λ _. FitsFromSize)))) w
 
-abbrev v1 : T1 → RawMethod
-v1 w = method_of w.0 w.1.0 w.1.1.0 w.1.1.1.0 w.1.1.1.1.1.0 w.1.1.1.1.1.1.0 w.1.1.1.1.1.1.1.0
+abbrev method_of_items : Items → RawMethod
+method_of_items w = method_of w.0 w.1.0 w.1.1.0 w.1.1.1.0 w.1.1.1.1.1.0 w.1.1.1.1.1.1.0 w.1.1.1.1.1.1.1.0
 
-parts1 : Plain (bind u2 (λ fl. bind u2 (λ nm. bind u2 (λ ds. r4 fl nm ds)))) s1 P1 v1
-parts1 = two (λ fl. bind u2 (λ nm. bind u2 (λ ds. r4 fl nm ds))) (text2 (text2 s4)) (λ _. Before (λ _. Before (λ _. Before (λ _. P5)))) (λ fl w. method_of fl w.0 w.1.0 w.1.1.0 w.1.1.1.1.0 w.1.1.1.1.1.0 w.1.1.1.1.1.1.0)
-    (λ fl. two (λ nm. bind u2 (λ ds. r4 fl nm ds)) (text2 s4) (λ _. Before (λ _. Before (λ _. P5))) (λ nm w. method_of fl nm w.0 w.1.0 w.1.1.1.0 w.1.1.1.1.0 w.1.1.1.1.1.0)
-    (λ nm. two (λ ds. r4 fl nm ds) s4 (λ _. Before (λ _. P5)) (λ ds w. method_of fl nm ds w.0 w.1.1.0 w.1.1.1.0 w.1.1.1.1.0) (λ ds. plain4 fl nm ds)))
+items_plain : Plain (bind u2 (λ flags. bind u2 (λ name. bind u2 (λ descriptor. reads_from_count flags name descriptor)))) items_bytes FitItems method_of_items
+items_plain = two (λ flags. bind u2 (λ name. bind u2 (λ descriptor. reads_from_count flags name descriptor))) (text2 (text2 from_count)) (λ _. Before (λ _. Before (λ _. Before (λ _. FitsFromSize)))) (λ flags w. method_of flags w.0 w.1.0 w.1.1.0 w.1.1.1.1.0 w.1.1.1.1.1.0 w.1.1.1.1.1.1.0)
+    (λ flags. two (λ name. bind u2 (λ descriptor. reads_from_count flags name descriptor)) (text2 from_count) (λ _. Before (λ _. Before (λ _. FitsFromSize))) (λ name w. method_of flags name w.0 w.1.0 w.1.1.1.0 w.1.1.1.1.0 w.1.1.1.1.1.0)
+    (λ name. two (λ descriptor. reads_from_count flags name descriptor) from_count (λ _. Before (λ _. FitsFromSize)) (λ descriptor w. method_of flags name descriptor w.0 w.1.1.0 w.1.1.1.0 w.1.1.1.1.0) (λ descriptor. from_count_plain flags name descriptor)))
 
-abbrev parts_of : RawMethod → T1
-parts_of m = (m.access_flags, (m.name_index, (m.descriptor_index, (m.attribute_name_index, (length m.code + 12, (m.max_stack, (m.max_locals, (m.code, tt))))))))
+abbrev items_of : RawMethod → Items
+items_of m = (m.access_flags, (m.name_index, (m.descriptor_index, (m.attribute_name_index, (length m.code + 12, (m.max_stack, (m.max_locals, (m.code, tt))))))))
 
+-- the bytes of method_info
 abbrev method_bytes : RawMethod → List ℕ
 method_bytes m = member_info (member_of m)
 
+-- the contents of the Code take 12 bytes beside the code
 info_length : (m : RawMethod) → length (code_info (code_of m)) ≡ length m.code + 12
 info_length m = omega (arith, length-append m.code ends)
 
-method_is : (m : RawMethod) → method_bytes m ≡ s1 (parts_of m)
+-- the bytes of method_info are those of its items
+method_is : (m : RawMethod) → method_bytes m ≡ items_bytes (items_of m)
 method_is m =
     ap (λ t. to_be_bytes w16 m.access_flags ++ (to_be_bytes w16 m.name_index ++ (to_be_bytes w16 m.descriptor_index ++ (to_be_bytes w16 1 ++ t)))) (append-nil (attribute_info (attribute_of m)))
     ∙ ap (λ n. to_be_bytes w16 m.access_flags ++ (to_be_bytes w16 m.name_index ++ (to_be_bytes w16 m.descriptor_index ++ (to_be_bytes w16 1 ++ (to_be_bytes w16 m.attribute_name_index ++ (to_be_bytes w32 n ++ code_info (code_of m))))))) (info_length m)
 
+-- a method is read exactly where it is spelled
 method_plain : Plain method method_bytes FitsMethod (λ m. m)
 unfolding method
-method_plain = plain_as method_bytes FitsMethod (λ m. m) v1 parts_of
+method_plain = plain_as method_bytes FitsMethod (λ m. m) method_of_items items_of
     (λ w h.
     let k = h.1.1.1.1 in
-    let al : w.1.1.1.1.0 ≡ length w.1.1.1.1.1.1.1.0 + 12 = k.1.1.1.0.2 in (
-      ap (λ n. to_be_bytes w16 w.0 ++ (to_be_bytes w16 w.1.0 ++ (to_be_bytes w16 w.1.1.0 ++ (to_be_bytes w16 1 ++ (to_be_bytes w16 w.1.1.1.0 ++ (to_be_bytes w32 n ++ s6 w.1.1.1.1.1)))))) al ∙ sym (method_is (v1 w)),
+    let size : w.1.1.1.1.0 ≡ length w.1.1.1.1.1.1.1.0 + 12 = k.1.1.1.0.2 in (
+      ap (λ n. to_be_bytes w16 w.0 ++ (to_be_bytes w16 w.1.0 ++ (to_be_bytes w16 w.1.1.0 ++ (to_be_bytes w16 1 ++ (to_be_bytes w16 w.1.1.1.0 ++ (to_be_bytes w32 n ++ from_stack w.1.1.1.1.1)))))) size ∙ sym (method_is (method_of_items w)),
       record {
         access_flags = h.0;
         name_index = h.1.0;
@@ -367,83 +398,91 @@ method_plain = plain_as method_bytes FitsMethod (λ m. m) v1 parts_of
       (h.access_flags, (h.name_index, (h.descriptor_index, (h.attribute_name_index, (omega (arith, h.length_to), (h.max_stack, (h.max_locals, ((h.length_from, h.length_to, refl), tt)))))))),
       refl,
     ))
-    parts1
+    items_plain
 
 -- ---- from the last number of a class back to the first
 
-abbrev C9 : Type 0
-C9 = List RawMethod × Unit {0}
+-- from the methods on
+abbrev FromMethods : Type 0
+FromMethods = List RawMethod × Unit {0}
 
-abbrev b9 : C9 → List ℕ
-b9 w = flat_map method_bytes w.0 ++ to_be_bytes w16 0
+abbrev from_methods : FromMethods → List ℕ
+from_methods w = flat_map method_bytes w.0 ++ to_be_bytes w16 0
 
-abbrev F9 : ℕ → C9 → Type 0
-F9 n w = ((length w.0 ≡ n) × AllByRecursion FitsMethod w.0) × Unit {0}
+abbrev FitFromMethods : ℕ → FromMethods → Type 0
+FitFromMethods n w = ((length w.0 ≡ n) × AllByRecursion FitsMethod w.0) × Unit {0}
 
-abbrev q9 : List Entry → ℕ → ℕ → ℕ → ℕ → Reader RawClass
-q9 es fl th su n = bind (many n method) (λ ms. bind (u2_is 0 kind.BadAttribute) (λ a. give (class_of es fl th su ms)))
+abbrev reads_from_methods : List Entry → ℕ → ℕ → ℕ → ℕ → Reader RawClass
+reads_from_methods entries flags this_class super_class n = bind (many n method) (λ methods. bind (u2_is 0 kind.BadAttribute) (λ a. give (class_of entries flags this_class super_class methods)))
 
-class9 : (es : List Entry) (fl th su n : ℕ) → Plain (q9 es fl th su n) b9 (F9 n) (λ w. class_of es fl th su w.0)
-class9 es fl th su n = plain_bind (λ ms. bind (u2_is 0 kind.BadAttribute) (λ a. give (class_of es fl th su ms))) (λ (u : Unit {0}). to_be_bytes w16 0) (λ ms u. Unit {0}) (λ ms u. class_of es fl th su ms) (plain_many n method_plain)
-    (λ ms h. plain_map (λ a. class_of es fl th su ms) (u2_is_plain 0 kind.BadAttribute (omega arith)))
+from_methods_plain : (entries : List Entry) (flags this_class super_class n : ℕ) → Plain (reads_from_methods entries flags this_class super_class n) from_methods (FitFromMethods n) (λ w. class_of entries flags this_class super_class w.0)
+from_methods_plain entries flags this_class super_class n = plain_bind (λ methods. bind (u2_is 0 kind.BadAttribute) (λ a. give (class_of entries flags this_class super_class methods))) (λ (u : Unit {0}). to_be_bytes w16 0) (λ methods u. Unit {0}) (λ methods u. class_of entries flags this_class super_class methods) (plain_many n method_plain)
+    (λ methods h. plain_map (λ a. class_of entries flags this_class super_class methods) (u2_is_plain 0 kind.BadAttribute (omega arith)))
 
-abbrev q6 : List Entry → ℕ → ℕ → ℕ → Reader RawClass
-q6 es fl th su = bind (u2_is 0 kind.BadIndex) (λ i. bind (u2_is 0 kind.BadIndex) (λ f. bind u2 (λ n. q9 es fl th su n)))
+-- the same from interfaces_count on
+abbrev reads_from_interfaces : List Entry → ℕ → ℕ → ℕ → Reader RawClass
+reads_from_interfaces entries flags this_class super_class = bind (u2_is 0 kind.BadIndex) (λ i. bind (u2_is 0 kind.BadIndex) (λ f. bind u2 (λ n. reads_from_methods entries flags this_class super_class n)))
 
-abbrev b6 : ℕ × C9 → List ℕ
-b6 w = to_be_bytes w16 0 ++ (to_be_bytes w16 0 ++ text2 b9 w)
+abbrev from_interfaces : ℕ × FromMethods → List ℕ
+from_interfaces w = to_be_bytes w16 0 ++ (to_be_bytes w16 0 ++ text2 from_methods w)
 
-class6 : (es : List Entry) (fl th su : ℕ) → Plain (q6 es fl th su) b6 (Before F9) (λ w. class_of es fl th su w.1.0)
-class6 es fl th su = skip 0 kind.BadIndex (λ i. bind (u2_is 0 kind.BadIndex) (λ f. bind u2 (λ n. q9 es fl th su n))) (λ w. to_be_bytes w16 0 ++ text2 b9 w) (Before F9) (λ w. class_of es fl th su w.1.0) (omega arith)
-    (skip 0 kind.BadIndex (λ f. bind u2 (λ n. q9 es fl th su n)) (text2 b9) (Before F9) (λ w. class_of es fl th su w.1.0) (omega arith)
-    (two (λ n. q9 es fl th su n) b9 F9 (λ n w. class_of es fl th su w.0) (λ n. class9 es fl th su n)))
+from_interfaces_plain : (entries : List Entry) (flags this_class super_class : ℕ) → Plain (reads_from_interfaces entries flags this_class super_class) from_interfaces (Before FitFromMethods) (λ w. class_of entries flags this_class super_class w.1.0)
+from_interfaces_plain entries flags this_class super_class = skip 0 kind.BadIndex (λ i. bind (u2_is 0 kind.BadIndex) (λ f. bind u2 (λ n. reads_from_methods entries flags this_class super_class n))) (λ w. to_be_bytes w16 0 ++ text2 from_methods w) (Before FitFromMethods) (λ w. class_of entries flags this_class super_class w.1.0) (omega arith)
+    (skip 0 kind.BadIndex (λ f. bind u2 (λ n. reads_from_methods entries flags this_class super_class n)) (text2 from_methods) (Before FitFromMethods) (λ w. class_of entries flags this_class super_class w.1.0) (omega arith)
+    (two (λ n. reads_from_methods entries flags this_class super_class n) from_methods FitFromMethods (λ n w. class_of entries flags this_class super_class w.0) (λ n. from_methods_plain entries flags this_class super_class n)))
 
-abbrev C3 : Type 0
-C3 = ℕ × (ℕ × (ℕ × (ℕ × C9)))
+-- the same from access_flags on
+abbrev FromFlags : Type 0
+FromFlags = ℕ × (ℕ × (ℕ × (ℕ × FromMethods)))
 
-abbrev b3 : C3 → List ℕ
-b3 w = text2 (text2 (text2 b6)) w
+abbrev from_flags : FromFlags → List ℕ
+from_flags w = text2 (text2 (text2 from_interfaces)) w
 
-abbrev F3 : C3 → Type 0
-F3 w = Before (λ _. Before (λ _. Before (λ _. Before F9))) w
+abbrev FitFromFlags : FromFlags → Type 0
+FitFromFlags w = Before (λ _. Before (λ _. Before (λ _. Before FitFromMethods))) w
 
-abbrev q3 : List Entry → Reader RawClass
-q3 es = bind u2 (λ fl. bind u2 (λ th. bind u2 (λ su. q6 es fl th su)))
+abbrev reads_from_flags : List Entry → Reader RawClass
+reads_from_flags entries = bind u2 (λ flags. bind u2 (λ this_class. bind u2 (λ super_class. reads_from_interfaces entries flags this_class super_class)))
 
-class3 : (es : List Entry) → Plain (q3 es) b3 F3 (λ w. class_of es w.0 w.1.0 w.1.1.0 w.1.1.1.1.0)
-class3 es = two (λ fl. bind u2 (λ th. bind u2 (λ su. q6 es fl th su))) (text2 (text2 b6)) (λ _. Before (λ _. Before (λ _. Before F9))) (λ fl w. class_of es fl w.0 w.1.0 w.1.1.1.0)
-    (λ fl. two (λ th. bind u2 (λ su. q6 es fl th su)) (text2 b6) (λ _. Before (λ _. Before F9)) (λ th w. class_of es fl th w.0 w.1.1.0)
-    (λ th. two (λ su. q6 es fl th su) b6 (λ _. Before F9) (λ su w. class_of es fl th su w.1.0) (λ su. class6 es fl th su)))
+from_flags_plain : (entries : List Entry) → Plain (reads_from_flags entries) from_flags FitFromFlags (λ w. class_of entries w.0 w.1.0 w.1.1.0 w.1.1.1.1.0)
+from_flags_plain entries = two (λ flags. bind u2 (λ this_class. bind u2 (λ super_class. reads_from_interfaces entries flags this_class super_class))) (text2 (text2 from_interfaces)) (λ _. Before (λ _. Before (λ _. Before FitFromMethods))) (λ flags w. class_of entries flags w.0 w.1.0 w.1.1.1.0)
+    (λ flags. two (λ this_class. bind u2 (λ super_class. reads_from_interfaces entries flags this_class super_class)) (text2 from_interfaces) (λ _. Before (λ _. Before FitFromMethods)) (λ this_class w. class_of entries flags this_class w.0 w.1.1.0)
+    (λ this_class. two (λ super_class. reads_from_interfaces entries flags this_class super_class) from_interfaces (λ _. Before FitFromMethods) (λ super_class w. class_of entries flags this_class super_class w.1.0) (λ super_class. from_interfaces_plain entries flags this_class super_class)))
 
-abbrev b2 : List Entry × C3 → List ℕ
-b2 w = pool_bytes w.0 ++ b3 w.1
+-- the same from the pool on
+abbrev from_pool : List Entry × FromFlags → List ℕ
+from_pool w = pool_bytes w.0 ++ from_flags w.1
 
-abbrev F2 : List Entry × C3 → Type 0
-F2 w = HavePool w.0 × F3 w.1
+abbrev FitFromPool : List Entry × FromFlags → Type 0
+FitFromPool w = HavePool w.0 × FitFromFlags w.1
 
-class2 : Plain (bind pool (λ es. q3 es)) b2 F2 (λ w. class_of (numbered w.0) w.1.0 w.1.1.0 w.1.1.1.0 w.1.1.1.1.1.0)
-class2 = plain_bind (λ es. q3 es) b3 (λ es. F3) (λ es w. class_of es w.0 w.1.0 w.1.1.0 w.1.1.1.1.0) pool_plain (λ es h. class3 (numbered es))
+from_pool_plain : Plain (bind pool (λ entries. reads_from_flags entries)) from_pool FitFromPool (λ w. class_of (numbered w.0) w.1.0 w.1.1.0 w.1.1.1.0 w.1.1.1.1.1.0)
+from_pool_plain = plain_bind (λ entries. reads_from_flags entries) from_flags (λ entries. FitFromFlags) (λ entries w. class_of entries w.0 w.1.0 w.1.1.0 w.1.1.1.1.0) pool_plain (λ entries h. from_flags_plain (numbered entries))
 
-abbrev class_parts : RawClass → Unit {0} × (List Entry × C3)
+-- all items of a class
+abbrev class_parts : RawClass → Unit {0} × (List Entry × FromFlags)
 class_parts raw = (tt, (entries_of raw.pool, (raw.access_flags, (raw.this_class, (raw.super_class, (length raw.methods, (raw.methods, tt)))))))
 
-abbrev class_value : Unit {0} × (List Entry × C3) → RawClass
+abbrev class_value : Unit {0} × (List Entry × FromFlags) → RawClass
 class_value v = let w = v.1 in class_of (numbered w.0) w.1.0 w.1.1.0 w.1.1.1.0 w.1.1.1.1.1.0
 
+-- the bytes of ClassFile
 abbrev class_bytes : RawClass → List ℕ
 class_bytes raw = class_file (structure_of raw)
 
-abbrev class_text : Unit {0} × (List Entry × C3) → List ℕ
-class_text v = head_bytes ++ b2 v.1
+abbrev class_text : Unit {0} × (List Entry × FromFlags) → List ℕ
+class_text v = head_bytes ++ from_pool v.1
 
 -- the bytes of a class, of so many methods with these bytes
 abbrev with_methods : RawClass → ℕ → List ℕ → List ℕ
 with_methods raw n text = head_bytes ++ (pool_bytes (entries_of raw.pool) ++ (to_be_bytes w16 raw.access_flags ++ (to_be_bytes w16 raw.this_class ++ (to_be_bytes w16 raw.super_class
     ++ (to_be_bytes w16 0 ++ (to_be_bytes w16 0 ++ (to_be_bytes w16 n ++ (text ++ to_be_bytes w16 0))))))))
 
+-- the bytes of ClassFile are those of its items
 class_is : (raw : RawClass) → class_bytes raw ≡ class_text (class_parts raw)
 class_is raw = ap (λ n. with_methods raw n (flat_map member_info (map member_of raw.methods))) (length-map raw.methods member_of) ∙ ap (with_methods raw (length raw.methods)) (flat_map-map member_info member_of raw.methods)
 
+-- a structure is read exactly where it is spelled
 structure_plain : Plain structure class_bytes FitsClass (λ raw. raw)
 unfolding structure
 structure_plain = plain_as class_bytes FitsClass (λ raw. raw) class_value class_parts
@@ -452,7 +491,7 @@ structure_plain = plain_as class_bytes FitsClass (λ raw. raw) class_value class
     let f = h.1 in
     let m = f.1.1.1.1 in
     let n : w.1.1.1.1.0 ≡ length w.1.1.1.1.1.0 = sym m.1.0.0 in (
-      ap (λ k. head_bytes ++ (pool_bytes w.0 ++ (to_be_bytes w16 w.1.0 ++ (to_be_bytes w16 w.1.1.0 ++ (to_be_bytes w16 w.1.1.1.0 ++ (to_be_bytes w16 0 ++ (to_be_bytes w16 0 ++ (to_be_bytes w16 k ++ b9 w.1.1.1.1.1)))))))) n ∙ sym (class_is (class_value v)),
+      ap (λ k. head_bytes ++ (pool_bytes w.0 ++ (to_be_bytes w16 w.1.0 ++ (to_be_bytes w16 w.1.1.0 ++ (to_be_bytes w16 w.1.1.1.0 ++ (to_be_bytes w16 0 ++ (to_be_bytes w16 0 ++ (to_be_bytes w16 k ++ from_methods w.1.1.1.1.1)))))))) n ∙ sym (class_is (class_value v)),
       record {
         pool = record { numbers = refl; count = omega (arith, f.0.0); bytes = f.0.1 };
         access_flags = f.1.0;
@@ -468,14 +507,16 @@ structure_plain = plain_as class_bytes FitsClass (λ raw. raw) class_value class
       (tt, ((omega (arith, h.pool.count, ap length h.pool.numbers), h.pool.bytes), (h.access_flags, (h.this_class, (h.super_class, (h.methods_count, ((refl, h.methods), tt))))))),
       ap (λ p. class_of p raw.access_flags raw.this_class raw.super_class raw.methods) h.pool.numbers,
     ))
-    (plain_bind (λ first. bind pool (λ es. q3 es)) b2 (λ u. F2) (λ u w. class_of (numbered w.0) w.1.0 w.1.1.0 w.1.1.1.0 w.1.1.1.1.1.0) head_plain (λ u h. class2))
+    (plain_bind (λ first. bind pool (λ entries. reads_from_flags entries)) from_pool (λ u. FitFromPool) (λ u w. class_of (numbered w.0) w.1.0 w.1.1.0 w.1.1.1.0 w.1.1.1.1.1.0) head_plain (λ u h. from_pool_plain))
 
 -- ---- the whole text
 
+-- past a test that accepts
 guard_ended : {A X : Type 0} (b : Bool) (d : X) (x y : A) → cond b (Ok x) (Err d) ≡ Ok y → (b ≡ true) × (x ≡ y)
 guard_ended true d x y e = (refl, cc)
 guard_ended false d x y e = absurd cc
 
+-- what was read to the end
 was_whole : (r : Result (RawClass × Place) FormatFault) (raw : RawClass) → ending r ≡ Ok raw → (q : Place) × (r ≡ Ok (raw, q)) × (q.at ≡ length q.bytes)
 was_whole (Ok y) raw h =
     let g = guard_ended (eqb y.1.at (length y.1.bytes)) (fault y.1.at kind.Trailing) y.0 raw h in
@@ -503,6 +544,7 @@ read_only bytes raw h fits =
     let end : eqb (0 + length bytes) (length bytes) ≡ true = eq-eqb _ _ (omega arith) in
     rw (structure_plain.only (start bytes) bytes raw q (raw, h, (fits, refl)) t, end) refl
 
+-- a structure that was read is one
 ok_class : (x y : RawClass) → (let R : Result RawClass FormatFault = Ok x in R) ≡ Ok y → x ≡ y
 ok_class x y h = cc
 

@@ -25,3 +25,6 @@ impl From<NotBuilt> for Or<NotBuilt> {
         Or::Fault(fault)
     }
 }
+
+#[cfg(test)]
+mod tests;
