@@ -1,5 +1,5 @@
 -- What a small class must be so that it can be written: each number fits the bytes that it is written in.
-use Rattle.std.specs.Prelude.{◌+◌, ◌^◌, ◌<◌, length, All, IfSome}
+use Rattle.std.specs.Prelude.{ℕ, ◌+◌, ◌^◌, ◌<◌, List, length, All, IfSome}
 use Rattle.std.specs.Int.{w8, w16}
 use Rattle.std.specs.Int.RustNames.{FitsSigned}
 use Rattle.jv_base.specs.Mutf8.{mutf8}
