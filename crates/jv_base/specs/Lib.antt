@@ -1,6 +1,9 @@
+pub mod Decoding
+pub mod Longest
 pub mod Mutf8
 pub mod Names
 pub mod Outcome
 pub mod Place
 pub mod Types
 pub mod Utf16
+pub mod Walk

@@ -1,5 +1,5 @@
 -- Names in internal form (JVMS 4.2), seen as their bytes in UTF-8.
-use Rattle.std.specs.Prelude.{ℕ, Bool, not, ◌&&◌, ◌||◌, List, [], ◌∷◌, length, nat_le, nat_eq, ◌==◌, codes}
+use Rattle.std.specs.Prelude.{ℕ, Bool, true, false, not, ◌&&◌, ◌||◌, List, [], ◌∷◌, length, nat_le, nat_eq, ◌==◌, codes, if◌then◌else◌}
 use Rattle.std.specs.Char.{is_ascii_alphanumeric}
 use Rattle.std.specs.Cmp.Lexicographic.{pointwise}
 use Rattle.std.specs.List.{list_all, list_any, slice_split}
@@ -13,18 +13,21 @@ is_text text other = pointwise nat_eq text other
 unfoldable pub is_name_byte : ℕ → Bool
 is_name_byte b = nat_le 128 b || is_ascii_alphanumeric b || b == 95 || b == 36 || b == 45
 
+abbrev pub all_name_bytes : List ℕ → Bool
+all_name_bytes bytes = list_all is_name_byte bytes
+
 -- a name without a separator
 unfoldable pub is_member_name : List ℕ → Bool
-is_member_name name = not (length name == 0) && list_all is_name_byte name
+is_member_name name = not (length name == 0) && all_name_bytes name
 
 -- the name of a method, instance initialisation and class initialisation included (JVMS 2.9)
 unfoldable pub is_method_name : List ℕ → Bool
 is_method_name name = is_member_name name || is_text name (codes "<init>") || is_text name (codes "<clinit>")
 
--- the words that stand for another type in Java source
-abbrev pub keywords_of_types : List (List ℕ)
-keywords_of_types = codes "boolean" ∷ codes "byte" ∷ codes "char" ∷ codes "short" ∷ codes "int" ∷ codes "long"
-    ∷ codes "float" ∷ codes "double" ∷ codes "void" ∷ []
+-- a word that stands for another type in Java source
+unfoldable pub is_keyword : List ℕ → Bool
+is_keyword text = list_any (is_text text)
+    (codes "boolean" ∷ codes "byte" ∷ codes "char" ∷ codes "short" ∷ codes "int" ∷ codes "long" ∷ codes "float" ∷ codes "double" ∷ codes "void" ∷ [])
 
 -- the parts of a name between its separators, `/`
 abbrev pub name_parts : List ℕ → List (List ℕ)
@@ -32,4 +35,9 @@ name_parts name = slice_split (λ b. b == 47) name
 
 -- the name of a class or an interface, arrays aside
 unfoldable pub is_class_name : List ℕ → Bool
-is_class_name name = list_all is_member_name (name_parts name) && not (list_any (is_text name) keywords_of_types)
+is_class_name name = list_all is_member_name (name_parts name) && not (is_keyword name)
+
+-- the same of its parts, read from left to right: whether a part is begun, and each part is whole
+abbrev pub parts_whole : Bool → List ℕ → Bool
+parts_whole in_part [] = in_part
+parts_whole in_part (b ∷ bs) = if b == 47 then in_part && parts_whole false bs else is_name_byte b && parts_whole true bs

@@ -5,16 +5,22 @@
 mod access;
 mod cursor;
 mod items;
+mod mutf8;
+mod names;
 mod outcome;
 mod text;
 mod types;
+mod utf16;
 
 pub use access::Access;
 pub use cursor::{Cursor, End};
 pub use items::{Bytes, Items, Units};
+pub use mutf8::{BadUtf8, mutf8_of_units, units_of_mutf8};
+pub use names::{is_class_name, is_member_name, is_method_name};
 pub use outcome::{M, Or, OutOfMemory};
 pub use text::Text;
 pub use types::{Base, FieldType, MethodType, Name};
+pub use utf16::{text_of_units, units_of_text};
 
 #[cfg(test)]
 mod tests;
