@@ -1,0 +1,7 @@
+-- The whole class file (JVMS 4).
+pub mod ConstantPool
+pub mod Opcodes
+pub mod InstructionStructure
+pub mod Instructions
+pub mod Attributes
+pub mod LineNumbers
