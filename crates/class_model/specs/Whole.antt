@@ -5,3 +5,8 @@ pub mod InstructionStructure
 pub mod Instructions
 pub mod Attributes
 pub mod LineNumbers
+pub mod Frames
+pub mod CodeAttribute
+pub mod Flags
+pub mod Members
+pub mod ClassFile
