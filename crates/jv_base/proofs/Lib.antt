@@ -2,6 +2,8 @@ pub mod Coding
 pub mod Due
 pub mod Equality
 pub mod Naming
+pub mod Places
 pub mod Utf16Text
 pub mod WalkLaw
 pub mod Walking
+pub mod Words

@@ -1,4 +1,6 @@
 pub mod Decoding
+pub mod DescriptorPlaces
+pub mod Descriptors
 pub mod Longest
 pub mod Mutf8
 pub mod Names

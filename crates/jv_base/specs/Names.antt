@@ -1,5 +1,5 @@
 -- Names in internal form (JVMS 4.2), seen as their bytes in UTF-8.
-use Rattle.std.specs.Prelude.{ℕ, Bool, true, false, not, ◌&&◌, ◌||◌, List, [], ◌∷◌, length, nat_le, nat_eq, ◌==◌, codes, if◌then◌else◌}
+use Rattle.std.specs.Prelude.{ℕ, Bool, true, false, not, ◌&&◌, ◌||◌, List, [], ◌∷◌, length, nat_le, nat_eq, ◌==◌, codes, Option, Some, None, if◌then◌else◌}
 use Rattle.std.specs.Char.{is_ascii_alphanumeric}
 use Rattle.std.specs.Cmp.Lexicographic.{pointwise}
 use Rattle.std.specs.List.{list_all, list_any, slice_split}
@@ -41,3 +41,10 @@ is_class_name name = list_all is_member_name (name_parts name) && not (is_keywor
 abbrev pub parts_whole : Bool → List ℕ → Bool
 parts_whole in_part [] = in_part
 parts_whole in_part (b ∷ bs) = if b == 47 then in_part && parts_whole false bs else is_name_byte b && parts_whole true bs
+
+-- whether a part is begun where a class name goes on with a byte, if it can
+unfoldable pub part_after : Bool → ℕ → Option Bool
+part_after in_part b =
+    if b == 47 then (if in_part then Some false else None)
+    else if is_name_byte b then Some true
+    else None

@@ -4,6 +4,7 @@
 
 mod access;
 mod cursor;
+mod descriptors;
 mod items;
 mod mutf8;
 mod names;
@@ -14,6 +15,7 @@ mod utf16;
 
 pub use access::Access;
 pub use cursor::{Cursor, End};
+pub use descriptors::{BadDescriptor, field_text, method_text, read_field_type, read_method_type};
 pub use items::{Bytes, Items, Units};
 pub use mutf8::{BadUtf8, mutf8_of_units, units_of_mutf8};
 pub use names::{is_class_name, is_member_name, is_method_name};

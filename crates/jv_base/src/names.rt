@@ -1,6 +1,6 @@
 // Names in internal form (JVMS 4.2).
 ghost use Rattle.std.specs.Prelude.{◌≡◌, false};
-ghost use Rattle.jv_base.specs.Names.{all_name_bytes, is_class_name, is_keyword, is_member_name, is_method_name, is_name_byte, parts_whole};
+ghost use Rattle.jv_base.specs.Names.{all_name_bytes, is_class_name, is_keyword, is_member_name, is_method_name, is_name_byte, part_after, parts_whole};
 
 /// Whether a text is the name of a field, or of a method that initialises nothing (JVMS 4.2.2): at least one
 /// character, each an ASCII letter or digit, `_`, `$`, `-` or one from U+0080 on.
@@ -72,8 +72,21 @@ fn all_name_bytes(bytes: &[u8]) -> bool
 /// In UTF-8 a character from U+0080 on has no byte below 128, and each other one is a single byte. So bytes
 /// can be tested in place of characters.
 #[tactic(auto, unfolding(crate::specs::Names::is_name_byte))]
-pub(crate) fn is_name_byte(byte: u8) -> bool
+fn is_name_byte(byte: u8) -> bool
     ensures { result ≡ is_name_byte byte }
 {
     matches!(byte, 128..=255 | b'0'..=b'9' | b'A'..=b'Z' | b'a'..=b'z' | b'_' | b'$' | b'-')
+}
+
+/// Whether a part of a class name is begun where it goes on with a byte, if it can.
+#[tactic(auto, unfolding(crate::specs::Names::part_after))]
+pub(crate) fn part_after(in_part: bool, byte: u8) -> Option<bool>
+    ensures { result ≡ part_after in_part byte }
+{
+    match byte {
+        b'/' if in_part => Some(false),
+        b'/' => None,
+        _ if is_name_byte(byte) => Some(true),
+        _ => None,
+    }
 }

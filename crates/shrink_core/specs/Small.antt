@@ -1,11 +1,14 @@
 -- The classes that are built so far.
-use Rattle.std.specs.Prelude.{◌≡◌, ℕ, List, Some, codes}
+use Rattle.std.specs.Prelude.{◌≡◌, ℕ, List, Some, Result, Ok, Err, codes}
 use Rattle.std.specs.List.{AllByRecursion}
 use Rattle.jv_base.specs.declared.types.Base.TheVariants.{Int}
 use Rattle.jv_base.specs.declared.types.FieldType.{FieldType}
 use Rattle.class_model.specs.declared.class.Method.{Method}
 use Rattle.class_model.specs.declared.class.Class.{Class}
 use Rattle.class_model.specs.File.{File}
+use Rattle.jv_base.specs.declared.outcome.Or.{Or}
+use Rattle.jv_base.specs.declared.outcome.Or.TheVariants.{Fault, OutOfMemory}
+use Rattle.shrink_core.specs.declared.small.NotBuilt.{NotBuilt}
 
 -- the type int
 abbrev pub int_type : FieldType
@@ -22,3 +25,9 @@ pub record IsSmall (bytes : List ℕ) (class : Class) : Type 0 where
   pub name : class.name ≡ codes "Main"
   pub super_name : class.super_name ≡ codes "java/lang/Object"
   pub methods : AllByRecursion IsIntMethod class.methods
+
+-- the bytes spell no small class, where that is the answer
+abbrev pub Refuses : Result Class (Or NotBuilt) → List ℕ → Type 0
+Refuses (Ok class) bytes = Unit {0}
+Refuses (Err (Fault f)) bytes = (class : Class) → IsSmall bytes class → ⊥
+Refuses (Err OutOfMemory) bytes = Unit {0}

@@ -1,0 +1,148 @@
+-- The constants that a class is written with stand in the pool that was read.
+use Rattle.std.proofs.Common.{◌≡◌, ℕ, zero, suc, ◌+◌, ◌^◌, ◌<◌, ◌≤◌, Bool, true, false, cond, ◌||◌, List, [], ◌∷◌, ◌++◌, length, Option, Some, None, option_map, option_and_then, slice_get, refl, sym, ap, subst, ◌∙◌, arith, codes, Decides}
+use Rattle.std.specs.Cmp.{IsEquivalence, decided}
+use Rattle.std.specs.List.{AllZip, AllByRecursion, IsDistinct, list_any, fold, flat_map, filter_map, cons_option}
+use Rattle.std.proofs.lemmas.Bool.{or_left, or_right, cases_Bool}
+use Rattle.std.proofs.lemmas.Map.Keys.{IsDistinct-push}
+use Rattle.std.proofs.lemmas.Map.Made.{length-le_from_is_member}
+use Rattle.indexmap.specs.IndexSet.{insert_key, insert_all}
+use Rattle.jv_base.specs.Mutf8.{mutf8}
+use Rattle.jv_base.specs.Utf16.{units_of}
+use Rattle.jv_base.proofs.Equality.{text_Decides}
+use Rattle.class_model.specs.declared.constant.PoolConstant.{PoolConstant}
+use Rattle.class_model.specs.declared.constant.PoolConstant.TheVariants.{Utf8, Class as ClassOf}
+use Rattle.class_model.specs.declared.pool.Entry.{Entry}
+use Rattle.class_model.specs.declared.pool.Entry.TheVariants as entry
+use Rattle.class_model.specs.Pool.{HasBytes, units_in, name_index_in, units_at, class_units_at, IsTextAt, IsClassAt}
+use Rattle.class_model.specs.Layout.{same}
+use Rattle.shrink_core.specs.Writable.{TextFits}
+
+pub same_Decides : (a b : PoolConstant) → Decides (same a b) (a ≡ b)
+same_Decides (Utf8 a) (Utf8 b) = let d = text_Decides a b in (λ e. ap (λ u. Utf8 u) (d.0 e), λ e. d.1 cc)
+same_Decides (Utf8 a) (ClassOf b) = (λ e. absurd cc, λ e. absurd cc)
+same_Decides (ClassOf a) (Utf8 b) = (λ e. absurd cc, λ e. absurd cc)
+same_Decides (ClassOf a) (ClassOf b) = let d = text_Decides a b in (λ e. ap (λ u. ClassOf u) (d.0 e), λ e. d.1 cc)
+
+pub same_laws : IsEquivalence same
+same_laws = decided same same_Decides
+
+-- ---- each constant once
+
+module _ (P : PoolConstant → Type 0) where
+  all_push : (ks : List PoolConstant) (k : PoolConstant) → AllByRecursion P ks → P k → AllByRecursion P (ks ++ k ∷ [])
+  all_push [] k all one = (one, tt)
+  all_push (x ∷ ks) k all one = (all.0, all_push ks k all.1 one)
+
+  key_by : (b : Bool) (ks : List PoolConstant) (k : PoolConstant) → AllByRecursion P ks → P k → AllByRecursion P (cond b ks (ks ++ k ∷ []))
+  key_by true ks k all one = all
+  key_by false ks k all one = all_push ks k all one
+
+  -- what holds of the constants that are wanted holds of those in the pool
+  pub all_inserted : (wanted ks : List PoolConstant) → AllByRecursion P ks → AllByRecursion P wanted → AllByRecursion P (insert_all same ks wanted)
+  all_inserted [] ks all more = all
+  all_inserted (k ∷ wanted) ks all more = all_inserted wanted (insert_key same ks k) (key_by (list_any (same k) ks) ks k all more.0) more.1
+
+  pub all_appended : (ks js : List PoolConstant) → AllByRecursion P ks → AllByRecursion P js → AllByRecursion P (ks ++ js)
+  all_appended [] js all more = more
+  all_appended (k ∷ ks) js all more = (all.0, all_appended ks js all.1 more)
+
+distinct_by : (b : Bool) (ks : List PoolConstant) (k : PoolConstant) → list_any (same k) ks ≡ b → IsDistinct same ks → IsDistinct same (cond b ks (ks ++ k ∷ []))
+distinct_by true ks k e h = h
+distinct_by false ks k e h = IsDistinct-push same_laws ks k h e
+
+-- no constant stands twice in the pool
+pub distinct_inserted : (wanted ks : List PoolConstant) → IsDistinct same ks → IsDistinct same (insert_all same ks wanted)
+distinct_inserted [] ks h = h
+distinct_inserted (k ∷ wanted) ks h = distinct_inserted wanted (insert_key same ks k) (distinct_by (list_any (same k) ks) ks k refl h)
+
+-- ---- what the entries that were read say
+
+-- what an entry says, where it is one of a text or a class
+abbrev pub symbol : List Entry → Entry → Option PoolConstant
+symbol pool (entry.Utf8 units) = Some (Utf8 units)
+symbol pool (entry.Class name_index) = option_map (λ units. ClassOf units) (units_at pool name_index)
+symbol pool _ = None
+
+abbrev pub symbols : List Entry → List Entry → List PoolConstant
+symbols pool entries = filter_map (symbol pool) entries
+
+-- a constant is among these
+abbrev pub Has : List PoolConstant → PoolConstant → Type 0
+Has ks k = list_any (same k) ks ≡ true
+
+length_by : (o : Option PoolConstant) (ks : List PoolConstant) (n : ℕ) → length ks ≤ n → length (cons_option o ks) ≤ suc n
+length_by None ks n h = omega arith
+length_by (Some k) ks n h = omega arith
+
+pub symbols_most : (pool entries : List Entry) → length (symbols pool entries) ≤ length entries
+symbols_most pool [] = omega arith
+symbols_most pool (e ∷ entries) = length_by (symbol pool e) (symbols pool entries) (length entries) (symbols_most pool entries)
+
+has_first : (o : Option PoolConstant) (ks : List PoolConstant) (k : PoolConstant) → o ≡ Some k → Has (cons_option o ks) k
+has_first None ks k e = absurd cc
+has_first (Some x) ks k e = let is : x ≡ k = cc in or_left (same k x) _ ((same_Decides k x).1 (sym is))
+
+has_later : (o : Option PoolConstant) (ks : List PoolConstant) (k : PoolConstant) → Has ks k → Has (cons_option o ks) k
+has_later None ks k h = h
+has_later (Some x) ks k h = or_right (same k x) _ h
+
+has_at : (pool entries : List Entry) (i : ℕ) (e : Entry) (k : PoolConstant) → slice_get entries i ≡ Some e → symbol pool e ≡ Some k → Has (symbols pool entries) k
+has_at pool [] i e k at is = absurd cc
+has_at pool (x ∷ entries) zero e k at is = has_first (symbol pool x) (symbols pool entries) k (let here : x ≡ e = cc in ap (symbol pool) here ∙ is)
+has_at pool (x ∷ entries) (suc i) e k at is = has_later (symbol pool x) (symbols pool entries) k (has_at pool entries i e k at is)
+
+text_symbol : (pool : List Entry) (e : Entry) (units : List ℕ) → units_in e ≡ Some units → symbol pool e ≡ Some (Utf8 units)
+text_symbol pool (entry.Utf8 u) units is = let here : u ≡ units = cc in ap (λ v. Some (Utf8 v)) here
+text_symbol pool _ units is = absurd cc
+
+text_by : (pool : List Entry) (i : ℕ) (o : Option Entry) (units : List ℕ) → slice_get pool i ≡ o → option_and_then units_in o ≡ Some units → Has (symbols pool pool) (Utf8 units)
+text_by pool i None units at is = absurd cc
+text_by pool i (Some e) units at is = has_at pool pool i e _ at (text_symbol pool e units is)
+
+-- a text that stands at an index
+pub has_units : (pool : List Entry) (i : ℕ) (units : List ℕ) → units_at pool i ≡ Some units → Has (symbols pool pool) (Utf8 units)
+has_units pool i units is = text_by pool i (slice_get pool i) units refl is
+
+pub has_text : (pool : List Entry) (i : ℕ) (text : List ℕ) → IsTextAt pool i text → Has (symbols pool pool) (Utf8 (units_of text))
+has_text pool i text h = has_units pool i _ h.1.1
+
+-- a class that stands at an index, and its text
+abbrev HasClass : List Entry → List ℕ → Type 0
+HasClass pool units = Has (symbols pool pool) (Utf8 units) × Has (symbols pool pool) (ClassOf units)
+
+class_entry : (pool : List Entry) (i : ℕ) (e : Entry) (units : List ℕ) → slice_get pool i ≡ Some e → option_and_then (units_at pool) (name_index_in e) ≡ Some units → HasClass pool units
+class_entry pool i (entry.Class n) units at is = (has_units pool n units is, has_at pool pool i (entry.Class n) _ at (ap (option_map (λ u. ClassOf u)) is))
+class_entry pool i _ units at is = absurd cc
+
+class_by : (pool : List Entry) (i : ℕ) (o : Option Entry) (units : List ℕ) → slice_get pool i ≡ o → option_and_then (units_at pool) (option_and_then name_index_in o) ≡ Some units → HasClass pool units
+class_by pool i None units at is = absurd cc
+class_by pool i (Some e) units at is = class_entry pool i e units at is
+
+pub has_class : (pool : List Entry) (i : ℕ) (name : List ℕ) → IsClassAt pool i name → HasClass pool (units_of name)
+has_class pool i name h = class_by pool i (slice_get pool i) (units_of name) refl h.1.1
+
+-- ---- lengths
+
+entry_fits : (pool : List Entry) (e : Entry) (ks : List PoolConstant) → HasBytes e → AllByRecursion TextFits ks → AllByRecursion TextFits (cons_option (symbol pool e) ks)
+entry_fits pool (entry.Utf8 units) ks h all = (h.1, all)
+entry_fits pool (entry.Class n) ks h all = class_fits (units_at pool n)
+  where
+    class_fits : (o : Option (List ℕ)) → AllByRecursion TextFits (cons_option (option_map (λ units. ClassOf units) o) ks)
+    class_fits None = all
+    class_fits (Some units) = (tt, all)
+entry_fits pool _ ks h all = all
+
+-- each text that was read fits
+pub symbols_fit : (pool entries : List Entry) → AllByRecursion HasBytes entries → AllByRecursion TextFits (symbols pool entries)
+symbols_fit pool [] all = tt
+symbols_fit pool (e ∷ entries) all = entry_fits pool e (symbols pool entries) all.0 (symbols_fit pool entries all.1)
+
+module _ (P : PoolConstant → Type 0) where
+  among_by : (b : Bool) (k x : PoolConstant) (ks : List PoolConstant) → same k x ≡ b → (b || list_any (same k) ks) ≡ true → P x → (Has ks k → P k) → P k
+  among_by true k x ks e h one rest = subst P (sym ((same_Decides k x).0 e)) one
+  among_by false k x ks e h one rest = rest h
+
+  -- what holds of each of these holds of one among them
+  pub all_among : (ks : List PoolConstant) (k : PoolConstant) → AllByRecursion P ks → Has ks k → P k
+  all_among [] k all h = absurd cc
+  all_among (x ∷ ks) k all h = among_by (same k x) k x ks refl h all.0 (all_among ks k all.1)

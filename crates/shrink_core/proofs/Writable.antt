@@ -1,0 +1,105 @@
+-- A small class that was read can be written.
+use Rattle.std.proofs.Common.{◌≡◌, ℕ, suc, ◌+◌, ◌^◌, ◌<◌, ◌≤◌, true, List, [], ◌∷◌, ◌++◌, length, Option, Some, None, IfSome, refl, sym, ap, subst, arith, codes, All}
+use Rattle.std.specs.List.{AllZip, AllByRecursion, IsDistinct, list_any, flat_map}
+use Rattle.std.proofs.lemmas.List.Elements.{All-from_recursion, All-weaker}
+use Rattle.std.proofs.lemmas.Map.Made.{length-le_from_is_member}
+use Rattle.indexmap.specs.IndexSet.{insert_all}
+use Rattle.jv_base.specs.Utf16.{units_of}
+use Rattle.jv_base.specs.Types.{method_text}
+use Rattle.class_model.specs.declared.constant.PoolConstant.{PoolConstant}
+use Rattle.class_model.specs.declared.constant.PoolConstant.TheVariants.{Utf8, Class as ClassOf}
+use Rattle.class_model.specs.declared.pool.Entry.{Entry}
+use Rattle.class_model.specs.declared.code.Ins.{Ins}
+use Rattle.class_model.specs.declared.code.Code.{Code}
+use Rattle.class_model.specs.declared.class.Method.{Method}
+use Rattle.class_model.specs.declared.class.Class.{Class}
+use Rattle.class_model.specs.Pool.{numbered, IsPool}
+use Rattle.class_model.specs.Structure.{AttributeInfo, MemberInfo, CodeInfo, ClassFile}
+use Rattle.class_model.specs.Instructions.{info_bytes}
+use Rattle.class_model.specs.File.{IsCode, IsBody, IsMethod, IsClass, File}
+use Rattle.class_model.specs.Layout.{same, method_constants, constants_of, pool_of, code_bytes}
+use Rattle.shrink_core.specs.Small.{IsSmall}
+use Rattle.shrink_core.specs.Writable.{TextFits, OperandsFit, CodeFits, MethodFits, CanLayOut}
+use Rattle.shrink_core.proofs.Constants.{Has, symbols, symbols_most, symbols_fit, has_text, has_class, all_among, same_laws, all_inserted, all_appended, distinct_inserted}
+use Rattle.shrink_core.proofs.Shortest.{AreWithin, code_within}
+
+-- ---- codes
+
+code_fits : (raw : CodeInfo) (code : Code) → IsCode raw code → CodeFits code
+code_fits raw code h =
+    let infos = h.instructions.0 in
+    let w = code_within infos code.ins h.instructions.2 in
+    let read : length raw.code ≡ length (flat_map info_bytes infos) = ap length h.instructions.1 in
+    record { operands = All-from_recursion (λ (i : Ins). OperandsFit i.op) code.ins w.fit; code_length = omega (arith, w.short, read, h.length_to) }
+
+body_fits : (pool : List Entry) (attributes : List AttributeInfo) (code : Option Code) → IsBody pool attributes code → IfSome code CodeFits
+body_fits pool (a ∷ []) (Some code) h = code_fits h.contents.0 code h.contents.2
+body_fits pool _ _ h = absurd h
+
+-- ---- the constants of the methods
+
+code_name : (pool : List Entry) (attributes : List AttributeInfo) (code : Option Code) → IsBody pool attributes code → Has (symbols pool pool) (Utf8 (units_of (codes "Code")))
+code_name pool (a ∷ []) (Some code) h = has_text pool a.attribute_name_index (codes "Code") h.name
+code_name pool _ _ h = absurd h
+
+methods_have : (pool : List Entry) (raws : List MemberInfo) (methods : List Method) → AllZip (IsMethod pool) raws methods → AllByRecursion (Has (symbols pool pool)) (flat_map method_constants methods)
+methods_have pool [] [] all = tt
+methods_have pool [] (m ∷ methods) all = absurd all
+methods_have pool (raw ∷ raws) [] all = absurd all
+methods_have pool (raw ∷ raws) (m ∷ methods) all =
+    (has_text pool raw.name_index m.name all.0.name, (has_text pool raw.descriptor_index (method_text m.ty) all.0.descriptor, (code_name pool raw.attributes m.code all.0.body, methods_have pool raws methods all.1)))
+
+methods_fit : (pool : List Entry) (raws : List MemberInfo) (methods : List Method) → AllZip (IsMethod pool) raws methods → AllByRecursion MethodFits methods
+methods_fit pool [] [] all = tt
+methods_fit pool [] (m ∷ methods) all = absurd all
+methods_fit pool (raw ∷ raws) [] all = absurd all
+methods_fit pool (raw ∷ raws) (m ∷ methods) all = (body_fits pool raw.attributes m.code all.0.body, methods_fit pool raws methods all.1)
+
+-- ---- the class
+
+constants_have : (raw : ClassFile) (class : Class) (pool : List Entry) → IsClass raw class pool → AllByRecursion (Has (symbols pool pool)) (constants_of class)
+constants_have raw class pool h =
+    let this = has_class pool raw.this_class class.name h.name in
+    let super_ = has_class pool raw.super_class class.super_name h.super_name in
+    (this.0, (this.1, (super_.0, (super_.1, methods_have pool raw.methods class.methods h.methods))))
+
+pool_has : (raw : ClassFile) (class : Class) (pool : List Entry) → IsClass raw class pool → AllByRecursion (Has (symbols pool pool)) (pool_of class)
+unfolding pool_of
+pool_has raw class pool h = all_inserted (Has (symbols pool pool)) (constants_of class) [] tt (constants_have raw class pool h)
+
+pool_distinct : (class : Class) → IsDistinct same (pool_of class)
+unfolding pool_of IsDistinct
+pool_distinct class = distinct_inserted (constants_of class) [] tt
+
+-- each constant of the pool is one of an entry that was read, so there are no more
+pool_short : (raw : ClassFile) (class : Class) (pool : List Entry) → IsClass raw class pool → length (pool_of class) + 1 < 2 ^ 16
+pool_short raw class pool h =
+    let said = symbols pool pool in
+    let most = length-le_from_is_member same_laws (pool_of class) said (pool_distinct class) (λ k among. all_among (Has said) (pool_of class) k (pool_has raw class pool h) among) in
+    let numbers = h.constant_pool.numbers in
+    let entries : length said ≡ length (symbols pool raw.constant_pool) = ap (λ (es : List Entry). length (symbols pool es)) numbers in
+    let count : length pool ≡ suc (length raw.constant_pool) = ap length numbers in
+    omega (arith, most, entries, count, symbols_most pool raw.constant_pool, h.constant_pool.count)
+
+pool_fits : (raw : ClassFile) (class : Class) (pool : List Entry) → IsClass raw class pool → All TextFits (pool_of class)
+pool_fits raw class pool h =
+    let said = symbols pool pool in
+    let fit : AllByRecursion TextFits said = subst (λ (es : List Entry). AllByRecursion TextFits (symbols pool es)) (sym h.constant_pool.numbers) (symbols_fit pool raw.constant_pool h.constant_pool.bytes) in
+    All-weaker (Has said) TextFits (λ k among. all_among TextFits said k fit among) (pool_of class) (All-from_recursion (Has said) (pool_of class) (pool_has raw class pool h))
+
+as_many : (pool : List Entry) (raws : List MemberInfo) (methods : List Method) → AllZip (IsMethod pool) raws methods → length methods ≡ length raws
+as_many pool [] [] all = refl
+as_many pool [] (m ∷ methods) all = absurd all
+as_many pool (raw ∷ raws) [] all = absurd all
+as_many pool (raw ∷ raws) (m ∷ methods) all = ap suc (as_many pool raws methods all.1)
+
+class_fits : (raw : ClassFile) (class : Class) (pool : List Entry) → IsClass raw class pool → CanLayOut class
+class_fits raw class pool h = record {
+  constant_pool_count = pool_short raw class pool h;
+  texts = pool_fits raw class pool h;
+  methods_count = subst (λ (n : ℕ). n < 2 ^ 16) (sym (as_many pool raw.methods class.methods h.methods)) h.methods_count;
+  methods = All-from_recursion MethodFits class.methods (methods_fit pool raw.methods class.methods h.methods);
+}
+
+pub writable : (bytes : List ℕ) (class : Class) → IsSmall bytes class → CanLayOut class
+writable bytes class h = let file = h.file in class_fits file.0 class file.2 file.3

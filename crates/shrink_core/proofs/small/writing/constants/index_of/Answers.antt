@@ -1,0 +1,13 @@
+use Rattle.std.proofs.Common.{Bool, ap, ◌+◌, ◌∙◌}
+use Rattle.std.specs.List.{position_or_len}
+use Rattle.std.proofs.lemmas.List.Sums.{prefix_len-le-length}
+use Rattle.class_model.specs.declared.constant.PoolConstant.{PoolConstant}
+use Rattle.shrink_core.proofs.Places.{unwrap_or-position, derived_is_same}
+use Rattle.shrink_core.proofs.small.writing.constants.index_of.Goals as goal
+
+pub returns : goal.returns
+returns c =
+    let keys = c.args.pool.now.keys in
+    let k = c.args.constant.now in
+    let e = unwrap_or-position _ keys (prefix_len-le-length _ keys) in
+    rw (c.unwrap_or-place.ensures, c.get_index_of.ensures.index, c.len.ensures.len) (ap (λ n. 1 + n) (e ∙ ap (λ (f : PoolConstant → PoolConstant → Bool). position_or_len (f k) keys) derived_is_same))

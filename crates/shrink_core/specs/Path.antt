@@ -1,0 +1,41 @@
+-- Paths: an optional `/`, and then segments joined by `/`.
+use Rattle.std.specs.Prelude.{◌≡◌, ℕ, ◌+◌, take, drop, Bool, not, ◌&&◌, ◌==◌, List, [], ◌∷◌, ◌++◌, length, Option, Some, None, if◌then◌else◌, codes}
+use Rattle.std.specs.List.{list_all, slice_split}
+use Rattle.jv_base.specs.Names.{is_text}
+
+-- no segment is empty, `.` or `..`
+abbrev pub is_segment : List ℕ → Bool
+is_segment segment = not (length segment == 0) && not (is_text segment (codes ".")) && not (is_text segment (codes ".."))
+
+abbrev pub is_slash : ℕ → Bool
+is_slash b = b == 47
+
+-- segments joined by `/`
+unfoldable pub are_segments : List ℕ → Bool
+are_segments text = list_all is_segment (slice_split is_slash text)
+
+-- the first of several segments ends there
+abbrev pub EndsFirst : List ℕ → ℕ → Type 0
+EndsFirst text at = are_segments text ≡ (is_segment (take at text) && are_segments (drop (at + 1) text))
+
+-- a text without the `/` at its front
+abbrev pub without_root : List ℕ → List ℕ
+without_root [] = []
+without_root (b ∷ rest) = if b == 47 then rest else b ∷ rest
+
+abbrev pub is_path : List ℕ → Bool
+is_path text = are_segments (without_root text)
+
+-- a text without one `/` at its end
+unfoldable pub without_slash : List ℕ → List ℕ
+without_slash [] = []
+without_slash (b ∷ []) = if is_slash b then [] else b ∷ []
+without_slash (b ∷ c ∷ rest) = b ∷ without_slash (c ∷ rest)
+
+-- the directory that a word names
+abbrev pub directory_in : List ℕ → Option (List ℕ)
+directory_in word = let text = without_slash word in if is_path text then Some text else None
+
+-- the class file of the class Main below a directory
+abbrev pub main_path : List ℕ → List ℕ
+main_path directory = directory ++ codes "/Main.class"

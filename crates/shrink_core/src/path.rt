@@ -1,0 +1,82 @@
+// Paths and directories.
+ghost use Rattle.std.specs.Prelude.{◌≡◌, ◌<◌, IfOk, IfSome, IfNone, length, position};
+ghost use Rattle.std.specs.Option.{option_copied};
+ghost use Rattle.shrink_core.specs.Path.{EndsFirst, is_slash, is_segment, are_segments, without_root, is_path, without_slash, directory_in, main_path};
+
+use jv_base::{M, Text};
+use std::alloc::Global;
+
+fn is_segment(segment: &[u8]) -> bool
+    ensures { result ≡ is_segment segment.now }
+{
+    !segment.is_empty() && segment != b".".as_slice() && segment != b"..".as_slice()
+}
+
+fn first_slash(text: &[u8]) -> Option<usize>
+    ensures { result ≡ position is_slash text.now }
+{
+    text.iter().position(|byte| *byte == b'/')
+}
+
+// Where the first segment ends, if another one follows.
+fn slash_in(text: &[u8]) -> Option<usize>
+    ensures inside { IfSome result (λ at. at < length text.now) }
+    ensures first { IfSome result (λ at. EndsFirst text.now at) }
+    ensures only { IfNone result (are_segments text.now ≡ is_segment text.now) }
+{
+    first_slash(text)
+}
+
+fn are_segments(text: &[u8]) -> bool
+    ensures { result ≡ are_segments text.now }
+{
+    let mut rest = text;
+    while let Some(at) = slash_in(rest) {
+        if !is_segment(&rest[..at]) {
+            return false;
+        }
+        rest = &rest[at + 1..];
+    }
+    is_segment(rest)
+}
+
+fn without_root(text: &[u8]) -> &[u8]
+    ensures { result.now ≡ without_root text.now }
+{
+    match text {
+        [b'/', rest @ ..] => rest,
+        _ => text,
+    }
+}
+
+fn is_path(text: &str) -> bool
+    ensures { result ≡ is_path text.now }
+{
+    are_segments(without_root(text.as_bytes()))
+}
+
+fn without_slash(text: &str) -> &str
+    ensures { result.now ≡ without_slash text.now }
+{
+    match text.strip_suffix('/') {
+        Some(front) => front,
+        None => text,
+    }
+}
+
+/// The directory that a word names, without its trailing `/`.
+pub fn directory_in(word: &Text) -> Option<&str>
+    ensures { option_copied result ≡ directory_in word.now }
+{
+    let text = without_slash(word.as_str());
+    if is_path(text) { Some(text) } else { None }
+}
+
+/// The path of the class `Main` below a directory.
+pub fn main_path(alloc: Global, directory: &str) -> M<Text>
+    ensures { IfOk result (λ path. path ≡ main_path directory.now) }
+{
+    let mut path = Text::from_str(alloc, directory)?;
+    path.push_str("/Main.class")?;
+    Ok(path)
+}

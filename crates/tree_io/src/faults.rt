@@ -1,0 +1,114 @@
+// What a call of a tree or a sink answers where it isn't Ok.
+ghost use Rattle.std.specs.Prelude.{◌≡◌};
+ghost use Rattle.tree_io.specs.declared.faults.ListFault.TheVariants as listed;
+ghost use Rattle.tree_io.specs.declared.faults.ReadFault.TheVariants as read;
+ghost use Rattle.tree_io.specs.declared.faults.WriteFault.TheVariants as written;
+ghost use Rattle.tree_io.specs.declared.faults.PutFault.TheVariants as appended;
+
+use std::alloc::{AllocError, AllocFailed};
+
+/// Why there is no list of the paths below a directory.
+#[derive(Clone, Copy, Debug, PartialEq, Eq)]
+pub enum ListFault {
+    /// There are more paths than were asked for.
+    TooMany,
+    /// The device failed, and the tree's count of faults has risen.
+    Failed,
+    OutOfMemory,
+}
+
+/// Why a file's bytes aren't given.
+#[derive(Clone, Copy, Debug, PartialEq, Eq)]
+pub enum ReadFault {
+    /// No file stands at the path.
+    Absent,
+    /// The file has more bytes than were asked for.
+    TooLong,
+    /// The device failed, and the tree's count of faults has risen.
+    Failed,
+    OutOfMemory,
+}
+
+/// Why a file isn't written.
+#[derive(Clone, Copy, Debug, PartialEq, Eq)]
+pub enum WriteFault {
+    /// The device failed, and the tree's count of faults has risen.
+    Failed,
+    OutOfMemory,
+}
+
+/// Why bytes aren't appended.
+#[derive(Clone, Copy, Debug, PartialEq, Eq)]
+pub enum PutFault {
+    /// The device failed, and the sink's count of faults has risen.
+    Failed,
+    OutOfMemory,
+}
+
+impl From<AllocError> for ListFault {
+    ghost from_gives = { λ _ fault. fault ≡ listed.OutOfMemory };
+
+    fn from(_: AllocError) -> Self {
+        ListFault::OutOfMemory
+    }
+}
+
+impl<T: Drop> From<AllocFailed<T>> for ListFault {
+    ghost from_gives = { λ _ fault. fault ≡ listed.OutOfMemory };
+
+    fn from(_: AllocFailed<T>) -> Self {
+        ListFault::OutOfMemory
+    }
+}
+
+impl From<AllocError> for ReadFault {
+    ghost from_gives = { λ _ fault. fault ≡ read.OutOfMemory };
+
+    fn from(_: AllocError) -> Self {
+        ReadFault::OutOfMemory
+    }
+}
+
+impl<T: Drop> From<AllocFailed<T>> for ReadFault {
+    ghost from_gives = { λ _ fault. fault ≡ read.OutOfMemory };
+
+    fn from(_: AllocFailed<T>) -> Self {
+        ReadFault::OutOfMemory
+    }
+}
+
+impl From<AllocError> for WriteFault {
+    ghost from_gives = { λ _ fault. fault ≡ written.OutOfMemory };
+
+    fn from(_: AllocError) -> Self {
+        WriteFault::OutOfMemory
+    }
+}
+
+impl<T: Drop> From<AllocFailed<T>> for WriteFault {
+    ghost from_gives = { λ _ fault. fault ≡ written.OutOfMemory };
+
+    fn from(_: AllocFailed<T>) -> Self {
+        WriteFault::OutOfMemory
+    }
+}
+
+impl From<AllocError> for PutFault {
+    ghost from_gives = { λ _ fault. fault ≡ appended.OutOfMemory };
+
+    fn from(_: AllocError) -> Self {
+        PutFault::OutOfMemory
+    }
+}
+
+impl<T: Drop> From<AllocFailed<T>> for PutFault {
+    ghost from_gives = { λ _ fault. fault ≡ appended.OutOfMemory };
+
+    fn from(_: AllocFailed<T>) -> Self {
+        PutFault::OutOfMemory
+    }
+}
+
+/// The device failed, and its count of faults has still to rise.
+#[derive(Clone, Copy, Debug)]
+pub struct DeviceFailed;

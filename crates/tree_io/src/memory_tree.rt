@@ -1,0 +1,198 @@
+// Files in memory.
+ghost use Rattle.std.specs.Prelude.{◌≡◌, ◌↔◌, ◌≤◌, Some, IsTrue, length, OnOk, OnErr, IfOk, IsErrOf};
+ghost use Rattle.std.specs.Option.{option_copied};
+ghost use Rattle.std.specs.FinMap as map;
+ghost use Rattle.tree_io.specs.Below.{front_of, rest_after, paths_below, IsAscending};
+ghost use Rattle.tree_io.specs.Calls.{called, fails_next};
+ghost use Rattle.tree_io.specs.Tree.{due_list, due_read, Lists, Reads};
+ghost use Rattle.tree_io.specs.Memory.{told, overlaid, tree_of, Writes};
+
+use crate::calls::Calls;
+use crate::{FileAt, ListFault, ReadFault, Tree, WriteFault};
+use jv_base::{Bytes, Items, M, Text};
+use std::alloc::{AllocError, Global};
+use std::collections::BTreeMap;
+use std::marker::Model;
+
+/// A tree whose files are in memory, and whose named calls fail.
+#[derive(Drop)]
+pub struct MemoryTree {
+    files: BTreeMap<Text, Bytes>,
+    calls: Calls,
+}
+
+impl Model for MemoryTree {
+    ghost use Rattle.tree_io.specs.Memory.{MemoryFiles, memory_files_code, told};
+
+    ghost Value = { MemoryFiles };
+
+    ghost coded = { memory_files_code };
+
+    ghost view = { λ t. record { files = told t.files.entries; counts = t.calls } };
+}
+
+impl MemoryTree {
+    /// A tree of these files, whose calls of these numbers fail, counted from 0.
+    ///
+    /// Paths are distinct; of two files at one path the later one stands.
+    pub fn new(alloc: Global, files: Items<FileAt>, fails: Items<u64>) -> M<Self>
+        ensures { IfOk result (λ tree. tree ≡ tree_of files fails) }
+    {
+        Ok(MemoryTree {
+            files: overlaid(alloc, files)?,
+            calls: Calls::new(fails),
+        })
+    }
+
+    /// A copy of a file's bytes, if there is one at the path. It isn't counted as a call.
+    pub fn file(&self, alloc: Global, path: &Text) -> M<Option<Bytes>>
+        ensures { IfOk result (λ bytes. bytes ≡ map.get self.now.files path.now) }
+    {
+        match at_path(&self.files, path) {
+            Some(bytes) => Ok(Some(copy_of(alloc, bytes.as_slice())?)),
+            None => Ok(None),
+        }
+    }
+}
+
+// A copy of bytes.
+fn copy_of(alloc: Global, bytes: &[u8]) -> Result<Bytes, AllocError>
+    ensures { IfOk result (λ copy. copy ≡ bytes.now) }
+{
+    Ok(Items::from_vec(bytes.to_vec(alloc)?))
+}
+
+// The files of a list, put one after the other.
+fn overlaid(alloc: Global, files: Items<FileAt>) -> Result<BTreeMap<Text, Bytes>, AllocError>
+    ensures { IfOk result (λ kept. told kept.entries ≡ overlaid map.empty files) }
+{
+    let mut kept = BTreeMap::new(alloc);
+    for file in files.into_vec() {
+        put(&mut kept, file.path, file.bytes)?;
+    }
+    Ok(kept)
+}
+
+// The bytes at a path.
+fn at_path<'a>(files: &'a BTreeMap<Text, Bytes>, path: &Text) -> Option<&'a Bytes>
+    ensures { option_copied result ≡ map.get (told files.now.entries) path.now }
+{
+    files.get(path)
+}
+
+// Puts bytes at a path, in place of any before.
+fn put(files: &mut BTreeMap<Text, Bytes>, path: Text, bytes: Bytes) -> Result<(), AllocError>
+    ensures ok { OnOk result (told files.new.entries ≡ map.insert (told files.old.entries) path bytes) }
+    ensures err { OnErr result (told files.new.entries ≡ told files.old.entries) }
+{
+    files.insert(path, bytes)?;
+    Ok(())
+}
+
+// Puts a copy of bytes at a path.
+fn put_copy(
+    alloc: Global,
+    files: &mut BTreeMap<Text, Bytes>,
+    path: &Text,
+    bytes: &[u8],
+) -> Result<(), AllocError>
+    ensures ok { OnOk result (told files.new.entries ≡ map.insert (told files.old.entries) path.now bytes.now) }
+    ensures err { OnErr result (told files.new.entries ≡ told files.old.entries) }
+{
+    put(files, path.clone()?, copy_of(alloc, bytes)?)
+}
+
+// What a path has after a front.
+fn rest_after<'a>(front: &str, path: &'a str) -> Option<&'a str>
+    ensures { option_copied result ≡ rest_after front.now path.now }
+{
+    path.strip_prefix(front)
+}
+
+// The directory and the slash after it.
+fn front_of(dir: &Text) -> Result<Text, AllocError>
+    ensures { IfOk result (λ front. front ≡ front_of dir.now) }
+{
+    let mut front = dir.clone()?;
+    front.push_str("/")?;
+    Ok(front)
+}
+
+// The paths of the files below a directory.
+fn paths_below(
+    alloc: Global,
+    files: &BTreeMap<Text, Bytes>,
+    dir: &Text,
+) -> Result<Vec<Text>, AllocError>
+    ensures all { IfOk result (λ paths. paths.items ≡ paths_below dir.now (map.keys (told files.now.entries))) }
+    ensures ascending { IfOk result (λ paths. IsAscending paths.items) }
+{
+    let front = front_of(dir)?;
+    let mut paths = Vec::new(alloc);
+    for path in files.keys() {
+        if let Some(rest) = rest_after(front.as_str(), path.as_str()) {
+            paths.push(Text::from_str(alloc, rest)?)?;
+        }
+    }
+    Ok(paths)
+}
+
+impl Tree for MemoryTree {
+    ghost files = { λ t. Some t.files };
+
+    ghost faults = { λ t. t.counts.faults };
+
+    fn list(&mut self, alloc: Global, dir: &Text, max: u32) -> Result<Items<Text>, ListFault>
+        ensures named { IsErrOf result ListFault.Failed ↔ IsTrue (fails_next self.old.counts) }
+        ensures after { self.new ≡ record self.old { counts = called self.old.counts } }
+        ensures told { Lists result (due_list self.old.files dir.now max) }
+        ensures count { IfOk result (λ paths. length paths ≤ max) }
+        ensures ascending { IfOk result (λ paths. IsAscending paths) }
+    {
+        if self.calls.begin() {
+            self.calls.fail();
+            return Err(ListFault::Failed);
+        }
+        let paths = paths_below(alloc, &self.files, dir)?;
+        if paths.len() > max as usize {
+            return Err(ListFault::TooMany);
+        }
+        Ok(Items::from_vec(paths))
+    }
+
+    fn read(&mut self, alloc: Global, path: &Text, max: u64) -> Result<Bytes, ReadFault>
+        ensures named { IsErrOf result ReadFault.Failed ↔ IsTrue (fails_next self.old.counts) }
+        ensures after { self.new ≡ record self.old { counts = called self.old.counts } }
+        ensures told { Reads result (due_read (map.get self.old.files path.now) max) }
+        ensures length { IfOk result (λ bytes. length bytes ≤ max) }
+    {
+        if self.calls.begin() {
+            self.calls.fail();
+            return Err(ReadFault::Failed);
+        }
+        let Some(bytes) = at_path(&self.files, path) else {
+            return Err(ReadFault::Absent);
+        };
+        if bytes.len() as u64 > max {
+            return Err(ReadFault::TooLong);
+        }
+        Ok(copy_of(alloc, bytes.as_slice())?)
+    }
+
+    fn write(&mut self, alloc: Global, path: &Text, bytes: &[u8]) -> Result<(), WriteFault>
+        ensures cases { Writes result path.now bytes.now self.old self.new }
+    {
+        let fails = self.calls.begin();
+        let kept = if fails {
+            &bytes[..bytes.len() / 2]
+        } else {
+            bytes
+        };
+        put_copy(alloc, &mut self.files, path, kept)?;
+        if fails {
+            self.calls.fail();
+            return Err(WriteFault::Failed);
+        }
+        Ok(())
+    }
+}
