@@ -10,3 +10,5 @@ pub mod CodeAttribute
 pub mod Flags
 pub mod Members
 pub mod ClassFile
+pub mod Lookups
+pub mod ReadingPool
