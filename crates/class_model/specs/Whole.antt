@@ -12,3 +12,5 @@ pub mod Members
 pub mod ClassFile
 pub mod Lookups
 pub mod ReadingPool
+pub mod InstructionMeaning
+pub mod ReadingCode
