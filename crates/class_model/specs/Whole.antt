@@ -14,3 +14,9 @@ pub mod Lookups
 pub mod ReadingPool
 pub mod InstructionMeaning
 pub mod ReadingCode
+pub mod ReadingFrames
+pub mod ReadingAttributes
+pub mod ReadingCodeAttribute
+pub mod MemberTypes
+pub mod ReadingMembers
+pub mod ReadingClass

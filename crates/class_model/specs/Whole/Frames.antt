@@ -122,6 +122,11 @@ initial_locals class is_static name ty = (if is_static then [] else this_type cl
 
 -- ---- what the rows stand for
 
+-- the first offset is its delta, each other one lies behind the one before by its delta and 1
+abbrev pub offset_behind : Option ℕ → ℕ → ℕ
+offset_behind None delta = delta
+offset_behind (Some previous) delta = previous + delta + 1
+
 module _ (pool : List Entry) (starts : List ℕ) (ins : List Ins) where
   -- the instruction of this number is a new
   pub record IsNew (n : ℕ) : Type 0 where
@@ -159,11 +164,6 @@ module _ (pool : List Entry) (starts : List ℕ) (ins : List Ins) where
       × (types : List VType) × AreVTypes infos types × (locals ≡ before ++ types) × (stack ≡ [])
   IsFrame before (FullFrame offset_delta infos items) delta locals stack =
       (offset_delta < 2 ^ 16) × (delta ≡ offset_delta) × AreVTypes infos locals × AreVTypes items stack
-
-  -- the first offset is its delta, each other one lies behind the one before by its delta and 1
-  abbrev pub offset_behind : Option ℕ → ℕ → ℕ
-  offset_behind None delta = delta
-  offset_behind (Some previous) delta = previous + delta + 1
 
   module _ (max_stack max_locals : ℕ) where
     -- a row behind these locals and this offset stands for a frame, whose locals and offset lie before the next row
