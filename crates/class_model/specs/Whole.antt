@@ -20,3 +20,5 @@ pub mod ReadingCodeAttribute
 pub mod MemberTypes
 pub mod ReadingMembers
 pub mod ReadingClass
+pub mod CanonicalPool
+pub mod CanonicalCode
