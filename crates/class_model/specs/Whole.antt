@@ -22,3 +22,5 @@ pub mod ReadingMembers
 pub mod ReadingClass
 pub mod CanonicalPool
 pub mod CanonicalCode
+pub mod CanonicalFrames
+pub mod CanonicalClass
