@@ -24,3 +24,5 @@ pub mod CanonicalPool
 pub mod CanonicalCode
 pub mod CanonicalFrames
 pub mod CanonicalClass
+pub mod WriteLimits
+pub mod WellFormed
