@@ -26,3 +26,4 @@ pub mod CanonicalFrames
 pub mod CanonicalClass
 pub mod WriteLimits
 pub mod WellFormed
+pub mod Rows
