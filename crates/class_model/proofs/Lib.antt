@@ -1,2 +1,3 @@
 mod Cases
-pub mod Rows
+pub mod ComputedRows
+pub mod SpelledRows

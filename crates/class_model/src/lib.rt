@@ -9,6 +9,7 @@ mod frame;
 mod limit;
 mod op;
 mod pool;
+mod rows;
 mod same;
 
 pub use class::{Class, Constant, Field, LeftKind, LeftOut, Method};
@@ -18,4 +19,5 @@ pub use frame::{Frame, FrameAt, VType};
 pub use limit::WriteLimit;
 pub use op::{ArithOp, Case, Cond, ConvOp, Elem, Kind, LogicOp, MemberRef, Num, Op, ShiftOp};
 pub use pool::{Entry, Pool};
+pub use rows::computed_rows;
 pub use same::same_op;
