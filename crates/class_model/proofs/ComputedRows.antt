@@ -1,7 +1,5 @@
 -- What the definitions give for a few class files, computed.
-use Rattle.std.specs.Prelude.{◌≡◌, ℕ, List, [], ◌∷◌, ◌++◌, Result, Ok, Err, codes, Option, Some, None, true, false}
 use Rattle.std.proofs.Common.{refl}
-use Rattle.jv_base.specs.Place.{Place, start}
 use Rattle.jv_base.specs.Utf16.{units_of}
 use Rattle.std.specs.Str.{chars}
 use Rattle.class_model.specs.Whole.CanonicalPool.{filled}
@@ -16,12 +14,7 @@ use Rattle.jv_base.specs.Types.{base_text, field_text, result_text, method_text,
 use Rattle.jv_base.specs.Decoding.{byte_taken, read_mutf8}
 use Rattle.jv_base.specs.Descriptors.{grown, read_field, read_method}
 use Rattle.std.specs.Char.Utf16.{utf16_chars}
-use Rattle.format_reading.specs.Fault.{fault}
-use Rattle.format_reading.specs.declared.fault.FormatKind.TheVariants as bad
 use Rattle.format_reading.specs.Reader.{u1, u2, u4, bytes, lead, bind, give, here, told, settle, part, many}
-use Rattle.class_model.specs.declared.class.Class.{Class}
-use Rattle.class_model.specs.declared.class.LeftOut.{LeftOut}
-use Rattle.class_model.specs.declared.class.LeftKind.TheVariants as left
 use Rattle.class_model.specs.Whole.Lookups.{text_of, names_right, class_at, optional_class_at, type_at, fieldref_at, methodref_at, interface_methodref_at}
 use Rattle.class_model.specs.Whole.ReadingPool.{read_pool, slots, slot, read_entry, all_name_right}
 use Rattle.class_model.specs.Whole.InstructionMeaning.{op_of}

@@ -1,19 +1,17 @@
 -- The bytes of the interface without members spell it.
-use Rattle.std.proofs.Common.{◌≡◌, ◌≢◌, ℕ, ◌<◌, List, [], ◌∷◌, ◌++◌, refl, arith, inl, inr, zero, suc}
-use Rattle.std.specs.Prelude.{codes, IsUtf8, Some, None, length, true, slice_index, AllPairs}
-use Rattle.std.specs.List.{AllZip}
+use Rattle.std.proofs.Common.{ℕ, ◌<◌, List, [], ◌∷◌, refl, arith, inl, zero, suc}
+use Rattle.std.specs.Prelude.{codes, AllPairs}
 use Rattle.std.specs.Str.{chars}
-use Rattle.std.specs.Int.{w16, w32, to_be_bytes}
 use Rattle.jv_base.specs.Utf16.{units_of}
 use Rattle.jv_base.specs.Mutf8.{unit_bytes, mutf8, IsUnits}
 use Rattle.jv_base.specs.Names.{is_keyword, is_name_byte, is_member_name, is_class_name}
 use Rattle.class_model.specs.declared.pool.Entry.{Entry}
 use Rattle.class_model.specs.declared.pool.Entry.TheVariants as entry
-use Rattle.class_model.specs.Pool.{IsText, IsClassAt, units_at}
-use Rattle.class_model.specs.Whole.ConstantPool.{CpInfo, Utf8Info, ClassInfo, IsPool, IsConstant}
-use Rattle.class_model.specs.Whole.ClassFile.{ClassFile, class_file, IsClass, File}
+use Rattle.class_model.specs.Pool.{IsText, units_at}
+use Rattle.class_model.specs.Whole.ConstantPool.{Utf8Info, ClassInfo, IsPool}
+use Rattle.class_model.specs.Whole.ClassFile.{ClassFile, IsClass}
 use Rattle.class_model.specs.Whole.Members.{FieldsDiffer, MethodsDiffer}
-use Rattle.class_model.specs.Whole.Rows.{bytes_of_a, class_a, IsSpelled}
+use Rattle.class_model.specs.Whole.Rows.{class_a, IsSpelled}
 
 abbrev a_name : List ℕ
 a_name = codes "A"

@@ -1,8 +1,7 @@
 -- The canonical spelling of instructions: the shortest, ldc where the index is at most 255, and goto in place of goto_w.
-use Rattle.std.specs.Prelude.{ℕ, ◌+◌, ◌-◌, ◌*◌, ◌^◌, ℤ, pos, negsuc, ◌+ℤ◌, ◌-ℤ◌, int_le, Bool, true, false, ◌&&◌, ◌||◌, List, [], ◌∷◌, ◌++◌, length, map, replicate, slice_index, Option, Some, None, option_map, unwrap_or, nat_lt, nat_le, ◌==◌, if◌then◌else◌}
+use Rattle.std.specs.Prelude.{ℕ, ◌+◌, ◌*◌, ℤ, pos, negsuc, ◌+ℤ◌, ◌-ℤ◌, Bool, ◌&&◌, List, [], ◌∷◌, length, map, replicate, slice_index, Option, Some, None, unwrap_or, nat_lt, nat_le, if◌then◌else◌}
 use Rattle.std.specs.Int.{w8, w16, w32, cast_unsigned}
 use Rattle.std.specs.List.{flat_map}
-use Rattle.std.specs.Ordering.{int_eq}
 use Rattle.jv_base.specs.declared.types.FieldType.{FieldType}
 use Rattle.jv_base.specs.declared.types.Base.{Base}
 use Rattle.jv_base.specs.declared.types.Base.TheVariants as base
@@ -28,7 +27,7 @@ use Rattle.class_model.specs.declared.op.Cond.{Cond}
 use Rattle.class_model.specs.declared.op.Cond.TheVariants as cond
 use Rattle.class_model.specs.declared.code.Ins.{Ins}
 use Rattle.class_model.specs.Layout.{int_between}
-use Rattle.class_model.specs.Whole.InstructionStructure.{MatchOffset, Info, Plain, Bipush, Sipush, Ldc, LdcWide, Local, WideLocal, Iinc, WideIinc, Branch, TableSwitch, LookupSwitch, MemberOperand, InvokeInterface, ClassOperand, NewArray, MultiNewArray, info_bytes, pad_length}
+use Rattle.class_model.specs.Whole.InstructionStructure.{Info, Plain, Bipush, Sipush, Ldc, LdcWide, Local, WideLocal, Iinc, WideIinc, Branch, TableSwitch, LookupSwitch, MemberOperand, InvokeInterface, ClassOperand, NewArray, MultiNewArray, info_bytes, pad_length}
 use Rattle.class_model.specs.Whole.InstructionMeaning.{count_of}
 use Rattle.class_model.specs.Whole.CanonicalPool.{PoolConstant, Integer, Long, Str, class_constant, class_constants, string_constants, long_constants, type_name, fieldref, methodref, with_parts, index_of}
 

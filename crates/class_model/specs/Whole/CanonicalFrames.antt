@@ -1,12 +1,11 @@
 -- The canonical spelling of stack map frames: the first form that fits (JVMS 4.7.4).
-use Rattle.std.specs.Prelude.{ℕ, ◌+◌, ◌-◌, Bool, true, false, ◌&&◌, ◌||◌, List, [], ◌∷◌, ◌++◌, length, take, drop, map, slice_index, Option, Some, None, nat_eq, nat_lt, nat_le, ◌==◌, if◌then◌else◌}
+use Rattle.std.specs.Prelude.{ℕ, ◌+◌, ◌-◌, Bool, true, false, ◌&&◌, List, [], ◌∷◌, ◌++◌, length, take, drop, map, slice_index, Option, Some, None, nat_eq, nat_le, if◌then◌else◌}
 use Rattle.std.specs.List.{flat_map}
 use Rattle.std.specs.Cmp.Lexicographic.{pointwise}
 use Rattle.jv_base.specs.Names.{is_text}
 use Rattle.jv_base.specs.Types.{field_text}
 use Rattle.class_model.specs.declared.frame.VType.{VType}
 use Rattle.class_model.specs.declared.frame.VType.TheVariants as vtype
-use Rattle.class_model.specs.declared.frame.Frame.{Frame}
 use Rattle.class_model.specs.declared.frame.FrameAt.{FrameAt}
 use Rattle.class_model.specs.Instructions.{between}
 use Rattle.class_model.specs.Whole.Frames.{VerificationTypeInfo, TagInfo, ObjectInfo, UninitializedInfo, StackMapFrame, SameFrame, SameLocalsOneStackItem, SameLocalsOneStackItemExtended, ChopFrame, SameFrameExtended, AppendFrame, FullFrame}

@@ -1,6 +1,6 @@
 -- Which bytes spell a class: the ClassFile structure and what it stands for (JVMS 4.1).
-use Rattle.std.specs.Prelude.{◌≡◌, ℕ, ◌+◌, ◌^◌, ◌<◌, Bool, true, false, List, [], ◌∷◌, ◌++◌, length, AllPairs, Option, Some, None, IsTrue, codes, if◌then◌else◌}
-use Rattle.std.specs.Int.{w16, w32, to_be_bytes}
+use Rattle.std.specs.Prelude.{◌≡◌, ℕ, ◌+◌, ◌^◌, ◌<◌, Bool, true, false, List, [], ◌∷◌, ◌++◌, length, AllPairs, Option, Some, None, codes, if◌then◌else◌}
+use Rattle.std.specs.Int.{w16, to_be_bytes}
 use Rattle.std.specs.List.{AllZip, flat_map, list_any}
 use Rattle.class_model.specs.declared.pool.Entry.{Entry}
 use Rattle.class_model.specs.declared.pool.Entry.TheVariants as entry

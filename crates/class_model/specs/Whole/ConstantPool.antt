@@ -1,9 +1,9 @@
 -- The constant pool of a class file (JVMS 4.4): its constants as they are written, and the entries that they stand for.
-use Rattle.std.specs.Prelude.{◌≡◌, ◌⊎◌, ℕ, ℤ, ◌+◌, ◌-◌, ◌*◌, ◌^◌, ◌<◌, ◌==◌, ◌||◌, Bool, true, false, List, [], ◌∷◌, ◌++◌, length, slice_get, Option, Some, None, option_and_then, option_map, IsTrue, if◌then◌else◌}
+use Rattle.std.specs.Prelude.{◌≡◌, ◌⊎◌, ℕ, ℤ, ◌+◌, ◌-◌, ◌*◌, ◌^◌, ◌<◌, ◌==◌, Bool, true, false, List, [], ◌∷◌, ◌++◌, length, slice_get, Option, Some, None, option_and_then, IsTrue, if◌then◌else◌}
 use Rattle.std.specs.Int.{w16, w32, w64, to_be_bytes, cast_signed}
 use Rattle.std.specs.List.{AllByRecursion, AllZip, flat_map}
 use Rattle.jv_base.specs.Mutf8.{mutf8, IsUnits}
-use Rattle.jv_base.specs.Names.{is_class_name, is_member_name, is_method_name}
+use Rattle.jv_base.specs.Names.{is_member_name, is_method_name}
 use Rattle.jv_base.specs.Types.{field_text, IsFieldType, method_text, IsMethodType}
 use Rattle.jv_base.specs.declared.types.FieldType.{FieldType}
 use Rattle.jv_base.specs.declared.types.MethodType.{MethodType}
@@ -11,7 +11,7 @@ use Rattle.jv_base.specs.declared.types.Base.TheVariants.{Class as ClassBase}
 use Rattle.class_model.specs.declared.pool.Entry.{Entry}
 use Rattle.class_model.specs.declared.pool.Entry.TheVariants as entry
 use Rattle.class_model.specs.declared.op.MemberRef.{MemberRef}
-use Rattle.class_model.specs.Pool.{units_at, class_units_at, IsText, IsTextAt, IsClassAt, IsTypeText}
+use Rattle.class_model.specs.Pool.{units_at, class_units_at, IsText, IsClassAt, IsTypeText}
 
 -- ---- the constants as they are written
 

@@ -1,5 +1,5 @@
 -- Access flags (JVMS 4.1, 4.5, 4.6): which mean something, and which may stand together.
-use Rattle.std.specs.Prelude.{ℕ, Bool, true, false, not, ◌&&◌, ◌||◌, ◌==◌, nat_lt, bit_and, if◌then◌else◌}
+use Rattle.std.specs.Prelude.{ℕ, Bool, not, ◌&&◌, ◌||◌, ◌==◌, nat_lt, bit_and}
 use Rattle.jv_base.specs.Names.{is_text}
 use Rattle.std.specs.Prelude.{List, codes}
 

@@ -1,5 +1,5 @@
 -- The attribute StackMapTable (JVMS 4.7.4, 4.10.1.2, 4.10.1.6).
-use Rattle.std.specs.Prelude.{◌≡◌, ℕ, ◌+◌, ◌-◌, ◌^◌, ◌<◌, ◌≤◌, Bool, true, false, List, [], ◌∷◌, ◌++◌, length, take, map, slice_get, sum_by, Option, Some, None, IsTrue, ◌==◌, ◌||◌, ◌&&◌, if◌then◌else◌, codes}
+use Rattle.std.specs.Prelude.{◌≡◌, ℕ, ◌+◌, ◌-◌, ◌^◌, ◌<◌, ◌≤◌, Bool, false, List, [], ◌∷◌, ◌++◌, length, take, map, slice_get, sum_by, Option, Some, None, IsTrue, ◌==◌, ◌||◌, if◌then◌else◌, codes}
 use Rattle.std.specs.Int.{w16, to_be_bytes}
 use Rattle.std.specs.List.{AllZip, flat_map, list_any}
 use Rattle.jv_base.specs.Names.{is_text}

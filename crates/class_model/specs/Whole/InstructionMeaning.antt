@@ -1,5 +1,5 @@
 -- The instruction that its bytes stand for, computed.
-use Rattle.std.specs.Prelude.{ℕ, ◌+◌, ℤ, pos, negsuc, ◌+ℤ◌, Bool, true, false, ◌&&◌, ◌||◌, List, [], ◌∷◌, slice_get, position, nat_eq, nat_le, nat_lt, Option, Some, None, option_map, option_and_then, Result, Ok, Err, ◌==◌, if◌then◌else◌}
+use Rattle.std.specs.Prelude.{ℕ, ◌+◌, ℤ, pos, negsuc, Bool, true, List, [], ◌∷◌, slice_get, position, nat_eq, nat_le, Option, Some, None, option_map, option_and_then, Result, Ok, Err, ◌==◌, if◌then◌else◌}
 use Rattle.std.specs.Int.{w8, w16, w32, cast_signed}
 use Rattle.jv_base.specs.Outcome.{◌>>=◌}
 use Rattle.jv_base.specs.Types.{argument_words}
@@ -17,7 +17,7 @@ use Rattle.class_model.specs.Whole.ConstantPool.{string_units_at}
 use Rattle.class_model.specs.Whole.Opcodes.{plain_op, local_op, branch_op, field_op, method_op, takes_interface_method, type_op, array_type_of}
 use Rattle.class_model.specs.Whole.InstructionStructure.{MatchOffset, Info, Plain, Bipush, Sipush, Ldc, LdcWide, Local, WideLocal, Iinc, WideIinc, Branch, GotoWide, TableSwitch, LookupSwitch, MemberOperand, InvokeInterface, ClassOperand, NewArray, MultiNewArray}
 use Rattle.class_model.specs.Whole.Instructions.{branch_target}
-use Rattle.class_model.specs.Whole.Lookups.{due, test, class_at, value_of, type_at, fieldref_at, methodref_at, interface_methodref_at, method_type_of}
+use Rattle.class_model.specs.Whole.Lookups.{due, class_at, value_of, type_at, fieldref_at, methodref_at, interface_methodref_at, method_type_of}
 
 -- ---- operands
 

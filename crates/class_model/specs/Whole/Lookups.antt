@@ -1,9 +1,8 @@
 -- What is found at an index of the pool, or why not; and what a text says.
-use Rattle.std.specs.Prelude.{ℕ, ◌-◌, ℤ, Bool, true, false, not, ◌&&◌, ◌||◌, List, [], ◌∷◌, slice_get, Option, Some, None, is_some, option_map, option_and_then, encode_utf8_all, Result, Ok, Err, ◌==◌, nat_lt, if◌then◌else◌, codes}
+use Rattle.std.specs.Prelude.{ℕ, Bool, true, false, ◌||◌, List, [], ◌∷◌, slice_get, Option, Some, None, is_some, option_map, option_and_then, encode_utf8_all, Result, Ok, Err, ◌==◌, if◌then◌else◌}
 use Rattle.std.specs.Char.Utf16.{utf16_chars}
 use Rattle.jv_base.specs.Outcome.{◌>>=◌}
-use Rattle.jv_base.specs.Names.{is_text, is_class_name, is_member_name, is_method_name}
-use Rattle.jv_base.specs.Types.{field_text}
+use Rattle.jv_base.specs.Names.{is_class_name, is_member_name, is_method_name}
 use Rattle.jv_base.specs.Descriptors.{read_field, read_method}
 use Rattle.jv_base.specs.declared.types.FieldType.{FieldType}
 use Rattle.jv_base.specs.declared.types.MethodType.{MethodType}

@@ -1,5 +1,5 @@
 -- Fields and methods (JVMS 4.5, 4.6).
-use Rattle.std.specs.Prelude.{◌≡◌, ◌≢◌, ℕ, ◌^◌, ◌<◌, ◌≤◌, Bool, true, false, not, ◌&&◌, ◌||◌, List, [], ◌∷◌, Option, Some, None, is_none, IsTrue, codes, length, ◌==◌, if◌then◌else◌}
+use Rattle.std.specs.Prelude.{◌≡◌, ℕ, ◌^◌, ◌<◌, Bool, true, false, not, ◌&&◌, ◌||◌, List, [], ◌∷◌, Option, Some, None, is_none, IsTrue, codes, length, ◌==◌, if◌then◌else◌}
 use Rattle.jv_base.specs.declared.access.Access.{Access}
 use Rattle.jv_base.specs.declared.types.MethodType.{MethodType}
 use Rattle.jv_base.specs.Names.{is_member_name, is_method_name}

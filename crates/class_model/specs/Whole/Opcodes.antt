@@ -1,5 +1,5 @@
 -- The opcodes by families (JVMS 6.5 and 7): what each stands for, and which are left out.
-use Rattle.std.specs.Prelude.{ℕ, ◌-◌, ℤ, pos, negsuc, ◌-ℤ◌, Bool, true, false, ◌&&◌, ◌||◌, Option, Some, None, option_map, ◌==◌, nat_lt, nat_le, if◌then◌else◌}
+use Rattle.std.specs.Prelude.{ℕ, ◌-◌, pos, ◌-ℤ◌, Bool, true, false, ◌||◌, Option, Some, None, option_map, ◌==◌, nat_lt, nat_le, if◌then◌else◌}
 use Rattle.jv_base.specs.declared.types.Base.{Base}
 use Rattle.jv_base.specs.declared.types.Base.TheVariants as base
 use Rattle.jv_base.specs.declared.types.FieldType.{FieldType}
@@ -8,7 +8,6 @@ use Rattle.class_model.specs.declared.op.Op.{Op}
 use Rattle.class_model.specs.declared.op.Op.TheVariants as op
 use Rattle.class_model.specs.declared.op.Kind.{Kind}
 use Rattle.class_model.specs.declared.op.Kind.TheVariants as kind
-use Rattle.class_model.specs.declared.op.Num.{Num}
 use Rattle.class_model.specs.declared.op.Num.TheVariants as num
 use Rattle.class_model.specs.declared.op.Elem.{Elem}
 use Rattle.class_model.specs.declared.op.Elem.TheVariants as elem

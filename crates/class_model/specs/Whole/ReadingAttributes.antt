@@ -1,11 +1,10 @@
 -- Reading attributes from left to right (JVMS 4.7): the header of each, and those whose contents are short.
-use Rattle.std.specs.Prelude.{ℕ, zero, suc, ◌*◌, Bool, true, false, ◌&&◌, ◌||◌, not, List, [], ◌∷◌, slice_get, nat_eq, codes, Option, Some, None, option_map, Result, Ok, Err, ◌==◌, if◌then◌else◌}
+use Rattle.std.specs.Prelude.{ℕ, zero, suc, Bool, true, false, ◌&&◌, not, List, slice_get, codes, Option, Some, None, option_map, Result, Ok, Err, ◌==◌, if◌then◌else◌}
 use Rattle.jv_base.specs.Names.{is_text}
 use Rattle.jv_base.specs.declared.types.FieldType.{FieldType}
 use Rattle.jv_base.specs.declared.types.Base.{Base}
 use Rattle.jv_base.specs.declared.types.Base.TheVariants as base
-use Rattle.format_reading.specs.Fault.{fault}
-use Rattle.format_reading.specs.Reader.{Reader, u2, u4, bytes, item, bind, give, here, settle, part, many, ◌>>=◌}
+use Rattle.format_reading.specs.Reader.{Reader, u2, u4, bytes, item, give, here, settle, part, many, ◌>>=◌}
 use Rattle.format_reading.specs.declared.fault.FormatKind.{FormatKind}
 use Rattle.format_reading.specs.declared.fault.FormatKind.TheVariants as bad
 use Rattle.class_model.specs.declared.pool.Entry.{Entry}

@@ -1,9 +1,9 @@
 -- Reading a class file from left to right (JVMS 4.1).
-use Rattle.std.specs.Prelude.{ℕ, Bool, true, false, List, [], ◌∷◌, length, codes, Option, Some, None, Result, Ok, Err, ◌==◌, if◌then◌else◌}
+use Rattle.std.specs.Prelude.{ℕ, Bool, true, false, List, [], length, codes, Option, Some, None, Result, Ok, Err, ◌==◌, if◌then◌else◌}
 use Rattle.jv_base.specs.Place.{Place, start}
 use Rattle.jv_base.specs.Names.{is_text}
 use Rattle.format_reading.specs.Fault.{fault}
-use Rattle.format_reading.specs.Reader.{Reader, u2, u4, item, bind, give, here, many, ◌>>=◌}
+use Rattle.format_reading.specs.Reader.{Reader, u2, u4, item, give, many, ◌>>=◌}
 use Rattle.format_reading.specs.declared.fault.FormatFault.{FormatFault}
 use Rattle.format_reading.specs.declared.fault.FormatKind.{FormatKind}
 use Rattle.format_reading.specs.declared.fault.FormatKind.TheVariants as bad

@@ -1,30 +1,34 @@
 -- Reading the instructions of a code from left to right (JVMS 4.9.1, 6.5).
-use Rattle.std.specs.Prelude.{ℕ, zero, suc, ◌+◌, ◌-◌, ◌^◌, ℤ, pos, ◌-ℤ◌, int_lt, int_le, unsigned_abs, Bool, true, false, ◌&&◌, ◌||◌, not, List, [], ◌∷◌, length, slice_get, Option, Some, None, is_some, option_map, option_and_then, Result, Ok, Err, nat_lt, nat_le, nat_eq, ◌==◌, if◌then◌else◌}
+use Rattle.std.specs.Prelude.{ℕ, zero, suc, ◌+◌, ◌-◌, ◌^◌, ℤ, ◌-ℤ◌, int_lt, int_le, unsigned_abs, Bool, true, false, ◌&&◌, ◌||◌, List, [], ◌∷◌, length, slice_get, Option, Some, None, is_some, option_and_then, Result, Ok, Err, nat_lt, nat_le, ◌==◌, if◌then◌else◌}
 use Rattle.std.specs.Int.{w32, cast_signed}
 use Rattle.jv_base.specs.Place.{Place}
 use Rattle.jv_base.specs.declared.types.FieldType.{FieldType}
 use Rattle.format_reading.specs.Fault.{fault}
-use Rattle.format_reading.specs.Reader.{Reader, u1, u2, u4, bytes, lead, item, bind, give, here, told, many, ◌>>=◌}
+use Rattle.format_reading.specs.Reader.{Reader, u1, u2, u4, bytes, lead, item, give, here, many, ◌>>=◌}
 use Rattle.format_reading.specs.declared.fault.FormatFault.{FormatFault}
 use Rattle.format_reading.specs.declared.fault.FormatKind.{FormatKind}
 use Rattle.format_reading.specs.declared.fault.FormatKind.TheVariants as bad
 use Rattle.class_model.specs.declared.pool.Entry.{Entry}
-use Rattle.class_model.specs.declared.op.MemberRef.{MemberRef}
 use Rattle.class_model.specs.declared.op.Op.{Op}
 use Rattle.class_model.specs.declared.class.LeftKind.{LeftKind}
 use Rattle.class_model.specs.declared.class.LeftKind.TheVariants as left
+use Rattle.class_model.specs.Instructions.{between}
 use Rattle.class_model.specs.Whole.Opcodes.{plain_op, local_op, branch_op, field_op, method_op, type_op, array_type_of, is_left_out_local, is_left_out_array_type, is_left_out_opcode}
 use Rattle.class_model.specs.Whole.InstructionStructure.{MatchOffset, Info, Plain, Bipush, Sipush, Ldc, LdcWide, Local, WideLocal, Iinc, WideIinc, Branch, GotoWide, TableSwitch, LookupSwitch, MemberOperand, InvokeInterface, ClassOperand, NewArray, MultiNewArray, info_bytes, pad_length, starts_of}
 use Rattle.class_model.specs.Whole.Instructions.{is_left_out_load}
 use Rattle.class_model.specs.Whole.InstructionMeaning.{op_of, aim_at, loaded, loaded_wide, member_op, class_op, count_of}
-use Rattle.class_model.specs.Whole.Lookups.{due, test, type_at, interface_methodref_at}
+use Rattle.class_model.specs.Whole.Lookups.{test, type_at, interface_methodref_at}
 
 -- ---- one instruction
 
--- an instruction, or the kind of one that is left out
+-- an instruction, or the opcode of one that is left out
 pub data Read : Type 0 where
   instruction : Info → Read
-  left_out : LeftKind → Read
+  left_out : (opcode : ℕ) → Read
+
+-- a constant that can't be loaded here, or else an instruction; ldc, ldc_w, ldc2_w and invokedynamic name a constant
+abbrev pub left_out_kind : ℕ → LeftKind
+left_out_kind opcode = if between 0x12 0x14 opcode || opcode == 0xBA then left.Constant else left.Opcode
 
 -- an instruction that was read as far as this needs nothing more
 abbrev pub whole : Info → Reader Read
@@ -35,20 +39,20 @@ abbrev pub if_meant : {A B : Type 0} → Option A → B → Result B FormatKind
 if_meant (Some x) y = Ok y
 if_meant None y = Err bad.BadOperand
 
-abbrev pub is_left_out_at : List Entry → ℕ → Option Entry → Bool
-is_left_out_at pool index (Some e) = is_left_out_load e
-is_left_out_at pool index None = false
+abbrev pub is_left_out_at : Option Entry → Bool
+is_left_out_at (Some e) = is_left_out_load e
+is_left_out_at None = false
 
 -- an instruction that loads a constant
-abbrev pub load_read : List Entry → ℕ → Option Op → Info → Result Read FormatKind
-load_read pool index meaning info =
-    if is_left_out_at pool index (slice_get pool index) then Ok (left_out left.Constant) else if_meant meaning (instruction info)
+abbrev pub load_read : List Entry → ℕ → ℕ → Option Op → Info → Result Read FormatKind
+load_read pool opcode index meaning info =
+    if is_left_out_at (slice_get pool index) then Ok (left_out opcode) else if_meant meaning (instruction info)
 
 abbrev pub ldc : List Entry → Reader Read
-ldc pool = item u1 (λ index. load_read pool index (loaded pool index) (Ldc index))
+ldc pool = item u1 (λ index. load_read pool 0x12 index (loaded pool index) (Ldc index))
 
 abbrev pub ldc_wide : List Entry → ℕ → Reader Read
-ldc_wide pool opcode = item u2 (λ index. load_read pool index (loaded_wide opcode pool index) (LdcWide opcode index))
+ldc_wide pool opcode = item u2 (λ index. load_read pool opcode index (loaded_wide opcode pool index) (LdcWide opcode index))
 
 abbrev pub one_byte : (ℕ → Info) → Reader Read
 one_byte make = do
@@ -76,7 +80,7 @@ wide_iinc = do
 abbrev pub widened : ℕ → Result (Reader Read) FormatKind
 widened opcode =
     if opcode == 0x84 then Ok wide_iinc
-    else if is_left_out_local opcode then Ok (give (left_out left.Opcode))
+    else if is_left_out_local opcode then Ok (give (left_out 0xC4))
     else if is_some (local_op opcode) then Ok (two_bytes (λ index. WideLocal opcode index))
     else Err bad.BadOpcode
 
@@ -153,7 +157,7 @@ invoke_interface pool = do
 -- the operand of newarray
 abbrev pub array_type_read : ℕ → Result Read FormatKind
 array_type_read atype =
-    if is_left_out_array_type atype then Ok (left_out left.Opcode) else if_meant (array_type_of atype) (instruction (NewArray atype))
+    if is_left_out_array_type atype then Ok (left_out 0xBC) else if_meant (array_type_of atype) (instruction (NewArray atype))
 
 -- of the dimensions of its type at least one is made
 abbrev pub are_dimensions : Option FieldType → ℕ → Bool
@@ -193,8 +197,7 @@ begun pool at opcode =
     else if is_class_opcode opcode then Ok (class_operand pool opcode)
     else if opcode == 0xBC then Ok (item u1 array_type_read)
     else if opcode == 0xC5 then Ok (multi_new_array pool)
-    else if opcode == 0xBA then Ok (give (left_out left.Constant))
-    else if is_left_out_opcode opcode then Ok (give (left_out left.Opcode))
+    else if opcode == 0xBA || is_left_out_opcode opcode then Ok (give (left_out opcode))
     else Err bad.BadOpcode
 
 -- each fault of an instruction is one at its first byte, and a code that ends inside it is a fault of its own
@@ -212,14 +215,14 @@ read_instruction pool from p = at_instruction p.at (lead u1 (begun pool (p.at - 
 
 -- ---- all of them
 
--- a code: its instructions, or the kind of the first that is left out
+-- a code: its instructions, or the offset and the opcode of the first that is left out
 pub data CodeRead : Type 0 where
   instructions : List Info → CodeRead
-  has_left_out : LeftKind → CodeRead
+  has_left_out : (offset opcode : ℕ) → CodeRead
 
 abbrev pub in_front : Info → CodeRead → CodeRead
 in_front info (instructions infos) = instructions (info ∷ infos)
-in_front info (has_left_out kind) = has_left_out kind
+in_front info (has_left_out offset opcode) = has_left_out offset opcode
 
 -- no byte is left
 unfoldable pub is_at_end : Reader Bool
@@ -229,13 +232,14 @@ is_at_end p = Ok (nat_le (length p.bytes) p.at, p)
 unfoldable pub rest : Reader (Unit {0})
 rest p = Ok (tt, record { bytes = p.bytes; at = length p.bytes })
 
-abbrev pub goes_on : Reader CodeRead → Read → Reader CodeRead
-goes_on others (instruction info) = do
+-- what follows what was read at an offset of the code
+abbrev pub goes_on : Reader CodeRead → ℕ → Read → Reader CodeRead
+goes_on others offset (instruction info) = do
   behind ← others
   give (in_front info behind)
-goes_on others (left_out kind) = do
+goes_on others offset (left_out opcode) = do
   skipped ← rest
-  give (has_left_out kind)
+  give (has_left_out offset opcode)
 
 -- instructions up to the end of the bytes; n is at least how many bytes are left
 unfoldable pub until_end : ℕ → List Entry → ℕ → Reader CodeRead
@@ -243,8 +247,9 @@ until_end zero pool from = give (instructions [])
 until_end (suc n) pool from = do
   ended ← is_at_end
   if ended then give (instructions []) else (do
+    at ← here
     read ← read_instruction pool from
-    goes_on (until_end n pool from) read)
+    goes_on (until_end n pool from) (at - from) read)
 
 -- ---- targets
 

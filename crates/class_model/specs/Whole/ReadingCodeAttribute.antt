@@ -1,8 +1,7 @@
 -- Reading the attribute Code from left to right (JVMS 4.7.3).
-use Rattle.std.specs.Prelude.{ℕ, zero, suc, ◌+◌, ◌*◌, ◌^◌, Bool, true, false, ◌&&◌, ◌||◌, not, List, [], ◌∷◌, ◌++◌, length, position, nat_eq, nat_lt, codes, Option, Some, None, option_map, Result, Ok, Err, ◌==◌, if◌then◌else◌}
+use Rattle.std.specs.Prelude.{ℕ, ◌+◌, ◌*◌, ◌^◌, Bool, true, false, List, [], ◌∷◌, ◌++◌, length, position, nat_eq, nat_lt, codes, Option, Some, None, Result, Ok, Err, ◌==◌, if◌then◌else◌}
 use Rattle.jv_base.specs.Names.{is_text}
-use Rattle.format_reading.specs.Fault.{fault}
-use Rattle.format_reading.specs.Reader.{Reader, u2, u4, bytes, item, bind, give, here, settle, told, part, many, ◌>>=◌}
+use Rattle.format_reading.specs.Reader.{Reader, u2, u4, bytes, item, give, here, settle, told, part, many, ◌>>=◌}
 use Rattle.format_reading.specs.declared.fault.FormatKind.{FormatKind}
 use Rattle.format_reading.specs.declared.fault.FormatKind.TheVariants as bad
 use Rattle.class_model.specs.declared.pool.Entry.{Entry}
@@ -17,7 +16,7 @@ use Rattle.class_model.specs.declared.class.LeftKind.TheVariants as left
 use Rattle.class_model.specs.Whole.InstructionStructure.{Info, info_bytes, starts_of}
 use Rattle.class_model.specs.Whole.LineNumbers.{LineNumber, line_at}
 use Rattle.class_model.specs.Whole.Lookups.{due, optional_class_at}
-use Rattle.class_model.specs.Whole.ReadingCode.{CodeRead, instructions, has_left_out, until_end, ops_of}
+use Rattle.class_model.specs.Whole.ReadingCode.{CodeRead, instructions, has_left_out, left_out_kind, until_end, ops_of}
 use Rattle.class_model.specs.Whole.ReadingFrames.{read_frames}
 use Rattle.class_model.specs.Whole.ReadingAttributes.{counted_attributes, once, line_number_table}
 
@@ -136,12 +135,12 @@ behind_code pool first max_stack max_locals from end (instructions infos) = do
   handlers ← read_handlers pool (starts_of infos) end
   seen ← counted_attributes pool (known_of_code (read_frames pool (starts_of infos) ops max_stack max_locals first)) nothing_seen
   give (code_of max_stack max_locals infos ops handlers seen)
-behind_code pool first max_stack max_locals from end (has_left_out kind) = do
+behind_code pool first max_stack max_locals from end (has_left_out offset opcode) = do
   n ← u2
   handlers ← bytes (8 * n)
   m ← u2
   skipped ← many m skipped_attribute
-  give (None, Some kind)
+  give (None, Some (left_out_kind opcode))
 
 -- the contents of the Code at an offset; first are the locals of the method's initial frame
 unfoldable pub read_code : List Entry → List VType → ℕ → Reader Body

@@ -1,8 +1,8 @@
 -- Reading the attribute StackMapTable from left to right (JVMS 4.7.4).
-use Rattle.std.specs.Prelude.{ℕ, zero, suc, ◌+◌, ◌-◌, Bool, true, false, ◌&&◌, ◌||◌, List, [], ◌∷◌, ◌++◌, length, take, slice_get, position, nat_eq, nat_le, nat_lt, Option, Some, None, option_map, option_and_then, Result, Ok, Err, ◌==◌, if◌then◌else◌}
+use Rattle.std.specs.Prelude.{ℕ, zero, suc, ◌-◌, Bool, true, false, ◌&&◌, ◌||◌, List, [], ◌∷◌, ◌++◌, length, take, slice_get, position, nat_eq, nat_le, Option, Some, None, option_map, option_and_then, Result, Ok, Err, ◌==◌, if◌then◌else◌}
 use Rattle.jv_base.specs.Place.{Place}
 use Rattle.format_reading.specs.Fault.{fault}
-use Rattle.format_reading.specs.Reader.{Reader, u1, u2, bytes, lead, item, bind, give, here, settle, many, ◌>>=◌}
+use Rattle.format_reading.specs.Reader.{Reader, u1, u2, lead, item, give, here, settle, many, ◌>>=◌}
 use Rattle.format_reading.specs.declared.fault.FormatFault.{FormatFault}
 use Rattle.format_reading.specs.declared.fault.FormatKind.{FormatKind}
 use Rattle.format_reading.specs.declared.fault.FormatKind.TheVariants as bad
@@ -12,9 +12,8 @@ use Rattle.class_model.specs.declared.op.Op.TheVariants as op
 use Rattle.class_model.specs.declared.frame.VType.{VType}
 use Rattle.class_model.specs.declared.frame.VType.TheVariants as vtype
 use Rattle.class_model.specs.declared.frame.FrameAt.{FrameAt}
-use Rattle.class_model.specs.Instructions.{between}
 use Rattle.class_model.specs.Whole.Frames.{VerificationTypeInfo, TagInfo, ObjectInfo, UninitializedInfo, StackMapFrame, SameFrame, SameLocalsOneStackItem, SameLocalsOneStackItemExtended, ChopFrame, SameFrameExtended, AppendFrame, FullFrame, tagged_type, words_of_types, cut_tops, offset_behind, names_float}
-use Rattle.class_model.specs.Whole.Lookups.{due, type_at, all_there}
+use Rattle.class_model.specs.Whole.Lookups.{due, type_at}
 
 -- ---- rows as they are written
 

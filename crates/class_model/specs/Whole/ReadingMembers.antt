@@ -1,12 +1,11 @@
 -- Reading fields and methods from left to right (JVMS 4.5, 4.6).
-use Rattle.std.specs.Prelude.{ℕ, zero, suc, Bool, true, false, ◌&&◌, ◌||◌, not, List, [], ◌∷◌, ◌++◌, codes, Option, Some, None, Result, Ok, Err, if◌then◌else◌}
+use Rattle.std.specs.Prelude.{ℕ, zero, suc, Bool, true, false, ◌&&◌, ◌||◌, not, List, [], ◌∷◌, codes, Option, Some, None, Ok, Err, if◌then◌else◌}
 use Rattle.std.specs.List.{list_any}
 use Rattle.jv_base.specs.Names.{is_text, is_member_name, is_method_name}
 use Rattle.jv_base.specs.Types.{field_text, method_text}
 use Rattle.jv_base.specs.declared.types.FieldType.{FieldType}
 use Rattle.jv_base.specs.declared.types.MethodType.{MethodType}
-use Rattle.format_reading.specs.Reader.{Reader, u2, item, bind, give, here, settle, ◌>>=◌}
-use Rattle.format_reading.specs.declared.fault.FormatKind.{FormatKind}
+use Rattle.format_reading.specs.Reader.{Reader, u2, item, give, here, settle, ◌>>=◌}
 use Rattle.format_reading.specs.declared.fault.FormatKind.TheVariants as bad
 use Rattle.class_model.specs.declared.pool.Entry.{Entry}
 use Rattle.class_model.specs.declared.class.Constant.{Constant}
@@ -15,10 +14,9 @@ use Rattle.class_model.specs.declared.class.Method.{Method}
 use Rattle.class_model.specs.declared.class.LeftKind.{LeftKind}
 use Rattle.class_model.specs.declared.class.LeftKind.TheVariants as left
 use Rattle.class_model.specs.File.{flags_of}
-use Rattle.class_model.specs.Whole.Flags.{field_mask, method_mask, meant, is_static, is_native, has_body, are_field_flags, are_method_flags, are_initial_flags}
-use Rattle.class_model.specs.Whole.Members.{has_room_for_this, is_initial_type}
+use Rattle.class_model.specs.Whole.Flags.{field_mask, method_mask, meant, is_static, is_native, has_body, are_field_flags, are_method_flags}
 use Rattle.class_model.specs.Whole.Frames.{initial_locals}
-use Rattle.class_model.specs.Whole.Lookups.{test, good_text_at, field_type_of, method_type_of}
+use Rattle.class_model.specs.Whole.Lookups.{test, good_text_at}
 use Rattle.class_model.specs.Whole.MemberTypes.{field_type_at, method_type_at}
 use Rattle.class_model.specs.Whole.ReadingCode.{rest}
 use Rattle.class_model.specs.Whole.ReadingAttributes.{counted_attributes, once, exceptions, constant_value}

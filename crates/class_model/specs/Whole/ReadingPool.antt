@@ -1,9 +1,9 @@
 -- Reading the constant pool from left to right (JVMS 4.4), and its cross references when it has been read.
-use Rattle.std.specs.Prelude.{ℕ, zero, suc, ◌-◌, Bool, true, false, ◌&&◌, not, List, [], ◌∷◌, map, length, Option, Some, None, Result, Ok, Err, ◌==◌, nat_lt, if◌then◌else◌}
+use Rattle.std.specs.Prelude.{ℕ, zero, suc, ◌-◌, Bool, true, false, ◌&&◌, not, List, [], ◌∷◌, map, Option, Some, None, Result, Ok, Err, ◌==◌, nat_lt, if◌then◌else◌}
 use Rattle.std.specs.Int.{w32, cast_signed}
 use Rattle.jv_base.specs.Decoding.{read_mutf8}
 use Rattle.format_reading.specs.Fault.{fault}
-use Rattle.format_reading.specs.Reader.{Reader, u2, u4, bytes, lead, item, bind, give, here, told, u1, ◌>>=◌}
+use Rattle.format_reading.specs.Reader.{Reader, u2, u4, bytes, lead, item, give, here, told, u1, ◌>>=◌}
 use Rattle.format_reading.specs.declared.fault.FormatFault.{FormatFault}
 use Rattle.format_reading.specs.declared.fault.FormatKind.{FormatKind}
 use Rattle.format_reading.specs.declared.fault.FormatKind.TheVariants as bad

@@ -1,5 +1,5 @@
 -- What the definitions give for a few class files, which are computed. The files are written in hexadecimal digits.
-use Rattle.std.specs.Prelude.{◌≡◌, ℕ, ◌+◌, ◌-◌, ◌*◌, ◌<◌, List, [], ◌∷◌, ◌++◌, length, map, take, drop, filter, codes, Option, Some, None, option_map, Result, Ok, Err, is_err, nat_le, false, if◌then◌else◌}
+use Rattle.std.specs.Prelude.{◌≡◌, ℕ, ◌+◌, ◌-◌, ◌*◌, List, [], ◌∷◌, ◌++◌, length, map, take, drop, filter, codes, Option, Some, None, option_map, Result, Ok, Err, is_err, nat_le, false, if◌then◌else◌}
 use Rattle.std.specs.Int.{w32, to_be_bytes}
 use Rattle.std.specs.List.{range_with_len}
 use Rattle.format_reading.specs.Fault.{fault}
@@ -13,12 +13,11 @@ use Rattle.class_model.specs.declared.class.LeftKind.{LeftKind}
 use Rattle.class_model.specs.declared.class.LeftKind.TheVariants as left
 use Rattle.class_model.specs.File.{flags_of}
 use Rattle.class_model.specs.Whole.ClassFile.{File}
-use Rattle.class_model.specs.Whole.InstructionStructure.{Info, Plain, pad_length}
-use Rattle.class_model.specs.Whole.Opcodes.{plain_op, is_left_out_opcode}
+use Rattle.class_model.specs.Whole.InstructionStructure.{Plain, pad_length}
+use Rattle.class_model.specs.Whole.Opcodes.{plain_op}
 use Rattle.class_model.specs.Whole.ReadingCode.{begun}
 use Rattle.class_model.specs.Whole.ReadingClass.{class_read}
 use Rattle.class_model.specs.Whole.CanonicalCode.{op_info}
-use Rattle.class_model.specs.Whole.CanonicalClass.{layout}
 use Rattle.class_model.specs.Whole.WriteLimits.{class_written}
 
 -- ---- hexadecimal digits

@@ -1,13 +1,12 @@
 -- Which classes are well formed: those of which nothing is left out and that meet the rules of the format, told of instruction
 -- numbers in place of offsets and without the limits on counts (JVMS 4.1 to 4.9).
-use Rattle.std.specs.Prelude.{◌≡◌, ◌≢◌, ◌⊎◌, ◌↔◌, ℕ, ◌+◌, ◌^◌, ◌<◌, ◌≤◌, ℤ, pos, ◌+ℤ◌, ◌<ℤ◌, Bool, true, false, not, ◌&&◌, List, [], ◌∷◌, length, slice_get, Option, Some, None, IfSome, IsTrue, IsSome, AllPairs, IsUtf8, is_some, codes, if◌then◌else◌}
+use Rattle.std.specs.Prelude.{◌≡◌, ◌⊎◌, ℕ, ◌+◌, ◌^◌, ◌<◌, ◌≤◌, ℤ, pos, ◌+ℤ◌, ◌<ℤ◌, Bool, true, false, not, List, length, slice_get, Some, None, IfSome, IsTrue, IsSome, AllPairs, IsUtf8, is_some, codes}
 use Rattle.std.specs.List.{AllByRecursion}
 use Rattle.jv_base.specs.Mutf8.{IsUnits}
 use Rattle.jv_base.specs.Names.{is_class_name, is_member_name, is_method_name}
 use Rattle.jv_base.specs.Types.{IsFieldType, IsMethodType, method_text, argument_words}
 use Rattle.jv_base.specs.declared.types.FieldType.{FieldType}
 use Rattle.jv_base.specs.declared.types.MethodType.{MethodType}
-use Rattle.jv_base.specs.declared.types.Base.{Base}
 use Rattle.jv_base.specs.declared.types.Base.TheVariants as base
 use Rattle.class_model.specs.declared.op.MemberRef.{MemberRef}
 use Rattle.class_model.specs.declared.op.Case.{Case}

@@ -1,5 +1,5 @@
 -- The canonical spelling of a class, or the first limit of the format that it passes (JVMS 4.11).
-use Rattle.std.specs.Prelude.{ℕ, ◌+◌, ◌^◌, ℤ, pos, negsuc, ◌-ℤ◌, Bool, true, false, not, List, [], ◌∷◌, ◌++◌, length, slice_index, Option, Some, None, Result, Ok, Err, nat_lt, nat_le, if◌then◌else◌}
+use Rattle.std.specs.Prelude.{ℕ, ◌+◌, ◌^◌, ℤ, pos, negsuc, ◌-ℤ◌, List, [], ◌∷◌, length, slice_index, Option, Some, None, Result, Ok, Err, nat_lt, if◌then◌else◌}
 use Rattle.jv_base.specs.Mutf8.{mutf8}
 use Rattle.jv_base.specs.Outcome.{◌>>=◌}
 use Rattle.class_model.specs.declared.limit.WriteLimit.{WriteLimit}
@@ -15,8 +15,8 @@ use Rattle.class_model.specs.declared.class.Class.{Class}
 use Rattle.class_model.specs.Layout.{int_between}
 use Rattle.class_model.specs.Whole.CanonicalPool.{PoolConstant, Utf8}
 use Rattle.class_model.specs.Whole.CanonicalCode.{places, code_bytes}
-use Rattle.class_model.specs.Whole.CanonicalFrames.{Form, same, same_with_item, chop, append, full, form_of}
-use Rattle.class_model.specs.Whole.CanonicalClass.{pool_of, class_raw, first_locals, line_rows, code_contents, layout}
+use Rattle.class_model.specs.Whole.CanonicalFrames.{Form, full, form_of}
+use Rattle.class_model.specs.Whole.CanonicalClass.{pool_of, first_locals, line_rows, code_contents, layout}
 
 -- a count or a length that fits a number of two bytes, or the limit that it passes
 abbrev pub fits_u2 : (ℕ → WriteLimit) → ℕ → Result (Unit {0}) WriteLimit

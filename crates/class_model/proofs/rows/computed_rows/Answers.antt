@@ -1,9 +1,9 @@
 use Rattle.class_model.proofs.ComputedRows as computed
-use Rattle.class_model.proofs.SpelledRows as by_hand
+use Rattle.class_model.proofs.SpelledRows as relation
 use Rattle.class_model.proofs.rows.computed_rows.Goals as goal
 
 pub returns-clause-spelled : goal.returns-clause-spelled
-returns-clause-spelled c = by_hand.spelled
+returns-clause-spelled c = relation.spelled
 
 pub returns-clause-read : goal.returns-clause-read
 returns-clause-read c = computed.read
