@@ -98,40 +98,46 @@ HeadFaults =
 -- ---- a class with a method
 
 -- class T up to its interfaces; its pool has 1 "T", 2 Class 1, 3 "java/lang/Object", 4 Class 3, 5 "f", 6 "(I)I", 7 "Code",
--- 8 "StackMapTable", 9 a long, 11 "ConstantValue", 12 "J", 13 the int 7, 14 "LineNumberTable"; fields_count is at 133
+-- 8 "StackMapTable", 9 a long, 11 "ConstantValue", 12 "J", 13 the int 7, 14 "LineNumberTable", 15 "<init>", 16 "()V"; fields_count
+-- is at 148
 abbrev pub head_of_t : List ℕ
-head_of_t = (hex (codes "CAFEBABE00000034000F010001540700010100106A6176612F6C616E672F4F626A656374070003010001660100042849")
+head_of_t = (hex (codes "CAFEBABE000000340011010001540700010100106A6176612F6C616E672F4F626A656374070003010001660100042849")
         ++ (hex (codes "2949010004436F646501000D537461636B4D61705461626C6505000000010000000201000D436F6E7374616E7456616C")
-        ++ (hex (codes "75650100014A030000000701000F4C696E654E756D6265725461626C650021000200040000"))))
+        ++ (hex (codes "75650100014A030000000701000F4C696E654E756D6265725461626C650100063C696E69743E01000328295600210002")
+        ++ (hex (codes "00040000")))))
 
 -- the class with fields and methods, each behind their count, and without attributes
 abbrev pub with_members : List ℕ → List ℕ → List ℕ
 with_members fields methods = head_of_t ++ (fields ++ (methods ++ hex (codes "0000")))
 
--- the class with the method public static int f(int) alone, which begins at 137 and whose attribute Code begins at 145, with these
--- contents; its instructions begin at 159
+-- the class with the method public static int f(int) alone, which begins at 152 and whose attribute Code begins at 160, with these
+-- contents; its instructions begin at 174
 abbrev pub with_code : List ℕ → List ℕ
 with_code contents = with_members (hex (codes "0000"))
     (hex (codes "000100090005000600010007") ++ (to_be_bytes w32 (length contents) ++ contents))
 
--- a code of length 0; a code that ends inside an instruction; jsr; wide before nop; ldc of a long; keys of lookupswitch that do not ascend; a branch into an instruction; an empty range; a frame_type without a form; a frame inside an instruction; a local too many; a frame that runs past its attribute; two StackMapTables; a byte behind the contents of Code; Code without its attributes_count
+-- a code of length 0; a code that ends inside an instruction; jsr; wide before nop; ldc of a long; keys of lookupswitch that
+-- do not ascend; a branch into an instruction; an empty range; a frame_type without a form; a frame inside an instruction; a
+-- local too many; two locals gone of one; a frame that runs past its attribute; two StackMapTables; a byte behind the contents
+-- of Code; Code without its attributes_count
 abbrev pub CodeFaults : Type 0
 CodeFaults =
-    (class_read (with_code (hex (codes "000200010000000000000000"))) ≡ refused 155 bad.BadCode)
-    × (class_read (with_code (hex (codes "00020001000000031A110000000000"))) ≡ refused 160 bad.BadCode)
-    × (class_read (with_code (hex (codes "00020001000000041AA8000000000000"))) ≡ refused 160 bad.BadOpcode)
-    × (class_read (with_code (hex (codes "0002000100000003C400AC00000000"))) ≡ refused 159 bad.BadOpcode)
-    × (class_read (with_code (hex (codes "00020001000000031209AC00000000"))) ≡ refused 159 bad.BadOperand)
-    × (class_read (with_code (hex (codes "000200010000001D1AAB00000000001B0000000200000005000000130000000500000013AC00000000"))) ≡ refused 160 bad.BadOperand)
-    × (class_read (with_code (hex (codes "00020001000000061A9900021AAC00000000"))) ≡ refused 160 bad.BadTarget)
-    × (class_read (with_code (hex (codes "00020001000000041A0460AC000100010001000000000000"))) ≡ refused 165 bad.BadHandler)
-    × (class_read (with_code (hex (codes "00020001000000041A0460AC00000001000800000003000180"))) ≡ refused 175 bad.BadFrame)
-    × (class_read (with_code (hex (codes "00020001000000031004AC00000001000800000003000101"))) ≡ refused 174 bad.BadFrame)
-    × (class_read (with_code (hex (codes "00020001000000041A0460AC000000010008000000060001FC000101"))) ≡ refused 175 bad.BadFrame)
-    × (class_read (with_code (hex (codes "00020001000000041A0460AC000000010008000000050001FC0001"))) ≡ refused 167 bad.BadAttribute)
-    × (class_read (with_code (hex (codes "00020001000000041A0460AC0000000200080000000200000008000000020000"))) ≡ refused 175 bad.Repeated)
-    × (class_read (with_code (hex (codes "00020001000000041A0460AC0000000000"))) ≡ refused 145 bad.BadAttribute)
-    × (class_read (with_code (hex (codes "00020001000000041A0460AC0000"))) ≡ refused 145 bad.BadAttribute)
+    (class_read (with_code (hex (codes "000200010000000000000000"))) ≡ refused 170 bad.BadCode)
+    × (class_read (with_code (hex (codes "00020001000000031A110000000000"))) ≡ refused 175 bad.BadCode)
+    × (class_read (with_code (hex (codes "00020001000000041AA8000000000000"))) ≡ refused 175 bad.BadOpcode)
+    × (class_read (with_code (hex (codes "0002000100000003C400AC00000000"))) ≡ refused 174 bad.BadOpcode)
+    × (class_read (with_code (hex (codes "00020001000000031209AC00000000"))) ≡ refused 174 bad.BadOperand)
+    × (class_read (with_code (hex (codes "000200010000001D1AAB00000000001B0000000200000005000000130000000500000013AC00000000"))) ≡ refused 175 bad.BadOperand)
+    × (class_read (with_code (hex (codes "00020001000000061A9900021AAC00000000"))) ≡ refused 175 bad.BadTarget)
+    × (class_read (with_code (hex (codes "00020001000000041A0460AC000100010001000000000000"))) ≡ refused 180 bad.BadHandler)
+    × (class_read (with_code (hex (codes "00020001000000041A0460AC00000001000800000003000180"))) ≡ refused 190 bad.BadFrame)
+    × (class_read (with_code (hex (codes "00020001000000031004AC00000001000800000003000101"))) ≡ refused 189 bad.BadFrame)
+    × (class_read (with_code (hex (codes "00020001000000041A0460AC000000010008000000060001FC000101"))) ≡ refused 190 bad.BadFrame)
+    × (class_read (with_code (hex (codes "00020001000000041A0460AC000000010008000000050001F90001"))) ≡ refused 190 bad.BadFrame)
+    × (class_read (with_code (hex (codes "00020001000000041A0460AC000000010008000000050001FC0001"))) ≡ refused 182 bad.BadAttribute)
+    × (class_read (with_code (hex (codes "00020001000000041A0460AC0000000200080000000200000008000000020000"))) ≡ refused 190 bad.Repeated)
+    × (class_read (with_code (hex (codes "00020001000000041A0460AC0000000000"))) ≡ refused 160 bad.BadAttribute)
+    × (class_read (with_code (hex (codes "00020001000000041A0460AC0000"))) ≡ refused 160 bad.BadAttribute)
 
 -- what is left out first, of a class that is read
 abbrev pub left_out_of : Result Class FormatFault → Option (Option LeftOut)
@@ -149,17 +155,46 @@ CodeLeftOut =
     × (left_out_of (class_read (with_code (hex (codes "00020001000000031202AC00000000")))) ≡ leaves_out left.Constant)
     × (left_out_of (class_read (with_code (hex (codes "00020001000000041A0460AC0000000100080000000400014102")))) ≡ leaves_out left.FloatType)
 
--- two methods of one name and descriptor; a method both public and private; a method without Code; a field descriptor on a method; a name with an opening parenthesis; a name index that leads to a class; an int for a field of type long
+-- two methods of one name and descriptor; a method both public and private; a method without Code; a field descriptor on a
+-- method; a name with an opening parenthesis; a name index that leads to a class; an int for a field of type long; a static
+-- instance initialisation method; one that gives an int; an abstract method with a Code
 abbrev pub MemberFaults : Type 0
 MemberFaults =
     (class_read (with_members (hex (codes "0000")) ((hex (codes "0002000900050006000100070000001000020001000000041A0460AC0000000000090005000600010007000000100002")
-        ++ (hex (codes "0001000000041A0460AC00000000"))))) ≡ refused 167 bad.Repeated)
-    × (class_read (with_members (hex (codes "0000")) (hex (codes "0001000300050006000100070000001000020001000000041A0460AC00000000"))) ≡ refused 137 bad.BadFlags)
-    × (class_read (with_members (hex (codes "0000")) (hex (codes "00010009000500060000"))) ≡ refused 137 bad.BadAttribute)
-    × (class_read (with_members (hex (codes "0000")) (hex (codes "000100090005000C000100070000001000020001000000041A0460AC00000000"))) ≡ refused 141 bad.BadDescriptor)
-    × (class_read (with_members (hex (codes "0000")) (hex (codes "0001000900060006000100070000001000020001000000041A0460AC00000000"))) ≡ refused 139 bad.BadName)
-    × (class_read (with_members (hex (codes "0000")) (hex (codes "0001000900020006000100070000001000020001000000041A0460AC00000000"))) ≡ refused 139 bad.BadIndex)
-    × (class_read (with_members (hex (codes "000100080005000C0001000B00000002000D")) (hex (codes "0000"))) ≡ refused 149 bad.BadConstant)
+        ++ (hex (codes "0001000000041A0460AC00000000"))))) ≡ refused 182 bad.Repeated)
+    × (class_read (with_members (hex (codes "0000")) (hex (codes "0001000300050006000100070000001000020001000000041A0460AC00000000"))) ≡ refused 152 bad.BadFlags)
+    × (class_read (with_members (hex (codes "0000")) (hex (codes "00010009000500060000"))) ≡ refused 152 bad.BadAttribute)
+    × (class_read (with_members (hex (codes "0000")) (hex (codes "000100090005000C000100070000001000020001000000041A0460AC00000000"))) ≡ refused 156 bad.BadDescriptor)
+    × (class_read (with_members (hex (codes "0000")) (hex (codes "0001000900060006000100070000001000020001000000041A0460AC00000000"))) ≡ refused 154 bad.BadName)
+    × (class_read (with_members (hex (codes "0000")) (hex (codes "0001000900020006000100070000001000020001000000041A0460AC00000000"))) ≡ refused 154 bad.BadIndex)
+    × (class_read (with_members (hex (codes "000100080005000C0001000B00000002000D")) (hex (codes "0000"))) ≡ refused 164 bad.BadConstant)
+    × (class_read (with_members (hex (codes "0000")) (hex (codes "00010009000F0010000100070000000D0002000100000001B100000000"))) ≡ refused 156 bad.BadFlags)
+    × (class_read (with_members (hex (codes "0000")) (hex (codes "00010001000F0006000100070000000E00020001000000021AAC00000000"))) ≡ refused 156 bad.BadDescriptor)
+    × (class_read (with_members (hex (codes "0000")) (hex (codes "0001040100050006000100070000001000020001000000041A0460AC00000000"))) ≡ refused 160 bad.BadAttribute)
+
+-- a long at the last index, whose value is not read; a reference to a field whose NameAndType, behind it, has no descriptor; a
+-- reference to a field with the name of an instance initialisation method; a text that is none, behind a class that names
+-- nothing: the bytes come first; an unpaired surrogate in the name of a class; a class that names its own entry
+abbrev pub PoolFaults : Type 0
+PoolFaults =
+    (class_read (hex (codes "CAFEBABE00000034000205")) ≡ refused 10 bad.BadTag)
+    × (class_read (hex (codes "CAFEBABE00000034000709000300020C0005000607000401000141010001660100013F")) ≡ refused 10 bad.BadDescriptor)
+    × (class_read (hex (codes "CAFEBABE00000034000709000300020C00050006070004010001410100063C696E69743E01000149")) ≡ refused 10 bad.BadName)
+    × (class_read (hex (codes "CAFEBABE00000034000307000901000100")) ≡ refused 16 bad.BadUtf8)
+    × (class_read (hex (codes "CAFEBABE000000340003070002010003EDA080")) ≡ refused 10 bad.BadName)
+    × (class_read (hex (codes "CAFEBABE000000340002070001")) ≡ refused 10 bad.BadIndex)
+
+-- what is left out of the class itself, or of a member without code: an annotation; a float that is not used; a native method
+abbrev pub ClassLeftOut : Type 0
+ClassLeftOut =
+    (left_out_of (class_read ((hex (codes "CAFEBABE000000340005010001410700010100106A6176612F6C616E672F4F626A656374070003260000020004000000")
+        ++ (hex (codes "0000000000"))))) ≡ Some (Some (record { member = None; kind = left.Flag })))
+    × (left_out_of (class_read ((hex (codes "CAFEBABE000000340006010001410700010100106A6176612F6C616E672F4F626A656374070003043F80000006000002")
+        ++ (hex (codes "00040000000000000000"))))) ≡ Some (Some (record { member = None; kind = left.Constant })))
+    × (left_out_of (class_read ((hex (codes "CAFEBABE000000340011010001540700010100106A6176612F6C616E672F4F626A656374070003010001660100042849")
+        ++ (hex (codes "2949010004436F646501000D537461636B4D61705461626C6505000000010000000201000D436F6E7374616E7456616C")
+        ++ (hex (codes "75650100014A030000000701000F4C696E654E756D6265725461626C650100063C696E69743E01000328295600210002")
+        ++ (hex (codes "000400000000000101010005000600000000"))))))) ≡ Some (Some (record { member = (Some 0); kind = left.Flag })))
 
 -- ---- canonical spellings
 

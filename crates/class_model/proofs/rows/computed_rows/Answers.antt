@@ -29,6 +29,12 @@ returns-clause-code_left_out c = computed.code_left_out
 pub returns-clause-member_faults : goal.returns-clause-member_faults
 returns-clause-member_faults c = computed.member_faults
 
+pub returns-clause-pool_faults : goal.returns-clause-pool_faults
+returns-clause-pool_faults c = computed.pool_faults
+
+pub returns-clause-class_left_out : goal.returns-clause-class_left_out
+returns-clause-class_left_out c = computed.class_left_out
+
 pub returns-clause-main_is_canonical : goal.returns-clause-main_is_canonical
 returns-clause-main_is_canonical c = computed.main_is_canonical
 
