@@ -22,5 +22,4 @@ pub fn computed_rows()
     ensures unknown_opcodes { UnknownOpcodes }
     ensures plain_is_canonical { PlainIsCanonical }
     ensures padding { Padding }
-{
-}
+{}

@@ -107,7 +107,7 @@ reference_of of_interface pool class_index indices =
 abbrev pub reference_at : (Entry → Option (ℕ × ℕ)) → Bool → List Entry → ℕ → Option MemberRef
 reference_at refers_in of_interface pool index =
     option_and_then (λ (two : ℕ × ℕ). option_and_then (reference_of of_interface pool two.0) (name_and_type_at pool two.1))
-        (option_and_then refers_in (slice_get pool index))
+    (option_and_then refers_in (slice_get pool index))
 
 unfoldable pub fieldref_at : List Entry → ℕ → Option MemberRef
 fieldref_at pool index = reference_at fieldref_in false pool index

@@ -112,13 +112,16 @@ left_out_of (Some map) = if map.0 then Some left.FloatType else None
 left_out_of None = None
 
 abbrev pub code_of : ℕ → ℕ → List Info → List Op → List Handler → CodeSeen → Body
-code_of max_stack max_locals infos ops handlers seen = (Some (record {
-  max_stack = max_stack;
-  max_locals = max_locals;
-  ins = with_lines seen.lines 0 infos ops;
-  handlers = handlers;
-  frames = frames_of seen.map;
-}), left_out_of seen.map)
+code_of max_stack max_locals infos ops handlers seen = (
+  Some (record {
+    max_stack = max_stack;
+    max_locals = max_locals;
+    ins = with_lines seen.lines 0 infos ops;
+    handlers = handlers;
+    frames = frames_of seen.map;
+  }),
+  left_out_of seen.map,
+)
 
 -- an attribute that is passed over by its length, its name not looked at
 abbrev pub skipped_attribute : Reader (Unit {0})

@@ -63,7 +63,7 @@ constant_seen pool ty seen = do
 abbrev pub known_of_field : List Entry → Bool → FieldType → ℕ → List ℕ → FieldSeen → Option (Reader FieldSeen)
 known_of_field pool static ty at name seen =
     if is_text name (codes "ConstantValue") then Some (once at (is_there seen.constant)
-        (if static then constant_seen pool ty seen else dropped (record seen { constant = Some None })))
+    (if static then constant_seen pool ty seen else dropped (record seen { constant = Some None })))
     else if is_text name (codes "Synthetic") then Some (once at seen.synthetic (give (record seen { synthetic = true })))
     else if is_text name (codes "Deprecated") then Some (once at seen.deprecated (give (record seen { deprecated = true })))
     else None
