@@ -6,7 +6,7 @@ use Rattle.class_model.specs.Whole.CanonicalPool.{filled}
 use Rattle.class_model.specs.Whole.CanonicalCode.{places, code_bytes}
 use Rattle.class_model.specs.Whole.CanonicalClass.{pool_of, layout}
 use Rattle.class_model.specs.Whole.WriteLimits.{limits, class_written}
-use Rattle.class_model.specs.Whole.Rows.{IsRead, IsWritten, IsCutAnywhere, IsTrailed, HeadFaults, CodeFaults, CodeLeftOut, MemberFaults, PoolFaults, ClassLeftOut, MainIsCanonical, CompiledAreRespelled, UnknownOpcodes, PlainIsCanonical, Padding}
+use Rattle.class_model.specs.Whole.Rows.{IsRead, TIsRead, IsWritten, IsCutAnywhere, IsTrailed, HeadFaults, CodeFaults, CodeLeftOut, MemberFaults, PoolFaults, ClassLeftOut, MainIsCanonical, CompiledAreRespelled, UnknownOpcodes, PlainIsCanonical, Padding}
 use Rattle.jv_base.specs.Mutf8.{unit_bytes, mutf8}
 use Rattle.jv_base.specs.Names.{part_after, is_keyword, is_name_byte, is_member_name, is_method_name, is_class_name}
 use Rattle.jv_base.specs.Walk.{walk}
@@ -29,6 +29,10 @@ use Rattle.class_model.specs.Whole.ReadingClass.{read_head, read_all_fields, rea
 pub read : IsRead
 unfolding lib.Utf8.encode part_after is_keyword is_name_byte is_member_name is_method_name is_class_name walk base_text field_text result_text method_text words_of argument_words byte_taken read_mutf8 grown read_field read_method utf16_chars u1 u2 u4 bytes lead bind give here told settle part many text_of names_right class_at optional_class_at type_at fieldref_at methodref_at interface_methodref_at read_pool slots slot read_entry all_name_right op_of match_offsets read_instruction is_at_end rest until_end ops_from read_type read_row read_frame read_frames_behind read_frames attributes exceptions line_number_table read_handlers read_code field_type_at method_type_at read_field_info read_fields read_method_info read_methods read_head read_all_fields read_all_methods read_interfaces read_class_file class_read
 read = refl
+
+pub t_read : TIsRead
+unfolding lib.Utf8.encode part_after is_keyword is_name_byte is_member_name is_method_name is_class_name walk base_text field_text result_text method_text words_of argument_words byte_taken read_mutf8 grown read_field read_method utf16_chars u1 u2 u4 bytes lead bind give here told settle part many text_of names_right class_at optional_class_at type_at fieldref_at methodref_at interface_methodref_at read_pool slots slot read_entry all_name_right op_of match_offsets read_instruction is_at_end rest until_end ops_from read_type read_row read_frame read_frames_behind read_frames attributes exceptions line_number_table read_handlers read_code field_type_at method_type_at read_field_info read_fields read_method_info read_methods read_head read_all_fields read_all_methods read_interfaces read_class_file class_read
+t_read = refl
 
 pub written : IsWritten
 unfolding lib.Utf8.encode part_after is_keyword is_name_byte is_member_name is_method_name is_class_name walk base_text field_text result_text method_text words_of argument_words byte_taken read_mutf8 grown read_field read_method utf16_chars u1 u2 u4 bytes lead bind give here told settle part many text_of names_right class_at optional_class_at type_at fieldref_at methodref_at interface_methodref_at read_pool slots slot read_entry all_name_right op_of match_offsets read_instruction is_at_end rest until_end ops_from read_type read_row read_frame read_frames_behind read_frames attributes exceptions line_number_table read_handlers read_code field_type_at method_type_at read_field_info read_fields read_method_info read_methods read_head read_all_fields read_all_methods read_interfaces read_class_file class_read unit_bytes mutf8 units_of chars filled places code_bytes pool_of layout limits class_written

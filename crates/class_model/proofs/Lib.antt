@@ -1,3 +1,4 @@
 mod Cases
 pub mod ComputedRows
 pub mod SpelledRows
+pub mod SpelledClass

@@ -1,5 +1,5 @@
 -- What the definitions give for a few class files, which are computed. The files are written in hexadecimal digits.
-use Rattle.std.specs.Prelude.{◌≡◌, ℕ, ◌+◌, ◌-◌, ◌*◌, List, [], ◌∷◌, ◌++◌, length, map, take, drop, filter, codes, Option, Some, None, option_map, Result, Ok, Err, is_err, nat_le, false, if◌then◌else◌}
+use Rattle.std.specs.Prelude.{pos, ◌≡◌, ℕ, ◌+◌, ◌-◌, ◌*◌, List, [], ◌∷◌, ◌++◌, length, map, take, drop, filter, codes, Option, Some, None, option_map, Result, Ok, Err, is_err, nat_le, false, if◌then◌else◌}
 use Rattle.std.specs.Int.{w32, to_be_bytes}
 use Rattle.std.specs.List.{range_with_len}
 use Rattle.format_reading.specs.Fault.{fault}
@@ -8,6 +8,18 @@ use Rattle.format_reading.specs.declared.fault.FormatKind.{FormatKind}
 use Rattle.format_reading.specs.declared.fault.FormatKind.TheVariants as bad
 use Rattle.class_model.specs.declared.limit.WriteLimit.{WriteLimit}
 use Rattle.class_model.specs.declared.class.Class.{Class}
+use Rattle.class_model.specs.declared.class.Field.{Field}
+use Rattle.class_model.specs.declared.class.Method.{Method}
+use Rattle.class_model.specs.declared.class.Constant.TheVariants as constant
+use Rattle.class_model.specs.declared.code.Code.{Code}
+use Rattle.class_model.specs.declared.code.Ins.{Ins}
+use Rattle.class_model.specs.declared.op.Op.{Op}
+use Rattle.class_model.specs.declared.op.Op.TheVariants as op
+use Rattle.class_model.specs.declared.op.Kind.TheVariants as kind
+use Rattle.class_model.specs.declared.op.Cond.TheVariants as cond
+use Rattle.class_model.specs.declared.frame.VType.TheVariants as vtype
+use Rattle.jv_base.specs.declared.types.FieldType.{FieldType}
+use Rattle.jv_base.specs.declared.types.Base.TheVariants as base
 use Rattle.class_model.specs.declared.class.LeftOut.{LeftOut}
 use Rattle.class_model.specs.declared.class.LeftKind.{LeftKind}
 use Rattle.class_model.specs.declared.class.LeftKind.TheVariants as left
@@ -195,6 +207,70 @@ ClassLeftOut =
     ++ (hex (codes "2949010004436F646501000D537461636B4D61705461626C6505000000010000000201000D436F6E7374616E7456616C")
     ++ (hex (codes "75650100014A030000000701000F4C696E654E756D6265725461626C650100063C696E69743E01000328295600210002")
     ++ (hex (codes "000400000000000101010005000600000000"))))))) ≡ Some (Some (record { member = (Some 0); kind = left.Flag })))
+
+-- ---- a class with a field and a method, whose code has a branch, a handler, lines and a frame
+
+abbrev pub bytes_of_t : List ℕ
+bytes_of_t = with_members (hex (codes "000100080005000C0001000B000000020009"))
+    (hex (codes "000100090005000600010007000000310002000100000008")
+    ++ hex (codes "1A99000504AC03AC000100000001000600040002000E00000006000100000007000800000003000106"))
+
+abbrev pub int_type : FieldType
+int_type = record { dims = 0; base = base.Int }
+
+abbrev pub ins_at_7 : Op → Ins
+ins_at_7 o = record { op = o; line = Some 7 }
+
+abbrev pub code_of_t : Code
+code_of_t = record {
+  max_stack = 2;
+  max_locals = 1;
+  ins = ins_at_7 (op.Load kind.Int 0) ∷ ins_at_7 (op.IfZero cond.Eq 4) ∷ ins_at_7 (op.PushInt (pos 1)) ∷ ins_at_7 (op.Return (Some kind.Int))
+      ∷ ins_at_7 (op.PushInt (pos 0)) ∷ ins_at_7 (op.Return (Some kind.Int)) ∷ [];
+  handlers = record { from = 0; to = 1; entry = 4; caught = Some (codes "java/lang/Object") } ∷ [];
+  frames = record { index = 4; frame = record { locals = vtype.Int ∷ []; stack = [] } } ∷ [];
+}
+
+abbrev pub field_of_t : Field
+field_of_t = record {
+  flags = flags_of 0x0008;
+  name = codes "f";
+  ty = record { dims = 0; base = base.Long };
+  constant = Some (constant.Long (pos 4294967298));
+  synthetic = false;
+  deprecated = false;
+}
+
+abbrev pub method_of_t : Method
+method_of_t = record {
+  flags = flags_of 0x0009;
+  name = codes "f";
+  ty = record { args = int_type ∷ []; ret = Some int_type };
+  code = Some code_of_t;
+  throws = [];
+  synthetic = false;
+  deprecated = false;
+}
+
+abbrev pub class_t : Class
+class_t = record {
+  flags = flags_of 0x0021;
+  name = codes "T";
+  super_name = codes "java/lang/Object";
+  interfaces = [];
+  fields = field_of_t ∷ [];
+  methods = method_of_t ∷ [];
+  source = None;
+  synthetic = false;
+  deprecated = false;
+  left_out = None;
+}
+
+abbrev pub TIsSpelled : Type 0
+TIsSpelled = File bytes_of_t class_t
+
+abbrev pub TIsRead : Type 0
+TIsRead = class_read bytes_of_t ≡ Ok class_t
 
 -- ---- canonical spellings
 

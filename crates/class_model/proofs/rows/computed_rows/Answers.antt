@@ -1,4 +1,5 @@
 use Rattle.class_model.proofs.ComputedRows as computed
+use Rattle.class_model.proofs.SpelledClass as whole
 use Rattle.class_model.proofs.SpelledRows as relation
 use Rattle.class_model.proofs.rows.computed_rows.Goals as goal
 
@@ -34,6 +35,12 @@ returns-clause-pool_faults c = computed.pool_faults
 
 pub returns-clause-class_left_out : goal.returns-clause-class_left_out
 returns-clause-class_left_out c = computed.class_left_out
+
+pub returns-clause-t_spelled : goal.returns-clause-t_spelled
+returns-clause-t_spelled c = whole.spelled
+
+pub returns-clause-t_read : goal.returns-clause-t_read
+returns-clause-t_read c = computed.t_read
 
 pub returns-clause-main_is_canonical : goal.returns-clause-main_is_canonical
 returns-clause-main_is_canonical c = computed.main_is_canonical
