@@ -2,3 +2,4 @@ mod Cases
 pub mod ComputedRows
 pub mod SpelledRows
 pub mod SpelledClass
+pub mod FormedClass

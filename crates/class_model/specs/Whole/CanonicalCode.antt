@@ -139,11 +139,11 @@ inc_info slot delta =
 
 -- ---- instructions
 
--- where gives the offset of an instruction by its number, and at is the offset of this one
-module _ (pool : List PoolConstant) (where_ : ℕ → ℕ) (at : ℕ) where
+-- place gives the offset of an instruction by its number, and at is the offset of this one
+module _ (pool : List PoolConstant) (place : ℕ → ℕ) (at : ℕ) where
   -- how far it is to a target
   abbrev pub distance : ℕ → ℤ
-  distance to = pos (where_ to) -ℤ pos at
+  distance to = pos (place to) -ℤ pos at
 
   abbrev pub near : ℕ → ℕ
   near to = cast_unsigned w16 (distance to)

@@ -17,6 +17,7 @@ use Rattle.class_model.specs.declared.op.Op.{Op}
 use Rattle.class_model.specs.declared.op.Op.TheVariants as op
 use Rattle.class_model.specs.declared.op.Kind.TheVariants as kind
 use Rattle.class_model.specs.declared.op.Cond.TheVariants as cond
+use Rattle.class_model.specs.declared.frame.FrameAt.{FrameAt}
 use Rattle.class_model.specs.declared.frame.VType.TheVariants as vtype
 use Rattle.jv_base.specs.declared.types.FieldType.{FieldType}
 use Rattle.jv_base.specs.declared.types.Base.TheVariants as base
@@ -27,6 +28,7 @@ use Rattle.class_model.specs.File.{flags_of}
 use Rattle.class_model.specs.Whole.ClassFile.{File}
 use Rattle.class_model.specs.Whole.InstructionStructure.{Plain, pad_length}
 use Rattle.class_model.specs.Whole.Opcodes.{plain_op}
+use Rattle.class_model.specs.Whole.WellFormed.{IsWellFormed}
 use Rattle.class_model.specs.Whole.ReadingCode.{begun}
 use Rattle.class_model.specs.Whole.ReadingClass.{class_read}
 use Rattle.class_model.specs.Whole.CanonicalCode.{op_info}
@@ -221,6 +223,9 @@ int_type = record { dims = 0; base = base.Int }
 abbrev pub ins_at_7 : Op → Ins
 ins_at_7 o = record { op = o; line = Some 7 }
 
+abbrev pub frame_of_t : FrameAt
+frame_of_t = record { index = 4; frame = record { locals = vtype.Int ∷ []; stack = [] } }
+
 abbrev pub code_of_t : Code
 code_of_t = record {
   max_stack = 2;
@@ -228,7 +233,7 @@ code_of_t = record {
   ins = ins_at_7 (op.Load kind.Int 0) ∷ ins_at_7 (op.IfZero cond.Eq 4) ∷ ins_at_7 (op.PushInt (pos 1)) ∷ ins_at_7 (op.Return (Some kind.Int))
       ∷ ins_at_7 (op.PushInt (pos 0)) ∷ ins_at_7 (op.Return (Some kind.Int)) ∷ [];
   handlers = record { from = 0; to = 1; entry = 4; caught = Some (codes "java/lang/Object") } ∷ [];
-  frames = record { index = 4; frame = record { locals = vtype.Int ∷ []; stack = [] } } ∷ [];
+  frames = frame_of_t ∷ [];
 }
 
 abbrev pub field_of_t : Field
@@ -268,6 +273,9 @@ class_t = record {
 
 abbrev pub TIsSpelled : Type 0
 TIsSpelled = File bytes_of_t class_t
+
+abbrev pub TIsWellFormed : Type 0
+TIsWellFormed = IsWellFormed class_t
 
 abbrev pub TIsRead : Type 0
 TIsRead = class_read bytes_of_t ≡ Ok class_t

@@ -128,13 +128,17 @@ pub record IsGoodFrame (code : Code) (frame : FrameAt) : Type 0 where
 abbrev pub LinesGoOn : Ins → Ins → Type 0
 LinesGoOn one next = IsSome one.line → IsSome next.line
 
+-- the frames ascend
+abbrev pub Ascend : FrameAt → FrameAt → Type 0
+Ascend one next = one.index < next.index
+
 pub record IsGoodCode (code : Code) : Type 0 where
   pub some : 0 < length code.ins
   pub instructions : AllByRecursion (λ (i : Ins). IsGoodOp (length code.ins) i.op) code.ins
   pub lines : AllPairs LinesGoOn code.ins
   pub handlers : AllByRecursion (IsGoodHandler (length code.ins)) code.handlers
   pub frames : AllByRecursion (IsGoodFrame code) code.frames
-  pub ascending : AllPairs (λ (one next : FrameAt). one.index < next.index) code.frames
+  pub ascending : AllPairs Ascend code.frames
 
 -- ---- members
 

@@ -1,4 +1,5 @@
 use Rattle.class_model.proofs.ComputedRows as computed
+use Rattle.class_model.proofs.FormedClass as formed
 use Rattle.class_model.proofs.SpelledClass as whole
 use Rattle.class_model.proofs.SpelledRows as relation
 use Rattle.class_model.proofs.rows.computed_rows.Goals as goal
@@ -41,6 +42,9 @@ returns-clause-t_spelled c = whole.spelled
 
 pub returns-clause-t_read : goal.returns-clause-t_read
 returns-clause-t_read c = computed.t_read
+
+pub returns-clause-t_well_formed : goal.returns-clause-t_well_formed
+returns-clause-t_well_formed c = formed.well_formed
 
 pub returns-clause-main_is_canonical : goal.returns-clause-main_is_canonical
 returns-clause-main_is_canonical c = computed.main_is_canonical
