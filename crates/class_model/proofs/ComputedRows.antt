@@ -6,7 +6,7 @@ use Rattle.class_model.specs.Whole.CanonicalPool.{filled}
 use Rattle.class_model.specs.Whole.CanonicalCode.{places, code_bytes}
 use Rattle.class_model.specs.Whole.CanonicalClass.{pool_of, layout}
 use Rattle.class_model.specs.Whole.WriteLimits.{limits, class_written}
-use Rattle.class_model.specs.Whole.Rows.{IsRead, TIsRead, IsWritten, IsCutAnywhere, IsTrailed, HeadFaults, CodeFaults, CodeLeftOut, MemberFaults, PoolFaults, ClassLeftOut, MainIsCanonical, CompiledAreRespelled, UnknownOpcodes, PlainIsCanonical, Padding}
+use Rattle.class_model.specs.Whole.Rows.{IsRead, CodeLimits, TIsRead, IsWritten, IsCutAnywhere, IsTrailed, HeadFaults, CodeFaults, CodeLeftOut, MemberFaults, PoolFaults, ClassLeftOut, MainIsCanonical, CompiledAreRespelled, UnknownOpcodes, PlainIsCanonical, Padding}
 use Rattle.jv_base.specs.Mutf8.{unit_bytes, mutf8}
 use Rattle.jv_base.specs.Names.{part_after, is_keyword, is_name_byte, is_member_name, is_method_name, is_class_name}
 use Rattle.jv_base.specs.Walk.{walk}
@@ -86,3 +86,7 @@ plain_is_canonical = refl
 
 pub padding : Padding
 padding = refl
+
+pub code_limits : CodeLimits
+unfolding places code_bytes
+code_limits = (refl, refl, refl)

@@ -57,14 +57,17 @@ code_is = record {
   instructions = (tt, (omega arith, (tt, (tt, (tt, (tt, tt))))));
   lines = lines_go_on;
   handlers = (record { range = omega arith; to = omega arith; entry = omega arith; caught = (object_utf8, refl) }, tt);
-  frames = (record {
-    index = omega arith;
-    locals = (tt, tt);
-    cut = refl;
-    locals_fit = omega arith;
-    stack = tt;
-    stack_fits = omega arith;
-  }, tt);
+  frames = (
+    record {
+      index = omega arith;
+      locals = (tt, tt);
+      cut = refl;
+      locals_fit = omega arith;
+      stack = tt;
+      stack_fits = omega arith;
+    },
+    tt,
+  );
   ascending = no_pairs Ascend frame_of_t;
 }
 

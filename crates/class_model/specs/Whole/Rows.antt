@@ -1,5 +1,5 @@
 -- What the definitions give for a few class files, which are computed. The files are written in hexadecimal digits.
-use Rattle.std.specs.Prelude.{pos, ◌≡◌, ℕ, ◌+◌, ◌-◌, ◌*◌, List, [], ◌∷◌, ◌++◌, length, map, take, drop, filter, codes, Option, Some, None, option_map, Result, Ok, Err, is_err, nat_le, false, if◌then◌else◌}
+use Rattle.std.specs.Prelude.{pos, replicate, ◌≡◌, ℕ, ◌+◌, ◌-◌, ◌*◌, List, [], ◌∷◌, ◌++◌, length, map, take, drop, filter, codes, Option, Some, None, option_map, Result, Ok, Err, is_err, nat_le, false, if◌then◌else◌}
 use Rattle.std.specs.Int.{w32, to_be_bytes}
 use Rattle.std.specs.List.{range_with_len}
 use Rattle.format_reading.specs.Fault.{fault}
@@ -7,6 +7,7 @@ use Rattle.format_reading.specs.declared.fault.FormatFault.{FormatFault}
 use Rattle.format_reading.specs.declared.fault.FormatKind.{FormatKind}
 use Rattle.format_reading.specs.declared.fault.FormatKind.TheVariants as bad
 use Rattle.class_model.specs.declared.limit.WriteLimit.{WriteLimit}
+use Rattle.class_model.specs.declared.limit.WriteLimit.TheVariants.{BranchTooFar, CodeTooLong}
 use Rattle.class_model.specs.declared.class.Class.{Class}
 use Rattle.class_model.specs.declared.class.Field.{Field}
 use Rattle.class_model.specs.declared.class.Method.{Method}
@@ -32,7 +33,7 @@ use Rattle.class_model.specs.Whole.WellFormed.{IsWellFormed}
 use Rattle.class_model.specs.Whole.ReadingCode.{begun}
 use Rattle.class_model.specs.Whole.ReadingClass.{class_read}
 use Rattle.class_model.specs.Whole.CanonicalCode.{op_info}
-use Rattle.class_model.specs.Whole.WriteLimits.{class_written}
+use Rattle.class_model.specs.Whole.WriteLimits.{class_written, code_fits}
 
 -- ---- hexadecimal digits
 
@@ -279,6 +280,37 @@ TIsWellFormed = IsWellFormed class_t
 
 abbrev pub TIsRead : Type 0
 TIsRead = class_read bytes_of_t ≡ Ok class_t
+
+-- ---- limits
+
+abbrev pub unlined : Op → Ins
+unlined o = record { op = o; line = None }
+
+-- a goto over a tableswitch of 8,187 cases, which ends at 32,764, and over what stands behind it; and then a return
+abbrev pub code_over : List Op → Code
+code_over behind = record {
+  max_stack = 1;
+  max_locals = 0;
+  ins = map unlined (op.Goto (2 + length behind) ∷ op.TableSwitch (pos 0) 0 (replicate 8187 0) ∷ (behind ++ op.Return None ∷ []));
+  handlers = [];
+  frames = [];
+}
+
+-- a tableswitch of 16,384 cases, and then a return
+abbrev pub long_code : Code
+long_code = record {
+  max_stack = 1;
+  max_locals = 0;
+  ins = map unlined (op.TableSwitch (pos 0) 1 (replicate 16384 1) ∷ op.Return None ∷ []);
+  handlers = [];
+  frames = [];
+}
+
+-- a branch over 32,767 bytes is near enough, one over 32,768 is too far; a code of 65,553 bytes is too long
+abbrev pub CodeLimits : Type 0
+CodeLimits = (code_fits [] (Some (code_over (op.Nop ∷ op.Nop ∷ op.Nop ∷ []))) ≡ Ok tt)
+    × (code_fits [] (Some (code_over (op.Nop ∷ op.Nop ∷ op.Nop ∷ op.Nop ∷ []))) ≡ Err (BranchTooFar 0 (pos 32768)))
+    × (code_fits [] (Some long_code) ≡ Err (CodeTooLong 65553))
 
 -- ---- canonical spellings
 

@@ -46,6 +46,9 @@ returns-clause-t_read c = computed.t_read
 pub returns-clause-t_well_formed : goal.returns-clause-t_well_formed
 returns-clause-t_well_formed c = formed.well_formed
 
+pub returns-clause-code_limits : goal.returns-clause-code_limits
+returns-clause-code_limits c = computed.code_limits
+
 pub returns-clause-main_is_canonical : goal.returns-clause-main_is_canonical
 returns-clause-main_is_canonical c = computed.main_is_canonical
 
