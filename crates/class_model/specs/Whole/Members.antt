@@ -25,6 +25,10 @@ pub record AreFlags (mask : ℕ) (passes : ℕ → Bool) (bits : ℕ) (flags : A
   pub are : flags ≡ flags_of (meant mask bits)
   pub good : IsTrue (passes bits)
 
+-- the attributes of this name
+abbrev pub named_in : List Entry → MemberInfo → List ℕ → List AttributeInfo
+named_in pool raw name = named pool name raw.attributes
+
 -- ---- fields
 
 -- field_info, in an interface or a class
@@ -35,9 +39,9 @@ pub record IsField (pool : List Entry) (in_interface : Bool) (raw : MemberInfo) 
   pub descriptor : IsTextAt pool raw.descriptor_index (field_text field.ty)
   pub typed : IsFieldType field.ty
   pub attributes : AreAttributes pool raw.attributes
-  pub constant : AreConstants pool (is_static raw.access_flags) field.ty (named pool (codes "ConstantValue") raw.attributes) field.constant
-  pub synthetic : IsMark (named pool (codes "Synthetic") raw.attributes) field.synthetic
-  pub deprecated : IsMark (named pool (codes "Deprecated") raw.attributes) field.deprecated
+  pub constant : AreConstants pool (is_static raw.access_flags) field.ty (named_in pool raw (codes "ConstantValue")) field.constant
+  pub synthetic : IsMark (named_in pool raw (codes "Synthetic")) field.synthetic
+  pub deprecated : IsMark (named_in pool raw (codes "Deprecated")) field.deprecated
 
 -- no two fields have one name and one descriptor
 abbrev pub FieldsDiffer : Field → Field → Type 0
@@ -60,6 +64,10 @@ IsCodeOf pool first flags true (a ∷ []) code left_out = IsBody pool first a.in
 IsCodeOf pool first flags false [] code left_out = (code ≡ None) × (left_out ≡ (if is_native flags then Some left.Flag else None))
 IsCodeOf pool first flags has_code attributes code left_out = ⊥
 
+-- the locals of the initial frame of a method in a class of this name
+abbrev pub first_locals : List ℕ → MemberInfo → Method → List VType
+first_locals class raw method = initial_locals class (is_static raw.access_flags) method.name method.ty
+
 -- method_info, in an interface or a class of this name, with what is left out in it
 pub record IsMethod (pool : List Entry) (in_interface : Bool) (class : List ℕ) (raw : MemberInfo) (method : Method) (left_out : Option LeftKind) : Type 0 where
   pub flags : AreFlags method_mask are_method_flags raw.access_flags method.flags
@@ -71,10 +79,10 @@ pub record IsMethod (pool : List Entry) (in_interface : Bool) (class : List ℕ)
   pub initial_flags : IsTrue (are_initial_flags in_interface raw.access_flags method.name)
   pub initial_type : IsTrue (is_initial_type method.name method.ty)
   pub attributes : AreAttributes pool raw.attributes
-  pub code : IsCodeOf pool (initial_locals class (is_static raw.access_flags) method.name method.ty) raw.access_flags (has_body raw.access_flags) (named pool (codes "Code") raw.attributes) method.code left_out
-  pub throws : AreThrown pool (named pool (codes "Exceptions") raw.attributes) method.throws
-  pub synthetic : IsMark (named pool (codes "Synthetic") raw.attributes) method.synthetic
-  pub deprecated : IsMark (named pool (codes "Deprecated") raw.attributes) method.deprecated
+  pub code : IsCodeOf pool (first_locals class raw method) raw.access_flags (has_body raw.access_flags) (named_in pool raw (codes "Code")) method.code left_out
+  pub throws : AreThrown pool (named_in pool raw (codes "Exceptions")) method.throws
+  pub synthetic : IsMark (named_in pool raw (codes "Synthetic")) method.synthetic
+  pub deprecated : IsMark (named_in pool raw (codes "Deprecated")) method.deprecated
 
 -- no two methods have one name and one descriptor
 abbrev pub MethodsDiffer : Method → Method → Type 0

@@ -1,7 +1,7 @@
 -- Reading the instructions of a code from left to right (JVMS 4.9.1, 6.5).
 use Rattle.std.specs.Prelude.{ℕ, zero, suc, ◌+◌, ◌-◌, ◌^◌, ℤ, ◌-ℤ◌, int_lt, int_le, unsigned_abs, Bool, true, false, ◌&&◌, ◌||◌, List, [], ◌∷◌, length, slice_get, Option, Some, None, is_some, option_and_then, Result, Ok, Err, nat_lt, nat_le, ◌==◌, if◌then◌else◌}
 use Rattle.std.specs.Int.{w32, cast_signed}
-use Rattle.jv_base.specs.Place.{Place}
+use Rattle.jv_base.specs.Place.{Place, start}
 use Rattle.jv_base.specs.declared.types.FieldType.{FieldType}
 use Rattle.format_reading.specs.Fault.{fault}
 use Rattle.format_reading.specs.Reader.{Reader, u1, u2, u4, bytes, lead, item, give, here, many, ◌>>=◌}
@@ -250,6 +250,14 @@ until_end (suc n) pool from = do
     at ← here
     read ← read_instruction pool from
     goes_on (until_end n pool from) (at - from) read)
+
+-- what is read of a code alone, from its first byte on
+abbrev pub without_place : {A : Type 0} → Result (A × Place) FormatFault → Result A FormatFault
+without_place (Ok x) = Ok x.0
+without_place (Err f) = Err f
+
+unfoldable pub code_read : List Entry → List ℕ → Result CodeRead FormatFault
+code_read pool code = without_place (until_end (length code) pool 0 (start code))
 
 -- ---- targets
 
