@@ -25,23 +25,23 @@ contents at n seen None = do
   skipped ← bytes n
   give seen
 
--- an attribute; known says what to read, by the attribute's offset, its name and what was seen before
-abbrev pub attribute : {S : Type 0} → List Entry → (ℕ → List ℕ → S → Option (Reader S)) → S → Reader S
+-- an attribute; known says what to read, by the attribute's offset, its name, its length and what was seen before
+abbrev pub attribute : {S : Type 0} → List Entry → (ℕ → List ℕ → ℕ → S → Option (Reader S)) → S → Reader S
 attribute pool known seen = do
   at ← here
   name ← item u2 (λ index. due bad.BadIndex (units_at pool index))
   n ← u4
-  contents at n seen (known at name seen)
+  contents at n seen (known at name n seen)
 
 -- n attributes
-unfoldable pub attributes : {S : Type 0} → ℕ → List Entry → (ℕ → List ℕ → S → Option (Reader S)) → S → Reader S
+unfoldable pub attributes : {S : Type 0} → ℕ → List Entry → (ℕ → List ℕ → ℕ → S → Option (Reader S)) → S → Reader S
 attributes zero pool known seen = give seen
 attributes (suc n) pool known seen = do
   now ← attribute pool known seen
   attributes n pool known now
 
 -- attributes, behind their count
-abbrev pub counted_attributes : {S : Type 0} → List Entry → (ℕ → List ℕ → S → Option (Reader S)) → S → Reader S
+abbrev pub counted_attributes : {S : Type 0} → List Entry → (ℕ → List ℕ → ℕ → S → Option (Reader S)) → S → Reader S
 counted_attributes pool known seen = do
   n ← u2
   attributes n pool known seen

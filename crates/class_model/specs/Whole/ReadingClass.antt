@@ -46,8 +46,8 @@ source_seen pool seen = do
   units ← source_file pool
   give (record seen { source = Some units })
 
-abbrev pub known_of_class : List Entry → ℕ → List ℕ → ClassSeen → Option (Reader ClassSeen)
-known_of_class pool at name seen =
+abbrev pub known_of_class : List Entry → ℕ → List ℕ → ℕ → ClassSeen → Option (Reader ClassSeen)
+known_of_class pool at name n seen =
     if is_text name (codes "SourceFile") then Some (once at (is_there seen.source) (source_seen pool seen))
     else if is_text name (codes "Synthetic") then Some (once at seen.synthetic (give (record seen { synthetic = true })))
     else if is_text name (codes "Deprecated") then Some (once at seen.deprecated (give (record seen { deprecated = true })))

@@ -224,32 +224,24 @@ abbrev pub in_front : Info → CodeRead → CodeRead
 in_front info (instructions infos) = instructions (info ∷ infos)
 in_front info (has_left_out offset opcode) = has_left_out offset opcode
 
--- no byte is left
-unfoldable pub is_at_end : Reader Bool
-is_at_end p = Ok (nat_le (length p.bytes) p.at, p)
-
--- the bytes that are left are passed over
-unfoldable pub rest : Reader (Unit {0})
-rest p = Ok (tt, record { bytes = p.bytes; at = length p.bytes })
-
--- what follows what was read at an offset of the code
-abbrev pub goes_on : Reader CodeRead → ℕ → Read → Reader CodeRead
-goes_on others offset (instruction info) = do
+-- what follows what was read at an offset of the code; behind an instruction that is left out the bytes up to the end are passed over
+abbrev pub goes_on : Reader CodeRead → ℕ → ℕ → Read → Reader CodeRead
+goes_on others offset end (instruction info) = do
   behind ← others
   give (in_front info behind)
-goes_on others offset (left_out opcode) = do
-  skipped ← rest
+goes_on others offset end (left_out opcode) = do
+  at ← here
+  skipped ← bytes (end - at)
   give (has_left_out offset opcode)
 
--- instructions up to the end of the bytes; n is at least how many bytes are left
-unfoldable pub until_end : ℕ → List Entry → ℕ → Reader CodeRead
-until_end zero pool from = give (instructions [])
-until_end (suc n) pool from = do
-  ended ← is_at_end
-  if ended then give (instructions []) else (do
-    at ← here
+-- the instructions of a code that begins at the offset from and ends at another; n is at least how many bytes are left
+unfoldable pub until_end : ℕ → List Entry → ℕ → ℕ → Reader CodeRead
+until_end zero pool from end = give (instructions [])
+until_end (suc n) pool from end = do
+  at ← here
+  if nat_le end at then give (instructions []) else (do
     read ← read_instruction pool from
-    goes_on (until_end n pool from) (at - from) read)
+    goes_on (until_end n pool from end) (at - from) end read)
 
 -- what is read of a code alone, from its first byte on
 abbrev pub without_place : {A : Type 0} → Result (A × Place) FormatFault → Result A FormatFault
@@ -257,7 +249,7 @@ without_place (Ok x) = Ok x.0
 without_place (Err f) = Err f
 
 unfoldable pub code_read : List Entry → List ℕ → Result CodeRead FormatFault
-code_read pool code = without_place (until_end (length code) pool 0 (start code))
+code_read pool code = without_place (until_end (length code) pool 0 (length code) (start code))
 
 -- ---- targets
 

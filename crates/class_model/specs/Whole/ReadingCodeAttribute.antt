@@ -82,8 +82,8 @@ frames_seen frames seen = do
   give (record seen { map = Some map })
 
 -- LineNumberTable as often as it stands, StackMapTable once
-abbrev pub known_of_code : Reader (Bool × List FrameAt) → ℕ → List ℕ → CodeSeen → Option (Reader CodeSeen)
-known_of_code frames at name seen =
+abbrev pub known_of_code : Reader (Bool × List FrameAt) → ℕ → List ℕ → ℕ → CodeSeen → Option (Reader CodeSeen)
+known_of_code frames at name n seen =
     if is_text name (codes "LineNumberTable") then Some (lines_seen seen)
     else if is_text name (codes "StackMapTable") then Some (once at (is_there seen.map) (frames_seen frames seen))
     else None
@@ -152,5 +152,5 @@ read_code pool first attribute = do
   max_locals ← u2
   n ← item u4 code_length
   from ← here
-  read ← part attribute n (until_end n pool from)
+  read ← part attribute n (until_end n pool from (from + n))
   behind_code pool first max_stack max_locals from n read

@@ -5,7 +5,7 @@ use Rattle.jv_base.specs.Names.{is_text, is_member_name, is_method_name}
 use Rattle.jv_base.specs.Types.{field_text, method_text}
 use Rattle.jv_base.specs.declared.types.FieldType.{FieldType}
 use Rattle.jv_base.specs.declared.types.MethodType.{MethodType}
-use Rattle.format_reading.specs.Reader.{Reader, u2, item, give, here, settle, ◌>>=◌}
+use Rattle.format_reading.specs.Reader.{Reader, u2, bytes, item, give, here, settle, ◌>>=◌}
 use Rattle.format_reading.specs.declared.fault.FormatKind.TheVariants as bad
 use Rattle.class_model.specs.declared.pool.Entry.{Entry}
 use Rattle.class_model.specs.declared.class.Constant.{Constant}
@@ -18,7 +18,6 @@ use Rattle.class_model.specs.Whole.Flags.{field_mask, method_mask, meant, is_sta
 use Rattle.class_model.specs.Whole.Frames.{initial_locals}
 use Rattle.class_model.specs.Whole.Lookups.{test, good_text_at}
 use Rattle.class_model.specs.Whole.MemberTypes.{field_type_at, method_type_at}
-use Rattle.class_model.specs.Whole.ReadingCode.{rest}
 use Rattle.class_model.specs.Whole.ReadingAttributes.{counted_attributes, once, exceptions, constant_value}
 use Rattle.class_model.specs.Whole.ReadingCodeAttribute.{Body, is_there, read_code}
 
@@ -48,10 +47,10 @@ pub record FieldSeen : Type 0 where
 abbrev pub no_field_attribute : FieldSeen
 no_field_attribute = record { constant = None; synthetic = false; deprecated = false }
 
--- contents that are passed over
-abbrev pub dropped : {S : Type 0} → S → Reader S
-dropped seen = do
-  skipped ← rest
+-- contents of a length that are passed over
+abbrev pub dropped : {S : Type 0} → ℕ → S → Reader S
+dropped n seen = do
+  skipped ← bytes n
   give seen
 
 -- ConstantValue counts on static fields alone; elsewhere its contents are passed over
@@ -60,10 +59,10 @@ constant_seen pool ty seen = do
   value ← constant_value pool ty
   give (record seen { constant = Some value })
 
-abbrev pub known_of_field : List Entry → Bool → FieldType → ℕ → List ℕ → FieldSeen → Option (Reader FieldSeen)
-known_of_field pool static ty at name seen =
+abbrev pub known_of_field : List Entry → Bool → FieldType → ℕ → List ℕ → ℕ → FieldSeen → Option (Reader FieldSeen)
+known_of_field pool static ty at name n seen =
     if is_text name (codes "ConstantValue") then Some (once at (is_there seen.constant)
-    (if static then constant_seen pool ty seen else dropped (record seen { constant = Some None })))
+    (if static then constant_seen pool ty seen else dropped n (record seen { constant = Some None })))
     else if is_text name (codes "Synthetic") then Some (once at seen.synthetic (give (record seen { synthetic = true })))
     else if is_text name (codes "Deprecated") then Some (once at seen.deprecated (give (record seen { deprecated = true })))
     else None
@@ -128,8 +127,8 @@ one_code at wanted code seen = do
   allowed ← settle at (test bad.BadAttribute wanted)
   once at (is_there seen.body) (code_seen code seen)
 
-abbrev pub known_of_method : List Entry → Bool → (ℕ → Reader Body) → ℕ → List ℕ → MethodSeen → Option (Reader MethodSeen)
-known_of_method pool wanted code at name seen =
+abbrev pub known_of_method : List Entry → Bool → (ℕ → Reader Body) → ℕ → List ℕ → ℕ → MethodSeen → Option (Reader MethodSeen)
+known_of_method pool wanted code at name n seen =
     if is_text name (codes "Code") then Some (one_code at wanted (code at) seen)
     else if is_text name (codes "Exceptions") then Some (once at (is_there seen.throws) (exceptions_seen pool seen))
     else if is_text name (codes "Synthetic") then Some (once at seen.synthetic (give (record seen { synthetic = true })))
