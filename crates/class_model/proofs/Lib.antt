@@ -1,1 +1,5 @@
 mod Cases
+pub mod ComputedRows
+pub mod SpelledRows
+pub mod SpelledClass
+pub mod FormedClass

@@ -3,3 +3,4 @@ pub mod Structure
 pub mod Instructions
 pub mod File
 pub mod Layout
+pub mod Whole

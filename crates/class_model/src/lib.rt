@@ -6,14 +6,18 @@ mod class;
 mod code;
 mod constant;
 mod frame;
+mod limit;
 mod op;
 mod pool;
+mod rows;
 mod same;
 
 pub use class::{Class, Constant, Field, LeftKind, LeftOut, Method};
 pub use code::{Code, Handler, Ins};
 pub use constant::PoolConstant;
 pub use frame::{Frame, FrameAt, VType};
+pub use limit::WriteLimit;
 pub use op::{ArithOp, Case, Cond, ConvOp, Elem, Kind, LogicOp, MemberRef, Num, Op, ShiftOp};
 pub use pool::{Entry, Pool};
+pub use rows::computed_rows;
 pub use same::same_op;

@@ -1,0 +1,263 @@
+-- The canonical spelling of instructions: the shortest, ldc where the index is at most 255, and goto in place of goto_w.
+use Rattle.std.specs.Prelude.{ℕ, ◌+◌, ◌*◌, ℤ, pos, negsuc, ◌+ℤ◌, ◌-ℤ◌, Bool, ◌&&◌, List, [], ◌∷◌, length, map, replicate, slice_index, Option, Some, None, unwrap_or, nat_lt, nat_le, if◌then◌else◌}
+use Rattle.std.specs.Int.{w8, w16, w32, cast_unsigned}
+use Rattle.std.specs.List.{flat_map}
+use Rattle.jv_base.specs.declared.types.FieldType.{FieldType}
+use Rattle.jv_base.specs.declared.types.Base.{Base}
+use Rattle.jv_base.specs.declared.types.Base.TheVariants as base
+use Rattle.class_model.specs.declared.op.MemberRef.{MemberRef}
+use Rattle.class_model.specs.declared.op.Case.{Case}
+use Rattle.class_model.specs.declared.op.Op.{Op}
+use Rattle.class_model.specs.declared.op.Op.TheVariants as op
+use Rattle.class_model.specs.declared.op.Kind.{Kind}
+use Rattle.class_model.specs.declared.op.Kind.TheVariants as kind
+use Rattle.class_model.specs.declared.op.Num.{Num}
+use Rattle.class_model.specs.declared.op.Num.TheVariants as num
+use Rattle.class_model.specs.declared.op.Elem.{Elem}
+use Rattle.class_model.specs.declared.op.Elem.TheVariants as elem
+use Rattle.class_model.specs.declared.op.ArithOp.{ArithOp}
+use Rattle.class_model.specs.declared.op.ArithOp.TheVariants as arith
+use Rattle.class_model.specs.declared.op.ShiftOp.{ShiftOp}
+use Rattle.class_model.specs.declared.op.ShiftOp.TheVariants as shift
+use Rattle.class_model.specs.declared.op.LogicOp.{LogicOp}
+use Rattle.class_model.specs.declared.op.LogicOp.TheVariants as logic
+use Rattle.class_model.specs.declared.op.ConvOp.{ConvOp}
+use Rattle.class_model.specs.declared.op.ConvOp.TheVariants as conv
+use Rattle.class_model.specs.declared.op.Cond.{Cond}
+use Rattle.class_model.specs.declared.op.Cond.TheVariants as cond
+use Rattle.class_model.specs.declared.code.Ins.{Ins}
+use Rattle.class_model.specs.Layout.{int_between}
+use Rattle.class_model.specs.Whole.InstructionStructure.{Info, Plain, Bipush, Sipush, Ldc, LdcWide, Local, WideLocal, Iinc, WideIinc, Branch, TableSwitch, LookupSwitch, MemberOperand, InvokeInterface, ClassOperand, NewArray, MultiNewArray, info_bytes, pad_length}
+use Rattle.class_model.specs.Whole.InstructionMeaning.{count_of}
+use Rattle.class_model.specs.Whole.CanonicalPool.{PoolConstant, Integer, Long, Str, class_constant, class_constants, string_constants, long_constants, type_name, fieldref, methodref, with_parts, index_of}
+
+-- ---- the order in which the standard goes through types and comparisons
+
+abbrev pub kind_number : Kind → ℕ
+kind_number kind.Int = 0
+kind_number kind.Long = 1
+kind_number kind.Ref = 4
+
+abbrev pub num_number : Num → ℕ
+num_number num.Int = 0
+num_number num.Long = 1
+
+abbrev pub elem_number : Elem → ℕ
+elem_number elem.Int = 0
+elem_number elem.Long = 1
+elem_number elem.Ref = 4
+elem_number elem.Byte = 5
+elem_number elem.Char = 6
+elem_number elem.Short = 7
+
+abbrev pub cond_number : Cond → ℕ
+cond_number cond.Eq = 0
+cond_number cond.Ne = 1
+cond_number cond.Lt = 2
+cond_number cond.Ge = 3
+cond_number cond.Gt = 4
+cond_number cond.Le = 5
+
+-- ---- opcodes
+
+-- of add, sub, mul, div and rem there is one for each of int, long, float and double
+abbrev pub arith_opcode : ArithOp → ℕ
+arith_opcode arith.Add = 0x60
+arith_opcode arith.Sub = 0x64
+arith_opcode arith.Mul = 0x68
+arith_opcode arith.Div = 0x6C
+arith_opcode arith.Rem = 0x70
+
+abbrev pub shift_opcode : ShiftOp → ℕ
+shift_opcode shift.Shl = 0x78
+shift_opcode shift.Shr = 0x7A
+shift_opcode shift.Ushr = 0x7C
+
+abbrev pub logic_opcode : LogicOp → ℕ
+logic_opcode logic.And = 0x7E
+logic_opcode logic.Or = 0x80
+logic_opcode logic.Xor = 0x82
+
+abbrev pub conv_opcode : ConvOp → ℕ
+conv_opcode conv.I2l = 0x85
+conv_opcode conv.L2i = 0x88
+conv_opcode conv.I2b = 0x91
+conv_opcode conv.I2c = 0x92
+conv_opcode conv.I2s = 0x93
+
+abbrev pub return_opcode : Option Kind → ℕ
+return_opcode (Some k) = 0xAC + kind_number k
+return_opcode None = 0xB1
+
+-- the operand of newarray (JVMS 6.5, table 6.5.newarray-A)
+abbrev pub array_type_code : Base → ℕ
+array_type_code base.Boolean = 4
+array_type_code base.Char = 5
+array_type_code base.Byte = 8
+array_type_code base.Short = 9
+array_type_code base.Int = 10
+array_type_code base.Long = 11
+array_type_code _ = 0
+
+-- ---- pushes
+
+-- the number fits the operand of sipush
+abbrev pub is_short : ℤ → Bool
+is_short n = int_between (negsuc 32767) (pos 32767) n
+
+abbrev pub load_constant : List PoolConstant → PoolConstant → Info
+load_constant pool k = if nat_le (index_of pool k) 255 then Ldc (index_of pool k) else LdcWide 0x13 (index_of pool k)
+
+-- iconst_<i> from -1 to 5, bipush from -128 to 127, sipush from -32768 to 32767, else a constant
+abbrev pub push_int : List PoolConstant → ℤ → Info
+push_int pool n =
+    if int_between (negsuc 0) (pos 5) n then Plain (cast_unsigned w8 (n +ℤ pos 3))
+    else if int_between (negsuc 127) (pos 127) n then Bipush (cast_unsigned w8 n)
+    else if is_short n then Sipush (cast_unsigned w16 n)
+    else load_constant pool (Integer n)
+
+-- lconst_0 and lconst_1, else a constant
+abbrev pub is_lconst : ℤ → Bool
+is_lconst n = int_between (pos 0) (pos 1) n
+
+abbrev pub push_long : List PoolConstant → ℤ → Info
+push_long pool n = if is_lconst n then Plain (0x09 + cast_unsigned w8 n) else LdcWide 0x14 (index_of pool (Long n))
+
+-- ---- slots
+
+-- the opcode that names a slot below 4, else one of the type's and the slot
+abbrev pub slot_info : ℕ → ℕ → Kind → ℕ → Info
+slot_info opcode first k slot =
+    if nat_lt slot 4 then Plain (first + (4 * kind_number k + slot))
+    else if nat_lt slot 256 then Local (opcode + kind_number k) slot
+    else WideLocal (opcode + kind_number k) slot
+
+abbrev pub inc_info : ℕ → ℤ → Info
+inc_info slot delta =
+    if nat_lt slot 256 && int_between (negsuc 127) (pos 127) delta then Iinc slot (cast_unsigned w8 delta)
+    else WideIinc slot (cast_unsigned w16 delta)
+
+-- ---- instructions
+
+-- place gives the offset of an instruction by its number, and at is the offset of this one
+module _ (pool : List PoolConstant) (place : ℕ → ℕ) (at : ℕ) where
+  -- how far it is to a target
+  abbrev pub distance : ℕ → ℤ
+  distance to = pos (place to) -ℤ pos at
+
+  abbrev pub near : ℕ → ℕ
+  near to = cast_unsigned w16 (distance to)
+
+  abbrev pub far : ℕ → ℕ
+  far to = cast_unsigned w32 (distance to)
+
+  abbrev pub padding : List ℕ
+  padding = replicate (pad_length at) 0
+
+  abbrev pub class_index : FieldType → ℕ
+  class_index ty = index_of pool (class_constant (type_name ty))
+
+  abbrev pub op_info : Op → Info
+  op_info op.Nop = Plain 0x00
+  op_info op.PushNull = Plain 0x01
+  op_info (op.PushInt n) = push_int pool n
+  op_info (op.PushLong n) = push_long pool n
+  op_info (op.PushText units) = load_constant pool (Str units)
+  op_info (op.Load k slot) = slot_info 0x15 0x1A k slot
+  op_info (op.Store k slot) = slot_info 0x36 0x3B k slot
+  op_info (op.Inc slot delta) = inc_info slot delta
+  op_info (op.ALoad e) = Plain (0x2E + elem_number e)
+  op_info (op.AStore e) = Plain (0x4F + elem_number e)
+  op_info op.Pop = Plain 0x57
+  op_info op.Pop2 = Plain 0x58
+  op_info op.Dup = Plain 0x59
+  op_info op.DupX1 = Plain 0x5A
+  op_info op.DupX2 = Plain 0x5B
+  op_info op.Dup2 = Plain 0x5C
+  op_info op.Dup2X1 = Plain 0x5D
+  op_info op.Dup2X2 = Plain 0x5E
+  op_info op.Swap = Plain 0x5F
+  op_info (op.Arith a n) = Plain (arith_opcode a + num_number n)
+  op_info (op.Neg n) = Plain (0x74 + num_number n)
+  op_info (op.Shift s n) = Plain (shift_opcode s + num_number n)
+  op_info (op.Logic l n) = Plain (logic_opcode l + num_number n)
+  op_info (op.Conv c) = Plain (conv_opcode c)
+  op_info op.LCmp = Plain 0x94
+  op_info (op.IfZero c to) = Branch (0x99 + cond_number c) (near to)
+  op_info (op.IfCmp c to) = Branch (0x9F + cond_number c) (near to)
+  op_info (op.IfRef eq to) = Branch (if eq then 0xA5 else 0xA6) (near to)
+  op_info (op.IfNull null to) = Branch (if null then 0xC6 else 0xC7) (near to)
+  op_info (op.Goto to) = Branch 0xA7 (near to)
+  op_info (op.TableSwitch low other cases) = TableSwitch padding (far other) (cast_unsigned w32 low)
+      (cast_unsigned w32 (low +ℤ pos (length cases) -ℤ pos 1)) (map far cases)
+  op_info (op.LookupSwitch other cases) = LookupSwitch padding (far other)
+      (map (λ (c : Case). record { key = cast_unsigned w32 c.key; offset = far c.to }) cases)
+  op_info (op.Return k) = Plain (return_opcode k)
+  op_info (op.GetStatic reference) = MemberOperand 0xB2 (index_of pool (fieldref reference))
+  op_info (op.PutStatic reference) = MemberOperand 0xB3 (index_of pool (fieldref reference))
+  op_info (op.GetField reference) = MemberOperand 0xB4 (index_of pool (fieldref reference))
+  op_info (op.PutField reference) = MemberOperand 0xB5 (index_of pool (fieldref reference))
+  op_info (op.InvokeVirtual reference) = MemberOperand 0xB6 (index_of pool (methodref reference))
+  op_info (op.InvokeSpecial reference) = MemberOperand 0xB7 (index_of pool (methodref reference))
+  op_info (op.InvokeStatic reference) = MemberOperand 0xB8 (index_of pool (methodref reference))
+  op_info (op.InvokeInterface reference) = InvokeInterface (index_of pool (methodref reference)) (unwrap_or (count_of reference) 0)
+  op_info (op.New name) = ClassOperand 0xBB (index_of pool (class_constant name))
+  op_info (op.NewArray b) = NewArray (array_type_code b)
+  op_info (op.ANewArray ty) = ClassOperand 0xBD (class_index ty)
+  op_info op.ArrayLength = Plain 0xBE
+  op_info op.Throw = Plain 0xBF
+  op_info (op.CheckCast ty) = ClassOperand 0xC0 (class_index ty)
+  op_info (op.InstanceOf ty) = ClassOperand 0xC1 (class_index ty)
+  op_info (op.MultiNewArray ty dimensions) = MultiNewArray (class_index ty) dimensions
+
+-- how many bytes an instruction at an offset takes, which its targets don't change
+abbrev pub size_of : List PoolConstant → ℕ → Op → ℕ
+size_of pool at o = length (info_bytes (op_info pool (λ to. 0) at o))
+
+-- where each instruction begins, and where the last one ends
+abbrev pub places_from : List PoolConstant → ℕ → List Ins → List ℕ
+places_from pool at [] = at ∷ []
+places_from pool at (i ∷ ins) = at ∷ places_from pool (at + size_of pool at i.op) ins
+
+unfoldable pub places : List PoolConstant → List Ins → List ℕ
+places pool ins = places_from pool 0 ins
+
+abbrev pub infos_from : List PoolConstant → List ℕ → ℕ → List Ins → List Info
+infos_from pool all at [] = []
+infos_from pool all at (i ∷ ins) = op_info pool (slice_index all) at i.op ∷ infos_from pool all (at + size_of pool at i.op) ins
+
+-- the bytes of the instructions, whose places are all these
+unfoldable pub code_bytes : List PoolConstant → List ℕ → List Ins → List ℕ
+code_bytes pool all ins = flat_map info_bytes (infos_from pool all 0 ins)
+
+-- ---- constants
+
+-- the constant that a push loads by ldc, which has the lowest indices
+abbrev pub pushed_constants : Op → List PoolConstant
+pushed_constants (op.PushInt n) = if is_short n then [] else Integer n ∷ []
+pushed_constants (op.PushText units) = string_constants units
+pushed_constants _ = []
+
+abbrev pub field_constants : MemberRef → List PoolConstant
+field_constants reference = with_parts reference (fieldref reference)
+
+abbrev pub method_constants : MemberRef → List PoolConstant
+method_constants reference = with_parts reference (methodref reference)
+
+-- the constants that an instruction names
+abbrev pub op_constants : Op → List PoolConstant
+op_constants (op.PushLong n) = if is_lconst n then [] else long_constants n
+op_constants (op.GetStatic reference) = field_constants reference
+op_constants (op.PutStatic reference) = field_constants reference
+op_constants (op.GetField reference) = field_constants reference
+op_constants (op.PutField reference) = field_constants reference
+op_constants (op.InvokeVirtual reference) = method_constants reference
+op_constants (op.InvokeSpecial reference) = method_constants reference
+op_constants (op.InvokeStatic reference) = method_constants reference
+op_constants (op.InvokeInterface reference) = method_constants reference
+op_constants (op.New name) = class_constants name
+op_constants (op.ANewArray ty) = class_constants (type_name ty)
+op_constants (op.CheckCast ty) = class_constants (type_name ty)
+op_constants (op.InstanceOf ty) = class_constants (type_name ty)
+op_constants (op.MultiNewArray ty dimensions) = class_constants (type_name ty)
+op_constants o = pushed_constants o

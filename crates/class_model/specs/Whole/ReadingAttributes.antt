@@ -1,0 +1,126 @@
+-- Reading attributes from left to right (JVMS 4.7): the header of each, and those whose contents are short.
+use Rattle.std.specs.Prelude.{ℕ, zero, suc, Bool, true, false, ◌&&◌, not, List, slice_get, codes, Option, Some, None, option_map, Result, Ok, Err, ◌==◌, if◌then◌else◌}
+use Rattle.jv_base.specs.Names.{is_text}
+use Rattle.jv_base.specs.declared.types.FieldType.{FieldType}
+use Rattle.jv_base.specs.declared.types.Base.{Base}
+use Rattle.jv_base.specs.declared.types.Base.TheVariants as base
+use Rattle.format_reading.specs.Reader.{Reader, u2, u4, bytes, item, give, here, settle, part, many, ◌>>=◌}
+use Rattle.format_reading.specs.declared.fault.FormatKind.{FormatKind}
+use Rattle.format_reading.specs.declared.fault.FormatKind.TheVariants as bad
+use Rattle.class_model.specs.declared.pool.Entry.{Entry}
+use Rattle.class_model.specs.declared.pool.Entry.TheVariants as entry
+use Rattle.class_model.specs.declared.class.Constant.{Constant}
+use Rattle.class_model.specs.declared.class.Constant.TheVariants as constant
+use Rattle.class_model.specs.Pool.{units_at}
+use Rattle.class_model.specs.Whole.ConstantPool.{string_units_at}
+use Rattle.class_model.specs.Whole.LineNumbers.{LineNumber}
+use Rattle.class_model.specs.Whole.Lookups.{due, test, class_at}
+
+-- ---- the header
+
+-- the rest of an attribute whose contents have a length: read as a part where it is known, else passed over
+abbrev pub contents : {S : Type 0} → ℕ → ℕ → S → Option (Reader S) → Reader S
+contents at n seen (Some r) = part at n r
+contents at n seen None = do
+  skipped ← bytes n
+  give seen
+
+-- an attribute; known says what to read, by the attribute's offset, its name, its length and what was seen before
+abbrev pub attribute : {S : Type 0} → List Entry → (ℕ → List ℕ → ℕ → S → Option (Reader S)) → S → Reader S
+attribute pool known seen = do
+  at ← here
+  name ← item u2 (λ index. due bad.BadIndex (units_at pool index))
+  n ← u4
+  contents at n seen (known at name n seen)
+
+-- n attributes
+unfoldable pub attributes : {S : Type 0} → ℕ → List Entry → (ℕ → List ℕ → ℕ → S → Option (Reader S)) → S → Reader S
+attributes zero pool known seen = give seen
+attributes (suc n) pool known seen = do
+  now ← attribute pool known seen
+  attributes n pool known now
+
+-- attributes, behind their count
+abbrev pub counted_attributes : {S : Type 0} → List Entry → (ℕ → List ℕ → ℕ → S → Option (Reader S)) → S → Reader S
+counted_attributes pool known seen = do
+  n ← u2
+  attributes n pool known seen
+
+-- an attribute that may stand once in its place
+abbrev pub once : {S : Type 0} → ℕ → Bool → Reader S → Reader S
+once at had r = do
+  first ← settle at (test bad.Repeated (not had))
+  r
+
+-- ---- contents
+
+-- SourceFile (JVMS 4.7.10)
+abbrev pub source_file : List Entry → Reader (List ℕ)
+source_file pool = item u2 (λ index. due bad.BadIndex (units_at pool index))
+
+-- Exceptions (JVMS 4.7.5)
+unfoldable pub exceptions : List Entry → Reader (List (List ℕ))
+exceptions pool = do
+  n ← u2
+  many n (item u2 (class_at pool))
+
+-- a row of LineNumberTable (JVMS 4.7.12)
+abbrev pub read_line : Reader LineNumber
+read_line = do
+  start_pc ← u2
+  number ← u2
+  give (record { start_pc = start_pc; line_number = number })
+
+unfoldable pub line_number_table : Reader (List LineNumber)
+line_number_table = do
+  n ← u2
+  many n read_line
+
+-- ---- ConstantValue (JVMS 4.7.2)
+
+abbrev pub is_int_base : Base → Bool
+is_int_base base.Int = true
+is_int_base base.Short = true
+is_int_base base.Char = true
+is_int_base base.Byte = true
+is_int_base base.Boolean = true
+is_int_base _ = false
+
+abbrev pub is_long_base : Base → Bool
+is_long_base base.Long = true
+is_long_base _ = false
+
+abbrev pub is_string_base : Base → Bool
+is_string_base (base.Class name) = is_text name (codes "java/lang/String")
+is_string_base _ = false
+
+abbrev pub is_float_base : Base → Bool
+is_float_base base.Float = true
+is_float_base _ = false
+
+abbrev pub is_double_base : Base → Bool
+is_double_base base.Double = true
+is_double_base _ = false
+
+-- a constant of the kind that fits
+abbrev pub fitting : Bool → Option Constant → Result (Option Constant) FormatKind
+fitting fits value = if fits then Ok value else Err bad.BadConstant
+
+-- whether a type is no array and its base is this one
+abbrev pub plain : (Base → Bool) → FieldType → Bool
+plain is_base ty = ty.dims == 0 && is_base ty.base
+
+-- the constant that an entry is for a field of a type; a float or a double is left out
+abbrev pub constant_in : List Entry → ℕ → FieldType → Option Entry → Result (Option Constant) FormatKind
+constant_in pool index ty (Some (entry.Integer n)) = fitting (plain is_int_base ty) (Some (constant.Int n))
+constant_in pool index ty (Some (entry.Long n)) = fitting (plain is_long_base ty) (Some (constant.Long n))
+constant_in pool index ty (Some (entry.Str string_index)) =
+    fitting (plain is_string_base ty) (option_map (λ units. constant.Text units) (string_units_at pool index))
+constant_in pool index ty (Some (entry.LeftOut tag)) =
+    if tag == 4 then fitting (plain is_float_base ty) None
+    else if tag == 6 then fitting (plain is_double_base ty) None
+    else Err bad.BadIndex
+constant_in pool index ty _ = Err bad.BadIndex
+
+abbrev pub constant_value : List Entry → FieldType → Reader (Option Constant)
+constant_value pool ty = item u2 (λ index. constant_in pool index ty (slice_get pool index))

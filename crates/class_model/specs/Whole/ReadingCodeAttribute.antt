@@ -1,0 +1,156 @@
+-- Reading the attribute Code from left to right (JVMS 4.7.3).
+use Rattle.std.specs.Prelude.{ℕ, ◌+◌, ◌*◌, ◌^◌, Bool, true, false, List, [], ◌∷◌, ◌++◌, length, position, nat_eq, nat_lt, codes, Option, Some, None, Result, Ok, Err, ◌==◌, if◌then◌else◌}
+use Rattle.jv_base.specs.Names.{is_text}
+use Rattle.format_reading.specs.Reader.{Reader, u2, u4, bytes, item, give, here, settle, told, part, many, ◌>>=◌}
+use Rattle.format_reading.specs.declared.fault.FormatKind.{FormatKind}
+use Rattle.format_reading.specs.declared.fault.FormatKind.TheVariants as bad
+use Rattle.class_model.specs.declared.pool.Entry.{Entry}
+use Rattle.class_model.specs.declared.op.Op.{Op}
+use Rattle.class_model.specs.declared.code.Code.{Code}
+use Rattle.class_model.specs.declared.code.Ins.{Ins}
+use Rattle.class_model.specs.declared.code.Handler.{Handler}
+use Rattle.class_model.specs.declared.frame.VType.{VType}
+use Rattle.class_model.specs.declared.frame.FrameAt.{FrameAt}
+use Rattle.class_model.specs.declared.class.LeftKind.{LeftKind}
+use Rattle.class_model.specs.declared.class.LeftKind.TheVariants as left
+use Rattle.class_model.specs.Whole.InstructionStructure.{Info, info_bytes, starts_of}
+use Rattle.class_model.specs.Whole.LineNumbers.{LineNumber, line_at}
+use Rattle.class_model.specs.Whole.Lookups.{due, optional_class_at}
+use Rattle.class_model.specs.Whole.ReadingCode.{CodeRead, instructions, has_left_out, left_out_kind, until_end, ops_of}
+use Rattle.class_model.specs.Whole.ReadingFrames.{read_frames}
+use Rattle.class_model.specs.Whole.ReadingAttributes.{counted_attributes, once, line_number_table}
+
+-- ---- handlers
+
+-- the numbers of the instructions that begin at three offsets, of which the second may be the end
+abbrev pub Places : Type 0
+Places = ℕ × ℕ × ℕ
+
+abbrev pub places : Option ℕ → Option ℕ → Option ℕ → Option Places
+places (Some from) (Some to) (Some entry) = Some (from, to, entry)
+places _ _ _ = None
+
+abbrev pub begins : List ℕ → ℕ → Option ℕ
+begins starts offset = position (nat_eq offset) starts
+
+-- the range is not empty, and its places are instructions
+abbrev pub handler_places : List ℕ → ℕ → ℕ → ℕ → ℕ → Option Places
+handler_places starts end start_pc end_pc handler_pc =
+    if nat_lt start_pc end_pc then places (begins starts start_pc) (begins (starts ++ end ∷ []) end_pc) (begins starts handler_pc) else None
+
+abbrev pub handler : Places → Option (List ℕ) → Handler
+handler at caught = record { from = at.0; to = at.1; entry = at.2; caught = caught }
+
+-- a row of the exception table: its places first, then what it catches
+abbrev pub read_handler : List Entry → List ℕ → ℕ → Reader Handler
+read_handler pool starts end = do
+  at ← here
+  start_pc ← u2
+  end_pc ← u2
+  handler_pc ← u2
+  found ← settle at (due bad.BadHandler (handler_places starts end start_pc end_pc handler_pc))
+  caught ← item u2 (optional_class_at pool)
+  give (handler found caught)
+
+unfoldable pub read_handlers : List Entry → List ℕ → ℕ → Reader (List Handler)
+read_handlers pool starts end = do
+  n ← u2
+  many n (read_handler pool starts end)
+
+-- ---- attributes of a Code
+
+-- what was seen of them: rows of lines, and the frames, with whether one names a float or a double
+pub record CodeSeen : Type 0 where
+  pub lines : List LineNumber
+  pub map : Option (Bool × List FrameAt)
+
+abbrev pub nothing_seen : CodeSeen
+nothing_seen = record { lines = []; map = None }
+
+abbrev pub is_there : {A : Type 0} → Option A → Bool
+is_there (Some x) = true
+is_there None = false
+
+abbrev pub lines_seen : CodeSeen → Reader CodeSeen
+lines_seen seen = do
+  rows ← line_number_table
+  give (record seen { lines = seen.lines ++ rows })
+
+abbrev pub frames_seen : Reader (Bool × List FrameAt) → CodeSeen → Reader CodeSeen
+frames_seen frames seen = do
+  map ← frames
+  give (record seen { map = Some map })
+
+-- LineNumberTable as often as it stands, StackMapTable once
+abbrev pub known_of_code : Reader (Bool × List FrameAt) → ℕ → List ℕ → ℕ → CodeSeen → Option (Reader CodeSeen)
+known_of_code frames at name n seen =
+    if is_text name (codes "LineNumberTable") then Some (lines_seen seen)
+    else if is_text name (codes "StackMapTable") then Some (once at (is_there seen.map) (frames_seen frames seen))
+    else None
+
+-- ---- the code
+
+-- a code, with what is left out in it
+abbrev pub Body : Type 0
+Body = Option Code × Option LeftKind
+
+abbrev pub code_length : ℕ → Result ℕ FormatKind
+code_length n = if n == 0 then Err bad.BadCode else if nat_lt n (2 ^ 16) then Ok n else Err bad.BadCode
+
+-- each instruction with its line
+abbrev pub with_lines : List LineNumber → ℕ → List Info → List Op → List Ins
+with_lines rows at [] ops = []
+with_lines rows at (info ∷ infos) [] = []
+with_lines rows at (info ∷ infos) (o ∷ ops) = record { op = o; line = line_at rows at } ∷ with_lines rows (at + length (info_bytes info)) infos ops
+
+abbrev pub frames_of : Option (Bool × List FrameAt) → List FrameAt
+frames_of (Some map) = map.1
+frames_of None = []
+
+abbrev pub left_out_of : Option (Bool × List FrameAt) → Option LeftKind
+left_out_of (Some map) = if map.0 then Some left.FloatType else None
+left_out_of None = None
+
+abbrev pub code_of : ℕ → ℕ → List Info → List Op → List Handler → CodeSeen → Body
+code_of max_stack max_locals infos ops handlers seen = (
+  Some (record {
+    max_stack = max_stack;
+    max_locals = max_locals;
+    ins = with_lines seen.lines 0 infos ops;
+    handlers = handlers;
+    frames = frames_of seen.map;
+  }),
+  left_out_of seen.map,
+)
+
+-- an attribute that is passed over by its length, its name not looked at
+abbrev pub skipped_attribute : Reader (Unit {0})
+skipped_attribute = do
+  name_index ← u2
+  n ← u4
+  skipped ← bytes n
+  give tt
+
+-- what stands behind the instructions: of a code in which one is left out it is passed over
+abbrev pub behind_code : List Entry → List VType → ℕ → ℕ → ℕ → ℕ → CodeRead → Reader Body
+behind_code pool first max_stack max_locals from end (instructions infos) = do
+  ops ← told (ops_of pool from infos)
+  handlers ← read_handlers pool (starts_of infos) end
+  seen ← counted_attributes pool (known_of_code (read_frames pool (starts_of infos) ops max_stack max_locals first)) nothing_seen
+  give (code_of max_stack max_locals infos ops handlers seen)
+behind_code pool first max_stack max_locals from end (has_left_out offset opcode) = do
+  n ← u2
+  handlers ← bytes (8 * n)
+  m ← u2
+  skipped ← many m skipped_attribute
+  give (None, Some (left_out_kind opcode))
+
+-- the contents of the Code at an offset; first are the locals of the method's initial frame
+unfoldable pub read_code : List Entry → List VType → ℕ → Reader Body
+read_code pool first attribute = do
+  max_stack ← u2
+  max_locals ← u2
+  n ← item u4 code_length
+  from ← here
+  read ← part attribute n (until_end n pool from (from + n))
+  behind_code pool first max_stack max_locals from n read

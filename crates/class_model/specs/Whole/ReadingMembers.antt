@@ -1,0 +1,181 @@
+-- Reading fields and methods from left to right (JVMS 4.5, 4.6).
+use Rattle.std.specs.Prelude.{ℕ, zero, suc, Bool, true, false, ◌&&◌, ◌||◌, not, List, [], ◌∷◌, codes, Option, Some, None, Ok, Err, if◌then◌else◌}
+use Rattle.std.specs.List.{list_any}
+use Rattle.jv_base.specs.Names.{is_text, is_member_name, is_method_name}
+use Rattle.jv_base.specs.Types.{field_text, method_text}
+use Rattle.jv_base.specs.declared.types.FieldType.{FieldType}
+use Rattle.jv_base.specs.declared.types.MethodType.{MethodType}
+use Rattle.format_reading.specs.Reader.{Reader, u2, bytes, item, give, here, settle, ◌>>=◌}
+use Rattle.format_reading.specs.declared.fault.FormatKind.TheVariants as bad
+use Rattle.class_model.specs.declared.pool.Entry.{Entry}
+use Rattle.class_model.specs.declared.class.Constant.{Constant}
+use Rattle.class_model.specs.declared.class.Field.{Field}
+use Rattle.class_model.specs.declared.class.Method.{Method}
+use Rattle.class_model.specs.declared.class.LeftKind.{LeftKind}
+use Rattle.class_model.specs.declared.class.LeftKind.TheVariants as left
+use Rattle.class_model.specs.File.{flags_of}
+use Rattle.class_model.specs.Whole.Flags.{field_mask, method_mask, meant, is_static, is_native, has_body, are_field_flags, are_method_flags}
+use Rattle.class_model.specs.Whole.Frames.{initial_locals}
+use Rattle.class_model.specs.Whole.Lookups.{test, good_text_at}
+use Rattle.class_model.specs.Whole.MemberTypes.{field_type_at, method_type_at}
+use Rattle.class_model.specs.Whole.ReadingAttributes.{counted_attributes, once, exceptions, constant_value}
+use Rattle.class_model.specs.Whole.ReadingCodeAttribute.{Body, is_there, read_code}
+
+-- flags that pass a test
+abbrev pub read_flags : (ℕ → Bool) → Reader ℕ
+read_flags passes = item u2 (λ flags. if passes flags then Ok flags else Err bad.BadFlags)
+
+-- a name with the descriptor of its member
+abbrev pub Signature : Type 0
+Signature = List ℕ × List ℕ
+
+abbrev pub same_signature : Signature → Signature → Bool
+same_signature one other = is_text one.0 other.0 && is_text one.1 other.1
+
+-- the member at an offset is none of those before
+abbrev pub fresh : ℕ → List Signature → Signature → Reader (Unit {0})
+fresh at before signature = settle at (test bad.Repeated (not (list_any (same_signature signature) before)))
+
+-- ---- fields
+
+-- what was seen of a field's attributes
+pub record FieldSeen : Type 0 where
+  pub constant : Option (Option Constant)
+  pub synthetic : Bool
+  pub deprecated : Bool
+
+abbrev pub no_field_attribute : FieldSeen
+no_field_attribute = record { constant = None; synthetic = false; deprecated = false }
+
+-- contents of a length that are passed over
+abbrev pub dropped : {S : Type 0} → ℕ → S → Reader S
+dropped n seen = do
+  skipped ← bytes n
+  give seen
+
+-- ConstantValue counts on static fields alone; elsewhere its contents are passed over
+abbrev pub constant_seen : List Entry → FieldType → FieldSeen → Reader FieldSeen
+constant_seen pool ty seen = do
+  value ← constant_value pool ty
+  give (record seen { constant = Some value })
+
+abbrev pub known_of_field : List Entry → Bool → FieldType → ℕ → List ℕ → ℕ → FieldSeen → Option (Reader FieldSeen)
+known_of_field pool static ty at name n seen =
+    if is_text name (codes "ConstantValue") then Some (once at (is_there seen.constant)
+    (if static then constant_seen pool ty seen else dropped n (record seen { constant = Some None })))
+    else if is_text name (codes "Synthetic") then Some (once at seen.synthetic (give (record seen { synthetic = true })))
+    else if is_text name (codes "Deprecated") then Some (once at seen.deprecated (give (record seen { deprecated = true })))
+    else None
+
+abbrev pub constant_of : Option (Option Constant) → Option Constant
+constant_of (Some value) = value
+constant_of None = None
+
+abbrev pub field_of : ℕ → List ℕ → FieldType → FieldSeen → Field
+field_of flags name ty seen = record {
+  flags = flags_of (meant field_mask flags);
+  name = name;
+  ty = ty;
+  constant = constant_of seen.constant;
+  synthetic = seen.synthetic;
+  deprecated = seen.deprecated;
+}
+
+-- a field behind those of these signatures
+unfoldable pub read_field_info : List Entry → Bool → List Signature → Reader (Field × Signature)
+read_field_info pool in_interface before = do
+  at ← here
+  flags ← read_flags (are_field_flags in_interface)
+  name ← item u2 (good_text_at bad.BadName is_member_name pool)
+  ty ← item u2 (field_type_at pool)
+  alone ← fresh at before (name, field_text ty)
+  seen ← counted_attributes pool (known_of_field pool (is_static flags) ty) no_field_attribute
+  give (field_of flags name ty seen, (name, field_text ty))
+
+unfoldable pub read_fields : ℕ → List Entry → Bool → List Signature → Reader (List Field)
+read_fields zero pool in_interface before = give []
+read_fields (suc n) pool in_interface before = do
+  first ← read_field_info pool in_interface before
+  others ← read_fields n pool in_interface (first.1 ∷ before)
+  give (first.0 ∷ others)
+
+-- ---- methods
+
+-- what was seen of a method's attributes
+pub record MethodSeen : Type 0 where
+  pub body : Option Body
+  pub throws : Option (List (List ℕ))
+  pub synthetic : Bool
+  pub deprecated : Bool
+
+abbrev pub no_method_attribute : MethodSeen
+no_method_attribute = record { body = None; throws = None; synthetic = false; deprecated = false }
+
+abbrev pub exceptions_seen : List Entry → MethodSeen → Reader MethodSeen
+exceptions_seen pool seen = do
+  classes ← exceptions pool
+  give (record seen { throws = Some classes })
+
+abbrev pub code_seen : Reader Body → MethodSeen → Reader MethodSeen
+code_seen code seen = do
+  body ← code
+  give (record seen { body = Some body })
+
+-- a Code where there may be none is at fault itself, before its contents
+abbrev pub one_code : ℕ → Bool → Reader Body → MethodSeen → Reader MethodSeen
+one_code at wanted code seen = do
+  allowed ← settle at (test bad.BadAttribute wanted)
+  once at (is_there seen.body) (code_seen code seen)
+
+abbrev pub known_of_method : List Entry → Bool → (ℕ → Reader Body) → ℕ → List ℕ → ℕ → MethodSeen → Option (Reader MethodSeen)
+known_of_method pool wanted code at name n seen =
+    if is_text name (codes "Code") then Some (one_code at wanted (code at) seen)
+    else if is_text name (codes "Exceptions") then Some (once at (is_there seen.throws) (exceptions_seen pool seen))
+    else if is_text name (codes "Synthetic") then Some (once at seen.synthetic (give (record seen { synthetic = true })))
+    else if is_text name (codes "Deprecated") then Some (once at seen.deprecated (give (record seen { deprecated = true })))
+    else None
+
+-- the code, with what is left out: a native method is
+abbrev pub body_of : ℕ → Option Body → Body
+body_of flags (Some body) = body
+body_of flags None = (None, if is_native flags then Some left.Flag else None)
+
+abbrev pub throws_of : Option (List (List ℕ)) → List (List ℕ)
+throws_of (Some classes) = classes
+throws_of None = []
+
+abbrev pub method_of : ℕ → List ℕ → MethodType → MethodSeen → Method
+method_of flags name ty seen = record {
+  flags = flags_of (meant method_mask flags);
+  name = name;
+  ty = ty;
+  code = (body_of flags seen.body).0;
+  throws = throws_of seen.throws;
+  synthetic = seen.synthetic;
+  deprecated = seen.deprecated;
+}
+
+-- a method, its signature, and what is left out in it
+abbrev pub MethodRead : Type 0
+MethodRead = Method × Signature × Option LeftKind
+
+-- a method behind those of these signatures, in a class of this name
+unfoldable pub read_method_info : List Entry → Bool → List ℕ → List Signature → Reader MethodRead
+read_method_info pool in_interface class before = do
+  at ← here
+  flags ← read_flags are_method_flags
+  name ← item u2 (good_text_at bad.BadName is_method_name pool)
+  ty ← item u2 (method_type_at pool in_interface flags name)
+  alone ← fresh at before (name, method_text ty)
+  seen ← counted_attributes pool (known_of_method pool (has_body flags)
+      (read_code pool (initial_locals class (is_static flags) name ty))) no_method_attribute
+  whole ← settle at (test bad.BadAttribute (not (has_body flags) || is_there seen.body))
+  give (method_of flags name ty seen, (name, method_text ty), (body_of flags seen.body).1)
+
+-- methods, and what is left out in each
+unfoldable pub read_methods : ℕ → List Entry → Bool → List ℕ → List Signature → Reader (List Method × List (Option LeftKind))
+read_methods zero pool in_interface class before = give ([], [])
+read_methods (suc n) pool in_interface class before = do
+  first ← read_method_info pool in_interface class before
+  others ← read_methods n pool in_interface class (first.1 ∷ before)
+  give (first.0 ∷ others.0, first.2 ∷ others.1)

@@ -1,0 +1,119 @@
+-- Reading the constant pool from left to right (JVMS 4.4), and its cross references when it has been read.
+use Rattle.std.specs.Prelude.{ℕ, zero, suc, ◌-◌, Bool, true, false, ◌&&◌, not, List, [], ◌∷◌, map, Option, Some, None, Result, Ok, Err, ◌==◌, nat_lt, if◌then◌else◌}
+use Rattle.std.specs.Int.{w32, cast_signed}
+use Rattle.jv_base.specs.Decoding.{read_mutf8}
+use Rattle.format_reading.specs.Fault.{fault}
+use Rattle.format_reading.specs.Reader.{Reader, u2, u4, bytes, lead, item, give, here, told, u1, ◌>>=◌}
+use Rattle.format_reading.specs.declared.fault.FormatFault.{FormatFault}
+use Rattle.format_reading.specs.declared.fault.FormatKind.{FormatKind}
+use Rattle.format_reading.specs.declared.fault.FormatKind.TheVariants as bad
+use Rattle.class_model.specs.declared.pool.Entry.{Entry}
+use Rattle.class_model.specs.declared.pool.Entry.TheVariants as entry
+use Rattle.class_model.specs.Whole.ConstantPool.{left_out_length, long_of, takes_two}
+use Rattle.class_model.specs.Whole.Lookups.{due, value_of, names_right}
+
+-- an entry, and the offset of its tag
+pub record Slot : Type 0 where
+  pub entry : Entry
+  pub at : ℕ
+
+-- ---- entries
+
+abbrev pub utf8 : Reader Entry
+utf8 = do
+  n ← u2
+  units ← item (bytes n) (λ text. due bad.BadUtf8 (value_of (read_mutf8 text)))
+  give (entry.Utf8 units)
+
+abbrev pub integer : Reader Entry
+integer = do
+  n ← u4
+  give (entry.Integer (cast_signed w32 n))
+
+abbrev pub long : Reader Entry
+long = do
+  high ← u4
+  low ← u4
+  give (entry.Long (long_of high low))
+
+abbrev pub one_index : (ℕ → Entry) → Reader Entry
+one_index make = do
+  index ← u2
+  give (make index)
+
+abbrev pub two_indices : (ℕ → ℕ → Entry) → Reader Entry
+two_indices make = do
+  first ← u2
+  second ← u2
+  give (make first second)
+
+abbrev pub passed_over : ℕ → ℕ → Reader Entry
+passed_over tag n = do
+  skipped ← bytes n
+  give (entry.LeftOut tag)
+
+abbrev pub left_out : ℕ → Option ℕ → Result (Reader Entry) FormatKind
+left_out tag (Some n) = Ok (passed_over tag n)
+left_out tag None = Err bad.BadTag
+
+-- a Long or a Double needs room for its second index
+abbrev pub has_no_room : Bool → ℕ → Bool
+has_no_room room tag = not room && (if tag == 5 then true else tag == 6)
+
+-- what a tag begins (JVMS 4.4, table 4.4-A)
+abbrev pub tagged : Bool → ℕ → Result (Reader Entry) FormatKind
+tagged room tag =
+    if has_no_room room tag then Err bad.BadTag
+    else if tag == 1 then Ok utf8
+    else if tag == 3 then Ok integer
+    else if tag == 5 then Ok long
+    else if tag == 7 then Ok (one_index (λ i. entry.Class i))
+    else if tag == 8 then Ok (one_index (λ i. entry.Str i))
+    else if tag == 9 then Ok (two_indices (λ i j. entry.Field i j))
+    else if tag == 10 then Ok (two_indices (λ i j. entry.Method i j))
+    else if tag == 11 then Ok (two_indices (λ i j. entry.InterfaceMethod i j))
+    else if tag == 12 then Ok (two_indices (λ i j. entry.NameAndType i j))
+    else left_out tag (left_out_length tag)
+
+unfoldable pub read_entry : Bool → Reader Entry
+read_entry room = lead u1 (tagged room)
+
+-- ---- the pool
+
+-- the next index, which is the second one of a Long or a Double where `second` is true; room is there for one more
+unfoldable pub slot : Bool → Bool → Reader Slot
+slot true room = do
+  at ← here
+  give (record { entry = entry.Gap; at = at })
+slot false room = do
+  at ← here
+  e ← read_entry room
+  give (record { entry = e; at = at })
+
+-- n indices
+unfoldable pub slots : ℕ → Bool → Reader (List Slot)
+slots zero second = give []
+slots (suc n) second = do
+  first ← slot second (nat_lt 0 n)
+  others ← slots n (takes_two first.entry)
+  give (first ∷ others)
+
+abbrev pub entries_of : List Slot → List Entry
+entries_of xs = entry.Gap ∷ map (λ (s : Slot). s.entry) xs
+
+abbrev pub fault_of : ℕ → Result (Unit {0}) FormatKind → Result (Unit {0}) FormatFault → Result (Unit {0}) FormatFault
+fault_of at (Ok x) others = others
+fault_of at (Err kind) others = Err (fault at kind)
+
+-- the first entry that names what isn't there, in the order of indices, used or not
+unfoldable pub all_name_right : List Entry → List Slot → Result (Unit {0}) FormatFault
+all_name_right pool [] = Ok tt
+all_name_right pool (s ∷ xs) = fault_of s.at (names_right pool s.entry) (all_name_right pool xs)
+
+-- constant_pool_count and the constants; a count of 0 is taken as 1
+unfoldable pub read_pool : Reader (List Entry)
+read_pool = do
+  count ← u2
+  xs ← slots (count - 1) false
+  named ← told (all_name_right (entries_of xs) xs)
+  give (entries_of xs)
