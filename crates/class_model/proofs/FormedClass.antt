@@ -1,7 +1,7 @@
 -- The class with a field and a method is well formed.
 use Rattle.std.proofs.Common.{ℕ, ◌<◌, List, [], ◌∷◌, refl, arith, zero, suc}
 use Rattle.std.specs.Prelude.{codes, IsUtf8, AllPairs, false, IsSome, slice_index_or}
-use Rattle.jv_base.specs.Names.{is_keyword, is_name_byte, is_member_name, is_method_name, is_class_name}
+use Rattle.jv_base.specs.Names.{is_primitive_or_void, is_name_byte, is_member_name, is_method_name, is_class_name}
 use Rattle.jv_base.specs.Types.{words_of, argument_words}
 use Rattle.class_model.specs.declared.code.Ins.{Ins}
 use Rattle.class_model.specs.Whole.Members.{FieldsDiffer, MethodsDiffer}
@@ -51,7 +51,7 @@ field_is = record {
 }
 
 code_is : IsGoodCode code_of_t
-unfolding is_keyword is_name_byte is_member_name is_class_name
+unfolding is_primitive_or_void is_name_byte is_member_name is_class_name
 code_is = record {
   some = omega arith;
   instructions = (tt, (omega arith, (tt, (tt, (tt, (tt, tt))))));
@@ -92,7 +92,7 @@ method_is = record {
 }
 
 pub well_formed : TIsWellFormed
-unfolding is_keyword is_name_byte is_member_name is_class_name
+unfolding is_primitive_or_void is_name_byte is_member_name is_class_name
 well_formed = record {
   nothing_left_out = refl;
   meant = refl;

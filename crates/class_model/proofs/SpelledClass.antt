@@ -6,7 +6,7 @@ use Rattle.std.specs.Str.{chars}
 use Rattle.std.proofs.lemmas.Bool.{ltb-true}
 use Rattle.jv_base.specs.Utf16.{units_of}
 use Rattle.jv_base.specs.Mutf8.{unit_bytes, mutf8, IsUnits}
-use Rattle.jv_base.specs.Names.{is_keyword, is_name_byte, is_member_name, is_method_name, is_class_name}
+use Rattle.jv_base.specs.Names.{is_primitive_or_void, is_name_byte, is_member_name, is_method_name, is_class_name}
 use Rattle.jv_base.specs.Types.{base_text, field_text, result_text, method_text, words_of, argument_words}
 use Rattle.class_model.specs.declared.pool.Entry.{Entry}
 use Rattle.class_model.specs.declared.pool.Entry.TheVariants as entry
@@ -121,7 +121,7 @@ utf8 : (text : List ℕ) → length text < 65536 → list_all is_unit text ≡ t
 utf8 text short small same = (short, text, units text small, same, refl)
 
 pool_is : IsPool 17 raw.constant_pool pool
-unfolding unit_bytes mutf8 is_keyword is_name_byte is_member_name is_class_name
+unfolding unit_bytes mutf8 is_primitive_or_void is_name_byte is_member_name is_class_name
 pool_is = record {
   entries = entries;
   stand = (
@@ -173,7 +173,7 @@ pool_is = record {
 -- ---- members
 
 field_is : IsField pool false field_raw field_of_t
-unfolding is_keyword is_name_byte is_member_name is_class_name base_text field_text
+unfolding is_primitive_or_void is_name_byte is_member_name is_class_name base_text field_text
 field_is = record {
   flags = record { fit = omega arith; are = refl; good = refl };
   name = (omega arith, f_text);
@@ -193,7 +193,7 @@ abbrev lines : List LineNumber
 lines = record { start_pc = 0; line_number = 7 } ∷ []
 
 code_is : IsCode pool (vtype.Int ∷ []) code_raw code_of_t None
-unfolding is_keyword is_name_byte is_member_name is_class_name
+unfolding is_primitive_or_void is_name_byte is_member_name is_class_name
 code_is = record {
   sizes = record { max_stack_fits = omega arith; max_locals_fits = omega arith; length_from = omega arith; length_to = omega arith; handlers_fit = omega arith };
   max_stack = refl;
@@ -231,7 +231,7 @@ code_is = record {
 }
 
 method_is : IsMethod pool false (codes "T") method_raw method_of_t None
-unfolding is_keyword is_name_byte is_member_name is_method_name is_class_name base_text field_text result_text method_text words_of argument_words
+unfolding is_primitive_or_void is_name_byte is_member_name is_method_name is_class_name base_text field_text result_text method_text words_of argument_words
 method_is = record {
   flags = record { fit = omega arith; are = refl; good = refl };
   name = (omega arith, f_text);
@@ -259,7 +259,7 @@ no_pairs : {X : Type 0} (R : X → X → Type 0) (x : X) → AllPairs R (x ∷ [
 no_pairs R x i j d h k = absurd (omega (arith, h, k))
 
 class_is : IsClass raw class_t pool
-unfolding is_keyword is_name_byte is_member_name is_class_name
+unfolding is_primitive_or_void is_name_byte is_member_name is_class_name
 class_is = record {
   constant_pool = pool_is;
   flags = record { fit = omega arith; are = refl; good = refl };

@@ -4,7 +4,7 @@ use Rattle.std.specs.Prelude.{codes, AllPairs}
 use Rattle.std.specs.Str.{chars}
 use Rattle.jv_base.specs.Utf16.{units_of}
 use Rattle.jv_base.specs.Mutf8.{unit_bytes, mutf8, IsUnits}
-use Rattle.jv_base.specs.Names.{is_keyword, is_name_byte, is_member_name, is_class_name}
+use Rattle.jv_base.specs.Names.{is_primitive_or_void, is_name_byte, is_member_name, is_class_name}
 use Rattle.class_model.specs.declared.pool.Entry.{Entry}
 use Rattle.class_model.specs.declared.pool.Entry.TheVariants as entry
 use Rattle.class_model.specs.Pool.{IsText, units_at}
@@ -66,7 +66,7 @@ no_pairs : {X : Type 0} (R : X → X → Type 0) → AllPairs R []
 no_pairs R i j d h k = absurd (omega (arith, k))
 
 pool_is : IsPool 5 raw.constant_pool pool
-unfolding unit_bytes mutf8 is_keyword is_name_byte is_member_name is_class_name
+unfolding unit_bytes mutf8 is_primitive_or_void is_name_byte is_member_name is_class_name
 pool_is = record {
   entries = entries;
   stand = ((omega arith, a_name, a_units, refl, refl), ((omega arith, refl), ((omega arith, object, object_units, refl, refl), ((omega arith, refl), tt))));
@@ -77,7 +77,7 @@ pool_is = record {
 }
 
 class_is : IsClass raw class_a pool
-unfolding is_keyword is_name_byte is_member_name is_class_name
+unfolding is_primitive_or_void is_name_byte is_member_name is_class_name
 class_is = record {
   constant_pool = pool_is;
   flags = record { fit = omega arith; are = refl; good = refl };

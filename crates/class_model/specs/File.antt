@@ -13,7 +13,7 @@ use Rattle.class_model.specs.Pool.{IsPool, IsTextAt, IsClassAt}
 use Rattle.class_model.specs.Structure.{AttributeInfo, MemberInfo, CodeInfo, code_info, ClassFile, class_file}
 use Rattle.class_model.specs.Instructions.{IsCodeText}
 
--- the flags of these bits
+-- access_flags of these bits (JVMS 4.1, 4.5, 4.6)
 abbrev pub flags_of : ℕ → Access
 flags_of bits = record { 0 = bits }
 
@@ -45,7 +45,8 @@ IsBody pool _ _ = ⊥
 
 -- ---- methods
 
--- the flags of a method that is static and neither native nor abstract; those that mean nothing are dropped (JVMS 4.6)
+-- the flags of a method that is static (0008) and neither native nor abstract (0500). The bits that mean something, native
+-- aside, are 1DFF (JVMS table 4.6-A); the others are dropped
 pub record AreMethodFlags (bits : ℕ) (flags : Access) : Type 0 where
   pub fit : bits < 2 ^ 16
   pub is : flags ≡ flags_of (bit_and bits 0x1DFF)
@@ -71,7 +72,8 @@ Differ one other = ¬ ((one.name ≡ other.name) × (method_text one.ty ≡ meth
 
 -- ---- the class
 
--- the flags of a class that is neither an annotation nor an enum; those that mean nothing are dropped (JVMS 4.1)
+-- the flags of a class that is neither an annotation nor an enum (6000), not both final and abstract (0410), and abstract where
+-- it is an interface (0600). The bits that mean something are 7631 (JVMS table 4.1-A); the others are dropped
 pub record AreClassFlags (bits : ℕ) (flags : Access) : Type 0 where
   pub fit : bits < 2 ^ 16
   pub is : flags ≡ flags_of (bit_and bits 0x7631)

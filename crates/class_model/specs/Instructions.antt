@@ -1,5 +1,5 @@
 -- Instructions and their bytes (JVMS 6.5).
-use Rattle.std.specs.Prelude.{◌≡◌, ℕ, ◌+◌, ◌-◌, ◌^◌, ◌<◌, List, [], ◌∷◌, ◌++◌, Option, Some, None, Bool, nat_le, ◌==◌, ◌&&◌, if◌then◌else◌, ℤ, pos, ◌-ℤ◌}
+use Rattle.std.specs.Prelude.{◌≡◌, ℕ, ◌-◌, ◌^◌, ◌<◌, List, [], ◌∷◌, Option, Some, None, Bool, nat_le, ◌==◌, ◌&&◌, if◌then◌else◌, pos, ◌-ℤ◌}
 use Rattle.std.specs.Int.{w8, w16, to_be_bytes, cast_signed}
 use Rattle.std.specs.List.{AllZip, flat_map}
 use Rattle.class_model.specs.declared.op.Op.{Op}
@@ -16,6 +16,7 @@ pub data Info : Type 0 where
   Short : (opcode operand : ℕ) → Info
   Bytes : (opcode first second : ℕ) → Info
 
+-- the opcode and its operands
 abbrev pub info_bytes : Info → List ℕ
 info_bytes (Plain opcode) = opcode ∷ []
 info_bytes (Byte opcode operand) = opcode ∷ operand ∷ []
@@ -29,7 +30,7 @@ Fits (Byte opcode operand) = operand < 2 ^ 8
 Fits (Short opcode operand) = operand < 2 ^ 16
 Fits (Bytes opcode first second) = (first < 2 ^ 8) × (second < 2 ^ 8)
 
--- a number is one of these
+-- a number from the first to the second
 abbrev pub between : ℕ → ℕ → ℕ → Bool
 between low high n = nat_le low n && nat_le n high
 

@@ -23,7 +23,7 @@ use Rattle.class_model.specs.Structure.{AttributeInfo, MemberInfo, CodeInfo, cod
 
 -- ---- the pool
 
--- the constants are one
+-- the constants are one (JVMS 4.4)
 abbrev pub same : PoolConstant → PoolConstant → Bool
 same (Utf8 a) (Utf8 b) = pointwise nat_eq a b
 same (ClassOf a) (ClassOf b) = pointwise nat_eq a b
@@ -53,6 +53,7 @@ pool_of c = insert_all same [] (constants_of c)
 abbrev pub index_of : List PoolConstant → PoolConstant → ℕ
 index_of pool k = 1 + position_or_len (same k) pool
 
+-- the entry of a constant (JVMS 4.4)
 abbrev pub entry_of : List PoolConstant → PoolConstant → Entry
 entry_of pool (Utf8 units) = entry.Utf8 units
 entry_of pool (ClassOf units) = entry.Class (index_of pool (Utf8 units))
@@ -63,7 +64,7 @@ entry_of pool (ClassOf units) = entry.Class (index_of pool (Utf8 units))
 abbrev pub int_between : ℤ → ℤ → ℤ → Bool
 int_between low high n = int_le low n && int_le n high
 
--- iconst_<i> from -1 to 5, bipush from -128 to 127, else sipush
+-- iconst_<i> from -1 to 5, bipush from -128 to 127, else sipush; never from the pool (JVMS 6.5)
 abbrev pub push_bytes : ℤ → List ℕ
 push_bytes n =
     if int_between (negsuc 0) (pos 5) n then cast_unsigned w8 (n +ℤ pos 3) ∷ []
@@ -95,6 +96,7 @@ op_bytes _ = []
 unfoldable pub code_bytes : List Ins → List ℕ
 code_bytes ins = flat_map (λ (i : Ins). op_bytes i.op) ins
 
+-- the contents of its Code attribute (JVMS 4.7.3)
 abbrev pub code_raw : Code → CodeInfo
 code_raw code = record {
   max_stack = code.max_stack;
@@ -111,6 +113,7 @@ abbrev pub code_attributes : List PoolConstant → Option Code → List Attribut
 code_attributes pool None = []
 code_attributes pool (Some code) = record { attribute_name_index = index_of pool (Utf8 (units_of (codes "Code"))); info = code_info (code_raw code) } ∷ []
 
+-- its method_info (JVMS 4.6)
 abbrev pub method_raw : List PoolConstant → Method → MemberInfo
 method_raw pool m = record {
   access_flags = m.flags.0;
@@ -119,6 +122,7 @@ method_raw pool m = record {
   attributes = code_attributes pool m.code;
 }
 
+-- its ClassFile (JVMS 4.1)
 abbrev pub class_raw : List PoolConstant → Class → ClassFile
 class_raw pool c = record {
   constant_pool = map (entry_of pool) pool;

@@ -1,7 +1,7 @@
 -- The constant pool (JVMS 4.4).
-use Rattle.std.specs.Prelude.{◌≡◌, ◌⊎◌, ℕ, ◌+◌, ◌^◌, ◌<◌, List, [], ◌∷◌, ◌++◌, length, slice_get, Option, Some, None, option_and_then, IsTrue, IsUtf8}
-use Rattle.std.specs.Int.{w8, w16, to_be_bytes}
-use Rattle.std.specs.List.{AllByRecursion, flat_map}
+use Rattle.std.specs.Prelude.{◌≡◌, ◌⊎◌, ℕ, ◌^◌, ◌<◌, List, [], ◌∷◌, ◌++◌, length, slice_get, Option, Some, None, option_and_then, IsTrue, IsUtf8}
+use Rattle.std.specs.Int.{w16, to_be_bytes}
+use Rattle.std.specs.List.{AllByRecursion}
 use Rattle.jv_base.specs.Mutf8.{mutf8, IsUnits}
 use Rattle.jv_base.specs.Names.{is_class_name}
 use Rattle.jv_base.specs.Utf16.{units_of}
@@ -52,7 +52,7 @@ IsText units text = IsUtf8 text × (units ≡ Some (units_of text))
 abbrev pub IsTextAt : List Entry → ℕ → List ℕ → Type 0
 IsTextAt pool index text = (index < 2 ^ 16) × IsText (units_at pool index) text
 
--- a CONSTANT_Class at the index names this class, which isn't an array type
+-- a CONSTANT_Class at the index names this class, which isn't an array type (JVMS 4.1 of this_class and super_class)
 abbrev pub IsClassAt : List Entry → ℕ → List ℕ → Type 0
 IsClassAt pool index name = (index < 2 ^ 16) × IsText (class_units_at pool index) name × IsTrue (is_class_name name)
 
@@ -69,7 +69,7 @@ abbrev pub NamesRight : List Entry → Entry → Type 0
 NamesRight pool (entry.Class name_index) = (text : List ℕ) × IsText (units_at pool name_index) text × IsTypeText text
 NamesRight pool _ = Unit {0}
 
--- the entries are a constant pool, which numbers them
+-- the entries are a constant pool, which numbers them; their count fits two bytes (JVMS 4.1, 4.4)
 pub record IsPool (entries pool : List Entry) : Type 0 where
   pub numbers : pool ≡ numbered entries
   pub count : length pool < 2 ^ 16

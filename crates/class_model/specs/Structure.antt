@@ -10,6 +10,7 @@ pub record AttributeInfo : Type 0 where
   pub attribute_name_index : ℕ
   pub info : List ℕ
 
+-- its bytes, with the length of its contents
 abbrev pub attribute_info : AttributeInfo → List ℕ
 attribute_info a = to_be_bytes w16 a.attribute_name_index ++ (to_be_bytes w32 (length a.info) ++ a.info)
 
@@ -20,6 +21,7 @@ pub record MemberInfo : Type 0 where
   pub descriptor_index : ℕ
   pub attributes : List AttributeInfo
 
+-- its bytes, with the count of its attributes
 abbrev pub member_info : MemberInfo → List ℕ
 member_info m = to_be_bytes w16 m.access_flags ++ (to_be_bytes w16 m.name_index ++ (to_be_bytes w16 m.descriptor_index
     ++ (to_be_bytes w16 (length m.attributes) ++ flat_map attribute_info m.attributes)))
@@ -31,6 +33,7 @@ pub record ExceptionInfo : Type 0 where
   pub handler_pc : ℕ
   pub catch_type : ℕ
 
+-- its bytes
 abbrev pub exception_info : ExceptionInfo → List ℕ
 exception_info e = to_be_bytes w16 e.start_pc ++ (to_be_bytes w16 e.end_pc ++ (to_be_bytes w16 e.handler_pc ++ to_be_bytes w16 e.catch_type))
 
@@ -42,6 +45,7 @@ pub record CodeInfo : Type 0 where
   pub exception_table : List ExceptionInfo
   pub attributes : List AttributeInfo
 
+-- its bytes, with the length of the code and the counts of the tables
 abbrev pub code_info : CodeInfo → List ℕ
 code_info c = to_be_bytes w16 c.max_stack ++ (to_be_bytes w16 c.max_locals ++ (to_be_bytes w32 (length c.code) ++ (c.code
     ++ (to_be_bytes w16 (length c.exception_table) ++ (flat_map exception_info c.exception_table
@@ -58,10 +62,11 @@ pub record ClassFile : Type 0 where
   pub methods : List MemberInfo
   pub attributes : List AttributeInfo
 
--- CAFEBABE, and version 52.0
+-- magic, minor_version and major_version: CAFEBABE, 0 and 52 (JVMS 4.1)
 abbrev pub head : List ℕ
 head = to_be_bytes w32 0xCAFEBABE ++ (to_be_bytes w16 0 ++ to_be_bytes w16 52)
 
+-- its bytes, with the count of each table
 abbrev pub class_file : ClassFile → List ℕ
 class_file c = head ++ (to_be_bytes w16 (length c.constant_pool + 1) ++ (flat_map cp_info c.constant_pool
     ++ (to_be_bytes w16 c.access_flags ++ (to_be_bytes w16 c.this_class ++ (to_be_bytes w16 c.super_class

@@ -9,6 +9,7 @@ mod small;
 mod words;
 
 pub use command::run;
+pub use small::canonical_is_small;
 
 #[cfg(test)]
 mod tests;

@@ -12,6 +12,7 @@ mod writing;
 
 use jv_base::Or;
 pub(crate) use reading::read_small;
+pub use writing::canonical_is_small;
 pub(crate) use writing::write_small;
 
 /// The bytes are no small class.
