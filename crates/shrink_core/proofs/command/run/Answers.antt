@@ -1,4 +1,3 @@
-use Rattle.std.proofs.Common.{refl, inl}
 use Rattle.shrink_core.proofs.Endings.{words_by, ending_of}
 use Rattle.shrink_core.proofs.command.run.Goals as goal
 
