@@ -59,7 +59,7 @@ pub struct Method {
     pub flags: Access,
     pub name: Name,
     pub ty: MethodType,
-    /// There is none on an abstract method, on a native one, and where an opcode is left out.
+    /// There is none on an abstract method, on a native one, and where an instruction is left out.
     pub code: Option<Code>,
     /// The classes that the attribute Exceptions names, in its order (JVMS 4.7.5).
     pub throws: Items<Name>,
@@ -83,10 +83,10 @@ pub struct LeftOut {
 pub enum LeftKind {
     /// A native method, or a class that is an annotation or an enum (JVMS 4.1 and 4.6).
     Flag,
-    /// A constant of the kind Float, Double, MethodHandle, MethodType or InvokeDynamic, or an
-    /// instruction that loads such a constant or a class (JVMS 4.4 and 6.5).
+    /// A constant of the kind Float, Double, MethodHandle, MethodType or InvokeDynamic, used or not; an
+    /// instruction that loads a class, a float or a double; or invokedynamic (JVMS 4.4 and 6.5).
     Constant,
-    /// An instruction on float or double, on subroutines or on monitors (JVMS 6.5).
+    /// An instruction on float or double, newarray of one among them, or on monitors (JVMS 6.5).
     Opcode,
     /// A float or double in a frame (JVMS 4.7.4).
     FloatType,

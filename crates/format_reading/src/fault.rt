@@ -31,9 +31,10 @@ pub enum FormatKind {
     BadAttribute,
     /// A constant doesn't fit the type of its field (JVMS 4.7.2).
     BadConstant,
-    /// A code array is empty or longer than 65,535 bytes (JVMS 4.7.3).
+    /// A code array is empty or longer than 65,535 bytes, or ends inside an instruction (JVMS 4.7.3
+    /// and 4.9.1).
     BadCode,
-    /// A byte is no opcode (JVMS 6.5).
+    /// A byte is no opcode that may stand there (JVMS 4.9.1 and 6.5).
     BadOpcode,
     /// An instruction's operand breaks a rule (JVMS 4.9.1).
     BadOperand,
@@ -41,7 +42,8 @@ pub enum FormatKind {
     BadTarget,
     /// An exception handler names no range or no instruction (JVMS 4.7.3).
     BadHandler,
-    /// A row of a stack map has no known form, or names no instruction, or is too large (JVMS 4.7.4).
+    /// A row of a stack map has no known form, names no instruction, type or `new`, takes more locals
+    /// than there are, or is too large (JVMS 4.7.4).
     BadFrame,
     /// A member or an attribute stands twice (JVMS 4.5, 4.6 and 4.7).
     Repeated,

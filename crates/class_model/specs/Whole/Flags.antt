@@ -1,69 +1,143 @@
 -- Access flags (JVMS 4.1, 4.5, 4.6): which mean something, and which may stand together.
-use Rattle.std.specs.Prelude.{ℕ, Bool, not, ◌&&◌, ◌||◌, ◌==◌, nat_lt, bit_and}
+use Rattle.std.specs.Prelude.{ℕ, ◌+◌, Bool, not, ◌&&◌, ◌||◌, ◌==◌, nat_lt, bit_and, List, codes}
 use Rattle.jv_base.specs.Names.{is_text}
-use Rattle.std.specs.Prelude.{List, codes}
 
--- all of these flags are set, some of them is
+-- ---- the flags (tables 4.1-A, 4.5-A, 4.6-A); of three bits the name depends on the place
+
+abbrev pub acc_public : ℕ
+acc_public = 0x0001
+
+abbrev pub acc_private : ℕ
+acc_private = 0x0002
+
+abbrev pub acc_protected : ℕ
+acc_protected = 0x0004
+
+abbrev pub acc_static : ℕ
+acc_static = 0x0008
+
+abbrev pub acc_final : ℕ
+acc_final = 0x0010
+
+-- of a method
+abbrev pub acc_synchronized : ℕ
+acc_synchronized = 0x0020
+
+-- of a class
+abbrev pub acc_super : ℕ
+acc_super = 0x0020
+
+-- of a field
+abbrev pub acc_volatile : ℕ
+acc_volatile = 0x0040
+
+-- of a method
+abbrev pub acc_bridge : ℕ
+acc_bridge = 0x0040
+
+-- of a field
+abbrev pub acc_transient : ℕ
+acc_transient = 0x0080
+
+-- of a method
+abbrev pub acc_varargs : ℕ
+acc_varargs = 0x0080
+
+abbrev pub acc_native : ℕ
+acc_native = 0x0100
+
+abbrev pub acc_interface : ℕ
+acc_interface = 0x0200
+
+abbrev pub acc_abstract : ℕ
+acc_abstract = 0x0400
+
+abbrev pub acc_strict : ℕ
+acc_strict = 0x0800
+
+abbrev pub acc_synthetic : ℕ
+acc_synthetic = 0x1000
+
+abbrev pub acc_annotation : ℕ
+acc_annotation = 0x2000
+
+abbrev pub acc_enum : ℕ
+acc_enum = 0x4000
+
+-- ---- sets of them
+
+-- all of these flags are set
 abbrev pub has : ℕ → ℕ → Bool
 has wanted flags = bit_and flags wanted == wanted
 
+-- some of these flags is set
 abbrev pub has_some : ℕ → ℕ → Bool
 has_some wanted flags = not (bit_and flags wanted == 0)
 
--- the flags of a class: public, final, super, interface, abstract, synthetic, annotation, enum (table 4.1-A)
+-- those that mean something on a class (table 4.1-A)
 abbrev pub class_mask : ℕ
-class_mask = 0x7631
+class_mask = acc_public + acc_final + acc_super + acc_interface + acc_abstract + acc_synthetic + acc_annotation + acc_enum
 
--- of a field: public, private, protected, static, final, volatile, transient, synthetic, enum (table 4.5-A)
+-- on a field (table 4.5-A)
 abbrev pub field_mask : ℕ
-field_mask = 0x50DF
+field_mask = acc_public + acc_private + acc_protected + acc_static + acc_final + acc_volatile + acc_transient + acc_synthetic + acc_enum
 
--- of a method: public, private, protected, static, final, synchronized, bridge, varargs, native, abstract, strict, synthetic
--- (table 4.6-A)
+-- on a method (table 4.6-A)
 abbrev pub method_mask : ℕ
-method_mask = 0x1DFF
+method_mask = acc_public + acc_private + acc_protected + acc_static + acc_final + acc_synchronized + acc_bridge + acc_varargs
+    + acc_native + acc_abstract + acc_strict + acc_synthetic
 
 -- the flags that mean something in their place; the others are dropped
 abbrev pub meant : ℕ → ℕ → ℕ
 meant mask flags = bit_and flags mask
 
--- of public, private and protected at most one
+-- which of public, private and protected are set
+abbrev pub access_of : ℕ → ℕ
+access_of flags = bit_and flags (acc_public + acc_private + acc_protected)
+
+-- of public, private and protected at most one (JVMS 4.5, 4.6)
 abbrev pub has_one_access : ℕ → Bool
-has_one_access flags = nat_lt (bit_and flags 0x0007) 3 || bit_and flags 0x0007 == 4
+has_one_access flags = nat_lt (access_of flags) 3 || access_of flags == acc_protected
 
--- an interface
+-- an interface (JVMS 4.1)
 abbrev pub is_interface : ℕ → Bool
-is_interface flags = has 0x0200 flags
+is_interface flags = has acc_interface flags
 
+-- static, of a field or a method (JVMS 4.5, 4.6)
 abbrev pub is_static : ℕ → Bool
-is_static flags = has 0x0008 flags
+is_static flags = has acc_static flags
 
+-- a native method (JVMS 4.6)
 abbrev pub is_native : ℕ → Bool
-is_native flags = has 0x0100 flags
+is_native flags = has acc_native flags
 
 -- a method has a code where it is neither abstract nor native (JVMS 4.7.3)
 abbrev pub has_body : ℕ → Bool
-has_body flags = not (has_some 0x0500 flags)
+has_body flags = not (has_some (acc_abstract + acc_native) flags)
 
--- a class isn't both final and abstract, and an interface is abstract
+-- a class isn't both final and abstract, and an interface is abstract (JVMS 4.1)
 abbrev pub are_class_flags : ℕ → Bool
-are_class_flags flags = not (has 0x0410 flags) && (not (has 0x0200 flags) || has 0x0400 flags)
+are_class_flags flags = not (has (acc_final + acc_abstract) flags) && (not (has acc_interface flags) || has acc_abstract flags)
 
 -- a class that is an annotation or an enum is left out
 abbrev pub is_left_out_class : ℕ → Bool
-is_left_out_class flags = has_some 0x6000 flags
+is_left_out_class flags = has_some (acc_annotation + acc_enum) flags
 
--- a field isn't both final and volatile, and one of an interface is public, static and final
+-- a field isn't both final and volatile, and one of an interface is public, static and final (JVMS 4.5)
 abbrev pub are_field_flags : Bool → ℕ → Bool
-are_field_flags in_interface flags = has_one_access flags && not (has 0x0050 flags) && (not in_interface || has 0x0019 flags)
+are_field_flags in_interface flags = has_one_access flags && not (has (acc_final + acc_volatile) flags)
+    && (not in_interface || has (acc_public + acc_static + acc_final) flags)
 
--- an abstract method is neither private, static, final, synchronized, native nor strict
+-- an abstract method is neither private, static, final, synchronized, native nor strict (JVMS 4.6)
 abbrev pub are_method_flags : ℕ → Bool
-are_method_flags flags = has_one_access flags && (not (has 0x0400 flags) || not (has_some 0x093A flags))
+are_method_flags flags = has_one_access flags && (not (has acc_abstract flags)
+    || not (has_some (acc_private + acc_static + acc_final + acc_synchronized + acc_native + acc_strict) flags))
 
+-- the name of an instance initialisation method (JVMS 2.9)
 abbrev pub is_init : List ℕ → Bool
 is_init name = is_text name (codes "<init>")
 
+-- the name of a class initialisation method (JVMS 2.9)
 abbrev pub is_clinit : List ℕ → Bool
 is_clinit name = is_text name (codes "<clinit>")
 
@@ -71,4 +145,5 @@ is_clinit name = is_text name (codes "<clinit>")
 -- and a class initialisation method is static (JVMS 2.9, 4.6)
 abbrev pub are_initial_flags : Bool → ℕ → List ℕ → Bool
 are_initial_flags in_interface flags name =
-    (not (is_init name) || (not in_interface && not (has_some 0x0538 flags))) && (not (is_clinit name) || is_static flags)
+    (not (is_init name) || (not in_interface && not (has_some (acc_static + acc_final + acc_synchronized + acc_native + acc_abstract) flags)))
+    && (not (is_clinit name) || is_static flags)
