@@ -1,5 +1,5 @@
--- Which bytes spell a class (JVMS 4). So far: classes without interfaces, fields and attributes, whose methods are static and
--- have the one attribute Code, without handlers and attributes.
+-- Which bytes spell a class (JVMS 4), for the classes that are read so far: those without interfaces, fields and attributes,
+-- whose methods are static and have the one attribute Code, without handlers and attributes. Whole.ClassFile has every class.
 use Rattle.std.specs.Prelude.{◌≡◌, ◌≢◌, ◌⊎◌, ℕ, ◌^◌, ◌<◌, List, [], ◌∷◌, length, Option, Some, None, AllPairs, IsTrue, bit_and, codes, false}
 use Rattle.std.specs.List.{AllZip}
 use Rattle.jv_base.specs.declared.access.Access.{Access}

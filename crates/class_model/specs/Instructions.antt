@@ -1,4 +1,4 @@
--- Instructions and their bytes (JVMS 6.5).
+-- Instructions and their bytes (JVMS 6.5), as far as they are read; Whole.Instructions has all of them.
 use Rattle.std.specs.Prelude.{◌≡◌, ℕ, ◌-◌, ◌^◌, ◌<◌, List, [], ◌∷◌, Option, Some, None, Bool, nat_le, ◌==◌, ◌&&◌, if◌then◌else◌, pos, ◌-ℤ◌}
 use Rattle.std.specs.Int.{w8, w16, to_be_bytes, cast_signed}
 use Rattle.std.specs.List.{AllZip, flat_map}

@@ -1,4 +1,4 @@
--- The canonical spelling of a class. So far: of the classes that File takes.
+-- The canonical spelling of a class that File takes; Whole.CanonicalClass has that of every class.
 use Rattle.std.specs.Prelude.{ℕ, ◌+◌, Bool, false, List, [], ◌∷◌, ◌++◌, map, Option, Some, None, nat_lt, nat_eq, ◌&&◌, if◌then◌else◌, codes, ℤ, pos, negsuc, ◌+ℤ◌, int_le}
 use Rattle.std.specs.Int.{w8, w16, cast_unsigned, to_be_bytes}
 use Rattle.std.specs.List.{flat_map, position_or_len}

@@ -1,4 +1,4 @@
--- The constant pool (JVMS 4.4).
+-- The constant pool (JVMS 4.4), with the entries that are read so far; Whole.ConstantPool has all of them.
 use Rattle.std.specs.Prelude.{◌≡◌, ◌⊎◌, ℕ, ◌^◌, ◌<◌, List, [], ◌∷◌, ◌++◌, length, slice_get, Option, Some, None, option_and_then, IsTrue, IsUtf8}
 use Rattle.std.specs.Int.{w16, to_be_bytes}
 use Rattle.std.specs.List.{AllByRecursion}
