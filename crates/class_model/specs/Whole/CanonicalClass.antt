@@ -24,10 +24,12 @@ use Rattle.class_model.specs.Whole.CanonicalFrames.{frame_constants, rows}
 
 -- ---- constants, in the order of the file
 
+-- the code of a method that has one, none of an abstract one (JVMS 4.7.3)
 abbrev pub code_in : Option Code → List Code
 code_in (Some code) = code ∷ []
 code_in None = []
 
+-- the codes of all methods that have one, in the order of the methods
 abbrev pub codes_of_methods : List Method → List Code
 codes_of_methods [] = []
 codes_of_methods (m ∷ methods) = code_in m.code ++ codes_of_methods methods
@@ -40,6 +42,7 @@ class_pushes methods = flat_map (λ (code : Code). flat_map (λ (i : Ins). pushe
 abbrev pub attribute_constants : Bool → List ℕ → List PoolConstant → List PoolConstant
 attribute_constants written name contents = if written then text_constants name ++ contents else []
 
+-- the table has a row, without which its attribute isn't written
 abbrev pub is_some_item : {A : Type 0} → List A → Bool
 is_some_item xs = not (length xs == 0)
 
@@ -48,19 +51,23 @@ abbrev pub mark_constants : Bool → Bool → List PoolConstant
 mark_constants synthetic deprecated =
     attribute_constants synthetic (codes "Synthetic") [] ++ attribute_constants deprecated (codes "Deprecated") []
 
+-- what constantvalue_index refers to, with its parts: an int, a long or a string (JVMS 4.7.2)
 abbrev pub value_constants : Constant → List PoolConstant
 value_constants (constant.Int n) = Integer n ∷ []
 value_constants (constant.Long n) = long_constants n
 value_constants (constant.Text units) = string_constants units
 
+-- those of a ConstantValue: the attribute's name, then the value
 abbrev pub constant_value_constants : Option Constant → List PoolConstant
 constant_value_constants (Some value) = text_constants (codes "ConstantValue") ++ value_constants value
 constant_value_constants None = []
 
+-- those of a field_info: name, descriptor, and its attributes ConstantValue, Synthetic and Deprecated (JVMS 4.5)
 abbrev pub field_constants : Field → List PoolConstant
 field_constants field = text_constants field.name ++ (text_constants (field_text field.ty)
     ++ (constant_value_constants field.constant ++ mark_constants field.synthetic field.deprecated))
 
+-- the class that catch_type refers to; a handler of everything refers to none (JVMS 4.7.3)
 abbrev pub caught_constants : Option (List ℕ) → List PoolConstant
 caught_constants (Some name) = class_constants name
 caught_constants None = []
@@ -70,15 +77,17 @@ abbrev pub is_new_line : Option ℕ → ℕ → Bool
 is_new_line (Some before) line = not (nat_eq before line)
 is_new_line None line = true
 
--- a row at each instruction with a line that differs from that of the instruction before; its place is that of its number
+-- a row at an instruction with a line that differs from that of the instruction before, else none (JVMS 4.7.12)
 abbrev pub line_row : Option ℕ → ℕ → Option ℕ → List LineNumber
 line_row before place None = []
 line_row before place (Some line) = if is_new_line before line then record { start_pc = place; line_number = line } ∷ [] else []
 
+-- the rows of instructions from number n on; all gives the offset of each by its number
 abbrev pub line_rows_from : Option ℕ → List ℕ → ℕ → List Ins → List LineNumber
 line_rows_from before all n [] = []
 line_rows_from before all n (i ∷ ins) = line_row before (slice_index all n) i.line ++ line_rows_from i.line all (n + 1) ins
 
+-- the LineNumberTable of a code whose instructions are at these places; before is the line ahead of its first one
 abbrev pub line_rows : Option ℕ → List ℕ → List Ins → List LineNumber
 line_rows before all ins = line_rows_from before all 0 ins
 
@@ -89,6 +98,7 @@ code_constants first code = flat_map (λ (i : Ins). op_constants i.op) code.ins
     ++ (attribute_constants (is_some_item (line_rows None [] code.ins)) (codes "LineNumberTable") []
     ++ attribute_constants (is_some_item code.frames) (codes "StackMapTable") (frame_constants first code.frames)))
 
+-- those of the attribute Code, its name first; a method without code has no such attribute
 abbrev pub body_constants : List VType → Option Code → List PoolConstant
 body_constants first (Some code) = text_constants (codes "Code") ++ code_constants first code
 body_constants first None = []
@@ -97,12 +107,14 @@ body_constants first None = []
 abbrev pub first_locals : List ℕ → Method → List VType
 first_locals class m = initial_locals class (is_static m.flags.0) m.name m.ty
 
+-- those of a method_info: name, descriptor, and its attributes Code, Exceptions, Synthetic and Deprecated (JVMS 4.6)
 abbrev pub method_constants : List ℕ → Method → List PoolConstant
 method_constants class m = text_constants m.name ++ (text_constants (method_text m.ty)
     ++ (body_constants (first_locals class m) m.code
     ++ (attribute_constants (is_some_item m.throws) (codes "Exceptions") (flat_map class_constants m.throws)
     ++ mark_constants m.synthetic m.deprecated)))
 
+-- those of a SourceFile: the attribute's name, then the file's, whose units are kept as they are (JVMS 4.7.10)
 abbrev pub source_constants : Option (List ℕ) → List PoolConstant
 source_constants (Some units) = text_constants (codes "SourceFile") ++ Utf8 units ∷ []
 source_constants None = []
@@ -121,12 +133,15 @@ pool_of c = filled (wanted c)
 -- ---- the structure
 
 module _ (pool : List PoolConstant) where
+  -- the index of the CONSTANT_Utf8 of a name or a descriptor
   abbrev pub text_index : List ℕ → ℕ
   text_index text = index_of pool (Utf8 (units_of text))
 
+  -- the index of the CONSTANT_Class of a name
   abbrev pub class_index : List ℕ → ℕ
   class_index name = index_of pool (class_constant name)
 
+  -- a number as a u2: two bytes, the high one first
   abbrev pub u2_of : ℕ → List ℕ
   u2_of n = to_be_bytes w16 n
 
@@ -134,18 +149,22 @@ module _ (pool : List PoolConstant) where
   abbrev pub attribute : Bool → List ℕ → List ℕ → List AttributeInfo
   attribute written name info = if written then record { attribute_name_index = text_index name; info = info } ∷ [] else []
 
+  -- Synthetic and then Deprecated, both without contents (JVMS 4.7.8, 4.7.15)
   abbrev pub mark_attributes : Bool → Bool → List AttributeInfo
   mark_attributes synthetic deprecated = attribute synthetic (codes "Synthetic") [] ++ attribute deprecated (codes "Deprecated") []
 
+  -- the constantvalue_index of a field (JVMS 4.7.2)
   abbrev pub value_index : Constant → ℕ
   value_index (constant.Int n) = index_of pool (Integer n)
   value_index (constant.Long n) = index_of pool (Long n)
   value_index (constant.Text units) = index_of pool (Str units)
 
+  -- the attribute ConstantValue of a field that has a value, whose contents are an index
   abbrev pub constant_attributes : Option Constant → List AttributeInfo
   constant_attributes (Some value) = attribute true (codes "ConstantValue") (u2_of (value_index value))
   constant_attributes None = []
 
+  -- a field_info, its flags as they are (JVMS 4.5)
   abbrev pub field_raw : Field → MemberInfo
   field_raw field = record {
     access_flags = field.flags.0;
@@ -154,6 +173,7 @@ module _ (pool : List PoolConstant) where
     attributes = constant_attributes field.constant ++ mark_attributes field.synthetic field.deprecated;
   }
 
+  -- a catch_type, which is 0 where everything is caught (JVMS 4.7.3)
   abbrev pub caught_index : Option (List ℕ) → ℕ
   caught_index (Some name) = class_index name
   caught_index None = 0
@@ -167,6 +187,7 @@ module _ (pool : List PoolConstant) where
     catch_type = caught_index h.caught;
   }
 
+  -- the contents of the attribute LineNumberTable: the count of rows, then each (JVMS 4.7.12)
   abbrev pub line_table : List LineNumber → List ℕ
   line_table lines = u2_of (length lines) ++ flat_map line_number lines
 
@@ -176,6 +197,7 @@ module _ (pool : List PoolConstant) where
       attribute (is_some_item (line_rows None all code.ins)) (codes "LineNumberTable") (line_table (line_rows None all code.ins))
       ++ attribute (is_some_item code.frames) (codes "StackMapTable") (stack_map_table (rows pool all first None code.frames))
 
+  -- the items of a Code whose instructions are at these places; first are the locals of the initial frame (JVMS 4.7.3)
   abbrev pub code_raw : List VType → List ℕ → Code → CodeInfo
   code_raw first all code = record {
     max_stack = code.max_stack;
@@ -189,6 +211,7 @@ module _ (pool : List PoolConstant) where
   abbrev pub code_contents : List VType → Code → List ℕ
   code_contents first code = code_info (code_raw first (places pool code.ins) code)
 
+  -- the attribute Code of a method that has a code
   abbrev pub body_attributes : List VType → Option Code → List AttributeInfo
   body_attributes first (Some code) = attribute true (codes "Code") (code_contents first code)
   body_attributes first None = []
@@ -197,6 +220,7 @@ module _ (pool : List PoolConstant) where
   abbrev pub exceptions : List (List ℕ) → List ℕ
   exceptions throws = u2_of (length throws) ++ flat_map (λ name. u2_of (class_index name)) throws
 
+  -- a method_info of this class, its flags as they are (JVMS 4.6)
   abbrev pub method_raw : List ℕ → Method → MemberInfo
   method_raw class m = record {
     access_flags = m.flags.0;
@@ -206,10 +230,12 @@ module _ (pool : List PoolConstant) where
         ++ (attribute (is_some_item m.throws) (codes "Exceptions") (exceptions m.throws) ++ mark_attributes m.synthetic m.deprecated);
   }
 
+  -- the attribute SourceFile, where the name of the source file is known
   abbrev pub source_attributes : Option (List ℕ) → List AttributeInfo
   source_attributes (Some units) = attribute true (codes "SourceFile") (u2_of (index_of pool (Utf8 units)))
   source_attributes None = []
 
+  -- the items of a ClassFile over a pool, whose count is one more than its last index (JVMS 4.1)
   abbrev pub class_raw : Class → ClassFile
   class_raw c = record {
     constant_pool_count = length pool + 1;

@@ -33,15 +33,18 @@ use Rattle.class_model.specs.Whole.CanonicalPool.{PoolConstant, Integer, Long, S
 
 -- ---- the order in which the standard goes through types and comparisons
 
+-- int, long, float, double, reference, as in iload, lload, fload, dload, aload (JVMS 6.5)
 abbrev pub kind_number : Kind → ℕ
 kind_number kind.Int = 0
 kind_number kind.Long = 1
 kind_number kind.Ref = 4
 
+-- int, long, float, double, as in iadd, ladd, fadd, dadd (JVMS 6.5)
 abbrev pub num_number : Num → ℕ
 num_number num.Int = 0
 num_number num.Long = 1
 
+-- the types of array elements as in iaload, laload, faload, daload, aaload, baload, caload, saload (JVMS 6.5)
 abbrev pub elem_number : Elem → ℕ
 elem_number elem.Int = 0
 elem_number elem.Long = 1
@@ -50,6 +53,7 @@ elem_number elem.Byte = 5
 elem_number elem.Char = 6
 elem_number elem.Short = 7
 
+-- the comparisons as in ifeq, ifne, iflt, ifge, ifgt, ifle (JVMS 6.5)
 abbrev pub cond_number : Cond → ℕ
 cond_number cond.Eq = 0
 cond_number cond.Ne = 1
@@ -68,16 +72,19 @@ arith_opcode arith.Mul = 0x68
 arith_opcode arith.Div = 0x6C
 arith_opcode arith.Rem = 0x70
 
+-- the opcode for an int, directly before the one for a long
 abbrev pub shift_opcode : ShiftOp → ℕ
 shift_opcode shift.Shl = 0x78
 shift_opcode shift.Shr = 0x7A
 shift_opcode shift.Ushr = 0x7C
 
+-- the opcode for an int, directly before the one for a long
 abbrev pub logic_opcode : LogicOp → ℕ
 logic_opcode logic.And = 0x7E
 logic_opcode logic.Or = 0x80
 logic_opcode logic.Xor = 0x82
 
+-- the conversions in which no float and no double takes part
 abbrev pub conv_opcode : ConvOp → ℕ
 conv_opcode conv.I2l = 0x85
 conv_opcode conv.L2i = 0x88
@@ -85,6 +92,7 @@ conv_opcode conv.I2b = 0x91
 conv_opcode conv.I2c = 0x92
 conv_opcode conv.I2s = 0x93
 
+-- ireturn, lreturn, areturn, and return where there is no value
 abbrev pub return_opcode : Option Kind → ℕ
 return_opcode (Some k) = 0xAC + kind_number k
 return_opcode None = 0xB1
@@ -105,6 +113,7 @@ array_type_code _ = 0
 abbrev pub is_short : ℤ → Bool
 is_short n = int_between (negsuc 32767) (pos 32767) n
 
+-- ldc, whose index is a byte, or ldc_w
 abbrev pub load_constant : List PoolConstant → PoolConstant → Info
 load_constant pool k = if nat_le (index_of pool k) 255 then Ldc (index_of pool k) else LdcWide 0x13 (index_of pool k)
 
@@ -116,10 +125,11 @@ push_int pool n =
     else if is_short n then Sipush (cast_unsigned w16 n)
     else load_constant pool (Integer n)
 
--- lconst_0 and lconst_1, else a constant
+-- 0 and 1, which have an instruction lconst_<l>
 abbrev pub is_lconst : ℤ → Bool
 is_lconst n = int_between (pos 0) (pos 1) n
 
+-- lconst_0 and lconst_1, else ldc2_w of a constant
 abbrev pub push_long : List PoolConstant → ℤ → Info
 push_long pool n = if is_lconst n then Plain (0x09 + cast_unsigned w8 n) else LdcWide 0x14 (index_of pool (Long n))
 
@@ -132,6 +142,7 @@ slot_info opcode first k slot =
     else if nat_lt slot 256 then Local (opcode + kind_number k) slot
     else WideLocal (opcode + kind_number k) slot
 
+-- iinc where the slot fits a byte and the increment a signed byte, else wide iinc
 abbrev pub inc_info : ℕ → ℤ → Info
 inc_info slot delta =
     if nat_lt slot 256 && int_between (negsuc 127) (pos 127) delta then Iinc slot (cast_unsigned w8 delta)
@@ -145,18 +156,23 @@ module _ (pool : List PoolConstant) (place : ℕ → ℕ) (at : ℕ) where
   abbrev pub distance : ℕ → ℤ
   distance to = pos (place to) -ℤ pos at
 
+  -- the distance as a branch has it: in two bytes, in two's complement
   abbrev pub near : ℕ → ℕ
   near to = cast_unsigned w16 (distance to)
 
+  -- the distance as a switch has it: in four bytes, in two's complement
   abbrev pub far : ℕ → ℕ
   far to = cast_unsigned w32 (distance to)
 
+  -- the zeros between a switch's opcode and its default
   abbrev pub padding : List ℕ
   padding = replicate (pad_length at) 0
 
+  -- the index of the CONSTANT_Class of a class or an array type
   abbrev pub class_index : FieldType → ℕ
   class_index ty = index_of pool (class_constant (type_name ty))
 
+  -- the instruction with its operands as they are written (JVMS 6.5)
   abbrev pub op_info : Op → Info
   op_info op.Nop = Plain 0x00
   op_info op.PushNull = Plain 0x01
@@ -219,9 +235,11 @@ abbrev pub places_from : List PoolConstant → ℕ → List Ins → List ℕ
 places_from pool at [] = at ∷ []
 places_from pool at (i ∷ ins) = at ∷ places_from pool (at + size_of pool at i.op) ins
 
+-- the places in a code, the first at offset 0; one more than there are instructions, the last of them is code_length
 unfoldable pub places : List PoolConstant → List Ins → List ℕ
 places pool ins = places_from pool 0 ins
 
+-- instructions as they are written, the first at an offset; all are the places of the whole code
 abbrev pub infos_from : List PoolConstant → List ℕ → ℕ → List Ins → List Info
 infos_from pool all at [] = []
 infos_from pool all at (i ∷ ins) = op_info pool (slice_index all) at i.op ∷ infos_from pool all (at + size_of pool at i.op) ins
@@ -238,9 +256,11 @@ pushed_constants (op.PushInt n) = if is_short n then [] else Integer n ∷ []
 pushed_constants (op.PushText units) = string_constants units
 pushed_constants _ = []
 
+-- a CONSTANT_Fieldref with its parts before it
 abbrev pub field_constants : MemberRef → List PoolConstant
 field_constants reference = with_parts reference (fieldref reference)
 
+-- a CONSTANT_Methodref or CONSTANT_InterfaceMethodref with its parts before it
 abbrev pub method_constants : MemberRef → List PoolConstant
 method_constants reference = with_parts reference (methodref reference)
 

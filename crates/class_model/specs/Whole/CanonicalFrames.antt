@@ -22,6 +22,7 @@ same_type (vtype.Object a) (vtype.Object b) = is_text (field_text a) (field_text
 same_type (vtype.Uninit a) (vtype.Uninit b) = nat_eq a b
 same_type _ _ = false
 
+-- there are as many of both, and in each place they are one
 abbrev pub same_types : List VType → List VType → Bool
 same_types one other = pointwise same_type one other
 
@@ -65,6 +66,7 @@ types_written (full locals stack) = locals ++ stack
 
 -- ---- constants
 
+-- the class or array type of an object, with its name; no other type refers to the pool
 abbrev pub type_constants : VType → List PoolConstant
 type_constants (vtype.Object ty) = class_constants (type_name ty)
 type_constants _ = []
@@ -79,6 +81,7 @@ frame_constants before (frame ∷ frames) =
 -- ---- rows
 
 module _ (pool : List PoolConstant) (all : List ℕ) where
+  -- a verification_type_info: an object by its class's index, an uninitialised one by the offset of its new (JVMS 4.7.4)
   abbrev pub type_info : VType → VerificationTypeInfo
   type_info vtype.Top = TagInfo 0
   type_info vtype.Int = TagInfo 1

@@ -27,6 +27,7 @@ pub data PoolConstant : Type 0 where
   Methodref : (class name descriptor : List ℕ) → PoolConstant
   InterfaceMethodref : (class name descriptor : List ℕ) → PoolConstant
 
+-- equal unit by unit
 abbrev pub same_text : List ℕ → List ℕ → Bool
 same_text one other = pointwise nat_eq one other
 
@@ -46,6 +47,7 @@ same _ _ = false
 
 -- ---- a constant with its parts, in the order of their items, directly before it
 
+-- a name or a descriptor, which has no parts (JVMS 4.4.7)
 abbrev pub text_constants : List ℕ → List PoolConstant
 text_constants text = Utf8 (units_of text) ∷ []
 
@@ -54,34 +56,42 @@ abbrev pub type_name_of_base : FieldType → Base → List ℕ
 type_name_of_base ty (base.Class name) = if ty.dims == 0 then name else field_text ty
 type_name_of_base ty _ = field_text ty
 
+-- the name in the CONSTANT_Class of a class or an array type
 abbrev pub type_name : FieldType → List ℕ
 type_name ty = type_name_of_base ty ty.base
 
+-- a CONSTANT_Class of this name alone, without its part
 abbrev pub class_constant : List ℕ → PoolConstant
 class_constant name = Class (units_of name)
 
+-- a CONSTANT_Class behind the text of its name (JVMS 4.4.1)
 abbrev pub class_constants : List ℕ → List PoolConstant
 class_constants name = Utf8 (units_of name) ∷ Class (units_of name) ∷ []
 
+-- a CONSTANT_String behind its text, whose units are kept as they are (JVMS 4.4.3)
 abbrev pub string_constants : List ℕ → List PoolConstant
 string_constants units = Utf8 units ∷ Str units ∷ []
 
+-- a CONSTANT_Long and, behind it, the second index that it takes (JVMS 4.4.5)
 abbrev pub long_constants : ℤ → List PoolConstant
 long_constants value = Long value ∷ SecondOfLong value ∷ []
 
+-- a CONSTANT_NameAndType behind the texts of its name and its descriptor (JVMS 4.4.6)
 abbrev pub name_and_type_constants : List ℕ → List ℕ → List PoolConstant
 name_and_type_constants name descriptor =
     Utf8 (units_of name) ∷ Utf8 (units_of descriptor) ∷ NameAndType (units_of name) (units_of descriptor) ∷ []
 
--- which of the references it is
+-- a reference to a field, without its parts (JVMS 4.4.2)
 abbrev pub fieldref : MemberRef → PoolConstant
 fieldref reference = Fieldref (units_of (type_name reference.class)) (units_of reference.name) (units_of reference.ty)
 
+-- a reference to a method, without its parts: which of the two it is, is told by whether its class is an interface
 abbrev pub methodref : MemberRef → PoolConstant
 methodref reference =
     if reference.of_interface then InterfaceMethodref (units_of (type_name reference.class)) (units_of reference.name) (units_of reference.ty)
     else Methodref (units_of (type_name reference.class)) (units_of reference.name) (units_of reference.ty)
 
+-- this constant of a reference behind its class and its name and type
 abbrev pub with_parts : MemberRef → PoolConstant → List PoolConstant
 with_parts reference k = class_constants (type_name reference.class) ++ (name_and_type_constants reference.name reference.ty ++ k ∷ [])
 
@@ -109,5 +119,6 @@ info_of pool (Methodref class name descriptor) = MethodrefInfo (index_of pool (C
 info_of pool (InterfaceMethodref class name descriptor) =
     InterfaceMethodrefInfo (index_of pool (Class class)) (index_of pool (NameAndType name descriptor)) ∷ []
 
+-- the constant_pool table; the second index of a CONSTANT_Long has no item there
 abbrev pub infos_of : List PoolConstant → List CpInfo
 infos_of pool = flat_map (info_of pool) pool

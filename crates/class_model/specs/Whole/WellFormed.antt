@@ -32,9 +32,11 @@ use Rattle.class_model.specs.Whole.Members.{FieldsDiffer, MethodsDiffer, has_roo
 
 -- ---- names and types
 
+-- the bytes are UTF-8, and they pass the check of names of their kind (JVMS 4.2)
 abbrev pub IsName : (List ℕ → Bool) → List ℕ → Type 0
 IsName passes name = IsUtf8 name × IsTrue (passes name)
 
+-- the name of a class or an interface, in internal form; no array type (JVMS 4.2.1)
 abbrev pub IsClassName : List ℕ → Type 0
 IsClassName name = IsName is_class_name name
 
@@ -54,25 +56,30 @@ pub record IsReference (is_name : List ℕ → Bool) (IsDescriptor : List ℕ �
   pub name : IsName is_name reference.name
   pub descriptor : IsDescriptor reference.ty
 
+-- an unqualified name and a field descriptor; only a method is ever marked as that of an interface
 abbrev pub IsFieldReference : MemberRef → Type 0
 IsFieldReference reference = IsReference is_member_name IsFieldText reference × (reference.of_interface ≡ false)
 
+-- a method's name, those of initialisation methods included, and a method descriptor, of a class or an interface
 abbrev pub IsMethodReference : MemberRef → Type 0
 IsMethodReference reference = IsReference is_method_name IsMethodText reference
 
 -- a code of n instructions
 module _ (n : ℕ) where
+  -- all targets are instructions, there is one case at least, and high, the key of the last, is at most 2^31 - 1
   pub record IsTableSwitch (low : ℤ) (other : ℕ) (cases : List ℕ) : Type 0 where
     pub other_target : other < n
     pub targets : AllByRecursion (λ to. to < n) cases
     pub least : 0 < length cases
     pub most : (low +ℤ pos (length cases)) <ℤ pos (2 ^ 31 + 1)
 
+  -- all targets are instructions, and the keys ascend, each of them once
   pub record IsLookupSwitch (other : ℕ) (cases : List Case) : Type 0 where
     pub other_target : other < n
     pub targets : AllByRecursion (λ (c : Case). c.to < n) cases
     pub ascending : AllPairs (λ (one next : Case). one.key <ℤ next.key) cases
 
+  -- targets are instructions, and what refers to the pool names a class, an array type or a member as it should (JVMS 4.9.1)
   abbrev pub IsGoodOp : Op → Type 0
   IsGoodOp (op.PushText units) = IsUnits units
   IsGoodOp (op.IfZero c to) = to < n
@@ -132,6 +139,7 @@ LinesGoOn one next = IsSome one.line → IsSome next.line
 abbrev pub Ascend : FrameAt → FrameAt → Type 0
 Ascend one next = one.index < next.index
 
+-- a code isn't empty; its instructions, handlers and frames are good, its frames ascend, its lines go on (JVMS 4.7.3, 4.9.1)
 pub record IsGoodCode (code : Code) : Type 0 where
   pub some : 0 < length code.ins
   pub instructions : AllByRecursion (λ (i : Ins). IsGoodOp (length code.ins) i.op) code.ins
@@ -142,6 +150,7 @@ pub record IsGoodCode (code : Code) : Type 0 where
 
 -- ---- members
 
+-- the type is java.lang.String, no array of it
 abbrev pub IsString : FieldType → Type 0
 IsString ty = IsPlain (base.Class (codes "java/lang/String")) ty
 
@@ -151,6 +160,7 @@ FitsField ty (constant.Int n) = IsIntLike ty
 FitsField ty (constant.Long n) = IsPlain base.Long ty
 FitsField ty (constant.Text units) = IsString ty × IsUnits units
 
+-- flags, a name and a type that the format allows; only a static field has a constant (JVMS 4.5)
 pub record IsGoodField (in_interface : Bool) (field : Field) : Type 0 where
   pub meant : AreMeant field_mask field.flags.0
   pub flags : IsTrue (are_field_flags in_interface field.flags.0)
@@ -174,6 +184,7 @@ pub record IsGoodMethod (in_interface : Bool) (m : Method) : Type 0 where
 
 -- ---- the class
 
+-- a whole class, no annotation or enum: flags, names, types and codes follow the format, no member twice (JVMS 4.1 to 4.9)
 pub record IsWellFormed (c : Class) : Type 0 where
   pub nothing_left_out : c.left_out ≡ None
   pub meant : AreMeant class_mask c.flags.0
@@ -195,5 +206,6 @@ abbrev pub HasFewWords : Op → Type 0
 HasFewWords (op.InvokeInterface reference) = (ty : MethodType) → IsMethodType ty → reference.ty ≡ method_text ty → argument_words ty.args ≤ 254
 HasFewWords _ = Unit {0}
 
+-- each count of an invokeinterface in the class fits a byte
 abbrev pub CountsFit : Class → Type 0
 CountsFit c = AllByRecursion (λ (m : Method). IfSome m.code (λ (code : Code). AllByRecursion (λ (i : Ins). HasFewWords i.op) code.ins)) c.methods

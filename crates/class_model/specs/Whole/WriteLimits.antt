@@ -22,7 +22,7 @@ use Rattle.class_model.specs.Whole.CanonicalClass.{pool_of, first_locals, line_r
 abbrev pub fits_u2 : (ℕ → WriteLimit) → ℕ → Result (Unit {0}) WriteLimit
 fits_u2 limit n = if nat_lt n (2 ^ 16) then Ok tt else Err (limit n)
 
--- the first of the items that passes a limit
+-- the first limit that an item passes, in the order of the items
 abbrev pub first_of : {A : Type 0} → (A → Result (Unit {0}) WriteLimit) → List A → Result (Unit {0}) WriteLimit
 first_of check [] = Ok tt
 first_of check (x ∷ xs) = do
@@ -31,6 +31,7 @@ first_of check (x ∷ xs) = do
 
 -- ---- texts
 
+-- the bytes of a CONSTANT_Utf8 in modified UTF-8 are counted by a u2 (JVMS 4.4.7)
 abbrev pub text_fits : PoolConstant → Result (Unit {0}) WriteLimit
 text_fits (Utf8 units) = fits_u2 (λ n. TextTooLong n) (length (mutf8 units))
 text_fits _ = Ok tt
@@ -46,6 +47,7 @@ branch_to (op.IfNull null to) = Some to
 branch_to (op.Goto to) = Some to
 branch_to _ = None
 
+-- instruction n leads this far: the offset of a branch has two bytes, in two's complement (JVMS 6.5)
 abbrev pub distance_fits : ℕ → ℤ → Result (Unit {0}) WriteLimit
 distance_fits n distance = if int_between (negsuc 32767) (pos 32767) distance then Ok tt else Err (BranchTooFar n distance)
 
@@ -54,6 +56,7 @@ abbrev pub branch_fits : List ℕ → ℕ → Option ℕ → Result (Unit {0}) W
 branch_fits all n (Some to) = distance_fits n (pos (slice_index all to) -ℤ pos (slice_index all n))
 branch_fits all n None = Ok tt
 
+-- the branches from instruction n on, in their order; switches have four bytes and always fit
 abbrev pub branches_fit : List ℕ → ℕ → List Ins → Result (Unit {0}) WriteLimit
 branches_fit all n [] = Ok tt
 branches_fit all n (i ∷ ins) = do
@@ -69,6 +72,7 @@ code_fits pool None = Ok tt
 
 -- ---- tables with a count of two bytes
 
+-- the rows of a table
 abbrev pub table_fits : ℕ → Result (Unit {0}) WriteLimit
 table_fits n = fits_u2 (λ rows. AttributeFull rows) n
 
@@ -79,12 +83,14 @@ form_fits (full locals stack) = do
   table_fits (length stack)
 form_fits _ = Ok tt
 
+-- the frames in their order, the first of them behind these locals
 abbrev pub frames_fit : List VType → List FrameAt → Result (Unit {0}) WriteLimit
 frames_fit before [] = Ok tt
 frames_fit before (frame ∷ frames) = do
   this ← form_fits (form_of before frame.frame.locals frame.frame.stack)
   frames_fit frame.frame.locals frames
 
+-- handlers, rows of lines, frames, and then what is in each frame
 abbrev pub body_tables_fit : List VType → Option Code → Result (Unit {0}) WriteLimit
 body_tables_fit first (Some code) = do
   handlers ← table_fits (length code.handlers)
@@ -93,6 +99,7 @@ body_tables_fit first (Some code) = do
   frames_fit first code.frames
 body_tables_fit first None = Ok tt
 
+-- those of its code, and then the classes of its Exceptions
 abbrev pub method_tables_fit : List ℕ → Method → Result (Unit {0}) WriteLimit
 method_tables_fit class m = do
   body ← body_tables_fit (first_locals class m) m.code
@@ -108,18 +115,22 @@ tables_fit c = do
 
 -- ---- the attribute Code
 
+-- an attribute_length has four bytes (JVMS 4.7)
 abbrev pub body_length_fits : ℕ → Result (Unit {0}) WriteLimit
 body_length_fits n = if nat_lt n (2 ^ 32) then Ok tt else Err (AttributeTooLong n)
 
+-- what the attribute Code of a method contains; a method without code has none
 abbrev pub contents_fit : List PoolConstant → List ℕ → Method → Option Code → Result (Unit {0}) WriteLimit
 contents_fit pool class m (Some code) = body_length_fits (length (code_contents pool (first_locals class m) code))
 contents_fit pool class m None = Ok tt
 
+-- the same, of the method's own code
 abbrev pub body_fits : List PoolConstant → List ℕ → Method → Result (Unit {0}) WriteLimit
 body_fits pool class m = contents_fit pool class m m.code
 
 -- ---- all limits in their order
 
+-- the pool's count, its texts, each code's length and branches, the tables of class and methods, each Code's attribute_length
 unfoldable pub limits : List PoolConstant → Class → Result (Unit {0}) WriteLimit
 limits pool c = do
   entries ← fits_u2 (λ n. PoolFull n) (length pool + 1)
@@ -128,6 +139,7 @@ limits pool c = do
   tables ← tables_fit c
   first_of (body_fits pool c.name) c.methods
 
+-- the canonical spelling where no limit is passed
 abbrev pub spelled_within : Result (Unit {0}) WriteLimit → Class → Result (List ℕ) WriteLimit
 spelled_within (Ok fits) c = Ok (layout c)
 spelled_within (Err limit) c = Err limit
