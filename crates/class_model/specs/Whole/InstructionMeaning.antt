@@ -59,6 +59,7 @@ member_made (Some make) on_method opcode pool index = option_map make (fieldref_
 member_made None (Some make) opcode pool index = option_map make (method_named opcode pool index)
 member_made None None opcode pool index = None
 
+-- the instruction that names a field or a method at an index, the interface methods of invokeinterface aside
 abbrev pub member_op : ℕ → List Entry → ℕ → Option Op
 member_op opcode pool index = member_made (field_op opcode) (method_op opcode) opcode pool index
 
@@ -66,6 +67,7 @@ member_op opcode pool index = member_made (field_op opcode) (method_op opcode) o
 abbrev pub can_be_operand : ℕ → FieldType → Bool
 can_be_operand opcode ty = if opcode == 0xBD then nat_le ty.dims 254 else true
 
+-- anewarray, checkcast or instanceof of a type
 abbrev pub of_type : ℕ → FieldType → Option Op
 of_type opcode ty = if can_be_operand opcode ty then option_map (λ make. make ty) (type_op opcode) else None
 
@@ -83,9 +85,11 @@ count_of reference = option_map (λ (ty : MethodType). argument_words ty.args + 
 
 -- aim gives the number of the instruction to which an offset of the code leads
 module _ (aim : ℤ → Result ℕ FormatKind) (at : ℕ) where
+  -- the instruction to which an offset of four bytes leads, counted from the switch itself (JVMS 6.5)
   abbrev pub aimed : ℕ → Result ℕ FormatKind
   aimed offset = aim (branch_target at (cast_signed w32 offset))
 
+  -- the targets of a tableswitch, or the first fault among them
   abbrev pub all_aimed : List ℕ → Result (List ℕ) FormatKind
   all_aimed [] = Ok []
   all_aimed (offset ∷ offsets) = do
@@ -93,6 +97,7 @@ module _ (aim : ℤ → Result ℕ FormatKind) (at : ℕ) where
     others ← all_aimed offsets
     Ok (to ∷ others)
 
+  -- the cases of a lookupswitch, each match as a signed number, or the first fault among the targets
   abbrev pub cases_aimed : List MatchOffset → Result (List Case) FormatKind
   cases_aimed [] = Ok []
   cases_aimed (pair ∷ pairs) = do
@@ -100,12 +105,14 @@ module _ (aim : ℤ → Result ℕ FormatKind) (at : ℕ) where
     others ← cases_aimed pairs
     Ok (record { key = cast_signed w32 pair.key; to = to } ∷ others)
 
+  -- tableswitch; a wrong default is found before a wrong case
   abbrev pub table_switch : ℕ → ℕ → List ℕ → Result Op FormatKind
   table_switch default low offsets = do
     other ← aimed default
     cases ← all_aimed offsets
     Ok (op.TableSwitch (cast_signed w32 low) other cases)
 
+  -- lookupswitch; a wrong default is found before a wrong case
   abbrev pub lookup_switch : ℕ → List MatchOffset → Result Op FormatKind
   lookup_switch default pairs = do
     other ← aimed default

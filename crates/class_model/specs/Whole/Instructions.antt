@@ -73,7 +73,7 @@ pub record IsMultiNewArray (pool : List Entry) (index dimensions : ℕ) (o : Op)
 
 -- Leads says to which instruction an offset of the code leads
 
--- the offset of a number of bytes, in two's complement, from the instruction at an offset
+-- where a branch leads: a signed number of bytes on from the first of its own instruction (JVMS 6.5)
 abbrev pub branch_target : ℕ → ℤ → ℤ
 branch_target at branch = pos at +ℤ branch
 
@@ -149,6 +149,7 @@ is_left_out_load (entry.Class name_index) = true
 is_left_out_load (entry.LeftOut tag) = tag == 4 || tag == 6
 is_left_out_load _ = false
 
+-- the index leads to such an entry
 abbrev pub IsLeftOutLoad : List Entry → ℕ → Type 0
 IsLeftOutLoad pool index = (e : Entry) × (slice_get pool index ≡ Some e) × IsTrue (is_left_out_load e)
 

@@ -9,9 +9,11 @@ pub record LineNumber : Type 0 where
   pub start_pc : ℕ
   pub line_number : ℕ
 
+-- the bytes of a row
 abbrev pub line_number : LineNumber → List ℕ
 line_number row = to_be_bytes w16 row.start_pc ++ to_be_bytes w16 row.line_number
 
+-- both numbers of a row have two bytes (JVMS 4.7.12)
 abbrev pub FitsLine : LineNumber → Type 0
 FitsLine row = (row.start_pc < 2 ^ 16) × (row.line_number < 2 ^ 16)
 
@@ -32,6 +34,7 @@ abbrev pub is_nearer : Option LineNumber → LineNumber → Bool
 is_nearer (Some best) row = nat_le best.start_pc row.start_pc
 is_nearer None row = true
 
+-- which row counts for the instruction at an offset, of the best so far and the next of the table
 abbrev pub nearer : ℕ → Option LineNumber → LineNumber → Option LineNumber
 nearer start best row = if nat_le row.start_pc start && is_nearer best row then Some row else best
 

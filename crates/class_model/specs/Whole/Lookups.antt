@@ -16,6 +16,7 @@ use Rattle.class_model.specs.Whole.ConstantPool.{class_type, name_and_type_at, f
 
 -- ---- a value, or a kind of fault
 
+-- a value that has to be there, else a fault of the kind
 abbrev pub due : {A : Type 0} → FormatKind → Option A → Result A FormatKind
 due kind (Some x) = Ok x
 due kind None = Err kind
@@ -24,17 +25,19 @@ due kind None = Err kind
 abbrev pub test : FormatKind → Bool → Result (Unit {0}) FormatKind
 test kind passed = if passed then Ok tt else Err kind
 
+-- the value alone, where why there is none does not matter
 abbrev pub value_of : {A X : Type 0} → Result A X → Option A
 value_of (Ok x) = Some x
 value_of (Err e) = None
 
 -- ---- texts
 
--- all of them, if each is there
+-- one before the others, if it and they are there
 abbrev pub with_first : {A : Type 0} → Option A → Option (List A) → Option (List A)
 with_first (Some x) (Some xs) = Some (x ∷ xs)
 with_first _ _ = None
 
+-- all of them, if each is there
 abbrev pub all_there : {A : Type 0} → List (Option A) → Option (List A)
 all_there [] = Some []
 all_there (x ∷ xs) = with_first x (all_there xs)
@@ -43,9 +46,11 @@ all_there (x ∷ xs) = with_first x (all_there xs)
 unfoldable pub text_of : List ℕ → Option (List ℕ)
 text_of units = option_map encode_utf8_all (all_there (utf16_chars units))
 
+-- the type that a field descriptor tells (JVMS 4.3.2)
 abbrev pub field_type_of : List ℕ → Option FieldType
 field_type_of text = value_of (read_field text)
 
+-- the types of arguments and result that a method descriptor tells (JVMS 4.3.3)
 abbrev pub method_type_of : List ℕ → Option MethodType
 method_type_of text = value_of (read_method text)
 
@@ -92,13 +97,16 @@ type_at pool index = option_and_then named_type (option_and_then text_of (class_
 
 -- ---- references
 
+-- a reference whose class, name and descriptor were all found; of_interface tells a CONSTANT_InterfaceMethodref
 abbrev pub reference : Bool → Option FieldType → Option (List ℕ) → Option (List ℕ) → Option MemberRef
 reference of_interface (Some class) (Some name) (Some ty) = Some (record { class = class; name = name; ty = ty; of_interface = of_interface })
 reference of_interface _ _ _ = None
 
+-- the text of the CONSTANT_Utf8 at an index, if it has no unpaired surrogate
 abbrev pub text_there : List Entry → ℕ → Option (List ℕ)
 text_there pool index = option_and_then text_of (units_at pool index)
 
+-- a reference by the index of its class and by the two of its CONSTANT_NameAndType (JVMS 4.4.2, 4.4.6)
 abbrev pub reference_of : Bool → List Entry → ℕ → ℕ × ℕ → Option MemberRef
 reference_of of_interface pool class_index indices =
     reference of_interface (type_at pool class_index) (text_there pool indices.0) (text_there pool indices.1)
@@ -109,26 +117,33 @@ reference_at refers_in of_interface pool index =
     option_and_then (λ (two : ℕ × ℕ). option_and_then (reference_of of_interface pool two.0) (name_and_type_at pool two.1))
     (option_and_then refers_in (slice_get pool index))
 
+-- by a CONSTANT_Fieldref (JVMS 4.4.2)
 unfoldable pub fieldref_at : List Entry → ℕ → Option MemberRef
 fieldref_at pool index = reference_at fieldref_in false pool index
 
+-- by a CONSTANT_Methodref (JVMS 4.4.2)
 unfoldable pub methodref_at : List Entry → ℕ → Option MemberRef
 methodref_at pool index = reference_at methodref_in false pool index
 
+-- by a CONSTANT_InterfaceMethodref (JVMS 4.4.2)
 unfoldable pub interface_methodref_at : List Entry → ℕ → Option MemberRef
 interface_methodref_at pool index = reference_at interface_methodref_in true pool index
 
 -- ---- what an entry names (JVMS 4.4)
 
+-- a field descriptor (JVMS 4.3.2)
 abbrev pub is_field_text : List ℕ → Bool
 is_field_text text = is_some (field_type_of text)
 
+-- a method descriptor (JVMS 4.3.3)
 abbrev pub is_method_text : List ℕ → Bool
 is_method_text text = is_some (method_type_of text)
 
+-- either of them, as a CONSTANT_NameAndType may have it (JVMS 4.4.6)
 abbrev pub is_descriptor : List ℕ → Bool
 is_descriptor text = is_field_text text || is_method_text text
 
+-- a test of a text that may be missing: then it fails
 abbrev pub passing : (List ℕ → Bool) → Option (List ℕ) → Bool
 passing passes (Some text) = passes text
 passing passes None = false
@@ -146,7 +161,7 @@ refers_right is_name is_described pool class_index index = do
   named ← test_of_units bad.BadName is_name (units_at pool indices.0)
   test_of_units bad.BadDescriptor is_described (units_at pool indices.1)
 
--- the first thing that an entry names and that isn't there
+-- the first thing that an entry names and that isn't there, or isn't what it has to be (JVMS 4.4)
 unfoldable pub names_right : List Entry → Entry → Result (Unit {0}) FormatKind
 names_right pool (entry.Class name_index) = do
   text ← text_at bad.BadName pool name_index

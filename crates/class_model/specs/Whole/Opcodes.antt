@@ -221,7 +221,9 @@ is_left_out_array_type code = code == 6 || code == 7
 abbrev pub is_left_out_local : ℕ → Bool
 is_left_out_local opcode = between 0x17 0x18 opcode || between 0x38 0x39 opcode
 
--- fconst_<f>, dconst_<d>, fload and the like, to f2i and the like
+-- fconst_<f>, dconst_<d>, fload, dload, fstore, dstore, fload_<n>, dload_<n>, faload, daload, fstore_<n>, dstore_<n>,
+-- fastore, dastore, fadd, dadd, fsub, dsub, fmul, dmul, fdiv, ddiv, frem, drem, fneg, dneg, i2f, i2d,
+-- l2f, l2d, f2i, f2l, f2d, d2i, d2l, d2f, fcmpl, fcmpg, dcmpl, dcmpg, freturn, dreturn
 abbrev pub is_left_out_number : ℕ → Bool
 is_left_out_number opcode =
     between 0x0B 0x0F opcode || is_left_out_local opcode

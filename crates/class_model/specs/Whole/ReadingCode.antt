@@ -39,6 +39,7 @@ abbrev pub if_meant : {A B : Type 0} → Option A → B → Result B FormatKind
 if_meant (Some x) y = Ok y
 if_meant None y = Err bad.BadOperand
 
+-- the entry at an index, if there is one, is a constant that no instruction loads here
 abbrev pub is_left_out_at : Option Entry → Bool
 is_left_out_at (Some e) = is_left_out_load e
 is_left_out_at None = false
@@ -48,28 +49,34 @@ abbrev pub load_read : List Entry → ℕ → ℕ → Option Op → Info → Res
 load_read pool opcode index meaning info =
     if is_left_out_at (slice_get pool index) then Ok (left_out opcode) else if_meant meaning (instruction info)
 
+-- ldc: one byte of index, of an int or a string (JVMS 6.5)
 abbrev pub ldc : List Entry → Reader Read
 ldc pool = item u1 (λ index. load_read pool 0x12 index (loaded pool index) (Ldc index))
 
+-- ldc_w and ldc2_w: two bytes of index; a long is loaded by ldc2_w alone (JVMS 6.5)
 abbrev pub ldc_wide : List Entry → ℕ → Reader Read
 ldc_wide pool opcode = item u2 (λ index. load_read pool opcode index (loaded_wide opcode pool index) (LdcWide opcode index))
 
+-- an instruction whose one operand is a byte: bipush, and those of a slot without wide
 abbrev pub one_byte : (ℕ → Info) → Reader Read
 one_byte make = do
   operand ← u1
   whole (make operand)
 
+-- an instruction whose one operand has two bytes: sipush, branches, and those of a slot behind wide
 abbrev pub two_bytes : (ℕ → Info) → Reader Read
 two_bytes make = do
   operand ← u2
   whole (make operand)
 
+-- iinc: a slot and a summand, of one byte each (JVMS 6.5)
 abbrev pub iinc : Reader Read
 iinc = do
   index ← u1
   const ← u1
   whole (Iinc index const)
 
+-- iinc behind wide: a slot and a summand, of two bytes each (JVMS 6.5)
 abbrev pub wide_iinc : Reader Read
 wide_iinc = do
   index ← u2
@@ -84,6 +91,7 @@ widened opcode =
     else if is_some (local_op opcode) then Ok (two_bytes (λ index. WideLocal opcode index))
     else Err bad.BadOpcode
 
+-- goto_w: an offset of four bytes (JVMS 6.5)
 abbrev pub goto_wide : Reader Read
 goto_wide = do
   offset ← u4
@@ -93,9 +101,11 @@ goto_wide = do
 abbrev pub table_length : ℕ → ℕ → ℕ
 table_length low high = unsigned_abs (cast_signed w32 high -ℤ cast_signed w32 low) + 1
 
+-- as signed numbers low is at most high, else high is at fault (JVMS 6.5)
 abbrev pub table_high : ℕ → ℕ → Result ℕ FormatKind
 table_high low high = if int_le (cast_signed w32 low) (cast_signed w32 high) then Ok high else Err bad.BadOperand
 
+-- tableswitch at an offset of the code, which decides how many bytes pad it; what they are is free
 abbrev pub table_switch : ℕ → Reader Read
 table_switch at = do
   pad ← bytes (pad_length at)
@@ -114,9 +124,11 @@ abbrev pub ascends : Option ℕ → ℕ → Bool
 ascends None key = true
 ascends (Some previous) key = int_lt (cast_signed w32 previous) (cast_signed w32 key)
 
+-- the key behind another is at fault where it does not ascend (JVMS 6.5)
 abbrev pub lookup_key : Option ℕ → ℕ → Result ℕ FormatKind
 lookup_key previous key = if ascends previous key then Ok key else Err bad.BadOperand
 
+-- n pairs of match and offset, behind a key that may have come before
 unfoldable pub match_offsets : ℕ → Option ℕ → Reader (List MatchOffset)
 match_offsets zero previous = give []
 match_offsets (suc n) previous = do
@@ -125,6 +137,7 @@ match_offsets (suc n) previous = do
   others ← match_offsets n (Some key)
   give (record { key = key; offset = offset } ∷ others)
 
+-- lookupswitch at an offset of the code, which decides how many bytes pad it; what they are is free
 abbrev pub lookup_switch : ℕ → Reader Read
 lookup_switch at = do
   pad ← bytes (pad_length at)
@@ -133,20 +146,24 @@ lookup_switch at = do
   pairs ← match_offsets n None
   whole (LookupSwitch pad default pairs)
 
+-- the index of a field or a method; it has to lead to what the opcode asks for (JVMS 4.9.1)
 abbrev pub member : List Entry → ℕ → Reader Read
 member pool opcode = item u2 (λ index. if_meant (member_op opcode pool index) (instruction (MemberOperand opcode index)))
 
+-- the index of a class or an array type; for new it has to be a class (JVMS 4.9.1)
 abbrev pub class_operand : List Entry → ℕ → Reader Read
 class_operand pool opcode = item u2 (λ index. if_meant (class_op opcode pool index) (instruction (ClassOperand opcode index)))
 
--- the count is that of the descriptor, and a zero byte follows it
+-- the count is the number of argument words by the descriptor, with that of the object (JVMS 6.5)
 abbrev pub is_count : Option ℕ → ℕ → Bool
 is_count (Some wanted) n = n == wanted
 is_count None n = false
 
+-- the count that invokeinterface has to tell for the method at an index
 abbrev pub count_at : List Entry → ℕ → Option ℕ
 count_at pool index = option_and_then count_of (interface_methodref_at pool index)
 
+-- invokeinterface: the method of an interface, its count, and a byte that is zero (JVMS 6.5)
 abbrev pub invoke_interface : List Entry → Reader Read
 invoke_interface pool = do
   index ← item u2 (λ index. if_meant (interface_methodref_at pool index) index)
@@ -164,16 +181,18 @@ abbrev pub are_dimensions : Option FieldType → ℕ → Bool
 are_dimensions (Some ty) n = nat_lt 0 n && nat_le n ty.dims
 are_dimensions None n = false
 
+-- multianewarray: an array type, and how many of its dimensions are made (JVMS 4.9.1)
 abbrev pub multi_new_array : List Entry → Reader Read
 multi_new_array pool = do
   index ← item u2 (λ index. if_meant (type_at pool index) index)
   dimensions ← item u1 (λ n. if are_dimensions (type_at pool index) n then Ok n else Err bad.BadOperand)
   whole (MultiNewArray index dimensions)
 
--- an opcode that names a field or a method, the interface methods of invokeinterface aside; one that names a type
+-- an opcode that names a field or a method, the interface methods of invokeinterface aside
 abbrev pub is_member_opcode : ℕ → Bool
 is_member_opcode opcode = is_some (field_op opcode) || is_some (method_op opcode)
 
+-- an opcode that names a class or an array type, multianewarray aside: new, anewarray, checkcast, instanceof
 abbrev pub is_class_opcode : ℕ → Bool
 is_class_opcode opcode = opcode == 0xBB || is_some (type_op opcode)
 
@@ -200,11 +219,12 @@ begun pool at opcode =
     else if opcode == 0xBA || is_left_out_opcode opcode then Ok (give (left_out opcode))
     else Err bad.BadOpcode
 
--- each fault of an instruction is one at its first byte, and a code that ends inside it is a fault of its own
+-- a code that ends inside an instruction is a fault of its own, not a file that ends too soon (JVMS 4.9.1)
 abbrev pub in_code : FormatKind → FormatKind
 in_code bad.Cut = bad.BadCode
 in_code kind = kind
 
+-- each fault of an instruction is one at its first byte, whichever operand is wrong
 abbrev pub at_instruction : {A : Type 0} → ℕ → Result (A × Place) FormatFault → Result (A × Place) FormatFault
 at_instruction at (Ok x) = Ok x
 at_instruction at (Err f) = Err (fault at (in_code f.kind))
@@ -220,6 +240,7 @@ pub data CodeRead : Type 0 where
   instructions : List Info → CodeRead
   has_left_out : (offset opcode : ℕ) → CodeRead
 
+-- an instruction before those that were read; before one that is left out it no longer counts
 abbrev pub in_front : Info → CodeRead → CodeRead
 in_front info (instructions infos) = instructions (info ∷ infos)
 in_front info (has_left_out offset opcode) = has_left_out offset opcode
@@ -243,16 +264,18 @@ until_end (suc n) pool from end = do
     read ← read_instruction pool from
     goes_on (until_end n pool from end) (at - from) end read)
 
--- what is read of a code alone, from its first byte on
+-- what was read, without the place behind it
 abbrev pub without_place : {A : Type 0} → Result (A × Place) FormatFault → Result A FormatFault
 without_place (Ok x) = Ok x.0
 without_place (Err f) = Err f
 
+-- a code alone, from its first byte on; an instruction that the end cuts is BadCode here; targets are judged by ops_of
 unfoldable pub code_read : List Entry → List ℕ → Result CodeRead FormatFault
 code_read pool code = without_place (until_end (length code) pool 0 (length code) (start code))
 
 -- ---- targets
 
+-- an instruction before others: of several faults the one at the least offset is told
 abbrev pub op_then : ℕ → Result Op FormatKind → Result (List Op) FormatFault → Result (List Op) FormatFault
 op_then at (Ok o) (Ok os) = Ok (o ∷ os)
 op_then at (Ok o) (Err f) = Err f
@@ -264,5 +287,6 @@ ops_from aim pool from at [] = Ok []
 ops_from aim pool from at (info ∷ infos) =
     op_then (from + at) (op_of aim pool at info) (ops_from aim pool from (at + length (info_bytes info)) infos)
 
+-- the instructions of a whole code that begins at the offset from; a target is one of their own numbers (JVMS 4.9.1)
 abbrev pub ops_of : List Entry → ℕ → List Info → Result (List Op) FormatFault
 ops_of pool from infos = ops_from (aim_at (starts_of infos)) pool from 0 infos

@@ -26,18 +26,21 @@ use Rattle.class_model.specs.Whole.ReadingAttributes.{counted_attributes, once, 
 abbrev pub Places : Type 0
 Places = ℕ × ℕ × ℕ
 
+-- all three, where each was found
 abbrev pub places : Option ℕ → Option ℕ → Option ℕ → Option Places
 places (Some from) (Some to) (Some entry) = Some (from, to, entry)
 places _ _ _ = None
 
+-- the number of the instruction that begins at an offset of the code, none inside of one
 abbrev pub begins : List ℕ → ℕ → Option ℕ
 begins starts offset = position (nat_eq offset) starts
 
--- the range is not empty, and its places are instructions
+-- the range is not empty; its places begin instructions, though end_pc may be the end of the code (JVMS 4.7.3)
 abbrev pub handler_places : List ℕ → ℕ → ℕ → ℕ → ℕ → Option Places
 handler_places starts end start_pc end_pc handler_pc =
     if nat_lt start_pc end_pc then places (begins starts start_pc) (begins (starts ++ end ∷ []) end_pc) (begins starts handler_pc) else None
 
+-- a handler at three places, with the class that it catches, or none for any (JVMS 4.7.3)
 abbrev pub handler : Places → Option (List ℕ) → Handler
 handler at caught = record { from = at.0; to = at.1; entry = at.2; caught = caught }
 
@@ -52,6 +55,7 @@ read_handler pool starts end = do
   caught ← item u2 (optional_class_at pool)
   give (handler found caught)
 
+-- exception_table_length, and as many rows in the order in which they are searched (JVMS 4.7.3, 2.10)
 unfoldable pub read_handlers : List Entry → List ℕ → ℕ → Reader (List Handler)
 read_handlers pool starts end = do
   n ← u2
@@ -64,18 +68,22 @@ pub record CodeSeen : Type 0 where
   pub lines : List LineNumber
   pub map : Option (Bool × List FrameAt)
 
+-- before the first attribute: no rows, no frames
 abbrev pub nothing_seen : CodeSeen
 nothing_seen = record { lines = []; map = None }
 
+-- whether an attribute that may stand only once was seen before
 abbrev pub is_there : {A : Type 0} → Option A → Bool
 is_there (Some x) = true
 is_there None = false
 
+-- one more LineNumberTable, its rows behind those of the ones before (JVMS 4.7.12)
 abbrev pub lines_seen : CodeSeen → Reader CodeSeen
 lines_seen seen = do
   rows ← line_number_table
   give (record seen { lines = seen.lines ++ rows })
 
+-- the StackMapTable, read by the reader given (JVMS 4.7.4)
 abbrev pub frames_seen : Reader (Bool × List FrameAt) → CodeSeen → Reader CodeSeen
 frames_seen frames seen = do
   map ← frames
@@ -94,6 +102,7 @@ known_of_code frames at name n seen =
 abbrev pub Body : Type 0
 Body = Option Code × Option LeftKind
 
+-- greater than 0 and less than 65536 (JVMS 4.7.3)
 abbrev pub code_length : ℕ → Result ℕ FormatKind
 code_length n = if n == 0 then Err bad.BadCode else if nat_lt n (2 ^ 16) then Ok n else Err bad.BadCode
 
@@ -103,14 +112,17 @@ with_lines rows at [] ops = []
 with_lines rows at (info ∷ infos) [] = []
 with_lines rows at (info ∷ infos) (o ∷ ops) = record { op = o; line = line_at rows at } ∷ with_lines rows (at + length (info_bytes info)) infos ops
 
+-- a code without a StackMapTable has no frames: its implicit one is empty (JVMS 4.7.4)
 abbrev pub frames_of : Option (Bool × List FrameAt) → List FrameAt
 frames_of (Some map) = map.1
 frames_of None = []
 
+-- what the frames leave out: a float or a double among their types
 abbrev pub left_out_of : Option (Bool × List FrameAt) → Option LeftKind
 left_out_of (Some map) = if map.0 then Some left.FloatType else None
 left_out_of None = None
 
+-- the parts of a Code together, each instruction with its line, and what its frames leave out
 abbrev pub code_of : ℕ → ℕ → List Info → List Op → List Handler → CodeSeen → Body
 code_of max_stack max_locals infos ops handlers seen = (
   Some (record {
