@@ -16,13 +16,15 @@ use Rattle.class_model.specs.Whole.ConstantPool.{string_units_at}
 
 -- ---- names of attributes
 
--- the attributes that count: of a class, a field, a method, a Code (JVMS 4.7, table 4.7-C); all others are dropped
+-- the attributes of a class that count (JVMS 4.7, table 4.7-C); all others are dropped
 abbrev pub class_attributes : List (List ℕ)
 class_attributes = codes "SourceFile" ∷ codes "Synthetic" ∷ codes "Deprecated" ∷ []
 
+-- those of a field that count (JVMS 4.7.2, 4.7.8, 4.7.15)
 abbrev pub field_attributes : List (List ℕ)
 field_attributes = codes "ConstantValue" ∷ codes "Synthetic" ∷ codes "Deprecated" ∷ []
 
+-- those of a method that count (JVMS 4.7.3, 4.7.5, 4.7.8, 4.7.15)
 abbrev pub method_attributes : List (List ℕ)
 method_attributes = codes "Code" ∷ codes "Exceptions" ∷ codes "Synthetic" ∷ codes "Deprecated" ∷ []
 

@@ -41,6 +41,7 @@ class_file c = head ++ (to_be_bytes w16 c.constant_pool_count ++ (flat_map cp_in
 
 -- ---- what is left out
 
+-- a Float, a Double, a MethodHandle, a MethodType or an InvokeDynamic (JVMS 4.4.4, 4.4.5, 4.4.8 to 4.4.10)
 abbrev pub is_left_out_entry : Entry → Bool
 is_left_out_entry (entry.LeftOut tag) = true
 is_left_out_entry _ = false
@@ -73,6 +74,7 @@ AreMethods pool in_interface class (raw ∷ raws) (method ∷ methods) (kind ∷
     IsMethod pool in_interface class raw method kind × AreMethods pool in_interface class raws methods kinds
 AreMethods pool in_interface class _ _ _ = ⊥
 
+-- with this pool, the items of the ClassFile stand for the class, and its left_out is what is left out first (JVMS 4.1)
 pub record IsClass (raw : ClassFile) (class : Class) (pool : List Entry) : Type 0 where
   pub constant_pool : IsPool raw.constant_pool_count raw.constant_pool pool
   pub flags : AreFlags class_mask are_class_flags raw.access_flags class.flags

@@ -64,6 +64,7 @@ pub record IsCode (pool : List Entry) (first : List VType) (raw : CodeInfo) (cod
 abbrev pub FitsException : ExceptionInfo → Type 0
 FitsException e = (e.start_pc < 2 ^ 16) × (e.end_pc < 2 ^ 16) × (e.handler_pc < 2 ^ 16) × (e.catch_type < 2 ^ 16)
 
+-- the index fits two bytes, and the length of the contents four; the name need not be one
 abbrev pub FitsAttribute : AttributeInfo → Type 0
 FitsAttribute a = (a.attribute_name_index < 2 ^ 16) × (length a.info < 2 ^ 32)
 

@@ -58,6 +58,7 @@ contents_of (InterfaceMethodrefInfo class_index name_and_type_index) = two_indic
 contents_of (NameAndTypeInfo name_index descriptor_index) = two_indices name_index descriptor_index
 contents_of (LeftOutInfo tag bytes) = bytes
 
+-- a constant as it is written: its tag, and what stands behind it (JVMS 4.4)
 abbrev pub cp_info : CpInfo → List ℕ
 cp_info constant = tag_of constant ∷ contents_of constant
 
@@ -101,6 +102,7 @@ takes_two (entry.Long n) = true
 takes_two (entry.LeftOut tag) = tag == 6
 takes_two _ = false
 
+-- what stands at the one or two indices that an entry takes
 abbrev pub places_of : Entry → List Entry
 places_of e = if takes_two e then e ∷ entry.Gap ∷ [] else e ∷ []
 
@@ -110,10 +112,11 @@ numbered entries = entry.Gap ∷ flat_map places_of entries
 
 -- ---- what entries name
 
--- the text is the descriptor of a field, of a method (JVMS 4.3.2, 4.3.3)
+-- the text is the descriptor of a field (JVMS 4.3.2)
 abbrev pub IsFieldText : List ℕ → Type 0
 IsFieldText text = (ty : FieldType) × IsFieldType ty × (text ≡ field_text ty)
 
+-- the text is the descriptor of a method (JVMS 4.3.3)
 abbrev pub IsMethodText : List ℕ → Type 0
 IsMethodText text = (ty : MethodType) × IsMethodType ty × (text ≡ method_text ty)
 
@@ -122,6 +125,7 @@ abbrev pub name_and_type_in : Entry → Option (ℕ × ℕ)
 name_and_type_in (entry.NameAndType name_index descriptor_index) = Some (name_index, descriptor_index)
 name_and_type_in _ = None
 
+-- the two indices, if there is a CONSTANT_NameAndType at the index
 abbrev pub name_and_type_at : List Entry → ℕ → Option (ℕ × ℕ)
 name_and_type_at pool index = option_and_then name_and_type_in (slice_get pool index)
 
@@ -132,10 +136,11 @@ pub record IsNameAndTypeAt (pool : List Entry) (index : ℕ) (name descriptor : 
   pub name_text : IsText (units_at pool indices.0) name
   pub descriptor_text : IsText (units_at pool indices.1) descriptor
 
--- the text names a type: a class by its name, an array type by its descriptor (JVMS 4.4.1)
+-- the class of a name, as a type that is no array type
 abbrev pub class_type : List ℕ → FieldType
 class_type name = record { dims = 0; base = ClassBase name }
 
+-- the text names the type: a class by its name, an array type by its descriptor (JVMS 4.4.1)
 abbrev pub IsNameOfType : List ℕ → FieldType → Type 0
 IsNameOfType text ty = (ty ≡ class_type text) ⊎ ((0 < ty.dims) × (text ≡ field_text ty))
 
@@ -175,15 +180,17 @@ pub record IsPool (count : ℕ) (constants : List CpInfo) (pool : List Entry) : 
 
 -- ---- what other structures find in it
 
--- the indices of a reference to a field, a method, a method of an interface, or of no such reference (JVMS 4.4.2)
+-- class_index and name_and_type_index of a CONSTANT_Fieldref; no other entry has them (JVMS 4.4.2)
 abbrev pub fieldref_in : Entry → Option (ℕ × ℕ)
 fieldref_in (entry.Field class_index index) = Some (class_index, index)
 fieldref_in _ = None
 
+-- the two indices of a CONSTANT_Methodref
 abbrev pub methodref_in : Entry → Option (ℕ × ℕ)
 methodref_in (entry.Method class_index index) = Some (class_index, index)
 methodref_in _ = None
 
+-- the two indices of a CONSTANT_InterfaceMethodref
 abbrev pub interface_methodref_in : Entry → Option (ℕ × ℕ)
 interface_methodref_in (entry.InterfaceMethod class_index index) = Some (class_index, index)
 interface_methodref_in _ = None
@@ -196,20 +203,24 @@ pub record IsReferenceAt (refers_in : Entry → Option (ℕ × ℕ)) (pool : Lis
   pub class : IsTypeAt pool indices.0 reference.class
   pub name_and_type : IsNameAndTypeAt pool indices.1 reference.name reference.ty
 
+-- a CONSTANT_Fieldref at the index is this reference
 abbrev pub IsFieldrefAt : List Entry → ℕ → MemberRef → Type 0
 IsFieldrefAt pool index reference = IsReferenceAt fieldref_in pool index reference × (reference.of_interface ≡ false)
 
+-- a CONSTANT_Methodref at the index is this reference
 abbrev pub IsMethodrefAt : List Entry → ℕ → MemberRef → Type 0
 IsMethodrefAt pool index reference = IsReferenceAt methodref_in pool index reference × (reference.of_interface ≡ false)
 
+-- a CONSTANT_InterfaceMethodref at the index is this reference, which is marked as one of an interface
 abbrev pub IsInterfaceMethodrefAt : List Entry → ℕ → MemberRef → Type 0
 IsInterfaceMethodrefAt pool index reference = IsReferenceAt interface_methodref_in pool index reference × (reference.of_interface ≡ true)
 
--- a CONSTANT_String at the index has these units (JVMS 4.4.3)
+-- the index of the text of a CONSTANT_String (JVMS 4.4.3)
 abbrev pub string_index_in : Entry → Option ℕ
 string_index_in (entry.Str string_index) = Some string_index
 string_index_in _ = None
 
+-- the units of the text that a CONSTANT_String at the index names (JVMS 4.4.3)
 abbrev pub string_units_at : List Entry → ℕ → Option (List ℕ)
 string_units_at pool index = option_and_then (units_at pool) (option_and_then string_index_in (slice_get pool index))
 

@@ -25,6 +25,7 @@ pub data VerificationTypeInfo : Type 0 where
   ObjectInfo : (cpool_index : ℕ) → VerificationTypeInfo
   UninitializedInfo : (offset : ℕ) → VerificationTypeInfo
 
+-- a type as it is written, its tag first (JVMS 4.7.4)
 abbrev pub verification_type_info : VerificationTypeInfo → List ℕ
 verification_type_info (TagInfo tag) = tag ∷ []
 verification_type_info (ObjectInfo cpool_index) = 7 ∷ to_be_bytes w16 cpool_index
@@ -40,9 +41,11 @@ pub data StackMapFrame : Type 0 where
   AppendFrame : (frame_type offset_delta : ℕ) → (locals : List VerificationTypeInfo) → StackMapFrame
   FullFrame : (offset_delta : ℕ) → (locals stack : List VerificationTypeInfo) → StackMapFrame
 
+-- the locals or the stack of a full_frame, behind number_of_locals or number_of_stack_items
 abbrev pub counted_types : List VerificationTypeInfo → List ℕ
 counted_types infos = to_be_bytes w16 (length infos) ++ flat_map verification_type_info infos
 
+-- a row as it is written, its frame_type first (JVMS 4.7.4)
 abbrev pub stack_map_frame : StackMapFrame → List ℕ
 stack_map_frame (SameFrame frame_type) = frame_type ∷ []
 stack_map_frame (SameLocalsOneStackItem frame_type item) = frame_type ∷ verification_type_info item
@@ -72,6 +75,7 @@ tagged_type tag =
     else if tag == 6 then Some vtype.UninitThis
     else None
 
+-- the tag of a float or of a double
 abbrev pub is_float_info : VerificationTypeInfo → Bool
 is_float_info (TagInfo tag) = tag == 2 || tag == 3
 is_float_info _ = false
@@ -84,11 +88,12 @@ names_float (AppendFrame frame_type offset_delta locals) = list_any is_float_inf
 names_float (FullFrame offset_delta locals stack) = list_any is_float_info locals || list_any is_float_info stack
 names_float _ = false
 
--- a long takes two words, and so does a double, but it stands as Top
+-- a long takes two words; a double stands as Top, and takes one
 abbrev pub words_of_type : VType → ℕ
 words_of_type vtype.Long = 2
 words_of_type _ = 1
 
+-- how much of max_locals or max_stack the types take
 abbrev pub words_of_types : List VType → ℕ
 words_of_types types = sum_by words_of_type types
 
@@ -97,11 +102,12 @@ abbrev pub before_cut : VType → List VType → List VType
 before_cut vtype.Top [] = []
 before_cut ty types = ty ∷ types
 
+-- the types without the Tops at their end
 abbrev pub cut_tops : List VType → List VType
 cut_tops [] = []
 cut_tops (ty ∷ types) = before_cut ty (cut_tops types)
 
--- a type that a parameter has in the initial frame
+-- the type that a parameter with this base and no dimensions has in the initial frame
 abbrev pub base_vtype : FieldType → Base → VType
 base_vtype ty base.Long = vtype.Long
 base_vtype ty base.Float = vtype.Top
@@ -109,6 +115,7 @@ base_vtype ty base.Double = vtype.Top
 base_vtype ty (base.Class name) = vtype.Object ty
 base_vtype ty _ = vtype.Int
 
+-- the type that a parameter of a type has in the initial frame: an array is an object, a byte an int (JVMS 4.10.1.6)
 abbrev pub vtype_of : FieldType → VType
 vtype_of ty = if ty.dims == 0 then base_vtype ty ty.base else vtype.Object ty
 
@@ -116,7 +123,8 @@ vtype_of ty = if ty.dims == 0 then base_vtype ty ty.base else vtype.Object ty
 abbrev pub this_type : List ℕ → List ℕ → VType
 this_type class name = if is_text name (codes "<init>") then vtype.UninitThis else vtype.Object (class_type class)
 
--- the locals of the initial frame: `this` where the method isn't static, and the parameters (JVMS 4.10.1.6)
+-- the locals of the initial frame: `this` where the method isn't static, and the parameters (JVMS 4.10.1.6); the Tops of float
+-- and double parameters count, also at the end, and chop and append begin from them
 abbrev pub initial_locals : List ℕ → Bool → List ℕ → MethodType → List VType
 initial_locals class is_static name ty = (if is_static then [] else this_type class name ∷ []) ++ map vtype_of ty.args
 
@@ -135,6 +143,7 @@ module _ (pool : List Entry) (starts : List ℕ) (ins : List Ins) where
     pub name : List ℕ
     pub new : at.op ≡ op.New name
 
+  -- what is written stands for the type; an uninitialised object is known by the number of its new (JVMS 4.7.4)
   abbrev pub IsVType : VerificationTypeInfo → VType → Type 0
   IsVType (TagInfo tag) ty = tagged_type tag ≡ Some ty
   IsVType (ObjectInfo cpool_index) ty =

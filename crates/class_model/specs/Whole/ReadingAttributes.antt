@@ -71,6 +71,7 @@ read_line = do
   number ← u2
   give (record { start_pc = start_pc; line_number = number })
 
+-- the contents of a LineNumberTable: rows in any order, behind their count (JVMS 4.7.12)
 unfoldable pub line_number_table : Reader (List LineNumber)
 line_number_table = do
   n ← u2
@@ -78,6 +79,7 @@ line_number_table = do
 
 -- ---- ConstantValue (JVMS 4.7.2)
 
+-- the types whose constants are a CONSTANT_Integer (JVMS 4.7.2, table 4.7.2-A)
 abbrev pub is_int_base : Base → Bool
 is_int_base base.Int = true
 is_int_base base.Short = true
@@ -86,18 +88,22 @@ is_int_base base.Byte = true
 is_int_base base.Boolean = true
 is_int_base _ = false
 
+-- the type whose constants are a CONSTANT_Long
 abbrev pub is_long_base : Base → Bool
 is_long_base base.Long = true
 is_long_base _ = false
 
+-- the class whose constants are a CONSTANT_String
 abbrev pub is_string_base : Base → Bool
 is_string_base (base.Class name) = is_text name (codes "java/lang/String")
 is_string_base _ = false
 
+-- the type whose constants are a CONSTANT_Float
 abbrev pub is_float_base : Base → Bool
 is_float_base base.Float = true
 is_float_base _ = false
 
+-- the type whose constants are a CONSTANT_Double
 abbrev pub is_double_base : Base → Bool
 is_double_base base.Double = true
 is_double_base _ = false
@@ -122,5 +128,6 @@ constant_in pool index ty (Some (entry.LeftOut tag)) =
     else Err bad.BadIndex
 constant_in pool index ty _ = Err bad.BadIndex
 
+-- the contents of a ConstantValue, for a static field of this type; a constant that does not fit is at fault at its index
 abbrev pub constant_value : List Entry → FieldType → Reader (Option Constant)
 constant_value pool ty = item u2 (λ index. constant_in pool index ty (slice_get pool index))

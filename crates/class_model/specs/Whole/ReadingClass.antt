@@ -38,14 +38,17 @@ pub record ClassSeen : Type 0 where
   pub synthetic : Bool
   pub deprecated : Bool
 
+-- what was seen before the first attribute of a class
 abbrev pub no_class_attribute : ClassSeen
 no_class_attribute = record { source = None; synthetic = false; deprecated = false }
 
+-- the text of an attribute SourceFile is noted (JVMS 4.7.10)
 abbrev pub source_seen : List Entry → ClassSeen → Reader ClassSeen
 source_seen pool seen = do
   units ← source_file pool
   give (record seen { source = Some units })
 
+-- the attributes of a class that are read, each at most once (JVMS 4.7.8, 4.7.10, 4.7.15); all others are passed over
 abbrev pub known_of_class : List Entry → ℕ → List ℕ → ℕ → ClassSeen → Option (Reader ClassSeen)
 known_of_class pool at name n seen =
     if is_text name (codes "SourceFile") then Some (once at (is_there seen.source) (source_seen pool seen))
@@ -65,11 +68,13 @@ read_all_methods pool flags class = do
   n ← u2
   read_methods n pool (is_interface flags) class []
 
+-- interfaces_count, and then the classes by their indices, of which none may be an array type (JVMS 4.1)
 unfoldable pub read_interfaces : List Entry → Reader (List (List ℕ))
 read_interfaces pool = do
   n ← u2
   many n (item u2 (class_at pool))
 
+-- the class of these items; flags that mean nothing for a class are dropped (JVMS 4.1, table 4.1-A)
 abbrev pub class_of : ℕ → List Entry → List ℕ → List ℕ → List (List ℕ) → List Field → List Method × List (Option LeftKind) → ClassSeen → Class
 class_of flags pool name super_name interfaces fields methods seen = record {
   flags = flags_of (meant class_mask flags);

@@ -17,11 +17,13 @@ use Rattle.class_model.specs.Whole.Lookups.{due, type_at}
 
 -- ---- rows as they are written
 
+-- behind tag 7: the index of the CONSTANT_Class that names the class or array type (JVMS 4.7.4, Object_variable_info)
 abbrev pub object_info : Reader VerificationTypeInfo
 object_info = do
   cpool_index ← u2
   give (ObjectInfo cpool_index)
 
+-- behind tag 8: the offset of the new that made the object (JVMS 4.7.4, Uninitialized_variable_info)
 abbrev pub uninitialized_info : Reader VerificationTypeInfo
 uninitialized_info = do
   offset ← u2
@@ -35,36 +37,43 @@ type_begun tag =
     else if nat_le tag 6 then Ok (give (TagInfo tag))
     else Err bad.BadFrame
 
+-- verification_type_info, where no tag is above 8 (JVMS 4.7.4)
 unfoldable pub read_type : Reader VerificationTypeInfo
 read_type = lead u1 type_begun
 
+-- same_locals_1_stack_item_frame, 64 to 127: the type on the stack stands right behind the frame_type
 abbrev pub one_item : ℕ → Reader StackMapFrame
 one_item frame_type = do
   item ← read_type
   give (SameLocalsOneStackItem frame_type item)
 
+-- same_locals_1_stack_item_frame_extended, 247
 abbrev pub one_item_extended : Reader StackMapFrame
 one_item_extended = do
   offset_delta ← u2
   item ← read_type
   give (SameLocalsOneStackItemExtended offset_delta item)
 
+-- chop_frame, 248 to 250: 251 less the frame_type is how many locals go
 abbrev pub chop : ℕ → Reader StackMapFrame
 chop frame_type = do
   offset_delta ← u2
   give (ChopFrame frame_type offset_delta)
 
+-- same_frame_extended, 251
 abbrev pub same_extended : Reader StackMapFrame
 same_extended = do
   offset_delta ← u2
   give (SameFrameExtended offset_delta)
 
+-- append_frame, 252 to 254: the frame_type less 251 is how many locals come
 abbrev pub append : ℕ → Reader StackMapFrame
 append frame_type = do
   offset_delta ← u2
   locals ← many (frame_type - 251) read_type
   give (AppendFrame frame_type offset_delta locals)
 
+-- full_frame, 255: all locals and the whole stack, each behind their count
 abbrev pub full : Reader StackMapFrame
 full = do
   offset_delta ← u2
@@ -91,6 +100,7 @@ abbrev pub at_row : {A : Type 0} → ℕ → Result (A × Place) FormatFault →
 at_row at (Ok x) = Ok x
 at_row at (Err f) = Err (fault at f.kind)
 
+-- stack_map_frame; a tag of a type in it that is none is also at fault at the frame_type (JVMS 4.7.4)
 unfoldable pub read_row : Reader StackMapFrame
 read_row p = at_row p.at (lead u1 row_begun p)
 
@@ -108,6 +118,7 @@ pub record Written : Type 0 where
   pub stack : List VType
 
 module _ (pool : List Entry) (starts : List ℕ) (ops : List Op) where
+  -- there is an instruction, and it is a new
   abbrev pub is_new : Option Op → Bool
   is_new (Some (op.New name)) = true
   is_new _ = false
@@ -116,15 +127,18 @@ module _ (pool : List Entry) (starts : List ℕ) (ops : List Op) where
   abbrev pub only_new : ℕ → Option VType
   only_new n = if is_new (slice_get ops n) then Some (vtype.Uninit n) else None
 
+  -- the type that is written, if its tag, its index or its offset leads to one (JVMS 4.7.4)
   abbrev pub type_of : VerificationTypeInfo → Option VType
   type_of (TagInfo tag) = tagged_type tag
   type_of (ObjectInfo cpool_index) = option_map (λ class. vtype.Object class) (type_at pool cpool_index)
   type_of (UninitializedInfo offset) = option_and_then only_new (position (nat_eq offset) starts)
 
+  -- the types in their order, if each is one
   abbrev pub types_of : List VerificationTypeInfo → Option (List VType)
   types_of [] = Some []
   types_of (info ∷ infos) = option_and_then (λ ty. option_map (λ types. ty ∷ types) (types_of infos)) (type_of info)
 
+  -- an offset_delta, locals and a stack together
   abbrev pub written : ℕ → List VType → List VType → Written
   written delta locals stack = record { delta = delta; locals = locals; stack = stack }
 
@@ -161,6 +175,7 @@ module _ (pool : List Entry) (starts : List ℕ) (ops : List Op) where
         if fits w then option_map (λ n. (frame_at w n, record { locals = w.locals; offset = Some offset })) (position (nat_eq offset) starts)
         else None
 
+    -- a row's frame, if its types are types, its locals and stack have room, and an instruction begins at its offset
     abbrev pub row_stands : Before → StackMapFrame → Option (FrameAt × Before)
     row_stands before row =
         option_and_then (λ (w : Written). frame_of (offset_behind before.offset w.delta) w) (written_by before.locals row)

@@ -29,6 +29,7 @@ read_flags passes = item u2 (λ flags. if passes flags then Ok flags else Err ba
 abbrev pub Signature : Type 0
 Signature = List ℕ × List ℕ
 
+-- both the names and the descriptors are equal, by which members of a class differ (JVMS 4.5, 4.6)
 abbrev pub same_signature : Signature → Signature → Bool
 same_signature one other = is_text one.0 other.0 && is_text one.1 other.1
 
@@ -44,6 +45,7 @@ pub record FieldSeen : Type 0 where
   pub synthetic : Bool
   pub deprecated : Bool
 
+-- what was seen before the first attribute of a field
 abbrev pub no_field_attribute : FieldSeen
 no_field_attribute = record { constant = None; synthetic = false; deprecated = false }
 
@@ -59,6 +61,7 @@ constant_seen pool ty seen = do
   value ← constant_value pool ty
   give (record seen { constant = Some value })
 
+-- the attributes of a field that are read, each at most once (JVMS 4.7.2, 4.7.8, 4.7.15); all others are passed over
 abbrev pub known_of_field : List Entry → Bool → FieldType → ℕ → List ℕ → ℕ → FieldSeen → Option (Reader FieldSeen)
 known_of_field pool static ty at name n seen =
     if is_text name (codes "ConstantValue") then Some (once at (is_there seen.constant)
@@ -67,10 +70,12 @@ known_of_field pool static ty at name n seen =
     else if is_text name (codes "Deprecated") then Some (once at seen.deprecated (give (record seen { deprecated = true })))
     else None
 
+-- a field without ConstantValue, or with one that is left out or passed over, has no constant
 abbrev pub constant_of : Option (Option Constant) → Option Constant
 constant_of (Some value) = value
 constant_of None = None
 
+-- the field of these items; flags that mean nothing for a field are dropped (JVMS 4.5, table 4.5-A)
 abbrev pub field_of : ℕ → List ℕ → FieldType → FieldSeen → Field
 field_of flags name ty seen = record {
   flags = flags_of (meant field_mask flags);
@@ -92,6 +97,7 @@ read_field_info pool in_interface before = do
   seen ← counted_attributes pool (known_of_field pool (is_static flags) ty) no_field_attribute
   give (field_of flags name ty seen, (name, field_text ty))
 
+-- so many fields behind those of these signatures, each unlike all before it
 unfoldable pub read_fields : ℕ → List Entry → Bool → List Signature → Reader (List Field)
 read_fields zero pool in_interface before = give []
 read_fields (suc n) pool in_interface before = do
@@ -108,14 +114,17 @@ pub record MethodSeen : Type 0 where
   pub synthetic : Bool
   pub deprecated : Bool
 
+-- what was seen before the first attribute of a method
 abbrev pub no_method_attribute : MethodSeen
 no_method_attribute = record { body = None; throws = None; synthetic = false; deprecated = false }
 
+-- the classes of an attribute Exceptions are noted (JVMS 4.7.5)
 abbrev pub exceptions_seen : List Entry → MethodSeen → Reader MethodSeen
 exceptions_seen pool seen = do
   classes ← exceptions pool
   give (record seen { throws = Some classes })
 
+-- the contents of an attribute Code are noted (JVMS 4.7.3)
 abbrev pub code_seen : Reader Body → MethodSeen → Reader MethodSeen
 code_seen code seen = do
   body ← code
@@ -127,6 +136,7 @@ one_code at wanted code seen = do
   allowed ← settle at (test bad.BadAttribute wanted)
   once at (is_there seen.body) (code_seen code seen)
 
+-- the attributes of a method that are read, each at most once (JVMS 4.7.3, 4.7.5, 4.7.8, 4.7.15); others are passed over
 abbrev pub known_of_method : List Entry → Bool → (ℕ → Reader Body) → ℕ → List ℕ → ℕ → MethodSeen → Option (Reader MethodSeen)
 known_of_method pool wanted code at name n seen =
     if is_text name (codes "Code") then Some (one_code at wanted (code at) seen)
@@ -140,10 +150,12 @@ abbrev pub body_of : ℕ → Option Body → Body
 body_of flags (Some body) = body
 body_of flags None = (None, if is_native flags then Some left.Flag else None)
 
+-- a method without Exceptions declares none
 abbrev pub throws_of : Option (List (List ℕ)) → List (List ℕ)
 throws_of (Some classes) = classes
 throws_of None = []
 
+-- the method of these items; flags that mean nothing for a method are dropped (JVMS 4.6, table 4.6-A)
 abbrev pub method_of : ℕ → List ℕ → MethodType → MethodSeen → Method
 method_of flags name ty seen = record {
   flags = flags_of (meant method_mask flags);

@@ -19,39 +19,46 @@ pub record Slot : Type 0 where
 
 -- ---- entries
 
+-- CONSTANT_Utf8 behind its tag: as many bytes as its length, which must be modified UTF-8 (JVMS 4.4.7)
 abbrev pub utf8 : Reader Entry
 utf8 = do
   n ← u2
   units ← item (bytes n) (λ text. due bad.BadUtf8 (value_of (read_mutf8 text)))
   give (entry.Utf8 units)
 
+-- CONSTANT_Integer behind its tag: four bytes in two's complement (JVMS 4.4.4)
 abbrev pub integer : Reader Entry
 integer = do
   n ← u4
   give (entry.Integer (cast_signed w32 n))
 
+-- CONSTANT_Long behind its tag: its high four bytes, and then its low four (JVMS 4.4.5)
 abbrev pub long : Reader Entry
 long = do
   high ← u4
   low ← u4
   give (entry.Long (long_of high low))
 
+-- a constant that is one index: a Class or a String (JVMS 4.4.1, 4.4.3)
 abbrev pub one_index : (ℕ → Entry) → Reader Entry
 one_index make = do
   index ← u2
   give (make index)
 
+-- a constant that is two indices: a reference to a member, or a NameAndType (JVMS 4.4.2, 4.4.6)
 abbrev pub two_indices : (ℕ → ℕ → Entry) → Reader Entry
 two_indices make = do
   first ← u2
   second ← u2
   give (make first second)
 
+-- a constant that is left out: its bytes may be any, and only its tag is kept
 abbrev pub passed_over : ℕ → ℕ → Reader Entry
 passed_over tag n = do
   skipped ← bytes n
   give (entry.LeftOut tag)
 
+-- a constant that is left out, by the length of its contents; a tag without one is no tag
 abbrev pub left_out : ℕ → Option ℕ → Result (Reader Entry) FormatKind
 left_out tag (Some n) = Ok (passed_over tag n)
 left_out tag None = Err bad.BadTag
@@ -75,6 +82,7 @@ tagged room tag =
     else if tag == 12 then Ok (two_indices (λ i j. entry.NameAndType i j))
     else left_out tag (left_out_length tag)
 
+-- cp_info; a bad tag is at fault at the tag itself
 unfoldable pub read_entry : Bool → Reader Entry
 read_entry room = lead u1 (tagged room)
 
@@ -98,9 +106,11 @@ slots (suc n) second = do
   others ← slots n (takes_two first.entry)
   give (first ∷ others)
 
+-- the pool by its indices, where index 0 is no entry (JVMS 4.1)
 abbrev pub entries_of : List Slot → List Entry
 entries_of xs = entry.Gap ∷ map (λ (s : Slot). s.entry) xs
 
+-- an entry's own fault, at its tag, comes before those of the entries behind it
 abbrev pub fault_of : ℕ → Result (Unit {0}) FormatKind → Result (Unit {0}) FormatFault → Result (Unit {0}) FormatFault
 fault_of at (Ok x) others = others
 fault_of at (Err kind) others = Err (fault at kind)

@@ -49,11 +49,12 @@ hex (c ∷ d ∷ cs) = (16 * digit c + digit d) ∷ hex cs
 
 -- ---- an interface without members
 
--- a class of its own package A with flags 0600, super java/lang/Object and nothing else, in 53 bytes
+-- interface A of the unnamed package, with flags 0600, super java/lang/Object and nothing else, in 53 bytes
 abbrev pub bytes_of_a : List ℕ
 bytes_of_a = hex (codes "CAFEBABE000000340005010001410700010100106A6176612F6C616E672F4F626A656374070003")
     ++ hex (codes "0600000200040000000000000000")
 
+-- the interface A, abstract, without members, attributes or anything left out
 abbrev pub class_a : Class
 class_a = record {
   flags = flags_of 0x0600;
@@ -68,13 +69,15 @@ class_a = record {
   left_out = None;
 }
 
--- the bytes spell the class, are read as it, and are its canonical spelling
+-- the bytes spell the class
 abbrev pub IsSpelled : Type 0
 IsSpelled = File bytes_of_a class_a
 
+-- the bytes are read as the class
 abbrev pub IsRead : Type 0
 IsRead = class_read bytes_of_a ≡ Ok class_a
 
+-- the bytes are the canonical spelling of the class
 abbrev pub IsWritten : Type 0
 IsWritten = class_written class_a ≡ Ok bytes_of_a
 
@@ -187,9 +190,9 @@ MemberFaults =
     × (class_read (with_members (hex (codes "0000")) (hex (codes "00010001000F0006000100070000000E00020001000000021AAC00000000"))) ≡ refused 156 bad.BadDescriptor)
     × (class_read (with_members (hex (codes "0000")) (hex (codes "0001040100050006000100070000001000020001000000041A0460AC00000000"))) ≡ refused 160 bad.BadAttribute)
 
--- a long at the last index, whose value is not read; a reference to a field whose NameAndType, behind it, has no descriptor; a
--- reference to a field with the name of an instance initialisation method; a text that is none, behind a class that names
--- nothing: the bytes come first; an unpaired surrogate in the name of a class; a class that names its own entry
+-- a long at the last index, whose value is not read; a reference to a field whose NameAndType, behind it, has a text that is no
+-- descriptor; a reference to a field with the name of an instance initialisation method; a text that is none, behind a class
+-- that names nothing: the bytes come first; an unpaired surrogate in the name of a class; a class that names its own entry
 abbrev pub PoolFaults : Type 0
 PoolFaults =
     (class_read (hex (codes "CAFEBABE00000034000205")) ≡ refused 10 bad.BadTag)
@@ -213,20 +216,25 @@ ClassLeftOut =
 
 -- ---- a class with a field and a method, whose code has a branch, a handler, lines and a frame
 
+-- class T with static long f, whose constant is the long at index 9, and static int f(int), whose Code is 49 bytes long
 abbrev pub bytes_of_t : List ℕ
 bytes_of_t = with_members (hex (codes "000100080005000C0001000B000000020009"))
     (hex (codes "000100090005000600010007000000310002000100000008")
     ++ hex (codes "1A99000504AC03AC000100000001000600040002000E00000006000100000007000800000003000106"))
 
+-- the type int, of the parameter and of what is returned
 abbrev pub int_type : FieldType
 int_type = record { dims = 0; base = base.Int }
 
+-- an instruction on line 7
 abbrev pub ins_at_7 : Op → Ins
 ins_at_7 o = record { op = o; line = Some 7 }
 
+-- the one frame, at the target of the branch, with the parameter as its only local
 abbrev pub frame_of_t : FrameAt
 frame_of_t = record { index = 4; frame = record { locals = vtype.Int ∷ []; stack = [] } }
 
+-- iload_0, ifeq to the handler, iconst_1, ireturn, and there iconst_0, ireturn; the handler catches from the first alone
 abbrev pub code_of_t : Code
 code_of_t = record {
   max_stack = 2;
@@ -237,6 +245,7 @@ code_of_t = record {
   frames = frame_of_t ∷ [];
 }
 
+-- static long f, with the constant 2 to the 32nd and 2
 abbrev pub field_of_t : Field
 field_of_t = record {
   flags = flags_of 0x0008;
@@ -247,6 +256,7 @@ field_of_t = record {
   deprecated = false;
 }
 
+-- public static int f(int), of the same name as the field but another descriptor
 abbrev pub method_of_t : Method
 method_of_t = record {
   flags = flags_of 0x0009;
@@ -258,6 +268,7 @@ method_of_t = record {
   deprecated = false;
 }
 
+-- the class that the bytes spell, public, with nothing left out
 abbrev pub class_t : Class
 class_t = record {
   flags = flags_of 0x0021;
@@ -272,17 +283,21 @@ class_t = record {
   left_out = None;
 }
 
+-- the bytes spell the class
 abbrev pub TIsSpelled : Type 0
 TIsSpelled = File bytes_of_t class_t
 
+-- nothing is left out of the class, and it meets the rules of the format (JVMS 4.1 to 4.9)
 abbrev pub TIsWellFormed : Type 0
 TIsWellFormed = IsWellFormed class_t
 
+-- the bytes are read as the class
 abbrev pub TIsRead : Type 0
 TIsRead = class_read bytes_of_t ≡ Ok class_t
 
 -- ---- limits
 
+-- an instruction without a line
 abbrev pub unlined : Op → Ins
 unlined o = record { op = o; line = None }
 
@@ -331,11 +346,12 @@ longer_main = (hex (codes "CAFEBABE0000003400080100044D61696E0700010100106A61766
     ++ (hex (codes "0428492949010004436F6465002100020004000000000001000900050006000100070000001200020001000000061500")
     ++ (hex (codes "100160AC000000000000"))))
 
+-- both are respelled as the shorter one
 abbrev pub MainIsCanonical : Type 0
 MainIsCanonical = (respelled (class_read bytes_of_main) ≡ Some (Ok bytes_of_main))
     × (respelled (class_read longer_main) ≡ Some (Ok bytes_of_main))
 
--- class files as javac 8 writes them, and their canonical spellings
+-- class files as javac 8 writes them, and their canonical spellings: first an interface with a constant and a method
 abbrev pub compiled_1 : List ℕ
 compiled_1 = (hex (codes "CAFEBABE00000034001107000201000C7368617065732F53686170650700040100106A6176612F6C616E672F4F626A65")
     ++ (hex (codes "63740700060100146A6176612F6C616E672F436F6D70617261626C6501000553494445530100014901000D436F6E7374")
@@ -344,6 +360,7 @@ compiled_1 = (hex (codes "CAFEBABE00000034001107000201000C7368617065732F53686170
     ++ (hex (codes "3B01000A536F7572636546696C6501000B5368617065732E6A6176610600000100030001000500010019000700080001")
     ++ (hex (codes "000900000002000A00010401000B000C00000002000D00000002000E000F000000020010")))))))
 
+-- the first respelled: constants in the order of their first use, and no attribute Signature
 abbrev pub canonical_1 : List ℕ
 canonical_1 = (hex (codes "CAFEBABE00000034000F01000C7368617065732F53686170650700010100106A6176612F6C616E672F4F626A65637407")
     ++ (hex (codes "00030100146A6176612F6C616E672F436F6D70617261626C6507000501000553494445530100014901000D436F6E7374")
@@ -351,6 +368,7 @@ canonical_1 = (hex (codes "CAFEBABE00000034000F01000C7368617065732F5368617065070
     ++ (hex (codes "2E6A6176610600000200040001000600010019000700080001000900000002000A00010401000B000C00000001000D00")
     ++ (hex (codes "000002000E"))))))
 
+-- a class with long constants, branches, frames and lines
 abbrev pub compiled_2 : List ℕ
 compiled_2 = (hex (codes "CAFEBABE0000003400240A000200030700040C000500060100106A6176612F6C616E672F4F626A6563740100063C696E")
     ++ (hex (codes "69743E01000328295605000000000000000409000A000B07000C0C000D000E0100106A6176612F6C616E672F53797374")
@@ -366,6 +384,7 @@ compiled_2 = (hex (codes "CAFEBABE0000003400240A000200030700040C000500060100106A
     ++ (hex (codes "17840101A7FFE7B100000002001E00000006000100000001001F000000090002FC000301FA001B000100220000000200")
     ++ (hex (codes "23"))))))))))))))
 
+-- the second respelled: the same code, with the constants in the order of their first use
 abbrev pub canonical_2 : List ℕ
 canonical_2 = (hex (codes "CAFEBABE000000340024010005466C6F77340700010100106A6176612F6C616E672F4F626A6563740700030100063C69")
     ++ (hex (codes "6E69743E010003282956010004436F64650C000500060A0004000801000F4C696E654E756D6265725461626C65010001")
@@ -381,6 +400,7 @@ canonical_2 = (hex (codes "CAFEBABE000000340024010005466C6F77340700010100106A617
     ++ (hex (codes "21840101A7FFE7B100000002000A00000006000100000001000F000000090002FC000301FA001B000100220000000200")
     ++ (hex (codes "23"))))))))))))))
 
+-- each is respelled as its canonical spelling
 abbrev pub CompiledAreRespelled : Type 0
 CompiledAreRespelled = (respelled (class_read compiled_1) ≡ Some (Ok canonical_1))
     × (respelled (class_read compiled_2) ≡ Some (Ok canonical_2))
