@@ -1,0 +1,6 @@
+mod Units
+mod Loops
+mod Begun
+mod ToEnd
+mod Collecting
+mod Numbers

@@ -1,0 +1,44 @@
+-- Reading the instructions of a code, and then their targets (JVMS 4.9.1).
+use Rattle.std.specs.Prelude.{ℕ, zero, suc, List, [], ◌∷◌, ◌++◌, length, ◌==◌, if◌then◌else◌, Result, Ok, Err}
+use Rattle.jv_base.specs.Place.{Place}
+use Rattle.format_reading.specs.declared.fault.FormatFault.{FormatFault}
+use Rattle.format_reading.specs.Reader.{u1, onwards}
+use Rattle.class_model.specs.declared.pool.Entry.{Entry}
+use Rattle.class_model.specs.Whole.ReadingCode.{begun}
+use Rattle.jv_ops.specs.declared.fault.CodeFault.{CodeFault}
+use Rattle.jv_ops.specs.declared.fault.CodeFault.TheVariants as code
+use Rattle.jv_ops.specs.declared.fault.Wrong.{Wrong}
+use Rattle.jv_ops.specs.declared.unaimed.Placed.{Placed}
+use Rattle.jv_ops.specs.declared.unaimed.Unaimed.{Unaimed}
+use Rattle.jv_ops.specs.Fault.{code_fault}
+use Rattle.jv_ops.specs.Meaning.{meant}
+
+-- ---- one instruction
+
+-- the instruction of an opcode at an offset, or what is wrong with it
+abbrev pub at_offset : ℕ → ℕ → Result (Unaimed × Place) Wrong → Result (Placed × Place) CodeFault
+at_offset at opcode (Ok x) = Ok (record { at = at; op = x.0 }, x.1)
+at_offset at opcode (Err w) = Err (code_fault at opcode w)
+
+abbrev pub behind_opcode : List Entry → ℕ → Result (ℕ × Place) FormatFault → Result (Placed × Place) CodeFault
+behind_opcode pool at (Ok x) = at_offset at x.0 (meant pool (onwards at (begun pool at x.0) x.1))
+behind_opcode pool at (Err f) = Err (code.Cut at)
+
+-- the instruction that begins at a place of a code
+unfoldable pub placed_at : List Entry → Place → Result (Placed × Place) CodeFault
+placed_at pool p = behind_opcode pool p.at (u1 p)
+
+-- ---- all of them
+
+abbrev pub in_front : {A : Type 0} → List A → Result (List A) CodeFault → Result (List A) CodeFault
+in_front front (Ok xs) = Ok (front ++ xs)
+in_front front (Err f) = Err f
+
+abbrev pub after_first : Result (Placed × Place) CodeFault → (Place → Result (List Placed) CodeFault) → Result (List Placed) CodeFault
+after_first (Ok x) others = in_front (x.0 ∷ []) (others x.1)
+after_first (Err f) others = Err f
+
+-- the instructions up to the end of the bytes, n at most
+unfoldable pub placed_to_end : ℕ → List Entry → Place → Result (List Placed) CodeFault
+placed_to_end zero pool p = Ok []
+placed_to_end (suc n) pool p = if p.at == length p.bytes then Ok [] else after_first (placed_at pool p) (placed_to_end n pool)
