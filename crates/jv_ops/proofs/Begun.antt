@@ -24,6 +24,10 @@ neither : (a b : Bool) → a ≡ false → b ≡ false → (a || b) ≡ false
 neither true b h k = absurd cc
 neither false b h k = k
 
+either : {A : Type 0} (a b : Bool) (x y : A) → a ≡ false → cond (a || b) x y ≡ cond b x y
+either true b x y h = absurd cc
+either false b x y h = refl
+
 pub widened_local : (opcode : ℕ) → eqb opcode 0x84 ≡ false → is_left_out_local opcode ≡ false → is_some (local_op opcode) ≡ true → widened opcode ≡ Ok (two_bytes (λ index. WideLocal opcode index))
 widened_local opcode h k l = if_no (eqb opcode 0x84) _ _ _ h (if_no (is_left_out_local opcode) _ _ _ k (if_yes (is_some (local_op opcode)) _ _ l))
 
@@ -58,7 +62,7 @@ begun_other pool at opcode o =
     (if_no (eqb opcode 0x84) _ _ _ o.iinc (if_no (eqb opcode 0xC4) _ _ _ o.wide (if_same (is_some (branch_op opcode)) _ _ _
     (if_no (eqb opcode 0xC8) _ _ _ o.goto_w (if_no (eqb opcode 0xAA) _ _ _ o.tableswitch (if_no (eqb opcode 0xAB) _ _ _ o.lookupswitch
     (if_same (is_member_opcode opcode) _ _ _ (if_no (eqb opcode 0xB9) _ _ _ o.invokeinterface (if_same (is_class_opcode opcode) _ _ _
-    (if_no (eqb opcode 0xBC) _ _ _ o.newarray (if_no (eqb opcode 0xC5) _ _ _ o.multianewarray (if_no (eqb opcode 0xBA) _ _ _ o.invokedynamic refl)))))))))))))))))
+    (if_no (eqb opcode 0xBC) _ _ _ o.newarray (if_no (eqb opcode 0xC5) _ _ _ o.multianewarray (either (eqb opcode 0xBA) _ _ _ o.invokedynamic)))))))))))))))))
 
 -- ldc_w and ldc2_w
 pub begun_load : (pool : List Entry) (at opcode : ℕ) → is_some (plain_op opcode) ≡ false → eqb opcode 0x10 ≡ false → eqb opcode 0x11 ≡ false → eqb opcode 0x12 ≡ false → (eqb opcode 0x13 || eqb opcode 0x14) ≡ true

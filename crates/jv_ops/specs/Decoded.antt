@@ -10,6 +10,7 @@ use Rattle.jv_ops.specs.declared.unaimed.Placed.{Placed}
 use Rattle.jv_ops.specs.Decoding.{placed_to_end}
 use Rattle.jv_ops.specs.Targets.{collected, placed_aimed, starts_of}
 
+-- the instructions with their starts, or the first of them with a target that is the start of none
 abbrev pub all_decoded : List Placed → Result Decoded CodeFault
 all_decoded placed = do
   ops ← collected (placed_aimed (aim_at (starts_of placed))) placed

@@ -15,13 +15,14 @@ use Rattle.jv_ops.specs.Meaning.{meant}
 
 -- ---- one instruction
 
--- the instruction of an opcode at an offset, or what is wrong with it
-abbrev pub at_offset : ℕ → ℕ → Result (Unaimed × Place) Wrong → Result (Placed × Place) CodeFault
-at_offset at opcode (Ok x) = Ok (record { at = at; op = x.0 }, x.1)
-at_offset at opcode (Err w) = Err (code_fault at opcode w)
+-- the instruction at an offset, or what is wrong with it
+abbrev pub at_offset : ℕ → Result (Unaimed × Place) Wrong → Result (Placed × Place) CodeFault
+at_offset at (Ok x) = Ok (record { at = at; op = x.0 }, x.1)
+at_offset at (Err w) = Err (code_fault at w)
 
+-- the instruction at an offset, behind its opcode; where the code ends before one, it ends inside the instruction
 abbrev pub behind_opcode : List Entry → ℕ → Result (ℕ × Place) FormatFault → Result (Placed × Place) CodeFault
-behind_opcode pool at (Ok x) = at_offset at x.0 (meant pool (onwards at (begun pool at x.0) x.1))
+behind_opcode pool at (Ok x) = at_offset at (meant pool (onwards at (begun pool at x.0) x.1))
 behind_opcode pool at (Err f) = Err (code.Cut at)
 
 -- the instruction that begins at a place of a code
@@ -30,10 +31,12 @@ placed_at pool p = behind_opcode pool p.at (u1 p)
 
 -- ---- all of them
 
+-- a list before what else was read, or the fault behind it
 abbrev pub in_front : {A : Type 0} → List A → Result (List A) CodeFault → Result (List A) CodeFault
 in_front front (Ok xs) = Ok (front ++ xs)
 in_front front (Err f) = Err f
 
+-- an instruction, and from the place behind it the others; of several faults the first counts
 abbrev pub after_first : Result (Placed × Place) CodeFault → (Place → Result (List Placed) CodeFault) → Result (List Placed) CodeFault
 after_first (Ok x) others = in_front (x.0 ∷ []) (others x.1)
 after_first (Err f) others = Err f

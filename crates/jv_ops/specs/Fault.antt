@@ -17,12 +17,12 @@ wrong_of bad.BadOpcode = wrong.Opcode
 wrong_of bad.BadOperand = wrong.Operand
 wrong_of _ = wrong.Cut
 
--- what is wrong with the instruction of an opcode at an offset, as the fault of the code
-abbrev pub code_fault : ℕ → ℕ → Wrong → CodeFault
-code_fault offset opcode wrong.Opcode = code.BadOpcode offset
-code_fault offset opcode wrong.Operand = code.BadOperand offset
-code_fault offset opcode wrong.Cut = code.Cut offset
-code_fault offset opcode wrong.LeftOut = code.LeftOutOpcode offset opcode
+-- what is wrong with the instruction at an offset, as the fault of the code
+abbrev pub code_fault : ℕ → Wrong → CodeFault
+code_fault offset wrong.Opcode = code.BadOpcode offset
+code_fault offset wrong.Operand = code.BadOperand offset
+code_fault offset wrong.Cut = code.Cut offset
+code_fault offset (wrong.LeftOut opcode) = code.LeftOutOpcode offset opcode
 
 -- what came is what is due, and the place is the one behind it; want of memory is free, and nothing is said of the place
 -- after a fault

@@ -10,7 +10,6 @@ use Rattle.format_reading.specs.declared.fault.FormatKind.{FormatKind}
 use Rattle.format_reading.specs.declared.fault.FormatKind.TheVariants as bad
 use Rattle.class_model.specs.declared.pool.Entry.{Entry}
 use Rattle.class_model.specs.declared.op.Op.{Op}
-use Rattle.class_model.specs.declared.class.LeftKind.TheVariants as left
 use Rattle.class_model.specs.Whole.Opcodes.{local_op, branch_op, is_left_out_opcode}
 use Rattle.class_model.specs.Whole.InstructionStructure.{MatchOffset, Info, Local, Branch, GotoWide, TableSwitch, LookupSwitch}
 use Rattle.class_model.specs.Whole.InstructionMeaning.{op_of}
@@ -26,6 +25,7 @@ use Rattle.jv_ops.specs.Fault.{wrong_of}
 abbrev pub no_aim : ℤ → Result ℕ FormatKind
 no_aim target = Err bad.BadTarget
 
+-- an instruction without targets, or what is wrong with its operand
 abbrev pub whole : Result Op FormatKind → Result Unaimed Wrong
 whole (Ok o) = Ok (unaimed.Whole o)
 whole (Err kind) = Err (wrong_of kind)
@@ -35,6 +35,7 @@ abbrev pub whole_op : Option Op → Result Unaimed (Or Wrong)
 whole_op (Some o) = Ok (unaimed.Whole o)
 whole_op None = Err (Fault wrong.Operand)
 
+-- a match and its offset, the structure's as the decoder's
 abbrev pub match_of : MatchOffset → Match
 match_of pair = record { key = pair.key; offset = pair.offset }
 
@@ -66,7 +67,7 @@ begun_by_table pool opcode =
     else if is_some (branch_op opcode) then Ok (two_bytes (λ offset. Branch opcode offset))
     else if is_member_opcode opcode then Ok (member pool opcode)
     else if is_class_opcode opcode then Ok (class_operand pool opcode)
-    else if is_left_out_opcode opcode then Ok (give (left_out left.Opcode))
+    else if is_left_out_opcode opcode then Ok (give (left_out opcode))
     else Err bad.BadOpcode
 
 -- an instruction, whose targets are still offsets
@@ -77,13 +78,15 @@ unaimed_of pool (TableSwitch pad default low high offsets) = Ok (unaimed.TableSw
 unaimed_of pool (LookupSwitch pad default pairs) = Ok (unaimed.LookupSwitch default (map match_of pairs))
 unaimed_of pool info = whole (op_of no_aim pool 0 info)
 
+-- with the place behind it
 abbrev pub with_place : Result Unaimed Wrong → Place → Result (Unaimed × Place) Wrong
 with_place (Ok u) p = Ok (u, p)
 with_place (Err w) p = Err w
 
+-- an instruction as it is meant, or that it is left out
 abbrev pub meant_of : List Entry → Read → Place → Result (Unaimed × Place) Wrong
 meant_of pool (instruction info) p = with_place (unaimed_of pool info) p
-meant_of pool (left_out kind) p = Err wrong.LeftOut
+meant_of pool (left_out opcode) p = Err (wrong.LeftOut opcode)
 
 -- what was read of an instruction, as it is meant
 abbrev pub meant : List Entry → Result (Read × Place) FormatFault → Result (Unaimed × Place) Wrong

@@ -19,6 +19,7 @@ use Rattle.jv_ops.specs.declared.unaimed.Unaimed.TheVariants as unaimed
 
 -- ---- the number of the instruction at each offset
 
+-- an entry that may be missing, of a table that may end before
 abbrev pub if_there : Option (Option ℕ) → Option ℕ
 if_there (Some x) = x
 if_there None = None
@@ -42,6 +43,7 @@ starts_of placed = map (λ (p : Placed). p.at) placed
 
 -- ---- instructions
 
+-- a result before those behind it; of several faults the first counts
 abbrev pub with_first : {B X : Type 0} → Result B X → Result (List B) X → Result (List B) X
 with_first (Ok y) (Ok ys) = Ok (y ∷ ys)
 with_first (Ok y) (Err e) = Err e
@@ -52,17 +54,20 @@ unfoldable pub collected : {A B X : Type 0} → (A → Result B X) → List A �
 collected f [] = Ok []
 collected f (x ∷ xs) = with_first (f x) (collected f xs)
 
+-- a case of a lookupswitch (JVMS 6.5)
 abbrev pub case_aimed : (ℤ → Result ℕ FormatKind) → ℕ → Match → Result Case FormatKind
 case_aimed aim at next = do
   to ← aimed aim at next.offset
   Ok (record { key = cast_signed w32 next.key; to = to })
 
+-- tableswitch; a wrong default is found before a wrong case (JVMS 6.5)
 abbrev pub table_aimed : (ℤ → Result ℕ FormatKind) → ℕ → ℕ → ℕ → List ℕ → Result Op FormatKind
 table_aimed aim at default low offsets = do
   other ← aimed aim at default
   cases ← collected (aimed aim at) offsets
   Ok (op.TableSwitch (cast_signed w32 low) other cases)
 
+-- lookupswitch, in the same order (JVMS 6.5)
 abbrev pub lookup_aimed : (ℤ → Result ℕ FormatKind) → ℕ → ℕ → List Match → Result Op FormatKind
 lookup_aimed aim at default matches = do
   other ← aimed aim at default
@@ -76,9 +81,11 @@ op_aimed aim at (unaimed.Branch opcode offset) = branch aim at (branch_op opcode
 op_aimed aim at (unaimed.TableSwitch default low offsets) = table_aimed aim at default low offsets
 op_aimed aim at (unaimed.LookupSwitch default matches) = lookup_aimed aim at default matches
 
+-- what is wrong with a target, as the fault of the code
 abbrev pub or_bad_target : ℕ → Result Op FormatKind → Result Op CodeFault
 or_bad_target at (Ok o) = Ok o
 or_bad_target at (Err kind) = Err (code.BadTarget at)
 
+-- the instruction at its offset, with the numbers of its targets (JVMS 4.9.1)
 abbrev pub placed_aimed : (ℤ → Result ℕ FormatKind) → Placed → Result Op CodeFault
 placed_aimed aim p = or_bad_target p.at (op_aimed aim p.at p.op)

@@ -15,7 +15,9 @@ pub enum CodeFault {
     BadOperand(u32),
     /// The code ends inside the instruction.
     Cut(u32),
-    /// The instruction is one that is left out. Its opcode comes second.
+    /// The instruction is one that is left out: of float or double, monitorenter, monitorexit, invokedynamic, or
+    /// one that loads a class, a float or a double. Its first byte comes second; it is that of wide where wide
+    /// stands in front.
     LeftOutOpcode(u32, u8),
     /// A target of the instruction isn't the first byte of one (JVMS 4.9.1).
     BadTarget(u32),
@@ -30,8 +32,8 @@ pub enum Wrong {
     Operand,
     /// They end too soon.
     Cut,
-    /// The instruction is left out.
-    LeftOut,
+    /// The instruction of this opcode is left out.
+    LeftOut(u8),
 }
 
 impl From<End> for Wrong {
@@ -42,14 +44,14 @@ impl From<End> for Wrong {
     }
 }
 
-/// What is wrong with the instruction of an opcode at an offset, as the fault of the code.
-pub fn code_fault(offset: u32, opcode: u8, wrong: Wrong) -> CodeFault
-    ensures { result ≡ code_fault offset opcode wrong }
+/// What is wrong with the instruction at an offset, as the fault of the code.
+pub fn code_fault(offset: u32, wrong: Wrong) -> CodeFault
+    ensures { result ≡ code_fault offset wrong }
 {
     match wrong {
         Wrong::Opcode => CodeFault::BadOpcode(offset),
         Wrong::Operand => CodeFault::BadOperand(offset),
         Wrong::Cut => CodeFault::Cut(offset),
-        Wrong::LeftOut => CodeFault::LeftOutOpcode(offset, opcode),
+        Wrong::LeftOut(opcode) => CodeFault::LeftOutOpcode(offset, opcode),
     }
 }

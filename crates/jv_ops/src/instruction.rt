@@ -42,7 +42,7 @@ fn is_left_out_load(entry: &Entry) -> bool
 }
 
 fn is_left_out_at(pool: &Pool, index: u16) -> bool
-    ensures { result ≡ is_left_out_at pool.now.entries index (slice_get pool.now.entries index) }
+    ensures { result ≡ is_left_out_at (slice_get pool.now.entries index) }
 {
     match pool.entries.get(usize::from(index)) {
         Some(entry) => is_left_out_load(entry),
@@ -173,10 +173,11 @@ fn count_of(alloc: Global, method: &MemberRef) -> M<Option<u32>>
 
 // ---- instructions, behind their opcode
 
-fn left_out() -> Result<Unaimed, Or<Wrong>>
-    ensures { result ≡ Err (Fault wrong.LeftOut) }
+// The instruction of this opcode is left out.
+fn left_out(opcode: u8) -> Result<Unaimed, Or<Wrong>>
+    ensures { result ≡ Err (Fault (wrong.LeftOut opcode)) }
 {
-    Err(Or::Fault(Wrong::LeftOut))
+    Err(Or::Fault(Wrong::LeftOut(opcode)))
 }
 
 fn bad_operand() -> Result<Unaimed, Or<Wrong>>
@@ -214,7 +215,7 @@ fn ldc(alloc: Global, pool: &Pool, cursor: &mut Cursor) -> Result<Unaimed, Or<Wr
 {
     let index = u16::from(cursor.u1()?);
     if is_left_out_at(pool, index) {
-        return left_out();
+        return left_out(0x12);
     }
     whole(loaded(alloc, pool, index)?)
 }
@@ -229,7 +230,7 @@ fn ldc_wide(
 {
     let index = cursor.u2()?;
     if is_left_out_at(pool, index) {
-        return left_out();
+        return left_out(opcode);
     }
     whole(loaded_wide(alloc, opcode, pool, index)?)
 }
@@ -269,7 +270,7 @@ fn widened(opcode: u8, cursor: &mut Cursor) -> Result<Unaimed, Or<Wrong>>
 {
     match opcode {
         0x84 => wide_iinc(cursor),
-        _ if is_left_out_local(opcode) => left_out(),
+        _ if is_left_out_local(opcode) => left_out(0xC4),
         _ if is_local(opcode) => wide_local(opcode, cursor),
         _ => Err(Or::Fault(Wrong::Opcode)),
     }
@@ -352,7 +353,7 @@ fn new_array(cursor: &mut Cursor) -> Result<Unaimed, Or<Wrong>>
 {
     let code = cursor.u1()?;
     if is_left_out_array_type(code) {
-        return left_out();
+        return left_out(0xBC);
     }
     match array_type_of(code) {
         Some(ty) => Ok(Unaimed::Whole(Op::NewArray(ty))),
@@ -511,7 +512,7 @@ fn begun_by_table(
         return class_operand(alloc, pool, opcode, cursor);
     }
     if is_left_out_opcode(opcode) {
-        return left_out();
+        return left_out(opcode);
     }
     Err(Or::Fault(Wrong::Opcode))
 }
@@ -542,7 +543,7 @@ pub fn begun(
         0xB9 => invoke_interface(alloc, pool, cursor),
         0xBC => new_array(cursor),
         0xC5 => multi_new_array(alloc, pool, cursor),
-        0xBA => left_out(),
+        0xBA => left_out(opcode),
         _ => begun_by_table(alloc, pool, opcode, cursor),
     }
 }

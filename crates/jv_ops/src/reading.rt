@@ -21,7 +21,7 @@ fn placed_at(alloc: Global, pool: &Pool, cursor: &mut Cursor) -> Result<Placed, 
     };
     match begun(alloc, pool, at, opcode, cursor) {
         Ok(op) => Ok(Placed { at, op }),
-        Err(Or::Fault(wrong)) => Err(Or::Fault(code_fault(at, opcode, wrong))),
+        Err(Or::Fault(wrong)) => Err(Or::Fault(code_fault(at, wrong))),
         Err(Or::OutOfMemory) => Err(Or::OutOfMemory),
     }
 }
