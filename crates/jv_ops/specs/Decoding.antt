@@ -1,12 +1,9 @@
 -- Reading the instructions of a code, and then their targets (JVMS 4.9.1).
 use Rattle.std.specs.Prelude.{ℕ, zero, suc, List, [], ◌∷◌, ◌++◌, length, ◌==◌, if◌then◌else◌, Result, Ok, Err}
 use Rattle.jv_base.specs.Place.{Place}
-use Rattle.format_reading.specs.declared.fault.FormatFault.{FormatFault}
-use Rattle.format_reading.specs.Reader.{u1, onwards}
 use Rattle.class_model.specs.declared.pool.Entry.{Entry}
-use Rattle.class_model.specs.Whole.ReadingCode.{begun}
+use Rattle.class_model.specs.Whole.ReadingCode.{read_instruction}
 use Rattle.jv_ops.specs.declared.fault.CodeFault.{CodeFault}
-use Rattle.jv_ops.specs.declared.fault.CodeFault.TheVariants as code
 use Rattle.jv_ops.specs.declared.fault.Wrong.{Wrong}
 use Rattle.jv_ops.specs.declared.unaimed.Placed.{Placed}
 use Rattle.jv_ops.specs.declared.unaimed.Unaimed.{Unaimed}
@@ -20,14 +17,9 @@ abbrev pub at_offset : ℕ → Result (Unaimed × Place) Wrong → Result (Place
 at_offset at (Ok x) = Ok (record { at = at; op = x.0 }, x.1)
 at_offset at (Err w) = Err (code_fault at w)
 
--- the instruction at an offset, behind its opcode; where the code ends before one, it ends inside the instruction
-abbrev pub behind_opcode : List Entry → ℕ → Result (ℕ × Place) FormatFault → Result (Placed × Place) CodeFault
-behind_opcode pool at (Ok x) = at_offset at (meant pool (onwards at (begun pool at x.0) x.1))
-behind_opcode pool at (Err f) = Err (code.Cut at)
-
 -- the instruction that begins at a place of a code
 unfoldable pub placed_at : List Entry → Place → Result (Placed × Place) CodeFault
-placed_at pool p = behind_opcode pool p.at (u1 p)
+placed_at pool p = at_offset p.at (meant pool (read_instruction pool 0 p))
 
 -- ---- all of them
 

@@ -11,7 +11,7 @@ use Rattle.jv_ops.specs.declared.fault.CodeFault.TheVariants as code
 use Rattle.jv_ops.specs.declared.fault.Wrong.{Wrong}
 use Rattle.jv_ops.specs.declared.fault.Wrong.TheVariants as wrong
 
--- the rules that an instruction's bytes can break
+-- the rules that an instruction's bytes can break; anything else that the reading of one tells is that they end too soon
 abbrev pub wrong_of : FormatKind → Wrong
 wrong_of bad.BadOpcode = wrong.Opcode
 wrong_of bad.BadOperand = wrong.Operand

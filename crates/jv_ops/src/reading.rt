@@ -11,7 +11,6 @@ use class_model::Pool;
 use jv_base::{Cursor, Items, Or};
 use std::alloc::Global;
 
-#[tactic(auto, unfolding(crate::specs::Decoding::placed_at, format_reading::specs::Reader::u1))]
 fn placed_at(alloc: Global, pool: &Pool, cursor: &mut Cursor) -> Result<Placed, Or<CodeFault>>
     ensures { MovesOr result cursor.new (placed_at pool.now.entries cursor.old) }
 {
