@@ -1,0 +1,7 @@
+mod Units
+mod Loops
+mod Begun
+mod Placed
+mod ToEnd
+mod Collecting
+mod Numbers

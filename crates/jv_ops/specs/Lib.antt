@@ -1,0 +1,5 @@
+pub mod Fault
+pub mod Meaning
+pub mod Decoding
+pub mod Targets
+pub mod Decoded

@@ -1,0 +1,56 @@
+// A code, as its instructions (JVMS 4.9.1).
+ghost use Rattle.std.specs.Prelude.{◌≡◌, ◌<◌, length, IfOk};
+ghost use Rattle.jv_base.specs.Outcome.{IsDue};
+ghost use Rattle.jv_ops.specs.Decoded.{decoded, all_decoded};
+ghost use Rattle.jv_ops.specs.Targets.{starts_of};
+
+use crate::fault::CodeFault;
+use crate::reading::placed_to_end;
+use crate::targets::{all_aimed, numbers_of};
+use crate::unaimed::Placed;
+use class_model::{Op, Pool};
+use jv_base::{Cursor, Items, M, Or};
+use std::alloc::Global;
+
+/// The instructions of a code, and the offset of each one's first byte.
+#[derive(Debug, Drop)]
+pub struct Decoded {
+    pub ops: Items<Op>,
+    /// As many as there are instructions, ascending from 0.
+    pub starts: Items<u32>,
+}
+
+fn starts_of(alloc: Global, placed: &[Placed]) -> M<Items<u32>>
+    ensures { IfOk result (λ starts. starts ≡ starts_of placed.now) }
+{
+    let mut starts = Items::new(alloc);
+    for next in placed {
+        starts.push(next.at)?;
+    }
+    Ok(starts)
+}
+
+fn all_decoded(alloc: Global, placed: Items<Placed>) -> Result<Decoded, Or<CodeFault>>
+    requires { length placed < 4294967295 }
+    ensures { IsDue result (all_decoded placed) }
+{
+    let starts = starts_of(alloc, placed.as_slice())?;
+    let table = numbers_of(alloc, placed.as_slice())?;
+    let ops = all_aimed(alloc, table.as_slice(), placed)?;
+    Ok(Decoded { ops, starts })
+}
+
+/// The instructions that are the bytes of a code, the constants that they name standing in a pool
+/// (JVMS 4.9.1, 6.5). A target is the number of an instruction.
+///
+/// The first fault from left to right counts. A target is asked for only where each instruction is one,
+/// so `BadTarget` comes behind all others.
+#[tactic(auto, unfolding(crate::specs::Decoded::decoded))]
+pub fn decode_code(alloc: Global, bytes: &[u8], pool: &Pool) -> Result<Decoded, Or<CodeFault>>
+    requires { length bytes.now < 4294967295 }
+    ensures exact { IsDue result (decoded pool.now.entries bytes.now) }
+{
+    let mut cursor = Cursor::new(bytes);
+    let placed = placed_to_end(alloc, pool, bytes.len(), &mut cursor)?;
+    all_decoded(alloc, placed)
+}

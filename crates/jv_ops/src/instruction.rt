@@ -1,0 +1,549 @@
+// One instruction, read from left to right (JVMS 6.5).
+ghost use Rattle.std.specs.Prelude.{◌≡◌, ◌≤◌, ◌+◌, ◌≤ℤ◌, ℕ, List, IfOk, Err, None, option_map, option_and_then, slice_get};
+ghost use Rattle.jv_base.specs.declared.outcome.Or.TheVariants.{Fault};
+ghost use Rattle.class_model.specs.declared.pool.Entry.{Entry};
+ghost use Rattle.jv_ops.specs.declared.fault.Wrong.TheVariants as wrong;
+ghost use Rattle.std.specs.Int.{w32, cast_signed};
+ghost use Rattle.jv_base.specs.Types.{argument_words, words_of};
+ghost use Rattle.format_reading.specs.Reader.{onwards, lead, item, u1, many, u4};
+ghost use Rattle.class_model.specs.Whole.InstructionStructure.{Bipush, Sipush, Local, WideLocal, Branch, pad_length};
+ghost use Rattle.class_model.specs.Whole.Instructions.{is_left_out_load};
+ghost use Rattle.class_model.specs.Whole.InstructionMeaning.{loaded, loaded_wide, member_op, class_op, count_of, method_named, of_type, can_be_operand};
+ghost use Rattle.class_model.specs.Whole.ReadingCode.{is_left_out_at, ldc, ldc_wide, one_byte, two_bytes, iinc, wide_iinc, widened, goto_wide, member, class_operand, is_count, invoke_interface, array_type_read, multi_new_array, table_length, table_switch, ascends, lookup_switch, begun};
+ghost use Rattle.jv_ops.specs.Fault.{MovesOr, told};
+ghost use Rattle.jv_ops.specs.Meaning.{meant, whole_op, match_read, matches_from, matches_behind, begun_by_table};
+
+use crate::fault::Wrong;
+use crate::lookups::{
+    class_at, fieldref_at, interface_methodref_at, method_type_of, methodref_at, string_units_at,
+    type_at,
+};
+use crate::opcodes::{
+    array_type_of, field_op, is_branch, is_left_out_array_type, is_left_out_local,
+    is_left_out_opcode, is_local, is_on_field, is_on_method, is_on_type, local_op, method_op,
+    plain_op, takes_interface_method, type_op,
+};
+use crate::unaimed::{Match, Unaimed};
+use class_model::{Entry, MemberRef, Op, Pool};
+use jv_base::{Base, Cursor, FieldType, Items, M, Or};
+use std::alloc::Global;
+
+// ---- what an operand means
+
+// Whether the entry is a class, a float or a double, which no instruction loads here.
+fn is_left_out_load(entry: &Entry) -> bool
+    ensures { result ≡ is_left_out_load entry.now }
+{
+    match entry {
+        Entry::Class(_) => true,
+        Entry::LeftOut(tag) => *tag == 4 || *tag == 6,
+        _ => false,
+    }
+}
+
+fn is_left_out_at(pool: &Pool, index: u16) -> bool
+    ensures { result ≡ is_left_out_at (slice_get pool.now.entries index) }
+{
+    match pool.entries.get(usize::from(index)) {
+        Some(entry) => is_left_out_load(entry),
+        None => false,
+    }
+}
+
+// What ldc and ldc_w load: an int or a string.
+fn loaded(alloc: Global, pool: &Pool, index: u16) -> M<Option<Op>>
+    ensures { IfOk result (λ op. op ≡ loaded pool.now.entries index) }
+{
+    if let Some(Entry::Integer(value)) = pool.entries.get(usize::from(index)) {
+        return Ok(Some(Op::PushInt(*value)));
+    }
+    match string_units_at(pool, index) {
+        Some(units) => Ok(Some(Op::PushText(units.clone()?))),
+        None => Ok(None),
+    }
+}
+
+// What ldc_w loads, and ldc2_w, which loads a long.
+fn loaded_wide(alloc: Global, opcode: u8, pool: &Pool, index: u16) -> M<Option<Op>>
+    ensures { IfOk result (λ op. op ≡ loaded_wide opcode pool.now.entries index) }
+{
+    if opcode == 0x13 {
+        return loaded(alloc, pool, index);
+    }
+    match pool.entries.get(usize::from(index)) {
+        Some(Entry::Long(value)) => Ok(Some(Op::PushLong(*value))),
+        _ => Ok(None),
+    }
+}
+
+// The method that an instruction of this opcode names.
+fn method_named(alloc: Global, opcode: u8, pool: &Pool, index: u16) -> M<Option<MemberRef>>
+    ensures { IfOk result (λ method. method ≡ method_named opcode pool.now.entries index) }
+{
+    match methodref_at(alloc, pool, index)? {
+        Some(method) => Ok(Some(method)),
+        None if takes_interface_method(opcode) => interface_methodref_at(alloc, pool, index),
+        None => Ok(None),
+    }
+}
+
+// The instruction on a field or a method.
+fn member_op(alloc: Global, opcode: u8, pool: &Pool, index: u16) -> M<Option<Op>>
+    ensures { IfOk result (λ op. op ≡ member_op opcode pool.now.entries index) }
+{
+    if is_on_field(opcode) {
+        return match fieldref_at(alloc, pool, index)? {
+            Some(field) => Ok(field_op(opcode, field)),
+            None => Ok(None),
+        };
+    }
+    match method_named(alloc, opcode, pool, index)? {
+        Some(method) => Ok(method_op(opcode, method)),
+        None => Ok(None),
+    }
+}
+
+// Whether the type can be the operand: the elements of a new array have at most 254 dimensions.
+fn can_be_operand(opcode: u8, ty: &FieldType) -> bool
+    ensures { result ≡ can_be_operand opcode ty.now }
+{
+    opcode != 0xBD || ty.dims <= 254
+}
+
+fn of_type(opcode: u8, ty: FieldType) -> Option<Op>
+    ensures { result ≡ of_type opcode ty }
+{
+    if can_be_operand(opcode, &ty) {
+        type_op(opcode, ty)
+    } else {
+        None
+    }
+}
+
+// new, anewarray, checkcast and instanceof.
+fn class_op(alloc: Global, opcode: u8, pool: &Pool, index: u16) -> M<Option<Op>>
+    ensures { IfOk result (λ op. op ≡ class_op opcode pool.now.entries index) }
+{
+    if opcode == 0xBB {
+        return match class_at(alloc, pool, index)? {
+            Some(name) => Ok(Some(Op::New(name))),
+            None => Ok(None),
+        };
+    }
+    match type_at(alloc, pool, index)? {
+        Some(ty) => Ok(of_type(opcode, ty)),
+        None => Ok(None),
+    }
+}
+
+#[tactic(auto, unfolding(jv_base::specs::Types::words_of))]
+fn words_of(ty: &FieldType) -> u32
+    ensures value { result ≡ words_of ty.now }
+    ensures most { result ≤ 2 }
+{
+    if ty.dims == 0 && matches!(ty.base, Base::Long | Base::Double) {
+        2
+    } else {
+        1
+    }
+}
+
+// How many words the arguments take (JVMS 4.3.3).
+#[tactic(auto, unfolding(jv_base::specs::Types::argument_words))]
+fn argument_words(args: &[FieldType]) -> u32
+    requires { argument_words args.now ≤ 255 }
+    ensures { result ≡ argument_words args.now }
+{
+    let mut words = 0;
+    for ty in args {
+        words += words_of(ty);
+    }
+    words
+}
+
+// The count that invokeinterface has for a method: its argument words with the object's.
+fn count_of(alloc: Global, method: &MemberRef) -> M<Option<u32>>
+    ensures { IfOk result (λ count. count ≡ count_of method.now) }
+{
+    match method_type_of(alloc, &method.ty)? {
+        Some(ty) => Ok(Some(argument_words(ty.args.as_slice()) + 1)),
+        None => Ok(None),
+    }
+}
+
+// ---- instructions, behind their opcode
+
+// The instruction of this opcode is left out.
+fn left_out(opcode: u8) -> Result<Unaimed, Or<Wrong>>
+    ensures { result ≡ Err (Fault (wrong.LeftOut opcode)) }
+{
+    Err(Or::Fault(Wrong::LeftOut(opcode)))
+}
+
+fn bad_operand() -> Result<Unaimed, Or<Wrong>>
+    ensures { result ≡ Err (Fault wrong.Operand) }
+{
+    Err(Or::Fault(Wrong::Operand))
+}
+
+// What an operand means, which has to mean something.
+fn whole(op: Option<Op>) -> Result<Unaimed, Or<Wrong>>
+    ensures { result ≡ whole_op op }
+{
+    match op {
+        Some(op) => Ok(Unaimed::Whole(op)),
+        None => bad_operand(),
+    }
+}
+
+fn bipush(cursor: &mut Cursor) -> Result<Unaimed, Or<Wrong>>
+    ensures { (pool : List Entry) → MovesOr result cursor.new (meant pool (one_byte (λ byte. Bipush byte) cursor.old)) }
+{
+    let byte = cursor.u1()?;
+    Ok(Unaimed::Whole(Op::PushInt(i32::from(byte.cast_signed()))))
+}
+
+fn sipush(cursor: &mut Cursor) -> Result<Unaimed, Or<Wrong>>
+    ensures { (pool : List Entry) → MovesOr result cursor.new (meant pool (two_bytes (λ short. Sipush short) cursor.old)) }
+{
+    let short = cursor.u2()?;
+    Ok(Unaimed::Whole(Op::PushInt(i32::from(short.cast_signed()))))
+}
+
+fn ldc(alloc: Global, pool: &Pool, cursor: &mut Cursor) -> Result<Unaimed, Or<Wrong>>
+    ensures { MovesOr result cursor.new (meant pool.now.entries (ldc pool.now.entries cursor.old)) }
+{
+    let index = u16::from(cursor.u1()?);
+    if is_left_out_at(pool, index) {
+        return left_out(0x12);
+    }
+    whole(loaded(alloc, pool, index)?)
+}
+
+fn ldc_wide(
+    alloc: Global,
+    pool: &Pool,
+    opcode: u8,
+    cursor: &mut Cursor,
+) -> Result<Unaimed, Or<Wrong>>
+    ensures { MovesOr result cursor.new (meant pool.now.entries (ldc_wide pool.now.entries opcode cursor.old)) }
+{
+    let index = cursor.u2()?;
+    if is_left_out_at(pool, index) {
+        return left_out(opcode);
+    }
+    whole(loaded_wide(alloc, opcode, pool, index)?)
+}
+
+fn local(opcode: u8, cursor: &mut Cursor) -> Result<Unaimed, Or<Wrong>>
+    ensures { (pool : List Entry) → MovesOr result cursor.new (meant pool (one_byte (λ index. Local opcode index) cursor.old)) }
+{
+    let index = cursor.u1()?;
+    whole(local_op(opcode, u16::from(index)))
+}
+
+fn wide_local(opcode: u8, cursor: &mut Cursor) -> Result<Unaimed, Or<Wrong>>
+    ensures { (pool : List Entry) → MovesOr result cursor.new (meant pool (two_bytes (λ index. WideLocal opcode index) cursor.old)) }
+{
+    let index = cursor.u2()?;
+    whole(local_op(opcode, index))
+}
+
+fn iinc(cursor: &mut Cursor) -> Result<Unaimed, Or<Wrong>>
+    ensures { (pool : List Entry) → MovesOr result cursor.new (meant pool (iinc cursor.old)) }
+{
+    let index = cursor.u1()?;
+    let by = cursor.u1()?;
+    Ok(Unaimed::Whole(Op::Inc(u16::from(index), i16::from(by.cast_signed()))))
+}
+
+fn wide_iinc(cursor: &mut Cursor) -> Result<Unaimed, Or<Wrong>>
+    ensures { (pool : List Entry) → MovesOr result cursor.new (meant pool (wide_iinc cursor.old)) }
+{
+    let index = cursor.u2()?;
+    let by = cursor.u2()?;
+    Ok(Unaimed::Whole(Op::Inc(index, by.cast_signed())))
+}
+
+fn widened(opcode: u8, cursor: &mut Cursor) -> Result<Unaimed, Or<Wrong>>
+    ensures { (pool : List Entry) (at : ℕ) → MovesOr result cursor.new (meant pool (onwards at (widened opcode) cursor.old)) }
+{
+    match opcode {
+        0x84 => wide_iinc(cursor),
+        _ if is_left_out_local(opcode) => left_out(0xC4),
+        _ if is_local(opcode) => wide_local(opcode, cursor),
+        _ => Err(Or::Fault(Wrong::Opcode)),
+    }
+}
+
+fn wide(cursor: &mut Cursor) -> Result<Unaimed, Or<Wrong>>
+    ensures { (pool : List Entry) → MovesOr result cursor.new (meant pool (lead u1 widened cursor.old)) }
+{
+    let opcode = cursor.u1()?;
+    widened(opcode, cursor)
+}
+
+fn branch(opcode: u8, cursor: &mut Cursor) -> Result<Unaimed, Or<Wrong>>
+    ensures { (pool : List Entry) → MovesOr result cursor.new (meant pool (two_bytes (λ offset. Branch opcode offset) cursor.old)) }
+{
+    let offset = cursor.u2()?;
+    Ok(Unaimed::Branch {
+        opcode,
+        offset: i32::from(offset.cast_signed()),
+    })
+}
+
+fn goto_wide(cursor: &mut Cursor) -> Result<Unaimed, Or<Wrong>>
+    ensures { (pool : List Entry) → MovesOr result cursor.new (meant pool (goto_wide cursor.old)) }
+{
+    let offset = cursor.u4()?;
+    Ok(Unaimed::Branch {
+        opcode: 0xA7,
+        offset: offset.cast_signed(),
+    })
+}
+
+fn member(alloc: Global, pool: &Pool, opcode: u8, cursor: &mut Cursor) -> Result<Unaimed, Or<Wrong>>
+    ensures { MovesOr result cursor.new (meant pool.now.entries (member pool.now.entries opcode cursor.old)) }
+{
+    let index = cursor.u2()?;
+    whole(member_op(alloc, opcode, pool, index)?)
+}
+
+fn class_operand(
+    alloc: Global,
+    pool: &Pool,
+    opcode: u8,
+    cursor: &mut Cursor,
+) -> Result<Unaimed, Or<Wrong>>
+    ensures { MovesOr result cursor.new (meant pool.now.entries (class_operand pool.now.entries opcode cursor.old)) }
+{
+    let index = cursor.u2()?;
+    whole(class_op(alloc, opcode, pool, index)?)
+}
+
+fn is_count(wanted: Option<u32>, count: u8) -> bool
+    ensures { result ≡ is_count wanted count }
+{
+    match wanted {
+        Some(wanted) => u32::from(count) == wanted,
+        None => false,
+    }
+}
+
+fn invoke_interface(alloc: Global, pool: &Pool, cursor: &mut Cursor) -> Result<Unaimed, Or<Wrong>>
+    ensures { MovesOr result cursor.new (meant pool.now.entries (invoke_interface pool.now.entries cursor.old)) }
+{
+    let index = cursor.u2()?;
+    let Some(method) = interface_methodref_at(alloc, pool, index)? else {
+        return bad_operand();
+    };
+    let count = cursor.u1()?;
+    if !is_count(count_of(alloc, &method)?, count) {
+        return bad_operand();
+    }
+    if cursor.u1()? != 0 {
+        return bad_operand();
+    }
+    Ok(Unaimed::Whole(Op::InvokeInterface(method)))
+}
+
+fn new_array(cursor: &mut Cursor) -> Result<Unaimed, Or<Wrong>>
+    ensures { (pool : List Entry) → MovesOr result cursor.new (meant pool (item u1 array_type_read cursor.old)) }
+{
+    let code = cursor.u1()?;
+    if is_left_out_array_type(code) {
+        return left_out(0xBC);
+    }
+    match array_type_of(code) {
+        Some(ty) => Ok(Unaimed::Whole(Op::NewArray(ty))),
+        None => bad_operand(),
+    }
+}
+
+fn multi_new_array(alloc: Global, pool: &Pool, cursor: &mut Cursor) -> Result<Unaimed, Or<Wrong>>
+    ensures { MovesOr result cursor.new (meant pool.now.entries (multi_new_array pool.now.entries cursor.old)) }
+{
+    let index = cursor.u2()?;
+    let Some(ty) = type_at(alloc, pool, index)? else {
+        return bad_operand();
+    };
+    let dimensions = cursor.u1()?;
+    if dimensions == 0 || dimensions > ty.dims {
+        return bad_operand();
+    }
+    Ok(Unaimed::Whole(Op::MultiNewArray(ty, dimensions)))
+}
+
+// ---- switches
+
+// How many bytes pad a switch at an offset (JVMS 6.5).
+fn pad_length(at: u32) -> u32
+    ensures { result ≡ pad_length at }
+{
+    3 - at % 4
+}
+
+fn offset(cursor: &mut Cursor) -> Result<u32, Or<Wrong>>
+    ensures { MovesOr result cursor.new (told (u4 cursor.old)) }
+{
+    Ok(cursor.u4()?)
+}
+
+fn offsets(alloc: Global, count: u64, cursor: &mut Cursor) -> Result<Items<u32>, Or<Wrong>>
+    ensures { MovesOr result cursor.new (told (many count u4 cursor.old)) }
+{
+    let mut offsets = Items::new(alloc);
+    for _ in 0..count {
+        let next = offset(cursor)?;
+        offsets.push(next)?;
+    }
+    Ok(offsets)
+}
+
+// How many offsets a tableswitch has, whose high is at least its low.
+fn table_length(low: u32, high: u32) -> u64
+    requires { cast_signed w32 low ≤ℤ cast_signed w32 high }
+    ensures { result ≡ table_length low high }
+{
+    i64::from(high.cast_signed()).abs_diff(i64::from(low.cast_signed())) + 1
+}
+
+fn table_switch(alloc: Global, at: u32, cursor: &mut Cursor) -> Result<Unaimed, Or<Wrong>>
+    ensures { (pool : List Entry) → MovesOr result cursor.new (meant pool (table_switch at cursor.old)) }
+{
+    let _ = cursor.take(pad_length(at))?;
+    let default = cursor.u4()?;
+    let low = cursor.u4()?;
+    let high = cursor.u4()?;
+    if low.cast_signed() > high.cast_signed() {
+        return bad_operand();
+    }
+    let offsets = offsets(alloc, table_length(low, high), cursor)?;
+    Ok(Unaimed::TableSwitch {
+        default,
+        low,
+        offsets,
+    })
+}
+
+// Whether a key is greater than the one before.
+fn ascends(previous: Option<u32>, key: u32) -> bool
+    ensures { result ≡ ascends previous key }
+{
+    match previous {
+        Some(previous) => previous.cast_signed() < key.cast_signed(),
+        None => true,
+    }
+}
+
+// A key that is greater than the one before, and its offset.
+#[tactic(auto, unfolding(crate::specs::Meaning::match_read, format_reading::specs::Reader::u4, format_reading::specs::Reader::lead, format_reading::specs::Reader::bind, format_reading::specs::Reader::give))]
+fn match_at(previous: Option<u32>, cursor: &mut Cursor) -> Result<Match, Or<Wrong>>
+    ensures { MovesOr result cursor.new (told (match_read previous cursor.old)) }
+{
+    let key = cursor.u4()?;
+    if !ascends(previous, key) {
+        return Err(Or::Fault(Wrong::Operand));
+    }
+    let offset = cursor.u4()?;
+    Ok(Match { key, offset })
+}
+
+fn matches(alloc: Global, count: u32, cursor: &mut Cursor) -> Result<Items<Match>, Or<Wrong>>
+    ensures { MovesOr result cursor.new (told (matches_from count None cursor.old)) }
+{
+    let mut matches = Items::new(alloc);
+    let mut previous = None;
+    for _ in 0..count {
+        let next = match_at(previous, cursor)?;
+        previous = Some(next.key);
+        matches.push(next)?;
+    }
+    Ok(matches)
+}
+
+// A lookupswitch behind its count.
+fn lookup_matches(
+    alloc: Global,
+    default: u32,
+    count: u32,
+    cursor: &mut Cursor,
+) -> Result<Unaimed, Or<Wrong>>
+    ensures { (pool : List Entry) (pad : List ℕ) → MovesOr result cursor.new (meant pool (matches_behind pad default count cursor.old)) }
+{
+    let matches = matches(alloc, count, cursor)?;
+    Ok(Unaimed::LookupSwitch { default, matches })
+}
+
+fn lookup_switch(alloc: Global, at: u32, cursor: &mut Cursor) -> Result<Unaimed, Or<Wrong>>
+    ensures { (pool : List Entry) → MovesOr result cursor.new (meant pool (lookup_switch at cursor.old)) }
+{
+    let _ = cursor.take(pad_length(at))?;
+    let default = cursor.u4()?;
+    let count = cursor.u4()?;
+    if count >= 0x8000_0000 {
+        return bad_operand();
+    }
+    lookup_matches(alloc, default, count, cursor)
+}
+
+// ---- instructions
+
+// What an opcode of one of the tables begins.
+fn begun_by_table(
+    alloc: Global,
+    pool: &Pool,
+    opcode: u8,
+    cursor: &mut Cursor,
+) -> Result<Unaimed, Or<Wrong>>
+    ensures { (at : ℕ) → MovesOr result cursor.new (meant pool.now.entries (onwards at (begun_by_table pool.now.entries opcode) cursor.old)) }
+{
+    if is_local(opcode) {
+        return local(opcode, cursor);
+    }
+    if is_branch(opcode) {
+        return branch(opcode, cursor);
+    }
+    if is_on_field(opcode) || is_on_method(opcode) {
+        return member(alloc, pool, opcode, cursor);
+    }
+    if opcode == 0xBB || is_on_type(opcode) {
+        return class_operand(alloc, pool, opcode, cursor);
+    }
+    if is_left_out_opcode(opcode) {
+        return left_out(opcode);
+    }
+    Err(Or::Fault(Wrong::Opcode))
+}
+
+/// What an opcode at an offset of the code begins.
+pub fn begun(
+    alloc: Global,
+    pool: &Pool,
+    at: u32,
+    opcode: u8,
+    cursor: &mut Cursor,
+) -> Result<Unaimed, Or<Wrong>>
+    ensures { (offset : ℕ) → MovesOr result cursor.new (meant pool.now.entries (onwards offset (begun pool.now.entries at opcode) cursor.old)) }
+{
+    if let Some(op) = plain_op(opcode) {
+        return Ok(Unaimed::Whole(op));
+    }
+    match opcode {
+        0x10 => bipush(cursor),
+        0x11 => sipush(cursor),
+        0x12 => ldc(alloc, pool, cursor),
+        0x13 | 0x14 => ldc_wide(alloc, pool, opcode, cursor),
+        0x84 => iinc(cursor),
+        0xC4 => wide(cursor),
+        0xC8 => goto_wide(cursor),
+        0xAA => table_switch(alloc, at, cursor),
+        0xAB => lookup_switch(alloc, at, cursor),
+        0xB9 => invoke_interface(alloc, pool, cursor),
+        0xBC => new_array(cursor),
+        0xC5 => multi_new_array(alloc, pool, cursor),
+        0xBA => left_out(opcode),
+        _ => begun_by_table(alloc, pool, opcode, cursor),
+    }
+}
