@@ -38,8 +38,7 @@ fn a_small_class_is_read(rt: HostRuntime) -> Result<(), Fail> {
     let mut longer = CLASS.to_vec(alloc)?;
     longer.push(0)?;
     let shorter = &CLASS[..CLASS.len() - 1];
-    for bytes in [longer.as_slice(), shorter] {
-        assert!(rt; matches!(read_small(alloc, bytes), Err(Or::Fault(NotBuilt))));
-    }
+    assert!(rt; matches!(read_small(alloc, longer.as_slice()), Err(Or::Fault(NotBuilt))));
+    assert!(rt; matches!(read_small(alloc, shorter), Err(Or::Fault(NotBuilt))));
     Ok(())
 }
