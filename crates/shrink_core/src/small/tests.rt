@@ -38,7 +38,12 @@ fn a_small_class_is_read(rt: HostRuntime) -> Result<(), Fail> {
     let mut longer = CLASS.to_vec(alloc)?;
     longer.push(0)?;
     let shorter = &CLASS[..CLASS.len() - 1];
-    assert!(rt; matches!(read_small(alloc, longer.as_slice()), Err(Or::Fault(NotBuilt))));
+    assert!(rt;
+        matches!(
+            read_small(alloc, longer.as_slice()),
+            Err(Or::Fault(NotBuilt))
+        )
+    );
     assert!(rt; matches!(read_small(alloc, shorter), Err(Or::Fault(NotBuilt))));
     Ok(())
 }
