@@ -2,10 +2,10 @@
 use Rattle.std.proofs.Common.{refl}
 use Rattle.jv_base.specs.Utf16.{units_of}
 use Rattle.std.specs.Str.{chars}
-use Rattle.class_model.specs.Whole.CanonicalPool.{filled}
-use Rattle.class_model.specs.Whole.CanonicalCode.{places, code_bytes}
-use Rattle.class_model.specs.Whole.CanonicalClass.{pool_of, layout}
-use Rattle.class_model.specs.Whole.WriteLimits.{limits, class_written}
+use Rattle.class_model.specs.CanonicalPool.{filled}
+use Rattle.class_model.specs.CanonicalCode.{places, code_bytes}
+use Rattle.class_model.specs.CanonicalClass.{pool_of, layout}
+use Rattle.class_model.specs.WriteLimits.{limits, class_written}
 use Rattle.jv_base.specs.Mutf8.{unit_bytes, mutf8}
 use Rattle.jv_base.specs.Names.{part_after, is_primitive_or_void, is_name_byte, is_member_name, is_method_name, is_class_name}
 use Rattle.jv_base.specs.Walk.{walk}
@@ -14,16 +14,16 @@ use Rattle.jv_base.specs.Decoding.{byte_taken, read_mutf8}
 use Rattle.jv_base.specs.Descriptors.{grown, read_field, read_method}
 use Rattle.std.specs.Char.Utf16.{utf16_chars}
 use Rattle.format_reading.specs.Reader.{u1, u2, u4, bytes, lead, bind, give, here, told, settle, part, many}
-use Rattle.class_model.specs.Whole.Lookups.{text_of, names_right, class_at, optional_class_at, type_at, fieldref_at, methodref_at, interface_methodref_at}
-use Rattle.class_model.specs.Whole.ReadingPool.{read_pool, slots, slot, read_entry, all_name_right}
-use Rattle.class_model.specs.Whole.InstructionMeaning.{op_of}
-use Rattle.class_model.specs.Whole.ReadingCode.{match_offsets, read_instruction, until_end, ops_from}
-use Rattle.class_model.specs.Whole.ReadingFrames.{read_type, read_row, read_frame, read_frames_behind, read_frames}
-use Rattle.class_model.specs.Whole.ReadingAttributes.{attributes, exceptions, line_number_table}
-use Rattle.class_model.specs.Whole.ReadingCodeAttribute.{read_handlers, read_code}
-use Rattle.class_model.specs.Whole.MemberTypes.{field_type_at, method_type_at}
-use Rattle.class_model.specs.Whole.ReadingMembers.{read_field_info, read_fields, read_method_info, read_methods}
-use Rattle.class_model.specs.Whole.ReadingClass.{read_head, read_all_fields, read_all_methods, read_interfaces, read_class_file, class_read}
+use Rattle.class_model.specs.Lookups.{text_of, names_right, class_at, optional_class_at, type_at, fieldref_at, methodref_at, interface_methodref_at}
+use Rattle.class_model.specs.ReadingPool.{read_pool, slots, slot, read_entry, all_name_right}
+use Rattle.class_model.specs.InstructionMeaning.{op_of}
+use Rattle.class_model.specs.ReadingCode.{match_offsets, read_instruction, until_end, ops_from}
+use Rattle.class_model.specs.ReadingFrames.{read_type, read_row, read_frame, read_frames_behind, read_frames}
+use Rattle.class_model.specs.ReadingAttributes.{attributes, exceptions, line_number_table}
+use Rattle.class_model.specs.ReadingCodeAttribute.{read_handlers, read_code}
+use Rattle.class_model.specs.MemberTypes.{field_type_at, method_type_at}
+use Rattle.class_model.specs.ReadingMembers.{read_field_info, read_fields, read_method_info, read_methods}
+use Rattle.class_model.specs.ReadingClass.{read_head, read_all_fields, read_all_methods, read_interfaces, read_class_file, class_read}
 use Rattle.class_examples.specs.Compiled.{IsCut, IsBadMagic, IsBadVersion, IsBadTag, IsBadUtf8, IsBadIndex, IsBadName, IsBadDescriptor, IsBadFlags, IsBadAttribute, IsBadCode, IsBadOpcode, IsBadOperand, IsBadTarget, IsBadHandler, IsBadFrame, IsRepeated, IsTrailing, LeavesFlag, LeavesConstant, LeavesOpcode, LeavesFloatType, IsRespelled}
 
 pub cut : IsCut

@@ -5,8 +5,8 @@ use Rattle.format_reading.specs.declared.fault.FormatKind.{FormatKind}
 use Rattle.format_reading.specs.declared.fault.FormatKind.TheVariants as bad
 use Rattle.class_model.specs.declared.class.LeftKind.{LeftKind}
 use Rattle.class_model.specs.declared.class.LeftKind.TheVariants as left
-use Rattle.class_model.specs.Whole.Rows.{hex, refused, left_out_of, respelled}
-use Rattle.class_model.specs.Whole.ReadingClass.{class_read}
+use Rattle.class_model.specs.Rows.{hex, refused, left_out_of, respelled}
+use Rattle.class_model.specs.ReadingClass.{class_read}
 
 -- the first fault of the bytes has this offset and this kind
 abbrev pub IsRefused : List ℕ → ℕ → FormatKind → Type 0

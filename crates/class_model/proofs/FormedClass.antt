@@ -4,9 +4,9 @@ use Rattle.std.specs.Prelude.{codes, IsUtf8, AllPairs, false, IsSome, slice_inde
 use Rattle.jv_base.specs.Names.{is_primitive_or_void, is_name_byte, is_member_name, is_method_name, is_class_name}
 use Rattle.jv_base.specs.Types.{words_of, argument_words}
 use Rattle.class_model.specs.declared.code.Ins.{Ins}
-use Rattle.class_model.specs.Whole.Members.{FieldsDiffer, MethodsDiffer}
-use Rattle.class_model.specs.Whole.WellFormed.{IsGoodField, IsGoodMethod, IsGoodCode, LinesGoOn, Ascend}
-use Rattle.class_model.specs.Whole.Rows.{field_of_t, method_of_t, code_of_t, frame_of_t, TIsWellFormed}
+use Rattle.class_model.specs.Members.{FieldsDiffer, MethodsDiffer}
+use Rattle.class_model.specs.WellFormed.{IsGoodField, IsGoodMethod, IsGoodCode, LinesGoOn, Ascend}
+use Rattle.class_model.specs.Rows.{field_of_t, method_of_t, code_of_t, frame_of_t, TIsWellFormed}
 
 abbrev object : List ℕ
 object = codes "java/lang/Object"

@@ -13,14 +13,14 @@ use Rattle.class_model.specs.declared.pool.Entry.TheVariants as entry
 use Rattle.class_model.specs.declared.frame.VType.TheVariants as vtype
 use Rattle.class_model.specs.Pool.{IsText, units_at}
 use Rattle.class_model.specs.Structure.{MemberInfo, CodeInfo, code_info}
-use Rattle.class_model.specs.Whole.ConstantPool.{Utf8Info, IntegerInfo, LongInfo, ClassInfo, IsPool, IsConstant, long_of}
-use Rattle.class_model.specs.Whole.InstructionStructure.{Info, Plain, Branch}
-use Rattle.class_model.specs.Whole.LineNumbers.{LineNumber}
-use Rattle.class_model.specs.Whole.Frames.{SameFrame}
-use Rattle.class_model.specs.Whole.CodeAttribute.{IsCode}
-use Rattle.class_model.specs.Whole.Members.{IsField, IsMethod, FieldsDiffer, MethodsDiffer}
-use Rattle.class_model.specs.Whole.ClassFile.{ClassFile, IsClass}
-use Rattle.class_model.specs.Whole.Rows.{hex, field_of_t, method_of_t, code_of_t, class_t, TIsSpelled}
+use Rattle.class_model.specs.ConstantPool.{Utf8Info, IntegerInfo, LongInfo, ClassInfo, IsPool, IsConstant, long_of}
+use Rattle.class_model.specs.InstructionStructure.{Info, Plain, Branch}
+use Rattle.class_model.specs.LineNumbers.{LineNumber}
+use Rattle.class_model.specs.Frames.{SameFrame}
+use Rattle.class_model.specs.CodeAttribute.{IsCode}
+use Rattle.class_model.specs.Members.{IsField, IsMethod, FieldsDiffer, MethodsDiffer}
+use Rattle.class_model.specs.ClassFile.{ClassFile, IsClass}
+use Rattle.class_model.specs.Rows.{hex, field_of_t, method_of_t, code_of_t, class_t, TIsSpelled}
 
 -- ---- the structure
 

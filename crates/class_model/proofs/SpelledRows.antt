@@ -8,10 +8,10 @@ use Rattle.jv_base.specs.Names.{is_primitive_or_void, is_name_byte, is_member_na
 use Rattle.class_model.specs.declared.pool.Entry.{Entry}
 use Rattle.class_model.specs.declared.pool.Entry.TheVariants as entry
 use Rattle.class_model.specs.Pool.{IsText, units_at}
-use Rattle.class_model.specs.Whole.ConstantPool.{Utf8Info, ClassInfo, IsPool}
-use Rattle.class_model.specs.Whole.ClassFile.{ClassFile, IsClass}
-use Rattle.class_model.specs.Whole.Members.{FieldsDiffer, MethodsDiffer}
-use Rattle.class_model.specs.Whole.Rows.{class_a, IsSpelled}
+use Rattle.class_model.specs.ConstantPool.{Utf8Info, ClassInfo, IsPool}
+use Rattle.class_model.specs.ClassFile.{ClassFile, IsClass}
+use Rattle.class_model.specs.Members.{FieldsDiffer, MethodsDiffer}
+use Rattle.class_model.specs.Rows.{class_a, IsSpelled}
 
 abbrev a_name : List ℕ
 a_name = codes "A"

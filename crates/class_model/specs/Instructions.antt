@@ -1,83 +1,181 @@
--- Instructions and their bytes (JVMS 6.5), as far as they are read; Whole.Instructions has all of them.
-use Rattle.std.specs.Prelude.{◌≡◌, ℕ, ◌-◌, ◌^◌, ◌<◌, List, [], ◌∷◌, Option, Some, None, Bool, nat_le, ◌==◌, ◌&&◌, if◌then◌else◌, pos, ◌-ℤ◌}
-use Rattle.std.specs.Int.{w8, w16, to_be_bytes, cast_signed}
+-- Which instruction its bytes stand for (JVMS 4.9.1, 6.5).
+use Rattle.std.specs.Prelude.{◌≡◌, ◌⊎◌, ℕ, ◌+◌, ◌^◌, ◌<◌, ◌≤◌, ℤ, pos, ◌+ℤ◌, ◌-ℤ◌, ◌<ℤ◌, ◌≤ℤ◌, Bool, true, false, ◌||◌, List, [], ◌∷◌, ◌++◌, length, slice_get, Option, Some, option_map, AllPairs, IsTrue, ◌==◌}
+use Rattle.std.specs.Int.{w8, w16, w32, to_be_bytes, cast_signed}
 use Rattle.std.specs.List.{AllZip, flat_map}
+use Rattle.jv_base.specs.Types.{method_text, IsMethodType, argument_words}
+use Rattle.jv_base.specs.declared.types.FieldType.{FieldType}
+use Rattle.jv_base.specs.declared.types.MethodType.{MethodType}
+use Rattle.format_reading.specs.Spelling.{AllStand}
+use Rattle.class_model.specs.declared.pool.Entry.{Entry}
+use Rattle.class_model.specs.declared.pool.Entry.TheVariants as entry
+use Rattle.class_model.specs.declared.op.MemberRef.{MemberRef}
+use Rattle.class_model.specs.declared.op.Case.{Case}
 use Rattle.class_model.specs.declared.op.Op.{Op}
 use Rattle.class_model.specs.declared.op.Op.TheVariants as op
-use Rattle.class_model.specs.declared.op.Kind.TheVariants as kind
-use Rattle.class_model.specs.declared.op.Num.TheVariants as num
-use Rattle.class_model.specs.declared.op.ArithOp.TheVariants as arith
-use Rattle.class_model.specs.declared.code.Ins.{Ins}
+use Rattle.class_model.specs.declared.class.LeftKind.{LeftKind}
+use Rattle.class_model.specs.declared.class.LeftKind.TheVariants as left
+use Rattle.class_model.specs.Pool.{IsClassAt}
+use Rattle.class_model.specs.ConstantPool.{IsTypeAt, IsFieldrefAt, IsMethodrefAt, IsInterfaceMethodrefAt, string_units_at}
+use Rattle.class_model.specs.Opcodes.{plain_op, local_op, branch_op, field_op, method_op, takes_interface_method, type_op, array_type_of, is_left_out_local, is_left_out_array_type, is_left_out_opcode}
+use Rattle.class_model.specs.InstructionStructure.{MatchOffset, Info, Plain, Bipush, Sipush, Ldc, LdcWide, Local, WideLocal, Iinc, WideIinc, Branch, GotoWide, TableSwitch, LookupSwitch, MemberOperand, InvokeInterface, ClassOperand, NewArray, MultiNewArray, info_bytes, pad_length}
 
--- the bytes of an instruction, by what follows its opcode
-pub data Info : Type 0 where
-  Plain : (opcode : ℕ) → Info
-  Byte : (opcode operand : ℕ) → Info
-  Short : (opcode operand : ℕ) → Info
-  Bytes : (opcode first second : ℕ) → Info
+-- ---- operands
 
--- the opcode and its operands
-abbrev pub info_bytes : Info → List ℕ
-info_bytes (Plain opcode) = opcode ∷ []
-info_bytes (Byte opcode operand) = opcode ∷ operand ∷ []
-info_bytes (Short opcode operand) = opcode ∷ to_be_bytes w16 operand
-info_bytes (Bytes opcode first second) = opcode ∷ first ∷ second ∷ []
+-- what an opcode makes of its operand is the instruction
+abbrev pub Makes : {A : Type 0} → Option (A → Op) → A → Op → Type 0
+Makes table operand o = option_map (λ make. make operand) table ≡ Some o
 
--- the operands fit their bytes
-abbrev pub Fits : Info → Type 0
-Fits (Plain opcode) = Unit {0}
-Fits (Byte opcode operand) = operand < 2 ^ 8
-Fits (Short opcode operand) = operand < 2 ^ 16
-Fits (Bytes opcode first second) = (first < 2 ^ 8) × (second < 2 ^ 8)
+-- the constant that ldc and ldc_w load: an int or a string
+abbrev pub IsLoaded : List Entry → ℕ → Op → Type 0
+IsLoaded pool index o = ((n : ℤ) × (slice_get pool index ≡ Some (entry.Integer n)) × (o ≡ op.PushInt n))
+    ⊎ ((units : List ℕ) × (string_units_at pool index ≡ Some units) × (o ≡ op.PushText units))
 
--- a number from the first to the second
-abbrev pub between : ℕ → ℕ → ℕ → Bool
-between low high n = nat_le low n && nat_le n high
+-- the constant that ldc2_w loads: a long
+abbrev pub IsLoadedLong : List Entry → ℕ → Op → Type 0
+IsLoadedLong pool index o = (n : ℤ) × (slice_get pool index ≡ Some (entry.Long n)) × (o ≡ op.PushLong n)
 
--- nop, iconst_<i>, iload_<n>, istore_<n>, pop, iadd, isub, imul, idiv, irem, ineg, ireturn
-abbrev pub plain_op : ℕ → Option Op
-plain_op opcode =
-    if opcode == 0x00 then Some op.Nop
-    else if between 0x02 0x08 opcode then Some (op.PushInt (pos opcode -ℤ pos 3))
-    else if between 0x1A 0x1D opcode then Some (op.Load kind.Int (opcode - 0x1A))
-    else if between 0x3B 0x3E opcode then Some (op.Store kind.Int (opcode - 0x3B))
-    else if opcode == 0x57 then Some op.Pop
-    else if opcode == 0x60 then Some (op.Arith arith.Add num.Int)
-    else if opcode == 0x64 then Some (op.Arith arith.Sub num.Int)
-    else if opcode == 0x68 then Some (op.Arith arith.Mul num.Int)
-    else if opcode == 0x6C then Some (op.Arith arith.Div num.Int)
-    else if opcode == 0x70 then Some (op.Arith arith.Rem num.Int)
-    else if opcode == 0x74 then Some (op.Neg num.Int)
-    else if opcode == 0xAC then Some (op.Return (Some kind.Int))
-    else None
+-- the instruction on a field or a method, the interface methods of invokeinterface aside
+abbrev pub IsMember : List Entry → ℕ → ℕ → MemberRef → Op → Type 0
+IsMember pool opcode index reference o = IsFieldrefAt pool index reference × Makes (field_op opcode) reference o
+    ⊎ IsMethodrefAt pool index reference × Makes (method_op opcode) reference o
+    ⊎ IsInterfaceMethodrefAt pool index reference × IsTrue (takes_interface_method opcode) × Makes (method_op opcode) reference o
 
--- bipush, iload, istore
-abbrev pub byte_op : ℕ → ℕ → Option Op
-byte_op opcode operand =
-    if opcode == 0x10 then Some (op.PushInt (cast_signed w8 operand))
-    else if opcode == 0x15 then Some (op.Load kind.Int operand)
-    else if opcode == 0x36 then Some (op.Store kind.Int operand)
-    else None
+-- invokeinterface: count is the number of argument words with the object's
+pub record IsInvokeInterface (pool : List Entry) (index count : ℕ) (o : Op) : Type 0 where
+  pub reference : MemberRef
+  pub refers : IsInterfaceMethodrefAt pool index reference
+  pub ty : MethodType
+  pub typed : IsMethodType ty
+  pub descriptor : reference.ty ≡ method_text ty
+  pub count_fits : count < 2 ^ 8
+  pub counted : count ≡ argument_words ty.args + 1
+  pub is : o ≡ op.InvokeInterface reference
 
--- sipush
-abbrev pub short_op : ℕ → ℕ → Option Op
-short_op opcode operand = if opcode == 0x11 then Some (op.PushInt (cast_signed w16 operand)) else None
+-- an array has at most 255 dimensions, so the elements of a new one have at most 254
+abbrev pub IsElementOf : ℕ → FieldType → Type 0
+IsElementOf opcode ty = opcode ≡ 0xBD → ty.dims ≤ 254
 
--- iinc, of a slot by a number
-abbrev pub bytes_op : ℕ → ℕ → ℕ → Option Op
-bytes_op opcode first second = if opcode == 0x84 then Some (op.Inc first (cast_signed w8 second)) else None
+-- new, of a class; anewarray, checkcast and instanceof, of a class or an array type
+abbrev pub IsOfType : List Entry → ℕ → ℕ → Op → Type 0
+IsOfType pool opcode index o = ((name : List ℕ) × (opcode ≡ 0xBB) × IsClassAt pool index name × (o ≡ op.New name))
+    ⊎ ((ty : FieldType) × (index < 2 ^ 16) × IsTypeAt pool index ty × IsElementOf opcode ty × Makes (type_op opcode) ty o)
 
--- the instruction of these bytes
-abbrev pub op_of : Info → Option Op
-op_of (Plain opcode) = plain_op opcode
-op_of (Byte opcode operand) = byte_op opcode operand
-op_of (Short opcode operand) = short_op opcode operand
-op_of (Bytes opcode first second) = bytes_op opcode first second
+-- multianewarray
+pub record IsMultiNewArray (pool : List Entry) (index dimensions : ℕ) (o : Op) : Type 0 where
+  pub index_fits : index < 2 ^ 16
+  pub ty : FieldType
+  pub typed : IsTypeAt pool index ty
+  pub least : 0 < dimensions
+  pub most : dimensions ≤ ty.dims
+  pub is : o ≡ op.MultiNewArray ty dimensions
 
--- the bytes stand for the instruction
-abbrev pub IsIns : Info → Ins → Type 0
-IsIns info ins = Fits info × (op_of info ≡ Some ins.op) × (ins.line ≡ None)
+-- ---- targets
 
--- the bytes are a code of these instructions
-abbrev pub IsCodeText : List ℕ → List Ins → Type 0
-IsCodeText code ins = (infos : List Info) × (code ≡ flat_map info_bytes infos) × AllZip IsIns infos ins
+-- Leads says to which instruction an offset of the code leads
+
+-- where a branch leads: a signed number of bytes on from the first of its own instruction (JVMS 6.5)
+abbrev pub branch_target : ℕ → ℤ → ℤ
+branch_target at branch = pos at +ℤ branch
+
+module _ (Leads : ℤ → ℕ → Type 0) (at : ℕ) where
+  -- a branch offset of four bytes leads to an instruction
+  abbrev pub Leads4 : ℕ → ℕ → Type 0
+  Leads4 offset to = (offset < 2 ^ 32) × Leads (branch_target at (cast_signed w32 offset)) to
+
+  -- a match with its offset is a case
+  pub record IsCase (pair : MatchOffset) (case : Case) : Type 0 where
+    pub key_fits : pair.key < 2 ^ 32
+    pub key : case.key ≡ cast_signed w32 pair.key
+    pub leads : Leads4 pair.offset case.to
+
+  -- tableswitch
+  pub record IsTableSwitch (pad : List ℕ) (default low high : ℕ) (offsets : List ℕ) (o : Op) : Type 0 where
+    pub padded : length pad ≡ pad_length at
+    pub low_fits : low < 2 ^ 32
+    pub high_fits : high < 2 ^ 32
+    pub range : cast_signed w32 low ≤ℤ cast_signed w32 high
+    pub counted : pos (length offsets) ≡ cast_signed w32 high -ℤ cast_signed w32 low +ℤ pos 1
+    pub other : ℕ
+    pub other_leads : Leads4 default other
+    pub cases : List ℕ
+    pub cases_lead : AllZip Leads4 offsets cases
+    pub is : o ≡ op.TableSwitch (cast_signed w32 low) other cases
+
+  -- lookupswitch: the keys ascend
+  pub record IsLookupSwitch (pad : List ℕ) (default : ℕ) (pairs : List MatchOffset) (o : Op) : Type 0 where
+    pub padded : length pad ≡ pad_length at
+    pub count_fits : length pairs < 2 ^ 31
+    pub other : ℕ
+    pub other_leads : Leads4 default other
+    pub cases : List Case
+    pub cases_lead : AllZip IsCase pairs cases
+    pub ascending : AllPairs (λ (one other : Case). one.key <ℤ other.key) cases
+    pub is : o ≡ op.LookupSwitch other cases
+
+-- ---- instructions
+
+-- the bytes of an instruction at an offset of a code stand for an instruction
+abbrev pub IsOp : (ℤ → ℕ → Type 0) → List Entry → ℕ → Info → Op → Type 0
+IsOp Leads pool at (Plain opcode) o = plain_op opcode ≡ Some o
+IsOp Leads pool at (Bipush byte) o = (byte < 2 ^ 8) × (o ≡ op.PushInt (cast_signed w8 byte))
+IsOp Leads pool at (Sipush short) o = (short < 2 ^ 16) × (o ≡ op.PushInt (cast_signed w16 short))
+IsOp Leads pool at (Ldc index) o = (index < 2 ^ 8) × IsLoaded pool index o
+IsOp Leads pool at (LdcWide opcode index) o = (index < 2 ^ 16)
+    × ((opcode ≡ 0x13) × IsLoaded pool index o ⊎ (opcode ≡ 0x14) × IsLoadedLong pool index o)
+IsOp Leads pool at (Local opcode index) o = (index < 2 ^ 8) × Makes (local_op opcode) index o
+IsOp Leads pool at (WideLocal opcode index) o = (index < 2 ^ 16) × Makes (local_op opcode) index o
+IsOp Leads pool at (Iinc index const) o = (index < 2 ^ 8) × (const < 2 ^ 8) × (o ≡ op.Inc index (cast_signed w8 const))
+IsOp Leads pool at (WideIinc index const) o = (index < 2 ^ 16) × (const < 2 ^ 16) × (o ≡ op.Inc index (cast_signed w16 const))
+IsOp Leads pool at (Branch opcode branch) o = (branch < 2 ^ 16)
+    × (to : ℕ) × Leads (branch_target at (cast_signed w16 branch)) to × Makes (branch_op opcode) to o
+IsOp Leads pool at (GotoWide branch) o = (to : ℕ) × Leads4 Leads at branch to × (o ≡ op.Goto to)
+IsOp Leads pool at (TableSwitch pad default low high offsets) o = IsTableSwitch Leads at pad default low high offsets o
+IsOp Leads pool at (LookupSwitch pad default pairs) o = IsLookupSwitch Leads at pad default pairs o
+IsOp Leads pool at (MemberOperand opcode index) o = (reference : MemberRef) × IsMember pool opcode index reference o
+IsOp Leads pool at (InvokeInterface index count) o = IsInvokeInterface pool index count o
+IsOp Leads pool at (ClassOperand opcode index) o = IsOfType pool opcode index o
+IsOp Leads pool at (NewArray atype) o = option_map op.NewArray (array_type_of atype) ≡ Some o
+IsOp Leads pool at (MultiNewArray index dimensions) o = IsMultiNewArray pool index dimensions o
+
+-- where instructions begin: a target is the number of the one that begins there
+abbrev pub Begins : List ℕ → ℤ → ℕ → Type 0
+Begins starts target to = (offset : ℕ) × (target ≡ pos offset) × (slice_get starts to ≡ Some offset)
+
+-- ---- what is left out
+
+-- the entry is a class, a float or a double, which no instruction loads here
+abbrev pub is_left_out_load : Entry → Bool
+is_left_out_load (entry.Class name_index) = true
+is_left_out_load (entry.LeftOut tag) = tag == 4 || tag == 6
+is_left_out_load _ = false
+
+-- the index leads to such an entry
+abbrev pub IsLeftOutLoad : List Entry → ℕ → Type 0
+IsLeftOutLoad pool index = (e : Entry) × (slice_get pool index ≡ Some e) × IsTrue (is_left_out_load e)
+
+-- the bytes up to the one by which an instruction is known to be left out, and its kind
+abbrev pub IsLeftOut : List Entry → List ℕ → LeftKind → Type 0
+IsLeftOut pool bytes left.Opcode =
+    ((opcode : ℕ) × IsTrue (is_left_out_opcode opcode) × (bytes ≡ opcode ∷ []))
+    ⊎ ((opcode : ℕ) × IsTrue (is_left_out_local opcode) × (bytes ≡ 0xC4 ∷ opcode ∷ []))
+    ⊎ ((atype : ℕ) × IsTrue (is_left_out_array_type atype) × (bytes ≡ 0xBC ∷ atype ∷ []))
+IsLeftOut pool bytes left.Constant =
+    (bytes ≡ 0xBA ∷ [])
+    ⊎ ((index : ℕ) × (index < 2 ^ 8) × IsLeftOutLoad pool index × (bytes ≡ 0x12 ∷ index ∷ []))
+    ⊎ ((index : ℕ) × (index < 2 ^ 16) × IsLeftOutLoad pool index × (bytes ≡ 0x13 ∷ to_be_bytes w16 index))
+    ⊎ ((index : ℕ) × (index < 2 ^ 16) × IsLeftOutLoad pool index × (bytes ≡ 0x14 ∷ to_be_bytes w16 index))
+IsLeftOut pool bytes _ = ⊥
+
+-- an instruction before one that is left out: its targets aren't asked for
+abbrev pub IsReadable : List Entry → ℕ → Info → Op → Type 0
+IsReadable pool at info o = IsOp (λ target to. Unit {0}) pool at info o
+
+-- instructions, then one that is left out, and then any bytes
+pub record IsLeftOutCode (pool : List Entry) (code : List ℕ) (kind : LeftKind) : Type 0 where
+  pub infos : List Info
+  pub ops : List Op
+  pub before : AllStand info_bytes (IsReadable pool) 0 infos ops
+  pub bytes : List ℕ
+  pub left_out : IsLeftOut pool bytes kind
+  pub rest : List ℕ
+  pub is : code ≡ flat_map info_bytes infos ++ (bytes ++ rest)

@@ -1,30 +1,11 @@
--- The constant pool (JVMS 4.4), with the entries that are read so far; Whole.ConstantPool has all of them.
-use Rattle.std.specs.Prelude.{◌≡◌, ◌⊎◌, ℕ, ◌^◌, ◌<◌, List, [], ◌∷◌, ◌++◌, length, slice_get, Option, Some, None, option_and_then, IsTrue, IsUtf8}
-use Rattle.std.specs.Int.{w16, to_be_bytes}
-use Rattle.std.specs.List.{AllByRecursion}
-use Rattle.jv_base.specs.Mutf8.{mutf8, IsUnits}
+-- What an index of the constant pool leads to: texts, and names of classes (JVMS 4.4.1, 4.4.7).
+use Rattle.std.specs.Prelude.{◌≡◌, ◌⊎◌, ℕ, ◌^◌, ◌<◌, List, slice_get, Option, Some, None, option_and_then, IsTrue, IsUtf8}
 use Rattle.jv_base.specs.Names.{is_class_name}
 use Rattle.jv_base.specs.Utf16.{units_of}
 use Rattle.jv_base.specs.Types.{field_text, IsFieldType}
 use Rattle.jv_base.specs.declared.types.FieldType.{FieldType}
 use Rattle.class_model.specs.declared.pool.Entry.{Entry}
 use Rattle.class_model.specs.declared.pool.Entry.TheVariants as entry
-
--- the bytes of an entry, its tag first (JVMS 4.4.1, 4.4.7)
-abbrev pub cp_info : Entry → List ℕ
-cp_info (entry.Utf8 units) = 1 ∷ (to_be_bytes w16 (length (mutf8 units)) ++ mutf8 units)
-cp_info (entry.Class name_index) = 7 ∷ to_be_bytes w16 name_index
-cp_info _ = []
-
--- the entry has such bytes
-abbrev pub HasBytes : Entry → Type 0
-HasBytes (entry.Utf8 units) = IsUnits units × (length (mutf8 units) < 2 ^ 16)
-HasBytes (entry.Class name_index) = name_index < 2 ^ 16
-HasBytes _ = ⊥
-
--- the entries as they are numbered: index 0 is no entry (JVMS 4.1)
-abbrev pub numbered : List Entry → List Entry
-numbered entries = entry.Gap ∷ entries
 
 -- the units of a CONSTANT_Utf8 (JVMS 4.4.7)
 abbrev pub units_in : Entry → Option (List ℕ)
@@ -63,15 +44,3 @@ IsArrayText text = (ty : FieldType) × IsFieldType ty × (0 < ty.dims) × (text 
 -- what a CONSTANT_Class may name: a class by its name, an array type by its descriptor (JVMS 4.4.1)
 abbrev pub IsTypeText : List ℕ → Type 0
 IsTypeText text = IsTrue (is_class_name text) ⊎ IsArrayText text
-
--- what an entry names is there
-abbrev pub NamesRight : List Entry → Entry → Type 0
-NamesRight pool (entry.Class name_index) = (text : List ℕ) × IsText (units_at pool name_index) text × IsTypeText text
-NamesRight pool _ = Unit {0}
-
--- the entries are a constant pool, which numbers them; their count fits two bytes (JVMS 4.1, 4.4)
-pub record IsPool (entries pool : List Entry) : Type 0 where
-  pub numbers : pool ≡ numbered entries
-  pub count : length pool < 2 ^ 16
-  pub bytes : AllByRecursion HasBytes entries
-  pub names : AllByRecursion (NamesRight pool) entries

@@ -1,9 +1,7 @@
 -- The structures of a class file, with the numbers that stand there (JVMS 4.1, 4.5 to 4.7).
-use Rattle.std.specs.Prelude.{ℕ, ◌+◌, List, ◌++◌, length}
+use Rattle.std.specs.Prelude.{ℕ, List, ◌++◌, length}
 use Rattle.std.specs.Int.{w16, w32, to_be_bytes}
 use Rattle.std.specs.List.{flat_map}
-use Rattle.class_model.specs.declared.pool.Entry.{Entry}
-use Rattle.class_model.specs.Pool.{cp_info}
 
 -- attribute_info (JVMS 4.7)
 pub record AttributeInfo : Type 0 where
@@ -51,26 +49,6 @@ code_info c = to_be_bytes w16 c.max_stack ++ (to_be_bytes w16 c.max_locals ++ (t
     ++ (to_be_bytes w16 (length c.exception_table) ++ (flat_map exception_info c.exception_table
     ++ (to_be_bytes w16 (length c.attributes) ++ flat_map attribute_info c.attributes))))))
 
--- ClassFile (JVMS 4.1); the pool's entries are those from index 1 on
-pub record ClassFile : Type 0 where
-  pub constant_pool : List Entry
-  pub access_flags : ℕ
-  pub this_class : ℕ
-  pub super_class : ℕ
-  pub interfaces : List ℕ
-  pub fields : List MemberInfo
-  pub methods : List MemberInfo
-  pub attributes : List AttributeInfo
-
 -- magic, minor_version and major_version: CAFEBABE, 0 and 52 (JVMS 4.1)
 abbrev pub head : List ℕ
 head = to_be_bytes w32 0xCAFEBABE ++ (to_be_bytes w16 0 ++ to_be_bytes w16 52)
-
--- its bytes, with the count of each table
-abbrev pub class_file : ClassFile → List ℕ
-class_file c = head ++ (to_be_bytes w16 (length c.constant_pool + 1) ++ (flat_map cp_info c.constant_pool
-    ++ (to_be_bytes w16 c.access_flags ++ (to_be_bytes w16 c.this_class ++ (to_be_bytes w16 c.super_class
-    ++ (to_be_bytes w16 (length c.interfaces) ++ (flat_map (to_be_bytes w16) c.interfaces
-    ++ (to_be_bytes w16 (length c.fields) ++ (flat_map member_info c.fields
-    ++ (to_be_bytes w16 (length c.methods) ++ (flat_map member_info c.methods
-    ++ (to_be_bytes w16 (length c.attributes) ++ flat_map attribute_info c.attributes))))))))))))

@@ -3,9 +3,9 @@ use Rattle.std.proofs.Common.{◌≡◌, ℕ, ◌≤◌, Bool, true, false, cond
 use Rattle.std.proofs.lemmas.Bool.Decides.{nat_tests}
 use Rattle.std.specs.Prelude.{is_some}
 use Rattle.class_model.specs.declared.pool.Entry.{Entry}
-use Rattle.class_model.specs.Whole.Opcodes.{plain_op, local_op, branch_op, is_left_out_local}
-use Rattle.class_model.specs.Whole.InstructionStructure.{Local, WideLocal, Branch}
-use Rattle.class_model.specs.Whole.ReadingCode.{one_byte, two_bytes, ldc_wide, widened, begun, is_member_opcode, is_class_opcode}
+use Rattle.class_model.specs.Opcodes.{plain_op, local_op, branch_op, is_left_out_local}
+use Rattle.class_model.specs.InstructionStructure.{Local, WideLocal, Branch}
+use Rattle.class_model.specs.ReadingCode.{one_byte, two_bytes, ldc_wide, widened, begun, is_member_opcode, is_class_opcode}
 use Rattle.jv_ops.specs.Meaning.{begun_by_table}
 
 if_yes : {A : Type 0} (b : Bool) (x y : A) → b ≡ true → cond b x y ≡ x

@@ -8,8 +8,8 @@ use Rattle.format_reading.specs.declared.fault.FormatFault.{FormatFault}
 use Rattle.format_reading.specs.Reader.{Reader, u4, bytes, item, lead, after_read, bind, give, many, behind}
 use Rattle.format_reading.proofs.Exact.{bind_is}
 use Rattle.class_model.specs.declared.pool.Entry.{Entry}
-use Rattle.class_model.specs.Whole.InstructionStructure.{MatchOffset, LookupSwitch, pad_length}
-use Rattle.class_model.specs.Whole.ReadingCode.{instruction, lookup_key, lookup_count, lookup_switch, match_offsets}
+use Rattle.class_model.specs.InstructionStructure.{MatchOffset, LookupSwitch, pad_length}
+use Rattle.class_model.specs.ReadingCode.{instruction, lookup_key, lookup_count, lookup_switch, match_offsets}
 use Rattle.jv_ops.specs.declared.fault.Wrong.{Wrong}
 use Rattle.jv_ops.specs.declared.unaimed.Match.{Match}
 use Rattle.jv_ops.specs.declared.unaimed.Unaimed.{Unaimed}

@@ -1,8 +1,8 @@
 -- The table of the numbers of instructions.
 use Rattle.std.proofs.Common.{◌≡◌, ℕ, zero, suc, ◌+◌, ◌<◌, ◌≤◌, Bool, true, false, cond, eqb, List, [], ◌∷◌, ◌++◌, length, get_or, set, drop, Option, Some, None, add-one, drop-cons, refl, sym, ap, ◌∙◌, arith}
 use Rattle.std.specs.Prelude.{nat_eq, ℤ, pos, negsuc}
-use Rattle.class_model.specs.Whole.InstructionMeaning.{or_else, aim_at}
-use Rattle.class_model.specs.Whole.Lookups.{due}
+use Rattle.class_model.specs.InstructionMeaning.{or_else, aim_at}
+use Rattle.class_model.specs.Lookups.{due}
 use Rattle.format_reading.specs.declared.fault.FormatKind.TheVariants as bad
 use Rattle.std.proofs.lemmas.Bool.{eqb-true, eq-eqb}
 use Rattle.std.proofs.lemmas.List.{drop_all}

@@ -10,7 +10,7 @@ use Rattle.format_reading.specs.declared.fault.FormatFault.{FormatFault}
 use Rattle.format_reading.specs.declared.fault.FormatKind.{FormatKind}
 use Rattle.format_reading.specs.declared.fault.FormatKind.TheVariants as bad
 use Rattle.class_model.specs.declared.pool.Entry.{Entry}
-use Rattle.class_model.specs.Whole.ReadingCode.{Read, begun, in_code, at_instruction, read_instruction}
+use Rattle.class_model.specs.ReadingCode.{Read, begun, in_code, at_instruction, read_instruction}
 use Rattle.jv_ops.specs.declared.fault.CodeFault.TheVariants as code
 use Rattle.jv_ops.specs.declared.fault.Wrong.{Wrong}
 use Rattle.jv_ops.specs.declared.unaimed.Unaimed.{Unaimed}

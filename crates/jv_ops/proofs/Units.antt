@@ -4,7 +4,7 @@ use Rattle.std.specs.Prelude.{is_some, option_map, encode_utf8_all}
 use Rattle.std.specs.Option.{unwrap_or}
 use Rattle.std.specs.List.{list_any}
 use Rattle.std.specs.Char.Utf16.{utf16_chars, utf16_lossy_chars, has_unpaired_surrogate}
-use Rattle.class_model.specs.Whole.Lookups.{all_there, with_first, text_of}
+use Rattle.class_model.specs.Lookups.{all_there, with_first, text_of}
 
 -- a surrogate without its partner
 abbrev is_lone : Option ℕ → Bool

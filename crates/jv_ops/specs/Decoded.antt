@@ -3,7 +3,7 @@ use Rattle.std.specs.Prelude.{ℕ, List, length, Result, Ok}
 use Rattle.jv_base.specs.Outcome.{◌>>=◌}
 use Rattle.jv_base.specs.Place.{start}
 use Rattle.class_model.specs.declared.pool.Entry.{Entry}
-use Rattle.class_model.specs.Whole.InstructionMeaning.{aim_at}
+use Rattle.class_model.specs.InstructionMeaning.{aim_at}
 use Rattle.jv_ops.specs.declared.decoding.Decoded.{Decoded}
 use Rattle.jv_ops.specs.declared.fault.CodeFault.{CodeFault}
 use Rattle.jv_ops.specs.declared.unaimed.Placed.{Placed}

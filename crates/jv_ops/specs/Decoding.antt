@@ -2,7 +2,7 @@
 use Rattle.std.specs.Prelude.{ℕ, zero, suc, List, [], ◌∷◌, ◌++◌, length, ◌==◌, if◌then◌else◌, Result, Ok, Err}
 use Rattle.jv_base.specs.Place.{Place}
 use Rattle.class_model.specs.declared.pool.Entry.{Entry}
-use Rattle.class_model.specs.Whole.ReadingCode.{read_instruction}
+use Rattle.class_model.specs.ReadingCode.{read_instruction}
 use Rattle.jv_ops.specs.declared.fault.CodeFault.{CodeFault}
 use Rattle.jv_ops.specs.declared.fault.Wrong.{Wrong}
 use Rattle.jv_ops.specs.declared.unaimed.Placed.{Placed}

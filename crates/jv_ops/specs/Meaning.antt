@@ -10,10 +10,10 @@ use Rattle.format_reading.specs.declared.fault.FormatKind.{FormatKind}
 use Rattle.format_reading.specs.declared.fault.FormatKind.TheVariants as bad
 use Rattle.class_model.specs.declared.pool.Entry.{Entry}
 use Rattle.class_model.specs.declared.op.Op.{Op}
-use Rattle.class_model.specs.Whole.Opcodes.{local_op, branch_op, is_left_out_opcode}
-use Rattle.class_model.specs.Whole.InstructionStructure.{MatchOffset, Info, Local, Branch, GotoWide, TableSwitch, LookupSwitch}
-use Rattle.class_model.specs.Whole.InstructionMeaning.{op_of}
-use Rattle.class_model.specs.Whole.ReadingCode.{Read, instruction, left_out, lookup_key, match_offsets, one_byte, two_bytes, member, class_operand, is_member_opcode, is_class_opcode}
+use Rattle.class_model.specs.Opcodes.{local_op, branch_op, is_left_out_opcode}
+use Rattle.class_model.specs.InstructionStructure.{MatchOffset, Info, Local, Branch, GotoWide, TableSwitch, LookupSwitch}
+use Rattle.class_model.specs.InstructionMeaning.{op_of}
+use Rattle.class_model.specs.ReadingCode.{Read, instruction, left_out, lookup_key, match_offsets, one_byte, two_bytes, member, class_operand, is_member_opcode, is_class_opcode}
 use Rattle.jv_ops.specs.declared.fault.Wrong.{Wrong}
 use Rattle.jv_ops.specs.declared.fault.Wrong.TheVariants as wrong
 use Rattle.jv_ops.specs.declared.unaimed.Match.{Match}

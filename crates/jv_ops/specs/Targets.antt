@@ -7,9 +7,9 @@ use Rattle.format_reading.specs.declared.fault.FormatKind.TheVariants as bad
 use Rattle.class_model.specs.declared.op.Case.{Case}
 use Rattle.class_model.specs.declared.op.Op.{Op}
 use Rattle.class_model.specs.declared.op.Op.TheVariants as op
-use Rattle.class_model.specs.Whole.Lookups.{due}
-use Rattle.class_model.specs.Whole.Opcodes.{branch_op}
-use Rattle.class_model.specs.Whole.InstructionMeaning.{branch, aimed, or_else}
+use Rattle.class_model.specs.Lookups.{due}
+use Rattle.class_model.specs.Opcodes.{branch_op}
+use Rattle.class_model.specs.InstructionMeaning.{branch, aimed, or_else}
 use Rattle.jv_ops.specs.declared.fault.CodeFault.{CodeFault}
 use Rattle.jv_ops.specs.declared.fault.CodeFault.TheVariants as code
 use Rattle.jv_ops.specs.declared.unaimed.Match.{Match}

@@ -6,10 +6,10 @@ ghost use Rattle.jv_ops.specs.declared.fault.Wrong.TheVariants as wrong;
 ghost use Rattle.std.specs.Int.{w32, cast_signed};
 ghost use Rattle.jv_base.specs.Types.{argument_words, words_of};
 ghost use Rattle.format_reading.specs.Reader.{onwards, lead, item, u1, many, u4};
-ghost use Rattle.class_model.specs.Whole.InstructionStructure.{Bipush, Sipush, Local, WideLocal, Branch, pad_length};
-ghost use Rattle.class_model.specs.Whole.Instructions.{is_left_out_load};
-ghost use Rattle.class_model.specs.Whole.InstructionMeaning.{loaded, loaded_wide, member_op, class_op, count_of, method_named, of_type, can_be_operand};
-ghost use Rattle.class_model.specs.Whole.ReadingCode.{is_left_out_at, ldc, ldc_wide, one_byte, two_bytes, iinc, wide_iinc, widened, goto_wide, member, class_operand, is_count, invoke_interface, array_type_read, multi_new_array, table_length, table_switch, ascends, lookup_switch, begun};
+ghost use Rattle.class_model.specs.InstructionStructure.{Bipush, Sipush, Local, WideLocal, Branch, pad_length};
+ghost use Rattle.class_model.specs.Instructions.{is_left_out_load};
+ghost use Rattle.class_model.specs.InstructionMeaning.{loaded, loaded_wide, member_op, class_op, count_of, method_named, of_type, can_be_operand};
+ghost use Rattle.class_model.specs.ReadingCode.{is_left_out_at, ldc, ldc_wide, one_byte, two_bytes, iinc, wide_iinc, widened, goto_wide, member, class_operand, is_count, invoke_interface, array_type_read, multi_new_array, table_length, table_switch, ascends, lookup_switch, begun};
 ghost use Rattle.jv_ops.specs.Fault.{MovesOr, told};
 ghost use Rattle.jv_ops.specs.Meaning.{meant, whole_op, match_read, matches_from, matches_behind, begun_by_table};
 

@@ -1,5 +1,5 @@
 //! The instructions of a code, from their bytes (JVMS 4.9.1, 6.5).
-#![tactic(auto, unfolding(format_reading::specs::Reader::u1, format_reading::specs::Reader::u2, format_reading::specs::Reader::u4, format_reading::specs::Reader::bytes, format_reading::specs::Reader::lead, format_reading::specs::Reader::bind, format_reading::specs::Reader::give, class_model::specs::Whole::InstructionMeaning::op_of))]
+#![tactic(auto, unfolding(format_reading::specs::Reader::u1, format_reading::specs::Reader::u2, format_reading::specs::Reader::u4, format_reading::specs::Reader::bytes, format_reading::specs::Reader::lead, format_reading::specs::Reader::bind, format_reading::specs::Reader::give, class_model::specs::InstructionMeaning::op_of))]
 
 mod decoding;
 mod fault;

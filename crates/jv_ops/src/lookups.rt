@@ -5,8 +5,8 @@
 ghost use Rattle.std.specs.Prelude.{◌≡◌, ◌≤◌, IfOk, IfSome, option_copied, option_and_then};
 ghost use Rattle.jv_base.specs.Types.{argument_words};
 ghost use Rattle.class_model.specs.Pool.{units_at, class_units_at};
-ghost use Rattle.class_model.specs.Whole.ConstantPool.{string_units_at, name_and_type_at};
-ghost use Rattle.class_model.specs.Whole.Lookups.{text_of, field_type_of, method_type_of, named_type, type_at, class_at, value_of, text_there, reference_of, fieldref_at, methodref_at, interface_methodref_at};
+ghost use Rattle.class_model.specs.ConstantPool.{string_units_at, name_and_type_at};
+ghost use Rattle.class_model.specs.Lookups.{text_of, field_type_of, method_type_of, named_type, type_at, class_at, value_of, text_there, reference_of, fieldref_at, methodref_at, interface_methodref_at};
 
 use class_model::{Entry, MemberRef, Pool};
 use jv_base::{
@@ -18,7 +18,7 @@ use std::alloc::Global;
 // ---- texts
 
 // The text of UTF-16 units in which no surrogate is unpaired.
-#[tactic(auto, unfolding(class_model::specs::Whole::Lookups::text_of), using(crate::proofs::Units::text_is, crate::proofs::Units::no_text))]
+#[tactic(auto, unfolding(class_model::specs::Lookups::text_of), using(crate::proofs::Units::text_is, crate::proofs::Units::no_text))]
 fn text_of(alloc: Global, units: &[u16]) -> M<Option<Text>>
     ensures { IfOk result (λ text. text ≡ text_of units.now) }
 {
@@ -134,7 +134,7 @@ fn class_text_at(alloc: Global, pool: &Pool, index: u16) -> M<Option<Text>>
 }
 
 /// The class or array type that a CONSTANT_Class names (JVMS 4.4.1).
-#[tactic(auto, unfolding(class_model::specs::Whole::Lookups::type_at))]
+#[tactic(auto, unfolding(class_model::specs::Lookups::type_at))]
 pub fn type_at(alloc: Global, pool: &Pool, index: u16) -> M<Option<FieldType>>
     ensures { IfOk result (λ ty. ty ≡ type_at pool.now.entries index) }
 {
@@ -145,7 +145,7 @@ pub fn type_at(alloc: Global, pool: &Pool, index: u16) -> M<Option<FieldType>>
 }
 
 /// The name of a class that isn't an array type (JVMS 4.4.1).
-#[tactic(auto, unfolding(class_model::specs::Whole::Lookups::class_at))]
+#[tactic(auto, unfolding(class_model::specs::Lookups::class_at))]
 pub fn class_at(alloc: Global, pool: &Pool, index: u16) -> M<Option<Name>>
     ensures { IfOk result (λ name. name ≡ value_of (class_at pool.now.entries index)) }
 {
@@ -200,7 +200,7 @@ fn named_reference(
 }
 
 /// The field that a CONSTANT_Fieldref names (JVMS 4.4.2).
-#[tactic(auto, unfolding(class_model::specs::Whole::Lookups::fieldref_at))]
+#[tactic(auto, unfolding(class_model::specs::Lookups::fieldref_at))]
 pub fn fieldref_at(alloc: Global, pool: &Pool, index: u16) -> M<Option<MemberRef>>
     ensures { IfOk result (λ reference. reference ≡ fieldref_at pool.now.entries index) }
 {
@@ -213,7 +213,7 @@ pub fn fieldref_at(alloc: Global, pool: &Pool, index: u16) -> M<Option<MemberRef
 }
 
 /// The method that a CONSTANT_Methodref names (JVMS 4.4.2).
-#[tactic(auto, unfolding(class_model::specs::Whole::Lookups::methodref_at))]
+#[tactic(auto, unfolding(class_model::specs::Lookups::methodref_at))]
 pub fn methodref_at(alloc: Global, pool: &Pool, index: u16) -> M<Option<MemberRef>>
     ensures { IfOk result (λ reference. reference ≡ methodref_at pool.now.entries index) }
 {
@@ -226,7 +226,7 @@ pub fn methodref_at(alloc: Global, pool: &Pool, index: u16) -> M<Option<MemberRe
 }
 
 /// The method of an interface that a CONSTANT_InterfaceMethodref names (JVMS 4.4.2).
-#[tactic(auto, unfolding(class_model::specs::Whole::Lookups::interface_methodref_at))]
+#[tactic(auto, unfolding(class_model::specs::Lookups::interface_methodref_at))]
 pub fn interface_methodref_at(alloc: Global, pool: &Pool, index: u16) -> M<Option<MemberRef>>
     ensures { IfOk result (λ reference. reference ≡ interface_methodref_at pool.now.entries index) }
 {

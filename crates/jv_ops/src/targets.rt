@@ -3,9 +3,9 @@ ghost use Rattle.std.specs.Prelude.{◌≡◌, ◌<◌, ◌≤◌, ℕ, ℤ, OnO
 ghost use Rattle.std.specs.Int.{w32, cast_signed};
 ghost use Rattle.class_model.specs.declared.op.Op.TheVariants as op;
 ghost use Rattle.jv_base.specs.Outcome.{IsDue};
-ghost use Rattle.class_model.specs.Whole.InstructionMeaning.{aim_at, aimed, branch};
-ghost use Rattle.class_model.specs.Whole.Instructions.{branch_target};
-ghost use Rattle.class_model.specs.Whole.Opcodes.{branch_op};
+ghost use Rattle.class_model.specs.InstructionMeaning.{aim_at, aimed, branch};
+ghost use Rattle.class_model.specs.Instructions.{branch_target};
+ghost use Rattle.class_model.specs.Opcodes.{branch_op};
 ghost use Rattle.jv_ops.specs.Targets.{starts_of, found, noted, aim_in, collected, case_aimed, table_aimed, lookup_aimed, op_aimed, placed_aimed};
 
 use crate::fault::CodeFault;

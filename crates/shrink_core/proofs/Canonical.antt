@@ -14,11 +14,13 @@ use Rattle.class_model.specs.declared.pool.Entry.{Entry}
 use Rattle.class_model.specs.declared.code.Code.{Code}
 use Rattle.class_model.specs.declared.class.Method.{Method}
 use Rattle.class_model.specs.declared.class.Class.{Class}
-use Rattle.class_model.specs.Pool.{HasBytes, NamesRight, IsPool}
-use Rattle.class_model.specs.Structure.{AttributeInfo, MemberInfo, CodeInfo, ClassFile}
-use Rattle.class_model.specs.Instructions.{info_bytes}
-use Rattle.class_model.specs.File.{flags_of, HasOneAccess, IsCode, IsBody, AreMethodFlags, IsMethod, AreClassFlags, IsClass}
-use Rattle.class_model.specs.Layout.{method_constants, constants_of, pool_of, entry_of, code_raw, code_attributes, method_raw, class_raw, layout}
+use Rattle.shrink_core.specs.SmallPool.{HasBytes, NamesRight, IsPool}
+use Rattle.class_model.specs.Structure.{AttributeInfo, MemberInfo, CodeInfo}
+use Rattle.shrink_core.specs.SmallClassFile.{ClassFile}
+use Rattle.shrink_core.specs.SmallOpcodes.{info_bytes}
+use Rattle.class_model.specs.Flags.{flags_of}
+use Rattle.shrink_core.specs.SmallClassFile.{HasOneAccess, IsCode, IsBody, AreMethodFlags, IsMethod, AreClassFlags, IsClass}
+use Rattle.shrink_core.specs.SmallLayout.{method_constants, constants_of, pool_of, entry_of, code_raw, code_attributes, method_raw, class_raw, layout}
 use Rattle.shrink_core.specs.Small.{IsSmall}
 use Rattle.shrink_core.proofs.Constants.{Has, HasText, all_inserted}
 use Rattle.shrink_core.proofs.Shortest.{code_within}

@@ -8,7 +8,7 @@ use Rattle.format_reading.specs.declared.fault.FormatFault.{FormatFault}
 use Rattle.format_reading.proofs.Exact.{Takes, IsBytes, left}
 use Rattle.class_model.specs.declared.op.Op.{Op}
 use Rattle.class_model.specs.declared.code.Ins.{Ins}
-use Rattle.class_model.specs.Instructions.{Info, Plain, Byte, Short, Bytes, info_bytes, IsIns, IsCodeText}
+use Rattle.shrink_core.specs.SmallOpcodes.{Info, Plain, Byte, Short, Bytes, info_bytes, IsIns, IsCodeText}
 use Rattle.shrink_core.specs.SmallInstructions.{op_at}
 use Rattle.shrink_core.proofs.InstructionLaw.{op_exact}
 

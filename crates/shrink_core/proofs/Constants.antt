@@ -11,8 +11,9 @@ use Rattle.class_model.specs.declared.constant.PoolConstant.{PoolConstant}
 use Rattle.class_model.specs.declared.constant.PoolConstant.TheVariants.{Utf8, Class as ClassOf}
 use Rattle.class_model.specs.declared.pool.Entry.{Entry}
 use Rattle.class_model.specs.declared.pool.Entry.TheVariants as entry
-use Rattle.class_model.specs.Pool.{HasBytes, units_in, name_index_in, units_at, IsTextAt, IsClassAt}
-use Rattle.class_model.specs.Layout.{same}
+use Rattle.shrink_core.specs.SmallPool.{HasBytes}
+use Rattle.class_model.specs.Pool.{units_in, name_index_in, units_at, IsTextAt, IsClassAt}
+use Rattle.shrink_core.specs.SmallLayout.{same}
 use Rattle.shrink_core.specs.Writable.{TextFits}
 
 pub same_Decides : (a b : PoolConstant) → Decides (same a b) (a ≡ b)

@@ -11,7 +11,7 @@ use Rattle.indexmap.proofs.CallerLemmas.{Contains-list_any}
 use Rattle.jv_base.proofs.Equality.{text_Decides, and_Decides}
 use Rattle.jv_base.specs.Types.{method_text}
 use Rattle.class_model.specs.declared.class.Method.{Method}
-use Rattle.class_model.specs.File.{Differ}
+use Rattle.shrink_core.specs.SmallClassFile.{Differ}
 use Rattle.shrink_core.specs.declared.small.methods.Signature.{Signature}
 use Rattle.shrink_core.specs.SmallMeaning.{signature_of}
 

@@ -9,7 +9,7 @@ use Rattle.jv_base.specs.Types.{method_text, field_text, result_text, base_text}
 use Rattle.class_model.specs.declared.op.Op.TheVariants as op
 use Rattle.class_model.specs.declared.op.Kind.TheVariants as kind
 use Rattle.class_model.specs.declared.code.Ins.{Ins}
-use Rattle.class_model.specs.Layout.{pool_of, code_bytes, op_bytes, layout}
+use Rattle.shrink_core.specs.SmallLayout.{pool_of, code_bytes, op_bytes, layout}
 use Rattle.shrink_core.specs.Writable.{TextFits, OperandsFit, MethodFits, CanLayOut}
 use Rattle.shrink_core.specs.Example.{adder, adder_ins, adder_bytes}
 

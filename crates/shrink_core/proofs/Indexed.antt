@@ -9,8 +9,9 @@ use Rattle.jv_base.specs.Utf16.{units_of}
 use Rattle.class_model.specs.declared.constant.PoolConstant.{PoolConstant}
 use Rattle.class_model.specs.declared.constant.PoolConstant.TheVariants.{Utf8, Class as ClassOf}
 use Rattle.class_model.specs.declared.pool.Entry.{Entry}
-use Rattle.class_model.specs.Pool.{numbered, units_in, name_index_in, units_at, IsTextAt, IsClassAt}
-use Rattle.class_model.specs.Layout.{same, index_of, entry_of}
+use Rattle.shrink_core.specs.SmallPool.{numbered}
+use Rattle.class_model.specs.Pool.{units_in, name_index_in, units_at, IsTextAt, IsClassAt}
+use Rattle.shrink_core.specs.SmallLayout.{same, index_of, entry_of}
 use Rattle.shrink_core.proofs.Constants.{Has, same_Decides}
 
 -- ---- what is wanted is there

@@ -7,7 +7,7 @@ use Rattle.format_reading.specs.Reader.{u1, bind, give}
 use Rattle.format_reading.specs.Spelling.{Spells}
 use Rattle.format_reading.proofs.Exact.{Exact, as_raw, item_exact, bind_exact, bind_exact_of, map_exact, give_exact, u1_exact, u2_exact}
 use Rattle.class_model.specs.declared.op.Op.{Op}
-use Rattle.class_model.specs.Instructions.{Info, Plain, Byte, Short, Bytes, info_bytes, Fits, plain_op, byte_op, short_op, bytes_op, op_of}
+use Rattle.shrink_core.specs.SmallOpcodes.{Info, Plain, Byte, Short, Bytes, info_bytes, Fits, plain_op, byte_op, short_op, bytes_op, op_of}
 use Rattle.shrink_core.specs.declared.small.instructions.Shape.{Shape}
 use Rattle.shrink_core.specs.declared.small.instructions.Shape.TheVariants.{Alone, OneByte, TwoBytes, BytePair}
 use Rattle.shrink_core.specs.SmallInstructions.{shape_of, operands, info, op_or_kind, op_at}

@@ -12,7 +12,8 @@ use Rattle.jv_base.specs.Mutf8.{mutf8, unit_bytes}
 use Rattle.jv_base.specs.Utf16.{units_of, IsTextOf}
 use Rattle.class_model.specs.declared.pool.Entry.{Entry}
 use Rattle.class_model.specs.declared.pool.Entry.TheVariants.{Utf8}
-use Rattle.class_model.specs.Pool.{HasBytes, numbered, units_in, units_at}
+use Rattle.shrink_core.specs.SmallPool.{HasBytes, numbered}
+use Rattle.class_model.specs.Pool.{units_in, units_at}
 use Rattle.shrink_core.specs.SmallStructure.{entries_of, FitsPool}
 
 -- a unit takes a byte or more

@@ -6,7 +6,7 @@ use Rattle.std.proofs.lemmas.Bool.{ltb-false}
 use Rattle.class_model.specs.declared.constant.PoolConstant.{PoolConstant}
 use Rattle.class_model.specs.declared.constant.PoolConstant.TheVariants.{Utf8, Class as ClassOf}
 use Rattle.class_model.specs.contracts.constant.PoolConstantPartialEq.TheImpl.{eq-value}
-use Rattle.class_model.specs.Layout.{same}
+use Rattle.shrink_core.specs.SmallLayout.{same}
 
 -- the place of the first element that passes, or else the length
 pub unwrap_or-position : {X : Type 0} (p : X → Bool) (xs : List X) → position_or_len p xs ≤ length xs → unwrap_or (position p xs) (length xs) ≡ position_or_len p xs

@@ -11,8 +11,10 @@ use Rattle.class_model.specs.declared.op.Kind.TheVariants as kind
 use Rattle.class_model.specs.declared.op.Num.TheVariants as num
 use Rattle.class_model.specs.declared.op.ArithOp.TheVariants as arith_op
 use Rattle.class_model.specs.declared.code.Ins.{Ins}
-use Rattle.class_model.specs.Instructions.{Info, Plain, Byte, Short, Bytes, info_bytes, Fits, between, plain_op, byte_op, short_op, bytes_op, op_of, IsIns, IsCodeText}
-use Rattle.class_model.specs.Layout.{int_between, push_bytes, slot_bytes, op_bytes, code_bytes}
+use Rattle.shrink_core.specs.SmallOpcodes.{Info, Plain, Byte, Short, Bytes, info_bytes, Fits, plain_op, byte_op, short_op, bytes_op, op_of, IsIns, IsCodeText}
+use Rattle.class_model.specs.Between.{between}
+use Rattle.class_model.specs.Between.{int_between}
+use Rattle.shrink_core.specs.SmallLayout.{push_bytes, slot_bytes, op_bytes, code_bytes}
 use Rattle.shrink_core.specs.Writable.{OperandsFit}
 
 -- the bytes that are written stand for the instruction

@@ -9,9 +9,10 @@ use Rattle.class_model.specs.declared.pool.Entry.{Entry}
 use Rattle.class_model.specs.declared.code.Code.{Code}
 use Rattle.class_model.specs.declared.class.Method.{Method}
 use Rattle.class_model.specs.declared.class.Class.{Class}
-use Rattle.class_model.specs.Pool.{numbered, IsPool}
-use Rattle.class_model.specs.Structure.{AttributeInfo, MemberInfo, CodeInfo, code_info, ClassFile, class_file}
-use Rattle.class_model.specs.File.{IsCode, IsCodeAttribute, IsBody, IsMethod, IsClass}
+use Rattle.shrink_core.specs.SmallPool.{numbered, IsPool}
+use Rattle.class_model.specs.Structure.{AttributeInfo, MemberInfo, CodeInfo, code_info}
+use Rattle.shrink_core.specs.SmallClassFile.{ClassFile, class_file}
+use Rattle.shrink_core.specs.SmallClassFile.{IsCode, IsCodeAttribute, IsBody, IsMethod, IsClass}
 use Rattle.shrink_core.specs.declared.small.NotBuilt.{NotBuilt}
 use Rattle.shrink_core.specs.declared.small.raw.RawMethod.{RawMethod}
 use Rattle.shrink_core.specs.declared.small.raw.RawClass.{RawClass}

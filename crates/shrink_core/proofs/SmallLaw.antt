@@ -16,8 +16,9 @@ use Rattle.format_reading.specs.Spelling.{Spells}
 use Rattle.format_reading.proofs.Exact.{Exact, Leads, Takes, IsBytes, left, as_raw, lead_exact, item_exact, bind_exact, map_exact, told_exact, leads_if, u1_exact, u2_exact, u4_exact, bytes_exact, nothing}
 use Rattle.class_model.specs.declared.pool.Entry.{Entry}
 use Rattle.class_model.specs.declared.pool.Entry.TheVariants.{Utf8, Class}
-use Rattle.class_model.specs.Pool.{cp_info, HasBytes, numbered}
-use Rattle.class_model.specs.Structure.{head as head_bytes, attribute_info, member_info, code_info, class_file}
+use Rattle.shrink_core.specs.SmallPool.{cp_info, HasBytes, numbered}
+use Rattle.class_model.specs.Structure.{head as head_bytes, attribute_info, member_info, code_info}
+use Rattle.shrink_core.specs.SmallClassFile.{class_file}
 use Rattle.shrink_core.specs.declared.small.raw.RawMethod.{RawMethod}
 use Rattle.shrink_core.specs.declared.small.raw.RawClass.{RawClass}
 use Rattle.jv_base.specs.Decoding.{read_mutf8}

@@ -11,10 +11,11 @@ use Rattle.class_model.specs.declared.code.Ins.{Ins}
 use Rattle.class_model.specs.declared.code.Code.{Code}
 use Rattle.class_model.specs.declared.class.Method.{Method}
 use Rattle.class_model.specs.declared.class.Class.{Class}
-use Rattle.class_model.specs.Structure.{AttributeInfo, MemberInfo, CodeInfo, ClassFile}
-use Rattle.class_model.specs.Instructions.{info_bytes}
-use Rattle.class_model.specs.File.{IsCode, IsBody, IsMethod, IsClass}
-use Rattle.class_model.specs.Layout.{same, method_constants, constants_of, pool_of}
+use Rattle.class_model.specs.Structure.{AttributeInfo, MemberInfo, CodeInfo}
+use Rattle.shrink_core.specs.SmallClassFile.{ClassFile}
+use Rattle.shrink_core.specs.SmallOpcodes.{info_bytes}
+use Rattle.shrink_core.specs.SmallClassFile.{IsCode, IsBody, IsMethod, IsClass}
+use Rattle.shrink_core.specs.SmallLayout.{same, method_constants, constants_of, pool_of}
 use Rattle.shrink_core.specs.Small.{IsSmall}
 use Rattle.shrink_core.specs.Writable.{TextFits, OperandsFit, CodeFits, MethodFits, CanLayOut}
 use Rattle.shrink_core.proofs.Constants.{Has, HasText, text_fits, symbols, symbols_most, symbols_have, has_text, has_class, all_among, same_laws, all_inserted, distinct_inserted}

@@ -4,7 +4,7 @@ use Rattle.std.specs.FinMap.{get}
 use Rattle.tree_io.specs.Files.{Files}
 use Rattle.tree_io.specs.declared.file_at.FileAt.{FileAt}
 use Rattle.class_model.specs.declared.class.Class.{Class}
-use Rattle.class_model.specs.Layout.{layout}
+use Rattle.shrink_core.specs.SmallLayout.{layout}
 use Rattle.shrink_core.specs.Small.{IsSmall}
 use Rattle.shrink_core.specs.Path.{main_path}
 use Rattle.shrink_core.specs.Words.{directories_in}

@@ -1,4 +1,8 @@
 pub mod Finding
+pub mod SmallPool
+pub mod SmallOpcodes
+pub mod SmallClassFile
+pub mod SmallLayout
 pub mod Small
 pub mod SmallStructure
 pub mod SmallReading

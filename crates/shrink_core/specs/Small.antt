@@ -5,7 +5,7 @@ use Rattle.jv_base.specs.declared.types.Base.TheVariants.{Int}
 use Rattle.jv_base.specs.declared.types.FieldType.{FieldType}
 use Rattle.class_model.specs.declared.class.Method.{Method}
 use Rattle.class_model.specs.declared.class.Class.{Class}
-use Rattle.class_model.specs.File.{File}
+use Rattle.shrink_core.specs.SmallClassFile.{File}
 use Rattle.jv_base.specs.declared.outcome.Or.{Or}
 use Rattle.jv_base.specs.declared.outcome.Or.TheVariants.{Fault, OutOfMemory}
 use Rattle.shrink_core.specs.declared.small.NotBuilt.{NotBuilt}

@@ -6,7 +6,7 @@ use Rattle.format_reading.specs.Reader.{Reader, u1, u2, item, give, ◌>>=◌}
 use Rattle.class_model.specs.declared.op.Op.{Op}
 use Rattle.shrink_core.specs.declared.small.instructions.Shape.{Shape}
 use Rattle.shrink_core.specs.declared.small.instructions.Shape.TheVariants.{Alone, OneByte, TwoBytes, BytePair}
-use Rattle.class_model.specs.Instructions.{Info, Plain, Byte, Short, Bytes, op_of}
+use Rattle.shrink_core.specs.SmallOpcodes.{Info, Plain, Byte, Short, Bytes, op_of}
 
 -- the operands of bipush, iload and istore; of sipush; of iinc; no other instruction here has any
 abbrev pub shape_of : ℕ → Shape

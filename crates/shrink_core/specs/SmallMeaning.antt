@@ -8,9 +8,10 @@ use Rattle.class_model.specs.declared.pool.Entry.{Entry}
 use Rattle.class_model.specs.declared.code.Code.{Code}
 use Rattle.class_model.specs.declared.class.Method.{Method}
 use Rattle.class_model.specs.declared.class.Class.{Class}
-use Rattle.class_model.specs.Pool.{IsTextAt, IsClassAt, NamesRight}
-use Rattle.class_model.specs.Instructions.{IsCodeText}
-use Rattle.class_model.specs.File.{AreMethodFlags, AreClassFlags, Differ}
+use Rattle.class_model.specs.Pool.{IsTextAt, IsClassAt}
+use Rattle.shrink_core.specs.SmallPool.{NamesRight}
+use Rattle.shrink_core.specs.SmallOpcodes.{IsCodeText}
+use Rattle.shrink_core.specs.SmallClassFile.{AreMethodFlags, AreClassFlags, Differ}
 use Rattle.shrink_core.specs.Small.{int_type}
 use Rattle.shrink_core.specs.declared.small.methods.Signature.{Signature}
 use Rattle.shrink_core.specs.declared.small.raw.RawMethod.{RawMethod}

@@ -10,7 +10,7 @@ use Rattle.format_reading.specs.declared.fault.FormatKind.TheVariants as kind
 use Rattle.format_reading.specs.Reader.{Reader, u1, u2, u4, bytes, lead, item, give, here, told, many, ◌>>=◌}
 use Rattle.class_model.specs.declared.pool.Entry.{Entry}
 use Rattle.class_model.specs.declared.pool.Entry.TheVariants.{Utf8, Class}
-use Rattle.class_model.specs.Pool.{numbered}
+use Rattle.shrink_core.specs.SmallPool.{numbered}
 use Rattle.shrink_core.specs.declared.small.raw.RawMethod.{RawMethod}
 use Rattle.shrink_core.specs.declared.small.raw.RawClass.{RawClass}
 

@@ -12,7 +12,7 @@ use Rattle.class_model.specs.declared.code.Ins.{Ins}
 use Rattle.class_model.specs.declared.code.Code.{Code}
 use Rattle.class_model.specs.declared.class.Method.{Method}
 use Rattle.class_model.specs.declared.class.Class.{Class}
-use Rattle.class_model.specs.Layout.{pool_of, code_bytes, layout}
+use Rattle.shrink_core.specs.SmallLayout.{pool_of, code_bytes, layout}
 use Rattle.shrink_core.specs.Small.{IsSmall}
 
 -- the length of a text fits two bytes (JVMS 4.4.7)

@@ -1,6 +1,6 @@
 // The access flags of a small class and of its methods (JVMS 4.1 and 4.6).
 ghost use Rattle.std.specs.Prelude.{◌≡◌, ◌↔◌, IsTrue};
-ghost use Rattle.class_model.specs.File.{AreClassFlags, AreMethodFlags, HasOneAccess};
+ghost use Rattle.shrink_core.specs.SmallClassFile.{AreClassFlags, AreMethodFlags, HasOneAccess};
 ghost use Rattle.shrink_core.specs.Finding.{TellsOnly};
 
 use crate::small::NotBuilt;

@@ -1,7 +1,7 @@
 // The instructions of a small class (JVMS 6.5).
 ghost use Rattle.std.specs.Prelude.{◌≡◌, ℕ, ◌<◌, ◌≤◌, ◌-◌, length};
 ghost use Rattle.format_reading.specs.Reader.{Reads};
-ghost use Rattle.class_model.specs.Instructions.{plain_op, byte_op, short_op, bytes_op, IsCodeText};
+ghost use Rattle.shrink_core.specs.SmallOpcodes.{plain_op, byte_op, short_op, bytes_op, IsCodeText};
 ghost use Rattle.shrink_core.specs.Finding.{FindsOnly};
 ghost use Rattle.shrink_core.specs.SmallInstructions.{shape_of, op_or_kind, op_at};
 

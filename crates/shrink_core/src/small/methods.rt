@@ -1,7 +1,7 @@
 // The methods of a small class (JVMS 4.6).
 ghost use Rattle.std.specs.Prelude.{◌≡◌, ◌<◌, ◌↔◌, ℕ, IsTrue, Some, AllPairs, length, IfOk};
 ghost use Rattle.std.specs.List.{AllByRecursion, AllZip};
-ghost use Rattle.class_model.specs.File.{Differ};
+ghost use Rattle.shrink_core.specs.SmallClassFile.{Differ};
 ghost use Rattle.shrink_core.specs.Finding.{FindsSuch, FindsOnly};
 ghost use Rattle.shrink_core.specs.Small.{int_type};
 ghost use Rattle.shrink_core.specs.SmallStructure.{FitsMethod, FitsPool};

@@ -2,7 +2,8 @@
 ghost use Rattle.std.specs.Prelude.{◌≡◌, ◌<◌, ℕ, length, IfSome, IfOk};
 ghost use Rattle.std.specs.Option.{option_copied};
 ghost use Rattle.std.specs.List.{AllByRecursion};
-ghost use Rattle.class_model.specs.Pool.{units_in, name_index_in, units_at, class_units_at, IsText, IsTextAt, IsClassAt, IsTypeText, NamesRight};
+ghost use Rattle.class_model.specs.Pool.{units_in, name_index_in, units_at, class_units_at, IsText, IsTextAt, IsClassAt, IsTypeText};
+ghost use Rattle.shrink_core.specs.SmallPool.{NamesRight};
 ghost use Rattle.shrink_core.specs.SmallStructure.{FitsPool};
 ghost use Rattle.shrink_core.specs.Finding.{FindsSuch, FindsOnly};
 ghost use Rattle.shrink_core.specs.SmallMeaning.{NamesClass, IsNameAt};

@@ -4,7 +4,8 @@ ghost use Rattle.std.specs.Int.{w16, to_be_bytes};
 ghost use Rattle.std.specs.List.{flat_map};
 ghost use Rattle.class_model.specs.Layout as canonical;
 ghost use Rattle.class_model.specs.Structure as structure;
-ghost use Rattle.class_model.specs.Structure.{AttributeInfo, attribute_info, member_info, class_file, head};
+ghost use Rattle.class_model.specs.Structure.{AttributeInfo, attribute_info, member_info, head};
+ghost use Rattle.shrink_core.specs.SmallClassFile.{class_file};
 ghost use Rattle.shrink_core.specs.Writable.{CodeFits, MethodFits, CanLayOut, CanonicalIsSmall};
 
 mod bytes;
@@ -21,7 +22,7 @@ use jv_base::{Bytes, Items, M, Text, method_text};
 use std::alloc::Global;
 
 /// The canonical spelling of a small class.
-#[tactic(auto, unfolding(class_model::specs::Layout::layout))]
+#[tactic(auto, unfolding(crate::specs::SmallLayout::layout))]
 pub(crate) fn write_small(alloc: Global, class: &Class) -> M<Bytes>
     requires { CanLayOut class.now }
     ensures { IfOk result (λ bytes. bytes ≡ canonical.layout class.now) }

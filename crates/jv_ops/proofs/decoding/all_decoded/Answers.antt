@@ -3,7 +3,7 @@ use Rattle.std.proofs.lemmas.Result.{err_from_is_err_and}
 use Rattle.jv_base.specs.Outcome.{FaultIs}
 use Rattle.format_reading.specs.declared.fault.FormatKind.{FormatKind}
 use Rattle.class_model.specs.declared.op.Op.{Op}
-use Rattle.class_model.specs.Whole.InstructionMeaning.{aim_at}
+use Rattle.class_model.specs.InstructionMeaning.{aim_at}
 use Rattle.jv_ops.specs.declared.decoding.Decoded.{Decoded}
 use Rattle.jv_ops.specs.declared.fault.CodeFault.{CodeFault}
 use Rattle.jv_ops.specs.Targets.{collected, placed_aimed, aim_in, starts_of}

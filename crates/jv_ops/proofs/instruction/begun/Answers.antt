@@ -2,8 +2,8 @@ use Rattle.std.proofs.Common.{rules, ◌≡◌, ◌≤◌, true, false, eqb, ◌
 use Rattle.std.specs.Prelude.{is_some}
 use Rattle.format_reading.specs.Reader.{Reader, onwards}
 use Rattle.format_reading.specs.declared.fault.FormatKind.{FormatKind}
-use Rattle.class_model.specs.Whole.Opcodes.{plain_op}
-use Rattle.class_model.specs.Whole.ReadingCode.{Read}
+use Rattle.class_model.specs.Opcodes.{plain_op}
+use Rattle.class_model.specs.ReadingCode.{Read}
 use Rattle.jv_ops.specs.Fault.{MovesOr}
 use Rattle.jv_ops.specs.Meaning.{meant}
 use Rattle.jv_ops.proofs.Begun.{IsOther, begun_other, begun_load, is_19_or_20}

@@ -1,7 +1,7 @@
 use Rattle.std.proofs.Common.{Result, sym, subst, ◌∙◌}
 use Rattle.format_reading.specs.Reader.{Reader, onwards}
 use Rattle.format_reading.specs.declared.fault.FormatKind.{FormatKind}
-use Rattle.class_model.specs.Whole.ReadingCode.{Read}
+use Rattle.class_model.specs.ReadingCode.{Read}
 use Rattle.jv_ops.specs.Fault.{MovesOr}
 use Rattle.jv_ops.specs.Meaning.{meant}
 use Rattle.jv_ops.proofs.Begun.{table_local, table_branch}

@@ -2,8 +2,8 @@ use Rattle.std.proofs.Common.{rules, ◌≡◌, Ok, Result, ap, sym, subst, ◌�
 use Rattle.jv_base.specs.Place.{Place}
 use Rattle.format_reading.specs.Reader.{bytes, u4, or_cut}
 use Rattle.format_reading.specs.declared.fault.FormatFault.{FormatFault}
-use Rattle.class_model.specs.Whole.InstructionStructure.{pad_length}
-use Rattle.class_model.specs.Whole.ReadingCode.{Read, lookup_count}
+use Rattle.class_model.specs.InstructionStructure.{pad_length}
+use Rattle.class_model.specs.ReadingCode.{Read, lookup_count}
 use Rattle.jv_ops.specs.Fault.{MovesOr}
 use Rattle.jv_ops.specs.Meaning.{meant}
 use Rattle.jv_ops.proofs.Loops.{lookup_switch_is}

@@ -1,7 +1,7 @@
 use Rattle.std.proofs.Common.{◌≡◌, Ok, Err, sym, ap, ◌∙◌}
 use Rattle.format_reading.specs.Fault.{cut}
 use Rattle.format_reading.specs.Reader.{u1, or_cut, onwards}
-use Rattle.class_model.specs.Whole.ReadingCode.{begun}
+use Rattle.class_model.specs.ReadingCode.{begun}
 use Rattle.jv_ops.specs.Meaning.{meant}
 use Rattle.jv_ops.specs.Decoding.{at_offset}
 use Rattle.jv_ops.proofs.Placed.{behind_opcode, without_opcode, wrong_is}

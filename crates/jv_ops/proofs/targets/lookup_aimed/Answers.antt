@@ -1,7 +1,7 @@
 use Rattle.std.proofs.Common.{Ok, sym}
 use Rattle.std.proofs.lemmas.Result.{err_from_is_err_and}
 use Rattle.class_model.specs.declared.op.Op.TheVariants as op
-use Rattle.class_model.specs.Whole.InstructionMeaning.{aimed}
+use Rattle.class_model.specs.InstructionMeaning.{aimed}
 use Rattle.jv_ops.specs.Targets.{collected, aim_in, case_aimed}
 use Rattle.jv_ops.proofs.Collecting.{second_step, second_fault}
 use Rattle.jv_ops.proofs.targets.lookup_aimed.Goals as goal

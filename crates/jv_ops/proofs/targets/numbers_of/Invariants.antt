@@ -1,5 +1,5 @@
 use Rattle.std.proofs.Common.{◌≡◌, ℕ, drop}
-use Rattle.class_model.specs.Whole.InstructionMeaning.{or_else}
+use Rattle.class_model.specs.InstructionMeaning.{or_else}
 use Rattle.jv_ops.specs.Targets.{found}
 use Rattle.jv_ops.proofs.Numbers.{number_from}
 use Rattle.jv_ops.proofs.targets.numbers_of.Given as goal

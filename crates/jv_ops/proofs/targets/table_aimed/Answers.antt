@@ -2,7 +2,7 @@ use Rattle.std.proofs.Common.{Ok, sym}
 use Rattle.std.proofs.lemmas.Result.{err_from_is_err_and}
 use Rattle.std.specs.Int.{w32, cast_signed}
 use Rattle.class_model.specs.declared.op.Op.TheVariants as op
-use Rattle.class_model.specs.Whole.InstructionMeaning.{aimed}
+use Rattle.class_model.specs.InstructionMeaning.{aimed}
 use Rattle.jv_ops.specs.Targets.{collected, aim_in}
 use Rattle.jv_ops.proofs.Collecting.{second_step, second_fault}
 use Rattle.jv_ops.proofs.targets.table_aimed.Goals as goal

@@ -1,5 +1,5 @@
 use Rattle.std.proofs.Common.{◌≡◌, ◌++◌, ◌∷◌, [], sym}
-use Rattle.class_model.specs.Whole.InstructionMeaning.{aimed}
+use Rattle.class_model.specs.InstructionMeaning.{aimed}
 use Rattle.jv_ops.specs.Targets.{collected, aim_in}
 use Rattle.jv_ops.proofs.Collecting.{goes_on, stops, is_done}
 use Rattle.jv_ops.proofs.targets.targets.Goals as goal

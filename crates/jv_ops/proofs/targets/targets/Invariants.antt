@@ -1,5 +1,5 @@
 use Rattle.std.proofs.Common.{◌≡◌, drop}
-use Rattle.class_model.specs.Whole.InstructionMeaning.{aimed}
+use Rattle.class_model.specs.InstructionMeaning.{aimed}
 use Rattle.jv_ops.specs.Targets.{collected, aim_in}
 use Rattle.jv_ops.proofs.Collecting.{onto}
 use Rattle.jv_ops.proofs.targets.targets.Given as goal

@@ -11,7 +11,7 @@ use jv_base::{Items, M};
 use std::alloc::Global;
 
 /// The bytes of a code (JVMS 4.7.3).
-#[tactic(auto, unfolding(class_model::specs::Layout::code_bytes))]
+#[tactic(auto, unfolding(crate::specs::SmallLayout::code_bytes))]
 pub(crate) fn code_bytes(alloc: Global, instructions: &Items<Ins>) -> M<Vec<u8>>
     requires { All (λ i. OperandsFit i.op) instructions.now }
     ensures { IfOk result (λ bytes. bytes.items ≡ canonical.code_bytes instructions.now) }

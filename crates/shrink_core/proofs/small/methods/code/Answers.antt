@@ -2,7 +2,7 @@ use Rattle.std.proofs.Common.{◌≡◌, List, ℕ, refl, sym, subst, ◌∙◌}
 use Rattle.std.proofs.lemmas.Result.{err_from_is_err_and}
 use Rattle.class_model.specs.declared.code.Code.{Code}
 use Rattle.class_model.specs.declared.code.Ins.{Ins}
-use Rattle.class_model.specs.Instructions.{IsCodeText}
+use Rattle.shrink_core.specs.SmallOpcodes.{IsCodeText}
 use Rattle.shrink_core.specs.SmallMeaning.{IsCodeOf}
 use Rattle.shrink_core.proofs.FindingLaw.{none_other}
 use Rattle.shrink_core.proofs.small.methods.code.Goals as goal

@@ -2,7 +2,7 @@ use Rattle.std.proofs.Common.{List, ◌≡◌, ◌<◌, ◌≤◌, ap, subst, �
 use Rattle.std.proofs.lemmas.Result.{err_from_is_err_and}
 use Rattle.std.proofs.lemmas.List.Elements.{All-more}
 use Rattle.class_model.specs.declared.pool.Entry.{Entry}
-use Rattle.class_model.specs.Pool.{NamesRight}
+use Rattle.shrink_core.specs.SmallPool.{NamesRight}
 use Rattle.shrink_core.specs.Finding.{FindsNone}
 use Rattle.shrink_core.proofs.FindingLaw.{none_of_all, all_looked_at}
 use Rattle.shrink_core.proofs.small.pool.check_entries.Goals as goal

@@ -1,6 +1,6 @@
 use Rattle.std.proofs.Common.{take}
 use Rattle.std.specs.List.{All}
-use Rattle.class_model.specs.Pool.{NamesRight}
+use Rattle.shrink_core.specs.SmallPool.{NamesRight}
 use Rattle.shrink_core.proofs.small.pool.check_entries.Given as goal
 
 abbrev pub invariant-loop-entry : goal.invariant-loop-entry

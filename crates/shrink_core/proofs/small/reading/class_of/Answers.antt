@@ -4,8 +4,8 @@ use Rattle.std.proofs.Common.{subst, List}
 use Rattle.std.proofs.lemmas.Result.{err_from_is_err_and}
 use Rattle.class_model.specs.declared.class.Method.{Method}
 use Rattle.class_model.specs.declared.class.Class.{Class}
-use Rattle.class_model.specs.Pool.{NamesRight}
-use Rattle.class_model.specs.File.{Differ}
+use Rattle.shrink_core.specs.SmallPool.{NamesRight}
+use Rattle.shrink_core.specs.SmallClassFile.{Differ}
 use Rattle.shrink_core.specs.SmallMeaning.{IsClassOf}
 use Rattle.shrink_core.proofs.FindingLaw.{none_other}
 use Rattle.shrink_core.proofs.small.reading.class_of.Goals as goal

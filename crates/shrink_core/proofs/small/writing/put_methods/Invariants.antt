@@ -1,6 +1,6 @@
 use Rattle.std.proofs.Common.{◌≡◌, ◌++◌, map, take}
 use Rattle.std.specs.List.{flat_map}
-use Rattle.class_model.specs.Layout.{method_raw}
+use Rattle.shrink_core.specs.SmallLayout.{method_raw}
 use Rattle.class_model.specs.Structure.{member_info}
 use Rattle.shrink_core.proofs.small.writing.put_methods.Given as goal
 

@@ -3,7 +3,7 @@ use Rattle.std.specs.List.{flat_map}
 use Rattle.std.proofs.lemmas.List.{at_drop_all}
 use Rattle.indexmap.specs.IndexSet.{insert_all}
 use Rattle.class_model.specs.declared.class.Method.{Method}
-use Rattle.class_model.specs.Layout.{same, method_constants, pool_of}
+use Rattle.shrink_core.specs.SmallLayout.{same, method_constants, pool_of}
 use Rattle.shrink_core.proofs.small.writing.constants.pool_of.Goals as goal
 
 pub returns : goal.returns

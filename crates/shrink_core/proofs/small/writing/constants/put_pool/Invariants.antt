@@ -1,7 +1,7 @@
 use Rattle.std.proofs.Common.{◌≡◌, ◌++◌, map, take}
 use Rattle.std.specs.List.{flat_map}
-use Rattle.class_model.specs.Layout.{entry_of}
-use Rattle.class_model.specs.Pool.{cp_info}
+use Rattle.shrink_core.specs.SmallLayout.{entry_of}
+use Rattle.shrink_core.specs.SmallPool.{cp_info}
 use Rattle.shrink_core.proofs.small.writing.constants.put_pool.Given as goal
 
 abbrev pub invariant-loop-constant : goal.invariant-loop-constant

@@ -1,7 +1,7 @@
 use Rattle.std.proofs.Common.{◌≡◌, take}
 use Rattle.std.specs.List.{flat_map}
 use Rattle.class_model.specs.declared.code.Ins.{Ins}
-use Rattle.class_model.specs.Layout.{op_bytes}
+use Rattle.shrink_core.specs.SmallLayout.{op_bytes}
 use Rattle.shrink_core.proofs.small.writing.instructions.code_bytes.Given as goal
 
 abbrev pub invariant-loop-instruction : goal.invariant-loop-instruction

@@ -9,8 +9,8 @@ use Rattle.format_reading.specs.declared.fault.FormatKind.{FormatKind}
 use Rattle.format_reading.specs.declared.fault.FormatKind.TheVariants as bad
 use Rattle.class_model.specs.declared.pool.Entry.{Entry}
 use Rattle.class_model.specs.declared.pool.Entry.TheVariants as entry
-use Rattle.class_model.specs.Whole.ConstantPool.{left_out_length, long_of, takes_two}
-use Rattle.class_model.specs.Whole.Lookups.{due, value_of, names_right}
+use Rattle.class_model.specs.ConstantPool.{left_out_length, long_of, takes_two}
+use Rattle.class_model.specs.Lookups.{due, value_of, names_right}
 
 -- an entry, and the offset of its tag
 pub record Slot : Type 0 where

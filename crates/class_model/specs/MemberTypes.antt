@@ -6,9 +6,9 @@ use Rattle.jv_base.specs.declared.types.MethodType.{MethodType}
 use Rattle.format_reading.specs.declared.fault.FormatKind.{FormatKind}
 use Rattle.format_reading.specs.declared.fault.FormatKind.TheVariants as bad
 use Rattle.class_model.specs.declared.pool.Entry.{Entry}
-use Rattle.class_model.specs.Whole.Flags.{are_initial_flags}
-use Rattle.class_model.specs.Whole.Members.{has_room_for_this, is_initial_type}
-use Rattle.class_model.specs.Whole.Lookups.{due, test, text_at, field_type_of, method_type_of}
+use Rattle.class_model.specs.Flags.{are_initial_flags}
+use Rattle.class_model.specs.Members.{has_room_for_this, is_initial_type}
+use Rattle.class_model.specs.Lookups.{due, test, text_at, field_type_of, method_type_of}
 
 -- the type of a field
 unfoldable pub field_type_at : List Entry → ℕ → Result FieldType FormatKind

@@ -12,7 +12,7 @@ use Rattle.class_model.specs.declared.pool.Entry.{Entry}
 use Rattle.class_model.specs.declared.pool.Entry.TheVariants as entry
 use Rattle.class_model.specs.declared.op.MemberRef.{MemberRef}
 use Rattle.class_model.specs.Pool.{units_at, class_units_at, name_index_in}
-use Rattle.class_model.specs.Whole.ConstantPool.{class_type, name_and_type_at, fieldref_in, methodref_in, interface_methodref_in}
+use Rattle.class_model.specs.ConstantPool.{class_type, name_and_type_at, fieldref_in, methodref_in, interface_methodref_in}
 
 -- ---- a value, or a kind of fault
 

@@ -14,13 +14,13 @@ use Rattle.class_model.specs.declared.class.Field.{Field}
 use Rattle.class_model.specs.declared.class.Method.{Method}
 use Rattle.class_model.specs.declared.class.Class.{Class}
 use Rattle.class_model.specs.Structure.{AttributeInfo, MemberInfo, ExceptionInfo, CodeInfo, code_info}
-use Rattle.class_model.specs.Whole.Flags.{is_static}
-use Rattle.class_model.specs.Whole.Frames.{initial_locals, stack_map_table}
-use Rattle.class_model.specs.Whole.LineNumbers.{LineNumber, line_number}
-use Rattle.class_model.specs.Whole.ClassFile.{ClassFile, class_file}
-use Rattle.class_model.specs.Whole.CanonicalPool.{PoolConstant, Utf8, Integer, Long, Str, text_constants, class_constant, class_constants, string_constants, long_constants, filled, index_of, infos_of}
-use Rattle.class_model.specs.Whole.CanonicalCode.{places, code_bytes, pushed_constants, op_constants}
-use Rattle.class_model.specs.Whole.CanonicalFrames.{frame_constants, rows}
+use Rattle.class_model.specs.Flags.{is_static}
+use Rattle.class_model.specs.Frames.{initial_locals, stack_map_table}
+use Rattle.class_model.specs.LineNumbers.{LineNumber, line_number}
+use Rattle.class_model.specs.ClassFile.{ClassFile, class_file}
+use Rattle.class_model.specs.CanonicalPool.{PoolConstant, Utf8, Integer, Long, Str, text_constants, class_constant, class_constants, string_constants, long_constants, filled, index_of, infos_of}
+use Rattle.class_model.specs.CanonicalCode.{places, code_bytes, pushed_constants, op_constants}
+use Rattle.class_model.specs.CanonicalFrames.{frame_constants, rows}
 
 -- ---- constants, in the order of the file
 

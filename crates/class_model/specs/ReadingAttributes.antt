@@ -12,9 +12,9 @@ use Rattle.class_model.specs.declared.pool.Entry.TheVariants as entry
 use Rattle.class_model.specs.declared.class.Constant.{Constant}
 use Rattle.class_model.specs.declared.class.Constant.TheVariants as constant
 use Rattle.class_model.specs.Pool.{units_at}
-use Rattle.class_model.specs.Whole.ConstantPool.{string_units_at}
-use Rattle.class_model.specs.Whole.LineNumbers.{LineNumber}
-use Rattle.class_model.specs.Whole.Lookups.{due, test, class_at}
+use Rattle.class_model.specs.ConstantPool.{string_units_at}
+use Rattle.class_model.specs.LineNumbers.{LineNumber}
+use Rattle.class_model.specs.Lookups.{due, test, class_at}
 
 -- ---- the header
 

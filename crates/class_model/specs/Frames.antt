@@ -13,9 +13,9 @@ use Rattle.class_model.specs.declared.code.Ins.{Ins}
 use Rattle.class_model.specs.declared.frame.VType.{VType}
 use Rattle.class_model.specs.declared.frame.VType.TheVariants as vtype
 use Rattle.class_model.specs.declared.frame.FrameAt.{FrameAt}
-use Rattle.class_model.specs.Instructions.{between}
+use Rattle.class_model.specs.Between.{between}
 use Rattle.class_model.specs.Structure.{AttributeInfo}
-use Rattle.class_model.specs.Whole.ConstantPool.{IsTypeAt, class_type}
+use Rattle.class_model.specs.ConstantPool.{IsTypeAt, class_type}
 
 -- ---- the table as it is written
 

@@ -23,12 +23,12 @@ use Rattle.class_model.specs.declared.class.Constant.TheVariants as constant
 use Rattle.class_model.specs.declared.class.Field.{Field}
 use Rattle.class_model.specs.declared.class.Method.{Method}
 use Rattle.class_model.specs.declared.class.Class.{Class}
-use Rattle.class_model.specs.Whole.ConstantPool.{IsFieldText, IsMethodText}
-use Rattle.class_model.specs.Whole.Opcodes.{array_type_of}
-use Rattle.class_model.specs.Whole.Flags.{class_mask, field_mask, method_mask, meant, is_static, is_native, is_interface, has_body, is_left_out_class, are_class_flags, are_field_flags, are_method_flags, are_initial_flags}
-use Rattle.class_model.specs.Whole.Attributes.{IsPlain, IsIntLike}
-use Rattle.class_model.specs.Whole.Frames.{words_of_types, cut_tops}
-use Rattle.class_model.specs.Whole.Members.{FieldsDiffer, MethodsDiffer, has_room_for_this, is_initial_type}
+use Rattle.class_model.specs.ConstantPool.{IsFieldText, IsMethodText}
+use Rattle.class_model.specs.Opcodes.{array_type_of}
+use Rattle.class_model.specs.Flags.{class_mask, field_mask, method_mask, meant, is_static, is_native, is_interface, has_body, is_left_out_class, are_class_flags, are_field_flags, are_method_flags, are_initial_flags}
+use Rattle.class_model.specs.Attributes.{IsPlain, IsIntLike}
+use Rattle.class_model.specs.Frames.{words_of_types, cut_tops}
+use Rattle.class_model.specs.Members.{FieldsDiffer, MethodsDiffer, has_room_for_this, is_initial_type}
 
 -- ---- names and types
 

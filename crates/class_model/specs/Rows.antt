@@ -25,15 +25,15 @@ use Rattle.jv_base.specs.declared.types.Base.TheVariants as base
 use Rattle.class_model.specs.declared.class.LeftOut.{LeftOut}
 use Rattle.class_model.specs.declared.class.LeftKind.{LeftKind}
 use Rattle.class_model.specs.declared.class.LeftKind.TheVariants as left
-use Rattle.class_model.specs.File.{flags_of}
-use Rattle.class_model.specs.Whole.ClassFile.{File}
-use Rattle.class_model.specs.Whole.InstructionStructure.{Plain, pad_length}
-use Rattle.class_model.specs.Whole.Opcodes.{plain_op}
-use Rattle.class_model.specs.Whole.WellFormed.{IsWellFormed}
-use Rattle.class_model.specs.Whole.ReadingCode.{begun}
-use Rattle.class_model.specs.Whole.ReadingClass.{class_read}
-use Rattle.class_model.specs.Whole.CanonicalCode.{op_info}
-use Rattle.class_model.specs.Whole.WriteLimits.{class_written, code_fits}
+use Rattle.class_model.specs.Flags.{flags_of}
+use Rattle.class_model.specs.ClassFile.{File}
+use Rattle.class_model.specs.InstructionStructure.{Plain, pad_length}
+use Rattle.class_model.specs.Opcodes.{plain_op}
+use Rattle.class_model.specs.WellFormed.{IsWellFormed}
+use Rattle.class_model.specs.ReadingCode.{begun}
+use Rattle.class_model.specs.ReadingClass.{class_read}
+use Rattle.class_model.specs.CanonicalCode.{op_info}
+use Rattle.class_model.specs.WriteLimits.{class_written, code_fits}
 
 -- ---- hexadecimal digits
 

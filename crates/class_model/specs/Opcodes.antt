@@ -17,7 +17,7 @@ use Rattle.class_model.specs.declared.op.LogicOp.TheVariants as logic
 use Rattle.class_model.specs.declared.op.ConvOp.TheVariants as conv
 use Rattle.class_model.specs.declared.op.Cond.{Cond}
 use Rattle.class_model.specs.declared.op.Cond.TheVariants as cond
-use Rattle.class_model.specs.Instructions.{between}
+use Rattle.class_model.specs.Between.{between}
 
 -- ---- the order in which the standard goes through types and comparisons
 

@@ -10,12 +10,12 @@ use Rattle.class_model.specs.declared.frame.VType.{VType}
 use Rattle.class_model.specs.declared.class.LeftKind.{LeftKind}
 use Rattle.class_model.specs.declared.class.LeftKind.TheVariants as left
 use Rattle.class_model.specs.Structure.{AttributeInfo, ExceptionInfo, CodeInfo, code_info}
-use Rattle.class_model.specs.Whole.ConstantPool.{IsOptionalClassAt}
-use Rattle.class_model.specs.Whole.InstructionStructure.{Info, info_bytes, starts_of}
-use Rattle.class_model.specs.Whole.Instructions.{IsOp, Begins, IsLeftOutCode}
-use Rattle.class_model.specs.Whole.Attributes.{named, AreAttributes}
-use Rattle.class_model.specs.Whole.LineNumbers.{LineNumber, AreLineTables, line_at}
-use Rattle.class_model.specs.Whole.Frames.{StackMapFrame, names_float, AreFrames, IsMapOf}
+use Rattle.class_model.specs.ConstantPool.{IsOptionalClassAt}
+use Rattle.class_model.specs.InstructionStructure.{Info, info_bytes, starts_of}
+use Rattle.class_model.specs.Instructions.{IsOp, Begins, IsLeftOutCode}
+use Rattle.class_model.specs.Attributes.{named, AreAttributes}
+use Rattle.class_model.specs.LineNumbers.{LineNumber, AreLineTables, line_at}
+use Rattle.class_model.specs.Frames.{StackMapFrame, names_float, AreFrames, IsMapOf}
 
 -- the bytes of an instruction at an offset stand for the instruction with its line
 abbrev pub IsIns : List Entry → List ℕ → List LineNumber → ℕ → Info → Ins → Type 0

@@ -12,7 +12,7 @@ use Rattle.jv_base.specs.declared.types.FieldType.{FieldType}
 use Rattle.jv_base.specs.declared.types.Base.{Base}
 use Rattle.jv_base.specs.declared.types.Base.TheVariants as base
 use Rattle.class_model.specs.declared.op.MemberRef.{MemberRef}
-use Rattle.class_model.specs.Whole.ConstantPool.{CpInfo, Utf8Info, IntegerInfo, LongInfo, ClassInfo, StringInfo, FieldrefInfo, MethodrefInfo, InterfaceMethodrefInfo, NameAndTypeInfo}
+use Rattle.class_model.specs.ConstantPool.{CpInfo, Utf8Info, IntegerInfo, LongInfo, ClassInfo, StringInfo, FieldrefInfo, MethodrefInfo, InterfaceMethodrefInfo, NameAndTypeInfo}
 
 -- a constant, its texts in UTF-16 (JVMS 4.4); the second index of a Long is told by its value
 pub data PoolConstant : Type 0 where

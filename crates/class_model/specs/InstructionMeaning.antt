@@ -13,11 +13,11 @@ use Rattle.class_model.specs.declared.op.MemberRef.{MemberRef}
 use Rattle.class_model.specs.declared.op.Case.{Case}
 use Rattle.class_model.specs.declared.op.Op.{Op}
 use Rattle.class_model.specs.declared.op.Op.TheVariants as op
-use Rattle.class_model.specs.Whole.ConstantPool.{string_units_at}
-use Rattle.class_model.specs.Whole.Opcodes.{plain_op, local_op, branch_op, field_op, method_op, takes_interface_method, type_op, array_type_of}
-use Rattle.class_model.specs.Whole.InstructionStructure.{MatchOffset, Info, Plain, Bipush, Sipush, Ldc, LdcWide, Local, WideLocal, Iinc, WideIinc, Branch, GotoWide, TableSwitch, LookupSwitch, MemberOperand, InvokeInterface, ClassOperand, NewArray, MultiNewArray}
-use Rattle.class_model.specs.Whole.Instructions.{branch_target}
-use Rattle.class_model.specs.Whole.Lookups.{due, class_at, value_of, type_at, fieldref_at, methodref_at, interface_methodref_at, method_type_of}
+use Rattle.class_model.specs.ConstantPool.{string_units_at}
+use Rattle.class_model.specs.Opcodes.{plain_op, local_op, branch_op, field_op, method_op, takes_interface_method, type_op, array_type_of}
+use Rattle.class_model.specs.InstructionStructure.{MatchOffset, Info, Plain, Bipush, Sipush, Ldc, LdcWide, Local, WideLocal, Iinc, WideIinc, Branch, GotoWide, TableSwitch, LookupSwitch, MemberOperand, InvokeInterface, ClassOperand, NewArray, MultiNewArray}
+use Rattle.class_model.specs.Instructions.{branch_target}
+use Rattle.class_model.specs.Lookups.{due, class_at, value_of, type_at, fieldref_at, methodref_at, interface_methodref_at, method_type_of}
 
 -- ---- operands
 

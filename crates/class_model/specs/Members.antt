@@ -12,12 +12,12 @@ use Rattle.class_model.specs.declared.class.Method.{Method}
 use Rattle.class_model.specs.declared.class.LeftKind.{LeftKind}
 use Rattle.class_model.specs.declared.class.LeftKind.TheVariants as left
 use Rattle.class_model.specs.Pool.{IsTextAt}
-use Rattle.class_model.specs.File.{flags_of}
+use Rattle.class_model.specs.Flags.{flags_of}
 use Rattle.class_model.specs.Structure.{AttributeInfo, MemberInfo}
-use Rattle.class_model.specs.Whole.Flags.{field_mask, method_mask, meant, is_static, is_native, has_body, are_field_flags, are_method_flags, are_initial_flags, is_init, is_clinit}
-use Rattle.class_model.specs.Whole.Attributes.{named, AreAttributes, IsMark, AreConstants, AreThrown}
-use Rattle.class_model.specs.Whole.Frames.{initial_locals}
-use Rattle.class_model.specs.Whole.CodeAttribute.{IsBody}
+use Rattle.class_model.specs.Flags.{field_mask, method_mask, meant, is_static, is_native, has_body, are_field_flags, are_method_flags, are_initial_flags, is_init, is_clinit}
+use Rattle.class_model.specs.Attributes.{named, AreAttributes, IsMark, AreConstants, AreThrown}
+use Rattle.class_model.specs.Frames.{initial_locals}
+use Rattle.class_model.specs.CodeAttribute.{IsBody}
 
 -- the flags of a member, where those that mean something pass a test
 pub record AreFlags (mask : ℕ) (passes : ℕ → Bool) (bits : ℕ) (flags : Access) : Type 0 where

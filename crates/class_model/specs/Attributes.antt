@@ -12,7 +12,7 @@ use Rattle.class_model.specs.declared.class.Constant.{Constant}
 use Rattle.class_model.specs.declared.class.Constant.TheVariants as constant
 use Rattle.class_model.specs.Pool.{units_at, IsClassAt}
 use Rattle.class_model.specs.Structure.{AttributeInfo}
-use Rattle.class_model.specs.Whole.ConstantPool.{string_units_at}
+use Rattle.class_model.specs.ConstantPool.{string_units_at}
 
 -- ---- names of attributes
 

@@ -12,11 +12,11 @@ use Rattle.class_model.specs.declared.frame.VType.{VType}
 use Rattle.class_model.specs.declared.frame.FrameAt.{FrameAt}
 use Rattle.class_model.specs.declared.class.Method.{Method}
 use Rattle.class_model.specs.declared.class.Class.{Class}
-use Rattle.class_model.specs.Layout.{int_between}
-use Rattle.class_model.specs.Whole.CanonicalPool.{PoolConstant, Utf8}
-use Rattle.class_model.specs.Whole.CanonicalCode.{places, code_bytes}
-use Rattle.class_model.specs.Whole.CanonicalFrames.{Form, full, form_of}
-use Rattle.class_model.specs.Whole.CanonicalClass.{pool_of, first_locals, line_rows, code_contents, layout}
+use Rattle.class_model.specs.Between.{int_between}
+use Rattle.class_model.specs.CanonicalPool.{PoolConstant, Utf8}
+use Rattle.class_model.specs.CanonicalCode.{places, code_bytes}
+use Rattle.class_model.specs.CanonicalFrames.{Form, full, form_of}
+use Rattle.class_model.specs.CanonicalClass.{pool_of, first_locals, line_rows, code_contents, layout}
 
 -- a count or a length that fits a number of two bytes, or the limit that it passes
 abbrev pub fits_u2 : (ℕ → WriteLimit) → ℕ → Result (Unit {0}) WriteLimit

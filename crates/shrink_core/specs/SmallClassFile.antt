@@ -1,7 +1,8 @@
--- Which bytes spell a class (JVMS 4), for the classes that are read so far: those without interfaces, fields and attributes,
--- whose methods are static and have the one attribute Code, without handlers and attributes. Whole.ClassFile has every class.
-use Rattle.std.specs.Prelude.{◌≡◌, ◌≢◌, ◌⊎◌, ℕ, ◌^◌, ◌<◌, List, [], ◌∷◌, length, Option, Some, None, AllPairs, IsTrue, bit_and, codes, false}
-use Rattle.std.specs.List.{AllZip}
+-- Which bytes spell a small class (JVMS 4): one without interfaces, fields and attributes, whose methods are static and have the
+-- one attribute Code, without handlers and attributes.
+use Rattle.std.specs.Prelude.{◌≡◌, ◌≢◌, ◌⊎◌, ℕ, ◌+◌, ◌^◌, ◌<◌, List, [], ◌∷◌, ◌++◌, length, Option, Some, None, AllPairs, IsTrue, bit_and, codes, false}
+use Rattle.std.specs.Int.{w16, to_be_bytes}
+use Rattle.std.specs.List.{AllZip, flat_map}
 use Rattle.jv_base.specs.declared.access.Access.{Access}
 use Rattle.jv_base.specs.Names.{is_member_name}
 use Rattle.jv_base.specs.Types.{method_text, IsMethodType}
@@ -9,13 +10,33 @@ use Rattle.class_model.specs.declared.pool.Entry.{Entry}
 use Rattle.class_model.specs.declared.code.Code.{Code}
 use Rattle.class_model.specs.declared.class.Method.{Method}
 use Rattle.class_model.specs.declared.class.Class.{Class}
-use Rattle.class_model.specs.Pool.{IsPool, IsTextAt, IsClassAt}
-use Rattle.class_model.specs.Structure.{AttributeInfo, MemberInfo, CodeInfo, code_info, ClassFile, class_file}
-use Rattle.class_model.specs.Instructions.{IsCodeText}
+use Rattle.shrink_core.specs.SmallPool.{cp_info, IsPool}
+use Rattle.class_model.specs.Pool.{IsTextAt, IsClassAt}
+use Rattle.class_model.specs.Structure.{AttributeInfo, attribute_info, MemberInfo, member_info, CodeInfo, code_info, head}
+use Rattle.class_model.specs.Flags.{flags_of}
+use Rattle.shrink_core.specs.SmallOpcodes.{IsCodeText}
 
--- access_flags of these bits (JVMS 4.1, 4.5, 4.6)
-abbrev pub flags_of : ℕ → Access
-flags_of bits = record { 0 = bits }
+-- ---- the structure
+
+-- ClassFile (JVMS 4.1); the pool's entries are those from index 1 on
+pub record ClassFile : Type 0 where
+  pub constant_pool : List Entry
+  pub access_flags : ℕ
+  pub this_class : ℕ
+  pub super_class : ℕ
+  pub interfaces : List ℕ
+  pub fields : List MemberInfo
+  pub methods : List MemberInfo
+  pub attributes : List AttributeInfo
+
+-- its bytes, with the count of each table
+abbrev pub class_file : ClassFile → List ℕ
+class_file c = head ++ (to_be_bytes w16 (length c.constant_pool + 1) ++ (flat_map cp_info c.constant_pool
+    ++ (to_be_bytes w16 c.access_flags ++ (to_be_bytes w16 c.this_class ++ (to_be_bytes w16 c.super_class
+    ++ (to_be_bytes w16 (length c.interfaces) ++ (flat_map (to_be_bytes w16) c.interfaces
+    ++ (to_be_bytes w16 (length c.fields) ++ (flat_map member_info c.fields
+    ++ (to_be_bytes w16 (length c.methods) ++ (flat_map member_info c.methods
+    ++ (to_be_bytes w16 (length c.attributes) ++ flat_map attribute_info c.attributes))))))))))))
 
 -- of public, private and protected at most one (JVMS 4.6)
 abbrev pub HasOneAccess : ℕ → Type 0

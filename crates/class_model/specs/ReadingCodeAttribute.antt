@@ -13,12 +13,12 @@ use Rattle.class_model.specs.declared.frame.VType.{VType}
 use Rattle.class_model.specs.declared.frame.FrameAt.{FrameAt}
 use Rattle.class_model.specs.declared.class.LeftKind.{LeftKind}
 use Rattle.class_model.specs.declared.class.LeftKind.TheVariants as left
-use Rattle.class_model.specs.Whole.InstructionStructure.{Info, info_bytes, starts_of}
-use Rattle.class_model.specs.Whole.LineNumbers.{LineNumber, line_at}
-use Rattle.class_model.specs.Whole.Lookups.{due, optional_class_at}
-use Rattle.class_model.specs.Whole.ReadingCode.{CodeRead, instructions, has_left_out, left_out_kind, until_end, ops_of}
-use Rattle.class_model.specs.Whole.ReadingFrames.{read_frames}
-use Rattle.class_model.specs.Whole.ReadingAttributes.{counted_attributes, once, line_number_table}
+use Rattle.class_model.specs.InstructionStructure.{Info, info_bytes, starts_of}
+use Rattle.class_model.specs.LineNumbers.{LineNumber, line_at}
+use Rattle.class_model.specs.Lookups.{due, optional_class_at}
+use Rattle.class_model.specs.ReadingCode.{CodeRead, instructions, has_left_out, left_out_kind, until_end, ops_of}
+use Rattle.class_model.specs.ReadingFrames.{read_frames}
+use Rattle.class_model.specs.ReadingAttributes.{counted_attributes, once, line_number_table}
 
 -- ---- handlers
 

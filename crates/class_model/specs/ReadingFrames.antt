@@ -12,8 +12,8 @@ use Rattle.class_model.specs.declared.op.Op.TheVariants as op
 use Rattle.class_model.specs.declared.frame.VType.{VType}
 use Rattle.class_model.specs.declared.frame.VType.TheVariants as vtype
 use Rattle.class_model.specs.declared.frame.FrameAt.{FrameAt}
-use Rattle.class_model.specs.Whole.Frames.{VerificationTypeInfo, TagInfo, ObjectInfo, UninitializedInfo, StackMapFrame, SameFrame, SameLocalsOneStackItem, SameLocalsOneStackItemExtended, ChopFrame, SameFrameExtended, AppendFrame, FullFrame, tagged_type, words_of_types, cut_tops, offset_behind, names_float}
-use Rattle.class_model.specs.Whole.Lookups.{due, type_at}
+use Rattle.class_model.specs.Frames.{VerificationTypeInfo, TagInfo, ObjectInfo, UninitializedInfo, StackMapFrame, SameFrame, SameLocalsOneStackItem, SameLocalsOneStackItemExtended, ChopFrame, SameFrameExtended, AppendFrame, FullFrame, tagged_type, words_of_types, cut_tops, offset_behind, names_float}
+use Rattle.class_model.specs.Lookups.{due, type_at}
 
 -- ---- rows as they are written
 

@@ -12,14 +12,14 @@ use Rattle.class_model.specs.declared.class.Field.{Field}
 use Rattle.class_model.specs.declared.class.Method.{Method}
 use Rattle.class_model.specs.declared.class.Class.{Class}
 use Rattle.class_model.specs.declared.class.LeftKind.{LeftKind}
-use Rattle.class_model.specs.File.{flags_of}
-use Rattle.class_model.specs.Whole.Flags.{class_mask, meant, are_class_flags, is_interface}
-use Rattle.class_model.specs.Whole.ClassFile.{left_out_of_class, first_left_out}
-use Rattle.class_model.specs.Whole.Lookups.{test, class_at}
-use Rattle.class_model.specs.Whole.ReadingPool.{read_pool}
-use Rattle.class_model.specs.Whole.ReadingAttributes.{counted_attributes, once, source_file}
-use Rattle.class_model.specs.Whole.ReadingCodeAttribute.{is_there}
-use Rattle.class_model.specs.Whole.ReadingMembers.{read_flags, read_fields, read_methods}
+use Rattle.class_model.specs.Flags.{flags_of}
+use Rattle.class_model.specs.Flags.{class_mask, meant, are_class_flags, is_interface}
+use Rattle.class_model.specs.ClassFile.{left_out_of_class, first_left_out}
+use Rattle.class_model.specs.Lookups.{test, class_at}
+use Rattle.class_model.specs.ReadingPool.{read_pool}
+use Rattle.class_model.specs.ReadingAttributes.{counted_attributes, once, source_file}
+use Rattle.class_model.specs.ReadingCodeAttribute.{is_there}
+use Rattle.class_model.specs.ReadingMembers.{read_flags, read_fields, read_methods}
 
 -- a number that has to be this one
 abbrev pub wanted : ℕ → FormatKind → ℕ → Result (Unit {0}) FormatKind

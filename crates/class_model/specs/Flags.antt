@@ -1,5 +1,6 @@
 -- Access flags (JVMS 4.1, 4.5, 4.6): which mean something, and which may stand together.
 use Rattle.std.specs.Prelude.{ℕ, ◌+◌, Bool, not, ◌&&◌, ◌||◌, ◌==◌, nat_lt, bit_and, List, codes}
+use Rattle.jv_base.specs.declared.access.Access.{Access}
 use Rattle.jv_base.specs.Names.{is_text}
 
 -- ---- the flags (tables 4.1-A, 4.5-A, 4.6-A); of three bits the name depends on the place
@@ -147,3 +148,7 @@ abbrev pub are_initial_flags : Bool → ℕ → List ℕ → Bool
 are_initial_flags in_interface flags name =
     (not (is_init name) || (not in_interface && not (has_some (acc_static + acc_final + acc_synchronized + acc_native + acc_abstract) flags)))
     && (not (is_clinit name) || is_static flags)
+
+-- access_flags of these bits (JVMS 4.1, 4.5, 4.6)
+abbrev pub flags_of : ℕ → Access
+flags_of bits = record { 0 = bits }

@@ -13,13 +13,13 @@ use Rattle.class_model.specs.declared.class.Field.{Field}
 use Rattle.class_model.specs.declared.class.Method.{Method}
 use Rattle.class_model.specs.declared.class.LeftKind.{LeftKind}
 use Rattle.class_model.specs.declared.class.LeftKind.TheVariants as left
-use Rattle.class_model.specs.File.{flags_of}
-use Rattle.class_model.specs.Whole.Flags.{field_mask, method_mask, meant, is_static, is_native, has_body, are_field_flags, are_method_flags}
-use Rattle.class_model.specs.Whole.Frames.{initial_locals}
-use Rattle.class_model.specs.Whole.Lookups.{test, good_text_at}
-use Rattle.class_model.specs.Whole.MemberTypes.{field_type_at, method_type_at}
-use Rattle.class_model.specs.Whole.ReadingAttributes.{counted_attributes, once, exceptions, constant_value}
-use Rattle.class_model.specs.Whole.ReadingCodeAttribute.{Body, is_there, read_code}
+use Rattle.class_model.specs.Flags.{flags_of}
+use Rattle.class_model.specs.Flags.{field_mask, method_mask, meant, is_static, is_native, has_body, are_field_flags, are_method_flags}
+use Rattle.class_model.specs.Frames.{initial_locals}
+use Rattle.class_model.specs.Lookups.{test, good_text_at}
+use Rattle.class_model.specs.MemberTypes.{field_type_at, method_type_at}
+use Rattle.class_model.specs.ReadingAttributes.{counted_attributes, once, exceptions, constant_value}
+use Rattle.class_model.specs.ReadingCodeAttribute.{Body, is_there, read_code}
 
 -- flags that pass a test
 abbrev pub read_flags : (ℕ → Bool) → Reader ℕ

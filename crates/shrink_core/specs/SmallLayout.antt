@@ -1,5 +1,5 @@
--- The canonical spelling of a class that File takes; Whole.CanonicalClass has that of every class.
-use Rattle.std.specs.Prelude.{ℕ, ◌+◌, Bool, false, List, [], ◌∷◌, ◌++◌, map, Option, Some, None, nat_lt, nat_eq, ◌&&◌, if◌then◌else◌, codes, ℤ, pos, negsuc, ◌+ℤ◌, int_le}
+-- The canonical spelling of a small class.
+use Rattle.std.specs.Prelude.{ℕ, ◌+◌, Bool, false, List, [], ◌∷◌, ◌++◌, map, Option, Some, None, nat_lt, nat_eq, if◌then◌else◌, codes, ℤ, pos, negsuc, ◌+ℤ◌}
 use Rattle.std.specs.Int.{w8, w16, cast_unsigned, to_be_bytes}
 use Rattle.std.specs.List.{flat_map, position_or_len}
 use Rattle.std.specs.Cmp.Lexicographic.{pointwise}
@@ -19,7 +19,8 @@ use Rattle.class_model.specs.declared.code.Ins.{Ins}
 use Rattle.class_model.specs.declared.code.Code.{Code}
 use Rattle.class_model.specs.declared.class.Method.{Method}
 use Rattle.class_model.specs.declared.class.Class.{Class}
-use Rattle.class_model.specs.Structure.{AttributeInfo, MemberInfo, CodeInfo, code_info, ClassFile, class_file}
+use Rattle.class_model.specs.Structure.{AttributeInfo, MemberInfo, CodeInfo, code_info}
+use Rattle.shrink_core.specs.SmallClassFile.{ClassFile, class_file}
 
 -- ---- the pool
 
@@ -59,10 +60,6 @@ entry_of pool (Utf8 units) = entry.Utf8 units
 entry_of pool (ClassOf units) = entry.Class (index_of pool (Utf8 units))
 
 -- ---- code
-
--- a number is one of these
-abbrev pub int_between : ℤ → ℤ → ℤ → Bool
-int_between low high n = int_le low n && int_le n high
 
 -- iconst_<i> from -1 to 5, bipush from -128 to 127, else sipush; never from the pool (JVMS 6.5)
 abbrev pub push_bytes : ℤ → List ℕ

@@ -12,12 +12,12 @@ use Rattle.class_model.specs.declared.pool.Entry.{Entry}
 use Rattle.class_model.specs.declared.op.Op.{Op}
 use Rattle.class_model.specs.declared.class.LeftKind.{LeftKind}
 use Rattle.class_model.specs.declared.class.LeftKind.TheVariants as left
-use Rattle.class_model.specs.Instructions.{between}
-use Rattle.class_model.specs.Whole.Opcodes.{plain_op, local_op, branch_op, field_op, method_op, type_op, array_type_of, is_left_out_local, is_left_out_array_type, is_left_out_opcode}
-use Rattle.class_model.specs.Whole.InstructionStructure.{MatchOffset, Info, Plain, Bipush, Sipush, Ldc, LdcWide, Local, WideLocal, Iinc, WideIinc, Branch, GotoWide, TableSwitch, LookupSwitch, MemberOperand, InvokeInterface, ClassOperand, NewArray, MultiNewArray, info_bytes, pad_length, starts_of}
-use Rattle.class_model.specs.Whole.Instructions.{is_left_out_load}
-use Rattle.class_model.specs.Whole.InstructionMeaning.{op_of, aim_at, loaded, loaded_wide, member_op, class_op, count_of}
-use Rattle.class_model.specs.Whole.Lookups.{test, type_at, interface_methodref_at}
+use Rattle.class_model.specs.Between.{between}
+use Rattle.class_model.specs.Opcodes.{plain_op, local_op, branch_op, field_op, method_op, type_op, array_type_of, is_left_out_local, is_left_out_array_type, is_left_out_opcode}
+use Rattle.class_model.specs.InstructionStructure.{MatchOffset, Info, Plain, Bipush, Sipush, Ldc, LdcWide, Local, WideLocal, Iinc, WideIinc, Branch, GotoWide, TableSwitch, LookupSwitch, MemberOperand, InvokeInterface, ClassOperand, NewArray, MultiNewArray, info_bytes, pad_length, starts_of}
+use Rattle.class_model.specs.Instructions.{is_left_out_load}
+use Rattle.class_model.specs.InstructionMeaning.{op_of, aim_at, loaded, loaded_wide, member_op, class_op, count_of}
+use Rattle.class_model.specs.Lookups.{test, type_at, interface_methodref_at}
 
 -- ---- one instruction
 

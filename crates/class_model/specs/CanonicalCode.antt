@@ -26,10 +26,10 @@ use Rattle.class_model.specs.declared.op.ConvOp.TheVariants as conv
 use Rattle.class_model.specs.declared.op.Cond.{Cond}
 use Rattle.class_model.specs.declared.op.Cond.TheVariants as cond
 use Rattle.class_model.specs.declared.code.Ins.{Ins}
-use Rattle.class_model.specs.Layout.{int_between}
-use Rattle.class_model.specs.Whole.InstructionStructure.{Info, Plain, Bipush, Sipush, Ldc, LdcWide, Local, WideLocal, Iinc, WideIinc, Branch, TableSwitch, LookupSwitch, MemberOperand, InvokeInterface, ClassOperand, NewArray, MultiNewArray, info_bytes, pad_length}
-use Rattle.class_model.specs.Whole.InstructionMeaning.{count_of}
-use Rattle.class_model.specs.Whole.CanonicalPool.{PoolConstant, Integer, Long, Str, class_constant, class_constants, string_constants, long_constants, type_name, fieldref, methodref, with_parts, index_of}
+use Rattle.class_model.specs.Between.{int_between}
+use Rattle.class_model.specs.InstructionStructure.{Info, Plain, Bipush, Sipush, Ldc, LdcWide, Local, WideLocal, Iinc, WideIinc, Branch, TableSwitch, LookupSwitch, MemberOperand, InvokeInterface, ClassOperand, NewArray, MultiNewArray, info_bytes, pad_length}
+use Rattle.class_model.specs.InstructionMeaning.{count_of}
+use Rattle.class_model.specs.CanonicalPool.{PoolConstant, Integer, Long, Str, class_constant, class_constants, string_constants, long_constants, type_name, fieldref, methodref, with_parts, index_of}
 
 -- ---- the order in which the standard goes through types and comparisons
 

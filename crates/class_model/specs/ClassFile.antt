@@ -11,10 +11,10 @@ use Rattle.class_model.specs.declared.class.LeftKind.{LeftKind}
 use Rattle.class_model.specs.declared.class.LeftKind.TheVariants as left
 use Rattle.class_model.specs.Pool.{IsClassAt}
 use Rattle.class_model.specs.Structure.{AttributeInfo, attribute_info, MemberInfo, member_info, head}
-use Rattle.class_model.specs.Whole.ConstantPool.{CpInfo, cp_info, IsPool}
-use Rattle.class_model.specs.Whole.Flags.{class_mask, are_class_flags, is_interface, is_left_out_class}
-use Rattle.class_model.specs.Whole.Attributes.{named, AreAttributes, Single, IsMark, IsSourceFile}
-use Rattle.class_model.specs.Whole.Members.{AreFlags, IsField, FieldsDiffer, IsMethod, MethodsDiffer}
+use Rattle.class_model.specs.ConstantPool.{CpInfo, cp_info, IsPool}
+use Rattle.class_model.specs.Flags.{class_mask, are_class_flags, is_interface, is_left_out_class}
+use Rattle.class_model.specs.Attributes.{named, AreAttributes, Single, IsMark, IsSourceFile}
+use Rattle.class_model.specs.Members.{AreFlags, IsField, FieldsDiffer, IsMethod, MethodsDiffer}
 
 -- ---- the structure
 
