@@ -18,7 +18,9 @@ use Rattle.class_model.specs.Flags.{is_static}
 use Rattle.class_model.specs.Frames.{initial_locals, stack_map_table}
 use Rattle.class_model.specs.LineNumbers.{LineNumber, line_number}
 use Rattle.class_model.specs.ClassFile.{ClassFile, class_file}
-use Rattle.class_model.specs.CanonicalPool.{PoolConstant, Utf8, Integer, Long, Str, text_constants, class_constant, class_constants, string_constants, long_constants, filled, index_of, infos_of}
+use Rattle.class_model.specs.declared.constant.PoolConstant.{PoolConstant}
+use Rattle.class_model.specs.declared.constant.PoolConstant.TheVariants.{Utf8, Integer, Long, Str}
+use Rattle.class_model.specs.CanonicalPool.{text_constants, class_constant, class_constants, string_constants, long_constants, filled, index_of, infos_of}
 use Rattle.class_model.specs.CanonicalCode.{places, code_bytes, pushed_constants, op_constants}
 use Rattle.class_model.specs.CanonicalFrames.{frame_constants, rows}
 

@@ -29,7 +29,9 @@ use Rattle.class_model.specs.declared.code.Ins.{Ins}
 use Rattle.class_model.specs.Between.{int_between}
 use Rattle.class_model.specs.InstructionStructure.{Info, Plain, Bipush, Sipush, Ldc, LdcWide, Local, WideLocal, Iinc, WideIinc, Branch, TableSwitch, LookupSwitch, MemberOperand, InvokeInterface, ClassOperand, NewArray, MultiNewArray, info_bytes, pad_length}
 use Rattle.class_model.specs.InstructionMeaning.{count_of}
-use Rattle.class_model.specs.CanonicalPool.{PoolConstant, Integer, Long, Str, class_constant, class_constants, string_constants, long_constants, type_name, fieldref, methodref, with_parts, index_of}
+use Rattle.class_model.specs.declared.constant.PoolConstant.{PoolConstant}
+use Rattle.class_model.specs.declared.constant.PoolConstant.TheVariants.{Integer, Long, Str}
+use Rattle.class_model.specs.CanonicalPool.{class_constant, class_constants, string_constants, long_constants, type_name, fieldref, methodref, with_parts, index_of}
 
 -- ---- the order in which the standard goes through types and comparisons
 

@@ -9,7 +9,8 @@ use Rattle.class_model.specs.declared.frame.VType.TheVariants as vtype
 use Rattle.class_model.specs.declared.frame.FrameAt.{FrameAt}
 use Rattle.class_model.specs.Between.{between}
 use Rattle.class_model.specs.Frames.{VerificationTypeInfo, TagInfo, ObjectInfo, UninitializedInfo, StackMapFrame, SameFrame, SameLocalsOneStackItem, SameLocalsOneStackItemExtended, ChopFrame, SameFrameExtended, AppendFrame, FullFrame}
-use Rattle.class_model.specs.CanonicalPool.{PoolConstant, class_constant, class_constants, type_name, index_of}
+use Rattle.class_model.specs.declared.constant.PoolConstant.{PoolConstant}
+use Rattle.class_model.specs.CanonicalPool.{class_constant, class_constants, type_name, index_of}
 
 -- the types are one; types of objects are where their descriptors are
 abbrev pub same_type : VType → VType → Bool

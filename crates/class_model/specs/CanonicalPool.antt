@@ -11,21 +11,10 @@ use Rattle.jv_base.specs.Types.{field_text}
 use Rattle.jv_base.specs.declared.types.FieldType.{FieldType}
 use Rattle.jv_base.specs.declared.types.Base.{Base}
 use Rattle.jv_base.specs.declared.types.Base.TheVariants as base
+use Rattle.class_model.specs.declared.constant.PoolConstant.{PoolConstant}
+use Rattle.class_model.specs.declared.constant.PoolConstant.TheVariants.{Utf8, Integer, Long, SecondOfLong, Class, Str, NameAndType, Fieldref, Methodref, InterfaceMethodref}
 use Rattle.class_model.specs.declared.op.MemberRef.{MemberRef}
 use Rattle.class_model.specs.ConstantPool.{CpInfo, Utf8Info, IntegerInfo, LongInfo, ClassInfo, StringInfo, FieldrefInfo, MethodrefInfo, InterfaceMethodrefInfo, NameAndTypeInfo}
-
--- a constant, its texts in UTF-16 (JVMS 4.4); the second index of a Long is told by its value
-pub data PoolConstant : Type 0 where
-  Utf8 : (text : List ℕ) → PoolConstant
-  Integer : (value : ℤ) → PoolConstant
-  Long : (value : ℤ) → PoolConstant
-  SecondOfLong : (value : ℤ) → PoolConstant
-  Class : (name : List ℕ) → PoolConstant
-  Str : (text : List ℕ) → PoolConstant
-  NameAndType : (name descriptor : List ℕ) → PoolConstant
-  Fieldref : (class name descriptor : List ℕ) → PoolConstant
-  Methodref : (class name descriptor : List ℕ) → PoolConstant
-  InterfaceMethodref : (class name descriptor : List ℕ) → PoolConstant
 
 -- equal unit by unit
 abbrev pub same_text : List ℕ → List ℕ → Bool

@@ -13,7 +13,8 @@ use Rattle.class_model.specs.declared.frame.FrameAt.{FrameAt}
 use Rattle.class_model.specs.declared.class.Method.{Method}
 use Rattle.class_model.specs.declared.class.Class.{Class}
 use Rattle.class_model.specs.Between.{int_between}
-use Rattle.class_model.specs.CanonicalPool.{PoolConstant, Utf8}
+use Rattle.class_model.specs.declared.constant.PoolConstant.{PoolConstant}
+use Rattle.class_model.specs.declared.constant.PoolConstant.TheVariants.{Utf8}
 use Rattle.class_model.specs.CanonicalCode.{places, code_bytes}
 use Rattle.class_model.specs.CanonicalFrames.{Form, full, form_of}
 use Rattle.class_model.specs.CanonicalClass.{pool_of, first_locals, line_rows, code_contents, layout}

@@ -2,7 +2,7 @@
 ghost use Rattle.std.specs.Prelude.{◌≡◌, ℕ, ◌+◌, ◌^◌, ◌<◌, ◌++◌, length, map, All, IfOk, OnOk, IfSome};
 ghost use Rattle.std.specs.Int.{w16, to_be_bytes};
 ghost use Rattle.std.specs.List.{flat_map};
-ghost use Rattle.class_model.specs.Layout as canonical;
+ghost use Rattle.shrink_core.specs.SmallLayout as canonical;
 ghost use Rattle.class_model.specs.Structure as structure;
 ghost use Rattle.class_model.specs.Structure.{AttributeInfo, attribute_info, member_info, head};
 ghost use Rattle.shrink_core.specs.SmallClassFile.{class_file};

@@ -5,7 +5,7 @@ ghost use Rattle.std.specs.List.{flat_map};
 ghost use Rattle.indexmap.specs.IndexSet.{insert_key, insert_all};
 ghost use Rattle.jv_base.specs.Mutf8.{mutf8};
 ghost use Rattle.jv_base.specs.Utf16.{units_of};
-ghost use Rattle.class_model.specs.Layout as canonical;
+ghost use Rattle.shrink_core.specs.SmallLayout as canonical;
 ghost use Rattle.shrink_core.specs.SmallPool.{cp_info};
 ghost use Rattle.shrink_core.specs.Writable.{TextFits};
 

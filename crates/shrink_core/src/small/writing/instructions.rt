@@ -2,7 +2,7 @@
 ghost use Rattle.std.specs.Prelude.{◌≡◌, ℕ, ◌+◌, ◌^◌, ◌<◌, ◌++◌, All, IfOk, OnOk};
 ghost use Rattle.std.specs.Int.{w16};
 ghost use Rattle.std.specs.Int.RustNames.{FitsSigned};
-ghost use Rattle.class_model.specs.Layout as canonical;
+ghost use Rattle.shrink_core.specs.SmallLayout as canonical;
 ghost use Rattle.shrink_core.specs.Writable.{OperandsFit};
 
 use crate::small::writing::bytes::put;
