@@ -3,3 +3,4 @@ pub mod ComputedRows
 pub mod SpelledRows
 pub mod SpelledClass
 pub mod FormedClass
+pub mod SameConstant

@@ -29,9 +29,9 @@ same (SecondOfLong a) (SecondOfLong b) = int_eq a b
 same (Class a) (Class b) = same_text a b
 same (Str a) (Str b) = same_text a b
 same (NameAndType a b) (NameAndType c d) = same_text a c && same_text b d
-same (Fieldref a b c) (Fieldref d e f) = same_text a d && same_text b e && same_text c f
-same (Methodref a b c) (Methodref d e f) = same_text a d && same_text b e && same_text c f
-same (InterfaceMethodref a b c) (InterfaceMethodref d e f) = same_text a d && same_text b e && same_text c f
+same (Fieldref a b c) (Fieldref d e f) = same_text a d && (same_text b e && same_text c f)
+same (Methodref a b c) (Methodref d e f) = same_text a d && (same_text b e && same_text c f)
+same (InterfaceMethodref a b c) (InterfaceMethodref d e f) = same_text a d && (same_text b e && same_text c f)
 same _ _ = false
 
 -- ---- a constant with its parts, in the order of their items, directly before it
