@@ -6,3 +6,4 @@ pub mod FormedClass
 pub mod SameConstant
 pub mod EntryLaw
 pub mod SlotLaw
+pub mod TextLaw
