@@ -4,3 +4,5 @@ pub mod SpelledRows
 pub mod SpelledClass
 pub mod FormedClass
 pub mod SameConstant
+pub mod BackReaders
+pub mod BackInfos
