@@ -4,5 +4,7 @@ pub mod SpelledRows
 pub mod SpelledClass
 pub mod FormedClass
 pub mod SameConstant
+pub mod Units
 pub mod BackReaders
 pub mod BackInfos
+pub mod BackEntries
