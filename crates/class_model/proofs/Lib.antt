@@ -8,3 +8,8 @@ pub mod Units
 pub mod BackReaders
 pub mod BackInfos
 pub mod BackEntries
+pub mod BackNumbers
+pub mod BackPlain
+pub mod BackPushes
+pub mod BackSlots
+pub mod BackMembers
