@@ -13,3 +13,5 @@ pub mod BackPlain
 pub mod BackPushes
 pub mod BackSlots
 pub mod BackMembers
+pub mod BackClasses
+pub mod BackTargets
