@@ -21,7 +21,7 @@ use Rattle.class_model.proofs.BackInfos.{read_branch}
 use Rattle.class_model.proofs.BackPlain.{IsBack}
 
 -- the target is found where it is, at a distance
-there : (at place : ℕ) → branch_target at (pos place -ℤ pos at) ≡ pos place
+pub there : (at place : ℕ) → branch_target at (pos place -ℤ pos at) ≡ pos place
 there at place = omega (arith, ints)
 
 module _ (aim : ℤ → Result ℕ FormatKind) (entries : List Entry) (place : ℕ → ℕ) (at : ℕ) where

@@ -15,3 +15,5 @@ pub mod BackSlots
 pub mod BackMembers
 pub mod BackClasses
 pub mod BackTargets
+pub mod BackSwitches
+pub mod BackOps
