@@ -17,3 +17,5 @@ pub mod BackClasses
 pub mod BackTargets
 pub mod BackSwitches
 pub mod BackOps
+pub mod BackSizes
+pub mod BackPlaces
