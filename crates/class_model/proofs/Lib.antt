@@ -23,3 +23,4 @@ pub mod BackOps
 pub mod BackSizes
 pub mod BackPlaces
 pub mod NameLaw
+pub mod PoolLaw

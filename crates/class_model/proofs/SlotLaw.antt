@@ -48,7 +48,7 @@ second_exact room = as_raw nothing _ (λ w. w) (λ u. u)
 -- ---- n slots
 
 -- n slots of constants, where the first is the second one of an entry before if `second` is true
-abbrev Others : Bool → ℕ → ℕ → List CpInfo → List Slot → Type 0
+abbrev pub Others : Bool → ℕ → ℕ → List CpInfo → List Slot → Type 0
 Others false n at cs rest = AreSlots at cs rest × (length rest ≡ n)
 Others true n at cs rest = (r : List Slot) × (rest ≡ slot_at at entry.Gap ∷ r) × AreSlots at cs r × (suc (length r) ≡ n)
 
