@@ -24,3 +24,4 @@ pub mod BackSizes
 pub mod BackPlaces
 pub mod NameLaw
 pub mod PoolLaw
+pub mod AttributeLaw
