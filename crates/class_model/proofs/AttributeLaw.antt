@@ -87,3 +87,52 @@ module _ {S : Type 0} (pool : List Entry) (known : ℕ → List ℕ → ℕ → 
       due_is : (o : Option (List ℕ)) (name : List ℕ) → due bad.BadIndex o ≡ Ok name → o ≡ Some name
       due_is (Some y) name h = let e : y ≡ name = cc in ap (λ v. Some v) e
       due_is None name h = absurd cc
+
+  -- so many attributes
+  pub attributes_exact : (n : ℕ) (seen : S) → Exact (attributes n pool known seen) (Spells (flat_map attribute_info) (λ at all out. (length all ≡ n) × Steps pool does at all seen out))
+  unfolding attributes
+  attributes_exact zero seen = as_raw (flat_map attribute_info) _ (λ u. []) (λ all. tt)
+      (λ at u out h. (refl, (refl, h)))
+      (λ at all out h. none at all out h.0 h.1)
+      (give_exact seen)
+    where
+      none : (at : ℕ) (all : List AttributeInfo) (out : S) → length all ≡ 0 → Steps pool does at all seen out → (flat_map attribute_info all ≡ []) × (out ≡ seen)
+      none at [] out len h = (refl, h)
+      none at (a ∷ others) out len h = absurd (omega (arith, len))
+  attributes_exact (suc n) seen = as_raw (flat_map attribute_info) _ (λ w. w.0 ∷ w.1) (λ all. (first all, others all))
+      (λ at w out h. (sym (flat_map-cons attribute_info w.0 w.1), (ap suc h.2.0, (h.0, h.1, h.2.1))))
+      (λ at all out h. some at all out h.0 h.1)
+      (bind_exact (λ now. attributes n pool known now) (flat_map attribute_info) (λ now at all out. (length all ≡ n) × Steps pool does at all now out) (attribute_exact seen) (λ now. attributes_exact n now))
+    where
+      first : List AttributeInfo → AttributeInfo
+      first [] = record { attribute_name_index = 0; info = [] }
+      first (a ∷ rest) = a
+      others : List AttributeInfo → List AttributeInfo
+      others [] = []
+      others (a ∷ rest) = rest
+      some : (at : ℕ) (all : List AttributeInfo) (out : S) → length all ≡ suc n → Steps pool does at all seen out
+          → (flat_map attribute_info all ≡ attribute_info (first all) ++ flat_map attribute_info (others all))
+          × ((now : S) × Step pool does at (first all) seen now × ((length (others all) ≡ n) × Steps pool does (at + length (attribute_info (first all))) (others all) now out))
+      some at [] out len h = absurd (omega (arith, len))
+      some at (a ∷ rest) out len h = (flat_map-cons attribute_info a rest, (h.0, h.1, (omega (arith, len), h.2)))
+
+  -- the attributes behind their count
+  pub counted_exact : (seen : S) → Exact (counted_attributes pool known seen)
+      (Spells (λ all. to_be_bytes w16 (length all) ++ flat_map attribute_info all) (λ at all out. (length all < 2 ^ 16) × Steps pool does (at + 2) all seen out))
+  counted_exact seen = as_raw _ _ (λ w. w.1) (λ all. (length all, all))
+      (λ at w out h.
+      let n : length w.1 ≡ w.0 = h.2.0 ∙ h.1.1 in
+      (ap (λ (m : ℕ). to_be_bytes w16 m ++ flat_map attribute_info w.1) (sym n), (subst (λ (m : ℕ). m < 2 ^ 16) (sym n) h.1.0, h.2.1)))
+      (λ at all out h. (refl, (length all, (h.0, refl), (refl, h.1))))
+      (bind_exact (λ n. attributes n pool known seen) (flat_map attribute_info) (λ n at all out. (length all ≡ n) × Steps pool does at all seen out) u2_exact (λ n. attributes_exact n seen))
+
+-- an attribute that may stand once
+pub once_exact : {S : Type 0} {r : Reader S} {does : List ℕ → S → Type 0} (at : ℕ) (had : Bool) → Exact r (Spells text (λ _ info out. does info out)) → Exact (once at had r) (Spells text (λ _ info out. (had ≡ false) × does info out))
+once_exact {r = r} {does = does} at had e = as_raw text _ (λ w. w.1) (λ info. (tt, info))
+    (λ k w out h. (refl, (by had h.0 h.1, h.2)))
+    (λ k info out h. (refl, (tt, ap (λ (b : Bool). test bad.Repeated (not b)) h.0, h.1)))
+    (bind_exact (λ first. r) text (λ first _ info out. does info out) (settle_exact at (test bad.Repeated (not had))) (λ first. e))
+  where
+    by : (had : Bool) (u : Unit {0}) → test bad.Repeated (not had) ≡ Ok u → had ≡ false
+    by true u h = absurd cc
+    by false u h = refl
