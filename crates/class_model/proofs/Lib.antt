@@ -25,3 +25,4 @@ pub mod BackPlaces
 pub mod NameLaw
 pub mod PoolLaw
 pub mod AttributeLaw
+pub mod SeenLaw
