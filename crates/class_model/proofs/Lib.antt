@@ -4,3 +4,4 @@ pub mod SpelledRows
 pub mod SpelledClass
 pub mod FormedClass
 pub mod SameConstant
+pub mod InstructionForms
