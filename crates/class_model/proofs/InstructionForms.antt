@@ -25,7 +25,7 @@ either_holds g false x y h k = k
 
 -- ---- a test of each number below a limit
 
-pub all_below : ℕ → (ℕ → Bool) → Bool
+unfoldable pub all_below : ℕ → (ℕ → Bool) → Bool
 all_below zero test = true
 all_below (suc n) test = test n && all_below n test
 
@@ -75,7 +75,7 @@ pub data Form : Type 0 where
   NoForm : Form
 
 -- the form of an opcode
-pub form_of : ℕ → Form
+unfoldable pub form_of : ℕ → Form
 form_of c =
     cond (is_some (plain_op c)) Alone (cond (eqb c 0x10) OfByte (cond (eqb c 0x11) OfShort (cond (eqb c 0x12) OfLoad
     (cond (eqb c 0x13 || eqb c 0x14) OfWideLoad (cond (is_some (local_op c)) OfLocal (cond (eqb c 0x84) OfIinc
@@ -85,7 +85,7 @@ form_of c =
     (cond (eqb c 0xC5) OfArrays (cond (eqb c 0xBA || is_left_out_opcode c) OfNone NoForm)))))))))))))))))
 
 -- what an opcode of a form begins
-pub begun_by : List Entry → ℕ → ℕ → Form → Result (Reader Read) FormatKind
+unfoldable pub begun_by : List Entry → ℕ → ℕ → Form → Result (Reader Read) FormatKind
 begun_by pool at c Alone = Ok (whole (Plain c))
 begun_by pool at c OfByte = Ok (one_byte (λ byte. Bipush byte))
 begun_by pool at c OfShort = Ok (two_bytes (λ short. Sipush short))
@@ -119,7 +119,7 @@ begun_is pool at c =
     (through f (eqb c 0xC5) OfArrays _ _ (through f (eqb c 0xBA || is_left_out_opcode c) OfNone NoForm _ refl)))))))))))))))))
 
 -- the test that an opcode of a form passes
-pub passes : ℕ → Form → Bool
+unfoldable pub passes : ℕ → Form → Bool
 passes c Alone = is_some (plain_op c)
 passes c OfByte = eqb c 0x10
 passes c OfShort = eqb c 0x11
@@ -162,11 +162,11 @@ pub data WideForm : Type 0 where
   NoWideForm : WideForm
 
 -- the form of an opcode behind wide
-pub wide_form_of : ℕ → WideForm
+unfoldable pub wide_form_of : ℕ → WideForm
 wide_form_of c = cond (eqb c 0x84) WideOfIinc (cond (is_left_out_local c) WideOfNone (cond (is_some (local_op c)) WideOfLocal NoWideForm))
 
 -- what an opcode of a form begins behind wide
-pub widened_by : ℕ → WideForm → Result (Reader Read) FormatKind
+unfoldable pub widened_by : ℕ → WideForm → Result (Reader Read) FormatKind
 widened_by c WideOfIinc = Ok wide_iinc
 widened_by c WideOfNone = Ok (give (left_out 0xC4))
 widened_by c WideOfLocal = Ok (two_bytes (λ index. WideLocal c index))
@@ -180,7 +180,7 @@ widened_is c =
     through f (eqb c 0x84) WideOfIinc _ _ (through f (is_left_out_local c) WideOfNone _ _ (through f (is_some (local_op c)) WideOfLocal NoWideForm _ refl))
 
 -- the test that an opcode of a form passes behind wide
-pub wide_passes : ℕ → WideForm → Bool
+unfoldable pub wide_passes : ℕ → WideForm → Bool
 wide_passes c WideOfIinc = eqb c 0x84
 wide_passes c WideOfNone = is_left_out_local c
 wide_passes c WideOfLocal = is_some (local_op c)

@@ -5,3 +5,4 @@ pub mod SpelledClass
 pub mod FormedClass
 pub mod SameConstant
 pub mod InstructionForms
+pub mod InstructionOperands
