@@ -6,3 +6,4 @@ pub mod FormedClass
 pub mod SameConstant
 pub mod InstructionForms
 pub mod InstructionOperands
+pub mod InstructionRead
