@@ -1,22 +1,20 @@
 -- The operands of each form are read exactly where they are spelled.
-use Rattle.std.proofs.Common.{◌≡◌, ◌⊎◌, inl, inr, ℕ, zero, suc, ◌+◌, ◌^◌, ◌<◌, Bool, true, false, cond, eqb, ◌||◌, List, [], ◌∷◌, ◌++◌, length, Option, Some, None, Result, Ok, Err, refl, sym, ap, subst, ◌∙◌, append_assoc, arith}
-use Rattle.std.specs.Prelude.{is_some, slice_get, int_le, nat_lt}
+use Rattle.std.proofs.Common.{◌≡◌, ℕ, zero, suc, ◌+◌, ◌^◌, ◌<◌, Bool, true, false, cond, eqb, List, [], ◌∷◌, ◌++◌, length, Option, Some, None, Result, Ok, Err, refl, sym, ap, subst, ◌∙◌, append_assoc, arith}
+use Rattle.std.specs.Prelude.{is_some, int_le, nat_lt}
 use Rattle.std.proofs.lemmas.Bool.{ltb-true, lt-ltb, eqb-true}
 use Rattle.std.proofs.lemmas.List.{nil_from_length}
 use Rattle.std.specs.Int.{w8, w16, w32, to_be_bytes, cast_signed}
 use Rattle.std.specs.List.{flat_map, AllByRecursion}
-use Rattle.jv_base.specs.Place.{Place}
-use Rattle.format_reading.specs.Reader.{Reader, u1, u2, u4, bytes, lead, item, bind, give, many}
+use Rattle.format_reading.specs.Reader.{Reader, u1, u2, u4, lead, item, bind, give, many}
 use Rattle.format_reading.specs.Spelling.{Spells, AllStand, ManyStand}
 use Rattle.format_reading.specs.declared.fault.FormatKind.{FormatKind}
 use Rattle.format_reading.specs.declared.fault.FormatKind.TheVariants as bad
-use Rattle.format_reading.proofs.Exact.{Exact, Leads, Takes, IsBytes, Both, Below, nothing, as_raw, lead_exact, item_exact, bind_exact, bind_exact_of, map_exact, give_exact, u1_exact, u2_exact, u4_exact, bytes_exact, many_exact}
+use Rattle.format_reading.proofs.Exact.{Exact, Leads, Both, Below, nothing, as_raw, lead_exact, item_exact, bind_exact, map_exact, give_exact, u1_exact, u2_exact, u4_exact, bytes_exact, many_exact}
 use Rattle.class_model.specs.declared.pool.Entry.{Entry}
-use Rattle.class_model.specs.Opcodes.{array_type_of}
-use Rattle.class_model.specs.InstructionStructure.{MatchOffset, match_offset, Info, Plain, Bipush, Sipush, Ldc, LdcWide, Local, WideLocal, Iinc, WideIinc, Branch, GotoWide, TableSwitch, LookupSwitch, MemberOperand, InvokeInterface, ClassOperand, NewArray, MultiNewArray, pad_length}
+use Rattle.class_model.specs.InstructionStructure.{MatchOffset, match_offset, Info, Plain, Bipush, Sipush, Ldc, LdcWide, Local, WideLocal, Iinc, WideIinc, Branch, GotoWide, TableSwitch, LookupSwitch, MemberOperand, InvokeInterface, ClassOperand, MultiNewArray, pad_length}
 use Rattle.class_model.specs.InstructionMeaning.{loaded, loaded_wide, member_op, class_op}
 use Rattle.class_model.specs.Lookups.{test, type_at, interface_methodref_at}
-use Rattle.class_model.specs.ReadingCode.{Read, instruction, left_out, whole, if_meant, is_left_out_at, load_read, ldc, ldc_wide, one_byte, two_bytes, iinc, wide_iinc, widened, goto_wide, table_length, table_high, table_switch, lookup_count, ascends, lookup_key, match_offsets, lookup_switch, member, class_operand, is_count, count_at, invoke_interface, array_type_read, are_dimensions, multi_new_array, begun}
+use Rattle.class_model.specs.ReadingCode.{Read, instruction, left_out, whole, if_meant, load_read, iinc, wide_iinc, widened, table_length, table_high, table_switch, lookup_count, ascends, lookup_key, match_offsets, lookup_switch, is_count, count_at, invoke_interface, array_type_read, are_dimensions, multi_new_array, begun}
 use Rattle.class_model.proofs.InstructionForms.{Form, Alone, OfByte, OfShort, OfLoad, OfWideLoad, OfLocal, OfIinc, OfWide, OfBranch, OfWideGoto, OfTable, OfLookup, OfMember, OfInterface, OfClass, OfArray, OfArrays, OfNone, NoForm, form_of, begun_by, WideForm, WideOfIinc, WideOfNone, WideOfLocal, NoWideForm, wide_form_of, widened_by, widened_is, begun_is}
 
 -- ---- tests and meanings
@@ -230,8 +228,22 @@ table_there at o w y pad default low x high offsets padded pad-is default-fits d
 table_exact : (at : ℕ) → Exact (table_switch at) (Spells table_bytes (IsTableParts at))
 table_exact at = as_raw table_bytes (IsTableParts at) (λ w. w) (λ w. w)
     (λ o w y h. (refl, table_there at _ w y h.0 h.2.0 h.2.2.0 h.2.2.2.1.0 h.2.2.2.0 h.2.2.2.2.0 h.1.0 h.1.1 h.2.1.0 h.2.1.1 h.2.2.1.0 h.2.2.1.1 h.2.2.2.1.1.0 h.2.2.2.1.1.1 h.2.2.2.1.2 h.2.2.2.2.1.0 h.2.2.2.2.1.1 h.2.2.2.2.2))
-    (λ o w y h. (refl, (w.0, (h.0.padded, refl), (w.1.0, (h.0.default_fits, refl), (w.1.1.0, (h.0.low_fits, refl),
-    (w.1.1.1.0, (w.1.1.1.0, (h.0.high_fits, refl), is_accepted _ _ bad.BadOperand h.0.range), (w.1.1.1.1, (h.0.counted, numbers_stand (2 ^ 32) _ w.1.1.1.1 h.0.offsets_fit), h.1)))))))
+    (λ o w y h. (
+      refl,
+      (
+        w.0,
+        (h.0.padded, refl),
+        (
+          w.1.0,
+          (h.0.default_fits, refl),
+          (
+            w.1.1.0,
+            (h.0.low_fits, refl),
+            (w.1.1.1.0, (w.1.1.1.0, (h.0.high_fits, refl), is_accepted _ _ bad.BadOperand h.0.range), (w.1.1.1.1, (h.0.counted, numbers_stand (2 ^ 32) _ w.1.1.1.1 h.0.offsets_fit), h.1)),
+          ),
+        ),
+      ),
+    ))
     (bind_exact (λ pad. bind u4 (λ default. bind u4 (λ low. bind (item u4 (table_high low)) (λ high. bind (many (table_length low high) u4) (λ offsets. whole (TableSwitch pad default low high offsets)))))) default_bytes FromDefault (bytes_exact (pad_length at))
     (λ pad. bind_exact (λ default. bind u4 (λ low. bind (item u4 (table_high low)) (λ high. bind (many (table_length low high) u4) (λ offsets. whole (TableSwitch pad default low high offsets))))) low_bytes (FromLow pad) u4_exact
     (λ default. bind_exact (λ low. bind (item u4 (table_high low)) (λ high. bind (many (table_length low high) u4) (λ offsets. whole (TableSwitch pad default low high offsets)))) high_bytes (FromHigh pad default) u4_exact
@@ -278,15 +290,18 @@ pairs_there : (n : ℕ) (previous : Option ℕ) (w : PairParts) (y : List MatchO
     → ArePairs (suc n) previous 0 (pairs_to w) y
 pairs_there n previous w y x key offset xs key-fits x-is key-is offset-fits offset-is counted ascending xs-is y-is =
     let k = accepted (ascends previous x) x key bad.BadOperand key-is in
-    let k1 : key ≡ w.0 = sym k.1 ∙ x-is in
-    (ap suc counted, (key-fits, ap (ascends previous) (sym x-is) ∙ k.0, offset-fits, subst (λ (a : ℕ). Ascending (Some a) w.1.1) k1 ascending),
-    y-is ∙ ap (λ (a : ℕ). pair_of a offset ∷ xs) k1 ∙ ap (λ (a : ℕ). pair_of w.0 a ∷ xs) offset-is ∙ ap (λ (a : List MatchOffset). pair_of w.0 w.1.0 ∷ a) xs-is)
+    let k1 : key ≡ w.0 = sym k.1 ∙ x-is in (
+      ap suc counted,
+      (key-fits, ap (ascends previous) (sym x-is) ∙ k.0, offset-fits, subst (λ (a : ℕ). Ascending (Some a) w.1.1) k1 ascending),
+      y-is ∙ ap (λ (a : ℕ). pair_of a offset ∷ xs) k1 ∙ ap (λ (a : ℕ). pair_of w.0 a ∷ xs) offset-is ∙ ap (λ (a : List MatchOffset). pair_of w.0 w.1.0 ∷ a) xs-is,
+    )
 
 pairs_back : (n : ℕ) (previous : Option ℕ) (o : ℕ) (v y : List MatchOffset) → ArePairs (suc n) previous o v y → (flat_map match_offset v ≡ to_be_bytes w32 (pairs_from v).0 ++ offset_bytes (pairs_from v).1) × PairStands n previous o (pairs_from v) y
 pairs_back n previous o [] y h = absurd (omega (arith, h.0))
-pairs_back n previous o (pair ∷ pairs) y h =
-    (append_assoc (to_be_bytes w32 pair.key) (to_be_bytes w32 pair.offset) (flat_map match_offset pairs),
-    (pair.key, (pair.key, (h.1.0, refl), is_accepted (ascends previous pair.key) pair.key bad.BadOperand h.1.1), (pair.offset, (h.1.2, refl), (pairs, (omega (arith, h.0), h.1.3, refl), h.2))))
+pairs_back n previous o (pair ∷ pairs) y h = (
+  append_assoc (to_be_bytes w32 pair.key) (to_be_bytes w32 pair.offset) (flat_map match_offset pairs),
+  (pair.key, (pair.key, (h.1.0, refl), is_accepted (ascends previous pair.key) pair.key bad.BadOperand h.1.1), (pair.offset, (h.1.2, refl), (pairs, (omega (arith, h.0), h.1.3, refl), h.2))),
+)
 
 pairs_exact : (n : ℕ) (previous : Option ℕ) → Exact (match_offsets n previous) (Spells (flat_map match_offset) (ArePairs n previous))
 unfolding match_offsets
@@ -295,8 +310,10 @@ pairs_exact zero previous = as_raw {S = List MatchOffset} (flat_map match_offset
     (λ o v y h. let none : v ≡ [] = nil_from_length v h.0 in (ap (flat_map match_offset) none, h.2 ∙ none))
     (give_exact [])
 pairs_exact (suc n) previous = as_raw {S = List MatchOffset} (flat_map match_offset) (ArePairs (suc n) previous) pairs_to pairs_from
-    (λ o w y h. (sym (append_assoc (to_be_bytes w32 w.0) (to_be_bytes w32 w.1.0) (flat_map match_offset w.1.1)),
-    pairs_there n previous w y h.1.0 h.0 h.2.0 h.2.2.0 h.1.1.0 h.1.1.1 h.1.2 h.2.1.0 h.2.1.1 h.2.2.1.0 h.2.2.1.1 h.2.2.1.2 h.2.2.2))
+    (λ o w y h. (
+      sym (append_assoc (to_be_bytes w32 w.0) (to_be_bytes w32 w.1.0) (flat_map match_offset w.1.1)),
+      pairs_there n previous w y h.1.0 h.0 h.2.0 h.2.2.0 h.1.1.0 h.1.1.1 h.1.2 h.2.1.0 h.2.1.1 h.2.2.1.0 h.2.2.1.1 h.2.2.1.2 h.2.2.2,
+    ))
     (λ o v y h. pairs_back n previous o v y h)
     (bind_exact (λ key. bind u4 (λ offset. bind (match_offsets n (Some key)) (λ others. give (pair_of key offset ∷ others)))) offset_bytes (FromOffset n) (item_exact (lookup_key previous) u4_exact)
     (λ key. bind_exact (λ offset. bind (match_offsets n (Some key)) (λ others. give (pair_of key offset ∷ others))) (flat_map match_offset) (FromOthers n key) u4_exact
@@ -331,15 +348,30 @@ lookup_there : (at : ℕ) (w : LookupRead) (y : Read) (pad : List ℕ) (default 
 lookup_there at w y pad default x n xs padded pad-is default-fits default-is x-is n-is counted ascending xs-is y-is =
     let k = accepted (nat_lt x (2 ^ 31)) x n bad.BadOperand n-is in
     let count : w.1.1.0 ≡ length w.1.1.1 = sym x-is ∙ k.1 ∙ sym counted in
-    let small : length w.1.1.1 < 2 ^ 31 = ltb-true _ _ (ap (λ (a : ℕ). nat_lt a (2 ^ 31)) (sym (x-is ∙ count)) ∙ k.0) in
-    (ap (λ (a : ℕ). w.0 ++ (to_be_bytes w32 w.1.0 ++ (to_be_bytes w32 a ++ flat_map match_offset w.1.1.1))) count,
-    (record { padded = padded; default_fits = default-fits; count_fits = small; ascending = ascending }, cc))
+    let small : length w.1.1.1 < 2 ^ 31 = ltb-true _ _ (ap (λ (a : ℕ). nat_lt a (2 ^ 31)) (sym (x-is ∙ count)) ∙ k.0) in (
+      ap (λ (a : ℕ). w.0 ++ (to_be_bytes w32 w.1.0 ++ (to_be_bytes w32 a ++ flat_map match_offset w.1.1.1))) count,
+      (record { padded = padded; default_fits = default-fits; count_fits = small; ascending = ascending }, cc),
+    )
 
 lookup_exact : (at : ℕ) → Exact (lookup_switch at) (Spells lookup_bytes (IsLookupParts at))
 lookup_exact at = as_raw lookup_bytes (IsLookupParts at) (λ w. (w.0, (w.1.0, w.1.1.1))) (λ v. (v.0, (v.1.0, (length v.1.1, v.1.1))))
     (λ o w y h. lookup_there at w y h.0 h.2.0 h.2.2.1.0 h.2.2.0 h.2.2.2.0 h.1.0 h.1.1 h.2.1.0 h.2.1.1 h.2.2.1.1.1 h.2.2.1.2 h.2.2.2.1.0 h.2.2.2.1.1 h.2.2.2.1.2 h.2.2.2.2)
-    (λ o v y h. (refl, (v.0, (h.0.padded, refl), (v.1.0, (h.0.default_fits, refl), (length v.1.1, (length v.1.1, (omega (arith, h.0.count_fits), refl), is_accepted _ _ bad.BadOperand (lt-ltb _ _ h.0.count_fits)),
-    (v.1.1, (refl, h.0.ascending, refl), h.1))))))
+    (λ o v y h. (
+      refl,
+      (
+        v.0,
+        (h.0.padded, refl),
+        (
+          v.1.0,
+          (h.0.default_fits, refl),
+          (
+            length v.1.1,
+            (length v.1.1, (omega (arith, h.0.count_fits), refl), is_accepted _ _ bad.BadOperand (lt-ltb _ _ h.0.count_fits)),
+            (v.1.1, (refl, h.0.ascending, refl), h.1),
+          ),
+        ),
+      ),
+    ))
     (bind_exact (λ pad. bind u4 (λ default. bind (item u4 lookup_count) (λ n. bind (match_offsets n None) (λ pairs. whole (LookupSwitch pad default pairs))))) other_bytes FromOther (bytes_exact (pad_length at))
     (λ pad. bind_exact (λ default. bind (item u4 lookup_count) (λ n. bind (match_offsets n None) (λ pairs. whole (LookupSwitch pad default pairs)))) count_bytes (FromCount pad) u4_exact
     (λ default. bind_exact (λ n. bind (match_offsets n None) (λ pairs. whole (LookupSwitch pad default pairs))) (flat_map match_offset) (FromPairs pad default) (item_exact lookup_count u4_exact)

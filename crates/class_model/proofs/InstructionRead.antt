@@ -1,23 +1,21 @@
 -- What is read of an instruction: its bytes, and that its operands are right; or what is left out.
-use Rattle.std.proofs.Common.{◌≡◌, ◌⊎◌, inl, inr, ℕ, ◌+◌, ◌-◌, ◌^◌, ◌<◌, Bool, true, false, cond, eqb, ◌||◌, List, [], ◌∷◌, ◌++◌, length, Option, Some, None, Result, Ok, Err, refl, sym, ap, subst, ◌∙◌, arith}
+use Rattle.std.proofs.Common.{◌≡◌, ◌⊎◌, inl, inr, ℕ, ◌-◌, ◌^◌, ◌<◌, Bool, true, false, cond, eqb, ◌||◌, List, [], ◌∷◌, ◌++◌, Option, Result, Ok, Err, refl, sym, ap, subst, ◌∙◌, arith}
 use Rattle.std.specs.Prelude.{is_some, slice_get}
-use Rattle.std.specs.Int.{w8, w16, w32, to_be_bytes}
+use Rattle.std.specs.Int.{w8, w16, to_be_bytes}
 use Rattle.std.proofs.lemmas.Bool.{eqb-true}
 use Rattle.jv_base.specs.Place.{Place}
-use Rattle.format_reading.specs.Fault.{fault}
 use Rattle.format_reading.specs.Reader.{u1, lead}
 use Rattle.format_reading.specs.Spelling.{Spells}
 use Rattle.format_reading.specs.declared.fault.FormatFault.{FormatFault}
 use Rattle.format_reading.specs.declared.fault.FormatKind.{FormatKind}
-use Rattle.format_reading.proofs.Exact.{Exact, Takes, IsBytes, Both, Below, nothing}
+use Rattle.format_reading.proofs.Exact.{Takes, IsBytes, Both, Below}
 use Rattle.class_model.specs.declared.pool.Entry.{Entry}
 use Rattle.class_model.specs.Opcodes.{plain_op, local_op, branch_op, array_type_of, is_left_out_local, is_left_out_array_type, is_left_out_opcode}
 use Rattle.class_model.specs.InstructionStructure.{Info, Plain, Bipush, Sipush, Ldc, LdcWide, Local, WideLocal, Iinc, WideIinc, Branch, GotoWide, TableSwitch, LookupSwitch, MemberOperand, InvokeInterface, ClassOperand, NewArray, MultiNewArray, info_bytes}
 use Rattle.class_model.specs.InstructionMeaning.{loaded, loaded_wide, member_op, class_op}
-use Rattle.class_model.specs.Lookups.{test}
-use Rattle.class_model.specs.ReadingCode.{Read, instruction, left_out, if_meant, is_left_out_at, load_read, array_type_read, begun, in_code, at_instruction, read_instruction}
+use Rattle.class_model.specs.ReadingCode.{Read, instruction, left_out, if_meant, is_left_out_at, load_read, array_type_read, begun, at_instruction, read_instruction}
 use Rattle.class_model.proofs.InstructionForms.{Form, Alone, OfByte, OfShort, OfLoad, OfWideLoad, OfLocal, OfIinc, OfWide, OfBranch, OfWideGoto, OfTable, OfLookup, OfMember, OfInterface, OfClass, OfArray, OfArrays, OfNone, NoForm, form_of, passes, form_passes, WideForm, WideOfIinc, WideOfNone, WideOfLocal, NoWideForm, wide_form_of, wide_passes, wide_form_passes}
-use Rattle.class_model.proofs.InstructionOperands.{IsTable, IsLookup, IsInterface, IsArrays, Operands, WideOperands, BehindOpcode, opcode_bytes, opcode_exact, meant_ok, is_meant}
+use Rattle.class_model.proofs.InstructionOperands.{IsTable, IsLookup, IsInterface, IsArrays, Operands, WideOperands, BehindOpcode, opcode_bytes, opcode_exact, meant_ok}
 
 -- ---- what is read
 
