@@ -17,6 +17,7 @@ pub mod Members
 pub mod ClassFile
 -- Which classes are well formed
 pub mod WellFormed
+pub mod OpValues
 -- What is read from left to right, and the first fault
 pub mod Lookups
 pub mod ReadingPool
@@ -31,6 +32,7 @@ pub mod ReadingClass
 -- The one canonical spelling, and the limits that it has
 pub mod CanonicalPool
 pub mod CanonicalCode
+pub mod Says
 pub mod CanonicalFrames
 pub mod CanonicalClass
 pub mod WriteLimits
