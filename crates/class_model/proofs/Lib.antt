@@ -26,3 +26,5 @@ pub mod BackOps
 pub mod BackSizes
 pub mod BackPlaces
 pub mod NameLaw
+pub mod LookupLaw
+pub mod InstructionOnly
