@@ -4,6 +4,9 @@ pub mod SpelledRows
 pub mod SpelledClass
 pub mod FormedClass
 pub mod SameConstant
+pub mod InstructionForms
+pub mod InstructionOperands
+pub mod InstructionRead
 pub mod EntryLaw
 pub mod SlotLaw
 pub mod TextLaw
@@ -26,3 +29,5 @@ pub mod NameLaw
 pub mod PoolLaw
 pub mod AttributeLaw
 pub mod SeenLaw
+pub mod LookupLaw
+pub mod InstructionOnly

@@ -5,3 +5,6 @@ mod Placed
 mod ToEnd
 mod Collecting
 mod Numbers
+pub mod ReadMeant
+pub mod ReadToEnd
+pub mod ReadWhole

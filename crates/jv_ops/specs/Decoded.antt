@@ -1,20 +1,45 @@
 -- The instructions of a code, or its first fault (JVMS 4.9.1).
-use Rattle.std.specs.Prelude.{ℕ, List, length, Result, Ok}
+use Rattle.std.specs.Prelude.{ℕ, List, length, Result, Ok, Err}
 use Rattle.jv_base.specs.Outcome.{◌>>=◌}
 use Rattle.jv_base.specs.Place.{start}
+use Rattle.format_reading.specs.declared.fault.FormatFault.{FormatFault}
+use Rattle.class_model.specs.declared.op.Op.{Op}
 use Rattle.class_model.specs.declared.pool.Entry.{Entry}
 use Rattle.class_model.specs.InstructionMeaning.{aim_at}
+use Rattle.class_model.specs.InstructionStructure.{Info, starts_of}
+use Rattle.class_model.specs.ReadingCode.{CodeRead, instructions, has_left_out, code_read, ops_of}
 use Rattle.jv_ops.specs.declared.decoding.Decoded.{Decoded}
 use Rattle.jv_ops.specs.declared.fault.CodeFault.{CodeFault}
+use Rattle.jv_ops.specs.declared.fault.CodeFault.TheVariants as code
 use Rattle.jv_ops.specs.declared.unaimed.Placed.{Placed}
 use Rattle.jv_ops.specs.Decoding.{placed_to_end}
-use Rattle.jv_ops.specs.Targets.{collected, placed_aimed, starts_of}
+use Rattle.jv_ops.specs.Fault.{code_fault, wrong_of}
+use Rattle.jv_ops.specs.Targets.{collected, placed_aimed, starts_of as starts_placed}
+
+-- ---- by the reading of class files
+
+-- instructions with their starts, or the first of them with a target that is the start of none
+abbrev pub with_starts : List Info → Result (List Op) FormatFault → Result Decoded CodeFault
+with_starts infos (Ok ops) = Ok (record { ops = ops; starts = starts_of infos })
+with_starts infos (Err f) = Err (code.BadTarget f.offset)
+
+-- what was read of a code, as it is decoded
+abbrev pub as_decoded : List Entry → Result CodeRead FormatFault → Result Decoded CodeFault
+as_decoded pool (Ok (instructions infos)) = with_starts infos (ops_of pool 0 infos)
+as_decoded pool (Ok (has_left_out offset opcode)) = Err (code.LeftOutOpcode offset opcode)
+as_decoded pool (Err f) = Err (code_fault f.offset (wrong_of f.kind))
+
+-- the instructions of a code with their starts, or its first fault; a target is asked for only where each instruction is one
+unfoldable pub code_decoded : List Entry → List ℕ → Result Decoded CodeFault
+code_decoded pool bytes = as_decoded pool (code_read pool bytes)
+
+-- ---- in the steps of the decoder
 
 -- the instructions with their starts, or the first of them with a target that is the start of none
 abbrev pub all_decoded : List Placed → Result Decoded CodeFault
 all_decoded placed = do
-  ops ← collected (placed_aimed (aim_at (starts_of placed))) placed
-  Ok (record { ops = ops; starts = starts_of placed })
+  ops ← collected (placed_aimed (aim_at (starts_placed placed))) placed
+  Ok (record { ops = ops; starts = starts_placed placed })
 
 -- the instructions of a code with their starts: first each is read, then each target is found
 unfoldable pub decoded : List Entry → List ℕ → Result Decoded CodeFault

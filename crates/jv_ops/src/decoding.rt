@@ -1,7 +1,7 @@
 // A code, as its instructions (JVMS 4.9.1).
 ghost use Rattle.std.specs.Prelude.{◌≡◌, ◌<◌, length, IfOk};
 ghost use Rattle.jv_base.specs.Outcome.{IsDue};
-ghost use Rattle.jv_ops.specs.Decoded.{decoded, all_decoded};
+ghost use Rattle.jv_ops.specs.Decoded.{code_decoded, decoded, all_decoded};
 ghost use Rattle.jv_ops.specs.Targets.{starts_of};
 
 use crate::fault::CodeFault;
@@ -40,17 +40,25 @@ fn all_decoded(alloc: Global, placed: Items<Placed>) -> Result<Decoded, Or<CodeF
     Ok(Decoded { ops, starts })
 }
 
-/// The instructions that are the bytes of a code, the constants that they name standing in a pool
-/// (JVMS 4.9.1, 6.5). A target is the number of an instruction.
-///
-/// The first fault from left to right counts. A target is asked for only where each instruction is one,
-/// so `BadTarget` comes behind all others.
+// The instructions of a code by the steps of the decoder: first each is read, then each target is found.
 #[tactic(auto, unfolding(crate::specs::Decoded::decoded))]
-pub fn decode_code(alloc: Global, bytes: &[u8], pool: &Pool) -> Result<Decoded, Or<CodeFault>>
+fn decoded_in_steps(alloc: Global, bytes: &[u8], pool: &Pool) -> Result<Decoded, Or<CodeFault>>
     requires { length bytes.now < 4294967295 }
-    ensures exact { IsDue result (decoded pool.now.entries bytes.now) }
+    ensures { IsDue result (decoded pool.now.entries bytes.now) }
 {
     let mut cursor = Cursor::new(bytes);
     let placed = placed_to_end(alloc, pool, bytes.len(), &mut cursor)?;
     all_decoded(alloc, placed)
+}
+
+/// The instructions that are the bytes of a code, the constants that they name standing in a pool
+/// (JVMS 4.9.1, 6.5). A target is the number of an instruction.
+///
+/// They are what the reading of class files gives for a code. The first fault from left to right counts. A target
+/// is asked for only where each instruction is one, so `BadTarget` comes behind all others.
+pub fn decode_code(alloc: Global, bytes: &[u8], pool: &Pool) -> Result<Decoded, Or<CodeFault>>
+    requires { length bytes.now < 4294967295 }
+    ensures exact { IsDue result (code_decoded pool.now.entries bytes.now) }
+{
+    decoded_in_steps(alloc, bytes, pool)
 }
