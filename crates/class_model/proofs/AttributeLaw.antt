@@ -26,6 +26,11 @@ as_text {g = g} e = record {
   only = λ p t x q h k. e.only p t x q (subst (λ (u : List ℕ). g p.at u x) (sym h.1) h.2) k;
 }
 
+-- the same fact of each text and value, told otherwise
+pub as_told : {A : Type 0} {r : Reader A} {g : ℕ → List ℕ → A → Type 0} (h : ℕ → List ℕ → A → Type 0) → ((at : ℕ) (t : List ℕ) (x : A) → g at t x → h at t x) → ((at : ℕ) (t : List ℕ) (x : A) → h at t x → g at t x)
+    → Exact r (Spells text g) → Exact r (Spells text h)
+as_told h there back e = as_raw text h (λ t. t) (λ t. t) (λ at t x k. (refl, there at t x k)) (λ at t x k. (refl, back at t x k)) e
+
 -- what the contents of an attribute do to what was seen before, by the offset of the attribute, its name and what was seen
 abbrev pub Does : Type 0 → Type 1
 Does S = ℕ → List ℕ → S → List ℕ → S → Type 0

@@ -31,3 +31,4 @@ pub mod AttributeLaw
 pub mod SeenLaw
 pub mod LookupLaw
 pub mod InstructionOnly
+pub mod ClassAttributeLaw
