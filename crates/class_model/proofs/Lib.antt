@@ -32,3 +32,4 @@ pub mod SeenLaw
 pub mod LookupLaw
 pub mod InstructionOnly
 pub mod ClassAttributeLaw
+pub mod ConstantLaw
