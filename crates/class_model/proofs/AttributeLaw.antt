@@ -31,9 +31,9 @@ pub as_told : {A : Type 0} {r : Reader A} {g : ℕ → List ℕ → A → Type 0
     → Exact r (Spells text g) → Exact r (Spells text h)
 as_told h there back e = as_raw text h (λ t. t) (λ t. t) (λ at t x k. (refl, there at t x k)) (λ at t x k. (refl, back at t x k)) e
 
--- what the contents of an attribute do to what was seen before, by the offset of the attribute, its name and what was seen
+-- what the contents of an attribute do to what was seen before, by the attribute's offset, its name and its length
 abbrev pub Does : Type 0 → Type 1
-Does S = ℕ → List ℕ → S → List ℕ → S → Type 0
+Does S = ℕ → List ℕ → ℕ → S → List ℕ → S → Type 0
 
 -- of what is known the contents are read exactly so, and what isn't changes nothing
 abbrev pub Knows : {S : Type 0} → Option (Reader S) → ℕ → S → (List ℕ → S → Type 0) → Type 0
@@ -42,7 +42,7 @@ Knows None n seen does = (info : List ℕ) (out : _) → (does info out → out 
 
 -- an attribute with its name changes what was seen
 abbrev pub Step : {S : Type 0} → List Entry → Does S → ℕ → AttributeInfo → S → S → Type 0
-Step pool does at a seen out = (a.attribute_name_index < 2 ^ 16) × (name : List ℕ) × (units_at pool a.attribute_name_index ≡ Some name) × (length a.info < 2 ^ 32) × does at name seen a.info out
+Step pool does at a seen out = (a.attribute_name_index < 2 ^ 16) × (name : List ℕ) × (units_at pool a.attribute_name_index ≡ Some name) × (length a.info < 2 ^ 32) × does at name (length a.info) seen a.info out
 
 -- one attribute after the other does
 abbrev pub Steps : {S : Type 0} → List Entry → Does S → ℕ → List AttributeInfo → S → S → Type 0
@@ -58,15 +58,15 @@ contents_exact at n seen None does k = as_raw text _ (λ w. w.0) (λ info. (info
     (bind_exact (λ skipped. give seen) nothing (λ _ _ u out. out ≡ seen) (bytes_exact n) (λ _. give_exact seen))
 
 -- an attribute is read exactly where it is spelled
-module _ {S : Type 0} (pool : List Entry) (known : ℕ → List ℕ → ℕ → S → Option (Reader S)) (does : Does S) (knows : (at : ℕ) (name : List ℕ) (n : ℕ) (seen : S) → Knows (known at name n seen) n seen (does at name seen)) where
+module _ {S : Type 0} (pool : List Entry) (known : ℕ → List ℕ → ℕ → S → Option (Reader S)) (does : Does S) (knows : (at : ℕ) (name : List ℕ) (n : ℕ) (seen : S) → Knows (known at name n seen) n seen (does at name n seen)) where
   -- its length and its contents
-  behind_name : (at : ℕ) (name : List ℕ) (seen : S) → Exact (bind u4 (λ n. contents at n seen (known at name n seen))) (Spells (λ info. to_be_bytes w32 (length info) ++ info) (λ _ info out. (length info < 2 ^ 32) × does at name seen info out))
+  behind_name : (at : ℕ) (name : List ℕ) (seen : S) → Exact (bind u4 (λ n. contents at n seen (known at name n seen))) (Spells (λ info. to_be_bytes w32 (length info) ++ info) (λ _ info out. (length info < 2 ^ 32) × does at name (length info) seen info out))
   behind_name at name seen = as_raw _ _ (λ w. w.1) (λ info. (length info, info))
       (λ k w out h.
       let n : length w.1 ≡ w.0 = h.2.0 ∙ h.1.1 in
-      (ap (λ (m : ℕ). to_be_bytes w32 m ++ w.1) (sym n), (subst (λ (m : ℕ). m < 2 ^ 32) (sym n) h.1.0, h.2.1)))
+      (ap (λ (m : ℕ). to_be_bytes w32 m ++ w.1) (sym n), (subst (λ (m : ℕ). m < 2 ^ 32) (sym n) h.1.0, subst (λ (m : ℕ). does at name m seen w.1 out) (sym h.2.0) h.2.1)))
       (λ k info out h. (refl, (length info, (h.0, refl), (refl, h.1))))
-      (bind_exact (λ n. contents at n seen (known at name n seen)) text (λ n _ info out. (length info ≡ n) × does at name seen info out) u4_exact (λ n. contents_exact at n seen (known at name n seen) (does at name seen) (knows at name n seen)))
+      (bind_exact (λ n. contents at n seen (known at name n seen)) text (λ n _ info out. (length info ≡ n) × does at name n seen info out) u4_exact (λ n. contents_exact at n seen (known at name n seen) (does at name n seen) (knows at name n seen)))
 
   -- the parts of an attribute
   abbrev parts : AttributeInfo → Unit {0} × (ℕ × List ℕ)
@@ -79,14 +79,14 @@ module _ {S : Type 0} (pool : List Entry) (known : ℕ → List ℕ → ℕ → 
   attribute_exact seen = as_raw attribute_info _ whole parts
       (λ at w out h.
       let named = h.2 in
-      (refl, (named.1.1.0, named.0, due_is (units_at pool w.1.0) named.0 (ap (λ (k : ℕ). due bad.BadIndex (units_at pool k)) (sym named.1.1.1) ∙ named.1.2), named.2.0, subst (λ (k : ℕ). does k named.0 seen w.1.1 out) h.1 named.2.1)))
+      (refl, (named.1.1.0, named.0, due_is (units_at pool w.1.0) named.0 (ap (λ (k : ℕ). due bad.BadIndex (units_at pool k)) (sym named.1.1.1) ∙ named.1.2), named.2.0, subst (λ (k : ℕ). does k named.0 (length w.1.1) seen w.1.1 out) h.1 named.2.1)))
       (λ at a out h. (refl, (at, refl, (h.1, (a.attribute_name_index, (h.0, refl), ap (due bad.BadIndex) h.2), (h.3, h.4)))))
       (bind_exact (λ at. bind (item u2 (λ index. due bad.BadIndex (units_at pool index))) (λ name. bind u4 (λ n. contents at n seen (known at name n seen))))
       (λ (v : ℕ × List ℕ). to_be_bytes w16 v.0 ++ (to_be_bytes w32 (length v.1) ++ v.1))
-      (λ at _ v out. (name : List ℕ) × ((index : ℕ) × ((v.0 < 2 ^ 16) × (index ≡ v.0)) × (due bad.BadIndex (units_at pool index) ≡ Ok name)) × ((length v.1 < 2 ^ 32) × does at name seen v.1 out))
+      (λ at _ v out. (name : List ℕ) × ((index : ℕ) × ((v.0 < 2 ^ 16) × (index ≡ v.0)) × (due bad.BadIndex (units_at pool index) ≡ Ok name)) × ((length v.1 < 2 ^ 32) × does at name (length v.1) seen v.1 out))
       here_exact
       (λ at. bind_exact (λ name. bind u4 (λ n. contents at n seen (known at name n seen))) (λ info. to_be_bytes w32 (length info) ++ info)
-      (λ name _ info out. (length info < 2 ^ 32) × does at name seen info out)
+      (λ name _ info out. (length info < 2 ^ 32) × does at name (length info) seen info out)
       (item_exact (λ index. due bad.BadIndex (units_at pool index)) u2_exact) (λ name. behind_name at name seen)))
     where
       due_is : (o : Option (List ℕ)) (name : List ℕ) → due bad.BadIndex o ≡ Ok name → o ≡ Some name

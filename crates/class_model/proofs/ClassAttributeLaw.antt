@@ -2,7 +2,6 @@
 use Rattle.std.proofs.Common.{◌≡◌, ℕ, ◌+◌, ◌^◌, ◌<◌, Bool, true, false, cond, List, [], ◌∷◌, ◌++◌, length, Option, Some, None, Ok, codes, refl, sym, ap, subst, ◌∙◌}
 use Rattle.std.specs.Int.{w16, to_be_bytes}
 use Rattle.std.specs.List.{AllByRecursion, flat_map}
-use Rattle.jv_base.proofs.Equality.{text_Decides}
 use Rattle.jv_base.specs.Names.{is_text}
 use Rattle.format_reading.specs.declared.fault.FormatKind.TheVariants as bad
 use Rattle.format_reading.specs.Reader.{Reader, u2, item}
@@ -18,7 +17,7 @@ use Rattle.class_model.specs.ReadingCodeAttribute.{is_there}
 use Rattle.class_model.specs.ReadingClass.{ClassSeen, no_class_attribute, source_seen, known_of_class}
 use Rattle.class_model.proofs.LookupLaw.{due_is}
 use Rattle.class_model.proofs.AttributeLaw.{text, as_text, as_told, Does, Knows, Step, Steps, once_exact, counted_exact}
-use Rattle.class_model.proofs.SeenLaw.{Chain, each_found, chain_found, Once, single_found, single_only, Marks, mark_found, mark_only, not_named, is_first, knows_if, give_text}
+use Rattle.class_model.proofs.SeenLaw.{Chain, each_found, chain_found, Once, single_found, single_only, Marks, mark_found, mark_only, not_named, is_first, other_name, not_there, knows_if, give_text}
 
 -- SourceFile
 source_exact : (pool : List Entry) → Exact (source_file pool) (Spells text (λ _ info units. IsSourceFile pool info units))
@@ -29,13 +28,13 @@ source_exact pool = as_told (λ _ info units. IsSourceFile pool info units)
 
 -- what an attribute of a class does to what was seen of those before
 abbrev ClassDoes : List Entry → Does ClassSeen
-ClassDoes pool at name seen info out =
+ClassDoes pool at name n seen info out =
     cond (is_text name (codes "SourceFile")) ((is_there seen.source ≡ false) × ((units : List ℕ) × IsSourceFile pool info units × (out ≡ record seen { source = Some units })))
     (cond (is_text name (codes "Synthetic")) ((seen.synthetic ≡ false) × ((info ≡ []) × (out ≡ record seen { synthetic = true })))
     (cond (is_text name (codes "Deprecated")) ((seen.deprecated ≡ false) × ((info ≡ []) × (out ≡ record seen { deprecated = true })))
     (out ≡ seen)))
 
-class_knows : (pool : List Entry) (at : ℕ) (name : List ℕ) (n : ℕ) (seen : ClassSeen) → Knows (known_of_class pool at name n seen) n seen (ClassDoes pool at name seen)
+class_knows : (pool : List Entry) (at : ℕ) (name : List ℕ) (n : ℕ) (seen : ClassSeen) → Knows (known_of_class pool at name n seen) n seen (ClassDoes pool at name n seen)
 class_knows pool at name n seen =
     knows_if (is_text name (codes "SourceFile")) _ _ n seen _ _
     (once_exact at (is_there seen.source) (as_told (λ _ info out. (units : List ℕ) × IsSourceFile pool info units × (out ≡ record seen { source = Some units }))
@@ -48,14 +47,6 @@ class_knows pool at name n seen =
 
 -- ---- what is seen of each name
 
--- the names differ
-source_name : List ℕ
-source_name = codes "SourceFile"
-
--- a text that is one name is no other
-other_name : (units one other : List ℕ) → is_text units one ≡ true → is_text one other ≡ false → is_text units other ≡ false
-other_name units one other e differ = ap (λ (t : List ℕ). is_text t other) ((text_Decides units one).0 e) ∙ differ
-
 -- what was seen at the end
 pub record AreClassAttributes (pool : List Entry) (all : List AttributeInfo) (out : ClassSeen) : Type 0 where
   pub attributes : AreAttributes pool all
@@ -63,28 +54,24 @@ pub record AreClassAttributes (pool : List Entry) (all : List AttributeInfo) (ou
   pub synthetic : IsMark (named pool (codes "Synthetic") all) out.synthetic
   pub deprecated : IsMark (named pool (codes "Deprecated") all) out.deprecated
 
-not_there : {A : Type 0} (o : Option A) → is_there o ≡ false → o ≡ None
-not_there (Some x) h = absurd cc
-not_there None h = refl
-
 -- what one attribute does to each part of what was seen
-source_changes : (pool : List Entry) (at : ℕ) (units : List ℕ) (seen : ClassSeen) (info : List ℕ) (out : ClassSeen) → is_text units (codes "SourceFile") ≡ true → ClassDoes pool at units seen info out → Once (IsSourceFile pool) seen.source info out.source
-source_changes pool at units seen info out e h = let d = rw e at h in (not_there seen.source d.0, d.1.0, d.1.1, ap (λ (s : ClassSeen). s.source) d.1.2)
+source_changes : (pool : List Entry) (at : ℕ) (units : List ℕ) (n : ℕ) (seen : ClassSeen) (info : List ℕ) (out : ClassSeen) → is_text units (codes "SourceFile") ≡ true → ClassDoes pool at units n seen info out → Once (IsSourceFile pool) seen.source info out.source
+source_changes pool at units n seen info out e h = let d = rw e at h in (not_there seen.source d.0, d.1.0, d.1.1, ap (λ (s : ClassSeen). s.source) d.1.2)
 
-source_stays : (pool : List Entry) (at : ℕ) (units : List ℕ) (seen : ClassSeen) (info : List ℕ) (out : ClassSeen) → is_text units (codes "SourceFile") ≡ false → ClassDoes pool at units seen info out → out.source ≡ seen.source
-source_stays pool at units seen info out e h = by (is_text units (codes "Synthetic")) (is_text units (codes "Deprecated")) (rw e at h)
+source_stays : (pool : List Entry) (at : ℕ) (units : List ℕ) (n : ℕ) (seen : ClassSeen) (info : List ℕ) (out : ClassSeen) → is_text units (codes "SourceFile") ≡ false → ClassDoes pool at units n seen info out → out.source ≡ seen.source
+source_stays pool at units n seen info out e h = by (is_text units (codes "Synthetic")) (is_text units (codes "Deprecated")) (rw e at h)
   where
     by : (a b : Bool) → cond a ((seen.synthetic ≡ false) × ((info ≡ []) × (out ≡ record seen { synthetic = true }))) (cond b ((seen.deprecated ≡ false) × ((info ≡ []) × (out ≡ record seen { deprecated = true }))) (out ≡ seen)) → out.source ≡ seen.source
     by true b d = ap (λ (s : ClassSeen). s.source) d.1.1
     by false true d = ap (λ (s : ClassSeen). s.source) d.1.1
     by false false d = ap (λ (s : ClassSeen). s.source) d
 
-synthetic_changes : (pool : List Entry) (at : ℕ) (units : List ℕ) (seen : ClassSeen) (info : List ℕ) (out : ClassSeen) → is_text units (codes "Synthetic") ≡ true → ClassDoes pool at units seen info out → Marks seen.synthetic info out.synthetic
-synthetic_changes pool at units seen info out e h =
+synthetic_changes : (pool : List Entry) (at : ℕ) (units : List ℕ) (n : ℕ) (seen : ClassSeen) (info : List ℕ) (out : ClassSeen) → is_text units (codes "Synthetic") ≡ true → ClassDoes pool at units n seen info out → Marks seen.synthetic info out.synthetic
+synthetic_changes pool at units n seen info out e h =
     let d = rw (other_name units (codes "Synthetic") (codes "SourceFile") e refl, e) at h in (d.0, d.1.0, ap (λ (s : ClassSeen). s.synthetic) d.1.1)
 
-synthetic_stays : (pool : List Entry) (at : ℕ) (units : List ℕ) (seen : ClassSeen) (info : List ℕ) (out : ClassSeen) → is_text units (codes "Synthetic") ≡ false → ClassDoes pool at units seen info out → out.synthetic ≡ seen.synthetic
-synthetic_stays pool at units seen info out e h = by (is_text units (codes "SourceFile")) (is_text units (codes "Deprecated")) (rw e at h)
+synthetic_stays : (pool : List Entry) (at : ℕ) (units : List ℕ) (n : ℕ) (seen : ClassSeen) (info : List ℕ) (out : ClassSeen) → is_text units (codes "Synthetic") ≡ false → ClassDoes pool at units n seen info out → out.synthetic ≡ seen.synthetic
+synthetic_stays pool at units n seen info out e h = by (is_text units (codes "SourceFile")) (is_text units (codes "Deprecated")) (rw e at h)
   where
     by : (a b : Bool) → cond a ((is_there seen.source ≡ false) × ((units : List ℕ) × IsSourceFile pool info units × (out ≡ record seen { source = Some units })))
         (cond b ((seen.deprecated ≡ false) × ((info ≡ []) × (out ≡ record seen { deprecated = true }))) (out ≡ seen)) → out.synthetic ≡ seen.synthetic
@@ -92,12 +79,12 @@ synthetic_stays pool at units seen info out e h = by (is_text units (codes "Sour
     by false true d = ap (λ (s : ClassSeen). s.synthetic) d.1.1
     by false false d = ap (λ (s : ClassSeen). s.synthetic) d
 
-deprecated_changes : (pool : List Entry) (at : ℕ) (units : List ℕ) (seen : ClassSeen) (info : List ℕ) (out : ClassSeen) → is_text units (codes "Deprecated") ≡ true → ClassDoes pool at units seen info out → Marks seen.deprecated info out.deprecated
-deprecated_changes pool at units seen info out e h =
+deprecated_changes : (pool : List Entry) (at : ℕ) (units : List ℕ) (n : ℕ) (seen : ClassSeen) (info : List ℕ) (out : ClassSeen) → is_text units (codes "Deprecated") ≡ true → ClassDoes pool at units n seen info out → Marks seen.deprecated info out.deprecated
+deprecated_changes pool at units n seen info out e h =
     let d = rw (other_name units (codes "Deprecated") (codes "SourceFile") e refl, other_name units (codes "Deprecated") (codes "Synthetic") e refl, e) at h in (d.0, d.1.0, ap (λ (s : ClassSeen). s.deprecated) d.1.1)
 
-deprecated_stays : (pool : List Entry) (at : ℕ) (units : List ℕ) (seen : ClassSeen) (info : List ℕ) (out : ClassSeen) → is_text units (codes "Deprecated") ≡ false → ClassDoes pool at units seen info out → out.deprecated ≡ seen.deprecated
-deprecated_stays pool at units seen info out e h = by (is_text units (codes "SourceFile")) (is_text units (codes "Synthetic")) (rw e at h)
+deprecated_stays : (pool : List Entry) (at : ℕ) (units : List ℕ) (n : ℕ) (seen : ClassSeen) (info : List ℕ) (out : ClassSeen) → is_text units (codes "Deprecated") ≡ false → ClassDoes pool at units n seen info out → out.deprecated ≡ seen.deprecated
+deprecated_stays pool at units n seen info out e h = by (is_text units (codes "SourceFile")) (is_text units (codes "Synthetic")) (rw e at h)
   where
     by : (a b : Bool) → cond a ((is_there seen.source ≡ false) × ((units : List ℕ) × IsSourceFile pool info units × (out ≡ record seen { source = Some units })))
         (cond b ((seen.synthetic ≡ false) × ((info ≡ []) × (out ≡ record seen { synthetic = true }))) (out ≡ seen)) → out.deprecated ≡ seen.deprecated
@@ -137,7 +124,7 @@ class_steps pool at (a ∷ rest) seen out each h =
     skipped name e = not_named pool name units a rest each.0.named e
     taken : (name : List ℕ) → is_text units name ≡ true → named pool name (a ∷ rest) ≡ a ∷ named pool name rest
     taken name e = is_first pool name units a rest each.0.named e
-    step : (now : ClassSeen) → ClassDoes pool at units seen a.info now → Step pool (ClassDoes pool) at a seen now
+    step : (now : ClassSeen) → ClassDoes pool at units (length a.info) seen a.info now → Step pool (ClassDoes pool) at a seen now
     step now does = (each.0.index_fits, units, each.0.named, each.0.length_fits, does)
     source_on : (name : List ℕ) → is_text units name ≡ true → is_text name (codes "SourceFile") ≡ false → Chain (Once (IsSourceFile pool)) seen.source (named pool (codes "SourceFile") rest) out.source
     source_on name e differ = subst (λ (l : List AttributeInfo). Chain (Once (IsSourceFile pool)) seen.source l out.source) (skipped (codes "SourceFile") (other_name units name (codes "SourceFile") e differ)) h.0
@@ -150,20 +137,20 @@ class_steps pool at (a ∷ rest) seen out each h =
     by true y d es ey ed others =
         let c = subst (λ (l : List AttributeInfo). Chain (Once (IsSourceFile pool)) seen.source l out.source) (taken (codes "SourceFile") es) h.0 in
         let now : ClassSeen = record seen { source = c.0 } in
-        let does : ClassDoes pool at units seen a.info now = rw es (ap is_there c.1.0, (c.1.1, c.1.2, ap (λ (o : Option (List ℕ)). let S : ClassSeen = record seen { source = o } in S) c.1.3)) in
+        let does : ClassDoes pool at units (length a.info) seen a.info now = rw es (ap is_there c.1.0, (c.1.1, c.1.2, ap (λ (o : Option (List ℕ)). let S : ClassSeen = record seen { source = o } in S) c.1.3)) in
         (now, step now does, others now (c.2, synthetic_on (other_name units (codes "SourceFile") (codes "Synthetic") es refl), deprecated_on (other_name units (codes "SourceFile") (codes "Deprecated") es refl)))
     by false true d es ey ed others =
         let c = subst (λ (l : List AttributeInfo). Chain Marks seen.synthetic l out.synthetic) (taken (codes "Synthetic") ey) h.1 in
         let now : ClassSeen = record seen { synthetic = c.0 } in
-        let does : ClassDoes pool at units seen a.info now = rw (es, ey) (c.1.0, (c.1.1, ap (λ (o : Bool). let S : ClassSeen = record seen { synthetic = o } in S) c.1.2)) in
+        let does : ClassDoes pool at units (length a.info) seen a.info now = rw (es, ey) (c.1.0, (c.1.1, ap (λ (o : Bool). let S : ClassSeen = record seen { synthetic = o } in S) c.1.2)) in
         (now, step now does, others now (source_on (codes "Synthetic") ey refl, c.2, deprecated_on (other_name units (codes "Synthetic") (codes "Deprecated") ey refl)))
     by false false true es ey ed others =
         let c = subst (λ (l : List AttributeInfo). Chain Marks seen.deprecated l out.deprecated) (taken (codes "Deprecated") ed) h.2 in
         let now : ClassSeen = record seen { deprecated = c.0 } in
-        let does : ClassDoes pool at units seen a.info now = rw (es, ey, ed) (c.1.0, (c.1.1, ap (λ (o : Bool). let S : ClassSeen = record seen { deprecated = o } in S) c.1.2)) in
+        let does : ClassDoes pool at units (length a.info) seen a.info now = rw (es, ey, ed) (c.1.0, (c.1.1, ap (λ (o : Bool). let S : ClassSeen = record seen { deprecated = o } in S) c.1.2)) in
         (now, step now does, others now (source_on (codes "Deprecated") ed refl, synthetic_on ey, c.2))
     by false false false es ey ed others =
-        let does : ClassDoes pool at units seen a.info seen = rw (es, ey, ed) refl in
+        let does : ClassDoes pool at units (length a.info) seen a.info seen = rw (es, ey, ed) refl in
         (seen, step seen does, others seen (subst (λ (l : List AttributeInfo). Chain (Once (IsSourceFile pool)) seen.source l out.source) (skipped (codes "SourceFile") es) h.0, synthetic_on ey, deprecated_on ed))
 
 -- the attributes of a class, behind their count, are read exactly where they are spelled

@@ -33,3 +33,4 @@ pub mod LookupLaw
 pub mod InstructionOnly
 pub mod ClassAttributeLaw
 pub mod ConstantLaw
+pub mod FieldAttributeLaw

@@ -25,7 +25,7 @@ use Rattle.class_model.proofs.BackEntries.{text_back}
 -- ---- a value, or a kind of fault
 
 -- a step that did not fail
-then_ok : {A B X : Type 0} (r : Result A X) (f : A → Result B X) (y : B) → (r >>= f) ≡ Ok y → (x : A) × (r ≡ Ok x) × (f x ≡ Ok y)
+pub then_ok : {A B X : Type 0} (r : Result A X) (f : A → Result B X) (y : B) → (r >>= f) ≡ Ok y → (x : A) × (r ≡ Ok x) × (f x ≡ Ok y)
 then_ok (Ok x) f y h = (x, refl, h)
 then_ok (Err e) f y h = absurd cc
 
@@ -35,7 +35,7 @@ due_is kind (Some y) x h = let e : y ≡ x = cc in ap (λ v. Some v) e
 due_is kind None x h = absurd cc
 
 -- a test that passed
-test_is : (kind : FormatKind) (b : Bool) (u : Unit {0}) → test kind b ≡ Ok u → b ≡ true
+pub test_is : (kind : FormatKind) (b : Bool) (u : Unit {0}) → test kind b ≡ Ok u → b ≡ true
 test_is kind true u h = refl
 test_is kind false u h = absurd cc
 
@@ -61,7 +61,7 @@ abbrev pub HaveUnits : List Entry → Type 0
 HaveUnits pool = (index : ℕ) (units : List ℕ) → units_at pool index ≡ Some units → IsUnits units
 
 -- the units at an index that were read as a text are those of the text
-text_at_found : (pool : List Entry) (kind : FormatKind) (index : ℕ) (text : List ℕ) → HaveUnits pool → text_at kind pool index ≡ Ok text → IsText (units_at pool index) text
+pub text_at_found : (pool : List Entry) (kind : FormatKind) (index : ℕ) (text : List ℕ) → HaveUnits pool → text_at kind pool index ≡ Ok text → IsText (units_at pool index) text
 text_at_found pool kind index text fit h =
     let a = then_ok (due bad.BadIndex (units_at pool index)) (λ units. due kind (text_of units)) text h in
     let there : units_at pool index ≡ Some a.0 = due_is bad.BadIndex (units_at pool index) a.0 a.1 in
@@ -69,18 +69,18 @@ text_at_found pool kind index text fit h =
     (f.0, there ∙ ap (λ (u : List ℕ). Some u) f.1)
 
 -- the units of a text at an index are read as it
-text_at_only : (pool : List Entry) (kind : FormatKind) (index : ℕ) (text : List ℕ) → IsText (units_at pool index) text → text_at kind pool index ≡ Ok text
+pub text_at_only : (pool : List Entry) (kind : FormatKind) (index : ℕ) (text : List ℕ) → IsText (units_at pool index) text → text_at kind pool index ≡ Ok text
 text_at_only pool kind index text h = rw (h.1, text_back text h.0) refl
 
 -- a text that passes a test
-good_found : (pool : List Entry) (kind : FormatKind) (passes : List ℕ → Bool) (index : ℕ) (text : List ℕ) → HaveUnits pool → good_text_at kind passes pool index ≡ Ok text → IsText (units_at pool index) text × (passes text ≡ true)
+pub good_found : (pool : List Entry) (kind : FormatKind) (passes : List ℕ → Bool) (index : ℕ) (text : List ℕ) → HaveUnits pool → good_text_at kind passes pool index ≡ Ok text → IsText (units_at pool index) text × (passes text ≡ true)
 good_found pool kind passes index text fit h =
     let a = then_ok (text_at kind pool index) (λ t. test kind (passes t) >>= (λ good. Ok t)) text h in
     let b = then_ok (test kind (passes a.0)) (λ good. Ok a.0) text a.2 in
     let is : a.0 ≡ text = (let e : Ok a.0 ≡ Ok text = b.2 in cc) in
     (subst (λ (t : List ℕ). IsText (units_at pool index) t) is (text_at_found pool kind index a.0 fit a.1), subst (λ (t : List ℕ). passes t ≡ true) is (test_is kind (passes a.0) b.0 b.1))
 
-good_only : (pool : List Entry) (kind : FormatKind) (passes : List ℕ → Bool) (index : ℕ) (text : List ℕ) → IsText (units_at pool index) text → passes text ≡ true → good_text_at kind passes pool index ≡ Ok text
+pub good_only : (pool : List Entry) (kind : FormatKind) (passes : List ℕ → Bool) (index : ℕ) (text : List ℕ) → IsText (units_at pool index) text → passes text ≡ true → good_text_at kind passes pool index ≡ Ok text
 good_only pool kind passes index text h good = rw (h.1, text_back text h.0, good) refl
 
 -- ---- types

@@ -5,9 +5,11 @@ use Rattle.format_reading.specs.Reader.{Reader, give}
 use Rattle.format_reading.specs.Spelling.{Spells}
 use Rattle.format_reading.proofs.Exact.{Exact, as_raw, give_exact}
 use Rattle.jv_base.specs.Names.{is_text}
+use Rattle.jv_base.proofs.Equality.{text_Decides}
 use Rattle.class_model.specs.declared.pool.Entry.{Entry}
 use Rattle.class_model.specs.Pool.{units_at}
 use Rattle.class_model.specs.Structure.{AttributeInfo, attribute_info}
+use Rattle.class_model.specs.ReadingCodeAttribute.{is_there}
 use Rattle.class_model.specs.Attributes.{is_named, named, IsAttribute, Single, IsMark}
 use Rattle.class_model.proofs.AttributeLaw.{text, as_text, Does, Knows, Step, Steps}
 
@@ -27,8 +29,8 @@ each_found pool does at (a ∷ others) seen out h =
 
 -- what is seen of the attributes of a name
 pub chain_found : {S F : Type 0} (pool : List Entry) (does : Does S) (name : List ℕ) (get : S → F) (R : F → List ℕ → F → Type 0)
-    → ((at : ℕ) (units : List ℕ) (seen : S) (info : List ℕ) (out : S) → is_text units name ≡ true → does at units seen info out → R (get seen) info (get out))
-    → ((at : ℕ) (units : List ℕ) (seen : S) (info : List ℕ) (out : S) → is_text units name ≡ false → does at units seen info out → get out ≡ get seen)
+    → ((at : ℕ) (units : List ℕ) (n : ℕ) (seen : S) (info : List ℕ) (out : S) → is_text units name ≡ true → does at units n seen info out → R (get seen) info (get out))
+    → ((at : ℕ) (units : List ℕ) (n : ℕ) (seen : S) (info : List ℕ) (out : S) → is_text units name ≡ false → does at units n seen info out → get out ≡ get seen)
     → (at : ℕ) (all : List AttributeInfo) (seen out : S) → Steps pool does at all seen out → Chain R (get seen) (named pool name all) (get out)
 chain_found pool does name get R same other at [] seen out h = ap get h
 chain_found pool does name get R same other at (a ∷ rest) seen out h =
@@ -37,8 +39,8 @@ chain_found pool does name get R same other at (a ∷ rest) seen out h =
     is : (b : Bool) → is_text h.1.1 name ≡ b → is_named (units_at pool a.attribute_name_index) name ≡ b
     is b e = ap (λ (o : Option (List ℕ)). is_named o name) h.1.2 ∙ e
     by : (b : Bool) → is_text h.1.1 name ≡ b → Chain R (get h.0) (named pool name rest) (get out) → Chain R (get seen) (named pool name (a ∷ rest)) (get out)
-    by true e behind = rw (is true e) (get h.0, same at h.1.1 seen a.info h.0 e h.1.4, behind)
-    by false e behind = rw (is false e) (subst (λ (f : _). Chain R f (named pool name rest) (get out)) (other at h.1.1 seen a.info h.0 e h.1.4) behind)
+    by true e behind = rw (is true e) (get h.0, same at h.1.1 (length a.info) seen a.info h.0 e h.1.4, behind)
+    by false e behind = rw (is false e) (subst (λ (f : _). Chain R f (named pool name rest) (get out)) (other at h.1.1 (length a.info) seen a.info h.0 e h.1.4) behind)
 
 -- ---- an attribute that may stand once
 
@@ -83,6 +85,15 @@ not_named pool name units a rest at e = let is : is_named (units_at pool a.attri
 -- an attribute of this name is the first
 pub is_first : (pool : List Entry) (name units : List ℕ) (a : AttributeInfo) (rest : List AttributeInfo) → units_at pool a.attribute_name_index ≡ Some units → is_text units name ≡ true → named pool name (a ∷ rest) ≡ a ∷ named pool name rest
 is_first pool name units a rest at e = let is : is_named (units_at pool a.attribute_name_index) name ≡ true = ap (λ (o : Option (List ℕ)). is_named o name) at ∙ e in rw is refl
+
+-- a text that is one name is no other
+pub other_name : (units one other : List ℕ) → is_text units one ≡ true → is_text one other ≡ false → is_text units other ≡ false
+other_name units one other e differ = ap (λ (t : List ℕ). is_text t other) ((text_Decides units one).0 e) ∙ differ
+
+-- what was not seen
+pub not_there : {A : Type 0} (o : Option A) → is_there o ≡ false → o ≡ None
+not_there (Some x) h = absurd cc
+not_there None h = refl
 
 -- ---- what is known
 
