@@ -34,3 +34,4 @@ pub mod InstructionOnly
 pub mod ClassAttributeLaw
 pub mod ConstantLaw
 pub mod FieldAttributeLaw
+pub mod FreshLaw
