@@ -35,3 +35,4 @@ pub mod ClassAttributeLaw
 pub mod ConstantLaw
 pub mod FieldAttributeLaw
 pub mod FreshLaw
+pub mod FieldInfoLaw
