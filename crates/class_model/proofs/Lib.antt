@@ -36,3 +36,4 @@ pub mod ConstantLaw
 pub mod FieldAttributeLaw
 pub mod FreshLaw
 pub mod FieldInfoLaw
+pub mod MethodAttributeLaw
