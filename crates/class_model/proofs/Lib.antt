@@ -37,3 +37,4 @@ pub mod FieldAttributeLaw
 pub mod FreshLaw
 pub mod FieldInfoLaw
 pub mod MethodAttributeLaw
+pub mod MethodInfoLaw
