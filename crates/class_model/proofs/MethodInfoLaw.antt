@@ -248,3 +248,69 @@ module _ (pool : List Entry) (in_interface : Bool) (class : List ℕ) (units : H
       (λ at raw y h. (refl, (at, refl, back before raw y h.0 h.1 h.2)))
       (bind_exact (λ at. bind (item u2 passing) (λ flags. bind (item u2 (good_text_at bad.BadName is_method_name pool)) (λ name. bind (item u2 (method_type_at pool in_interface flags name)) (λ ty. reads_type at before flags name ty))))
       items_bytes (λ at _ v y. FromFlags before v y) here_exact (from_flags before))
+
+  -- ---- the methods
+
+  -- methods with what is left out in each
+  abbrev pub MethodsRead : Type 0
+  MethodsRead = List Method × List (Option LeftKind)
+
+  -- the structures are methods, each unlike all before it
+  abbrev pub AreNewMethods : ℕ → List Signature → List MemberInfo → MethodsRead → Type 0
+  AreNewMethods n before raws y = (length raws ≡ n) × AreMethods pool in_interface class raws y.0 y.1 × AreNew method_signature MethodsDiffer methods_apart methods_told before y.0
+
+  -- one more method
+  abbrev Cons : ℕ → List Signature → List MemberInfo → MethodsRead → Type 0
+  Cons n before raws y = (raw : MemberInfo) × (rest : List MemberInfo) × (raws ≡ raw ∷ rest) × ((first : MethodRead) × (IsMethod pool in_interface class raw first.0 first.2 × (first.1 ≡ method_signature first.0) × IsNew before first.1)
+      × ((others : MethodsRead) × AreNewMethods n (first.1 ∷ before) rest others × (y ≡ (first.0 ∷ others.0, first.2 ∷ others.1))))
+
+  cons_of : (n : ℕ) (before : List Signature) (raws : List MemberInfo) (y : MethodsRead) → AreNewMethods (suc n) before raws y → Cons n before raws y
+  cons_of n before [] y h = absurd (omega (arith, h.0))
+  cons_of n before (raw ∷ rest) y h = by y.0 y.1 refl h.1 h.2
+    where
+      by : (methods : List Method) (kinds : List (Option LeftKind)) → y ≡ (methods, kinds) → AreMethods pool in_interface class (raw ∷ rest) methods kinds → AreNew method_signature MethodsDiffer methods_apart methods_told before methods → Cons n before (raw ∷ rest) y
+      by [] [] is m new = absurd m
+      by [] (k ∷ ks) is m new = absurd m
+      by (method ∷ methods) [] is m new = absurd m
+      by (method ∷ methods) (k ∷ ks) is m new =
+          (raw, rest, refl, ((method, method_signature method, k), (m.0, refl, new.0), ((methods, ks), (omega (arith, h.0), m.1, new.1), is)))
+
+  -- so many methods, each unlike all before it
+  pub methods_exact : (n : ℕ) (before : List Signature) → Exact (read_methods n pool in_interface class before) (Spells (flat_map member_info) (λ _ raws y. AreNewMethods n before raws y))
+  unfolding read_methods
+  methods_exact zero before = as_raw (flat_map member_info) _ (λ u. []) (λ raws. tt)
+      (λ at u y h. (refl, subst (λ (z : MethodsRead). (zero ≡ 0) × AreMethods pool in_interface class [] z.0 z.1 × AreNew method_signature MethodsDiffer methods_apart methods_told before z.0) (sym h) (refl, tt, tt)))
+      (λ at raws y h. none raws y.0 y.1 h.0 h.1)
+      (give_exact ([], []))
+    where
+      none : (raws : List MemberInfo) (methods : List Method) (kinds : List (Option LeftKind)) → length raws ≡ 0 → AreMethods pool in_interface class raws methods kinds
+          → (flat_map member_info raws ≡ []) × ((let z : MethodsRead = (methods, kinds) in z) ≡ ([], []))
+      none [] [] [] len m = (refl, refl)
+      none [] [] (k ∷ ks) len m = absurd m
+      none [] (x ∷ xs) kinds len m = absurd m
+      none (raw ∷ raws) methods kinds len m = absurd (omega (arith, len))
+  methods_exact (suc n) before = as_raw (flat_map member_info) _ (λ w. w.0 ∷ w.1) (λ raws. (head_of raws, tail_of raws))
+      (λ at w y h.
+      let first = h.0 in
+      let rest = h.2 in
+      let new = subst (λ (s : Signature). AreNew method_signature MethodsDiffer methods_apart methods_told (s ∷ before) rest.0.0) h.1.1 rest.1.2 in
+      (sym (flat_map-cons member_info w.0 w.1), subst (λ (z : MethodsRead). (length (w.0 ∷ w.1) ≡ suc n) × AreMethods pool in_interface class (w.0 ∷ w.1) z.0 z.1 × AreNew method_signature MethodsDiffer methods_apart methods_told before z.0) (sym rest.2)
+          (ap suc rest.1.0, (h.1.0, rest.1.1), (subst (λ (s : Signature). IsNew before s) h.1.1 h.1.2, new))))
+      (λ at raws y h.
+      let c = cons_of n before raws y h in
+      let head-is : head_of raws ≡ c.0 = ap head_of c.2 in
+      let tail-is : tail_of raws ≡ c.1 = ap tail_of c.2 in
+      (ap (flat_map member_info) c.2 ∙ flat_map-cons member_info c.0 c.1 ∙ ap (λ (t : List ℕ). t ++ flat_map member_info c.1) (ap member_info (sym head-is)) ∙ ap (λ (t : List MemberInfo). member_info (head_of raws) ++ flat_map member_info t) (sym tail-is),
+          (c.3.0, subst (λ (raw : MemberInfo). IsMethod pool in_interface class raw c.3.0.0 c.3.0.2 × (c.3.0.1 ≡ method_signature c.3.0.0) × IsNew before c.3.0.1) (sym head-is) c.3.1,
+              (c.3.2.0, subst (λ (t : List MemberInfo). AreNewMethods n (c.3.0.1 ∷ before) t c.3.2.0) (sym tail-is) c.3.2.1, c.3.2.2))))
+      (bind_exact (λ first. bind (read_methods n pool in_interface class (first.1 ∷ before)) (λ others. give (first.0 ∷ others.0, first.2 ∷ others.1))) (flat_map member_info)
+      (λ first _ raws y. (others : MethodsRead) × AreNewMethods n (first.1 ∷ before) raws others × (y ≡ (first.0 ∷ others.0, first.2 ∷ others.1)))
+      (method_info_exact before)
+      (λ first. map_exact (λ (others : MethodsRead). let z : MethodsRead = (first.0 ∷ others.0, first.2 ∷ others.1) in z) (methods_exact n (first.1 ∷ before))))
+    where
+      head_of : List MemberInfo → MemberInfo
+      head_of [] = record { access_flags = 0; name_index = 0; descriptor_index = 0; attributes = [] }
+      head_of (raw ∷ raws) = raw
+      tail_of : List MemberInfo → List MemberInfo
+      tail_of [] = []
+      tail_of (raw ∷ raws) = raws
