@@ -38,3 +38,4 @@ pub mod FreshLaw
 pub mod FieldInfoLaw
 pub mod MethodAttributeLaw
 pub mod MethodInfoLaw
+pub mod ClassFileLaw

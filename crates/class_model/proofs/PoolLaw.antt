@@ -58,7 +58,7 @@ slots_there at (c ∷ cs) (e ∷ es) h =
 -- ---- what holds of each entry
 
 -- what holds of all entries and of a Gap holds at each of their places
-at_places : (P : Entry → Type 0) → P entry.Gap → (es : List Entry) → AllByRecursion P es → AllByRecursion P (flat_map places_of es)
+pub at_places : (P : Entry → Type 0) → P entry.Gap → (es : List Entry) → AllByRecursion P es → AllByRecursion P (flat_map places_of es)
 at_places P gap [] h = tt
 at_places P gap (e ∷ es) h = by (takes_two e) (at_places P gap es h.1)
   where
@@ -76,7 +76,7 @@ of_places P (e ∷ es) h = by (takes_two e) h (of_places P es)
     by false h others = (h.0, others h.1)
 
 -- what holds of all holds of the one at an index
-all_at : {A : Type 0} (P : A → Type 0) (xs : List A) (index : ℕ) (x : A) → AllByRecursion P xs → slice_get xs index ≡ Some x → P x
+pub all_at : {A : Type 0} (P : A → Type 0) (xs : List A) (index : ℕ) (x : A) → AllByRecursion P xs → slice_get xs index ≡ Some x → P x
 all_at P [] index x h is = absurd cc
 all_at P (y ∷ ys) zero x h is = subst P (let e : y ≡ x = cc in e) h.0
 all_at P (y ∷ ys) (suc index) x h is = all_at P ys index x h.1 is
@@ -87,7 +87,7 @@ all_other P Q [] f h = tt
 all_other P Q (x ∷ xs) f h = (f x h.0, all_other P Q xs f h.1)
 
 -- the units of a text are numbers of 16 bits
-abbrev HasUnits : Entry → Type 0
+abbrev pub HasUnits : Entry → Type 0
 HasUnits e = (units : List ℕ) → units_in e ≡ Some units → IsUnits units
 
 constant_units : (c : CpInfo) (e : Entry) → IsConstant c e → HasUnits e
@@ -102,7 +102,7 @@ constant_units (InterfaceMethodrefInfo i j) e h units is = let k : None ≡ Some
 constant_units (NameAndTypeInfo i j) e h units is = let k : None ≡ Some units = sym (ap units_in h.1) ∙ is in absurd cc
 constant_units (LeftOutInfo tag text) e h units is = let k : None ≡ Some units = sym (ap units_in h.1) ∙ is in absurd cc
 
-all_units : (cs : List CpInfo) (es : List Entry) → AllZip IsConstant cs es → AllByRecursion HasUnits es
+pub all_units : (cs : List CpInfo) (es : List Entry) → AllZip IsConstant cs es → AllByRecursion HasUnits es
 all_units [] [] h = tt
 all_units [] (e ∷ es) h = absurd h
 all_units (c ∷ cs) [] h = absurd h
@@ -113,7 +113,7 @@ held : {A : Type 0} (f : Entry → Option A) (o : Option Entry) (x : A) → opti
 held f (Some e) x h = (e, refl, h)
 held f None x h = absurd cc
 
-have_units : (es : List Entry) → AllByRecursion HasUnits es → HaveUnits (numbered es)
+pub have_units : (es : List Entry) → AllByRecursion HasUnits es → HaveUnits (numbered es)
 have_units es h index units is =
     let there = held units_in (slice_get (numbered es) index) units is in
     let none : HasUnits entry.Gap = λ units k. absurd cc in
