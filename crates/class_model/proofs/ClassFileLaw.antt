@@ -90,13 +90,87 @@ Methods = List Method × List (Option LeftKind)
 abbrev members : List MemberInfo → List ℕ
 members raws = to_be_bytes w16 (length raws) ++ flat_map member_info raws
 
+-- the interfaces, behind their count
+abbrev indices : List ℕ → List ℕ
+indices raws = to_be_bytes w16 (length raws) ++ flat_map (to_be_bytes w16) raws
+
+-- the items from the flags on
+abbrev Items : Type 0
+Items = ℕ × (ℕ × (ℕ × (List ℕ × (List MemberInfo × (List MemberInfo × List AttributeInfo)))))
+
+abbrev passing : ℕ → Result ℕ FormatKind
+passing flags = cond (are_class_flags flags) (Ok flags) (Err bad.BadFlags)
+
+-- their bytes
+abbrev from_methods : List MemberInfo × List AttributeInfo → List ℕ
+from_methods v = members v.0 ++ table v.1
+
+abbrev from_fields : List MemberInfo × (List MemberInfo × List AttributeInfo) → List ℕ
+from_fields v = members v.0 ++ from_methods v.1
+
+abbrev from_interfaces : List ℕ × (List MemberInfo × (List MemberInfo × List AttributeInfo)) → List ℕ
+from_interfaces v = indices v.0 ++ from_fields v.1
+
+abbrev items_bytes : Items → List ℕ
+items_bytes v = to_be_bytes w16 v.0 ++ (to_be_bytes w16 v.1.0 ++ (to_be_bytes w16 v.1.1.0 ++ from_interfaces v.1.1.1))
+
+-- with this pool
+module _ (pool : List Entry) where
+  -- the fields, behind their count
+  abbrev AreAllFields : ℕ → List MemberInfo → List Field → Type 0
+  AreAllFields flags raws fields = (length raws < 2 ^ 16) × AllZip (IsField pool (is_interface flags)) raws fields × AreNew field_signature FieldsDiffer fields_apart fields_told [] fields
+
+  -- the methods, behind their count
+  abbrev AreAllMethods : ℕ → List ℕ → List MemberInfo → Methods → Type 0
+  AreAllMethods flags class raws y = (length raws < 2 ^ 16) × AreMethods pool (is_interface flags) class raws y.0 y.1 × AreNew method_signature MethodsDiffer methods_apart methods_told [] y.0
+
+  -- what is said from the attributes back to the flags
+  abbrev FromAttributes : ℕ → List ℕ → List ℕ → List (List ℕ) → List Field → Methods → List AttributeInfo → Class → Type 0
+  FromAttributes flags name super_name interfaces fields methods all y = (seen : ClassSeen) × AreClassAttributes pool all seen × (y ≡ class_of flags pool name super_name interfaces fields methods seen)
+
+  abbrev FromMethods : ℕ → List ℕ → List ℕ → List (List ℕ) → List Field → List MemberInfo × List AttributeInfo → Class → Type 0
+  FromMethods flags name super_name interfaces fields v y = (methods : Methods) × AreAllMethods flags name v.0 methods × FromAttributes flags name super_name interfaces fields methods v.1 y
+
+  abbrev FromFields : ℕ → List ℕ → List ℕ → List (List ℕ) → List MemberInfo × (List MemberInfo × List AttributeInfo) → Class → Type 0
+  FromFields flags name super_name interfaces v y = (fields : List Field) × AreAllFields flags v.0 fields × FromMethods flags name super_name interfaces fields v.1 y
+
+  abbrev FromInterfaces : ℕ → List ℕ → List ℕ → List ℕ × (List MemberInfo × (List MemberInfo × List AttributeInfo)) → Class → Type 0
+  FromInterfaces flags name super_name v y = (interfaces : List (List ℕ)) × ((length v.0 < 2 ^ 16) × AllZip (IsClassAt pool) v.0 interfaces) × FromFields flags name super_name interfaces v.1 y
+
+  abbrev FromSuper : ℕ → List ℕ → ℕ × (List ℕ × (List MemberInfo × (List MemberInfo × List AttributeInfo))) → Class → Type 0
+  FromSuper flags name v y = (v.0 < 2 ^ 16) × ((super_name : List ℕ) × (class_at pool v.0 ≡ Ok super_name) × FromInterfaces flags name super_name v.1 y)
+
+  abbrev FromName : ℕ → ℕ × (ℕ × (List ℕ × (List MemberInfo × (List MemberInfo × List AttributeInfo)))) → Class → Type 0
+  FromName flags v y = (v.0 < 2 ^ 16) × ((name : List ℕ) × (class_at pool v.0 ≡ Ok name) × FromSuper flags name v.1 y)
+
+  abbrev FromFlags : Items → Class → Type 0
+  FromFlags v y = (v.0 < 2 ^ 16) × ((flags : ℕ) × (passing v.0 ≡ Ok flags) × FromName flags v.1 y)
+
+  -- their readers
+  abbrev reads_attributes : ℕ → List ℕ → List ℕ → List (List ℕ) → List Field → Methods → Reader Class
+  reads_attributes flags name super_name interfaces fields methods = bind (counted_attributes pool (known_of_class pool) no_class_attribute) (λ seen. give (class_of flags pool name super_name interfaces fields methods seen))
+
+  abbrev reads_methods : ℕ → List ℕ → List ℕ → List (List ℕ) → List Field → Reader Class
+  reads_methods flags name super_name interfaces fields = bind (read_all_methods pool flags name) (λ methods. reads_attributes flags name super_name interfaces fields methods)
+
+  abbrev reads_fields : ℕ → List ℕ → List ℕ → List (List ℕ) → Reader Class
+  reads_fields flags name super_name interfaces = bind (read_all_fields pool flags) (λ fields. reads_methods flags name super_name interfaces fields)
+
+  abbrev reads_interfaces : ℕ → List ℕ → List ℕ → Reader Class
+  reads_interfaces flags name super_name = bind (read_interfaces pool) (λ interfaces. reads_fields flags name super_name interfaces)
+
+  abbrev reads_super : ℕ → List ℕ → Reader Class
+  reads_super flags name = bind (item u2 (class_at pool)) (λ super_name. reads_interfaces flags name super_name)
+
+  abbrev reads_name : ℕ → Reader Class
+  reads_name flags = bind (item u2 (class_at pool)) (λ name. reads_super flags name)
+
+  abbrev reads_flags : Reader Class
+  reads_flags = bind (item u2 passing) (λ flags. reads_name flags)
+
 module _ (codes_exact : (pool : List Entry) → HaveUnits pool → AllNameRight pool → (first : List VType) (at : ℕ) → Exact (read_code pool first at) (Spells text (λ _ info body. Bodies pool first info body))) where
   module _ (pool : List Entry) (units : HaveUnits pool) (right : AllNameRight pool) where
-    -- the fields, behind their count
-    abbrev AreAllFields : ℕ → List MemberInfo → List Field → Type 0
-    AreAllFields flags raws fields = (length raws < 2 ^ 16) × AllZip (IsField pool (is_interface flags)) raws fields × AreNew field_signature FieldsDiffer fields_apart fields_told [] fields
-
-    all_fields_exact : (flags : ℕ) → Exact (read_all_fields pool flags) (Spells members (λ _ raws fields. AreAllFields flags raws fields))
+    all_fields_exact : (flags : ℕ) → Exact (read_all_fields pool flags) (Spells members (λ _ raws fields. AreAllFields pool flags raws fields))
     unfolding read_all_fields
     all_fields_exact flags = as_raw members _ (λ w. w.1) (λ raws. (length raws, raws))
         (λ at w y h.
@@ -107,11 +181,7 @@ module _ (codes_exact : (pool : List Entry) → HaveUnits pool → AllNameRight 
         (λ n _ raws fields. (length raws ≡ n) × AllZip (IsField pool (is_interface flags)) raws fields × AreNew field_signature FieldsDiffer fields_apart fields_told [] fields)
         u2_exact (λ n. fields_exact pool (is_interface flags) units right n []))
 
-    -- the methods, behind their count
-    abbrev AreAllMethods : ℕ → List ℕ → List MemberInfo → Methods → Type 0
-    AreAllMethods flags class raws y = (length raws < 2 ^ 16) × AreMethods pool (is_interface flags) class raws y.0 y.1 × AreNew method_signature MethodsDiffer methods_apart methods_told [] y.0
-
-    all_methods_exact : (flags : ℕ) (class : List ℕ) → Exact (read_all_methods pool flags class) (Spells members (λ _ raws y. AreAllMethods flags class raws y))
+    all_methods_exact : (flags : ℕ) (class : List ℕ) → Exact (read_all_methods pool flags class) (Spells members (λ _ raws y. AreAllMethods pool flags class raws y))
     unfolding read_all_methods
     all_methods_exact flags class = as_raw members _ (λ w. w.1) (λ raws. (length raws, raws))
         (λ at w y h.
@@ -122,92 +192,133 @@ module _ (codes_exact : (pool : List Entry) → HaveUnits pool → AllNameRight 
         (λ n _ raws y. (length raws ≡ n) × AreMethods pool (is_interface flags) class raws y.0 y.1 × AreNew method_signature MethodsDiffer methods_apart methods_told [] y.0)
         u2_exact (λ n. methods_exact pool (is_interface flags) class units (codes_exact pool units right) n []))
 
-    -- the interfaces, behind their count
-    abbrev indices : List ℕ → List ℕ
-    indices raws = to_be_bytes w16 (length raws) ++ flat_map (to_be_bytes w16) raws
-
     interfaces_exact : Exact (read_interfaces pool) (Spells indices (λ _ raws names. (length raws < 2 ^ 16) × AllZip (IsClassAt pool) raws names))
     unfolding read_interfaces
     interfaces_exact = counted_classes_exact pool units
 
-    -- what is said from the attributes back to the flags
-    abbrev FromAttributes : ℕ → List ℕ → List ℕ → List (List ℕ) → List Field → Methods → List AttributeInfo → Class → Type 0
-    FromAttributes flags name super_name interfaces fields methods all y = (seen : ClassSeen) × AreClassAttributes pool all seen × (y ≡ class_of flags pool name super_name interfaces fields methods seen)
-
-    abbrev FromMethods : ℕ → List ℕ → List ℕ → List (List ℕ) → List Field → List MemberInfo × List AttributeInfo → Class → Type 0
-    FromMethods flags name super_name interfaces fields v y = (methods : Methods) × AreAllMethods flags name v.0 methods × FromAttributes flags name super_name interfaces fields methods v.1 y
-
-    abbrev FromFields : ℕ → List ℕ → List ℕ → List (List ℕ) → List MemberInfo × (List MemberInfo × List AttributeInfo) → Class → Type 0
-    FromFields flags name super_name interfaces v y = (fields : List Field) × AreAllFields flags v.0 fields × FromMethods flags name super_name interfaces fields v.1 y
-
-    abbrev FromInterfaces : ℕ → List ℕ → List ℕ → List ℕ × (List MemberInfo × (List MemberInfo × List AttributeInfo)) → Class → Type 0
-    FromInterfaces flags name super_name v y = (interfaces : List (List ℕ)) × ((length v.0 < 2 ^ 16) × AllZip (IsClassAt pool) v.0 interfaces) × FromFields flags name super_name interfaces v.1 y
-
-    abbrev FromSuper : ℕ → List ℕ → ℕ × (List ℕ × (List MemberInfo × (List MemberInfo × List AttributeInfo))) → Class → Type 0
-    FromSuper flags name v y = (v.0 < 2 ^ 16) × ((super_name : List ℕ) × (class_at pool v.0 ≡ Ok super_name) × FromInterfaces flags name super_name v.1 y)
-
-    abbrev FromName : ℕ → ℕ × (ℕ × (List ℕ × (List MemberInfo × (List MemberInfo × List AttributeInfo)))) → Class → Type 0
-    FromName flags v y = (v.0 < 2 ^ 16) × ((name : List ℕ) × (class_at pool v.0 ≡ Ok name) × FromSuper flags name v.1 y)
-
-    -- the items from the flags on
-    abbrev Items : Type 0
-    Items = ℕ × (ℕ × (ℕ × (List ℕ × (List MemberInfo × (List MemberInfo × List AttributeInfo)))))
-
-    abbrev passing : ℕ → Result ℕ FormatKind
-    passing flags = cond (are_class_flags flags) (Ok flags) (Err bad.BadFlags)
-
-    abbrev FromFlags : Items → Class → Type 0
-    FromFlags v y = (v.0 < 2 ^ 16) × ((flags : ℕ) × (passing v.0 ≡ Ok flags) × FromName flags v.1 y)
-
-    -- their bytes
-    abbrev from_methods : List MemberInfo × List AttributeInfo → List ℕ
-    from_methods v = members v.0 ++ table v.1
-
-    abbrev from_fields : List MemberInfo × (List MemberInfo × List AttributeInfo) → List ℕ
-    from_fields v = members v.0 ++ from_methods v.1
-
-    abbrev from_interfaces : List ℕ × (List MemberInfo × (List MemberInfo × List AttributeInfo)) → List ℕ
-    from_interfaces v = indices v.0 ++ from_fields v.1
-
-    abbrev items_bytes : Items → List ℕ
-    items_bytes v = to_be_bytes w16 v.0 ++ (to_be_bytes w16 v.1.0 ++ (to_be_bytes w16 v.1.1.0 ++ from_interfaces v.1.1.1))
-
-    -- their readers
-    abbrev reads_attributes : ℕ → List ℕ → List ℕ → List (List ℕ) → List Field → Methods → Reader Class
-    reads_attributes flags name super_name interfaces fields methods = bind (counted_attributes pool (known_of_class pool) no_class_attribute) (λ seen. give (class_of flags pool name super_name interfaces fields methods seen))
-
-    abbrev reads_methods : ℕ → List ℕ → List ℕ → List (List ℕ) → List Field → Reader Class
-    reads_methods flags name super_name interfaces fields = bind (read_all_methods pool flags name) (λ methods. reads_attributes flags name super_name interfaces fields methods)
-
-    abbrev reads_fields : ℕ → List ℕ → List ℕ → List (List ℕ) → Reader Class
-    reads_fields flags name super_name interfaces = bind (read_all_fields pool flags) (λ fields. reads_methods flags name super_name interfaces fields)
-
-    abbrev reads_interfaces : ℕ → List ℕ → List ℕ → Reader Class
-    reads_interfaces flags name super_name = bind (read_interfaces pool) (λ interfaces. reads_fields flags name super_name interfaces)
-
-    abbrev reads_super : ℕ → List ℕ → Reader Class
-    reads_super flags name = bind (item u2 (class_at pool)) (λ super_name. reads_interfaces flags name super_name)
-
-    abbrev reads_name : ℕ → Reader Class
-    reads_name flags = bind (item u2 (class_at pool)) (λ name. reads_super flags name)
-
-    abbrev reads_flags : Reader Class
-    reads_flags = bind (item u2 passing) (λ flags. reads_name flags)
-
-    methods_then : (flags : ℕ) (name super_name : List ℕ) (interfaces : List (List ℕ)) (fields : List Field) → Exact (reads_methods flags name super_name interfaces fields) (Spells from_methods (λ _ v y. FromMethods flags name super_name interfaces fields v y))
-    methods_then flags name super_name interfaces fields = bind_exact (λ methods. reads_attributes flags name super_name interfaces fields methods) table (λ methods _ all y. FromAttributes flags name super_name interfaces fields methods all y)
+    methods_then : (flags : ℕ) (name super_name : List ℕ) (interfaces : List (List ℕ)) (fields : List Field) → Exact (reads_methods pool flags name super_name interfaces fields) (Spells from_methods (λ _ v y. FromMethods pool flags name super_name interfaces fields v y))
+    methods_then flags name super_name interfaces fields = bind_exact (λ methods. reads_attributes pool flags name super_name interfaces fields methods) table (λ methods _ all y. FromAttributes pool flags name super_name interfaces fields methods all y)
         (all_methods_exact flags name) (λ methods. map_exact (λ seen. class_of flags pool name super_name interfaces fields methods seen) (class_attributes_exact pool))
 
-    fields_then : (flags : ℕ) (name super_name : List ℕ) (interfaces : List (List ℕ)) → Exact (reads_fields flags name super_name interfaces) (Spells from_fields (λ _ v y. FromFields flags name super_name interfaces v y))
-    fields_then flags name super_name interfaces = bind_exact (λ fields. reads_methods flags name super_name interfaces fields) from_methods (λ fields _ v y. FromMethods flags name super_name interfaces fields v y)
+    fields_then : (flags : ℕ) (name super_name : List ℕ) (interfaces : List (List ℕ)) → Exact (reads_fields pool flags name super_name interfaces) (Spells from_fields (λ _ v y. FromFields pool flags name super_name interfaces v y))
+    fields_then flags name super_name interfaces = bind_exact (λ fields. reads_methods pool flags name super_name interfaces fields) from_methods (λ fields _ v y. FromMethods pool flags name super_name interfaces fields v y)
         (all_fields_exact flags) (λ fields. methods_then flags name super_name interfaces fields)
 
-    interfaces_then : (flags : ℕ) (name super_name : List ℕ) → Exact (reads_interfaces flags name super_name) (Spells from_interfaces (λ _ v y. FromInterfaces flags name super_name v y))
-    interfaces_then flags name super_name = bind_exact (λ interfaces. reads_fields flags name super_name interfaces) from_fields (λ interfaces _ v y. FromFields flags name super_name interfaces v y)
+    interfaces_then : (flags : ℕ) (name super_name : List ℕ) → Exact (reads_interfaces pool flags name super_name) (Spells from_interfaces (λ _ v y. FromInterfaces pool flags name super_name v y))
+    interfaces_then flags name super_name = bind_exact (λ interfaces. reads_fields pool flags name super_name interfaces) from_fields (λ interfaces _ v y. FromFields pool flags name super_name interfaces v y)
         interfaces_exact (λ interfaces. fields_then flags name super_name interfaces)
 
-    flags_then : Exact reads_flags (Spells items_bytes (λ _ v y. FromFlags v y))
-    flags_then = index_then passing (λ flags. reads_name flags) (λ (v : ℕ × (ℕ × (List ℕ × (List MemberInfo × (List MemberInfo × List AttributeInfo))))). to_be_bytes w16 v.0 ++ (to_be_bytes w16 v.1.0 ++ from_interfaces v.1.1)) (λ flags _ v y. FromName flags v y)
-        (λ flags. index_then (class_at pool) (λ name. reads_super flags name) (λ (v : ℕ × (List ℕ × (List MemberInfo × (List MemberInfo × List AttributeInfo)))). to_be_bytes w16 v.0 ++ from_interfaces v.1) (λ name _ v y. FromSuper flags name v y)
-        (λ name. index_then (class_at pool) (λ super_name. reads_interfaces flags name super_name) from_interfaces (λ super_name _ v y. FromInterfaces flags name super_name v y)
+    flags_then : Exact (reads_flags pool) (Spells items_bytes (λ _ v y. FromFlags pool v y))
+    flags_then = index_then passing (λ flags. reads_name pool flags) (λ (v : ℕ × (ℕ × (List ℕ × (List MemberInfo × (List MemberInfo × List AttributeInfo))))). to_be_bytes w16 v.0 ++ (to_be_bytes w16 v.1.0 ++ from_interfaces v.1.1)) (λ flags _ v y. FromName pool flags v y)
+        (λ flags. index_then (class_at pool) (λ name. reads_super pool flags name) (λ (v : ℕ × (List ℕ × (List MemberInfo × (List MemberInfo × List AttributeInfo)))). to_be_bytes w16 v.0 ++ from_interfaces v.1) (λ name _ v y. FromSuper pool flags name v y)
+        (λ name. index_then (class_at pool) (λ super_name. reads_interfaces pool flags name super_name) from_interfaces (λ super_name _ v y. FromInterfaces pool flags name super_name v y)
         (λ super_name. interfaces_then flags name super_name)))
+
+  -- ---- the class
+
+  -- lists that go together are equally long
+  zip_length : {A B : Type 0} (P : A → B → Type 0) (xs : List A) (ys : List B) → AllZip P xs ys → length ys ≡ length xs
+  zip_length P [] [] h = refl
+  zip_length P [] (y ∷ ys) h = absurd h
+  zip_length P (x ∷ xs) [] h = absurd h
+  zip_length P (x ∷ xs) (y ∷ ys) h = ap suc (zip_length P xs ys h.1)
+
+  -- the structure and its items
+  abbrev Whole : Type 0
+  Whole = Unit {0} × ((ℕ × List CpInfo) × (ℕ × (ℕ × (ℕ × (List ℕ × (List MemberInfo × (List MemberInfo × List AttributeInfo)))))))
+
+  abbrev raw_of : Whole → ClassFile
+  raw_of w = record {
+    constant_pool_count = w.1.0.0;
+    constant_pool = w.1.0.1;
+    access_flags = w.1.1.0;
+    this_class = w.1.1.1.0;
+    super_class = w.1.1.1.1.0;
+    interfaces = w.1.1.1.1.1.0;
+    fields = w.1.1.1.1.1.1.0;
+    methods = w.1.1.1.1.1.1.1.0;
+    attributes = w.1.1.1.1.1.1.1.1;
+  }
+
+  abbrev whole_of : ClassFile → Whole
+  whole_of raw = (tt, ((raw.constant_pool_count, raw.constant_pool), (raw.access_flags, (raw.this_class, (raw.super_class, (raw.interfaces, (raw.fields, (raw.methods, raw.attributes))))))))
+
+  -- their bytes are the same
+  same_bytes : (raw : ClassFile) → class_file raw ≡ head ++ (pool_bytes (raw.constant_pool_count, raw.constant_pool) ++ items_bytes (whole_of raw).1.1)
+  same_bytes raw = simp append_assoc
+
+  -- the items from the flags on say the class
+  there : (pool : List Entry) (w : Whole) (y : Class) (is : IsPool w.1.0.0 w.1.0.1 pool) → FromFlags pool w.1.1 y → IsClass (raw_of w) y pool
+  there pool w y is h =
+      let units = pool_units w.1.0.0 w.1.0.1 pool is in
+      let flags = h.1.0 in
+      let n = h.1.2 in
+      let s = n.1.2 in
+      let i = s.1.2 in
+      let f = i.2 in
+      let m = f.2 in
+      let a = m.2 in
+      let p = passed_is (are_class_flags w.1.1.0) w.1.1.0 flags bad.BadFlags h.1.1 in
+      let name = class_found pool w.1.1.1.0 n.1.0 units n.1.1 in
+      let super_name = class_found pool w.1.1.1.1.0 s.1.0 units s.1.1 in
+      let made : Class = class_of flags pool n.1.0 s.1.0 i.0 f.0 m.0 a.0 in
+      let made-is : IsClass (raw_of w) made pool = record {
+        constant_pool = is;
+        flags = record { fit = h.0; are = ap (λ (k : ℕ). flags_of (meant class_mask k)) (sym p.1); good = p.0 };
+        name = (n.0, name.0, name.1);
+        super_name = (s.0, super_name.0, super_name.1);
+        interfaces_count = i.1.0;
+        interfaces = i.1.1;
+        fields_count = f.1.0;
+        fields = subst (λ (k : ℕ). AllZip (IsField pool (is_interface k)) w.1.1.1.1.1.1.0 f.0) (sym p.1) f.1.1;
+        fields_differ = (new_found field_signature FieldsDiffer fields_apart fields_told [] f.0 f.1.2).0;
+        methods_count = m.1.0;
+        left_out_kinds = m.0.1;
+        methods = subst (λ (k : ℕ). AreMethods pool (is_interface k) n.1.0 w.1.1.1.1.1.1.1.0 m.0.0 m.0.1) (sym p.1) m.1.1;
+        methods_differ = (new_found method_signature MethodsDiffer methods_apart methods_told [] m.0.0 m.1.2).0;
+        attributes = a.1.attributes;
+        source = a.1.source;
+        synthetic = a.1.synthetic;
+        deprecated = a.1.deprecated;
+        left_out = ap (λ (k : ℕ). first_left_out (left_out_of_class k pool) (length f.0) m.0.1) (sym p.1)
+            ∙ ap (λ (k : ℕ). first_left_out (left_out_of_class w.1.1.0 pool) k m.0.1) (zip_length (IsField pool (is_interface flags)) _ f.0 f.1.1);
+      } in
+      subst (λ (c : Class). IsClass (raw_of w) c pool) (sym a.2) made-is
+
+  -- the class is what its items say
+  back : (pool : List Entry) (raw : ClassFile) (y : Class) (is : IsClass raw y pool) → FromFlags pool (whole_of raw).1.1 y
+  back pool raw y is =
+      let seen : ClassSeen = record { source = y.source; synthetic = y.synthetic; deprecated = y.deprecated } in
+      let passes : cond (are_class_flags raw.access_flags) (let R : Result ℕ FormatKind = Ok raw.access_flags in R) (Err bad.BadFlags) ≡ Ok raw.access_flags = rw is.flags.good refl in
+      let all : AreClassAttributes pool raw.attributes seen = record { attributes = is.attributes; source = is.source; synthetic = is.synthetic; deprecated = is.deprecated } in
+      let left-is : y.left_out ≡ first_left_out (left_out_of_class raw.access_flags pool) (length y.fields) is.left_out_kinds =
+      is.left_out ∙ ap (λ (k : ℕ). first_left_out (left_out_of_class raw.access_flags pool) k is.left_out_kinds) (sym (zip_length (IsField pool (is_interface raw.access_flags)) raw.fields y.fields is.fields)) in
+      let whole : y ≡ class_of raw.access_flags pool y.name y.super_name y.interfaces y.fields (y.methods, is.left_out_kinds) seen = λ i. record {
+        flags = is.flags.are i;
+        name = y.name;
+        super_name = y.super_name;
+        interfaces = y.interfaces;
+        fields = y.fields;
+        methods = y.methods;
+        source = y.source;
+        synthetic = y.synthetic;
+        deprecated = y.deprecated;
+        left_out = left-is i;
+      } in
+      (is.flags.fit, (raw.access_flags, passes, (is.name.0, (y.name, class_only pool raw.this_class y.name is.name.1 is.name.2,
+          (is.super_name.0, (y.super_name, class_only pool raw.super_class y.super_name is.super_name.1 is.super_name.2,
+              (y.interfaces, (is.interfaces_count, is.interfaces),
+                  (y.fields, (is.fields_count, is.fields, new_only field_signature FieldsDiffer fields_apart fields_told [] y.fields is.fields_differ (none_before field_signature y.fields)),
+                      ((y.methods, is.left_out_kinds), (is.methods_count, is.methods, new_only method_signature MethodsDiffer methods_apart methods_told [] y.methods is.methods_differ (none_before method_signature y.methods)),
+                          (seen, all, whole))))))))))
+
+  -- a class file is read exactly where it is spelled
+  pub class_file_exact : Exact read_class_file (Spells class_file (λ _ raw class. (pool : List Entry) × IsClass raw class pool))
+  unfolding read_class_file
+  class_file_exact = as_raw class_file _ raw_of whole_of
+      (λ at w y h. (sym (same_bytes (raw_of w)), (h.2.0, there h.2.0 w y h.2.1 h.2.2)))
+      (λ at raw y h. (same_bytes raw, (tt, tt, (h.0, h.1.constant_pool, back h.0 raw y h.1))))
+      (bind_exact_of (λ head. bind read_pool (λ pool. reads_flags pool)) (λ (v : (ℕ × List CpInfo) × Items). pool_bytes v.0 ++ items_bytes v.1)
+      (λ u _ v y. (pool : List Entry) × IsPool v.0.0 v.0.1 pool × FromFlags pool v.1 y) head_exact
+      (λ _ u x _. bind_exact_of (λ pool. reads_flags pool) items_bytes (λ pool _ v y. FromFlags pool v y) pool_exact
+      (λ _ w pool is. flags_then pool (pool_units w.0 w.1 pool is) (pool_names w.0 w.1 pool is))))
