@@ -322,3 +322,42 @@ module _ (codes_exact : (pool : List Entry) → HaveUnits pool → AllNameRight 
       (λ u _ v y. (pool : List Entry) × IsPool v.0.0 v.0.1 pool × FromFlags pool v.1 y) head_exact
       (λ _ u x _. bind_exact_of (λ pool. reads_flags pool) items_bytes (λ pool _ v y. FromFlags pool v y) pool_exact
       (λ _ w pool is. flags_then pool (pool_units w.0 w.1 pool is) (pool_names w.0 w.1 pool is))))
+
+  -- past a test that accepts
+  guard_ended : {A X : Type 0} (b : Bool) (d : X) (x y : A) → cond b (Ok x) (Err d) ≡ Ok y → (b ≡ true) × (x ≡ y)
+  guard_ended true d x y e = (refl, cc)
+  guard_ended false d x y e = absurd cc
+
+  -- what was read to the end
+  was_whole : (r : Result (Class × Place) FormatFault) (c : Class) → all_read r ≡ Ok c → (q : Place) × (r ≡ Ok (c, q)) × (q.at ≡ length q.bytes)
+  was_whole (Ok y) c h =
+      let g = guard_ended (eqb y.1.at (length y.1.bytes)) (fault y.1.at bad.Trailing) y.0 c h in
+      (y.1, ap (λ (v : Class). let R : Result (Class × Place) FormatFault = Ok (v, y.1) in R) g.1, eqb-true _ _ g.0)
+  was_whole (Err f) c h = absurd cc
+
+  -- what is read as a class spells it
+  pub class_read-found : (bytes : List ℕ) (c : Class) → IsBytes bytes → class_read bytes ≡ Ok c → File bytes c
+  unfolding class_read
+  class_read-found bytes c fits h =
+      let o = was_whole (read_class_file (start bytes)) c h in
+      let f = class_file_exact.found (start bytes) c o.0 fits o.1 in
+      let none : left o.0 ≡ [] = nil_from_length (left o.0) (omega (arith, length-drop o.0.at o.0.bytes, o.2)) in
+      let all : bytes ≡ f.0 = f.2.parts ∙ ap (λ (u : List ℕ). f.0 ++ u) none ∙ append-nil f.0 in
+      (f.1.0, all ∙ f.1.1, f.1.2.0, f.1.2.1)
+
+  -- what spells a class is read as it
+  pub class_read-only : (bytes : List ℕ) (c : Class) → File bytes c → class_read bytes ≡ Ok c
+  unfolding class_read
+  class_read-only bytes c h =
+      let q : Place = after (length bytes) (start bytes) in
+      let none : left q ≡ [] = drop_all (0 + length bytes) bytes (omega arith) in
+      let t : Takes (start bytes) bytes q = record { parts = sym (append-nil bytes) ∙ ap (λ (u : List ℕ). bytes ++ u) (sym none); moved = refl } in
+      let end : eqb (0 + length bytes) (length bytes) ≡ true = eq-eqb _ _ (omega arith) in
+      rw (class_file_exact.only (start bytes) bytes c q (h.0, h.1, (h.2, h.3)) t, end) refl
+
+  ok_class : (x y : Class) → (let R : Result Class FormatFault = Ok x in R) ≡ Ok y → x ≡ y
+  ok_class x y h = cc
+
+  -- bytes spell one class at most
+  pub one_class : (bytes : List ℕ) (one other : Class) → File bytes one → File bytes other → one ≡ other
+  one_class bytes one other h k = ok_class one other (sym (class_read-only bytes one h) ∙ class_read-only bytes other k)
