@@ -28,3 +28,4 @@ pub mod BackPlaces
 pub mod NameLaw
 pub mod LookupLaw
 pub mod InstructionOnly
+pub mod OperandLaw
