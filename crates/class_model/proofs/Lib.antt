@@ -29,3 +29,4 @@ pub mod NameLaw
 pub mod LookupLaw
 pub mod InstructionOnly
 pub mod OperandLaw
+pub mod SwitchLaw
