@@ -210,7 +210,7 @@ leaves : (pool : List Entry) (c index : ℕ) (meaning : Option Op) (info : Info)
 leaves pool c index meaning info h = rw h refl
 
 -- ldc_w or ldc2_w
-wide_load : (c : ℕ) → (eqb c 0x13 || eqb c 0x14) ≡ true → (c ≡ 0x13) ⊎ (c ≡ 0x14)
+pub wide_load : (c : ℕ) → (eqb c 0x13 || eqb c 0x14) ≡ true → (c ≡ 0x13) ⊎ (c ≡ 0x14)
 wide_load c h = by (eqb c 0x13) refl h
   where
     by : (b : Bool) → eqb c 0x13 ≡ b → (b || eqb c 0x14) ≡ true → (c ≡ 0x13) ⊎ (c ≡ 0x14)

@@ -30,3 +30,4 @@ pub mod LookupLaw
 pub mod InstructionOnly
 pub mod OperandLaw
 pub mod SwitchLaw
+pub mod MeaningLaw

@@ -41,7 +41,8 @@ pub due_is : {A : Type 0} (kind : FormatKind) (o : Option A) (x : A) → due kin
 due_is kind (Some y) x h = let e : y ≡ x = cc in ap (λ v. Some v) e
 due_is kind None x h = absurd cc
 
-then_ok : {A B X : Type 0} (r : Result A X) (f : A → Result B X) (y : B) → (r >>= f) ≡ Ok y → (x : A) × (r ≡ Ok x) × (f x ≡ Ok y)
+-- a step that did not fail
+pub then_ok : {A B X : Type 0} (r : Result A X) (f : A → Result B X) (y : B) → (r >>= f) ≡ Ok y → (x : A) × (r ≡ Ok x) × (f x ≡ Ok y)
 then_ok (Ok x) f y h = (x, refl, h)
 then_ok (Err e) f y h = absurd cc
 

@@ -55,6 +55,11 @@ all_at P [] h j d lt = absurd (omega (arith, lt))
 all_at P (x ∷ xs) h zero d lt = h.0
 all_at P (x ∷ xs) h (suc j) d lt = all_at P xs h.1 j d (omega (arith, lt))
 
+-- before the first key any may stand
+pub all_free : (cases : List Case) → AllByRecursion (λ (c : Case). Unit {0}) cases
+all_free [] = tt
+all_free (case ∷ cases) = (tt, all_free cases)
+
 module _ (Leads : ℤ → ℕ → Type 0) (at : ℕ) where
   -- greater than the key before, if there is one
   abbrev Above : Option ℕ → ℤ → Type 0
