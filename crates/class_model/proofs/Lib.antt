@@ -31,3 +31,4 @@ pub mod InstructionOnly
 pub mod OperandLaw
 pub mod SwitchLaw
 pub mod MeaningLaw
+pub mod UntilLaw
