@@ -128,7 +128,7 @@ plain_small c h = small_if c (is_some (plain_op c)) (λ le. ap is_some (none_alo
 left_local_small : (c : ℕ) → is_left_out_local c ≡ true → c < 256
 left_local_small c h = small_if c (is_left_out_local c) (λ le. grind (arith, nat_tests)) h
 
-none_small : (c : ℕ) → (eqb c 0xBA || is_left_out_opcode c) ≡ true → c < 256
+pub none_small : (c : ℕ) → (eqb c 0xBA || is_left_out_opcode c) ≡ true → c < 256
 none_small c h = small_if c (eqb c 0xBA || is_left_out_opcode c) (λ le. grind (arith, nat_tests)) h
 
 local_form : (c : ℕ) → is_some (local_op c) ≡ true → form_of c ≡ OfLocal

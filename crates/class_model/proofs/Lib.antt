@@ -32,3 +32,5 @@ pub mod OperandLaw
 pub mod SwitchLaw
 pub mod MeaningLaw
 pub mod UntilLaw
+pub mod CodeLaw
+pub mod LeftOutLaw
