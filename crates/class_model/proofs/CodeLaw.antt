@@ -1,43 +1,30 @@
 -- The instructions of a code are read exactly where its bytes stand for them (JVMS 4.7.3, 4.9.1).
-use Rattle.std.proofs.Common.{◌≡◌, ◌⊎◌, inl, inr, ℕ, zero, suc, ◌+◌, ◌-◌, ◌^◌, ◌<◌, ◌≤◌, Bool, true, false, not, ◌||◌, cond, eqb, List, [], ◌∷◌, ◌++◌, length, map, Option, Some, None, Result, Ok, Err, ℤ, pos, negsuc, refl, sym, ap, subst, ◌∙◌, arith, ne_eqb}
-use Rattle.std.specs.Prelude.{is_some, slice_get, option_map, nat_eq, position, IsTrue}
-use Rattle.std.specs.Int.{w16, w32, to_be_bytes, cast_signed}
+use Rattle.std.proofs.Common.{◌≡◌, ℕ, zero, suc, ◌+◌, ◌≤◌, Bool, true, false, cond, eqb, List, [], ◌∷◌, length, map, Some, Result, Ok, Err, ℤ, pos, negsuc, refl, sym, ap, subst, ◌∙◌, arith, ne_eqb}
+use Rattle.std.specs.Prelude.{slice_get, nat_eq, position}
 use Rattle.std.specs.List.{flat_map, position_from}
 use Rattle.std.proofs.lemmas.Bool.{eqb-true, eq-eqb}
 use Rattle.std.proofs.lemmas.Iterator.Adapters.{position_from-zero}
-use Rattle.jv_base.specs.Outcome.{◌>>=◌}
-use Rattle.format_reading.specs.Reader.{Reader, part}
-use Rattle.format_reading.specs.Spelling.{Spells, AllStand}
+use Rattle.format_reading.specs.Spelling.{AllStand}
 use Rattle.format_reading.specs.declared.fault.FormatFault.{FormatFault}
 use Rattle.format_reading.specs.declared.fault.FormatKind.{FormatKind}
 use Rattle.format_reading.specs.declared.fault.FormatKind.TheVariants as bad
-use Rattle.format_reading.proofs.Exact.{Exact, IsBytes, part_exact}
+use Rattle.format_reading.proofs.Exact.{IsBytes}
 use Rattle.class_model.specs.declared.pool.Entry.{Entry}
-use Rattle.class_model.specs.declared.class.LeftKind.{LeftKind}
-use Rattle.class_model.specs.declared.class.LeftKind.TheVariants as kind
 use Rattle.class_model.specs.declared.code.Ins.{Ins}
-use Rattle.class_model.specs.declared.op.Case.{Case}
 use Rattle.class_model.specs.declared.op.Op.{Op}
-use Rattle.class_model.specs.declared.op.Op.TheVariants as op
-use Rattle.class_model.specs.Between.{between}
-use Rattle.class_model.specs.Opcodes.{plain_op, local_op, branch_op, array_type_of, is_left_out_local, is_left_out_array_type, is_left_out_opcode}
-use Rattle.class_model.specs.Lookups.{due, type_at, interface_methodref_at}
+use Rattle.class_model.specs.Lookups.{due}
 use Rattle.class_model.specs.LineNumbers.{LineNumber, line_at}
-use Rattle.class_model.specs.InstructionStructure.{MatchOffset, Info, Plain, Bipush, Sipush, Ldc, LdcWide, Local, WideLocal, Iinc, WideIinc, Branch, GotoWide, TableSwitch, LookupSwitch, MemberOperand, InvokeInterface, ClassOperand, NewArray, MultiNewArray, info_bytes, starts_from, starts_of}
-use Rattle.class_model.specs.Instructions.{IsOp, Begins, is_left_out_load, IsLeftOutLoad, IsLeftOut, IsReadable, IsLeftOutCode}
-use Rattle.class_model.specs.InstructionMeaning.{op_of, aim_at, made, loaded, loaded_wide, member_op, class_op, all_aimed, cases_aimed}
-use Rattle.class_model.specs.ReadingCode.{CodeRead, instructions, has_left_out, left_out_kind, is_left_out_at, until_end, code_read, op_then, ops_from, ops_of}
+use Rattle.class_model.specs.InstructionStructure.{Info, info_bytes, starts_from, starts_of}
+use Rattle.class_model.specs.Instructions.{IsOp, Begins}
+use Rattle.class_model.specs.InstructionMeaning.{op_of, aim_at}
+use Rattle.class_model.specs.ReadingCode.{CodeRead, instructions, has_left_out, code_read, op_then, ops_from, ops_of}
 use Rattle.class_model.specs.ReadingCodeAttribute.{with_lines}
 use Rattle.class_model.specs.CodeAttribute.{IsIns}
 use Rattle.class_model.proofs.BackSizes.{info_is_there}
 use Rattle.class_model.proofs.NameLaw.{HaveUnits}
 use Rattle.class_model.proofs.LookupLaw.{due_is}
-use Rattle.class_model.proofs.InstructionForms.{all_below, below_at}
-use Rattle.class_model.proofs.InstructionOperands.{as_text}
-use Rattle.class_model.proofs.InstructionRead.{IsRight, LeftInfo, LeftOpcode, LeftLocal, LeftArray, LeftLoad, LeftWideLoad, left_bytes, left_opcode, IsLeft}
-use Rattle.class_model.proofs.InstructionOnly.{none_small, wide_load}
 use Rattle.class_model.proofs.MeaningLaw.{op_right, op_only, op_found}
-use Rattle.class_model.proofs.UntilLaw.{AreRight, IsLeftFrom, IsCodeFrom, IsUntil, until_exact, until_found, until_only, read_code_found, read_code_only}
+use Rattle.class_model.proofs.UntilLaw.{AreRight, IsCodeFrom, read_code_found, read_code_only}
 
 -- ---- one instruction behind the other
 

@@ -1,13 +1,11 @@
 -- A code with an instruction that is left out is read so exactly where its bytes have one (JVMS 4.7.3, 6.5).
-use Rattle.std.proofs.Common.{◌≡◌, ◌⊎◌, inl, inr, ℕ, ◌+◌, ◌-◌, ◌^◌, ◌<◌, ◌≤◌, Bool, true, false, not, ◌||◌, cond, eqb, List, [], ◌∷◌, ◌++◌, length, Option, Some, None, Result, Ok, Err, ℤ, refl, sym, ap, subst, ◌∙◌, arith}
-use Rattle.std.specs.Prelude.{is_some, slice_get, option_map, IsTrue}
+use Rattle.std.proofs.Common.{◌≡◌, inl, inr, ℕ, ◌+◌, ◌-◌, ◌<◌, Bool, true, false, not, ◌||◌, cond, eqb, List, [], ◌∷◌, ◌++◌, length, Option, Some, None, Result, Ok, ℤ, refl, sym, ap, subst, ◌∙◌, arith}
+use Rattle.std.specs.Prelude.{is_some, slice_get, option_map}
 use Rattle.std.specs.Int.{w16, w32, to_be_bytes, cast_signed}
 use Rattle.std.specs.List.{flat_map}
 use Rattle.std.proofs.lemmas.Bool.{eqb-true}
-use Rattle.std.proofs.lemmas.Bool.Decides.{nat_tests}
-use Rattle.format_reading.specs.Reader.{Reader, part}
+use Rattle.format_reading.specs.Reader.{part}
 use Rattle.format_reading.specs.Spelling.{Spells, AllStand}
-use Rattle.format_reading.specs.declared.fault.FormatFault.{FormatFault}
 use Rattle.format_reading.specs.declared.fault.FormatKind.{FormatKind}
 use Rattle.format_reading.specs.declared.fault.FormatKind.TheVariants as bad
 use Rattle.format_reading.proofs.Exact.{Exact, IsBytes, part_exact}
@@ -18,14 +16,14 @@ use Rattle.class_model.specs.declared.op.Case.{Case}
 use Rattle.class_model.specs.declared.op.Op.{Op}
 use Rattle.class_model.specs.declared.op.Op.TheVariants as op
 use Rattle.class_model.specs.Between.{between}
-use Rattle.class_model.specs.Opcodes.{plain_op, local_op, branch_op, array_type_of, is_left_out_local, is_left_out_array_type, is_left_out_opcode}
+use Rattle.class_model.specs.Opcodes.{plain_op, local_op, branch_op, array_type_of, is_left_out_opcode}
 use Rattle.class_model.specs.Lookups.{due, type_at, interface_methodref_at}
 use Rattle.class_model.specs.InstructionStructure.{MatchOffset, Info, Plain, Bipush, Sipush, Ldc, LdcWide, Local, WideLocal, Iinc, WideIinc, Branch, GotoWide, TableSwitch, LookupSwitch, MemberOperand, InvokeInterface, ClassOperand, NewArray, MultiNewArray, info_bytes}
-use Rattle.class_model.specs.Instructions.{branch_target, IsOp, is_left_out_load, IsLeftOutLoad, IsLeftOut, IsReadable, IsLeftOutCode}
+use Rattle.class_model.specs.Instructions.{IsLeftOutLoad, IsLeftOut, IsReadable, IsLeftOutCode}
 use Rattle.class_model.specs.InstructionMeaning.{op_of, loaded, loaded_wide, member_op, class_op, all_aimed, cases_aimed}
-use Rattle.class_model.specs.ReadingCode.{CodeRead, instructions, has_left_out, left_out_kind, is_left_out_at, until_end, code_read}
+use Rattle.class_model.specs.ReadingCode.{CodeRead, has_left_out, left_out_kind, is_left_out_at, until_end, code_read}
 use Rattle.class_model.proofs.NameLaw.{HaveUnits}
-use Rattle.class_model.proofs.InstructionForms.{all_below, below_at}
+use Rattle.class_model.proofs.InstructionForms.{all_below, below_at, implied}
 use Rattle.class_model.proofs.InstructionOperands.{as_text}
 use Rattle.class_model.proofs.InstructionRead.{IsRight, LeftInfo, LeftOpcode, LeftLocal, LeftArray, LeftLoad, LeftWideLoad, left_bytes, left_opcode, IsLeft}
 use Rattle.class_model.proofs.InstructionOnly.{none_small, wide_load}
@@ -99,10 +97,6 @@ load_found pool index h = by (slice_get pool index) refl h
 load_only : (pool : List Entry) (index : ℕ) → IsLeftOutLoad pool index → is_left_out_at (slice_get pool index) ≡ true
 load_only pool index h = ap is_left_out_at h.1 ∙ h.2
 
-implied : (a b : Bool) → cond a b true ≡ true → a ≡ true → b ≡ true
-implied true b h k = h
-implied false b h k = absurd cc
-
 not_true : (b : Bool) → not b ≡ true → b ≡ false
 not_true false h = refl
 not_true true h = absurd cc
@@ -171,17 +165,21 @@ IsLeftAt pool code k = (offset : ℕ) × (opcode : ℕ) × IsCodeFrom pool 0 cod
 
 pub text_only : (pool : List Entry) (code : List ℕ) (k : LeftKind) → IsLeftOutCode pool code k → IsLeftAt pool code k
 text_only pool code k h =
-    let l = left_only pool h.bytes k h.left_out in
-    (length (flat_map info_bytes h.infos), left_opcode l.0, record {
-      infos = h.infos;
-      right = ops_right Free free pool 0 h.infos h.ops h.before;
-      left = l.0;
-      is_left = l.1;
-      opcode_is = refl;
-      offset_is = omega arith;
-      rest = h.rest;
-      is = h.is ∙ ap (λ (t : List ℕ). flat_map info_bytes h.infos ++ (t ++ h.rest)) l.2;
-    }, l.3)
+    let l = left_only pool h.bytes k h.left_out in (
+      length (flat_map info_bytes h.infos),
+      left_opcode l.0,
+      record {
+        infos = h.infos;
+        right = ops_right Free free pool 0 h.infos h.ops h.before;
+        left = l.0;
+        is_left = l.1;
+        opcode_is = refl;
+        offset_is = omega arith;
+        rest = h.rest;
+        is = h.is ∙ ap (λ (t : List ℕ). flat_map info_bytes h.infos ++ (t ++ h.rest)) l.2;
+      },
+      l.3,
+    )
 
 -- what is read of a code in which an instruction is left out
 pub left_code_found : (pool : List Entry) (code : List ℕ) (offset opcode : ℕ) → IsBytes code → HaveUnits pool → code_read pool code ≡ Ok (has_left_out offset opcode) → IsLeftOutCode pool code (left_out_kind opcode)

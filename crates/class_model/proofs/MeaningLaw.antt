@@ -1,8 +1,7 @@
 -- The meaning of an instruction is computed exactly where its bytes stand for the instruction.
-use Rattle.std.proofs.Common.{◌≡◌, ◌⊎◌, inl, inr, ℕ, ◌+◌, ◌^◌, ◌<◌, ◌≤◌, Bool, true, false, ◌&&◌, ◌||◌, cond, eqb, ltb, leb, List, [], ◌∷◌, length, Option, Some, None, Result, Ok, Err, ℤ, pos, refl, sym, ap, subst, ◌∙◌, arith}
-use Rattle.std.specs.Prelude.{is_some, slice_get, option_map, option_and_then, nat_lt, nat_le}
-use Rattle.std.specs.Int.{w8, w16, w32, cast_signed}
-use Rattle.std.specs.List.{AllByRecursion, AllZip}
+use Rattle.std.proofs.Common.{◌≡◌, inl, inr, ℕ, ◌+◌, ◌<◌, ◌≤◌, Bool, true, false, ◌||◌, eqb, List, length, Option, Some, None, Result, Ok, ℤ, refl, sym, ap, ◌∙◌, arith}
+use Rattle.std.specs.Prelude.{is_some, option_map, option_and_then}
+use Rattle.std.specs.Int.{w16, w32, cast_signed}
 use Rattle.std.proofs.lemmas.Bool.{eqb-true, eq-eqb, cases_lt}
 use Rattle.std.proofs.lemmas.Bool.Decides.{nat_tests}
 use Rattle.jv_base.specs.Outcome.{◌>>=◌}
@@ -12,21 +11,19 @@ use Rattle.jv_base.specs.declared.types.MethodType.{MethodType}
 use Rattle.format_reading.specs.declared.fault.FormatKind.{FormatKind}
 use Rattle.format_reading.specs.declared.fault.FormatKind.TheVariants as bad
 use Rattle.class_model.specs.declared.pool.Entry.{Entry}
-use Rattle.class_model.specs.declared.op.Case.{Case}
-use Rattle.class_model.specs.declared.op.MemberRef.{MemberRef}
 use Rattle.class_model.specs.declared.op.Op.{Op}
 use Rattle.class_model.specs.declared.op.Op.TheVariants as op
-use Rattle.class_model.specs.Opcodes.{plain_op, local_op, branch_op, array_type_of, is_left_out_array_type}
+use Rattle.class_model.specs.Opcodes.{plain_op, local_op, branch_op, array_type_of}
 use Rattle.class_model.specs.Lookups.{due, type_at, interface_methodref_at, method_type_of}
 use Rattle.class_model.specs.InstructionStructure.{MatchOffset, Info, Plain, Bipush, Sipush, Ldc, LdcWide, Local, WideLocal, Iinc, WideIinc, Branch, GotoWide, TableSwitch, LookupSwitch, MemberOperand, InvokeInterface, ClassOperand, NewArray, MultiNewArray}
-use Rattle.class_model.specs.Instructions.{branch_target, Makes, Leads4, IsCase, IsTableSwitch, IsLookupSwitch, IsInvokeInterface, IsMultiNewArray, IsOp}
+use Rattle.class_model.specs.Instructions.{branch_target, IsTableSwitch, IsLookupSwitch, IsOp}
 use Rattle.class_model.specs.InstructionMeaning.{made, loaded, loaded_wide, member_op, class_op, aimed, all_aimed, cases_aimed, count_of, op_of}
-use Rattle.class_model.specs.ReadingCode.{table_length, is_count, count_at, are_dimensions}
+use Rattle.class_model.specs.ReadingCode.{is_count, count_at, are_dimensions}
 use Rattle.class_model.proofs.NameLaw.{HaveUnits}
 use Rattle.class_model.proofs.LookupLaw.{mapped, due_is, then_ok, type_found, type_only, method_found, method_only}
 use Rattle.class_model.proofs.OperandLaw.{loaded_found, loaded_only, wide_found, wide_only, member_found, member_only, interface_found, interface_only, class_op_found, class_op_only}
 use Rattle.class_model.proofs.SwitchLaw.{le_found, le_only, count_found, count_only, ascending_found, ascending_only, offsets_fit, targets_found, targets_only, cases_found, cases_only, all_free}
-use Rattle.class_model.proofs.InstructionOperands.{IsTable, IsLookup, IsInterface, IsArrays, Ascending}
+use Rattle.class_model.proofs.InstructionOperands.{IsTable, IsLookup}
 use Rattle.class_model.proofs.InstructionRead.{IsRight}
 use Rattle.class_model.proofs.InstructionOnly.{wide_load}
 

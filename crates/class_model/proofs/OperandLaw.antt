@@ -1,7 +1,7 @@
 -- What an operand means is found exactly where it means it: constants that are loaded, members, classes (JVMS 6.5).
-use Rattle.std.proofs.Common.{◌≡◌, ◌⊎◌, inl, inr, ℕ, ◌^◌, ◌<◌, ◌≤◌, Bool, true, false, cond, not, eqb, List, Option, Some, None, Result, Ok, Err, refl, sym, ap, subst, ◌∙◌, arith}
+use Rattle.std.proofs.Common.{◌≡◌, ◌⊎◌, inl, inr, ℕ, ◌^◌, ◌<◌, Bool, true, false, cond, eqb, List, Option, Some, None, refl, sym, ap, ◌∙◌, arith}
 use Rattle.std.specs.Prelude.{ℤ, slice_get, is_some, option_and_then, option_map, nat_le}
-use Rattle.std.proofs.lemmas.Bool.{eqb-true, eq-eqb, cases_lt}
+use Rattle.std.proofs.lemmas.Bool.{eqb-true, eq-eqb}
 use Rattle.std.proofs.lemmas.Bool.Decides.{nat_tests}
 use Rattle.jv_base.specs.declared.types.FieldType.{FieldType}
 use Rattle.class_model.specs.declared.pool.Entry.{Entry}
@@ -10,7 +10,7 @@ use Rattle.class_model.specs.declared.op.MemberRef.{MemberRef}
 use Rattle.class_model.specs.declared.op.Op.{Op}
 use Rattle.class_model.specs.declared.op.Op.TheVariants as op
 use Rattle.class_model.specs.Pool.{units_at}
-use Rattle.class_model.specs.ConstantPool.{string_index_in, string_units_at, fieldref_in, methodref_in, interface_methodref_in, IsReferenceAt, IsFieldrefAt, IsMethodrefAt, IsInterfaceMethodrefAt}
+use Rattle.class_model.specs.ConstantPool.{string_index_in, string_units_at, fieldref_in, methodref_in, interface_methodref_in, IsFieldrefAt, IsMethodrefAt, IsInterfaceMethodrefAt}
 use Rattle.class_model.specs.Opcodes.{field_op, method_op, type_op, takes_interface_method}
 use Rattle.class_model.specs.Lookups.{value_of, class_at, type_at, fieldref_at, methodref_at, interface_methodref_at}
 use Rattle.class_model.specs.Instructions.{Makes, IsLoaded, IsLoadedLong, IsMember, IsOfType, IsElementOf}

@@ -1,8 +1,8 @@
 -- The counts, keys and targets of switches, as numbers with a sign and as they are tested.
-use Rattle.std.proofs.Common.{◌≡◌, ◌⊎◌, inl, inr, ℕ, zero, suc, ◌+◌, ◌^◌, ◌<◌, ◌≤◌, Bool, true, false, List, [], ◌∷◌, length, Option, Some, None, Result, Ok, Err, ℤ, pos, negsuc, ◌+ℤ◌, ◌-ℤ◌, ◌<ℤ◌, ◌≤ℤ◌, refl, sym, ap, subst, ◌∙◌, arith}
+use Rattle.std.proofs.Common.{◌≡◌, ℕ, zero, suc, ◌+◌, ◌<◌, true, List, [], ◌∷◌, length, Option, Some, None, Result, Ok, Err, ℤ, pos, negsuc, ◌+ℤ◌, ◌-ℤ◌, ◌<ℤ◌, ◌≤ℤ◌, refl, sym, ap, subst, arith}
 use Rattle.std.specs.Prelude.{int_lt, int_le, unsigned_abs, AllPairs}
 use Rattle.std.specs.Int.{w32, cast_signed}
-use Rattle.std.specs.List.{All, AllByRecursion, AllZip, slice_index_or}
+use Rattle.std.specs.List.{AllByRecursion, AllZip, slice_index_or}
 use Rattle.std.proofs.lemmas.Int.{ints}
 use Rattle.std.proofs.lemmas.List.Kept.{AllPairs-cons}
 use Rattle.jv_base.specs.Outcome.{◌>>=◌}
@@ -11,7 +11,7 @@ use Rattle.class_model.specs.declared.op.Case.{Case}
 use Rattle.class_model.specs.InstructionStructure.{MatchOffset}
 use Rattle.class_model.specs.Instructions.{branch_target, Leads4, IsCase}
 use Rattle.class_model.specs.InstructionMeaning.{aimed, all_aimed, cases_aimed}
-use Rattle.class_model.specs.ReadingCode.{ascends, table_length}
+use Rattle.class_model.specs.ReadingCode.{ascends}
 use Rattle.class_model.proofs.InstructionOperands.{below_32, Ascending}
 
 -- ---- numbers with a sign
@@ -73,11 +73,14 @@ module _ (Leads : ℤ → ℕ → Type 0) (at : ℕ) where
   pub ascending_only : (previous : Option ℕ) (pairs : List MatchOffset) (cases : List Case) → AllZip (IsCase Leads at) pairs cases → AllByRecursion (λ (c : Case). Above previous c.key) cases → AllPairs KeysAscend cases → Ascending previous pairs
   ascending_only previous [] cases z above pairs_ascend = tt
   ascending_only previous (pair ∷ pairs) [] z above pairs_ascend = absurd z
-  ascending_only previous (pair ∷ pairs) (case ∷ cases) z above pairs_ascend =
-      (z.0.key_fits, ascends_only previous pair.key (subst (λ (k : ℤ). Above previous k) z.0.key above.0), z.0.leads.0,
-      ascending_only (Some pair.key) pairs cases z.1
-      (all_rec (λ (c : Case). cast_signed w32 pair.key <ℤ c.key) cases (λ j d lt. subst (λ (k : ℤ). k <ℤ (slice_index_or cases j d).key) z.0.key (pairs_ascend 0 (suc j) d (omega arith) (omega (arith, lt)))))
-      (λ i j d lt within. pairs_ascend (suc i) (suc j) d (omega (arith, lt)) (omega (arith, within))))
+  ascending_only previous (pair ∷ pairs) (case ∷ cases) z above pairs_ascend = (
+    z.0.key_fits,
+    ascends_only previous pair.key (subst (λ (k : ℤ). Above previous k) z.0.key above.0),
+    z.0.leads.0,
+    ascending_only (Some pair.key) pairs cases z.1
+        (all_rec (λ (c : Case). cast_signed w32 pair.key <ℤ c.key) cases (λ j d lt. subst (λ (k : ℤ). k <ℤ (slice_index_or cases j d).key) z.0.key (pairs_ascend 0 (suc j) d (omega arith) (omega (arith, lt)))))
+        (λ i j d lt within. pairs_ascend (suc i) (suc j) d (omega (arith, lt)) (omega (arith, within))),
+  )
 
   -- each later key is above
   later : (previous : ℕ) (k : ℤ) (pairs : List MatchOffset) (cases : List Case) → k ≤ℤ cast_signed w32 previous → AllZip (IsCase Leads at) pairs cases → Ascending (Some previous) pairs → AllByRecursion (λ (c : Case). k <ℤ c.key) cases

@@ -2,16 +2,15 @@
 use Rattle.std.proofs.Common.{◌≡◌, ◌⊎◌, inl, inr, ℕ, zero, suc, ◌+◌, ◌-◌, ◌<◌, ◌≤◌, Bool, true, false, cond, List, [], ◌∷◌, ◌++◌, length, Result, Ok, Err, refl, sym, ap, subst, ◌∙◌, append_assoc, arith}
 use Rattle.std.specs.Prelude.{nat_le}
 use Rattle.std.specs.List.{flat_map}
-use Rattle.std.proofs.lemmas.Bool.{cases_lt}
 use Rattle.std.proofs.lemmas.Bool.Decides.{nat_tests}
-use Rattle.std.proofs.lemmas.List.{append-nil, length-append, length-drop, nil_from_length, drop_all}
+use Rattle.std.proofs.lemmas.List.{append-nil, length-append, nil_from_length, drop_all}
 use Rattle.jv_base.specs.Place.{Place, start, after}
 use Rattle.format_reading.specs.Reader.{Reader, bind, give, here, bytes}
 use Rattle.format_reading.specs.Spelling.{Spells}
 use Rattle.format_reading.specs.declared.fault.FormatFault.{FormatFault}
-use Rattle.format_reading.proofs.Exact.{Exact, Takes, IsBytes, Both, left, nothing, as_raw, bind_exact, map_exact, give_exact, here_exact, bytes_exact}
+use Rattle.format_reading.proofs.Exact.{Exact, Takes, IsBytes, Both, left, as_raw, bind_exact, map_exact, give_exact, here_exact, bytes_exact}
 use Rattle.class_model.specs.declared.pool.Entry.{Entry}
-use Rattle.class_model.specs.InstructionStructure.{Info, Plain, Bipush, Sipush, Ldc, LdcWide, Local, WideLocal, Iinc, WideIinc, Branch, GotoWide, TableSwitch, LookupSwitch, MemberOperand, InvokeInterface, ClassOperand, NewArray, MultiNewArray, info_bytes}
+use Rattle.class_model.specs.InstructionStructure.{Info, info_bytes}
 use Rattle.class_model.specs.ReadingCode.{Read, instruction, left_out, CodeRead, instructions, has_left_out, in_front, goes_on, read_instruction, until_end, without_place, code_read}
 use Rattle.class_model.proofs.BackSizes.{info_is_there}
 use Rattle.class_model.proofs.InstructionOperands.{as_text}
@@ -70,13 +69,17 @@ until_more n pool from end e = record {
   where
     first : Reader CodeRead
     first = give (instructions [])
+
     more : ℕ → Reader CodeRead
     more offset = bind (read_instruction pool from) (goes_on (until_end n pool from end) offset end)
+
     exact : (offset : ℕ) → Exact (more offset) (OneMore pool from end offset (IsUntil n pool from end))
     exact offset = more_exact pool from end offset (until_end n pool from end) (IsUntil n pool from end) e
+
     by : (p : Place) (x : CodeRead) (q : Place) → IsBytes p.bytes → (b : Bool) → nat_le end p.at ≡ b → cond b first (more (p.at - from)) p ≡ Ok (x, q) → (text : List ℕ) × IsUntil (suc n) pool from end p.at text x × Takes p text q
     by p x q fits true e h = let o = (give_exact (instructions [])).found p x q fits h in (o.0, inl (e, o.1.1, o.1.2), o.2)
     by p x q fits false e h = let o = (exact (p.at - from)).found p x q fits h in (o.0, inr (e, o.1), o.2)
+
     back : (p : Place) (text : List ℕ) (x : CodeRead) (q : Place) → Takes p text q → IsUntil (suc n) pool from end p.at text x → cond (nat_le end p.at) first (more (p.at - from)) p ≡ Ok (x, q)
     back p text x q k (inl h) = chosen (nat_le end p.at) true first (more (p.at - from)) p h.0 ∙ (give_exact (instructions [])).only p text x q (tt, h.1, h.2) k
     back p text x q k (inr h) = chosen (nat_le end p.at) false first (more (p.at - from)) p h.0 ∙ (exact (p.at - from)).only p text x q h.1 k
@@ -128,7 +131,7 @@ one_more pool at first others info (has_left_out offset opcode) e right h = reco
 }
 
 -- what was read of an instruction that is not left out
-kept_is : (pool : List Entry) (at : ℕ) (text : List ℕ) (info : Info) → IsRead pool at text (instruction info) → (text ≡ info_bytes info) × IsRight pool at info
+pub kept_is : (pool : List Entry) (at : ℕ) (text : List ℕ) (info : Info) → IsRead pool at text (instruction info) → (text ≡ info_bytes info) × IsRight pool at info
 kept_is pool at text info (inl h) = let e : info ≡ h.0 = cc in (h.2 ∙ ap info_bytes (sym e), subst (λ (i : Info). IsRight pool at i) (sym e) h.3)
 kept_is pool at text info (inr h) = let e : instruction info ≡ left_out (left_opcode h.0) = h.1 in absurd cc
 
@@ -209,8 +212,18 @@ left_only zero pool from end offset opcode left rest infos at text is-left opcod
 left_only (suc n) pool from end offset opcode left rest [] at text is-left opcode-is low whole enough is right offset-is =
     let sum : length text ≡ length (left_bytes left) + length rest = ap length is ∙ length-append (left_bytes left) rest in
     let some = left_is_there left in
-    inr (not_ended end at (omega (arith, whole, sum, some)), ((left_bytes left, rest), is, (left_out opcode, inr (left, ap (λ (c : ℕ). left_out c) opcode-is, refl, is-left),
-    (omega (arith, whole, sum), ap (λ (o : ℕ). has_left_out o opcode) (let e : offset ≡ at - from = omega (arith, offset-is) in e)))))
+    inr (
+      not_ended end at (omega (arith, whole, sum, some)),
+      (
+        (left_bytes left, rest),
+        is,
+        (
+          left_out opcode,
+          inr (left, ap (λ (c : ℕ). left_out c) opcode-is, refl, is-left),
+          (omega (arith, whole, sum), ap (λ (o : ℕ). has_left_out o opcode) (let e : offset ≡ at - from = omega (arith, offset-is) in e)),
+        ),
+      ),
+    )
 left_only (suc n) pool from end offset opcode left rest (info ∷ infos) at text is-left opcode-is low whole enough is right offset-is =
     let tail : List ℕ = flat_map info_bytes infos ++ (left_bytes left ++ rest) in
     let parts : text ≡ info_bytes info ++ tail = is ∙ append_assoc (info_bytes info) (flat_map info_bytes infos) (left_bytes left ++ rest) in
@@ -218,7 +231,7 @@ left_only (suc n) pool from end offset opcode left rest (info ∷ infos) at text
     let some = info_is_there info in
     let same : (at - from) + length (info_bytes info) ≡ (at + length (info_bytes info)) - from = omega (arith, low) in
     let others = left_only n pool from end offset opcode left rest infos (at + length (info_bytes info)) tail is-left opcode-is (omega (arith, low)) (omega (arith, whole, sum)) (omega (arith, enough, sum, some)) refl
-        (subst (λ (o : ℕ). AreRight pool o infos) same right.1) (omega (arith, offset-is, length-append (info_bytes info) (flat_map info_bytes infos), same)) in
+    (subst (λ (o : ℕ). AreRight pool o infos) same right.1) (omega (arith, offset-is, length-append (info_bytes info) (flat_map info_bytes infos), same)) in
     inr (not_ended end at (omega (arith, whole, sum, some)), ((info_bytes info, tail), parts, (instruction info, inl (info, refl, refl, right.0), (has_left_out offset opcode, others, refl))))
 
 pub until_only : (n : ℕ) (pool : List Entry) (from end at : ℕ) (text : List ℕ) (x : CodeRead) → from ≤ at → at + length text ≡ end → length text ≤ n → IsCodeFrom pool (at - from) text x → IsUntil n pool from end at text x

@@ -1,4 +1,3 @@
-mod Units
 mod Loops
 mod Begun
 mod Placed
