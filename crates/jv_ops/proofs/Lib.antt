@@ -7,3 +7,4 @@ mod Numbers
 pub mod ReadMeant
 pub mod ReadToEnd
 pub mod ReadWhole
+pub mod ReadGrammar
