@@ -45,7 +45,7 @@ below_at (suc n) test c lt h =
     at_or_below n test c (eqb c n) refl lt both.0 (λ less. below_at n test c less both.1)
 
 -- a test that follows from another
-implied : (a b : Bool) → cond a b true ≡ true → a ≡ true → b ≡ true
+pub implied : (a b : Bool) → cond a b true ≡ true → a ≡ true → b ≡ true
 implied true b h k = h
 implied false b h k = absurd cc
 

@@ -1,12 +1,11 @@
 -- An instruction that is right, or one that is left out, is read where it stands.
-use Rattle.std.proofs.Common.{◌≡◌, ◌⊎◌, inl, inr, ℕ, ◌+◌, ◌-◌, ◌^◌, ◌<◌, ◌≤◌, Bool, true, false, cond, eqb, ◌||◌, List, [], ◌∷◌, ◌++◌, length, Option, Some, None, Result, Ok, Err, refl, sym, ap, subst, ◌∙◌, arith}
+use Rattle.std.proofs.Common.{◌≡◌, ◌⊎◌, inl, inr, ℕ, ◌+◌, ◌-◌, ◌<◌, ◌≤◌, Bool, true, false, cond, eqb, ◌||◌, List, [], ◌∷◌, ◌++◌, length, Option, Some, None, Ok, refl, sym, ap, subst, ◌∙◌, arith}
 use Rattle.std.specs.Prelude.{is_some, slice_get, option_map, option_and_then, nat_le}
 use Rattle.std.specs.Int.{w8, w16, w32, to_be_bytes}
 use Rattle.std.proofs.lemmas.Bool.{eqb-true, cases_lt}
 use Rattle.std.proofs.lemmas.Bool.Decides.{nat_tests}
 use Rattle.jv_base.specs.Place.{Place}
 use Rattle.jv_base.specs.declared.types.FieldType.{FieldType}
-use Rattle.format_reading.specs.Reader.{u1, lead}
 use Rattle.format_reading.specs.Spelling.{Spells}
 use Rattle.format_reading.proofs.Exact.{Exact, Takes, Both, Below}
 use Rattle.class_model.specs.declared.pool.Entry.{Entry}
@@ -18,8 +17,8 @@ use Rattle.class_model.specs.Opcodes.{plain_op, ending_op, local_op, branch_op, 
 use Rattle.class_model.specs.Lookups.{value_of, class_at, type_at}
 use Rattle.class_model.specs.InstructionStructure.{Info, Plain, Bipush, Sipush, Ldc, LdcWide, Local, WideLocal, Iinc, WideIinc, Branch, GotoWide, TableSwitch, LookupSwitch, MemberOperand, InvokeInterface, ClassOperand, NewArray, MultiNewArray, info_bytes}
 use Rattle.class_model.specs.InstructionMeaning.{loaded, loaded_wide, member_op, member_made, class_op, can_be_operand, of_type}
-use Rattle.class_model.specs.ReadingCode.{Read, instruction, left_out, if_meant, is_left_out_at, load_read, array_type_read, begun, at_instruction, read_instruction, is_member_opcode, is_class_opcode}
-use Rattle.class_model.proofs.InstructionForms.{Form, Alone, OfByte, OfShort, OfLoad, OfWideLoad, OfLocal, OfIinc, OfWide, OfBranch, OfWideGoto, OfTable, OfLookup, OfMember, OfInterface, OfClass, OfArray, OfArrays, OfNone, NoForm, form_of, all_below, below_at, WideForm, WideOfIinc, WideOfNone, WideOfLocal, NoWideForm, wide_form_of}
+use Rattle.class_model.specs.ReadingCode.{Read, instruction, left_out, is_left_out_at, load_read, at_instruction, read_instruction, is_member_opcode, is_class_opcode}
+use Rattle.class_model.proofs.InstructionForms.{Form, Alone, OfByte, OfShort, OfLoad, OfWideLoad, OfLocal, OfIinc, OfWide, OfBranch, OfWideGoto, OfTable, OfLookup, OfMember, OfInterface, OfClass, OfArray, OfArrays, OfNone, form_of, all_below, below_at, implied, WideForm, WideOfIinc, WideOfNone, WideOfLocal, wide_form_of}
 use Rattle.class_model.proofs.InstructionOperands.{Operands, WideOperands, BehindOpcode, opcode_bytes, opcode_exact, is_meant}
 use Rattle.class_model.proofs.InstructionRead.{IsRight, LeftInfo, LeftOpcode, LeftLocal, LeftArray, LeftLoad, LeftWideLoad, left_bytes, left_opcode, IsLeft, IsRead, byte_is, head_is, read_found}
 
@@ -82,11 +81,6 @@ wide_local_is : (f : WideForm) → is_wide_local f ≡ true → f ≡ WideOfLoca
 wide_local_is WideOfLocal h = refl
 wide_local_is _ h = absurd cc
 
--- a test that follows from another
-implied : (a b : Bool) → cond a b true ≡ true → a ≡ true → b ≡ true
-implied true b h k = h
-implied false b h k = absurd cc
-
 -- a test that a number passes only below 256
 small_if : (c : ℕ) (test : Bool) → (256 ≤ c → test ≡ false) → test ≡ true → c < 256
 small_if c test above h = elim (cases_lt c 256) [ inl lt ↦ lt | inr le ↦ absurd (let e : test ≡ false = above le in cc) ]
@@ -128,7 +122,7 @@ plain_small c h = small_if c (is_some (plain_op c)) (λ le. ap is_some (none_alo
 left_local_small : (c : ℕ) → is_left_out_local c ≡ true → c < 256
 left_local_small c h = small_if c (is_left_out_local c) (λ le. grind (arith, nat_tests)) h
 
-none_small : (c : ℕ) → (eqb c 0xBA || is_left_out_opcode c) ≡ true → c < 256
+pub none_small : (c : ℕ) → (eqb c 0xBA || is_left_out_opcode c) ≡ true → c < 256
 none_small c h = small_if c (eqb c 0xBA || is_left_out_opcode c) (λ le. grind (arith, nat_tests)) h
 
 local_form : (c : ℕ) → is_some (local_op c) ≡ true → form_of c ≡ OfLocal
@@ -182,6 +176,7 @@ class_opcode c pool index h = by (eqb c 0xBB) (type_at pool index) h
     made true (Some make) ty h = refl
     made true None ty h = absurd cc
     made false t ty h = absurd cc
+
     by : (b : Bool) (ty : Option FieldType) → is_some (cond b (option_map (λ name. op.New name) (value_of (class_at pool index))) (option_and_then (of_type c) ty)) ≡ true → (b || is_some (type_op c)) ≡ true
     by true ty h = refl
     by false (Some ty) h = made (can_be_operand c ty) (type_op c) ty h
@@ -210,7 +205,7 @@ leaves : (pool : List Entry) (c index : ℕ) (meaning : Option Op) (info : Info)
 leaves pool c index meaning info h = rw h refl
 
 -- ldc_w or ldc2_w
-wide_load : (c : ℕ) → (eqb c 0x13 || eqb c 0x14) ≡ true → (c ≡ 0x13) ⊎ (c ≡ 0x14)
+pub wide_load : (c : ℕ) → (eqb c 0x13 || eqb c 0x14) ≡ true → (c ≡ 0x13) ⊎ (c ≡ 0x14)
 wide_load c h = by (eqb c 0x13) refl h
   where
     by : (b : Bool) → eqb c 0x13 ≡ b → (b || eqb c 0x14) ≡ true → (c ≡ 0x13) ⊎ (c ≡ 0x14)

@@ -39,3 +39,9 @@ pub mod FieldInfoLaw
 pub mod MethodAttributeLaw
 pub mod MethodInfoLaw
 pub mod ClassFileLaw
+pub mod OperandLaw
+pub mod SwitchLaw
+pub mod MeaningLaw
+pub mod UntilLaw
+pub mod CodeLaw
+pub mod LeftOutLaw

@@ -1,12 +1,11 @@
 -- What an index of the pool leads to is found exactly where it is there: types, classes and references (JVMS 4.4.1, 4.4.2).
-use Rattle.std.proofs.Common.{◌≡◌, ◌⊎◌, inl, inr, ℕ, suc, ◌-◌, ◌+◌, ◌^◌, ◌<◌, Bool, true, false, cond, not, ◌&&◌, eqb, List, ◌++◌, length, Option, Some, None, Result, Ok, Err, refl, sym, ap, subst, ◌∙◌, arith, IsUtf8}
+use Rattle.std.proofs.Common.{◌≡◌, inl, inr, ℕ, suc, ◌-◌, ◌^◌, ◌<◌, Bool, true, false, cond, not, ◌&&◌, eqb, List, ◌++◌, Option, Some, None, Result, Ok, Err, refl, sym, ap, subst, ◌∙◌, arith}
 use Rattle.std.specs.Prelude.{slice_get, option_and_then, option_map, replicate}
 use Rattle.std.proofs.lemmas.Bool.{eqb-false, ne_eqb}
 use Rattle.jv_base.specs.Outcome.{◌>>=◌}
 use Rattle.jv_base.specs.Mutf8.{IsUnits}
-use Rattle.jv_base.specs.Utf16.{units_of}
 use Rattle.jv_base.specs.Names.{is_class_name, is_name_byte, parts_whole, is_primitive_or_void}
-use Rattle.jv_base.specs.Types.{field_text, base_text, IsFieldType, method_text, IsMethodType, argument_words}
+use Rattle.jv_base.specs.Types.{field_text, base_text, IsFieldType, method_text, IsMethodType}
 use Rattle.jv_base.specs.Descriptors.{read_field, read_method}
 use Rattle.jv_base.specs.declared.types.FieldType.{FieldType}
 use Rattle.jv_base.specs.declared.types.MethodType.{MethodType}
@@ -18,7 +17,7 @@ use Rattle.format_reading.specs.declared.fault.FormatKind.TheVariants as bad
 use Rattle.class_model.specs.declared.pool.Entry.{Entry}
 use Rattle.class_model.specs.declared.op.MemberRef.{MemberRef}
 use Rattle.class_model.specs.Pool.{units_at, class_units_at, name_index_in, IsText}
-use Rattle.class_model.specs.ConstantPool.{name_and_type_at, IsNameAndTypeAt, class_type, IsNameOfType, IsTypeAt, IsReferenceAt}
+use Rattle.class_model.specs.ConstantPool.{name_and_type_at, class_type, IsNameOfType, IsTypeAt, IsReferenceAt}
 use Rattle.class_model.specs.Lookups.{due, test, value_of, text_of, field_type_of, method_type_of, only_array, named_type, class_at, type_at, text_there, reference, reference_of, reference_at}
 use Rattle.class_model.proofs.TextLaw.{text_found}
 use Rattle.class_model.proofs.BackEntries.{text_back}
@@ -41,7 +40,8 @@ pub due_is : {A : Type 0} (kind : FormatKind) (o : Option A) (x : A) → due kin
 due_is kind (Some y) x h = let e : y ≡ x = cc in ap (λ v. Some v) e
 due_is kind None x h = absurd cc
 
-then_ok : {A B X : Type 0} (r : Result A X) (f : A → Result B X) (y : B) → (r >>= f) ≡ Ok y → (x : A) × (r ≡ Ok x) × (f x ≡ Ok y)
+-- a step that did not fail
+pub then_ok : {A B X : Type 0} (r : Result A X) (f : A → Result B X) (y : B) → (r >>= f) ≡ Ok y → (x : A) × (r ≡ Ok x) × (f x ≡ Ok y)
 then_ok (Ok x) f y h = (x, refl, h)
 then_ok (Err e) f y h = absurd cc
 
@@ -161,14 +161,16 @@ pub reference_found : (refers_in : Entry → Option (ℕ × ℕ)) (of_interface 
 reference_found refers_in of_interface pool index r fit small h =
     let a = both_there (λ (two : ℕ × ℕ). option_and_then (reference_of of_interface pool two.0) (name_and_type_at pool two.1)) (option_and_then refers_in (slice_get pool index)) r h in
     let b = both_there (reference_of of_interface pool a.0.0) (name_and_type_at pool a.0.1) r a.2 in
-    let c = reference_is of_interface (type_at pool a.0.0) (text_there pool b.0.0) (text_there pool b.0.1) r b.2 in
-    (record {
-      index_fits = small;
-      indices = a.0;
-      entry = a.1;
-      class = type_found pool a.0.0 r.class fit c.0;
-      name_and_type = record { indices = b.0; entry = b.1; name_text = there_found pool b.0.0 r.name fit c.1; descriptor_text = there_found pool b.0.1 r.ty fit c.2 };
-    }, c.3)
+    let c = reference_is of_interface (type_at pool a.0.0) (text_there pool b.0.0) (text_there pool b.0.1) r b.2 in (
+      record {
+        index_fits = small;
+        indices = a.0;
+        entry = a.1;
+        class = type_found pool a.0.0 r.class fit c.0;
+        name_and_type = record { indices = b.0; entry = b.1; name_text = there_found pool b.0.0 r.name fit c.1; descriptor_text = there_found pool b.0.1 r.ty fit c.2 };
+      },
+      c.3,
+    )
 
 pub reference_only : (refers_in : Entry → Option (ℕ × ℕ)) (of_interface : Bool) (pool : List Entry) (index : ℕ) (r : MemberRef) → IsReferenceAt refers_in pool index r → r.of_interface ≡ of_interface
     → reference_at refers_in of_interface pool index ≡ Some r

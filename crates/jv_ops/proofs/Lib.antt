@@ -1,4 +1,3 @@
-mod Units
 mod Loops
 mod Begun
 mod Placed
@@ -8,3 +7,4 @@ mod Numbers
 pub mod ReadMeant
 pub mod ReadToEnd
 pub mod ReadWhole
+pub mod ReadGrammar

@@ -12,10 +12,12 @@ use Rattle.format_reading.specs.declared.fault.FormatKind.{FormatKind}
 use Rattle.format_reading.proofs.Exact.{Takes, IsBytes, left}
 use Rattle.class_model.specs.declared.pool.Entry.{Entry}
 use Rattle.class_model.specs.declared.op.Op.{Op}
-use Rattle.class_model.specs.InstructionStructure.{Info, Plain, Bipush, Sipush, Ldc, LdcWide, Local, WideLocal, Iinc, WideIinc, Branch, GotoWide, TableSwitch, LookupSwitch, MemberOperand, InvokeInterface, ClassOperand, NewArray, MultiNewArray, info_bytes, starts_from}
+use Rattle.class_model.specs.InstructionStructure.{Info, info_bytes, starts_from}
 use Rattle.class_model.specs.InstructionMeaning.{op_of}
 use Rattle.class_model.specs.ReadingCode.{Read, instruction, left_out, CodeRead, instructions, has_left_out, in_front, goes_on, until_end, read_instruction, begun, in_code, at_instruction, op_then, ops_from}
-use Rattle.class_model.proofs.InstructionRead.{IsRight, IsRead, read_found}
+use Rattle.class_model.proofs.BackSizes.{info_is_there}
+use Rattle.class_model.proofs.InstructionRead.{IsRight, read_found}
+use Rattle.class_model.proofs.UntilLaw.{kept_is}
 use Rattle.jv_ops.specs.declared.fault.CodeFault.{CodeFault}
 use Rattle.jv_ops.specs.declared.fault.CodeFault.TheVariants as code
 use Rattle.jv_ops.specs.declared.unaimed.Placed.{Placed}
@@ -73,27 +75,6 @@ agrees_more pool at next info u (Ok (instructions infos, q)) s one a =
     (record { at = at; op = u } ∷ a.0, ap (before_list (record { at = at; op = u } ∷ [])) a.1, matches_more pool at info infos u a.0 one a.2)
 agrees_more pool at next info u (Ok (has_left_out offset opcode, q)) s one a = ap (before_list (record { at = at; op = u } ∷ [])) a
 agrees_more pool at next info u (Err f) s one a = ap (before_list (record { at = at; op = u } ∷ [])) a
-
--- an instruction takes a byte at least
-pub info_is_there : (i : Info) → 1 ≤ length (info_bytes i)
-info_is_there (Plain c) = omega arith
-info_is_there (Bipush byte) = omega arith
-info_is_there (Sipush short) = omega arith
-info_is_there (Ldc index) = omega arith
-info_is_there (LdcWide c index) = omega arith
-info_is_there (Local c index) = omega arith
-info_is_there (WideLocal c index) = omega arith
-info_is_there (Iinc index const) = omega arith
-info_is_there (WideIinc index const) = omega arith
-info_is_there (Branch c branch) = omega arith
-info_is_there (GotoWide branch) = omega arith
-info_is_there (TableSwitch pad default low high offsets) = omega arith
-info_is_there (LookupSwitch pad default pairs) = omega arith
-info_is_there (MemberOperand c index) = omega arith
-info_is_there (InvokeInterface index count) = omega arith
-info_is_there (ClassOperand c index) = omega arith
-info_is_there (NewArray atype) = omega arith
-info_is_there (MultiNewArray index dimensions) = omega arith
 
 -- a fault of an instruction is at its first byte
 fault_at : (at : ℕ) (r : Result (Read × Place) FormatFault) (f : FormatFault) → at_instruction at r ≡ Err f → f.offset ≡ at
@@ -155,11 +136,6 @@ placed_is n pool whole p is lt =
     let apart : p.at ≡ length p.bytes → ⊥ = λ e. omega (arith, e, lt, ap length is.bytes) in
     let inside : eqb p.at (length p.bytes) ≡ false = apart_false p.at (length p.bytes) (eqb p.at (length p.bytes)) refl apart in
     rw inside refl
-
--- what was read of an instruction that is not left out
-kept_is : (pool : List Entry) (at : ℕ) (text : List ℕ) (info : Info) → IsRead pool at text (instruction info) → (text ≡ info_bytes info) × IsRight pool at info
-kept_is pool at text info (inl h) = let e : info ≡ h.0 = cc in (h.2 ∙ ap info_bytes (sym e), subst (λ (i : Info). IsRight pool at i) (sym e) h.3)
-kept_is pool at text info (inr h) = let e : instruction info ≡ left_out _ = h.1 in absurd cc
 
 -- one behind what was read
 step : (n : ℕ) (pool : List Entry) (whole : List ℕ) (p : Place) (r : Result (Read × Place) FormatFault) → IsBytes whole → IsPlace whole p → p.at < length whole → length whole - p.at ≤ suc n → read_instruction pool 0 p ≡ r

@@ -1,12 +1,17 @@
 -- The instructions of a code, or its first fault (JVMS 4.9.1).
-use Rattle.std.specs.Prelude.{ℕ, List, length, Result, Ok, Err}
+use Rattle.std.specs.Prelude.{◌≡◌, ℕ, List, length, Some, Result, Ok, Err}
+use Rattle.std.specs.List.{flat_map}
+use Rattle.jv_base.specs.Mutf8.{IsUnits}
 use Rattle.jv_base.specs.Outcome.{◌>>=◌}
 use Rattle.jv_base.specs.Place.{start}
+use Rattle.format_reading.specs.Spelling.{AllStand}
 use Rattle.format_reading.specs.declared.fault.FormatFault.{FormatFault}
 use Rattle.class_model.specs.declared.op.Op.{Op}
 use Rattle.class_model.specs.declared.pool.Entry.{Entry}
+use Rattle.class_model.specs.Pool.{units_at}
 use Rattle.class_model.specs.InstructionMeaning.{aim_at}
-use Rattle.class_model.specs.InstructionStructure.{Info, starts_of}
+use Rattle.class_model.specs.InstructionStructure.{Info, info_bytes, starts_of}
+use Rattle.class_model.specs.Instructions.{IsOp, Begins}
 use Rattle.class_model.specs.ReadingCode.{CodeRead, instructions, has_left_out, code_read, ops_of}
 use Rattle.jv_ops.specs.declared.decoding.Decoded.{Decoded}
 use Rattle.jv_ops.specs.declared.fault.CodeFault.{CodeFault}
@@ -32,6 +37,15 @@ as_decoded pool (Err f) = Err (code_fault f.offset (wrong_of f.kind))
 -- the instructions of a code with their starts, or its first fault; a target is asked for only where each instruction is one
 unfoldable pub code_decoded : List Entry → List ℕ → Result Decoded CodeFault
 code_decoded pool bytes = as_decoded pool (code_read pool bytes)
+
+-- the units of the texts in a pool are numbers of 16 bits
+abbrev pub HaveUnits : List Entry → Type 0
+HaveUnits pool = (index : ℕ) (units : List ℕ) → units_at pool index ≡ Some units → IsUnits units
+
+-- the bytes of a code stand for these instructions, which begin at these offsets; a target is the number of one of them (JVMS 4.7.3, 4.9.1)
+abbrev pub IsDecoded : List Entry → List ℕ → Decoded → Type 0
+IsDecoded pool code decoded = (infos : List Info) × (code ≡ flat_map info_bytes infos) × (decoded.starts ≡ starts_of infos)
+    × AllStand info_bytes (IsOp (Begins (starts_of infos)) pool) 0 infos decoded.ops
 
 -- ---- in the steps of the decoder
 

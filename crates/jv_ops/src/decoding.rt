@@ -1,7 +1,8 @@
 // A code, as its instructions (JVMS 4.9.1).
-ghost use Rattle.std.specs.Prelude.{◌≡◌, ◌<◌, length, IfOk};
+ghost use Rattle.std.specs.Prelude.{◌≡◌, ◌<◌, length, Ok, IfOk};
 ghost use Rattle.jv_base.specs.Outcome.{IsDue};
-ghost use Rattle.jv_ops.specs.Decoded.{code_decoded, decoded, all_decoded};
+ghost use Rattle.jv_ops.specs.declared.decoding.Decoded.{Decoded};
+ghost use Rattle.jv_ops.specs.Decoded.{HaveUnits, IsDecoded, code_decoded, decoded, all_decoded};
 ghost use Rattle.jv_ops.specs.Targets.{starts_of};
 
 use crate::fault::CodeFault;
@@ -58,6 +59,8 @@ fn decoded_in_steps(alloc: Global, bytes: &[u8], pool: &Pool) -> Result<Decoded,
 /// is asked for only where each instruction is one, so `BadTarget` comes behind all others.
 pub fn decode_code(alloc: Global, bytes: &[u8], pool: &Pool) -> Result<Decoded, Or<CodeFault>>
     requires { length bytes.now < 4294967295 }
+    ensures found { HaveUnits pool.now.entries → IfOk result (λ decoded. IsDecoded pool.now.entries bytes.now decoded) }
+    ensures only { (decoded : Decoded) → IsDecoded pool.now.entries bytes.now decoded → IsDue result (Ok decoded) }
     ensures exact { IsDue result (code_decoded pool.now.entries bytes.now) }
 {
     decoded_in_steps(alloc, bytes, pool)
