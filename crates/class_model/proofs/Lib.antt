@@ -45,3 +45,4 @@ pub mod MeaningLaw
 pub mod UntilLaw
 pub mod CodeLaw
 pub mod LeftOutLaw
+pub mod RowLaw
