@@ -135,3 +135,174 @@ counted_exact = as_raw counted_types _ (λ w. w.1) (λ infos. (length infos, inf
     (ap (λ (m : ℕ). to_be_bytes w16 m ++ flat_map verification_type_info w.1) (sym n), ((subst (λ (m : ℕ). m < 2 ^ 16) (sym n) h.1.0, h.2.0.1), h.2.1)))
     (λ at infos y h. (refl, (length infos, (h.0.0, refl), ((refl, h.0.1), h.1))))
     (bind_exact (λ n. many n read_type) (flat_map verification_type_info) (λ n _ infos y. ((length infos ≡ n) × AllByRecursion FitsType infos) × (y ≡ infos)) u2_exact types_exact)
+
+-- ---- rows
+
+-- types that fit their bytes
+abbrev pub FitTypes : List VerificationTypeInfo → Type 0
+FitTypes infos = AllByRecursion FitsType infos
+
+-- the numbers of a row fit its form
+abbrev pub FitsRow : StackMapFrame → Type 0
+FitsRow (SameFrame frame_type) = frame_type ≤ 63
+FitsRow (SameLocalsOneStackItem frame_type item) = (64 ≤ frame_type) × (frame_type ≤ 127) × FitsType item
+FitsRow (SameLocalsOneStackItemExtended offset_delta item) = (offset_delta < 2 ^ 16) × FitsType item
+FitsRow (ChopFrame frame_type offset_delta) = (248 ≤ frame_type) × (frame_type ≤ 250) × (offset_delta < 2 ^ 16)
+FitsRow (SameFrameExtended offset_delta) = offset_delta < 2 ^ 16
+FitsRow (AppendFrame frame_type offset_delta locals) = (252 ≤ frame_type) × (frame_type ≤ 254) × (offset_delta < 2 ^ 16) × (length locals ≡ frame_type - 251) × FitTypes locals
+FitsRow (FullFrame offset_delta locals stack) = (offset_delta < 2 ^ 16) × (length locals < 2 ^ 16) × FitTypes locals × (length stack < 2 ^ 16) × FitTypes stack
+
+-- the frame_type, and what stands behind it
+abbrev type_of : StackMapFrame → ℕ
+type_of (SameFrame frame_type) = frame_type
+type_of (SameLocalsOneStackItem frame_type item) = frame_type
+type_of (SameLocalsOneStackItemExtended offset_delta item) = 247
+type_of (ChopFrame frame_type offset_delta) = frame_type
+type_of (SameFrameExtended offset_delta) = 251
+type_of (AppendFrame frame_type offset_delta locals) = frame_type
+type_of (FullFrame offset_delta locals stack) = 255
+
+abbrev behind_type : StackMapFrame → List ℕ
+behind_type (SameFrame frame_type) = []
+behind_type (SameLocalsOneStackItem frame_type item) = verification_type_info item
+behind_type (SameLocalsOneStackItemExtended offset_delta item) = to_be_bytes w16 offset_delta ++ verification_type_info item
+behind_type (ChopFrame frame_type offset_delta) = to_be_bytes w16 offset_delta
+behind_type (SameFrameExtended offset_delta) = to_be_bytes w16 offset_delta
+behind_type (AppendFrame frame_type offset_delta locals) = to_be_bytes w16 offset_delta ++ flat_map verification_type_info locals
+behind_type (FullFrame offset_delta locals stack) = to_be_bytes w16 offset_delta ++ (counted_types locals ++ counted_types stack)
+
+-- the form of a frame_type
+abbrev Form : ℕ → StackMapFrame → Type 0
+Form t row =
+    cond (leb t 63) (row ≡ SameFrame t)
+    (cond (leb t 127) ((item : VerificationTypeInfo) × (row ≡ SameLocalsOneStackItem t item) × FitsType item)
+    (cond (leb t 246) ⊥
+    (cond (eqb t 247) ((delta : ℕ) × (item : VerificationTypeInfo) × (row ≡ SameLocalsOneStackItemExtended delta item) × (delta < 2 ^ 16) × FitsType item)
+    (cond (leb t 250) ((delta : ℕ) × (row ≡ ChopFrame t delta) × (delta < 2 ^ 16))
+    (cond (eqb t 251) ((delta : ℕ) × (row ≡ SameFrameExtended delta) × (delta < 2 ^ 16))
+    (cond (leb t 254) ((delta : ℕ) × (locals : List VerificationTypeInfo) × (row ≡ AppendFrame t delta locals) × (delta < 2 ^ 16) × (length locals ≡ t - 251) × FitTypes locals)
+    ((delta : ℕ) × (locals : List VerificationTypeInfo) × (stack : List VerificationTypeInfo) × (row ≡ FullFrame delta locals stack) × (delta < 2 ^ 16) × (length locals < 2 ^ 16) × FitTypes locals × (length stack < 2 ^ 16) × FitTypes stack)))))))
+
+above : (t n : ℕ) → n < t → leb t n ≡ false
+above t n h = lt-leb t n h
+
+unlike : (t n : ℕ) → n < t → eqb t n ≡ false
+unlike t n h = ne_eqb t n (λ e. absurd (omega (arith, e, h)))
+
+-- a row has the form of its frame_type
+by_its_type : (row : StackMapFrame) → FitsRow row → Form (type_of row) row
+by_its_type (SameFrame t) h = rw (le-leb t 63 h) refl
+by_its_type (SameLocalsOneStackItem t item) h = rw (above t 63 (omega (arith, h.0)), le-leb t 127 h.1) (item, refl, h.2)
+by_its_type (SameLocalsOneStackItemExtended delta item) h = (delta, item, refl, h.0, h.1)
+by_its_type (ChopFrame t delta) h =
+    let no : eqb t 247 ≡ false = unlike t 247 (omega (arith, h.0)) in
+    rw (above t 63 (omega (arith, h.0)), above t 127 (omega (arith, h.0)), above t 246 (omega (arith, h.0)), no, le-leb t 250 h.1) (delta, refl, h.2)
+by_its_type (SameFrameExtended delta) h = (delta, refl, h)
+by_its_type (AppendFrame t delta locals) h =
+    let no : eqb t 247 ≡ false = unlike t 247 (omega (arith, h.0)) in
+    let none : eqb t 251 ≡ false = unlike t 251 (omega (arith, h.0)) in
+    rw (above t 63 (omega (arith, h.0)), above t 127 (omega (arith, h.0)), above t 246 (omega (arith, h.0)), no, above t 250 (omega (arith, h.0)), none, le-leb t 254 h.1) (delta, locals, refl, h.2, h.3, h.4)
+by_its_type (FullFrame delta locals stack) h = (delta, locals, stack, refl, h.0, h.1, h.2, h.3, h.4)
+
+-- a row of a frame_type
+abbrev OfType : ℕ → StackMapFrame → StackMapFrame → Type 0
+OfType t row y = (type_of row ≡ t) × FitsRow row × (y ≡ row)
+
+form_of : (t : ℕ) (row y : StackMapFrame) → OfType t row y → Form t row
+form_of t row y h = subst (λ (k : ℕ). Form k row) h.0 (by_its_type row h.1)
+
+-- the numbers and types of a row
+abbrev delta_of : StackMapFrame → ℕ
+delta_of (SameLocalsOneStackItemExtended delta item) = delta
+delta_of (ChopFrame t delta) = delta
+delta_of (SameFrameExtended delta) = delta
+delta_of (AppendFrame t delta locals) = delta
+delta_of (FullFrame delta locals stack) = delta
+delta_of _ = 0
+
+abbrev item_of : StackMapFrame → VerificationTypeInfo
+item_of (SameLocalsOneStackItem t item) = item
+item_of (SameLocalsOneStackItemExtended delta item) = item
+item_of _ = TagInfo 0
+
+abbrev locals_of : StackMapFrame → List VerificationTypeInfo
+locals_of (AppendFrame t delta locals) = locals
+locals_of (FullFrame delta locals stack) = locals
+locals_of _ = []
+
+abbrev stack_of : StackMapFrame → List VerificationTypeInfo
+stack_of (FullFrame delta locals stack) = stack
+stack_of _ = []
+
+-- a reader of the rows of a frame_type
+abbrev Reads : ℕ → Reader StackMapFrame → Type 0
+Reads t r = Exact r (Spells behind_type (λ _ row y. OfType t row y))
+
+same_reads : (t : ℕ) → leb t 63 ≡ true → Reads t (give (SameFrame t))
+same_reads t e = as_raw behind_type _ (λ u. SameFrame t) (λ row. tt)
+    (λ at u y h. (refl, (refl, leb-true t 63 e, h)))
+    (λ at row y h. let f : row ≡ SameFrame t = rw e at (form_of t row y h) in (ap behind_type f, h.2 ∙ f))
+    (give_exact (SameFrame t))
+
+one_item_reads : (t : ℕ) → leb t 63 ≡ false → leb t 127 ≡ true → Reads t (one_item t)
+one_item_reads t a b = as_raw behind_type _ (λ info. SameLocalsOneStackItem t info) item_of
+    (λ at w y h. (refl, (refl, (let k : 63 < t = leb-false t 63 a in omega (arith, k), leb-true t 127 b, h.1.0), h.2 ∙ ap (λ (i : VerificationTypeInfo). SameLocalsOneStackItem t i) h.1.1)))
+    (λ at row y h.
+    let f = rw (a, b) at (form_of t row y h) in
+    let is : item_of row ≡ f.0 = ap item_of f.1 in
+    (ap behind_type f.1 ∙ ap verification_type_info (sym is), (item_of row, (subst (λ (i : VerificationTypeInfo). FitsType i) (sym is) f.2, refl), h.2 ∙ f.1 ∙ ap (λ (i : VerificationTypeInfo). SameLocalsOneStackItem t i) (sym is))))
+    (map_exact (λ item. SameLocalsOneStackItem t item) type_exact)
+
+-- a delta, and then more
+abbrev WithDelta : {S B : Type 0} → (ℕ → S → B → Type 0) → ℕ × S → B → Type 0
+WithDelta n v y = (v.0 < 2 ^ 16) × n v.0 v.1 y
+
+delta_then : {S B : Type 0} (f : ℕ → Reader B) (t : S → List ℕ) (n : ℕ → S → B → Type 0) → ((delta : ℕ) → Exact (f delta) (Spells t (λ _ w y. n delta w y))) → Exact (bind u2 f) (Spells (λ (v : ℕ × S). to_be_bytes w16 v.0 ++ t v.1) (λ _ v y. WithDelta n v y))
+delta_then f t n e = as_raw _ _ (λ v. v) (λ v. v)
+    (λ at v y h. (refl, (h.1.0, subst (λ (k : ℕ). n k v.1 y) h.1.1 h.2)))
+    (λ at v y h. (refl, (v.0, (h.0, refl), h.1)))
+    (bind_exact f t (λ delta _ w y. n delta w y) u2_exact e)
+
+extended_reads : Reads 247 one_item_extended
+extended_reads = as_raw behind_type _ (λ v. SameLocalsOneStackItemExtended v.0 v.1) (λ row. (delta_of row, item_of row))
+    (λ at v y h. (refl, (refl, (h.0, h.1.1.0), h.1.2 ∙ ap (λ (i : VerificationTypeInfo). SameLocalsOneStackItemExtended v.0 i) h.1.1.1)))
+    (λ at row y h.
+    let f = form_of 247 row y h in
+    let d : delta_of row ≡ f.0 = ap delta_of f.2 in
+    let i : item_of row ≡ f.1 = ap item_of f.2 in
+    (ap behind_type f.2 ∙ ap (λ (k : ℕ). to_be_bytes w16 k ++ verification_type_info f.1) (sym d) ∙ ap (λ (t : VerificationTypeInfo). to_be_bytes w16 (delta_of row) ++ verification_type_info t) (sym i),
+        (subst (λ (k : ℕ). k < 2 ^ 16) (sym d) f.3, (item_of row, (subst (λ (t : VerificationTypeInfo). FitsType t) (sym i) f.4, refl),
+            h.2 ∙ f.2 ∙ ap (λ (k : ℕ). SameLocalsOneStackItemExtended k f.1) (sym d) ∙ ap (λ (t : VerificationTypeInfo). SameLocalsOneStackItemExtended (delta_of row) t) (sym i)))))
+    (delta_then (λ delta. bind read_type (λ item. give (SameLocalsOneStackItemExtended delta item))) verification_type_info
+    (λ delta info y. (x : VerificationTypeInfo) × (FitsType info × (x ≡ info)) × (y ≡ SameLocalsOneStackItemExtended delta x)) (λ delta. map_exact (λ item. SameLocalsOneStackItemExtended delta item) type_exact))
+
+chop_reads : (t : ℕ) → leb t 63 ≡ false → leb t 127 ≡ false → leb t 246 ≡ false → eqb t 247 ≡ false → leb t 250 ≡ true → Reads t (chop t)
+chop_reads t a b c d e = as_raw behind_type _ (λ w. ChopFrame t w) delta_of
+    (λ at w y h. (refl, (refl, (let k : 246 < t = leb-false t 246 c in let n : t ≡ 247 → ⊥ = eqb-false t 247 d in grind arith, leb-true t 250 e, h.1.0), h.2 ∙ ap (λ (i : ℕ). ChopFrame t i) h.1.1)))
+    (λ at row y h.
+    let f = rw (a, b, c, d, e) at (form_of t row y h) in
+    let is : delta_of row ≡ f.0 = ap delta_of f.1 in
+    (ap behind_type f.1 ∙ ap (to_be_bytes w16) (sym is), (delta_of row, (subst (λ (k : ℕ). k < 2 ^ 16) (sym is) f.2, refl), h.2 ∙ f.1 ∙ ap (λ (i : ℕ). ChopFrame t i) (sym is))))
+    (map_exact (λ delta. ChopFrame t delta) u2_exact)
+
+same_extended_reads : Reads 251 same_extended
+same_extended_reads = as_raw behind_type _ (λ w. SameFrameExtended w) delta_of
+    (λ at w y h. (refl, (refl, h.1.0, h.2 ∙ ap SameFrameExtended h.1.1)))
+    (λ at row y h.
+    let f = form_of 251 row y h in
+    let is : delta_of row ≡ f.0 = ap delta_of f.1 in
+    (ap behind_type f.1 ∙ ap (to_be_bytes w16) (sym is), (delta_of row, (subst (λ (k : ℕ). k < 2 ^ 16) (sym is) f.2, refl), h.2 ∙ f.1 ∙ ap SameFrameExtended (sym is))))
+    (map_exact (λ delta. SameFrameExtended delta) u2_exact)
+
+append_reads : (t : ℕ) → leb t 63 ≡ false → leb t 127 ≡ false → leb t 246 ≡ false → eqb t 247 ≡ false → leb t 250 ≡ false → eqb t 251 ≡ false → leb t 254 ≡ true → Reads t (append t)
+append_reads t a b c d e g k = as_raw behind_type _ (λ v. AppendFrame t v.0 v.1) (λ row. (delta_of row, locals_of row))
+    (λ at v y h. (refl, (refl, (let m : 250 < t = leb-false t 250 e in let n : t ≡ 251 → ⊥ = eqb-false t 251 g in grind arith, leb-true t 254 k, h.0, h.1.1.0.0, h.1.1.0.1), h.1.2 ∙ ap (λ (l : List VerificationTypeInfo). AppendFrame t v.0 l) h.1.1.1)))
+    (λ at row y h.
+    let f = rw (a, b, c, d, e, g, k) at (form_of t row y h) in
+    let di : delta_of row ≡ f.0 = ap delta_of f.2 in
+    let li : locals_of row ≡ f.1 = ap locals_of f.2 in
+    (ap behind_type f.2 ∙ ap (λ (n : ℕ). to_be_bytes w16 n ++ flat_map verification_type_info f.1) (sym di) ∙ ap (λ (l : List VerificationTypeInfo). to_be_bytes w16 (delta_of row) ++ flat_map verification_type_info l) (sym li),
+        (subst (λ (n : ℕ). n < 2 ^ 16) (sym di) f.3, (locals_of row, ((subst (λ (l : List VerificationTypeInfo). length l ≡ t - 251) (sym li) f.4, subst (λ (l : List VerificationTypeInfo). FitTypes l) (sym li) f.5), refl),
+            h.2 ∙ f.2 ∙ ap (λ (n : ℕ). AppendFrame t n f.1) (sym di) ∙ ap (λ (l : List VerificationTypeInfo). AppendFrame t (delta_of row) l) (sym li)))))
+    (delta_then (λ delta. bind (many (t - 251) read_type) (λ locals. give (AppendFrame t delta locals))) (flat_map verification_type_info)
+    (λ delta infos y. (x : List VerificationTypeInfo) × (((length infos ≡ t - 251) × FitTypes infos) × (x ≡ infos)) × (y ≡ AppendFrame t delta x)) (λ delta. map_exact (λ locals. AppendFrame t delta locals) (types_exact (t - 251))))
