@@ -306,3 +306,58 @@ append_reads t a b c d e g k = as_raw behind_type _ (λ v. AppendFrame t v.0 v.1
             h.2 ∙ f.2 ∙ ap (λ (n : ℕ). AppendFrame t n f.1) (sym di) ∙ ap (λ (l : List VerificationTypeInfo). AppendFrame t (delta_of row) l) (sym li)))))
     (delta_then (λ delta. bind (many (t - 251) read_type) (λ locals. give (AppendFrame t delta locals))) (flat_map verification_type_info)
     (λ delta infos y. (x : List VerificationTypeInfo) × (((length infos ≡ t - 251) × FitTypes infos) × (x ≡ infos)) × (y ≡ AppendFrame t delta x)) (λ delta. map_exact (λ locals. AppendFrame t delta locals) (types_exact (t - 251))))
+
+-- the stack behind the locals of a full_frame
+stack_reads : (delta : ℕ) (locals : List VerificationTypeInfo) → Exact (bind u2 (λ m. bind (many m read_type) (λ stack. give (FullFrame delta locals stack))))
+    (Spells counted_types (λ _ stack y. ((length stack < 2 ^ 16) × FitTypes stack) × (y ≡ FullFrame delta locals stack)))
+stack_reads delta locals = as_raw counted_types _ (λ w. w.1) (λ stack. (length stack, stack))
+    (λ at w y h.
+    let n : length w.1 ≡ w.0 = h.2.1.0.0 ∙ h.1.1 in
+    (ap (λ (m : ℕ). to_be_bytes w16 m ++ flat_map verification_type_info w.1) (sym n), ((subst (λ (m : ℕ). m < 2 ^ 16) (sym n) h.1.0, h.2.1.0.1), h.2.2 ∙ ap (λ (s : List VerificationTypeInfo). FullFrame delta locals s) h.2.1.1)))
+    (λ at stack y h. (refl, (length stack, (h.0.0, refl), (stack, ((refl, h.0.1), refl), h.1))))
+    (bind_exact (λ m. bind (many m read_type) (λ stack. give (FullFrame delta locals stack))) (flat_map verification_type_info)
+    (λ m _ stack y. (x : List VerificationTypeInfo) × (((length stack ≡ m) × FitTypes stack) × (x ≡ stack)) × (y ≡ FullFrame delta locals x)) u2_exact
+    (λ m. map_exact (λ stack. FullFrame delta locals stack) (types_exact m)))
+
+-- the locals of a full_frame, and its stack behind them
+locals_reads : (delta : ℕ) → Exact (bind u2 (λ n. bind (many n read_type) (λ locals. bind u2 (λ m. bind (many m read_type) (λ stack. give (FullFrame delta locals stack))))))
+    (Spells (λ (v : List VerificationTypeInfo × List VerificationTypeInfo). counted_types v.0 ++ counted_types v.1)
+    (λ _ v y. ((length v.0 < 2 ^ 16) × FitTypes v.0) × (((length v.1 < 2 ^ 16) × FitTypes v.1) × (y ≡ FullFrame delta v.0 v.1))))
+locals_reads delta = as_raw _ _ (λ w. (w.1.0, w.1.1)) (λ v. (length v.0, (v.0, v.1)))
+    (λ at w y h.
+    let n : length w.1.0 ≡ w.0 = h.2.1.0.0 ∙ h.1.1 in
+    (sym (append_assoc (to_be_bytes w16 w.0) (flat_map verification_type_info w.1.0) (counted_types w.1.1)) ∙ ap (λ (m : ℕ). (to_be_bytes w16 m ++ flat_map verification_type_info w.1.0) ++ counted_types w.1.1) (sym n),
+        ((subst (λ (m : ℕ). m < 2 ^ 16) (sym n) h.1.0, h.2.1.0.1), (h.2.2.0, h.2.2.1 ∙ ap (λ (l : List VerificationTypeInfo). FullFrame delta l w.1.1) h.2.1.1))))
+    (λ at v y h. (append_assoc (to_be_bytes w16 (length v.0)) (flat_map verification_type_info v.0) (counted_types v.1), (length v.0, (h.0.0, refl), (v.0, ((refl, h.0.1), refl), h.1))))
+    (bind_exact (λ n. bind (many n read_type) (λ locals. bind u2 (λ m. bind (many m read_type) (λ stack. give (FullFrame delta locals stack)))))
+    (λ (v : List VerificationTypeInfo × List VerificationTypeInfo). flat_map verification_type_info v.0 ++ counted_types v.1)
+    (λ n _ v y. (x : List VerificationTypeInfo) × (((length v.0 ≡ n) × FitTypes v.0) × (x ≡ v.0)) × (((length v.1 < 2 ^ 16) × FitTypes v.1) × (y ≡ FullFrame delta x v.1))) u2_exact
+    (λ n. bind_exact (λ locals. bind u2 (λ m. bind (many m read_type) (λ stack. give (FullFrame delta locals stack)))) counted_types
+    (λ locals _ stack y. ((length stack < 2 ^ 16) × FitTypes stack) × (y ≡ FullFrame delta locals stack)) (types_exact n) (λ locals. stack_reads delta locals)))
+
+-- with the numbers and types of a row that is full
+full_is : (row : StackMapFrame) (delta : ℕ) (locals stack : List VerificationTypeInfo) → row ≡ FullFrame delta locals stack → row ≡ FullFrame (delta_of row) (locals_of row) (stack_of row)
+full_is row delta locals stack is = is ∙ sym (ap (λ (r : StackMapFrame). FullFrame (delta_of r) (locals_of r) (stack_of r)) is)
+
+full_reads : (t : ℕ) → t ≡ 255 → leb t 63 ≡ false → leb t 127 ≡ false → leb t 246 ≡ false → eqb t 247 ≡ false → leb t 250 ≡ false → eqb t 251 ≡ false → leb t 254 ≡ false → Reads t full
+full_reads t last a b c d e g k = as_raw behind_type _ (λ v. FullFrame v.0 v.1.0 v.1.1) (λ row. (delta_of row, (locals_of row, stack_of row)))
+    (λ at v y h. (refl, (sym last, (h.0, h.1.0.0, h.1.0.1, h.1.1.0.0, h.1.1.0.1), h.1.1.1)))
+    (λ at row y h.
+    let f = rw (a, b, c, d, e, g, k) at (form_of t row y h) in
+    let whole = full_is row f.0 f.1 f.2 f.3 in
+    let fits : FitsRow (FullFrame (delta_of row) (locals_of row) (stack_of row)) = subst (λ (r : StackMapFrame). FitsRow r) whole h.1 in
+    (ap behind_type whole, (fits.0, ((fits.1, fits.2), ((fits.3, fits.4), h.2 ∙ whole)))))
+    (delta_then (λ delta. bind u2 (λ n. bind (many n read_type) (λ locals. bind u2 (λ m. bind (many m read_type) (λ stack. give (FullFrame delta locals stack)))))) (λ (v : List VerificationTypeInfo × List VerificationTypeInfo). counted_types v.0 ++ counted_types v.1)
+    (λ delta v y. ((length v.0 < 2 ^ 16) × FitTypes v.0) × (((length v.1 < 2 ^ 16) × FitTypes v.1) × (y ≡ FullFrame delta v.0 v.1))) locals_reads)
+
+-- what a frame_type leads to
+row_leads : (t : ℕ) → t < 256 → Leads (row_begun t) (Spells behind_type (λ _ row y. OfType t row y))
+row_leads t below =
+    let g = Spells behind_type (λ _ row y. OfType t row y) in
+    leads_if _ _ g (leb t 63) (λ a. same_reads t a) (λ a.
+    leads_if _ _ g (leb t 127) (λ b. one_item_reads t a b) (λ b.
+    leads_if _ _ g (leb t 246) (λ c at u y h. (rw (a, b, c) at (form_of t h.0 y h.2))) (λ c.
+    leads_if _ _ g (eqb t 247) (λ d. subst (λ (n : ℕ). Reads n one_item_extended) (sym (eqb-true t 247 d)) extended_reads) (λ d.
+    leads_if _ _ g (leb t 250) (λ e. chop_reads t a b c d e) (λ e.
+    leads_if _ _ g (eqb t 251) (λ m. subst (λ (n : ℕ). Reads n same_extended) (sym (eqb-true t 251 m)) same_extended_reads) (λ m.
+    leads_if _ _ g (leb t 254) (λ k. append_reads t a b c d e m k) (λ k. full_reads t (let n : 254 < t = leb-false t 254 k in omega (arith, n, below)) a b c d e m k)))))))
