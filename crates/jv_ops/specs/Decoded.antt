@@ -11,8 +11,8 @@ use Rattle.class_model.specs.declared.pool.Entry.{Entry}
 use Rattle.class_model.specs.Pool.{units_at}
 use Rattle.class_model.specs.InstructionMeaning.{aim_at}
 use Rattle.class_model.specs.InstructionStructure.{Info, info_bytes, starts_of}
-use Rattle.class_model.specs.Instructions.{IsOp, Begins}
-use Rattle.class_model.specs.ReadingCode.{CodeRead, instructions, has_left_out, code_read, ops_of}
+use Rattle.class_model.specs.Instructions.{IsOp, Begins, IsLeftOutCode}
+use Rattle.class_model.specs.ReadingCode.{CodeRead, instructions, has_left_out, left_out_kind, code_read, ops_of}
 use Rattle.jv_ops.specs.declared.decoding.Decoded.{Decoded}
 use Rattle.jv_ops.specs.declared.fault.CodeFault.{CodeFault}
 use Rattle.jv_ops.specs.declared.fault.CodeFault.TheVariants as code
@@ -46,6 +46,11 @@ HaveUnits pool = (index : ℕ) (units : List ℕ) → units_at pool index ≡ So
 abbrev pub IsDecoded : List Entry → List ℕ → Decoded → Type 0
 IsDecoded pool code decoded = (infos : List Info) × (code ≡ flat_map info_bytes infos) × (decoded.starts ≡ starts_of infos)
     × AllStand info_bytes (IsOp (Begins (starts_of infos)) pool) 0 infos decoded.ops
+
+-- where an instruction is told as left out, the bytes of the code have such an instruction behind others that are none (JVMS 4.9.1)
+abbrev pub ToldLeftOut : List Entry → List ℕ → CodeFault → Type 0
+ToldLeftOut pool bytes (code.LeftOutOpcode offset opcode) = IsLeftOutCode pool bytes (left_out_kind opcode)
+ToldLeftOut pool bytes _ = Unit {0}
 
 -- ---- in the steps of the decoder
 

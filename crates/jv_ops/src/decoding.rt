@@ -1,8 +1,9 @@
 // A code, as its instructions (JVMS 4.9.1).
 ghost use Rattle.std.specs.Prelude.{◌≡◌, ◌<◌, length, Ok, IfOk};
+ghost use Rattle.jv_base.specs.Longest.{IfFault};
 ghost use Rattle.jv_base.specs.Outcome.{IsDue};
 ghost use Rattle.jv_ops.specs.declared.decoding.Decoded.{Decoded};
-ghost use Rattle.jv_ops.specs.Decoded.{HaveUnits, IsDecoded, code_decoded, decoded, all_decoded};
+ghost use Rattle.jv_ops.specs.Decoded.{HaveUnits, IsDecoded, ToldLeftOut, code_decoded, decoded, all_decoded};
 ghost use Rattle.jv_ops.specs.Targets.{starts_of};
 
 use crate::fault::CodeFault;
@@ -61,6 +62,7 @@ pub fn decode_code(alloc: Global, bytes: &[u8], pool: &Pool) -> Result<Decoded, 
     requires { length bytes.now < 4294967295 }
     ensures found { HaveUnits pool.now.entries → IfOk result (λ decoded. IsDecoded pool.now.entries bytes.now decoded) }
     ensures only { (decoded : Decoded) → IsDecoded pool.now.entries bytes.now decoded → IsDue result (Ok decoded) }
+    ensures left_out { HaveUnits pool.now.entries → IfFault result (ToldLeftOut pool.now.entries bytes.now) }
     ensures exact { IsDue result (code_decoded pool.now.entries bytes.now) }
 {
     decoded_in_steps(alloc, bytes, pool)
