@@ -19,3 +19,4 @@ pub mod BackSwitches
 pub mod BackOps
 pub mod BackSizes
 pub mod BackPlaces
+pub mod BackCode
