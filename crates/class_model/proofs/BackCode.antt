@@ -1,5 +1,5 @@
 -- All instructions of a well-formed code are read back from its canonical bytes.
-use Rattle.std.proofs.Common.{◌≡◌, ℕ, zero, suc, ◌+◌, ◌^◌, ◌<◌, ◌≤◌, Bool, true, false, cond, List, [], ◌∷◌, ◌++◌, length, map, get_or, Option, Some, None, Result, Ok, Err, ℤ, pos, negsuc, ◌-ℤ◌, ◌<ℤ◌, ◌≤ℤ◌, refl, sym, ap, subst, ◌∙◌, arith, SFits}
+use Rattle.std.proofs.Common.{◌≡◌, ℕ, suc, ◌+◌, ◌^◌, ◌<◌, Bool, true, false, List, [], ◌∷◌, length, map, get_or, Option, Some, None, Result, Ok, Err, ℤ, pos, negsuc, ◌-ℤ◌, ◌<ℤ◌, ◌≤ℤ◌, refl, sym, ap, subst, ◌∙◌, arith, SFits}
 use Rattle.std.specs.Prelude.{slice_index, IfSome}
 use Rattle.std.specs.Int.{w16, w32}
 use Rattle.std.specs.List.{AllByRecursion, flat_map}
@@ -17,13 +17,13 @@ use Rattle.class_model.specs.declared.op.Op.{Op}
 use Rattle.class_model.specs.Between.{int_between}
 use Rattle.class_model.specs.InstructionStructure.{Info, info_bytes, starts_of}
 use Rattle.class_model.specs.InstructionMeaning.{aim_at}
-use Rattle.class_model.specs.CanonicalCode.{op_info, size_of, places, places_from, infos_from, code_bytes}
+use Rattle.class_model.specs.CanonicalCode.{op_info, size_of, places, infos_from, code_bytes}
 use Rattle.class_model.specs.WriteLimits.{branch_to, branch_fits, branches_fit, distance_fits}
 use Rattle.class_model.proofs.BackNumbers.{short_fits}
 use Rattle.class_model.proofs.BackPlain.{IsBack}
-use Rattle.class_model.proofs.BackOps.{IsWritable, IsWithin, op_back}
+use Rattle.class_model.proofs.BackOps.{IsWritable, op_back}
 use Rattle.class_model.proofs.BackSizes.{size_is, few_is}
-use Rattle.class_model.proofs.BackPlaces.{begins, begins_are, begins_long, place_is, within, aim_back}
+use Rattle.class_model.proofs.BackPlaces.{begins, begins_are, place_is, within, aim_back}
 
 -- ---- distances
 

@@ -20,3 +20,4 @@ pub mod BackOps
 pub mod BackSizes
 pub mod BackPlaces
 pub mod BackCode
+pub mod BackRead
