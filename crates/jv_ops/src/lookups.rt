@@ -18,7 +18,7 @@ use std::alloc::Global;
 // ---- texts
 
 // The text of UTF-16 units in which no surrogate is unpaired.
-#[tactic(auto, unfolding(class_model::specs::Lookups::text_of), using(crate::proofs::Units::text_is, crate::proofs::Units::no_text))]
+#[tactic(auto, unfolding(class_model::specs::Lookups::text_of), using(class_model::proofs::Units::text_is, class_model::proofs::Units::no_text))]
 fn text_of(alloc: Global, units: &[u16]) -> M<Option<Text>>
     ensures { IfOk result (λ text. text ≡ text_of units.now) }
 {
