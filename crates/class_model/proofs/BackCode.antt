@@ -19,6 +19,10 @@ use Rattle.class_model.specs.InstructionStructure.{Info, info_bytes, starts_of}
 use Rattle.class_model.specs.InstructionMeaning.{aim_at}
 use Rattle.class_model.specs.CanonicalCode.{op_info, size_of, places, infos_from, code_bytes}
 use Rattle.class_model.specs.WriteLimits.{branch_to, branch_fits, branches_fit, distance_fits}
+use Rattle.class_model.specs.WellFormed.{IsGoodOp, HasFewWords}
+use Rattle.class_model.specs.OpValues.{IsOpValue}
+use Rattle.class_model.specs.Says.{AreSaid}
+use Rattle.class_model.specs.WritableCode.{IsWritableCode}
 use Rattle.class_model.proofs.BackNumbers.{short_fits}
 use Rattle.class_model.proofs.BackPlain.{IsBack}
 use Rattle.class_model.proofs.BackOps.{IsWritable, op_back}
@@ -79,11 +83,12 @@ module _ (n : ℕ) (aim : ℤ → Result ℕ FormatKind) (entries : List Entry) 
             (stand ins (k + 1) next each.1 (λ j lt. ap (slice_index all) (omega arith) ∙ places (suc j) (omega arith)) two.1 (omega (arith, short, long, size))),
       )
 
--- what a code has to be so that its canonical bytes are read back
-pub record IsWritableCode (entries : List Entry) (pool : List PoolConstant) (ins : List Ins) : Type 0 where
-  pub each : AllByRecursion (λ (i : Ins). IsWritable (length ins) entries pool i.op) ins
-  pub short : length (code_bytes pool (places pool ins) ins) < 2 ^ 16
-  pub branches : branches_fit (places pool ins) 0 ins ≡ Ok tt
+-- of each instruction what is told of all
+each_is : (n : ℕ) (entries : List Entry) (pool : List PoolConstant) (ins : List Ins) → AllByRecursion (λ (i : Ins). IsGoodOp n i.op) ins → AllByRecursion (λ (i : Ins). HasFewWords i.op) ins
+    → AllByRecursion (λ (i : Ins). IsOpValue i.op) ins → AreSaid entries pool ins → AllByRecursion (λ (i : Ins). IsWritable n entries pool i.op) ins
+each_is n entries pool [] good words values said = tt
+each_is n entries pool (i ∷ ins) good words values said =
+    (record { good = good.0; words = words.0; value = values.0; said = said.0 }, each_is n entries pool ins good.1 words.1 values.1 said.1)
 
 -- the instructions as they are written
 abbrev pub infos : List PoolConstant → List Ins → List Info
@@ -101,4 +106,4 @@ all_back entries pool ins h =
     λ to lt. ap (λ (m : ℕ). aim_at (begins pool ins 0) (pos m)) (place to lt) ∙ aim_back pool ins 0 to lt in
     let low : (to : ℕ) → to < length ins → slice_index all to < 2 ^ 16 = λ to lt. omega (arith, place to lt, within pool all ins 0 to lt, h.short) in
     subst (λ (s : List ℕ). AllStand info_bytes (IsBack (aim_at s) entries) 0 (infos pool ins) (map op_in ins)) (sym starts)
-    (stand (length ins) (aim_at (begins pool ins 0)) entries pool all found low ins 0 0 h.each (λ j lt. ap (slice_index all) (omega arith) ∙ place j lt) h.branches (omega (arith, h.short)))
+    (stand (length ins) (aim_at (begins pool ins 0)) entries pool all found low ins 0 0 (each_is (length ins) entries pool ins h.good h.few_words h.values h.said) (λ j lt. ap (slice_index all) (omega arith) ∙ place j lt) h.near (omega (arith, h.short)))

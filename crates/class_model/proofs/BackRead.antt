@@ -16,10 +16,11 @@ use Rattle.class_model.specs.InstructionStructure.{Info, info_bytes, starts_of}
 use Rattle.class_model.specs.InstructionMeaning.{aim_at}
 use Rattle.class_model.specs.ReadingCode.{instruction, begun, at_instruction, read_instruction, instructions, until_end, without_place, code_read, ops_from, ops_of}
 use Rattle.class_model.specs.CanonicalCode.{places, places_from, size_of, code_bytes}
+use Rattle.class_model.specs.WritableCode.{IsWritableCode}
 use Rattle.class_model.proofs.BackPlain.{IsBack}
 use Rattle.class_model.proofs.BackSizes.{info_is_there}
 use Rattle.class_model.proofs.BackPlaces.{begins, begins_are}
-use Rattle.class_model.proofs.BackCode.{op_in, infos, IsWritableCode, all_back}
+use Rattle.class_model.proofs.BackCode.{op_in, infos, all_back}
 
 -- ---- one instruction
 

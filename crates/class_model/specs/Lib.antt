@@ -36,5 +36,6 @@ pub mod Says
 pub mod CanonicalFrames
 pub mod CanonicalClass
 pub mod WriteLimits
+pub mod WritableCode
 -- A few class files
 pub mod Rows

@@ -16,9 +16,10 @@ use Rattle.class_model.specs.InstructionStructure.{Info, info_bytes, starts_from
 use Rattle.class_model.specs.InstructionMeaning.{aim_at}
 use Rattle.class_model.specs.ReadingCode.{Read, instruction, read_instruction}
 use Rattle.class_model.specs.CanonicalCode.{places, code_bytes}
+use Rattle.class_model.specs.WritableCode.{IsWritableCode}
 use Rattle.class_model.proofs.BackPlain.{IsBack}
 use Rattle.class_model.proofs.BackSizes.{info_is_there}
-use Rattle.class_model.proofs.BackCode.{op_in, infos, IsWritableCode, all_back}
+use Rattle.class_model.proofs.BackCode.{op_in, infos, all_back}
 use Rattle.class_model.proofs.BackRead.{instruction_back, moved_by, takes_all, starts_back}
 use Rattle.jv_ops.specs.declared.decoding.Decoded.{Decoded}
 use Rattle.jv_ops.specs.declared.fault.CodeFault.{CodeFault}
@@ -28,6 +29,7 @@ use Rattle.jv_ops.specs.Meaning.{meant, with_place, unaimed_of}
 use Rattle.jv_ops.specs.Decoding.{at_offset, placed_at, in_front, after_first, placed_to_end}
 use Rattle.jv_ops.specs.Targets.{collected, with_first, or_bad_target, op_aimed, placed_aimed, starts_of}
 use Rattle.jv_ops.specs.Decoded.{all_decoded, decoded}
+use Rattle.jv_ops.specs.ReadBack.{CanonicalIsDecoded}
 use Rattle.jv_ops.proofs.BackMeaning.{Unaims, unaimed_back}
 
 -- an instruction that is read is placed
@@ -79,9 +81,8 @@ module _ (aim : ℤ → Result ℕ FormatKind) (pool : List Entry) where
         meant = first_meant aim p.at at u.0 o others.placed ops here u.2 others.meant;
       }
 
--- the law: the canonical bytes of a code are decoded as its instructions, with all places but the last
-pub decoded_back : (entries : List Entry) (pool : List PoolConstant) (ins : List Ins) → IsWritableCode entries pool ins
-    → decoded entries (code_bytes pool (places pool ins) ins) ≡ Ok (record { ops = map op_in ins; starts = take (length ins) (places pool ins) })
+-- the canonical bytes of a code are decoded as its instructions
+pub decoded_back : CanonicalIsDecoded
 unfolding decoded code_bytes
 decoded_back entries pool ins h =
     let bytes = code_bytes pool (places pool ins) ins in
