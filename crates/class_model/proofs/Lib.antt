@@ -21,3 +21,5 @@ pub mod BackSizes
 pub mod BackPlaces
 pub mod BackCode
 pub mod BackRead
+pub mod BackSame
+pub mod BackPool

@@ -33,6 +33,7 @@ pub mod ReadingClass
 pub mod CanonicalPool
 pub mod CanonicalCode
 pub mod Says
+pub mod PoolEntries
 pub mod CanonicalFrames
 pub mod CanonicalClass
 pub mod WriteLimits
