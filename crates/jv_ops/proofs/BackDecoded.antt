@@ -1,5 +1,5 @@
 -- The canonical bytes of the instructions of a well-formed code are decoded as them.
-use Rattle.std.proofs.Common.{◌≡◌, ℕ, zero, suc, ◌+◌, ◌-◌, ◌^◌, ◌<◌, ◌≤◌, Bool, true, false, cond, eqb, List, [], ◌∷◌, ◌++◌, length, map, drop, take, Result, Ok, Err, ℤ, refl, sym, ap, subst, ◌∙◌, arith, ne_eqb}
+use Rattle.std.proofs.Common.{◌≡◌, ℕ, zero, suc, ◌+◌, ◌≤◌, false, eqb, List, [], ◌∷◌, ◌++◌, length, map, Result, Ok, ℤ, refl, ap, ◌∙◌, arith, ne_eqb}
 use Rattle.std.specs.List.{flat_map}
 use Rattle.std.proofs.lemmas.Bool.{eq-eqb}
 use Rattle.std.proofs.lemmas.List.{length-append}
@@ -9,14 +9,11 @@ use Rattle.format_reading.specs.Spelling.{AllStand}
 use Rattle.format_reading.specs.declared.fault.FormatKind.{FormatKind}
 use Rattle.format_reading.proofs.Exact.{Takes, Takes-split}
 use Rattle.class_model.specs.declared.pool.Entry.{Entry}
-use Rattle.class_model.specs.declared.constant.PoolConstant.{PoolConstant}
-use Rattle.class_model.specs.declared.code.Ins.{Ins}
 use Rattle.class_model.specs.declared.op.Op.{Op}
 use Rattle.class_model.specs.InstructionStructure.{Info, info_bytes, starts_from}
 use Rattle.class_model.specs.InstructionMeaning.{aim_at}
-use Rattle.class_model.specs.ReadingCode.{Read, instruction, read_instruction}
+use Rattle.class_model.specs.ReadingCode.{instruction, read_instruction}
 use Rattle.class_model.specs.CanonicalCode.{places, code_bytes}
-use Rattle.class_model.specs.WritableCode.{IsWritableCode}
 use Rattle.class_model.proofs.BackPlain.{IsBack}
 use Rattle.class_model.proofs.BackSizes.{info_is_there}
 use Rattle.class_model.proofs.BackCode.{op_in, infos, all_back}
@@ -26,8 +23,8 @@ use Rattle.jv_ops.specs.declared.fault.CodeFault.{CodeFault}
 use Rattle.jv_ops.specs.declared.unaimed.Placed.{Placed}
 use Rattle.jv_ops.specs.declared.unaimed.Unaimed.{Unaimed}
 use Rattle.jv_ops.specs.Meaning.{meant, with_place, unaimed_of}
-use Rattle.jv_ops.specs.Decoding.{at_offset, placed_at, in_front, after_first, placed_to_end}
-use Rattle.jv_ops.specs.Targets.{collected, with_first, or_bad_target, op_aimed, placed_aimed, starts_of}
+use Rattle.jv_ops.specs.Decoding.{at_offset, placed_at, placed_to_end}
+use Rattle.jv_ops.specs.Targets.{collected, op_aimed, placed_aimed, starts_of}
 use Rattle.jv_ops.specs.Decoded.{all_decoded, decoded}
 use Rattle.jv_ops.specs.ReadBack.{CanonicalIsDecoded}
 use Rattle.jv_ops.proofs.BackMeaning.{Unaims, unaimed_back}

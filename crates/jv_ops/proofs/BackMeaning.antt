@@ -1,5 +1,5 @@
 -- What an instruction means is what it means before its targets are known, and then with them.
-use Rattle.std.proofs.Common.{◌≡◌, ℕ, List, [], ◌∷◌, map, Result, Ok, Err, ℤ, refl, sym, ap, ◌∙◌}
+use Rattle.std.proofs.Common.{◌≡◌, ℕ, List, [], ◌∷◌, map, Result, Ok, Err, ℤ, refl, ap, ◌∙◌}
 use Rattle.std.specs.Int.{w16, w32, cast_signed}
 use Rattle.jv_base.specs.Outcome.{◌>>=◌}
 use Rattle.format_reading.specs.declared.fault.FormatKind.{FormatKind}
@@ -9,7 +9,6 @@ use Rattle.class_model.specs.declared.op.Op.{Op}
 use Rattle.class_model.specs.declared.op.Op.TheVariants as op
 use Rattle.class_model.specs.InstructionStructure.{MatchOffset, Info, Plain, Bipush, Sipush, Ldc, LdcWide, Local, WideLocal, Iinc, WideIinc, Branch, GotoWide, TableSwitch, LookupSwitch, MemberOperand, InvokeInterface, ClassOperand, NewArray, MultiNewArray}
 use Rattle.class_model.specs.InstructionMeaning.{op_of, aimed, all_aimed, cases_aimed}
-use Rattle.jv_ops.specs.declared.fault.Wrong.{Wrong}
 use Rattle.jv_ops.specs.declared.unaimed.Unaimed.{Unaimed}
 use Rattle.jv_ops.specs.declared.unaimed.Unaimed.TheVariants as unaimed
 use Rattle.jv_ops.specs.Meaning.{whole, unaimed_of, match_of}

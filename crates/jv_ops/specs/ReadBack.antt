@@ -1,5 +1,5 @@
 -- The law that canonical bytes are read back.
-use Rattle.std.specs.Prelude.{◌≡◌, List, length, map, take, Result, Ok}
+use Rattle.std.specs.Prelude.{◌≡◌, List, length, map, take, Ok}
 use Rattle.class_model.specs.declared.pool.Entry.{Entry}
 use Rattle.class_model.specs.declared.constant.PoolConstant.{PoolConstant}
 use Rattle.class_model.specs.declared.code.Ins.{Ins}

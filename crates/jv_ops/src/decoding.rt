@@ -2,6 +2,7 @@
 ghost use Rattle.std.specs.Prelude.{◌≡◌, ◌<◌, length, IfOk};
 ghost use Rattle.jv_base.specs.Outcome.{IsDue};
 ghost use Rattle.jv_ops.specs.Decoded.{decoded, all_decoded};
+ghost use Rattle.jv_ops.specs.ReadBack.{CanonicalIsDecoded};
 ghost use Rattle.jv_ops.specs.Targets.{starts_of};
 
 use crate::fault::CodeFault;
@@ -54,3 +55,9 @@ pub fn decode_code(alloc: Global, bytes: &[u8], pool: &Pool) -> Result<Decoded, 
     let placed = placed_to_end(alloc, pool, bytes.len(), &mut cursor)?;
     all_decoded(alloc, placed)
 }
+
+/// The canonical bytes of the instructions of a well-formed code, which is not too long and has no
+/// branch that is too far, are decoded as those instructions.
+pub fn canonical_is_decoded()
+    ensures { CanonicalIsDecoded }
+{}
