@@ -23,3 +23,4 @@ pub mod BackCode
 pub mod BackRead
 pub mod BackSame
 pub mod BackPool
+mod BackExample
