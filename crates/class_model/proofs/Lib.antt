@@ -24,3 +24,5 @@ pub mod BackRead
 pub mod BackSame
 pub mod BackPool
 mod BackExample
+pub mod BackConstants
+pub mod BackPaired
