@@ -3,14 +3,13 @@ use Rattle.std.proofs.Common.{◌≡◌, ℕ, ◌+◌, ◌*◌, ◌/◌, ◌%◌
 use Rattle.std.specs.Int.{w32, w64, cast_unsigned, cast_signed}
 use Rattle.std.specs.List.{AllByRecursion, AllZip, flat_map}
 use Rattle.std.proofs.lemmas.Int.{to_z-of_z}
-use Rattle.jv_base.specs.Mutf8.{mutf8}
 use Rattle.class_model.specs.declared.pool.Entry.{Entry}
 use Rattle.class_model.specs.declared.pool.Entry.TheVariants as entry
 use Rattle.class_model.specs.declared.constant.PoolConstant.{PoolConstant}
 use Rattle.class_model.specs.declared.constant.PoolConstant.TheVariants.{Utf8, Integer, Long, SecondOfLong, Class, Str, NameAndType, Fieldref, Methodref, InterfaceMethodref}
 use Rattle.class_model.specs.ConstantPool.{IsConstant, long_of, places_of, numbered}
-use Rattle.class_model.specs.CanonicalPool.{index_of, info_of, infos_of}
-use Rattle.class_model.specs.PoolEntries.{entry_of, entries_of, ConstantFits, begun_by, IsFirst, ArePaired}
+use Rattle.class_model.specs.CanonicalPool.{info_of, infos_of}
+use Rattle.class_model.specs.PoolEntries.{entry_of, entries_of, ConstantFits, ArePaired}
 use Rattle.class_model.proofs.BackNumbers.{word_below}
 use Rattle.class_model.proofs.BackPool.{index_fits}
 

@@ -1,5 +1,5 @@
 -- The entries that the constants of a pool are read as.
-use Rattle.std.specs.Prelude.{◌≡◌, ℕ, ◌^◌, ◌<◌, ℤ, [], ◌∷◌, true, List, length, map, Option, Some, None}
+use Rattle.std.specs.Prelude.{◌≡◌, ◌^◌, ◌<◌, ℤ, [], ◌∷◌, true, List, length, map, Option, Some, None}
 use Rattle.std.specs.Int.{w32, w64}
 use Rattle.std.specs.Int.RustNames.{FitsSigned}
 use Rattle.std.specs.List.{list_any}
