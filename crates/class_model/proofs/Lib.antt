@@ -26,3 +26,4 @@ pub mod BackPool
 mod BackExample
 pub mod BackConstants
 pub mod BackPaired
+pub mod BackGrown
