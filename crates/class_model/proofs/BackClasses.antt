@@ -1,6 +1,6 @@
 -- Instructions that name a class or an array type are read back.
-use Rattle.std.proofs.Common.{◌≡◌, ◌⊎◌, inl, inr, ℕ, ◌^◌, ◌<◌, ◌≤◌, Bool, true, false, ◌&&◌, cond, eqb, leb, ltb, List, [], ◌∷◌, Option, Some, None, Result, Ok, ℤ, refl, sym, ap, subst, ◌∙◌, arith, IsUtf8}
-use Rattle.std.specs.Prelude.{option_map, option_and_then, IfSome}
+use Rattle.std.proofs.Common.{◌≡◌, inl, ℕ, ◌^◌, ◌<◌, ◌≤◌, Bool, true, false, cond, eqb, List, Option, Some, None, Result, Ok, ℤ, refl, ap, subst, arith}
+use Rattle.std.specs.Prelude.{option_map, IfSome}
 use Rattle.std.specs.List.{AllByRecursion}
 use Rattle.std.proofs.lemmas.Bool.{lt-ltb, le-leb}
 use Rattle.jv_base.specs.Types.{IsFieldType}
@@ -13,7 +13,7 @@ use Rattle.class_model.specs.declared.pool.Entry.{Entry}
 use Rattle.class_model.specs.declared.constant.PoolConstant.{PoolConstant}
 use Rattle.class_model.specs.declared.op.Op.{Op}
 use Rattle.class_model.specs.declared.op.Op.TheVariants as op
-use Rattle.class_model.specs.Lookups.{due, value_of, class_at, type_at}
+use Rattle.class_model.specs.Lookups.{due, value_of, type_at}
 use Rattle.class_model.specs.Opcodes.{type_op, array_type_of, is_left_out_array_type}
 use Rattle.class_model.specs.InstructionStructure.{ClassOperand, NewArray, MultiNewArray}
 use Rattle.class_model.specs.InstructionMeaning.{op_of, class_op, of_type, can_be_operand}

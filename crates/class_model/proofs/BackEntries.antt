@@ -1,6 +1,6 @@
 -- What is found at an index whose entry says a constant.
-use Rattle.std.proofs.Common.{◌≡◌, ◌⊎◌, inl, inr, ℕ, zero, suc, ◌-◌, ◌<◌, ◌≤◌, Bool, true, false, cond, eqb, not, ◌&&◌, List, [], ◌∷◌, ◌++◌, length, map, Option, Some, None, Result, Ok, Err, refl, sym, ap, ap₂, subst, ◌∙◌, arith, IsUtf8, IsTrue, ne_eqb}
-use Rattle.std.specs.Prelude.{slice_get, option_and_then, replicate, codes}
+use Rattle.std.proofs.Common.{◌≡◌, inl, inr, ℕ, zero, suc, ◌-◌, ◌<◌, Bool, true, false, cond, eqb, not, ◌&&◌, List, [], ◌∷◌, ◌++◌, Option, Some, Ok, refl, sym, ap, subst, ◌∙◌, arith, IsUtf8, ne_eqb}
+use Rattle.std.specs.Prelude.{option_and_then, replicate, codes}
 use Rattle.std.proofs.lemmas.Bool.{eqb-true, eqb-false}
 use Rattle.std.proofs.lemmas.Str.{IsUtf8-nil, IsUtf8-append}
 use Rattle.jv_base.specs.declared.types.FieldType.{FieldType}
@@ -13,12 +13,11 @@ use Rattle.jv_base.proofs.FieldLaw.{read_field-only}
 use Rattle.jv_base.proofs.Naming.{class_name_is}
 use Rattle.jv_base.proofs.Utf16Text.{IsTextOf-paired, IsTextOf-read}
 use Rattle.class_model.specs.declared.pool.Entry.{Entry}
-use Rattle.class_model.specs.declared.pool.Entry.TheVariants as entry
 use Rattle.class_model.specs.Pool.{units_in, units_at, name_index_in, class_units_at}
 use Rattle.class_model.specs.CanonicalPool.{type_name, type_name_of_base}
 use Rattle.class_model.specs.ConstantPool.{name_and_type_in, name_and_type_at}
 use Rattle.class_model.specs.declared.op.MemberRef.{MemberRef}
-use Rattle.class_model.specs.Lookups.{reference_at, text_there, text_of, value_of, named_type, field_type_of, only_array, class_at, type_at}
+use Rattle.class_model.specs.Lookups.{reference_at, text_there, text_of, value_of, named_type, field_type_of, class_at, type_at}
 use Rattle.class_model.specs.WellFormed.{IsClassName, IsClassOrArray}
 use Rattle.class_model.specs.Says.{SaysUnits, SaysClass, SaysReference}
 use Rattle.class_model.specs.OpValues.{IsBaseValue, IsReferenceValue}

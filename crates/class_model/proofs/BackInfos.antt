@@ -1,5 +1,5 @@
 -- The bytes of an instruction are read as it, by the shapes of instructions.
-use Rattle.std.proofs.Common.{◌≡◌, ℕ, suc, ◌+◌, ◌-◌, ◌^◌, ◌<◌, ◌≤◌, Bool, true, false, cond, eqb, ltb, List, [], ◌∷◌, ◌++◌, length, Option, Some, None, Result, Ok, Err, refl, sym, ap, subst, ◌∙◌, append_assoc, arith}
+use Rattle.std.proofs.Common.{◌≡◌, ℕ, ◌^◌, ◌<◌, Bool, true, false, cond, eqb, List, [], ◌∷◌, ◌++◌, length, Option, Some, None, Result, Ok, Err, refl, sym, ap, ◌∙◌, append_assoc, arith}
 use Rattle.std.specs.Prelude.{is_some, slice_get, int_le}
 use Rattle.std.specs.Int.{w16, w32, cast_signed, to_be_bytes}
 use Rattle.std.specs.List.{flat_map, AllByRecursion}
@@ -9,13 +9,13 @@ use Rattle.jv_base.specs.declared.types.FieldType.{FieldType}
 use Rattle.jv_base.specs.declared.types.Base.{Base}
 use Rattle.format_reading.specs.declared.fault.FormatKind.{FormatKind}
 use Rattle.format_reading.specs.declared.fault.FormatKind.TheVariants as bad
-use Rattle.format_reading.specs.Reader.{Reader, u1, u2, u4, bytes, lead, bind, give, item, many}
+use Rattle.format_reading.specs.Reader.{Reader, u1, u2, u4, bytes, lead, bind, item, many}
 use Rattle.class_model.specs.declared.pool.Entry.{Entry}
 use Rattle.class_model.specs.declared.op.MemberRef.{MemberRef}
 use Rattle.class_model.specs.declared.op.Op.{Op}
 use Rattle.class_model.specs.Lookups.{test, interface_methodref_at, type_at}
 use Rattle.class_model.specs.Opcodes.{plain_op, is_left_out_array_type, array_type_of}
-use Rattle.class_model.specs.InstructionStructure.{MatchOffset, match_offset, Info, Plain, Bipush, Sipush, Ldc, LdcWide, Local, WideLocal, Iinc, WideIinc, Branch, TableSwitch, LookupSwitch, MemberOperand, InvokeInterface, ClassOperand, NewArray, MultiNewArray, info_bytes, pad_length}
+use Rattle.class_model.specs.InstructionStructure.{MatchOffset, match_offset, Info, Plain, Bipush, Sipush, Ldc, LdcWide, WideLocal, Iinc, WideIinc, Branch, TableSwitch, LookupSwitch, MemberOperand, InvokeInterface, ClassOperand, NewArray, MultiNewArray, info_bytes, pad_length}
 use Rattle.class_model.specs.InstructionMeaning.{loaded, loaded_wide, member_op, class_op}
 use Rattle.class_model.specs.ReadingCode.{Read, instruction, begun, widened, whole, one_byte, two_bytes, is_left_out_at, ldc, ldc_wide, iinc, wide_iinc, table_switch, table_length, table_high, lookup_switch, lookup_count, lookup_key, ascends, match_offsets, member, class_operand, invoke_interface, count_at, is_count, array_type_read, multi_new_array, are_dimensions, load_read, if_meant}
 use Rattle.class_model.proofs.BackReaders.{Gets, gets_text, gets_give, gets_u1, gets_u2, gets_u4, gets_bytes, gets_bind, gets_lead, gets_item, gets_map, gets_many}

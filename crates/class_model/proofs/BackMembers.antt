@@ -1,10 +1,10 @@
 -- Instructions on fields and methods are read back.
-use Rattle.std.proofs.Common.{◌≡◌, ℕ, ◌+◌, ◌^◌, ◌<◌, ◌≤◌, Bool, true, false, cond, eqb, List, [], ◌∷◌, Option, Some, None, Result, Ok, ℤ, refl, sym, ap, subst, ◌∙◌, arith}
-use Rattle.std.specs.Prelude.{slice_get, option_and_then, option_map}
+use Rattle.std.proofs.Common.{◌≡◌, ℕ, ◌+◌, ◌^◌, ◌<◌, ◌≤◌, Bool, true, false, cond, List, Option, Some, None, Result, Ok, ℤ, refl, sym, ap, subst, arith}
+use Rattle.std.specs.Prelude.{option_map}
 use Rattle.std.specs.Option.{unwrap_or}
 use Rattle.std.specs.List.{AllByRecursion}
 use Rattle.std.proofs.lemmas.Bool.{eq-eqb}
-use Rattle.jv_base.specs.Types.{IsMethodType, method_text, argument_words}
+use Rattle.jv_base.specs.Types.{argument_words}
 use Rattle.jv_base.specs.Utf16.{units_of}
 use Rattle.jv_base.specs.declared.types.MethodType.{MethodType}
 use Rattle.jv_base.proofs.MethodLaw.{read_method-only}
@@ -21,12 +21,12 @@ use Rattle.class_model.specs.Lookups.{due, value_of, method_type_of, fieldref_at
 use Rattle.class_model.specs.ConstantPool.{fieldref_in, methodref_in, interface_methodref_in}
 use Rattle.class_model.specs.Opcodes.{field_op, method_op, takes_interface_method}
 use Rattle.class_model.specs.InstructionStructure.{MemberOperand, InvokeInterface}
-use Rattle.class_model.specs.InstructionMeaning.{op_of, or_else, method_named, member_op, count_of}
+use Rattle.class_model.specs.InstructionMeaning.{op_of, method_named, member_op, count_of}
 use Rattle.class_model.specs.ReadingCode.{begun, member, count_at, is_count}
 use Rattle.class_model.specs.CanonicalPool.{type_name, fieldref, methodref, index_of}
 use Rattle.class_model.specs.CanonicalCode.{field_constants, method_constants}
 use Rattle.class_model.specs.WellFormed.{IsFieldReference, IsMethodReference, HasFewWords}
-use Rattle.class_model.specs.Says.{Says, SaysReference, IsSaid}
+use Rattle.class_model.specs.Says.{Says, IsSaid}
 use Rattle.class_model.specs.OpValues.{IsReferenceValue}
 use Rattle.class_model.proofs.BackInfos.{read_member, read_invoke_interface}
 use Rattle.class_model.proofs.BackEntries.{reference_back}

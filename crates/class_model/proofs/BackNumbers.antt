@@ -1,5 +1,5 @@
 -- Numbers in two's complement are read back.
-use Rattle.std.proofs.Common.{◌≡◌, ℕ, ◌^◌, ◌<◌, ◌≤◌, Bool, true, false, leb, ℤ, pos, negsuc, refl, arith, SFits}
+use Rattle.std.proofs.Common.{◌≡◌, ◌^◌, ◌<◌, ◌≤◌, true, leb, ℤ, pos, negsuc, arith, SFits}
 use Rattle.std.specs.Int.{w8, w16, w32, cast_unsigned}
 use Rattle.std.proofs.lemmas.Bool.{and_parts, leb-true}
 use Rattle.class_model.specs.Between.{int_between}

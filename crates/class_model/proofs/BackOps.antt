@@ -1,5 +1,5 @@
 -- Each instruction is read back.
-use Rattle.std.proofs.Common.{◌≡◌, ℕ, ◌+◌, ◌^◌, ◌<◌, Bool, true, false, List, length, Option, Some, None, Result, Ok, ℤ, pos, ◌-ℤ◌, refl, sym, ◌∙◌, arith, SFits}
+use Rattle.std.proofs.Common.{◌≡◌, ℕ, ◌^◌, ◌<◌, true, false, List, length, Result, Ok, ℤ, pos, ◌-ℤ◌, refl, sym, ◌∙◌, arith, SFits}
 use Rattle.std.specs.Prelude.{IfSome}
 use Rattle.std.specs.Int.{w16, w32}
 use Rattle.std.specs.List.{AllByRecursion}

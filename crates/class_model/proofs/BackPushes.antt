@@ -1,9 +1,9 @@
 -- Pushes of constants are read back.
-use Rattle.std.proofs.Common.{◌≡◌, ℕ, zero, suc, ◌+◌, ◌^◌, ◌<◌, ◌≤◌, Bool, true, false, cond, leb, List, [], ◌∷◌, Some, None, Result, Ok, ℤ, pos, negsuc, ◌+ℤ◌, refl, ap, subst, arith}
-use Rattle.std.specs.Prelude.{slice_get, option_and_then, option_map}
+use Rattle.std.proofs.Common.{◌≡◌, ℕ, zero, suc, ◌+◌, ◌^◌, ◌<◌, ◌≤◌, Bool, true, false, cond, leb, List, [], ◌∷◌, Some, Result, Ok, ℤ, pos, negsuc, ◌+ℤ◌, refl, ap, subst, arith}
+use Rattle.std.specs.Prelude.{slice_get}
 use Rattle.std.specs.Int.{w8, w16, cast_unsigned}
 use Rattle.std.specs.List.{AllByRecursion}
-use Rattle.std.proofs.lemmas.Bool.{and_parts, leb-true, leb-false}
+use Rattle.std.proofs.lemmas.Bool.{and_parts, leb-true}
 use Rattle.std.proofs.lemmas.Int.{to_z-of_z}
 use Rattle.format_reading.specs.declared.fault.FormatKind.{FormatKind}
 use Rattle.format_reading.specs.declared.fault.FormatKind.TheVariants as bad
@@ -15,11 +15,8 @@ use Rattle.class_model.specs.declared.op.Op.{Op}
 use Rattle.class_model.specs.declared.op.Op.TheVariants as op
 use Rattle.class_model.specs.Between.{int_between}
 use Rattle.class_model.specs.Lookups.{due}
-use Rattle.class_model.specs.Opcodes.{plain_op}
-use Rattle.class_model.specs.ConstantPool.{string_index_in, string_units_at}
 use Rattle.class_model.specs.Pool.{units_at}
-use Rattle.class_model.specs.InstructionStructure.{Plain, Bipush, Sipush, Ldc, LdcWide}
-use Rattle.class_model.specs.InstructionMeaning.{op_of, loaded, loaded_wide, int_in, or_else}
+use Rattle.class_model.specs.InstructionMeaning.{op_of, loaded, loaded_wide}
 use Rattle.class_model.specs.ReadingCode.{is_left_out_at}
 use Rattle.class_model.specs.CanonicalPool.{index_of, long_constants}
 use Rattle.class_model.specs.CanonicalCode.{load_constant, push_int, is_short, is_lconst, push_long, op_constants}

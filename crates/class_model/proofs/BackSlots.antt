@@ -1,16 +1,15 @@
 -- Instructions on slots of local variables are read back.
-use Rattle.std.proofs.Common.{◌≡◌, ℕ, zero, suc, ◌+◌, ◌*◌, ◌^◌, ◌<◌, Bool, true, false, ◌&&◌, ltb, List, Some, Result, Ok, ℤ, pos, negsuc, refl, sym, ap, ◌∙◌, arith, SFits}
+use Rattle.std.proofs.Common.{◌≡◌, ℕ, zero, suc, ◌+◌, ◌*◌, ◌^◌, ◌<◌, Bool, true, false, ltb, List, Result, Ok, ℤ, pos, negsuc, refl, ap, arith, SFits}
 use Rattle.std.specs.Int.{w8, w16, cast_unsigned}
 use Rattle.std.proofs.lemmas.Bool.{ltb-true}
 use Rattle.std.proofs.lemmas.Int.{to_z-of_z}
 use Rattle.format_reading.specs.declared.fault.FormatKind.{FormatKind}
 use Rattle.class_model.specs.declared.pool.Entry.{Entry}
-use Rattle.class_model.specs.declared.op.Op.{Op}
 use Rattle.class_model.specs.declared.op.Op.TheVariants as op
 use Rattle.class_model.specs.declared.op.Kind.{Kind}
 use Rattle.class_model.specs.declared.op.Kind.TheVariants as kind
 use Rattle.class_model.specs.Between.{int_between}
-use Rattle.class_model.specs.InstructionStructure.{Local, WideLocal, Iinc, WideIinc}
+use Rattle.class_model.specs.InstructionStructure.{Local, WideLocal, WideIinc}
 use Rattle.class_model.specs.InstructionMeaning.{op_of}
 use Rattle.class_model.specs.CanonicalCode.{kind_number, slot_info, inc_info}
 use Rattle.class_model.proofs.BackNumbers.{byte_fits, byte_below, short_below}

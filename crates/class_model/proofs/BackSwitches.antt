@@ -1,6 +1,6 @@
 -- Switches are read back.
-use Rattle.std.proofs.Common.{◌≡◌, ℕ, zero, suc, ◌+◌, ◌-◌, ◌^◌, ◌<◌, ◌≤◌, Bool, true, false, List, [], ◌∷◌, length, map, replicate, Option, Some, None, Result, Ok, ℤ, pos, negsuc, ◌+ℤ◌, ◌-ℤ◌, ◌<ℤ◌, ◌≤ℤ◌, refl, sym, ap, subst, ◌∙◌, arith, SFits}
-use Rattle.std.specs.Prelude.{int_lt, int_le, unsigned_abs, AllPairs}
+use Rattle.std.proofs.Common.{◌≡◌, ℕ, suc, ◌+◌, ◌-◌, ◌^◌, ◌<◌, true, List, [], ◌∷◌, length, map, replicate, Some, None, Result, Ok, ℤ, pos, negsuc, ◌+ℤ◌, ◌-ℤ◌, ◌<ℤ◌, ◌≤ℤ◌, refl, sym, ap, ◌∙◌, arith, SFits}
+use Rattle.std.specs.Prelude.{int_lt, int_le, AllPairs}
 use Rattle.std.specs.Int.{w32, cast_unsigned, cast_signed}
 use Rattle.std.specs.List.{AllByRecursion}
 use Rattle.std.proofs.lemmas.Int.{to_z-of_z, ints}
@@ -8,7 +8,6 @@ use Rattle.std.proofs.lemmas.List.{length-replicate, length-map}
 use Rattle.format_reading.specs.declared.fault.FormatKind.{FormatKind}
 use Rattle.class_model.specs.declared.pool.Entry.{Entry}
 use Rattle.class_model.specs.declared.op.Case.{Case}
-use Rattle.class_model.specs.declared.op.Op.{Op}
 use Rattle.class_model.specs.declared.op.Op.TheVariants as op
 use Rattle.class_model.specs.Instructions.{branch_target}
 use Rattle.class_model.specs.InstructionStructure.{MatchOffset, TableSwitch, LookupSwitch, pad_length}

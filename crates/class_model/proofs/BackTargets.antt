@@ -1,11 +1,9 @@
 -- Branches and switches are read back.
-use Rattle.std.proofs.Common.{◌≡◌, ℕ, zero, suc, ◌+◌, ◌-◌, ◌^◌, ◌<◌, ◌≤◌, Bool, true, false, List, [], ◌∷◌, length, map, replicate, Option, Some, None, Result, Ok, ℤ, pos, negsuc, ◌+ℤ◌, ◌-ℤ◌, ◌<ℤ◌, refl, sym, ap, subst, ◌∙◌, arith, SFits}
-use Rattle.std.specs.Int.{w16, w32, cast_unsigned, cast_signed}
-use Rattle.std.specs.List.{AllByRecursion}
+use Rattle.std.proofs.Common.{◌≡◌, ℕ, ◌+◌, ◌<◌, List, Some, Result, Ok, ℤ, pos, ◌-ℤ◌, refl, ap, ◌∙◌, arith, SFits}
+use Rattle.std.specs.Int.{w16, cast_unsigned, cast_signed}
 use Rattle.std.proofs.lemmas.Int.{to_z-of_z, ints}
 use Rattle.format_reading.specs.declared.fault.FormatKind.{FormatKind}
 use Rattle.class_model.specs.declared.pool.Entry.{Entry}
-use Rattle.class_model.specs.declared.op.Case.{Case}
 use Rattle.class_model.specs.declared.op.Cond.{Cond}
 use Rattle.class_model.specs.declared.op.Cond.TheVariants as cond_op
 use Rattle.class_model.specs.declared.op.Op.{Op}
@@ -13,10 +11,10 @@ use Rattle.class_model.specs.declared.op.Op.TheVariants as op
 use Rattle.class_model.specs.Opcodes.{branch_op}
 use Rattle.class_model.specs.Instructions.{branch_target}
 use Rattle.class_model.specs.InstructionStructure.{Branch}
-use Rattle.class_model.specs.InstructionMeaning.{op_of, made}
+use Rattle.class_model.specs.InstructionMeaning.{op_of}
 use Rattle.class_model.specs.ReadingCode.{begun, two_bytes}
 use Rattle.class_model.specs.CanonicalCode.{cond_number}
-use Rattle.class_model.proofs.BackNumbers.{short_below, word_below}
+use Rattle.class_model.proofs.BackNumbers.{short_below}
 use Rattle.class_model.proofs.BackInfos.{read_branch}
 use Rattle.class_model.proofs.BackPlain.{IsBack}
 

@@ -46,3 +46,11 @@ pub mod UntilLaw
 pub mod CodeLaw
 pub mod LeftOutLaw
 pub mod RowLaw
+pub mod BackCode
+pub mod BackRead
+pub mod BackSame
+pub mod BackPool
+mod BackExample
+pub mod BackConstants
+pub mod BackPaired
+pub mod BackGrown

@@ -33,8 +33,10 @@ pub mod ReadingClass
 pub mod CanonicalPool
 pub mod CanonicalCode
 pub mod Says
+pub mod PoolEntries
 pub mod CanonicalFrames
 pub mod CanonicalClass
 pub mod WriteLimits
+pub mod WritableCode
 -- A few class files
 pub mod Rows

@@ -1,9 +1,8 @@
 -- The numbers and texts of an instruction are those that its type in the code can hold.
-use Rattle.std.specs.Prelude.{ℕ, ◌^◌, ◌<◌, List, IsUtf8}
+use Rattle.std.specs.Prelude.{◌^◌, ◌<◌, IsUtf8}
 use Rattle.std.specs.Int.{w16, w32}
 use Rattle.std.specs.Int.RustNames.{FitsSigned}
 use Rattle.std.specs.List.{AllByRecursion}
-use Rattle.jv_base.specs.declared.types.FieldType.{FieldType}
 use Rattle.jv_base.specs.declared.types.Base.{Base}
 use Rattle.jv_base.specs.declared.types.Base.TheVariants as base
 use Rattle.class_model.specs.declared.op.MemberRef.{MemberRef}

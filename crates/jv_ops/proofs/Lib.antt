@@ -8,3 +8,5 @@ pub mod ReadMeant
 pub mod ReadToEnd
 pub mod ReadWhole
 pub mod ReadGrammar
+mod BackMeaning
+pub mod BackDecoded

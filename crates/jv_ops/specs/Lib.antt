@@ -3,3 +3,4 @@ pub mod Meaning
 pub mod Decoding
 pub mod Targets
 pub mod Decoded
+pub mod ReadBack

@@ -4,6 +4,7 @@ ghost use Rattle.jv_base.specs.Longest.{IfFault};
 ghost use Rattle.jv_base.specs.Outcome.{IsDue};
 ghost use Rattle.jv_ops.specs.declared.decoding.Decoded.{Decoded};
 ghost use Rattle.jv_ops.specs.Decoded.{HaveUnits, IsDecoded, ToldLeftOut, code_decoded, decoded, all_decoded};
+ghost use Rattle.jv_ops.specs.ReadBack.{CanonicalIsDecoded};
 ghost use Rattle.jv_ops.specs.Targets.{starts_of};
 
 use crate::fault::CodeFault;
@@ -67,3 +68,9 @@ pub fn decode_code(alloc: Global, bytes: &[u8], pool: &Pool) -> Result<Decoded, 
 {
     decoded_in_steps(alloc, bytes, pool)
 }
+
+/// The canonical bytes of the instructions of a well-formed code, which is not too long and has no
+/// branch that is too far, are decoded as those instructions.
+pub fn canonical_is_decoded()
+    ensures { CanonicalIsDecoded }
+{}

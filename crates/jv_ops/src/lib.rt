@@ -10,7 +10,7 @@ mod reading;
 mod targets;
 mod unaimed;
 
-pub use decoding::{Decoded, decode_code};
+pub use decoding::{Decoded, canonical_is_decoded, decode_code};
 pub use fault::CodeFault;
 
 #[cfg(test)]
