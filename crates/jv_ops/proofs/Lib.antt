@@ -8,5 +8,4 @@ pub mod ReadMeant
 pub mod ReadToEnd
 pub mod ReadWhole
 pub mod ReadGrammar
-mod BackMeaning
 pub mod BackDecoded

@@ -5,9 +5,9 @@ use Rattle.class_model.specs.declared.constant.PoolConstant.{PoolConstant}
 use Rattle.class_model.specs.declared.code.Ins.{Ins}
 use Rattle.class_model.specs.CanonicalCode.{places, code_bytes}
 use Rattle.class_model.specs.WritableCode.{IsWritableCode}
-use Rattle.jv_ops.specs.Decoded.{decoded}
+use Rattle.jv_ops.specs.Decoded.{code_decoded}
 
 -- the canonical bytes of a code are decoded as its instructions, which begin at all of their places but the last
 abbrev pub CanonicalIsDecoded : Type 0
 CanonicalIsDecoded = (entries : List Entry) (pool : List PoolConstant) (ins : List Ins) → IsWritableCode entries pool ins
-    → decoded entries (code_bytes pool (places pool ins) ins) ≡ Ok (record { ops = map (λ (i : Ins). i.op) ins; starts = take (length ins) (places pool ins) })
+    → code_decoded entries (code_bytes pool (places pool ins) ins) ≡ Ok (record { ops = map (λ (i : Ins). i.op) ins; starts = take (length ins) (places pool ins) })
