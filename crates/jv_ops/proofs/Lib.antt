@@ -5,3 +5,13 @@ mod Placed
 mod ToEnd
 mod Collecting
 mod Numbers
+mod Indexed
+mod Lengths
+mod Ends
+mod Counts
+mod Ready
+mod Branches
+mod Onward
+mod Alike
+mod Kept
+mod Saying

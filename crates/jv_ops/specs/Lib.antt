@@ -3,3 +3,5 @@ pub mod Meaning
 pub mod Decoding
 pub mod Targets
 pub mod Decoded
+pub mod Constants
+pub mod Coded
