@@ -4,3 +4,5 @@ pub mod Decoding
 pub mod Targets
 pub mod Decoded
 pub mod ReadBack
+pub mod Constants
+pub mod Coded

@@ -161,8 +161,8 @@ fn argument_words(args: &[FieldType]) -> u32
     words
 }
 
-// The count that invokeinterface has for a method: its argument words with the object's.
-fn count_of(alloc: Global, method: &MemberRef) -> M<Option<u32>>
+/// The count that invokeinterface has for a method: its argument words with the object's.
+pub fn count_of(alloc: Global, method: &MemberRef) -> M<Option<u32>>
     ensures { IfOk result (λ count. count ≡ count_of method.now) }
 {
     match method_type_of(alloc, &method.ty)? {

@@ -1,16 +1,23 @@
-//! The instructions of a code, from their bytes (JVMS 4.9.1, 6.5).
+//! The instructions of a code, from their bytes and to them (JVMS 4.9.1, 6.5).
 #![tactic(auto, unfolding(format_reading::specs::Reader::u1, format_reading::specs::Reader::u2, format_reading::specs::Reader::u4, format_reading::specs::Reader::bytes, format_reading::specs::Reader::lead, format_reading::specs::Reader::bind, format_reading::specs::Reader::give, class_model::specs::InstructionMeaning::op_of))]
 
+mod constants;
 mod decoding;
+mod encoding;
 mod fault;
 mod instruction;
 mod lookups;
 mod opcodes;
 mod reading;
+mod said;
+mod sizes;
 mod targets;
 mod unaimed;
+mod writing;
 
+pub use constants::{ConstantTable, class_constant, fieldref, methodref, type_constant};
 pub use decoding::{Decoded, canonical_is_decoded, decode_code};
+pub use encoding::{Coded, encode_code, encode_with};
 pub use fault::CodeFault;
 
 #[cfg(test)]

@@ -76,7 +76,8 @@ fn named_type(alloc: Global, text: Text) -> M<Option<FieldType>>
 
 // ---- entries
 
-fn units_at(pool: &Pool, index: u16) -> Option<&Units>
+/// The units of a CONSTANT_Utf8 (JVMS 4.4.7).
+pub fn units_at(pool: &Pool, index: u16) -> Option<&Units>
     ensures { option_copied result ≡ units_at pool.now.entries index }
 {
     match pool.entries.get(usize::from(index)) {
@@ -85,7 +86,8 @@ fn units_at(pool: &Pool, index: u16) -> Option<&Units>
     }
 }
 
-fn class_units_at(pool: &Pool, index: u16) -> Option<&Units>
+/// The units of the text that a CONSTANT_Class names (JVMS 4.4.1).
+pub fn class_units_at(pool: &Pool, index: u16) -> Option<&Units>
     ensures { option_copied result ≡ class_units_at pool.now.entries index }
 {
     match pool.entries.get(usize::from(index)) {
@@ -104,7 +106,8 @@ pub fn string_units_at(pool: &Pool, index: u16) -> Option<&Units>
     }
 }
 
-fn name_and_type_at(pool: &Pool, index: u16) -> Option<(u16, u16)>
+/// The indices of the name and the descriptor in a CONSTANT_NameAndType (JVMS 4.4.6).
+pub fn name_and_type_at(pool: &Pool, index: u16) -> Option<(u16, u16)>
     ensures { result ≡ name_and_type_at pool.now.entries index }
 {
     match pool.entries.get(usize::from(index)) {

@@ -1,0 +1,15 @@
+use Rattle.std.proofs.Common.{rules, ◌≡◌, ◌<◌, ◌^◌, false, sym, subst, ◌∙◌, of_z, to_z}
+use Rattle.std.specs.Int.{w64}
+use Rattle.std.proofs.lemmas.Int.{to_z-of_z}
+use Rattle.class_model.specs.declared.constant.PoolConstant.TheVariants.{Long}
+use Rattle.class_model.specs.CanonicalPool.{index_of}
+use Rattle.class_model.specs.CanonicalCode.{is_lconst}
+use Rattle.jv_ops.proofs.writing.put_push_long.Goals as goal
+
+pub put_constant-requires : goal.put_constant-requires
+put_constant-requires c =
+    let n = c.args.number in
+    let e : to_z w64 (of_z w64 n) ≡ n = to_z-of_z w64 n c.ranges.number in
+    let h : is_lconst n ≡ false = subst (λ z. is_lconst z ≡ false) e (sym c.is_lconst.ensures.value ∙ c.if-is_lconst.false) in
+    let r : index_of c.args.table.now (Long n) < 2 ^ 16 = c.requires h in
+    subst (λ z. index_of c.args.table.now (Long z) < 2 ^ 16) (sym e) r
