@@ -11,7 +11,7 @@ use Rattle.format_reading.specs.declared.fault.FormatKind.{FormatKind}
 use Rattle.format_reading.specs.declared.fault.FormatKind.TheVariants as bad
 use Rattle.format_reading.specs.Reader.{Reader, u1, u2, lead, bind, give, many}
 use Rattle.format_reading.specs.Spelling.{Spells, AllStand, ManyStand}
-use Rattle.format_reading.proofs.Exact.{Exact, Leads, as_raw, lead_exact, bind_exact, map_exact, give_exact, many_exact, leads_if, u1_exact, u2_exact, nothing}
+use Rattle.format_reading.proofs.Exact.{Exact, Leads, as_raw, lead_exact, lead_exact_of, bind_exact, map_exact, give_exact, many_exact, leads_if, u1_exact, u2_exact, nothing}
 use Rattle.class_model.specs.Frames.{VerificationTypeInfo, TagInfo, ObjectInfo, UninitializedInfo, verification_type_info, StackMapFrame, SameFrame, SameLocalsOneStackItem, SameLocalsOneStackItemExtended, ChopFrame, SameFrameExtended, AppendFrame, FullFrame, counted_types, stack_map_frame}
 use Rattle.class_model.specs.ReadingFrames.{object_info, uninitialized_info, type_begun, read_type, one_item, one_item_extended, chop, same_extended, append, full, row_begun, at_row, read_row}
 
@@ -361,3 +361,44 @@ row_leads t below =
     leads_if _ _ g (leb t 250) (λ e. chop_reads t a b c d e) (λ e.
     leads_if _ _ g (eqb t 251) (λ m. subst (λ (n : ℕ). Reads n same_extended) (sym (eqb-true t 251 m)) same_extended_reads) (λ m.
     leads_if _ _ g (leb t 254) (λ k. append_reads t a b c d e m k) (λ k. full_reads t (let n : 254 < t = leb-false t 254 k in omega (arith, n, below)) a b c d e m k)))))))
+
+behind_is : (row : StackMapFrame) → stack_map_frame row ≡ type_of row ∷ behind_type row
+behind_is (SameFrame t) = refl
+behind_is (SameLocalsOneStackItem t item) = refl
+behind_is (SameLocalsOneStackItemExtended delta item) = refl
+behind_is (ChopFrame t delta) = refl
+behind_is (SameFrameExtended delta) = refl
+behind_is (AppendFrame t delta locals) = refl
+behind_is (FullFrame delta locals stack) = refl
+
+type_below : (row : StackMapFrame) → FitsRow row → type_of row < 256
+type_below (SameFrame t) h = omega (arith, h)
+type_below (SameLocalsOneStackItem t item) h = omega (arith, h.1)
+type_below (SameLocalsOneStackItemExtended delta item) h = omega arith
+type_below (ChopFrame t delta) h = omega (arith, h.1)
+type_below (SameFrameExtended delta) h = omega arith
+type_below (AppendFrame t delta locals) h = omega (arith, h.1)
+type_below (FullFrame delta locals stack) h = omega arith
+
+-- a row behind its frame_type
+form_exact : Exact (lead u1 row_begun) (Spells stack_map_frame (λ _ row y. FitsRow row × (y ≡ row)))
+form_exact = as_raw stack_map_frame _ (λ w. w.1) (λ row. (type_of row, row))
+    (λ at w y h.
+    let below = type_below w.1 h.2.1 in
+    (ap (λ (k : ℕ). to_be_bytes w8 k ++ behind_type w.1) (sym h.1.1 ∙ sym h.2.0) ∙ one_byte (type_of w.1) below (behind_type w.1) ∙ sym (behind_is w.1), (h.2.1, h.2.2)))
+    (λ at row y h.
+    let below = type_below row h.0 in
+    (behind_is row ∙ sym (one_byte (type_of row) below (behind_type row)), (type_of row, (below, refl), (refl, h.0, h.1))))
+    (lead_exact_of row_begun behind_type (λ t _ row y. OfType t row y) u1_exact (λ at w x h. row_leads x (subst (λ (k : ℕ). k < 256) (sym h.1) h.0)))
+
+row_ok : (at : ℕ) (r : Result (StackMapFrame × Place) FormatFault) (y : StackMapFrame × Place) → at_row at r ≡ Ok y → r ≡ Ok y
+row_ok at (Ok x) y h = h
+row_ok at (Err f) y h = absurd cc
+
+-- a row is read exactly where it is spelled
+pub row_exact : Exact read_row (Spells stack_map_frame (λ _ row y. FitsRow row × (y ≡ row)))
+unfolding read_row
+row_exact = record {
+  found = λ p x q fits h. form_exact.found p x q fits (row_ok p.at (lead u1 row_begun p) (x, q) h);
+  only = λ p text x q h k. ap (at_row p.at) (form_exact.only p text x q h k);
+}
