@@ -20,6 +20,7 @@ use Rattle.shrink_core.specs.SmallClassFile.{ClassFile}
 use Rattle.shrink_core.specs.SmallOpcodes.{info_bytes}
 use Rattle.class_model.specs.Flags.{flags_of}
 use Rattle.shrink_core.specs.SmallClassFile.{HasOneAccess, IsCode, IsBody, AreMethodFlags, IsMethod, AreClassFlags, IsClass}
+use Rattle.class_model.specs.CanonicalPool.{filled}
 use Rattle.shrink_core.specs.SmallLayout.{method_constants, constants_of, pool_of, entry_of, code_raw, code_attributes, method_raw, class_raw, layout}
 use Rattle.shrink_core.specs.Small.{IsSmall}
 use Rattle.shrink_core.proofs.Constants.{Has, HasText, all_inserted}
@@ -112,14 +113,17 @@ all_mapped P R f one (x ∷ xs) all = (one x all.0, all_mapped P R f one xs all.
 abbrev Names : List PoolConstant → PoolConstant → Type 0
 Names ks (Utf8 units) = Unit {0}
 Names ks (ClassOf units) = (name : List ℕ) × IsUtf8 name × IsTrue (is_class_name name) × (units ≡ units_of name) × Has ks (Utf8 units)
+Names ks _ = ⊥
 
 names_right : (ks : List PoolConstant) (k : PoolConstant) → Names ks k → NamesRight (pool_read ks) (entry_of ks k)
 names_right ks (Utf8 units) h = tt
 names_right ks (ClassOf units) h = (h.0, (h.1, units_there ks units h.4 ∙ ap (λ u. Some u) h.3), inl h.2)
+names_right ks _ h = absurd h
 
 has_bytes : (ks : List PoolConstant) → length ks + 1 < 2 ^ 16 → (k : PoolConstant) → HasText k → HasBytes (entry_of ks k)
 has_bytes ks count (Utf8 units) h = h
 has_bytes ks count (ClassOf units) h = index_fits ks (Utf8 units) count
+has_bytes ks count _ h = absurd h
 
 methods_name : (ks : List PoolConstant) (methods : List Method) → AllByRecursion (Names ks) (flat_map method_constants methods)
 methods_name ks [] = tt
@@ -128,11 +132,11 @@ methods_name ks (m ∷ methods) = (tt, (tt, (tt, methods_name ks methods)))
 -- ---- the class
 
 pool_wanted : (class : Class) → AllByRecursion (Has (pool_of class)) (constants_of class)
-unfolding pool_of
+unfolding pool_of filled
 pool_wanted class = wanted_have (constants_of class) []
 
 pool_names : (raw : ClassFile) (class : Class) (pool : List Entry) → IsClass raw class pool → AllByRecursion (Names (pool_of class)) (pool_of class)
-unfolding pool_of
+unfolding pool_of filled
 pool_names raw class pool h =
     let has = pool_wanted class in
     let ks = pool_of class in

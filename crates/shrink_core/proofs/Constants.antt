@@ -1,29 +1,19 @@
 -- The constants that a class is written with stand in the pool that was read.
-use Rattle.std.proofs.Common.{◌≡◌, ℕ, zero, suc, ◌≤◌, Bool, true, false, cond, ◌||◌, List, [], ◌∷◌, ◌++◌, length, Option, Some, None, option_map, option_and_then, slice_get, refl, sym, ap, subst, ◌∙◌, arith, Decides}
-use Rattle.std.specs.Cmp.{IsEquivalence, decided}
+use Rattle.std.proofs.Common.{◌≡◌, ℕ, zero, suc, ◌≤◌, Bool, true, false, cond, ◌||◌, List, [], ◌∷◌, ◌++◌, length, Option, Some, None, option_map, option_and_then, slice_get, refl, sym, ap, subst, ◌∙◌, arith}
 use Rattle.std.specs.List.{AllByRecursion, IsDistinct, list_any, filter_map, cons_option}
 use Rattle.std.proofs.lemmas.Bool.{or_left, or_right}
 use Rattle.std.proofs.lemmas.Map.Keys.{IsDistinct-push}
 use Rattle.indexmap.specs.IndexSet.{insert_key, insert_all}
 use Rattle.jv_base.specs.Utf16.{units_of}
-use Rattle.jv_base.proofs.Equality.{text_Decides}
 use Rattle.class_model.specs.declared.constant.PoolConstant.{PoolConstant}
 use Rattle.class_model.specs.declared.constant.PoolConstant.TheVariants.{Utf8, Class as ClassOf}
 use Rattle.class_model.specs.declared.pool.Entry.{Entry}
 use Rattle.class_model.specs.declared.pool.Entry.TheVariants as entry
 use Rattle.shrink_core.specs.SmallPool.{HasBytes}
 use Rattle.class_model.specs.Pool.{units_in, name_index_in, units_at, IsTextAt, IsClassAt}
-use Rattle.shrink_core.specs.SmallLayout.{same}
+use Rattle.class_model.specs.CanonicalPool.{same}
 use Rattle.shrink_core.specs.Writable.{TextFits}
-
-pub same_Decides : (a b : PoolConstant) → Decides (same a b) (a ≡ b)
-same_Decides (Utf8 a) (Utf8 b) = let d = text_Decides a b in (λ e. ap (λ u. Utf8 u) (d.0 e), λ e. d.1 cc)
-same_Decides (Utf8 a) (ClassOf b) = (λ e. absurd cc, λ e. absurd cc)
-same_Decides (ClassOf a) (Utf8 b) = (λ e. absurd cc, λ e. absurd cc)
-same_Decides (ClassOf a) (ClassOf b) = let d = text_Decides a b in (λ e. ap (λ u. ClassOf u) (d.0 e), λ e. d.1 cc)
-
-pub same_laws : IsEquivalence same
-same_laws = decided same same_Decides
+use Rattle.shrink_core.proofs.ConstantEquality.{same_Decides, same_laws}
 
 -- ---- each constant once
 
@@ -122,10 +112,11 @@ has_class pool i name h = class_by pool i (slice_get pool i) (units_of name) ref
 abbrev pub HasText : PoolConstant → Type 0
 HasText (Utf8 units) = HasBytes (entry.Utf8 units)
 HasText (ClassOf units) = Unit {0}
+HasText _ = ⊥
 
 pub text_fits : (k : PoolConstant) → HasText k → TextFits k
 text_fits (Utf8 units) h = h.1
-text_fits (ClassOf units) h = tt
+text_fits _ h = tt
 
 entry_has : (pool : List Entry) (e : Entry) (ks : List PoolConstant) → HasBytes e → AllByRecursion HasText ks → AllByRecursion HasText (cons_option (symbol pool e) ks)
 entry_has pool (entry.Utf8 units) ks h all = (h, all)

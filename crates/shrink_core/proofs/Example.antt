@@ -9,19 +9,20 @@ use Rattle.jv_base.specs.Types.{method_text, field_text, result_text, base_text}
 use Rattle.class_model.specs.declared.op.Op.TheVariants as op
 use Rattle.class_model.specs.declared.op.Kind.TheVariants as kind
 use Rattle.class_model.specs.declared.code.Ins.{Ins}
+use Rattle.class_model.specs.CanonicalPool.{filled}
 use Rattle.shrink_core.specs.SmallLayout.{pool_of, code_bytes, op_bytes, layout}
 use Rattle.shrink_core.specs.Writable.{TextFits, OperandsFit, MethodFits, CanLayOut}
 use Rattle.shrink_core.specs.Example.{adder, adder_ins, adder_bytes}
 
 pub adder_is_written : layout adder ≡ adder_bytes
-unfolding chars layout pool_of code_bytes units_of mutf8 unit_bytes method_text result_text field_text base_text
+unfolding chars layout pool_of filled code_bytes units_of mutf8 unit_bytes method_text result_text field_text base_text
 adder_is_written = refl
 
 operands_fit : All (λ (i : Ins). OperandsFit i.op) adder_ins
 operands_fit = All-from_recursion (λ (i : Ins). OperandsFit i.op) adder_ins (lit< tt, (sfits_lit tt, (tt, (tt, tt))))
 
 pub adder_fits : CanLayOut adder
-unfolding chars pool_of code_bytes units_of mutf8 unit_bytes method_text result_text field_text base_text
+unfolding chars pool_of filled code_bytes units_of mutf8 unit_bytes method_text result_text field_text base_text
 adder_fits = record {
   constant_pool_count = lit< tt;
   texts = All-from_recursion TextFits (pool_of adder) (lit< tt, (tt, (lit< tt, (tt, (lit< tt, (lit< tt, (lit< tt, tt)))))));

@@ -11,8 +11,10 @@ use Rattle.class_model.specs.declared.constant.PoolConstant.TheVariants.{Utf8, C
 use Rattle.class_model.specs.declared.pool.Entry.{Entry}
 use Rattle.shrink_core.specs.SmallPool.{numbered}
 use Rattle.class_model.specs.Pool.{units_in, name_index_in, units_at, IsTextAt, IsClassAt}
-use Rattle.shrink_core.specs.SmallLayout.{same, index_of, entry_of}
-use Rattle.shrink_core.proofs.Constants.{Has, same_Decides}
+use Rattle.class_model.specs.CanonicalPool.{same, index_of}
+use Rattle.shrink_core.specs.SmallLayout.{entry_of}
+use Rattle.shrink_core.proofs.ConstantEquality.{same_Decides}
+use Rattle.shrink_core.proofs.Constants.{Has}
 
 -- ---- what is wanted is there
 

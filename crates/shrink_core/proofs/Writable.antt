@@ -15,10 +15,12 @@ use Rattle.class_model.specs.Structure.{AttributeInfo, MemberInfo, CodeInfo}
 use Rattle.shrink_core.specs.SmallClassFile.{ClassFile}
 use Rattle.shrink_core.specs.SmallOpcodes.{info_bytes}
 use Rattle.shrink_core.specs.SmallClassFile.{IsCode, IsBody, IsMethod, IsClass}
-use Rattle.shrink_core.specs.SmallLayout.{same, method_constants, constants_of, pool_of}
+use Rattle.class_model.specs.CanonicalPool.{same, filled}
+use Rattle.shrink_core.specs.SmallLayout.{method_constants, constants_of, pool_of}
 use Rattle.shrink_core.specs.Small.{IsSmall}
 use Rattle.shrink_core.specs.Writable.{TextFits, OperandsFit, CodeFits, MethodFits, CanLayOut}
-use Rattle.shrink_core.proofs.Constants.{Has, HasText, text_fits, symbols, symbols_most, symbols_have, has_text, has_class, all_among, same_laws, all_inserted, distinct_inserted}
+use Rattle.shrink_core.proofs.Constants.{Has, HasText, text_fits, symbols, symbols_most, symbols_have, has_text, has_class, all_among, all_inserted, distinct_inserted}
+use Rattle.shrink_core.proofs.ConstantEquality.{same_laws}
 use Rattle.shrink_core.proofs.Shortest.{code_within}
 
 -- ---- codes
@@ -62,11 +64,11 @@ constants_have raw class pool h =
     (this.0, (this.1, (super_.0, (super_.1, methods_have pool raw.methods class.methods h.methods))))
 
 pool_has : (raw : ClassFile) (class : Class) (pool : List Entry) → IsClass raw class pool → AllByRecursion (Has (symbols pool pool)) (pool_of class)
-unfolding pool_of
+unfolding pool_of filled
 pool_has raw class pool h = all_inserted (Has (symbols pool pool)) (constants_of class) [] tt (constants_have raw class pool h)
 
 pool_distinct : (class : Class) → IsDistinct same (pool_of class)
-unfolding pool_of IsDistinct
+unfolding pool_of filled IsDistinct
 pool_distinct class = distinct_inserted (constants_of class) [] tt
 
 -- each constant of the pool is one of an entry that was read, so there are no more

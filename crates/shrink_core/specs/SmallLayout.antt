@@ -1,9 +1,7 @@
 -- The canonical spelling of a small class.
-use Rattle.std.specs.Prelude.{ℕ, ◌+◌, Bool, false, List, [], ◌∷◌, ◌++◌, map, Option, Some, None, nat_lt, nat_eq, if◌then◌else◌, codes, ℤ, pos, negsuc, ◌+ℤ◌}
+use Rattle.std.specs.Prelude.{ℕ, ◌+◌, List, [], ◌∷◌, ◌++◌, map, Option, Some, None, nat_lt, if◌then◌else◌, codes, ℤ, pos, negsuc, ◌+ℤ◌}
 use Rattle.std.specs.Int.{w8, w16, cast_unsigned, to_be_bytes}
-use Rattle.std.specs.List.{flat_map, position_or_len}
-use Rattle.std.specs.Cmp.Lexicographic.{pointwise}
-use Rattle.indexmap.specs.IndexSet.{insert_all}
+use Rattle.std.specs.List.{flat_map}
 use Rattle.jv_base.specs.Utf16.{units_of}
 use Rattle.jv_base.specs.Types.{method_text}
 use Rattle.class_model.specs.declared.constant.PoolConstant.{PoolConstant}
@@ -19,24 +17,12 @@ use Rattle.class_model.specs.declared.code.Ins.{Ins}
 use Rattle.class_model.specs.declared.code.Code.{Code}
 use Rattle.class_model.specs.declared.class.Method.{Method}
 use Rattle.class_model.specs.declared.class.Class.{Class}
+use Rattle.class_model.specs.Between.{int_between}
+use Rattle.class_model.specs.CanonicalPool.{text_constants, class_constants, filled, index_of}
 use Rattle.class_model.specs.Structure.{AttributeInfo, MemberInfo, CodeInfo, code_info}
 use Rattle.shrink_core.specs.SmallClassFile.{ClassFile, class_file}
 
 -- ---- the pool
-
--- the constants are one (JVMS 4.4)
-abbrev pub same : PoolConstant → PoolConstant → Bool
-same (Utf8 a) (Utf8 b) = pointwise nat_eq a b
-same (ClassOf a) (ClassOf b) = pointwise nat_eq a b
-same _ _ = false
-
--- the constants of a text
-abbrev pub text_constants : List ℕ → List PoolConstant
-text_constants text = Utf8 (units_of text) ∷ []
-
--- the constants of a class that is named, the text before the class
-abbrev pub class_constants : List ℕ → List PoolConstant
-class_constants name = Utf8 (units_of name) ∷ ClassOf (units_of name) ∷ []
 
 -- the constants of a method: its name, its descriptor and its attribute's name
 abbrev pub method_constants : Method → List PoolConstant
@@ -48,16 +34,13 @@ constants_of c = class_constants c.name ++ (class_constants c.super_name ++ flat
 
 -- the pool from index 1 on: each constant once, where it is needed first
 unfoldable pub pool_of : Class → List PoolConstant
-pool_of c = insert_all same [] (constants_of c)
+pool_of c = filled (constants_of c)
 
--- the index of a constant
-abbrev pub index_of : List PoolConstant → PoolConstant → ℕ
-index_of pool k = 1 + position_or_len (same k) pool
-
--- the entry of a constant (JVMS 4.4)
+-- the entry of a constant (JVMS 4.4); of those that no small class wants there is none
 abbrev pub entry_of : List PoolConstant → PoolConstant → Entry
 entry_of pool (Utf8 units) = entry.Utf8 units
 entry_of pool (ClassOf units) = entry.Class (index_of pool (Utf8 units))
+entry_of pool _ = entry.Gap
 
 -- ---- code
 

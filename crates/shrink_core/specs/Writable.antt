@@ -4,7 +4,7 @@ use Rattle.std.specs.Int.{w8, w16}
 use Rattle.std.specs.Int.RustNames.{FitsSigned}
 use Rattle.jv_base.specs.Mutf8.{mutf8}
 use Rattle.class_model.specs.declared.constant.PoolConstant.{PoolConstant}
-use Rattle.class_model.specs.declared.constant.PoolConstant.TheVariants.{Utf8, Class as ClassOf}
+use Rattle.class_model.specs.declared.constant.PoolConstant.TheVariants.{Utf8}
 use Rattle.class_model.specs.declared.op.Op.{Op}
 use Rattle.class_model.specs.declared.op.Op.TheVariants as op
 use Rattle.class_model.specs.declared.op.Kind.TheVariants as kind
@@ -18,7 +18,7 @@ use Rattle.shrink_core.specs.Small.{IsSmall}
 -- the length of a text fits two bytes (JVMS 4.4.7)
 abbrev pub TextFits : PoolConstant → Type 0
 TextFits (Utf8 units) = length (mutf8 units) < 2 ^ 16
-TextFits (ClassOf units) = Unit {0}
+TextFits _ = Unit {0}
 
 -- the operands fit the bytes of an instruction without `wide` (JVMS 6.5)
 abbrev pub OperandsFit : Op → Type 0

@@ -5,6 +5,7 @@ ghost use Rattle.std.specs.List.{flat_map};
 ghost use Rattle.indexmap.specs.IndexSet.{insert_key, insert_all};
 ghost use Rattle.jv_base.specs.Mutf8.{mutf8};
 ghost use Rattle.jv_base.specs.Utf16.{units_of};
+ghost use Rattle.class_model.specs.CanonicalPool as constants;
 ghost use Rattle.shrink_core.specs.SmallLayout as canonical;
 ghost use Rattle.shrink_core.specs.SmallPool.{cp_info};
 ghost use Rattle.shrink_core.specs.Writable.{TextFits};
@@ -35,7 +36,7 @@ pub(crate) fn pool_of(alloc: Global, class: &Class) -> M<IndexSet<PoolConstant>>
 /// The text comes before the class that it names.
 fn add_class(alloc: Global, pool: &mut IndexSet<PoolConstant>, name: &Text) -> M<()>
     ensures { OnOk result (pool.new.keys
-        ≡ insert_all canonical.same pool.old.keys (canonical.class_constants name.now)) }
+        ≡ insert_all constants.same pool.old.keys (constants.class_constants name.now)) }
 {
     add(pool, PoolConstant::Utf8(units_of_text(alloc, name)?))?;
     add(pool, PoolConstant::Class(units_of_text(alloc, name)?))
@@ -44,7 +45,7 @@ fn add_class(alloc: Global, pool: &mut IndexSet<PoolConstant>, name: &Text) -> M
 /// The name, the descriptor, and the name of the attribute that holds the code.
 fn add_method(alloc: Global, pool: &mut IndexSet<PoolConstant>, method: &Method) -> M<()>
     ensures { OnOk result (pool.new.keys
-        ≡ insert_all canonical.same pool.old.keys (canonical.method_constants method.now)) }
+        ≡ insert_all constants.same pool.old.keys (canonical.method_constants method.now)) }
 {
     add_text(alloc, pool, &method.name)?;
     add_text(alloc, pool, &method_text(alloc, &method.ty)?)?;
@@ -53,14 +54,14 @@ fn add_method(alloc: Global, pool: &mut IndexSet<PoolConstant>, method: &Method)
 
 fn add_text(alloc: Global, pool: &mut IndexSet<PoolConstant>, text: &Text) -> M<()>
     ensures { OnOk result (pool.new.keys
-        ≡ insert_all canonical.same pool.old.keys (canonical.text_constants text.now)) }
+        ≡ insert_all constants.same pool.old.keys (constants.text_constants text.now)) }
 {
     add(pool, PoolConstant::Utf8(units_of_text(alloc, text)?))
 }
 
 /// Puts a constant behind the others, unless it is there.
 fn add(pool: &mut IndexSet<PoolConstant>, constant: PoolConstant) -> M<()>
-    ensures { OnOk result (pool.new.keys ≡ insert_key canonical.same pool.old.keys constant) }
+    ensures { OnOk result (pool.new.keys ≡ insert_key constants.same pool.old.keys constant) }
 {
     pool.insert_full(constant)?;
     Ok(())
@@ -72,7 +73,7 @@ fn add(pool: &mut IndexSet<PoolConstant>, constant: PoolConstant) -> M<()>
 pub(crate) fn index_of_text(alloc: Global, pool: &IndexSet<PoolConstant>, text: &Text) -> M<u16>
     requires { length pool.now.keys + 1 < 2 ^ 16 }
     ensures { IfOk result (λ index. index
-        ≡ canonical.index_of pool.now.keys (PoolConstant.Utf8 (units_of text.now))) }
+        ≡ constants.index_of pool.now.keys (PoolConstant.Utf8 (units_of text.now))) }
 {
     let constant = PoolConstant::Utf8(units_of_text(alloc, text)?);
     Ok(index_of(pool, &constant))
@@ -82,7 +83,7 @@ pub(crate) fn index_of_text(alloc: Global, pool: &IndexSet<PoolConstant>, text: 
 pub(crate) fn index_of_class(alloc: Global, pool: &IndexSet<PoolConstant>, name: &Text) -> M<u16>
     requires { length pool.now.keys + 1 < 2 ^ 16 }
     ensures { IfOk result (λ index. index
-        ≡ canonical.index_of pool.now.keys (PoolConstant.Class (units_of name.now))) }
+        ≡ constants.index_of pool.now.keys (PoolConstant.Class (units_of name.now))) }
 {
     let constant = PoolConstant::Class(units_of_text(alloc, name)?);
     Ok(index_of(pool, &constant))
@@ -91,7 +92,7 @@ pub(crate) fn index_of_class(alloc: Global, pool: &IndexSet<PoolConstant>, name:
 /// The index of a constant, or the one behind the last where it is missing.
 fn index_of(pool: &IndexSet<PoolConstant>, constant: &PoolConstant) -> u16
     requires { length pool.now.keys + 1 < 2 ^ 16 }
-    ensures { result ≡ canonical.index_of pool.now.keys constant.now }
+    ensures { result ≡ constants.index_of pool.now.keys constant.now }
 {
     let place = pool.get_index_of(constant).unwrap_or(pool.len());
     1 + place as u16
@@ -132,6 +133,7 @@ fn put_entry(
             let text = PoolConstant::Utf8(copied(alloc, units)?);
             put_class(out, index_of(pool, &text))
         }
+        _ => Ok(()),
     }
 }
 
