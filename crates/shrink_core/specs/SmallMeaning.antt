@@ -1,21 +1,51 @@
 -- Which class the structure of a small class stands for.
-use Rattle.std.specs.Prelude.{◌≡◌, ℕ, List, [], Some, None, AllPairs, IsTrue, codes, false}
+use Rattle.std.specs.Prelude.{◌≡◌, ◌⊎◌, ℕ, List, [], Some, None, AllPairs, IsTrue, codes, false}
 use Rattle.std.specs.List.{AllZip, AllByRecursion}
-use Rattle.jv_base.specs.Names.{is_member_name}
+use Rattle.jv_base.specs.Names.{is_member_name, is_method_name}
 use Rattle.jv_base.specs.Types.{method_text, IsMethodType}
 use Rattle.jv_base.specs.declared.types.MethodType.{MethodType}
 use Rattle.class_model.specs.declared.pool.Entry.{Entry}
 use Rattle.class_model.specs.declared.code.Code.{Code}
 use Rattle.class_model.specs.declared.class.Method.{Method}
 use Rattle.class_model.specs.declared.class.Class.{Class}
-use Rattle.class_model.specs.Pool.{IsTextAt, IsClassAt}
+use Rattle.class_model.specs.Pool.{units_at, class_units_at, IsText, IsTextAt, IsClassAt, IsTypeText}
+use Rattle.class_model.specs.ConstantPool.{IsFieldText, IsMethodText, IsNameAndTypeAt}
 use Rattle.shrink_core.specs.SmallPool.{NamesRight}
 use Rattle.shrink_core.specs.SmallOpcodes.{IsCodeText}
 use Rattle.shrink_core.specs.SmallClassFile.{AreMethodFlags, AreClassFlags, Differ}
 use Rattle.shrink_core.specs.Small.{int_type}
 use Rattle.shrink_core.specs.declared.small.methods.Signature.{Signature}
+use Rattle.shrink_core.specs.declared.small.references.Described.{Described}
 use Rattle.shrink_core.specs.declared.small.raw.RawMethod.{RawMethod}
 use Rattle.shrink_core.specs.declared.small.raw.RawClass.{RawClass}
+
+-- ---- references
+
+-- the texts of the CONSTANT_Utf8 at two indices
+abbrev pub AreTexts : List Entry → ℕ → ℕ → Described → Type 0
+AreTexts pool name_index descriptor_index texts = IsText (units_at pool name_index) texts.name × IsText (units_at pool descriptor_index) texts.descriptor
+
+-- a name of a method and a descriptor (JVMS 4.4.6)
+abbrev pub IsDescribed : Described → Type 0
+IsDescribed texts = IsTrue (is_method_name texts.name) × (IsFieldText texts.descriptor ⊎ IsMethodText texts.descriptor)
+
+-- a name of a method and the descriptor of a method (JVMS 4.4.2)
+abbrev pub IsMethodDescribed : Described → Type 0
+IsMethodDescribed texts = IsTrue (is_method_name texts.name) × IsMethodText texts.descriptor
+
+-- the texts of the CONSTANT_NameAndType at an index
+abbrev pub IsDescribedAt : List Entry → ℕ → Described → Type 0
+IsDescribedAt pool index texts = IsNameAndTypeAt pool index texts.name texts.descriptor
+
+-- a CONSTANT_NameAndType at the index is that of a method
+abbrev pub IsMethodAt : List Entry → ℕ → Type 0
+IsMethodAt pool index = (texts : Described) × IsDescribedAt pool index texts × IsMethodDescribed texts
+
+-- a CONSTANT_Class at the index names a class or an array type (JVMS 4.4.1)
+abbrev pub HasTypeAt : List Entry → ℕ → Type 0
+HasTypeAt pool index = (text : List ℕ) × IsText (class_units_at pool index) text × IsTypeText text
+
+-- ---- methods
 
 -- the descriptor at an index is that of a method of ints that gives an int
 pub record IsIntDescriptor (pool : List Entry) (index : ℕ) (ty : MethodType) : Type 0 where
@@ -51,6 +81,8 @@ pub record IsMethodOf (pool : List Entry) (raw : RawMethod) (method : Method) : 
 -- what tells a method from the others of its class (JVMS 4.6)
 abbrev pub signature_of : Method → Signature
 signature_of m = record { name = m.name; descriptor = method_text m.ty }
+
+-- ---- the class
 
 -- an index names a class that has this name
 pub record NamesClass (pool : List Entry) (index : ℕ) (wanted name : List ℕ) : Type 0 where
