@@ -1,13 +1,18 @@
 -- What a CONSTANT_Methodref names, by what its two indices lead to.
-use Rattle.std.proofs.Common.{◌≡◌, ◌⊎◌, inl, inr, ℕ, ◌<◌, List, IsTrue, refl, subst, arith}
+use Rattle.std.proofs.Common.{◌≡◌, ◌⊎◌, inl, inr, ℕ, ◌^◌, ◌<◌, List, Some, Result, Ok, Err, option_and_then, slice_get, IsTrue, refl, sym, subst, ◌∙◌, arith}
 use Rattle.jv_base.specs.Names.{is_class_name, is_method_name}
 use Rattle.jv_base.specs.Types.{IsBase, IsFieldType}
 use Rattle.jv_base.specs.declared.types.FieldType.{FieldType}
+use Rattle.jv_base.specs.declared.outcome.Or.{Or}
+use Rattle.class_model.specs.declared.op.MemberRef.{MemberRef}
 use Rattle.class_model.specs.declared.pool.Entry.{Entry}
 use Rattle.class_model.specs.declared.pool.Entry.TheVariants.{Method}
 use Rattle.class_model.specs.Pool.{IsTypeText}
-use Rattle.class_model.specs.ConstantPool.{class_type, IsNameOfType, IsMethodText, NamesRight}
-use Rattle.shrink_core.specs.SmallMeaning.{HasTypeAt, IsMethodAt}
+use Rattle.class_model.specs.ConstantPool.{class_type, IsNameOfType, IsMethodText, NamesRight, methodref_in, IsTypeAt, IsNameAndTypeAt}
+use Rattle.shrink_core.specs.SmallMeaning.{HasTypeAt, IsMethodAt, IsOwnMethod, main}
+use Rattle.shrink_core.specs.SmallOpcodes.{IsOwnMethodAt}
+use Rattle.shrink_core.specs.Finding.{FindsOnly}
+use Rattle.shrink_core.proofs.FindingLaw.{none_other}
 
 -- a class or an array type has a type
 abbrev HasType : List ℕ → Type 0
@@ -37,3 +42,26 @@ method_there pool class_index index h = (record { name = h.name; descriptor = h.
 pub not_first : (P Q : Type 0) → (P → ⊥) → P ⊎ Q → Q
 not_first P Q none (inl p) = absurd (none p)
 not_first P Q none (inr q) = q
+
+-- the same value, with a fact that says the same
+pub only_other : {A X : Type 0} (r : Result A (Or X)) (P Q : A → Type 0) → ((x : A) → P x → Q x) → ((x : A) → Q x → P x) → FindsOnly r P → FindsOnly r Q
+only_other (Ok x) P Q on back h = (on x h.0, λ y q. h.1 y (back y q))
+only_other (Err e) P Q on back h = none_other e P Q (λ x q. (x, back x q)) h
+
+-- ---- a method of the class Main, by the indices of its reference
+
+pub own_there : (pool : List Entry) (index class_index described_index : ℕ) (reference : MemberRef) → index < 2 ^ 16 → option_and_then methodref_in (slice_get pool index) ≡ Some (class_index, described_index) → IsOwnMethod pool class_index described_index reference → IsOwnMethodAt main pool index reference
+own_there pool index class_index described_index reference fits is h =
+    ((record { index_fits = fits; indices = (class_index, described_index); entry = is; class = h.class_at; name_and_type = h.name_and_type }, h.of_interface), h.class)
+
+pub own_back : (pool : List Entry) (index class_index described_index : ℕ) (reference : MemberRef) → option_and_then methodref_in (slice_get pool index) ≡ Some (class_index, described_index) → IsOwnMethodAt main pool index reference → IsOwnMethod pool class_index described_index reference
+own_back pool index class_index described_index reference is h =
+    let r = h.0.0 in
+    let both : Some r.indices ≡ Some (class_index, described_index) = sym r.entry ∙ is in
+    let e : r.indices ≡ (class_index, described_index) = cc in
+    record {
+      class_at = subst (λ (w : ℕ × ℕ). IsTypeAt pool w.0 reference.class) e r.class;
+      name_and_type = subst (λ (w : ℕ × ℕ). IsNameAndTypeAt pool w.1 reference.name reference.ty) e r.name_and_type;
+      class = h.1;
+      of_interface = h.0.1;
+    }

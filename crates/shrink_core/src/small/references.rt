@@ -1,15 +1,18 @@
 // What the references of a small class name (JVMS 4.4.2 and 4.4.6).
-ghost use Rattle.std.specs.Prelude.{◌≡◌, ◌⊎◌, ◌<◌, ℕ, length, IfOk};
-ghost use Rattle.class_model.specs.ConstantPool.{NamesRight, IsFieldText, IsMethodText, name_and_type_at};
+ghost use Rattle.std.specs.Prelude.{◌≡◌, ◌⊎◌, ◌<◌, ℕ, length, slice_get, option_and_then, IfOk};
+ghost use Rattle.class_model.specs.ConstantPool.{NamesRight, IsFieldText, IsMethodText, methodref_in, name_and_type_at};
 ghost use Rattle.class_model.specs.declared.pool.Entry.TheVariants.{Method, NameAndType};
 ghost use Rattle.shrink_core.specs.SmallStructure.{FitsPool};
 ghost use Rattle.shrink_core.specs.Finding.{FindsSuch, FindsOnly};
-ghost use Rattle.shrink_core.specs.SmallMeaning.{AreTexts, IsDescribed, IsMethodDescribed, IsDescribedAt, IsMethodAt, HasTypeAt};
+ghost use Rattle.shrink_core.specs.SmallMeaning.{AreTexts, IsDescribed, IsMethodDescribed, IsDescribedAt, IsMethodAt, HasTypeAt, IsOwnMethod, main};
+ghost use Rattle.shrink_core.specs.SmallOpcodes.{IsOwnMethodAt};
 
 use crate::small::NotBuilt;
-use crate::small::pool::{check_type, class_units_at, text, units_at};
-use class_model::Entry;
-use jv_base::{Items, Name, Or, Text, is_method_name, read_field_type, read_method_type};
+use crate::small::pool::{check_type, class_at, class_units_at, text, units_at};
+use class_model::{Entry, MemberRef};
+use jv_base::{
+    Base, FieldType, Items, Name, Or, Text, is_method_name, read_field_type, read_method_type,
+};
 use std::alloc::Global;
 
 /// The name and the descriptor of a field or a method.
@@ -163,4 +166,52 @@ pub fn check_methodref(
 {
     check_type_at(alloc, pool, class_index)?;
     check_method_at(alloc, pool, index)
+}
+
+/// The two indices of the CONSTANT_Methodref at an index.
+fn methodref_at(pool: &Items<Entry>, index: u16) -> Option<(u16, u16)>
+    ensures { result ≡ option_and_then methodref_in (slice_get pool.now index) }
+{
+    match pool.get(usize::from(index)) {
+        Some(Entry::Method(class_index, index)) => Some((*class_index, *index)),
+        _ => None,
+    }
+}
+
+/// The method of the class `Main` that the CONSTANT_Methodref at two indices names.
+fn own_method(
+    alloc: Global,
+    pool: &Items<Entry>,
+    class_index: u16,
+    index: u16,
+) -> Result<MemberRef, Or<NotBuilt>>
+    requires { FitsPool pool.now }
+    ensures { FindsOnly result (IsOwnMethod pool.now class_index index) }
+{
+    let class = class_at(alloc, pool, class_index, "Main")?;
+    let texts = described_at(alloc, pool, index)?;
+    Ok(MemberRef {
+        class: FieldType {
+            dims: 0,
+            base: Base::Class(class),
+        },
+        name: texts.name,
+        ty: texts.descriptor,
+        of_interface: false,
+    })
+}
+
+/// The method of the class `Main` that the CONSTANT_Methodref at an index names.
+pub fn own_method_at(
+    alloc: Global,
+    pool: &Items<Entry>,
+    index: u16,
+) -> Result<MemberRef, Or<NotBuilt>>
+    requires { FitsPool pool.now }
+    ensures { FindsOnly result (IsOwnMethodAt main pool.now index) }
+{
+    match methodref_at(pool, index) {
+        Some((class_index, index)) => own_method(alloc, pool, class_index, index),
+        None => Err(Or::Fault(NotBuilt)),
+    }
 }
