@@ -1,5 +1,5 @@
 -- What a call in the code of a small class names, and the constants of a class by its methods and instructions.
-use Rattle.std.proofs.Common.{◌≡◌, ◌⊎◌, inl, inr, ℕ, ◌<◌, List, [], ◌∷◌, ◌++◌, Option, Some, None, IfSome, false, IsTrue, IsUtf8, codes, refl, sym, ap, subst, ◌∙◌, arith}
+use Rattle.std.proofs.Common.{◌≡◌, inl, inr, ℕ, ◌<◌, List, [], ◌∷◌, ◌++◌, Option, Some, IfSome, false, IsTrue, IsUtf8, codes, sym, ap, subst, ◌∙◌, arith}
 use Rattle.std.specs.List.{AllZip, AllByRecursion, flat_map}
 use Rattle.jv_base.specs.Names.{is_class_name}
 use Rattle.jv_base.specs.Types.{method_text}

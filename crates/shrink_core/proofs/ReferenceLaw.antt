@@ -1,14 +1,13 @@
 -- What a CONSTANT_Methodref names, by what its two indices lead to.
-use Rattle.std.proofs.Common.{◌≡◌, ◌⊎◌, inl, inr, ℕ, ◌^◌, ◌<◌, List, Some, Result, Ok, Err, option_and_then, slice_get, IsTrue, refl, sym, subst, ◌∙◌, arith}
-use Rattle.jv_base.specs.Names.{is_class_name, is_method_name}
-use Rattle.jv_base.specs.Types.{IsBase, IsFieldType}
+use Rattle.std.proofs.Common.{◌≡◌, ◌⊎◌, inl, inr, ℕ, ◌^◌, ◌<◌, List, Some, Result, Ok, Err, option_and_then, slice_get, refl, sym, subst, ◌∙◌, arith}
+use Rattle.jv_base.specs.Types.{IsFieldType}
 use Rattle.jv_base.specs.declared.types.FieldType.{FieldType}
 use Rattle.jv_base.specs.declared.outcome.Or.{Or}
 use Rattle.class_model.specs.declared.op.MemberRef.{MemberRef}
 use Rattle.class_model.specs.declared.pool.Entry.{Entry}
 use Rattle.class_model.specs.declared.pool.Entry.TheVariants.{Method}
 use Rattle.class_model.specs.Pool.{IsTypeText}
-use Rattle.class_model.specs.ConstantPool.{class_type, IsNameOfType, IsMethodText, NamesRight, methodref_in, IsTypeAt, IsNameAndTypeAt}
+use Rattle.class_model.specs.ConstantPool.{class_type, IsNameOfType, NamesRight, methodref_in, IsTypeAt, IsNameAndTypeAt}
 use Rattle.shrink_core.specs.SmallMeaning.{HasTypeAt, IsMethodAt, IsOwnMethod, main}
 use Rattle.shrink_core.specs.SmallOpcodes.{IsOwnMethodAt}
 use Rattle.shrink_core.specs.Finding.{FindsOnly}

@@ -1,7 +1,7 @@
-use Rattle.std.proofs.Common.{◌≡◌, ◌<◌, ◌++◌, ◌∷◌, [], length, arith, sym, ◌∙◌}
+use Rattle.std.proofs.Common.{◌<◌, length, arith, sym, ◌∙◌}
 use Rattle.std.proofs.lemmas.Result.{err_from_is_err_and}
 use Rattle.shrink_core.specs.SmallMeaning.{main}
-use Rattle.shrink_core.proofs.CodeLaw.{ins_of, before_end, goes_on, means_none, fails, is_done, moves_on}
+use Rattle.shrink_core.proofs.CodeLaw.{before_end, goes_on, means_none, fails, is_done, moves_on}
 use Rattle.shrink_core.proofs.small.instructions.instructions.Goals as goal
 
 pub loop-cursor-smaller : goal.loop-cursor-smaller

@@ -1,6 +1,5 @@
-use Rattle.std.proofs.Common.{◌≡◌, true, false, subst, sym, ap, ◌∙◌}
+use Rattle.std.proofs.Common.{◌≡◌, true, false, subst, sym, ◌∙◌}
 use Rattle.std.specs.List.{list_any}
-use Rattle.class_model.specs.declared.op.MemberRef.{MemberRef}
 use Rattle.shrink_core.specs.declared.small.methods.Signature.{Signature}
 use Rattle.shrink_core.specs.SmallMeaning.{signature_in}
 use Rattle.shrink_core.proofs.Differing.{same}

@@ -1,6 +1,5 @@
 use Rattle.std.proofs.Common.{take}
 use Rattle.std.specs.List.{All}
-use Rattle.class_model.specs.declared.class.Method.{Method}
 use Rattle.shrink_core.specs.SmallMeaning.{MethodCallsAmong}
 use Rattle.shrink_core.proofs.small.methods.check_calls.Given as goal
 

@@ -1,4 +1,4 @@
-use Rattle.std.proofs.Common.{◌⊎◌, inl, inr, subst}
+use Rattle.std.proofs.Common.{◌⊎◌, inr, subst}
 use Rattle.jv_base.specs.declared.outcome.Or.{Or}
 use Rattle.class_model.specs.ConstantPool.{IsFieldText, IsMethodText}
 use Rattle.shrink_core.specs.declared.small.NotBuilt.{NotBuilt}

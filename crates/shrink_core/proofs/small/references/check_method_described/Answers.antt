@@ -1,6 +1,6 @@
-use Rattle.std.proofs.Common.{◌⊎◌, List, ℕ, IsTrue, subst, sym, ◌∙◌}
+use Rattle.std.proofs.Common.{List, ℕ, IsTrue, subst, sym, ◌∙◌}
 use Rattle.jv_base.specs.Names.{is_method_name}
-use Rattle.class_model.specs.ConstantPool.{IsFieldText, IsMethodText}
+use Rattle.class_model.specs.ConstantPool.{IsMethodText}
 use Rattle.shrink_core.specs.SmallMeaning.{IsMethodDescribed}
 use Rattle.shrink_core.proofs.FindingLaw.{finds_other}
 use Rattle.shrink_core.proofs.small.references.check_method_described.Goals as goal

@@ -2,7 +2,6 @@ use Rattle.std.proofs.Common.{ap, sym, refl, inl, ◌∙◌, arith}
 use Rattle.std.proofs.lemmas.Result.{err_from_is_err_and}
 use Rattle.class_model.specs.declared.op.MemberRef.{MemberRef}
 use Rattle.class_model.specs.ConstantPool.{class_type}
-use Rattle.shrink_core.specs.declared.small.references.Described.{Described}
 use Rattle.shrink_core.specs.SmallMeaning.{IsDescribedAt, IsOwnMethod}
 use Rattle.shrink_core.proofs.FindingLaw.{none_other}
 use Rattle.shrink_core.proofs.small.references.own_method.Goals as goal
