@@ -30,7 +30,8 @@ use Rattle.shrink_core.specs.declared.small.raw.RawClass.{RawClass}
 
 -- the texts of the CONSTANT_Utf8 at two indices
 abbrev pub AreTexts : List Entry → ℕ → ℕ → Described → Type 0
-AreTexts pool name_index descriptor_index texts = IsText (units_at pool name_index) texts.name × IsText (units_at pool descriptor_index) texts.descriptor
+AreTexts pool name_index descriptor_index texts =
+    IsText (units_at pool name_index) texts.name × IsText (units_at pool descriptor_index) texts.descriptor
 
 -- a name of a method and a descriptor (JVMS 4.4.6)
 abbrev pub IsDescribed : Described → Type 0
