@@ -10,9 +10,11 @@ use Rattle.class_model.specs.declared.constant.PoolConstant.{PoolConstant}
 use Rattle.class_model.specs.declared.constant.PoolConstant.TheVariants.{Utf8, Class as ClassOf}
 use Rattle.class_model.specs.declared.pool.Entry.{Entry}
 use Rattle.shrink_core.specs.SmallPool.{numbered}
-use Rattle.class_model.specs.Pool.{units_in, name_index_in, units_at, IsTextAt, IsClassAt}
-use Rattle.shrink_core.specs.SmallLayout.{same, index_of, entry_of}
-use Rattle.shrink_core.proofs.Constants.{Has, same_Decides}
+use Rattle.class_model.specs.Pool.{units_in, name_index_in, units_at, class_units_at, IsTextAt, IsClassAt}
+use Rattle.class_model.specs.CanonicalPool.{same, index_of}
+use Rattle.shrink_core.specs.SmallLayout.{entry_of}
+use Rattle.shrink_core.proofs.ConstantEquality.{same_Decides}
+use Rattle.shrink_core.proofs.Constants.{Has}
 
 -- ---- what is wanted is there
 
@@ -60,7 +62,7 @@ entry_at f (x ∷ ks) k h = place_by f k x ks (same k x) refl h (entry_at f ks k
 abbrev pub pool_read : List PoolConstant → List Entry
 pool_read ks = numbered (map (entry_of ks) ks)
 
-at_index : (ks : List PoolConstant) (k : PoolConstant) → Has ks k → slice_get (pool_read ks) (index_of ks k) ≡ Some (entry_of ks k)
+pub at_index : (ks : List PoolConstant) (k : PoolConstant) → Has ks k → slice_get (pool_read ks) (index_of ks k) ≡ Some (entry_of ks k)
 at_index ks k h = rw one-add (entry_at (entry_of ks) ks k h)
 
 pub index_fits : (ks : List PoolConstant) (k : PoolConstant) → length ks + 1 < 2 ^ 16 → index_of ks k < 2 ^ 16
@@ -71,6 +73,9 @@ units_there ks units h = ap (option_and_then units_in) (at_index ks (Utf8 units)
 
 pub text_there : (ks : List PoolConstant) (text : List ℕ) → length ks + 1 < 2 ^ 16 → IsUtf8 text → Has ks (Utf8 (units_of text)) → IsTextAt (pool_read ks) (index_of ks (Utf8 (units_of text))) text
 text_there ks text count utf8 h = (index_fits ks (Utf8 (units_of text)) count, (utf8, units_there ks (units_of text) h))
+
+pub class_units_there : (ks : List PoolConstant) (units : List ℕ) → Has ks (Utf8 units) → Has ks (ClassOf units) → class_units_at (pool_read ks) (index_of ks (ClassOf units)) ≡ Some units
+class_units_there ks units text class = ap (λ e. option_and_then (units_at (pool_read ks)) (option_and_then name_index_in e)) (at_index ks (ClassOf units) class) ∙ units_there ks units text
 
 pub class_there : (ks : List PoolConstant) (name : List ℕ) → length ks + 1 < 2 ^ 16 → IsUtf8 name → IsTrue (is_class_name name) → Has ks (Utf8 (units_of name)) → Has ks (ClassOf (units_of name)) → IsClassAt (pool_read ks) (index_of ks (ClassOf (units_of name))) name
 class_there ks name count utf8 named text class =

@@ -7,10 +7,13 @@ use Rattle.format_reading.specs.Reader.{u1, bind, give}
 use Rattle.format_reading.specs.Spelling.{Spells}
 use Rattle.format_reading.proofs.Exact.{Exact, as_raw, item_exact, bind_exact, bind_exact_of, map_exact, give_exact, u1_exact, u2_exact}
 use Rattle.class_model.specs.declared.op.Op.{Op}
-use Rattle.shrink_core.specs.SmallOpcodes.{Info, Plain, Byte, Short, Bytes, info_bytes, Fits, plain_op, byte_op, short_op, bytes_op, op_of}
+use Rattle.class_model.specs.declared.pool.Entry.{Entry}
+use Rattle.shrink_core.specs.SmallOpcodes.{Info, Plain, Byte, Short, Bytes, info_bytes, Fits, plain_op, byte_op, short_op, bytes_op, op_of, IsOp}
+use Rattle.shrink_core.specs.declared.small.instructions.RawOp.{RawOp}
+use Rattle.shrink_core.specs.declared.small.instructions.RawOp.TheVariants.{Whole, Call}
 use Rattle.shrink_core.specs.declared.small.instructions.Shape.{Shape}
 use Rattle.shrink_core.specs.declared.small.instructions.Shape.TheVariants.{Alone, OneByte, TwoBytes, BytePair}
-use Rattle.shrink_core.specs.SmallInstructions.{shape_of, operands, info, op_or_kind, op_at}
+use Rattle.shrink_core.specs.SmallInstructions.{shape_of, operands, info, whole, short_raw, raw_of, raw_or_kind, op_at, Means}
 
 -- the opcode of these bytes
 abbrev opcode_of : Info → ℕ
@@ -149,9 +152,18 @@ byte_shape c n y h = elim (chosen (eqb c 0x10) _ y _ h) [
   ]
 ]
 
--- sipush
-short_shape : (c n : ℕ) (y : Op) → short_op c n ≡ Some y → (c < 256) × (shape_of c ≡ TwoBytes)
-short_shape c n y h = elim (chosen (eqb c 0x11) _ y None h) [ inl t ↦ at_opcode c 0x11 TwoBytes (omega arith) refl t | inr none ↦ absurd (no_more y none) ]
+-- what names no constant
+whole_is : (o : Option Op) (y : RawOp) → whole o ≡ Some y → (x : Op) × (o ≡ Some x)
+whole_is (Some x) y h = (x, refl)
+whole_is None y h = absurd (no_more y h)
+
+-- sipush, invokestatic
+short_shape : (c n : ℕ) (y : RawOp) → short_raw c n ≡ Some y → (c < 256) × (shape_of c ≡ TwoBytes)
+short_shape c n y h = elim (chosen (eqb c 0xB8) _ y _ h) [
+  | inl t ↦ at_opcode c 0xB8 TwoBytes (omega arith) refl t
+  | inr r ↦ let w = whole_is (short_op c n) y r in
+      elim (chosen (eqb c 0x11) _ w.0 None w.1) [ inl t ↦ at_opcode c 0x11 TwoBytes (omega arith) refl t | inr none ↦ absurd (no_more w.0 none) ]
+]
 
 -- iinc
 pair_shape : (c m n : ℕ) (y : Op) → bytes_op c m n ≡ Some y → (c < 256) × (shape_of c ≡ BytePair)
@@ -173,30 +185,69 @@ plain_shape c y h =
     let f2 : eqb c 0x15 ≡ false = not_alone (eqb c 0x15) c 0x15 y refl h refl in
     let f3 : eqb c 0x36 ≡ false = not_alone (eqb c 0x36) c 0x36 y refl h refl in
     let f4 : eqb c 0x11 ≡ false = not_alone (eqb c 0x11) c 0x11 y refl h refl in
+    let f6 : eqb c 0xB8 ≡ false = not_alone (eqb c 0xB8) c 0xB8 y refl h refl in
     let f5 : eqb c 0x84 ≡ false = not_alone (eqb c 0x84) c 0x84 y refl h refl in
-    let shape : shape_of c ≡ Alone = rw (f1, f2, f3, f4, f5) refl in
+    let shape : shape_of c ≡ Alone = rw (f1, f2, f3, f4, f6, f5) refl in
     elim (cases_lt c 256) [ inl lt ↦ (lt, shape) | inr le ↦ absurd (no_more y (sym (none_above c le) ∙ h)) ]
 
 -- bytes that stand for an instruction have the shape of their opcode
-has_shape : (i : Info) (y : Op) → Fits i → op_of i ≡ Some y → HasShape i
-has_shape (Plain c) y f h = let s = plain_shape c y h in (s.0, s.1, f)
-has_shape (Byte c n) y f h = let s = byte_shape c n y h in (s.0, s.1, f)
+has_shape : (i : Info) (y : RawOp) → Fits i → raw_of i ≡ Some y → HasShape i
+has_shape (Plain c) y f h = let w = whole_is (plain_op c) y h in let s = plain_shape c w.0 w.1 in (s.0, s.1, f)
+has_shape (Byte c n) y f h = let w = whole_is (byte_op c n) y h in let s = byte_shape c n w.0 w.1 in (s.0, s.1, f)
 has_shape (Short c n) y f h = let s = short_shape c n y h in (s.0, s.1, f)
-has_shape (Bytes c m n) y f h = let s = pair_shape c m n y h in (s.0, s.1, f)
+has_shape (Bytes c m n) y f h = let w = whole_is (bytes_op c m n) y h in let s = pair_shape c m n w.0 w.1 in (s.0, s.1, f)
 
 -- an instruction that was found
-op_ok : (o : Option Op) (y : Op) → op_or_kind o ≡ Ok y → o ≡ Some y
+op_ok : (o : Option RawOp) (y : RawOp) → raw_or_kind o ≡ Ok y → o ≡ Some y
 op_ok (Some x) y h = let e : x ≡ y = cc in ap (λ v. Some v) e
 op_ok None y h = absurd cc
 
 -- the bytes stand for the instruction
-abbrev pub IsOp : ℕ → Info → Op → Type 0
-IsOp at i y = Fits i × (op_of i ≡ Some y)
+abbrev pub IsRaw : ℕ → Info → RawOp → Type 0
+IsRaw at i y = Fits i × (raw_of i ≡ Some y)
 
 -- an instruction is read exactly where its bytes stand for it
-pub op_exact : Exact op_at (Spells info_bytes IsOp)
+pub op_exact : Exact op_at (Spells info_bytes IsRaw)
 unfolding op_at
-op_exact = as_raw info_bytes IsOp (λ i. i) (λ i. i)
-    (λ at i y h. (refl, (h.1.0.2, ap op_of (sym h.1.1) ∙ op_ok (op_of h.0) y h.2)))
-    (λ at i y h. (refl, (i, (has_shape i y h.0 h.1, refl), ap op_or_kind h.1)))
-    (item_exact (λ i. op_or_kind (op_of i)) info_exact)
+op_exact = as_raw info_bytes IsRaw (λ i. i) (λ i. i)
+    (λ at i y h. (refl, (h.1.0.2, ap raw_of (sym h.1.1) ∙ op_ok (raw_of h.0) y h.2)))
+    (λ at i y h. (refl, (i, (has_shape i y h.0 h.1, refl), ap raw_or_kind h.1)))
+    (item_exact (λ i. raw_or_kind (raw_of i)) info_exact)
+
+-- ---- what is read, and what it means
+
+-- bytes stand for an operation that names no constant, or for a call whose index is told
+short_whole : (b : Bool) (c n : ℕ) (o : Op) → eqb c 0xB8 ≡ b → short_op c n ≡ Some o → cond b (Some (Call n)) (whole (short_op c n)) ≡ Some (Whole o)
+short_whole true c n o e h = absurd (no_more o ((let none : None ≡ short_op 0xB8 n = refl in none) ∙ ap (λ k. short_op k n) (sym (eqb-true c 0xB8 e)) ∙ h))
+short_whole false c n o e h = ap whole h
+
+raw_whole : (i : Info) (o : Op) → op_of i ≡ Some o → raw_of i ≡ Some (Whole o)
+raw_whole (Plain c) o h = ap whole h
+raw_whole (Byte c n) o h = ap whole h
+raw_whole (Short c n) o h = short_whole (eqb c 0xB8) c n o refl h
+raw_whole (Bytes c m n) o h = ap whole h
+
+module _ (class : List ℕ) (pool : List Entry) where
+  whole_means : (m : Option Op) (r : RawOp) (o : Op) → whole m ≡ Some r → Means class pool r o → m ≡ Some o
+  whole_means (Some x) (Whole y) o h e = let is : x ≡ y = cc in ap (λ v. Some v) (is ∙ sym e)
+  whole_means (Some x) (Call j) o h e = absurd cc
+  whole_means None r o h e = absurd (no_more r h)
+
+  short_means : (b : Bool) (c n : ℕ) (r : RawOp) (o : Op) → eqb c 0xB8 ≡ b → cond b (Some (Call n)) (whole (short_op c n)) ≡ Some r → Means class pool r o → IsOp class pool (Short c n) o
+  short_means true c n (Call j) o e h m =
+      let is : n ≡ j = cc in
+      inr (j, (ap (λ k. Short k n) (eqb-true c 0xB8 e) ∙ ap (λ k. Short 0xB8 k) is), m.0, m.1, m.2)
+  short_means true c n (Whole x) o e h m = absurd cc
+  short_means false c n r o e h m = inl (whole_means (short_op c n) r o h m)
+
+  -- bytes stand for what the raw instruction means
+  pub is_op : (i : Info) (r : RawOp) (o : Op) → raw_of i ≡ Some r → Means class pool r o → IsOp class pool i o
+  is_op (Plain c) r o h m = inl (whole_means (plain_op c) r o h m)
+  is_op (Byte c n) r o h m = inl (whole_means (byte_op c n) r o h m)
+  is_op (Short c n) r o h m = short_means (eqb c 0xB8) c n r o refl h m
+  is_op (Bytes c k n) r o h m = inl (whole_means (bytes_op c k n) r o h m)
+
+  -- and there is a raw instruction for all that they stand for
+  pub raw_there : (i : Info) (o : Op) → IsOp class pool i o → (r : RawOp) × (raw_of i ≡ Some r) × Means class pool r o
+  raw_there i o (inl h) = (Whole o, raw_whole i o h, refl)
+  raw_there i o (inr h) = (Call h.0, ap raw_of h.1, (h.2, h.3, h.4))

@@ -18,16 +18,17 @@ use Rattle.shrink_core.specs.declared.small.raw.RawMethod.{RawMethod}
 use Rattle.shrink_core.specs.declared.small.raw.RawClass.{RawClass}
 use Rattle.shrink_core.specs.Small.{IsIntMethod, IsSmall, Refuses}
 use Rattle.shrink_core.specs.SmallStructure.{code_of, attribute_of, member_of, entries_of, structure_of, FitsMethod, FitsClass, IsSpelled}
-use Rattle.shrink_core.specs.SmallMeaning.{IsMethodOf, IsClassOf}
+use Rattle.shrink_core.specs.SmallMeaning.{main, IsMethodOf, IsClassOf}
 use Rattle.shrink_core.specs.Finding.{FindsNone, FindsSuch}
+use Rattle.shrink_core.proofs.Calling.{calls_declared, calls_among}
 
 -- ---- from the structure to the grammar
 
 -- a method
-method_there : (pool : List Entry) (raw : RawMethod) (m : Method) → FitsMethod raw → IsMethodOf pool raw m → IsMethod pool (member_of raw) m
+method_there : (pool : List Entry) (raw : RawMethod) (m : Method) → FitsMethod raw → IsMethodOf pool raw m → IsMethod main pool (member_of raw) m
 method_there pool raw m fits h =
     let code = h.code.2 in
-    let is : IsCode (code_of raw) h.code.0 = record {
+    let is : IsCode main pool (code_of raw) h.code.0 = record {
       max_stack = (fits.max_stack, code.max_stack);
       max_locals = (fits.max_locals, code.max_locals);
       length_from = fits.length_from;
@@ -36,21 +37,21 @@ method_there pool raw m fits h =
       handlers = (refl, code.handlers);
       frames = (refl, code.frames);
     } in
-    let attribute : IsCodeAttribute pool (attribute_of raw) h.code.0 = record { name = h.attribute; contents = (code_of raw, refl, is) } in
+    let attribute : IsCodeAttribute main pool (attribute_of raw) h.code.0 = record { name = h.attribute; contents = (code_of raw, refl, is) } in
     record {
       flags = h.flags;
       name = h.name.text;
       named = h.name.named;
       descriptor = h.ty.descriptor;
       typed = h.ty.typed;
-      body = subst (λ (o : Option Code). IsBody pool (attribute_of raw ∷ []) o) (sym h.code.1) attribute;
+      body = subst (λ (o : Option Code). IsBody main pool (attribute_of raw ∷ []) o) (sym h.code.1) attribute;
       throws = h.throws;
       synthetic = h.synthetic;
       deprecated = h.deprecated;
     }
 
 -- all methods
-methods_there : (pool : List Entry) (raws : List RawMethod) (ms : List Method) → AllByRecursion FitsMethod raws → AllZip (IsMethodOf pool) raws ms → AllZip (IsMethod pool) (map member_of raws) ms × AllByRecursion IsIntMethod ms
+methods_there : (pool : List Entry) (raws : List RawMethod) (ms : List Method) → AllByRecursion FitsMethod raws → AllZip (IsMethodOf pool) raws ms → AllZip (IsMethod main pool) (map member_of raws) ms × AllByRecursion IsIntMethod ms
 methods_there pool [] [] fits h = (tt, tt)
 methods_there pool [] (m ∷ ms) fits h = absurd h
 methods_there pool (raw ∷ raws) [] fits h = absurd h
@@ -77,8 +78,9 @@ small_there bytes raw class spelled h =
       interfaces = (refl, h.interfaces);
       fields = (refl, h.fields);
       methods_count = omega (arith, fits.methods_count, length-map raw.methods member_of);
-      methods = methods.0;
+      methods = subst (λ (name : List ℕ). AllZip (IsMethod name raw.pool) (map member_of raw.methods) class.methods) (sym h.name.is) methods.0;
       methods_differ = h.methods_differ;
+      calls = calls_declared class.methods h.calls;
       attributes = refl;
       source = h.source;
       synthetic = h.synthetic;
@@ -90,20 +92,20 @@ small_there bytes raw class spelled h =
 -- ---- from the grammar to the structure
 
 -- a body is one attribute with its code
-body_is : (pool : List Entry) (attributes : List AttributeInfo) (o : Option Code) → IsBody pool attributes o
-    → (attribute : AttributeInfo) × (code : Code) × (attributes ≡ attribute ∷ []) × (o ≡ Some code) × IsCodeAttribute pool attribute code
+body_is : (pool : List Entry) (attributes : List AttributeInfo) (o : Option Code) → IsBody main pool attributes o
+    → (attribute : AttributeInfo) × (code : Code) × (attributes ≡ attribute ∷ []) × (o ≡ Some code) × IsCodeAttribute main pool attribute code
 body_is pool [] o h = absurd h
 body_is pool (a ∷ []) None h = absurd h
 body_is pool (a ∷ []) (Some code) h = (a, code, refl, refl, h)
 body_is pool (a ∷ b ∷ others) o h = absurd h
 
 -- a method
-method_back : (pool : List Entry) (s : MemberInfo) (m : Method) → IsMethod pool s m → IsIntMethod m → (raw : RawMethod) × (s ≡ member_of raw) × FitsMethod raw × IsMethodOf pool raw m
+method_back : (pool : List Entry) (s : MemberInfo) (m : Method) → IsMethod main pool s m → IsIntMethod m → (raw : RawMethod) × (s ≡ member_of raw) × FitsMethod raw × IsMethodOf pool raw m
 method_back pool s m h ints =
     let body = body_is pool s.attributes m.code h.body in
     let a : AttributeInfo = body.0 in
     let r : CodeInfo = body.4.contents.0 in
-    let c : IsCode r body.1 = body.4.contents.2 in
+    let c : IsCode main pool r body.1 = body.4.contents.2 in
     let raw : RawMethod = record {
       access_flags = s.access_flags;
       name_index = s.name_index;
@@ -146,7 +148,7 @@ method_back pool s m h ints =
     )
 
 -- all methods
-methods_back : (pool : List Entry) (ss : List MemberInfo) (ms : List Method) → AllZip (IsMethod pool) ss ms → AllByRecursion IsIntMethod ms
+methods_back : (pool : List Entry) (ss : List MemberInfo) (ms : List Method) → AllZip (IsMethod main pool) ss ms → AllByRecursion IsIntMethod ms
     → (raws : List RawMethod) × (ss ≡ map member_of raws) × AllByRecursion FitsMethod raws × AllZip (IsMethodOf pool) raws ms
 methods_back pool [] [] h ints = ([], refl, tt, tt)
 methods_back pool [] (m ∷ ms) h ints = absurd h
@@ -161,7 +163,7 @@ class_back : (bytes : List ℕ) (s : ClassFile) (class : Class) → bytes ≡ cl
     → (raw : RawClass) × IsSpelled bytes raw × IsClassOf raw class
 class_back bytes s class text k name super_name ints =
     let pool : List Entry = numbered s.constant_pool in
-    let m = methods_back pool s.methods class.methods k.methods ints in
+    let m = methods_back pool s.methods class.methods (subst (λ (n : List ℕ). AllZip (IsMethod n pool) s.methods class.methods) name k.methods) ints in
     let raw : RawClass = record { pool = pool; access_flags = s.access_flags; this_class = s.this_class; super_class = s.super_class; methods = m.0 } in
     let is : s ≡ structure_of raw = λ i. record {
       constant_pool = s.constant_pool;
@@ -192,6 +194,7 @@ class_back bytes s class text k name super_name ints =
         fields = k.fields.1;
         methods = m.3;
         methods_differ = k.methods_differ;
+        calls = calls_among class.methods k.calls;
         source = k.source;
         synthetic = k.synthetic;
         deprecated = k.deprecated;

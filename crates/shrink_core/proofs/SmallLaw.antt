@@ -15,7 +15,8 @@ use Rattle.format_reading.specs.Reader.{Reader, u2, u4, bytes, item, bind, give,
 use Rattle.format_reading.specs.Spelling.{Spells}
 use Rattle.format_reading.proofs.Exact.{Exact, Leads, Takes, IsBytes, left, as_raw, lead_exact, item_exact, bind_exact, map_exact, told_exact, leads_if, u1_exact, u2_exact, u4_exact, bytes_exact, nothing}
 use Rattle.class_model.specs.declared.pool.Entry.{Entry}
-use Rattle.class_model.specs.declared.pool.Entry.TheVariants.{Utf8, Class}
+use Rattle.class_model.specs.declared.pool.Entry.TheVariants.{Utf8, Class, Method, NameAndType}
+use Rattle.class_model.specs.ConstantPool.{two_indices}
 use Rattle.shrink_core.specs.SmallPool.{cp_info, HasBytes, numbered}
 use Rattle.class_model.specs.Structure.{head as head_bytes, attribute_info, member_info, code_info}
 use Rattle.shrink_core.specs.SmallClassFile.{class_file}
@@ -24,7 +25,7 @@ use Rattle.shrink_core.specs.declared.small.raw.RawClass.{RawClass}
 use Rattle.jv_base.specs.Decoding.{read_mutf8}
 use Rattle.jv_base.specs.declared.mutf8.BadUtf8.{BadUtf8}
 use Rattle.shrink_core.specs.SmallStructure.{code_of, attribute_of, member_of, entries_of, structure_of, FitsMethod, FitsClass, IsSpelled}
-use Rattle.shrink_core.specs.SmallReading.{is_wanted, u2_is, head, or_fault, units_or_kind, units_at, utf8, class_entry, tagged, entry, entry_count, pool, code_length, code, method_of, method, class_of, structure, ending, read}
+use Rattle.shrink_core.specs.SmallReading.{is_wanted, u2_is, head, or_fault, units_or_kind, units_at, utf8, class_entry, methodref_entry, name_and_type_entry, tagged, entry, entry_count, pool, code_length, code, method_of, method, class_of, structure, ending, read}
 use Rattle.jv_base.proofs.Coding.{read_mutf8-found, read_mutf8-only}
 use Rattle.shrink_core.proofs.PlainLaw.{Plain, plain_as, plain_bind, plain_map, plain_many, plain_here, u2_plain, u4_plain}
 
@@ -72,12 +73,16 @@ head_plain = plain_as (λ (u : Unit {0}). head_bytes) (λ u. Unit {0}) (λ u. tt
 abbrev tag_of : Entry → ℕ
 tag_of (Utf8 units) = 1
 tag_of (Class name_index) = 7
+tag_of (Method class_index index) = 10
+tag_of (NameAndType name_index index) = 12
 tag_of _ = 0
 
 -- the bytes behind the tag
 abbrev contents : Entry → List ℕ
 contents (Utf8 units) = to_be_bytes w16 (length (mutf8 units)) ++ mutf8 units
 contents (Class name_index) = to_be_bytes w16 name_index
+contents (Method class_index index) = two_indices class_index index
+contents (NameAndType name_index index) = two_indices name_index index
 contents _ = []
 
 abbrev Behind : ℕ → Entry → Type 0
@@ -119,6 +124,8 @@ units_of _ = []
 utf8_back : (e : Entry) → Behind 1 e → (contents e ≡ to_be_bytes w16 (length (mutf8 (units_of e))) ++ mutf8 (units_of e)) × ((length (mutf8 (units_of e)) < 2 ^ 16) × (IsUnits (units_of e) × (length (mutf8 (units_of e)) ≡ length (mutf8 (units_of e))))) × (e ≡ Utf8 (units_of e))
 utf8_back (Utf8 units) h = (refl, (h.1.1, (h.1.0, refl)), refl)
 utf8_back (Class i) h = absurd (omega (arith, h.0))
+utf8_back (Method i j) h = absurd (omega (arith, h.0))
+utf8_back (NameAndType i j) h = absurd (omega (arith, h.0))
 utf8_back _ h = absurd h.1
 
 -- a CONSTANT_Utf8 behind its tag
@@ -138,6 +145,8 @@ index_of _ = 0
 class_back : (e : Entry) → Behind 7 e → (contents e ≡ to_be_bytes w16 (index_of e)) × (index_of e < 2 ^ 16) × (e ≡ Class (index_of e))
 class_back (Class i) h = (refl, h.1, refl)
 class_back (Utf8 units) h = absurd (omega (arith, h.0))
+class_back (Method i j) h = absurd (omega (arith, h.0))
+class_back (NameAndType i j) h = absurd (omega (arith, h.0))
 class_back _ h = absurd h.1
 
 -- a CONSTANT_Class behind its tag
@@ -147,11 +156,51 @@ class_plain = plain_as contents (Behind 7) (λ e. e) (λ i. Class i) index_of
     class_back
     (plain_map (λ i. Class i) u2_plain)
 
+-- the two indices of an entry
+abbrev indices_of : Entry → ℕ × ℕ
+indices_of (Method i j) = (i, j)
+indices_of (NameAndType i j) = (i, j)
+indices_of _ = (0, 0)
+
+-- an entry of two indices behind its tag
+abbrev HasIndices : (ℕ → ℕ → Entry) → Entry → Type 0
+HasIndices made e = (contents e ≡ to_be_bytes w16 (indices_of e).0 ++ to_be_bytes w16 (indices_of e).1) × (((indices_of e).0 < 2 ^ 16) × ((indices_of e).1 < 2 ^ 16)) × (e ≡ made (indices_of e).0 (indices_of e).1)
+
+methodref_back : (e : Entry) → Behind 10 e → HasIndices (λ i j. Method i j) e
+methodref_back (Method i j) h = (refl, h.1, refl)
+methodref_back (Utf8 units) h = absurd (omega (arith, h.0))
+methodref_back (Class i) h = absurd (omega (arith, h.0))
+methodref_back (NameAndType i j) h = absurd (omega (arith, h.0))
+methodref_back _ h = absurd h.1
+
+-- a CONSTANT_Methodref behind its tag
+methodref_plain : Plain methodref_entry contents (Behind 10) (λ e. e)
+methodref_plain = plain_as contents (Behind 10) (λ e. e) (λ w. Method w.0 w.1) indices_of
+    (λ w h. (refl, (refl, h), refl))
+    methodref_back
+    (plain_bind (λ i. bind u2 (λ j. give (Method i j))) (to_be_bytes w16) (λ i j. j < 2 ^ 16) (λ i j. Method i j) u2_plain (λ i lt. plain_map (λ j. Method i j) u2_plain))
+
+name_and_type_back : (e : Entry) → Behind 12 e → HasIndices (λ i j. NameAndType i j) e
+name_and_type_back (NameAndType i j) h = (refl, h.1, refl)
+name_and_type_back (Utf8 units) h = absurd (omega (arith, h.0))
+name_and_type_back (Class i) h = absurd (omega (arith, h.0))
+name_and_type_back (Method i j) h = absurd (omega (arith, h.0))
+name_and_type_back _ h = absurd h.1
+
+-- a CONSTANT_NameAndType behind its tag
+name_and_type_plain : Plain name_and_type_entry contents (Behind 12) (λ e. e)
+name_and_type_plain = plain_as contents (Behind 12) (λ e. e) (λ w. NameAndType w.0 w.1) indices_of
+    (λ w h. (refl, (refl, h), refl))
+    name_and_type_back
+    (plain_bind (λ i. bind u2 (λ j. give (NameAndType i j))) (to_be_bytes w16) (λ i j. j < 2 ^ 16) (λ i j. NameAndType i j) u2_plain (λ i lt. plain_map (λ j. NameAndType i j) u2_plain))
+
 -- no entry has another tag
-other_tag : (tag : ℕ) → eqb tag 1 ≡ false → eqb tag 7 ≡ false → (e : Entry) → Behind tag e → ⊥
-other_tag tag f1 f7 (Utf8 units) h = let g : true ≡ false = subst (λ (j : ℕ). eqb j 1 ≡ false) (sym h.0) f1 in cc
-other_tag tag f1 f7 (Class i) h = let g : true ≡ false = subst (λ (j : ℕ). eqb j 7 ≡ false) (sym h.0) f7 in cc
-other_tag tag f1 f7 _ h = h.1
+other_tag : (tag : ℕ) → eqb tag 1 ≡ false → eqb tag 7 ≡ false → eqb tag 10 ≡ false → eqb tag 12 ≡ false → (e : Entry) → Behind tag e → ⊥
+other_tag tag f1 f7 f10 f12 (Utf8 units) h = let g : true ≡ false = subst (λ (j : ℕ). eqb j 1 ≡ false) (sym h.0) f1 in cc
+other_tag tag f1 f7 f10 f12 (Class i) h = let g : true ≡ false = subst (λ (j : ℕ). eqb j 7 ≡ false) (sym h.0) f7 in cc
+other_tag tag f1 f7 f10 f12 (Method i j) h = let g : true ≡ false = subst (λ (k : ℕ). eqb k 10 ≡ false) (sym h.0) f10 in cc
+other_tag tag f1 f7 f10 f12 (NameAndType i j) h = let g : true ≡ false = subst (λ (k : ℕ). eqb k 12 ≡ false) (sym h.0) f12 in cc
+other_tag tag f1 f7 f10 f12 _ h = h.1
 
 -- what a tag leads to
 tag_exact : (tag : ℕ) → Leads (tagged tag) (Spells contents (λ _ e y. Behind tag e × (y ≡ e)))
@@ -159,17 +208,23 @@ tag_exact tag =
     let g = Spells contents (λ _ e y. Behind tag e × (y ≡ e)) in
     leads_if _ _ g (eqb tag 1) (λ t1. subst (λ (k : ℕ). Plain utf8 contents (Behind k) (λ e. e)) (sym (eqb-true tag 1 t1)) utf8_plain) (λ f1.
     leads_if _ _ g (eqb tag 7) (λ t7. subst (λ (k : ℕ). Plain class_entry contents (Behind k) (λ e. e)) (sym (eqb-true tag 7 t7)) class_plain) (λ f7.
-    λ at t y h. other_tag tag f1 f7 h.0 h.2.0))
+    leads_if _ _ g (eqb tag 10) (λ t10. subst (λ (k : ℕ). Plain methodref_entry contents (Behind k) (λ e. e)) (sym (eqb-true tag 10 t10)) methodref_plain) (λ f10.
+    leads_if _ _ g (eqb tag 12) (λ t12. subst (λ (k : ℕ). Plain name_and_type_entry contents (Behind k) (λ e. e)) (sym (eqb-true tag 12 t12)) name_and_type_plain) (λ f12.
+    λ at t y h. other_tag tag f1 f7 f10 f12 h.0 h.2.0))))
 
 tag_below : (e : Entry) → tag_of e < 256
 tag_below (Utf8 units) = omega arith
 tag_below (Class i) = omega arith
+tag_below (Method i j) = omega arith
+tag_below (NameAndType i j) = omega arith
 tag_below _ = omega arith
 
 -- an entry is its tag and what follows
 cp_is : (e : Entry) → HasBytes e → cp_info e ≡ to_be_bytes w8 (tag_of e) ++ contents e
 cp_is (Utf8 units) h = refl
 cp_is (Class i) h = refl
+cp_is (Method i j) h = refl
+cp_is (NameAndType i j) h = refl
 cp_is _ h = absurd h
 
 -- an entry is read exactly where it is spelled

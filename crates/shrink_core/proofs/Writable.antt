@@ -5,6 +5,7 @@ use Rattle.std.proofs.lemmas.List.Elements.{All-from_recursion, All-weaker}
 use Rattle.std.proofs.lemmas.Map.Made.{length-le_from_is_member}
 use Rattle.jv_base.specs.Utf16.{units_of}
 use Rattle.jv_base.specs.Types.{method_text}
+use Rattle.class_model.specs.declared.constant.PoolConstant.{PoolConstant}
 use Rattle.class_model.specs.declared.constant.PoolConstant.TheVariants.{Utf8}
 use Rattle.class_model.specs.declared.pool.Entry.{Entry}
 use Rattle.class_model.specs.declared.code.Ins.{Ins}
@@ -14,44 +15,51 @@ use Rattle.class_model.specs.declared.class.Class.{Class}
 use Rattle.class_model.specs.Structure.{AttributeInfo, MemberInfo, CodeInfo}
 use Rattle.shrink_core.specs.SmallClassFile.{ClassFile}
 use Rattle.shrink_core.specs.SmallOpcodes.{info_bytes}
-use Rattle.shrink_core.specs.SmallClassFile.{IsCode, IsBody, IsMethod, IsClass}
-use Rattle.shrink_core.specs.SmallLayout.{same, method_constants, constants_of, pool_of}
+use Rattle.shrink_core.specs.SmallClassFile.{IsCode, IsBody, IsMethod, MethodCallsDeclared, IsClass}
+use Rattle.class_model.specs.CanonicalPool.{same, filled}
+use Rattle.shrink_core.specs.SmallLayout.{method_constants, constants_of, pool_of}
 use Rattle.shrink_core.specs.Small.{IsSmall}
 use Rattle.shrink_core.specs.Writable.{TextFits, OperandsFit, CodeFits, MethodFits, CanLayOut}
-use Rattle.shrink_core.proofs.Constants.{Has, HasText, text_fits, symbols, symbols_most, symbols_have, has_text, has_class, all_among, same_laws, all_inserted, distinct_inserted}
-use Rattle.shrink_core.proofs.Shortest.{code_within}
+use Rattle.shrink_core.proofs.Constants.{Has, HasText, text_fits, symbols, symbols_most, symbols_have, has_text, has_class, all_among, all_inserted, distinct_inserted}
+use Rattle.shrink_core.proofs.ConstantEquality.{same_laws}
+use Rattle.shrink_core.proofs.Shortest.{code_short}
+use Rattle.shrink_core.proofs.Called.{methods_all}
 
 -- ---- codes
 
-code_fits : (raw : CodeInfo) (code : Code) → IsCode raw code → CodeFits code
-code_fits raw code h =
+code_fits : (ks : List PoolConstant) (class : List ℕ) (pool : List Entry) (raw : CodeInfo) (code : Code) → IsCode class pool raw code → CodeFits ks code
+code_fits ks class pool raw code h =
     let infos = h.instructions.0 in
-    let w = code_within infos code.ins h.instructions.2 in
+    let w = code_short ks class pool infos code.ins h.instructions.2 in
     let read : length raw.code ≡ length (flat_map info_bytes infos) = ap length h.instructions.1 in
     record { operands = All-from_recursion (λ (i : Ins). OperandsFit i.op) code.ins w.fit; code_length = omega (arith, w.short, read, h.length_to) }
 
-body_fits : (pool : List Entry) (attributes : List AttributeInfo) (code : Option Code) → IsBody pool attributes code → IfSome code CodeFits
-body_fits pool (a ∷ []) (Some code) h = code_fits h.contents.0 code h.contents.2
-body_fits pool _ _ h = absurd h
+body_fits : (ks : List PoolConstant) (class : List ℕ) (pool : List Entry) (attributes : List AttributeInfo) (code : Option Code) → IsBody class pool attributes code → IfSome code (CodeFits ks)
+body_fits ks class pool (a ∷ []) (Some code) h = code_fits ks class pool h.contents.0 code h.contents.2
+body_fits ks class pool _ _ h = absurd h
 
 -- ---- the constants of the methods
 
-code_name : (pool : List Entry) (attributes : List AttributeInfo) (code : Option Code) → IsBody pool attributes code → Has (symbols pool pool) (Utf8 (units_of (codes "Code")))
-code_name pool (a ∷ []) (Some code) h = has_text pool a.attribute_name_index (codes "Code") h.name
-code_name pool _ _ h = absurd h
+code_name : (class : List ℕ) (pool : List Entry) (attributes : List AttributeInfo) (code : Option Code) → IsBody class pool attributes code → Has (symbols pool pool) (Utf8 (units_of (codes "Code")))
+code_name class pool (a ∷ []) (Some code) h = has_text pool a.attribute_name_index (codes "Code") h.name
+code_name class pool _ _ h = absurd h
 
-methods_have : (pool : List Entry) (raws : List MemberInfo) (methods : List Method) → AllZip (IsMethod pool) raws methods → AllByRecursion (Has (symbols pool pool)) (flat_map method_constants methods)
-methods_have pool [] [] all = tt
-methods_have pool [] (m ∷ methods) all = absurd all
-methods_have pool (raw ∷ raws) [] all = absurd all
-methods_have pool (raw ∷ raws) (m ∷ methods) all =
-    (has_text pool raw.name_index m.name all.0.name, (has_text pool raw.descriptor_index (method_text m.ty) all.0.descriptor, (code_name pool raw.attributes m.code all.0.body, methods_have pool raws methods all.1)))
+-- nothing is asked of these
+all_free : (ks : List PoolConstant) → AllByRecursion (λ (k : PoolConstant). Unit {0}) ks
+all_free [] = tt
+all_free (k ∷ ks) = (tt, all_free ks)
 
-methods_fit : (pool : List Entry) (raws : List MemberInfo) (methods : List Method) → AllZip (IsMethod pool) raws methods → AllByRecursion MethodFits methods
-methods_fit pool [] [] all = tt
-methods_fit pool [] (m ∷ methods) all = absurd all
-methods_fit pool (raw ∷ raws) [] all = absurd all
-methods_fit pool (raw ∷ raws) (m ∷ methods) all = (body_fits pool raw.attributes m.code all.0.body, methods_fit pool raws methods all.1)
+methods_have : (class : List ℕ) (pool : List Entry) (raws : List MemberInfo) (methods all : List Method) → AllZip (IsMethod class pool) raws methods → AllByRecursion (MethodCallsDeclared all) methods → AllByRecursion (Has (symbols pool pool)) (flat_map method_constants methods)
+methods_have class pool raws methods all z declared = methods_all (Has (symbols pool pool)) (λ (k : PoolConstant). Unit {0}) class pool all
+    (λ o d c q. c.have)
+    (λ raw m h. (has_text pool raw.name_index m.name h.name, has_text pool raw.descriptor_index (method_text m.ty) h.descriptor, code_name class pool raw.attributes m.code h.body))
+    raws methods z declared (all_free (flat_map method_constants methods))
+
+methods_fit : (ks : List PoolConstant) (class : List ℕ) (pool : List Entry) (raws : List MemberInfo) (methods : List Method) → AllZip (IsMethod class pool) raws methods → AllByRecursion (MethodFits ks) methods
+methods_fit ks class pool [] [] all = tt
+methods_fit ks class pool [] (m ∷ methods) all = absurd all
+methods_fit ks class pool (raw ∷ raws) [] all = absurd all
+methods_fit ks class pool (raw ∷ raws) (m ∷ methods) all = (body_fits ks class pool raw.attributes m.code all.0.body, methods_fit ks class pool raws methods all.1)
 
 -- ---- the class
 
@@ -59,14 +67,14 @@ constants_have : (raw : ClassFile) (class : Class) (pool : List Entry) → IsCla
 constants_have raw class pool h =
     let this = has_class pool raw.this_class class.name h.name in
     let super_ = has_class pool raw.super_class class.super_name h.super_name in
-    (this.0, (this.1, (super_.0, (super_.1, methods_have pool raw.methods class.methods h.methods))))
+    (this.0, (this.1, (super_.0, (super_.1, methods_have class.name pool raw.methods class.methods class.methods h.methods h.calls))))
 
 pool_has : (raw : ClassFile) (class : Class) (pool : List Entry) → IsClass raw class pool → AllByRecursion (Has (symbols pool pool)) (pool_of class)
-unfolding pool_of
+unfolding pool_of filled
 pool_has raw class pool h = all_inserted (Has (symbols pool pool)) (constants_of class) [] tt (constants_have raw class pool h)
 
 pool_distinct : (class : Class) → IsDistinct same (pool_of class)
-unfolding pool_of IsDistinct
+unfolding pool_of filled IsDistinct
 pool_distinct class = distinct_inserted (constants_of class) [] tt
 
 -- each constant of the pool is one of an entry that was read, so there are no more
@@ -85,18 +93,18 @@ pool_texts raw class pool h =
     let have : AllByRecursion HasText said = subst (λ (es : List Entry). AllByRecursion HasText (symbols pool es)) (sym h.constant_pool.numbers) (symbols_have pool raw.constant_pool h.constant_pool.bytes) in
     All-weaker (Has said) HasText (λ k among. all_among HasText said k have among) (pool_of class) (All-from_recursion (Has said) (pool_of class) (pool_has raw class pool h))
 
-as_many : (pool : List Entry) (raws : List MemberInfo) (methods : List Method) → AllZip (IsMethod pool) raws methods → length methods ≡ length raws
-as_many pool [] [] all = refl
-as_many pool [] (m ∷ methods) all = absurd all
-as_many pool (raw ∷ raws) [] all = absurd all
-as_many pool (raw ∷ raws) (m ∷ methods) all = ap suc (as_many pool raws methods all.1)
+as_many : (class : List ℕ) (pool : List Entry) (raws : List MemberInfo) (methods : List Method) → AllZip (IsMethod class pool) raws methods → length methods ≡ length raws
+as_many class pool [] [] all = refl
+as_many class pool [] (m ∷ methods) all = absurd all
+as_many class pool (raw ∷ raws) [] all = absurd all
+as_many class pool (raw ∷ raws) (m ∷ methods) all = ap suc (as_many class pool raws methods all.1)
 
 pub class_fits : (raw : ClassFile) (class : Class) (pool : List Entry) → IsClass raw class pool → CanLayOut class
 class_fits raw class pool h = record {
   constant_pool_count = pool_short raw class pool h;
   texts = All-weaker HasText TextFits text_fits (pool_of class) (pool_texts raw class pool h);
-  methods_count = subst (λ (n : ℕ). n < 2 ^ 16) (sym (as_many pool raw.methods class.methods h.methods)) h.methods_count;
-  methods = All-from_recursion MethodFits class.methods (methods_fit pool raw.methods class.methods h.methods);
+  methods_count = subst (λ (n : ℕ). n < 2 ^ 16) (sym (as_many class.name pool raw.methods class.methods h.methods)) h.methods_count;
+  methods = All-from_recursion (MethodFits (pool_of class)) class.methods (methods_fit (pool_of class) class.name pool raw.methods class.methods h.methods);
 }
 
 pub writable : (bytes : List ℕ) (class : Class) → IsSmall bytes class → CanLayOut class

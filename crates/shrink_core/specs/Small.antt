@@ -20,7 +20,8 @@ pub record IsIntMethod (method : Method) : Type 0 where
   pub ret : method.ty.ret ≡ Some int_type
 
 -- the bytes spell a small class. That it has no interface, field or attribute, that its methods are static with one Code of the
--- instructions that are built, and that its pool holds no other entries than Utf8 and Class, stands in File so far
+-- instructions that are built, and that its pool holds no other entries than Utf8, Class, Methodref and NameAndType, stands in
+-- File so far
 pub record IsSmall (bytes : List ℕ) (class : Class) : Type 0 where
   pub file : File bytes class
   pub name : class.name ≡ codes "Main"

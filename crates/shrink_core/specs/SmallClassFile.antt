@@ -1,12 +1,16 @@
 -- Which bytes spell a small class (JVMS 4): one without interfaces, fields and attributes, whose methods are static and have the
 -- one attribute Code, without handlers and attributes.
-use Rattle.std.specs.Prelude.{◌≡◌, ◌≢◌, ◌⊎◌, ℕ, ◌+◌, ◌^◌, ◌<◌, List, [], ◌∷◌, ◌++◌, length, Option, Some, None, AllPairs, IsTrue, bit_and, codes, false}
+use Rattle.std.specs.Prelude.{◌≡◌, ◌≢◌, ◌⊎◌, ℕ, ◌+◌, ◌^◌, ◌<◌, List, [], ◌∷◌, ◌++◌, length, slice_get, Option, Some, None, IfSome, AllPairs, IsTrue, bit_and, codes, false}
 use Rattle.std.specs.Int.{w16, to_be_bytes}
-use Rattle.std.specs.List.{AllZip, flat_map}
+use Rattle.std.specs.List.{AllZip, AllByRecursion, flat_map}
 use Rattle.jv_base.specs.declared.access.Access.{Access}
 use Rattle.jv_base.specs.Names.{is_member_name}
 use Rattle.jv_base.specs.Types.{method_text, IsMethodType}
 use Rattle.class_model.specs.declared.pool.Entry.{Entry}
+use Rattle.class_model.specs.declared.op.MemberRef.{MemberRef}
+use Rattle.class_model.specs.declared.op.Op.{Op}
+use Rattle.class_model.specs.declared.op.Op.TheVariants as op
+use Rattle.class_model.specs.declared.code.Ins.{Ins}
 use Rattle.class_model.specs.declared.code.Code.{Code}
 use Rattle.class_model.specs.declared.class.Method.{Method}
 use Rattle.class_model.specs.declared.class.Class.{Class}
@@ -44,25 +48,25 @@ HasOneAccess flags = bit_and flags 7 < 3 ⊎ (bit_and flags 7 ≡ 4)
 
 -- ---- code
 
--- the contents of a Code attribute (JVMS 4.7.3)
-pub record IsCode (raw : CodeInfo) (code : Code) : Type 0 where
+-- the contents of a Code attribute in the class of this name (JVMS 4.7.3)
+pub record IsCode (class : List ℕ) (pool : List Entry) (raw : CodeInfo) (code : Code) : Type 0 where
   pub max_stack : (raw.max_stack < 2 ^ 16) × (code.max_stack ≡ raw.max_stack)
   pub max_locals : (raw.max_locals < 2 ^ 16) × (code.max_locals ≡ raw.max_locals)
   pub length_from : 0 < length raw.code
   pub length_to : length raw.code < 2 ^ 16
-  pub instructions : IsCodeText raw.code code.ins
+  pub instructions : IsCodeText class pool raw.code code.ins
   pub handlers : (raw.exception_table ≡ []) × (code.handlers ≡ [])
   pub frames : (raw.attributes ≡ []) × (code.frames ≡ [])
 
 -- the attribute is a Code (JVMS 4.7.3)
-pub record IsCodeAttribute (pool : List Entry) (attribute : AttributeInfo) (code : Code) : Type 0 where
+pub record IsCodeAttribute (class : List ℕ) (pool : List Entry) (attribute : AttributeInfo) (code : Code) : Type 0 where
   pub name : IsTextAt pool attribute.attribute_name_index (codes "Code")
-  pub contents : (raw : CodeInfo) × (attribute.info ≡ code_info raw) × IsCode raw code
+  pub contents : (raw : CodeInfo) × (attribute.info ≡ code_info raw) × IsCode class pool raw code
 
 -- the attributes of a method are this code
-abbrev pub IsBody : List Entry → List AttributeInfo → Option Code → Type 0
-IsBody pool (attribute ∷ []) (Some code) = IsCodeAttribute pool attribute code
-IsBody pool _ _ = ⊥
+abbrev pub IsBody : List ℕ → List Entry → List AttributeInfo → Option Code → Type 0
+IsBody class pool (attribute ∷ []) (Some code) = IsCodeAttribute class pool attribute code
+IsBody class pool _ _ = ⊥
 
 -- ---- methods
 
@@ -76,13 +80,13 @@ pub record AreMethodFlags (bits : ℕ) (flags : Access) : Type 0 where
   pub has_body : bit_and bits 0x0500 ≡ 0
 
 -- method_info (JVMS 4.6); class and instance initialisation methods are for later
-pub record IsMethod (pool : List Entry) (raw : MemberInfo) (method : Method) : Type 0 where
+pub record IsMethod (class : List ℕ) (pool : List Entry) (raw : MemberInfo) (method : Method) : Type 0 where
   pub flags : AreMethodFlags raw.access_flags method.flags
   pub name : IsTextAt pool raw.name_index method.name
   pub named : IsTrue (is_member_name method.name)
   pub descriptor : IsTextAt pool raw.descriptor_index (method_text method.ty)
   pub typed : IsMethodType method.ty
-  pub body : IsBody pool raw.attributes method.code
+  pub body : IsBody class pool raw.attributes method.code
   pub throws : method.throws ≡ []
   pub synthetic : method.synthetic ≡ false
   pub deprecated : method.deprecated ≡ false
@@ -90,6 +94,20 @@ pub record IsMethod (pool : List Entry) (raw : MemberInfo) (method : Method) : T
 -- the methods differ in name or descriptor (JVMS 4.6)
 abbrev pub Differ : Method → Method → Type 0
 Differ one other = ¬ ((one.name ≡ other.name) × (method_text one.ty ≡ method_text other.ty))
+
+-- the reference has the name and the descriptor of one of the methods
+abbrev pub IsDeclared : List Method → MemberRef → Type 0
+IsDeclared methods reference = (place : ℕ) × (method : Method) × (slice_get methods place ≡ Some method)
+    × (method.name ≡ reference.name) × (method_text method.ty ≡ reference.ty)
+
+-- a call is of one of the methods
+abbrev pub CallsDeclared : List Method → Op → Type 0
+CallsDeclared methods (op.InvokeStatic reference) = IsDeclared methods reference
+CallsDeclared methods _ = Unit {0}
+
+-- each call in a method's code is of one of the methods
+abbrev pub MethodCallsDeclared : List Method → Method → Type 0
+MethodCallsDeclared methods method = IfSome method.code (λ code. AllByRecursion (λ (i : Ins). CallsDeclared methods i.op) code.ins)
 
 -- ---- the class
 
@@ -111,8 +129,9 @@ pub record IsClass (raw : ClassFile) (class : Class) (pool : List Entry) : Type 
   pub interfaces : (raw.interfaces ≡ []) × (class.interfaces ≡ [])
   pub fields : (raw.fields ≡ []) × (class.fields ≡ [])
   pub methods_count : length raw.methods < 2 ^ 16
-  pub methods : AllZip (IsMethod pool) raw.methods class.methods
+  pub methods : AllZip (IsMethod class.name pool) raw.methods class.methods
   pub methods_differ : AllPairs Differ class.methods
+  pub calls : AllByRecursion (MethodCallsDeclared class.methods) class.methods
   pub attributes : raw.attributes ≡ []
   pub source : class.source ≡ None
   pub synthetic : class.synthetic ≡ false

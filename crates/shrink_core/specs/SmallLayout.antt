@@ -1,13 +1,11 @@
 -- The canonical spelling of a small class.
-use Rattle.std.specs.Prelude.{ℕ, ◌+◌, Bool, false, List, [], ◌∷◌, ◌++◌, map, Option, Some, None, nat_lt, nat_eq, if◌then◌else◌, codes, ℤ, pos, negsuc, ◌+ℤ◌}
+use Rattle.std.specs.Prelude.{ℕ, ◌+◌, List, [], ◌∷◌, ◌++◌, map, Option, Some, None, nat_lt, if◌then◌else◌, codes, ℤ, pos, negsuc, ◌+ℤ◌}
 use Rattle.std.specs.Int.{w8, w16, cast_unsigned, to_be_bytes}
-use Rattle.std.specs.List.{flat_map, position_or_len}
-use Rattle.std.specs.Cmp.Lexicographic.{pointwise}
-use Rattle.indexmap.specs.IndexSet.{insert_all}
+use Rattle.std.specs.List.{flat_map}
 use Rattle.jv_base.specs.Utf16.{units_of}
 use Rattle.jv_base.specs.Types.{method_text}
 use Rattle.class_model.specs.declared.constant.PoolConstant.{PoolConstant}
-use Rattle.class_model.specs.declared.constant.PoolConstant.TheVariants.{Utf8, Class as ClassOf}
+use Rattle.class_model.specs.declared.constant.PoolConstant.TheVariants.{Utf8, Class as ClassOf, NameAndType, Methodref}
 use Rattle.class_model.specs.declared.pool.Entry.{Entry}
 use Rattle.class_model.specs.declared.pool.Entry.TheVariants as entry
 use Rattle.class_model.specs.declared.op.Op.{Op}
@@ -19,28 +17,30 @@ use Rattle.class_model.specs.declared.code.Ins.{Ins}
 use Rattle.class_model.specs.declared.code.Code.{Code}
 use Rattle.class_model.specs.declared.class.Method.{Method}
 use Rattle.class_model.specs.declared.class.Class.{Class}
+use Rattle.class_model.specs.Between.{int_between}
+use Rattle.class_model.specs.CanonicalPool.{text_constants, class_constants, methodref, with_parts, filled, index_of}
 use Rattle.class_model.specs.Structure.{AttributeInfo, MemberInfo, CodeInfo, code_info}
 use Rattle.shrink_core.specs.SmallClassFile.{ClassFile, class_file}
 
 -- ---- the pool
 
--- the constants are one (JVMS 4.4)
-abbrev pub same : PoolConstant → PoolConstant → Bool
-same (Utf8 a) (Utf8 b) = pointwise nat_eq a b
-same (ClassOf a) (ClassOf b) = pointwise nat_eq a b
-same _ _ = false
+-- the constants that an instruction names: the reference of a call, behind its parts
+abbrev pub op_constants : Op → List PoolConstant
+op_constants (op.InvokeStatic reference) = with_parts reference (methodref reference)
+op_constants _ = []
 
--- the constants of a text
-abbrev pub text_constants : List ℕ → List PoolConstant
-text_constants text = Utf8 (units_of text) ∷ []
+-- those of a code
+abbrev pub code_constants : List Ins → List PoolConstant
+code_constants ins = flat_map (λ (i : Ins). op_constants i.op) ins
 
--- the constants of a class that is named, the text before the class
-abbrev pub class_constants : List ℕ → List PoolConstant
-class_constants name = Utf8 (units_of name) ∷ ClassOf (units_of name) ∷ []
+-- those of the attribute Code, its name first; a method without code has no such attribute
+abbrev pub body_constants : Option Code → List PoolConstant
+body_constants (Some code) = text_constants (codes "Code") ++ code_constants code.ins
+body_constants None = []
 
--- the constants of a method: its name, its descriptor and its attribute's name
+-- those of a method: its name, its descriptor and its attribute
 abbrev pub method_constants : Method → List PoolConstant
-method_constants m = text_constants m.name ++ (text_constants (method_text m.ty) ++ text_constants (codes "Code"))
+method_constants m = text_constants m.name ++ (text_constants (method_text m.ty) ++ body_constants m.code)
 
 -- the constants that a class needs, in the order of the file
 abbrev pub constants_of : Class → List PoolConstant
@@ -48,16 +48,15 @@ constants_of c = class_constants c.name ++ (class_constants c.super_name ++ flat
 
 -- the pool from index 1 on: each constant once, where it is needed first
 unfoldable pub pool_of : Class → List PoolConstant
-pool_of c = insert_all same [] (constants_of c)
+pool_of c = filled (constants_of c)
 
--- the index of a constant
-abbrev pub index_of : List PoolConstant → PoolConstant → ℕ
-index_of pool k = 1 + position_or_len (same k) pool
-
--- the entry of a constant (JVMS 4.4)
+-- the entry of a constant (JVMS 4.4); of those that no small class wants there is none
 abbrev pub entry_of : List PoolConstant → PoolConstant → Entry
 entry_of pool (Utf8 units) = entry.Utf8 units
 entry_of pool (ClassOf units) = entry.Class (index_of pool (Utf8 units))
+entry_of pool (NameAndType name descriptor) = entry.NameAndType (index_of pool (Utf8 name)) (index_of pool (Utf8 descriptor))
+entry_of pool (Methodref class name descriptor) = entry.Method (index_of pool (ClassOf class)) (index_of pool (NameAndType name descriptor))
+entry_of pool _ = entry.Gap
 
 -- ---- code
 
@@ -73,32 +72,33 @@ abbrev pub slot_bytes : ℕ → ℕ → ℕ → List ℕ
 slot_bytes opcode first slot = if nat_lt slot 4 then (first + slot) ∷ [] else opcode ∷ slot ∷ []
 
 -- the shortest spelling of an instruction; of those that File doesn't take there is none
-abbrev pub op_bytes : Op → List ℕ
-op_bytes op.Nop = 0x00 ∷ []
-op_bytes (op.PushInt n) = push_bytes n
-op_bytes (op.Load kind.Int slot) = slot_bytes 0x15 0x1A slot
-op_bytes (op.Store kind.Int slot) = slot_bytes 0x36 0x3B slot
-op_bytes op.Pop = 0x57 ∷ []
-op_bytes (op.Arith arith.Add num.Int) = 0x60 ∷ []
-op_bytes (op.Arith arith.Sub num.Int) = 0x64 ∷ []
-op_bytes (op.Arith arith.Mul num.Int) = 0x68 ∷ []
-op_bytes (op.Arith arith.Div num.Int) = 0x6C ∷ []
-op_bytes (op.Arith arith.Rem num.Int) = 0x70 ∷ []
-op_bytes (op.Neg num.Int) = 0x74 ∷ []
-op_bytes (op.Inc slot delta) = 0x84 ∷ slot ∷ cast_unsigned w8 delta ∷ []
-op_bytes (op.Return (Some kind.Int)) = 0xAC ∷ []
-op_bytes _ = []
+abbrev pub op_bytes : List PoolConstant → Op → List ℕ
+op_bytes pool op.Nop = 0x00 ∷ []
+op_bytes pool (op.PushInt n) = push_bytes n
+op_bytes pool (op.Load kind.Int slot) = slot_bytes 0x15 0x1A slot
+op_bytes pool (op.Store kind.Int slot) = slot_bytes 0x36 0x3B slot
+op_bytes pool op.Pop = 0x57 ∷ []
+op_bytes pool (op.Arith arith.Add num.Int) = 0x60 ∷ []
+op_bytes pool (op.Arith arith.Sub num.Int) = 0x64 ∷ []
+op_bytes pool (op.Arith arith.Mul num.Int) = 0x68 ∷ []
+op_bytes pool (op.Arith arith.Div num.Int) = 0x6C ∷ []
+op_bytes pool (op.Arith arith.Rem num.Int) = 0x70 ∷ []
+op_bytes pool (op.Neg num.Int) = 0x74 ∷ []
+op_bytes pool (op.Inc slot delta) = 0x84 ∷ slot ∷ cast_unsigned w8 delta ∷ []
+op_bytes pool (op.Return (Some kind.Int)) = 0xAC ∷ []
+op_bytes pool (op.InvokeStatic reference) = 0xB8 ∷ to_be_bytes w16 (index_of pool (methodref reference))
+op_bytes pool _ = []
 
 -- the bytes of a code
-unfoldable pub code_bytes : List Ins → List ℕ
-code_bytes ins = flat_map (λ (i : Ins). op_bytes i.op) ins
+unfoldable pub code_bytes : List PoolConstant → List Ins → List ℕ
+code_bytes pool ins = flat_map (λ (i : Ins). op_bytes pool i.op) ins
 
 -- the contents of its Code attribute (JVMS 4.7.3)
-abbrev pub code_raw : Code → CodeInfo
-code_raw code = record {
+abbrev pub code_raw : List PoolConstant → Code → CodeInfo
+code_raw pool code = record {
   max_stack = code.max_stack;
   max_locals = code.max_locals;
-  code = code_bytes code.ins;
+  code = code_bytes pool code.ins;
   exception_table = [];
   attributes = [];
 }
@@ -108,7 +108,7 @@ code_raw code = record {
 -- the attribute Code, where there is code
 abbrev pub code_attributes : List PoolConstant → Option Code → List AttributeInfo
 code_attributes pool None = []
-code_attributes pool (Some code) = record { attribute_name_index = index_of pool (Utf8 (units_of (codes "Code"))); info = code_info (code_raw code) } ∷ []
+code_attributes pool (Some code) = record { attribute_name_index = index_of pool (Utf8 (units_of (codes "Code"))); info = code_info (code_raw pool code) } ∷ []
 
 -- its method_info (JVMS 4.6)
 abbrev pub method_raw : List PoolConstant → Method → MemberInfo

@@ -1,5 +1,5 @@
 -- The instructions of small classes and their bytes (JVMS 6.5).
-use Rattle.std.specs.Prelude.{◌≡◌, ℕ, ◌-◌, ◌^◌, ◌<◌, List, [], ◌∷◌, Option, Some, None, ◌==◌, if◌then◌else◌, pos, ◌-ℤ◌}
+use Rattle.std.specs.Prelude.{◌≡◌, ◌⊎◌, ℕ, ◌-◌, ◌^◌, ◌<◌, List, [], ◌∷◌, Option, Some, None, ◌==◌, if◌then◌else◌, pos, ◌-ℤ◌}
 use Rattle.std.specs.Int.{w8, w16, to_be_bytes, cast_signed}
 use Rattle.std.specs.List.{AllZip, flat_map}
 use Rattle.class_model.specs.declared.op.Op.{Op}
@@ -8,7 +8,10 @@ use Rattle.class_model.specs.declared.op.Kind.TheVariants as kind
 use Rattle.class_model.specs.declared.op.Num.TheVariants as num
 use Rattle.class_model.specs.declared.op.ArithOp.TheVariants as arith
 use Rattle.class_model.specs.declared.code.Ins.{Ins}
+use Rattle.class_model.specs.declared.op.MemberRef.{MemberRef}
+use Rattle.class_model.specs.declared.pool.Entry.{Entry}
 use Rattle.class_model.specs.Between.{between}
+use Rattle.class_model.specs.ConstantPool.{class_type, IsMethodrefAt}
 
 -- the bytes of an instruction, by what follows its opcode
 pub data Info : Type 0 where
@@ -64,17 +67,30 @@ short_op opcode operand = if opcode == 0x11 then Some (op.PushInt (cast_signed w
 abbrev pub bytes_op : ℕ → ℕ → ℕ → Option Op
 bytes_op opcode first second = if opcode == 0x84 then Some (op.Inc first (cast_signed w8 second)) else None
 
--- the instruction of these bytes
+-- the instruction of these bytes, where they name no constant
 abbrev pub op_of : Info → Option Op
 op_of (Plain opcode) = plain_op opcode
 op_of (Byte opcode operand) = byte_op opcode operand
 op_of (Short opcode operand) = short_op opcode operand
 op_of (Bytes opcode first second) = bytes_op opcode first second
 
+-- the CONSTANT_Methodref at an index is of a method of the class that has this name
+abbrev pub IsOwnMethodAt : List ℕ → List Entry → ℕ → MemberRef → Type 0
+IsOwnMethodAt class pool index reference = IsMethodrefAt pool index reference × (reference.class ≡ class_type class)
+
+-- invokestatic, of a method of the class
+abbrev pub IsCall : List ℕ → List Entry → Info → Op → Type 0
+IsCall class pool info o = (index : ℕ) × (info ≡ Short 0xB8 index)
+    × (reference : MemberRef) × IsOwnMethodAt class pool index reference × (o ≡ op.InvokeStatic reference)
+
+-- the bytes stand for the operation, in the class of this name
+abbrev pub IsOp : List ℕ → List Entry → Info → Op → Type 0
+IsOp class pool info o = (op_of info ≡ Some o) ⊎ IsCall class pool info o
+
 -- the bytes stand for the instruction
-abbrev pub IsIns : Info → Ins → Type 0
-IsIns info ins = Fits info × (op_of info ≡ Some ins.op) × (ins.line ≡ None)
+abbrev pub IsIns : List ℕ → List Entry → Info → Ins → Type 0
+IsIns class pool info ins = Fits info × IsOp class pool info ins.op × (ins.line ≡ None)
 
 -- the bytes are a code of these instructions
-abbrev pub IsCodeText : List ℕ → List Ins → Type 0
-IsCodeText code ins = (infos : List Info) × (code ≡ flat_map info_bytes infos) × AllZip IsIns infos ins
+abbrev pub IsCodeText : List ℕ → List Entry → List ℕ → List Ins → Type 0
+IsCodeText class pool code ins = (infos : List Info) × (code ≡ flat_map info_bytes infos) × AllZip (IsIns class pool) infos ins

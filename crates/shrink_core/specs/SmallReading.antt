@@ -9,7 +9,7 @@ use Rattle.format_reading.specs.declared.fault.FormatKind.{FormatKind}
 use Rattle.format_reading.specs.declared.fault.FormatKind.TheVariants as kind
 use Rattle.format_reading.specs.Reader.{Reader, u1, u2, u4, bytes, lead, item, give, here, told, many, ◌>>=◌}
 use Rattle.class_model.specs.declared.pool.Entry.{Entry}
-use Rattle.class_model.specs.declared.pool.Entry.TheVariants.{Utf8, Class}
+use Rattle.class_model.specs.declared.pool.Entry.TheVariants.{Utf8, Class, Method, NameAndType}
 use Rattle.shrink_core.specs.SmallPool.{numbered}
 use Rattle.shrink_core.specs.declared.small.raw.RawMethod.{RawMethod}
 use Rattle.shrink_core.specs.declared.small.raw.RawClass.{RawClass}
@@ -58,9 +58,26 @@ class_entry = do
   name_index ← u2
   give (Class name_index)
 
+abbrev pub methodref_entry : Reader Entry
+methodref_entry = do
+  class_index ← u2
+  index ← u2
+  give (Method class_index index)
+
+abbrev pub name_and_type_entry : Reader Entry
+name_and_type_entry = do
+  name_index ← u2
+  descriptor_index ← u2
+  give (NameAndType name_index descriptor_index)
+
 -- what a tag begins
 abbrev pub tagged : ℕ → Result (Reader Entry) FormatKind
-tagged tag = if tag == 1 then Ok utf8 else if tag == 7 then Ok class_entry else Err kind.BadTag
+tagged tag =
+    if tag == 1 then Ok utf8
+    else if tag == 7 then Ok class_entry
+    else if tag == 10 then Ok methodref_entry
+    else if tag == 12 then Ok name_and_type_entry
+    else Err kind.BadTag
 
 unfoldable pub entry : Reader Entry
 entry = lead u1 tagged

@@ -4,7 +4,7 @@ use Rattle.std.specs.Int.{w8, w16}
 use Rattle.std.specs.Int.RustNames.{FitsSigned}
 use Rattle.jv_base.specs.Mutf8.{mutf8}
 use Rattle.class_model.specs.declared.constant.PoolConstant.{PoolConstant}
-use Rattle.class_model.specs.declared.constant.PoolConstant.TheVariants.{Utf8, Class as ClassOf}
+use Rattle.class_model.specs.declared.constant.PoolConstant.TheVariants.{Utf8}
 use Rattle.class_model.specs.declared.op.Op.{Op}
 use Rattle.class_model.specs.declared.op.Op.TheVariants as op
 use Rattle.class_model.specs.declared.op.Kind.TheVariants as kind
@@ -18,7 +18,7 @@ use Rattle.shrink_core.specs.Small.{IsSmall}
 -- the length of a text fits two bytes (JVMS 4.4.7)
 abbrev pub TextFits : PoolConstant → Type 0
 TextFits (Utf8 units) = length (mutf8 units) < 2 ^ 16
-TextFits (ClassOf units) = Unit {0}
+TextFits _ = Unit {0}
 
 -- the operands fit the bytes of an instruction without `wide` (JVMS 6.5)
 abbrev pub OperandsFit : Op → Type 0
@@ -29,20 +29,20 @@ OperandsFit (op.Inc slot delta) = (slot < 2 ^ 8) × FitsSigned w8 delta
 OperandsFit _ = Unit {0}
 
 -- the code isn't too long (JVMS 4.7.3)
-pub record CodeFits (code : Code) : Type 0 where
+pub record CodeFits (pool : List PoolConstant) (code : Code) : Type 0 where
   pub operands : All (λ (i : Ins). OperandsFit i.op) code.ins
-  pub code_length : length (code_bytes code.ins) < 2 ^ 16
+  pub code_length : length (code_bytes pool code.ins) < 2 ^ 16
 
 -- the method's code, where there is one, fits
-abbrev pub MethodFits : Method → Type 0
-MethodFits method = IfSome method.code CodeFits
+abbrev pub MethodFits : List PoolConstant → Method → Type 0
+MethodFits pool method = IfSome method.code (CodeFits pool)
 
 -- the class can be written
 pub record CanLayOut (class : Class) : Type 0 where
   pub constant_pool_count : length (pool_of class) + 1 < 2 ^ 16
   pub texts : All TextFits (pool_of class)
   pub methods_count : length class.methods < 2 ^ 16
-  pub methods : All MethodFits class.methods
+  pub methods : All (MethodFits (pool_of class)) class.methods
 
 -- the canonical spelling of a class that some bytes spell is a spelling of it
 abbrev pub CanonicalIsSmall : Type 0

@@ -8,6 +8,7 @@ mod methods;
 mod pool;
 mod raw;
 mod reading;
+mod references;
 mod writing;
 
 use jv_base::Or;

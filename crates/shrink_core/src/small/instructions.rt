@@ -1,15 +1,27 @@
 // The instructions of a small class (JVMS 6.5).
 ghost use Rattle.std.specs.Prelude.{◌≡◌, ℕ, ◌<◌, ◌≤◌, ◌-◌, length};
 ghost use Rattle.format_reading.specs.Reader.{Reads};
-ghost use Rattle.shrink_core.specs.SmallOpcodes.{plain_op, byte_op, short_op, bytes_op, IsCodeText};
+ghost use Rattle.shrink_core.specs.SmallOpcodes.{plain_op, byte_op, bytes_op, IsCodeText};
+ghost use Rattle.shrink_core.specs.SmallStructure.{FitsPool};
+ghost use Rattle.shrink_core.specs.SmallMeaning.{main};
 ghost use Rattle.shrink_core.specs.Finding.{FindsOnly};
-ghost use Rattle.shrink_core.specs.SmallInstructions.{shape_of, op_or_kind, op_at};
+ghost use Rattle.shrink_core.specs.SmallInstructions.{shape_of, whole, short_raw, raw_or_kind, op_at, Means};
 
 use crate::small::NotBuilt;
-use class_model::{ArithOp, Ins, Kind, Num, Op};
+use crate::small::references::own_method_at;
+use class_model::{ArithOp, Entry, Ins, Kind, Num, Op};
 use format_reading::{FormatFault, FormatKind};
 use jv_base::{Cursor, Items, Or};
 use std::alloc::Global;
+
+/// An instruction as it stands in a code.
+#[derive(Debug, Drop)]
+enum RawOp {
+    /// It names no constant.
+    Whole(Op),
+    /// `invokestatic`, with the index of its method.
+    Call(u16),
+}
 
 /// What follows an opcode.
 #[derive(Clone, Copy)]
@@ -25,7 +37,7 @@ fn shape_of(opcode: u8) -> Shape
 {
     match opcode {
         0x10 | 0x15 | 0x36 => Shape::OneByte,
-        0x11 => Shape::TwoBytes,
+        0x11 | 0xB8 => Shape::TwoBytes,
         0x84 => Shape::BytePair,
         _ => Shape::Alone,
     }
@@ -64,12 +76,13 @@ fn byte_op(opcode: u8, operand: u8) -> Option<Op>
     }
 }
 
-/// `sipush`.
-fn short_op(opcode: u8, operand: u16) -> Option<Op>
-    ensures { result ≡ short_op opcode operand }
+/// `sipush` and `invokestatic`.
+fn short_raw(opcode: u8, operand: u16) -> Option<RawOp>
+    ensures { result ≡ short_raw opcode operand }
 {
     match opcode {
-        0x11 => Some(Op::PushInt(i32::from(operand.cast_signed()))),
+        0x11 => Some(RawOp::Whole(Op::PushInt(i32::from(operand.cast_signed())))),
+        0xB8 => Some(RawOp::Call(operand)),
         _ => None,
     }
 }
@@ -84,20 +97,29 @@ fn bytes_op(opcode: u8, first: u8, second: u8) -> Option<Op>
     }
 }
 
+fn whole(op: Option<Op>) -> Option<RawOp>
+    ensures { result ≡ whole op }
+{
+    match op {
+        Some(op) => Some(RawOp::Whole(op)),
+        None => None,
+    }
+}
+
 /// The instruction that stands at a place.
 #[tactic(auto, unfolding(crate::specs::SmallInstructions::op_at, crate::specs::SmallInstructions::info, format_reading::specs::Reader::u1, format_reading::specs::Reader::u2, format_reading::specs::Reader::lead, format_reading::specs::Reader::bind, format_reading::specs::Reader::give))]
-fn op(cursor: &mut Cursor) -> Result<Op, FormatFault>
+fn op(cursor: &mut Cursor) -> Result<RawOp, FormatFault>
     ensures { Reads result cursor.new (op_at cursor.old) }
 {
     let offset = cursor.place();
     let opcode = cursor.u1()?;
     let op = match shape_of(opcode) {
-        Shape::Alone => plain_op(opcode),
-        Shape::OneByte => byte_op(opcode, cursor.u1()?),
-        Shape::TwoBytes => short_op(opcode, cursor.u2()?),
+        Shape::Alone => whole(plain_op(opcode)),
+        Shape::OneByte => whole(byte_op(opcode, cursor.u1()?)),
+        Shape::TwoBytes => short_raw(opcode, cursor.u2()?),
         Shape::BytePair => {
             let first = cursor.u1()?;
-            bytes_op(opcode, first, cursor.u1()?)
+            whole(bytes_op(opcode, first, cursor.u1()?))
         }
     };
     match op {
@@ -109,16 +131,35 @@ fn op(cursor: &mut Cursor) -> Result<Op, FormatFault>
     }
 }
 
+/// The operation, where a call is of a method of the class `Main`.
+fn meant(alloc: Global, pool: &Items<Entry>, raw: RawOp) -> Result<Op, Or<NotBuilt>>
+    requires { FitsPool pool.now }
+    ensures { FindsOnly result (Means main pool.now raw) }
+{
+    match raw {
+        RawOp::Whole(op) => Ok(op),
+        RawOp::Call(index) => Ok(Op::InvokeStatic(own_method_at(alloc, pool, index)?)),
+    }
+}
+
 /// The instructions that these bytes are.
-pub fn instructions(alloc: Global, code: &[u8]) -> Result<Items<Ins>, Or<NotBuilt>>
-    requires { length code.now < 4294967295 }
-    ensures { FindsOnly result (IsCodeText code.now) }
+pub fn instructions(
+    alloc: Global,
+    pool: &Items<Entry>,
+    code: &[u8],
+) -> Result<Items<Ins>, Or<NotBuilt>>
+    requires code { length code.now < 4294967295 }
+    requires pool { FitsPool pool.now }
+    ensures { FindsOnly result (IsCodeText main pool.now code.now) }
 {
     let mut cursor = Cursor::new(code);
     let mut instructions = Items::new(alloc);
     while !cursor.is_at_end() {
         match op(&mut cursor) {
-            Ok(op) => instructions.push(Ins { op, line: None })?,
+            Ok(raw) => {
+                let op = meant(alloc, pool, raw)?;
+                instructions.push(Ins { op, line: None })?;
+            }
             Err(_) => return Err(Or::Fault(NotBuilt)),
         }
     }

@@ -9,6 +9,7 @@ ghost use Rattle.shrink_core.specs.Finding.{FindsSuch, FindsOnly};
 ghost use Rattle.shrink_core.specs.SmallMeaning.{NamesClass, IsNameAt};
 
 use crate::small::NotBuilt;
+use crate::small::references::{check_methodref, check_name_and_type};
 use class_model::Entry;
 use jv_base::{
     FieldType, Items, Name, Or, Text, is_class_name, is_member_name, read_field_type, text_of_units,
@@ -25,7 +26,7 @@ fn units_in(entry: &Entry) -> Option<&[u16]>
 }
 
 #[tactic(auto, using(crate::proofs::Lengths::some_short))]
-fn units_at(pool: &Items<Entry>, index: u16) -> Option<&[u16]>
+pub(super) fn units_at(pool: &Items<Entry>, index: u16) -> Option<&[u16]>
     requires { FitsPool pool.now }
     ensures found { option_copied result ≡ units_at pool.now index }
     ensures short { IfSome (option_copied result) (λ units. length units < 65536) }
@@ -37,7 +38,7 @@ fn units_at(pool: &Items<Entry>, index: u16) -> Option<&[u16]>
 }
 
 #[tactic(auto, using(crate::proofs::Lengths::some_short))]
-fn class_units_at(pool: &Items<Entry>, index: u16) -> Option<&[u16]>
+pub(super) fn class_units_at(pool: &Items<Entry>, index: u16) -> Option<&[u16]>
     requires { FitsPool pool.now }
     ensures found { option_copied result ≡ class_units_at pool.now index }
     ensures short { IfSome (option_copied result) (λ units. length units < 65536) }
@@ -50,7 +51,7 @@ fn class_units_at(pool: &Items<Entry>, index: u16) -> Option<&[u16]>
 
 /// The text of these units.
 #[tactic(auto, using(crate::proofs::Lengths::text_below))]
-fn text(alloc: Global, units: Option<&[u16]>) -> Result<Text, Or<NotBuilt>>
+pub(super) fn text(alloc: Global, units: Option<&[u16]>) -> Result<Text, Or<NotBuilt>>
     requires { IfSome (option_copied units) (λ units. length units < 65536) }
     ensures found { FindsOnly result (IsText (option_copied units.entry)) }
     ensures short { IfOk result (λ text. length text < 4294967295) }
@@ -75,7 +76,7 @@ pub fn text_at(alloc: Global, pool: &Items<Entry>, index: u16) -> Result<Text, O
 
 /// Whether a CONSTANT_Class may name this: a class by its name, an array type by its descriptor
 /// (JVMS 4.4.1).
-fn check_type(alloc: Global, text: &Text) -> Result<(), Or<NotBuilt>>
+pub(super) fn check_type(alloc: Global, text: &Text) -> Result<(), Or<NotBuilt>>
     requires { length text.now < 4294967295 }
     ensures { FindsSuch result (λ _. IsTypeText text.now) }
 {
@@ -98,6 +99,10 @@ fn check_entry(alloc: Global, pool: &Items<Entry>, entry: &Entry) -> Result<(), 
         Entry::Class(name_index) => {
             let text = text(alloc, units_at(pool, *name_index))?;
             check_type(alloc, &text)
+        }
+        Entry::Method(class_index, index) => check_methodref(alloc, pool, *class_index, *index),
+        Entry::NameAndType(name_index, descriptor_index) => {
+            check_name_and_type(alloc, pool, *name_index, *descriptor_index)
         }
         _ => Ok(()),
     }

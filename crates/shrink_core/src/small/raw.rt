@@ -15,8 +15,8 @@ use format_reading::{FormatFault, FormatKind};
 use jv_base::{Bytes, Cursor, Items, Or, Units, units_of_mutf8};
 use std::alloc::Global;
 
-/// The bytes of a class without interfaces, fields and attributes, whose pool has the tags 1 and 7
-/// alone. The entry of index i stands at place i of the pool, and place 0 holds a `Gap`.
+/// The bytes of a class without interfaces, fields and attributes, whose pool has the tags 1, 7, 10
+/// and 12 alone. The entry of index i stands at place i of the pool, and place 0 holds a `Gap`.
 #[derive(Debug, Drop)]
 pub struct RawClass {
     pub pool: Items<Entry>,
@@ -111,6 +111,14 @@ fn entry(alloc: Global, cursor: &mut Cursor) -> Result<Entry, Or<FormatFault>>
     match cursor.u1()? {
         1 => utf8(alloc, cursor),
         7 => Ok(Entry::Class(cursor.u2()?)),
+        10 => {
+            let class_index = cursor.u2()?;
+            Ok(Entry::Method(class_index, cursor.u2()?))
+        }
+        12 => {
+            let name_index = cursor.u2()?;
+            Ok(Entry::NameAndType(name_index, cursor.u2()?))
+        }
         _ => Err(Or::Fault(fault(at, FormatKind::BadTag))),
     }
 }

@@ -7,7 +7,7 @@ ghost use Rattle.shrink_core.specs.SmallMeaning.{IsClassOf};
 
 use crate::small::NotBuilt;
 use crate::small::flags::class_flags;
-use crate::small::methods::{check_methods_differ, methods};
+use crate::small::methods::{check_calls, methods, signatures};
 use crate::small::pool::{check_entries, class_at};
 use crate::small::raw::{RawClass, read_structure};
 use class_model::Class;
@@ -34,7 +34,7 @@ fn class_of(alloc: Global, raw: &RawClass) -> Result<Class, Or<NotBuilt>>
     let name = class_at(alloc, &raw.pool, raw.this_class, "Main")?;
     let super_name = class_at(alloc, &raw.pool, raw.super_class, "java/lang/Object")?;
     let methods = methods(alloc, &raw.pool, &raw.methods)?;
-    check_methods_differ(alloc, &methods)?;
+    check_calls(&methods, &signatures(alloc, &methods)?)?;
     Ok(Class {
         flags,
         name,

@@ -1,6 +1,9 @@
+ghost use Rattle.std.specs.Prelude.{◌<◌, length};
+
 use super::*;
 use class_model::{ArithOp, Class, Kind, Num, Op};
 use jv_base::Or;
+use std::alloc::Global;
 use std::test::Fail;
 
 // `static int f(int)` of `Main`, which adds 1.
@@ -46,4 +49,83 @@ fn a_small_class_is_read(rt: HostRuntime) -> Result<(), Fail> {
     );
     assert!(rt; matches!(read_small(alloc, shorter), Err(Or::Fault(NotBuilt))));
     Ok(())
+}
+
+// `static int f(int)` of `Main`, which calls `static int g(int)`.
+const CALLER: &[u8] = b"\xCA\xFE\xBA\xBE\0\0\0\x34\0\x0B\
+\x01\0\x04Main\x07\0\x01\x01\0\x10java/lang/Object\x07\0\x03\x01\0\x01f\x01\0\x04(I)I\x01\0\x04Code\
+\x01\0\x01g\x0C\0\x08\0\x06\x0A\0\x02\0\x09\
+\0\x21\0\x02\0\x04\0\0\0\0\0\x02\0\x09\0\x05\0\x06\0\x01\
+\0\x07\0\0\0\x11\0\x01\0\x01\0\0\0\x05\x1A\xB8\0\x0A\xAC\0\0\0\0\0\x09\0\x08\0\x06\0\x01\
+\0\x07\0\0\0\x0E\0\x01\0\x01\0\0\0\x02\x1A\xAC\0\0\0\0\0\0";
+
+// The same, where the name of the method that is called is `Main`.
+const CALLER_OF_NONE: &[u8] = b"\xCA\xFE\xBA\xBE\0\0\0\x34\0\x0B\
+\x01\0\x04Main\x07\0\x01\x01\0\x10java/lang/Object\x07\0\x03\x01\0\x01f\x01\0\x04(I)I\x01\0\x04Code\
+\x01\0\x01g\x0C\0\x01\0\x06\x0A\0\x02\0\x09\
+\0\x21\0\x02\0\x04\0\0\0\0\0\x02\0\x09\0\x05\0\x06\0\x01\
+\0\x07\0\0\0\x11\0\x01\0\x01\0\0\0\x05\x1A\xB8\0\x0A\xAC\0\0\0\0\0\x09\0\x08\0\x06\0\x01\
+\0\x07\0\0\0\x0E\0\x01\0\x01\0\0\0\x02\x1A\xAC\0\0\0\0\0\0";
+
+// The same, where the class of the method that is called is `java/lang/Object`.
+const CALLER_OF_ANOTHER_CLASS: &[u8] = b"\xCA\xFE\xBA\xBE\0\0\0\x34\0\x0B\
+\x01\0\x04Main\x07\0\x01\x01\0\x10java/lang/Object\x07\0\x03\x01\0\x01f\x01\0\x04(I)I\x01\0\x04Code\
+\x01\0\x01g\x0C\0\x08\0\x06\x0A\0\x04\0\x09\
+\0\x21\0\x02\0\x04\0\0\0\0\0\x02\0\x09\0\x05\0\x06\0\x01\
+\0\x07\0\0\0\x11\0\x01\0\x01\0\0\0\x05\x1A\xB8\0\x0A\xAC\0\0\0\0\0\x09\0\x08\0\x06\0\x01\
+\0\x07\0\0\0\x0E\0\x01\0\x01\0\0\0\x02\x1A\xAC\0\0\0\0\0\0";
+
+// The same, where the descriptor of the method that is called is `()I`.
+const CALLER_OF_ANOTHER_TYPE: &[u8] = b"\xCA\xFE\xBA\xBE\0\0\0\x34\0\x0C\
+\x01\0\x04Main\x07\0\x01\x01\0\x10java/lang/Object\x07\0\x03\x01\0\x01f\x01\0\x04(I)I\x01\0\x04Code\
+\x01\0\x01g\x0C\0\x08\0\x0B\x0A\0\x02\0\x09\x01\0\x03()I\
+\0\x21\0\x02\0\x04\0\0\0\0\0\x02\0\x09\0\x05\0\x06\0\x01\
+\0\x07\0\0\0\x11\0\x01\0\x01\0\0\0\x05\x1A\xB8\0\x0A\xAC\0\0\0\0\0\x09\0\x08\0\x06\0\x01\
+\0\x07\0\0\0\x0E\0\x01\0\x01\0\0\0\x02\x1A\xAC\0\0\0\0\0\0";
+
+// The same, where the class of the method that is called is the array type `[I`.
+const CALLER_OF_AN_ARRAY: &[u8] = b"\xCA\xFE\xBA\xBE\0\0\0\x34\0\x0D\
+\x01\0\x04Main\x07\0\x01\x01\0\x10java/lang/Object\x07\0\x03\x01\0\x01f\x01\0\x04(I)I\x01\0\x04Code\
+\x01\0\x01g\x0C\0\x08\0\x06\x0A\0\x0C\0\x09\x01\0\x02[I\x07\0\x0B\
+\0\x21\0\x02\0\x04\0\0\0\0\0\x02\0\x09\0\x05\0\x06\0\x01\
+\0\x07\0\0\0\x11\0\x01\0\x01\0\0\0\x05\x1A\xB8\0\x0A\xAC\0\0\0\0\0\x09\0\x08\0\x06\0\x01\
+\0\x07\0\0\0\x0E\0\x01\0\x01\0\0\0\x02\x1A\xAC\0\0\0\0\0\0";
+
+// The caller of `g`, with another reference, to a method of the array type `[I`.
+const WITH_A_METHOD_OF_AN_ARRAY: &[u8] = b"\xCA\xFE\xBA\xBE\0\0\0\x34\0\x0E\
+\x01\0\x04Main\x07\0\x01\x01\0\x10java/lang/Object\x07\0\x03\x01\0\x01f\x01\0\x04(I)I\x01\0\x04Code\
+\x01\0\x01g\x0C\0\x08\0\x06\x0A\0\x02\0\x09\x01\0\x02[I\x07\0\x0B\x0A\0\x0C\0\x09\
+\0\x21\0\x02\0\x04\0\0\0\0\0\x02\0\x09\0\x05\0\x06\0\x01\
+\0\x07\0\0\0\x11\0\x01\0\x01\0\0\0\x05\x1A\xB8\0\x0A\xAC\0\0\0\0\0\x09\0\x08\0\x06\0\x01\
+\0\x07\0\0\0\x0E\0\x01\0\x01\0\0\0\x02\x1A\xAC\0\0\0\0\0\0";
+
+fn is_refused(read: &Result<Class, Or<NotBuilt>>) -> bool {
+    matches!(read, Err(Or::Fault(NotBuilt)))
+}
+
+#[test]
+fn calls_of_other_methods_are_refused(rt: HostRuntime) -> Result<(), Fail> {
+    let alloc = rt.alloc();
+    assert!(rt; is_refused(&read_small(alloc, CALLER_OF_NONE)));
+    assert!(rt; is_refused(&read_small(alloc, CALLER_OF_ANOTHER_CLASS)));
+    assert!(rt; is_refused(&read_small(alloc, CALLER_OF_ANOTHER_TYPE)));
+    assert!(rt; is_refused(&read_small(alloc, CALLER_OF_AN_ARRAY)));
+    Ok(())
+}
+
+#[test]
+fn a_call_is_read_and_written(rt: HostRuntime) -> Result<(), Fail> {
+    let alloc = rt.alloc();
+    assert!(rt; is_written_as(alloc, CALLER, CALLER)?);
+    assert!(rt; is_written_as(alloc, WITH_A_METHOD_OF_AN_ARRAY, CALLER)?);
+    Ok(())
+}
+
+/// Whether a file is that of a small class which is written as these bytes.
+fn is_written_as(alloc: Global, file: &[u8], bytes: &[u8]) -> Result<bool, Or<NotBuilt>>
+    requires { length file.now < 4294967295 }
+{
+    let class = read_small(alloc, file)?;
+    let written = write_small(alloc, &class)?;
+    Ok(written.as_slice() == bytes)
 }

@@ -93,7 +93,7 @@ fn put_methods(
 ) -> M<()>
     requires pool { length pool.now.keys + 1 < 2 ^ 16 }
     requires count { length methods.now < 2 ^ 16 }
-    requires methods { All MethodFits methods.now }
+    requires methods { All (MethodFits pool.now.keys) methods.now }
     ensures { let infos = map (canonical.method_raw pool.now.keys) methods.now in OnOk result
         (out.new.items
         ≡ out.old.items ++ (to_be_bytes w16 (length infos) ++ flat_map member_info infos)) }
@@ -113,7 +113,7 @@ fn put_method(
     out: &mut Vec<u8>,
 ) -> M<()>
     requires pool { length pool.now.keys + 1 < 2 ^ 16 }
-    requires method { MethodFits method.now }
+    requires method { MethodFits pool.now.keys method.now }
     ensures { OnOk result (out.new.items
         ≡ out.old.items ++ member_info (canonical.method_raw pool.now.keys method.now)) }
 {
@@ -134,7 +134,7 @@ fn put_attributes(
     out: &mut Vec<u8>,
 ) -> M<()>
     requires pool { length pool.now.keys + 1 < 2 ^ 16 }
-    requires code { IfSome code.now CodeFits }
+    requires code { IfSome code.now (CodeFits pool.now.keys) }
     ensures { let attributes = canonical.code_attributes pool.now.keys code.now in OnOk result
         (out.new.items ≡ out.old.items
         ++ (to_be_bytes w16 (length attributes) ++ flat_map attribute_info attributes)) }
@@ -142,7 +142,7 @@ fn put_attributes(
     match code {
         None => put_u2(out, 0),
         Some(code) => {
-            let info = code_info(alloc, code)?;
+            let info = code_info(alloc, pool, code)?;
             put_u2(out, 1)?;
             put_attribute(
                 index_of_text(alloc, pool, &Text::from_str(alloc, CODE)?)?,
@@ -154,12 +154,13 @@ fn put_attributes(
 }
 
 /// The contents of a Code attribute (JVMS 4.7.3).
-fn code_info(alloc: Global, code: &Code) -> M<Vec<u8>>
-    requires { CodeFits code.now }
-    ensures info { IfOk result (λ info. info.items ≡ structure.code_info (canonical.code_raw code.now)) }
+fn code_info(alloc: Global, pool: &IndexSet<PoolConstant>, code: &Code) -> M<Vec<u8>>
+    requires pool { length pool.now.keys + 1 < 2 ^ 16 }
+    requires code { CodeFits pool.now.keys code.now }
+    ensures info { IfOk result (λ info. info.items ≡ structure.code_info (canonical.code_raw pool.now.keys code.now)) }
     ensures short { IfOk result (λ info. length info.items < 2 ^ 32) }
 {
-    let bytes = code_bytes(alloc, &code.ins)?;
+    let bytes = code_bytes(alloc, pool, &code.ins)?;
     let mut info = Vec::new(alloc);
     put_u2(&mut info, code.max_stack)?;
     put_u2(&mut info, code.max_locals)?;

@@ -1,32 +1,40 @@
 // The instructions of a small class (JVMS 6.5).
-ghost use Rattle.std.specs.Prelude.{◌≡◌, ℕ, ◌+◌, ◌^◌, ◌<◌, ◌++◌, All, IfOk, OnOk};
+ghost use Rattle.std.specs.Prelude.{◌≡◌, ℕ, ◌+◌, ◌^◌, ◌<◌, ◌++◌, length, All, IfOk, OnOk};
 ghost use Rattle.std.specs.Int.{w16};
 ghost use Rattle.std.specs.Int.RustNames.{FitsSigned};
 ghost use Rattle.shrink_core.specs.SmallLayout as canonical;
 ghost use Rattle.shrink_core.specs.Writable.{OperandsFit};
 
-use crate::small::writing::bytes::put;
-use class_model::{ArithOp, Ins, Kind, Num, Op};
+use crate::small::writing::bytes::{put, put_u2};
+use crate::small::writing::constants::index_of_method;
+use class_model::{ArithOp, Ins, Kind, Num, Op, PoolConstant};
+use indexmap::IndexSet;
 use jv_base::{Items, M};
 use std::alloc::Global;
 
 /// The bytes of a code (JVMS 4.7.3).
 #[tactic(auto, unfolding(crate::specs::SmallLayout::code_bytes))]
-pub(crate) fn code_bytes(alloc: Global, instructions: &Items<Ins>) -> M<Vec<u8>>
-    requires { All (λ i. OperandsFit i.op) instructions.now }
-    ensures { IfOk result (λ bytes. bytes.items ≡ canonical.code_bytes instructions.now) }
+pub(crate) fn code_bytes(
+    alloc: Global,
+    pool: &IndexSet<PoolConstant>,
+    instructions: &Items<Ins>,
+) -> M<Vec<u8>>
+    requires pool { length pool.now.keys + 1 < 2 ^ 16 }
+    requires operands { All (λ i. OperandsFit i.op) instructions.now }
+    ensures { IfOk result (λ bytes. bytes.items ≡ canonical.code_bytes pool.now.keys instructions.now) }
 {
     let mut bytes = Vec::new(alloc);
     for instruction in instructions.as_slice() {
-        put_op(&instruction.op, &mut bytes)?;
+        put_op(alloc, pool, &instruction.op, &mut bytes)?;
     }
     Ok(bytes)
 }
 
 /// The shortest spelling of an instruction; none of one that no small class has.
-fn put_op(op: &Op, out: &mut Vec<u8>) -> M<()>
-    requires { OperandsFit op.now }
-    ensures { OnOk result (out.new.items ≡ out.old.items ++ canonical.op_bytes op.now) }
+fn put_op(alloc: Global, pool: &IndexSet<PoolConstant>, op: &Op, out: &mut Vec<u8>) -> M<()>
+    requires pool { length pool.now.keys + 1 < 2 ^ 16 }
+    requires operands { OperandsFit op.now }
+    ensures { OnOk result (out.new.items ≡ out.old.items ++ canonical.op_bytes pool.now.keys op.now) }
 {
     match op {
         Op::Nop => put(out, &[0x00]),
@@ -42,6 +50,10 @@ fn put_op(op: &Op, out: &mut Vec<u8>) -> M<()>
         Op::Neg(Num::Int) => put(out, &[0x74]),
         Op::Inc(slot, delta) => put(out, &[0x84, *slot as u8, (*delta as i8).cast_unsigned()]),
         Op::Return(Some(Kind::Int)) => put(out, &[0xAC]),
+        Op::InvokeStatic(reference) => {
+            put(out, &[0xB8])?;
+            put_u2(out, index_of_method(alloc, pool, reference)?)
+        }
         _ => Ok(()),
     }
 }

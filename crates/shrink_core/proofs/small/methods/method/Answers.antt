@@ -16,7 +16,7 @@ returns-in_err-check_text c =
 pub returns-in_err-code : goal.returns-in_err-code
 returns-in_err-code c =
     let p = err_from_is_err_and c.from_residual-in_err-code.result c.from_residual-in_err-code.ensures.1 in
-    rw (p.1, p.2) (none_other c.in_err-code.field-0.0 (IsCodeOf c.args.raw.now) (IsMethodOf c.args.pool.now c.args.raw.now)
+    rw (p.1, p.2) (none_other c.in_err-code.field-0.0 (IsCodeOf c.args.pool.now c.args.raw.now) (IsMethodOf c.args.pool.now c.args.raw.now)
     (λ (m : Method) h. (h.code.0, h.code.2))
     c.in_err-code.ensures)
 

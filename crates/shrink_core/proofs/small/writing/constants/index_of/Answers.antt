@@ -2,7 +2,8 @@ use Rattle.std.proofs.Common.{Bool, ap, ◌+◌, ◌∙◌}
 use Rattle.std.specs.List.{position_or_len}
 use Rattle.std.proofs.lemmas.List.Sums.{prefix_len-le-length}
 use Rattle.class_model.specs.declared.constant.PoolConstant.{PoolConstant}
-use Rattle.shrink_core.proofs.Places.{unwrap_or-position, derived_is_same}
+use Rattle.class_model.proofs.SameConstant.{derived_is_same}
+use Rattle.shrink_core.proofs.Places.{unwrap_or-position}
 use Rattle.shrink_core.proofs.small.writing.constants.index_of.Goals as goal
 
 pub returns : goal.returns

@@ -1,7 +1,8 @@
 use Rattle.std.proofs.Common.{◌≡◌, [], drop}
 use Rattle.std.specs.List.{flat_map}
 use Rattle.indexmap.specs.IndexSet.{insert_all}
-use Rattle.shrink_core.specs.SmallLayout.{same, method_constants, constants_of}
+use Rattle.class_model.specs.CanonicalPool.{same}
+use Rattle.shrink_core.specs.SmallLayout.{method_constants, constants_of}
 use Rattle.shrink_core.proofs.small.writing.constants.pool_of.Given as goal
 
 abbrev pub invariant-loop-method : goal.invariant-loop-method

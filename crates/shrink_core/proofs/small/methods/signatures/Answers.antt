@@ -1,19 +1,20 @@
-use Rattle.std.proofs.Common.{◌≡◌, ◌+◌, ◌<◌, List, true, false, ap, subst, sym, ◌∙◌, arith, length, get_or}
+use Rattle.std.proofs.Common.{◌≡◌, ◌+◌, ◌<◌, ◌≤◌, List, map, true, false, ap, subst, sym, ◌∙◌, arith, length, get_or}
 use Rattle.std.specs.List.{list_any}
+use Rattle.std.proofs.lemmas.List.{take_all}
 use Rattle.indexmap.specs.IndexSet.{insert_key}
 use Rattle.class_model.specs.declared.class.Method.{Method}
 use Rattle.shrink_core.specs.declared.small.methods.Signature.{Signature}
 use Rattle.shrink_core.specs.SmallMeaning.{signature_of}
 use Rattle.shrink_core.proofs.Differing.{HasSeen, same, same_Decides, seen_new, seen_before, seen_all, was_there, was_new}
-use Rattle.shrink_core.proofs.small.methods.check_methods_differ.Goals as goal
+use Rattle.shrink_core.proofs.small.methods.signatures.Goals as goal
 
-pub returns-then-not-is_new : goal.returns-then-not-is_new
-returns-then-not-is_new c =
+pub returns-then-not-is_new-clause-refused : goal.returns-then-not-is_new-clause-refused
+returns-then-not-is_new-clause-refused c =
     let m = c.method-item.result in
     let at : m ≡ get_or c.args.methods.now c.loop-method.method-index m = c.method-item.is ∙ ap (λ (xs : List Method). get_or xs c.loop-method.method-index m) c.as_slice-method-items.ensures in
     let lt : c.loop-method.method-index < length c.args.methods.now = omega (arith, ap length c.as_slice-method-items.ensures) in
     let some : list_any (same (signature_of m)) c.loop-method.seen.keys ≡ true = subst (λ (s : Signature). list_any (same s) c.loop-method.seen.keys ≡ true) c.in_ok-signature_of.ensures (was_there _ c.in_ok-is_new.is_new c.in_ok-is_new.ensures.added c.if-not-is_new.true) in
-    λ _ differ. seen_before same same_Decides c.args.methods.now c.loop-method.method-index m c.loop-method.seen.keys lt at some c.loop-method.invariant differ
+    λ _ h. seen_before same same_Decides c.args.methods.now c.loop-method.method-index m c.loop-method.seen.keys lt at some c.loop-method.invariant h
 
 pub loop-method-preserved : goal.loop-method-preserved
 loop-method-preserved c =
@@ -25,5 +26,8 @@ loop-method-preserved c =
     subst (λ (ks : List Signature). HasSeen c.args.methods.now (c.loop-method.method-index + 1) ks) (sym grown)
     (seen_new same same_Decides c.args.methods.now c.loop-method.method-index m c.loop-method.seen.keys lt at none c.loop-method.invariant)
 
-pub returns : goal.returns
-returns c = seen_all c.args.methods.now c.loop-method.method-index c.loop-method.seen.keys (omega (arith, ap length c.as_slice-method-items.ensures)) c.loop-method.invariant
+pub returns-clause-found : goal.returns-clause-found
+returns-clause-found c =
+    let le : length c.args.methods.now ≤ c.loop-method.method-index = omega (arith, ap length c.as_slice-method-items.ensures) in
+    let seen = c.loop-method.invariant in
+    (seen.keys ∙ ap (λ (ms : List Method). map signature_of ms) (take_all c.loop-method.method-index c.args.methods.now le), seen_all c.args.methods.now c.loop-method.method-index c.loop-method.seen.keys le seen)
