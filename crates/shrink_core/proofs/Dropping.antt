@@ -13,6 +13,7 @@ use Rattle.shrink_core.specs.Kept.{chosen, system_of, shrunk}
 use Rattle.shrink_core.specs.Steps.{IsReadClass}
 use Rattle.shrink_core.specs.declared.config.KeptMethod.{KeptMethod}
 use Rattle.shrink_core.specs.Due.{ShrunkIsSmall}
+use Rattle.shrink_core.proofs.CallsStay.{calls_stay, methods_call_class}
 use Rattle.shrink_core.proofs.Writable.{writable}
 use Rattle.shrink_core.proofs.Canonical.{canonical}
 
@@ -82,8 +83,8 @@ few_methods class h =
     let is = h.1.file.3 in
     omega (arith, as_many _ h.1.file.0.methods class.methods is.methods, is.methods_count)
 
-shrunk_class : (raw : ClassFile) (class : Class) (pool : List Entry) (marks : List Bool) → IsClass raw class pool → IsClass (record raw { methods = chosen (drop 1 marks) raw.methods }) (shrunk class marks) pool
-shrunk_class raw class pool marks h = record {
+shrunk_class : (raw : ClassFile) (class : Class) (pool : List Entry) (kept : List KeptMethod) (marks : List Bool) → Marks (system_of class kept) marks → IsClass raw class pool → IsClass (record raw { methods = chosen (drop 1 marks) raw.methods }) (shrunk class marks) pool
+shrunk_class raw class pool kept marks marked h = record {
   constant_pool = h.constant_pool;
   flags = h.flags;
   name = h.name;
@@ -93,6 +94,7 @@ shrunk_class raw class pool marks h = record {
   methods_count = omega (arith, chosen_length (drop 1 marks) raw.methods, h.methods_count);
   methods = chosen_zip _ (drop 1 marks) raw.methods class.methods h.methods;
   methods_differ = from_pairs Differ (chosen (drop 1 marks) class.methods) (chosen_pairs Differ (drop 1 marks) class.methods (to_pairs Differ class.methods h.methods_differ));
+  calls = calls_stay class kept marks marked h.calls (methods_call_class class.name pool raw.methods class.methods h.methods);
   attributes = h.attributes;
   source = h.source;
   synthetic = h.synthetic;
@@ -107,7 +109,7 @@ shrunk_small bytes class kept marks h marked =
     let pool = h.file.2 in (
       class_file (record raw { methods = chosen (drop 1 marks) raw.methods }),
       record {
-        file = (record raw { methods = chosen (drop 1 marks) raw.methods }, refl, pool, shrunk_class raw class pool marks h.file.3);
+        file = (record raw { methods = chosen (drop 1 marks) raw.methods }, refl, pool, shrunk_class raw class pool kept marks marked h.file.3);
         name = h.name;
         super_name = h.super_name;
         methods = chosen_all IsIntMethod (drop 1 marks) class.methods h.methods;
