@@ -265,7 +265,7 @@ pub named_push : (ms : List KeptMethod) (m : KeptMethod) → AllByRecursion IsNa
 named_push [] m h hm = (hm, tt)
 named_push (x ∷ ms) m h hm = (h.0, named_push ms m h.1 hm)
 
-end_is_no_method : (m : KeptMethod) (rest : List ℕ) → method_text m rest ≡ codes " }" → ⊥
+pub end_is_no_method : (m : KeptMethod) (rest : List ℕ) → method_text m rest ≡ codes " }" → ⊥
 end_is_no_method m rest e = absurd cc
 
 -- what stands behind methods is spelled by the others

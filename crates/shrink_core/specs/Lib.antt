@@ -13,6 +13,7 @@ pub mod Example
 pub mod Path
 pub mod Words
 pub mod Config
+pub mod OneConfig
 pub mod ConfigParts
 pub mod Kept
 pub mod Keys

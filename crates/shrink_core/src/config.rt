@@ -4,6 +4,7 @@ ghost use Rattle.std.specs.List.{AllByRecursion, list_all};
 ghost use Rattle.std.specs.Str.{IsUtf8};
 ghost use Rattle.shrink_core.specs.Path.{directory_in, is_path};
 ghost use Rattle.shrink_core.specs.Config.{Lacks, line, is_no_blank, ints_text, AreKept, NamesDirectory, NamesFile, IsConfig};
+ghost use Rattle.shrink_core.specs.OneConfig.{IsOneConfig};
 ghost use Rattle.shrink_core.specs.ConfigParts.{BeginsSo, HasLines};
 
 use crate::path::{directory_in, is_path};
@@ -220,3 +221,8 @@ pub fn read_config(alloc: Global, bytes: &[u8]) -> M<Option<Config>>
         Err(_) => Ok(None),
     }
 }
+
+/// A text is one config at most.
+pub fn one_config()
+    ensures { IsOneConfig }
+{}

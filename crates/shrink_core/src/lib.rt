@@ -13,6 +13,7 @@ mod summary;
 mod words;
 
 pub use command::run;
+pub use config::one_config;
 pub use removal::shrunk_is_small;
 pub use small::canonical_is_small;
 
