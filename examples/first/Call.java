@@ -10,7 +10,6 @@ public class Call {
         System.out.println(call(main, "minutes", 10, 15));
         System.out.println(call(main, "hours", 3000));
         System.out.println(call(main, "later", 1430, 30));
-        System.out.println(call(main, "back", 90));
         System.out.println(call(main, "noon"));
     }
 

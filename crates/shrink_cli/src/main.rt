@@ -9,9 +9,21 @@ use std::io::ErrorKind;
 use std::process::ExitCode;
 use tree_io::{FileTree, OpenGate, Sink, StreamSink};
 
-const HELP: &[u8] = b"Usage: shrink IN OUT
+const HELP: &[u8] = b"Usage: shrink CONFIG OUTWIT
 
-Reads the class file IN/Main.class and writes it in its canonical spelling to OUT/Main.class.
+Reads CONFIG, and the class file IN/Main.class of the directory that it names, and writes the
+class to OUT/Main.class with the methods alone that are kept, in its canonical spelling. Then it
+says how many there were and how many are kept. Nothing is written to OUTWIT yet.
+
+CONFIG is four lines:
+  -injars IN
+  -outjars OUT
+  -printmapping MAP
+  -keep class Main { static int NAME(int,int); }
+The last one names one method or more, each behind a blank, with int any number of times. These
+are kept, and all methods that kept ones call. OUT must have no file. Nothing is written to MAP
+yet.
+
 So far the class is one named Main, below java.lang.Object, without interfaces, fields and
 attributes, whose methods are static, take ints, give an int and compute with int instructions
 alone.
@@ -19,7 +31,8 @@ alone.
   -h, --help       prints this text
   -V, --version    prints the version
 
-Status: 0 written, 1 faulty words, 4 no such class, 7 a device failed, 10 memory was wanting.
+Status: 0 written, 1 faulty words, 2 no config, 3 faulty config, 4 no such class, 6 config too
+long, 7 a device failed, 8 a file below OUT, 10 memory was wanting.
 ";
 
 const VERSION: &[u8] = b"cixorradde 0.1.0\n";

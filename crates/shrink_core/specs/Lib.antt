@@ -12,6 +12,12 @@ pub mod Writable
 pub mod Example
 pub mod Path
 pub mod Words
+pub mod Config
+pub mod OneConfig
+pub mod ConfigParts
+pub mod Kept
+pub mod Keys
+pub mod Summary
 pub mod Refusal
 pub mod Due
 pub mod Answer

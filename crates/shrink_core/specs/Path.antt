@@ -36,6 +36,10 @@ without_slash (b ∷ c ∷ rest) = b ∷ without_slash (c ∷ rest)
 abbrev pub directory_in : List ℕ → Option (List ℕ)
 directory_in word = let text = without_slash word in if is_path text then Some text else None
 
+-- the file that a word names
+abbrev pub file_in : List ℕ → Option (List ℕ)
+file_in word = if is_path word then Some word else None
+
 -- the class file of the class Main below a directory
 abbrev pub main_path : List ℕ → List ℕ
 main_path directory = directory ++ codes "/Main.class"

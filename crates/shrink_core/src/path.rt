@@ -1,7 +1,7 @@
 // Paths and directories.
 ghost use Rattle.std.specs.Prelude.{◌≡◌, ◌<◌, IfOk, IfSome, IfNone, length, position};
 ghost use Rattle.std.specs.Option.{option_copied};
-ghost use Rattle.shrink_core.specs.Path.{EndsFirst, is_slash, is_segment, are_segments, without_root, is_path, without_slash, directory_in, main_path};
+ghost use Rattle.shrink_core.specs.Path.{EndsFirst, is_slash, is_segment, are_segments, without_root, is_path, without_slash, directory_in, file_in, main_path};
 
 use jv_base::{M, Text};
 use std::alloc::Global;
@@ -49,7 +49,8 @@ fn without_root(text: &[u8]) -> &[u8]
     }
 }
 
-fn is_path(text: &str) -> bool
+/// Whether a text is a path.
+pub fn is_path(text: &str) -> bool
     ensures { result ≡ is_path text.now }
 {
     are_segments(without_root(text.as_bytes()))
@@ -65,11 +66,18 @@ fn without_slash(text: &str) -> &str
 }
 
 /// The directory that a word names, without its trailing `/`.
-pub fn directory_in(word: &Text) -> Option<&str>
+pub fn directory_in(word: &str) -> Option<&str>
     ensures { option_copied result ≡ directory_in word.now }
 {
-    let text = without_slash(word.as_str());
+    let text = without_slash(word);
     if is_path(text) { Some(text) } else { None }
+}
+
+/// The file that a word names.
+pub fn file_in(word: &str) -> Option<&str>
+    ensures { option_copied result ≡ file_in word.now }
+{
+    if is_path(word) { Some(word) } else { None }
 }
 
 /// The path of the class `Main` below a directory.

@@ -1,6 +1,5 @@
 // Why a command ends without its result, and what is said then.
-ghost use Rattle.std.specs.Prelude.{◌≡◌, IfOk};
-ghost use Rattle.shrink_core.specs.Refusal.{not_built_text};
+ghost use Rattle.std.specs.Prelude.{◌≡◌, ◌++◌, IfOk};
 ghost use Rattle.shrink_core.specs.declared.refusal.Stop.TheVariants.{OutOfMemory as no_memory};
 
 use jv_base::{M, OutOfMemory, Text};
@@ -11,6 +10,14 @@ use std::alloc::{AllocError, Global};
 pub enum Refusal {
     /// The words are none of a command.
     Words,
+    /// No config stands at the path.
+    Absent(Text),
+    /// The config has more than 67,108,864 bytes.
+    ConfigTooLong,
+    /// The config is none that is built so far.
+    Rules,
+    /// A file stands below the directory to which classes are to be written.
+    NotEmpty(Text),
     /// No class that is built so far stands at the path.
     NotBuilt(Text),
 }
@@ -40,12 +47,12 @@ impl From<OutOfMemory> for Stop {
     }
 }
 
-/// The line that names the file which isn't built.
-pub fn not_built_text(alloc: Global, path: &Text) -> M<Text>
-    ensures { IfOk result (λ text. text ≡ not_built_text path.now) }
+/// A line that names a path.
+pub fn line_of(alloc: Global, front: &str, path: &Text, back: &str) -> M<Text>
+    ensures { IfOk result (λ text. text ≡ front.now ++ (path.now ++ back.now)) }
 {
-    let mut text = Text::from_str(alloc, "error 4 format ")?;
+    let mut text = Text::from_str(alloc, front)?;
     text.push_str(path.as_str())?;
-    text.push_str(" 0 NotBuilt\n")?;
+    text.push_str(back)?;
     Ok(text)
 }
