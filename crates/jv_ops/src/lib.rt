@@ -12,6 +12,7 @@ mod unaimed;
 
 pub use decoding::{Decoded, decode_code};
 pub use fault::CodeFault;
+pub use lookups::type_at;
 
 #[cfg(test)]
 mod tests;

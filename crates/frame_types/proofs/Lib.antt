@@ -1,0 +1,4 @@
+mod Numbers
+mod Rows
+mod Loops
+mod Behind
