@@ -2,3 +2,4 @@ pub mod Rows
 pub mod Numbers
 pub mod Before
 pub mod Table
+pub mod Writing
