@@ -5,3 +5,8 @@ mod Behind
 mod Descriptors
 mod Indices
 mod Counting
+mod Spelled
+mod Sameness
+mod BackRows
+mod BackForms
+mod BackFrames

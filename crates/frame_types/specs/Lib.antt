@@ -3,3 +3,4 @@ pub mod Numbers
 pub mod Before
 pub mod Table
 pub mod Writing
+pub mod ReadBack

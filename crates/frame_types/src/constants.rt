@@ -32,6 +32,13 @@ impl ConstantTable {
         ConstantTable { constants }
     }
 
+    /// How many constants there are.
+    pub fn len(&self) -> usize
+        ensures { result ≡ length self.now }
+    {
+        self.constants.len()
+    }
+
     /// The index of a constant, or the one behind the last where it is missing.
     pub fn index_of(&self, constant: &PoolConstant) -> usize
         ensures { result ≡ canonical.index_of self.now constant.now }

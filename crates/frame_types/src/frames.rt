@@ -62,7 +62,8 @@ fn with_item(
     locals: Items<VType>,
     item: TypeInfo,
 ) -> M<Option<Written>>
-    ensures { IfOk result (λ w. option_map written_of w ≡ option_map (written pool.now.entries starts.now ops.now delta locals) (types_of pool.now.entries starts.now ops.now (info_of item ∷ []))) }
+    ensures { IfOk result (λ w. option_map written_of w ≡ option_map (written pool.now.entries starts.now ops.now delta locals)
+        (types_of pool.now.entries starts.now ops.now (info_of item ∷ []))) }
 {
     match types_of(alloc, pool, starts, ops, &[item])? {
         Some(stack) => Ok(Some(Written {
@@ -99,7 +100,8 @@ fn appended(
     before: Items<VType>,
     infos: &[TypeInfo],
 ) -> M<Option<Written>>
-    ensures { IfOk result (λ w. option_map written_of w ≡ option_map (λ types. written pool.now.entries starts.now ops.now delta (before ++ types) []) (types_of pool.now.entries starts.now ops.now (map info_of infos.now))) }
+    ensures { IfOk result (λ w. option_map written_of w ≡ option_map (λ types. written pool.now.entries starts.now ops.now delta
+        (before ++ types) []) (types_of pool.now.entries starts.now ops.now (map info_of infos.now))) }
 {
     let Some(types) = types_of(alloc, pool, starts, ops, infos)? else {
         return Ok(None);
@@ -122,7 +124,8 @@ fn written_whole(
     locals: &[TypeInfo],
     stack: &[TypeInfo],
 ) -> M<Option<Written>>
-    ensures { IfOk result (λ w. option_map written_of w ≡ written_by pool.now.entries starts.now ops.now [] (FullFrame delta (map info_of locals.now) (map info_of stack.now))) }
+    ensures { IfOk result (λ w. option_map written_of w ≡ written_by pool.now.entries starts.now ops.now [] (FullFrame delta
+        (map info_of locals.now) (map info_of stack.now))) }
 {
     let Some(locals) = types_of(alloc, pool, starts, ops, locals)? else {
         return Ok(None);
@@ -255,7 +258,8 @@ pub fn row_stands(
     before: Before,
     row: &Row,
 ) -> M<Option<Next>>
-    ensures { IfOk result (λ next. option_map next_of next ≡ row_stands pool.now.entries starts.now ops.now max_stack max_locals (before_of before) (row_of row.now)) }
+    ensures { IfOk result (λ next. option_map next_of next ≡ row_stands pool.now.entries starts.now ops.now max_stack max_locals
+        (before_of before) (row_of row.now)) }
 {
     let Before { locals, offset } = before;
     match written_by(alloc, pool, starts, ops, locals, row)? {

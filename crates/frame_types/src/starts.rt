@@ -22,7 +22,8 @@ impl<'a> Model for Starts<'a> {
 
     ghost view = { λ s. s.starts.now };
 
-    ghost invariant = { λ s. ((offset : ℕ) → found s.table.items offset ≡ position (nat_eq offset) s.starts.now) × (length s.table.items ≤ 4294967296) };
+    ghost invariant = { λ s. ((offset : ℕ) → found s.table.items offset ≡ position (nat_eq offset) s.starts.now)
+        × (length s.table.items ≤ 4294967296) };
 }
 
 impl<'a> Starts<'a> {

@@ -37,7 +37,8 @@ fn frame(
     before: Before,
     cursor: &mut Cursor,
 ) -> Result<(bool, Next), Or<FormatFault>>
-    ensures { ReadsAsOr row_read result cursor.new (read_frame pool.now.entries starts.now ops.now max_stack max_locals (before_of before) cursor.old) }
+    ensures { ReadsAsOr row_read result cursor.new (read_frame pool.now.entries starts.now ops.now max_stack max_locals
+        (before_of before) cursor.old) }
 {
     let offset = cursor.place();
     let row = row(alloc, cursor)?;
@@ -65,7 +66,8 @@ fn frames(
     first: Items<VType>,
     cursor: &mut Cursor,
 ) -> Result<StackMapTable, Or<FormatFault>>
-    ensures { ReadsAsOr table_of result cursor.new (read_frames_behind pool.now.entries starts.now ops.now max_stack max_locals count (record { locals = first; offset = None }) cursor.old) }
+    ensures { ReadsAsOr table_of result cursor.new (read_frames_behind pool.now.entries starts.now ops.now max_stack max_locals count
+        (record { locals = first; offset = None }) cursor.old) }
 {
     let mut before = Before {
         locals: first,
@@ -103,7 +105,8 @@ pub fn frames_at(
     starts: &Starts,
     pool: &Pool,
 ) -> Result<StackMapTable, Or<FormatFault>>
-    ensures exact { ReadsAsOr table_of result cursor.new (read_frames pool.now.entries starts.now ops.now max_stack max_locals first.now.locals cursor.old) }
+    ensures exact { ReadsAsOr table_of result cursor.new
+        (read_frames pool.now.entries starts.now ops.now max_stack max_locals first.now.locals cursor.old) }
 {
     let count = cursor.u2()?;
     let locals = copies(alloc, first.locals.as_slice())?;

@@ -64,7 +64,8 @@ fn put_types(
 ) -> M<()>
     requires constants { length constants.now + 1 < 2 ^ 16 }
     requires starts { All IsOffset starts.now }
-    ensures { OnOk result (out.new.items ≡ out.old.items ++ flat_map verification_type_info (map (canonical.type_info constants.now starts.now) types.now)) }
+    ensures { OnOk result (out.new.items ≡ out.old.items ++ flat_map verification_type_info (map
+        (canonical.type_info constants.now starts.now) types.now)) }
 {
     for ty in types {
         put_type(alloc, constants, starts, ty, out)?;
@@ -93,7 +94,7 @@ fn put_counted_types(
 fn put_same(delta: u16, out: &mut Vec<u8>) -> M<()>
     ensures { OnOk result (out.new.items ≡ out.old.items ++ stack_map_frame (canonical.row [] [] delta canonical.same)) }
 {
-    if delta <= 63 {
+    if delta < 64 {
         return put(out, &[delta as u8]);
     }
     put(out, &[251])?;
@@ -110,7 +111,8 @@ fn put_same_with_item(
 ) -> M<()>
     requires constants { length constants.now + 1 < 2 ^ 16 }
     requires starts { All IsOffset starts.now }
-    ensures { OnOk result (out.new.items ≡ out.old.items ++ stack_map_frame (canonical.row constants.now starts.now delta (canonical.same_with_item item.now))) }
+    ensures { OnOk result (out.new.items ≡ out.old.items ++ stack_map_frame (canonical.row constants.now starts.now delta
+        (canonical.same_with_item item.now))) }
 {
     if delta <= 63 {
         put(out, &[64 + delta as u8])?;
@@ -140,7 +142,8 @@ fn put_append(
     requires constants { length constants.now + 1 < 2 ^ 16 }
     requires starts { All IsOffset starts.now }
     requires count { length types.now ≤ 3 }
-    ensures { OnOk result (out.new.items ≡ out.old.items ++ stack_map_frame (canonical.row constants.now starts.now delta (canonical.append types.now))) }
+    ensures { OnOk result (out.new.items ≡ out.old.items ++ stack_map_frame (canonical.row constants.now starts.now delta
+        (canonical.append types.now))) }
 {
     put(out, &[251 + types.len() as u8])?;
     put_u2(out, delta)?;
@@ -158,7 +161,8 @@ fn put_full(
     requires constants { length constants.now + 1 < 2 ^ 16 }
     requires starts { All IsOffset starts.now }
     requires frame { HasShortLists frame.now }
-    ensures { OnOk result (out.new.items ≡ out.old.items ++ stack_map_frame (canonical.row constants.now starts.now delta (canonical.full frame.now.locals frame.now.stack))) }
+    ensures { OnOk result (out.new.items ≡ out.old.items ++ stack_map_frame (canonical.row constants.now starts.now delta
+        (canonical.full frame.now.locals frame.now.stack))) }
 {
     put(out, &[255])?;
     put_u2(out, delta)?;
@@ -194,7 +198,8 @@ fn put_without_items(
     requires starts { All IsOffset starts.now }
     requires frame { HasShortLists frame.now }
     requires empty { frame.now.stack ≡ [] }
-    ensures { OnOk result (out.new.items ≡ out.old.items ++ stack_map_frame (canonical.row constants.now starts.now delta (canonical.form_of before.now frame.now.locals []))) }
+    ensures { OnOk result (out.new.items ≡ out.old.items ++ stack_map_frame (canonical.row constants.now starts.now delta
+        (canonical.form_of before.now frame.now.locals []))) }
 {
     let locals = frame.locals.as_slice();
     if same_types(before, locals) {
@@ -228,7 +233,8 @@ fn put_row(
     requires constants { length constants.now + 1 < 2 ^ 16 }
     requires starts { All IsOffset starts.now }
     requires frame { HasShortLists frame.now }
-    ensures { OnOk result (out.new.items ≡ out.old.items ++ stack_map_frame (canonical.row constants.now starts.now delta (canonical.form_of before.now frame.now.locals frame.now.stack))) }
+    ensures { OnOk result (out.new.items ≡ out.old.items ++ stack_map_frame (canonical.row constants.now starts.now delta
+        (canonical.form_of before.now frame.now.locals frame.now.stack))) }
 {
     match frame.stack.as_slice() {
         [] => put_without_items(alloc, constants, starts, before, delta, frame, out),
@@ -261,7 +267,8 @@ fn put_rows(
     requires constants { length constants.now + 1 < 2 ^ 16 }
     requires starts { All IsOffset starts.now }
     requires frames { All (λ (f : FrameAt). HasShortLists f.frame) frames.now }
-    ensures { OnOk result (out.new.items ≡ out.old.items ++ flat_map stack_map_frame (canonical.rows constants.now starts.now first.now None frames.now)) }
+    ensures { OnOk result (out.new.items ≡ out.old.items ++ flat_map stack_map_frame
+        (canonical.rows constants.now starts.now first.now None frames.now)) }
 {
     let mut before = first;
     let mut previous = None;
@@ -288,7 +295,8 @@ pub fn write_frames_with(
     requires starts { All IsOffset starts.now }
     requires count { length frames.now < 2 ^ 16 }
     requires frames { All (λ (f : FrameAt). HasShortLists f.frame) frames.now }
-    ensures canonical { IfOk result (λ bytes. bytes ≡ stack_map_table (canonical.rows constants.now starts.now first.now.locals None frames.now)) }
+    ensures canonical { IfOk result (λ bytes. bytes ≡ stack_map_table
+        (canonical.rows constants.now starts.now first.now.locals None frames.now)) }
 {
     let mut out = Vec::new(alloc);
     put_u2(&mut out, frames.len() as u16)?;
