@@ -10,3 +10,4 @@ mod Sameness
 mod BackRows
 mod BackForms
 mod BackFrames
+mod BackGood

@@ -4,3 +4,4 @@ pub mod Before
 pub mod Table
 pub mod Writing
 pub mod ReadBack
+pub mod WritableFrames

@@ -3,7 +3,6 @@ ghost use Rattle.class_model.specs.declared.frame.FrameAt.{FrameAt};
 ghost use Rattle.frame_types.specs.Writing.{IsOffset, HasShortLists};
 
 use super::*;
-use crate::comparing::same_types;
 use class_model::{Entry, Frame, FrameAt, Op, Pool, PoolConstant, VType};
 use indexmap::IndexSet;
 use jv_base::{Base, FieldType, Items, M, Or, Text, units_of_text};
@@ -82,12 +81,30 @@ fn read(
     )
 }
 
-fn is_frame(found: &[FrameAt], at: usize, index: u32, locals: &[VType], stack: &[VType]) -> bool {
+/// The tag of a type (JVMS 4.7.4), and for an object that isn't initialised 8 and the number of its new.
+fn tag_of(ty: &VType) -> u64 {
+    match ty {
+        VType::Top => 0,
+        VType::Int => 1,
+        VType::Long => 4,
+        VType::Null => 5,
+        VType::UninitThis => 6,
+        VType::Object(_) => 7,
+        VType::Uninit(number) => 8 + u64::from(*number),
+    }
+}
+
+fn are_types(found: &[VType], tags: &[u64]) -> bool {
+    found.len() == tags.len() && found.iter().zip(tags).all(|(ty, tag)| tag_of(ty) == *tag)
+}
+
+/// Whether a frame stands at an instruction and has types of these tags.
+fn is_frame(found: &[FrameAt], at: usize, index: u32, locals: &[u64], stack: &[u64]) -> bool {
     match found.get(at) {
         Some(next) => {
             next.index == index
-                && same_types(next.frame.locals.as_slice(), locals)
-                && same_types(next.frame.stack.as_slice(), stack)
+                && are_types(next.frame.locals.as_slice(), locals)
+                && are_types(next.frame.stack.as_slice(), stack)
         }
         None => false,
     }
@@ -108,24 +125,16 @@ fn deltas_and_items(rt: HostRuntime) -> Result<(), Fail> {
     let table = read(alloc, &bytes, 2, 1)?;
     let frames = table.frames.as_slice();
     assert!(rt; frames.len() == 5 && !table.names_float);
-    assert!(rt; is_frame(frames, 0, 2, &[VType::Int], &[]));
-    assert!(rt; is_frame(frames, 1, 3, &[VType::Int], &[]));
-    assert!(rt; is_frame(frames, 2, 4, &[VType::Int], &[]));
-    assert!(rt; is_frame(frames, 3, 5, &[VType::Int], &[VType::Long]));
-    assert!(rt;
-        is_frame(
-            frames,
-            4,
-            6,
-            &[VType::Int],
-            &[VType::Object(class_a(alloc)?)]
-        )
-    );
+    assert!(rt; is_frame(frames, 0, 2, &[1], &[]));
+    assert!(rt; is_frame(frames, 1, 3, &[1], &[]));
+    assert!(rt; is_frame(frames, 2, 4, &[1], &[]));
+    assert!(rt; is_frame(frames, 3, 5, &[1], &[4]));
+    assert!(rt; is_frame(frames, 4, 6, &[1], &[7]));
     assert!(rt; fails(alloc, &bytes, 1, 1, FrameFault::BadFrame(7)));
     assert!(rt; fails(alloc, &bytes, 2, 0, FrameFault::BadFrame(2)));
     let double = read(alloc, &[0, 1, 64, 3], 1, 1)?;
     assert!(rt; double.names_float);
-    assert!(rt; is_frame(double.frames.as_slice(), 0, 0, &[VType::Int], &[VType::Top]));
+    assert!(rt; is_frame(double.frames.as_slice(), 0, 0, &[1], &[0]));
     Ok(())
 }
 
@@ -140,34 +149,12 @@ fn locals_come_and_go(rt: HostRuntime) -> Result<(), Fail> {
     let table = read(alloc, &bytes, 3, 6)?;
     let frames = table.frames.as_slice();
     assert!(rt; frames.len() == 6);
-    assert!(rt; is_frame(frames, 0, 0, &[VType::Int, VType::Long], &[]));
-    assert!(rt;
-        is_frame(
-            frames,
-            1,
-            1,
-            &[
-                VType::Int,
-                VType::Long,
-                VType::Null,
-                VType::UninitThis,
-                VType::Uninit(0)
-            ],
-            &[]
-        )
-    );
-    assert!(rt; is_frame(frames, 2, 2, &[VType::Int, VType::Long], &[]));
-    assert!(rt; is_frame(frames, 3, 3, &[VType::Int], &[]));
-    assert!(rt;
-        is_frame(
-            frames,
-            4,
-            4,
-            &[VType::Top, VType::Int],
-            &[VType::Long, VType::Null]
-        )
-    );
-    assert!(rt; is_frame(frames, 5, 5, &[VType::Top, VType::Int], &[]));
+    assert!(rt; is_frame(frames, 0, 0, &[1, 4], &[]));
+    assert!(rt; is_frame(frames, 1, 1, &[1, 4, 5, 6, 8], &[]));
+    assert!(rt; is_frame(frames, 2, 2, &[1, 4], &[]));
+    assert!(rt; is_frame(frames, 3, 3, &[1], &[]));
+    assert!(rt; is_frame(frames, 4, 4, &[0, 1], &[4, 5]));
+    assert!(rt; is_frame(frames, 5, 5, &[0, 1], &[]));
     assert!(rt; fails(alloc, &bytes, 2, 6, FrameFault::BadFrame(20)));
     assert!(rt; fails(alloc, &bytes, 3, 5, FrameFault::BadFrame(6)));
     Ok(())
@@ -279,7 +266,7 @@ fn rows_are_written(rt: HostRuntime) -> Result<(), Fail> {
     let table = read(alloc, written.as_slice(), 1, 4)?;
     let found = table.frames.as_slice();
     assert!(rt; found.len() == 5);
-    assert!(rt; is_frame(found, 2, 3, &[VType::Int, VType::Long], &[VType::Uninit(0)]));
-    assert!(rt; is_frame(found, 4, 6, &[], &[VType::Null]));
+    assert!(rt; is_frame(found, 2, 3, &[1, 4], &[8]));
+    assert!(rt; is_frame(found, 4, 6, &[], &[5]));
     Ok(())
 }
