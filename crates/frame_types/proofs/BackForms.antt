@@ -1,35 +1,20 @@
 -- Each form of a canonical row is read, and writes its locals and its stack (JVMS 4.7.4).
-use Rattle.std.proofs.Common.{◌≡◌, ℕ, zero, suc, ◌+◌, ◌-◌, ◌^◌, ◌<◌, ◌≤◌, Bool, true, false, ◌||◌, ◌&&◌, cond, leb, eqb, List, [], ◌∷◌, ◌++◌, length, map, take, drop, Option, Some, None, Result, Ok, refl, sym, ap, subst, ◌∙◌, append_assoc, arith}
-use Rattle.std.specs.Prelude.{option_map, option_and_then, position, nat_eq, slice_get, slice_index}
-use Rattle.std.specs.Int.{w16, to_be_bytes}
-use Rattle.std.specs.List.{AllByRecursion, flat_map, list_any}
-use Rattle.std.proofs.lemmas.Bool.{le-leb, lt-leb, leb-true, eq-eqb}
-use Rattle.std.proofs.lemmas.List.{append-nil, drop_all, take-append-drop}
-use Rattle.jv_base.specs.Place.{Place, start, after}
-use Rattle.format_reading.specs.Reader.{Reader, u1, u2, lead, bind, give, here, settle, many}
-use Rattle.format_reading.specs.declared.fault.FormatFault.{FormatFault}
-use Rattle.format_reading.specs.declared.fault.FormatKind.{FormatKind}
-use Rattle.format_reading.specs.declared.fault.FormatKind.TheVariants as bad
-use Rattle.format_reading.proofs.Exact.{Takes, bind_is}
-use Rattle.class_model.specs.Lookups.{due}
+use Rattle.std.proofs.Common.{◌≡◌, ℕ, ◌+◌, ◌-◌, ◌^◌, ◌<◌, ◌≤◌, Bool, true, false, cond, leb, List, [], ◌∷◌, ◌++◌, length, map, take, Option, Some, refl, ap, ◌∙◌, arith}
+use Rattle.std.specs.Prelude.{option_map, option_and_then, slice_get}
+use Rattle.std.specs.List.{AllByRecursion, list_any}
+use Rattle.std.proofs.lemmas.Bool.{le-leb}
 use Rattle.class_model.specs.declared.pool.Entry.{Entry}
 use Rattle.class_model.specs.declared.op.Op.{Op}
 use Rattle.class_model.specs.declared.constant.PoolConstant.{PoolConstant}
 use Rattle.class_model.specs.declared.frame.VType.{VType}
 use Rattle.class_model.specs.declared.frame.VType.TheVariants as vtype
-use Rattle.class_model.specs.declared.frame.FrameAt.{FrameAt}
 use Rattle.class_model.specs.CanonicalFrames as canonical
 use Rattle.class_model.specs.CanonicalFrames.{Form, type_info, row, rows, form_of, is_chop, is_append, same_types, delta_to}
-use Rattle.class_model.specs.Frames.{VerificationTypeInfo, StackMapFrame, SameFrame, SameLocalsOneStackItem, SameLocalsOneStackItemExtended, SameFrameExtended, stack_map_frame, stack_map_table, is_float_info, names_float, words_of_types, cut_tops, offset_behind}
+use Rattle.class_model.specs.Frames.{SameFrame, SameLocalsOneStackItem, SameLocalsOneStackItemExtended, SameFrameExtended, is_float_info, names_float}
 use Rattle.class_model.specs.ReadingFrames as reading
 use Rattle.class_model.specs.ReadingFrames.{Before, Written, type_of, types_of, only_new, is_new, written, written_by, frame_of, frame_at, fits, row_stands, read_row, read_frame, read_frames_behind, read_frames}
-use Rattle.frame_types.specs.ReadBack.{HasPlace, IsKnownType, IsKnownFrame, IsBehind, Follow}
-use Rattle.frame_types.specs.Table.{whole, frames_of}
-use Rattle.frame_types.specs.declared.table.StackMapTable.{StackMapTable}
-use Rattle.frame_types.proofs.Spelled.{Gives, give_is, gives_then, gives_last, gives_u2}
-use Rattle.frame_types.proofs.Sameness.{both_pass, same_types_are}
-use Rattle.frame_types.proofs.Counting.{rows_counted}
-use Rattle.frame_types.proofs.BackRows.{IsReadRow, row_is_read, same_back, item_back, chop_back, append_back, full_back}
+use Rattle.frame_types.specs.ReadBack.{IsKnownType}
+use Rattle.frame_types.proofs.BackRows.{IsReadRow, same_back, item_back, chop_back, append_back, full_back}
 
 module _ (entries : List Entry) (constants : List PoolConstant) (starts : List ℕ) (ops : List Op) where
   abbrev Known : VType → Type 0

@@ -1,12 +1,12 @@
 -- Canonical rows are read as their frames (JVMS 4.7.4).
-use Rattle.std.proofs.Common.{◌≡◌, ℕ, zero, suc, ◌+◌, ◌-◌, ◌^◌, ◌<◌, ◌≤◌, Bool, true, false, ◌||◌, ◌&&◌, cond, leb, eqb, List, [], ◌∷◌, ◌++◌, length, map, take, drop, Option, Some, None, Result, Ok, refl, sym, ap, subst, ◌∙◌, append_assoc, arith}
-use Rattle.std.specs.Prelude.{option_map, option_and_then, position, nat_eq, slice_get, slice_index}
+use Rattle.std.proofs.Common.{◌≡◌, ℕ, zero, suc, ◌+◌, ◌-◌, ◌^◌, ◌<◌, ◌≤◌, Bool, true, false, ◌||◌, cond, leb, eqb, List, [], ◌∷◌, ◌++◌, length, take, drop, Option, Some, None, Result, Ok, refl, sym, ap, subst, ◌∙◌, arith}
+use Rattle.std.specs.Prelude.{option_and_then, slice_index}
 use Rattle.std.specs.Int.{w16, to_be_bytes}
-use Rattle.std.specs.List.{AllByRecursion, flat_map, list_any}
-use Rattle.std.proofs.lemmas.Bool.{le-leb, lt-leb, leb-true, eq-eqb}
+use Rattle.std.specs.List.{AllByRecursion, flat_map}
+use Rattle.std.proofs.lemmas.Bool.{le-leb, leb-true, eq-eqb}
 use Rattle.std.proofs.lemmas.List.{append-nil, drop_all, take-append-drop, length-drop}
 use Rattle.jv_base.specs.Place.{Place, start, after}
-use Rattle.format_reading.specs.Reader.{Reader, u1, u2, lead, bind, give, here, settle, many}
+use Rattle.format_reading.specs.Reader.{u2, bind, give, here, settle}
 use Rattle.format_reading.specs.declared.fault.FormatFault.{FormatFault}
 use Rattle.format_reading.specs.declared.fault.FormatKind.{FormatKind}
 use Rattle.format_reading.specs.declared.fault.FormatKind.TheVariants as bad
@@ -16,16 +16,13 @@ use Rattle.class_model.specs.declared.pool.Entry.{Entry}
 use Rattle.class_model.specs.declared.op.Op.{Op}
 use Rattle.class_model.specs.declared.constant.PoolConstant.{PoolConstant}
 use Rattle.class_model.specs.declared.frame.VType.{VType}
-use Rattle.class_model.specs.declared.frame.VType.TheVariants as vtype
 use Rattle.class_model.specs.declared.frame.FrameAt.{FrameAt}
 use Rattle.class_model.specs.CanonicalFrames as canonical
 use Rattle.class_model.specs.CanonicalFrames.{Form, type_info, row, rows, form_of, is_chop, is_append, same_types, delta_to}
-use Rattle.class_model.specs.Frames.{VerificationTypeInfo, StackMapFrame, SameFrame, SameLocalsOneStackItem, SameLocalsOneStackItemExtended, SameFrameExtended, stack_map_frame, stack_map_table, is_float_info, names_float, words_of_types, cut_tops, offset_behind}
-use Rattle.class_model.specs.ReadingFrames as reading
-use Rattle.class_model.specs.ReadingFrames.{Before, Written, type_of, types_of, only_new, is_new, written, written_by, frame_of, frame_at, fits, row_stands, read_row, read_frame, read_frames_behind, read_frames}
-use Rattle.frame_types.specs.ReadBack.{HasPlace, IsKnownType, IsKnownFrame, IsBehind, Follow, FramesAreReadBack}
-use Rattle.frame_types.specs.Table.{whole, frames_of}
-use Rattle.frame_types.specs.declared.table.StackMapTable.{StackMapTable}
+use Rattle.class_model.specs.Frames.{StackMapFrame, stack_map_frame, stack_map_table, names_float, words_of_types, offset_behind}
+use Rattle.class_model.specs.ReadingFrames.{Before, Written, written, frame_of, row_stands, read_row, read_frame, read_frames_behind, read_frames}
+use Rattle.frame_types.specs.ReadBack.{IsKnownType, IsKnownFrame, IsBehind, Follow, FramesAreReadBack}
+use Rattle.frame_types.specs.Table.{whole}
 use Rattle.frame_types.proofs.Spelled.{Gives, give_is, gives_nothing, gives_then, gives_last, gives_u2}
 use Rattle.frame_types.proofs.Sameness.{both_pass, same_types_are}
 use Rattle.frame_types.proofs.Counting.{rows_counted}

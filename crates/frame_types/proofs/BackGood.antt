@@ -1,5 +1,5 @@
 -- Well-formed frames are read back from their canonical rows (JVMS 4.7.4).
-use Rattle.std.proofs.Common.{◌≡◌, ℕ, zero, suc, ◌+◌, ◌^◌, ◌<◌, ◌≤◌, Bool, true, false, cond, eqb, List, [], ◌∷◌, length, map, get_or, Option, Some, None, Ok, refl, sym, ap, subst, ◌∙◌, ne_eqb, arith}
+use Rattle.std.proofs.Common.{◌≡◌, ℕ, zero, suc, ◌+◌, ◌^◌, ◌<◌, ◌≤◌, Bool, true, false, List, [], ◌∷◌, length, map, get_or, Option, Some, None, refl, sym, ap, subst, ◌∙◌, ne_eqb, arith}
 use Rattle.std.specs.Prelude.{AllPairs, option_map, position, nat_eq, slice_get, slice_index}
 use Rattle.std.specs.List.{AllByRecursion, position_from}
 use Rattle.std.proofs.lemmas.Bool.{eq-eqb}
@@ -18,7 +18,7 @@ use Rattle.class_model.specs.declared.frame.FrameAt.{FrameAt}
 use Rattle.class_model.specs.Frames.{words_of_type, words_of_types}
 use Rattle.class_model.specs.ReadingFrames.{is_new}
 use Rattle.class_model.specs.WellFormed.{IsGoodType, IsGoodFrame, Ascend}
-use Rattle.frame_types.specs.ReadBack.{HasPlace, IsKnownType, IsKnownFrame, IsBehind, Follow}
+use Rattle.frame_types.specs.ReadBack.{HasPlace, IsKnownType, IsKnownFrame, Follow}
 use Rattle.frame_types.specs.WritableFrames.{IsSaid, TypesAreSaid, AreWritableFrames, GoodFramesAreReadBack}
 use Rattle.frame_types.proofs.BackFrames.{frames_read_back}
 

@@ -1,11 +1,10 @@
 -- Canonical rows are read as they are written (JVMS 4.7.4).
-use Rattle.std.proofs.Common.{◌≡◌, ℕ, zero, suc, ◌+◌, ◌-◌, ◌^◌, ◌<◌, ◌≤◌, Bool, true, false, cond, leb, List, [], ◌∷◌, ◌++◌, length, map, Result, Ok, refl, sym, ap, subst, ◌∙◌, append_assoc, arith}
+use Rattle.std.proofs.Common.{◌≡◌, ℕ, zero, suc, ◌+◌, ◌-◌, ◌^◌, ◌<◌, ◌≤◌, Bool, true, false, cond, leb, List, [], ◌∷◌, ◌++◌, length, map, Ok, refl, sym, ap, subst, append_assoc, arith}
 use Rattle.std.specs.Int.{w16, to_be_bytes}
 use Rattle.std.specs.List.{AllByRecursion, flat_map}
 use Rattle.std.proofs.lemmas.Bool.{le-leb, lt-leb, leb-true}
 use Rattle.std.proofs.lemmas.List.{length-map}
-use Rattle.format_reading.specs.Reader.{Reader, u1, u2, lead, bind, give, many}
-use Rattle.format_reading.specs.declared.fault.FormatKind.{FormatKind}
+use Rattle.format_reading.specs.Reader.{u1, u2, lead, bind, give, many}
 use Rattle.class_model.specs.declared.pool.Entry.{Entry}
 use Rattle.class_model.specs.declared.op.Op.{Op}
 use Rattle.class_model.specs.declared.constant.PoolConstant.{PoolConstant}
@@ -17,7 +16,7 @@ use Rattle.class_model.specs.CanonicalFrames.{Form, type_info, row}
 use Rattle.class_model.specs.Frames.{VerificationTypeInfo, TagInfo, ObjectInfo, UninitializedInfo, StackMapFrame, SameFrame, SameLocalsOneStackItem, SameLocalsOneStackItemExtended, ChopFrame, SameFrameExtended, AppendFrame, FullFrame, verification_type_info, counted_types, stack_map_frame}
 use Rattle.class_model.specs.ReadingFrames as reading
 use Rattle.class_model.specs.ReadingFrames.{read_type, type_begun, read_row, row_begun, at_row}
-use Rattle.frame_types.specs.ReadBack.{HasPlace, IsKnownType}
+use Rattle.frame_types.specs.ReadBack.{IsKnownType}
 use Rattle.frame_types.proofs.Spelled.{Gives, gives_nothing, gives_then, gives_last, gives_lead, gives_byte, gives_u2, gives_many}
 
 -- ---- types

@@ -2,7 +2,6 @@
 use Rattle.std.proofs.Common.{◌≡◌, ◌↔◌, ℕ, zero, suc, ◌+◌, ◌-◌, Bool, true, false, cond, eqb, List, [], ◌∷◌, ◌++◌, length, take, IsTrue, Option, Some, None, refl, sym, ap, ◌∙◌, arith}
 use Rattle.std.proofs.lemmas.List.{length_push, take_at}
 use Rattle.std.specs.Prelude.{option_map, replicate}
-use Rattle.std.specs.Bool.{Decides}
 use Rattle.jv_base.specs.Names.{is_text}
 use Rattle.jv_base.specs.Types.{base_text, field_text}
 use Rattle.jv_base.specs.declared.types.Base.{Base}

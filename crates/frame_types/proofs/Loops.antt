@@ -1,13 +1,12 @@
 -- Types of a row one behind the other, and types with their Tops cut, as loops go through them.
-use Rattle.std.proofs.Common.{◌≡◌, ℕ, ◌+◌, ◌-◌, ◌<◌, ◌≤◌, Bool, true, false, List, [], ◌∷◌, ◌++◌, length, map, take, drop, get_or, Option, Some, None, refl, sym, ap, ◌∙◌, append_assoc, arith}
-use Rattle.std.proofs.lemmas.List.{append-nil, drop_all, drop_more, take_more, take_all}
-use Rattle.std.specs.Prelude.{option_map, option_and_then, nat_le}
+use Rattle.std.proofs.Common.{◌≡◌, ℕ, ◌+◌, ◌<◌, true, false, List, [], ◌∷◌, ◌++◌, length, map, take, drop, get_or, Option, Some, None, refl, sym, ap, ◌∙◌}
+use Rattle.std.proofs.lemmas.List.{take_more}
 use Rattle.class_model.specs.declared.pool.Entry.{Entry}
 use Rattle.class_model.specs.declared.op.Op.{Op}
 use Rattle.class_model.specs.declared.frame.VType.{VType}
 use Rattle.class_model.specs.declared.frame.VType.TheVariants as vtype
-use Rattle.class_model.specs.Frames.{VerificationTypeInfo, before_cut, cut_tops, words_of_type, words_of_types}
-use Rattle.class_model.specs.ReadingFrames.{type_of, types_of}
+use Rattle.class_model.specs.Frames.{before_cut, cut_tops}
+use Rattle.class_model.specs.ReadingFrames.{types_of}
 use Rattle.frame_types.specs.Before.{is_top}
 use Rattle.frame_types.specs.Rows.{info_of}
 use Rattle.frame_types.specs.declared.row.TypeInfo.{TypeInfo}
@@ -19,41 +18,10 @@ abbrev pub onto : {A : Type 0} → List A → Option (List A) → Option (List A
 onto front (Some xs) = Some (front ++ xs)
 onto front None = None
 
--- an element before others, if it and they are there
-abbrev with_one : {A : Type 0} → Option A → Option (List A) → Option (List A)
-with_one one others = option_and_then (λ x. option_map (λ xs. x ∷ xs) others) one
-
-regroup : {A : Type 0} (front : List A) (x : A) (rest : Option (List A)) → onto front (with_one (Some x) rest) ≡ onto (front ++ x ∷ []) rest
-regroup front x (Some xs) = ap (λ (ys : List _). let O : Option (List _) = Some ys in O) (simp append_assoc)
-regroup front x None = refl
-
 module _ (pool : List Entry) (starts : List ℕ) (ops : List Op) where
   -- what is found of the types behind an index
   abbrev pub types_from : ℕ → List TypeInfo → Option (List VType)
   types_from i infos = types_of pool starts ops (map info_of (drop i infos))
-
-  next_is : (infos : List TypeInfo) (i : ℕ) (d : TypeInfo) → i < length infos
-      → types_from i infos ≡ with_one (type_of pool starts ops (info_of (get_or infos i d))) (types_from (i + 1) infos)
-  next_is infos i d lt = ap (λ (rest : List TypeInfo). types_of pool starts ops (map info_of rest)) (drop_more infos i d lt)
-
-  -- one more type was found
-  pub types_go_on : (front : List VType) (infos : List TypeInfo) (i : ℕ) (d : TypeInfo) (ty : VType) (total : Option (List VType)) → i < length infos
-      → type_of pool starts ops (info_of (get_or infos i d)) ≡ Some ty → onto front (types_from i infos) ≡ total → onto (front ++ ty ∷ []) (types_from (i + 1) infos) ≡ total
-  types_go_on front infos i d ty total lt is so_far =
-      sym (ap (onto front) (next_is infos i d lt ∙ ap (λ o. with_one o (types_from (i + 1) infos)) is) ∙ regroup front ty (types_from (i + 1) infos)) ∙ so_far
-
-  -- one that is none ends them all
-  pub types_stop : (front : List VType) (infos : List TypeInfo) (i : ℕ) (d : TypeInfo) (total : Option (List VType)) → i < length infos
-      → type_of pool starts ops (info_of (get_or infos i d)) ≡ None → onto front (types_from i infos) ≡ total → total ≡ None
-  types_stop front infos i d total lt is so_far =
-      sym so_far ∙ ap (onto front) (next_is infos i d lt ∙ ap (λ o. with_one o (types_from (i + 1) infos)) is)
-
-  -- all of them were found
-  pub types_done : (front : List VType) (infos : List TypeInfo) (i : ℕ) (total : Option (List VType)) → length infos ≤ i
-      → onto front (types_from i infos) ≡ total → total ≡ Some front
-  types_done front infos i total le so_far =
-      sym so_far ∙ ap (λ (rest : List TypeInfo). onto front (types_of pool starts ops (map info_of rest))) (drop_all i infos le)
-      ∙ ap (λ (ys : List VType). let O : Option (List VType) = Some ys in O) (append-nil front)
 
 -- ---- Tops at the end
 

@@ -1,5 +1,5 @@
 -- What the reader of frames keeps between rows, as the definitions have it (JVMS 4.7.4).
-use Rattle.std.specs.Prelude.{ℕ, Bool, true, false, List, Some}
+use Rattle.std.specs.Prelude.{Bool, true, false, List}
 use Rattle.class_model.specs.declared.frame.VType.{VType}
 use Rattle.class_model.specs.declared.frame.VType.TheVariants as vtype
 use Rattle.class_model.specs.declared.frame.FrameAt.{FrameAt}

@@ -225,7 +225,8 @@ fn frame_of(
     offset: u64,
     written: Written,
 ) -> M<Option<Next>>
-    ensures { IfOk result (λ next. option_map next_of next ≡ frame_of [] starts.now [] max_stack max_locals offset (written_of written)) }
+    ensures { IfOk result (λ next. option_map next_of next
+        ≡ frame_of [] starts.now [] max_stack max_locals offset (written_of written)) }
 {
     let Written { locals, stack, .. } = written;
     if !fit(locals.as_slice(), max_locals) || !fit(stack.as_slice(), max_stack) {

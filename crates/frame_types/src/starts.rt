@@ -62,7 +62,8 @@ fn grow(table: &mut Vec<Option<u32>>, count: usize) -> M<()>
 // The first instruction that begins at an offset counts.
 fn note(table: &mut Vec<Option<u32>>, start: u32, number: u32) -> M<()>
     requires { length table.old.items ≤ 4294967296 }
-    ensures noted { OnOk result ((offset : ℕ) → found table.new.items offset ≡ noted (found table.old.items offset) start number offset) }
+    ensures noted { OnOk result ((offset : ℕ) → found table.new.items offset
+        ≡ noted (found table.old.items offset) start number offset) }
     ensures short { length table.new.items ≤ 4294967296 }
 {
     let start = start as usize;

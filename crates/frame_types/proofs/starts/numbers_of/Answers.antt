@@ -1,4 +1,3 @@
-use Rattle.std.proofs.Common.{◌≡◌, ℕ}
 use Rattle.std.specs.Prelude.{nat_eq}
 use Rattle.std.specs.List.{position_from}
 use Rattle.frame_types.specs.Numbers.{found}

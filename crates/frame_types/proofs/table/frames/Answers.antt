@@ -1,7 +1,7 @@
-use Rattle.std.proofs.Common.{◌≡◌, ◌||◌, None, ◌++◌, ◌∷◌, [], Bool, refl, sym, ap, ◌∙◌}
+use Rattle.std.proofs.Common.{◌≡◌, ◌||◌, None, ◌++◌, ◌∷◌, [], Bool, sym, ap, ◌∙◌}
 use Rattle.std.proofs.lemmas.Result.{err_from_is_err_and}
 use Rattle.frame_types.specs.Before.{before_of, row_read}
-use Rattle.frame_types.proofs.Behind.{joined, rows_behind, rows_go_on, rows_stop, rows_done}
+use Rattle.frame_types.proofs.Behind.{rows_behind, rows_go_on, rows_stop, rows_done}
 use Rattle.frame_types.proofs.table.frames.Goals as goal
 use Rattle.frame_types.proofs.table.frames.Goals.{then-names_float, else-names_float}
 

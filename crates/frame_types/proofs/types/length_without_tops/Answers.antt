@@ -1,4 +1,4 @@
-use Rattle.std.proofs.Common.{◌≡◌, false, true, get_or, sym, ap, ◌∙◌, arith}
+use Rattle.std.proofs.Common.{◌≡◌, get_or, sym, ap, ◌∙◌, arith}
 use Rattle.frame_types.specs.Before.{is_top}
 use Rattle.frame_types.proofs.Loops.{goes_on_top, goes_on_other}
 use Rattle.frame_types.proofs.types.length_without_tops.Goals as goal

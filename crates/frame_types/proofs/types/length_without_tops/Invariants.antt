@@ -1,4 +1,4 @@
-use Rattle.std.proofs.Common.{◌≡◌, ◌≤◌, take, length}
+use Rattle.std.proofs.Common.{◌≡◌, ◌≤◌, take}
 use Rattle.class_model.specs.Frames.{cut_tops}
 use Rattle.frame_types.proofs.types.length_without_tops.Given as goal
 
