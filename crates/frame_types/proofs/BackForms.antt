@@ -34,10 +34,12 @@ module _ (entries : List Entry) (constants : List PoolConstant) (starts : List �
   type_known (vtype.Object class) known = ap (option_map (λ c. vtype.Object c)) known.1
   type_known (vtype.Uninit n) known = ap (option_and_then (only_new entries starts ops)) known.0.number ∙ new_is n known.1
 
-  types_known : (types : List VType) → AllByRecursion Known types → types_of entries starts ops (map (type_info constants starts) types) ≡ Some types
+  types_known : (types : List VType) → AllByRecursion Known types
+      → types_of entries starts ops (map (type_info constants starts) types) ≡ Some types
   types_known [] known = refl
   types_known (ty ∷ types) known =
-      ap (option_and_then (λ (t : VType). option_map (λ (ts : List VType). t ∷ ts) (types_of entries starts ops (map (type_info constants starts) types)))) (type_known ty known.0)
+      ap (option_and_then (λ (t : VType). option_map (λ (ts : List VType). t ∷ ts) (types_of entries starts ops (map
+      (type_info constants starts) types)))) (type_known ty known.0)
       ∙ ap (option_map (λ (ts : List VType). ty ∷ ts)) (types_known types known.1)
 
   no_float : (ty : VType) → is_float_info (type_info constants starts ty) ≡ false
@@ -58,10 +60,12 @@ module _ (entries : List Entry) (constants : List PoolConstant) (starts : List �
   -- a form behind these locals is read, and writes these locals and this stack
   pub record Stands (before : List VType) (delta : ℕ) (form : Form) (locals stack : List VType) : Type 0 where
     pub is_read : IsReadRow (row constants starts delta form)
-    pub writes : written_by entries starts ops before (row constants starts delta form) ≡ Some (written entries starts ops delta locals stack)
+    pub writes : written_by entries starts ops before (row constants starts delta form)
+        ≡ Some (written entries starts ops delta locals stack)
     pub floats : names_float (row constants starts delta form) ≡ false
 
-  same_writes : (before : List VType) (delta : ℕ) (b : Bool) → written_by entries starts ops before (cond b (SameFrame delta) (SameFrameExtended delta)) ≡ Some (written entries starts ops delta before [])
+  same_writes : (before : List VType) (delta : ℕ) (b : Bool) → written_by entries starts ops before (cond b (SameFrame delta)
+      (SameFrameExtended delta)) ≡ Some (written entries starts ops delta before [])
   same_writes before delta true = refl
   same_writes before delta false = refl
 
@@ -69,35 +73,44 @@ module _ (entries : List Entry) (constants : List PoolConstant) (starts : List �
   same_floats delta true = refl
   same_floats delta false = refl
 
-  pub same_stands : (before locals : List VType) (delta : ℕ) → before ≡ locals → delta < 2 ^ 16 → Stands before delta canonical.same locals []
+  pub same_stands : (before locals : List VType) (delta : ℕ) → before ≡ locals → delta < 2 ^ 16
+      → Stands before delta canonical.same locals []
   same_stands before locals delta same lt = record {
     is_read = same_back entries constants starts ops delta lt;
-    writes = same_writes before delta (leb delta 63) ∙ ap (λ (ls : List VType). let O : Option Written = Some (written entries starts ops delta ls []) in O) same;
+    writes = same_writes before delta (leb delta 63) ∙ ap (λ (ls : List VType). let O : Option Written = Some
+        (written entries starts ops delta ls []) in O) same;
     floats = same_floats delta (leb delta 63);
   }
 
   item_writes : (before : List VType) (delta : ℕ) (item : VType) (b : Bool) → Known item
-      → written_by entries starts ops before (cond b (SameLocalsOneStackItem (64 + delta) (type_info constants starts item)) (SameLocalsOneStackItemExtended delta (type_info constants starts item)))
+      → written_by entries starts ops before (cond b (SameLocalsOneStackItem (64 + delta) (type_info constants starts item))
+      (SameLocalsOneStackItemExtended delta (type_info constants starts item)))
       ≡ Some (written entries starts ops delta before (item ∷ []))
   item_writes before delta item true known =
       let e : 64 + delta - 64 ≡ delta = omega arith in
-      ap (option_map (λ (stack : List VType). written entries starts ops (64 + delta - 64) before stack)) (types_known (item ∷ []) (known, tt))
+      ap (option_map (λ (stack : List VType). written entries starts ops (64 + delta - 64) before stack)) (types_known (item ∷ [])
+      (known, tt))
       ∙ ap (λ (d : ℕ). let O : Option Written = Some (written entries starts ops d before (item ∷ [])) in O) e
-  item_writes before delta item false known = ap (option_map (λ (stack : List VType). written entries starts ops delta before stack)) (types_known (item ∷ []) (known, tt))
+  item_writes before delta item false known = ap (option_map (λ (stack : List VType). written entries starts ops delta before stack))
+      (types_known (item ∷ []) (known, tt))
 
   item_floats : (delta : ℕ) (item : VType) (b : Bool)
-      → names_float (cond b (SameLocalsOneStackItem (64 + delta) (type_info constants starts item)) (SameLocalsOneStackItemExtended delta (type_info constants starts item))) ≡ false
+      → names_float (cond b (SameLocalsOneStackItem (64 + delta) (type_info constants starts item)) (SameLocalsOneStackItemExtended delta
+      (type_info constants starts item))) ≡ false
   item_floats delta item true = no_float item
   item_floats delta item false = no_float item
 
-  pub item_stands : (before locals : List VType) (delta : ℕ) (item : VType) → before ≡ locals → delta < 2 ^ 16 → Known item → Stands before delta (canonical.same_with_item item) locals (item ∷ [])
+  pub item_stands : (before locals : List VType) (delta : ℕ) (item : VType) → before ≡ locals → delta < 2 ^ 16 → Known item
+      → Stands before delta (canonical.same_with_item item) locals (item ∷ [])
   item_stands before locals delta item same lt known = record {
     is_read = item_back entries constants starts ops delta item lt known;
-    writes = item_writes before delta item (leb delta 63) known ∙ ap (λ (ls : List VType). let O : Option Written = Some (written entries starts ops delta ls (item ∷ [])) in O) same;
+    writes = item_writes before delta item (leb delta 63) known
+        ∙ ap (λ (ls : List VType). let O : Option Written = Some (written entries starts ops delta ls (item ∷ [])) in O) same;
     floats = item_floats delta item (leb delta 63);
   }
 
-  pub chop_stands : (before locals : List VType) (delta gone : ℕ) → 1 ≤ gone → gone ≤ 3 → gone ≤ length before → take (length before - gone) before ≡ locals → delta < 2 ^ 16
+  pub chop_stands : (before locals : List VType) (delta gone : ℕ) → 1 ≤ gone → gone ≤ 3 → gone ≤ length before
+      → take (length before - gone) before ≡ locals → delta < 2 ^ 16
       → Stands before delta (canonical.chop gone) locals []
   chop_stands before locals delta gone least most there is lt =
       let e : 251 - (251 - gone) ≡ gone = omega (arith, most) in
@@ -107,7 +120,8 @@ module _ (entries : List Entry) (constants : List PoolConstant) (starts : List �
         floats = refl;
       }
 
-  pub append_stands : (before locals new : List VType) (delta : ℕ) → 1 ≤ length new → length new ≤ 3 → before ++ new ≡ locals → delta < 2 ^ 16 → AllByRecursion Known new
+  pub append_stands : (before locals new : List VType) (delta : ℕ) → 1 ≤ length new → length new ≤ 3 → before ++ new ≡ locals
+      → delta < 2 ^ 16 → AllByRecursion Known new
       → Stands before delta (canonical.append new) locals []
   append_stands before locals new delta least most is lt known = record {
     is_read = append_back entries constants starts ops delta new least most lt known;
@@ -116,11 +130,13 @@ module _ (entries : List Entry) (constants : List PoolConstant) (starts : List �
     floats = no_floats new;
   }
 
-  pub full_stands : (before locals stack : List VType) (delta : ℕ) → delta < 2 ^ 16 → length locals < 2 ^ 16 → length stack < 2 ^ 16 → AllByRecursion Known locals → AllByRecursion Known stack
+  pub full_stands : (before locals stack : List VType) (delta : ℕ) → delta < 2 ^ 16 → length locals < 2 ^ 16 → length stack < 2 ^ 16
+      → AllByRecursion Known locals → AllByRecursion Known stack
       → Stands before delta (canonical.full locals stack) locals stack
   full_stands before locals stack delta lt locals_short stack_short known_locals known_stack = record {
     is_read = full_back entries constants starts ops delta locals stack lt locals_short stack_short known_locals known_stack;
-    writes = ap (option_and_then (λ (ls : List VType). option_map (λ (ss : List VType). written entries starts ops delta ls ss) (types_of entries starts ops (map (type_info constants starts) stack)))) (types_known locals known_locals)
+    writes = ap (option_and_then (λ (ls : List VType). option_map (λ (ss : List VType). written entries starts ops delta ls ss)
+        (types_of entries starts ops (map (type_info constants starts) stack)))) (types_known locals known_locals)
         ∙ ap (option_map (λ (ss : List VType). written entries starts ops delta locals ss)) (types_known stack known_stack);
     floats = rw (no_floats locals, no_floats stack) refl;
   }

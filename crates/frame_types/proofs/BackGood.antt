@@ -25,7 +25,8 @@ use Rattle.frame_types.proofs.BackFrames.{frames_read_back}
 -- ---- ascending offsets
 
 -- the first that passes, counted from k
-first_at : (p : ℕ → Bool) (k n : ℕ) (xs : List ℕ) → n < length xs → p (get_or xs n 0) ≡ true → ((i : ℕ) → i < n → p (get_or xs i 0) ≡ false) → position_from p k xs ≡ Some (k + n)
+first_at : (p : ℕ → Bool) (k n : ℕ) (xs : List ℕ) → n < length xs → p (get_or xs n 0) ≡ true → ((i : ℕ) → i < n
+    → p (get_or xs i 0) ≡ false) → position_from p k xs ≡ Some (k + n)
 first_at p k n [] lt passes before = absurd (omega (arith, lt))
 first_at p k zero (x ∷ xs) lt passes before =
     let e : k ≡ k + 0 = omega arith in
@@ -33,7 +34,8 @@ first_at p k zero (x ∷ xs) lt passes before =
 first_at p k (suc n) (x ∷ xs) lt passes before =
     let fails : p x ≡ false = before 0 (omega arith) in
     let e : k + 1 + n ≡ k + suc n = omega arith in
-    rw fails (first_at p (k + 1) n xs (omega (arith, lt)) passes (λ i below. before (suc i) (omega (arith, below))) ∙ ap (λ (m : ℕ). let O : Option ℕ = Some m in O) e)
+    rw fails (first_at p (k + 1) n xs (omega (arith, lt)) passes (λ i below. before (suc i) (omega (arith, below)))
+    ∙ ap (λ (m : ℕ). let O : Option ℕ = Some m in O) e)
 
 -- of ascending offsets each is found where it stands
 number_is : (starts : List ℕ) (n : ℕ) → AllPairs ◌<◌ starts → n < length starts → position (nat_eq (get_or starts n 0)) starts ≡ Some n
@@ -41,7 +43,8 @@ number_is starts n ascend lt =
     let e : 0 + n ≡ n = omega arith in
     position_from-zero (nat_eq (get_or starts n 0)) starts
     ∙ first_at (nat_eq (get_or starts n 0)) 0 n starts lt (eq-eqb _ _ refl)
-    (λ i below. let less : get_or starts i 0 < get_or starts n 0 = ascend i n 0 below lt in ne_eqb _ _ (λ same. absurd (omega (arith, less, same))))
+    (λ i below. let less : get_or starts i 0 < get_or starts n 0 = ascend i n 0 below lt in ne_eqb _ _ (λ same. absurd (omega
+    (arith, less, same))))
     ∙ ap (λ (m : ℕ). let O : Option ℕ = Some m in O) e
 
 each_holds : (P : ℕ → Type 0) (xs : List ℕ) (n : ℕ) → AllByRecursion P xs → n < length xs → P (get_or xs n 0)
@@ -85,13 +88,20 @@ module _ (entries : List Entry) (constants : List PoolConstant) (starts : List �
   place_is : AreWritableFrames entries constants starts code → (n : ℕ) → n < length code.ins → HasPlace entries constants starts ops_of n
   place_is w n lt =
       let within : n < length starts = subst (λ (k : ℕ). n < k) (sym w.begin) lt in
-      record { offset = each_holds (λ (offset : ℕ). offset < 2 ^ 16) starts n w.offsets within; number = number_is starts n w.offsets_ascend within }
+      record {
+        offset = each_holds (λ (offset : ℕ). offset < 2 ^ 16) starts n w.offsets within;
+        number = number_is starts n
+            w.offsets_ascend within;
+      }
 
-  new_found : (n : ℕ) (at : Ins) (name : List ℕ) → slice_get code.ins n ≡ Some at → at.op ≡ op.New name → is_new entries starts ops_of (slice_get ops_of n) ≡ true
+  new_found : (n : ℕ) (at : Ins) (name : List ℕ) → slice_get code.ins n ≡ Some at → at.op ≡ op.New name
+      → is_new entries starts ops_of (slice_get ops_of n) ≡ true
   new_found n at name there new =
-      ap (is_new entries starts ops_of) (slice_get-map (λ (i : Ins). i.op) code.ins n ∙ ap (option_map (λ (i : Ins). i.op)) there ∙ ap (λ (o : Op). let O : Option Op = Some o in O) new)
+      ap (is_new entries starts ops_of) (slice_get-map (λ (i : Ins). i.op) code.ins n ∙ ap (option_map (λ (i : Ins). i.op)) there
+      ∙ ap (λ (o : Op). let O : Option Op = Some o in O) new)
 
-  type_is : AreWritableFrames entries constants starts code → (ty : VType) → IsGoodType code.ins ty → IsSaid entries constants ty → IsKnownType entries constants starts ops_of ty
+  type_is : AreWritableFrames entries constants starts code → (ty : VType) → IsGoodType code.ins ty → IsSaid entries constants ty
+      → IsKnownType entries constants starts ops_of ty
   type_is w vtype.Top good said = tt
   type_is w vtype.Int good said = tt
   type_is w vtype.Long good said = tt
@@ -100,12 +110,14 @@ module _ (entries : List Entry) (constants : List PoolConstant) (starts : List �
   type_is w (vtype.Object class) good said = said
   type_is w (vtype.Uninit n) good said = (place_is w n (slice_get_within code.ins n good.0 good.2), new_found n good.0 good.1 good.2 good.3)
 
-  types_are : AreWritableFrames entries constants starts code → (types : List VType) → AllByRecursion (IsGoodType code.ins) types → AllByRecursion (IsSaid entries constants) types
+  types_are : AreWritableFrames entries constants starts code → (types : List VType) → AllByRecursion (IsGoodType code.ins) types
+      → AllByRecursion (IsSaid entries constants) types
       → AllByRecursion (IsKnownType entries constants starts ops_of) types
   types_are w [] good said = tt
   types_are w (ty ∷ types) good said = (type_is w ty good.0 said.0, types_are w types good.1 said.1)
 
-  frame_is : AreWritableFrames entries constants starts code → (frame : FrameAt) → IsGoodFrame code frame → TypesAreSaid entries constants frame
+  frame_is : AreWritableFrames entries constants starts code → (frame : FrameAt) → IsGoodFrame code frame
+      → TypesAreSaid entries constants frame
       → IsKnownFrame entries constants starts ops_of code.max_stack code.max_locals frame
   frame_is w frame good said =
       let locals = fewer_than_words frame.frame.locals in
@@ -121,12 +133,14 @@ module _ (entries : List Entry) (constants : List PoolConstant) (starts : List �
         stack_fits = good.stack_fits;
       }
 
-  frames_are : AreWritableFrames entries constants starts code → (frames : List FrameAt) → AllByRecursion (IsGoodFrame code) frames → AllByRecursion (TypesAreSaid entries constants) frames
+  frames_are : AreWritableFrames entries constants starts code → (frames : List FrameAt) → AllByRecursion (IsGoodFrame code) frames
+      → AllByRecursion (TypesAreSaid entries constants) frames
       → AllByRecursion (IsKnownFrame entries constants starts ops_of code.max_stack code.max_locals) frames
   frames_are w [] good said = tt
   frames_are w (frame ∷ frames) good said = (frame_is w frame good.0 said.0, frames_are w frames good.1 said.1)
 
-  follow_on : AreWritableFrames entries constants starts code → (frame : FrameAt) (frames : List FrameAt) → AllPairs Ascend (frame ∷ frames) → AllByRecursion (IsGoodFrame code) frames
+  follow_on : AreWritableFrames entries constants starts code → (frame : FrameAt) (frames : List FrameAt)
+      → AllPairs Ascend (frame ∷ frames) → AllByRecursion (IsGoodFrame code) frames
       → Follow entries constants starts ops_of (Some (slice_index starts frame.index)) frames
   follow_on w frame [] ascending good = tt
   follow_on w frame (next ∷ frames) ascending good =
@@ -134,7 +148,8 @@ module _ (entries : List Entry) (constants : List PoolConstant) (starts : List �
       let within : next.index < length starts = subst (λ (k : ℕ). next.index < k) (sym w.begin) good.0.index in
       (w.offsets_ascend frame.index next.index 0 before within, follow_on w next frames (tail_pairs frame (next ∷ frames) ascending) good.1)
 
-  follow_all : AreWritableFrames entries constants starts code → (frames : List FrameAt) → AllPairs Ascend frames → AllByRecursion (IsGoodFrame code) frames → Follow entries constants starts ops_of None frames
+  follow_all : AreWritableFrames entries constants starts code → (frames : List FrameAt) → AllPairs Ascend frames
+      → AllByRecursion (IsGoodFrame code) frames → Follow entries constants starts ops_of None frames
   follow_all w [] ascending good = tt
   follow_all w (frame ∷ frames) ascending good = (tt, follow_on w frame frames ascending good.1)
 
@@ -142,4 +157,5 @@ module _ (entries : List Entry) (constants : List PoolConstant) (starts : List �
 pub good_frames_read_back : GoodFramesAreReadBack
 good_frames_read_back entries constants starts code first w =
     frames_read_back entries constants starts (map (λ (i : Ins). i.op) code.ins) code.max_stack code.max_locals first code.frames w.count
-    (frames_are entries constants starts code w code.frames w.good w.said) (follow_all entries constants starts code w code.frames w.ascending w.good)
+    (frames_are entries constants starts code w code.frames w.good w.said)
+    (follow_all entries constants starts code w code.frames w.ascending w.good)

@@ -64,12 +64,15 @@ top_is (vtype.Object class) h = absurd cc
 top_is (vtype.Uninit n) h = absurd cc
 
 -- one more type is a Top
-pub goes_on_top : (types : List VType) (i count : ℕ) (d : VType) → i < length types → is_top (get_or types i d) ≡ true → take count types ≡ cut_tops (take i types)
+pub goes_on_top : (types : List VType) (i count : ℕ) (d : VType) → i < length types → is_top (get_or types i d) ≡ true
+    → take count types ≡ cut_tops (take i types)
     → take count types ≡ cut_tops (take (i + 1) types)
 goes_on_top types i count d lt h so_far =
-    so_far ∙ sym (cut_top (take i types)) ∙ sym (ap cut_tops (take_more types i d lt ∙ ap (λ (ty : VType). take i types ++ ty ∷ []) (top_is (get_or types i d) h)))
+    so_far ∙ sym (cut_top (take i types)) ∙ sym (ap cut_tops (take_more types i d lt
+    ∙ ap (λ (ty : VType). take i types ++ ty ∷ []) (top_is (get_or types i d) h)))
 
 -- or isn't
-pub goes_on_other : (types : List VType) (i : ℕ) (d : VType) → i < length types → is_top (get_or types i d) ≡ false → take (i + 1) types ≡ cut_tops (take (i + 1) types)
+pub goes_on_other : (types : List VType) (i : ℕ) (d : VType) → i < length types → is_top (get_or types i d) ≡ false
+    → take (i + 1) types ≡ cut_tops (take (i + 1) types)
 goes_on_other types i d lt h =
     take_more types i d lt ∙ sym (ap cut_tops (take_more types i d lt) ∙ cut_other (take i types) (get_or types i d) h)

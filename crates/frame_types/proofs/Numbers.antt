@@ -17,14 +17,17 @@ or_none : (o : Option ℕ) → first_of_two o None ≡ o
 or_none (Some x) = refl
 or_none None = refl
 
-or_cond : (o : Option ℕ) (b : Bool) (k : ℕ) (rest : Option ℕ) → first_of_two o (cond b (Some k) rest) ≡ first_of_two (first_of_two o (cond b (Some k) None)) rest
+or_cond : (o : Option ℕ) (b : Bool) (k : ℕ) (rest : Option ℕ)
+    → first_of_two o (cond b (Some k) rest) ≡ first_of_two (first_of_two o (cond b (Some k) None)) rest
 or_cond (Some x) b k rest = refl
 or_cond None true k rest = refl
 or_cond None false k rest = refl
 
 -- one more start was noted
-pub goes_on : (before after total : Option ℕ) (offset i : ℕ) (starts : List ℕ) (d : ℕ) → i < length starts → after ≡ noted before (get_or starts i d) i offset
-    → first_of_two before (position_from (nat_eq offset) i (drop i starts)) ≡ total → first_of_two after (position_from (nat_eq offset) (i + 1) (drop (i + 1) starts)) ≡ total
+pub goes_on : (before after total : Option ℕ) (offset i : ℕ) (starts : List ℕ) (d : ℕ) → i < length starts
+    → after ≡ noted before (get_or starts i d) i offset
+    → first_of_two before (position_from (nat_eq offset) i (drop i starts)) ≡ total
+    → first_of_two after (position_from (nat_eq offset) (i + 1) (drop (i + 1) starts)) ≡ total
 goes_on before after total offset i starts d lt now so_far =
     let next : drop i starts ≡ get_or starts i d ∷ drop (i + 1) starts = rw (add-one, drop-cons starts i d) refl in
     ap (λ o. first_of_two o (position_from (nat_eq offset) (i + 1) (drop (i + 1) starts))) now
@@ -32,8 +35,10 @@ goes_on before after total offset i starts d lt now so_far =
     ∙ ap (λ rest. first_of_two before (position_from (nat_eq offset) i rest)) (sym next) ∙ so_far
 
 -- at the end the table has each number
-pub is_done : (table : List (Option ℕ)) (i : ℕ) (starts : List ℕ) → length starts ≤ i → ((offset : ℕ) → first_of_two (found table offset) (position_from (nat_eq offset) i (drop i starts)) ≡ position_from (nat_eq offset) 0 starts)
+pub is_done : (table : List (Option ℕ)) (i : ℕ) (starts : List ℕ) → length starts ≤ i → ((offset : ℕ)
+    → first_of_two (found table offset) (position_from (nat_eq offset) i (drop i starts)) ≡ position_from (nat_eq offset) 0 starts)
     → (offset : ℕ) → found table offset ≡ position (nat_eq offset) starts
 is_done table i starts le so_far offset =
-    let here : first_of_two (found table offset) None ≡ position_from (nat_eq offset) 0 starts = ap (λ rest. first_of_two (found table offset) (position_from (nat_eq offset) i rest)) (sym (drop_all i starts le)) ∙ so_far offset in
+    let here : first_of_two (found table offset) None ≡ position_from (nat_eq offset) 0 starts = ap (λ rest. first_of_two
+    (found table offset) (position_from (nat_eq offset) i rest)) (sym (drop_all i starts le)) ∙ so_far offset in
     sym (or_none (found table offset)) ∙ here ∙ sym (position_from-zero (nat_eq offset) starts)

@@ -26,7 +26,8 @@ pub gives_nothing : {A : Type 0} (x : A) → Gives (give x) [] x
 gives_nothing {A = A} x p q t = give_is x p ∙ ap (λ (z : Place). let R : Result (A × Place) FormatFault = Ok (x, z) in R) (moved_none p q t)
 
 -- one text behind the other
-pub gives_then : {A B : Type 0} (r : Reader A) (f : A → Reader B) (t u : List ℕ) (x : A) (y : B) → Gives r t x → Gives (f x) u y → Gives (bind r f) (t ++ u) y
+pub gives_then : {A B : Type 0} (r : Reader A) (f : A → Reader B) (t u : List ℕ) (x : A) (y : B) → Gives r t x → Gives (f x) u y
+    → Gives (bind r f) (t ++ u) y
 gives_then r f t u x y one other p q taken =
     let parts = Takes-split p q t u taken in
     bind_is r f p (after (length t) p) x (one p (after (length t) p) parts.0) ∙ other (after (length t) p) q parts.1
@@ -36,13 +37,15 @@ pub gives_last : {A B : Type 0} (r : Reader A) (f : A → B) (t : List ℕ) (x :
 gives_last r f t x one p q taken = bind_is r (λ v. give (f v)) p q x (one p q taken) ∙ give_is (f x) q
 
 -- an item that leads to a reader
-pub gives_lead : {A B : Type 0} (r : Reader A) (f : A → Result (Reader B) FormatKind) (s : Reader B) (t u : List ℕ) (x : A) (y : B) → Gives r t x → f x ≡ Ok s → Gives s u y
+pub gives_lead : {A B : Type 0} (r : Reader A) (f : A → Result (Reader B) FormatKind) (s : Reader B) (t u : List ℕ) (x : A) (y : B)
+    → Gives r t x → f x ≡ Ok s → Gives s u y
     → Gives (lead r f) (t ++ u) y
 unfolding lead
 gives_lead r f s t u x y one leads other p q taken =
     let parts = Takes-split p q t u taken in
     let behind = after (length t) p in
-    ap (after_read p.at f) (one p behind parts.0) ∙ ap (λ (k : Result (Reader _) FormatKind). onwards p.at k behind) leads ∙ other behind q parts.1
+    ap (after_read p.at f) (one p behind parts.0) ∙ ap (λ (k : Result (Reader _) FormatKind). onwards p.at k behind) leads
+    ∙ other behind q parts.1
 
 pub gives_byte : (n : ℕ) → n < 256 → Gives u1 (n ∷ []) n
 gives_byte n lt p q t = u1_exact.only p (n ∷ []) n q (n, ap (λ (k : ℕ). k ∷ []) (sym (mod-eq_of_lt lt)), (lt, refl)) t
@@ -51,7 +54,8 @@ pub gives_u2 : (n : ℕ) → n < 2 ^ 16 → Gives u2 (to_be_bytes w16 n) n
 gives_u2 n lt p q t = u2_exact.only p (to_be_bytes w16 n) n q (n, refl, (lt, refl)) t
 
 -- several values, one behind the other
-pub gives_many : {A : Type 0} (r : Reader A) (spelled : A → List ℕ) (xs : List A) → AllByRecursion (λ x. Gives r (spelled x) x) xs → Gives (many (length xs) r) (flat_map spelled xs) xs
+pub gives_many : {A : Type 0} (r : Reader A) (spelled : A → List ℕ) (xs : List A) → AllByRecursion (λ x. Gives r (spelled x) x) xs
+    → Gives (many (length xs) r) (flat_map spelled xs) xs
 unfolding many
 gives_many r spelled [] all = gives_nothing []
 gives_many r spelled (x ∷ xs) all =

@@ -25,7 +25,8 @@ module _ (entries : List Entry) (constants : List PoolConstant) (starts : List �
   -- the entry at the index of its class says a type, and what isn't initialised is made by a new
   abbrev pub IsKnownType : VType → Type 0
   IsKnownType (vtype.Object class) =
-      (index_of constants (class_constant (type_name class)) < 2 ^ 16) × (type_at entries (index_of constants (class_constant (type_name class))) ≡ Some class)
+      (index_of constants (class_constant (type_name class)) < 2 ^ 16)
+      × (type_at entries (index_of constants (class_constant (type_name class))) ≡ Some class)
   IsKnownType (vtype.Uninit n) = HasPlace n × (is_new entries starts ops (slice_get ops n) ≡ true)
   IsKnownType _ = Unit {0}
 
@@ -48,12 +49,15 @@ module _ (entries : List Entry) (constants : List PoolConstant) (starts : List �
   -- each frame lies behind the one before
   abbrev pub Follow : Option ℕ → List FrameAt → Type 0
   Follow previous [] = Unit {0}
-  Follow previous (frame ∷ frames) = IsBehind previous (slice_index starts frame.index) × Follow (Some (slice_index starts frame.index)) frames
+  Follow previous (frame ∷ frames) = IsBehind previous (slice_index starts frame.index)
+      × Follow (Some (slice_index starts frame.index)) frames
 
 -- the canonical rows of frames are read as these frames
 abbrev pub FramesAreReadBack : Type 0
 FramesAreReadBack =
-    (entries : List Entry) (constants : List PoolConstant) (starts : List ℕ) (ops : List Op) (max_stack max_locals : ℕ) (first : List VType) (frames : List FrameAt)
-    → length frames < 2 ^ 16 → AllByRecursion (IsKnownFrame entries constants starts ops max_stack max_locals) frames → Follow entries constants starts ops None frames
+    (entries : List Entry) (constants : List PoolConstant) (starts : List ℕ) (ops : List Op) (max_stack max_locals : ℕ)
+    (first : List VType) (frames : List FrameAt)
+    → length frames < 2 ^ 16 → AllByRecursion (IsKnownFrame entries constants starts ops max_stack max_locals) frames
+    → Follow entries constants starts ops None frames
     → frames_of entries starts ops max_stack max_locals first (stack_map_table (rows constants starts first None frames))
     ≡ Ok (record { frames = frames; names_float = false })

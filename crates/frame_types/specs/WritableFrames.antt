@@ -18,12 +18,14 @@ use Rattle.frame_types.specs.Table.{frames_of}
 -- at the index of the constant of its class the entries say the type, if it is an object's
 abbrev pub IsSaid : List Entry → List PoolConstant → VType → Type 0
 IsSaid entries constants (vtype.Object class) =
-    (index_of constants (class_constant (type_name class)) < 2 ^ 16) × (type_at entries (index_of constants (class_constant (type_name class))) ≡ Some class)
+    (index_of constants (class_constant (type_name class)) < 2 ^ 16)
+    × (type_at entries (index_of constants (class_constant (type_name class))) ≡ Some class)
 IsSaid entries constants _ = Unit {0}
 
 -- of all types of a frame
 abbrev pub TypesAreSaid : List Entry → List PoolConstant → FrameAt → Type 0
-TypesAreSaid entries constants frame = AllByRecursion (IsSaid entries constants) frame.frame.locals × AllByRecursion (IsSaid entries constants) frame.frame.stack
+TypesAreSaid entries constants frame = AllByRecursion (IsSaid entries constants) frame.frame.locals
+    × AllByRecursion (IsSaid entries constants) frame.frame.stack
 
 -- the frames of a well-formed code whose instructions begin at these offsets; the entries of the pool say the classes of their
 -- types at the indices of their constants, and may say others beside
@@ -41,6 +43,8 @@ pub record AreWritableFrames (entries : List Entry) (constants : List PoolConsta
 -- the canonical rows of the frames of a well-formed code are read as these frames, behind any first frame
 abbrev pub GoodFramesAreReadBack : Type 0
 GoodFramesAreReadBack =
-    (entries : List Entry) (constants : List PoolConstant) (starts : List ℕ) (code : Code) (first : List VType) → AreWritableFrames entries constants starts code
-    → frames_of entries starts (map (λ (i : Ins). i.op) code.ins) code.max_stack code.max_locals first (stack_map_table (rows constants starts first None code.frames))
+    (entries : List Entry) (constants : List PoolConstant) (starts : List ℕ) (code : Code) (first : List VType)
+    → AreWritableFrames entries constants starts code
+    → frames_of entries starts (map (λ (i : Ins). i.op) code.ins) code.max_stack code.max_locals first (stack_map_table
+    (rows constants starts first None code.frames))
     ≡ Ok (record { frames = code.frames; names_float = false })

@@ -11,4 +11,5 @@ returns c =
     let keys = c.args.constants.now.keys in
     let k = c.args.constant.now in
     let e = unwrap_or-position _ keys (prefix_len-le-length _ keys) in
-    rw (c.unwrap_or.ensures, c.get_index_of.ensures.index, c.len.ensures.len) (ap (λ n. 1 + n) (e ∙ ap (λ (f : PoolConstant → PoolConstant → Bool). position_or_len (f k) keys) derived_is_same))
+    rw (c.unwrap_or.ensures, c.get_index_of.ensures.index, c.len.ensures.len) (ap (λ n. 1 + n) (e ∙ ap (λ (f : PoolConstant
+    → PoolConstant → Bool). position_or_len (f k) keys) derived_is_same))
