@@ -19,6 +19,7 @@ pub use constants::{ConstantTable, class_constant, fieldref, methodref, type_con
 pub use decoding::{Decoded, canonical_is_decoded, decode_code};
 pub use encoding::{Coded, encode_code, encode_with};
 pub use fault::CodeFault;
+pub use lookups::type_at;
 
 #[cfg(test)]
 mod tests;

@@ -1,0 +1,13 @@
+mod Numbers
+mod Rows
+mod Loops
+mod Behind
+mod Descriptors
+mod Indices
+mod Counting
+mod Spelled
+mod Sameness
+mod BackRows
+mod BackForms
+mod BackFrames
+mod BackGood

@@ -1,0 +1,25 @@
+//! The stack map frames of a code, from their bytes and to their bytes (JVMS 4.7.4).
+#![tactic(auto, unfolding(format_reading::specs::Reader::u1, format_reading::specs::Reader::u2, format_reading::specs::Reader::lead, format_reading::specs::Reader::bind, format_reading::specs::Reader::give))]
+
+mod back;
+mod bytes;
+mod comparing;
+mod constants;
+mod fault;
+mod frames;
+mod reading;
+mod row;
+mod starts;
+mod table;
+mod types;
+mod writing;
+
+pub use back::frames_are_read_back;
+pub use constants::ConstantTable;
+pub use fault::FrameFault;
+pub use starts::Starts;
+pub use table::{StackMapTable, frames_at, read_frames};
+pub use writing::write_frames_with;
+
+#[cfg(test)]
+mod tests;

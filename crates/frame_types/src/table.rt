@@ -1,0 +1,171 @@
+// The contents of a StackMapTable, read from left to right (JVMS 4.7.4).
+ghost use Rattle.std.specs.Prelude.{◌≡◌, ◌<◌, length, None};
+ghost use Rattle.jv_base.specs.Outcome.{IsDue};
+ghost use Rattle.class_model.specs.ReadingFrames.{read_frame, read_frames_behind, read_frames};
+ghost use Rattle.frame_types.specs.Rows.{ReadsAsOr};
+ghost use Rattle.frame_types.specs.Before.{row_read, table_of, before_of};
+ghost use Rattle.frame_types.specs.Table.{frames_of, frame_fault};
+
+use crate::fault::FrameFault;
+use crate::frames::{Before, Next, names_float, row_stands};
+use crate::reading::row;
+use crate::starts::Starts;
+use crate::types::copies;
+use class_model::{Frame, FrameAt, Op, Pool, VType};
+use format_reading::{FormatFault, FormatKind};
+use jv_base::{Cursor, Items, Or};
+use std::alloc::Global;
+
+/// The frames of a StackMapTable.
+#[derive(Debug, Drop)]
+pub struct StackMapTable {
+    /// Ascending, as their rows stand.
+    pub frames: Items<FrameAt>,
+    /// Whether a row names a float or a double, which are left out and stand as Top in the frames.
+    pub names_float: bool,
+}
+
+// A row with whether it names a float or a double, behind the frame of the row before.
+#[tactic(auto, unfolding(format_reading::specs::Reader::lead, format_reading::specs::Reader::bind, format_reading::specs::Reader::give, format_reading::specs::Reader::here, format_reading::specs::Reader::settle, class_model::specs::ReadingFrames::read_frame))]
+fn frame(
+    alloc: Global,
+    pool: &Pool,
+    starts: &Starts,
+    ops: &[Op],
+    max_stack: u16,
+    max_locals: u16,
+    before: Before,
+    cursor: &mut Cursor,
+) -> Result<(bool, Next), Or<FormatFault>>
+    ensures { ReadsAsOr row_read result cursor.new (read_frame pool.now.entries starts.now ops.now max_stack max_locals
+        (before_of before) cursor.old) }
+{
+    let offset = cursor.place();
+    let row = row(alloc, cursor)?;
+    let floats = names_float(&row);
+    match row_stands(
+        alloc, pool, starts, ops, max_stack, max_locals, before, &row,
+    )? {
+        Some(next) => Ok((floats, next)),
+        None => Err(Or::Fault(FormatFault {
+            offset,
+            kind: FormatKind::BadFrame,
+        })),
+    }
+}
+
+// So many rows, the first of them behind these locals.
+fn frames(
+    alloc: Global,
+    pool: &Pool,
+    starts: &Starts,
+    ops: &[Op],
+    max_stack: u16,
+    max_locals: u16,
+    count: u16,
+    first: Items<VType>,
+    cursor: &mut Cursor,
+) -> Result<StackMapTable, Or<FormatFault>>
+    ensures { ReadsAsOr table_of result cursor.new (read_frames_behind pool.now.entries starts.now ops.now max_stack max_locals count
+        (record { locals = first; offset = None }) cursor.old) }
+{
+    let mut before = Before {
+        locals: first,
+        offset: None,
+    };
+    let mut names_float = false;
+    let mut frames = Items::new(alloc);
+    for _ in 0..count {
+        let (floats, next) = frame(
+            alloc, pool, starts, ops, max_stack, max_locals, before, cursor,
+        )?;
+        names_float = names_float || floats;
+        frames.push(next.frame)?;
+        before = next.before;
+    }
+    Ok(StackMapTable {
+        frames,
+        names_float,
+    })
+}
+
+/// The frames that stand at a cursor: the contents of the StackMapTable of a code with these instructions, which begin
+/// at these offsets. `first` is the frame before the first instruction, with Tops at the end of its locals where the
+/// method's last parameters are floats or doubles.
+///
+/// A fault of a row is told at its first byte. What stands behind the last row isn't looked at.
+#[tactic(auto, unfolding(format_reading::specs::Reader::u2, format_reading::specs::Reader::lead, format_reading::specs::Reader::bind, class_model::specs::ReadingFrames::read_frames))]
+pub fn frames_at(
+    alloc: Global,
+    cursor: &mut Cursor,
+    first: &Frame,
+    max_stack: u16,
+    max_locals: u16,
+    ops: &Items<Op>,
+    starts: &Starts,
+    pool: &Pool,
+) -> Result<StackMapTable, Or<FormatFault>>
+    ensures exact { ReadsAsOr table_of result cursor.new
+        (read_frames pool.now.entries starts.now ops.now max_stack max_locals first.now.locals cursor.old) }
+{
+    let count = cursor.u2()?;
+    let locals = copies(alloc, first.locals.as_slice())?;
+    frames(
+        alloc,
+        pool,
+        starts,
+        ops.as_slice(),
+        max_stack,
+        max_locals,
+        count,
+        locals,
+        cursor,
+    )
+}
+
+fn frame_fault(fault: FormatFault) -> FrameFault
+    ensures { result ≡ frame_fault fault }
+{
+    match fault.kind {
+        FormatKind::Cut => FrameFault::Cut(fault.offset),
+        _ => FrameFault::BadFrame(fault.offset),
+    }
+}
+
+/// The frames that are the contents of a StackMapTable (JVMS 4.7.4), the constants that they name standing in a pool.
+/// `ops` and `starts` are the instructions of one code and their offsets, and `first` is the frame before the first of
+/// them.
+///
+/// The first fault from left to right counts. Offsets are from the first byte of the contents.
+pub fn read_frames(
+    alloc: Global,
+    bytes: &[u8],
+    first: &Frame,
+    max_stack: u16,
+    max_locals: u16,
+    ops: &Items<Op>,
+    starts: &Items<u32>,
+    pool: &Pool,
+) -> Result<StackMapTable, Or<FrameFault>>
+    requires bytes { length bytes.now < 4294967295 }
+    requires starts { length starts.now < 4294967295 }
+    ensures exact { IsDue result (frames_of pool.now.entries starts.now ops.now max_stack max_locals first.now.locals bytes.now) }
+{
+    let starts = Starts::new(alloc, starts.as_slice())?;
+    let mut cursor = Cursor::new(bytes);
+    match frames_at(
+        alloc,
+        &mut cursor,
+        first,
+        max_stack,
+        max_locals,
+        ops,
+        &starts,
+        pool,
+    ) {
+        Ok(table) if cursor.is_at_end() => Ok(table),
+        Ok(_) => Err(Or::Fault(FrameFault::Trailing(cursor.place()))),
+        Err(Or::Fault(fault)) => Err(Or::Fault(frame_fault(fault))),
+        Err(Or::OutOfMemory) => Err(Or::OutOfMemory),
+    }
+}

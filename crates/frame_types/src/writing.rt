@@ -1,0 +1,312 @@
+// The canonical rows of a StackMapTable (JVMS 4.7.4).
+ghost use Rattle.std.specs.Prelude.{◌≡◌, ℕ, ◌+◌, ◌-◌, ◌^◌, ◌<◌, ◌≤◌, ◌&&◌, [], ◌∷◌, ◌++◌, length, map, take, slice_index, None, All, IfOk, OnOk};
+ghost use Rattle.std.specs.Int.{w16, to_be_bytes};
+ghost use Rattle.std.specs.List.{flat_map};
+ghost use Rattle.class_model.specs.Frames.{verification_type_info, counted_types, stack_map_frame, stack_map_table};
+ghost use Rattle.class_model.specs.CanonicalFrames as canonical;
+ghost use Rattle.class_model.specs.declared.frame.FrameAt.{FrameAt};
+ghost use Rattle.frame_types.specs.Writing.{IsOffset, HasShortLists};
+
+use crate::bytes::{put, put_u2};
+use crate::comparing::same_types;
+use crate::constants::{ConstantTable, class_index};
+use class_model::{Frame, FrameAt, VType};
+use jv_base::{Bytes, Items, M};
+use std::alloc::Global;
+
+// ---- types
+
+// The offset of an instruction, and 0 for none.
+fn start_of(starts: &[u32], number: u32) -> u16
+    requires { All IsOffset starts.now }
+    ensures { result ≡ slice_index starts.now number }
+{
+    match starts.get(number as usize) {
+        Some(start) => *start as u16,
+        None => 0,
+    }
+}
+
+fn put_type(
+    alloc: Global,
+    constants: &ConstantTable,
+    starts: &[u32],
+    ty: &VType,
+    out: &mut Vec<u8>,
+) -> M<()>
+    requires constants { length constants.now + 1 < 2 ^ 16 }
+    requires starts { All IsOffset starts.now }
+    ensures { OnOk result (out.new.items ≡ out.old.items ++ verification_type_info (canonical.type_info constants.now starts.now ty.now)) }
+{
+    match ty {
+        VType::Top => put(out, &[0]),
+        VType::Int => put(out, &[1]),
+        VType::Long => put(out, &[4]),
+        VType::Null => put(out, &[5]),
+        VType::UninitThis => put(out, &[6]),
+        VType::Object(class) => {
+            put(out, &[7])?;
+            put_u2(out, class_index(alloc, constants, class)?)
+        }
+        VType::Uninit(number) => {
+            put(out, &[8])?;
+            put_u2(out, start_of(starts, *number))
+        }
+    }
+}
+
+fn put_types(
+    alloc: Global,
+    constants: &ConstantTable,
+    starts: &[u32],
+    types: &[VType],
+    out: &mut Vec<u8>,
+) -> M<()>
+    requires constants { length constants.now + 1 < 2 ^ 16 }
+    requires starts { All IsOffset starts.now }
+    ensures { OnOk result (out.new.items ≡ out.old.items ++ flat_map verification_type_info (map
+        (canonical.type_info constants.now starts.now) types.now)) }
+{
+    for ty in types {
+        put_type(alloc, constants, starts, ty, out)?;
+    }
+    Ok(())
+}
+
+fn put_counted_types(
+    alloc: Global,
+    constants: &ConstantTable,
+    starts: &[u32],
+    types: &[VType],
+    out: &mut Vec<u8>,
+) -> M<()>
+    requires constants { length constants.now + 1 < 2 ^ 16 }
+    requires starts { All IsOffset starts.now }
+    requires count { length types.now < 2 ^ 16 }
+    ensures { OnOk result (out.new.items ≡ out.old.items ++ counted_types (map (canonical.type_info constants.now starts.now) types.now)) }
+{
+    put_u2(out, types.len() as u16)?;
+    put_types(alloc, constants, starts, types, out)
+}
+
+// ---- forms
+
+fn put_same(delta: u16, out: &mut Vec<u8>) -> M<()>
+    ensures { OnOk result (out.new.items ≡ out.old.items ++ stack_map_frame (canonical.row [] [] delta canonical.same)) }
+{
+    if delta < 64 {
+        return put(out, &[delta as u8]);
+    }
+    put(out, &[251])?;
+    put_u2(out, delta)
+}
+
+fn put_same_with_item(
+    alloc: Global,
+    constants: &ConstantTable,
+    starts: &[u32],
+    delta: u16,
+    item: &VType,
+    out: &mut Vec<u8>,
+) -> M<()>
+    requires constants { length constants.now + 1 < 2 ^ 16 }
+    requires starts { All IsOffset starts.now }
+    ensures { OnOk result (out.new.items ≡ out.old.items ++ stack_map_frame (canonical.row constants.now starts.now delta
+        (canonical.same_with_item item.now))) }
+{
+    if delta <= 63 {
+        put(out, &[64 + delta as u8])?;
+    } else {
+        put(out, &[247])?;
+        put_u2(out, delta)?;
+    }
+    put_type(alloc, constants, starts, item, out)
+}
+
+fn put_chop(delta: u16, gone: usize, out: &mut Vec<u8>) -> M<()>
+    requires { gone ≤ 3 }
+    ensures { OnOk result (out.new.items ≡ out.old.items ++ stack_map_frame (canonical.row [] [] delta (canonical.chop gone))) }
+{
+    put(out, &[251 - gone as u8])?;
+    put_u2(out, delta)
+}
+
+fn put_append(
+    alloc: Global,
+    constants: &ConstantTable,
+    starts: &[u32],
+    delta: u16,
+    types: &[VType],
+    out: &mut Vec<u8>,
+) -> M<()>
+    requires constants { length constants.now + 1 < 2 ^ 16 }
+    requires starts { All IsOffset starts.now }
+    requires count { length types.now ≤ 3 }
+    ensures { OnOk result (out.new.items ≡ out.old.items ++ stack_map_frame (canonical.row constants.now starts.now delta
+        (canonical.append types.now))) }
+{
+    put(out, &[251 + types.len() as u8])?;
+    put_u2(out, delta)?;
+    put_types(alloc, constants, starts, types, out)
+}
+
+fn put_full(
+    alloc: Global,
+    constants: &ConstantTable,
+    starts: &[u32],
+    delta: u16,
+    frame: &Frame,
+    out: &mut Vec<u8>,
+) -> M<()>
+    requires constants { length constants.now + 1 < 2 ^ 16 }
+    requires starts { All IsOffset starts.now }
+    requires frame { HasShortLists frame.now }
+    ensures { OnOk result (out.new.items ≡ out.old.items ++ stack_map_frame (canonical.row constants.now starts.now delta
+        (canonical.full frame.now.locals frame.now.stack))) }
+{
+    put(out, &[255])?;
+    put_u2(out, delta)?;
+    put_counted_types(alloc, constants, starts, frame.locals.as_slice(), out)?;
+    put_counted_types(alloc, constants, starts, frame.stack.as_slice(), out)
+}
+
+fn is_chop(before: &[VType], locals: &[VType]) -> bool
+    ensures { result ≡ canonical.is_chop before.now locals.now }
+{
+    let gone = before.len().saturating_sub(locals.len());
+    1 <= gone && gone <= 3 && same_types(locals, &before[..locals.len()])
+}
+
+fn is_append(before: &[VType], locals: &[VType]) -> bool
+    ensures { result ≡ canonical.is_append before.now locals.now }
+{
+    let new = locals.len().saturating_sub(before.len());
+    1 <= new && new <= 3 && same_types(before, &locals[..before.len()])
+}
+
+// A frame with an empty stack behind these locals.
+fn put_without_items(
+    alloc: Global,
+    constants: &ConstantTable,
+    starts: &[u32],
+    before: &[VType],
+    delta: u16,
+    frame: &Frame,
+    out: &mut Vec<u8>,
+) -> M<()>
+    requires constants { length constants.now + 1 < 2 ^ 16 }
+    requires starts { All IsOffset starts.now }
+    requires frame { HasShortLists frame.now }
+    requires empty { frame.now.stack ≡ [] }
+    ensures { OnOk result (out.new.items ≡ out.old.items ++ stack_map_frame (canonical.row constants.now starts.now delta
+        (canonical.form_of before.now frame.now.locals []))) }
+{
+    let locals = frame.locals.as_slice();
+    if same_types(before, locals) {
+        put_same(delta, out)
+    } else if is_chop(before, locals) {
+        put_chop(delta, before.len() - locals.len(), out)
+    } else if is_append(before, locals) {
+        put_append(
+            alloc,
+            constants,
+            starts,
+            delta,
+            &locals[before.len()..],
+            out,
+        )
+    } else {
+        put_full(alloc, constants, starts, delta, frame, out)
+    }
+}
+
+// The first form that fits, behind these locals.
+fn put_row(
+    alloc: Global,
+    constants: &ConstantTable,
+    starts: &[u32],
+    before: &[VType],
+    delta: u16,
+    frame: &Frame,
+    out: &mut Vec<u8>,
+) -> M<()>
+    requires constants { length constants.now + 1 < 2 ^ 16 }
+    requires starts { All IsOffset starts.now }
+    requires frame { HasShortLists frame.now }
+    ensures { OnOk result (out.new.items ≡ out.old.items ++ stack_map_frame (canonical.row constants.now starts.now delta
+        (canonical.form_of before.now frame.now.locals frame.now.stack))) }
+{
+    match frame.stack.as_slice() {
+        [] => put_without_items(alloc, constants, starts, before, delta, frame, out),
+        [item] if same_types(before, frame.locals.as_slice()) => {
+            put_same_with_item(alloc, constants, starts, delta, item, out)
+        }
+        _ => put_full(alloc, constants, starts, delta, frame, out),
+    }
+}
+
+// ---- rows
+
+fn delta_to(previous: Option<u16>, offset: u16) -> u16
+    ensures { result ≡ canonical.delta_to [] [] previous offset }
+{
+    match previous {
+        None => offset,
+        Some(previous) => offset.saturating_sub(previous).saturating_sub(1),
+    }
+}
+
+fn put_rows(
+    alloc: Global,
+    constants: &ConstantTable,
+    starts: &[u32],
+    first: &[VType],
+    frames: &[FrameAt],
+    out: &mut Vec<u8>,
+) -> M<()>
+    requires constants { length constants.now + 1 < 2 ^ 16 }
+    requires starts { All IsOffset starts.now }
+    requires frames { All (λ (f : FrameAt). HasShortLists f.frame) frames.now }
+    ensures { OnOk result (out.new.items ≡ out.old.items ++ flat_map stack_map_frame
+        (canonical.rows constants.now starts.now first.now None frames.now)) }
+{
+    let mut before = first;
+    let mut previous = None;
+    for next in frames {
+        let offset = start_of(starts, next.index);
+        let delta = delta_to(previous, offset);
+        put_row(alloc, constants, starts, before, delta, &next.frame, out)?;
+        before = next.frame.locals.as_slice();
+        previous = Some(offset);
+    }
+    Ok(())
+}
+
+/// The canonical contents of the StackMapTable with these frames (JVMS 4.7.4): each row in the first form that fits. The
+/// instructions of their code begin at `starts`, and `first` is the frame before the first instruction.
+pub fn write_frames_with(
+    alloc: Global,
+    frames: &Items<FrameAt>,
+    first: &Frame,
+    starts: &Items<u32>,
+    constants: &ConstantTable,
+) -> M<Bytes>
+    requires constants { length constants.now + 1 < 2 ^ 16 }
+    requires starts { All IsOffset starts.now }
+    requires count { length frames.now < 2 ^ 16 }
+    requires frames { All (λ (f : FrameAt). HasShortLists f.frame) frames.now }
+    ensures canonical { IfOk result (λ bytes. bytes ≡ stack_map_table
+        (canonical.rows constants.now starts.now first.now.locals None frames.now)) }
+{
+    let mut out = Vec::new(alloc);
+    put_u2(&mut out, frames.len() as u16)?;
+    put_rows(
+        alloc,
+        constants,
+        starts.as_slice(),
+        first.locals.as_slice(),
+        frames.as_slice(),
+        &mut out,
+    )?;
+    Ok(Items::from_vec(out))
+}
