@@ -15,3 +15,4 @@ mod Onward
 mod Alike
 mod Kept
 mod Saying
+mod Counted

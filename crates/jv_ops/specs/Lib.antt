@@ -5,3 +5,4 @@ pub mod Targets
 pub mod Decoded
 pub mod Constants
 pub mod Coded
+pub mod Countdown
