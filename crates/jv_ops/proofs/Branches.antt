@@ -1,7 +1,6 @@
 -- The branches of a code, one behind the other.
-use Rattle.std.proofs.Common.{◌≡◌, ℕ, zero, suc, ◌+◌, ◌≤◌, ◌<◌, Bool, true, false, cond, List, [], ◌∷◌, length, drop, get_or, Option, Some, None, Result, Ok, Err, refl, sym, ap, subst, ◌∙◌, arith, drop-cons}
-use Rattle.std.specs.Prelude.{ℤ, pos, negsuc, ◌-ℤ◌, slice_index}
-use Rattle.std.proofs.lemmas.List.{drop_all}
+use Rattle.std.proofs.Common.{◌≡◌, ℕ, suc, ◌+◌, ◌<◌, Bool, true, false, cond, List, [], ◌∷◌, length, drop, get_or, Option, Some, None, Result, Ok, Err, refl, sym, ap, subst, ◌∙◌, arith, drop-cons}
+use Rattle.std.specs.Prelude.{pos, negsuc, ◌-ℤ◌, slice_index}
 use Rattle.jv_base.specs.Outcome.{◌>>=◌}
 use Rattle.class_model.specs.declared.limit.WriteLimit.{WriteLimit}
 use Rattle.class_model.specs.declared.limit.WriteLimit.TheVariants.{BranchTooFar}

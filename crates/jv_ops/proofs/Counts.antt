@@ -1,5 +1,5 @@
 -- The count of invokeinterface fits a byte where the method has few words.
-use Rattle.std.proofs.Common.{◌≡◌, ℕ, ◌+◌, ◌<◌, Option, Some, None, Result, Ok, Err, refl, sym, arith}
+use Rattle.std.proofs.Common.{◌≡◌, ℕ, ◌+◌, ◌<◌, Some, Result, Ok, Err, refl, sym, arith}
 use Rattle.std.specs.Prelude.{option_map}
 use Rattle.jv_base.specs.Types.{argument_words}
 use Rattle.jv_base.specs.Descriptors.{read_method}

@@ -1,8 +1,8 @@
 -- A table of constants keeps the index of each.
-use Rattle.std.proofs.Common.{◌≡◌, ℕ, ◌+◌, ◌-◌, take, Bool, true, false, cond, List, [], ◌∷◌, ◌++◌, length, Option, Some, None, Result, Ok, Err, refl, sym, ap, subst, ◌∙◌, arith}
+use Rattle.std.proofs.Common.{◌≡◌, ℕ, ◌+◌, ◌-◌, take, Bool, true, false, cond, ◌||◌, List, [], ◌∷◌, ◌++◌, length, Option, Some, None, Result, Ok, Err, refl, ap, subst, ◌∙◌, arith}
 use Rattle.std.specs.Prelude.{is_some, OnOk, OnErr}
 use Rattle.std.specs.Result.{is_err}
-use Rattle.std.specs.List.{position_from}
+use Rattle.std.specs.List.{position_from, list_any}
 use Rattle.std.specs.Option.{unwrap_or}
 use Rattle.std.specs.Map.{lookup}
 use Rattle.class_model.specs.declared.constant.PoolConstant.{PoolConstant}
@@ -33,6 +33,15 @@ cut_back ks xs k n is e =
 none_there : (o : Option ℕ) → is_some o ≡ false → o ≡ None
 none_there None h = refl
 none_there (Some x) h = absurd cc
+
+any_by : (b : Bool) (i : ℕ) (found : Option ℕ) (rest : Bool) → is_some found ≡ rest → is_some (cond b (Some i) found) ≡ (b || rest)
+any_by true i found rest h = refl
+any_by false i found rest h = h
+
+-- there is a first place exactly where one passes
+pub any_is : (t : PoolConstant → Bool) (i : ℕ) (ks : List PoolConstant) → is_some (position_from t i ks) ≡ list_any t ks
+any_is t i [] = refl
+any_is t i (k ∷ ks) = any_by (t k) i (position_from t (i + 1) ks) (list_any t ks) (any_is t (i + 1) ks)
 
 module _ (ks : List PoolConstant) (entries : List (PoolConstant × ℕ)) (k : PoolConstant) (kept : IsIndexed ks entries) where
   -- the index that is kept is the constant's

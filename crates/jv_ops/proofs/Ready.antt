@@ -1,9 +1,9 @@
 -- What the passes over a code find: places of two bytes, and targets among them.
-use Rattle.std.proofs.Common.{◌≡◌, ℕ, zero, suc, ◌+◌, ◌^◌, ◌≤◌, ◌<◌, Bool, true, false, cond, List, [], ◌∷◌, length, Result, Ok, Err, refl, sym, ap, subst, ◌∙◌, arith}
+use Rattle.std.proofs.Common.{◌≡◌, ℕ, ◌^◌, ◌≤◌, ◌<◌, Bool, true, false, cond, List, [], ◌∷◌, length, Result, Ok, Err, refl, sym, ap, subst, ◌∙◌, arith}
 use Rattle.std.specs.Prelude.{All, nat_lt}
 use Rattle.std.specs.List.{AllByRecursion}
 use Rattle.std.proofs.lemmas.Bool.{ltb-true, lt-ltb, le-ltb}
-use Rattle.std.proofs.lemmas.List.Elements.{All-weaker, All-from_recursion}
+use Rattle.std.proofs.lemmas.List.Elements.{All-weaker}
 use Rattle.jv_base.specs.Outcome.{◌>>=◌}
 use Rattle.class_model.specs.declared.limit.WriteLimit.{WriteLimit}
 use Rattle.class_model.specs.declared.limit.WriteLimit.TheVariants.{CodeTooLong}
@@ -13,9 +13,8 @@ use Rattle.class_model.specs.declared.op.Op.{Op}
 use Rattle.class_model.specs.declared.op.Op.TheVariants as op
 use Rattle.class_model.specs.declared.code.Ins.{Ins}
 use Rattle.class_model.specs.CanonicalCode.{places, code_bytes}
-use Rattle.class_model.specs.WellFormed.{IsGoodOp, IsTableSwitch, IsLookupSwitch}
+use Rattle.class_model.specs.WellFormed.{IsGoodOp}
 use Rattle.jv_ops.specs.Coded.{placed}
-use Rattle.jv_ops.proofs.Ends.{places_count, places_short, code_end}
 
 -- the same with what is tested, the length and the places as variables
 abbrev fit : Bool → ℕ → Result (Unit {0}) WriteLimit

@@ -1,6 +1,8 @@
 // The constants of a pool by what they say, and the index of each (JVMS 4.4).
 ghost use Rattle.std.specs.Prelude.{◌≡◌, ℕ, ◌≤◌, [], ◌∷◌, ◌++◌, List, IfOk, OnOk, OnErr, Some, is_ok, if◌then◌else◌};
+ghost use Rattle.std.specs.List.{list_any};
 ghost use Rattle.std.specs.Map.{lookup};
+ghost use Rattle.indexmap.specs.IndexSet.{insert_key};
 ghost use Rattle.class_model.specs.declared.constant.PoolConstant.{PoolConstant};
 ghost use Rattle.jv_base.specs.Utf16.{units_of};
 ghost use Rattle.class_model.specs.CanonicalPool as canonical;
@@ -67,6 +69,30 @@ impl ConstantTable {
         push_constant(alloc, &mut self.constants, &mut self.indices, constant)
     }
 
+    /// Whether a constant is there.
+    pub fn contains(&self, constant: &PoolConstant) -> bool
+        ensures { result ≡ list_any (canonical.same constant.now) self.now }
+    {
+        index_kept(&self.indices, constant).is_some()
+    }
+
+    /// Puts a constant behind the others, unless it is there.
+    pub fn add(&mut self, alloc: Global, constant: PoolConstant) -> M<()>
+        ensures { OnOk result (self.new ≡ insert_key canonical.same self.old constant) }
+    {
+        if self.contains(&constant) {
+            return Ok(());
+        }
+        self.push(alloc, constant)
+    }
+
+    /// The constants, that of index i at place i - 1.
+    pub fn as_slice(&self) -> &[PoolConstant]
+        ensures { result.now ≡ self.now }
+    {
+        self.constants.as_slice()
+    }
+
     /// The index of a constant, that of its first place; or the index behind the last, where it is missing.
     pub fn index_of(&self, constant: &PoolConstant) -> usize
         ensures { result ≡ canonical.index_of self.now constant.now }
@@ -91,7 +117,8 @@ fn put_index(
     constant: PoolConstant,
     index: usize,
 ) -> M<()>
-    ensures kept { OnOk result ((k : PoolConstant) → lookup (canonical.same k) indices.new.entries ≡ (if canonical.same constant k then Some index else lookup (canonical.same k) indices.old.entries)) }
+    ensures kept { OnOk result ((k : PoolConstant) → lookup (canonical.same k) indices.new.entries
+        ≡ (if canonical.same constant k then Some index else lookup (canonical.same k) indices.old.entries)) }
     ensures unchanged { OnErr result (indices.new.entries ≡ indices.old.entries) }
 {
     indices.insert(constant, index)?;

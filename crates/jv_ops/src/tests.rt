@@ -1,10 +1,12 @@
-ghost use Rattle.std.specs.Prelude.{◌<◌, length};
+ghost use Rattle.std.specs.Prelude.{◌≡◌, ◌<◌, length, IfOk, None};
+ghost use Rattle.jv_ops.specs.Countdown as example;
 
 use super::*;
 use class_model::{
-    ArithOp, Case, Cond, ConvOp, Elem, Entry, Kind, LogicOp, Num, Op, Pool, ShiftOp, same_op,
+    ArithOp, Case, Cond, ConvOp, Elem, Entry, Ins, Kind, LogicOp, Num, Op, Pool, ShiftOp,
+    WriteLimit, same_op,
 };
-use jv_base::{Base, Items, Or};
+use jv_base::{Base, Items, M, Or};
 use std::alloc::Global;
 use std::test::Fail;
 
@@ -249,5 +251,53 @@ fn constants_at_both_sides_of_a_byte(rt: HostRuntime) -> Result<(), Fail> {
             CodeFault::LeftOutOpcode(2, 0xBA)
         )
     );
+    Ok(())
+}
+
+fn instruction(op: Op) -> Ins
+    ensures { result ≡ record { op = op; line = None } }
+{
+    Ins { op, line: None }
+}
+
+fn countdown(alloc: Global) -> M<Items<Ins>>
+    ensures { IfOk result (λ ins. ins ≡ example.countdown) }
+{
+    let ins = vec![in alloc;
+        instruction(Op::PushInt(5)),
+        instruction(Op::Store(Kind::Int, 1)),
+        instruction(Op::Inc(1, -1)),
+        instruction(Op::Load(Kind::Int, 1)),
+        instruction(Op::IfZero(Cond::Gt, 2)),
+        instruction(Op::Return(None)),
+    ]?;
+    Ok(Items::from_vec(ins))
+}
+
+/// Whether the code is these bytes, in which the instructions begin at these offsets.
+fn is_coded(coded: &Result<Coded, Or<WriteLimit>>, bytes: &[u8], starts: &[u32]) -> bool {
+    match coded {
+        Ok(coded) => coded.bytes.as_slice() == bytes && coded.starts.as_slice() == starts,
+        Err(_) => false,
+    }
+}
+
+#[test]
+fn a_loop_is_written_and_read_back(rt: HostRuntime) -> Result<(), Fail> {
+    let alloc = rt.alloc();
+    let pool = empty_pool(alloc);
+    let ins = countdown(alloc)?;
+    let bytes = [0x08, 0x3C, 0x84, 0x01, 0xFF, 0x1B, 0x9D, 0xFF, 0xFC, 0xB1];
+    let starts = [0, 1, 2, 5, 6, 9];
+    assert!(rt; is_coded(&encode_code(alloc, &ins, &pool), &bytes, &starts));
+    let ops = [
+        Op::PushInt(5),
+        Op::Store(Kind::Int, 1),
+        Op::Inc(1, -1),
+        Op::Load(Kind::Int, 1),
+        Op::IfZero(Cond::Gt, 2),
+        Op::Return(None),
+    ];
+    assert!(rt; decodes(alloc, &bytes, &pool, &ops, &starts));
     Ok(())
 }

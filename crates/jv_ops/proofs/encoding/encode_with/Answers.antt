@@ -1,6 +1,5 @@
-use Rattle.std.proofs.Common.{◌≡◌, ◌≤◌, ◌^◌, ◌<◌, List, length, Ok, ap, subst, ◌∙◌, arith}
+use Rattle.std.proofs.Common.{◌≡◌, ◌≤◌, List, length, Ok, ap, subst, arith}
 use Rattle.class_model.specs.declared.code.Ins.{Ins}
-use Rattle.class_model.specs.CanonicalCode.{places, code_bytes}
 use Rattle.jv_ops.specs.Coded.{placed}
 use Rattle.jv_ops.proofs.Ends.{places_count}
 use Rattle.jv_ops.proofs.Ready.{placed_is, all_good}

@@ -1,4 +1,4 @@
-use Rattle.std.proofs.Common.{rules, ◌≡◌, ◌<◌, ◌^◌, false, sym, subst, ◌∙◌, of_z, to_z}
+use Rattle.std.proofs.Common.{◌≡◌, ◌<◌, ◌^◌, false, sym, subst, ◌∙◌, of_z, to_z}
 use Rattle.std.specs.Int.{w32}
 use Rattle.std.proofs.lemmas.Int.{to_z-of_z}
 use Rattle.class_model.specs.declared.constant.PoolConstant.TheVariants.{Integer}
