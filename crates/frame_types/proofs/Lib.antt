@@ -3,7 +3,6 @@ mod Rows
 mod Loops
 mod Behind
 mod Descriptors
-mod Indices
 mod Counting
 mod Spelled
 mod Sameness

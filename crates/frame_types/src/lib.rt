@@ -15,11 +15,10 @@ mod types;
 mod writing;
 
 pub use back::frames_are_read_back;
-pub use constants::ConstantTable;
 pub use fault::FrameFault;
 pub use starts::Starts;
 pub use table::{StackMapTable, frames_at, read_frames};
-pub use writing::write_frames_with;
+pub use writing::{write_frames, write_frames_with};
 
 #[cfg(test)]
 mod tests;

@@ -3,9 +3,9 @@ ghost use Rattle.class_model.specs.declared.frame.FrameAt.{FrameAt};
 ghost use Rattle.frame_types.specs.Writing.{IsOffset, HasShortLists};
 
 use super::*;
-use class_model::{Entry, Frame, FrameAt, Op, Pool, PoolConstant, VType};
-use indexmap::IndexSet;
+use class_model::{Entry, Frame, FrameAt, Op, Pool, VType};
 use jv_base::{Base, FieldType, Items, M, Or, Text, units_of_text};
+use jv_ops::ConstantTable;
 use std::alloc::Global;
 use std::test::Fail;
 
@@ -26,11 +26,7 @@ fn pool(alloc: Global) -> M<Pool> {
 }
 
 fn constants(alloc: Global) -> M<ConstantTable> {
-    let mut constants = IndexSet::new(alloc);
-    let text = Text::from_str(alloc, "A")?;
-    constants.insert_full(PoolConstant::Utf8(units_of_text(alloc, &text)?))?;
-    constants.insert_full(PoolConstant::Class(units_of_text(alloc, &text)?))?;
-    Ok(ConstantTable::from_set(constants))
+    ConstantTable::of_pool(alloc, &pool(alloc)?)
 }
 
 fn starts(alloc: Global) -> M<Items<u32>> {
@@ -201,7 +197,7 @@ fn are_short(frames: &[FrameAt]) -> bool
 fn write(alloc: Global, frames: &Items<FrameAt>, first: &Frame) -> Result<Items<u8>, Fail> {
     let starts = starts(alloc)?;
     let constants = constants(alloc)?;
-    if constants.len() >= 65_535
+    if constants.as_slice().len() >= 65_535
         || frames.len() >= 65_536
         || !are_offsets(starts.as_slice())
         || !are_short(frames.as_slice())

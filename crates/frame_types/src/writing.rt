@@ -5,13 +5,15 @@ ghost use Rattle.std.specs.List.{flat_map};
 ghost use Rattle.class_model.specs.Frames.{verification_type_info, counted_types, stack_map_frame, stack_map_table};
 ghost use Rattle.class_model.specs.CanonicalFrames as canonical;
 ghost use Rattle.class_model.specs.declared.frame.FrameAt.{FrameAt};
+ghost use Rattle.jv_ops.specs.Constants.{constants_in};
 ghost use Rattle.frame_types.specs.Writing.{IsOffset, HasShortLists};
 
 use crate::bytes::{put, put_u2};
 use crate::comparing::same_types;
-use crate::constants::{ConstantTable, class_index};
-use class_model::{Frame, FrameAt, VType};
+use crate::constants::class_index;
+use class_model::{Frame, FrameAt, Pool, VType};
 use jv_base::{Bytes, Items, M};
+use jv_ops::ConstantTable;
 use std::alloc::Global;
 
 // ---- types
@@ -309,4 +311,23 @@ pub fn write_frames_with(
         &mut out,
     )?;
     Ok(Items::from_vec(out))
+}
+
+/// The same, where the constants are those of a pool.
+pub fn write_frames(
+    alloc: Global,
+    frames: &Items<FrameAt>,
+    first: &Frame,
+    starts: &Items<u32>,
+    pool: &Pool,
+) -> M<Bytes>
+    requires constants { length (constants_in pool.now.entries) + 1 < 2 ^ 16 }
+    requires starts { All IsOffset starts.now }
+    requires count { length frames.now < 2 ^ 16 }
+    requires frames { All (λ (f : FrameAt). HasShortLists f.frame) frames.now }
+    ensures canonical { IfOk result (λ bytes. bytes ≡ stack_map_table
+        (canonical.rows (constants_in pool.now.entries) starts.now first.now.locals None frames.now)) }
+{
+    let constants = ConstantTable::of_pool(alloc, pool)?;
+    write_frames_with(alloc, frames, first, starts, &constants)
 }
