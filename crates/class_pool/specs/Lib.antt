@@ -1,0 +1,5 @@
+pub mod Hierarchy
+pub mod Supertypes
+pub mod Members
+pub mod Faults
+pub mod Count

@@ -1,0 +1,13 @@
+//! The hierarchy of a set of class files: which classes there are, and their supertypes up into the library.
+#![tactic(auto)]
+
+mod building;
+mod fault;
+mod id;
+mod rounds;
+mod set;
+
+pub use building::build;
+pub use fault::{NamedClass, PoolFault, PoolKind};
+pub use id::ClassId;
+pub use set::ClassSet;
