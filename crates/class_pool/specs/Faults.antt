@@ -1,12 +1,12 @@
 -- What makes files no set: three rounds, each over all classes in set order, the first fault counting.
-use Rattle.std.specs.Prelude.{◌≡◌, ◌≢◌, ℕ, nat_eq, Bool, true, false, not, ◌&&◌, ◌||◌, List, [], ◌∷◌, ◌++◌, map, codes, Option, Some, None, Result, Ok, Err, if◌then◌else◌}
+use Rattle.std.specs.Prelude.{◌≡◌, ◌≢◌, ◌<◌, ◌⊎◌, slice_get, ℕ, nat_eq, Bool, true, false, not, ◌&&◌, ◌||◌, List, [], ◌∷◌, ◌++◌, map, codes, Option, Some, None, Result, Ok, Err, if◌then◌else◌}
 use Rattle.std.specs.List.{AllPairs, list_any, starts_with}
 use Rattle.std.specs.Option.{is_none, option_map_or}
 use Rattle.std.specs.Cmp.Lexicographic.{slice_cmp}
 use Rattle.std.specs.Ordering.{nat_cmp, is_lt}
 use Rattle.jv_base.specs.Names.{is_text}
-use Rattle.jv_base.specs.Outcome.{IsDue}
 use Rattle.jv_base.specs.declared.outcome.Or.{Or}
+use Rattle.jv_base.specs.declared.outcome.Or.TheVariants.{Fault, OutOfMemory}
 use Rattle.class_model.specs.Flags.{is_interface}
 use Rattle.class_model.specs.declared.class.Class.{Class}
 use Rattle.class_pool.specs.declared.fault.NamedClass.{NamedClass}
@@ -14,6 +14,7 @@ use Rattle.class_pool.specs.declared.fault.PoolFault.{PoolFault}
 use Rattle.class_pool.specs.declared.fault.PoolKind.{PoolKind}
 use Rattle.class_pool.specs.declared.fault.PoolKind.TheVariants.{NameMismatch, LibraryName, SuperMissing, SuperKind, Cycle}
 use Rattle.class_pool.specs.Hierarchy.{class_named, kind_in, is_interface_kind, is_open_kind}
+use Rattle.class_pool.specs.Supertypes.{IsCyclic, NoCycle}
 
 -- the paths ascend
 abbrev pub Ascends : List NamedClass → Type 0
@@ -83,10 +84,19 @@ first_faults files = then_super_faults files (name_faults files)
 abbrev pub NamesDiffer : List Class → Type 0
 NamesDiffer classes = AllPairs (λ a b. a.name ≢ b.name) classes
 
--- what is due of the files: their classes, or the first fault
-abbrev pub with_classes : List NamedClass → Result (Unit {0}) PoolFault → Result (List Class) PoolFault
-with_classes files (Ok _) = Ok (classes_of files)
-with_classes files (Err e) = Err e
+-- third round: the first class that is its own proper supertype
+abbrev pub IsFirstCycle : List Class → PoolFault → Type 0
+IsFirstCycle classes f =
+    (n : ℕ) × (c : Class) × (slice_get classes n ≡ Some c) × (f ≡ record { class = c.name; kind = Cycle }) × IsCyclic classes n
+    × ((m : ℕ) → m < n → IsCyclic classes m → ⊥)
 
+abbrev pub FindsCycle : {T : Type 0} → List Class → Result T (Or PoolFault) → Type 0
+FindsCycle classes (Ok _) = NoCycle classes
+FindsCycle classes (Err (Fault f)) = IsFirstCycle classes f
+FindsCycle classes (Err OutOfMemory) = Unit {0}
+
+-- the classes of the files, where no round has a fault; else the first fault
 abbrev pub Builds : Result (List Class) (Or PoolFault) → List NamedClass → Type 0
-Builds result files = IsDue result (with_classes files (first_faults files))
+Builds (Ok set) files = (first_faults files ≡ Ok tt) × NoCycle (classes_of files) × (set ≡ classes_of files)
+Builds (Err (Fault f)) files = (first_faults files ≡ Err f) ⊎ ((first_faults files ≡ Ok tt) × IsFirstCycle (classes_of files) f)
+Builds (Err OutOfMemory) files = Unit {0}

@@ -19,13 +19,13 @@ IsClass classes (Prog n) = n < length classes
 IsClass classes (Lib id) = id < length library
 
 -- a class of the set, where there is one, else a library class
-abbrev pub or_library : List ℕ → Option ℕ → Option ClassId
-or_library name (Some n) = Some (Prog n)
-or_library name None = option_map Lib (table.class_named name)
+abbrev pub or_found : Option ℕ → Option ClassId → Option ClassId
+or_found (Some n) other = Some (Prog n)
+or_found None other = other
 
 -- the class of a name
 abbrev pub class_named : List Class → List ℕ → Option ClassId
-class_named classes name = or_library name (position (λ c. is_text name c.name) classes)
+class_named classes name = or_found (position (λ c. is_text name c.name) classes) (option_map Lib (table.class_named name))
 
 -- the direct superclass (JVMS 4.1); that of an interface is Object
 abbrev pub superclass : List Class → ClassId → Option ClassId

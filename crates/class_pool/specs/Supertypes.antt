@@ -1,24 +1,31 @@
--- The supertypes of a class, as relations (JVMS 4.1, 4.10). Nothing here bounds how far up a supertype stands.
-use Rattle.std.specs.Prelude.{◌≡◌, ℕ, zero, suc, List, Option, Some, None}
-use Rattle.std.specs.List.{Contains}
+-- The supertypes of a class (JVMS 4.1, 4.10). A set is a test of classes.
+use Rattle.std.specs.Prelude.{◌<◌, ℕ, Bool, IsTrue, List, length}
+use Rattle.std.specs.List.{All, cons_option}
 use Rattle.class_model.specs.declared.class.Class.{Class}
 use Rattle.class_pool.specs.declared.id.ClassId.{ClassId}
+use Rattle.class_pool.specs.declared.id.ClassId.TheVariants.{Prog}
 use Rattle.class_pool.specs.Hierarchy.{superclass, interfaces}
 
--- a direct supertype: the superclass or a direct superinterface (JVMS 4.10)
-pub data IsDirect (classes : List Class) (a b : ClassId) : Type 0 where
-  above : superclass classes a ≡ Some b → IsDirect classes a b
-  declared : Contains (interfaces classes a) b → IsDirect classes a b
+-- the direct supertypes: the superclass, and then the direct superinterfaces (JVMS 4.10)
+abbrev pub direct : List Class → ClassId → List ClassId
+direct classes a = cons_option (superclass classes a) (interfaces classes a)
 
--- so many steps to a direct supertype lead from the one to the other
-abbrev pub Leads : List Class → ℕ → ClassId → ClassId → Type 0
-Leads classes zero a b = a ≡ b
-Leads classes (suc n) a b = (c : ClassId) × IsDirect classes a c × Leads classes n c b
+-- the set has with each class its direct supertypes
+abbrev pub IsClosed : List Class → (ClassId → Bool) → Type 0
+IsClosed classes set = (a : ClassId) → IsTrue (set a) → All (λ b. IsTrue (set b)) (direct classes a)
 
--- the reflexive and transitive closure of direct supertypes
+-- b lies in each closed set that has a: the reflexive and transitive closure of direct supertypes
 abbrev pub Sub : List Class → ClassId → ClassId → Type 0
-Sub classes a b = (n : ℕ) × Leads classes n a b
+Sub classes a b = (set : ClassId → Bool) → IsTrue (set a) → IsClosed classes set → IsTrue (set b)
 
--- a supertype at least one step above
+-- b lies in each closed set that has the direct supertypes of a: it is a supertype, one step or more above
 abbrev pub IsProperSub : List Class → ClassId → ClassId → Type 0
-IsProperSub classes a b = (n : ℕ) × Leads classes (suc n) a b
+IsProperSub classes a b = (set : ClassId → Bool) → All (λ c. IsTrue (set c)) (direct classes a) → IsClosed classes set → IsTrue (set b)
+
+-- the class is its own proper supertype
+abbrev pub IsCyclic : List Class → ℕ → Type 0
+IsCyclic classes n = IsProperSub classes (Prog n) (Prog n)
+
+-- no class of the set is
+abbrev pub NoCycle : List Class → Type 0
+NoCycle classes = (n : ℕ) → n < length classes → IsCyclic classes n → ⊥

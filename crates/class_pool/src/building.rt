@@ -4,6 +4,7 @@ ghost use Rattle.std.specs.List.{AllPairs};
 ghost use Rattle.class_pool.specs.Count.{item_count};
 ghost use Rattle.class_pool.specs.Faults.{Ascends, Builds, NamesDiffer, classes_of};
 
+use crate::cycles::check_cycles;
 use crate::rounds::{check_names, check_supertypes};
 use crate::{ClassSet, NamedClass, PoolFault};
 use class_model::Class;
@@ -22,6 +23,7 @@ pub fn build(alloc: Global, files: Items<NamedClass>) -> Result<ClassSet, Or<Poo
     let classes = take_classes(alloc, files)?;
     let set = set_of(alloc, classes)?;
     check_supertypes(&set)?;
+    check_cycles(alloc, &set)?;
     Ok(set)
 }
 

@@ -2,8 +2,10 @@
 #![tactic(auto)]
 
 mod building;
+mod cycles;
 mod fault;
 mod id;
+mod ranks;
 mod rounds;
 mod set;
 

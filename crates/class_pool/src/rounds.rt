@@ -37,7 +37,7 @@ pub(crate) fn check_supertypes(set: &ClassSet) -> Result<(), Or<PoolFault>>
     Ok(())
 }
 
-fn fault_at(class: &Class, kind: PoolKind) -> M<PoolFault>
+pub(crate) fn fault_at(class: &Class, kind: PoolKind) -> M<PoolFault>
     ensures { IfOk result (λ f. f ≡ record { class = class.now.name; kind = kind }) }
 {
     Ok(PoolFault {

@@ -53,7 +53,7 @@ impl ClassSet {
         }
     }
 
-    fn number_of(&self, name: &Name) -> Option<u32>
+    pub(crate) fn number_of(&self, name: &Name) -> Option<u32>
         ensures found { result ≡ position (λ c. is_text name.now c.name) self.now }
         ensures there { IfSome result (λ n. n < length self.now) }
     {
