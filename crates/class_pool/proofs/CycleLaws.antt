@@ -1,12 +1,11 @@
 -- Cycles, by marks and by ranks.
-use Rattle.std.proofs.Common.{◌≡◌, ◌⊎◌, ⊎_elim, ℕ, ◌<◌, ◌≤◌, Bool, true, false, Ok, Err, inr, IsTrue, nat_lt, List, [], ◌∷◌, length, slice_get, Some, refl, sym, ap, subst, ◌∙◌, arith}
-use Rattle.std.specs.Prelude.{slice_index_or}
+use Rattle.std.proofs.Common.{◌≡◌, ⊎_elim, ℕ, ◌<◌, Bool, true, false, Ok, Err, inr, IsTrue, nat_lt, List, ◌∷◌, length, slice_get, Some, sym, ap, subst, ◌∙◌, arith}
 use Rattle.std.specs.List.{All}
 use Rattle.std.proofs.lemmas.Bool.{ltb-true, lt-ltb}
 use Rattle.std.proofs.lemmas.Option.{slice_get_cases}
 use Rattle.std.proofs.lemmas.List.Elements.{All-weaker}
 use Rattle.mark_core.specs.declared.system.System.{System}
-use Rattle.mark_core.specs.Marks.{Closed, IsMarked, Marks, needs_of, set_of}
+use Rattle.mark_core.specs.Marks.{Marks, needs_of, set_of}
 use Rattle.class_model.specs.declared.class.Class.{Class}
 use Rattle.jv_base.specs.declared.outcome.Or.{Or}
 use Rattle.jv_base.specs.declared.outcome.Or.TheVariants.{Fault, OutOfMemory}
@@ -16,7 +15,7 @@ use Rattle.class_pool.specs.Faults.{Builds, classes_of, FindsCycle, first_faults
 use Rattle.class_pool.specs.declared.id.ClassId.{ClassId}
 use Rattle.class_pool.specs.declared.id.ClassId.TheVariants.{Prog, Lib}
 use Rattle.class_pool.specs.Numbers.{IsHierarchy, IsRanked, above, rank_of}
-use Rattle.class_pool.specs.Supertypes.{direct, IsClosed, IsCyclic, NoCycle}
+use Rattle.class_pool.specs.Supertypes.{IsClosed, IsCyclic, NoCycle}
 use Rattle.class_pool.proofs.Above.{direct_of, direct_none, down, library_up, lifted, no_needs, up}
 
 -- a test of numbers that needs keep is, lifted, one that direct supertypes keep

@@ -1,6 +1,5 @@
-use Rattle.std.proofs.Common.{◌≡◌, ◌∙◌, List, Ok, sym, subst}
+use Rattle.std.proofs.Common.{◌≡◌, ◌∙◌, sym, subst}
 use Rattle.std.proofs.lemmas.Result.{err_from_is_err_and}
-use Rattle.class_model.specs.declared.class.Class.{Class}
 use Rattle.class_pool.specs.Faults.{classes_of, NamesDiffer}
 use Rattle.class_pool.specs.Supertypes.{NoCycle}
 use Rattle.class_pool.proofs.CycleLaws.{cycle_built, first_are}

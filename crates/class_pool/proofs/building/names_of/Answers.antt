@@ -1,4 +1,4 @@
-use Rattle.std.proofs.Common.{◌≡◌, ◌∙◌, ◌<◌, List, ℕ, length, get_or, sym, ap, subst, arith}
+use Rattle.std.proofs.Common.{◌≡◌, ◌∙◌, ◌<◌, List, length, get_or, ap, arith}
 use Rattle.indexmap.specs.IndexSet.{insert_key}
 use Rattle.jv_base.specs.Names.{is_text}
 use Rattle.class_model.specs.declared.class.Class.{Class}

@@ -1,4 +1,4 @@
-use Rattle.std.proofs.Common.{◌≡◌, ◌∙◌, ◌+◌, ◌<◌, List, ℕ, true, ⊎_elim, sym, subst, arith}
+use Rattle.std.proofs.Common.{◌≡◌, List, ℕ, ⊎_elim, subst, arith}
 use Rattle.std.proofs.lemmas.Bool.{cases_lt}
 use Rattle.class_pool.specs.Numbers.{IsRanked}
 use Rattle.class_pool.specs.Supertypes.{IsCyclic}

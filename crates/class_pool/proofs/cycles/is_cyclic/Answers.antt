@@ -1,9 +1,9 @@
-use Rattle.std.proofs.Common.{◌≡◌, ◌∙◌, ◌<◌, Bool, true, false, IsTrue, List, ℕ, length, [], ◌∷◌, get_or, ap, sym, subst, arith}
+use Rattle.std.proofs.Common.{◌≡◌, ◌∙◌, ◌<◌, false, length, ◌∷◌, sym, subst}
 use Rattle.std.specs.List.{All}
 use Rattle.std.proofs.lemmas.Option.{get_or_from_slice_get}
 use Rattle.mark_core.specs.declared.system.System.{System}
 use Rattle.mark_core.specs.Marks.{set_of}
-use Rattle.class_pool.specs.Numbers.{IsHierarchy, above}
+use Rattle.class_pool.specs.Numbers.{IsHierarchy}
 use Rattle.class_pool.proofs.Above.{valid, above_below}
 use Rattle.class_pool.proofs.CycleLaws.{marked_cyclic, cyclic_marked}
 use Rattle.class_pool.proofs.cycles.is_cyclic.Goals as goal

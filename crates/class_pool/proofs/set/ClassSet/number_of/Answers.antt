@@ -1,4 +1,4 @@
-use Rattle.std.proofs.Common.{◌≡◌, ◌∙◌, Option, Some, None, ℕ, length, ◌<◌, List, sym, ap, subst, arith}
+use Rattle.std.proofs.Common.{◌∙◌, length, ◌<◌, sym, ap, arith}
 use Rattle.std.specs.List.{position}
 use Rattle.jv_base.specs.Names.{is_text}
 use Rattle.class_model.specs.declared.class.Class.{Class}
