@@ -1,5 +1,6 @@
 -- What makes files no set: three rounds, each over all classes in set order, the first fault counting.
-use Rattle.std.specs.Prelude.{◌≡◌, ◌≢◌, ◌<◌, ◌⊎◌, slice_get, ℕ, nat_eq, Bool, true, false, not, ◌&&◌, ◌||◌, List, [], ◌∷◌, ◌++◌, map, codes, Option, Some, None, Result, Ok, Err, if◌then◌else◌}
+use Rattle.std.specs.Prelude.{◌≡◌, ◌≢◌, ◌<◌, ◌⊎◌, slice_get, ℕ, nat_eq, Bool, true, false, not, ◌&&◌, ◌||◌}
+use Rattle.std.specs.Prelude.{List, [], ◌∷◌, ◌++◌, map, codes, Option, Some, None, Result, Ok, Err, if◌then◌else◌}
 use Rattle.std.specs.List.{AllPairs, list_any, starts_with}
 use Rattle.std.specs.Option.{is_none, option_map_or}
 use Rattle.std.specs.Cmp.Lexicographic.{slice_cmp}

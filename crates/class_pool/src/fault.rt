@@ -30,6 +30,6 @@ pub enum PoolKind {
     /// Second round: the superclass is an interface or final, a direct superinterface is no interface, or an
     /// interface's superclass isn't Object (JVMS 4.1).
     SuperKind,
-    /// Third round: the class is its own proper supertype (JVMS 8.1.4 of the language, 5.3.5).
+    /// Third round: the class is its own proper supertype (JVMS 5.3.5).
     Cycle,
 }

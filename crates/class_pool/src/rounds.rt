@@ -4,7 +4,8 @@ ghost use Rattle.std.specs.List.{list_any};
 ghost use Rattle.std.specs.Option.{is_none};
 ghost use Rattle.jv_base.specs.Names.{is_text};
 ghost use Rattle.jv_base.specs.Outcome.{IsDue};
-ghost use Rattle.class_pool.specs.Faults.{is_super_missing, is_super_wrong, is_wrong_interface, is_wrong_superclass, name_fault, name_faults, super_fault, super_faults};
+ghost use Rattle.class_pool.specs.Faults.{is_super_missing, is_super_wrong, is_wrong_interface, is_wrong_superclass};
+ghost use Rattle.class_pool.specs.Faults.{name_fault, name_faults, super_fault, super_faults};
 ghost use Rattle.class_pool.specs.Hierarchy.{IsClass, class_named, kind_in, kind_of};
 
 use crate::{ClassId, ClassSet, NamedClass, PoolFault, PoolKind};
