@@ -1,0 +1,5 @@
+pub mod Counting
+pub mod Naming
+pub mod FaultLaws
+pub mod Above
+pub mod CycleLaws

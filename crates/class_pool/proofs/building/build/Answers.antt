@@ -1,0 +1,25 @@
+use Rattle.std.proofs.Common.{◌≡◌, ◌∙◌, sym, subst}
+use Rattle.std.proofs.lemmas.Result.{err_from_is_err_and}
+use Rattle.class_pool.specs.Faults.{classes_of, NamesDiffer}
+use Rattle.class_pool.specs.Supertypes.{NoCycle}
+use Rattle.class_pool.proofs.CycleLaws.{cycle_built, first_are}
+use Rattle.class_pool.proofs.FaultLaws.{names_differ}
+use Rattle.class_pool.proofs.building.build.Goals as goal
+
+pub set_of-requires-clause-differ : goal.set_of-requires-clause-differ
+set_of-requires-clause-differ c = subst NamesDiffer (sym c.in_ok-classes.ensures) (names_differ c.args.files c.requires.ascend c.in_ok-check_names.ensures)
+
+pub returns-in_err-check_cycles : goal.returns-in_err-check_cycles
+returns-in_err-check_cycles c =
+    let is : c.in_ok-set.set ≡ classes_of c.args.files = c.in_ok-set.ensures ∙ c.in_ok-classes.ensures in
+    let first = first_are c.args.files c.in_ok-set.set c.in_ok-check_names.ensures c.in_ok-check_supertypes.ensures is in
+    let p = err_from_is_err_and c.from_residual-in_err-check_cycles.result c.from_residual-in_err-check_cycles.ensures.1 in
+    rw (p.1, p.2) (cycle_built c.args.files c.in_ok-set.set c.in_err-check_cycles.field-0.0 first is c.in_err-check_cycles.ensures)
+
+pub returns : goal.returns
+returns c =
+    let is : c.in_ok-set.set ≡ classes_of c.args.files = c.in_ok-set.ensures ∙ c.in_ok-classes.ensures in (
+      first_are c.args.files c.in_ok-set.set c.in_ok-check_names.ensures c.in_ok-check_supertypes.ensures is,
+      subst NoCycle is c.in_ok-check_cycles.ensures,
+      is,
+    )

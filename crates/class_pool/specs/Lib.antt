@@ -1,0 +1,6 @@
+pub mod Hierarchy
+pub mod Supertypes
+pub mod Numbers
+pub mod Members
+pub mod Faults
+pub mod Count

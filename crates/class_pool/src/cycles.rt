@@ -1,0 +1,78 @@
+// The third round: no class is its own proper supertype.
+ghost use Rattle.std.specs.Prelude.{◌≡◌, ◌++◌, ◌<◌, ◌↔◌, [], ◌∷◌, IfOk, IsTrue, OnOk, length};
+ghost use Rattle.class_pool.specs.Faults.{FindsCycle};
+ghost use Rattle.class_pool.specs.Numbers.{IsHierarchy, above, numbers_named};
+ghost use Rattle.class_pool.specs.Supertypes.{IsCyclic};
+
+use crate::ranks::{are_ranked, ranks_of};
+use crate::rounds::fault_at;
+use crate::{ClassSet, PoolFault, PoolKind};
+use class_model::Class;
+use jv_base::{Items, M, Name, Or};
+use mark_core::{System, plain_marks};
+use std::alloc::Global;
+
+/// Where the classes can be ranked so that each stands above its supertypes, there is no cycle. Only else is each class
+/// looked at: whether it is among the classes that its direct supertypes lead to.
+pub(crate) fn check_cycles(alloc: Global, set: &ClassSet) -> Result<(), Or<PoolFault>>
+    ensures { FindsCycle set.now result }
+{
+    let mut hierarchy = hierarchy_of(alloc, set)?;
+    let ranks = ranks_of(alloc, hierarchy.needs.as_slice())?;
+    if are_ranked(hierarchy.needs.as_slice(), ranks.as_slice()) {
+        return Ok(());
+    }
+    for number in 0..set.len() {
+        if is_cyclic(alloc, set, &mut hierarchy, number)? {
+            return Err(Or::Fault(fault_at(set.class(number), PoolKind::Cycle)?));
+        }
+    }
+    Ok(())
+}
+
+fn is_cyclic(alloc: Global, set: &ClassSet, hierarchy: &mut System, number: u32) -> M<bool>
+    requires there { number < length set.now }
+    requires hierarchy { IsHierarchy set.now hierarchy.old }
+    ensures told { IfOk result (λ b. IsTrue b ↔ IsCyclic set.now number) }
+    ensures hierarchy { OnOk result (IsHierarchy set.now hierarchy.new) }
+{
+    hierarchy.seeds = above(alloc, set, set.class(number))?;
+    let marks = plain_marks(alloc, hierarchy)?;
+    Ok(marks[number as usize])
+}
+
+fn hierarchy_of(alloc: Global, set: &ClassSet) -> M<System>
+    ensures { IfOk result (IsHierarchy set.now) }
+{
+    let mut needs = Items::new(alloc);
+    for class in set.classes.as_slice() {
+        needs.push(above(alloc, set, class)?)?;
+    }
+    Ok(System {
+        n: set.len(),
+        seeds: Items::new(alloc),
+        needs,
+        pairs: Items::new(alloc),
+    })
+}
+
+/// The direct supertypes that are in the set.
+fn above(alloc: Global, set: &ClassSet, class: &Class) -> M<Items<u32>>
+    ensures { IfOk result (λ numbers. numbers ≡ above set.now class.now) }
+{
+    let mut numbers = Items::new(alloc);
+    push_number(set, &mut numbers, &class.super_name)?;
+    for name in class.interfaces.as_slice() {
+        push_number(set, &mut numbers, name)?;
+    }
+    Ok(numbers)
+}
+
+fn push_number(set: &ClassSet, numbers: &mut Items<u32>, name: &Name) -> M<()>
+    ensures { OnOk result (numbers.new ≡ numbers.old ++ numbers_named set.now (name.now ∷ [])) }
+{
+    if let Some(number) = set.number_of(name) {
+        numbers.push(number)?;
+    }
+    Ok(())
+}

@@ -1,0 +1,15 @@
+//! The hierarchy of a set of class files: which classes there are, and their supertypes up into the library.
+#![tactic(auto)]
+
+mod building;
+mod cycles;
+mod fault;
+mod id;
+mod ranks;
+mod rounds;
+mod set;
+
+pub use building::build;
+pub use fault::{NamedClass, PoolFault, PoolKind};
+pub use id::ClassId;
+pub use set::ClassSet;

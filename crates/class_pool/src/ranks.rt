@@ -1,0 +1,120 @@
+// Ranks of classes, so that each class stands above its supertypes.
+//
+// How the ranks are found is not proved. Whether they are such ranks is tested, and that test is.
+ghost use Rattle.std.specs.Prelude.{◌≡◌, ◌<◌, ◌↔◌, IsTrue};
+ghost use Rattle.std.specs.List.{All};
+ghost use Rattle.class_pool.specs.Numbers.{IsRanked, rank_of};
+
+use jv_base::{Items, M};
+use std::alloc::Global;
+
+/// Whether each item's needs have lower ranks than it.
+pub(crate) fn are_ranked(needs: &[Items<u32>], ranks: &[usize]) -> bool
+    ensures { IsTrue result → IsRanked needs.now ranks.now }
+{
+    let mut number = 0;
+    for list in needs {
+        if !all_lower(ranks, list.as_slice(), rank(ranks, number)) {
+            return false;
+        }
+        number += 1;
+    }
+    true
+}
+
+fn all_lower(ranks: &[usize], items: &[u32], bound: usize) -> bool
+    ensures { IsTrue result ↔ All (λ m. rank_of ranks.now m < bound) items.now }
+{
+    items.iter().all(|item| rank(ranks, *item as usize) < bound)
+}
+
+fn rank(ranks: &[usize], number: usize) -> usize
+    ensures { result ≡ rank_of ranks.now number }
+{
+    match ranks.get(number) {
+        Some(rank) => *rank,
+        None => 0,
+    }
+}
+
+/// For each item the items that need it, as lists in one vector: `first` has for each item where its list begins,
+/// and `next` where it goes on, one more than the place, 0 at its end.
+#[derive(Drop)]
+struct Needing {
+    first: Vec<usize>,
+    next: Vec<usize>,
+    items: Vec<usize>,
+}
+
+/// Ranks by counting: an item is ranked when all its needs are.
+pub(crate) fn ranks_of(alloc: Global, needs: &[Items<u32>]) -> M<Vec<usize>> {
+    let needing = needing_of(alloc, needs)?;
+    let mut left = Vec::new(alloc);
+    let mut ready = Vec::new(alloc);
+    for (number, list) in needs.iter().enumerate() {
+        left.push(list.len())?;
+        if list.is_empty() {
+            ready.push(number)?;
+        }
+    }
+    let mut ranks = vec![in alloc; 0usize; needs.len()]?;
+    for rank in 0..needs.len() {
+        if let Some(item) = ready.pop() {
+            if item < ranks.len() {
+                ranks[item] = rank + 1;
+            }
+            settle(&needing, &mut left, &mut ready, item)?;
+        }
+    }
+    Ok(ranks)
+}
+
+/// One need less is left of each item that needs this one.
+fn settle(needing: &Needing, left: &mut Vec<usize>, ready: &mut Vec<usize>, item: usize) -> M<()> {
+    let mut place = entry(needing.first.as_slice(), item);
+    for _ in 0..needing.items.len() {
+        if place == 0 {
+            return Ok(());
+        }
+        let other = entry(needing.items.as_slice(), place - 1);
+        if other < left.len() {
+            left[other] = left[other].saturating_sub(1);
+            if left[other] == 0 {
+                ready.push(other)?;
+            }
+        }
+        place = entry(needing.next.as_slice(), place - 1);
+    }
+    Ok(())
+}
+
+fn needing_of(alloc: Global, needs: &[Items<u32>]) -> M<Needing> {
+    let mut needing = Needing {
+        first: vec![in alloc; 0usize; needs.len()]?,
+        next: Vec::new(alloc),
+        items: Vec::new(alloc),
+    };
+    for (number, list) in needs.iter().enumerate() {
+        note_needs(&mut needing, list.as_slice(), number)?;
+    }
+    Ok(needing)
+}
+
+fn note_needs(needing: &mut Needing, list: &[u32], number: usize) -> M<()> {
+    for need in list {
+        let need = *need as usize;
+        if need < needing.first.len() {
+            needing.items.push(number)?;
+            needing.next.push(needing.first[need])?;
+            needing.first[need] = needing.items.len();
+        }
+    }
+    Ok(())
+}
+
+fn entry(entries: &[usize], place: usize) -> usize {
+    match entries.get(place) {
+        Some(entry) => *entry,
+        None => 0,
+    }
+}

@@ -1,0 +1,128 @@
+// A set of classes.
+ghost use Rattle.std.specs.Prelude.{◌≡◌, ◌+◌, ◌<◌, length, slice_get, IfSome, Some};
+ghost use Rattle.std.specs.List.{position};
+ghost use Rattle.jv_base.specs.Names.{is_text};
+ghost use Rattle.class_pool.specs.Hierarchy.{IsClass, class_named, superclass};
+ghost use Rattle.class_pool.specs.Members.{declared_at, is_field, is_method, member_named};
+
+use crate::ClassId;
+use class_model::Class;
+use indexmap::IndexSet;
+use jv_base::{Items, Name, Text};
+use lib_table::{is_field_descriptor, is_method_descriptor, lib_class, lib_member, lib_super};
+use std::marker::Model;
+
+/// A set of classes, numbered from 0 in the order of their files.
+#[derive(Drop)]
+pub struct ClassSet {
+    pub(crate) classes: Items<Class>,
+    pub(crate) names: IndexSet<Name>,
+}
+
+impl Model for ClassSet {
+    ghost use Rattle.std.specs.Prelude.{List, ◌≡◌, ◌<◌, map};
+    ghost use Rattle.class_model.specs.declared.class.Class.{Class};
+    ghost use Rattle.class_pool.specs.Count.{item_count};
+
+    ghost Value = { List Class };
+
+    ghost view = { λ s. s.classes };
+
+    ghost invariant = { λ s. (s.names.keys ≡ map (λ c. c.name) s.classes) × (item_count s.classes < 4294967295) };
+}
+
+impl ClassSet {
+    /// How many classes it has.
+    pub fn len(&self) -> u32
+        ensures { result ≡ length self.now }
+    {
+        self.classes.len() as u32
+    }
+
+    /// The class of a name in internal form, in the set or in the library, by one look-up.
+    pub fn find(&self, name: &Name) -> Option<ClassId>
+        ensures found { result ≡ class_named self.now name.now }
+        ensures there { IfSome result (IsClass self.now) }
+    {
+        match self.number_of(name) {
+            Some(number) => Some(ClassId::Prog(number)),
+            None => {
+                let id = lib_class(name)?;
+                Some(ClassId::Lib(id))
+            }
+        }
+    }
+
+    pub(crate) fn number_of(&self, name: &Name) -> Option<u32>
+        ensures found { result ≡ position (λ c. is_text name.now c.name) self.now }
+        ensures there { IfSome result (λ n. n < length self.now) }
+    {
+        let number = self.names.get_index_of(name)?;
+        Some(number as u32)
+    }
+
+    /// The class with a number.
+    pub fn class(&self, id: u32) -> &Class
+        requires { id < length self.now }
+        ensures is { slice_get self.now id ≡ Some result.now }
+        ensures few { length result.now.fields + length result.now.methods < 4294967295 }
+    {
+        &self.classes[id as usize]
+    }
+
+    /// The direct superclass (JVMS 4.1); only Object has none. That of an interface is Object.
+    pub fn super_of(&self, id: ClassId) -> Option<ClassId>
+        requires { IsClass self.now id }
+        ensures { result ≡ superclass self.now id }
+    {
+        match id {
+            ClassId::Prog(number) => self.find(&self.class(number).super_name),
+            ClassId::Lib(id) => {
+                let above = lib_super(id)?;
+                Some(ClassId::Lib(above))
+            }
+        }
+    }
+
+    /// The number of the member that the class declares with a name and a descriptor (JVMS 4.3). A program class has its
+    /// fields and then its methods.
+    pub fn declares(&self, id: ClassId, name: &Name, ty: &Text) -> Option<u32>
+        requires { IsClass self.now id }
+        ensures { result ≡ declared_at self.now id name.now ty.now }
+    {
+        match id {
+            ClassId::Prog(number) => member_of(self.class(number), name, ty),
+            ClassId::Lib(id) => {
+                let member = lib_member(id, name, ty)?;
+                Some(member.at)
+            }
+        }
+    }
+}
+
+fn member_of(class: &Class, name: &Name, ty: &Text) -> Option<u32>
+    requires { length class.now.fields + length class.now.methods < 4294967295 }
+    ensures { result ≡ member_named class.now name.now ty.now }
+{
+    match field_of(class, name, ty) {
+        Some(at) => Some(at as u32),
+        None => {
+            let at = method_of(class, name, ty)?;
+            Some((class.fields.len() + at) as u32)
+        }
+    }
+}
+
+fn field_of(class: &Class, name: &Name, ty: &Text) -> Option<usize>
+    ensures { result ≡ position (is_field name.now ty.now) class.now.fields }
+{
+    class.fields.as_slice().iter().position(|field| field.name == *name
+        && is_field_descriptor(ty, &field.ty))
+}
+
+fn method_of(class: &Class, name: &Name, ty: &Text) -> Option<usize>
+    ensures { result ≡ position (is_method name.now ty.now) class.now.methods }
+{
+    class.methods.as_slice().iter().position(|method| method.name == *name
+        && is_method_descriptor(ty, &method.ty))
+}

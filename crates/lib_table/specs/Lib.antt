@@ -1,0 +1,4 @@
+pub mod Library
+pub mod Rows
+pub mod Lookups
+pub mod Stripping

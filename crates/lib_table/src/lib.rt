@@ -1,0 +1,14 @@
+//! The classes of the Java library that a program may use, as a table.
+#![tactic(auto)]
+
+mod class;
+mod descriptor;
+mod member;
+mod table;
+
+pub use class::{LibId, LibKind, lib_class, lib_interface, lib_kind, lib_super};
+pub use descriptor::{is_field_descriptor, is_method_descriptor};
+pub use member::{LibMember, Role, lib_is, lib_member, lib_method, lib_named, lib_same};
+
+#[cfg(test)]
+mod tests;
