@@ -1,0 +1,4 @@
+mod Units
+mod Found
+mod Slots
+mod Judging
