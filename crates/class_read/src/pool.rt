@@ -1,12 +1,13 @@
 // The constant pool, with its texts (JVMS 4.4).
 ghost use Rattle.std.specs.Prelude.{◌≡◌, IfOk, map, option_copied, slice_get, Some, is_some};
 ghost use Rattle.class_model.specs.Pool.{units_at};
+ghost use Rattle.class_model.specs.ConstantPool.{string_units_at};
 ghost use Rattle.class_model.specs.Lookups.{text_there};
 ghost use Rattle.class_read.specs.Texts.{text_in};
 
 use crate::texts::{KnownText, known_text, text_of};
 use class_model::{Entry, Pool};
-use jv_base::{Items, M};
+use jv_base::{Items, M, Units};
 use std::alloc::Global;
 use std::marker::Model;
 
@@ -52,6 +53,26 @@ impl KnownPool {
     {
         match self.texts.get(usize::from(index)) {
             Some(Some(text)) => Some(text),
+            _ => None,
+        }
+    }
+
+    /// The units of the CONSTANT_Utf8 at an index.
+    pub fn units_at(&self, index: u16) -> Option<&Units>
+        ensures { option_copied result ≡ units_at self.now index }
+    {
+        match self.entry_at(index) {
+            Some(Entry::Utf8(units)) => Some(units),
+            _ => None,
+        }
+    }
+
+    /// The units of the text that the CONSTANT_String at an index names (JVMS 4.4.3).
+    pub fn string_units_at(&self, index: u16) -> Option<&Units>
+        ensures { option_copied result ≡ string_units_at self.now index }
+    {
+        match self.entry_at(index) {
+            Some(Entry::Str(string_index)) => self.units_at(*string_index),
             _ => None,
         }
     }

@@ -1,5 +1,6 @@
 // A text of the constant pool, with what it may stand for (JVMS 4.2, 4.3).
-ghost use Rattle.std.specs.Prelude.{◌≡◌, IfOk, is_some, option_copied};
+ghost use Rattle.std.specs.Prelude.{◌≡◌, ◌≤◌, IfOk, IfSome, is_some, option_copied};
+ghost use Rattle.jv_base.specs.Types.{argument_words};
 ghost use Rattle.jv_base.specs.Names.{is_class_name, is_member_name, is_method_name};
 ghost use Rattle.class_model.specs.Lookups.{text_of, field_type_of, method_type_of, named_type};
 ghost use Rattle.class_read.specs.Texts.{obeys};
@@ -38,8 +39,9 @@ pub struct KnownText {
 }
 
 impl Model for KnownText {
-    ghost use Rattle.std.specs.Prelude.{List, ℕ, ◌≡◌};
+    ghost use Rattle.std.specs.Prelude.{List, ℕ, ◌≡◌, ◌≤◌, IfSome};
     ghost use Rattle.jv_base.specs.Names.{is_class_name, is_member_name, is_method_name};
+    ghost use Rattle.jv_base.specs.Types.{argument_words};
     ghost use Rattle.class_model.specs.Lookups.{field_type_of, method_type_of};
 
     ghost Value = { List ℕ };
@@ -47,7 +49,7 @@ impl Model for KnownText {
     ghost view = { λ t. t.text };
 
     ghost invariant = { λ t. (t.names_class ≡ is_class_name t.text) × (t.names_member ≡ is_member_name t.text) × (t.names_method ≡ is_method_name t.text)
-        × (t.field ≡ field_type_of t.text) × (t.method ≡ method_type_of t.text) };
+        × (t.field ≡ field_type_of t.text) × (t.method ≡ method_type_of t.text) × IfSome t.method (λ ty. argument_words ty.args ≤ 255) };
 }
 
 impl KnownText {
@@ -74,7 +76,8 @@ impl KnownText {
 
     /// The type that it tells as a method descriptor (JVMS 4.3.3).
     pub fn method_type(&self) -> Option<&MethodType>
-        ensures { option_copied result ≡ method_type_of self.now }
+        ensures told { option_copied result ≡ method_type_of self.now }
+        ensures words { IfSome (option_copied result) (λ ty. argument_words ty.args ≤ 255) }
     {
         self.method.as_ref()
     }
@@ -143,7 +146,8 @@ fn field_type_of(alloc: Global, text: &Text) -> M<Option<FieldType>>
 
 // The same limit holds.
 fn method_type_of(alloc: Global, text: &Text) -> M<Option<MethodType>>
-    ensures { IfOk result (λ ty. ty ≡ method_type_of text.now) }
+    ensures told { IfOk result (λ ty. ty ≡ method_type_of text.now) }
+    ensures words { IfOk result (λ ty. IfSome ty (λ t. argument_words t.args ≤ 255)) }
 {
     if text.len() >= 4_294_967_295 {
         return Err(OutOfMemory);
