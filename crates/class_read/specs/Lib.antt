@@ -2,3 +2,5 @@ pub mod Seen
 pub mod Texts
 pub mod Lookups
 pub mod Entries
+pub mod Signatures
+pub mod Fields

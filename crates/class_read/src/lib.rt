@@ -4,8 +4,11 @@
 mod attributes;
 mod entries;
 mod faults;
+mod fields;
 mod flags;
 mod lookups;
+mod members;
 mod names;
 mod pool;
+mod signatures;
 mod texts;
