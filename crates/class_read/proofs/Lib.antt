@@ -6,3 +6,5 @@ mod Newest
 mod AttributeLoop
 mod Known
 mod FieldLoop
+mod KnownMethods
+mod MethodInfo

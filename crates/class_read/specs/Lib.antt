@@ -4,3 +4,4 @@ pub mod Lookups
 pub mod Entries
 pub mod Signatures
 pub mod Fields
+pub mod Methods

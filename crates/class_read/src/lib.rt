@@ -8,6 +8,7 @@ mod fields;
 mod flags;
 mod lookups;
 mod members;
+mod methods;
 mod names;
 mod pool;
 mod signatures;
