@@ -8,3 +8,4 @@ mod Known
 mod FieldLoop
 mod KnownMethods
 mod MethodInfo
+mod MethodLoop

@@ -1,7 +1,7 @@
 // Methods (JVMS 4.6).
 #![tactic(auto, unfolding(format_reading::specs::Reader::u1, format_reading::specs::Reader::u2, format_reading::specs::Reader::u4, format_reading::specs::Reader::bytes, format_reading::specs::Reader::lead, format_reading::specs::Reader::bind, format_reading::specs::Reader::give, format_reading::specs::Reader::here, format_reading::specs::Reader::settle, format_reading::specs::Reader::part))]
 
-ghost use Rattle.std.specs.Prelude.{◌≡◌, [], ◌||◌, not, false, IfOk};
+ghost use Rattle.std.specs.Prelude.{◌≡◌, [], ◌∷◌, ◌++◌, ◌||◌, not, false, IfOk, OnOk};
 ghost use Rattle.std.specs.List.{list_any};
 ghost use Rattle.format_reading.specs.Reader.{ReadsOr};
 ghost use Rattle.format_reading.specs.declared.fault.FormatKind.TheVariants.{BadAttribute};
@@ -23,7 +23,7 @@ use crate::signatures::{Signature, Signatures};
 use crate::texts::TextRule;
 use class_model::{Code, LeftKind, Method};
 use format_reading::{FormatFault, FormatKind, of_part};
-use jv_base::{Cursor, Items, MethodType, Name, Or, Units, method_text};
+use jv_base::{Cursor, Items, M, MethodType, Name, Or, Units, method_text};
 use std::alloc::Global;
 use std::marker::Model;
 
@@ -81,6 +81,49 @@ impl Model for SeenOfMethod {
 
 /// A method, its signature, and what is left out in it.
 pub type MethodRead = (Method, Signature, Option<LeftKind>);
+
+/// So many methods in a class of this name, each unlike all before it, and what is left out in each.
+#[tactic(auto)]
+pub fn read_methods<C: ReadsCode>(
+    codes: &C,
+    alloc: Global,
+    count: u16,
+    pool: &KnownPool,
+    in_interface: bool,
+    class: &Name,
+    cursor: &mut Cursor,
+) -> Result<(Items<Method>, Items<Option<LeftKind>>), Or<FormatFault>>
+    ensures { ReadsOr result cursor.new (read_methods count pool.now in_interface class.now [] cursor.old) }
+{
+    let mut before = Signatures::new(alloc);
+    let mut methods = Items::new(alloc);
+    let mut left_out = Items::new(alloc);
+    for _ in 0..count {
+        let member = method_info(codes, alloc, pool, in_interface, class, &before, cursor)?;
+        keep(&mut methods, &mut left_out, &mut before, member)?;
+    }
+    Ok((methods, left_out))
+}
+
+// One more method, whose signature is none of those before.
+#[tactic(auto)]
+fn keep(
+    methods: &mut Items<Method>,
+    left_out: &mut Items<Option<LeftKind>>,
+    before: &mut Signatures,
+    member: MethodRead,
+) -> M<()>
+    requires { list_any (same_signature member.1) before.old ≡ false }
+    ensures methods { OnOk result (methods.new ≡ methods.old ++ member.0 ∷ []) }
+    ensures left_out { OnOk result (left_out.new ≡ left_out.old ++ member.2 ∷ []) }
+    ensures before { OnOk result (before.new ≡ member.1 ∷ before.old) }
+{
+    let (method, signature, kind) = member;
+    methods.push(method)?;
+    before.push(signature)?;
+    left_out.push(kind)?;
+    Ok(())
+}
 
 // A method behind those of these signatures, in a class of this name.
 #[tactic(auto)]

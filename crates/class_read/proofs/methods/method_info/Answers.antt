@@ -28,7 +28,7 @@ returns-in_err-check_body-clause-read g c =
     let h = c.in_ok-begun.begun in
     let seen = c.in_ok-seen.seen in
     let found = c.in_err-check_body.ensures ∙ ap (λ (b : Bool). found_at c.place-at.result (test BadAttribute (not b || is_there seen.body))) c.has_body.ensures
-        ∙ ap (λ (at : ℕ). found_at at (whole h.0 seen)) c.place-at.ensures in
+    ∙ ap (λ (at : ℕ). found_at at (whole h.0 seen)) c.place-at.ensures in
     rw (p.1, p.2) (code_lacks c.args.pool.now c.args.in_interface c.args.class.now c.args.before.now c.args.cursor.now c.method_head.new.cursor c.counted.new.cursor h seen c.in_err-check_body.field-0.0 c.in_ok-begun.ensures.read c.in_ok-seen.ensures found)
 
 pub returns-clause-read : goal.returns-clause-read
@@ -37,6 +37,6 @@ returns-clause-read g c =
     let seen = c.in_ok-seen.seen in
     let q = c.counted.new.cursor in
     let found = c.in_ok-check_body.ensures ∙ ap (λ (b : Bool). found_at c.place-at.result (test BadAttribute (not b || is_there seen.body))) c.has_body.ensures
-        ∙ ap (λ (at : ℕ). found_at at (whole h.0 seen)) c.place-at.ensures in
+    ∙ ap (λ (at : ℕ). found_at at (whole h.0 seen)) c.place-at.ensures in
     is_read c.args.pool.now c.args.in_interface c.args.class.now c.args.before.now c.args.cursor.now c.method_head.new.cursor q h seen c.in_ok-begun.ensures.read c.in_ok-seen.ensures found
     ∙ ap (λ (m : Method × Option LeftKind). let R : Result (MethodRead × Place) FormatFault = Ok ((m.0, h.1, m.1), q) in R) (sym c.method_of-made.ensures)
