@@ -8,7 +8,7 @@ use Rattle.class_model.specs.ReadingMembers.{FieldSeen, known_of_field}
 use Rattle.class_read.specs.Fields.{field_attribute, field_contents}
 
 -- a choice by three tests, and a function of what was chosen
-three : {A B : Type 0} (f : A → B) (a b c : Bool) (x y z : A) → cond a (Some (f x)) (cond b (Some (f y)) (cond c (Some (f z)) None)) ≡ option_map f (cond a (Some x) (cond b (Some y) (cond c (Some z) None)))
+pub three : {A B : Type 0} (f : A → B) (a b c : Bool) (x y z : A) → cond a (Some (f x)) (cond b (Some (f y)) (cond c (Some (f z)) None)) ≡ option_map f (cond a (Some x) (cond b (Some y) (cond c (Some z) None)))
 three f true b c x y z = refl
 three f false true c x y z = refl
 three f false false true x y z = refl

@@ -9,3 +9,4 @@ mod FieldLoop
 mod KnownMethods
 mod MethodInfo
 mod MethodLoop
+mod KnownClass

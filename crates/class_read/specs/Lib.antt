@@ -5,3 +5,4 @@ pub mod Entries
 pub mod Signatures
 pub mod Fields
 pub mod Methods
+pub mod ClassAttributes

@@ -163,6 +163,28 @@ fn read_line(cursor: &mut Cursor) -> Result<Line, FormatFault>
     })
 }
 
+// So many rows.
+#[tactic(auto)]
+fn lines(alloc: Global, count: u16, cursor: &mut Cursor) -> Result<Items<Line>, Or<FormatFault>>
+    ensures { ReadsOr result cursor.new (many count read_line cursor.old) }
+{
+    let mut lines = Items::new(alloc);
+    for _ in 0..count {
+        let line = read_line(cursor)?;
+        lines.push(line)?;
+    }
+    Ok(lines)
+}
+
+/// The rows of a LineNumberTable, in any order (JVMS 4.7.12).
+#[tactic(auto, unfolding(format_reading::specs::Reader::u2, format_reading::specs::Reader::bind, class_model::specs::ReadingAttributes::line_number_table))]
+pub fn line_number_table(alloc: Global, cursor: &mut Cursor) -> Result<Items<Line>, Or<FormatFault>>
+    ensures { ReadsOr result cursor.new (line_number_table cursor.old) }
+{
+    let count = cursor.u2()?;
+    lines(alloc, count, cursor)
+}
+
 // ---- ConstantValue (JVMS 4.7.2)
 
 fn is_int(ty: &FieldType) -> bool
