@@ -1,7 +1,7 @@
 // Access flags (JVMS 4.1, 4.5, 4.6).
 ghost use Rattle.std.specs.Prelude.{◌≡◌};
 ghost use Rattle.format_reading.specs.Reader.{Reads};
-ghost use Rattle.class_model.specs.Flags.{has, has_some, has_one_access, is_interface, is_static, is_native, has_body, are_class_flags, are_field_flags, are_method_flags, are_initial_flags, flags_of, meant, class_mask, field_mask, method_mask};
+ghost use Rattle.class_model.specs.Flags.{has, has_some, is_left_out_class, has_one_access, is_interface, is_static, is_native, has_body, are_class_flags, are_field_flags, are_method_flags, are_initial_flags, flags_of, meant, class_mask, field_mask, method_mask};
 ghost use Rattle.class_model.specs.ReadingMembers.{read_flags};
 
 use crate::faults::fault;
@@ -132,6 +132,13 @@ fn are_class_flags(flags: u16) -> bool
     ensures { result ≡ are_class_flags flags }
 {
     !has(FINAL | ABSTRACT, flags) && (!has(INTERFACE, flags) || has(ABSTRACT, flags))
+}
+
+/// Whether a class is an annotation or an enum, which are left out (JVMS 4.1).
+pub fn is_left_out_class(flags: u16) -> bool
+    ensures { result ≡ is_left_out_class flags }
+{
+    has_some(ANNOTATION | ENUM, flags)
 }
 
 // A field isn't both final and volatile, and one of an interface is public, static and final (JVMS 4.5).

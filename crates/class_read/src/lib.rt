@@ -12,6 +12,7 @@ mod lookups;
 mod members;
 mod methods;
 mod names;
+mod parts;
 mod pool;
 mod signatures;
 mod texts;
