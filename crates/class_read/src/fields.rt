@@ -123,7 +123,8 @@ fn counted(
     ty: &FieldType,
     cursor: &mut Cursor,
 ) -> Result<SeenOfField, Or<FormatFault>>
-    ensures { ReadsOr result cursor.new (counted_attributes pool.now (known_of_field pool.now (is_static flags) ty.now) no_field_attribute cursor.old) }
+    ensures { ReadsOr result cursor.new
+        (counted_attributes pool.now (known_of_field pool.now (is_static flags) ty.now) no_field_attribute cursor.old) }
 {
     let count = cursor.u2()?;
     attributes(alloc, count, pool, flags, ty, cursor)
@@ -138,7 +139,8 @@ fn attributes(
     ty: &FieldType,
     cursor: &mut Cursor,
 ) -> Result<SeenOfField, Or<FormatFault>>
-    ensures { ReadsOr result cursor.new (attributes count pool.now (known_of_field pool.now (is_static flags) ty.now) no_field_attribute cursor.old) }
+    ensures { ReadsOr result cursor.new
+        (attributes count pool.now (known_of_field pool.now (is_static flags) ty.now) no_field_attribute cursor.old) }
 {
     let mut seen = SeenOfField {
         constant: None,

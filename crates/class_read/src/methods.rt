@@ -224,7 +224,8 @@ fn counted<C: ReadsCode>(
     head: &MethodHead,
     cursor: &mut Cursor,
 ) -> Result<SeenOfMethod, Or<FormatFault>>
-    ensures { ReadsOr result cursor.new (counted_attributes pool.now (known_of pool.now class.now head.now) no_method_attribute cursor.old) }
+    ensures { ReadsOr result cursor.new
+        (counted_attributes pool.now (known_of pool.now class.now head.now) no_method_attribute cursor.old) }
 {
     let count = cursor.u2()?;
     attributes(codes, alloc, count, pool, class, head, cursor)

@@ -48,7 +48,8 @@ impl Model for KnownText {
 
     ghost view = { λ t. t.text };
 
-    ghost invariant = { λ t. (t.names_class ≡ is_class_name t.text) × (t.names_member ≡ is_member_name t.text) × (t.names_method ≡ is_method_name t.text)
+    ghost invariant = { λ t. (t.names_class ≡ is_class_name t.text) × (t.names_member ≡ is_member_name t.text)
+        × (t.names_method ≡ is_method_name t.text)
         × (t.field ≡ field_type_of t.text) × (t.method ≡ method_type_of t.text) × IfSome t.method (λ ty. argument_words ty.args ≤ 255) };
 }
 
