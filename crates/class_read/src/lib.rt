@@ -16,4 +16,6 @@ mod names;
 mod parts;
 mod pool;
 mod signatures;
+#[cfg(test)]
+mod tests;
 mod texts;
