@@ -1,0 +1,12 @@
+mod Units
+mod Found
+mod Slots
+mod Judging
+mod Newest
+mod AttributeLoop
+mod Known
+mod FieldLoop
+mod KnownMethods
+mod MethodInfo
+mod MethodLoop
+mod KnownClass

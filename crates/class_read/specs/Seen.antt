@@ -1,0 +1,8 @@
+-- What answers that are lent show.
+use Rattle.std.specs.Prelude.{Result, Ok, Err}
+use Rattle.std.specs.Borrow.{Bor}
+
+-- the value that is lent, or the fault
+abbrev pub shown : {A X : Type 0} → Result (Bor A) X → Result A X
+shown (Ok x) = Ok x.now
+shown (Err e) = Err e

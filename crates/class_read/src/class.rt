@@ -1,0 +1,103 @@
+// The class of a whole class file (JVMS 4.1).
+#![tactic(auto, unfolding(format_reading::specs::Reader::bind, format_reading::specs::Reader::give, class_model::specs::ReadingClass::read_class_file))]
+
+ghost use Rattle.std.specs.Prelude.{◌≡◌, ◌<◌, length, IfOk};
+ghost use Rattle.jv_base.specs.Outcome.{IsDue};
+ghost use Rattle.format_reading.specs.Reader.{ReadsOr};
+ghost use Rattle.class_model.specs.ReadingClass.{class_of, read_class_file, class_read};
+
+use crate::attributes::{interfaces, read_class as read_class_name};
+use crate::class_attributes::{SeenOfClass, read_class_attributes};
+use crate::entries::read_pool;
+use crate::faults::fault;
+use crate::flags::{class_access, read_class_flags};
+use crate::head::read_head;
+use crate::methods::ReadsCode;
+use crate::parts::{first_left_out, left_out_of_class, read_all_fields, read_all_methods};
+use crate::pool::KnownPool;
+use class_model::{Class, Field, LeftKind, Method};
+use format_reading::{FormatFault, FormatKind};
+use jv_base::{Cursor, Items, M, Name, Or, OutOfMemory};
+use std::alloc::Global;
+
+/// The class that the bytes of a class file spell, or the first fault, each Code being read by a reader that is
+/// handed in.
+#[tactic(auto, unfolding(class_model::specs::ReadingClass::class_read))]
+pub fn read_class<C: ReadsCode>(
+    codes: &C,
+    alloc: Global,
+    bytes: &[u8],
+) -> Result<Class, Or<FormatFault>>
+    requires { length bytes.now < 4294967295 }
+    ensures exact { IsDue result (class_read bytes.now) }
+{
+    let mut cursor = Cursor::new(bytes);
+    let class = read_class_file(codes, alloc, &mut cursor)?;
+    if cursor.is_at_end() {
+        Ok(class)
+    } else {
+        Err(Or::Fault(fault(cursor.place(), FormatKind::Trailing)))
+    }
+}
+
+fn read_class_file<C: ReadsCode>(
+    codes: &C,
+    alloc: Global,
+    cursor: &mut Cursor,
+) -> Result<Class, Or<FormatFault>>
+    ensures { ReadsOr result cursor.new (read_class_file cursor.old) }
+{
+    read_head(cursor)?;
+    let pool = read_pool(alloc, cursor)?;
+    let flags = read_class_flags(cursor)?;
+    let name = read_class_name(alloc, &pool, cursor)?;
+    let super_name = read_class_name(alloc, &pool, cursor)?;
+    let interfaces = interfaces(alloc, &pool, cursor)?;
+    let fields = read_all_fields(alloc, &pool, flags, cursor)?;
+    let methods = read_all_methods(codes, alloc, &pool, flags, &name, cursor)?;
+    let seen = read_class_attributes(alloc, &pool, cursor)?;
+    let class = class_of(
+        flags, &pool, name, super_name, interfaces, fields, methods, seen,
+    )?;
+    Ok(class)
+}
+
+// The class of these items. No class file has more than 65,535 fields or methods; more are more than the memory
+// that there is for them.
+#[tactic(auto)]
+fn class_of(
+    flags: u16,
+    pool: &KnownPool,
+    name: Name,
+    super_name: Name,
+    interfaces: Items<Name>,
+    fields: Items<Field>,
+    methods: (Items<Method>, Items<Option<LeftKind>>),
+    seen: SeenOfClass,
+) -> M<Class>
+    ensures { IfOk result (λ class. class ≡ class_of flags pool.now name super_name interfaces fields methods seen) }
+{
+    let (methods, kinds) = methods;
+    if fields.len() > 65_535 || kinds.len() > 65_535 {
+        return Err(OutOfMemory);
+    }
+    let own = left_out_of_class(flags, pool);
+    let left_out = first_left_out(own, fields.len() as u32, kinds.as_slice());
+    let SeenOfClass {
+        source,
+        synthetic,
+        deprecated,
+    } = seen;
+    Ok(Class {
+        flags: class_access(flags),
+        name,
+        super_name,
+        interfaces,
+        fields,
+        methods,
+        source,
+        synthetic,
+        deprecated,
+        left_out,
+    })
+}

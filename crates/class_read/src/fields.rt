@@ -1,0 +1,242 @@
+// Fields (JVMS 4.5).
+#![tactic(auto, unfolding(format_reading::specs::Reader::u1, format_reading::specs::Reader::u2, format_reading::specs::Reader::u4, format_reading::specs::Reader::bytes, format_reading::specs::Reader::lead, format_reading::specs::Reader::bind, format_reading::specs::Reader::give, format_reading::specs::Reader::here, format_reading::specs::Reader::settle, format_reading::specs::Reader::part))]
+
+ghost use Rattle.std.specs.Prelude.{◌≡◌, [], false, IfOk};
+ghost use Rattle.std.specs.List.{list_any};
+ghost use Rattle.format_reading.specs.Reader.{ReadsOr};
+ghost use Rattle.class_model.specs.Flags.{is_static};
+ghost use Rattle.class_model.specs.ReadingAttributes.{attribute, attributes, counted_attributes};
+ghost use Rattle.class_model.specs.ReadingMembers.{known_of_field, no_field_attribute, constant_of, field_of, same_signature, read_field_info, read_fields};
+ghost use Rattle.class_read.specs.Fields.{field_attribute, field_contents};
+
+use crate::attributes::{check_end, check_once, constant_value, read_units};
+use crate::flags::{field_access, is_static, read_field_flags};
+use crate::members::{read_field_type, read_name};
+use crate::names::is_named;
+use crate::pool::KnownPool;
+use crate::signatures::{Signature, Signatures};
+use crate::texts::TextRule;
+use class_model::{Constant, Field};
+use format_reading::{FormatFault, of_part};
+use jv_base::{Cursor, FieldType, Items, Name, Or, Units, field_text};
+use std::alloc::Global;
+use std::marker::Model;
+
+/// An attribute of a field that is read (JVMS 4.7.2, 4.7.8, 4.7.15).
+#[derive(Clone, Copy)]
+pub enum FieldAttribute {
+    ConstantValue,
+    Synthetic,
+    Deprecated,
+}
+
+/// What was seen of a field's attributes.
+#[derive(Drop)]
+pub struct SeenOfField {
+    constant: Option<Option<Constant>>,
+    synthetic: bool,
+    deprecated: bool,
+}
+
+impl Model for SeenOfField {
+    ghost use Rattle.class_model.specs.ReadingMembers.{FieldSeen};
+
+    ghost Value = { FieldSeen };
+
+    ghost view = { λ s. record { constant = s.constant; synthetic = s.synthetic; deprecated = s.deprecated } };
+}
+
+/// So many fields, each unlike all before it.
+#[tactic(auto)]
+pub fn read_fields(
+    alloc: Global,
+    count: u16,
+    pool: &KnownPool,
+    in_interface: bool,
+    cursor: &mut Cursor,
+) -> Result<Items<Field>, Or<FormatFault>>
+    ensures { ReadsOr result cursor.new (read_fields count pool.now in_interface [] cursor.old) }
+{
+    let mut before = Signatures::new(alloc);
+    let mut fields = Items::new(alloc);
+    for _ in 0..count {
+        let member = field_info(alloc, pool, in_interface, &before, cursor)?;
+        before.push(member.1)?;
+        fields.push(member.0)?;
+    }
+    Ok(fields)
+}
+
+// A field behind those of these signatures.
+#[tactic(auto, unfolding(format_reading::specs::Reader::u2, format_reading::specs::Reader::lead, format_reading::specs::Reader::bind, format_reading::specs::Reader::give, format_reading::specs::Reader::here, format_reading::specs::Reader::settle, class_model::specs::ReadingMembers::read_field_info))]
+fn field_info(
+    alloc: Global,
+    pool: &KnownPool,
+    in_interface: bool,
+    before: &Signatures,
+    cursor: &mut Cursor,
+) -> Result<(Field, Signature), Or<FormatFault>>
+    ensures read { ReadsOr result cursor.new (read_field_info pool.now in_interface before.now cursor.old) }
+    ensures fresh { IfOk result (λ member. list_any (same_signature member.1) before.now ≡ false) }
+{
+    let at = cursor.place();
+    let flags = read_field_flags(in_interface, cursor)?;
+    let name = read_name(pool, TextRule::MemberName, cursor)?;
+    let ty = read_field_type(alloc, pool, cursor)?;
+    let signature = (name.text().clone()?, field_text(alloc, &ty)?);
+    before.check_fresh(at, &signature)?;
+    let seen = counted(alloc, pool, flags, &ty, cursor)?;
+    let name = name.text().clone()?;
+    Ok((field_of(flags, name, ty, seen), signature))
+}
+
+fn field_of(flags: u16, name: Name, ty: FieldType, seen: SeenOfField) -> Field
+    ensures { result ≡ field_of flags name ty seen }
+{
+    let SeenOfField {
+        constant,
+        synthetic,
+        deprecated,
+    } = seen;
+    Field {
+        flags: field_access(flags),
+        name,
+        ty,
+        constant: constant_of(constant),
+        synthetic,
+        deprecated,
+    }
+}
+
+fn constant_of(constant: Option<Option<Constant>>) -> Option<Constant>
+    ensures { result ≡ constant_of constant }
+{
+    constant?
+}
+
+// ---- attributes
+
+fn counted(
+    alloc: Global,
+    pool: &KnownPool,
+    flags: u16,
+    ty: &FieldType,
+    cursor: &mut Cursor,
+) -> Result<SeenOfField, Or<FormatFault>>
+    ensures { ReadsOr result cursor.new
+        (counted_attributes pool.now (known_of_field pool.now (is_static flags) ty.now) no_field_attribute cursor.old) }
+{
+    let count = cursor.u2()?;
+    attributes(alloc, count, pool, flags, ty, cursor)
+}
+
+#[tactic(auto)]
+fn attributes(
+    alloc: Global,
+    count: u16,
+    pool: &KnownPool,
+    flags: u16,
+    ty: &FieldType,
+    cursor: &mut Cursor,
+) -> Result<SeenOfField, Or<FormatFault>>
+    ensures { ReadsOr result cursor.new
+        (attributes count pool.now (known_of_field pool.now (is_static flags) ty.now) no_field_attribute cursor.old) }
+{
+    let mut seen = SeenOfField {
+        constant: None,
+        synthetic: false,
+        deprecated: false,
+    };
+    for _ in 0..count {
+        seen = attribute(alloc, pool, flags, ty, seen, cursor)?;
+    }
+    Ok(seen)
+}
+
+#[tactic(auto, unfolding(format_reading::specs::Reader::u2, format_reading::specs::Reader::u4, format_reading::specs::Reader::bytes, format_reading::specs::Reader::lead, format_reading::specs::Reader::bind, format_reading::specs::Reader::give, format_reading::specs::Reader::here, format_reading::specs::Reader::part), using(crate::proofs::Known::of_field))]
+fn attribute(
+    alloc: Global,
+    pool: &KnownPool,
+    flags: u16,
+    ty: &FieldType,
+    seen: SeenOfField,
+    cursor: &mut Cursor,
+) -> Result<SeenOfField, Or<FormatFault>>
+    ensures { ReadsOr result cursor.new (attribute pool.now (known_of_field pool.now (is_static flags) ty.now) seen cursor.old) }
+{
+    let at = cursor.place();
+    let name = read_units(pool, cursor)?;
+    let length = cursor.u4()?;
+    let Some(known) = field_attribute(name) else {
+        cursor.take(length)?;
+        return Ok(seen);
+    };
+    let mut part = cursor.part(length)?;
+    match contents(alloc, pool, flags, ty, at, length, known, seen, &mut part) {
+        Ok(seen) => {
+            check_end(at, &part, cursor)?;
+            Ok(seen)
+        }
+        Err(fault) => Err(of_part(at, fault)),
+    }
+}
+
+fn field_attribute(name: &Units) -> Option<FieldAttribute>
+    ensures { result ≡ field_attribute name.now }
+{
+    if is_named(name.as_slice(), b"ConstantValue") {
+        Some(FieldAttribute::ConstantValue)
+    } else if is_named(name.as_slice(), b"Synthetic") {
+        Some(FieldAttribute::Synthetic)
+    } else if is_named(name.as_slice(), b"Deprecated") {
+        Some(FieldAttribute::Deprecated)
+    } else {
+        None
+    }
+}
+
+fn contents(
+    alloc: Global,
+    pool: &KnownPool,
+    flags: u16,
+    ty: &FieldType,
+    at: u32,
+    length: u32,
+    known: FieldAttribute,
+    seen: SeenOfField,
+    part: &mut Cursor,
+) -> Result<SeenOfField, Or<FormatFault>>
+    ensures { ReadsOr result part.new (field_contents pool.now (is_static flags) ty.now at length seen known part.old) }
+{
+    match known {
+        FieldAttribute::ConstantValue => {
+            check_once(at, seen.constant.is_some())?;
+            if is_static(flags) {
+                let constant = constant_value(alloc, pool, ty, part)?;
+                return Ok(SeenOfField {
+                    constant: Some(constant),
+                    ..seen
+                });
+            }
+            part.take(length)?;
+            Ok(SeenOfField {
+                constant: Some(None),
+                ..seen
+            })
+        }
+        FieldAttribute::Synthetic => {
+            check_once(at, seen.synthetic)?;
+            Ok(SeenOfField {
+                synthetic: true,
+                ..seen
+            })
+        }
+        FieldAttribute::Deprecated => {
+            check_once(at, seen.deprecated)?;
+            Ok(SeenOfField {
+                deprecated: true,
+                ..seen
+            })
+        }
+    }
+}
