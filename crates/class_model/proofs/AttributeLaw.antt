@@ -112,9 +112,11 @@ module _ {S : Type 0} (pool : List Entry) (known : ℕ → List ℕ → ℕ → 
       first : List AttributeInfo → AttributeInfo
       first [] = record { attribute_name_index = 0; info = [] }
       first (a ∷ rest) = a
+
       others : List AttributeInfo → List AttributeInfo
       others [] = []
       others (a ∷ rest) = rest
+
       some : (at : ℕ) (all : List AttributeInfo) (out : S) → length all ≡ suc n → Steps pool does at all seen out
           → (flat_map attribute_info all ≡ attribute_info (first all) ++ flat_map attribute_info (others all))
           × ((now : S) × Step pool does at (first all) seen now × ((length (others all) ≡ n) × Steps pool does (at + length (attribute_info (first all))) (others all) now out))

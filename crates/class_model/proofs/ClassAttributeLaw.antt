@@ -120,18 +120,25 @@ class_steps pool at (a ∷ rest) seen out each h =
   where
     units : List ℕ
     units = each.0.name
+
     skipped : (name : List ℕ) → is_text units name ≡ false → named pool name (a ∷ rest) ≡ named pool name rest
     skipped name e = not_named pool name units a rest each.0.named e
+
     taken : (name : List ℕ) → is_text units name ≡ true → named pool name (a ∷ rest) ≡ a ∷ named pool name rest
     taken name e = is_first pool name units a rest each.0.named e
+
     step : (now : ClassSeen) → ClassDoes pool at units (length a.info) seen a.info now → Step pool (ClassDoes pool) at a seen now
     step now does = (each.0.index_fits, units, each.0.named, each.0.length_fits, does)
+
     source_on : (name : List ℕ) → is_text units name ≡ true → is_text name (codes "SourceFile") ≡ false → Chain (Once (IsSourceFile pool)) seen.source (named pool (codes "SourceFile") rest) out.source
     source_on name e differ = subst (λ (l : List AttributeInfo). Chain (Once (IsSourceFile pool)) seen.source l out.source) (skipped (codes "SourceFile") (other_name units name (codes "SourceFile") e differ)) h.0
+
     synthetic_on : is_text units (codes "Synthetic") ≡ false → Chain Marks seen.synthetic (named pool (codes "Synthetic") rest) out.synthetic
     synthetic_on e = subst (λ (l : List AttributeInfo). Chain Marks seen.synthetic l out.synthetic) (skipped (codes "Synthetic") e) h.1
+
     deprecated_on : is_text units (codes "Deprecated") ≡ false → Chain Marks seen.deprecated (named pool (codes "Deprecated") rest) out.deprecated
     deprecated_on e = subst (λ (l : List AttributeInfo). Chain Marks seen.deprecated l out.deprecated) (skipped (codes "Deprecated") e) h.2
+
     by : (s y d : Bool) → is_text units (codes "SourceFile") ≡ s → is_text units (codes "Synthetic") ≡ y → is_text units (codes "Deprecated") ≡ d
         → ((now : ClassSeen) → Seen pool rest now out → Steps pool (ClassDoes pool) (at + length (attribute_info a)) rest now out) → Steps pool (ClassDoes pool) at (a ∷ rest) seen out
     by true y d es ey ed others =
@@ -158,6 +165,12 @@ pub class_attributes_exact : (pool : List Entry) → Exact (counted_attributes p
     (Spells (λ all. to_be_bytes w16 (length all) ++ flat_map attribute_info all) (λ _ all out. AreClassAttributes pool all out))
 class_attributes_exact pool = as_raw _ _ (λ all. all) (λ all. all)
     (λ at all out h. (refl, class_seen_found pool (at + 2) all out h.0 h.1))
-    (λ at all out h. (refl, (h.attributes.count_fits, class_steps pool (at + 2) all no_class_attribute out h.attributes.each
-        (single_only (IsSourceFile pool) (named pool (codes "SourceFile") all) out.source h.source, mark_only (named pool (codes "Synthetic") all) out.synthetic h.synthetic, mark_only (named pool (codes "Deprecated") all) out.deprecated h.deprecated))))
+    (λ at all out h. (
+      refl,
+      (
+        h.attributes.count_fits,
+        class_steps pool (at + 2) all no_class_attribute out h.attributes.each
+            (single_only (IsSourceFile pool) (named pool (codes "SourceFile") all) out.source h.source, mark_only (named pool (codes "Synthetic") all) out.synthetic h.synthetic, mark_only (named pool (codes "Deprecated") all) out.deprecated h.deprecated),
+      ),
+    ))
     (counted_exact pool (known_of_class pool) (ClassDoes pool) (λ at name n seen. class_knows pool at name n seen) no_class_attribute)

@@ -55,6 +55,7 @@ wanted_exact s limit number kind lt e = as_raw (λ (u : Unit {0}). s number) _ (
     is : (b : Bool) (n : ℕ) (u : Unit {0}) → eqb n number ≡ b → test kind b ≡ Ok u → n ≡ number
     is true n u e h = eqb-true n number e
     is false n u e h = absurd cc
+
     by : (u : Unit {0}) → test kind (eqb number number) ≡ Ok u
     by tt = let e : eqb number number ≡ true = eq-eqb number number refl in rw e refl
 
@@ -304,13 +305,40 @@ module _ (codes_exact : (pool : List Entry) → HaveUnits pool → AllNameRight 
         synthetic = y.synthetic;
         deprecated = y.deprecated;
         left_out = left-is i;
-      } in
-      (is.flags.fit, (raw.access_flags, passes, (is.name.0, (y.name, class_only pool raw.this_class y.name is.name.1 is.name.2,
-          (is.super_name.0, (y.super_name, class_only pool raw.super_class y.super_name is.super_name.1 is.super_name.2,
-              (y.interfaces, (is.interfaces_count, is.interfaces),
-                  (y.fields, (is.fields_count, is.fields, new_only field_signature FieldsDiffer fields_apart fields_told [] y.fields is.fields_differ (none_before field_signature y.fields)),
-                      ((y.methods, is.left_out_kinds), (is.methods_count, is.methods, new_only method_signature MethodsDiffer methods_apart methods_told [] y.methods is.methods_differ (none_before method_signature y.methods)),
-                          (seen, all, whole))))))))))
+      } in (
+        is.flags.fit,
+        (
+          raw.access_flags,
+          passes,
+          (
+            is.name.0,
+            (
+              y.name,
+              class_only pool raw.this_class y.name is.name.1 is.name.2,
+              (
+                is.super_name.0,
+                (
+                  y.super_name,
+                  class_only pool raw.super_class y.super_name is.super_name.1 is.super_name.2,
+                  (
+                    y.interfaces,
+                    (is.interfaces_count, is.interfaces),
+                    (
+                      y.fields,
+                      (is.fields_count, is.fields, new_only field_signature FieldsDiffer fields_apart fields_told [] y.fields is.fields_differ (none_before field_signature y.fields)),
+                      (
+                        (y.methods, is.left_out_kinds),
+                        (is.methods_count, is.methods, new_only method_signature MethodsDiffer methods_apart methods_told [] y.methods is.methods_differ (none_before method_signature y.methods)),
+                        (seen, all, whole),
+                      ),
+                    ),
+                  ),
+                ),
+              ),
+            ),
+          ),
+        ),
+      )
 
   -- a class file is read exactly where it is spelled
   pub class_file_exact : Exact read_class_file (Spells class_file (λ _ raw class. (pool : List Entry) × IsClass raw class pool))

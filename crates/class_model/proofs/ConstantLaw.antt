@@ -161,6 +161,7 @@ constant_only pool index ty (Some (constant.Text units)) h = by (slice_get pool 
   where
     is : plain is_string_base ty ≡ true
     is = plain_only is_string_base ty (base.Class (codes "java/lang/String")) h.0 refl
+
     by : (o : Option Entry) → slice_get pool index ≡ o → option_and_then (units_at pool) (option_and_then string_index_in o) ≡ Some units → constant_in pool index ty o ≡ Ok (Some (constant.Text units))
     by (Some (entry.Str i)) e u = rw (is, h.1) refl
     by (Some (entry.Integer n)) e u = absurd cc

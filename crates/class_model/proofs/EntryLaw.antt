@@ -146,9 +146,10 @@ two_takes tag info make there back = as_raw contents_of _ (λ w. info w.0 w.1) (
     let b = back c y h in
     let t = there b.0 b.1 b.3 in
     let first : first_of c ≡ b.0 = ap first_of b.2 ∙ t.2 in
-    let second : second_of c ≡ b.1 = ap second_of b.2 ∙ t.3 in
-    (ap contents_of b.2 ∙ sym t.0 ∙ ap (λ (i : ℕ). to_be_bytes w16 i ++ to_be_bytes w16 b.1) (sym first) ∙ ap (λ (j : ℕ). to_be_bytes w16 (first_of c) ++ to_be_bytes w16 j) (sym second),
-        (b.0, (subst (λ (k : ℕ). k < 2 ^ 16) (sym first) b.3.0, sym first), (b.1, (subst (λ (k : ℕ). k < 2 ^ 16) (sym second) b.3.1, sym second), b.4))))
+    let second : second_of c ≡ b.1 = ap second_of b.2 ∙ t.3 in (
+      ap contents_of b.2 ∙ sym t.0 ∙ ap (λ (i : ℕ). to_be_bytes w16 i ++ to_be_bytes w16 b.1) (sym first) ∙ ap (λ (j : ℕ). to_be_bytes w16 (first_of c) ++ to_be_bytes w16 j) (sym second),
+      (b.0, (subst (λ (k : ℕ). k < 2 ^ 16) (sym first) b.3.0, sym first), (b.1, (subst (λ (k : ℕ). k < 2 ^ 16) (sym second) b.3.1, sym second), b.4)),
+    ))
     (bind_exact (λ i. bind u2 (λ j. give (make i j))) (to_be_bytes w16) (λ i _ w y. (x : ℕ) × ((w < 2 ^ 16) × (x ≡ w)) × (y ≡ make i x)) u2_exact (λ i. map_exact (make i) u2_exact))
 
 class_takes : Takes 7 (one_index (λ i. entry.Class i))
@@ -184,9 +185,10 @@ long_takes = as_raw contents_of _ (λ w. LongInfo w.0 w.1) (λ c. (first_of c, s
     (λ at c y h.
     let b = of_tag 5 c y h in
     let first : first_of c ≡ b.0 = ap first_of b.2 in
-    let second : second_of c ≡ b.1 = ap second_of b.2 in
-    (ap contents_of b.2 ∙ ap (λ (i : ℕ). to_be_bytes w32 i ++ to_be_bytes w32 b.1) (sym first) ∙ ap (λ (j : ℕ). to_be_bytes w32 (first_of c) ++ to_be_bytes w32 j) (sym second),
-        (b.0, (subst (λ (k : ℕ). k < 2 ^ 32) (sym first) b.3, sym first), (b.1, (subst (λ (k : ℕ). k < 2 ^ 32) (sym second) b.4, sym second), b.5))))
+    let second : second_of c ≡ b.1 = ap second_of b.2 in (
+      ap contents_of b.2 ∙ ap (λ (i : ℕ). to_be_bytes w32 i ++ to_be_bytes w32 b.1) (sym first) ∙ ap (λ (j : ℕ). to_be_bytes w32 (first_of c) ++ to_be_bytes w32 j) (sym second),
+      (b.0, (subst (λ (k : ℕ). k < 2 ^ 32) (sym first) b.3, sym first), (b.1, (subst (λ (k : ℕ). k < 2 ^ 32) (sym second) b.4, sym second), b.5)),
+    ))
     (bind_exact (λ high. bind u4 (λ low. give (entry.Long (long_of high low)))) (to_be_bytes w32) (λ i _ w y. (x : ℕ) × ((w < 2 ^ 32) × (x ≡ w)) × (y ≡ entry.Long (long_of i x))) u4_exact (λ high. map_exact (λ low. entry.Long (long_of high low)) u4_exact))
 
 -- a constant that is left out, of n bytes
@@ -220,9 +222,10 @@ utf8_takes = as_raw contents_of _ (λ w. Utf8Info w.1) (λ c. (length (bytes_of 
     (λ at c y h.
     let b = of_tag 1 c y h in
     let is : bytes_of c ≡ b.0 = ap bytes_of b.2 in
-    let read : units_in_text (bytes_of c) ≡ Ok b.1 = ap units_in_text is ∙ ap (λ (r : Result (List ℕ) BadUtf8). due bad.BadUtf8 (value_of r)) (read_mutf8-only b.0 b.1 (b.4, sym b.5)) in
-    (ap contents_of b.2 ∙ ap (λ (t : List ℕ). to_be_bytes w16 (length t) ++ t) (sym is),
-        (length (bytes_of c), (subst (λ (t : List ℕ). length t < 2 ^ 16) (sym is) b.3, refl), (b.1, (bytes_of c, (refl, refl), read), b.6))))
+    let read : units_in_text (bytes_of c) ≡ Ok b.1 = ap units_in_text is ∙ ap (λ (r : Result (List ℕ) BadUtf8). due bad.BadUtf8 (value_of r)) (read_mutf8-only b.0 b.1 (b.4, sym b.5)) in (
+      ap contents_of b.2 ∙ ap (λ (t : List ℕ). to_be_bytes w16 (length t) ++ t) (sym is),
+      (length (bytes_of c), (subst (λ (t : List ℕ). length t < 2 ^ 16) (sym is) b.3, refl), (b.1, (bytes_of c, (refl, refl), read), b.6)),
+    ))
     (bind_exact (λ n. bind (item (bytes n) units_in_text) (λ units. give (entry.Utf8 units))) (λ t. t)
     (λ n _ w y. (u : List ℕ) × ((t : List ℕ) × ((length w ≡ n) × (t ≡ w)) × (units_in_text t ≡ Ok u)) × (y ≡ entry.Utf8 u)) u2_exact
     (λ n. map_exact (λ units. entry.Utf8 units) (item_exact units_in_text (bytes_exact n))))
@@ -307,6 +310,7 @@ entry_exact room = as_raw cp_info _ (λ w. w.1) (λ c. (tag_of c, c))
   where
     one_byte : (tag : ℕ) → tag < 256 → (rest : List ℕ) → to_be_bytes w8 tag ++ rest ≡ tag ∷ rest
     one_byte tag lt rest = ap (λ (k : ℕ). k ∷ rest) (omega (arith, lt))
+
     left_out_below : (tag n : ℕ) → left_out_length tag ≡ Some n → tag < 256
     left_out_below tag n h = one (eqb tag 4) (eqb tag 6) (eqb tag 15) (eqb tag 16) (eqb tag 18) refl refl refl refl refl h
       where
@@ -318,6 +322,7 @@ entry_exact room = as_raw cp_info _ (λ w. w.1) (λ c. (tag_of c, c))
         one false false false true e ea eb ec ed ee g = omega (arith, eqb-true tag 16 ed)
         one false false false false true ea eb ec ed ee g = omega (arith, eqb-true tag 18 ee)
         one false false false false false ea eb ec ed ee g = absurd cc
+
     tag_below : (c : CpInfo) (e : Entry) → IsConstant c e → tag_of c < 256
     tag_below (Utf8Info text) e h = omega arith
     tag_below (IntegerInfo n) e h = omega arith

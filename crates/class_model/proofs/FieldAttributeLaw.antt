@@ -82,7 +82,7 @@ pub record AreFieldAttributes (pool : List Entry) (static : Bool) (ty : FieldTyp
 
 -- what one attribute does to each part of what was seen
 constant_changes : (pool : List Entry) (static : Bool) (ty : FieldType) (at : ℕ) (units : List ℕ) (n : ℕ) (seen : FieldSeen) (info : List ℕ) (out : FieldSeen) → is_text units (codes "ConstantValue") ≡ true → FieldDoes pool static ty at units n seen info out → ConstantOnce pool static ty seen.constant info out.constant
-constant_changes pool static ty at units n seen info out e h = 
+constant_changes pool static ty at units n seen info out e h =
     let d = rw e at h in (not_there seen.constant d.0, subst (λ (now : Option (Option Constant)). ConstantTold pool static ty info now) (sym (ap (λ (s : FieldSeen). s.constant) d.1.2)) (told_of pool static ty n info d.1.0 d.1.1))
 
 constant_stays : (pool : List Entry) (static : Bool) (ty : FieldType) (at : ℕ) (units : List ℕ) (n : ℕ) (seen : FieldSeen) (info : List ℕ) (out : FieldSeen) → is_text units (codes "ConstantValue") ≡ false → FieldDoes pool static ty at units n seen info out → out.constant ≡ seen.constant
@@ -146,18 +146,25 @@ field_steps pool static ty at (a ∷ rest) seen out each h =
   where
     units : List ℕ
     units = each.0.name
+
     skipped : (name : List ℕ) → is_text units name ≡ false → named pool name (a ∷ rest) ≡ named pool name rest
     skipped name e = not_named pool name units a rest each.0.named e
+
     taken : (name : List ℕ) → is_text units name ≡ true → named pool name (a ∷ rest) ≡ a ∷ named pool name rest
     taken name e = is_first pool name units a rest each.0.named e
+
     step : (now : FieldSeen) → FieldDoes pool static ty at units (length a.info) seen a.info now → Step pool (FieldDoes pool static ty) at a seen now
     step now does = (each.0.index_fits, units, each.0.named, each.0.length_fits, does)
+
     constant_on : (name : List ℕ) → is_text units name ≡ true → is_text name (codes "ConstantValue") ≡ false → Chain (ConstantOnce pool static ty) seen.constant (named pool (codes "ConstantValue") rest) out.constant
     constant_on name e differ = subst (λ (l : List AttributeInfo). Chain (ConstantOnce pool static ty) seen.constant l out.constant) (skipped (codes "ConstantValue") (other_name units name (codes "ConstantValue") e differ)) h.0
+
     synthetic_on : is_text units (codes "Synthetic") ≡ false → Chain Marks seen.synthetic (named pool (codes "Synthetic") rest) out.synthetic
     synthetic_on e = subst (λ (l : List AttributeInfo). Chain Marks seen.synthetic l out.synthetic) (skipped (codes "Synthetic") e) h.1
+
     deprecated_on : is_text units (codes "Deprecated") ≡ false → Chain Marks seen.deprecated (named pool (codes "Deprecated") rest) out.deprecated
     deprecated_on e = subst (λ (l : List AttributeInfo). Chain Marks seen.deprecated l out.deprecated) (skipped (codes "Deprecated") e) h.2
+
     by : (s y d : Bool) → is_text units (codes "ConstantValue") ≡ s → is_text units (codes "Synthetic") ≡ y → is_text units (codes "Deprecated") ≡ d
         → ((now : FieldSeen) → Seen pool static ty rest now out → Steps pool (FieldDoes pool static ty) (at + length (attribute_info a)) rest now out) → Steps pool (FieldDoes pool static ty) at (a ∷ rest) seen out
     by true y d es ey ed others =
@@ -184,8 +191,14 @@ pub field_attributes_exact : (pool : List Entry) (static : Bool) (ty : FieldType
     (Spells (λ all. to_be_bytes w16 (length all) ++ flat_map attribute_info all) (λ _ all out. AreFieldAttributes pool static ty all out))
 field_attributes_exact pool static ty right = as_raw _ _ (λ all. all) (λ all. all)
     (λ at all out h. (refl, field_seen_found pool static ty (at + 2) all out h.0 h.1))
-    (λ at all out h. (refl, (h.attributes.count_fits, field_steps pool static ty (at + 2) all no_field_attribute out h.attributes.each
-        (h.constant, mark_only (named pool (codes "Synthetic") all) out.synthetic h.synthetic, mark_only (named pool (codes "Deprecated") all) out.deprecated h.deprecated))))
+    (λ at all out h. (
+      refl,
+      (
+        h.attributes.count_fits,
+        field_steps pool static ty (at + 2) all no_field_attribute out h.attributes.each
+            (h.constant, mark_only (named pool (codes "Synthetic") all) out.synthetic h.synthetic, mark_only (named pool (codes "Deprecated") all) out.deprecated h.deprecated),
+      ),
+    ))
     (counted_exact pool (known_of_field pool static ty) (FieldDoes pool static ty) (λ at name n seen. field_knows pool static ty right at name n seen) no_field_attribute)
 
 -- ---- the constant of the field

@@ -164,9 +164,28 @@ module _ (pool : List Entry) (in_interface : Bool) (before : List Signature) (un
         record { flags = is.flags.are i; name = y.0.name; ty = y.0.ty; constant = (sym c.2) i; synthetic = y.0.synthetic; deprecated = y.0.deprecated },
         h.1 i,
       ) in
-      let passes : passing raw.access_flags ≡ Ok raw.access_flags = rw is.flags.good refl in
-      (refl, (at, refl, (is.flags.fit, (raw.access_flags, passes, (is.name.0, (y.0.name, good_only pool bad.BadName is_member_name raw.name_index y.0.name is.name.1 is.named_right,
-          (is.descriptor.0, (y.0.ty, field_type_only pool raw.descriptor_index y.0.ty is.descriptor.1 is.typed, (subst (λ (s : Signature). IsNew before s) h.1 h.2, (seen, all, whole))))))))))
+      let passes : passing raw.access_flags ≡ Ok raw.access_flags = rw is.flags.good refl in (
+        refl,
+        (
+          at,
+          refl,
+          (
+            is.flags.fit,
+            (
+              raw.access_flags,
+              passes,
+              (
+                is.name.0,
+                (
+                  y.0.name,
+                  good_only pool bad.BadName is_member_name raw.name_index y.0.name is.name.1 is.named_right,
+                  (is.descriptor.0, (y.0.ty, field_type_only pool raw.descriptor_index y.0.ty is.descriptor.1 is.typed, (subst (λ (s : Signature). IsNew before s) h.1 h.2, (seen, all, whole)))),
+                ),
+              ),
+            ),
+          ),
+        ),
+      )
       )
       (bind_exact (λ at. bind (item u2 passing) (λ flags. bind (item u2 (good_text_at bad.BadName is_member_name pool)) (λ name. bind (item u2 (field_type_at pool)) (λ ty.
       bind (fresh at before (name, field_text ty)) (λ alone. bind (counted_attributes pool (known_of_field pool (is_static flags) ty) no_field_attribute) (λ seen. give (made flags name ty seen)))))))
@@ -203,9 +222,11 @@ fields_exact pool in_interface units right (suc n) before = as_raw (flat_map mem
     (λ at w fields h.
     let first = h.0 in
     let rest = h.2 in
-    let new = subst (λ (s : Signature). AreNew field_signature FieldsDiffer fields_apart fields_told (s ∷ before) rest.0) h.1.1 rest.1.2 in
-    (sym (flat_map-cons member_info w.0 w.1), subst (λ (fs : List Field). (length (w.0 ∷ w.1) ≡ suc n) × AllZip (IsField pool in_interface) (w.0 ∷ w.1) fs × AreNew field_signature FieldsDiffer fields_apart fields_told before fs) (sym rest.2)
-        (ap suc rest.1.0, (h.1.0, rest.1.1), (subst (λ (s : Signature). IsNew before s) h.1.1 h.1.2, new))))
+    let new = subst (λ (s : Signature). AreNew field_signature FieldsDiffer fields_apart fields_told (s ∷ before) rest.0) h.1.1 rest.1.2 in (
+      sym (flat_map-cons member_info w.0 w.1),
+      subst (λ (fs : List Field). (length (w.0 ∷ w.1) ≡ suc n) × AllZip (IsField pool in_interface) (w.0 ∷ w.1) fs × AreNew field_signature FieldsDiffer fields_apart fields_told before fs) (sym rest.2)
+          (ap suc rest.1.0, (h.1.0, rest.1.1), (subst (λ (s : Signature). IsNew before s) h.1.1 h.1.2, new)),
+    ))
     (λ at raws fields h. some raws fields h.0 h.1 h.2)
     (bind_exact (λ first. bind (read_fields n pool in_interface (first.1 ∷ before)) (λ others. give (first.0 ∷ others))) (flat_map member_info)
     (λ first _ raws fields. (others : List Field) × ((length raws ≡ n) × AllZip (IsField pool in_interface) raws others × AreNew field_signature FieldsDiffer fields_apart fields_told (first.1 ∷ before) others) × (fields ≡ first.0 ∷ others))

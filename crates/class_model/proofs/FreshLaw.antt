@@ -35,6 +35,7 @@ module _ {M : Type 0} (signature : M → Signature) (Differ : M → M → Type 0
       others : (ys : List M) → AllByRecursion (λ y. IsNew (signature x ∷ before) (signature y)) ys → AllByRecursion (Differ x) ys
       others [] k = tt
       others (y ∷ ys) k = (apart x y (both_false _ _ k.0).0, others ys k.1)
+
       behind : (ys : List M) → AllByRecursion (λ y. IsNew (signature x ∷ before) (signature y)) ys → AllByRecursion (λ y. IsNew before (signature y)) ys
       behind [] k = tt
       behind (y ∷ ys) k = ((both_false _ _ k.0).1, behind ys k.1)

@@ -180,20 +180,28 @@ method_steps pool wanted B at (a ∷ rest) seen out each h =
   where
     units : List ℕ
     units = each.0.name
+
     skipped : (name : List ℕ) → is_text units name ≡ false → named pool name (a ∷ rest) ≡ named pool name rest
     skipped name e = not_named pool name units a rest each.0.named e
+
     taken : (name : List ℕ) → is_text units name ≡ true → named pool name (a ∷ rest) ≡ a ∷ named pool name rest
     taken name e = is_first pool name units a rest each.0.named e
+
     step : (now : MethodSeen) → MethodDoes pool wanted B at units (length a.info) seen a.info now → Step pool (MethodDoes pool wanted B) at a seen now
     step now does = (each.0.index_fits, units, each.0.named, each.0.length_fits, does)
+
     body_on : is_text units (codes "Code") ≡ false → Chain (OneCode wanted B) seen.body (named pool (codes "Code") rest) out.body
     body_on e = subst (λ (l : List AttributeInfo). Chain (OneCode wanted B) seen.body l out.body) (skipped (codes "Code") e) h.0
+
     throws_on : is_text units (codes "Exceptions") ≡ false → Chain (Once (IsExceptions pool)) seen.throws (named pool (codes "Exceptions") rest) out.throws
     throws_on e = subst (λ (l : List AttributeInfo). Chain (Once (IsExceptions pool)) seen.throws l out.throws) (skipped (codes "Exceptions") e) h.1
+
     synthetic_on : is_text units (codes "Synthetic") ≡ false → Chain (Marks) seen.synthetic (named pool (codes "Synthetic") rest) out.synthetic
     synthetic_on e = subst (λ (l : List AttributeInfo). Chain (Marks) seen.synthetic l out.synthetic) (skipped (codes "Synthetic") e) h.2
+
     deprecated_on : is_text units (codes "Deprecated") ≡ false → Chain (Marks) seen.deprecated (named pool (codes "Deprecated") rest) out.deprecated
     deprecated_on e = subst (λ (l : List AttributeInfo). Chain (Marks) seen.deprecated l out.deprecated) (skipped (codes "Deprecated") e) h.3
+
     by : (c x y d : Bool) → is_text units (codes "Code") ≡ c → is_text units (codes "Exceptions") ≡ x → is_text units (codes "Synthetic") ≡ y → is_text units (codes "Deprecated") ≡ d
         → ((now : MethodSeen) → Seen pool wanted B rest now out → Steps pool (MethodDoes pool wanted B) (at + length (attribute_info a)) rest now out) → Steps pool (MethodDoes pool wanted B) at (a ∷ rest) seen out
     by true x y d ec ex ey ed others =
@@ -252,6 +260,12 @@ pub method_attributes_exact : (pool : List Entry) (wanted : Bool) (B : List ℕ 
     (Spells (λ all. to_be_bytes w16 (length all) ++ flat_map attribute_info all) (λ _ all out. AreMethodAttributes pool wanted B all out))
 method_attributes_exact pool wanted B code units exact = as_raw _ _ (λ all. all) (λ all. all)
     (λ at all out h. (refl, method_seen_found pool wanted B (at + 2) all out h.0 h.1))
-    (λ at all out h. (refl, (h.attributes.count_fits, method_steps pool wanted B (at + 2) all no_method_attribute out h.attributes.each
-        (h.body, single_only (IsExceptions pool) (named pool (codes "Exceptions") all) out.throws h.throws, mark_only (named pool (codes "Synthetic") all) out.synthetic h.synthetic, mark_only (named pool (codes "Deprecated") all) out.deprecated h.deprecated))))
+    (λ at all out h. (
+      refl,
+      (
+        h.attributes.count_fits,
+        method_steps pool wanted B (at + 2) all no_method_attribute out h.attributes.each
+            (h.body, single_only (IsExceptions pool) (named pool (codes "Exceptions") all) out.throws h.throws, mark_only (named pool (codes "Synthetic") all) out.synthetic h.synthetic, mark_only (named pool (codes "Deprecated") all) out.deprecated h.deprecated),
+      ),
+    ))
     (counted_exact pool (known_of_method pool wanted code) (MethodDoes pool wanted B) (λ at name n seen. method_knows pool wanted B code units exact at name n seen) no_method_attribute)

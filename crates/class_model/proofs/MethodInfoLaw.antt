@@ -230,10 +230,28 @@ module _ (pool : List Entry) (in_interface : Bool) (class : List ℕ) (units : H
         sig i,
         (sym c.4) i,
       ) in
-      let passes : passing raw.access_flags ≡ Ok raw.access_flags = rw is.flags.good refl in
-      (is.flags.fit, (raw.access_flags, passes, (is.name.0, (y.0.name, good_only pool bad.BadName is_method_name raw.name_index y.0.name is.name.1 is.named_right,
-          (is.descriptor.0, (y.0.ty, method_type_only pool in_interface raw.access_flags y.0.name raw.descriptor_index y.0.ty is.descriptor.1 is.typed is.room_for_this is.initial_flags is.initial_type,
-              (subst (λ (s : Signature). IsNew before s) sig new, (seen, all, (c.2, whole)))))))))
+      let passes : passing raw.access_flags ≡ Ok raw.access_flags = rw is.flags.good refl in (
+        is.flags.fit,
+        (
+          raw.access_flags,
+          passes,
+          (
+            is.name.0,
+            (
+              y.0.name,
+              good_only pool bad.BadName is_method_name raw.name_index y.0.name is.name.1 is.named_right,
+              (
+                is.descriptor.0,
+                (
+                  y.0.ty,
+                  method_type_only pool in_interface raw.access_flags y.0.name raw.descriptor_index y.0.ty is.descriptor.1 is.typed is.room_for_this is.initial_flags is.initial_type,
+                  (subst (λ (s : Signature). IsNew before s) sig new, (seen, all, (c.2, whole))),
+                ),
+              ),
+            ),
+          ),
+        ),
+      )
     where
       thrown : (list : List AttributeInfo) (classes : List (List ℕ)) → AreThrown pool list classes → (o : Option (List (List ℕ))) × Single (IsExceptions pool) list o × (throws_of o ≡ classes)
       thrown [] classes s = (None, tt, sym s)
@@ -293,16 +311,22 @@ module _ (pool : List Entry) (in_interface : Bool) (class : List ℕ) (units : H
       (λ at w y h.
       let first = h.0 in
       let rest = h.2 in
-      let new = subst (λ (s : Signature). AreNew method_signature MethodsDiffer methods_apart methods_told (s ∷ before) rest.0.0) h.1.1 rest.1.2 in
-      (sym (flat_map-cons member_info w.0 w.1), subst (λ (z : MethodsRead). (length (w.0 ∷ w.1) ≡ suc n) × AreMethods pool in_interface class (w.0 ∷ w.1) z.0 z.1 × AreNew method_signature MethodsDiffer methods_apart methods_told before z.0) (sym rest.2)
-          (ap suc rest.1.0, (h.1.0, rest.1.1), (subst (λ (s : Signature). IsNew before s) h.1.1 h.1.2, new))))
+      let new = subst (λ (s : Signature). AreNew method_signature MethodsDiffer methods_apart methods_told (s ∷ before) rest.0.0) h.1.1 rest.1.2 in (
+        sym (flat_map-cons member_info w.0 w.1),
+        subst (λ (z : MethodsRead). (length (w.0 ∷ w.1) ≡ suc n) × AreMethods pool in_interface class (w.0 ∷ w.1) z.0 z.1 × AreNew method_signature MethodsDiffer methods_apart methods_told before z.0) (sym rest.2)
+            (ap suc rest.1.0, (h.1.0, rest.1.1), (subst (λ (s : Signature). IsNew before s) h.1.1 h.1.2, new)),
+      ))
       (λ at raws y h.
       let c = cons_of n before raws y h in
       let head-is : head_of raws ≡ c.0 = ap head_of c.2 in
-      let tail-is : tail_of raws ≡ c.1 = ap tail_of c.2 in
-      (ap (flat_map member_info) c.2 ∙ flat_map-cons member_info c.0 c.1 ∙ ap (λ (t : List ℕ). t ++ flat_map member_info c.1) (ap member_info (sym head-is)) ∙ ap (λ (t : List MemberInfo). member_info (head_of raws) ++ flat_map member_info t) (sym tail-is),
-          (c.3.0, subst (λ (raw : MemberInfo). IsMethod pool in_interface class raw c.3.0.0 c.3.0.2 × (c.3.0.1 ≡ method_signature c.3.0.0) × IsNew before c.3.0.1) (sym head-is) c.3.1,
-              (c.3.2.0, subst (λ (t : List MemberInfo). AreNewMethods n (c.3.0.1 ∷ before) t c.3.2.0) (sym tail-is) c.3.2.1, c.3.2.2))))
+      let tail-is : tail_of raws ≡ c.1 = ap tail_of c.2 in (
+        ap (flat_map member_info) c.2 ∙ flat_map-cons member_info c.0 c.1 ∙ ap (λ (t : List ℕ). t ++ flat_map member_info c.1) (ap member_info (sym head-is)) ∙ ap (λ (t : List MemberInfo). member_info (head_of raws) ++ flat_map member_info t) (sym tail-is),
+        (
+          c.3.0,
+          subst (λ (raw : MemberInfo). IsMethod pool in_interface class raw c.3.0.0 c.3.0.2 × (c.3.0.1 ≡ method_signature c.3.0.0) × IsNew before c.3.0.1) (sym head-is) c.3.1,
+          (c.3.2.0, subst (λ (t : List MemberInfo). AreNewMethods n (c.3.0.1 ∷ before) t c.3.2.0) (sym tail-is) c.3.2.1, c.3.2.2),
+        ),
+      ))
       (bind_exact (λ first. bind (read_methods n pool in_interface class (first.1 ∷ before)) (λ others. give (first.0 ∷ others.0, first.2 ∷ others.1))) (flat_map member_info)
       (λ first _ raws y. (others : MethodsRead) × AreNewMethods n (first.1 ∷ before) raws others × (y ≡ (first.0 ∷ others.0, first.2 ∷ others.1)))
       (method_info_exact before)
@@ -311,6 +335,7 @@ module _ (pool : List Entry) (in_interface : Bool) (class : List ℕ) (units : H
       head_of : List MemberInfo → MemberInfo
       head_of [] = record { access_flags = 0; name_index = 0; descriptor_index = 0; attributes = [] }
       head_of (raw ∷ raws) = raw
+
       tail_of : List MemberInfo → List MemberInfo
       tail_of [] = []
       tail_of (raw ∷ raws) = raws

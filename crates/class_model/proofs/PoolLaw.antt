@@ -161,25 +161,28 @@ pool_exact = as_raw pool_bytes _ (λ w. (w.0, w.1.0)) (λ w. (w.0, (w.1, tt)))
     subst (λ (v : List Entry). AllByRecursion (λ e. names_right (numbered es.0) e ≡ Ok tt) v) es.2 (found_each (numbered es.0) xs (subst (λ (p : List Entry). all_name_right p xs ≡ Ok tt) is h.2.2.1)) in
     let units = have_units es.0 (all_units w.1.0 es.0 es.1) in
     let all : AllFound (numbered es.0) = λ index e there. all_at (λ e. names_right (numbered es.0) e ≡ Ok tt) (numbered es.0) index e (gap_right (numbered es.0), each) there in
-    let pool-is : pool ≡ numbered es.0 = h.2.2.2 ∙ is in
-    (ap (λ (t : List ℕ). to_be_bytes w16 w.0 ++ t) (append-nil (flat_map cp_info w.1.0)), record {
-      entries = es.0;
-      stand = es.1;
-      numbers = pool-is;
-      count_fits = h.1.0;
-      counted = ap length pool-is ∙ sym (ap length is) ∙ omega (arith, length-map xs (λ (s : Slot). s.entry), others.1, count);
-      names = subst (λ (p : List Entry). AllByRecursion (NamesRight p) es.0) (sym pool-is)
-      (of_places (NamesRight (numbered es.0)) es.0 (all_other (λ e. names_right (numbered es.0) e ≡ Ok tt) (NamesRight (numbered es.0)) (flat_map places_of es.0) (λ e right. names_found (numbered es.0) e units all right) each));
-    }))
+    let pool-is : pool ≡ numbered es.0 = h.2.2.2 ∙ is in (
+      ap (λ (t : List ℕ). to_be_bytes w16 w.0 ++ t) (append-nil (flat_map cp_info w.1.0)),
+      record {
+        entries = es.0;
+        stand = es.1;
+        numbers = pool-is;
+        count_fits = h.1.0;
+        counted = ap length pool-is ∙ sym (ap length is) ∙ omega (arith, length-map xs (λ (s : Slot). s.entry), others.1, count);
+        names = subst (λ (p : List Entry). AllByRecursion (NamesRight p) es.0) (sym pool-is)
+            (of_places (NamesRight (numbered es.0)) es.0 (all_other (λ e. names_right (numbered es.0) e ≡ Ok tt) (NamesRight (numbered es.0)) (flat_map places_of es.0) (λ e right. names_found (numbered es.0) e units all right) each));
+      },
+    ))
     (λ at w pool h.
     let es = h.entries in
     let s = slots_there (at + 2) w.1 es h.stand in
     let is : entries_of s.0 ≡ pool = ap (λ (v : List Entry). entry.Gap ∷ v) s.2 ∙ sym h.numbers in
     let len : length s.0 ≡ w.0 - 1 = omega (arith, sym (length-map s.0 (λ (t : Slot). t.entry)), ap length is, h.counted) in
     let right : AllByRecursion (λ e. names_right pool e ≡ Ok tt) (entries s.0) =
-    subst (λ (v : List Entry). AllByRecursion (λ e. names_right pool e ≡ Ok tt) v) (sym s.2) (at_places (λ e. names_right pool e ≡ Ok tt) (gap_right pool) es (all_other (NamesRight pool) (λ e. names_right pool e ≡ Ok tt) es (names_only pool) h.names)) in
-    (ap (λ (t : List ℕ). to_be_bytes w16 w.0 ++ t) (sym (append-nil (flat_map cp_info w.1))),
-        (w.0, (h.count_fits, refl), (s.0, (s.1, len), (tt, subst (λ (p : List Entry). all_name_right p s.0 ≡ Ok tt) (sym is) (found_all pool s.0 right), sym is)))))
+    subst (λ (v : List Entry). AllByRecursion (λ e. names_right pool e ≡ Ok tt) v) (sym s.2) (at_places (λ e. names_right pool e ≡ Ok tt) (gap_right pool) es (all_other (NamesRight pool) (λ e. names_right pool e ≡ Ok tt) es (names_only pool) h.names)) in (
+      ap (λ (t : List ℕ). to_be_bytes w16 w.0 ++ t) (sym (append-nil (flat_map cp_info w.1))),
+      (w.0, (h.count_fits, refl), (s.0, (s.1, len), (tt, subst (λ (p : List Entry). all_name_right p s.0 ≡ Ok tt) (sym is) (found_all pool s.0 right), sym is))),
+    ))
     (bind_exact (λ count. bind (slots (count - 1) false) (λ xs. bind (told (all_name_right (entries_of xs) xs)) (λ named. give (entries_of xs))))
     (λ (v : List CpInfo × Unit {0}). flat_map cp_info v.0 ++ nothing v.1)
     (λ count at v pool. (xs : List Slot) × Others false (count - 1) at v.0 xs × ((u : Unit {0}) × (all_name_right (entries_of xs) xs ≡ Ok u) × (pool ≡ entries_of xs)))

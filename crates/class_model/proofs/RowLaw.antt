@@ -269,10 +269,17 @@ extended_reads = as_raw behind_type _ (λ v. SameLocalsOneStackItemExtended v.0 
     (λ at row y h.
     let f = form_of 247 row y h in
     let d : delta_of row ≡ f.0 = ap delta_of f.2 in
-    let i : item_of row ≡ f.1 = ap item_of f.2 in
-    (ap behind_type f.2 ∙ ap (λ (k : ℕ). to_be_bytes w16 k ++ verification_type_info f.1) (sym d) ∙ ap (λ (t : VerificationTypeInfo). to_be_bytes w16 (delta_of row) ++ verification_type_info t) (sym i),
-        (subst (λ (k : ℕ). k < 2 ^ 16) (sym d) f.3, (item_of row, (subst (λ (t : VerificationTypeInfo). FitsType t) (sym i) f.4, refl),
-            h.2 ∙ f.2 ∙ ap (λ (k : ℕ). SameLocalsOneStackItemExtended k f.1) (sym d) ∙ ap (λ (t : VerificationTypeInfo). SameLocalsOneStackItemExtended (delta_of row) t) (sym i)))))
+    let i : item_of row ≡ f.1 = ap item_of f.2 in (
+      ap behind_type f.2 ∙ ap (λ (k : ℕ). to_be_bytes w16 k ++ verification_type_info f.1) (sym d) ∙ ap (λ (t : VerificationTypeInfo). to_be_bytes w16 (delta_of row) ++ verification_type_info t) (sym i),
+      (
+        subst (λ (k : ℕ). k < 2 ^ 16) (sym d) f.3,
+        (
+          item_of row,
+          (subst (λ (t : VerificationTypeInfo). FitsType t) (sym i) f.4, refl),
+          h.2 ∙ f.2 ∙ ap (λ (k : ℕ). SameLocalsOneStackItemExtended k f.1) (sym d) ∙ ap (λ (t : VerificationTypeInfo). SameLocalsOneStackItemExtended (delta_of row) t) (sym i),
+        ),
+      ),
+    ))
     (delta_then (λ delta. bind read_type (λ item. give (SameLocalsOneStackItemExtended delta item))) verification_type_info
     (λ delta info y. (x : VerificationTypeInfo) × (FitsType info × (x ≡ info)) × (y ≡ SameLocalsOneStackItemExtended delta x)) (λ delta. map_exact (λ item. SameLocalsOneStackItemExtended delta item) type_exact))
 
@@ -300,10 +307,17 @@ append_reads t a b c d e g k = as_raw behind_type _ (λ v. AppendFrame t v.0 v.1
     (λ at row y h.
     let f = rw (a, b, c, d, e, g, k) at (form_of t row y h) in
     let di : delta_of row ≡ f.0 = ap delta_of f.2 in
-    let li : locals_of row ≡ f.1 = ap locals_of f.2 in
-    (ap behind_type f.2 ∙ ap (λ (n : ℕ). to_be_bytes w16 n ++ flat_map verification_type_info f.1) (sym di) ∙ ap (λ (l : List VerificationTypeInfo). to_be_bytes w16 (delta_of row) ++ flat_map verification_type_info l) (sym li),
-        (subst (λ (n : ℕ). n < 2 ^ 16) (sym di) f.3, (locals_of row, ((subst (λ (l : List VerificationTypeInfo). length l ≡ t - 251) (sym li) f.4, subst (λ (l : List VerificationTypeInfo). FitTypes l) (sym li) f.5), refl),
-            h.2 ∙ f.2 ∙ ap (λ (n : ℕ). AppendFrame t n f.1) (sym di) ∙ ap (λ (l : List VerificationTypeInfo). AppendFrame t (delta_of row) l) (sym li)))))
+    let li : locals_of row ≡ f.1 = ap locals_of f.2 in (
+      ap behind_type f.2 ∙ ap (λ (n : ℕ). to_be_bytes w16 n ++ flat_map verification_type_info f.1) (sym di) ∙ ap (λ (l : List VerificationTypeInfo). to_be_bytes w16 (delta_of row) ++ flat_map verification_type_info l) (sym li),
+      (
+        subst (λ (n : ℕ). n < 2 ^ 16) (sym di) f.3,
+        (
+          locals_of row,
+          ((subst (λ (l : List VerificationTypeInfo). length l ≡ t - 251) (sym li) f.4, subst (λ (l : List VerificationTypeInfo). FitTypes l) (sym li) f.5), refl),
+          h.2 ∙ f.2 ∙ ap (λ (n : ℕ). AppendFrame t n f.1) (sym di) ∙ ap (λ (l : List VerificationTypeInfo). AppendFrame t (delta_of row) l) (sym li),
+        ),
+      ),
+    ))
     (delta_then (λ delta. bind (many (t - 251) read_type) (λ locals. give (AppendFrame t delta locals))) (flat_map verification_type_info)
     (λ delta infos y. (x : List VerificationTypeInfo) × (((length infos ≡ t - 251) × FitTypes infos) × (x ≡ infos)) × (y ≡ AppendFrame t delta x)) (λ delta. map_exact (λ locals. AppendFrame t delta locals) (types_exact (t - 251))))
 
@@ -325,9 +339,10 @@ locals_reads : (delta : ℕ) → Exact (bind u2 (λ n. bind (many n read_type) (
     (λ _ v y. ((length v.0 < 2 ^ 16) × FitTypes v.0) × (((length v.1 < 2 ^ 16) × FitTypes v.1) × (y ≡ FullFrame delta v.0 v.1))))
 locals_reads delta = as_raw _ _ (λ w. (w.1.0, w.1.1)) (λ v. (length v.0, (v.0, v.1)))
     (λ at w y h.
-    let n : length w.1.0 ≡ w.0 = h.2.1.0.0 ∙ h.1.1 in
-    (sym (append_assoc (to_be_bytes w16 w.0) (flat_map verification_type_info w.1.0) (counted_types w.1.1)) ∙ ap (λ (m : ℕ). (to_be_bytes w16 m ++ flat_map verification_type_info w.1.0) ++ counted_types w.1.1) (sym n),
-        ((subst (λ (m : ℕ). m < 2 ^ 16) (sym n) h.1.0, h.2.1.0.1), (h.2.2.0, h.2.2.1 ∙ ap (λ (l : List VerificationTypeInfo). FullFrame delta l w.1.1) h.2.1.1))))
+    let n : length w.1.0 ≡ w.0 = h.2.1.0.0 ∙ h.1.1 in (
+      sym (append_assoc (to_be_bytes w16 w.0) (flat_map verification_type_info w.1.0) (counted_types w.1.1)) ∙ ap (λ (m : ℕ). (to_be_bytes w16 m ++ flat_map verification_type_info w.1.0) ++ counted_types w.1.1) (sym n),
+      ((subst (λ (m : ℕ). m < 2 ^ 16) (sym n) h.1.0, h.2.1.0.1), (h.2.2.0, h.2.2.1 ∙ ap (λ (l : List VerificationTypeInfo). FullFrame delta l w.1.1) h.2.1.1)),
+    ))
     (λ at v y h. (append_assoc (to_be_bytes w16 (length v.0)) (flat_map verification_type_info v.0) (counted_types v.1), (length v.0, (h.0.0, refl), (v.0, ((refl, h.0.1), refl), h.1))))
     (bind_exact (λ n. bind (many n read_type) (λ locals. bind u2 (λ m. bind (many m read_type) (λ stack. give (FullFrame delta locals stack)))))
     (λ (v : List VerificationTypeInfo × List VerificationTypeInfo). flat_map verification_type_info v.0 ++ counted_types v.1)

@@ -38,6 +38,7 @@ chain_found pool does name get R same other at (a ∷ rest) seen out h =
   where
     is : (b : Bool) → is_text h.1.1 name ≡ b → is_named (units_at pool a.attribute_name_index) name ≡ b
     is b e = ap (λ (o : Option (List ℕ)). is_named o name) h.1.2 ∙ e
+
     by : (b : Bool) → is_text h.1.1 name ≡ b → Chain R (get h.0) (named pool name rest) (get out) → Chain R (get seen) (named pool name (a ∷ rest)) (get out)
     by true e behind = rw (is true e) (get h.0, same at h.1.1 (length a.info) seen a.info h.0 e h.1.4, behind)
     by false e behind = rw (is false e) (subst (λ (f : _). Chain R f (named pool name rest) (get out)) (other at h.1.1 (length a.info) seen a.info h.0 e h.1.4) behind)

@@ -131,9 +131,10 @@ slots_exact (suc n) false some = as_raw (flat_map cp_info) _ (λ w. w.0 ∷ w.1)
     let s = starts at n v xs h.0 h.1 in
     let a = s.1 in
     let behind = at + length (cp_info (head_of v)) in
-    let p = split at behind n a.0 (takes_two a.0) (tail_of v) xs a.1 a.3 a.4 h.1 in
-    (ap (flat_map cp_info) s.0 ∙ flat_map-cons cp_info (head_of v) (tail_of v),
-        (slot_at at a.0, (a.0, (a.2, p.3), refl), (p.0, p.1, p.2))))
+    let p = split at behind n a.0 (takes_two a.0) (tail_of v) xs a.1 a.3 a.4 h.1 in (
+      ap (flat_map cp_info) s.0 ∙ flat_map-cons cp_info (head_of v) (tail_of v),
+      (slot_at at a.0, (a.0, (a.2, p.3), refl), (p.0, p.1, p.2)),
+    ))
     (bind_exact_of (λ s. bind (slots n (takes_two s.entry)) (λ others. give (s ∷ others))) (flat_map cp_info)
     (λ s at cs xs. (rest : List Slot) × Others (takes_two s.entry) n at cs rest × (xs ≡ s ∷ rest)) (first_exact (nat_lt 0 n))
     (λ at c s h. map_exact (λ others. s ∷ others) (slots_exact n (takes_two s.entry) (λ two. needs_room n (takes_two s.entry) (subst (λ (t : Slot). IsTrue (nat_lt 0 n || not (takes_two t.entry))) (sym h.2) h.1.1) two))))
