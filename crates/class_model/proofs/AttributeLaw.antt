@@ -1,14 +1,13 @@
 -- Attributes are read exactly where they are spelled (JVMS 4.7), for any that are known.
-use Rattle.std.proofs.Common.{◌≡◌, ℕ, zero, suc, ◌+◌, ◌^◌, ◌<◌, Bool, true, false, cond, not, List, [], ◌∷◌, ◌++◌, length, Option, Some, None, Result, Ok, Err, refl, sym, ap, subst, ◌∙◌, arith}
+use Rattle.std.proofs.Common.{◌≡◌, ℕ, zero, suc, ◌+◌, ◌^◌, ◌<◌, Bool, true, false, not, List, [], ◌∷◌, ◌++◌, length, Option, Some, None, Ok, refl, sym, ap, subst, ◌∙◌, arith}
 use Rattle.std.specs.Int.{w16, w32, to_be_bytes}
 use Rattle.std.specs.List.{flat_map}
-use Rattle.std.proofs.lemmas.List.{append-nil, length-append}
+use Rattle.std.proofs.lemmas.List.{append-nil}
 use Rattle.std.proofs.lemmas.List.Concat.{flat_map-cons}
-use Rattle.format_reading.specs.declared.fault.FormatKind.{FormatKind}
 use Rattle.format_reading.specs.declared.fault.FormatKind.TheVariants as bad
-use Rattle.format_reading.specs.Reader.{Reader, u2, u4, bytes, item, bind, give, here, settle, part}
+use Rattle.format_reading.specs.Reader.{Reader, u2, u4, item, bind, give}
 use Rattle.format_reading.specs.Spelling.{Spells}
-use Rattle.format_reading.proofs.Exact.{Exact, as_raw, bind_exact, bind_exact_of, item_exact, map_exact, give_exact, here_exact, settle_exact, part_exact, bytes_exact, u2_exact, u4_exact, nothing}
+use Rattle.format_reading.proofs.Exact.{Exact, as_raw, bind_exact, item_exact, give_exact, here_exact, settle_exact, part_exact, bytes_exact, u2_exact, u4_exact, nothing}
 use Rattle.class_model.specs.declared.pool.Entry.{Entry}
 use Rattle.class_model.specs.Pool.{units_at}
 use Rattle.class_model.specs.Structure.{AttributeInfo, attribute_info}

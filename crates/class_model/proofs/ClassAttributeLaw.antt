@@ -1,10 +1,9 @@
 -- The attributes of a class are read exactly where they are spelled (JVMS 4.7.8, 4.7.10, 4.7.15).
-use Rattle.std.proofs.Common.{◌≡◌, ℕ, ◌+◌, ◌^◌, ◌<◌, Bool, true, false, cond, List, [], ◌∷◌, ◌++◌, length, Option, Some, None, Ok, codes, refl, sym, ap, subst, ◌∙◌}
+use Rattle.std.proofs.Common.{◌≡◌, ℕ, ◌+◌, ◌^◌, ◌<◌, Bool, true, false, cond, List, [], ◌∷◌, ◌++◌, length, Option, Some, codes, refl, sym, ap, subst, ◌∙◌}
 use Rattle.std.specs.Int.{w16, to_be_bytes}
 use Rattle.std.specs.List.{AllByRecursion, flat_map}
 use Rattle.jv_base.specs.Names.{is_text}
 use Rattle.format_reading.specs.declared.fault.FormatKind.TheVariants as bad
-use Rattle.format_reading.specs.Reader.{Reader, u2, item}
 use Rattle.format_reading.specs.Spelling.{Spells}
 use Rattle.format_reading.proofs.Exact.{Exact, as_raw, item_exact, map_exact, u2_exact}
 use Rattle.class_model.specs.declared.pool.Entry.{Entry}
@@ -12,9 +11,9 @@ use Rattle.class_model.specs.Pool.{units_at}
 use Rattle.class_model.specs.Structure.{AttributeInfo, attribute_info}
 use Rattle.class_model.specs.Attributes.{named, IsAttribute, AreAttributes, Single, IsMark, IsSourceFile}
 use Rattle.class_model.specs.Lookups.{due}
-use Rattle.class_model.specs.ReadingAttributes.{counted_attributes, once, source_file}
+use Rattle.class_model.specs.ReadingAttributes.{counted_attributes, source_file}
 use Rattle.class_model.specs.ReadingCodeAttribute.{is_there}
-use Rattle.class_model.specs.ReadingClass.{ClassSeen, no_class_attribute, source_seen, known_of_class}
+use Rattle.class_model.specs.ReadingClass.{ClassSeen, no_class_attribute, known_of_class}
 use Rattle.class_model.proofs.LookupLaw.{due_is}
 use Rattle.class_model.proofs.AttributeLaw.{text, as_text, as_told, Does, Knows, Step, Steps, once_exact, counted_exact}
 use Rattle.class_model.proofs.SeenLaw.{Chain, each_found, chain_found, Once, single_found, single_only, Marks, mark_found, mark_only, not_named, is_first, other_name, not_there, knows_if, give_text}

@@ -1,8 +1,8 @@
 -- A class file is read exactly where its bytes spell the class (JVMS 4.1), where codes are.
-use Rattle.std.proofs.Common.{◌≡◌, ℕ, zero, suc, ◌+◌, ◌^◌, ◌<◌, ◌≤◌, Bool, true, false, cond, eqb, List, [], ◌∷◌, ◌++◌, length, drop, Option, Some, None, Result, Ok, Err, refl, sym, ap, subst, ◌∙◌, append_assoc, arith}
+use Rattle.std.proofs.Common.{◌≡◌, ℕ, suc, ◌+◌, ◌^◌, ◌<◌, Bool, true, false, cond, eqb, List, [], ◌∷◌, ◌++◌, length, Option, Result, Ok, Err, refl, sym, ap, subst, ◌∙◌, append_assoc, arith}
 use Rattle.std.specs.Prelude.{slice_get}
 use Rattle.std.specs.Int.{w16, w32, to_be_bytes}
-use Rattle.std.specs.List.{AllZip, AllPairs, AllByRecursion, flat_map}
+use Rattle.std.specs.List.{AllZip, flat_map}
 use Rattle.std.proofs.lemmas.Bool.{eqb-true, eq-eqb}
 use Rattle.std.proofs.lemmas.List.{append-nil, length-drop, drop_all, nil_from_length}
 use Rattle.jv_base.specs.Place.{Place, start, after}
@@ -10,26 +10,25 @@ use Rattle.format_reading.specs.Fault.{fault}
 use Rattle.format_reading.specs.declared.fault.FormatFault.{FormatFault}
 use Rattle.format_reading.specs.declared.fault.FormatKind.{FormatKind}
 use Rattle.format_reading.specs.declared.fault.FormatKind.TheVariants as bad
-use Rattle.format_reading.specs.Reader.{Reader, u2, u4, item, bind, give}
+use Rattle.format_reading.specs.Reader.{Reader, u2, item, bind, give}
 use Rattle.format_reading.specs.Spelling.{Spells}
 use Rattle.format_reading.proofs.Exact.{Exact, Takes, IsBytes, left, as_raw, bind_exact, bind_exact_of, item_exact, map_exact, u2_exact, u4_exact}
 use Rattle.class_model.specs.declared.pool.Entry.{Entry}
-use Rattle.class_model.specs.declared.pool.Entry.TheVariants as entry
 use Rattle.class_model.specs.declared.frame.VType.{VType}
 use Rattle.class_model.specs.declared.class.Field.{Field}
 use Rattle.class_model.specs.declared.class.Method.{Method}
 use Rattle.class_model.specs.declared.class.Class.{Class}
 use Rattle.class_model.specs.declared.class.LeftKind.{LeftKind}
 use Rattle.class_model.specs.Pool.{IsClassAt}
-use Rattle.class_model.specs.Structure.{AttributeInfo, attribute_info, MemberInfo, member_info, head}
-use Rattle.class_model.specs.ConstantPool.{CpInfo, cp_info, IsPool, numbered, NamesRight}
+use Rattle.class_model.specs.Structure.{AttributeInfo, MemberInfo, member_info, head}
+use Rattle.class_model.specs.ConstantPool.{CpInfo, IsPool, numbered, NamesRight}
 use Rattle.class_model.specs.Flags.{class_mask, meant, are_class_flags, is_interface, flags_of}
 use Rattle.class_model.specs.Members.{IsField, FieldsDiffer, MethodsDiffer}
 use Rattle.class_model.specs.ClassFile.{ClassFile, class_file, AreMethods, IsClass, File, left_out_of_class, first_left_out}
 use Rattle.class_model.specs.Lookups.{test, class_at}
 use Rattle.class_model.specs.ReadingPool.{read_pool}
 use Rattle.class_model.specs.ReadingAttributes.{counted_attributes}
-use Rattle.class_model.specs.ReadingCodeAttribute.{Body, read_code}
+use Rattle.class_model.specs.ReadingCodeAttribute.{read_code}
 use Rattle.class_model.specs.ReadingMembers.{read_fields, read_methods}
 use Rattle.class_model.specs.ReadingClass.{wanted, read_head, ClassSeen, no_class_attribute, known_of_class, read_all_fields, read_all_methods, read_interfaces, class_of, read_class_file, all_read, class_read}
 use Rattle.class_model.proofs.NameLaw.{HaveUnits}

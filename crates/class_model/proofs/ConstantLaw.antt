@@ -1,17 +1,12 @@
 -- The constant of a field is read exactly where it is told (JVMS 4.7.2).
-use Rattle.std.proofs.Common.{◌≡◌, ◌⊎◌, inl, inr, ℕ, ◌^◌, ◌<◌, Bool, true, false, cond, ◌&&◌, eqb, List, [], ◌∷◌, Option, Some, None, Result, Ok, Err, codes, refl, sym, ap, subst, ◌∙◌, arith}
+use Rattle.std.proofs.Common.{◌≡◌, inl, inr, ℕ, Bool, true, false, cond, ◌&&◌, eqb, List, Option, Some, None, Ok, Err, codes, refl, sym, ap, subst, ◌∙◌}
 use Rattle.std.specs.Prelude.{slice_get, option_map, option_and_then}
-use Rattle.std.specs.Int.{w16, to_be_bytes}
 use Rattle.std.proofs.lemmas.Bool.{eqb-true, eq-eqb}
-use Rattle.jv_base.specs.Names.{is_text}
-use Rattle.jv_base.specs.Mutf8.{IsUnits}
 use Rattle.jv_base.specs.declared.types.FieldType.{FieldType}
 use Rattle.jv_base.specs.declared.types.Base.{Base}
 use Rattle.jv_base.specs.declared.types.Base.TheVariants as base
 use Rattle.jv_base.proofs.Equality.{text_Decides}
-use Rattle.format_reading.specs.declared.fault.FormatKind.{FormatKind}
 use Rattle.format_reading.specs.declared.fault.FormatKind.TheVariants as bad
-use Rattle.format_reading.specs.Reader.{u2, item}
 use Rattle.format_reading.specs.Spelling.{Spells}
 use Rattle.format_reading.proofs.Exact.{Exact, item_exact, u2_exact}
 use Rattle.class_model.specs.declared.pool.Entry.{Entry}
@@ -19,7 +14,7 @@ use Rattle.class_model.specs.declared.pool.Entry.TheVariants as entry
 use Rattle.class_model.specs.declared.class.Constant.{Constant}
 use Rattle.class_model.specs.declared.class.Constant.TheVariants as constant
 use Rattle.class_model.specs.Pool.{units_at}
-use Rattle.class_model.specs.ConstantPool.{NamesRight, string_index_in, string_units_at, IsPool, numbered, places_of}
+use Rattle.class_model.specs.ConstantPool.{NamesRight, string_index_in, string_units_at}
 use Rattle.class_model.specs.Attributes.{IsPlain, IsIntLike, IsConstantOf, IsConstantValue}
 use Rattle.class_model.specs.ReadingAttributes.{is_int_base, is_long_base, is_string_base, is_float_base, is_double_base, fitting, plain, constant_in, constant_value}
 use Rattle.class_model.proofs.AttributeLaw.{text, as_text, as_told}

@@ -1,16 +1,15 @@
 -- An entry of the constant pool is read exactly where it is spelled (JVMS 4.4).
-use Rattle.std.proofs.Common.{◌≡◌, ℕ, ◌+◌, ◌*◌, ◌^◌, ◌<◌, Bool, true, false, cond, not, ◌&&◌, ◌||◌, eqb, List, [], ◌∷◌, ◌++◌, length, Option, Some, None, Result, Ok, Err, refl, sym, ap, subst, ◌∙◌, arith}
+use Rattle.std.proofs.Common.{◌≡◌, ℕ, ◌^◌, ◌<◌, Bool, true, false, cond, not, ◌&&◌, ◌||◌, eqb, List, [], ◌∷◌, ◌++◌, length, Option, Some, None, Result, Ok, Err, refl, sym, ap, subst, ◌∙◌, arith}
 use Rattle.std.specs.Prelude.{IsTrue, if◌then◌else◌}
 use Rattle.std.specs.Int.{w8, w16, w32, to_be_bytes, cast_signed}
-use Rattle.std.proofs.lemmas.Bool.{eqb-true, eqb-false, eq-eqb, ne_eqb}
-use Rattle.std.proofs.lemmas.List.{append-nil}
+use Rattle.std.proofs.lemmas.Bool.{eqb-true, ne_eqb}
 use Rattle.jv_base.specs.Mutf8.{mutf8, IsUnits}
 use Rattle.jv_base.specs.Decoding.{read_mutf8}
 use Rattle.jv_base.specs.declared.mutf8.BadUtf8.{BadUtf8}
 use Rattle.jv_base.proofs.Coding.{read_mutf8-found, read_mutf8-only}
 use Rattle.format_reading.specs.declared.fault.FormatKind.{FormatKind}
 use Rattle.format_reading.specs.declared.fault.FormatKind.TheVariants as bad
-use Rattle.format_reading.specs.Reader.{Reader, u1, u2, u4, bytes, item, bind, give, lead}
+use Rattle.format_reading.specs.Reader.{Reader, u2, u4, bytes, item, bind, give}
 use Rattle.format_reading.specs.Spelling.{Spells}
 use Rattle.format_reading.proofs.Exact.{Exact, Leads, as_raw, lead_exact, item_exact, bind_exact, map_exact, leads_if, u1_exact, u2_exact, u4_exact, bytes_exact}
 use Rattle.class_model.specs.declared.pool.Entry.{Entry}

@@ -5,17 +5,17 @@ use Rattle.std.specs.List.{AllByRecursion, flat_map}
 use Rattle.std.proofs.lemmas.List.{append-nil}
 use Rattle.jv_base.specs.Names.{is_text}
 use Rattle.jv_base.specs.declared.types.FieldType.{FieldType}
-use Rattle.format_reading.specs.Reader.{Reader, bytes, bind, give}
+use Rattle.format_reading.specs.Reader.{give}
 use Rattle.format_reading.specs.Spelling.{Spells}
 use Rattle.format_reading.proofs.Exact.{Exact, as_raw, bind_exact, map_exact, give_exact, bytes_exact, nothing}
 use Rattle.class_model.specs.declared.pool.Entry.{Entry}
 use Rattle.class_model.specs.declared.class.Constant.{Constant}
 use Rattle.class_model.specs.Structure.{AttributeInfo, attribute_info}
 use Rattle.class_model.specs.Attributes.{named, IsAttribute, AreAttributes, IsMark, IsConstantValue, AreConstants}
-use Rattle.class_model.specs.ReadingAttributes.{counted_attributes, once}
+use Rattle.class_model.specs.ReadingAttributes.{counted_attributes}
 use Rattle.class_model.specs.ReadingCodeAttribute.{is_there}
 use Rattle.class_model.specs.ReadingMembers.{FieldSeen, no_field_attribute, dropped, constant_seen, known_of_field, constant_of}
-use Rattle.class_model.proofs.AttributeLaw.{text, as_text, as_told, Does, Knows, Step, Steps, once_exact, counted_exact}
+use Rattle.class_model.proofs.AttributeLaw.{text, as_told, Does, Knows, Step, Steps, once_exact, counted_exact}
 use Rattle.class_model.proofs.SeenLaw.{Chain, each_found, chain_found, Marks, mark_found, mark_only, not_named, is_first, other_name, not_there, knows_if, give_text}
 use Rattle.class_model.proofs.ConstantLaw.{AllNameRight, constant_exact}
 

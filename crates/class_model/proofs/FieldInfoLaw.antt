@@ -1,7 +1,7 @@
 -- The fields of a class are read exactly where they are spelled (JVMS 4.5).
-use Rattle.std.proofs.Common.{◌≡◌, ℕ, zero, suc, ◌+◌, ◌^◌, ◌<◌, Bool, true, false, cond, not, List, [], ◌∷◌, ◌++◌, length, Option, Some, None, Result, Ok, Err, codes, refl, sym, ap, subst, ◌∙◌, arith}
+use Rattle.std.proofs.Common.{◌≡◌, ℕ, zero, suc, ◌+◌, ◌^◌, ◌<◌, Bool, true, false, cond, not, List, [], ◌∷◌, ◌++◌, length, Result, Ok, Err, refl, sym, ap, subst, ◌∙◌, arith}
 use Rattle.std.specs.Int.{w16, to_be_bytes}
-use Rattle.std.specs.List.{AllZip, AllPairs, AllByRecursion, flat_map, list_any}
+use Rattle.std.specs.List.{AllZip, flat_map, list_any}
 use Rattle.std.proofs.lemmas.List.Concat.{flat_map-cons}
 use Rattle.jv_base.specs.Names.{is_member_name}
 use Rattle.jv_base.specs.Types.{field_text, IsFieldType}
@@ -10,25 +10,24 @@ use Rattle.jv_base.specs.Descriptors.{read_field}
 use Rattle.jv_base.proofs.FieldLaw.{read_field-found, read_field-only}
 use Rattle.format_reading.specs.declared.fault.FormatKind.{FormatKind}
 use Rattle.format_reading.specs.declared.fault.FormatKind.TheVariants as bad
-use Rattle.format_reading.specs.Reader.{Reader, u2, item, bind, give, here, settle}
+use Rattle.format_reading.specs.Reader.{Reader, u2, item, bind, give}
 use Rattle.format_reading.specs.Spelling.{Spells}
-use Rattle.format_reading.proofs.Exact.{Exact, as_raw, bind_exact, item_exact, map_exact, give_exact, here_exact, settle_exact, u2_exact, nothing}
+use Rattle.format_reading.proofs.Exact.{Exact, as_raw, bind_exact, item_exact, map_exact, give_exact, here_exact, settle_exact, u2_exact}
 use Rattle.class_model.specs.declared.pool.Entry.{Entry}
-use Rattle.class_model.specs.declared.class.Constant.{Constant}
 use Rattle.class_model.specs.declared.class.Field.{Field}
 use Rattle.class_model.specs.Pool.{units_at, IsText}
 use Rattle.class_model.specs.Structure.{AttributeInfo, attribute_info, MemberInfo, member_info}
 use Rattle.class_model.specs.Flags.{field_mask, meant, is_static, are_field_flags, flags_of}
-use Rattle.class_model.specs.Members.{AreFlags, IsField, FieldsDiffer}
+use Rattle.class_model.specs.Members.{IsField, FieldsDiffer}
 use Rattle.class_model.specs.Lookups.{due, test, text_at, good_text_at, field_type_of, value_of}
 use Rattle.class_model.specs.MemberTypes.{field_type_at}
 use Rattle.class_model.specs.ReadingAttributes.{counted_attributes}
-use Rattle.class_model.specs.ReadingMembers.{Signature, same_signature, fresh, FieldSeen, no_field_attribute, known_of_field, constant_of, field_of, read_field_info, read_fields}
+use Rattle.class_model.specs.ReadingMembers.{Signature, same_signature, fresh, FieldSeen, no_field_attribute, known_of_field, field_of, read_field_info, read_fields}
 use Rattle.class_model.proofs.NameLaw.{HaveUnits, then_ok, text_at_found, text_at_only, good_found, good_only}
 use Rattle.class_model.proofs.LookupLaw.{due_is, value_is}
 use Rattle.class_model.proofs.ConstantLaw.{AllNameRight}
 use Rattle.class_model.proofs.FieldAttributeLaw.{AreFieldAttributes, field_attributes_exact, constants_found, constants_only}
-use Rattle.class_model.proofs.FreshLaw.{IsNew, AreNew, new_found, new_only, none_before, field_signature, fields_apart, fields_told}
+use Rattle.class_model.proofs.FreshLaw.{IsNew, AreNew, field_signature, fields_apart, fields_told}
 
 -- ---- parts of a member
 

@@ -1,11 +1,11 @@
 -- The attributes of a method are read exactly where they are spelled (JVMS 4.7.3, 4.7.5, 4.7.8, 4.7.15), where Code is.
-use Rattle.std.proofs.Common.{◌≡◌, ℕ, ◌+◌, ◌^◌, ◌<◌, Bool, true, false, cond, List, [], ◌∷◌, ◌++◌, length, Option, Some, None, Ok, codes, refl, sym, ap, subst, ◌∙◌, arith}
+use Rattle.std.proofs.Common.{◌≡◌, ℕ, ◌+◌, ◌^◌, ◌<◌, Bool, true, false, cond, List, [], ◌∷◌, ◌++◌, length, Option, Some, None, Ok, codes, refl, sym, ap, subst, ◌∙◌}
 use Rattle.std.specs.Int.{w16, to_be_bytes}
 use Rattle.std.specs.List.{AllByRecursion, AllZip, flat_map}
 use Rattle.jv_base.specs.Names.{is_text}
 use Rattle.format_reading.specs.declared.fault.FormatKind.TheVariants as bad
-use Rattle.format_reading.specs.Reader.{Reader, u2, item, bind, many, settle}
-use Rattle.format_reading.specs.Spelling.{Spells, AllStand, ManyStand}
+use Rattle.format_reading.specs.Reader.{Reader, u2, item, bind, many}
+use Rattle.format_reading.specs.Spelling.{Spells, AllStand}
 use Rattle.format_reading.proofs.Exact.{Exact, as_raw, bind_exact, item_exact, map_exact, many_exact, settle_exact, u2_exact}
 use Rattle.class_model.specs.declared.pool.Entry.{Entry}
 use Rattle.class_model.specs.Pool.{IsClassAt}
@@ -14,7 +14,7 @@ use Rattle.class_model.specs.Attributes.{named, IsAttribute, AreAttributes, Sing
 use Rattle.class_model.specs.Lookups.{test, class_at}
 use Rattle.class_model.specs.ReadingAttributes.{counted_attributes, once, exceptions}
 use Rattle.class_model.specs.ReadingCodeAttribute.{Body, is_there}
-use Rattle.class_model.specs.ReadingMembers.{MethodSeen, no_method_attribute, exceptions_seen, code_seen, one_code, known_of_method}
+use Rattle.class_model.specs.ReadingMembers.{MethodSeen, no_method_attribute, code_seen, one_code, known_of_method}
 use Rattle.class_model.proofs.NameLaw.{HaveUnits}
 use Rattle.class_model.proofs.LookupLaw.{class_found, class_only}
 use Rattle.class_model.proofs.AttributeLaw.{text, as_text, as_told, Does, Knows, Step, Steps, once_exact, counted_exact}

@@ -1,8 +1,8 @@
 -- The methods of a class are read exactly where they are spelled (JVMS 4.6), where their codes are.
-use Rattle.std.proofs.Common.{◌≡◌, ℕ, zero, suc, ◌+◌, ◌^◌, ◌<◌, Bool, true, false, cond, not, ◌||◌, List, [], ◌∷◌, ◌++◌, length, Option, Some, None, Result, Ok, Err, codes, refl, sym, ap, subst, ◌∙◌, arith}
+use Rattle.std.proofs.Common.{◌≡◌, ℕ, zero, suc, ◌^◌, ◌<◌, Bool, true, false, cond, not, ◌||◌, List, [], ◌∷◌, ◌++◌, length, Option, Some, None, Result, Ok, Err, codes, refl, sym, ap, subst, ◌∙◌, arith}
 use Rattle.std.specs.Prelude.{IsTrue}
 use Rattle.std.specs.Int.{w16, to_be_bytes}
-use Rattle.std.specs.List.{AllByRecursion, flat_map, list_any}
+use Rattle.std.specs.List.{flat_map, list_any}
 use Rattle.std.proofs.lemmas.List.Concat.{flat_map-cons}
 use Rattle.jv_base.specs.Outcome.{◌>>=◌}
 use Rattle.jv_base.specs.Names.{is_method_name}
@@ -10,18 +10,17 @@ use Rattle.jv_base.specs.Types.{method_text, IsMethodType}
 use Rattle.jv_base.specs.declared.types.MethodType.{MethodType}
 use Rattle.format_reading.specs.declared.fault.FormatKind.{FormatKind}
 use Rattle.format_reading.specs.declared.fault.FormatKind.TheVariants as bad
-use Rattle.format_reading.specs.Reader.{Reader, u2, item, bind, give, here, settle}
+use Rattle.format_reading.specs.Reader.{Reader, u2, item, bind, give, settle}
 use Rattle.format_reading.specs.Spelling.{Spells}
-use Rattle.format_reading.proofs.Exact.{Exact, as_raw, bind_exact, map_exact, give_exact, here_exact, settle_exact, u2_exact, nothing}
+use Rattle.format_reading.proofs.Exact.{Exact, as_raw, bind_exact, map_exact, give_exact, here_exact, settle_exact, nothing}
 use Rattle.class_model.specs.declared.pool.Entry.{Entry}
 use Rattle.class_model.specs.declared.frame.VType.{VType}
 use Rattle.class_model.specs.declared.code.Code.{Code}
 use Rattle.class_model.specs.declared.class.Method.{Method}
 use Rattle.class_model.specs.declared.class.LeftKind.{LeftKind}
-use Rattle.class_model.specs.declared.class.LeftKind.TheVariants as left
 use Rattle.class_model.specs.Pool.{units_at, IsText}
-use Rattle.class_model.specs.Structure.{AttributeInfo, attribute_info, MemberInfo, member_info}
-use Rattle.class_model.specs.Flags.{method_mask, meant, is_static, is_native, has_body, are_method_flags, are_initial_flags, flags_of}
+use Rattle.class_model.specs.Structure.{AttributeInfo, MemberInfo, member_info}
+use Rattle.class_model.specs.Flags.{method_mask, meant, is_static, has_body, are_method_flags, are_initial_flags, flags_of}
 use Rattle.class_model.specs.Frames.{initial_locals}
 use Rattle.class_model.specs.CodeAttribute.{IsBody}
 use Rattle.std.proofs.lemmas.List.{append-nil}

@@ -1,24 +1,23 @@
 -- What an entry of the constant pool names is found right exactly where it is right (JVMS 4.4).
-use Rattle.std.proofs.Common.{◌≡◌, ℕ, ◌<◌, Bool, true, false, cond, not, ◌&&◌, ◌||◌, eqb, List, [], ◌∷◌, length, Option, Some, None, Result, Ok, Err, ◌⊎◌, inl, inr, refl, sym, ap, subst, ◌∙◌, arith, IsUtf8}
-use Rattle.std.specs.Prelude.{IsTrue, slice_get, is_some, option_and_then}
+use Rattle.std.proofs.Common.{◌≡◌, ℕ, ◌<◌, Bool, true, false, cond, ◌||◌, eqb, List, Option, Some, None, Result, Ok, Err, ◌⊎◌, inl, inr, refl, sym, ap, subst, ◌∙◌, arith}
+use Rattle.std.specs.Prelude.{slice_get, is_some, option_and_then}
 use Rattle.std.proofs.lemmas.Bool.{eqb-false, ne_eqb}
 use Rattle.jv_base.specs.Outcome.{◌>>=◌}
 use Rattle.jv_base.specs.Mutf8.{IsUnits}
 use Rattle.jv_base.specs.Utf16.{units_of}
 use Rattle.jv_base.specs.Names.{is_class_name, is_member_name, is_method_name}
-use Rattle.jv_base.specs.Types.{field_text, IsFieldType, method_text, IsMethodType}
+use Rattle.jv_base.specs.Types.{field_text, IsFieldType}
 use Rattle.jv_base.specs.Descriptors.{read_field, read_method}
 use Rattle.jv_base.specs.declared.types.FieldType.{FieldType}
-use Rattle.jv_base.specs.declared.types.MethodType.{MethodType}
 use Rattle.jv_base.proofs.FieldLaw.{read_field-found, read_field-only}
 use Rattle.jv_base.proofs.MethodLaw.{read_method-found, read_method-only}
 use Rattle.format_reading.specs.declared.fault.FormatKind.{FormatKind}
 use Rattle.format_reading.specs.declared.fault.FormatKind.TheVariants as bad
 use Rattle.class_model.specs.declared.pool.Entry.{Entry}
 use Rattle.class_model.specs.declared.pool.Entry.TheVariants as entry
-use Rattle.class_model.specs.Pool.{units_in, units_at, class_units_at, name_index_in, IsText, IsArrayText, IsTypeText}
-use Rattle.class_model.specs.ConstantPool.{IsFieldText, IsMethodText, name_and_type_in, name_and_type_at, IsNameAndTypeAt, class_type, IsNameOfType, IsTypeAt, RefersRight, NamesRight}
-use Rattle.class_model.specs.Lookups.{due, test, value_of, text_of, field_type_of, method_type_of, only_array, named_type, text_at, good_text_at, is_field_text, is_method_text, is_descriptor, passing, test_of_units, refers_right, names_right}
+use Rattle.class_model.specs.Pool.{units_at, name_index_in, IsText, IsTypeText}
+use Rattle.class_model.specs.ConstantPool.{IsFieldText, IsMethodText, name_and_type_in, name_and_type_at, class_type, IsNameOfType, IsTypeAt, RefersRight, NamesRight}
+use Rattle.class_model.specs.Lookups.{due, test, value_of, text_of, field_type_of, method_type_of, only_array, named_type, text_at, good_text_at, is_field_text, is_method_text, is_descriptor, test_of_units, refers_right, names_right}
 use Rattle.class_model.proofs.TextLaw.{text_found}
 use Rattle.class_model.proofs.BackEntries.{text_back}
 

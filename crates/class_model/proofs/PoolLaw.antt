@@ -1,23 +1,21 @@
 -- The constant pool is read exactly where it is spelled (JVMS 4.1, 4.4).
-use Rattle.std.proofs.Common.{◌≡◌, ℕ, zero, suc, ◌+◌, ◌-◌, ◌^◌, ◌<◌, Bool, true, false, cond, List, [], ◌∷◌, ◌++◌, length, map, Option, Some, None, Result, Ok, Err, refl, sym, ap, ap₂, subst, ◌∙◌, arith}
+use Rattle.std.proofs.Common.{◌≡◌, ℕ, zero, suc, ◌+◌, ◌-◌, Bool, true, false, cond, List, [], ◌∷◌, ◌++◌, length, map, Option, Some, None, Result, Ok, Err, refl, sym, ap, subst, ◌∙◌, arith}
 use Rattle.std.specs.Prelude.{slice_get, option_and_then}
 use Rattle.std.specs.Int.{w16, to_be_bytes}
 use Rattle.std.specs.List.{AllByRecursion, AllZip, flat_map}
-use Rattle.std.proofs.lemmas.List.{append-nil, append_assoc, length-map}
+use Rattle.std.proofs.lemmas.List.{append-nil, length-map}
 use Rattle.jv_base.specs.Mutf8.{IsUnits}
-use Rattle.format_reading.specs.Fault.{fault}
-use Rattle.format_reading.specs.declared.fault.FormatFault.{FormatFault}
 use Rattle.format_reading.specs.declared.fault.FormatKind.{FormatKind}
-use Rattle.format_reading.specs.Reader.{Reader, u2, bind, give, told}
+use Rattle.format_reading.specs.Reader.{bind, give, told}
 use Rattle.format_reading.specs.Spelling.{Spells}
 use Rattle.format_reading.proofs.Exact.{Exact, as_raw, bind_exact, map_exact, told_exact, u2_exact, nothing}
 use Rattle.class_model.specs.declared.pool.Entry.{Entry}
 use Rattle.class_model.specs.declared.pool.Entry.TheVariants as entry
-use Rattle.class_model.specs.Pool.{units_in, units_at}
+use Rattle.class_model.specs.Pool.{units_in}
 use Rattle.class_model.specs.ConstantPool.{CpInfo, Utf8Info, IntegerInfo, LongInfo, ClassInfo, StringInfo, FieldrefInfo, MethodrefInfo, InterfaceMethodrefInfo, NameAndTypeInfo, LeftOutInfo, cp_info, IsConstant, takes_two, places_of, numbered, NamesRight, IsPool}
 use Rattle.class_model.specs.Lookups.{names_right}
 use Rattle.class_model.specs.ReadingPool.{Slot, slots, entries_of, fault_of, all_name_right, read_pool}
-use Rattle.class_model.proofs.SlotLaw.{slot_at, slots_of, AreSlots, slots_exact, Others}
+use Rattle.class_model.proofs.SlotLaw.{slots_of, AreSlots, slots_exact, Others}
 use Rattle.class_model.proofs.NameLaw.{HaveUnits, AllFound, names_found, names_only}
 
 -- ---- entries and their slots

@@ -1,17 +1,13 @@
 -- The rows of a StackMapTable are read exactly where they are spelled (JVMS 4.7.4).
-use Rattle.std.proofs.Common.{◌≡◌, ◌⊎◌, inl, inr, ℕ, zero, suc, ◌+◌, ◌-◌, ◌^◌, ◌<◌, ◌≤◌, Bool, true, false, cond, eqb, leb, List, [], ◌∷◌, ◌++◌, length, Option, Some, None, Result, Ok, Err, refl, sym, ap, subst, ◌∙◌, append_assoc, arith}
+use Rattle.std.proofs.Common.{◌≡◌, ℕ, ◌+◌, ◌-◌, ◌^◌, ◌<◌, ◌≤◌, true, false, cond, eqb, leb, List, [], ◌∷◌, ◌++◌, length, Result, Ok, Err, refl, sym, ap, subst, ◌∙◌, append_assoc, arith}
 use Rattle.std.specs.Int.{w8, w16, to_be_bytes}
 use Rattle.std.specs.List.{AllByRecursion, flat_map}
-use Rattle.std.proofs.lemmas.Bool.{eqb-true, eqb-false, leb-true, leb-false, le-leb, lt-leb, eq-eqb, ne_eqb}
-use Rattle.std.proofs.lemmas.List.{append-nil}
+use Rattle.std.proofs.lemmas.Bool.{eqb-true, eqb-false, leb-true, leb-false, le-leb, lt-leb, ne_eqb}
 use Rattle.jv_base.specs.Place.{Place}
-use Rattle.format_reading.specs.Fault.{fault}
 use Rattle.format_reading.specs.declared.fault.FormatFault.{FormatFault}
-use Rattle.format_reading.specs.declared.fault.FormatKind.{FormatKind}
-use Rattle.format_reading.specs.declared.fault.FormatKind.TheVariants as bad
 use Rattle.format_reading.specs.Reader.{Reader, u1, u2, lead, bind, give, many}
-use Rattle.format_reading.specs.Spelling.{Spells, AllStand, ManyStand}
-use Rattle.format_reading.proofs.Exact.{Exact, Leads, as_raw, lead_exact, lead_exact_of, bind_exact, map_exact, give_exact, many_exact, leads_if, u1_exact, u2_exact, nothing}
+use Rattle.format_reading.specs.Spelling.{Spells, AllStand}
+use Rattle.format_reading.proofs.Exact.{Exact, Leads, as_raw, lead_exact, lead_exact_of, bind_exact, map_exact, give_exact, many_exact, leads_if, u1_exact, u2_exact}
 use Rattle.class_model.specs.Frames.{VerificationTypeInfo, TagInfo, ObjectInfo, UninitializedInfo, verification_type_info, StackMapFrame, SameFrame, SameLocalsOneStackItem, SameLocalsOneStackItemExtended, ChopFrame, SameFrameExtended, AppendFrame, FullFrame, counted_types, stack_map_frame}
 use Rattle.class_model.specs.ReadingFrames.{object_info, uninitialized_info, type_begun, read_type, one_item, one_item_extended, chop, same_extended, append, full, row_begun, at_row, read_row}
 

@@ -1,5 +1,5 @@
 -- What is seen of attributes one behind the other is what the attributes of each name say.
-use Rattle.std.proofs.Common.{◌≡◌, ℕ, ◌+◌, ◌^◌, ◌<◌, Bool, true, false, cond, List, [], ◌∷◌, length, Option, Some, None, refl, sym, ap, subst, ◌∙◌}
+use Rattle.std.proofs.Common.{◌≡◌, ℕ, ◌+◌, Bool, true, false, cond, List, [], ◌∷◌, length, Option, Some, None, refl, sym, ap, subst, ◌∙◌}
 use Rattle.std.specs.List.{AllByRecursion}
 use Rattle.format_reading.specs.Reader.{Reader, give}
 use Rattle.format_reading.specs.Spelling.{Spells}
@@ -11,7 +11,7 @@ use Rattle.class_model.specs.Pool.{units_at}
 use Rattle.class_model.specs.Structure.{AttributeInfo, attribute_info}
 use Rattle.class_model.specs.ReadingCodeAttribute.{is_there}
 use Rattle.class_model.specs.Attributes.{is_named, named, IsAttribute, Single, IsMark}
-use Rattle.class_model.proofs.AttributeLaw.{text, as_text, Does, Knows, Step, Steps}
+use Rattle.class_model.proofs.AttributeLaw.{text, Does, Knows, Steps}
 
 -- ---- from what was seen to the attributes of a name
 

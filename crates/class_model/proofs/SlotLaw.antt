@@ -1,16 +1,15 @@
 -- The indices of a constant pool are read exactly where its constants are spelled (JVMS 4.4, 4.4.5).
-use Rattle.std.proofs.Common.{◌≡◌, ℕ, zero, suc, ◌+◌, ◌<◌, Bool, true, false, cond, not, ◌||◌, List, [], ◌∷◌, ◌++◌, length, map, refl, sym, ap, subst, ◌∙◌, arith}
+use Rattle.std.proofs.Common.{◌≡◌, ℕ, zero, suc, ◌+◌, ◌<◌, Bool, true, false, cond, not, ◌||◌, List, [], ◌∷◌, ◌++◌, length, refl, sym, ap, subst, ◌∙◌, arith}
 use Rattle.std.specs.Prelude.{IsTrue, nat_lt}
-use Rattle.std.specs.List.{AllZip, flat_map}
+use Rattle.std.specs.List.{flat_map}
 use Rattle.std.proofs.lemmas.Bool.{lt-ltb}
-use Rattle.std.proofs.lemmas.List.{append-nil}
 use Rattle.std.proofs.lemmas.List.Concat.{flat_map-cons}
-use Rattle.format_reading.specs.Reader.{Reader, bind, give, here}
+use Rattle.format_reading.specs.Reader.{bind, give}
 use Rattle.format_reading.specs.Spelling.{Spells}
 use Rattle.format_reading.proofs.Exact.{Exact, as_raw, bind_exact, bind_exact_of, map_exact, give_exact, here_exact, nothing}
 use Rattle.class_model.specs.declared.pool.Entry.{Entry}
 use Rattle.class_model.specs.declared.pool.Entry.TheVariants as entry
-use Rattle.class_model.specs.ConstantPool.{CpInfo, Utf8Info, cp_info, IsConstant, takes_two, places_of}
+use Rattle.class_model.specs.ConstantPool.{CpInfo, Utf8Info, cp_info, IsConstant, takes_two}
 use Rattle.class_model.specs.ReadingPool.{Slot, slot, slots, read_entry}
 use Rattle.class_model.proofs.EntryLaw.{HasRoom, entry_exact}
 
