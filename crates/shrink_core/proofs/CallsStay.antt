@@ -1,6 +1,6 @@
 -- The calls of kept methods are of kept methods.
 use Rattle.std.proofs.Common.{◌≡◌, ℕ, zero, suc, ◌+◌, ◌<◌, Bool, true, false, cond, not, ◌&&◌, List, [], ◌∷◌, length, get_or, drop, map, Option, Some, None, IsTrue, refl, sym, ap, subst, ◌∙◌, arith, inl, inr, All}
-use Rattle.std.specs.Prelude.{position, option_map, IfSome, slice_get, nat_lt}
+use Rattle.std.specs.Prelude.{option_map, IfSome, slice_get}
 use Rattle.std.specs.List.{AllZip, AllByRecursion, filter_map, cons_option, position_or_len}
 use Rattle.std.proofs.lemmas.Bool.{lt-ltb}
 use Rattle.std.proofs.lemmas.List.{get_or-map}

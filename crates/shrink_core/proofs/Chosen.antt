@@ -1,5 +1,5 @@
 -- Which elements are chosen, step by step.
-use Rattle.std.proofs.Common.{◌≡◌, ℕ, ◌+◌, ◌<◌, Bool, true, false, cond, List, [], ◌∷◌, ◌++◌, length, get_or, drop, refl, sym, ap, ◌∙◌, arith, append_assoc, drop-cons, add-one}
+use Rattle.std.proofs.Common.{◌≡◌, ℕ, ◌+◌, ◌<◌, Bool, true, false, cond, List, [], ◌∷◌, ◌++◌, length, get_or, drop, sym, ap, ◌∙◌, append_assoc, drop-cons, add-one}
 use Rattle.shrink_core.specs.Kept.{chosen}
 
 by_mark : {A : Type 0} (mark : Bool) (marks : List Bool) (kept kept2 rest : List A) (x : A) → kept2 ≡ cond mark (kept ++ x ∷ []) kept → kept2 ++ chosen marks rest ≡ kept ++ chosen (mark ∷ marks) (x ∷ rest)

@@ -1,8 +1,7 @@
 -- A small class stays small where the methods that nothing kept needs are dropped.
-use Rattle.std.proofs.Common.{◌≡◌, ℕ, zero, suc, ◌+◌, ◌^◌, ◌<◌, ◌≤◌, Bool, true, false, List, [], ◌∷◌, length, drop, refl, ap, arith, All}
+use Rattle.std.proofs.Common.{◌≡◌, ℕ, zero, suc, ◌<◌, ◌≤◌, Bool, true, false, List, [], ◌∷◌, length, drop, refl, ap, arith}
 use Rattle.std.specs.List.{AllZip, AllByRecursion, AllPairs}
 use Rattle.std.proofs.lemmas.List.Elements.{All-from_recursion, recursion_from_All}
-use Rattle.class_model.specs.declared.class.Method.{Method}
 use Rattle.class_model.specs.declared.class.Class.{Class}
 use Rattle.class_model.specs.declared.pool.Entry.{Entry}
 use Rattle.mark_core.specs.Marks.{Marks}

@@ -1,5 +1,5 @@
 -- The keys of methods that differ, in the order of the methods.
-use Rattle.std.proofs.Common.{◌≡◌, ℕ, zero, suc, ◌+◌, ◌<◌, ◌≤◌, Bool, true, false, cond, not, append-nil, List, [], ◌∷◌, ◌++◌, length, get_or, take, map, Option, Some, None, refl, sym, ap, subst, ◌∙◌, arith, All}
+use Rattle.std.proofs.Common.{◌≡◌, ℕ, ◌+◌, ◌<◌, Bool, true, false, cond, not, append-nil, List, [], ◌∷◌, ◌++◌, length, get_or, take, map, Option, Some, None, refl, sym, ap, subst, ◌∙◌, arith, All}
 use Rattle.std.specs.Prelude.{position, option_map, nat_lt}
 use Rattle.std.proofs.lemmas.Bool.{ltb-true}
 use Rattle.std.proofs.lemmas.List.Elements.{filter_map-append, All-from_recursion, All-nil}
@@ -7,11 +7,10 @@ use Rattle.mark_core.specs.Valid.{Valid, PairBelow}
 use Rattle.mark_core.specs.declared.system.Pair.{Pair}
 use Rattle.std.specs.Bool.{Decides}
 use Rattle.std.specs.List.{AllPairs, list_any, filter_map, position_or_len, prefix_len, cons_option, AllByRecursion}
-use Rattle.std.proofs.lemmas.List.{take_more, length-take, length-map, get_or-map, get_or-take, map-append, map_push}
+use Rattle.std.proofs.lemmas.List.{take_more, length-take, length-map, get_or-map, get_or-take, map_push}
 use Rattle.indexmap.specs.IndexSet.{insert_key}
 use Rattle.indexmap.proofs.CallerLemmas.{Contains-list_any}
 use Rattle.jv_base.proofs.Equality.{text_Decides, and_Decides}
-use Rattle.jv_base.specs.Types.{method_text}
 use Rattle.class_model.specs.declared.op.Op.{Op}
 use Rattle.class_model.specs.declared.op.Op.TheVariants as op
 use Rattle.class_model.specs.declared.code.Ins.{Ins}

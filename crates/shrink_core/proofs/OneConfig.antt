@@ -1,9 +1,8 @@
 -- A text is one config at most.
 use Rattle.std.proofs.Common.{◌≡◌, ℕ, List, [], ◌∷◌, ◌++◌, Option, Some, refl, sym, ap, ◌∙◌, append-nil, codes}
 use Rattle.shrink_core.specs.declared.config.KeptMethod.{KeptMethod}
-use Rattle.shrink_core.specs.declared.config.Config.{Config}
 use Rattle.shrink_core.specs.Path.{directory_in}
-use Rattle.shrink_core.specs.Config.{methods_text, AreKept, IsConfig}
+use Rattle.shrink_core.specs.Config.{methods_text, AreKept}
 use Rattle.shrink_core.specs.OneConfig.{IsOneConfig}
 use Rattle.shrink_core.proofs.ConfigTexts.{methods_follow, end_is_no_method, lines_once, lines_of_config}
 

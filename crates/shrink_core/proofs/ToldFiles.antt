@@ -1,13 +1,12 @@
 -- What told files hold, step by step.
-use Rattle.std.proofs.Common.{◌≡◌, ℕ, ◌≤◌, List, length, Option, Some, None, Result, Ok, Err, sym, subst, ◌∙◌}
+use Rattle.std.proofs.Common.{◌≡◌, ℕ, List, Option, Some, None, Result, Ok, Err, sym, subst, ◌∙◌}
 use Rattle.std.specs.Prelude.{IfSome}
-use Rattle.std.specs.FinMap.{get}
 use Rattle.tree_io.specs.Files.{Files}
 use Rattle.class_model.specs.declared.class.Class.{Class}
 use Rattle.shrink_core.specs.declared.config.Config.{Config}
 use Rattle.shrink_core.specs.declared.words.CommandFiles.{CommandFiles}
 use Rattle.shrink_core.specs.declared.shrink.Plan.{Plan}
-use Rattle.shrink_core.specs.declared.refusal.Refusal.TheVariants.{Words, Absent, ConfigTooLong, Rules, NotEmpty, NotBuilt}
+use Rattle.shrink_core.specs.declared.refusal.Refusal.TheVariants.{Rules, NotEmpty, NotBuilt}
 use Rattle.shrink_core.specs.declared.refusal.Stop.{Stop}
 use Rattle.shrink_core.specs.declared.refusal.Stop.TheVariants.{Refused, Device, OutOfMemory}
 use Rattle.shrink_core.specs.Small.{IsSmall}

@@ -1,7 +1,7 @@
 -- The parts of a config's text.
-use Rattle.std.specs.Prelude.{◌≡◌, ◌≢◌, ℕ, List, ◌∷◌, ◌++◌, IsTrue, codes}
+use Rattle.std.specs.Prelude.{◌≡◌, ℕ, List, ◌∷◌, ◌++◌, IsTrue, codes}
 use Rattle.jv_base.specs.Names.{is_member_name}
-use Rattle.shrink_core.specs.Config.{Lacks, line, lines_text, ints_text}
+use Rattle.shrink_core.specs.Config.{Lacks, lines_text, ints_text}
 
 -- a text begins with a method
 pub record BeginsSo (text name : List ℕ) (ints : ℕ) (rest : List ℕ) : Type 0 where

@@ -1,5 +1,5 @@
 -- What of a class is kept, and the class without the rest (ProGuard manual, "Usage", `-keep`).
-use Rattle.std.specs.Prelude.{ℕ, ◌+◌, Bool, true, false, ◌&&◌, ◌==◌, List, [], ◌∷◌, ◌++◌, length, map, drop, replicate, Option, Some, None, option_map, option_and_then, position, if◌then◌else◌, codes}
+use Rattle.std.specs.Prelude.{ℕ, ◌+◌, Bool, true, false, ◌&&◌, ◌==◌, List, [], ◌∷◌, ◌++◌, length, map, drop, replicate, Option, Some, None, option_map, position, if◌then◌else◌, codes}
 use Rattle.std.specs.List.{filter_map}
 use Rattle.jv_base.specs.Names.{is_text}
 use Rattle.jv_base.specs.Types.{method_text}

@@ -1,5 +1,5 @@
 -- The methods of a class, found by what tells them apart.
-use Rattle.std.specs.Prelude.{ℕ, ◌+◌, Bool, ◌&&◌, List, [], ◌∷◌, map, Option, None, option_map, position, if◌then◌else◌}
+use Rattle.std.specs.Prelude.{ℕ, ◌+◌, Bool, ◌&&◌, List, ◌∷◌, Option, None, option_map, position, if◌then◌else◌}
 use Rattle.std.specs.List.{filter_map}
 use Rattle.jv_base.specs.Names.{is_text}
 use Rattle.jv_base.specs.Types.{method_text}

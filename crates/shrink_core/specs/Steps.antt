@@ -1,5 +1,5 @@
 -- What the steps of a command have found or said.
-use Rattle.std.specs.Prelude.{◌≡◌, ◌⊎◌, ◌≤◌, ℕ, List, length, Option, Some, Result, Ok, Err}
+use Rattle.std.specs.Prelude.{◌≡◌, ◌⊎◌, ℕ, List, Option, Result, Ok, Err}
 use Rattle.tree_io.specs.Files.{Files}
 use Rattle.tree_io.specs.Sink.{followed_by}
 use Rattle.class_model.specs.declared.class.Class.{Class}

@@ -1,4 +1,4 @@
-use Rattle.std.proofs.Common.{◌≡◌, ℕ, ◌+◌, ◌≤◌, List, ◌++◌, length, codes}
+use Rattle.std.proofs.Common.{◌≡◌, ◌+◌, ◌≤◌, ◌++◌, length, codes}
 use denote.Text.{Utf8}
 use denote.Shadow.{shadow}
 use Rattle.shrink_core.specs.Config.{more_ints}

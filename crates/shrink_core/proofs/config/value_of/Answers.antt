@@ -1,4 +1,3 @@
-use Rattle.std.proofs.Common.{ℕ}
 use Rattle.shrink_core.proofs.ConfigTexts.{value_none, none_by}
 use Rattle.shrink_core.proofs.config.value_of.Goals as goal
 
