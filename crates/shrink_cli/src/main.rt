@@ -25,8 +25,8 @@ are kept, and all methods that kept ones call. OUT must have no file. Nothing is
 yet.
 
 So far the class is one named Main, below java.lang.Object, without interfaces, fields and
-attributes, whose methods are static, take ints, give an int and compute with int instructions
-alone.
+attributes, whose methods are static, take ints, give an int, compute with int instructions and
+call each other alone.
 
   -h, --help       prints this text
   -V, --version    prints the version

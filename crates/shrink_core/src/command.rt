@@ -128,7 +128,8 @@ fn finish<S: Sink>(summary: &Text, out: &mut S) -> u8
 /// superclass `java/lang/Object`. It has no interface, field or attribute. Each method is static,
 /// takes ints, gives an int and has the one attribute Code, without handlers and attributes, of the
 /// instructions nop, iconst, bipush, sipush, iload, istore, pop, iadd, isub, imul, idiv, irem, ineg,
-/// iinc and ireturn. The pool holds Utf8 and Class entries alone.
+/// iinc, ireturn, and invokestatic of a method that the class declares. The pool holds Utf8, Class,
+/// Methodref and NameAndType entries alone.
 ///
 /// The summary is five lines: `classes 1 1`, `fields 0 0`, `methods` with how many the class has and
 /// how many are kept, `edited 0` and `fallback 0`.
