@@ -1,1 +1,2 @@
 pub mod FrameLaw
+pub mod StandsLaw
