@@ -54,7 +54,7 @@ module _ (pool : List Entry) (starts : List ℕ) (ops : List Op) (max_stack max_
       (λ row. map_exact (λ (frame : FrameAt × Before). let z : FrameRead = (names_float row, frame.0, frame.1) in z) (settle_exact at (due bad.BadFrame (row_stands pool starts ops max_stack max_locals before row))))))
 
   -- rows stand for frames, each behind the one before
-  abbrev AreRows : Before → List StackMapFrame → List FrameAt → Type 0
+  abbrev pub AreRows : Before → List StackMapFrame → List FrameAt → Type 0
   AreRows before [] frames = frames ≡ []
   AreRows before (row ∷ rows) frames = (frame : FrameAt) × (next : Before) × FitsRow row × (row_stands pool starts ops max_stack max_locals before row ≡ Some (frame, next))
       × ((others : List FrameAt) × (frames ≡ frame ∷ others) × AreRows next rows others)
@@ -104,7 +104,7 @@ module _ (pool : List Entry) (starts : List ℕ) (ops : List Op) (max_stack max_
           (flat_map-cons stack_map_frame row rows, ((names_float row, a.0, a.1), (a.2, a.3, refl), ((list_any names_float rows, a.4.0), (omega (arith, len), a.4.2, refl), λ i. (f i, a.4.1 i))))
 
   -- the contents of the attribute
-  frames_exact : (first : List VType) → Exact (read_frames pool starts ops max_stack max_locals first) (Spells stack_map_table (λ _ rows y. (length rows < 2 ^ 16) × AreRows (record { locals = first; offset = None }) rows y.1 × (y.0 ≡ list_any names_float rows)))
+  pub frames_exact : (first : List VType) → Exact (read_frames pool starts ops max_stack max_locals first) (Spells stack_map_table (λ _ rows y. (length rows < 2 ^ 16) × AreRows (record { locals = first; offset = None }) rows y.1 × (y.0 ≡ list_any names_float rows)))
   unfolding read_frames
   frames_exact first = as_raw stack_map_table _ (λ w. w.1) (λ rows. (length rows, rows))
       (λ at w y h.

@@ -25,6 +25,7 @@ use Rattle.class_model.proofs.NameLaw.{HaveUnits}
 use Rattle.class_model.proofs.LookupLaw.{both_there, mapped, due_is, type_found, type_only}
 use Rattle.class_model.proofs.CodeLaw.{op_in, begins_found, begins_only}
 use Rattle.class_model.proofs.RowLaw.{FitsType, FitTypes, FitsRow}
+use Rattle.class_laws.proofs.FrameLaw.{AreRows}
 
 -- something that is there is one thing
 one_thing : {A : Type 0} (x y : A) → (let o : Option A = Some x in o) ≡ Some y → x ≡ y
@@ -246,3 +247,66 @@ module _ (pool : List Entry) (units : HaveUnits pool) (infos : List Info) (ins :
   row_fits before (SameFrameExtended d) delta locals stack h = h.0
   row_fits before (AppendFrame t d is) delta locals stack h = let b = both _ _ h.0 in (leb-true 252 t b.0, leb-true t 254 b.1, h.1, h.3, vtypes_fit is h.4 h.5.1)
   row_fits before (FullFrame d is ss) delta locals stack h = (h.0, h.2.0, vtypes_fit is locals h.2.1, h.3.0, vtypes_fit ss stack h.3.1)
+
+  -- ---- frames
+
+  module _ (max_stack max_locals : ℕ) where
+    -- the frame at an instruction, and what stands before the next row
+    abbrev placed : Written → ℕ → ℕ → FrameAt × Before
+    placed w offset n = (frame_at pool starts ops max_stack max_locals w n, record { locals = w.locals; offset = Some offset })
+
+    -- a frame that is computed from a row is the one that the row stands for
+    frame_found : (before : Before) (row : StackMapFrame) (frame : FrameAt) (next : Before) → FitsRow row → row_stands pool starts ops max_stack max_locals before row ≡ Some (frame, next)
+        → (offset : ℕ) × IsFrameAt pool starts ins max_stack max_locals before.locals before.offset row frame next.locals offset × (next.offset ≡ Some offset)
+    frame_found before row frame next fit h =
+        let a = both_there (λ (w : Written). frame_of pool starts ops max_stack max_locals (offset_behind before.offset w.delta) w) (written_by pool starts ops before.locals row) (frame, next) h in
+        let w : Written = a.0 in
+        by w (written_found before.locals row w fit a.1) (leb (words_of_types w.locals) max_locals) (leb (words_of_types w.stack) max_stack) refl refl a.2
+      where
+        by : (w : Written) → IsFrame pool starts ins before.locals row w.delta w.locals w.stack → (a b : Bool) → leb (words_of_types w.locals) max_locals ≡ a → leb (words_of_types w.stack) max_stack ≡ b
+            → cond (a && b) (option_map (placed w (offset_behind before.offset w.delta)) (position (nat_eq (offset_behind before.offset w.delta)) starts)) None ≡ Some (frame, next)
+            → (offset : ℕ) × IsFrameAt pool starts ins max_stack max_locals before.locals before.offset row frame next.locals offset × (next.offset ≡ Some offset)
+        by w stands true true ea eb g =
+            let offset = offset_behind before.offset w.delta in
+            let m = mapped (placed w offset) (position (nat_eq offset) starts) (frame, next) g in
+            let is : IsFrameAt pool starts ins max_stack max_locals before.locals before.offset row (frame_at pool starts ops max_stack max_locals w m.0) w.locals offset = record {
+              delta = w.delta;
+              stands = stands;
+              offset_is = refl;
+              index = place_found offset m.0 m.1;
+              cut = refl;
+              locals_fit = leb-true _ _ ea;
+              stack_fits = leb-true _ _ eb;
+            } in
+            let both_are = subst (λ (z : FrameAt × Before). IsFrameAt pool starts ins max_stack max_locals before.locals before.offset row z.0 z.1.locals offset × (z.1.offset ≡ Some offset)) m.2 (is, refl) in
+            (offset, both_are.0, both_are.1)
+        by w stands true false ea eb g = absurd cc
+        by w stands false b ea eb g = absurd cc
+
+    -- the frame that a row stands for is computed from it
+    frame_only : (locals : List VType) (previous : Option ℕ) (row : StackMapFrame) (frame : FrameAt) (after : List VType) (offset : ℕ) → IsFrameAt pool starts ins max_stack max_locals locals previous row frame after offset
+        → row_stands pool starts ops max_stack max_locals (record { locals = locals; offset = previous }) row ≡ Some (frame, record { locals = after; offset = Some offset })
+    frame_only locals previous row frame after offset h =
+        let w : Written = record { delta = h.delta; locals = after; stack = frame.frame.stack } in
+        let fit : fits pool starts ops max_stack max_locals w ≡ true = rw (le-leb _ _ h.locals_fit, le-leb _ _ h.stack_fits) refl in
+        let at : position (nat_eq (offset_behind previous h.delta)) starts ≡ Some frame.index = ap (λ (k : ℕ). position (nat_eq k) starts) (sym h.offset_is) ∙ place_only offset frame.index h.index in
+        rw (written_only locals row w h.stands, fit, at)
+        (λ i. Some (record { index = frame.index; frame = record { locals = (sym h.cut) i; stack = frame.frame.stack } }, record { locals = after; offset = Some ((sym h.offset_is) i) }))
+
+    -- rows stand for the frames that are computed from them
+    pub rows_found : (before : Before) (rows : List StackMapFrame) (frames : List FrameAt) → AreRows pool starts ops max_stack max_locals before rows frames → AreFrames pool starts ins max_stack max_locals before.locals before.offset rows frames
+    rows_found before [] frames h = subst (λ (fs : List FrameAt). AreFrames pool starts ins max_stack max_locals before.locals before.offset [] fs) (sym h) tt
+    rows_found before (row ∷ rows) frames h =
+        let f = frame_found before row h.0 h.1 h.2 h.3 in
+        let o = rows_found h.1 rows h.4.0 h.4.2 in
+        subst (λ (fs : List FrameAt). AreFrames pool starts ins max_stack max_locals before.locals before.offset (row ∷ rows) fs) (sym h.4.1)
+        (h.1.locals, f.0, f.1, subst (λ (p : Option ℕ). AreFrames pool starts ins max_stack max_locals h.1.locals p rows h.4.0) f.2 o)
+
+    pub rows_only : (locals : List VType) (previous : Option ℕ) (rows : List StackMapFrame) (frames : List FrameAt) → AreFrames pool starts ins max_stack max_locals locals previous rows frames
+        → AreRows pool starts ops max_stack max_locals (record { locals = locals; offset = previous }) rows frames
+    rows_only locals previous [] [] h = refl
+    rows_only locals previous [] (frame ∷ frames) h = absurd h
+    rows_only locals previous (row ∷ rows) [] h = absurd h
+    rows_only locals previous (row ∷ rows) (frame ∷ frames) h =
+        (frame, record { locals = h.0; offset = Some h.1 }, row_fits locals row h.2.delta h.0 frame.frame.stack h.2.stands, frame_only locals previous row frame h.0 h.1 h.2,
+            (frames, refl, rows_only h.0 (Some h.1) rows frames h.3))
