@@ -1,2 +1,3 @@
 pub mod FrameLaw
 pub mod StandsLaw
+pub mod HandlerLaw

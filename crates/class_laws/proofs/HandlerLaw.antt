@@ -1,0 +1,194 @@
+-- The exception table is read exactly where its rows are handlers (JVMS 4.7.3).
+use Rattle.std.proofs.Common.{◌≡◌, ℕ, zero, suc, ◌+◌, ◌^◌, ◌<◌, ◌≤◌, Bool, true, false, cond, eqb, ltb, List, [], ◌∷◌, ◌++◌, length, Option, Some, None, Result, Ok, Err, ℤ, pos, refl, sym, ap, subst, ◌∙◌, arith}
+use Rattle.std.specs.Prelude.{slice_get, position, nat_eq}
+use Rattle.std.specs.Int.{w16, to_be_bytes}
+use Rattle.std.specs.List.{AllZip, flat_map, position_from}
+use Rattle.std.proofs.lemmas.Bool.{eqb-true, eq-eqb, ne_eqb, ltb-true, lt-ltb}
+use Rattle.std.proofs.lemmas.List.{append-nil, length-append}
+use Rattle.std.proofs.lemmas.List.Concat.{flat_map-cons}
+use Rattle.std.proofs.lemmas.Iterator.Adapters.{position_from-zero}
+use Rattle.jv_base.specs.Outcome.{◌>>=◌}
+use Rattle.format_reading.specs.declared.fault.FormatKind.{FormatKind}
+use Rattle.format_reading.specs.declared.fault.FormatKind.TheVariants as bad
+use Rattle.format_reading.specs.Reader.{Reader, u2, bind, give, here, item, settle, many}
+use Rattle.format_reading.specs.Spelling.{Spells, AllStand}
+use Rattle.format_reading.proofs.Exact.{Exact, as_raw, bind_exact, map_exact, give_exact, here_exact, item_exact, settle_exact, many_exact, u2_exact}
+use Rattle.class_model.specs.declared.pool.Entry.{Entry}
+use Rattle.class_model.specs.declared.code.Handler.{Handler}
+use Rattle.class_model.specs.Structure.{ExceptionInfo, exception_info}
+use Rattle.class_model.specs.ConstantPool.{IsOptionalClassAt}
+use Rattle.class_model.specs.InstructionStructure.{Info, info_bytes, starts_from, starts_of}
+use Rattle.class_model.specs.CodeAttribute.{IsHandler}
+use Rattle.class_model.specs.Lookups.{due, class_at, optional_class_at}
+use Rattle.class_model.specs.ReadingCodeAttribute.{Places, places, begins, handler_places, handler, read_handler, read_handlers}
+use Rattle.class_model.proofs.BackSizes.{info_is_there}
+use Rattle.class_model.proofs.NameLaw.{HaveUnits, then_ok}
+use Rattle.class_model.proofs.LookupLaw.{due_is, class_found, class_only}
+use Rattle.class_model.proofs.CodeLaw.{begins_found, begins_only}
+
+-- ---- places
+
+-- a place in a list is where the number stands
+begins_there : (xs : List ℕ) (offset n : ℕ) → begins xs offset ≡ Some n → slice_get xs n ≡ Some offset
+begins_there xs offset n h =
+    let b = begins_found xs (pos offset) n (ap (due bad.BadTarget) h) in
+    let same : b.0 ≡ offset = (let e : pos offset ≡ pos b.0 = b.1 in cc) in
+    b.2 ∙ ap (λ (k : ℕ). Some k) same
+
+-- where instructions begin, and where the last one ends, from an offset on
+abbrev ends_from : ℕ → List Info → List ℕ
+ends_from at infos = starts_from at infos ++ (at + length (flat_map info_bytes infos)) ∷ []
+
+-- none is before the first
+later : (infos : List Info) (at n offset : ℕ) → slice_get (ends_from at infos) n ≡ Some offset → at ≤ offset
+later [] at zero offset h = let e : at + 0 ≡ offset = cc in omega (arith, e)
+later [] at (suc n) offset h = absurd cc
+later (info ∷ infos) at zero offset h = let e : at ≡ offset = cc in omega (arith, e)
+later (info ∷ infos) at (suc n) offset h =
+    let l = later infos (at + length (info_bytes info)) n offset (end_is ∙ h) in omega (arith, l)
+  where
+    end_is : slice_get (ends_from (at + length (info_bytes info)) infos) n ≡ slice_get (starts_from (at + length (info_bytes info)) infos ++ (at + length (flat_map info_bytes (info ∷ infos))) ∷ []) n
+    end_is = ap (λ (k : ℕ). slice_get (starts_from (at + length (info_bytes info)) infos ++ k ∷ []) n)
+        (let e : at + length (info_bytes info) + length (flat_map info_bytes infos) ≡ at + length (flat_map info_bytes (info ∷ infos)) = omega (arith, ap length (flat_map-cons info_bytes info infos), length-append (info_bytes info) (flat_map info_bytes infos)) in e)
+
+number_there : (infos : List Info) (at k n offset : ℕ) → slice_get (ends_from at infos) n ≡ Some offset → position_from (nat_eq offset) k (ends_from at infos) ≡ Some (k + n)
+number_there [] at k zero offset h =
+    let e : at + 0 ≡ offset = cc in
+    let same : eqb offset (at + 0) ≡ true = eq-eqb offset (at + 0) (sym e) in
+    rw same (ap (λ (m : ℕ). Some m) (let z : k ≡ k + 0 = omega arith in z))
+number_there [] at k (suc n) offset h = absurd cc
+number_there (info ∷ infos) at k zero offset h =
+    let e : at ≡ offset = cc in
+    let same : eqb offset at ≡ true = eq-eqb offset at (sym e) in
+    rw same (ap (λ (m : ℕ). Some m) (let z : k ≡ k + 0 = omega arith in z))
+number_there (info ∷ infos) at k (suc n) offset h =
+    let len : at + length (flat_map info_bytes (info ∷ infos)) ≡ at + length (info_bytes info) + length (flat_map info_bytes infos) = omega (arith, ap length (flat_map-cons info_bytes info infos), length-append (info_bytes info) (flat_map info_bytes infos)) in
+    let g : slice_get (ends_from (at + length (info_bytes info)) infos) n ≡ Some offset = ap (λ (m : ℕ). slice_get (starts_from (at + length (info_bytes info)) infos ++ m ∷ []) n) (sym len) ∙ h in
+    let l = later infos (at + length (info_bytes info)) n offset g in
+    let some = info_is_there info in
+    let other : eqb offset at ≡ false = ne_eqb offset at (λ e. omega (arith, e, l, some)) in
+    rw other (ap (λ (m : ℕ). position_from (nat_eq offset) (k + 1) (starts_from (at + length (info_bytes info)) infos ++ m ∷ [])) len
+    ∙ number_there infos (at + length (info_bytes info)) (k + 1) n offset g ∙ ap (λ (m : ℕ). Some m) (let z : (k + 1) + n ≡ k + suc n = omega arith in z))
+
+-- a place that is in a list, or its end, is found there
+ends_there : (infos : List Info) (end offset n : ℕ) → end ≡ length (flat_map info_bytes infos) → slice_get (starts_of infos ++ end ∷ []) n ≡ Some offset → begins (starts_of infos ++ end ∷ []) offset ≡ Some n
+ends_there infos end offset n is h =
+    let e : end ≡ 0 + length (flat_map info_bytes infos) = omega (arith, is) in
+    let g : slice_get (ends_from 0 infos) n ≡ Some offset = ap (λ (m : ℕ). slice_get (starts_of infos ++ m ∷ []) n) (sym e) ∙ h in
+    ap (λ (m : ℕ). begins (starts_of infos ++ m ∷ []) offset) e ∙ position_from-zero (nat_eq offset) (ends_from 0 infos) ∙ number_there infos 0 0 n offset g ∙ ap (λ (m : ℕ). Some m) (let z : 0 + n ≡ n = omega arith in z)
+
+-- ---- one class or none
+
+optional_found : (pool : List Entry) (index : ℕ) (caught : Option (List ℕ)) → HaveUnits pool → index < 2 ^ 16 → optional_class_at pool index ≡ Ok caught → IsOptionalClassAt pool index caught
+unfolding optional_class_at
+optional_found pool index caught units fit h = by (eqb index 0) refl h
+  where
+    by : (b : Bool) → eqb index 0 ≡ b → cond b (Ok None) (class_at pool index >>= (λ name. Ok (Some name))) ≡ Ok caught → IsOptionalClassAt pool index caught
+    by true e g = subst (λ (c : Option (List ℕ)). IsOptionalClassAt pool index c) (let k : None ≡ caught = cc in k) (eqb-true index 0 e)
+    by false e g =
+        let a = then_ok (class_at pool index) (λ name. Ok (Some name)) caught g in
+        let c = class_found pool index a.0 units a.1 in
+        subst (λ (c : Option (List ℕ)). IsOptionalClassAt pool index c) (let k : Some a.0 ≡ caught = (let e2 : Ok (Some a.0) ≡ Ok caught = a.2 in cc) in k) (fit, c.0, c.1)
+
+-- index 0 is no entry, so no class stands there
+abbrev pub NoneAtZero : List Entry → Type 0
+NoneAtZero pool = (name : List ℕ) → class_at pool 0 ≡ Ok name → ⊥
+
+optional_only : (pool : List Entry) (index : ℕ) (caught : Option (List ℕ)) → NoneAtZero pool → IsOptionalClassAt pool index caught → optional_class_at pool index ≡ Ok caught
+unfolding optional_class_at
+optional_only pool index None none h = let e : eqb index 0 ≡ true = eq-eqb index 0 h in rw e refl
+optional_only pool index (Some name) none h =
+    let there = class_only pool index name h.1 h.2 in
+    let some : eqb index 0 ≡ false = ne_eqb index 0 (λ e. absurd (none name (ap (class_at pool) (sym e) ∙ there))) in
+    rw (some, there) refl
+
+-- ---- handlers
+
+-- all three places
+places_found : (a b c : Option ℕ) (at : Places) → places a b c ≡ Some at → (a ≡ Some at.0) × (b ≡ Some at.1) × (c ≡ Some at.2)
+places_found (Some x) (Some y) (Some z) at h =
+    let e : (let p : Places = (x, y, z) in p) ≡ at = cc in
+    (ap (λ (p : Places). Some p.0) e, ap (λ (p : Places). Some p.1) e, ap (λ (p : Places). Some p.2) e)
+places_found (Some x) (Some y) None at h = absurd cc
+places_found (Some x) None c at h = absurd cc
+places_found None b c at h = absurd cc
+
+-- the places of a handler
+handler_found : (starts : List ℕ) (end start_pc end_pc handler_pc : ℕ) (at : Places) → handler_places starts end start_pc end_pc handler_pc ≡ Some at
+    → (start_pc < end_pc) × (slice_get starts at.0 ≡ Some start_pc) × (slice_get (starts ++ end ∷ []) at.1 ≡ Some end_pc) × (slice_get starts at.2 ≡ Some handler_pc)
+handler_found starts end start_pc end_pc handler_pc at h = by (ltb start_pc end_pc) refl h
+  where
+    by : (b : Bool) → ltb start_pc end_pc ≡ b → cond b (places (begins starts start_pc) (begins (starts ++ end ∷ []) end_pc) (begins starts handler_pc)) None ≡ Some at
+        → (start_pc < end_pc) × (slice_get starts at.0 ≡ Some start_pc) × (slice_get (starts ++ end ∷ []) at.1 ≡ Some end_pc) × (slice_get starts at.2 ≡ Some handler_pc)
+    by true e g =
+        let p = places_found (begins starts start_pc) (begins (starts ++ end ∷ []) end_pc) (begins starts handler_pc) at g in
+        (ltb-true start_pc end_pc e, begins_there starts start_pc at.0 p.0, begins_there (starts ++ end ∷ []) end_pc at.1 p.1, begins_there starts handler_pc at.2 p.2)
+    by false e g = absurd cc
+
+module _ (pool : List Entry) (units : HaveUnits pool) (zero : NoneAtZero pool) (infos : List Info) (end : ℕ) (whole : end ≡ length (flat_map info_bytes infos)) where
+  abbrev starts : List ℕ
+  starts = starts_of infos
+
+  start_there : (offset n : ℕ) → slice_get starts n ≡ Some offset → begins starts offset ≡ Some n
+  start_there offset n h = due_is bad.BadTarget (position (nat_eq offset) starts) n (begins_only infos (pos offset) n (offset, refl, h))
+
+  handler_only : (raw : ExceptionInfo) (y : Handler) → IsHandler pool starts end raw y → handler_places starts end raw.start_pc raw.end_pc raw.handler_pc ≡ Some (y.from, y.to, y.entry)
+  handler_only raw y h =
+      rw (lt-ltb raw.start_pc raw.end_pc h.range, start_there raw.start_pc y.from h.from, ends_there infos end raw.end_pc y.to whole h.to, start_there raw.handler_pc y.entry h.entry) refl
+
+  -- the numbers of a row
+  abbrev Row : Type 0
+  Row = ℕ × (ℕ × (ℕ × ℕ))
+
+  abbrev row_of : Row → ExceptionInfo
+  row_of v = record { start_pc = v.0; end_pc = v.1.0; handler_pc = v.1.1.0; catch_type = v.1.1.1 }
+
+  abbrev items_of : ExceptionInfo → Row
+  items_of raw = (raw.start_pc, (raw.end_pc, (raw.handler_pc, raw.catch_type)))
+
+  -- they fit their bytes
+  abbrev FitsRow : ExceptionInfo → Type 0
+  FitsRow raw = (raw.start_pc < 2 ^ 16) × (raw.end_pc < 2 ^ 16) × (raw.handler_pc < 2 ^ 16) × (raw.catch_type < 2 ^ 16)
+
+  -- behind the three places
+  abbrev Caught : ℕ → ℕ → ℕ → ℕ → Handler → Type 0
+  Caught start_pc end_pc handler_pc catch_type y = (at : Places) × (handler_places starts end start_pc end_pc handler_pc ≡ Some at)
+      × ((catch_type < 2 ^ 16) × ((caught : Option (List ℕ)) × (optional_class_at pool catch_type ≡ Ok caught) × (y ≡ handler at caught)))
+
+  abbrev reads_caught : ℕ → ℕ → ℕ → ℕ → Reader Handler
+  reads_caught at start_pc end_pc handler_pc = bind (settle at (due bad.BadHandler (handler_places starts end start_pc end_pc handler_pc))) (λ found. bind (item u2 (optional_class_at pool)) (λ caught. give (handler found caught)))
+
+  caught_exact : (at start_pc end_pc handler_pc : ℕ) → Exact (reads_caught at start_pc end_pc handler_pc) (Spells (to_be_bytes w16) (λ _ catch_type y. Caught start_pc end_pc handler_pc catch_type y))
+  caught_exact at start_pc end_pc handler_pc = as_raw (to_be_bytes w16) _ (λ w. w.1) (λ c. (tt, c))
+      (λ k w y h. (refl, (h.0, due_is bad.BadHandler (handler_places starts end start_pc end_pc handler_pc) h.0 h.1, (h.2.1.1.0, (h.2.0, ap (optional_class_at pool) (sym h.2.1.1.1) ∙ h.2.1.2, h.2.2)))))
+      (λ k c y h. (refl, (h.0, ap (due bad.BadHandler) h.1, (h.2.1.0, (c, (h.2.0, refl), h.2.1.1), h.2.1.2))))
+      (bind_exact (λ found. bind (item u2 (optional_class_at pool)) (λ caught. give (handler found caught))) (to_be_bytes w16)
+      (λ found _ c y. (caught : Option (List ℕ)) × ((x : ℕ) × ((c < 2 ^ 16) × (x ≡ c)) × (optional_class_at pool x ≡ Ok caught)) × (y ≡ handler found caught))
+      (settle_exact at (due bad.BadHandler (handler_places starts end start_pc end_pc handler_pc)))
+      (λ found. map_exact (λ caught. handler found caught) (item_exact (optional_class_at pool) u2_exact)))
+
+  -- a number of two bytes, and then more
+  number_then : {S B : Type 0} (f : ℕ → Reader B) (t : S → List ℕ) (n : ℕ → S → B → Type 0) → ((x : ℕ) → Exact (f x) (Spells t (λ _ w y. n x w y))) → Exact (bind u2 f) (Spells (λ (v : ℕ × S). to_be_bytes w16 v.0 ++ t v.1) (λ _ v y. (v.0 < 2 ^ 16) × n v.0 v.1 y))
+  number_then f t n e = as_raw _ _ (λ v. v) (λ v. v)
+      (λ at v y h. (refl, (h.1.0, subst (λ (k : ℕ). n k v.1 y) h.1.1 h.2)))
+      (λ at v y h. (refl, (v.0, (h.0, refl), h.1)))
+      (bind_exact f t (λ x _ w y. n x w y) u2_exact e)
+
+  -- a row is read exactly where it is a handler
+  row_exact : Exact (read_handler pool starts end) (Spells exception_info (λ _ raw y. FitsRow raw × IsHandler pool starts end raw y))
+  row_exact = as_raw exception_info _ (λ w. row_of w.1) (λ raw. (tt, items_of raw))
+      (λ k w y h.
+      let n = h.2 in
+      let c = n.1.1.1 in
+      let p = handler_found starts end w.1.0 w.1.1.0 w.1.1.1.0 c.0 c.1 in
+      let is : IsHandler pool starts end (row_of w.1) (handler c.0 c.2.1.0) = record { from = p.1; to = p.2; range = p.0; entry = p.3; caught = optional_found pool w.1.1.1.1 c.2.1.0 units c.2.0 c.2.1.1 } in
+      (refl, ((n.0, n.1.0, n.1.1.0, c.2.0), subst (λ (z : Handler). IsHandler pool starts end (row_of w.1) z) (sym c.2.1.2) is)))
+      (λ k raw y h. (refl, (k, refl, (h.0.0, (h.0.1, (h.0.2, ((y.from, y.to, y.entry), handler_only raw y h.1, (h.0.3, (y.caught, optional_only pool raw.catch_type y.caught zero h.1.caught, refl)))))))))
+      (bind_exact (λ at. bind u2 (λ start_pc. bind u2 (λ end_pc. bind u2 (λ handler_pc. reads_caught at start_pc end_pc handler_pc))))
+      (λ (v : Row). to_be_bytes w16 v.0 ++ (to_be_bytes w16 v.1.0 ++ (to_be_bytes w16 v.1.1.0 ++ to_be_bytes w16 v.1.1.1)))
+      (λ at _ v y. (v.0 < 2 ^ 16) × ((v.1.0 < 2 ^ 16) × ((v.1.1.0 < 2 ^ 16) × Caught v.0 v.1.0 v.1.1.0 v.1.1.1 y))) here_exact
+      (λ at. number_then (λ start_pc. bind u2 (λ end_pc. bind u2 (λ handler_pc. reads_caught at start_pc end_pc handler_pc))) (λ (v : ℕ × (ℕ × ℕ)). to_be_bytes w16 v.0 ++ (to_be_bytes w16 v.1.0 ++ to_be_bytes w16 v.1.1))
+      (λ start_pc v y. (v.0 < 2 ^ 16) × ((v.1.0 < 2 ^ 16) × Caught start_pc v.0 v.1.0 v.1.1 y))
+      (λ start_pc. number_then (λ end_pc. bind u2 (λ handler_pc. reads_caught at start_pc end_pc handler_pc)) (λ (v : ℕ × ℕ). to_be_bytes w16 v.0 ++ to_be_bytes w16 v.1)
+      (λ end_pc v y. (v.0 < 2 ^ 16) × Caught start_pc end_pc v.0 v.1 y)
+      (λ end_pc. number_then (λ handler_pc. reads_caught at start_pc end_pc handler_pc) (to_be_bytes w16) (λ handler_pc c y. Caught start_pc end_pc handler_pc c y) (λ handler_pc. caught_exact at start_pc end_pc handler_pc)))))
