@@ -125,7 +125,7 @@ handler_found starts end start_pc end_pc handler_pc at h = by (ltb start_pc end_
         (ltb-true start_pc end_pc e, begins_there starts start_pc at.0 p.0, begins_there (starts ++ end ∷ []) end_pc at.1 p.1, begins_there starts handler_pc at.2 p.2)
     by false e g = absurd cc
 
-module _ (pool : List Entry) (units : HaveUnits pool) (zero : NoneAtZero pool) (infos : List Info) (end : ℕ) (whole : end ≡ length (flat_map info_bytes infos)) where
+module _ (pool : List Entry) (units : HaveUnits pool) (unnamed : NoneAtZero pool) (infos : List Info) (end : ℕ) (whole : end ≡ length (flat_map info_bytes infos)) where
   abbrev starts : List ℕ
   starts = starts_of infos
 
@@ -183,7 +183,7 @@ module _ (pool : List Entry) (units : HaveUnits pool) (zero : NoneAtZero pool) (
       let p = handler_found starts end w.1.0 w.1.1.0 w.1.1.1.0 c.0 c.1 in
       let is : IsHandler pool starts end (row_of w.1) (handler c.0 c.2.1.0) = record { from = p.1; to = p.2; range = p.0; entry = p.3; caught = optional_found pool w.1.1.1.1 c.2.1.0 units c.2.0 c.2.1.1 } in
       (refl, ((n.0, n.1.0, n.1.1.0, c.2.0), subst (λ (z : Handler). IsHandler pool starts end (row_of w.1) z) (sym c.2.1.2) is)))
-      (λ k raw y h. (refl, (k, refl, (h.0.0, (h.0.1, (h.0.2, ((y.from, y.to, y.entry), handler_only raw y h.1, (h.0.3, (y.caught, optional_only pool raw.catch_type y.caught zero h.1.caught, refl)))))))))
+      (λ k raw y h. (refl, (k, refl, (h.0.0, (h.0.1, (h.0.2, ((y.from, y.to, y.entry), handler_only raw y h.1, (h.0.3, (y.caught, optional_only pool raw.catch_type y.caught unnamed h.1.caught, refl)))))))))
       (bind_exact (λ at. bind u2 (λ start_pc. bind u2 (λ end_pc. bind u2 (λ handler_pc. reads_caught at start_pc end_pc handler_pc))))
       (λ (v : Row). to_be_bytes w16 v.0 ++ (to_be_bytes w16 v.1.0 ++ (to_be_bytes w16 v.1.1.0 ++ to_be_bytes w16 v.1.1.1)))
       (λ at _ v y. (v.0 < 2 ^ 16) × ((v.1.0 < 2 ^ 16) × ((v.1.1.0 < 2 ^ 16) × Caught v.0 v.1.0 v.1.1.0 v.1.1.1 y))) here_exact
@@ -192,3 +192,53 @@ module _ (pool : List Entry) (units : HaveUnits pool) (zero : NoneAtZero pool) (
       (λ start_pc. number_then (λ end_pc. bind u2 (λ handler_pc. reads_caught at start_pc end_pc handler_pc)) (λ (v : ℕ × ℕ). to_be_bytes w16 v.0 ++ to_be_bytes w16 v.1)
       (λ end_pc v y. (v.0 < 2 ^ 16) × Caught start_pc end_pc v.0 v.1 y)
       (λ end_pc. number_then (λ handler_pc. reads_caught at start_pc end_pc handler_pc) (to_be_bytes w16) (λ handler_pc c y. Caught start_pc end_pc handler_pc c y) (λ handler_pc. caught_exact at start_pc end_pc handler_pc)))))
+
+  -- each row is a handler
+  handlers_there : (at : ℕ) (raws : List ExceptionInfo) (hs : List Handler) → AllStand exception_info (λ _ raw y. FitsRow raw × IsHandler pool starts end raw y) at raws hs → AllZip (IsHandler pool starts end) raws hs
+  handlers_there at [] [] h = tt
+  handlers_there at [] (y ∷ ys) h = absurd h
+  handlers_there at (r ∷ rs) [] h = absurd h
+  handlers_there at (r ∷ rs) (y ∷ ys) h = (h.0.1, handlers_there (at + length (exception_info r)) rs ys h.1)
+
+  -- an offset of an instruction, and the end, are at most the length of the code
+  start_below : (infos : List Info) (at n offset : ℕ) → slice_get (starts_from at infos) n ≡ Some offset → offset ≤ at + length (flat_map info_bytes infos)
+  start_below [] at n offset h = absurd cc
+  start_below (info ∷ infos) at zero offset h = let e : at ≡ offset = cc in omega (arith, e)
+  start_below (info ∷ infos) at (suc n) offset h =
+      let b = start_below infos (at + length (info_bytes info)) n offset h in
+      omega (arith, b, ap length (flat_map-cons info_bytes info infos), length-append (info_bytes info) (flat_map info_bytes infos))
+
+  last_below : (xs : List ℕ) (most n offset : ℕ) → ((m k : ℕ) → slice_get xs m ≡ Some k → k ≤ most) → slice_get (xs ++ most ∷ []) n ≡ Some offset → offset ≤ most
+  last_below [] most zero offset below h = let e : most ≡ offset = cc in omega (arith, e)
+  last_below [] most (suc n) offset below h = absurd cc
+  last_below (x ∷ xs) most zero offset below h = below 0 offset h
+  last_below (x ∷ xs) most (suc n) offset below h = last_below xs most n offset (λ m k g. below (suc m) k g) h
+
+  -- the numbers of a handler's row fit their bytes, as the code is short
+  row_fits : (raw : ExceptionInfo) (y : Handler) → end < 2 ^ 16 → IsHandler pool starts end raw y → FitsRow raw
+  row_fits raw y short h =
+      let below : (m k : ℕ) → slice_get starts m ≡ Some k → k ≤ end = λ m k g. (let b = start_below infos 0 m k g in omega (arith, b, whole)) in
+      let from = below y.from raw.start_pc h.from in
+      let to = last_below starts end y.to raw.end_pc below h.to in
+      let entry = below y.entry raw.handler_pc h.entry in
+      (omega (arith, from, short), omega (arith, to, short), omega (arith, entry, short), caught_fits raw.catch_type y.caught h.caught)
+    where
+      caught_fits : (index : ℕ) (caught : Option (List ℕ)) → IsOptionalClassAt pool index caught → index < 2 ^ 16
+      caught_fits index None c = omega (arith, c)
+      caught_fits index (Some name) c = c.0
+
+  handlers_back : (at : ℕ) (raws : List ExceptionInfo) (hs : List Handler) → end < 2 ^ 16 → AllZip (IsHandler pool starts end) raws hs → AllStand exception_info (λ _ raw y. FitsRow raw × IsHandler pool starts end raw y) at raws hs
+  handlers_back at [] [] short h = tt
+  handlers_back at [] (y ∷ ys) short h = absurd h
+  handlers_back at (r ∷ rs) [] short h = absurd h
+  handlers_back at (r ∷ rs) (y ∷ ys) short h = ((row_fits r y short h.0, h.0), handlers_back (at + length (exception_info r)) rs ys short h.1)
+
+  -- the table, behind its count
+  pub table_exact : end < 2 ^ 16 → Exact (read_handlers pool starts end) (Spells (λ raws. to_be_bytes w16 (length raws) ++ flat_map exception_info raws) (λ _ raws hs. (length raws < 2 ^ 16) × AllZip (IsHandler pool starts end) raws hs))
+  unfolding read_handlers
+  table_exact short = as_raw _ _ (λ w. w.1) (λ raws. (length raws, raws))
+      (λ at w hs h.
+      let n : length w.1 ≡ w.0 = h.2.0 ∙ h.1.1 in
+      (ap (λ (m : ℕ). to_be_bytes w16 m ++ flat_map exception_info w.1) (sym n), (subst (λ (m : ℕ). m < 2 ^ 16) (sym n) h.1.0, handlers_there (at + 2) w.1 hs h.2.1)))
+      (λ at raws hs h. (refl, (length raws, (h.0, refl), (refl, handlers_back (at + 2) raws hs short h.1))))
+      (bind_exact (λ n. many n (read_handler pool starts end)) (flat_map exception_info) (λ n at raws hs. (length raws ≡ n) × AllStand exception_info (λ _ raw y. FitsRow raw × IsHandler pool starts end raw y) at raws hs) u2_exact (λ n. many_exact n row_exact))

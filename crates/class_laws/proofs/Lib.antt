@@ -1,3 +1,4 @@
 pub mod FrameLaw
 pub mod StandsLaw
 pub mod HandlerLaw
+pub mod CodeAttributeLaw
