@@ -20,3 +20,4 @@ mod Alike
 mod Kept
 mod Saying
 mod Counted
+mod ComputedCodes
