@@ -25,3 +25,5 @@ pub use lookups::type_at;
 
 #[cfg(test)]
 mod tests;
+#[cfg(test)]
+mod written_and_read;
