@@ -1,5 +1,5 @@
 -- Codes whose instructions name constants of a pool, and their bytes, which follow from JVMS 6.5.
-use Rattle.std.specs.Prelude.{◌≡◌, ℕ, Bool, true, false, List, [], ◌∷◌, map, codes, Ok}
+use Rattle.std.specs.Prelude.{◌≡◌, Bool, true, false, List, [], ◌∷◌, map, codes, Ok}
 use Rattle.class_model.specs.declared.code.Ins.{Ins}
 use Rattle.class_model.specs.declared.op.MemberRef.{MemberRef}
 use Rattle.class_model.specs.declared.op.Op.TheVariants as op
@@ -37,8 +37,8 @@ on_members = map unlined (op.GetStatic field ∷ op.PutStatic field ∷ op.GetFi
 
 -- instructions on types, and ldc of a string
 abbrev pub on_types : List Ins
-on_types = map unlined (op.New (codes "A") ∷ op.ANewArray class_a ∷ op.ANewArray rows_of_ints ∷ op.CheckCast class_a ∷ op.CheckCast rows_of_ints
-    ∷ op.InstanceOf class_a ∷ op.InstanceOf rows_of_ints ∷ op.MultiNewArray rows_of_ints 1 ∷ op.MultiNewArray rows_of_ints 2
+on_types = map unlined (op.New (codes "A") ∷ op.ANewArray class_a ∷ op.ANewArray rows_of_ints
+    ∷ op.CheckCast class_a ∷ op.CheckCast rows_of_ints ∷ op.InstanceOf class_a ∷ op.InstanceOf rows_of_ints ∷ op.MultiNewArray rows_of_ints 1 ∷ op.MultiNewArray rows_of_ints 2
     ∷ op.PushText (codes "f") ∷ [])
 
 -- newarray of each type that is taken

@@ -98,7 +98,7 @@ fn asks_little(op: &Op, count: usize) -> bool
 fn all_ask_little(ins: &[Ins], count: usize) -> bool
     ensures good { IsTrue result → All (λ (i : Ins). IsGoodOp count i.op) ins.now }
     ensures few_words { IsTrue result → All (λ (i : Ins). HasFewWords i.op) ins.now }
-    ensures indices { (pool : List PoolConstant) → IsTrue result → length pool + 1 < 2 ^ 16 → All (λ (i : Ins). HasIndices pool i.op) ins.now }
+    ensures indices { (ks : List PoolConstant) → IsTrue result → length ks + 1 < 2 ^ 16 → All (λ (i : Ins). HasIndices ks i.op) ins.now }
 {
     ins.iter().all(|next| asks_little(&next.op, count))
 }
