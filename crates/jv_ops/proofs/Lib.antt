@@ -20,3 +20,5 @@ mod Alike
 mod Kept
 mod Saying
 mod Counted
+mod FewConstants
+mod ComputedCodes

@@ -7,3 +7,4 @@ pub mod ReadBack
 pub mod Constants
 pub mod Coded
 pub mod Countdown
+pub mod Examples

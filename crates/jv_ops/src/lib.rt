@@ -4,6 +4,7 @@
 mod constants;
 mod decoding;
 mod encoding;
+mod examples;
 mod fault;
 mod instruction;
 mod lookups;
@@ -18,8 +19,11 @@ mod writing;
 pub use constants::{ConstantTable, class_constant, fieldref, methodref, type_constant};
 pub use decoding::{Decoded, canonical_is_decoded, decode_code};
 pub use encoding::{Coded, encode_code, encode_with};
+pub use examples::computed_codes;
 pub use fault::CodeFault;
 pub use lookups::type_at;
 
 #[cfg(test)]
 mod tests;
+#[cfg(test)]
+mod written_and_read;
