@@ -10,3 +10,9 @@ mod KnownMethods
 mod MethodInfo
 mod MethodLoop
 mod KnownClass
+pub mod FrameLaw
+pub mod StandsLaw
+pub mod HandlerLaw
+pub mod CodeAttributeLaw
+pub mod PassedOverLaw
+pub mod BodyLaw

@@ -25,7 +25,7 @@ use Rattle.class_model.proofs.NameLaw.{HaveUnits}
 use Rattle.class_model.proofs.LookupLaw.{both_there, mapped, due_is, type_found, type_only}
 use Rattle.class_model.proofs.CodeLaw.{op_in, begins_found, begins_only}
 use Rattle.class_model.proofs.RowLaw.{FitsType, FitTypes, FitsRow}
-use Rattle.class_laws.proofs.FrameLaw.{AreRows}
+use Rattle.class_read.proofs.FrameLaw.{AreRows}
 
 -- something that is there is one thing
 one_thing : {A : Type 0} (x y : A) → (let o : Option A = Some x in o) ≡ Some y → x ≡ y

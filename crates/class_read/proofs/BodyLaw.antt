@@ -1,0 +1,101 @@
+-- The contents of a Code are read exactly where they are spelled (JVMS 4.7.3).
+use Rattle.std.proofs.Common.{◌≡◌, ℕ, zero, suc, ◌+◌, ◌*◌, ◌^◌, ◌<◌, Bool, true, false, cond, eqb, ltb, List, [], ◌∷◌, ◌++◌, length, map, Option, Some, None, Result, Ok, Err, codes, refl, sym, ap, subst, ◌∙◌, append_assoc, arith}
+use Rattle.std.specs.Int.{w16, w32, to_be_bytes}
+use Rattle.std.specs.List.{AllZip, AllByRecursion, flat_map, list_any}
+use Rattle.std.proofs.lemmas.Bool.{eqb-false, ne_eqb, ltb-true, lt-ltb}
+use Rattle.std.proofs.lemmas.List.{append-nil}
+use Rattle.format_reading.specs.declared.fault.FormatFault.{FormatFault}
+use Rattle.format_reading.specs.declared.fault.FormatKind.{FormatKind}
+use Rattle.format_reading.specs.declared.fault.FormatKind.TheVariants as bad
+use Rattle.format_reading.specs.Reader.{Reader, u2, u4, bytes, bind, give, here, item, told, part, many}
+use Rattle.format_reading.specs.Spelling.{Spells, AllStand}
+use Rattle.format_reading.proofs.Exact.{Exact, as_raw, bind_exact, bind_exact_of, map_exact, give_exact, here_exact, item_exact, told_exact, u2_exact, u4_exact}
+use Rattle.class_model.specs.declared.pool.Entry.{Entry}
+use Rattle.class_model.specs.declared.op.Op.{Op}
+use Rattle.class_model.specs.declared.code.Code.{Code}
+use Rattle.class_model.specs.declared.code.Ins.{Ins}
+use Rattle.class_model.specs.declared.code.Handler.{Handler}
+use Rattle.class_model.specs.declared.frame.VType.{VType}
+use Rattle.class_model.specs.declared.frame.FrameAt.{FrameAt}
+use Rattle.class_model.specs.declared.class.LeftKind.{LeftKind}
+use Rattle.class_model.specs.declared.class.LeftKind.TheVariants as left
+use Rattle.class_model.specs.Structure.{AttributeInfo, attribute_info, ExceptionInfo, exception_info, CodeInfo, code_info}
+use Rattle.class_model.specs.InstructionStructure.{Info, info_bytes, starts_of}
+use Rattle.class_model.specs.Instructions.{IsOp, Begins}
+use Rattle.class_model.specs.LineNumbers.{LineNumber}
+use Rattle.class_model.specs.Frames.{StackMapFrame, stack_map_table, names_float, AreFrames, IsMapOf}
+use Rattle.class_model.specs.Attributes.{named, Single}
+use Rattle.class_model.specs.CodeAttribute.{IsHandler, HasCodeSizes, left_out_frames, IsCode, IsPassedOver, IsBody}
+use Rattle.class_model.specs.ReadingCode.{CodeRead, instructions, has_left_out, left_out_kind, until_end, ops_of}
+use Rattle.class_model.specs.ReadingFrames.{Before, read_frames}
+use Rattle.class_model.specs.ReadingAttributes.{counted_attributes}
+use Rattle.class_model.specs.ReadingCodeAttribute.{Body, CodeSeen, nothing_seen, known_of_code, code_length, with_lines, frames_of, left_out_of, code_of, skipped_attribute, read_handlers, behind_code, read_code}
+use Rattle.class_model.proofs.NameLaw.{HaveUnits}
+use Rattle.class_model.proofs.AttributeLaw.{text, as_text, as_told}
+use Rattle.class_model.proofs.CodeLaw.{op_in, IsCodeText, text_found, text_only, lines_found, lines_only}
+use Rattle.class_model.proofs.LeftOutLaw.{code_part_exact, in_place_found, in_place_only}
+use Rattle.class_model.proofs.LeftOutLaw as left_law
+use Rattle.class_model.proofs.UntilLaw.{IsUntil, IsCodeFrom}
+use Rattle.class_model.proofs.MethodInfoLaw.{Bodies}
+use Rattle.class_read.proofs.FrameLaw.{AreRows, frames_exact}
+use Rattle.class_read.proofs.StandsLaw.{rows_found, rows_only}
+use Rattle.class_read.proofs.HandlerLaw.{NoneAtZero, table_exact}
+use Rattle.class_read.proofs.CodeAttributeLaw.{Frames, AreCodeAttributes, code_attributes_exact}
+use Rattle.class_read.proofs.PassedOverLaw.{tail_bytes, FitTail, passed_exact}
+
+-- a length that a code may have
+length_found : (n m : ℕ) → code_length n ≡ Ok m → (m ≡ n) × (0 < n) × (n < 2 ^ 16)
+length_found n m h = by (eqb n 0) (ltb n 65536) refl refl h
+  where
+    by : (a b : Bool) → eqb n 0 ≡ a → ltb n 65536 ≡ b → cond a (let R : Result ℕ FormatKind = Err bad.BadCode in R) (cond b (Ok n) (Err bad.BadCode)) ≡ Ok m → (m ≡ n) × (0 < n) × (n < 2 ^ 16)
+    by true b ea eb g = absurd cc
+    by false true ea eb g = (sym (let e : n ≡ m = cc in e), (let d : n ≡ 0 → ⊥ = eqb-false n 0 ea in grind arith), ltb-true n 65536 eb)
+    by false false ea eb g = absurd cc
+
+length_only : (n : ℕ) → 0 < n → n < 2 ^ 16 → code_length n ≡ Ok n
+length_only n some few =
+    let a : eqb n 0 ≡ false = ne_eqb n 0 (λ e. absurd (omega (arith, e, some))) in
+    let b : ltb n 65536 ≡ true = lt-ltb n 65536 (omega (arith, few)) in
+    rw (a, b) refl
+
+-- the instructions with lines are the instructions
+ops_are : (rows : List LineNumber) (P : ℕ → Info → Op → Type 0) (at : ℕ) (infos : List Info) (ops : List Op) → AllStand info_bytes P at infos ops → map op_in (with_lines rows at infos ops) ≡ ops
+ops_are rows P at [] [] h = refl
+ops_are rows P at [] (o ∷ os) h = absurd h
+ops_are rows P at (info ∷ infos) [] h = absurd h
+ops_are rows P at (info ∷ infos) (o ∷ os) h = ap (λ (t : List Op). o ∷ t) (ops_are rows P (at + length (info_bytes info)) infos os h.1)
+
+module _ (pool : List Entry) (units : HaveUnits pool) (unnamed : NoneAtZero pool) (first : List VType) where
+  -- ---- behind the instructions
+
+  -- what the contents of a StackMapTable say
+  abbrev FramesSay : ℕ → ℕ → List Info → List Op → List ℕ → Frames → Type 0
+  FramesSay max_stack max_locals infos ops info map = Spells stack_map_table
+      (λ _ rows y. (length rows < 2 ^ 16) × AreRows pool (starts_of infos) ops max_stack max_locals (record { locals = first; offset = None }) rows y.1 × (y.0 ≡ list_any names_float rows)) 0 info map
+
+  -- handlers, attributes, and all together
+  abbrev BehindOps : ℕ → ℕ → ℕ → List Info → List Op → List ExceptionInfo × List AttributeInfo → Body → Type 0
+  BehindOps max_stack max_locals n infos ops v y = (handlers : List Handler) × ((length v.0 < 2 ^ 16) × AllZip (IsHandler pool (starts_of infos) n) v.0 handlers)
+      × ((seen : CodeSeen) × AreCodeAttributes pool (FramesSay max_stack max_locals infos ops) v.1 seen × (y ≡ code_of max_stack max_locals infos ops handlers seen))
+
+  abbrev BehindInfos : ℕ → ℕ → ℕ → ℕ → List Info → List ExceptionInfo × List AttributeInfo → Body → Type 0
+  BehindInfos max_stack max_locals from n infos v y = (ops : List Op) × (ops_of pool from infos ≡ Ok ops) × BehindOps max_stack max_locals n infos ops v y
+
+  ops_exact : (max_stack max_locals n : ℕ) (infos : List Info) (ops : List Op) → n ≡ length (flat_map info_bytes infos) → n < 2 ^ 16
+      → Exact (bind (read_handlers pool (starts_of infos) n) (λ handlers. bind (counted_attributes pool (known_of_code (read_frames pool (starts_of infos) ops max_stack max_locals first)) nothing_seen) (λ seen. give (code_of max_stack max_locals infos ops handlers seen))))
+      (Spells tail_bytes (λ _ v y. BehindOps max_stack max_locals n infos ops v y))
+  ops_exact max_stack max_locals n infos ops whole short =
+      bind_exact (λ handlers. bind (counted_attributes pool (known_of_code (read_frames pool (starts_of infos) ops max_stack max_locals first)) nothing_seen) (λ seen. give (code_of max_stack max_locals infos ops handlers seen)))
+      (λ all. to_be_bytes w16 (length all) ++ flat_map attribute_info all)
+      (λ handlers _ all y. (seen : CodeSeen) × AreCodeAttributes pool (FramesSay max_stack max_locals infos ops) all seen × (y ≡ code_of max_stack max_locals infos ops handlers seen))
+      (table_exact pool units unnamed infos n whole short)
+      (λ handlers. map_exact (λ seen. code_of max_stack max_locals infos ops handlers seen)
+      (code_attributes_exact pool (FramesSay max_stack max_locals infos ops) (read_frames pool (starts_of infos) ops max_stack max_locals first)
+      (as_told (λ _ info map. FramesSay max_stack max_locals infos ops info map) (λ at info map h. h) (λ at info map h. h) (as_text (frames_exact pool (starts_of infos) ops max_stack max_locals first)))))
+
+  infos_exact : (max_stack max_locals from n : ℕ) (infos : List Info) → n ≡ length (flat_map info_bytes infos) → n < 2 ^ 16 → Exact (behind_code pool first max_stack max_locals from n (instructions infos)) (Spells tail_bytes (λ _ v y. BehindInfos max_stack max_locals from n infos v y))
+  infos_exact max_stack max_locals from n infos whole short = as_raw tail_bytes _ (λ w. w.1) (λ v. (tt, v))
+      (λ at w y h. (refl, h))
+      (λ at v y h. (refl, h))
+      (bind_exact (λ ops. bind (read_handlers pool (starts_of infos) n) (λ handlers. bind (counted_attributes pool (known_of_code (read_frames pool (starts_of infos) ops max_stack max_locals first)) nothing_seen) (λ seen. give (code_of max_stack max_locals infos ops handlers seen))))
+      tail_bytes (λ ops _ v y. BehindOps max_stack max_locals n infos ops v y) (told_exact (ops_of pool from infos)) (λ ops. ops_exact max_stack max_locals n infos ops whole short))
