@@ -9,7 +9,8 @@ use Rattle.format_reading.specs.declared.fault.FormatKind.{FormatKind}
 use Rattle.format_reading.specs.declared.fault.FormatKind.TheVariants as bad
 use Rattle.format_reading.specs.Reader.{Reader, u2, u4, bytes, bind, give, here, item, told, part, many}
 use Rattle.format_reading.specs.Spelling.{Spells, AllStand}
-use Rattle.format_reading.proofs.Exact.{Exact, as_raw, bind_exact, bind_exact_of, map_exact, give_exact, here_exact, item_exact, told_exact, u2_exact, u4_exact}
+use Rattle.jv_base.specs.Place.{Place, after}
+use Rattle.format_reading.proofs.Exact.{Exact, Takes, Takes-then, Takes-split, fits_on, bind_ok, bind_is, as_raw, bind_exact, bind_exact_of, map_exact, give_exact, here_exact, item_exact, told_exact, u2_exact, u4_exact}
 use Rattle.class_model.specs.declared.pool.Entry.{Entry}
 use Rattle.class_model.specs.declared.op.Op.{Op}
 use Rattle.class_model.specs.declared.code.Code.{Code}
@@ -99,3 +100,52 @@ module _ (pool : List Entry) (units : HaveUnits pool) (unnamed : NoneAtZero pool
       (λ at v y h. (refl, h))
       (bind_exact (λ ops. bind (read_handlers pool (starts_of infos) n) (λ handlers. bind (counted_attributes pool (known_of_code (read_frames pool (starts_of infos) ops max_stack max_locals first)) nothing_seen) (λ seen. give (code_of max_stack max_locals infos ops handlers seen))))
       tail_bytes (λ ops _ v y. BehindOps max_stack max_locals n infos ops v y) (told_exact (ops_of pool from infos)) (λ ops. ops_exact max_stack max_locals n infos ops whole short))
+
+  -- what stands behind what was read of the code
+  abbrev Behind : ℕ → ℕ → ℕ → ℕ → CodeRead → List ExceptionInfo × List AttributeInfo → Body → Type 0
+  Behind max_stack max_locals from n (instructions infos) v y = BehindInfos max_stack max_locals from n infos v y
+  Behind max_stack max_locals from n (has_left_out offset opcode) v y = FitTail v × (y ≡ (None, Some (left_out_kind opcode)))
+
+  behind_exact : (max_stack max_locals from n : ℕ) (code : List ℕ) (read : CodeRead) → length code ≡ n → n < 2 ^ 16 → IsCodeFrom pool 0 code read
+      → Exact (behind_code pool first max_stack max_locals from n read) (Spells tail_bytes (λ _ v y. Behind max_stack max_locals from n read v y))
+  behind_exact max_stack max_locals from n code (instructions infos) len short is = infos_exact max_stack max_locals from n infos (sym len ∙ ap length is.0) short
+  behind_exact max_stack max_locals from n code (has_left_out offset opcode) len short is = passed_exact (None, Some (left_out_kind opcode))
+
+  -- ---- the code and what stands behind it
+
+  -- the reader, from an offset
+  abbrev reads_from : ℕ → ℕ → ℕ → ℕ → ℕ → Reader Body
+  reads_from attribute max_stack max_locals n from = bind (part attribute n (until_end n pool from (from + n))) (λ read. behind_code pool first max_stack max_locals from n read)
+
+  -- the code of n bytes, and then the tables
+  abbrev CodeAndTables : ℕ → ℕ → ℕ → ℕ → List ℕ × (List ExceptionInfo × List AttributeInfo) → Body → Type 0
+  CodeAndTables max_stack max_locals n at v y = (read : CodeRead) × (length v.0 ≡ n) × IsCodeFrom pool 0 v.0 read × Behind max_stack max_locals at n read v.1 y
+
+  here_is : (p : Place) → here p ≡ Ok (p.at, p)
+  unfolding here
+  here_is p = refl
+
+  same_pair : {A : Type 0} (x y : A) (p q : Place) → (let R : Result (A × Place) FormatFault = Ok (x, p) in R) ≡ Ok (y, q) → (x ≡ y) × (p ≡ q)
+  same_pair x y p q h = let e : (x, p) ≡ (y, q) = cc in (ap (λ (z : _ × Place). z.0) e, ap (λ (z : _ × Place). z.1) e)
+
+  code_exact : (attribute max_stack max_locals n : ℕ) → n < 2 ^ 16 → Exact (bind here (λ from. reads_from attribute max_stack max_locals n from))
+      (Spells (λ (v : List ℕ × (List ExceptionInfo × List AttributeInfo)). v.0 ++ tail_bytes v.1) (λ at v y. CodeAndTables max_stack max_locals n at v y))
+  code_exact attribute max_stack max_locals n short = record {
+    found = λ p y q fits h.
+        let a : reads_from attribute max_stack max_locals n p.at p ≡ Ok (y, q) = sym (bind_is here (λ from. reads_from attribute max_stack max_locals n from) p p p.at (here_is p)) ∙ h in
+        let b = bind_ok (part attribute n (until_end n pool p.at (p.at + n))) (λ read. behind_code pool first max_stack max_locals p.at n read) p (y, q) a in
+        let c = (code_part_exact pool attribute n p.at).found p b.0 b.1 fits b.2 in
+        let t : List ℕ = c.1.0 in
+        let is : IsCodeFrom pool 0 t b.0 = in_place_found pool n p.at t b.0 c.1.2.0 c.1.2.1 in
+        let d = (behind_exact max_stack max_locals p.at n t b.0 c.1.2.0 short is).found b.1 y q (fits_on p b.1 c.0 c.2 fits) b.3 in
+        (c.0 ++ d.0, ((t, d.1.0), ap (λ (u : List ℕ). u ++ d.0) c.1.1 ∙ ap (λ (u : List ℕ). t ++ u) d.1.1, (b.0, c.1.2.0, is, d.1.2)), Takes-then p b.1 q c.0 d.0 c.2 d.2);
+    only = λ p u y q h k.
+        let v = h.0 in
+        let parts = Takes-split p q v.0 (tail_bytes v.1) (subst (λ (w : List ℕ). Takes p w q) h.1 k) in
+        let mid : Place = after (length v.0) p in
+        let read : CodeRead = h.2.0 in
+        let one : part attribute n (until_end n pool p.at (p.at + n)) p ≡ Ok (read, mid) = (code_part_exact pool attribute n p.at).only p v.0 read mid (v.0, refl, (h.2.1, in_place_only pool n p.at v.0 read h.2.1 h.2.2)) parts.0 in
+        let two : behind_code pool first max_stack max_locals p.at n read mid ≡ Ok (y, q) = (behind_exact max_stack max_locals p.at n v.0 read h.2.1 short h.2.2).only mid (tail_bytes v.1) y q (v.1, refl, h.2.3) parts.1 in
+        bind_is here (λ from. reads_from attribute max_stack max_locals n from) p p p.at (here_is p)
+        ∙ bind_is (part attribute n (until_end n pool p.at (p.at + n))) (λ read. behind_code pool first max_stack max_locals p.at n read) p mid read one ∙ two;
+  }
