@@ -125,9 +125,6 @@ module _ (pool : List Entry) (units : HaveUnits pool) (unnamed : NoneAtZero pool
   unfolding here
   here_is p = refl
 
-  same_pair : {A : Type 0} (x y : A) (p q : Place) → (let R : Result (A × Place) FormatFault = Ok (x, p) in R) ≡ Ok (y, q) → (x ≡ y) × (p ≡ q)
-  same_pair x y p q h = let e : (x, p) ≡ (y, q) = cc in (ap (λ (z : _ × Place). z.0) e, ap (λ (z : _ × Place). z.1) e)
-
   code_exact : (attribute max_stack max_locals n : ℕ) → n < 2 ^ 16 → Exact (bind here (λ from. reads_from attribute max_stack max_locals n from))
       (Spells (λ (v : List ℕ × (List ExceptionInfo × List AttributeInfo)). v.0 ++ tail_bytes v.1) (λ at v y. CodeAndTables max_stack max_locals n at v y))
   code_exact attribute max_stack max_locals n short = record {
@@ -149,3 +146,102 @@ module _ (pool : List Entry) (units : HaveUnits pool) (unnamed : NoneAtZero pool
         bind_is here (λ from. reads_from attribute max_stack max_locals n from) p p p.at (here_is p)
         ∙ bind_is (part attribute n (until_end n pool p.at (p.at + n))) (λ read. behind_code pool first max_stack max_locals p.at n read) p mid read one ∙ two;
   }
+
+  -- ---- the code of the method
+
+  -- the frames that are seen are those of the rows
+  frames_there : (max_stack max_locals : ℕ) (infos : List Info) (ops : List Op) (ins : List Ins) (list : List AttributeInfo) (map_seen : Option Frames) → map op_in ins ≡ ops → Single (FramesSay max_stack max_locals infos ops) list map_seen
+      → (rows : List StackMapFrame) × IsMapOf list rows × AreFrames pool (starts_of infos) ins max_stack max_locals first None rows (frames_of map_seen) × (left_out_of map_seen ≡ left_out_frames rows)
+  frames_there max_stack max_locals infos ops ins [] None is h = ([], refl, tt, refl)
+  frames_there max_stack max_locals infos ops ins [] (Some m) is h = absurd h
+  frames_there max_stack max_locals infos ops ins (a ∷ []) None is h = absurd h
+  frames_there max_stack max_locals infos ops ins (a ∷ []) (Some m) is h =
+      let rows = h.0 in
+      let are = subst (λ (os : List Op). AreRows pool (starts_of infos) os max_stack max_locals (record { locals = first; offset = None }) rows m.1) (sym is) h.2.1 in
+      (rows, (h.2.0, h.1), rows_found pool units infos ins max_stack max_locals (record { locals = first; offset = None }) rows m.1 are, ap (λ (b : Bool). cond b (Some left.FloatType) None) h.2.2)
+  frames_there max_stack max_locals infos ops ins (a ∷ b ∷ others) m is h = absurd h
+
+  frames_back : (max_stack max_locals : ℕ) (infos : List Info) (ops : List Op) (ins : List Ins) (list : List AttributeInfo) (rows : List StackMapFrame) (frames : List FrameAt) → map op_in ins ≡ ops → IsMapOf list rows
+      → AreFrames pool (starts_of infos) ins max_stack max_locals first None rows frames
+      → (map_seen : Option Frames) × Single (FramesSay max_stack max_locals infos ops) list map_seen × (frames_of map_seen ≡ frames) × (left_out_of map_seen ≡ left_out_frames rows)
+  frames_back max_stack max_locals infos ops ins [] rows frames is m h = (None, tt, none rows m frames h, sym (ap left_out_frames m))
+    where
+      none : (rows : List StackMapFrame) → rows ≡ [] → (frames : List FrameAt) → AreFrames pool (starts_of infos) ins max_stack max_locals first None rows frames → [] ≡ frames
+      none [] e [] a = refl
+      none [] e (f ∷ fs) a = absurd a
+      none (r ∷ rs) e frames a = absurd cc
+  frames_back max_stack max_locals infos ops ins (a ∷ []) rows frames is m h =
+      let are = subst (λ (os : List Op). AreRows pool (starts_of infos) os max_stack max_locals (record { locals = first; offset = None }) rows frames) is (rows_only pool units infos ins max_stack max_locals first None rows frames h) in
+      (Some (list_any names_float rows, frames), (rows, m.1, (m.0, are, refl)), refl, refl)
+  frames_back max_stack max_locals infos ops ins (a ∷ b ∷ others) rows frames is m h = absurd m
+
+  -- the sizes
+  abbrev raw_of : ℕ → ℕ → List ℕ → List ExceptionInfo × List AttributeInfo → CodeInfo
+  raw_of max_stack max_locals code v = record { max_stack = max_stack; max_locals = max_locals; code = code; exception_table = v.0; attributes = v.1 }
+
+  -- what was read is what the structure stands for
+  body_there : (max_stack max_locals n at : ℕ) (code : List ℕ) (v : List ExceptionInfo × List AttributeInfo) (y : Body) (read : CodeRead) → max_stack < 2 ^ 16 → max_locals < 2 ^ 16 → 0 < n → n < 2 ^ 16 → length code ≡ n → IsCodeFrom pool 0 code read
+      → Behind max_stack max_locals at n read v y → Bodies pool first (code_info (raw_of max_stack max_locals code v)) y
+  body_there max_stack max_locals n at code v y (instructions infos) fit-stack fit-locals some few len is h =
+      let ops : List Op = h.0 in
+      let handlers : List Handler = h.2.0 in
+      let seen : CodeSeen = h.2.2.0 in
+      let all = h.2.2.1 in
+      let raw : CodeInfo = raw_of max_stack max_locals code v in
+      let meant : IsCodeText pool code infos ops = text_found pool code at infos ops units is h.1 in
+      let ins : List Ins = with_lines seen.lines 0 infos ops in
+      let f = frames_there max_stack max_locals infos ops ins (named pool (codes "StackMapTable") v.1) seen.map (ops_are seen.lines (IsOp (Begins (starts_of infos)) pool) 0 infos ops meant.1) all.map in
+      let made : Code = record { max_stack = max_stack; max_locals = max_locals; ins = ins; handlers = handlers; frames = frames_of seen.map } in
+      let code-is : IsCode pool first raw made (left_out_of seen.map) = record {
+        sizes = record { max_stack_fits = fit-stack; max_locals_fits = fit-locals; length_from = subst (λ (k : ℕ). 0 < k) (sym len) some; length_to = subst (λ (k : ℕ). k < 2 ^ 16) (sym len) few; handlers_fit = h.2.1.0 };
+        max_stack = refl;
+        max_locals = refl;
+        infos = infos;
+        is = meant.0;
+        lines = seen.lines;
+        instructions = lines_found pool (starts_of infos) seen.lines 0 infos ops meant.1;
+        handlers = subst (λ (k : ℕ). AllZip (IsHandler pool (starts_of infos) k) v.0 handlers) (sym len) h.2.1.1;
+        attributes = all.attributes;
+        line_tables = all.lines;
+        rows = f.0;
+        map = f.1;
+        frames = f.2;
+        floats = f.3;
+      } in
+      subst (λ (b : Body). Bodies pool first (code_info raw) b) (sym h.2.2.2) (raw, refl, code-is)
+  body_there max_stack max_locals n at code v y (has_left_out offset opcode) fit-stack fit-locals some few len is h =
+      let raw : CodeInfo = raw_of max_stack max_locals code v in
+      let over : IsPassedOver pool raw (left_out_kind opcode) = record {
+        sizes = record { max_stack_fits = fit-stack; max_locals_fits = fit-locals; length_from = subst (λ (k : ℕ). 0 < k) (sym len) some; length_to = subst (λ (k : ℕ). k < 2 ^ 16) (sym len) few; handlers_fit = h.0.0 };
+        code = left_law.text_found pool code offset opcode units is;
+        handlers = h.0.1;
+        count_fits = h.0.2;
+        attributes = h.0.3;
+      } in
+      subst (λ (b : Body). Bodies pool first (code_info raw) b) (sym h.1) (raw, refl, left_out_kind opcode, refl, over)
+
+  -- and the other way
+  abbrev BodyBack : ℕ → List ℕ → Body → Type 0
+  BodyBack at info y = (raw : CodeInfo) × (info ≡ code_info raw) × HasCodeSizes raw × ((read : CodeRead) × IsCodeFrom pool 0 raw.code read × Behind raw.max_stack raw.max_locals at (length raw.code) read (raw.exception_table, raw.attributes) y)
+
+  body_back : (at : ℕ) (info : List ℕ) (code : Option Code) (left_out : Option LeftKind) → IsBody pool first info code left_out → BodyBack at info (code, left_out)
+  body_back at info (Some code) left_out h =
+      let raw : CodeInfo = h.0 in
+      let c = h.2 in
+      let l = lines_only pool (starts_of c.infos) c.lines 0 c.infos code.ins c.instructions in
+      let ops : List Op = map op_in code.ins in
+      let meant = text_only pool raw.code at c.infos ops (c.is, l.0) in
+      let f = frames_back raw.max_stack raw.max_locals c.infos ops code.ins (named pool (codes "StackMapTable") raw.attributes) c.rows code.frames refl c.map c.frames in
+      let seen : CodeSeen = record { lines = c.lines; map = f.0 } in
+      let all : AreCodeAttributes pool (FramesSay raw.max_stack raw.max_locals c.infos ops) raw.attributes seen = record { attributes = c.attributes; lines = c.line_tables; map = f.1 } in
+      let whole : (let b : Body = (Some code, left_out) in b) ≡ code_of raw.max_stack raw.max_locals c.infos ops code.handlers seen = λ i. (
+        Some (record { max_stack = c.max_stack i; max_locals = c.max_locals i; ins = l.1 i; handlers = code.handlers; frames = (sym f.2) i }),
+        (c.floats ∙ sym f.3) i,
+      ) in
+      (raw, h.1, c.sizes, (instructions c.infos, meant.0, (ops, meant.1, (code.handlers, (c.sizes.handlers_fit, c.handlers), (seen, all, whole)))))
+  body_back at info None left_out h =
+      let raw : CodeInfo = h.0 in
+      let over = h.4 in
+      let l = left_law.text_only pool raw.code h.2 over.code in
+      let whole : (let b : Body = (None, left_out) in b) ≡ (None, Some (left_out_kind l.1)) = λ i. (None, (h.3 ∙ ap (λ (k : LeftKind). Some k) (sym l.3)) i) in
+      (raw, h.1, over.sizes, (has_left_out l.0 l.1, l.2, ((over.sizes.handlers_fit, over.handlers, over.count_fits, over.attributes), whole)))
