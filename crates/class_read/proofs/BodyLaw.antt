@@ -245,3 +245,74 @@ module _ (pool : List Entry) (units : HaveUnits pool) (unnamed : NoneAtZero pool
       let l = left_law.text_only pool raw.code h.2 over.code in
       let whole : (let b : Body = (None, left_out) in b) ≡ (None, Some (left_out_kind l.1)) = λ i. (None, (h.3 ∙ ap (λ (k : LeftKind). Some k) (sym l.3)) i) in
       (raw, h.1, over.sizes, (has_left_out l.0 l.1, l.2, ((over.sizes.handlers_fit, over.handlers, over.count_fits, over.attributes), whole)))
+
+  -- ---- all of the contents
+
+  -- the numbers before the code, the code, and the tables
+  abbrev Items : Type 0
+  Items = ℕ × (ℕ × (ℕ × (List ℕ × (List ExceptionInfo × List AttributeInfo))))
+
+  abbrev code_items : CodeInfo → Items
+  code_items raw = (raw.max_stack, (raw.max_locals, (length raw.code, (raw.code, (raw.exception_table, raw.attributes)))))
+
+  abbrev items_bytes : Items → List ℕ
+  items_bytes v = to_be_bytes w16 v.0 ++ (to_be_bytes w16 v.1.0 ++ (to_be_bytes w32 v.1.1.0 ++ (v.1.1.1.0 ++ tail_bytes v.1.1.1.1)))
+
+  -- the bytes of the structure are those of its items
+  items_are : (raw : CodeInfo) → code_info raw ≡ items_bytes (code_items raw)
+  items_are raw = simp append_assoc
+
+  -- with the length of the code
+  length_is : (v : Items) (n : ℕ) → length v.1.1.1.0 ≡ n → v.1.1.0 ≡ n → items_bytes v ≡ items_bytes (code_items (raw_of v.0 v.1.0 v.1.1.1.0 v.1.1.1.1))
+  length_is v n len is = ap (λ (k : ℕ). to_be_bytes w16 v.0 ++ (to_be_bytes w16 v.1.0 ++ (to_be_bytes w32 k ++ (v.1.1.1.0 ++ tail_bytes v.1.1.1.1)))) (is ∙ sym len)
+
+  reads_length : ℕ → ℕ → ℕ → Reader Body
+  reads_length attribute max_stack max_locals = bind (item u4 code_length) (λ n. bind here (λ from. reads_from attribute max_stack max_locals n from))
+
+  -- the length, and what follows
+  abbrev FromLength : ℕ → ℕ → ℕ → ℕ × (List ℕ × (List ExceptionInfo × List AttributeInfo)) → Body → Type 0
+  FromLength max_stack max_locals at v y = (n : ℕ) × ((x : ℕ) × ((v.0 < 2 ^ 32) × (x ≡ v.0)) × (code_length x ≡ Ok n)) × CodeAndTables max_stack max_locals n (at + 4) v.1 y
+
+  length_exact : (attribute max_stack max_locals : ℕ) → Exact (reads_length attribute max_stack max_locals)
+      (Spells (λ (v : ℕ × (List ℕ × (List ExceptionInfo × List AttributeInfo))). to_be_bytes w32 v.0 ++ (v.1.0 ++ tail_bytes v.1.1)) (λ at v y. FromLength max_stack max_locals at v y))
+  unfolding reads_length
+  length_exact attribute max_stack max_locals = bind_exact_of (λ n. bind here (λ from. reads_from attribute max_stack max_locals n from))
+      (λ (v : List ℕ × (List ExceptionInfo × List AttributeInfo)). v.0 ++ tail_bytes v.1) (λ n at v y. CodeAndTables max_stack max_locals n at v y)
+      (item_exact code_length u4_exact)
+      (λ at w n h. code_exact attribute max_stack max_locals n (let l = length_found h.0 n h.2 in subst (λ (k : ℕ). k < 2 ^ 16) (sym l.0) l.2))
+
+  -- the contents of a Code are read exactly where they are spelled
+  pub read_code_exact : (attribute : ℕ) → Exact (read_code pool first attribute) (Spells text (λ _ info body. Bodies pool first info body))
+  unfolding read_code reads_length
+  read_code_exact attribute = as_told (λ _ info body. Bodies pool first info body)
+      (λ at info y h.
+      let v : Items = h.0 in
+      let ms : ℕ = h.2.0 in
+      let rest = h.2.2 in
+      let ml : ℕ = rest.0 in
+      let from = rest.2 in
+      let n : ℕ = from.0 in
+      let l = length_found from.1.0 n from.1.2 in
+      let c = from.2 in
+      let stack-is : ms ≡ v.0 = h.2.1.1 in
+      let locals-is : ml ≡ v.1.0 = rest.1.1 in
+      let n-is : v.1.1.0 ≡ n = sym from.1.1.1 ∙ sym l.0 in
+      let body : Bodies pool first (code_info (raw_of ms ml v.1.1.1.0 v.1.1.1.1)) y =
+      body_there ms ml n _ v.1.1.1.0 v.1.1.1.1 y c.0 (subst (λ (k : ℕ). k < 2 ^ 16) (sym stack-is) h.2.1.0) (subst (λ (k : ℕ). k < 2 ^ 16) (sym locals-is) rest.1.0)
+      (subst (λ (k : ℕ). 0 < k) (sym l.0) l.1) (subst (λ (k : ℕ). k < 2 ^ 16) (sym l.0) l.2) c.1 c.2 c.3 in
+      let text-is : info ≡ code_info (raw_of ms ml v.1.1.1.0 v.1.1.1.1) =
+      h.1 ∙ length_is v n c.1 n-is ∙ ap (λ (k : ℕ). items_bytes (code_items (raw_of k v.1.0 v.1.1.1.0 v.1.1.1.1))) (sym stack-is) ∙ ap (λ (k : ℕ). items_bytes (code_items (raw_of ms k v.1.1.1.0 v.1.1.1.1))) (sym locals-is)
+      ∙ sym (items_are (raw_of ms ml v.1.1.1.0 v.1.1.1.1)) in
+      subst (λ (t : List ℕ). Bodies pool first t y) (sym text-is) body)
+      (λ at info y h.
+      let b = body_back (at + 2 + 2 + 4) info y.0 y.1 h in
+      let raw : CodeInfo = b.0 in
+      let sizes = b.2 in
+      let n : ℕ = length raw.code in
+      (code_items raw, b.1 ∙ items_are raw, (raw.max_stack, (sizes.max_stack_fits, refl), (raw.max_locals, (sizes.max_locals_fits, refl),
+          (n, (n, (omega (arith, sizes.length_to), refl), length_only n sizes.length_from sizes.length_to), (b.3.0, refl, b.3.1, b.3.2))))))
+      (as_text (bind_exact (λ max_stack. bind u2 (λ max_locals. reads_length attribute max_stack max_locals))
+      (λ (v : ℕ × (ℕ × (List ℕ × (List ExceptionInfo × List AttributeInfo)))). to_be_bytes w16 v.0 ++ (to_be_bytes w32 v.1.0 ++ (v.1.1.0 ++ tail_bytes v.1.1.1)))
+      (λ max_stack at v y. (max_locals : ℕ) × ((v.0 < 2 ^ 16) × (max_locals ≡ v.0)) × FromLength max_stack max_locals (at + 2) v.1 y) u2_exact
+      (λ max_stack. bind_exact (λ max_locals. reads_length attribute max_stack max_locals) (λ (v : ℕ × (List ℕ × (List ExceptionInfo × List AttributeInfo))). to_be_bytes w32 v.0 ++ (v.1.0 ++ tail_bytes v.1.1))
+      (λ max_locals at v y. FromLength max_stack max_locals at v y) u2_exact (λ max_locals. length_exact attribute max_stack max_locals))))
