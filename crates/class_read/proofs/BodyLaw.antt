@@ -1,16 +1,14 @@
 -- The contents of a Code are read exactly where they are spelled (JVMS 4.7.3).
-use Rattle.std.proofs.Common.{◌≡◌, ℕ, zero, suc, ◌+◌, ◌*◌, ◌^◌, ◌<◌, Bool, true, false, cond, eqb, ltb, List, [], ◌∷◌, ◌++◌, length, map, Option, Some, None, Result, Ok, Err, codes, refl, sym, ap, subst, ◌∙◌, append_assoc, arith}
+use Rattle.std.proofs.Common.{◌≡◌, ℕ, ◌+◌, ◌^◌, ◌<◌, Bool, true, false, cond, eqb, ltb, List, [], ◌∷◌, ◌++◌, length, map, Option, Some, None, Result, Ok, Err, codes, refl, sym, ap, subst, ◌∙◌, append_assoc, arith}
 use Rattle.std.specs.Int.{w16, w32, to_be_bytes}
-use Rattle.std.specs.List.{AllZip, AllByRecursion, flat_map, list_any}
+use Rattle.std.specs.List.{AllZip, flat_map, list_any}
 use Rattle.std.proofs.lemmas.Bool.{eqb-false, ne_eqb, ltb-true, lt-ltb}
-use Rattle.std.proofs.lemmas.List.{append-nil}
-use Rattle.format_reading.specs.declared.fault.FormatFault.{FormatFault}
 use Rattle.format_reading.specs.declared.fault.FormatKind.{FormatKind}
 use Rattle.format_reading.specs.declared.fault.FormatKind.TheVariants as bad
-use Rattle.format_reading.specs.Reader.{Reader, u2, u4, bytes, bind, give, here, item, told, part, many}
+use Rattle.format_reading.specs.Reader.{Reader, u2, u4, bind, give, here, item, part}
 use Rattle.format_reading.specs.Spelling.{Spells, AllStand}
 use Rattle.jv_base.specs.Place.{Place, after}
-use Rattle.format_reading.proofs.Exact.{Exact, Takes, Takes-then, Takes-split, fits_on, bind_ok, bind_is, as_raw, bind_exact, bind_exact_of, map_exact, give_exact, here_exact, item_exact, told_exact, u2_exact, u4_exact}
+use Rattle.format_reading.proofs.Exact.{Exact, Takes, Takes-then, Takes-split, fits_on, bind_ok, bind_is, as_raw, bind_exact, bind_exact_of, map_exact, item_exact, told_exact, u2_exact, u4_exact}
 use Rattle.class_model.specs.declared.pool.Entry.{Entry}
 use Rattle.class_model.specs.declared.op.Op.{Op}
 use Rattle.class_model.specs.declared.code.Code.{Code}
@@ -20,7 +18,7 @@ use Rattle.class_model.specs.declared.frame.VType.{VType}
 use Rattle.class_model.specs.declared.frame.FrameAt.{FrameAt}
 use Rattle.class_model.specs.declared.class.LeftKind.{LeftKind}
 use Rattle.class_model.specs.declared.class.LeftKind.TheVariants as left
-use Rattle.class_model.specs.Structure.{AttributeInfo, attribute_info, ExceptionInfo, exception_info, CodeInfo, code_info}
+use Rattle.class_model.specs.Structure.{AttributeInfo, attribute_info, ExceptionInfo, CodeInfo, code_info}
 use Rattle.class_model.specs.InstructionStructure.{Info, info_bytes, starts_of}
 use Rattle.class_model.specs.Instructions.{IsOp, Begins}
 use Rattle.class_model.specs.LineNumbers.{LineNumber}
@@ -28,15 +26,15 @@ use Rattle.class_model.specs.Frames.{StackMapFrame, stack_map_table, names_float
 use Rattle.class_model.specs.Attributes.{named, Single}
 use Rattle.class_model.specs.CodeAttribute.{IsHandler, HasCodeSizes, left_out_frames, IsCode, IsPassedOver, IsBody}
 use Rattle.class_model.specs.ReadingCode.{CodeRead, instructions, has_left_out, left_out_kind, until_end, ops_of}
-use Rattle.class_model.specs.ReadingFrames.{Before, read_frames}
+use Rattle.class_model.specs.ReadingFrames.{read_frames}
 use Rattle.class_model.specs.ReadingAttributes.{counted_attributes}
-use Rattle.class_model.specs.ReadingCodeAttribute.{Body, CodeSeen, nothing_seen, known_of_code, code_length, with_lines, frames_of, left_out_of, code_of, skipped_attribute, read_handlers, behind_code, read_code}
+use Rattle.class_model.specs.ReadingCodeAttribute.{Body, CodeSeen, nothing_seen, known_of_code, code_length, with_lines, frames_of, left_out_of, code_of, read_handlers, behind_code, read_code}
 use Rattle.class_model.proofs.NameLaw.{HaveUnits}
 use Rattle.class_model.proofs.AttributeLaw.{text, as_text, as_told}
 use Rattle.class_model.proofs.CodeLaw.{op_in, IsCodeText, text_found, text_only, lines_found, lines_only}
 use Rattle.class_model.proofs.LeftOutLaw.{code_part_exact, in_place_found, in_place_only}
 use Rattle.class_model.proofs.LeftOutLaw as left_law
-use Rattle.class_model.proofs.UntilLaw.{IsUntil, IsCodeFrom}
+use Rattle.class_model.proofs.UntilLaw.{IsCodeFrom}
 use Rattle.class_model.proofs.MethodInfoLaw.{Bodies}
 use Rattle.class_read.proofs.FrameLaw.{AreRows, frames_exact}
 use Rattle.class_read.proofs.StandsLaw.{rows_found, rows_only}
@@ -308,9 +306,19 @@ module _ (pool : List Entry) (units : HaveUnits pool) (unnamed : NoneAtZero pool
       let b = body_back (at + 2 + 2 + 4) info y.0 y.1 h in
       let raw : CodeInfo = b.0 in
       let sizes = b.2 in
-      let n : ℕ = length raw.code in
-      (code_items raw, b.1 ∙ items_are raw, (raw.max_stack, (sizes.max_stack_fits, refl), (raw.max_locals, (sizes.max_locals_fits, refl),
-          (n, (n, (omega (arith, sizes.length_to), refl), length_only n sizes.length_from sizes.length_to), (b.3.0, refl, b.3.1, b.3.2))))))
+      let n : ℕ = length raw.code in (
+        code_items raw,
+        b.1 ∙ items_are raw,
+        (
+          raw.max_stack,
+          (sizes.max_stack_fits, refl),
+          (
+            raw.max_locals,
+            (sizes.max_locals_fits, refl),
+            (n, (n, (omega (arith, sizes.length_to), refl), length_only n sizes.length_from sizes.length_to), (b.3.0, refl, b.3.1, b.3.2)),
+          ),
+        ),
+      ))
       (as_text (bind_exact (λ max_stack. bind u2 (λ max_locals. reads_length attribute max_stack max_locals))
       (λ (v : ℕ × (ℕ × (List ℕ × (List ExceptionInfo × List AttributeInfo)))). to_be_bytes w16 v.0 ++ (to_be_bytes w32 v.1.0 ++ (v.1.1.0 ++ tail_bytes v.1.1.1)))
       (λ max_stack at v y. (max_locals : ℕ) × ((v.0 < 2 ^ 16) × (max_locals ≡ v.0)) × FromLength max_stack max_locals (at + 2) v.1 y) u2_exact

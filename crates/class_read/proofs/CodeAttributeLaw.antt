@@ -1,5 +1,5 @@
 -- The attributes of a Code are read exactly where they are spelled (JVMS 4.7.4, 4.7.12), where the frames are.
-use Rattle.std.proofs.Common.{◌≡◌, ℕ, ◌+◌, ◌^◌, ◌<◌, Bool, true, false, cond, List, [], ◌∷◌, ◌++◌, length, Option, Some, None, codes, refl, sym, ap, subst, ◌∙◌, append_assoc}
+use Rattle.std.proofs.Common.{◌≡◌, ℕ, ◌+◌, ◌^◌, ◌<◌, Bool, true, false, cond, List, [], ◌∷◌, ◌++◌, length, Option, Some, codes, refl, sym, ap, subst, ◌∙◌, append_assoc}
 use Rattle.std.specs.Int.{w16, to_be_bytes}
 use Rattle.std.specs.List.{AllByRecursion, flat_map}
 use Rattle.std.proofs.lemmas.List.{append-nil}
@@ -12,8 +12,8 @@ use Rattle.class_model.specs.declared.frame.FrameAt.{FrameAt}
 use Rattle.class_model.specs.Structure.{AttributeInfo, attribute_info}
 use Rattle.class_model.specs.LineNumbers.{LineNumber, line_number, FitsLine, IsLineTable, AreLineTables}
 use Rattle.class_model.specs.Attributes.{named, IsAttribute, AreAttributes, Single}
-use Rattle.class_model.specs.ReadingAttributes.{counted_attributes, once, read_line, line_number_table}
-use Rattle.class_model.specs.ReadingCodeAttribute.{CodeSeen, nothing_seen, is_there, lines_seen, frames_seen, known_of_code}
+use Rattle.class_model.specs.ReadingAttributes.{counted_attributes, read_line, line_number_table}
+use Rattle.class_model.specs.ReadingCodeAttribute.{CodeSeen, nothing_seen, is_there, known_of_code}
 use Rattle.class_model.proofs.AttributeLaw.{text, as_text, as_told, Does, Knows, Step, Steps, once_exact, counted_exact}
 use Rattle.class_model.proofs.SeenLaw.{Chain, each_found, chain_found, Once, single_found, single_only, not_named, is_first, other_name, not_there, knows_if}
 
@@ -45,11 +45,11 @@ lines_exact : Exact line_number_table (Spells text (λ _ info rows. IsLineTable 
 unfolding line_number_table
 lines_exact = as_told (λ _ info rows. IsLineTable info rows)
     (λ at info rows h. let o = rows_there (at + 2) h.0.1 rows h.2.2.1 in
-        let n : length h.0.1 ≡ h.0.0 = h.2.2.0 ∙ h.2.1.1 in record {
-          is = h.1 ∙ ap (λ (m : ℕ). to_be_bytes w16 m ++ flat_map line_number h.0.1) (sym n) ∙ ap (λ (rs : List LineNumber). to_be_bytes w16 (length rs) ++ flat_map line_number rs) (sym o.1);
-          count_fits = subst (λ (rs : List LineNumber). length rs < 2 ^ 16) (sym o.1) (subst (λ (m : ℕ). m < 2 ^ 16) (sym n) h.2.1.0);
-          fit = subst (λ (rs : List LineNumber). AllByRecursion FitsLine rs) (sym o.1) o.0;
-        })
+    let n : length h.0.1 ≡ h.0.0 = h.2.2.0 ∙ h.2.1.1 in record {
+      is = h.1 ∙ ap (λ (m : ℕ). to_be_bytes w16 m ++ flat_map line_number h.0.1) (sym n) ∙ ap (λ (rs : List LineNumber). to_be_bytes w16 (length rs) ++ flat_map line_number rs) (sym o.1);
+      count_fits = subst (λ (rs : List LineNumber). length rs < 2 ^ 16) (sym o.1) (subst (λ (m : ℕ). m < 2 ^ 16) (sym n) h.2.1.0);
+      fit = subst (λ (rs : List LineNumber). AllByRecursion FitsLine rs) (sym o.1) o.0;
+    })
     (λ at info rows h. ((length rows, rows), h.is, (length rows, (h.count_fits, refl), (refl, rows_back (at + 2) rows h.fit))))
     (as_text (bind_exact (λ n. many n read_line) (flat_map line_number) (λ n at rows ys. (length rows ≡ n) × AllStand line_number (λ _ row y. FitsLine row × (y ≡ row)) at rows ys) u2_exact (λ n. many_exact n line_exact)))
 
@@ -142,16 +142,22 @@ code_steps pool F at (a ∷ rest) seen out each h =
   where
     units : List ℕ
     units = each.0.name
+
     skipped : (name : List ℕ) → is_text units name ≡ false → named pool name (a ∷ rest) ≡ named pool name rest
     skipped name e = not_named pool name units a rest each.0.named e
+
     taken : (name : List ℕ) → is_text units name ≡ true → named pool name (a ∷ rest) ≡ a ∷ named pool name rest
     taken name e = is_first pool name units a rest each.0.named e
+
     step : (now : CodeSeen) → CodeDoes F at units (length a.info) seen a.info now → Step pool (CodeDoes F) at a seen now
     step now does = (each.0.index_fits, units, each.0.named, each.0.length_fits, does)
+
     lines_on : is_text units (codes "LineNumberTable") ≡ false → Chain MoreLines seen.lines (named pool (codes "LineNumberTable") rest) out.lines
     lines_on e = subst (λ (l : List AttributeInfo). Chain MoreLines seen.lines l out.lines) (skipped (codes "LineNumberTable") e) h.0
+
     map_on : is_text units (codes "StackMapTable") ≡ false → Chain (Once F) seen.map (named pool (codes "StackMapTable") rest) out.map
     map_on e = subst (λ (l : List AttributeInfo). Chain (Once F) seen.map l out.map) (skipped (codes "StackMapTable") e) h.1
+
     by : (l m : Bool) → is_text units (codes "LineNumberTable") ≡ l → is_text units (codes "StackMapTable") ≡ m
         → ((now : CodeSeen) → Seen pool F rest now out → Steps pool (CodeDoes F) (at + length (attribute_info a)) rest now out) → Steps pool (CodeDoes F) at (a ∷ rest) seen out
     by true m el em others =
@@ -183,6 +189,12 @@ pub code_attributes_exact : (pool : List Entry) (F : List ℕ → Frames → Typ
     (Spells (λ all. to_be_bytes w16 (length all) ++ flat_map attribute_info all) (λ _ all out. AreCodeAttributes pool F all out))
 code_attributes_exact pool F frames exact = as_raw _ _ (λ all. all) (λ all. all)
     (λ at all out h. (refl, code_seen_found pool F (at + 2) all out h.0 h.1))
-    (λ at all out h. (refl, (h.attributes.count_fits, code_steps pool F (at + 2) all nothing_seen out h.attributes.each
-        (tables_only (named pool (codes "LineNumberTable") all) [] out.lines h.lines, single_only F (named pool (codes "StackMapTable") all) out.map h.map))))
+    (λ at all out h. (
+      refl,
+      (
+        h.attributes.count_fits,
+        code_steps pool F (at + 2) all nothing_seen out h.attributes.each
+            (tables_only (named pool (codes "LineNumberTable") all) [] out.lines h.lines, single_only F (named pool (codes "StackMapTable") all) out.map h.map),
+      ),
+    ))
     (counted_exact pool (known_of_code frames) (CodeDoes F) (λ at name n seen. code_knows F frames exact at name n seen) nothing_seen)

@@ -1,22 +1,18 @@
 -- The frames of a StackMapTable are read exactly where its rows stand for them (JVMS 4.7.4).
-use Rattle.std.proofs.Common.{◌≡◌, ℕ, zero, suc, ◌+◌, ◌-◌, ◌^◌, ◌<◌, ◌≤◌, Bool, true, false, cond, ◌&&◌, ◌||◌, leb, List, [], ◌∷◌, ◌++◌, length, map, take, Option, Some, None, Result, Ok, Err, refl, sym, ap, subst, ◌∙◌, arith}
-use Rattle.std.specs.Prelude.{IsTrue, slice_get, option_map, option_and_then, position, nat_eq, nat_le}
+use Rattle.std.proofs.Common.{◌≡◌, ℕ, zero, suc, ◌^◌, ◌<◌, Bool, false, ◌||◌, List, [], ◌∷◌, ◌++◌, length, Option, Some, None, Ok, refl, sym, ap, subst, ◌∙◌, arith}
 use Rattle.std.specs.Int.{w16, to_be_bytes}
-use Rattle.std.specs.List.{AllByRecursion, AllZip, flat_map, list_any}
-use Rattle.std.proofs.lemmas.Bool.{leb-true, le-leb}
+use Rattle.std.specs.List.{flat_map, list_any}
 use Rattle.std.proofs.lemmas.List.{append-nil}
 use Rattle.std.proofs.lemmas.List.Concat.{flat_map-cons}
-use Rattle.std.proofs.lemmas.Option.{slice_get-map}
-use Rattle.format_reading.specs.declared.fault.FormatKind.{FormatKind}
 use Rattle.format_reading.specs.declared.fault.FormatKind.TheVariants as bad
-use Rattle.format_reading.specs.Reader.{Reader, u2, bind, give, here, settle}
+use Rattle.format_reading.specs.Reader.{bind, give, settle}
 use Rattle.format_reading.specs.Spelling.{Spells}
 use Rattle.format_reading.proofs.Exact.{Exact, as_raw, bind_exact, map_exact, give_exact, here_exact, settle_exact, u2_exact}
 use Rattle.class_model.specs.declared.pool.Entry.{Entry}
 use Rattle.class_model.specs.declared.op.Op.{Op}
 use Rattle.class_model.specs.declared.frame.VType.{VType}
 use Rattle.class_model.specs.declared.frame.FrameAt.{FrameAt}
-use Rattle.class_model.specs.Frames.{VerificationTypeInfo, StackMapFrame, SameFrame, stack_map_frame, stack_map_table, names_float}
+use Rattle.class_model.specs.Frames.{StackMapFrame, SameFrame, stack_map_frame, stack_map_table, names_float}
 use Rattle.class_model.specs.Lookups.{due}
 use Rattle.class_model.specs.ReadingFrames.{Before, row_stands, read_row, read_frame, read_frames_behind, read_frames}
 use Rattle.class_model.proofs.LookupLaw.{due_is}
@@ -38,11 +34,15 @@ module _ (pool : List Entry) (starts : List ℕ) (ops : List Op) (max_stack max_
   frame_exact before = as_raw stack_map_frame _ (λ w. w.1.0) (λ row. (tt, (row, tt)))
       (λ at w y h.
       let row-is : h.2.0 ≡ w.1.0 = h.2.1.1 in
-      let made : y ≡ (names_float h.2.0, h.2.2.0.0, h.2.2.0.1) = h.2.2.2 in
-      (append-nil (stack_map_frame w.1.0), (h.2.1.0,
+      let made : y ≡ (names_float h.2.0, h.2.2.0.0, h.2.2.0.1) = h.2.2.2 in (
+        append-nil (stack_map_frame w.1.0),
+        (
+          h.2.1.0,
           ap (row_stands pool starts ops max_stack max_locals before) (sym row-is) ∙ due_is bad.BadFrame (row_stands pool starts ops max_stack max_locals before h.2.0) h.2.2.0 h.2.2.1
-          ∙ ap (λ (z : FrameRead). let o : Option (FrameAt × Before) = Some (z.1, z.2) in o) (sym made),
-          ap (λ (z : FrameRead). z.0) made ∙ ap names_float row-is)))
+              ∙ ap (λ (z : FrameRead). let o : Option (FrameAt × Before) = Some (z.1, z.2) in o) (sym made),
+          ap (λ (z : FrameRead). z.0) made ∙ ap names_float row-is,
+        ),
+      ))
       (λ at row y h. (sym (append-nil (stack_map_frame row)), (at, refl, (row, (h.0, refl), ((y.1, y.2), ap (due bad.BadFrame) h.1, λ i. (h.2 i, y.1, y.2))))))
       (bind_exact (λ at. bind read_row (λ row. bind (settle at (due bad.BadFrame (row_stands pool starts ops max_stack max_locals before row))) (λ frame. give (names_float row, frame.0, frame.1))))
       (λ (v : StackMapFrame × Unit {0}). stack_map_frame v.0 ++ [])
@@ -80,10 +80,14 @@ module _ (pool : List Entry) (starts : List ℕ) (ops : List Op) (max_stack max_
       (λ at w y h.
       let first : FrameRead = h.0 in
       let o = h.2.1 in
-      let is : y ≡ (first.0 || h.2.0.0, first.1 ∷ h.2.0.1) = h.2.2 in
-      (sym (flat_map-cons stack_map_frame w.0 w.1), (ap suc o.0,
+      let is : y ≡ (first.0 || h.2.0.0, first.1 ∷ h.2.0.1) = h.2.2 in (
+        sym (flat_map-cons stack_map_frame w.0 w.1),
+        (
+          ap suc o.0,
           (first.1, first.2, h.1.0, h.1.1, (h.2.0.1, ap (λ (z : Frames). z.1) is, o.1)),
-          ap (λ (z : Frames). z.0) is ∙ ap (λ (b : Bool). b || h.2.0.0) h.1.2 ∙ ap (λ (b : Bool). names_float w.0 || b) o.2)))
+          ap (λ (z : Frames). z.0) is ∙ ap (λ (b : Bool). b || h.2.0.0) h.1.2 ∙ ap (λ (b : Bool). names_float w.0 || b) o.2,
+        ),
+      ))
       (λ at rows y h. some rows y h.0 h.1 h.2)
       (bind_exact (λ (first : FrameRead). bind (read_frames_behind pool starts ops max_stack max_locals n first.2) (λ others. give (first.0 || others.0, first.1 ∷ others.1))) (flat_map stack_map_frame)
       (λ (first : FrameRead) _ rows y. (others : Frames) × AreRead n first.2 rows others × (y ≡ (first.0 || others.0, first.1 ∷ others.1)))
@@ -93,9 +97,11 @@ module _ (pool : List Entry) (starts : List ℕ) (ops : List Op) (max_stack max_
       head_of : List StackMapFrame → StackMapFrame
       head_of [] = SameFrame 0
       head_of (row ∷ rows) = row
+
       tail_of : List StackMapFrame → List StackMapFrame
       tail_of [] = []
       tail_of (row ∷ rows) = rows
+
       some : (rows : List StackMapFrame) (y : Frames) → length rows ≡ suc n → AreRows before rows y.1 → y.0 ≡ list_any names_float rows
           → (flat_map stack_map_frame rows ≡ stack_map_frame (head_of rows) ++ flat_map stack_map_frame (tail_of rows))
           × ((first : FrameRead) × IsRow before (head_of rows) first × ((others : Frames) × AreRead n first.2 (tail_of rows) others × (y ≡ (first.0 || others.0, first.1 ∷ others.1))))

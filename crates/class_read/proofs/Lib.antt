@@ -16,3 +16,4 @@ pub mod HandlerLaw
 pub mod CodeAttributeLaw
 pub mod PassedOverLaw
 pub mod BodyLaw
+pub mod ClassLaw

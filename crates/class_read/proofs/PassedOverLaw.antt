@@ -1,11 +1,10 @@
 -- What stands behind a code in which an instruction is left out is passed over exactly where it is spelled (JVMS 4.7.3).
-use Rattle.std.proofs.Common.{◌≡◌, ℕ, zero, suc, ◌+◌, ◌*◌, ◌^◌, ◌<◌, List, [], ◌∷◌, ◌++◌, length, get_or, map, Option, Some, None, refl, sym, ap, ap₂, subst, ◌∙◌, append_assoc, arith}
+use Rattle.std.proofs.Common.{◌≡◌, ℕ, zero, suc, ◌+◌, ◌*◌, ◌^◌, ◌<◌, List, [], ◌∷◌, ◌++◌, length, get_or, refl, sym, ap, ap₂, subst, ◌∙◌, append_assoc, arith}
 use Rattle.std.specs.Int.{w16, w32, to_be_bytes, from_be_bytes}
 use Rattle.std.specs.List.{AllByRecursion, flat_map}
-use Rattle.std.proofs.lemmas.List.{append-nil}
 use Rattle.std.proofs.lemmas.List.Concat.{flat_map-cons}
 use Rattle.std.proofs.lemmas.Nat.{be_bytes_2}
-use Rattle.format_reading.specs.Reader.{Reader, u2, u4, bytes, bind, give, many}
+use Rattle.format_reading.specs.Reader.{u2, u4, bytes, bind, give, many}
 use Rattle.format_reading.specs.Spelling.{Spells, AllStand}
 use Rattle.format_reading.proofs.Exact.{Exact, IsBytes, as_raw, as_raw_bytes, bind_exact, map_exact, many_exact, bytes_exact, u2_exact, u4_exact}
 use Rattle.class_model.specs.Structure.{AttributeInfo, attribute_info, ExceptionInfo, exception_info}
@@ -131,13 +130,16 @@ passed_exact y = as_raw tail_bytes _ (λ w. (w.1.0, w.1.1.1)) (λ v. (length v.0
     let t = h.2.1 in
     let m = h.2.2 in
     let n : length w.1.0 ≡ w.0 = t.0.0 ∙ h.1.1 in
-    let k : length w.1.1.1 ≡ w.1.1.0 = m.2.1.0 ∙ m.1.1 in
-    (sym (append_assoc (to_be_bytes w16 w.0) (flat_map exception_info w.1.0) (to_be_bytes w16 w.1.1.0 ++ flat_map attribute_info w.1.1.1))
-        ∙ ap (λ (j : ℕ). (to_be_bytes w16 j ++ flat_map exception_info w.1.0) ++ (to_be_bytes w16 w.1.1.0 ++ flat_map attribute_info w.1.1.1)) (sym n)
-        ∙ ap (λ (j : ℕ). (to_be_bytes w16 (length w.1.0) ++ flat_map exception_info w.1.0) ++ (to_be_bytes w16 j ++ flat_map attribute_info w.1.1.1)) (sym k),
-        ((subst (λ (j : ℕ). j < 2 ^ 16) (sym n) h.1.0, t.0.1, subst (λ (j : ℕ). j < 2 ^ 16) (sym k) m.1.0, fit_there _ w.1.1.1 m.2.0 m.2.1.1), m.2.2)))
-    (λ at v z h. (append_assoc (to_be_bytes w16 (length v.0)) (flat_map exception_info v.0) (to_be_bytes w16 (length v.1) ++ flat_map attribute_info v.1),
-        (length v.0, (h.0.0, refl), (flat_map exception_info v.0, ((refl, h.0.1), refl), (length v.1, (h.0.2, refl), (units_for v.1, (refl, fit_back _ v.1 h.0.3), h.1))))))
+    let k : length w.1.1.1 ≡ w.1.1.0 = m.2.1.0 ∙ m.1.1 in (
+      sym (append_assoc (to_be_bytes w16 w.0) (flat_map exception_info w.1.0) (to_be_bytes w16 w.1.1.0 ++ flat_map attribute_info w.1.1.1))
+          ∙ ap (λ (j : ℕ). (to_be_bytes w16 j ++ flat_map exception_info w.1.0) ++ (to_be_bytes w16 w.1.1.0 ++ flat_map attribute_info w.1.1.1)) (sym n)
+          ∙ ap (λ (j : ℕ). (to_be_bytes w16 (length w.1.0) ++ flat_map exception_info w.1.0) ++ (to_be_bytes w16 j ++ flat_map attribute_info w.1.1.1)) (sym k),
+      ((subst (λ (j : ℕ). j < 2 ^ 16) (sym n) h.1.0, t.0.1, subst (λ (j : ℕ). j < 2 ^ 16) (sym k) m.1.0, fit_there _ w.1.1.1 m.2.0 m.2.1.1), m.2.2),
+    ))
+    (λ at v z h. (
+      append_assoc (to_be_bytes w16 (length v.0)) (flat_map exception_info v.0) (to_be_bytes w16 (length v.1) ++ flat_map attribute_info v.1),
+      (length v.0, (h.0.0, refl), (flat_map exception_info v.0, ((refl, h.0.1), refl), (length v.1, (h.0.2, refl), (units_for v.1, (refl, fit_back _ v.1 h.0.3), h.1)))),
+    ))
     (bind_exact (λ n. bind (bytes (8 * n)) (λ handlers. bind u2 (λ m. bind (many m skipped_attribute) (λ skipped. give y))))
     (λ (v : List ExceptionInfo × (ℕ × List AttributeInfo)). flat_map exception_info v.0 ++ (to_be_bytes w16 v.1.0 ++ flat_map attribute_info v.1.1))
     (λ n at v z. (t : List ℕ) × (((length v.0 ≡ n) × AllByRecursion FitsException v.0) × (t ≡ flat_map exception_info v.0))

@@ -1,11 +1,9 @@
 -- A row of a StackMapTable stands for a frame exactly where the frame is computed from it (JVMS 4.7.4).
-use Rattle.std.proofs.Common.{◌≡◌, ℕ, zero, suc, ◌+◌, ◌-◌, ◌^◌, ◌<◌, ◌≤◌, Bool, true, false, cond, ◌&&◌, eqb, leb, List, [], ◌∷◌, ◌++◌, length, map, take, Option, Some, None, Result, Ok, Err, ℤ, pos, refl, sym, ap, subst, ◌∙◌, arith}
-use Rattle.std.specs.Prelude.{IsTrue, slice_get, option_map, option_and_then, position, nat_eq, nat_le}
-use Rattle.std.specs.List.{AllByRecursion, AllZip}
+use Rattle.std.proofs.Common.{◌≡◌, ℕ, ◌-◌, ◌^◌, ◌<◌, ◌≤◌, Bool, true, false, cond, ◌&&◌, eqb, leb, List, [], ◌∷◌, ◌++◌, length, map, take, Option, Some, None, pos, refl, sym, ap, subst, ◌∙◌, arith}
+use Rattle.std.specs.Prelude.{slice_get, option_map, position, nat_eq}
+use Rattle.std.specs.List.{AllZip}
 use Rattle.std.proofs.lemmas.Bool.{leb-true, leb-false, le-leb, ne_eqb}
 use Rattle.std.proofs.lemmas.Option.{slice_get-map}
-use Rattle.jv_base.specs.declared.types.FieldType.{FieldType}
-use Rattle.format_reading.specs.declared.fault.FormatKind.{FormatKind}
 use Rattle.format_reading.specs.declared.fault.FormatKind.TheVariants as bad
 use Rattle.class_model.specs.declared.pool.Entry.{Entry}
 use Rattle.class_model.specs.declared.code.Ins.{Ins}
@@ -14,13 +12,10 @@ use Rattle.class_model.specs.declared.op.Op.TheVariants as op
 use Rattle.class_model.specs.declared.frame.VType.{VType}
 use Rattle.class_model.specs.declared.frame.VType.TheVariants as vtype
 use Rattle.class_model.specs.declared.frame.FrameAt.{FrameAt}
-use Rattle.class_model.specs.Between.{between}
 use Rattle.class_model.specs.InstructionStructure.{Info, starts_of}
-use Rattle.class_model.specs.InstructionMeaning.{aim_at}
-use Rattle.class_model.specs.Instructions.{Begins}
-use Rattle.class_model.specs.Frames.{VerificationTypeInfo, TagInfo, ObjectInfo, UninitializedInfo, StackMapFrame, SameFrame, SameLocalsOneStackItem, SameLocalsOneStackItemExtended, ChopFrame, SameFrameExtended, AppendFrame, FullFrame, words_of_types, cut_tops, offset_behind, IsNew, IsVType, IsFrame, IsFrameAt, AreFrames}
+use Rattle.class_model.specs.Frames.{VerificationTypeInfo, TagInfo, ObjectInfo, UninitializedInfo, StackMapFrame, SameFrame, SameLocalsOneStackItem, SameLocalsOneStackItemExtended, ChopFrame, SameFrameExtended, AppendFrame, FullFrame, words_of_types, offset_behind, IsNew, IsVType, IsFrame, IsFrameAt, AreFrames}
 use Rattle.class_model.specs.Lookups.{due, type_at}
-use Rattle.class_model.specs.ReadingFrames.{Before, Written, is_new, only_new, type_of, types_of, written, chopped, written_by, fits, frame_at, frame_of, row_stands}
+use Rattle.class_model.specs.ReadingFrames.{Before, Written, is_new, only_new, type_of, types_of, written, written_by, fits, frame_at, frame_of, row_stands}
 use Rattle.class_model.proofs.NameLaw.{HaveUnits}
 use Rattle.class_model.proofs.LookupLaw.{both_there, mapped, due_is, type_found, type_only}
 use Rattle.class_model.proofs.CodeLaw.{op_in, begins_found, begins_only}
@@ -159,13 +154,19 @@ module _ (pool : List Entry) (units : HaveUnits pool) (infos : List Info) (ins :
   written_found : (before : List VType) (row : StackMapFrame) (w : Written) → FitsRow row → written_by pool starts ops before row ≡ Some w → IsFrame pool starts ins before row w.delta w.locals w.stack
   written_found before (SameFrame t) w fit h = let is = one_thing (written pool starts ops t before []) w h in (fit, sym (ap (λ (v : Written). v.delta) is), sym (ap (λ (v : Written). v.locals) is), sym (ap (λ (v : Written). v.stack) is))
   written_found before (SameLocalsOneStackItem t item) w fit h =
-      let m = mapped (λ stack. written pool starts ops (t - 64) before stack) (types_of pool starts ops (item ∷ [])) w h in
-      (rw (le-leb 64 t fit.0, le-leb t 127 fit.1) refl, sym (ap (λ (v : Written). v.delta) m.2), sym (ap (λ (v : Written). v.locals) m.2),
-          subst (λ (s : List VType). AllZip (IsVType pool starts ins) (item ∷ []) s) (ap (λ (v : Written). v.stack) m.2) (vtypes_found (item ∷ []) m.0 (fit.2, tt) m.1))
+      let m = mapped (λ stack. written pool starts ops (t - 64) before stack) (types_of pool starts ops (item ∷ [])) w h in (
+        rw (le-leb 64 t fit.0, le-leb t 127 fit.1) refl,
+        sym (ap (λ (v : Written). v.delta) m.2),
+        sym (ap (λ (v : Written). v.locals) m.2),
+        subst (λ (s : List VType). AllZip (IsVType pool starts ins) (item ∷ []) s) (ap (λ (v : Written). v.stack) m.2) (vtypes_found (item ∷ []) m.0 (fit.2, tt) m.1),
+      )
   written_found before (SameLocalsOneStackItemExtended delta item) w fit h =
-      let m = mapped (λ stack. written pool starts ops delta before stack) (types_of pool starts ops (item ∷ [])) w h in
-      (fit.0, sym (ap (λ (v : Written). v.delta) m.2), sym (ap (λ (v : Written). v.locals) m.2),
-          subst (λ (s : List VType). AllZip (IsVType pool starts ins) (item ∷ []) s) (ap (λ (v : Written). v.stack) m.2) (vtypes_found (item ∷ []) m.0 (fit.1, tt) m.1))
+      let m = mapped (λ stack. written pool starts ops delta before stack) (types_of pool starts ops (item ∷ [])) w h in (
+        fit.0,
+        sym (ap (λ (v : Written). v.delta) m.2),
+        sym (ap (λ (v : Written). v.locals) m.2),
+        subst (λ (s : List VType). AllZip (IsVType pool starts ins) (item ∷ []) s) (ap (λ (v : Written). v.stack) m.2) (vtypes_found (item ∷ []) m.0 (fit.1, tt) m.1),
+      )
   written_found before (ChopFrame t delta) w fit h = by (leb (251 - t) (length before)) refl h
     where
       by : (b : Bool) → leb (251 - t) (length before) ≡ b → cond b (Some (written pool starts ops delta (take (length before - (251 - t)) before) [])) None ≡ Some w → IsFrame pool starts ins before (ChopFrame t delta) w.delta w.locals w.stack
@@ -176,15 +177,24 @@ module _ (pool : List Entry) (units : HaveUnits pool) (infos : List Info) (ins :
   written_found before (SameFrameExtended delta) w fit h = let is = one_thing (written pool starts ops delta before []) w h in (fit, sym (ap (λ (v : Written). v.delta) is), sym (ap (λ (v : Written). v.locals) is), sym (ap (λ (v : Written). v.stack) is))
   written_found before (AppendFrame t delta locals) w fit h =
       let m = mapped (λ types. written pool starts ops delta (before ++ types) []) (types_of pool starts ops locals) w h in
-      let few : length locals < 2 ^ 16 = omega (arith, fit.1, fit.3) in
-      (rw (le-leb 252 t fit.0, le-leb t 254 fit.1) refl, fit.2, sym (ap (λ (v : Written). v.delta) m.2), fit.3, m.0, (few, vtypes_found locals m.0 fit.4 m.1),
-          sym (ap (λ (v : Written). v.locals) m.2), sym (ap (λ (v : Written). v.stack) m.2))
+      let few : length locals < 2 ^ 16 = omega (arith, fit.1, fit.3) in (
+        rw (le-leb 252 t fit.0, le-leb t 254 fit.1) refl,
+        fit.2,
+        sym (ap (λ (v : Written). v.delta) m.2),
+        fit.3,
+        m.0,
+        (few, vtypes_found locals m.0 fit.4 m.1),
+        sym (ap (λ (v : Written). v.locals) m.2),
+        sym (ap (λ (v : Written). v.stack) m.2),
+      )
   written_found before (FullFrame delta locals stack) w fit h =
       let a = both_there (λ ls. option_map (λ ss. written pool starts ops delta ls ss) (types_of pool starts ops stack)) (types_of pool starts ops locals) w h in
-      let m = mapped (λ ss. written pool starts ops delta a.0 ss) (types_of pool starts ops stack) w a.2 in
-      (fit.0, sym (ap (λ (v : Written). v.delta) m.2),
-          (fit.1, subst (λ (l : List VType). AllZip (IsVType pool starts ins) locals l) (ap (λ (v : Written). v.locals) m.2) (vtypes_found locals a.0 fit.2 a.1)),
-          (fit.3, subst (λ (s : List VType). AllZip (IsVType pool starts ins) stack s) (ap (λ (v : Written). v.stack) m.2) (vtypes_found stack m.0 fit.4 m.1)))
+      let m = mapped (λ ss. written pool starts ops delta a.0 ss) (types_of pool starts ops stack) w a.2 in (
+        fit.0,
+        sym (ap (λ (v : Written). v.delta) m.2),
+        (fit.1, subst (λ (l : List VType). AllZip (IsVType pool starts ins) locals l) (ap (λ (v : Written). v.locals) m.2) (vtypes_found locals a.0 fit.2 a.1)),
+        (fit.3, subst (λ (s : List VType). AllZip (IsVType pool starts ins) stack s) (ap (λ (v : Written). v.stack) m.2) (vtypes_found stack m.0 fit.4 m.1)),
+      )
 
   -- a row with these parts
   parts_are : (w : Written) (delta : ℕ) (locals stack : List VType) → w.delta ≡ delta → w.locals ≡ locals → w.stack ≡ stack → written pool starts ops delta locals stack ≡ w
@@ -307,6 +317,10 @@ module _ (pool : List Entry) (units : HaveUnits pool) (infos : List Info) (ins :
     rows_only locals previous [] [] h = refl
     rows_only locals previous [] (frame ∷ frames) h = absurd h
     rows_only locals previous (row ∷ rows) [] h = absurd h
-    rows_only locals previous (row ∷ rows) (frame ∷ frames) h =
-        (frame, record { locals = h.0; offset = Some h.1 }, row_fits locals row h.2.delta h.0 frame.frame.stack h.2.stands, frame_only locals previous row frame h.0 h.1 h.2,
-            (frames, refl, rows_only h.0 (Some h.1) rows frames h.3))
+    rows_only locals previous (row ∷ rows) (frame ∷ frames) h = (
+      frame,
+      record { locals = h.0; offset = Some h.1 },
+      row_fits locals row h.2.delta h.0 frame.frame.stack h.2.stands,
+      frame_only locals previous row frame h.0 h.1 h.2,
+      (frames, refl, rows_only h.0 (Some h.1) rows frames h.3),
+    )

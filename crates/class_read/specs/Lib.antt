@@ -6,3 +6,4 @@ pub mod Signatures
 pub mod Fields
 pub mod Methods
 pub mod ClassAttributes
+pub mod Laws

@@ -9,6 +9,7 @@ mod faults;
 mod fields;
 mod flags;
 mod head;
+mod laws;
 mod lookups;
 mod members;
 mod methods;
@@ -16,6 +17,9 @@ mod names;
 mod parts;
 mod pool;
 mod signatures;
+mod texts;
+
+pub use laws::files_are_read_where_spelled;
+
 #[cfg(test)]
 mod tests;
-mod texts;
