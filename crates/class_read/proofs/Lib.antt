@@ -17,3 +17,8 @@ pub mod CodeAttributeLaw
 pub mod PassedOverLaw
 pub mod BodyLaw
 pub mod ClassLaw
+mod ShiftedReaders
+mod ShiftedInstructions
+mod ShiftedCode
+mod InstructionFaults
+mod TargetFaults
