@@ -10,6 +10,8 @@ mod KnownMethods
 mod MethodInfo
 mod MethodLoop
 mod KnownClass
+mod LineTable
+mod CodeEnd
 pub mod FrameLaw
 pub mod StandsLaw
 pub mod HandlerLaw

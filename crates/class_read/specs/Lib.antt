@@ -1,5 +1,6 @@
 pub mod Seen
 pub mod Texts
+pub mod Lines
 pub mod Lookups
 pub mod Entries
 pub mod Signatures
