@@ -1,0 +1,2 @@
+pub mod SpelledLists
+pub mod SpelledPool
