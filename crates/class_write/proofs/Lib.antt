@@ -1,2 +1,3 @@
 pub mod SpelledLists
 pub mod SpelledPool
+pub mod SpelledWanted
