@@ -1,3 +1,4 @@
 pub mod SpelledLists
 pub mod SpelledPool
 pub mod SpelledWanted
+pub mod SpelledConstants
