@@ -2,3 +2,5 @@ pub mod SpelledLists
 pub mod SpelledPool
 pub mod SpelledWanted
 pub mod SpelledConstants
+pub mod SpelledAttributes
+pub mod SpelledFields
