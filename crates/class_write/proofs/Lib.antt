@@ -1,1 +1,7 @@
 mod Inserted
+pub mod SpelledLists
+pub mod SpelledPool
+pub mod SpelledWanted
+pub mod SpelledConstants
+pub mod SpelledAttributes
+pub mod SpelledFields
