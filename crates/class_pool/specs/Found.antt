@@ -11,14 +11,10 @@ use Rattle.lib_table.specs.Lookups as table
 use Rattle.lib_table.specs.declared.class.LibKind.{LibKind}
 use Rattle.class_pool.specs.declared.id.ClassId.{ClassId}
 use Rattle.class_pool.specs.declared.id.ClassId.TheVariants.{Prog, Lib}
+use Rattle.class_pool.specs.declared.id.MemberAt.{MemberAt}
 use Rattle.class_pool.specs.Hierarchy.{is_interface_kind}
 use Rattle.class_pool.specs.Members.{declared_at}
 use Rattle.class_pool.specs.Walk.{same_class}
-
--- a member of a class, by its number there: fields first, then methods
-pub record MemberAt : Type 0 where
-  pub class : ClassId
-  pub index : ℕ
 
 -- two members are one
 abbrev pub same_member : MemberAt → MemberAt → Bool

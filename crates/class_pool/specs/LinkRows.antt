@@ -7,7 +7,7 @@ use Rattle.class_model.specs.declared.class.Field.{Field}
 use Rattle.class_model.specs.declared.class.Method.{Method}
 use Rattle.class_pool.specs.declared.id.ClassId.{ClassId}
 use Rattle.class_pool.specs.declared.id.ClassId.TheVariants.{Prog, Lib}
-use Rattle.class_pool.specs.Found.{MemberAt}
+use Rattle.class_pool.specs.declared.id.MemberAt.{MemberAt}
 use Rattle.class_pool.specs.Resolution.{field_found, may_name, may_name_class, method_found}
 use Rattle.class_pool.specs.Selection.{selected}
 use Rattle.class_pool.specs.Walk.{own_superinterfaces, superclasses_from, superinterfaces, supers}

@@ -7,7 +7,8 @@ use Rattle.class_model.specs.declared.class.Class.{Class}
 use Rattle.class_pool.specs.declared.id.ClassId.{ClassId}
 use Rattle.class_pool.specs.declared.id.ClassId.TheVariants.{Prog, Lib}
 use Rattle.class_pool.specs.Hierarchy.{class_named, is_interface_kind, kind_in}
-use Rattle.class_pool.specs.Found.{MemberAt, declared_in, is_abstract_member, is_private_member, is_protected_member, is_public_member, is_static_member, same_member, same_package}
+use Rattle.class_pool.specs.declared.id.MemberAt.{MemberAt}
+use Rattle.class_pool.specs.Found.{declared_in, is_abstract_member, is_private_member, is_protected_member, is_public_member, is_static_member, same_member, same_package}
 use Rattle.class_pool.specs.Walk.{own_superinterfaces, same_class, superclasses_from, superinterfaces, supers}
 
 -- the first of a list, if it has one

@@ -3,7 +3,8 @@ use Rattle.std.specs.Prelude.{ℕ, zero, suc, Bool, not, ◌&&◌, ◌||◌, Lis
 use Rattle.std.specs.List.{filter, filter_map, list_any}
 use Rattle.class_model.specs.declared.class.Class.{Class}
 use Rattle.class_pool.specs.declared.id.ClassId.{ClassId}
-use Rattle.class_pool.specs.Found.{MemberAt, Signature, declared_in, is_private_member, is_protected_member, is_public_member, is_static_member, same_member, same_package, signature_of}
+use Rattle.class_pool.specs.declared.id.MemberAt.{MemberAt}
+use Rattle.class_pool.specs.Found.{Signature, declared_in, is_private_member, is_protected_member, is_public_member, is_static_member, same_member, same_package, signature_of}
 use Rattle.class_pool.specs.Resolution.{first, is_interface_in}
 use Rattle.class_pool.specs.Walk.{class_count, superclasses_from}
 

@@ -12,6 +12,6 @@ mod set;
 
 pub use building::build;
 pub use fault::{NamedClass, PoolFault, PoolKind};
-pub use id::ClassId;
+pub use id::{ClassId, MemberAt};
 pub use rows::computed_links;
 pub use set::ClassSet;
