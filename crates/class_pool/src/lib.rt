@@ -7,9 +7,11 @@ mod fault;
 mod id;
 mod ranks;
 mod rounds;
+mod rows;
 mod set;
 
 pub use building::build;
 pub use fault::{NamedClass, PoolFault, PoolKind};
-pub use id::ClassId;
+pub use id::{ClassId, MemberAt};
+pub use rows::computed_links;
 pub use set::ClassSet;
