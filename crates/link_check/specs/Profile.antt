@@ -1,9 +1,9 @@
 -- The rules for classes that are taken, beside those of the format: what is left out, and what references and overriding have to meet
 -- (JVMS 4.10, 5.4.3 to 5.4.5, 6.5).
-use Rattle.std.specs.Prelude.{ℕ, ◌+◌, Bool, true, false, not, ◌&&◌, ◌||◌, ◌==◌, List, [], ◌∷◌, ◌++◌, length, codes, Option, Some, None, Result, Ok, Err, slice_get, if◌then◌else◌}
+use Rattle.std.specs.Prelude.{ℕ, Bool, true, false, not, ◌&&◌, ◌||◌, ◌==◌, List, [], ◌∷◌, ◌++◌, length, map, codes, Option, Some, None, Result, Ok, Err, slice_get, if◌then◌else◌}
 use Rattle.std.specs.Bool.{beq}
-use Rattle.std.specs.List.{cons_option, enumerate_from, filter, filter_map, flat_map, list_any}
-use Rattle.std.specs.Option.{option_and_then, option_map, option_map_or, option_or}
+use Rattle.std.specs.List.{cons_option, enumerate_from, filter, filter_map, find, flat_map, list_any}
+use Rattle.std.specs.Option.{option_map, option_map_or}
 use Rattle.jv_base.specs.Descriptors.{read_field, read_method}
 use Rattle.jv_base.specs.Names.{is_text}
 use Rattle.jv_base.specs.declared.types.Base.{Base}
@@ -11,7 +11,7 @@ use Rattle.jv_base.specs.declared.types.Base.TheVariants as base
 use Rattle.jv_base.specs.declared.types.FieldType.{FieldType}
 use Rattle.jv_base.specs.declared.types.MethodType.{MethodType}
 use Rattle.jv_base.specs.declared.descriptors.BadDescriptor.{BadDescriptor}
-use Rattle.class_model.specs.Flags.{acc_abstract, acc_final, has, is_init, is_interface, is_left_out_class, is_native}
+use Rattle.class_model.specs.Flags.{acc_abstract, has, is_init, is_interface, is_left_out_class, is_native}
 use Rattle.class_model.specs.declared.class.Class.{Class}
 use Rattle.class_model.specs.declared.class.Field.{Field}
 use Rattle.class_model.specs.declared.class.LeftKind.{LeftKind}
@@ -27,15 +27,15 @@ use Rattle.class_model.specs.declared.op.MemberRef.{MemberRef}
 use Rattle.class_model.specs.declared.op.Op.{Op}
 use Rattle.class_model.specs.declared.op.Op.TheVariants as op
 use Rattle.lib_table.specs.declared.member.Role.{Role}
-use Rattle.lib_table.specs.declared.member.Role.TheVariants.{Callable, KnownOnly, NoOverride}
+use Rattle.lib_table.specs.declared.member.Role.TheVariants.{NoOverride}
 use Rattle.class_pool.specs.declared.id.ClassId.{ClassId}
 use Rattle.class_pool.specs.declared.id.ClassId.TheVariants.{Prog, Lib}
 use Rattle.class_pool.specs.declared.id.MemberAt.{MemberAt}
-use Rattle.class_pool.specs.Found.{flags_at, is_abstract_member, is_static_member, signature_of}
+use Rattle.class_pool.specs.Found.{declared_by, is_final_member, is_instance_method, is_static_member, named_at, rows_in}
 use Rattle.class_pool.specs.Hierarchy.{class_named}
-use Rattle.class_pool.specs.Resolution.{is_interface_in, may_name_class}
-use Rattle.class_pool.specs.Selection.{behind_first, declared_by, overrides, selected}
-use Rattle.class_pool.specs.Walk.{class_count, same_class, superclasses_from, superinterfaces}
+use Rattle.class_pool.specs.Resolution.{first, is_class_accessible, is_class_below, is_interface_in}
+use Rattle.class_pool.specs.Selection.{overrides, selected}
+use Rattle.class_pool.specs.Walk.{same_class, superclasses_from, superinterfaces}
 use Rattle.link_check.specs.Links.{is_callable_role, resolved_field, resolved_method, role_at}
 use Rattle.link_check.specs.declared.fault.LinkKind.{LinkKind}
 use Rattle.link_check.specs.declared.fault.LinkKind.TheVariants as link
@@ -59,13 +59,9 @@ rank_of LeftOutMember = 7
 abbrev pub all_kinds : List ProfileKind
 all_kinds = LeftOutFlag ∷ LeftOutConstant ∷ LeftOutOpcode ∷ LeftOutType ∷ Unresolved ∷ Inaccessible ∷ WrongKind ∷ LeftOutMember ∷ []
 
-abbrev pub head : {A : Type 0} → List A → Option A
-head [] = None
-head (x ∷ xs) = Some x
-
 -- of several kinds the first one in that order
 abbrev pub least : List ProfileKind → Option ProfileKind
-least kinds = head (filter (λ k. list_any (λ other. rank_of k == rank_of other) kinds) all_kinds)
+least kinds = find (λ k. list_any (λ other. rank_of k == rank_of other) kinds) all_kinds
 
 -- a kind where a rule is broken
 abbrev pub unless : Bool → ProfileKind → List ProfileKind
@@ -105,7 +101,7 @@ module _ (classes : List Class) (number : ℕ) where
 
   abbrev pub class_kinds : Option ClassId → List ProfileKind
   class_kinds None = Unresolved ∷ []
-  class_kinds (Some c) = unless (may_name_class classes from c) Inaccessible
+  class_kinds (Some c) = unless (is_class_accessible classes from c) Inaccessible
 
   abbrev pub name_kinds : List ℕ → List ProfileKind
   name_kinds name = class_kinds (class_named classes name)
@@ -144,7 +140,7 @@ module _ (classes : List Class) (number : ℕ) where
 
   -- a final field is written in its own class alone, by a method of this name
   abbrev pub written_kinds : List ℕ → List ℕ → MemberAt → List ProfileKind
-  written_kinds writer method m = unless (not (has acc_final (flags_at classes m)) || (same_class m.class from && is_text method writer)) WrongKind
+  written_kinds writer method m = unless (not (is_final_member classes m) || (same_class m.class from && is_text method writer)) WrongKind
 
   abbrev pub is_of_library : ClassId → Bool
   is_of_library (Prog n) = false
@@ -154,10 +150,10 @@ module _ (classes : List Class) (number : ℕ) where
   abbrev pub field_kinds : List ℕ → Bool → Bool → MemberRef → List ProfileKind
   field_kinds method static written r = field_text_kinds (read_field r.ty)
       ++ member_kinds (resolved_field classes from r)
-        (λ m. static_kinds static m
-          ++ (if written then written_kinds (if static then codes "<clinit>" else codes "<init>") method m
-            ++ unless (not (static && is_of_library m.class)) LeftOutMember
-          else []))
+      (λ m. static_kinds static m
+      ++ (if written then written_kinds (if static then codes "<clinit>" else codes "<init>") method m
+      ++ unless (not (static && is_of_library m.class)) LeftOutMember
+      else []))
 
   -- how a method is called
   abbrev pub call_kinds : Bool → MemberRef → List ProfileKind
@@ -182,7 +178,7 @@ module _ (classes : List Class) (number : ℕ) where
 
   -- another method is called by invokespecial in the own class or a superclass alone
   abbrev pub super_kinds : MemberRef → List ProfileKind
-  super_kinds r = unless (option_map_or (λ c. list_any (same_class c) (superclasses_from classes from)) (class_of r) false) WrongKind
+  super_kinds r = unless (option_map_or (λ c. is_class_below classes from c) (class_of r) false) WrongKind
 
   abbrev pub special_kinds : MemberRef → List ProfileKind
   special_kinds r = call_kinds false r ++ (if is_init r.name then init_kinds r else super_kinds r)
@@ -237,16 +233,13 @@ module _ (classes : List Class) (number : ℕ) where
   -- a method overrides no final one, and none of the library that may not be overridden
   abbrev pub overridden_kinds : MemberAt → MemberAt → List ProfileKind
   overridden_kinds m above =
-      if overrides classes (class_count classes) (signature_of classes m.class m.index) m above
-      then unless (not (has acc_final (flags_at classes above))) WrongKind ++ unless (may_be_overridden_role (role_at above)) LeftOutMember
+      if not (same_class m.class above.class) && overrides classes m above
+      then unless (not (is_final_member classes above)) WrongKind ++ unless (may_be_overridden_role (role_at above)) LeftOutMember
       else []
 
-  -- of the method with this number among the class's members; a method of an interface overrides none of a class
-  abbrev pub overriding_kinds : Class → ℕ → List ProfileKind
-  overriding_kinds c index =
-      if is_interface c.flags.0 then []
-      else flat_map (overridden_kinds (record { class = from; index = index }))
-        (declared_by classes (signature_of classes from index) (behind_first (superclasses_from classes from)))
+  -- of the method with this number among the class's members
+  abbrev pub overriding_kinds : MemberAt → List ProfileKind
+  overriding_kinds m = flat_map (overridden_kinds m) (declared_by classes (named_at classes m) (superclasses_from classes from))
 
   -- ---- the places
 
@@ -257,10 +250,8 @@ module _ (classes : List Class) (number : ℕ) where
   -- the instance methods of a program interface
   abbrev pub methods_of : ClassId → List MemberAt
   methods_of (Lib id) = []
-  methods_of (Prog n) = option_map_or
-      (λ c. filter (λ m. not (is_static_member classes m))
-        (filter_map (λ p. Some (record { class = Prog n; index = length c.fields + p.0 })) (enumerate_from 0 c.methods)))
-      (slice_get classes n) []
+  methods_of (Prog n) = filter (is_instance_method classes)
+      (map (λ p. record { class = Prog n; index = p.0 }) (enumerate_from 0 (rows_in classes (Prog n))))
 
   abbrev pub implementing_kinds : Class → List ProfileKind
   implementing_kinds c =
@@ -283,7 +274,7 @@ module _ (classes : List Class) (number : ℕ) where
   -- of the method with this number among the class's members
   abbrev pub kinds_of_method : Class → ℕ → Method → List ProfileKind
   kinds_of_method c n m = left_out_at c.left_out (Some n) ++ unless (not (is_native m.flags.0)) LeftOutFlag
-      ++ method_type_kinds m.ty ++ flat_map name_kinds m.throws ++ body_kinds c m ++ overriding_kinds c n
+      ++ method_type_kinds m.ty ++ flat_map name_kinds m.throws ++ body_kinds c m ++ overriding_kinds (record { class = from; index = n })
       ++ option_map_or (code_kinds m.name) m.code []
 
   -- a fault at a place, if a rule is broken there
@@ -294,11 +285,11 @@ module _ (classes : List Class) (number : ℕ) where
   abbrev pub faults_of : Class → List ProfileFault
   faults_of c = cons_option (fault_at None (kinds_of_class c))
       (filter_map (λ p. fault_at (Some p.0) (kinds_of_field c p.0 p.1)) (enumerate_from 0 c.fields)
-        ++ filter_map (λ p. fault_at (Some p.0) (kinds_of_method c p.0 p.1)) (enumerate_from (length c.fields) c.methods))
+      ++ filter_map (λ p. fault_at (Some p.0) (kinds_of_method c p.0 p.1)) (enumerate_from (length c.fields) c.methods))
 
 -- the first fault of a set
 abbrev pub links_checked : List Class → Result (Unit {0}) ProfileFault
-links_checked classes = ended (head (flat_map (λ p. faults_of classes p.0 p.1) (enumerate_from 0 classes))) where
+links_checked classes = ended (first (flat_map (λ p. faults_of classes p.0 p.1) (enumerate_from 0 classes))) where
   ended : Option ProfileFault → Result (Unit {0}) ProfileFault
   ended None = Ok tt
   ended (Some f) = Err f
