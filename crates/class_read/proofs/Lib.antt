@@ -22,3 +22,4 @@ mod ShiftedInstructions
 mod ShiftedCode
 mod InstructionFaults
 mod TargetFaults
+mod PartOfCode

@@ -9,6 +9,7 @@ mod faults;
 mod fields;
 mod flags;
 mod head;
+mod instructions;
 mod laws;
 mod lookups;
 mod members;
