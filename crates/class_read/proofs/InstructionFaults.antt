@@ -1,8 +1,9 @@
 -- Which rules an instruction of a code can break.
-use Rattle.std.proofs.Common.{◌≡◌, ℕ, zero, suc, ◌+◌, ◌-◌, Bool, true, false, cond, ltb, eqb, ◌||◌, List, [], ◌∷◌, length, Option, Some, None, Result, Ok, Err, refl, sym, ap, subst, ◌∙◌, arith}
+use Rattle.std.proofs.Common.{◌≡◌, ℕ, zero, suc, ◌+◌, ◌-◌, ◌≤◌, Bool, true, false, cond, ltb, eqb, ◌||◌, List, [], ◌∷◌, length, Option, Some, None, Result, Ok, Err, refl, sym, ap, subst, ◌∙◌, arith}
 use Rattle.std.specs.Prelude.{is_some, nat_le, nat_lt, int_le, ◌^◌, slice_get, slice_range}
 use Rattle.std.specs.Int.{Width, w8, w16, w32, byte_len, cast_signed}
 use Rattle.std.proofs.lemmas.Bool.{le-ltb}
+use Rattle.std.proofs.lemmas.Bool.Decides.{nat_tests}
 use Rattle.jv_base.specs.declared.cursor.End.{End}
 use Rattle.jv_base.specs.Place.{Place, number_at, after}
 use Rattle.format_reading.specs.declared.fault.FormatFault.{FormatFault}
@@ -37,19 +38,22 @@ IsOfCode k = k ≡ kind_of (wrong_of k)
 abbrev IsOfInstruction : FormatKind → Type 0
 IsOfInstruction k = IsOfCode (in_code k)
 
--- a fault is of such a kind
-abbrev pub TellsIn : {A : Type 0} → (FormatKind → Type 0) → Result A FormatFault → Type 0
+-- a fault, if there is one, is of such a kind
+abbrev pub TellsIn : {A : Type 0} → (FormatFault → Type 0) → Result A FormatFault → Type 0
 TellsIn P (Ok x) = Unit {0}
-TellsIn P (Err f) = P f.kind
+TellsIn P (Err f) = P f
 
 -- each fault of a reader is
+abbrev OfInstruction : FormatFault → Type 0
+OfInstruction f = IsOfInstruction f.kind
+
 abbrev Tells : {A : Type 0} → Reader A → Type 0
-Tells r = (p : Place) → TellsIn IsOfInstruction (r p)
+Tells r = (p : Place) → TellsIn OfInstruction (r p)
 
 number_tells : (w : Width) → Tells (λ p. or_cut (number_at w p))
 number_tells w p = by (ltb (length p.bytes - p.at) (byte_len w)) _ _
   where
-    by : (b : Bool) (e : End) (x : ℕ × Place) → TellsIn IsOfInstruction (or_cut (cond b (Err e) (Ok x)))
+    by : (b : Bool) (e : End) (x : ℕ × Place) → TellsIn OfInstruction (or_cut (cond b (Err e) (Ok x)))
     by true e x = refl
     by false e x = tt
 
@@ -69,7 +73,7 @@ bytes_tell : (n : ℕ) → Tells (bytes n)
 unfolding bytes
 bytes_tell n p = by (ltb (length p.bytes - p.at) n) _ _
   where
-    by : (b : Bool) (e : End) (x : List ℕ × Place) → TellsIn IsOfInstruction (or_cut (cond b (Err e) (Ok x)))
+    by : (b : Bool) (e : End) (x : List ℕ × Place) → TellsIn OfInstruction (or_cut (cond b (Err e) (Ok x)))
     by true e x = refl
     by false e x = tt
 
@@ -86,11 +90,11 @@ abbrev Means : {A : Type 0} → Result A FormatKind → Type 0
 Means (Ok x) = Unit {0}
 Means (Err k) = IsOfInstruction k
 
-onwards_tells : {B : Type 0} (at : ℕ) (o : Result (Reader B) FormatKind) (p : Place) → LeadTells o → TellsIn IsOfInstruction (onwards at o p)
+onwards_tells : {B : Type 0} (at : ℕ) (o : Result (Reader B) FormatKind) (p : Place) → LeadTells o → TellsIn OfInstruction (onwards at o p)
 onwards_tells at (Ok r) p h = h p
 onwards_tells at (Err k) p h = h
 
-after_tells : {A B : Type 0} (at : ℕ) (f : A → Result (Reader B) FormatKind) (d : Result (A × Place) FormatFault) → TellsIn IsOfInstruction d → ((x : A) → LeadTells (f x)) → TellsIn IsOfInstruction (after_read at f d)
+after_tells : {A B : Type 0} (at : ℕ) (f : A → Result (Reader B) FormatKind) (d : Result (A × Place) FormatFault) → TellsIn OfInstruction d → ((x : A) → LeadTells (f x)) → TellsIn OfInstruction (after_read at f d)
 after_tells at f (Ok x) a h = onwards_tells at (f x.0) x.1 (h x.0)
 after_tells at f (Err e) a h = a
 
@@ -204,15 +208,23 @@ begun_tells pool at opcode =
     (if_lead (eqb opcode 0xC5) _ _ (arrays_tell pool)
     (if_lead (eqb opcode 0xBA || is_left_out_opcode opcode) _ _ (give_tells (left_out opcode)) refl)))))))))))))))))
 
-at_tells : {A : Type 0} (at : ℕ) (r : Result (A × Place) FormatFault) → TellsIn IsOfInstruction r → TellsIn IsOfCode (at_instruction at r)
-at_tells at (Ok x) h = tt
-at_tells at (Err f) h = h
+-- a fault of the instruction at an offset
+abbrev IsAt : ℕ → FormatFault → Type 0
+IsAt at f = IsOfCode f.kind × (f.offset ≡ at)
 
-instruction_tells : (pool : List Entry) (from : ℕ) (p : Place) → TellsIn IsOfCode (read_instruction pool from p)
+at_tells : {A : Type 0} (at : ℕ) (r : Result (A × Place) FormatFault) → TellsIn OfInstruction r → TellsIn (IsAt at) (at_instruction at r)
+at_tells at (Ok x) h = tt
+at_tells at (Err f) h = (h, refl)
+
+instruction_tells : (pool : List Entry) (from : ℕ) (p : Place) → TellsIn (IsAt p.at) (read_instruction pool from p)
 unfolding read_instruction
 instruction_tells pool from p = at_tells p.at (lead u1 (begun pool (p.at - from)) p) (lead_tells u1 (begun pool (p.at - from)) u1_tells (begun_tells pool (p.at - from)) p)
 
 -- ---- all of them
+
+-- a fault of a code, of so many bytes
+abbrev pub IsWithin : ℕ → FormatFault → Type 0
+IsWithin end f = IsOfCode f.kind × (f.offset ≤ end)
 
 -- behind an instruction the bytes are the same
 bytes_behind : (pool : List Entry) (whole : List ℕ) (p q : Place) (read : Read) → IsBytes whole → p.bytes ≡ whole → read_instruction pool 0 p ≡ Ok (read, q) → q.bytes ≡ whole
@@ -227,37 +239,40 @@ passed_over end q is =
     let there : ltb (length q.bytes - q.at) (end - q.at) ≡ false = le-ltb _ _ (omega (arith, is)) in
     (slice_range q.bytes q.at (q.at + (end - q.at)), after (end - q.at) q, rw there refl)
 
-more_tells : {A B : Type 0} (at : ℕ) (f : A → B) (d : Result (A × Place) FormatFault) → TellsIn IsOfCode d → TellsIn IsOfCode (after_read at (λ x. Ok (give (f x))) d)
+more_tells : {A B : Type 0} (end at : ℕ) (f : A → B) (d : Result (A × Place) FormatFault) → TellsIn (IsWithin end) d → TellsIn (IsWithin end) (after_read at (λ x. Ok (give (f x))) d)
 unfolding give
-more_tells at f (Ok x) h = tt
-more_tells at f (Err e) h = h
+more_tells end at f (Ok x) h = tt
+more_tells end at f (Err e) h = h
 
-step : (n : ℕ) (pool : List Entry) (whole : List ℕ) (p : Place) (r : Result (Read × Place) FormatFault) → IsBytes whole → p.bytes ≡ whole → read_instruction pool 0 p ≡ r → TellsIn IsOfCode r
-    → ((q : Place) → q.bytes ≡ whole → TellsIn IsOfCode (until_end n pool 0 (length whole) q))
-    → TellsIn IsOfCode (after_read p.at (λ x. Ok (goes_on (until_end n pool 0 (length whole)) (p.at - 0) (length whole) x)) r)
+step : (n : ℕ) (pool : List Entry) (whole : List ℕ) (p : Place) (r : Result (Read × Place) FormatFault) → IsBytes whole → p.bytes ≡ whole → p.at ≤ length whole → read_instruction pool 0 p ≡ r → TellsIn (IsAt p.at) r
+    → ((q : Place) → q.bytes ≡ whole → TellsIn (IsWithin (length whole)) (until_end n pool 0 (length whole) q))
+    → TellsIn (IsWithin (length whole)) (after_read p.at (λ x. Ok (goes_on (until_end n pool 0 (length whole)) (p.at - 0) (length whole) x)) r)
 unfolding bind here give
-step n pool whole p (Err f) fits is e told others = told
-step n pool whole p (Ok (left_out c, q)) fits is e told others =
+step n pool whole p (Err f) fits is within e told others = (told.0, let at = told.1 in omega (arith, at, within))
+step n pool whole p (Ok (left_out c, q)) fits is within e told others =
     let passed = passed_over (length whole) q (ap length (bytes_behind pool whole p q (left_out c) fits is e)) in
     rw (passed.2) tt
-step n pool whole p (Ok (instruction info, q)) fits is e told others =
-    more_tells q.at (in_front info) (until_end n pool 0 (length whole) q) (others q (bytes_behind pool whole p q (instruction info) fits is e))
+step n pool whole p (Ok (instruction info, q)) fits is within e told others =
+    more_tells (length whole) q.at (in_front info) (until_end n pool 0 (length whole) q) (others q (bytes_behind pool whole p q (instruction info) fits is e))
 
 until_is : (n : ℕ) (pool : List Entry) (end : ℕ) (p : Place)
     → until_end (suc n) pool 0 end p ≡ cond (nat_le end p.at) (give (instructions [])) (λ q. after_read q.at (λ x. Ok (goes_on (until_end n pool 0 end) (p.at - 0) end x)) (read_instruction pool 0 q)) p
 unfolding until_end bind here
 until_is n pool end p = refl
 
-chosen_tells : (b : Bool) (r s : Reader CodeRead) (p : Place) → TellsIn IsOfCode (r p) → TellsIn IsOfCode (s p) → TellsIn IsOfCode (cond b r s p)
-chosen_tells true r s p h k = h
-chosen_tells false r s p h k = k
+chosen_tells : (end : ℕ) (b : Bool) (r s : Reader CodeRead) (p : Place) → TellsIn (IsWithin end) (r p) → (b ≡ false → TellsIn (IsWithin end) (s p)) → TellsIn (IsWithin end) (cond b r s p)
+chosen_tells end true r s p h k = h
+chosen_tells end false r s p h k = k refl
+
+before : (end at : ℕ) → nat_le end at ≡ false → at ≤ end
+before end at h = grind (arith, nat_tests)
 
 -- each fault of a code alone is one of its instructions
-pub code_tells : (n : ℕ) (pool : List Entry) (whole : List ℕ) (p : Place) → IsBytes whole → p.bytes ≡ whole → TellsIn IsOfCode (until_end n pool 0 (length whole) p)
+pub code_tells : (n : ℕ) (pool : List Entry) (whole : List ℕ) (p : Place) → IsBytes whole → p.bytes ≡ whole → TellsIn (IsWithin (length whole)) (until_end n pool 0 (length whole) p)
 unfolding until_end give
 code_tells zero pool whole p fits is = tt
 code_tells (suc n) pool whole p fits is =
-    subst (λ (r : Result (CodeRead × Place) FormatFault). TellsIn IsOfCode r) (sym (until_is n pool (length whole) p))
-    (chosen_tells (nat_le (length whole) p.at) (give (instructions []))
+    subst (λ (r : Result (CodeRead × Place) FormatFault). TellsIn (IsWithin (length whole)) r) (sym (until_is n pool (length whole) p))
+    (chosen_tells (length whole) (nat_le (length whole) p.at) (give (instructions []))
     (λ q. after_read q.at (λ x. Ok (goes_on (until_end n pool 0 (length whole)) (p.at - 0) (length whole) x)) (read_instruction pool 0 q)) p tt
-    (step n pool whole p (read_instruction pool 0 p) fits is refl (instruction_tells pool 0 p) (λ q at-q. code_tells n pool whole q fits at-q)))
+    (λ e. step n pool whole p (read_instruction pool 0 p) fits is (before (length whole) p.at e) refl (instruction_tells pool 0 p) (λ q at-q. code_tells n pool whole q fits at-q)))

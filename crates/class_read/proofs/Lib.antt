@@ -24,3 +24,4 @@ mod ShiftedInstructions
 mod ShiftedCode
 mod InstructionFaults
 mod TargetFaults
+mod PartOfCode

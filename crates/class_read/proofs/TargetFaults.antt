@@ -1,6 +1,8 @@
 -- Of the instructions of a code that were read only targets can be wrong.
-use Rattle.std.proofs.Common.{◌≡◌, ℕ, ◌+◌, true, List, [], ◌∷◌, length, Option, Some, None, Result, Ok, Err, refl, ap, ◌∙◌, arith}
+use Rattle.std.proofs.Common.{◌≡◌, ℕ, ◌+◌, ◌≤◌, true, List, [], ◌∷◌, length, Option, Some, None, Result, Ok, Err, refl, ap, ◌∙◌, arith}
 use Rattle.std.specs.Prelude.{ℤ, pos, negsuc, is_some, option_map, position, nat_eq}
+use Rattle.std.specs.List.{flat_map}
+use Rattle.std.proofs.lemmas.List.{length-append}
 use Rattle.std.specs.Int.{w16, w32, cast_signed}
 use Rattle.jv_base.specs.Outcome.{◌>>=◌}
 use Rattle.format_reading.specs.Fault.{fault}
@@ -18,6 +20,7 @@ use Rattle.class_model.specs.InstructionMeaning.{op_of, loaded, loaded_wide, mad
 use Rattle.class_model.specs.ReadingCode.{op_then, ops_from, ops_of}
 use Rattle.class_model.proofs.InstructionRead.{IsRight}
 use Rattle.class_model.proofs.UntilLaw.{AreRight}
+use Rattle.class_read.proofs.InstructionFaults.{TellsIn}
 
 -- only a target is wrong, if anything
 abbrev pub OnlyTarget : {A : Type 0} → Result A FormatKind → Type 0
@@ -117,3 +120,16 @@ aim_only starts (negsuc n) = refl
 -- the instructions of a code, or the first with a wrong target, told from another first byte
 pub ops_behind : (pool : List Entry) (from : ℕ) (infos : List Info) → AreRight pool 0 infos → ops_of pool from infos ≡ target_behind from (ops_of pool 0 infos)
 ops_behind pool from infos right = from_behind (aim_at (starts_of infos)) (aim_only (starts_of infos)) pool from 0 infos right
+
+-- its offset is one of the code
+then_within : (end at : ℕ) (r : Result Op FormatKind) (s : Result (List Op) FormatFault) → at ≤ end → TellsIn (λ f. f.offset ≤ end) s → TellsIn (λ f. f.offset ≤ end) (op_then (0 + at) r s)
+then_within end at (Ok o) (Ok os) le h = tt
+then_within end at (Ok o) (Err f) le h = h
+then_within end at (Err k) s le h = omega (arith, le)
+
+pub targets_within : (aim : ℤ → Result ℕ FormatKind) (pool : List Entry) (end at : ℕ) (infos : List Info) → at + length (flat_map info_bytes infos) ≤ end → TellsIn (λ f. f.offset ≤ end) (ops_from aim pool 0 at infos)
+unfolding ops_from
+targets_within aim pool end at [] le = tt
+targets_within aim pool end at (info ∷ infos) le =
+    let size = length-append (info_bytes info) (flat_map info_bytes infos) in
+    then_within end at (op_of aim pool at info) (ops_from aim pool 0 (at + length (info_bytes info)) infos) (omega (arith, le)) (targets_within aim pool end (at + length (info_bytes info)) infos (omega (arith, le, size)))

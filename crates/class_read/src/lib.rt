@@ -10,6 +10,7 @@ mod fields;
 mod flags;
 mod handlers;
 mod head;
+mod instructions;
 mod laws;
 mod lines;
 mod lookups;
