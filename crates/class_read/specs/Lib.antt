@@ -7,4 +7,5 @@ pub mod Signatures
 pub mod Fields
 pub mod Methods
 pub mod ClassAttributes
+pub mod CodeAttributes
 pub mod Laws
