@@ -12,6 +12,8 @@ mod MethodLoop
 mod KnownClass
 mod LineTable
 mod CodeEnd
+mod KnownCode
+mod CodeParts
 pub mod FrameLaw
 pub mod StandsLaw
 pub mod HandlerLaw

@@ -8,4 +8,5 @@ pub mod Fields
 pub mod Methods
 pub mod Instructions
 pub mod ClassAttributes
+pub mod CodeAttributes
 pub mod Laws
