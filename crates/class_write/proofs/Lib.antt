@@ -4,3 +4,4 @@ pub mod SpelledWanted
 pub mod SpelledConstants
 pub mod SpelledAttributes
 pub mod SpelledFields
+pub mod SpelledBytes
