@@ -5,3 +5,4 @@ pub mod SpelledConstants
 pub mod SpelledAttributes
 pub mod SpelledFields
 pub mod SpelledBytes
+pub mod SpelledLines
