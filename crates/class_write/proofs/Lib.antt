@@ -6,3 +6,4 @@ pub mod SpelledAttributes
 pub mod SpelledFields
 pub mod SpelledBytes
 pub mod SpelledLines
+pub mod SpelledInstructions

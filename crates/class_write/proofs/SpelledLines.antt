@@ -1,21 +1,22 @@
 -- Rows of lines as they are written stand for the lines of the instructions (JVMS 4.7.12).
-use Rattle.std.proofs.Common.{◌≡◌, ℕ, suc, ◌+◌, ◌^◌, ◌<◌, ◌≤◌, Bool, true, false, not, cond, eqb, leb, List, [], ◌∷◌, ◌++◌, length, map, get_or, Option, Some, None, refl, ap, ◌∙◌, arith}
-use Rattle.std.specs.Prelude.{AllPairs, IfSome, IsSome, fold, option_map, slice_index}
+use Rattle.std.proofs.Common.{◌≡◌, ℕ, suc, ◌+◌, ◌^◌, ◌<◌, ◌≤◌, Bool, true, false, not, cond, eqb, leb, List, [], ◌∷◌, ◌++◌, length, map, get_or, Option, Some, None, refl, ap, ◌∙◌, arith, subst, sym}
+use Rattle.std.specs.Prelude.{codes, AllPairs, IfSome, IsSome, fold, option_map, slice_index}
 use Rattle.std.specs.List.{AllByRecursion}
-use Rattle.std.proofs.lemmas.Bool.{eqb-true, le-leb, lt-leb}
-use Rattle.std.proofs.lemmas.List.{length-append}
+use Rattle.std.proofs.lemmas.Bool.{ne_eqb, eqb-true, le-leb, lt-leb}
+use Rattle.std.proofs.lemmas.List.{append-nil, length-append}
 use Rattle.class_model.specs.declared.constant.PoolConstant.{PoolConstant}
 use Rattle.class_model.specs.declared.code.Ins.{Ins}
 use Rattle.class_model.specs.declared.op.Op.{Op}
 use Rattle.class_model.specs.InstructionStructure.{info_bytes}
-use Rattle.class_model.specs.LineNumbers.{LineNumber, FitsLine, nearer, line_at}
+use Rattle.class_model.specs.LineNumbers.{AreLineTables, LineNumber, FitsLine, nearer, line_at}
 use Rattle.class_model.specs.ReadingCodeAttribute.{with_lines}
 use Rattle.class_model.specs.CanonicalCode.{op_info, size_of, infos_from}
-use Rattle.class_model.specs.CanonicalClass.{is_new_line, line_row, line_rows_from, line_rows}
+use Rattle.class_model.specs.CanonicalClass.{attribute, line_table, is_some_item, is_new_line, line_row, line_rows_from, line_rows}
 use Rattle.class_model.specs.WellFormed.{LinesGoOn}
 use Rattle.class_model.proofs.BackSizes.{info_is_there, size_is}
 use Rattle.class_model.proofs.BackPlaces.{begins}
 use Rattle.class_model.proofs.BackCode.{op_in}
+use Rattle.class_write.proofs.SpelledLists.{all_both}
 
 -- the line of a row that was found
 abbrev line_of : Option LineNumber → Option ℕ
@@ -178,3 +179,23 @@ row_fits before at (Some line) low is = by (is_new_line before line)
     by : (s : Bool) → AllByRecursion FitsLine (cond s (record { start_pc = at; line_number = line } ∷ []) [])
     by true = ((low, is), tt)
     by false = tt
+
+module _ (pool : List PoolConstant) (all : List ℕ) where
+  pub rows_fit : (ins : List Ins) (before : Option ℕ) (n : ℕ) → ((j : ℕ) → j < length ins → slice_index all (n + j) < 2 ^ 16) → AllByRecursion (λ (i : Ins). IfSome i.line (λ m. m < 2 ^ 16)) ins → AllByRecursion FitsLine (line_rows_from before all n ins)
+  rows_fit [] before n low is = tt
+  rows_fit (i ∷ ins) before n low is =
+      let here : slice_index all n < 2 ^ 16 = subst (λ (k : ℕ). slice_index all k < 2 ^ 16) (let e : n + 0 ≡ n = omega arith in e) (low 0 (omega arith)) in
+      all_both FitsLine (line_row before (slice_index all n) i.line) (line_rows_from i.line all (n + 1) ins) (row_fits before (slice_index all n) i.line here is.0)
+      (rows_fit ins i.line (n + 1) (λ j lt. subst (λ (k : ℕ). slice_index all k < 2 ^ 16) (let e : n + suc j ≡ n + 1 + j = omega arith in e) (low (suc j) (omega (arith, lt)))) is.1)
+
+  -- the attribute of rows, which is written where there are some
+  table_by : (b : Bool) (rows : List LineNumber) → is_some_item rows ≡ b → length rows < 2 ^ 16 → AllByRecursion FitsLine rows → AreLineTables (attribute pool b (codes "LineNumberTable") (line_table pool rows)) rows
+  table_by true rows e few fit = (rows, [], record { is = refl; count_fits = few; fit = fit }, refl, sym (append-nil rows))
+  table_by false rows e few fit = none rows e
+    where
+      none : (rows : List LineNumber) → is_some_item rows ≡ false → rows ≡ []
+      none [] e = refl
+      none (row ∷ rows) e = absurd (let f : eqb (length (row ∷ rows)) 0 ≡ false = ne_eqb _ _ (λ z. absurd (omega (arith, z))) in let g : true ≡ false = sym (ap not f) ∙ e in cc)
+
+  pub table_is : (rows : List LineNumber) → length rows < 2 ^ 16 → AllByRecursion FitsLine rows → AreLineTables (attribute pool (is_some_item rows) (codes "LineNumberTable") (line_table pool rows)) rows
+  table_is rows few fit = table_by (is_some_item rows) rows refl few fit
