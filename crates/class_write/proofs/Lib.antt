@@ -5,3 +5,6 @@ pub mod SpelledWanted
 pub mod SpelledConstants
 pub mod SpelledAttributes
 pub mod SpelledFields
+pub mod SpelledBytes
+pub mod SpelledLines
+pub mod SpelledInstructions
