@@ -2,6 +2,7 @@
 #![tactic(auto)]
 
 mod building;
+mod components;
 mod cycles;
 mod fault;
 mod id;
