@@ -3,3 +3,4 @@ pub mod Naming
 pub mod FaultLaws
 pub mod Above
 pub mod CycleLaws
+pub mod Closing

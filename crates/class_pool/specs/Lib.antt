@@ -4,3 +4,5 @@ pub mod Numbers
 pub mod Members
 pub mod Faults
 pub mod Count
+pub mod Walk
+pub mod Closure

@@ -2,9 +2,11 @@
 #![tactic(auto)]
 
 mod building;
+mod closure;
 mod cycles;
 mod fault;
 mod id;
+mod order;
 mod ranks;
 mod rounds;
 mod set;
