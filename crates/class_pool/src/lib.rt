@@ -3,9 +3,11 @@
 
 mod building;
 mod components;
+mod closure;
 mod cycles;
 mod fault;
 mod id;
+mod order;
 mod ranks;
 mod rounds;
 mod rows;
