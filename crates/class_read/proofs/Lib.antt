@@ -23,3 +23,4 @@ mod ShiftedCode
 mod InstructionFaults
 mod TargetFaults
 mod PartOfCode
+mod PassedLoop

@@ -6,5 +6,6 @@ pub mod Signatures
 pub mod Fields
 pub mod Methods
 pub mod Instructions
+pub mod PassedOver
 pub mod ClassAttributes
 pub mod Laws
