@@ -14,6 +14,7 @@ mod LineTable
 mod CodeEnd
 mod KnownCode
 mod CodeParts
+pub mod BehindCode
 pub mod FrameLaw
 pub mod StandsLaw
 pub mod HandlerLaw
