@@ -10,13 +10,10 @@ mod KnownMethods
 mod MethodInfo
 mod MethodLoop
 mod KnownClass
-pub mod FrameLaw
-pub mod StandsLaw
-pub mod HandlerLaw
-pub mod CodeAttributeLaw
-pub mod PassedOverLaw
-pub mod BodyLaw
-pub mod ClassLaw
+mod LineTable
+mod CodeEnd
+mod KnownCode
+mod CodeParts
 mod ShiftedReaders
 mod ShiftedInstructions
 mod ShiftedCode
@@ -24,3 +21,11 @@ mod InstructionFaults
 mod TargetFaults
 mod PartOfCode
 mod PassedLoop
+pub mod BehindCode
+pub mod FrameLaw
+pub mod StandsLaw
+pub mod HandlerLaw
+pub mod CodeAttributeLaw
+pub mod PassedOverLaw
+pub mod BodyLaw
+pub mod ClassLaw

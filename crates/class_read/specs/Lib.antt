@@ -1,5 +1,6 @@
 pub mod Seen
 pub mod Texts
+pub mod Lines
 pub mod Lookups
 pub mod Entries
 pub mod Signatures
@@ -8,4 +9,5 @@ pub mod Methods
 pub mod Instructions
 pub mod PassedOver
 pub mod ClassAttributes
+pub mod CodeAttributes
 pub mod Laws
