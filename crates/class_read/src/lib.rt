@@ -20,6 +20,7 @@ mod members;
 mod methods;
 mod names;
 mod parts;
+mod passed_over;
 mod pool;
 mod signatures;
 mod texts;
