@@ -28,4 +28,6 @@ mod texts;
 pub use laws::files_are_read_where_spelled;
 
 #[cfg(test)]
+mod code_tests;
+#[cfg(test)]
 mod tests;
