@@ -7,3 +7,4 @@ pub mod SpelledFields
 pub mod SpelledBytes
 pub mod SpelledLines
 pub mod SpelledInstructions
+pub mod SpelledFrames
