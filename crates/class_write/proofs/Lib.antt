@@ -8,3 +8,5 @@ pub mod SpelledBytes
 pub mod SpelledLines
 pub mod SpelledInstructions
 pub mod SpelledFrames
+pub mod SpelledCode
+pub mod SpelledMethods
