@@ -10,3 +10,4 @@ pub mod SpelledInstructions
 pub mod SpelledFrames
 pub mod SpelledCode
 pub mod SpelledMethods
+pub mod SpelledFile

@@ -1,1 +1,2 @@
 pub mod ClassValues
+pub mod SpellingLaws
