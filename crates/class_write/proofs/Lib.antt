@@ -11,3 +11,4 @@ pub mod SpelledFrames
 pub mod SpelledCode
 pub mod SpelledMethods
 pub mod SpelledFile
+pub mod SpellingLaw

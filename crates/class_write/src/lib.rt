@@ -1,2 +1,6 @@
 //! Classes as the bytes of class files (JVMS 4).
 #![tactic(auto)]
+
+mod laws;
+
+pub use laws::canonical_spells_the_class;
