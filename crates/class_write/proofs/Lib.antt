@@ -12,3 +12,4 @@ pub mod SpelledCode
 pub mod SpelledMethods
 pub mod SpelledFile
 pub mod SpellingLaw
+pub mod SpelledExample

@@ -6,6 +6,7 @@ use Rattle.class_model.specs.WellFormed.{IsWellFormed, CountsFit}
 use Rattle.class_model.specs.ReadingClass.{class_read}
 use Rattle.class_model.specs.CanonicalClass.{pool_of, layout}
 use Rattle.class_model.specs.WriteLimits.{limits, class_written}
+use Rattle.class_model.specs.Rows.{class_t}
 use Rattle.class_write.specs.ClassValues.{IsClassValue}
 
 -- a class that can be written: well formed, with counts that fit, its numbers and texts those that the code can hold
@@ -29,3 +30,7 @@ WrittenIsRead = (c : Class) (bytes : List ℕ) → IsWritable c → class_writte
 -- what is read of a file that was written is written as that file again
 abbrev pub ReadIsRewritten : Type 0
 ReadIsRewritten = (c d : Class) (bytes : List ℕ) → IsWritable c → class_written c ≡ Ok bytes → class_read bytes ≡ Ok d → class_written d ≡ Ok bytes
+
+-- the class with a field, a method, a branch, a handler, lines and a frame is one that can be written, within the limits
+abbrev pub SomeIsWritable : Type 0
+SomeIsWritable = IsWritable class_t × (limits (pool_of class_t) class_t ≡ Ok tt)
