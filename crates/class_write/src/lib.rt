@@ -3,5 +3,8 @@
 
 mod constants;
 mod frames;
+mod laws;
 mod lines;
 mod pool;
+
+pub use laws::canonical_spells_the_class;
