@@ -5,3 +5,4 @@ pub mod Above
 pub mod CycleLaws
 pub mod ComputedLinks
 pub mod Closing
+pub mod Ascending
