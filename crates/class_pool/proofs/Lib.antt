@@ -4,3 +4,4 @@ pub mod FaultLaws
 pub mod Above
 pub mod CycleLaws
 pub mod ComputedLinks
+pub mod NamedMembers

@@ -5,6 +5,7 @@ mod building;
 mod cycles;
 mod fault;
 mod id;
+mod members;
 mod ranks;
 mod rounds;
 mod rows;
