@@ -1,10 +1,12 @@
 -- Members by their names.
-use Rattle.std.proofs.Common.{◌≡◌, ◌⊎◌, ⊎_elim, inl, inr, ℕ, zero, suc, ◌+◌, ◌-◌, ◌<◌, ◌≤◌, ◌&&◌, Bool, true, false, cond, not, nat_lt, List, [], ◌∷◌, ◌++◌, length, slice_get, Option, Some, None, refl, sym, ap, subst, ◌∙◌, arith}
-use Rattle.std.specs.List.{position, position_or_len}
+use Rattle.std.proofs.Common.{◌≡◌, ◌⊎◌, ⊎_elim, inl, inr, ℕ, zero, suc, ◌+◌, ◌-◌, ◌<◌, ◌≤◌, ◌&&◌, Bool, true, false, cond, not, nat_lt, List, [], ◌∷◌, ◌++◌, length, get_or, take, slice_get, Option, Some, None, refl, sym, ap, subst, ◌∙◌, arith}
+use Rattle.std.specs.List.{AllZip, position, position_or_len}
 use Rattle.std.specs.Map.{lookup}
 use Rattle.std.specs.Option.{option_map, IfSome}
 use Rattle.std.proofs.lemmas.Bool.{lt-ltb, le-ltb, ltb-true, ltb-false}
+use Rattle.std.proofs.lemmas.List.{take_more}
 use Rattle.std.proofs.lemmas.Option.{same_Some, slice_get_within}
+use Rattle.std.proofs.lemmas.Slice.Zip.{all_zipped_more}
 use Rattle.jv_base.specs.Names.{is_text}
 use Rattle.jv_base.specs.Types.{field_text, method_text}
 use Rattle.jv_base.proofs.Equality.{text_Decides}
@@ -226,3 +228,24 @@ pub fewer_left : (c : Class) (index : MemberIndex) (name descriptor : List ℕ) 
 fewer_left c index name descriptor n found next has leads at =
     up_below n next (λ k is.
     (last_passes (λ j. is_text (signature_in c j).0 name) n k (sym (one_before c index name n next has leads.there.0 leads.there.1 at) ∙ is)).0)
+
+-- ---- an index for each class
+
+pub has_index : (classes : List Class) (members : List MemberIndex) (n : ℕ) → AllZip IsIndexOf classes members → n < length classes → n < length members
+has_index [] members n all within = absurd (omega (arith, within))
+has_index (c ∷ classes) [] n all within = absurd all
+has_index (c ∷ classes) (index ∷ members) zero all within = omega arith
+has_index (c ∷ classes) (index ∷ members) (suc n) all within = let h = has_index classes members n all.1 (omega (arith, within)) in omega (arith, h)
+
+pub index_is : (classes : List Class) (members : List MemberIndex) (n : ℕ) (c : Class) (index : MemberIndex) → AllZip IsIndexOf classes members
+    → slice_get classes n ≡ Some c → slice_get members n ≡ Some index → IsIndexOf c index
+index_is [] members n c index all at there = absurd cc
+index_is (d ∷ classes) [] n c index all at there = absurd all
+index_is (d ∷ classes) (i ∷ members) zero c index all at there = subst (λ (x : Class). IsIndexOf x index) (same_Some d c at) (subst (IsIndexOf d) (same_Some i index there) all.0)
+index_is (d ∷ classes) (i ∷ members) (suc n) c index all at there = index_is classes members n c index all.1 at there
+
+pub index_more : (classes : List Class) (members : List MemberIndex) (n : ℕ) (c : Class) (index : MemberIndex) → AllZip IsIndexOf (take n classes) members
+    → n < length classes → c ≡ get_or classes n c → IsIndexOf c index → AllZip IsIndexOf (take (n + 1) classes) (members ++ index ∷ [])
+index_more classes members n c index all within is indexed =
+    subst (λ (cs : List Class). AllZip IsIndexOf cs (members ++ index ∷ [])) (sym (take_more classes n c within ∙ ap (λ (x : Class). take n classes ++ x ∷ []) (sym is)))
+    (all_zipped_more IsIndexOf (take n classes) members c index all indexed)
