@@ -6,3 +6,4 @@ pub mod CycleLaws
 pub mod ComputedLinks
 pub mod Closing
 pub mod Ascending
+pub mod NamedMembers

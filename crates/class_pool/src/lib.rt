@@ -2,11 +2,12 @@
 #![tactic(auto)]
 
 mod building;
-mod components;
 mod closure;
+mod components;
 mod cycles;
 mod fault;
 mod id;
+mod members;
 mod order;
 mod ranks;
 mod rounds;
