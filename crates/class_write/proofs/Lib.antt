@@ -13,3 +13,4 @@ pub mod SpelledMethods
 pub mod SpelledFile
 pub mod SpellingLaw
 pub mod SpelledExample
+pub mod FormedTexts
