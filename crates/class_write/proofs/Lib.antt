@@ -14,3 +14,4 @@ pub mod SpelledMethods
 pub mod SpelledFile
 pub mod SpellingLaw
 pub mod SpelledExample
+pub mod FormedTexts

@@ -23,11 +23,9 @@ counts = ((tt, (tt, (tt, (tt, (tt, (tt, tt)))))), tt)
 
 value : IsClassValue class_t
 value = record {
-  flags = omega arith;
-  fields = (record { flags = omega arith; ty = tt; constant = record { sfits = omega arith } }, tt);
+  fields = (record { ty = tt; constant = record { sfits = omega arith } }, tt);
   methods = (
     record {
-      flags = omega arith;
       ty = record { arguments = (tt, tt); returned = tt };
       code = record {
         max_stack = omega arith;

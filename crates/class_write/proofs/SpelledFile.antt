@@ -217,7 +217,7 @@ class_is c w h =
     let interfaces_many : length (map (class_index pool) c.interfaces) ≡ length c.interfaces = length-map c.interfaces (class_index pool) in
     record {
       constant_pool = constant_pool_is c good w.value count l2.0;
-      flags = flags_are class_mask are_class_flags c.flags w.value.flags good.meant good.flags;
+      flags = flags_are class_mask are_class_flags c.flags (omega arith) good.meant good.flags;
       name = class_at_index pool count c.name good.name (all_front (Has pool) (class_constants c.name) super_name h1);
       super_name = class_at_index pool count c.super_name good.super_name (all_front (Has pool) (class_constants c.super_name) interfaces h2);
       interfaces_count = omega (arith, interfaces_many, table_below (length c.interfaces) t1.0);

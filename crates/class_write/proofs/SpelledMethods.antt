@@ -122,7 +122,7 @@ module _ (pool : List PoolConstant) (count : length pool + 1 < 2 ^ 16) where
       let zs = mark_attributes pool m.synthetic m.deprecated in
       let throws_other : (name : List ℕ) → is_text (codes "Exceptions") name ≡ false → named entries name ys ≡ [] = λ name e. named_other pool thrown (codes "Exceptions") name info throw_constants exceptions_units e has_throws in
       record {
-        flags = flags_are method_mask are_method_flags m.flags value.flags good.meant good.flags;
+        flags = flags_are method_mask are_method_flags m.flags (omega arith) good.meant good.flags;
         name = text_at_index pool count m.name good.name.0 (has.0, tt);
         named_right = good.name.1;
         descriptor = text_at_index pool count (method_text m.ty) (method_utf8 m.ty value.ty) (has.1.0, tt);
