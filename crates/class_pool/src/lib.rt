@@ -16,3 +16,6 @@ pub use fault::{NamedClass, PoolFault, PoolKind};
 pub use id::ClassId;
 pub use rows::computed_links;
 pub use set::ClassSet;
+
+#[cfg(test)]
+mod tests;
