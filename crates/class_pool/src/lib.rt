@@ -19,3 +19,6 @@ pub use fault::{NamedClass, PoolFault, PoolKind};
 pub use id::{ClassId, MemberAt};
 pub use rows::computed_links;
 pub use set::ClassSet;
+
+#[cfg(test)]
+mod tests;
