@@ -1,1 +1,4 @@
 mod Inserted
+mod Counted
+mod PlacedCodes
+mod CodeLengths
