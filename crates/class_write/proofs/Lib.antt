@@ -15,3 +15,6 @@ pub mod SpelledFile
 pub mod SpellingLaw
 pub mod SpelledExample
 pub mod FormedTexts
+mod Counted
+mod PlacedCodes
+mod CodeLengths
