@@ -4,3 +4,5 @@ pub mod FaultLaws
 pub mod Above
 pub mod CycleLaws
 pub mod Closing
+pub mod Graphing
+pub mod Telling

@@ -6,3 +6,4 @@ pub mod Faults
 pub mod Count
 pub mod Walk
 pub mod Closure
+pub mod Graph

@@ -4,7 +4,9 @@ ghost use Rattle.std.specs.List.{AllPairs};
 ghost use Rattle.class_pool.specs.Count.{item_count};
 ghost use Rattle.class_pool.specs.Faults.{Ascends, Builds, NamesDiffer, classes_of};
 
+use crate::closure::closure_of;
 use crate::cycles::check_cycles;
+use crate::graph::{graph_of, library_of};
 use crate::rounds::{check_names, check_supertypes};
 use crate::{ClassSet, NamedClass, PoolFault};
 use class_model::Class;
@@ -44,7 +46,15 @@ fn set_of(alloc: Global, classes: Items<Class>) -> M<ClassSet>
     ensures { IfOk result (λ set. set ≡ classes) }
 {
     let names = names_of(alloc, &classes)?;
-    Ok(ClassSet { classes, names })
+    let library = library_of(alloc)?;
+    let needs = graph_of(alloc, &classes, &names, &library)?;
+    let closure = closure_of(alloc, needs.as_slice(), needs.len())?;
+    Ok(ClassSet {
+        classes,
+        names,
+        library,
+        closure,
+    })
 }
 
 fn names_of(alloc: Global, classes: &Items<Class>) -> M<IndexSet<Name>>
