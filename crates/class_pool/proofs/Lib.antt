@@ -7,3 +7,5 @@ pub mod ComputedLinks
 pub mod Closing
 pub mod Ascending
 pub mod NamedMembers
+pub mod Graphing
+pub mod Telling
