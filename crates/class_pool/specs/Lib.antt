@@ -9,3 +9,4 @@ pub mod Found
 pub mod Resolution
 pub mod Selection
 pub mod LinkRows
+pub mod Closure
