@@ -14,7 +14,15 @@ mod LineTable
 mod CodeEnd
 mod KnownCode
 mod CodeParts
+mod ShiftedReaders
+mod ShiftedInstructions
+mod ShiftedCode
+mod InstructionFaults
+mod TargetFaults
+mod PartOfCode
+mod PassedLoop
 pub mod BehindCode
+mod CodeSteps
 pub mod FrameLaw
 pub mod StandsLaw
 pub mod HandlerLaw

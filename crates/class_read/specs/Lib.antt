@@ -6,6 +6,9 @@ pub mod Entries
 pub mod Signatures
 pub mod Fields
 pub mod Methods
+pub mod Instructions
+pub mod PassedOver
 pub mod ClassAttributes
 pub mod CodeAttributes
+pub mod Codes
 pub mod Laws

@@ -4,6 +4,7 @@
 mod attributes;
 mod class;
 mod class_attributes;
+mod code;
 mod code_attributes;
 mod entries;
 mod faults;
@@ -12,6 +13,7 @@ mod flags;
 mod handlers;
 mod head;
 mod initial_frame;
+mod instructions;
 mod laws;
 mod lines;
 mod lookups;
@@ -19,10 +21,12 @@ mod members;
 mod methods;
 mod names;
 mod parts;
+mod passed_over;
 mod pool;
 mod signatures;
 mod texts;
 
+pub use class::read_class;
 pub use laws::files_are_read_where_spelled;
 
 #[cfg(test)]
