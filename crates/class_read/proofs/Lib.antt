@@ -22,6 +22,7 @@ mod TargetFaults
 mod PartOfCode
 mod PassedLoop
 pub mod BehindCode
+mod CodeSteps
 pub mod FrameLaw
 pub mod StandsLaw
 pub mod HandlerLaw

@@ -10,4 +10,5 @@ pub mod Instructions
 pub mod PassedOver
 pub mod ClassAttributes
 pub mod CodeAttributes
+pub mod Codes
 pub mod Laws

@@ -1,9 +1,11 @@
 // The class of a whole class file (JVMS 4.1).
 #![tactic(auto, unfolding(format_reading::specs::Reader::bind, format_reading::specs::Reader::give, class_model::specs::ReadingClass::read_class_file))]
 
-ghost use Rattle.std.specs.Prelude.{◌≡◌, ◌<◌, length, IfOk};
+ghost use Rattle.std.specs.Prelude.{◌≡◌, ◌<◌, length, Ok, IfOk};
 ghost use Rattle.jv_base.specs.Outcome.{IsDue};
 ghost use Rattle.format_reading.specs.Reader.{ReadsOr};
+ghost use Rattle.class_model.specs.declared.class.Class.{Class};
+ghost use Rattle.class_model.specs.ClassFile.{File};
 ghost use Rattle.class_model.specs.ReadingClass.{class_of, read_class_file, class_read};
 
 use crate::attributes::{interfaces, read_class as read_class_name};
@@ -12,7 +14,6 @@ use crate::entries::read_pool;
 use crate::faults::fault;
 use crate::flags::{class_access, read_class_flags};
 use crate::head::read_head;
-use crate::methods::ReadsCode;
 use crate::parts::{first_left_out, left_out_of_class, read_all_fields, read_all_methods};
 use crate::pool::KnownPool;
 use class_model::{Class, Field, LeftKind, Method};
@@ -20,19 +21,25 @@ use format_reading::{FormatFault, FormatKind};
 use jv_base::{Cursor, Items, M, Name, Or, OutOfMemory};
 use std::alloc::Global;
 
-/// The class that the bytes of a class file spell, or the first fault, each Code being read by a reader that is
-/// handed in.
-#[tactic(auto, unfolding(class_model::specs::ReadingClass::class_read))]
-pub fn read_class<C: ReadsCode>(
-    codes: &C,
-    alloc: Global,
-    bytes: &[u8],
-) -> Result<Class, Or<FormatFault>>
+/// The class that the bytes of a class file of version 52 spell (JVMS 4), or the first fault from left to right: the
+/// rule that is broken, and the offset of the first byte of the item that breaks it. What is left out of a class is
+/// told by its kind, and is no fault.
+pub fn read_class(alloc: Global, bytes: &[u8]) -> Result<Class, Or<FormatFault>>
     requires { length bytes.now < 4294967295 }
+    ensures found { IfOk result (λ class. File bytes.now class) }
+    ensures only { (class : Class) → File bytes.now class → IsDue result (Ok class) }
     ensures exact { IsDue result (class_read bytes.now) }
 {
+    read_whole(alloc, bytes)
+}
+
+#[tactic(auto, unfolding(class_model::specs::ReadingClass::class_read))]
+fn read_whole(alloc: Global, bytes: &[u8]) -> Result<Class, Or<FormatFault>>
+    requires { length bytes.now < 4294967295 }
+    ensures { IsDue result (class_read bytes.now) }
+{
     let mut cursor = Cursor::new(bytes);
-    let class = read_class_file(codes, alloc, &mut cursor)?;
+    let class = read_class_file(alloc, &mut cursor)?;
     if cursor.is_at_end() {
         Ok(class)
     } else {
@@ -40,11 +47,7 @@ pub fn read_class<C: ReadsCode>(
     }
 }
 
-fn read_class_file<C: ReadsCode>(
-    codes: &C,
-    alloc: Global,
-    cursor: &mut Cursor,
-) -> Result<Class, Or<FormatFault>>
+fn read_class_file(alloc: Global, cursor: &mut Cursor) -> Result<Class, Or<FormatFault>>
     ensures { ReadsOr result cursor.new (read_class_file cursor.old) }
 {
     read_head(cursor)?;
@@ -54,7 +57,7 @@ fn read_class_file<C: ReadsCode>(
     let super_name = read_class_name(alloc, &pool, cursor)?;
     let interfaces = interfaces(alloc, &pool, cursor)?;
     let fields = read_all_fields(alloc, &pool, flags, cursor)?;
-    let methods = read_all_methods(codes, alloc, &pool, flags, &name, cursor)?;
+    let methods = read_all_methods(alloc, &pool, flags, &name, cursor)?;
     let seen = read_class_attributes(alloc, &pool, cursor)?;
     let class = class_of(
         flags, &pool, name, super_name, interfaces, fields, methods, seen,

@@ -4,6 +4,7 @@
 mod attributes;
 mod class;
 mod class_attributes;
+mod code;
 mod code_attributes;
 mod entries;
 mod faults;
@@ -25,6 +26,7 @@ mod pool;
 mod signatures;
 mod texts;
 
+pub use class::read_class;
 pub use laws::files_are_read_where_spelled;
 
 #[cfg(test)]

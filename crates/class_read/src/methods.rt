@@ -14,6 +14,7 @@ ghost use Rattle.class_read.specs.Entries.{found_at};
 ghost use Rattle.class_read.specs.Methods.{code_of_method, known_of, method_head, method_attribute, method_contents};
 
 use crate::attributes::{check_end, check_once, exceptions, read_units};
+use crate::code::read_code;
 use crate::faults::fault;
 use crate::flags::{has_body, is_native, method_access, read_method_flags};
 use crate::members::{read_method_type, read_name};
@@ -36,21 +37,6 @@ pub struct MethodHead {
     pub flags: u16,
     pub name: Name,
     pub ty: MethodType,
-}
-
-/// The reading of a Code (JVMS 4.7.3).
-pub trait ReadsCode {
-    /// The contents of the Code at an offset, of a method in a class of this name.
-    fn read_code(
-        &self,
-        alloc: Global,
-        pool: &KnownPool,
-        class: &Name,
-        head: &MethodHead,
-        attribute: u32,
-        cursor: &mut Cursor,
-    ) -> Result<Body, Or<FormatFault>>
-        ensures read { ReadsOr result cursor.new (code_of_method pool.now class.now head.now attribute cursor.old) };
 }
 
 /// An attribute of a method that is read (JVMS 4.7.3, 4.7.5, 4.7.8, 4.7.15).
@@ -84,8 +70,7 @@ pub type MethodRead = (Method, Signature, Option<LeftKind>);
 
 /// So many methods in a class of this name, each unlike all before it, and what is left out in each.
 #[tactic(auto)]
-pub fn read_methods<C: ReadsCode>(
-    codes: &C,
+pub fn read_methods(
     alloc: Global,
     count: u16,
     pool: &KnownPool,
@@ -99,7 +84,7 @@ pub fn read_methods<C: ReadsCode>(
     let mut methods = Items::new(alloc);
     let mut left_out = Items::new(alloc);
     for _ in 0..count {
-        let member = method_info(codes, alloc, pool, in_interface, class, &before, cursor)?;
+        let member = method_info(alloc, pool, in_interface, class, &before, cursor)?;
         keep(&mut methods, &mut left_out, &mut before, member)?;
     }
     Ok((methods, left_out))
@@ -127,8 +112,7 @@ fn keep(
 
 // A method behind those of these signatures, in a class of this name.
 #[tactic(auto)]
-fn method_info<C: ReadsCode>(
-    codes: &C,
+fn method_info(
     alloc: Global,
     pool: &KnownPool,
     in_interface: bool,
@@ -141,7 +125,7 @@ fn method_info<C: ReadsCode>(
 {
     let at = cursor.place();
     let begun = method_head(alloc, pool, in_interface, before, cursor)?;
-    let seen = counted(codes, alloc, pool, class, &begun.0, cursor)?;
+    let seen = counted(alloc, pool, class, &begun.0, cursor)?;
     check_body(at, has_body(begun.0.flags), &seen)?;
     let made = method_of(alloc, begun.0, seen);
     Ok((made.0, begun.1, made.1))
@@ -216,8 +200,7 @@ fn body_of(flags: u16, body: Option<Body>) -> Body
 
 // ---- attributes
 
-fn counted<C: ReadsCode>(
-    codes: &C,
+fn counted(
     alloc: Global,
     pool: &KnownPool,
     class: &Name,
@@ -228,12 +211,11 @@ fn counted<C: ReadsCode>(
         (counted_attributes pool.now (known_of pool.now class.now head.now) no_method_attribute cursor.old) }
 {
     let count = cursor.u2()?;
-    attributes(codes, alloc, count, pool, class, head, cursor)
+    attributes(alloc, count, pool, class, head, cursor)
 }
 
 #[tactic(auto)]
-fn attributes<C: ReadsCode>(
-    codes: &C,
+fn attributes(
     alloc: Global,
     count: u16,
     pool: &KnownPool,
@@ -250,14 +232,13 @@ fn attributes<C: ReadsCode>(
         deprecated: false,
     };
     for _ in 0..count {
-        seen = attribute(codes, alloc, pool, class, head, seen, cursor)?;
+        seen = attribute(alloc, pool, class, head, seen, cursor)?;
     }
     Ok(seen)
 }
 
 #[tactic(auto, unfolding(format_reading::specs::Reader::u2, format_reading::specs::Reader::u4, format_reading::specs::Reader::bytes, format_reading::specs::Reader::lead, format_reading::specs::Reader::bind, format_reading::specs::Reader::give, format_reading::specs::Reader::here, format_reading::specs::Reader::part), using(crate::proofs::KnownMethods::of_method))]
-fn attribute<C: ReadsCode>(
-    codes: &C,
+fn attribute(
     alloc: Global,
     pool: &KnownPool,
     class: &Name,
@@ -275,7 +256,7 @@ fn attribute<C: ReadsCode>(
         return Ok(seen);
     };
     let mut part = cursor.part(length)?;
-    match contents(codes, alloc, pool, class, head, at, known, seen, &mut part) {
+    match contents(alloc, pool, class, head, at, known, seen, &mut part) {
         Ok(seen) => {
             check_end(at, &part, cursor)?;
             Ok(seen)
@@ -300,8 +281,7 @@ fn method_attribute(name: &Units) -> Option<MethodAttribute>
     }
 }
 
-fn contents<C: ReadsCode>(
-    codes: &C,
+fn contents(
     alloc: Global,
     pool: &KnownPool,
     class: &Name,
@@ -317,7 +297,7 @@ fn contents<C: ReadsCode>(
         MethodAttribute::Code => {
             check_code(at, has_body(head.flags))?;
             check_once(at, seen.body.is_some())?;
-            let body = codes.read_code(alloc, pool, class, head, at, part)?;
+            let body = read_code(alloc, pool, class, head, at, part)?;
             Ok(SeenOfMethod {
                 body: Some(body),
                 ..seen

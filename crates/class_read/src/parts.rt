@@ -9,7 +9,7 @@ ghost use Rattle.class_model.specs.ReadingClass.{read_all_fields, read_all_metho
 
 use crate::fields::read_fields;
 use crate::flags::{is_interface, is_left_out_class};
-use crate::methods::{ReadsCode, read_methods};
+use crate::methods::read_methods;
 use crate::pool::KnownPool;
 use class_model::{Entry, Field, LeftKind, LeftOut, Method};
 use format_reading::FormatFault;
@@ -30,8 +30,7 @@ pub fn read_all_fields(
 }
 
 /// The methods of a class with these flags and of this name, and what is left out in each.
-pub fn read_all_methods<C: ReadsCode>(
-    codes: &C,
+pub fn read_all_methods(
     alloc: Global,
     pool: &KnownPool,
     flags: u16,
@@ -41,15 +40,7 @@ pub fn read_all_methods<C: ReadsCode>(
     ensures { ReadsOr result cursor.new (read_all_methods pool.now flags class.now cursor.old) }
 {
     let count = cursor.u2()?;
-    read_methods(
-        codes,
-        alloc,
-        count,
-        pool,
-        is_interface(flags),
-        class,
-        cursor,
-    )
+    read_methods(alloc, count, pool, is_interface(flags), class, cursor)
 }
 
 /// What is left out of the class itself: a flag before a constant, which counts where it is unused too.

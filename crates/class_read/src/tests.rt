@@ -1,27 +1,7 @@
-use crate::class::read_class;
-use crate::methods::{Body, MethodHead, ReadsCode};
-use crate::pool::KnownPool;
+use crate::read_class;
 use format_reading::{FormatFault, FormatKind};
-use jv_base::{Cursor, Name, Or};
-use std::alloc::Global;
+use jv_base::Or;
 use std::test::Fail;
-
-// Reads no Code.
-struct NoCodes;
-
-impl ReadsCode for NoCodes {
-    fn read_code(
-        &self,
-        _: Global,
-        _: &KnownPool,
-        _: &Name,
-        _: &MethodHead,
-        _: u32,
-        _: &mut Cursor,
-    ) -> Result<Body, Or<FormatFault>> {
-        Err(Or::OutOfMemory)
-    }
-}
 
 // The interface `A`, without members.
 const INTERFACE: &[u8] = b"\xCA\xFE\xBA\xBE\0\0\0\x34\0\x05\
@@ -30,7 +10,7 @@ const INTERFACE: &[u8] = b"\xCA\xFE\xBA\xBE\0\0\0\x34\0\x05\
 
 #[test]
 fn an_interface_is_read(rt: HostRuntime) -> Result<(), Fail> {
-    let class = read_class(&NoCodes, rt.alloc(), INTERFACE);
+    let class = read_class(rt.alloc(), INTERFACE);
     assert!(rt; matches!(&class, Ok(class) if class.name.as_str() == "A"));
     assert!(rt; matches!(&class, Ok(class) if class.super_name.as_str() == "java/lang/Object"));
     assert!(rt; matches!(&class, Ok(class) if class.flags.0 == 0x0600));
@@ -40,7 +20,7 @@ fn an_interface_is_read(rt: HostRuntime) -> Result<(), Fail> {
 #[test]
 fn each_cut_is_told_with_its_length(rt: HostRuntime) -> Result<(), Fail> {
     for end in 0..INTERFACE.len() {
-        let fault = match read_class(&NoCodes, rt.alloc(), &INTERFACE[..end]) {
+        let fault = match read_class(rt.alloc(), &INTERFACE[..end]) {
             Err(Or::Fault(fault)) => Some(fault),
             _ => None,
         };
