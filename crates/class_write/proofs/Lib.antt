@@ -14,3 +14,4 @@ pub mod SpelledFile
 pub mod SpellingLaw
 pub mod SpelledExample
 pub mod FormedTexts
+pub mod FormedPool
