@@ -15,3 +15,4 @@ pub mod SpellingLaw
 pub mod SpelledExample
 pub mod FormedTexts
 pub mod FormedPool
+pub mod FormedOps
