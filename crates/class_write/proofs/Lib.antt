@@ -16,3 +16,5 @@ pub mod SpelledExample
 pub mod FormedTexts
 pub mod FormedPool
 pub mod FormedOps
+pub mod FormedPlaces
+pub mod FormedCode
