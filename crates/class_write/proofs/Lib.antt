@@ -18,3 +18,7 @@ pub mod FormedTexts
 mod Counted
 mod PlacedCodes
 mod CodeLengths
+pub mod FormedPool
+pub mod FormedOps
+pub mod FormedPlaces
+pub mod FormedCode
