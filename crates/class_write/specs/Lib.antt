@@ -1,3 +1,5 @@
 pub mod Pushes
 pub mod Placing
 pub mod Writing
+pub mod Limits
+pub mod Files

@@ -3,6 +3,7 @@
 
 mod attributes;
 mod bytes;
+mod class_file;
 mod code;
 mod constants;
 mod contents;
@@ -10,6 +11,11 @@ mod entries;
 mod fields;
 mod frames;
 mod indices;
+mod limits;
 mod lines;
+mod methods;
 mod placing;
 mod pool;
+mod writing;
+
+pub use writing::write_class;
