@@ -22,3 +22,7 @@ pub mod FormedPool
 pub mod FormedOps
 pub mod FormedPlaces
 pub mod FormedCode
+mod Fitting
+mod Dues
+mod FileTexts
+mod FewFrames

@@ -3,3 +3,5 @@ pub mod ClassValues
 pub mod SpellingLaws
 pub mod Placing
 pub mod Writing
+pub mod Limits
+pub mod Files

@@ -3,6 +3,7 @@
 
 mod attributes;
 mod bytes;
+mod class_file;
 mod code;
 mod constants;
 mod contents;
@@ -11,8 +12,12 @@ mod fields;
 mod frames;
 mod indices;
 mod laws;
+mod limits;
 mod lines;
+mod methods;
 mod placing;
 mod pool;
+mod writing;
 
 pub use laws::canonical_spells_the_class;
+pub use writing::write_class;
