@@ -6,3 +6,4 @@ pub mod CycleLaws
 pub mod Closing
 pub mod Graphing
 pub mod Telling
+pub mod Listing

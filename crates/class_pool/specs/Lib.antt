@@ -7,3 +7,4 @@ pub mod Count
 pub mod Walk
 pub mod Closure
 pub mod Graph
+pub mod Supers

@@ -12,6 +12,7 @@ mod order;
 mod ranks;
 mod rounds;
 mod set;
+mod supers;
 
 pub use building::build;
 pub use fault::{NamedClass, PoolFault, PoolKind};
