@@ -10,3 +10,4 @@ pub mod Ascending
 pub mod NamedMembers
 pub mod Graphing
 pub mod Telling
+pub mod Listing

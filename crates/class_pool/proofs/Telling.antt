@@ -1,5 +1,5 @@
 -- What leads where in the graph of all classes is what is a supertype of what.
-use Rattle.std.proofs.Common.{◌≡◌, ⊎_elim, ℕ, ◌+◌, ◌-◌, ◌<◌, ◌≤◌, ◌↔◌, ◌⊎◌, inl, inr, ◌||◌, Bool, true, false, nat_eq, nat_lt, cond, IsTrue, List, [], ◌∷◌, length, get_or, map, Option, Some, None, refl, sym, ap, subst, ◌∙◌, arith}
+use Rattle.std.proofs.Common.{◌≡◌, ⊎_elim, ℕ, ◌+◌, ◌-◌, ◌<◌, ◌≤◌, ◌↔◌, ◌⊎◌, inl, inr, ◌||◌, Bool, true, false, nat_eq, cond, IsTrue, List, [], ◌∷◌, length, get_or, map, Option, Some, None, refl, sym, ap, subst, ◌∙◌, arith}
 use Rattle.std.specs.List.{All, cons_option, filter_map}
 use Rattle.std.specs.Option.{option_and_then, option_map}
 use Rattle.std.proofs.lemmas.Bool.{cases_lt, eqb-true, eq-eqb, le-ltb, lt-ltb, or_cases, or_left, or_right}
@@ -15,7 +15,7 @@ use Rattle.lib_table.proofs.Classes.{class_below}
 use Rattle.class_pool.specs.declared.id.ClassId.{ClassId}
 use Rattle.class_pool.specs.declared.id.ClassId.TheVariants.{Prog, Lib}
 use Rattle.class_pool.specs.Closure.{IsClosure, IsKept, Leads, has, needs_at}
-use Rattle.class_pool.specs.Graph.{Tells, above_class, above_library, graph, library_ids, number}
+use Rattle.class_pool.specs.Graph.{Tells, above_class, above_library, graph, id_at, library_ids, number}
 use Rattle.class_pool.specs.Hierarchy.{IsClass, classes_named, or_found}
 use Rattle.class_pool.specs.Supertypes.{IsProperSub, Sub, direct}
 use Rattle.class_pool.proofs.Above.{direct_none, direct_of}
@@ -115,10 +115,6 @@ needs_is classes (Prog n) within =
     (λ p. absurd (omega (arith, within, p.0)))
     (slice_get_cases classes n).1
 
--- the class of a number
-abbrev pub id_at : ℕ → ClassId
-id_at x = cond (nat_lt x (length library)) (Lib x) (Prog (x - length library))
-
 pub id_at_number : (classes : List Class) (id : ClassId) → IsClass classes id → id_at (number id) ≡ id
 id_at_number classes (Lib id) within = ap (λ (t : Bool). cond t (Lib id) (Prog (id - length library))) (lt-ltb id (length library) within)
 id_at_number classes (Prog n) within =
@@ -126,7 +122,7 @@ id_at_number classes (Prog n) within =
     ap (λ (t : Bool). cond t (Lib (length library + n)) (Prog (length library + n - length library))) (le-ltb (length library + n) (length library) (omega arith))
     ∙ ap Prog less
 
-number_at : (classes : List Class) (x : ℕ) → x < length library + length classes → IsClass classes (id_at x) × (number (id_at x) ≡ x)
+pub number_at : (classes : List Class) (x : ℕ) → x < length library + length classes → IsClass classes (id_at x) × (number (id_at x) ≡ x)
 number_at classes x within =
     ⊎_elim
     (λ low.

@@ -1,5 +1,5 @@
 -- The classes of the library and of a set as numbers, those of the library first, and their direct supertypes as a graph of these.
-use Rattle.std.specs.Prelude.{◌+◌, ◌<◌, ◌↔◌, ℕ, IsTrue, List, ◌∷◌, ◌++◌, length, map}
+use Rattle.std.specs.Prelude.{◌+◌, ◌-◌, ◌<◌, ◌↔◌, ℕ, nat_lt, IsTrue, List, ◌∷◌, ◌++◌, length, map, if◌then◌else◌}
 use Rattle.std.specs.List.{cons_option, range_with_len}
 use Rattle.class_model.specs.declared.class.Class.{Class}
 use Rattle.lib_table.specs.Library.{library}
@@ -13,6 +13,10 @@ use Rattle.class_pool.specs.Supertypes.{IsProperSub}
 abbrev pub number : ClassId → ℕ
 number (Prog n) = length library + n
 number (Lib id) = id
+
+-- the class of a number
+abbrev pub id_at : ℕ → ClassId
+id_at x = if nat_lt x (length library) then Lib x else Prog (x - length library)
 
 -- a library class is one of the table
 abbrev pub IsThere : ClassId → Type 0

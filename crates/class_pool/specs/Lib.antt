@@ -12,3 +12,4 @@ pub mod LinkRows
 pub mod Closure
 pub mod ByName
 pub mod Graph
+pub mod Supers

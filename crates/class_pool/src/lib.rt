@@ -15,6 +15,7 @@ mod ranks;
 mod rounds;
 mod rows;
 mod set;
+mod supers;
 
 pub use building::build;
 pub use fault::{NamedClass, PoolFault, PoolKind};

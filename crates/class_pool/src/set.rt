@@ -1,19 +1,22 @@
 // A set of classes.
-ghost use Rattle.std.specs.Prelude.{◌≡◌, ◌+◌, ◌<◌, ◌↔◌, IsTrue, length, slice_get, IfSome, Some};
+ghost use Rattle.std.specs.Prelude.{◌≡◌, ◌+◌, ◌<◌, ◌↔◌, IsTrue, length, slice_get, IfOk, IfSome, Some};
 ghost use Rattle.std.specs.List.{position};
 ghost use Rattle.jv_base.specs.Names.{is_text};
 ghost use Rattle.class_pool.specs.Hierarchy.{IsClass, class_named, superclass};
 ghost use Rattle.class_pool.specs.Members.{declared_at};
+ghost use Rattle.class_pool.specs.Supers.{IsSupers};
 ghost use Rattle.class_pool.specs.Supertypes.{Sub};
 
 use crate::ClassId;
 use crate::closure::Closure;
 use crate::graph::number;
 use crate::members::MemberIndex;
+use crate::supers::supers_of;
 use class_model::Class;
 use indexmap::IndexSet;
-use jv_base::{Items, Name, Text};
+use jv_base::{Items, M, Name, Text};
 use lib_table::{LibId, lib_class, lib_member, lib_super};
+use std::alloc::Global;
 use std::marker::Model;
 
 /// A set of classes, numbered from 0 in the order of their files.
@@ -104,6 +107,15 @@ impl ClassSet {
         let below = number(&self.library, a);
         let above = number(&self.library, b);
         below == above || self.closure.has(below, above)
+    }
+
+    /// The supertypes of a class, direct or not (JVMS 4.10), without the class itself. Each comes once: those of the
+    /// library first, in the order of its table, then those of the set in its order.
+    pub fn supers(&self, alloc: Global, id: ClassId) -> M<Items<ClassId>>
+        requires { IsClass self.now id }
+        ensures { IfOk result (IsSupers self.now id) }
+    {
+        supers_of(alloc, &self.classes, &self.library, &self.closure, id)
     }
 
     /// The number of the member that the class declares with a name and a descriptor (JVMS 4.3). A program class has its
