@@ -2,6 +2,7 @@ pub mod Hierarchy
 pub mod Supertypes
 pub mod Numbers
 pub mod Members
+pub mod ByName
 pub mod Faults
 pub mod Count
 pub mod Walk
@@ -9,4 +10,3 @@ pub mod Found
 pub mod Resolution
 pub mod Selection
 pub mod LinkRows
-pub mod ByName
