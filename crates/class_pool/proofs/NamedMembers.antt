@@ -13,8 +13,7 @@ use Rattle.jv_base.proofs.Equality.{text_Decides}
 use Rattle.class_model.specs.declared.class.Class.{Class}
 use Rattle.class_model.specs.declared.class.Field.{Field}
 use Rattle.class_model.specs.declared.class.Method.{Method}
-use Rattle.class_pool.specs.ByName.{HasFirst, IsIndexOf, last_below, last_named}
-use Rattle.class_pool.specs.Found.{Signature, signature_in}
+use Rattle.class_pool.specs.ByName.{HasFirst, IsIndexOf, last_below, last_named, named_in}
 use Rattle.class_pool.specs.Members.{is_field, is_method, member_named, or_method}
 use Rattle.class_pool.specs.declared.members.MemberIndex.{MemberIndex}
 
@@ -42,17 +41,17 @@ longer : {X : Type 0} (xs : List X) (y : X) → length (xs ++ y ∷ []) ≡ leng
 longer [] y = refl
 longer (x ∷ xs) y = let h = longer xs y in omega (arith, h)
 
-pub grown : (c : Class) (n : ℕ) (old new : MemberIndex) (name : List ℕ) → HasFirst c n old → name ≡ (signature_in c n).0
+pub grown : (c : Class) (n : ℕ) (old new : MemberIndex) (name : List ℕ) → HasFirst c n old → name ≡ (named_in c n).0
     → ((other : List ℕ) → lookup (is_text other) new.last.entries ≡ cond (is_text name other) (Some n) (lookup (is_text other) old.last.entries))
     → new.earlier ≡ old.earlier ++ lookup (is_text name) old.last.entries ∷ [] → HasFirst c (n + 1) new
 grown c n old new name has is last earlier = record {
   count = ap length earlier ∙ longer old.earlier (lookup (is_text name) old.last.entries) ∙ ap (λ m. m + 1) has.count;
   last = λ other. last other ∙ ap (λ (t : List ℕ). cond (is_text t other) (Some n) (lookup (is_text other) old.last.entries)) is
-      ∙ ap (cond (is_text (signature_in c n).0 other) (Some n)) (has.last other) ∙ ap (λ m. last_named c m other) (next n);
+      ∙ ap (cond (is_text (named_in c n).0 other) (Some n)) (has.last other) ∙ ap (λ m. last_named c m other) (next n);
   earlier = λ k within. ap (λ (xs : List (Option ℕ)). slice_get xs k) earlier ∙ ⊎_elim
       (λ below. inner old.earlier _ k (subst (λ m. k < m) (sym has.count) below) ∙ has.earlier k below)
-      (λ at. subst (λ m. slice_get (old.earlier ++ lookup (is_text name) old.last.entries ∷ []) m ≡ Some (last_named c m (signature_in c m).0)) (sym at)
-      (subst (λ m. slice_get (old.earlier ++ lookup (is_text name) old.last.entries ∷ []) m ≡ Some (last_named c n (signature_in c n).0)) has.count
+      (λ at. subst (λ m. slice_get (old.earlier ++ lookup (is_text name) old.last.entries ∷ []) m ≡ Some (last_named c m (named_in c m).0)) (sym at)
+      (subst (λ m. slice_get (old.earlier ++ lookup (is_text name) old.last.entries ∷ []) m ≡ Some (last_named c n (named_in c n).0)) has.count
       (outer old.earlier _ ∙ ap Some (has.last name ∙ ap (last_named c n) is))))
       (below_or_at k n (omega (arith, within)));
 }
@@ -148,10 +147,10 @@ first_is p (x ∷ xs) q same =
     one_more : (n : ℕ) → suc n ≡ 1 + n
     one_more n = omega arith
 
-field_there : (c : Class) (k : ℕ) (f : Field) → slice_get c.fields k ≡ Some f → signature_in c k ≡ (f.name, field_text f.ty)
+field_there : (c : Class) (k : ℕ) (f : Field) → slice_get c.fields k ≡ Some f → named_in c k ≡ (f.name, field_text f.ty)
 field_there c k f is = rw (lt-ltb k (length c.fields) (slice_get_within c.fields k f is), is) refl
 
-method_there : (c : Class) (k : ℕ) (m : Method) → slice_get c.methods k ≡ Some m → signature_in c (length c.fields + k) ≡ (m.name, method_text m.ty)
+method_there : (c : Class) (k : ℕ) (m : Method) → slice_get c.methods k ≡ Some m → named_in c (length c.fields + k) ≡ (m.name, method_text m.ty)
 method_there c k m is = rw (le-ltb (length c.fields + k) (length c.fields) (omega arith), less (length c.fields) k, is) refl
   where
     less : (n k : ℕ) → n + k - n ≡ k
@@ -159,7 +158,7 @@ method_there c k m is = rw (le-ltb (length c.fields + k) (length c.fields) (omeg
 
 -- the member has this name and this descriptor
 abbrev pub is_wanted : Class → List ℕ → List ℕ → ℕ → Bool
-is_wanted c name descriptor k = is_text (signature_in c k).0 name && is_text descriptor (signature_in c k).1
+is_wanted c name descriptor k = is_text (named_in c k).0 name && is_text descriptor (named_in c k).1
 
 or_is : (c : Class) (name descriptor : List ℕ) (o : Option ℕ) → or_else o (behind (length c.fields) (position (is_method name descriptor) c.methods)) ≡ or_method c name descriptor o
 or_is c name descriptor (Some n) = refl
@@ -169,7 +168,7 @@ pub member_first : (c : Class) (name descriptor : List ℕ) → first_below (is_
 member_first c name descriptor =
     let q : ℕ → Bool = is_wanted c name descriptor in
     let n : ℕ = length c.fields in
-    let tested : Signature → Bool = λ s. is_text s.0 name && is_text descriptor s.1 in
+    let tested : List ℕ × List ℕ → Bool = λ s. is_text s.0 name && is_text descriptor s.1 in
     first_behind q n (length c.methods) None
     ∙ ap (λ o. first_below q n (behind n o)) (first_is (is_method name descriptor) c.methods (λ k. q (n + k)) (λ k m is. ap tested (method_there c k m is)))
     ∙ first_else q n (behind n (position (is_method name descriptor) c.methods))
@@ -179,40 +178,40 @@ member_first c name descriptor =
 -- the members that are left to look at, and what was found behind them, lead to the member that is looked for
 pub record Leads (c : Class) (name descriptor : List ℕ) (next found : Option ℕ) : Type 0 where
   pub rest : first_below (is_wanted c name descriptor) (up_to next) found ≡ member_named c name descriptor
-  pub there : IfSome next (λ n. (n < length c.fields + length c.methods) × (is_text (signature_in c n).0 name ≡ true))
+  pub there : IfSome next (λ n. (n < length c.fields + length c.methods) × (is_text (named_in c n).0 name ≡ true))
 
 last_there : (c : Class) (n : ℕ) (name : List ℕ) (o : Option ℕ) → n ≤ length c.fields + length c.methods → o ≡ last_named c n name
-    → IfSome o (λ k. (k < length c.fields + length c.methods) × (is_text (signature_in c k).0 name ≡ true))
+    → IfSome o (λ k. (k < length c.fields + length c.methods) × (is_text (named_in c k).0 name ≡ true))
 last_there c n name None within is = tt
 last_there c n name (Some k) within is =
-    let h = last_passes (λ j. is_text (signature_in c j).0 name) n k (sym is) in
+    let h = last_passes (λ j. is_text (named_in c j).0 name) n k (sym is) in
     (omega (arith, h.0, within), h.1)
 
-not_wanted : (c : Class) (name descriptor : List ℕ) (k : ℕ) → is_text (signature_in c k).0 name ≡ false → is_wanted c name descriptor k ≡ false
-not_wanted c name descriptor k other = ap (λ t. t && is_text descriptor (signature_in c k).1) other
+not_wanted : (c : Class) (name descriptor : List ℕ) (k : ℕ) → is_text (named_in c k).0 name ≡ false → is_wanted c name descriptor k ≡ false
+not_wanted c name descriptor k other = ap (λ t. t && is_text descriptor (named_in c k).1) other
 
 pub leads_first : (c : Class) (index : MemberIndex) (name descriptor : List ℕ) (next : Option ℕ) → IsIndexOf c index → next ≡ lookup (is_text name) index.last.entries → Leads c name descriptor next None
 leads_first c index name descriptor next has is =
     let n : ℕ = length c.fields + length c.methods in
     let last : next ≡ last_named c n name = is ∙ has.last name in record {
       rest = ap (λ o. first_below (is_wanted c name descriptor) (up_to o) None) last
-          ∙ sym (skip (λ k. is_text (signature_in c k).0 name) (is_wanted c name descriptor) (not_wanted c name descriptor) n None) ∙ member_first c name descriptor;
+          ∙ sym (skip (λ k. is_text (named_in c k).0 name) (is_wanted c name descriptor) (not_wanted c name descriptor) n None) ∙ member_first c name descriptor;
       there = last_there c n name next (omega arith) last;
     }
 
 -- the one before a member of the name
 pub one_before : (c : Class) (index : MemberIndex) (name : List ℕ) (n : ℕ) (next : Option ℕ) → IsIndexOf c index → n < length c.fields + length c.methods
-    → is_text (signature_in c n).0 name ≡ true → slice_get index.earlier n ≡ Some next → next ≡ last_named c n name
+    → is_text (named_in c n).0 name ≡ true → slice_get index.earlier n ≡ Some next → next ≡ last_named c n name
 one_before c index name n next has within named at =
-    same_Some _ _ (sym at ∙ has.earlier n within) ∙ ap (last_named c n) ((text_Decides (signature_in c n).0 name).0 named)
+    same_Some _ _ (sym at ∙ has.earlier n within) ∙ ap (last_named c n) ((text_Decides (named_in c n).0 name).0 named)
 
 pub leads_on : (c : Class) (index : MemberIndex) (name descriptor : List ℕ) (n : ℕ) (found next : Option ℕ) (b : Bool) → IsIndexOf c index → Leads c name descriptor (Some n) found
-    → slice_get index.earlier n ≡ Some next → b ≡ is_text descriptor (signature_in c n).1 → Leads c name descriptor next (cond b (Some n) found)
+    → slice_get index.earlier n ≡ Some next → b ≡ is_text descriptor (named_in c n).1 → Leads c name descriptor next (cond b (Some n) found)
 leads_on c index name descriptor n found next b has leads at told =
     let q : ℕ → Bool = is_wanted c name descriptor in
-    let p : ℕ → Bool = λ k. is_text (signature_in c k).0 name in
+    let p : ℕ → Bool = λ k. is_text (named_in c k).0 name in
     let last : next ≡ last_named c n name = one_before c index name n next has leads.there.0 leads.there.1 at in
-    let wanted : b ≡ q n = told ∙ sym (ap (λ t. t && is_text descriptor (signature_in c n).1) leads.there.1) in record {
+    let wanted : b ≡ q n = told ∙ sym (ap (λ t. t && is_text descriptor (named_in c n).1) leads.there.1) in record {
       rest = ap (λ o. first_below q (up_to o) (cond b (Some n) found)) last
           ∙ sym (skip p q (not_wanted c name descriptor) n (cond b (Some n) found))
           ∙ ap (λ t. first_below q n (cond t (Some n) found)) wanted ∙ leads.rest;
@@ -227,7 +226,7 @@ pub fewer_left : (c : Class) (index : MemberIndex) (name descriptor : List ℕ) 
     → slice_get index.earlier n ≡ Some next → up_to next < suc n
 fewer_left c index name descriptor n found next has leads at =
     up_below n next (λ k is.
-    (last_passes (λ j. is_text (signature_in c j).0 name) n k (sym (one_before c index name n next has leads.there.0 leads.there.1 at) ∙ is)).0)
+    (last_passes (λ j. is_text (named_in c j).0 name) n k (sym (one_before c index name n next has leads.there.0 leads.there.1 at) ∙ is)).0)
 
 -- ---- an index for each class
 

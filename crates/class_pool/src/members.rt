@@ -2,8 +2,7 @@
 ghost use Rattle.std.specs.Prelude.{◌≡◌, ℕ, ◌+◌, ◌++◌, ◌<◌, [], ◌∷◌, List, length, IfOk, OnOk, Some, if◌then◌else◌};
 ghost use Rattle.std.specs.Map.{lookup};
 ghost use Rattle.jv_base.specs.Names.{is_text};
-ghost use Rattle.class_pool.specs.ByName.{IsIndexOf};
-ghost use Rattle.class_pool.specs.Found.{signature_in};
+ghost use Rattle.class_pool.specs.ByName.{IsIndexOf, named_in};
 ghost use Rattle.class_pool.specs.Members.{member_named};
 
 use class_model::Class;
@@ -66,7 +65,7 @@ impl MemberIndex {
 
 fn name_at(class: &Class, number: u32) -> &Name
     requires { number < length class.now.fields + length class.now.methods }
-    ensures { result.now ≡ (signature_in class.now number).0 }
+    ensures { result.now ≡ (named_in class.now number).0 }
 {
     let index = number as usize;
     let fields = class.fields.len();
@@ -79,7 +78,7 @@ fn name_at(class: &Class, number: u32) -> &Name
 
 fn has_descriptor(class: &Class, number: u32, ty: &Text) -> bool
     requires { number < length class.now.fields + length class.now.methods }
-    ensures { result ≡ is_text ty.now (signature_in class.now number).1 }
+    ensures { result ≡ is_text ty.now (named_in class.now number).1 }
 {
     let index = number as usize;
     let fields = class.fields.len();
