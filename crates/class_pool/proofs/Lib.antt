@@ -5,3 +5,4 @@ pub mod FaultLaws
 pub mod Above
 pub mod CycleLaws
 pub mod ComputedLinks
+pub mod Closing

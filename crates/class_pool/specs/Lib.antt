@@ -10,3 +10,4 @@ pub mod Found
 pub mod Resolution
 pub mod Selection
 pub mod LinkRows
+pub mod Closure

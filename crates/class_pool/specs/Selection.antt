@@ -1,49 +1,64 @@
--- Which method a call runs (JVMS 5.4.5, 6.5.invokevirtual, 6.5.invokeinterface).
-use Rattle.std.specs.Prelude.{ℕ, zero, suc, Bool, not, ◌&&◌, ◌||◌, List, [], ◌∷◌, Option, if◌then◌else◌}
-use Rattle.std.specs.List.{filter, filter_map, list_any}
+-- Which method a call runs (JVMS 5.4.5, 6.5). No method of an interface has a body here, so none is selected.
+use Rattle.std.specs.Prelude.{Bool, not, ◌&&◌, ◌||◌, List, [], ◌∷◌, Option, Some, if◌then◌else◌}
+use Rattle.std.specs.List.{find, list_any}
+use Rattle.std.specs.Option.{option_and_then}
+use Rattle.class_model.specs.Flags.{is_init}
 use Rattle.class_model.specs.declared.class.Class.{Class}
 use Rattle.class_pool.specs.declared.id.ClassId.{ClassId}
-use Rattle.class_pool.specs.Found.{MemberAt, Signature, declared_in, is_private_member, is_protected_member, is_public_member, is_static_member, same_member, same_package, signature_of}
+use Rattle.class_pool.specs.declared.id.MemberAt.{MemberAt}
+use Rattle.class_pool.specs.Found.{NameAndType, declared_by, is_instance_method, is_private_member, is_protected_member, is_public_member, named_at, same_member, same_package}
+use Rattle.class_pool.specs.Hierarchy.{superclass}
 use Rattle.class_pool.specs.Resolution.{first, is_interface_in}
-use Rattle.class_pool.specs.Walk.{class_count, superclasses_from}
-
--- what stands behind the first of a list
-abbrev pub behind_first : {A : Type 0} → List A → List A
-behind_first [] = []
-behind_first (x ∷ xs) = xs
+use Rattle.class_pool.specs.Walk.{same_class, superclasses_from}
 
 module _ (classes : List Class) where
-  -- the methods of this name and descriptor that these classes declare
-  abbrev pub declared_by : Signature → List ClassId → List MemberAt
-  declared_by s cs = filter_map (declared_in classes s.0 s.1) cs
+  -- ---- overriding (JVMS 5.4.5)
 
-  abbrev pub is_instance : MemberAt → Bool
-  is_instance m = not (is_static_member classes m)
+  -- an instance method of a class, not private; a method of an interface overrides none of a class
+  abbrev pub may_override : MemberAt → Bool
+  may_override m = is_instance_method classes m && not (is_private_member classes m) && not (is_interface_in classes m.class)
 
-  -- a method that isn't static, declared above in a class: one below may override it by its flags (JVMS 5.4.5)
+  -- an instance method that one of a subclass with this number may override by its flags
   abbrev pub may_be_overridden : ClassId → MemberAt → Bool
-  may_be_overridden below m = is_instance m && (is_public_member classes m || is_protected_member classes m
+  may_be_overridden below m = is_instance_method classes m
+      && (is_public_member classes m || is_protected_member classes m
       || (not (is_private_member classes m) && same_package classes below m.class))
 
-  -- a method is another one, or overrides, by itself or through one between them that it overrides, n of them at most (JVMS 5.4.5)
-  unfoldable pub overrides : ℕ → Signature → MemberAt → MemberAt → Bool
-  overrides zero s m above = same_member m above
-  overrides (suc n) s m above = same_member m above
-      || (is_instance m && not (is_private_member classes m)
-      && list_any (λ next. may_be_overridden m.class next && overrides n s next above)
-      (declared_by s (behind_first (superclasses_from classes m.class))))
+  -- a method in front of those further up that override one or are it: it is that one, or overrides it by itself or through one of them
+  abbrev pub with_nearest : MemberAt → MemberAt → List MemberAt → List MemberAt
+  with_nearest above m overriding =
+      if same_member m above || (may_override m && list_any (may_be_overridden m.class) overriding) then m ∷ overriding else overriding
 
-  -- a class method: the first one from the receiver's class upwards that is it or overrides it (JVMS 6.5.invokevirtual)
-  abbrev pub selected_of_class : ClassId → Signature → MemberAt → Option MemberAt
-  selected_of_class c s m =
-      first (filter (λ one. overrides (class_count classes) s one m) (declared_by s (superclasses_from classes c)))
+  -- of methods of one name and descriptor, the lowest class's first, those that override a method or are it
+  abbrev pub overriding : MemberAt → List MemberAt → List MemberAt
+  overriding above [] = []
+  overriding above (m ∷ ms) = with_nearest above m (overriding above ms)
 
-  -- an interface method: the first one from the receiver's class upwards that isn't static (JVMS 6.5.invokeinterface)
-  abbrev pub selected_of_interface : ClassId → Signature → Option MemberAt
-  selected_of_interface c s = first (filter is_instance (declared_by s (superclasses_from classes c)))
+  -- those of a class and its superclasses
+  abbrev pub overriding_from : ClassId → MemberAt → List MemberAt
+  overriding_from c above = overriding above (declared_by classes (named_at classes above) (superclasses_from classes c))
 
-  -- the method that runs where a method was resolved and the receiver is of a class
+  -- a method overrides another one, or is it
+  abbrev pub overrides : MemberAt → MemberAt → Bool
+  overrides m above = list_any (same_member m) (overriding_from m.class above)
+
+  -- ---- selection
+
+  -- the first instance method from a class upwards
+  abbrev pub first_instance : ClassId → NameAndType → Option MemberAt
+  first_instance c named = find (is_instance_method classes) (declared_by classes named (superclasses_from classes c))
+
+  -- where a method of a class was resolved the first one from the receiver's class upwards that overrides it or is it (JVMS 6.5.invokevirtual); where one of an
+  -- interface was, whatever kind of reference named it, the first instance method, a private one too, which is our own choice (JVMS 6.5.invokeinterface)
   abbrev pub selected : ClassId → MemberAt → Option MemberAt
   selected c m =
-      if is_interface_in classes m.class then selected_of_interface c (signature_of classes m.class m.index)
-      else selected_of_class c (signature_of classes m.class m.index) m
+      if is_interface_in classes m.class then first_instance c (named_at classes m)
+      else first (overriding_from c m)
+
+  -- where invokespecial in a class named another one: the resolved instance initialisation method, else the first instance method from the direct superclass upwards, from the class
+  -- itself where that was named (JVMS 6.5.invokespecial)
+  abbrev pub selected_special : ClassId → ClassId → MemberAt → Option MemberAt
+  selected_special from named m =
+      if is_init (named_at classes m).0 then Some m
+      else if same_class from named then first_instance from (named_at classes m)
+      else option_and_then (λ above. first_instance above (named_at classes m)) (superclass classes from)

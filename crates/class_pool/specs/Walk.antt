@@ -1,17 +1,16 @@
--- The supertypes of a class as lists, in the order in which members are searched (JVMS 5.4.3.2, 5.4.3.3). A list goes up as many steps as
--- there are classes; in a set without cycles nothing stands further up.
-use Rattle.std.specs.Prelude.{ℕ, zero, suc, ◌+◌, Bool, false, ◌==◌, if◌then◌else◌, List, [], ◌∷◌, ◌++◌, length}
+-- The supertypes of a class as lists (JVMS 4.10, 5.4.3.2, 5.4.3.3). A list has a bound that no set reaches, so that walks in two sets can be
+-- compared; in a set without cycles nothing stands further up.
+use Rattle.std.specs.Prelude.{ℕ, zero, suc, ◌^◌, Bool, false, ◌==◌, if◌then◌else◌, List, [], ◌∷◌, ◌++◌}
 use Rattle.std.specs.List.{flat_map, list_any}
 use Rattle.std.specs.Option.{option_map_or}
 use Rattle.class_model.specs.declared.class.Class.{Class}
-use Rattle.lib_table.specs.Library.{library}
 use Rattle.class_pool.specs.declared.id.ClassId.{ClassId}
 use Rattle.class_pool.specs.declared.id.ClassId.TheVariants.{Prog, Lib}
 use Rattle.class_pool.specs.Hierarchy.{superclass, interfaces}
 
--- how many classes there are, those of the library with them
-abbrev pub class_count : List Class → ℕ
-class_count classes = length classes + length library
+-- more than any set has classes, those of the library with them
+abbrev pub highest : ℕ
+highest = 2 ^ 32
 
 -- two classes are one
 abbrev pub same_class : ClassId → ClassId → Bool
@@ -19,7 +18,7 @@ same_class (Prog m) (Prog n) = m == n
 same_class (Lib m) (Lib n) = m == n
 same_class _ _ = false
 
--- each class of a list once, where it stands first
+-- the classes of a list that are none of those seen, each once, where it stands first
 unfoldable pub each_once : List ClassId → List ClassId → List ClassId
 each_once seen [] = []
 each_once seen (c ∷ cs) = if list_any (same_class c) seen then each_once seen cs else c ∷ each_once (c ∷ seen) cs
@@ -36,13 +35,13 @@ walked (suc n) classes is = flat_map (λ i. i ∷ walked n classes (interfaces c
 
 -- a class and its superclasses, the nearest first
 abbrev pub superclasses_from : List Class → ClassId → List ClassId
-superclasses_from classes c = upwards (class_count classes) classes c
+superclasses_from classes c = upwards highest classes c
 
 -- the direct superinterfaces of a class in their order, each followed by its own superinterfaces; one stands as often as it is met
 abbrev pub own_superinterfaces : List Class → ClassId → List ClassId
-own_superinterfaces classes c = walked (class_count classes) classes (interfaces classes c)
+own_superinterfaces classes c = walked highest classes (interfaces classes c)
 
--- all superinterfaces: its own, then those of its superclass, and so on
+-- all superinterfaces, as often as each is met: its own, then those of its superclass, and so on
 abbrev pub superinterfaces : List Class → ClassId → List ClassId
 superinterfaces classes c = flat_map (own_superinterfaces classes) (superclasses_from classes c)
 

@@ -2,10 +2,13 @@
 #![tactic(auto)]
 
 mod building;
+mod closure;
+mod components;
 mod cycles;
 mod fault;
 mod id;
 mod members;
+mod order;
 mod ranks;
 mod rounds;
 mod rows;
@@ -13,9 +16,6 @@ mod set;
 
 pub use building::build;
 pub use fault::{NamedClass, PoolFault, PoolKind};
-pub use id::ClassId;
+pub use id::{ClassId, MemberAt};
 pub use rows::computed_links;
 pub use set::ClassSet;
-
-#[cfg(test)]
-mod tests;

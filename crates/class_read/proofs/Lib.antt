@@ -10,6 +10,10 @@ mod KnownMethods
 mod MethodInfo
 mod MethodLoop
 mod KnownClass
+mod LineTable
+mod CodeEnd
+mod KnownCode
+mod CodeParts
 pub mod FrameLaw
 pub mod StandsLaw
 pub mod HandlerLaw
@@ -17,3 +21,9 @@ pub mod CodeAttributeLaw
 pub mod PassedOverLaw
 pub mod BodyLaw
 pub mod ClassLaw
+mod ShiftedReaders
+mod ShiftedInstructions
+mod ShiftedCode
+mod InstructionFaults
+mod TargetFaults
+mod PartOfCode

@@ -4,12 +4,17 @@
 mod attributes;
 mod class;
 mod class_attributes;
+mod code_attributes;
 mod entries;
 mod faults;
 mod fields;
 mod flags;
+mod handlers;
 mod head;
+mod initial_frame;
+mod instructions;
 mod laws;
+mod lines;
 mod lookups;
 mod members;
 mod methods;
