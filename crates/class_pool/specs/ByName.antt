@@ -7,7 +7,7 @@ use Rattle.jv_base.specs.Types.{field_text, method_text}
 use Rattle.class_model.specs.declared.class.Class.{Class}
 use Rattle.class_pool.specs.declared.members.MemberIndex.{MemberIndex}
 
--- the name and the descriptor of the member with a number (JVMS 4.4.6)
+-- the name and the descriptor of the member with the number n (JVMS 4.4.6)
 abbrev pub named_in : Class → ℕ → List ℕ × List ℕ
 named_in c n =
     if nat_lt n (length c.fields) then option_map_or (λ f. (f.name, field_text f.ty)) (slice_get c.fields n) ([], [])

@@ -11,3 +11,4 @@ pub mod Resolution
 pub mod Selection
 pub mod LinkRows
 pub mod Closure
+pub mod Graph

@@ -5,7 +5,9 @@ ghost use Rattle.class_pool.specs.ByName.{IsIndexOf};
 ghost use Rattle.class_pool.specs.Count.{item_count};
 ghost use Rattle.class_pool.specs.Faults.{Ascends, Builds, NamesDiffer, classes_of};
 
+use crate::closure::closure_of;
 use crate::cycles::check_cycles;
+use crate::graph::{graph_of, library_of};
 use crate::members::MemberIndex;
 use crate::rounds::{check_names, check_supertypes};
 use crate::{ClassSet, NamedClass, PoolFault};
@@ -47,10 +49,15 @@ fn set_of(alloc: Global, classes: Items<Class>) -> M<ClassSet>
 {
     let names = names_of(alloc, &classes)?;
     let members = members_of(alloc, &classes)?;
+    let library = library_of(alloc)?;
+    let needs = graph_of(alloc, &classes, &names, &library)?;
+    let closure = closure_of(alloc, needs.as_slice(), needs.len())?;
     Ok(ClassSet {
         classes,
         names,
         members,
+        library,
+        closure,
     })
 }
 

@@ -120,3 +120,6 @@ fn come_to(search: &mut Search, item: usize) -> M<()> {
     }
     Ok(())
 }
+
+#[cfg(test)]
+mod tests;

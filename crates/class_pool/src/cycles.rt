@@ -114,3 +114,6 @@ fn push_number(set: &ClassSet, numbers: &mut Items<u32>, name: &Name) -> M<()>
     }
     Ok(())
 }
+
+#[cfg(test)]
+mod tests;

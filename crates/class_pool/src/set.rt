@@ -1,16 +1,19 @@
 // A set of classes.
-ghost use Rattle.std.specs.Prelude.{◌≡◌, ◌+◌, ◌<◌, length, slice_get, IfSome, Some};
+ghost use Rattle.std.specs.Prelude.{◌≡◌, ◌+◌, ◌<◌, ◌↔◌, IsTrue, length, slice_get, IfSome, Some};
 ghost use Rattle.std.specs.List.{position};
 ghost use Rattle.jv_base.specs.Names.{is_text};
 ghost use Rattle.class_pool.specs.Hierarchy.{IsClass, class_named, superclass};
 ghost use Rattle.class_pool.specs.Members.{declared_at};
+ghost use Rattle.class_pool.specs.Supertypes.{Sub};
 
 use crate::ClassId;
+use crate::closure::Closure;
+use crate::graph::number;
 use crate::members::MemberIndex;
 use class_model::Class;
 use indexmap::IndexSet;
 use jv_base::{Items, Name, Text};
-use lib_table::{lib_class, lib_member, lib_super};
+use lib_table::{LibId, lib_class, lib_member, lib_super};
 use std::marker::Model;
 
 /// A set of classes, numbered from 0 in the order of their files.
@@ -19,6 +22,8 @@ pub struct ClassSet {
     pub(crate) classes: Items<Class>,
     pub(crate) names: IndexSet<Name>,
     pub(crate) members: Items<MemberIndex>,
+    pub(crate) library: Items<LibId>,
+    pub(crate) closure: Closure,
 }
 
 impl Model for ClassSet {
@@ -27,13 +32,14 @@ impl Model for ClassSet {
     ghost use Rattle.class_model.specs.declared.class.Class.{Class};
     ghost use Rattle.class_pool.specs.ByName.{IsIndexOf};
     ghost use Rattle.class_pool.specs.Count.{item_count};
+    ghost use Rattle.class_pool.specs.Graph.{Tells, library_ids};
 
     ghost Value = { List Class };
 
     ghost view = { λ s. s.classes };
 
     ghost invariant = { λ s. (s.names.keys ≡ map (λ c. c.name) s.classes) × (item_count s.classes < 4294967295)
-        × AllZip IsIndexOf s.classes s.members };
+        × (s.library ≡ library_ids) × Tells s.classes s.closure.blocks × AllZip IsIndexOf s.classes s.members };
 }
 
 impl ClassSet {
@@ -87,6 +93,17 @@ impl ClassSet {
                 Some(ClassId::Lib(above))
             }
         }
+    }
+
+    /// Whether a class is the other one or has it as a supertype, direct or not (JVMS 4.10).
+    pub fn is_sub(&self, a: ClassId, b: ClassId) -> bool
+        requires below { IsClass self.now a }
+        requires above { IsClass self.now b }
+        ensures { IsTrue result ↔ Sub self.now a b }
+    {
+        let below = number(&self.library, a);
+        let above = number(&self.library, b);
+        below == above || self.closure.has(below, above)
     }
 
     /// The number of the member that the class declares with a name and a descriptor (JVMS 4.3). A program class has its

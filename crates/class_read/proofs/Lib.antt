@@ -14,6 +14,14 @@ mod LineTable
 mod CodeEnd
 mod KnownCode
 mod CodeParts
+mod ShiftedReaders
+mod ShiftedInstructions
+mod ShiftedCode
+mod InstructionFaults
+mod TargetFaults
+mod PartOfCode
+mod PassedLoop
+pub mod BehindCode
 pub mod FrameLaw
 pub mod StandsLaw
 pub mod HandlerLaw
@@ -21,9 +29,3 @@ pub mod CodeAttributeLaw
 pub mod PassedOverLaw
 pub mod BodyLaw
 pub mod ClassLaw
-mod ShiftedReaders
-mod ShiftedInstructions
-mod ShiftedCode
-mod InstructionFaults
-mod TargetFaults
-mod PartOfCode

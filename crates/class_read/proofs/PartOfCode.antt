@@ -1,8 +1,9 @@
 -- What is decoded of the code that is a part of a class file is what is read of that part.
-use Rattle.std.proofs.Common.{◌≡◌, ℕ, ◌+◌, ◌-◌, ◌<◌, ◌≤◌, Bool, true, false, cond, eqb, List, [], ◌++◌, length, take, drop, Result, Ok, Err, refl, sym, ap, subst, ◌∙◌, arith}
+use Rattle.std.proofs.Common.{◌∷◌, ◌≡◌, ℕ, ◌+◌, ◌-◌, ◌<◌, ◌≤◌, Bool, true, false, cond, eqb, List, [], ◌++◌, length, take, drop, Result, Ok, Err, refl, sym, ap, subst, ◌∙◌, arith}
 use Rattle.std.specs.Prelude.{slice_range, nat_lt}
 use Rattle.std.proofs.lemmas.Bool.{eq-eqb, ltb-false}
 use Rattle.std.proofs.lemmas.List.{length-append, length-take-le, length-drop, take-append-drop, take-take, drop-take, append-nil, nil_from_length}
+use Rattle.std.specs.List.{flat_map}
 use Rattle.std.specs.Prelude.{IsErrAnd}
 use Rattle.jv_base.specs.Outcome.{IsDue}
 use Rattle.jv_base.specs.declared.outcome.Or.{Or}
@@ -17,9 +18,10 @@ use Rattle.format_reading.specs.Reader.{ReadsOr, bind, give, here, told, part, c
 use Rattle.format_reading.proofs.Exact.{IsBytes, left}
 use Rattle.class_model.specs.declared.pool.Entry.{Entry}
 use Rattle.class_model.specs.declared.op.Op.{Op}
-use Rattle.class_model.specs.InstructionStructure.{Info, starts_of}
+use Rattle.class_model.specs.InstructionStructure.{Info, info_bytes, starts_from, starts_of}
 use Rattle.class_model.specs.InstructionMeaning.{aim_at}
 use Rattle.class_model.specs.ReadingCode.{CodeRead, instructions, has_left_out, until_end, without_place, code_read, ops_of}
+use Rattle.class_model.proofs.BackSizes.{info_is_there}
 use Rattle.class_model.proofs.UntilLaw.{IsCodeFrom, until_exact, until_found}
 use Rattle.jv_ops.specs.declared.decoding.Decoded.{Decoded}
 use Rattle.jv_ops.specs.declared.fault.CodeFault.{CodeFault}
@@ -186,6 +188,33 @@ read_within pool bytes (Err g) f h e =
 pub fault_within : (pool : List Entry) (bytes : List ℕ) (f : CodeFault) → IsBytes bytes → code_decoded pool bytes ≡ Err f → offset_told f ≤ length bytes
 unfolding code_decoded code_read
 fault_within pool bytes f fits h = read_within pool bytes (until_end (length bytes) pool 0 (length bytes) (start bytes)) f (alone pool bytes (until_end (length bytes) pool 0 (length bytes) (start bytes)) fits refl) h
+
+-- ---- how many instructions there are
+
+starts_few : (at : ℕ) (infos : List Info) → length (starts_from at infos) ≤ length (flat_map info_bytes infos)
+starts_few at [] = omega arith
+starts_few at (info ∷ infos) =
+    let size = length-append (info_bytes info) (flat_map info_bytes infos) in
+    let some = info_is_there info in
+    let others = starts_few (at + length (info_bytes info)) infos in
+    omega (arith, size, some, others)
+
+with_few : (end : ℕ) (infos : List Info) (r : Result (List Op) FormatFault) (d : Decoded) → length (starts_of infos) ≤ end → with_starts infos r ≡ Ok d → length d.starts ≤ end
+with_few end infos (Ok ops) d h e = let same : starts_of infos ≡ d.starts = cc in subst (λ (s : List ℕ). length s ≤ end) same h
+with_few end infos (Err g) d h e = absurd cc
+
+read_few : (pool : List Entry) (bytes : List ℕ) (r : Result (CodeRead × Place) FormatFault) (d : Decoded) → IsRead pool bytes r → as_decoded pool (without_place r) ≡ Ok d → length d.starts ≤ length bytes
+read_few pool bytes (Ok (instructions infos, q)) d h e =
+    let size = ap length h.0.0 in
+    let few = starts_few 0 infos in
+    with_few (length bytes) infos (ops_of pool 0 infos) d (omega (arith, size, few)) e
+read_few pool bytes (Ok (has_left_out offset opcode, q)) d h e = absurd cc
+read_few pool bytes (Err g) d h e = absurd cc
+
+-- at most one for each byte
+pub count_within : (pool : List Entry) (bytes : List ℕ) (d : Decoded) → IsBytes bytes → code_decoded pool bytes ≡ Ok d → length d.starts ≤ length bytes
+unfolding code_decoded code_read
+count_within pool bytes d fits h = read_few pool bytes (until_end (length bytes) pool 0 (length bytes) (start bytes)) d (alone pool bytes (until_end (length bytes) pool 0 (length bytes) (start bytes)) fits refl) h
 
 -- ---- what a call answers
 

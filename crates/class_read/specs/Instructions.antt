@@ -1,5 +1,5 @@
 -- The instructions of a Code, as they are decoded (JVMS 4.7.3, 4.9.1).
-use Rattle.std.specs.Prelude.{ℕ, ◌+◌, List, Result, Ok, Err}
+use Rattle.std.specs.Prelude.{ℕ, ◌+◌, List, length, Result, Ok, Err}
 use Rattle.format_reading.specs.Fault.{fault}
 use Rattle.format_reading.specs.Reader.{Reader, give, here, told, part, ◌>>=◌}
 use Rattle.format_reading.specs.declared.fault.FormatFault.{FormatFault}
@@ -50,3 +50,8 @@ offset_told (code.BadOperand at) = at
 offset_told (code.Cut at) = at
 offset_told (code.LeftOutOpcode at opcode) = 0
 offset_told (code.BadTarget at) = at
+
+-- how many instructions there are, none where one is left out
+abbrev pub count_of : Instructions → ℕ
+count_of (All decoded) = length decoded.starts
+count_of (LeftOut kind) = 0

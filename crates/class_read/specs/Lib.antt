@@ -7,6 +7,7 @@ pub mod Signatures
 pub mod Fields
 pub mod Methods
 pub mod Instructions
+pub mod PassedOver
 pub mod ClassAttributes
 pub mod CodeAttributes
 pub mod Laws

@@ -1,12 +1,12 @@
 // The instructions of a Code (JVMS 4.7.3, 4.9.1).
-ghost use Rattle.std.specs.Prelude.{◌≡◌, ◌+◌, ◌<◌, ◌^◌, length};
+ghost use Rattle.std.specs.Prelude.{◌≡◌, ◌+◌, ◌≤◌, ◌<◌, ◌^◌, length, IfOk};
 ghost use Rattle.jv_base.specs.Outcome.{IsDue};
 ghost use Rattle.format_reading.specs.Reader.{ReadsOr, u4, item};
 ghost use Rattle.class_model.specs.ReadingCode.{left_out_kind};
 ghost use Rattle.class_model.specs.ReadingCodeAttribute.{code_length};
 ghost use Rattle.jv_ops.specs.Decoded.{code_decoded};
 ghost use Rattle.class_read.specs.Laws.{AreBytes};
-ghost use Rattle.class_read.specs.Instructions.{read_instructions, in_file, or_left_out, offset_told};
+ghost use Rattle.class_read.specs.Instructions.{read_instructions, in_file, or_left_out, offset_told, count_of};
 
 use crate::faults::fault;
 use crate::pool::KnownPool;
@@ -59,6 +59,7 @@ fn decoded(
     requires end { from + length code.now < 2 ^ 32 }
     ensures exact { IsDue result (in_file from (code_decoded pool.now code.now)) }
     ensures bytes { AreBytes code.now }
+    ensures count { IfOk result (λ read. count_of read ≤ length code.now) }
 {
     match decode_code(alloc, code, pool.pool()) {
         Ok(decoded) => Ok(Instructions::All(decoded)),
@@ -69,7 +70,6 @@ fn decoded(
 
 /// The next `length` bytes as the instructions of the Code at an offset. A target is asked for only where each
 /// instruction is one that is kept.
-#[tactic(auto, using(crate::proofs::PartOfCode::part_ends))]
 pub fn read_instructions(
     alloc: Global,
     pool: &KnownPool,
@@ -78,10 +78,10 @@ pub fn read_instructions(
     cursor: &mut Cursor,
 ) -> Result<Instructions, Or<FormatFault>>
     requires { 0 < length }
-    ensures { ReadsOr result cursor.new (read_instructions pool.now attribute length cursor.old) }
+    ensures read { ReadsOr result cursor.new (read_instructions pool.now attribute length cursor.old) }
+    ensures count { IfOk result (λ read. count_of read ≤ length) }
 {
-    let from = cursor.place();
     let code = cursor.take(length)?;
-    let _end = cursor.place();
+    let from = cursor.place() - length;
     decoded(alloc, pool, from, code)
 }

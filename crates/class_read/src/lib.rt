@@ -20,11 +20,14 @@ mod members;
 mod methods;
 mod names;
 mod parts;
+mod passed_over;
 mod pool;
 mod signatures;
 mod texts;
 
 pub use laws::files_are_read_where_spelled;
 
+#[cfg(test)]
+mod code_tests;
 #[cfg(test)]
 mod tests;

@@ -34,7 +34,7 @@ use Rattle.class_model.specs.WellFormed.{IsClassName, IsGoodOp, IsGoodHandler, I
 use Rattle.class_model.specs.WriteLimits.{fits_u2, first_of, text_fits}
 use Rattle.class_model.proofs.BackPool.{filled_has}
 use Rattle.class_model.proofs.BackPaired.{filled_paired}
-use Rattle.class_write.specs.ClassValues.{IsInsValue, IsVTypeValue, IsFrameValue, IsCodeValue, IsConstantValue, IsFieldValue, IsMethodValue, IsClassValue}
+use Rattle.class_write.specs.ClassValues.{IsInsValue, IsVTypeValue, IsFrameValue, IsCodeValue, IsFieldConstant, IsFieldValue, IsMethodValue, IsClassValue}
 use Rattle.class_write.proofs.SpelledLists.{all_front, all_back, all_both, all_two, all_put}
 use Rattle.class_write.proofs.SpelledPool.{IsRight, pool_is}
 use Rattle.class_write.proofs.SpelledWanted.{HasAll, AllRight, text_right, class_right, type_right, string_right, pushed_right, op_right, field_utf8, method_utf8}
@@ -126,12 +126,12 @@ module _ (pool : List PoolConstant) where
 
   -- ---- fields
 
-  value : (field : Field) (k : Constant) → FitsField field.ty k → IsConstantValue k → Makes (value_constants k)
+  value : (field : Field) (k : Constant) → FitsField field.ty k → IsFieldConstant k → Makes (value_constants k)
   value field (constant.Int n) fits is h = (is, tt)
   value field (constant.Long n) fits is h = (is, (tt, tt))
   value field (constant.Text units) fits is h = string_right pool units fits.1 h
 
-  constant_value : (in_interface : Bool) (field : Field) (k : Option Constant) → IfSome k (λ v. FitsField field.ty v) → IfSome k IsConstantValue → Makes (constant_value_constants k)
+  constant_value : (in_interface : Bool) (field : Field) (k : Option Constant) → IfSome k (λ v. FitsField field.ty v) → IfSome k IsFieldConstant → Makes (constant_value_constants k)
   constant_value in_interface field None fits is = none
   constant_value in_interface field (Some k) fits is = both (text_constants (codes "ConstantValue")) (value_constants k) (text (codes "ConstantValue") value_utf8) (value field k fits is)
 

@@ -3,6 +3,7 @@ use Rattle.std.proofs.Common.{◌≡◌, ℕ, ◌+◌, ◌^◌, ◌<◌, ◌≤�
 use Rattle.std.specs.Prelude.{option_and_then, IsTrue, IsUtf8, IfSome, codes}
 use Rattle.std.specs.List.{AllByRecursion}
 use Rattle.std.proofs.lemmas.List.{length-append}
+use Rattle.std.proofs.lemmas.Nat.{and_le_r}
 use Rattle.jv_base.specs.Utf16.{units_of}
 use Rattle.jv_base.specs.Names.{is_text}
 use Rattle.jv_base.specs.Types.{field_text}
@@ -30,8 +31,8 @@ use Rattle.class_write.proofs.SpelledWanted.{HasAll, field_utf8}
 use Rattle.class_write.proofs.SpelledAttributes.{value_units, named_left, named_this, named_other, attribute_is, marks_other, synthetic_is, deprecated_is, marks_are, marks_few, mark_behind}
 
 -- flags that all mean something
-pub flags_are : (mask : ℕ) (passes : ℕ → Bool) (flags : Access) → flags.0 < 2 ^ 16 → AreMeant mask flags.0 → IsTrue (passes flags.0) → AreFlags mask passes flags.0 flags
-flags_are mask passes flags fit all good = record { fit = fit; are = ap flags_of (sym all); good = good }
+pub flags_are : (mask : ℕ) (passes : ℕ → Bool) (flags : Access) → mask < 2 ^ 16 → AreMeant mask flags.0 → IsTrue (passes flags.0) → AreFlags mask passes flags.0 flags
+flags_are mask passes flags low all good = record { fit = omega (arith, low, all, and_le_r flags.0 mask); are = ap flags_of (sym all); good = good }
 
 module _ (pool : List PoolConstant) (count : length pool + 1 < 2 ^ 16) where
   -- a name or a descriptor at its index
@@ -82,7 +83,7 @@ module _ (pool : List PoolConstant) (count : length pool + 1 < 2 ^ 16) where
       let xs = constant_attributes pool f.constant in
       let ys = mark_attributes pool f.synthetic f.deprecated in
       record {
-        flags = flags_are field_mask (are_field_flags in_interface) f.flags value.flags good.meant good.flags;
+        flags = flags_are field_mask (are_field_flags in_interface) f.flags (omega arith) good.meant good.flags;
         name = text_at_index f.name good.name.0 (has.0, tt);
         named_right = good.name.1;
         descriptor = text_at_index (field_text f.ty) (field_utf8 f.ty value.ty) (has.1.0, tt);

@@ -58,25 +58,22 @@ pub record IsCodeValue (code : Code) : Type 0 where
   pub frames : AllByRecursion IsFrameValue code.frames
 
 -- the constant of a field
-abbrev pub IsConstantValue : Constant → Type 0
-IsConstantValue (constant.Int n) = FitsSigned w32 n
-IsConstantValue (constant.Long n) = FitsSigned w64 n
-IsConstantValue (constant.Text units) = Unit {0}
+abbrev pub IsFieldConstant : Constant → Type 0
+IsFieldConstant (constant.Int n) = FitsSigned w32 n
+IsFieldConstant (constant.Long n) = FitsSigned w64 n
+IsFieldConstant (constant.Text units) = Unit {0}
 
--- a field
+-- a field, whose flags are bounded by those that mean something
 pub record IsFieldValue (field : Field) : Type 0 where
-  pub flags : field.flags.0 < 2 ^ 16
   pub ty : IsFieldTypeValue field.ty
-  pub constant : IfSome field.constant IsConstantValue
+  pub constant : IfSome field.constant IsFieldConstant
 
 -- a method
 pub record IsMethodValue (m : Method) : Type 0 where
-  pub flags : m.flags.0 < 2 ^ 16
   pub ty : IsMethodTypeValue m.ty
   pub code : IfSome m.code IsCodeValue
 
 -- a class
 pub record IsClassValue (c : Class) : Type 0 where
-  pub flags : c.flags.0 < 2 ^ 16
   pub fields : AllByRecursion IsFieldValue c.fields
   pub methods : AllByRecursion IsMethodValue c.methods
