@@ -1,5 +1,6 @@
 pub mod Counting
 pub mod Naming
+pub mod NamedMembers
 pub mod FaultLaws
 pub mod Ascending
 pub mod Above
@@ -7,7 +8,6 @@ pub mod CycleLaws
 pub mod ComputedLinks
 pub mod Closing
 pub mod Ascending
-pub mod NamedMembers
 pub mod Graphing
 pub mod Telling
 pub mod Listing

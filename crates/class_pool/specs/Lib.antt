@@ -2,6 +2,7 @@ pub mod Hierarchy
 pub mod Supertypes
 pub mod Numbers
 pub mod Members
+pub mod ByName
 pub mod Faults
 pub mod Count
 pub mod Walk
@@ -10,6 +11,5 @@ pub mod Resolution
 pub mod Selection
 pub mod LinkRows
 pub mod Closure
-pub mod ByName
 pub mod Graph
 pub mod Supers

@@ -22,6 +22,3 @@ pub use fault::{NamedClass, PoolFault, PoolKind};
 pub use id::{ClassId, MemberAt};
 pub use rows::computed_links;
 pub use set::ClassSet;
-
-#[cfg(test)]
-mod tests;

@@ -2,8 +2,7 @@
 ghost use Rattle.std.specs.Prelude.{◌≡◌, ℕ, ◌+◌, ◌++◌, ◌<◌, [], ◌∷◌, List, length, IfOk, OnOk, Some, if◌then◌else◌};
 ghost use Rattle.std.specs.Map.{lookup};
 ghost use Rattle.jv_base.specs.Names.{is_text};
-ghost use Rattle.class_pool.specs.ByName.{IsIndexOf};
-ghost use Rattle.class_pool.specs.ByName.{named_in};
+ghost use Rattle.class_pool.specs.ByName.{IsIndexOf, named_in};
 ghost use Rattle.class_pool.specs.Members.{member_named};
 
 use class_model::Class;
@@ -89,3 +88,6 @@ fn has_descriptor(class: &Class, number: u32, ty: &Text) -> bool
         is_method_descriptor(ty, &class.methods[index - fields].ty)
     }
 }
+
+#[cfg(test)]
+mod tests;

@@ -1,6 +1,6 @@
 ghost use Rattle.std.specs.Prelude.{◌≡◌, length, IfOk};
 
-use super::*;
+use crate::{ClassSet, NamedClass, PoolFault, build};
 use class_model::{Class, Field, Method};
 use jv_base::{Access, Base, FieldType, Items, M, MethodType, Or, Text};
 use std::alloc::{AllocError, Global};
