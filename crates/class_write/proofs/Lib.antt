@@ -18,3 +18,5 @@ pub mod FormedPool
 pub mod FormedOps
 pub mod FormedPlaces
 pub mod FormedCode
+pub mod FormedFlags
+pub mod FormedFile
