@@ -3,4 +3,4 @@
 
 mod laws;
 
-pub use laws::canonical_spells_the_class;
+pub use laws::{canonical_spells_the_class, spelled_classes_can_be_written};
