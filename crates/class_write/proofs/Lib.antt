@@ -26,3 +26,5 @@ mod Fitting
 mod Dues
 mod FileTexts
 mod FewFrames
+pub mod FormedFlags
+pub mod FormedFile

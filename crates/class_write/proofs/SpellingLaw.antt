@@ -6,9 +6,10 @@ use Rattle.class_model.specs.declared.limit.WriteLimit.{WriteLimit}
 use Rattle.class_model.specs.ClassFile.{File}
 use Rattle.class_model.specs.CanonicalClass.{pool_of, layout}
 use Rattle.class_model.specs.WriteLimits.{limits, spelled_within, class_written}
-use Rattle.class_read.proofs.ClassLaw.{class_read-only}
-use Rattle.class_write.specs.SpellingLaws.{WrittenIsSpelling, WrittenIsRead, ReadIsRewritten}
+use Rattle.class_read.proofs.ClassLaw.{class_read-found, class_read-only}
+use Rattle.class_write.specs.SpellingLaws.{WrittenIsSpelling, WrittenIsRead, ReadIsRewritten, ReadIsReadAgain}
 use Rattle.class_write.proofs.SpelledFile.{layout_spells}
+use Rattle.class_write.proofs.FormedFile.{spelled_writable}
 
 -- what is written within the limits is the layout
 within : (r : Result (Unit {0}) WriteLimit) (c : Class) (bytes : List ℕ) → spelled_within r c ≡ Ok bytes → (r ≡ Ok tt) × (layout c ≡ bytes)
@@ -27,3 +28,6 @@ one_class c d h = cc
 
 pub read_rewritten : ReadIsRewritten
 read_rewritten c d bytes w h read = subst (λ (x : Class). class_written x ≡ Ok bytes) (one_class c d (sym (written_read c bytes w h) ∙ read)) h
+
+pub read_again : ReadIsReadAgain
+read_again bytes written c fits read none h = written_read c written (spelled_writable bytes c (class_read-found bytes c fits read) none) h

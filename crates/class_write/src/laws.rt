@@ -1,5 +1,5 @@
 // What holds of classes and the bytes that they are written as.
-ghost use Rattle.class_write.specs.SpellingLaws.{LayoutIsSpelling, WrittenIsSpelling, WrittenIsRead, ReadIsRewritten, SomeIsWritable};
+ghost use Rattle.class_write.specs.SpellingLaws.{LayoutIsSpelling, WrittenIsSpelling, WrittenIsRead, ReadIsRewritten, SomeIsWritable, SpelledIsWritable, ReadIsReadAgain};
 
 /// The canonical layout of a class spells the class (JVMS 4.1): of each class that is well formed,
 /// whose counts of invokeinterface fit a byte, and that passes no limit of the format (JVMS 4.11).
@@ -11,4 +11,11 @@ pub fn canonical_spells_the_class()
     ensures read { WrittenIsRead }
     ensures rewritten { ReadIsRewritten }
     ensures some { SomeIsWritable }
+{}
+
+/// A class that bytes spell, of which nothing is left out, is well formed and can be written, so
+/// within the limits of the format it is read again, the same, from what is written of it.
+pub fn spelled_classes_can_be_written()
+    ensures writable { SpelledIsWritable }
+    ensures again { ReadIsReadAgain }
 {}

@@ -19,5 +19,5 @@ mod placing;
 mod pool;
 mod writing;
 
-pub use laws::canonical_spells_the_class;
+pub use laws::{canonical_spells_the_class, spelled_classes_can_be_written};
 pub use writing::write_class;
