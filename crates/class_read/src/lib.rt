@@ -30,4 +30,6 @@ pub use class::read_class;
 pub use laws::files_are_read_where_spelled;
 
 #[cfg(test)]
+mod code_tests;
+#[cfg(test)]
 mod tests;
