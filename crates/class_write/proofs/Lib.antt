@@ -1,3 +1,7 @@
+mod Inserted
+mod Counted
+mod PlacedCodes
+mod CodeLengths
 pub mod SpelledLists
 pub mod SpelledPool
 pub mod SpelledWanted

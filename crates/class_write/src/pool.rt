@@ -1,0 +1,332 @@
+// The constants of a class in the order of the file, each once (JVMS 4.4).
+ghost use Rattle.std.specs.Prelude.{◌≡◌, [], IfOk, OnOk, codes, None};
+ghost use Rattle.std.specs.List.{flat_map};
+ghost use Rattle.indexmap.specs.IndexSet.{insert_all};
+ghost use Rattle.class_model.specs.CanonicalPool.{same, class_constants};
+ghost use Rattle.class_model.specs.CanonicalCode as code;
+ghost use Rattle.class_model.specs.CanonicalFrames as written;
+ghost use Rattle.class_model.specs.CanonicalClass as canonical;
+ghost use Rattle.class_model.specs.declared.code.Ins.{Ins};
+ghost use Rattle.class_model.specs.declared.code.Handler.{Handler};
+ghost use Rattle.class_write.specs.Pushes.{pushes_of_body};
+
+use crate::constants::{
+    add_class, add_classes, add_field_reference, add_int, add_long, add_method_reference,
+    add_string, add_text, add_type, add_units,
+};
+use crate::frames::{first_frame, types_written};
+use crate::lines::has_rows;
+use class_model::{Class, Code, Constant, Field, FrameAt, Handler, Ins, Method, Op, VType};
+use jv_base::{Items, M, Name, Text, Units, field_text, method_text};
+use jv_ops::ConstantTable;
+use std::alloc::Global;
+
+// ---- instructions
+
+/// The constant that a push loads by ldc: those of all codes come first, so that they have the lowest indices.
+fn add_pushed(alloc: Global, pool: &mut ConstantTable, op: &Op) -> M<()>
+    ensures { OnOk result (pool.new ≡ insert_all same pool.old (code.pushed_constants op.now)) }
+{
+    match op {
+        Op::PushInt(number) if -32_768 <= *number && *number <= 32_767 => Ok(()),
+        Op::PushInt(number) => add_int(alloc, pool, *number),
+        Op::PushText(units) => add_string(alloc, pool, units),
+        _ => Ok(()),
+    }
+}
+
+/// The constants that an instruction names.
+fn add_op(alloc: Global, pool: &mut ConstantTable, op: &Op) -> M<()>
+    ensures { OnOk result (pool.new ≡ insert_all same pool.old (code.op_constants op.now)) }
+{
+    match op {
+        Op::PushLong(number) if 0 <= *number && *number <= 1 => Ok(()),
+        Op::PushLong(number) => add_long(alloc, pool, *number),
+        Op::GetStatic(field) | Op::PutStatic(field) | Op::GetField(field) | Op::PutField(field) => {
+            add_field_reference(alloc, pool, field)
+        }
+        Op::InvokeVirtual(method)
+        | Op::InvokeSpecial(method)
+        | Op::InvokeStatic(method)
+        | Op::InvokeInterface(method) => add_method_reference(alloc, pool, method),
+        Op::New(name) => add_class(alloc, pool, name),
+        Op::ANewArray(ty) | Op::CheckCast(ty) | Op::InstanceOf(ty) | Op::MultiNewArray(ty, _) => {
+            add_type(alloc, pool, ty)
+        }
+        op => add_pushed(alloc, pool, op),
+    }
+}
+
+fn add_pushes_of_code(alloc: Global, pool: &mut ConstantTable, ins: &[Ins]) -> M<()>
+    ensures { OnOk result (pool.new ≡ insert_all same pool.old (flat_map (λ (i : Ins). code.pushed_constants i.op) ins.now)) }
+{
+    for instruction in ins {
+        add_pushed(alloc, pool, &instruction.op)?;
+    }
+    Ok(())
+}
+
+fn add_instructions(alloc: Global, pool: &mut ConstantTable, ins: &[Ins]) -> M<()>
+    ensures { OnOk result (pool.new ≡ insert_all same pool.old (flat_map (λ (i : Ins). code.op_constants i.op) ins.now)) }
+{
+    for instruction in ins {
+        add_op(alloc, pool, &instruction.op)?;
+    }
+    Ok(())
+}
+
+// ---- frames
+
+fn add_vtype(alloc: Global, pool: &mut ConstantTable, ty: &VType) -> M<()>
+    ensures { OnOk result (pool.new ≡ insert_all same pool.old (written.type_constants ty.now)) }
+{
+    match ty {
+        VType::Object(ty) => add_type(alloc, pool, ty),
+        _ => Ok(()),
+    }
+}
+
+fn add_vtypes(alloc: Global, pool: &mut ConstantTable, types: &[VType]) -> M<()>
+    ensures { OnOk result (pool.new ≡ insert_all same pool.old (flat_map written.type_constants types.now)) }
+{
+    for ty in types {
+        add_vtype(alloc, pool, ty)?;
+    }
+    Ok(())
+}
+
+/// The classes that frames name where they write them, the first of them behind these locals.
+fn add_frames(alloc: Global, pool: &mut ConstantTable, first: &[VType], frames: &[FrameAt]) -> M<()>
+    ensures { OnOk result (pool.new ≡ insert_all same pool.old (written.frame_constants first.now frames.now)) }
+{
+    let mut before = first;
+    for next in frames {
+        let (locals, stack) = types_written(alloc, before, &next.frame)?;
+        add_vtypes(alloc, pool, locals)?;
+        add_vtypes(alloc, pool, stack)?;
+        before = next.frame.locals.as_slice();
+    }
+    Ok(())
+}
+
+// ---- attributes
+
+/// The name of an attribute that is written.
+fn add_name(alloc: Global, pool: &mut ConstantTable, written: bool, name: &str) -> M<()>
+    ensures { OnOk result (pool.new ≡ insert_all same pool.old (canonical.attribute_constants written name.now [])) }
+{
+    if !written {
+        return Ok(());
+    }
+    let name = Text::from_str(alloc, name)?;
+    add_text(alloc, pool, &name)
+}
+
+/// The names of the attributes Synthetic and Deprecated.
+fn add_marks(alloc: Global, pool: &mut ConstantTable, synthetic: bool, deprecated: bool) -> M<()>
+    ensures { OnOk result (pool.new ≡ insert_all same pool.old (canonical.mark_constants synthetic deprecated)) }
+{
+    add_name(alloc, pool, synthetic, "Synthetic")?;
+    add_name(alloc, pool, deprecated, "Deprecated")
+}
+
+// ---- code
+
+/// The class that a handler catches.
+fn add_caught(alloc: Global, pool: &mut ConstantTable, caught: &Option<Name>) -> M<()>
+    ensures { OnOk result (pool.new ≡ insert_all same pool.old (canonical.caught_constants caught.now)) }
+{
+    match caught {
+        Some(name) => add_class(alloc, pool, name),
+        None => Ok(()),
+    }
+}
+
+fn add_handlers(alloc: Global, pool: &mut ConstantTable, handlers: &[Handler]) -> M<()>
+    ensures { OnOk result (pool.new ≡ insert_all same pool.old (flat_map (λ (h : Handler). canonical.caught_constants h.caught) handlers.now)) }
+{
+    for handler in handlers {
+        add_caught(alloc, pool, &handler.caught)?;
+    }
+    Ok(())
+}
+
+/// The name of the StackMapTable, and the classes that its rows name.
+fn add_stack_map(
+    alloc: Global,
+    pool: &mut ConstantTable,
+    first: &[VType],
+    frames: &[FrameAt],
+) -> M<()>
+    ensures { OnOk result (pool.new ≡ insert_all same pool.old (canonical.attribute_constants
+        (canonical.is_some_item frames.now) (codes "StackMapTable") (written.frame_constants first.now frames.now))) }
+{
+    if frames.is_empty() {
+        return Ok(());
+    }
+    add_name(alloc, pool, true, "StackMapTable")?;
+    add_frames(alloc, pool, first, frames)
+}
+
+/// The name of the LineNumberTable.
+fn add_lines(alloc: Global, pool: &mut ConstantTable, ins: &[Ins]) -> M<()>
+    ensures { OnOk result (pool.new ≡ insert_all same pool.old (canonical.attribute_constants
+        (canonical.is_some_item (canonical.line_rows None [] ins.now)) (codes "LineNumberTable") [])) }
+{
+    add_name(alloc, pool, has_rows(ins), "LineNumberTable")
+}
+
+/// Instructions, handlers, attributes.
+fn add_code(alloc: Global, pool: &mut ConstantTable, first: &[VType], code: &Code) -> M<()>
+    ensures { OnOk result (pool.new ≡ insert_all same pool.old (canonical.code_constants first.now code.now)) }
+{
+    add_instructions(alloc, pool, code.ins.as_slice())?;
+    add_handlers(alloc, pool, code.handlers.as_slice())?;
+    add_lines(alloc, pool, code.ins.as_slice())?;
+    add_stack_map(alloc, pool, first, code.frames.as_slice())
+}
+
+/// The name of the attribute Code, and what it names.
+fn add_body(alloc: Global, pool: &mut ConstantTable, class: &Name, method: &Method) -> M<()>
+    ensures { OnOk result (pool.new ≡ insert_all same pool.old
+        (canonical.body_constants (canonical.first_locals class.now method.now) method.now.code)) }
+{
+    match &method.code {
+        Some(code) => {
+            let first = first_frame(alloc, class, method)?;
+            add_name(alloc, pool, true, "Code")?;
+            add_code(alloc, pool, first.locals.as_slice(), code)
+        }
+        None => Ok(()),
+    }
+}
+
+// ---- members
+
+/// The name of the attribute Exceptions, and the classes that it names.
+fn add_throws(alloc: Global, pool: &mut ConstantTable, throws: &[Name]) -> M<()>
+    ensures { OnOk result (pool.new ≡ insert_all same pool.old (canonical.attribute_constants
+        (canonical.is_some_item throws.now) (codes "Exceptions") (flat_map class_constants throws.now))) }
+{
+    if throws.is_empty() {
+        return Ok(());
+    }
+    add_name(alloc, pool, true, "Exceptions")?;
+    add_classes(alloc, pool, throws)
+}
+
+/// Name, descriptor, and the attributes Code, Exceptions, Synthetic and Deprecated (JVMS 4.6).
+fn add_method(alloc: Global, pool: &mut ConstantTable, class: &Name, method: &Method) -> M<()>
+    ensures { OnOk result (pool.new ≡ insert_all same pool.old (canonical.method_constants class.now method.now)) }
+{
+    add_text(alloc, pool, &method.name)?;
+    add_text(alloc, pool, &method_text(alloc, &method.ty)?)?;
+    add_body(alloc, pool, class, method)?;
+    add_throws(alloc, pool, method.throws.as_slice())?;
+    add_marks(alloc, pool, method.synthetic, method.deprecated)
+}
+
+fn add_methods(alloc: Global, pool: &mut ConstantTable, class: &Name, methods: &[Method]) -> M<()>
+    ensures { OnOk result (pool.new ≡ insert_all same pool.old (flat_map (canonical.method_constants class.now) methods.now)) }
+{
+    for method in methods {
+        add_method(alloc, pool, class, method)?;
+    }
+    Ok(())
+}
+
+/// What constantvalue_index refers to (JVMS 4.7.2).
+fn add_value(alloc: Global, pool: &mut ConstantTable, value: &Constant) -> M<()>
+    ensures { OnOk result (pool.new ≡ insert_all same pool.old (canonical.value_constants value.now)) }
+{
+    match value {
+        Constant::Int(number) => add_int(alloc, pool, *number),
+        Constant::Long(number) => add_long(alloc, pool, *number),
+        Constant::Text(units) => add_string(alloc, pool, units),
+    }
+}
+
+/// The name of the attribute ConstantValue, and its value.
+fn add_constant(alloc: Global, pool: &mut ConstantTable, constant: &Option<Constant>) -> M<()>
+    ensures { OnOk result (pool.new ≡ insert_all same pool.old (canonical.constant_value_constants constant.now)) }
+{
+    match constant {
+        Some(value) => {
+            add_name(alloc, pool, true, "ConstantValue")?;
+            add_value(alloc, pool, value)
+        }
+        None => Ok(()),
+    }
+}
+
+/// Name, descriptor, and the attributes ConstantValue, Synthetic and Deprecated (JVMS 4.5).
+fn add_field(alloc: Global, pool: &mut ConstantTable, field: &Field) -> M<()>
+    ensures { OnOk result (pool.new ≡ insert_all same pool.old (canonical.field_constants field.now)) }
+{
+    add_text(alloc, pool, &field.name)?;
+    add_text(alloc, pool, &field_text(alloc, &field.ty)?)?;
+    add_constant(alloc, pool, &field.constant)?;
+    add_marks(alloc, pool, field.synthetic, field.deprecated)
+}
+
+fn add_fields(alloc: Global, pool: &mut ConstantTable, fields: &[Field]) -> M<()>
+    ensures { OnOk result (pool.new ≡ insert_all same pool.old (flat_map canonical.field_constants fields.now)) }
+{
+    for field in fields {
+        add_field(alloc, pool, field)?;
+    }
+    Ok(())
+}
+
+// ---- the class
+
+/// The constants of the pushes of a method that has a code.
+fn add_pushes_of_body(alloc: Global, pool: &mut ConstantTable, code: &Option<Code>) -> M<()>
+    ensures { OnOk result (pool.new ≡ insert_all same pool.old (pushes_of_body code.now)) }
+{
+    match code {
+        Some(code) => add_pushes_of_code(alloc, pool, code.ins.as_slice()),
+        None => Ok(()),
+    }
+}
+
+/// The constants that are pushed, over all methods and instructions.
+fn add_pushes(alloc: Global, pool: &mut ConstantTable, methods: &[Method]) -> M<()>
+    ensures { OnOk result (pool.new ≡ insert_all same pool.old (canonical.class_pushes methods.now)) }
+{
+    for method in methods {
+        add_pushes_of_body(alloc, pool, &method.code)?;
+    }
+    Ok(())
+}
+
+/// The name of the attribute SourceFile, and the file's.
+fn add_source(alloc: Global, pool: &mut ConstantTable, source: &Option<Units>) -> M<()>
+    ensures { OnOk result (pool.new ≡ insert_all same pool.old (canonical.source_constants source.now)) }
+{
+    match source {
+        Some(units) => {
+            add_name(alloc, pool, true, "SourceFile")?;
+            add_units(alloc, pool, units)
+        }
+        None => Ok(()),
+    }
+}
+
+/// The constants that a class needs, each once, where the file needs it first. That of index i stands at place i - 1; those
+/// that instructions push have the lowest indices.
+#[tactic(auto, unfolding(class_model::specs::CanonicalPool::filled, class_model::specs::CanonicalClass::pool_of))]
+pub fn pool_of(alloc: Global, class: &Class) -> M<ConstantTable>
+    ensures { IfOk result (λ pool. pool ≡ canonical.pool_of class.now) }
+{
+    let mut pool = ConstantTable::new(alloc);
+    add_pushes(alloc, &mut pool, class.methods.as_slice())?;
+    add_class(alloc, &mut pool, &class.name)?;
+    add_class(alloc, &mut pool, &class.super_name)?;
+    add_classes(alloc, &mut pool, class.interfaces.as_slice())?;
+    add_fields(alloc, &mut pool, class.fields.as_slice())?;
+    add_methods(alloc, &mut pool, &class.name, class.methods.as_slice())?;
+    add_source(alloc, &mut pool, &class.source)?;
+    add_marks(alloc, &mut pool, class.synthetic, class.deprecated)?;
+    Ok(pool)
+}
