@@ -4,13 +4,14 @@ use Rattle.std.specs.Prelude.{IsUtf8, IfSome, codes, replicate}
 use Rattle.std.specs.Str.{IsCharBoundary}
 use Rattle.std.specs.List.{AllByRecursion, flat_map}
 use Rattle.std.proofs.lemmas.List.{length-append}
-use Rattle.std.proofs.lemmas.Str.{IsUtf8-take, IsUtf8-drop, IsUtf8-nil, IsUtf8-append, IsCharBoundary-at_seam, IsCharBoundary-from_take, IsCharBoundary-before_ascii}
+use Rattle.std.proofs.lemmas.Str.{IsUtf8-take, IsUtf8-drop, IsCharBoundary-at_seam, IsCharBoundary-from_take, IsCharBoundary-before_ascii}
 use Rattle.jv_base.specs.Types.{base_text, field_text, result_text, method_text}
 use Rattle.jv_base.specs.declared.types.FieldType.{FieldType}
 use Rattle.jv_base.specs.declared.types.MethodType.{MethodType}
 use Rattle.jv_base.specs.declared.types.Base.{Base}
 use Rattle.jv_base.specs.declared.types.Base.TheVariants as base
 use Rattle.class_model.specs.OpValues.{IsBaseValue}
+use Rattle.class_write.proofs.SpelledWanted.{brackets_utf8, class_utf8, end_utf8, open_utf8, close_utf8}
 use Rattle.class_write.specs.ClassValues.{IsFieldTypeValue, IsMethodTypeValue}
 
 -- ---- parts of a text
@@ -42,30 +43,6 @@ pub utf8_before : (xs ys : List ℕ) → IsUtf8 ys → IsUtf8 (xs ++ ys) → IsU
 utf8_before xs ys back h = (cut xs ys h (IsCharBoundary-at_seam (xs ++ ys) xs ys refl back)).0
 
 -- ---- descriptors
-
-open_utf8 : IsUtf8 (codes "(")
-unfolding lib.Utf8.encode
-open_utf8 = (codes "(", (refl, refl))
-
-close_utf8 : IsUtf8 (codes ")")
-unfolding lib.Utf8.encode
-close_utf8 = (codes ")", (refl, refl))
-
-class_utf8 : IsUtf8 (codes "L")
-unfolding lib.Utf8.encode
-class_utf8 = (codes "L", (refl, refl))
-
-end_utf8 : IsUtf8 (codes ";")
-unfolding lib.Utf8.encode
-end_utf8 = (codes ";", (refl, refl))
-
-bracket_utf8 : IsUtf8 (91 ∷ [])
-unfolding lib.Utf8.encode
-bracket_utf8 = (91 ∷ [], (refl, refl))
-
-brackets_utf8 : (n : ℕ) → IsUtf8 (replicate n 91)
-brackets_utf8 zero = IsUtf8-nil
-brackets_utf8 (suc n) = IsUtf8-append (91 ∷ []) (replicate n 91) bracket_utf8 (brackets_utf8 n)
 
 base_value : (b : Base) → IsUtf8 (base_text b) → IsBaseValue b
 unfolding base_text

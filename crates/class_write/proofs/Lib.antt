@@ -1,4 +1,7 @@
 mod Inserted
+mod Counted
+mod PlacedCodes
+mod CodeLengths
 pub mod SpelledLists
 pub mod SpelledPool
 pub mod SpelledWanted
@@ -15,9 +18,6 @@ pub mod SpelledFile
 pub mod SpellingLaw
 pub mod SpelledExample
 pub mod FormedTexts
-mod Counted
-mod PlacedCodes
-mod CodeLengths
 pub mod FormedPool
 pub mod FormedOps
 pub mod FormedPlaces

@@ -71,15 +71,15 @@ bracket_utf8 : IsUtf8 (91 ∷ [])
 unfolding lib.Utf8.encode
 bracket_utf8 = (91 ∷ [], (refl, refl))
 
-class_utf8 : IsUtf8 (codes "L")
+pub class_utf8 : IsUtf8 (codes "L")
 unfolding lib.Utf8.encode
 class_utf8 = (codes "L", (refl, refl))
 
-end_utf8 : IsUtf8 (codes ";")
+pub end_utf8 : IsUtf8 (codes ";")
 unfolding lib.Utf8.encode
 end_utf8 = (codes ";", (refl, refl))
 
-brackets_utf8 : (n : ℕ) → IsUtf8 (replicate n 91)
+pub brackets_utf8 : (n : ℕ) → IsUtf8 (replicate n 91)
 brackets_utf8 zero = IsUtf8-nil
 brackets_utf8 (suc n) = IsUtf8-append (91 ∷ []) (replicate n 91) bracket_utf8 (brackets_utf8 n)
 
@@ -118,11 +118,11 @@ name_utf8 ty base.Double h k = k
 pub type_utf8 : (ty : FieldType) → IsBaseValue ty.base → IsUtf8 (type_name ty)
 type_utf8 ty h = name_utf8 ty ty.base h (field_utf8 ty h)
 
-open_utf8 : IsUtf8 (codes "(")
+pub open_utf8 : IsUtf8 (codes "(")
 unfolding lib.Utf8.encode
 open_utf8 = (codes "(", (refl, refl))
 
-close_utf8 : IsUtf8 (codes ")")
+pub close_utf8 : IsUtf8 (codes ")")
 unfolding lib.Utf8.encode
 close_utf8 = (codes ")", (refl, refl))
 
