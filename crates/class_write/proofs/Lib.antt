@@ -6,3 +6,4 @@ mod Fitting
 mod Dues
 mod FileTexts
 mod FewFrames
+mod Interface

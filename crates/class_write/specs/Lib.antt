@@ -3,3 +3,4 @@ pub mod Placing
 pub mod Writing
 pub mod Limits
 pub mod Files
+pub mod Example

@@ -19,3 +19,6 @@ mod pool;
 mod writing;
 
 pub use writing::write_class;
+
+#[cfg(test)]
+mod tests;
