@@ -1,5 +1,6 @@
 -- Cycles, by marks and by ranks.
-use Rattle.std.proofs.Common.{◌≡◌, ⊎_elim, ℕ, ◌<◌, Bool, true, false, Ok, Err, inr, IsTrue, nat_lt, List, ◌∷◌, length, slice_get, Some, sym, ap, subst, ◌∙◌, arith}
+use Rattle.std.proofs.Common.{◌≡◌, ⊎_elim, ℕ, ◌<◌, ◌≤◌, Bool, true, false, Ok, Err, inr, IsTrue, nat_lt, List, [], ◌∷◌, length, slice_get, Option, Some, None, IfSome, sym, ap, subst, ◌∙◌, arith}
+use Rattle.std.specs.Prelude.{slice_index_or}
 use Rattle.std.specs.List.{All}
 use Rattle.std.proofs.lemmas.Bool.{ltb-true, lt-ltb}
 use Rattle.std.proofs.lemmas.Option.{slice_get_cases}
@@ -14,7 +15,7 @@ use Rattle.class_pool.specs.declared.fault.PoolFault.{PoolFault}
 use Rattle.class_pool.specs.Faults.{Builds, classes_of, FindsCycle, first_faults, IsFirstCycle, name_faults, super_faults, then_super_faults}
 use Rattle.class_pool.specs.declared.id.ClassId.{ClassId}
 use Rattle.class_pool.specs.declared.id.ClassId.TheVariants.{Prog, Lib}
-use Rattle.class_pool.specs.Numbers.{IsHierarchy, IsRanked, above, rank_of}
+use Rattle.class_pool.specs.Numbers.{IsHierarchy, IsRanked, IsRankedBefore, NoneRises, above, rank_of}
 use Rattle.class_pool.specs.Supertypes.{IsClosed, IsCyclic, NoCycle}
 use Rattle.class_pool.proofs.Above.{direct_of, direct_none, down, library_up, lifted, no_needs, up}
 
@@ -56,16 +57,17 @@ cyclic_marked classes sys marks n c h is seeds m cyclic =
     (up classes (set_of marks) (c.super_name ∷ c.interfaces) (subst (All (λ x. IsTrue (set_of marks x))) seeds m.closed.seeds)))
     (lifted_closed classes sys (set_of marks) h (λ x within has. m.closed.needs x has))
 
--- where ranks fall towards the supertypes, there is no cycle
-pub ranked : (classes : List Class) (sys : System) (ranks : List ℕ) → IsHierarchy classes sys → IsRanked sys.needs ranks → NoCycle classes
-ranked classes sys ranks h falls n within cyclic =
+-- where no rank rises towards the supertypes, a class that stands above its own is not its own proper supertype
+unranked : (classes : List Class) (sys : System) (ranks : List ℕ) (n : ℕ) → IsHierarchy classes sys → NoneRises sys.needs ranks → n < length classes
+    → All (λ m. rank_of ranks m < rank_of ranks n) (needs_of sys n) → IsCyclic classes n → ⊥
+unranked classes sys ranks n h rises within lower cyclic =
     let low : ℕ → Bool = λ m. nat_lt (rank_of ranks m) (rank_of ranks n) in
-    let fall : (x : ℕ) → x < length classes → All (λ m. rank_of ranks m < rank_of ranks x) (needs_of sys x) = λ x x-in. falls x (omega (arith, x-in, h.lists)) in
     let keeps : (x : ℕ) → x < length classes → IsTrue (low x) → All (λ m. IsTrue (low m)) (needs_of sys x) =
-    λ x x-in has. All-weaker (λ m. rank_of ranks m < rank_of ranks x) (λ m. IsTrue (low m))
-    (λ m lower. lt-ltb (rank_of ranks m) (rank_of ranks n) (omega (arith, lower, ltb-true (rank_of ranks x) (rank_of ranks n) has))) (needs_of sys x) (fall x x-in) in
+    λ x x-in has. All-weaker (λ m. rank_of ranks m ≤ rank_of ranks x) (λ m. IsTrue (low m))
+    (λ m no-higher. lt-ltb (rank_of ranks m) (rank_of ranks n) (omega (arith, no-higher, ltb-true (rank_of ranks x) (rank_of ranks n) has)))
+    (needs_of sys x) (rises x (omega (arith, x-in, h.lists))) in
     let start : All (λ m. IsTrue (low m)) (needs_of sys n) =
-    All-weaker (λ m. rank_of ranks m < rank_of ranks n) (λ m. IsTrue (low m)) (λ m lower. lt-ltb (rank_of ranks m) (rank_of ranks n) lower) (needs_of sys n) (fall n within) in
+    All-weaker (λ m. rank_of ranks m < rank_of ranks n) (λ m. IsTrue (low m)) (λ m less. lt-ltb (rank_of ranks m) (rank_of ranks n) less) (needs_of sys n) lower in
     let own : IsTrue (low n) =
     ⊎_elim
     (λ p. cyclic (lifted low)
@@ -76,6 +78,20 @@ ranked classes sys ranks h falls n within cyclic =
     (slice_get_cases classes n).1 in
     let below : rank_of ranks n < rank_of ranks n = ltb-true (rank_of ranks n) (rank_of ranks n) own in
     absurd (omega (arith, below))
+
+-- so none is that comes before the first that doesn't
+pub first_of_ranks : (classes : List Class) (sys : System) (ranks : List ℕ) (o : Option ℕ) → IsHierarchy classes sys → NoneRises sys.needs ranks → IfSome o (λ first. first < sys.n)
+    → IfSome o (λ first. IsRankedBefore first sys.needs ranks) → IfSome o (λ first. (m : ℕ) → m < first → IsCyclic classes m → ⊥)
+first_of_ranks classes sys ranks (Some first) h rises within falls =
+    λ m before cyclic. unranked classes sys ranks m h rises (omega (arith, before, within, h.count)) (falls m before) cyclic
+first_of_ranks classes sys ranks None h rises within falls = falls
+
+-- where ranks fall towards the supertypes, there is no cycle
+pub ranked : (classes : List Class) (sys : System) (ranks : List ℕ) → IsHierarchy classes sys → IsRanked sys.needs ranks → NoCycle classes
+ranked classes sys ranks h falls n within cyclic =
+    let rises : NoneRises sys.needs ranks =
+    λ x x-in. All-weaker (λ m. rank_of ranks m < rank_of ranks x) (λ m. rank_of ranks m ≤ rank_of ranks x) (λ m less. omega (arith, less)) (slice_index_or sys.needs x []) (falls x x-in) in
+    unranked classes sys ranks n h rises within (falls n (omega (arith, within, h.lists))) cyclic
 
 pub not_both : (b : Bool) → b ≡ true → b ≡ false → ⊥
 not_both true is other = absurd cc

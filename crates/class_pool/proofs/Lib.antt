@@ -3,3 +3,9 @@ pub mod Naming
 pub mod FaultLaws
 pub mod Above
 pub mod CycleLaws
+pub mod ComputedLinks
+pub mod Closing
+pub mod Ascending
+pub mod NamedMembers
+pub mod Graphing
+pub mod Telling

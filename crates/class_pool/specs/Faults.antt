@@ -1,6 +1,6 @@
 -- What makes files no set: three rounds, each over all classes in set order, the first fault counting.
 use Rattle.std.specs.Prelude.{◌≡◌, ◌≢◌, ◌<◌, ◌⊎◌, slice_get, ℕ, nat_eq, Bool, true, false, not, ◌&&◌, ◌||◌}
-use Rattle.std.specs.Prelude.{List, [], ◌∷◌, ◌++◌, map, codes, Option, Some, None, Result, Ok, Err, if◌then◌else◌}
+use Rattle.std.specs.Prelude.{List, [], ◌∷◌, ◌++◌, length, map, codes, Option, Some, None, Result, Ok, Err, if◌then◌else◌}
 use Rattle.std.specs.List.{AllPairs, list_any, starts_with}
 use Rattle.std.specs.Option.{is_none, option_map_or}
 use Rattle.std.specs.Cmp.Lexicographic.{slice_cmp}
@@ -85,7 +85,12 @@ first_faults files = then_super_faults files (name_faults files)
 abbrev pub NamesDiffer : List Class → Type 0
 NamesDiffer classes = AllPairs (λ a b. a.name ≢ b.name) classes
 
--- third round: the first class that is its own proper supertype
+-- the first class that is its own proper supertype; there may be none
+abbrev pub IsFirstCyclic : List Class → Option ℕ → Type 0
+IsFirstCyclic classes None = NoCycle classes
+IsFirstCyclic classes (Some n) = (n < length classes) × IsCyclic classes n × ((m : ℕ) → m < n → IsCyclic classes m → ⊥)
+
+-- third round: the fault names it
 abbrev pub IsFirstCycle : List Class → PoolFault → Type 0
 IsFirstCycle classes f =
     (n : ℕ) × (c : Class) × (slice_get classes n ≡ Some c) × (f ≡ record { class = c.name; kind = Cycle }) × IsCyclic classes n

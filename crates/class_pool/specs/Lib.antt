@@ -4,3 +4,11 @@ pub mod Numbers
 pub mod Members
 pub mod Faults
 pub mod Count
+pub mod Walk
+pub mod Found
+pub mod Resolution
+pub mod Selection
+pub mod LinkRows
+pub mod Closure
+pub mod ByName
+pub mod Graph

@@ -1,10 +1,14 @@
 // A set, made from files.
 ghost use Rattle.std.specs.Prelude.{◌≡◌, ◌≢◌, ◌<◌, IfOk, map};
-ghost use Rattle.std.specs.List.{AllPairs};
+ghost use Rattle.std.specs.List.{AllPairs, AllZip};
+ghost use Rattle.class_pool.specs.ByName.{IsIndexOf};
 ghost use Rattle.class_pool.specs.Count.{item_count};
 ghost use Rattle.class_pool.specs.Faults.{Ascends, Builds, NamesDiffer, classes_of};
 
+use crate::closure::closure_of;
 use crate::cycles::check_cycles;
+use crate::graph::{graph_of, library_of};
+use crate::members::MemberIndex;
 use crate::rounds::{check_names, check_supertypes};
 use crate::{ClassSet, NamedClass, PoolFault};
 use class_model::Class;
@@ -44,7 +48,17 @@ fn set_of(alloc: Global, classes: Items<Class>) -> M<ClassSet>
     ensures { IfOk result (λ set. set ≡ classes) }
 {
     let names = names_of(alloc, &classes)?;
-    Ok(ClassSet { classes, names })
+    let members = members_of(alloc, &classes)?;
+    let library = library_of(alloc)?;
+    let needs = graph_of(alloc, &classes, &names, &library)?;
+    let closure = closure_of(alloc, needs.as_slice(), needs.len())?;
+    Ok(ClassSet {
+        classes,
+        names,
+        members,
+        library,
+        closure,
+    })
 }
 
 fn names_of(alloc: Global, classes: &Items<Class>) -> M<IndexSet<Name>>
@@ -56,4 +70,15 @@ fn names_of(alloc: Global, classes: &Items<Class>) -> M<IndexSet<Name>>
         names.insert_full(class.name.clone()?)?;
     }
     Ok(names)
+}
+
+fn members_of(alloc: Global, classes: &Items<Class>) -> M<Items<MemberIndex>>
+    requires { item_count classes.now < 4294967295 }
+    ensures { IfOk result (AllZip IsIndexOf classes.now) }
+{
+    let mut members = Items::new(alloc);
+    for class in classes.as_slice() {
+        members.push(MemberIndex::of(alloc, class)?)?;
+    }
+    Ok(members)
 }

@@ -1,10 +1,11 @@
 // The third round: no class is its own proper supertype.
-ghost use Rattle.std.specs.Prelude.{◌≡◌, ◌++◌, ◌<◌, ◌↔◌, [], ◌∷◌, IfOk, IsTrue, OnOk, length};
-ghost use Rattle.class_pool.specs.Faults.{FindsCycle};
+ghost use Rattle.std.specs.Prelude.{◌≡◌, ◌++◌, ◌<◌, ◌↔◌, [], ◌∷◌, ℕ, IfOk, IfSome, IsTrue, OnOk, length};
+ghost use Rattle.class_pool.specs.Faults.{FindsCycle, IsFirstCyclic};
 ghost use Rattle.class_pool.specs.Numbers.{IsHierarchy, above, numbers_named};
 ghost use Rattle.class_pool.specs.Supertypes.{IsCyclic};
 
-use crate::ranks::{are_ranked, ranks_of};
+use crate::components::component_ranks;
+use crate::ranks::{are_ranked, first_unranked, none_rises, ranks_of};
 use crate::rounds::fault_at;
 use crate::{ClassSet, PoolFault, PoolKind};
 use class_model::Class;
@@ -12,8 +13,7 @@ use jv_base::{Items, M, Name, Or};
 use mark_core::{System, plain_marks};
 use std::alloc::Global;
 
-/// Where the classes can be ranked so that each stands above its supertypes, there is no cycle. Only else is each class
-/// looked at: whether it is among the classes that its direct supertypes lead to.
+/// Where the classes can be ranked so that each stands above its supertypes, there is no cycle.
 pub(crate) fn check_cycles(alloc: Global, set: &ClassSet) -> Result<(), Or<PoolFault>>
     ensures { FindsCycle set.now result }
 {
@@ -22,12 +22,50 @@ pub(crate) fn check_cycles(alloc: Global, set: &ClassSet) -> Result<(), Or<PoolF
     if are_ranked(hierarchy.needs.as_slice(), ranks.as_slice()) {
         return Ok(());
     }
-    for number in 0..set.len() {
-        if is_cyclic(alloc, set, &mut hierarchy, number)? {
-            return Err(Or::Fault(fault_at(set.class(number), PoolKind::Cycle)?));
+    match first_cyclic(alloc, set, &mut hierarchy)? {
+        Some(number) => Err(Or::Fault(fault_at(set.class(number), PoolKind::Cycle)?)),
+        None => Ok(()),
+    }
+}
+
+/// By ranks of components: none rises towards the supertypes, and the first class that doesn't stand above them all is
+/// the one, where it is on a cycle. So it always is, but that is not proved: else each class is looked at.
+fn first_cyclic(alloc: Global, set: &ClassSet, hierarchy: &mut System) -> M<Option<u32>>
+    requires { IsHierarchy set.now hierarchy.old }
+    ensures { IfOk result (IsFirstCyclic set.now) }
+{
+    let ranks = component_ranks(alloc, hierarchy.needs.as_slice())?;
+    if let Some(number) = first_level(set, hierarchy, ranks.as_slice()) {
+        if is_cyclic(alloc, set, hierarchy, number)? {
+            return Ok(Some(number));
         }
     }
-    Ok(())
+    first_of_each(alloc, set, hierarchy)
+}
+
+/// The first class that doesn't stand above all its supertypes, where no rank rises towards them.
+fn first_level(set: &ClassSet, hierarchy: &System, ranks: &[usize]) -> Option<u32>
+    requires { IsHierarchy set.now hierarchy.now }
+    ensures there { IfSome result (λ n. n < length set.now) }
+    ensures before { IfSome result (λ n. (m : ℕ) → m < n → IsCyclic set.now m → ⊥) }
+{
+    if !none_rises(hierarchy.needs.as_slice(), ranks) {
+        return None;
+    }
+    first_unranked(hierarchy, ranks)
+}
+
+/// Looks at each class: whether it is among the classes that its direct supertypes lead to.
+fn first_of_each(alloc: Global, set: &ClassSet, hierarchy: &mut System) -> M<Option<u32>>
+    requires { IsHierarchy set.now hierarchy.old }
+    ensures { IfOk result (IsFirstCyclic set.now) }
+{
+    for number in 0..set.len() {
+        if is_cyclic(alloc, set, hierarchy, number)? {
+            return Ok(Some(number));
+        }
+    }
+    Ok(None)
 }
 
 fn is_cyclic(alloc: Global, set: &ClassSet, hierarchy: &mut System, number: u32) -> M<bool>
@@ -76,3 +114,6 @@ fn push_number(set: &ClassSet, numbers: &mut Items<u32>, name: &Name) -> M<()>
     }
     Ok(())
 }
+
+#[cfg(test)]
+mod tests;

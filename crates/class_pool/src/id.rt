@@ -7,3 +7,11 @@ pub enum ClassId {
     Prog(u32),
     Lib(LibId),
 }
+
+/// A member of a class, by its number there: of a program class its fields are numbered first and then its methods, of a library
+/// class the members as they stand in the table.
+#[derive(Clone, Copy, Debug, PartialEq, Eq)]
+pub struct MemberAt {
+    pub class: ClassId,
+    pub index: u32,
+}

@@ -2,14 +2,25 @@
 #![tactic(auto)]
 
 mod building;
+mod closure;
+mod components;
 mod cycles;
 mod fault;
+mod graph;
 mod id;
+mod lookup;
+mod members;
+mod order;
 mod ranks;
 mod rounds;
+mod rows;
 mod set;
 
 pub use building::build;
 pub use fault::{NamedClass, PoolFault, PoolKind};
-pub use id::ClassId;
+pub use id::{ClassId, MemberAt};
+pub use rows::computed_links;
 pub use set::ClassSet;
+
+#[cfg(test)]
+mod tests;

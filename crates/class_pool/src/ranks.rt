@@ -1,11 +1,12 @@
 // Ranks of classes, so that each class stands above its supertypes.
 //
 // How the ranks are found is not proved. Whether they are such ranks is tested, and that test is.
-ghost use Rattle.std.specs.Prelude.{◌≡◌, ◌<◌, ◌↔◌, IsTrue};
+ghost use Rattle.std.specs.Prelude.{◌≡◌, ◌<◌, ◌≤◌, ◌↔◌, IfSome, IsTrue, length};
 ghost use Rattle.std.specs.List.{All};
-ghost use Rattle.class_pool.specs.Numbers.{IsRanked, rank_of};
+ghost use Rattle.class_pool.specs.Numbers.{IsRanked, IsRankedBefore, NoneRises, rank_of};
 
 use jv_base::{Items, M};
+use mark_core::System;
 use std::alloc::Global;
 
 /// Whether each item's needs have lower ranks than it.
@@ -20,6 +21,43 @@ pub(crate) fn are_ranked(needs: &[Items<u32>], ranks: &[usize]) -> bool
         number += 1;
     }
     true
+}
+
+/// Whether no item's needs have higher ranks than it.
+pub(crate) fn none_rises(needs: &[Items<u32>], ranks: &[usize]) -> bool
+    ensures { IsTrue result → NoneRises needs.now ranks.now }
+{
+    let mut number = 0;
+    for list in needs {
+        if !none_higher(ranks, list.as_slice(), rank(ranks, number)) {
+            return false;
+        }
+        number += 1;
+    }
+    true
+}
+
+/// The first item that has a need of no lower rank.
+pub(crate) fn first_unranked(sys: &System, ranks: &[usize]) -> Option<u32>
+    requires { sys.now.n ≡ length sys.now.needs }
+    ensures there { IfSome result (λ first. first < sys.now.n) }
+    ensures before { IfSome result (λ first. IsRankedBefore first sys.now.needs ranks.now) }
+{
+    for number in 0..sys.n {
+        let index = number as usize;
+        if !all_lower(ranks, sys.needs[index].as_slice(), rank(ranks, index)) {
+            return Some(number);
+        }
+    }
+    None
+}
+
+fn none_higher(ranks: &[usize], items: &[u32], bound: usize) -> bool
+    ensures { IsTrue result ↔ All (λ m. rank_of ranks.now m ≤ bound) items.now }
+{
+    items
+        .iter()
+        .all(|item| rank(ranks, *item as usize) <= bound)
 }
 
 fn all_lower(ranks: &[usize], items: &[u32], bound: usize) -> bool
@@ -40,10 +78,10 @@ fn rank(ranks: &[usize], number: usize) -> usize
 /// For each item the items that need it, as lists in one vector: `first` has for each item where its list begins,
 /// and `next` where it goes on, one more than the place, 0 at its end.
 #[derive(Drop)]
-struct Needing {
-    first: Vec<usize>,
-    next: Vec<usize>,
-    items: Vec<usize>,
+pub(crate) struct Needing {
+    pub(crate) first: Vec<usize>,
+    pub(crate) next: Vec<usize>,
+    pub(crate) items: Vec<usize>,
 }
 
 /// Ranks by counting: an item is ranked when all its needs are.
@@ -88,7 +126,7 @@ fn settle(needing: &Needing, left: &mut Vec<usize>, ready: &mut Vec<usize>, item
     Ok(())
 }
 
-fn needing_of(alloc: Global, needs: &[Items<u32>]) -> M<Needing> {
+pub(crate) fn needing_of(alloc: Global, needs: &[Items<u32>]) -> M<Needing> {
     let mut needing = Needing {
         first: vec![in alloc; 0usize; needs.len()]?,
         next: Vec::new(alloc),
@@ -112,7 +150,8 @@ fn note_needs(needing: &mut Needing, list: &[u32], number: usize) -> M<()> {
     Ok(())
 }
 
-fn entry(entries: &[usize], place: usize) -> usize {
+/// The entry at a place, 0 where there is none.
+pub(crate) fn entry(entries: &[usize], place: usize) -> usize {
     match entries.get(place) {
         Some(entry) => *entry,
         None => 0,

@@ -1,15 +1,19 @@
 // A set of classes.
-ghost use Rattle.std.specs.Prelude.{◌≡◌, ◌+◌, ◌<◌, length, slice_get, IfSome, Some};
+ghost use Rattle.std.specs.Prelude.{◌≡◌, ◌+◌, ◌<◌, ◌↔◌, IsTrue, length, slice_get, IfSome, Some};
 ghost use Rattle.std.specs.List.{position};
 ghost use Rattle.jv_base.specs.Names.{is_text};
 ghost use Rattle.class_pool.specs.Hierarchy.{IsClass, class_named, superclass};
-ghost use Rattle.class_pool.specs.Members.{declared_at, is_field, is_method, member_named};
+ghost use Rattle.class_pool.specs.Members.{declared_at};
+ghost use Rattle.class_pool.specs.Supertypes.{Sub};
 
 use crate::ClassId;
+use crate::closure::Closure;
+use crate::graph::number;
+use crate::members::MemberIndex;
 use class_model::Class;
 use indexmap::IndexSet;
 use jv_base::{Items, Name, Text};
-use lib_table::{is_field_descriptor, is_method_descriptor, lib_class, lib_member, lib_super};
+use lib_table::{LibId, lib_class, lib_member, lib_super};
 use std::marker::Model;
 
 /// A set of classes, numbered from 0 in the order of their files.
@@ -17,18 +21,25 @@ use std::marker::Model;
 pub struct ClassSet {
     pub(crate) classes: Items<Class>,
     pub(crate) names: IndexSet<Name>,
+    pub(crate) members: Items<MemberIndex>,
+    pub(crate) library: Items<LibId>,
+    pub(crate) closure: Closure,
 }
 
 impl Model for ClassSet {
     ghost use Rattle.std.specs.Prelude.{List, ◌≡◌, ◌<◌, map};
+    ghost use Rattle.std.specs.List.{AllZip};
     ghost use Rattle.class_model.specs.declared.class.Class.{Class};
+    ghost use Rattle.class_pool.specs.ByName.{IsIndexOf};
     ghost use Rattle.class_pool.specs.Count.{item_count};
+    ghost use Rattle.class_pool.specs.Graph.{Tells, library_ids};
 
     ghost Value = { List Class };
 
     ghost view = { λ s. s.classes };
 
-    ghost invariant = { λ s. (s.names.keys ≡ map (λ c. c.name) s.classes) × (item_count s.classes < 4294967295) };
+    ghost invariant = { λ s. (s.names.keys ≡ map (λ c. c.name) s.classes) × (item_count s.classes < 4294967295)
+        × (s.library ≡ library_ids) × Tells s.classes s.closure.blocks × AllZip IsIndexOf s.classes s.members };
 }
 
 impl ClassSet {
@@ -84,45 +95,32 @@ impl ClassSet {
         }
     }
 
+    /// Whether a class is the other one or has it as a supertype, direct or not (JVMS 4.10).
+    pub fn is_sub(&self, a: ClassId, b: ClassId) -> bool
+        requires below { IsClass self.now a }
+        requires above { IsClass self.now b }
+        ensures { IsTrue result ↔ Sub self.now a b }
+    {
+        let below = number(&self.library, a);
+        let above = number(&self.library, b);
+        below == above || self.closure.has(below, above)
+    }
+
     /// The number of the member that the class declares with a name and a descriptor (JVMS 4.3). A program class has its
-    /// fields and then its methods.
+    /// fields and then its methods. No call takes memory, and of a program class only the members of that name are
+    /// looked at.
     pub fn declares(&self, id: ClassId, name: &Name, ty: &Text) -> Option<u32>
         requires { IsClass self.now id }
         ensures { result ≡ declared_at self.now id name.now ty.now }
     {
         match id {
-            ClassId::Prog(number) => member_of(self.class(number), name, ty),
+            ClassId::Prog(number) => {
+                self.members[number as usize].find(self.class(number), name, ty)
+            }
             ClassId::Lib(id) => {
                 let member = lib_member(id, name, ty)?;
                 Some(member.at)
             }
         }
     }
-}
-
-fn member_of(class: &Class, name: &Name, ty: &Text) -> Option<u32>
-    requires { length class.now.fields + length class.now.methods < 4294967295 }
-    ensures { result ≡ member_named class.now name.now ty.now }
-{
-    match field_of(class, name, ty) {
-        Some(at) => Some(at as u32),
-        None => {
-            let at = method_of(class, name, ty)?;
-            Some((class.fields.len() + at) as u32)
-        }
-    }
-}
-
-fn field_of(class: &Class, name: &Name, ty: &Text) -> Option<usize>
-    ensures { result ≡ position (is_field name.now ty.now) class.now.fields }
-{
-    class.fields.as_slice().iter().position(|field| field.name == *name
-        && is_field_descriptor(ty, &field.ty))
-}
-
-fn method_of(class: &Class, name: &Name, ty: &Text) -> Option<usize>
-    ensures { result ≡ position (is_method name.now ty.now) class.now.methods }
-{
-    class.methods.as_slice().iter().position(|method| method.name == *name
-        && is_method_descriptor(ty, &method.ty))
 }

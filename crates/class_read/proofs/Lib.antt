@@ -10,6 +10,18 @@ mod KnownMethods
 mod MethodInfo
 mod MethodLoop
 mod KnownClass
+mod LineTable
+mod CodeEnd
+mod KnownCode
+mod CodeParts
+mod ShiftedReaders
+mod ShiftedInstructions
+mod ShiftedCode
+mod InstructionFaults
+mod TargetFaults
+mod PartOfCode
+mod PassedLoop
+pub mod BehindCode
 pub mod FrameLaw
 pub mod StandsLaw
 pub mod HandlerLaw

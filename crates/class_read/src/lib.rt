@@ -4,22 +4,30 @@
 mod attributes;
 mod class;
 mod class_attributes;
+mod code_attributes;
 mod entries;
 mod faults;
 mod fields;
 mod flags;
+mod handlers;
 mod head;
+mod initial_frame;
+mod instructions;
 mod laws;
+mod lines;
 mod lookups;
 mod members;
 mod methods;
 mod names;
 mod parts;
+mod passed_over;
 mod pool;
 mod signatures;
 mod texts;
 
 pub use laws::files_are_read_where_spelled;
 
+#[cfg(test)]
+mod code_tests;
 #[cfg(test)]
 mod tests;

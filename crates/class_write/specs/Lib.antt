@@ -1,4 +1,6 @@
 pub mod Pushes
+pub mod ClassValues
+pub mod SpellingLaws
 pub mod Placing
 pub mod Writing
 pub mod Limits

@@ -11,6 +11,7 @@ mod entries;
 mod fields;
 mod frames;
 mod indices;
+mod laws;
 mod limits;
 mod lines;
 mod methods;
@@ -18,6 +19,7 @@ mod placing;
 mod pool;
 mod writing;
 
+pub use laws::canonical_spells_the_class;
 pub use writing::write_class;
 
 #[cfg(test)]

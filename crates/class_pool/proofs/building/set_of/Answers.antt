@@ -1,0 +1,17 @@
+use Rattle.std.proofs.Common.{◌∙◌, ℕ, List, length, ap, subst, arith}
+use Rattle.class_pool.specs.Closure.{IsClosure}
+use Rattle.class_pool.proofs.Telling.{graph_length, told}
+use Rattle.class_pool.proofs.building.set_of.Goals as goal
+
+pub invariant_of-result : goal.invariant_of-result
+invariant_of-result c =
+    let long = graph_length c.args.classes in
+    let needs = ap length c.in_ok-needs.ensures in (
+      c.in_ok-names.ensures,
+      c.requires.few,
+      c.in_ok-library.ensures,
+      told c.args.classes c.len.result c.in_ok-closure.closure.blocks
+          (subst (λ (ns : List (List ℕ)). IsClosure ns c.len.result c.in_ok-closure.closure.blocks) (c.as_slice.ensures ∙ c.in_ok-needs.ensures) c.in_ok-closure.ensures)
+          (omega (arith, c.len.ensures, needs, long)),
+      c.in_ok-members.ensures,
+    )

@@ -1,0 +1,38 @@
+-- The classes of the library and of a set as numbers, those of the library first, and their direct supertypes as a graph of these.
+use Rattle.std.specs.Prelude.{◌+◌, ◌<◌, ◌↔◌, ℕ, IsTrue, List, ◌∷◌, ◌++◌, length, map}
+use Rattle.std.specs.List.{cons_option, range_with_len}
+use Rattle.class_model.specs.declared.class.Class.{Class}
+use Rattle.lib_table.specs.Library.{library}
+use Rattle.lib_table.specs.Lookups as table
+use Rattle.class_pool.specs.declared.id.ClassId.{ClassId}
+use Rattle.class_pool.specs.declared.id.ClassId.TheVariants.{Prog, Lib}
+use Rattle.class_pool.specs.Closure.{has}
+use Rattle.class_pool.specs.Hierarchy.{IsClass, classes_named}
+use Rattle.class_pool.specs.Supertypes.{IsProperSub}
+
+abbrev pub number : ClassId → ℕ
+number (Prog n) = length library + n
+number (Lib id) = id
+
+-- a library class is one of the table
+abbrev pub IsThere : ClassId → Type 0
+IsThere (Prog n) = Unit {0}
+IsThere (Lib id) = id < length library
+
+abbrev pub library_ids : List ℕ
+library_ids = range_with_len 0 (length library)
+
+-- the direct supertypes of a library class
+abbrev pub above_library : ℕ → List ℕ
+above_library id = cons_option (table.super_of id) (table.interfaces_of id)
+
+-- those of a program class
+abbrev pub above_class : List Class → Class → List ℕ
+above_class classes c = map number (classes_named classes (c.super_name ∷ c.interfaces))
+
+abbrev pub graph : List Class → List (List ℕ)
+graph classes = map above_library library_ids ++ map (above_class classes) classes
+
+-- the bits are just those of a class and its proper supertypes
+abbrev pub Tells : List Class → List (List ℕ) → Type 0
+Tells classes blocks = (a b : ClassId) → IsClass classes a → IsClass classes b → IsTrue (has blocks (number a) (number b)) ↔ IsProperSub classes a b

@@ -1,0 +1,14 @@
+// What holds of classes and the bytes that they are written as.
+ghost use Rattle.class_write.specs.SpellingLaws.{LayoutIsSpelling, WrittenIsSpelling, WrittenIsRead, ReadIsRewritten, SomeIsWritable};
+
+/// The canonical layout of a class spells the class (JVMS 4.1): of each class that is well formed,
+/// whose counts of invokeinterface fit a byte, and that passes no limit of the format (JVMS 4.11).
+/// So a class that is written is read back, and what is read of such a file is written as that
+/// file again. A class with a field and a method shows that there are such classes.
+pub fn canonical_spells_the_class()
+    ensures layout { LayoutIsSpelling }
+    ensures written { WrittenIsSpelling }
+    ensures read { WrittenIsRead }
+    ensures rewritten { ReadIsRewritten }
+    ensures some { SomeIsWritable }
+{}

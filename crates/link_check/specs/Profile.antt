@@ -1,0 +1,295 @@
+-- The rules for classes that are taken, beside those of the format: what is left out, and what references and overriding have to meet
+-- (JVMS 4.10, 5.4.3 to 5.4.5, 6.5).
+use Rattle.std.specs.Prelude.{ℕ, Bool, true, false, not, ◌&&◌, ◌||◌, ◌==◌, List, [], ◌∷◌, ◌++◌, length, map, codes, Option, Some, None, Result, Ok, Err, slice_get, if◌then◌else◌}
+use Rattle.std.specs.Bool.{beq}
+use Rattle.std.specs.List.{cons_option, enumerate_from, filter, filter_map, find, flat_map, list_any}
+use Rattle.std.specs.Option.{option_map, option_map_or}
+use Rattle.jv_base.specs.Descriptors.{read_field, read_method}
+use Rattle.jv_base.specs.Names.{is_text}
+use Rattle.jv_base.specs.declared.types.Base.{Base}
+use Rattle.jv_base.specs.declared.types.Base.TheVariants as base
+use Rattle.jv_base.specs.declared.types.FieldType.{FieldType}
+use Rattle.jv_base.specs.declared.types.MethodType.{MethodType}
+use Rattle.jv_base.specs.declared.descriptors.BadDescriptor.{BadDescriptor}
+use Rattle.class_model.specs.Flags.{acc_abstract, has, is_init, is_interface, is_left_out_class, is_native}
+use Rattle.class_model.specs.declared.class.Class.{Class}
+use Rattle.class_model.specs.declared.class.Field.{Field}
+use Rattle.class_model.specs.declared.class.LeftKind.{LeftKind}
+use Rattle.class_model.specs.declared.class.LeftKind.TheVariants as left
+use Rattle.class_model.specs.declared.class.LeftOut.{LeftOut}
+use Rattle.class_model.specs.declared.class.Method.{Method}
+use Rattle.class_model.specs.declared.code.Code.{Code}
+use Rattle.class_model.specs.declared.code.Handler.{Handler}
+use Rattle.class_model.specs.declared.frame.FrameAt.{FrameAt}
+use Rattle.class_model.specs.declared.frame.VType.{VType}
+use Rattle.class_model.specs.declared.frame.VType.TheVariants as vtype
+use Rattle.class_model.specs.declared.op.MemberRef.{MemberRef}
+use Rattle.class_model.specs.declared.op.Op.{Op}
+use Rattle.class_model.specs.declared.op.Op.TheVariants as op
+use Rattle.lib_table.specs.declared.member.Role.{Role}
+use Rattle.lib_table.specs.declared.member.Role.TheVariants.{NoOverride}
+use Rattle.class_pool.specs.declared.id.ClassId.{ClassId}
+use Rattle.class_pool.specs.declared.id.ClassId.TheVariants.{Prog, Lib}
+use Rattle.class_pool.specs.declared.id.MemberAt.{MemberAt}
+use Rattle.class_pool.specs.Found.{declared_by, is_final_member, is_instance_method, is_static_member, named_at, rows_in}
+use Rattle.class_pool.specs.Hierarchy.{class_named}
+use Rattle.class_pool.specs.Resolution.{first, is_class_accessible, is_class_below, is_interface_in}
+use Rattle.class_pool.specs.Selection.{overrides, selected}
+use Rattle.class_pool.specs.Walk.{same_class, superclasses_from, superinterfaces}
+use Rattle.link_check.specs.Links.{is_callable_role, resolved_field, resolved_method, role_at}
+use Rattle.link_check.specs.declared.fault.LinkKind.{LinkKind}
+use Rattle.link_check.specs.declared.fault.LinkKind.TheVariants as link
+use Rattle.link_check.specs.declared.fault.ProfileFault.{ProfileFault}
+use Rattle.link_check.specs.declared.fault.ProfileKind.{ProfileKind}
+use Rattle.link_check.specs.declared.fault.ProfileKind.TheVariants.{LeftOutFlag, LeftOutConstant, LeftOutOpcode, LeftOutType, Unresolved, Inaccessible, WrongKind, LeftOutMember}
+
+-- ---- kinds
+
+-- the place of a kind in the order in which they count
+abbrev pub rank_of : ProfileKind → ℕ
+rank_of LeftOutFlag = 0
+rank_of LeftOutConstant = 1
+rank_of LeftOutOpcode = 2
+rank_of LeftOutType = 3
+rank_of Unresolved = 4
+rank_of Inaccessible = 5
+rank_of WrongKind = 6
+rank_of LeftOutMember = 7
+
+abbrev pub all_kinds : List ProfileKind
+all_kinds = LeftOutFlag ∷ LeftOutConstant ∷ LeftOutOpcode ∷ LeftOutType ∷ Unresolved ∷ Inaccessible ∷ WrongKind ∷ LeftOutMember ∷ []
+
+-- of several kinds the first one in that order
+abbrev pub least : List ProfileKind → Option ProfileKind
+least kinds = find (λ k. list_any (λ other. rank_of k == rank_of other) kinds) all_kinds
+
+-- a kind where a rule is broken
+abbrev pub unless : Bool → ProfileKind → List ProfileKind
+unless true kind = []
+unless false kind = kind ∷ []
+
+abbrev pub of_link : LinkKind → ProfileKind
+of_link link.Unresolved = Unresolved
+of_link link.Inaccessible = Inaccessible
+of_link link.WrongKind = WrongKind
+of_link link.LeftOutMember = LeftOutMember
+
+-- what the reader left out
+abbrev pub of_left : LeftKind → ProfileKind
+of_left left.Flag = LeftOutFlag
+of_left left.Constant = LeftOutConstant
+of_left left.Opcode = LeftOutOpcode
+of_left left.FloatType = LeftOutType
+
+-- two places of a class are one
+abbrev pub same_place : Option ℕ → Option ℕ → Bool
+same_place None None = true
+same_place (Some m) (Some n) = m == n
+same_place _ _ = false
+
+-- what the reader left out at a place of the class
+abbrev pub left_out_at : Option LeftOut → Option ℕ → List ProfileKind
+left_out_at None place = []
+left_out_at (Some l) place = unless (not (same_place l.member place)) (of_left l.kind)
+
+module _ (classes : List Class) (number : ℕ) where
+  -- the class that is looked at
+  abbrev pub from : ClassId
+  from = Prog number
+
+  -- ---- classes that are named
+
+  abbrev pub class_kinds : Option ClassId → List ProfileKind
+  class_kinds None = Unresolved ∷ []
+  class_kinds (Some c) = unless (is_class_accessible classes from c) Inaccessible
+
+  abbrev pub name_kinds : List ℕ → List ProfileKind
+  name_kinds name = class_kinds (class_named classes name)
+
+  abbrev pub base_kinds : Base → List ProfileKind
+  base_kinds (base.Class name) = name_kinds name
+  base_kinds base.Float = LeftOutType ∷ []
+  base_kinds base.Double = LeftOutType ∷ []
+  base_kinds _ = []
+
+  -- of a type, or of the elements of an array type
+  abbrev pub type_kinds : FieldType → List ProfileKind
+  type_kinds ty = base_kinds ty.base
+
+  abbrev pub method_type_kinds : MethodType → List ProfileKind
+  method_type_kinds ty = flat_map type_kinds (cons_option ty.ret ty.args)
+
+  abbrev pub field_text_kinds : Result FieldType BadDescriptor → List ProfileKind
+  field_text_kinds (Ok ty) = type_kinds ty
+  field_text_kinds (Err bad) = []
+
+  abbrev pub method_text_kinds : Result MethodType BadDescriptor → List ProfileKind
+  method_text_kinds (Ok ty) = method_type_kinds ty
+  method_text_kinds (Err bad) = []
+
+  -- ---- members that are named
+
+  -- the reference's own fault, or what the member breaks
+  abbrev pub member_kinds : Result MemberAt LinkKind → (MemberAt → List ProfileKind) → List ProfileKind
+  member_kinds (Ok m) of_member = of_member m
+  member_kinds (Err kind) of_member = of_link kind ∷ []
+
+  -- static where it has to be, and not where it may not be
+  abbrev pub static_kinds : Bool → MemberAt → List ProfileKind
+  static_kinds wanted m = unless (beq (is_static_member classes m) wanted) WrongKind
+
+  -- a final field is written in its own class alone, by a method of this name
+  abbrev pub written_kinds : List ℕ → List ℕ → MemberAt → List ProfileKind
+  written_kinds writer method m = unless (not (is_final_member classes m) || (same_class m.class from && is_text method writer)) WrongKind
+
+  abbrev pub is_of_library : ClassId → Bool
+  is_of_library (Prog n) = false
+  is_of_library (Lib id) = true
+
+  -- by an instruction of the method of this name: static, and whether it is written
+  abbrev pub field_kinds : List ℕ → Bool → Bool → MemberRef → List ProfileKind
+  field_kinds method static written r = field_text_kinds (read_field r.ty)
+      ++ member_kinds (resolved_field classes from r)
+      (λ m. static_kinds static m
+      ++ (if written then written_kinds (if static then codes "<clinit>" else codes "<init>") method m
+      ++ unless (not (static && is_of_library m.class)) LeftOutMember
+      else []))
+
+  -- how a method is called
+  abbrev pub call_kinds : Bool → MemberRef → List ProfileKind
+  call_kinds static r = method_text_kinds (read_method r.ty)
+      ++ unless (not (is_text r.name (codes "<clinit>"))) WrongKind
+      ++ member_kinds (resolved_method classes from r) (static_kinds static)
+
+  -- no instance initialisation method is called so
+  abbrev pub no_init_kinds : MemberRef → List ProfileKind
+  no_init_kinds r = unless (not (is_init r.name)) WrongKind
+
+  -- the class that a reference names, where it is none of an array
+  abbrev pub class_of : MemberRef → Option ClassId
+  class_of r = if r.class.dims == 0 then of_base r.class.base else None where
+    of_base : Base → Option ClassId
+    of_base (base.Class name) = class_named classes name
+    of_base _ = None
+
+  -- an instance initialisation method is one of the class that is named
+  abbrev pub init_kinds : MemberRef → List ProfileKind
+  init_kinds r = member_kinds (resolved_method classes from r) (λ m. unless (option_map_or (same_class m.class) (class_of r) false) WrongKind)
+
+  -- another method is called by invokespecial in the own class or a superclass alone
+  abbrev pub super_kinds : MemberRef → List ProfileKind
+  super_kinds r = unless (option_map_or (λ c. is_class_below classes from c) (class_of r) false) WrongKind
+
+  abbrev pub special_kinds : MemberRef → List ProfileKind
+  special_kinds r = call_kinds false r ++ (if is_init r.name then init_kinds r else super_kinds r)
+
+  abbrev pub is_abstract_class : ClassId → Bool
+  is_abstract_class (Prog n) = option_map_or (λ c. has acc_abstract c.flags.0) (slice_get classes n) false
+  is_abstract_class (Lib id) = false
+
+  -- an object is made of a class that is neither an interface nor abstract
+  abbrev pub new_kinds : List ℕ → List ProfileKind
+  new_kinds name = name_kinds name
+      ++ option_map_or (λ c. unless (not (is_interface_in classes c) && not (is_abstract_class c)) WrongKind) (class_named classes name) []
+
+  -- ---- code
+
+  -- of an instruction in the method of this name
+  abbrev pub op_kinds : List ℕ → Op → List ProfileKind
+  op_kinds method (op.GetStatic r) = field_kinds method true false r
+  op_kinds method (op.PutStatic r) = field_kinds method true true r
+  op_kinds method (op.GetField r) = field_kinds method false false r
+  op_kinds method (op.PutField r) = field_kinds method false true r
+  op_kinds method (op.InvokeVirtual r) = call_kinds false r ++ no_init_kinds r
+  op_kinds method (op.InvokeSpecial r) = special_kinds r
+  op_kinds method (op.InvokeStatic r) = call_kinds true r ++ no_init_kinds r
+  op_kinds method (op.InvokeInterface r) = call_kinds false r ++ no_init_kinds r
+  op_kinds method (op.New name) = new_kinds name
+  op_kinds method (op.ANewArray ty) = type_kinds ty
+  op_kinds method (op.CheckCast ty) = type_kinds ty
+  op_kinds method (op.InstanceOf ty) = type_kinds ty
+  op_kinds method (op.MultiNewArray ty dimensions) = type_kinds ty
+  op_kinds method _ = []
+
+  abbrev pub verification_kinds : VType → List ProfileKind
+  verification_kinds (vtype.Object ty) = type_kinds ty
+  verification_kinds _ = []
+
+  abbrev pub frame_kinds : FrameAt → List ProfileKind
+  frame_kinds f = flat_map verification_kinds (f.frame.locals ++ f.frame.stack)
+
+  abbrev pub handler_kinds : Handler → List ProfileKind
+  handler_kinds h = option_map_or name_kinds h.caught []
+
+  abbrev pub code_kinds : List ℕ → Code → List ProfileKind
+  code_kinds method code = flat_map (λ i. op_kinds method i.op) code.ins ++ flat_map handler_kinds code.handlers ++ flat_map frame_kinds code.frames
+
+  -- ---- overriding
+
+  abbrev pub may_be_overridden_role : Role → Bool
+  may_be_overridden_role NoOverride = false
+  may_be_overridden_role _ = true
+
+  -- a method overrides no final one, and none of the library that may not be overridden
+  abbrev pub overridden_kinds : MemberAt → MemberAt → List ProfileKind
+  overridden_kinds m above =
+      if not (same_class m.class above.class) && overrides classes m above
+      then unless (not (is_final_member classes above)) WrongKind ++ unless (may_be_overridden_role (role_at above)) LeftOutMember
+      else []
+
+  -- of the method with this number among the class's members
+  abbrev pub overriding_kinds : MemberAt → List ProfileKind
+  overriding_kinds m = flat_map (overridden_kinds m) (declared_by classes (named_at classes m) (superclasses_from classes from))
+
+  -- ---- the places
+
+  -- the methods of a class are the ones that run where its superinterfaces' are called
+  abbrev pub selected_kinds : MemberAt → List ProfileKind
+  selected_kinds m = option_map_or (λ one. unless (is_callable_role (role_at one)) LeftOutMember) (selected classes from m) []
+
+  -- the instance methods of a program interface
+  abbrev pub methods_of : ClassId → List MemberAt
+  methods_of (Lib id) = []
+  methods_of (Prog n) = filter (is_instance_method classes)
+      (map (λ p. record { class = Prog n; index = p.0 }) (enumerate_from 0 (rows_in classes (Prog n))))
+
+  abbrev pub implementing_kinds : Class → List ProfileKind
+  implementing_kinds c =
+      if has acc_abstract c.flags.0 then []
+      else flat_map (λ i. flat_map selected_kinds (methods_of i)) (superinterfaces classes from)
+
+  -- of the class itself
+  abbrev pub kinds_of_class : Class → List ProfileKind
+  kinds_of_class c = left_out_at c.left_out None ++ unless (not (is_left_out_class c.flags.0)) LeftOutFlag
+      ++ flat_map name_kinds (c.super_name ∷ c.interfaces) ++ implementing_kinds c
+
+  -- of the field with this number
+  abbrev pub kinds_of_field : Class → ℕ → Field → List ProfileKind
+  kinds_of_field c n f = left_out_at c.left_out (Some n) ++ type_kinds f.ty
+
+  -- a method of an interface has no body, but that which initialises it
+  abbrev pub body_kinds : Class → Method → List ProfileKind
+  body_kinds c m = unless (not (is_interface c.flags.0) || has acc_abstract m.flags.0 || is_text m.name (codes "<clinit>")) LeftOutMember
+
+  -- of the method with this number among the class's members
+  abbrev pub kinds_of_method : Class → ℕ → Method → List ProfileKind
+  kinds_of_method c n m = left_out_at c.left_out (Some n) ++ unless (not (is_native m.flags.0)) LeftOutFlag
+      ++ method_type_kinds m.ty ++ flat_map name_kinds m.throws ++ body_kinds c m ++ overriding_kinds (record { class = from; index = n })
+      ++ option_map_or (code_kinds m.name) m.code []
+
+  -- a fault at a place, if a rule is broken there
+  abbrev pub fault_at : Option ℕ → List ProfileKind → Option ProfileFault
+  fault_at place kinds = option_map (λ kind. record { class = number; member = place; kind = kind }) (least kinds)
+
+  -- the faults of a class in the order of its places
+  abbrev pub faults_of : Class → List ProfileFault
+  faults_of c = cons_option (fault_at None (kinds_of_class c))
+      (filter_map (λ p. fault_at (Some p.0) (kinds_of_field c p.0 p.1)) (enumerate_from 0 c.fields)
+      ++ filter_map (λ p. fault_at (Some p.0) (kinds_of_method c p.0 p.1)) (enumerate_from (length c.fields) c.methods))
+
+-- the first fault of a set
+abbrev pub links_checked : List Class → Result (Unit {0}) ProfileFault
+links_checked classes = ended (first (flat_map (λ p. faults_of classes p.0 p.1) (enumerate_from 0 classes))) where
+  ended : Option ProfileFault → Result (Unit {0}) ProfileFault
+  ended None = Ok tt
+  ended (Some f) = Err f
