@@ -28,3 +28,4 @@ mod FileTexts
 mod FewFrames
 pub mod FormedFlags
 pub mod FormedFile
+mod Interface

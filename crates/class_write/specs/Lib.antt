@@ -5,3 +5,4 @@ pub mod Placing
 pub mod Writing
 pub mod Limits
 pub mod Files
+pub mod Example

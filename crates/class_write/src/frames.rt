@@ -96,7 +96,7 @@ pub fn types_written<'a>(
     let locals = frame.locals.as_slice();
     match frame.stack.as_slice() {
         [] => Ok((locals_written(alloc, before, locals)?, &[])),
-        [item] if same_types(alloc, before, locals)? => Ok((&[], frame.stack.as_slice())),
+        [_] if same_types(alloc, before, locals)? => Ok((&[], frame.stack.as_slice())),
         _ => Ok((locals, frame.stack.as_slice())),
     }
 }
