@@ -1,14 +1,15 @@
 // A class in its canonical spelling (JVMS 4).
+ghost use Rattle.std.specs.Prelude.{◌↔◌, IsTrue};
 ghost use Rattle.jv_base.specs.Outcome.{IsDue};
 ghost use Rattle.class_model.specs.WellFormed.{IsWellFormed, CountsFit};
 ghost use Rattle.class_model.specs.WriteLimits.{class_written};
-ghost use Rattle.class_write.specs.Limits.{AreCounted};
+ghost use Rattle.class_write.specs.Limits.{AreCounted, IsCounted};
 
 use crate::class_file::put_class_file;
 use crate::limits::{check_pool, check_tables};
 use crate::placing::place_bodies;
 use crate::pool::pool_of;
-use class_model::{Class, WriteLimit};
+use class_model::{Class, Code, Method, WriteLimit};
 use jv_base::{Bytes, Items, Or};
 use std::alloc::Global;
 
@@ -27,7 +28,35 @@ use std::alloc::Global;
 pub fn write_class(alloc: Global, class: &Class) -> Result<Bytes, Or<WriteLimit>>
     requires well_formed { IsWellFormed class.now }
     requires words { CountsFit class.now }
-    requires counts { AreCounted class.now }
+    ensures exact { IsDue result (class_written class.now) }
+{
+    if are_counted(class.methods.as_slice()) {
+        write_counted(alloc, class)
+    } else {
+        Err(Or::OutOfMemory)
+    }
+}
+
+// Whether the instructions of each code are counted by a number of four bytes; else they are more than memory holds.
+fn are_counted(methods: &[Method]) -> bool
+    ensures { IsTrue result ↔ AreCounted methods.now }
+{
+    methods.iter().all(|method| is_counted(&method.code))
+}
+
+fn is_counted(code: &Option<Code>) -> bool
+    ensures { IsTrue result ↔ IsCounted code.now }
+{
+    match code {
+        Some(code) => code.ins.len() < u32::MAX as usize,
+        None => true,
+    }
+}
+
+fn write_counted(alloc: Global, class: &Class) -> Result<Bytes, Or<WriteLimit>>
+    requires well_formed { IsWellFormed class.now }
+    requires words { CountsFit class.now }
+    requires counts { AreCounted class.now.methods }
     ensures exact { IsDue result (class_written class.now) }
 {
     let pool = pool_of(alloc, class)?;

@@ -1,6 +1,6 @@
 use Rattle.std.proofs.Common.{◌≡◌, List, ◌++◌, Ok, sym, ap, subst, ◌∙◌}
 use Rattle.std.proofs.lemmas.Result.{err_from_is_err_and}
-use Rattle.std.proofs.lemmas.List.Elements.{All-from_recursion}
+use Rattle.std.proofs.lemmas.List.Elements.{All-from_recursion, recursion_from_All}
 use Rattle.std.proofs.Common.{ℕ}
 use Rattle.jv_base.specs.Outcome.{FaultIs}
 use Rattle.class_model.specs.declared.class.Method.{Method}
@@ -9,11 +9,11 @@ use Rattle.class_model.specs.ClassFile.{class_file}
 use Rattle.class_model.specs.CanonicalClass.{class_raw}
 use Rattle.class_model.specs.WriteLimits.{first_of, code_fits, tables_fit}
 use Rattle.class_write.specs.Placing.{placed_bodies, bodies_due}
-use Rattle.class_write.specs.Limits.{pool_fits}
+use Rattle.class_write.specs.Limits.{IsCounted, pool_fits}
 use Rattle.class_write.specs.Writing.{HasFitting}
 use Rattle.class_write.proofs.Dues.{bound_ok, pool_fault_due, codes_fault_due, tables_fault, bodies_fault_due, bytes_due}
 use Rattle.class_write.proofs.Fitting.{fitting, tables_ok, writables}
-use Rattle.class_write.proofs.writing.write_class.Goals as goal
+use Rattle.class_write.proofs.writing.write_counted.Goals as goal
 
 pub returns-in_err-check_pool : goal.returns-in_err-check_pool
 returns-in_err-check_pool c =
@@ -54,7 +54,7 @@ put_class_file-requires-clause-fitting c =
     subst (λ (ms : List Method). bodies_due pool ms ≡ Ok c.in_ok-placed.placed) c.as_slice.ensures c.in_ok-placed.ensures in
     let coded = (bound_ok (placed_bodies pool class.methods) (first_of (λ (m : Method). code_fits pool m.code) class.methods) c.in_ok-placed.placed due).0 in
     let tables : tables_fit class ≡ Ok tt = sym c.in_default.ensures in
-    let writable = writables (is_interface class.flags.0) class.methods c.requires.well_formed.methods c.requires.words c.requires.counts in
+    let writable = writables (is_interface class.flags.0) class.methods c.requires.well_formed.methods c.requires.words (recursion_from_All (λ (m : Method). IsCounted m.code) class.methods c.requires.counts) in
     All-from_recursion (HasFitting pool) class.methods (fitting pool class.name class.methods writable coded (tables_ok class tables).in_methods)
 
 pub returns-in_err-put_class_file : goal.returns-in_err-put_class_file
