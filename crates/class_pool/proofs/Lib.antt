@@ -7,7 +7,6 @@ pub mod Above
 pub mod CycleLaws
 pub mod ComputedLinks
 pub mod Closing
-pub mod Ascending
 pub mod Graphing
 pub mod Telling
 pub mod Listing
