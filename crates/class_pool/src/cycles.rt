@@ -116,4 +116,4 @@ fn push_number(set: &ClassSet, numbers: &mut Items<u32>, name: &Name) -> M<()>
 }
 
 #[cfg(test)]
-mod tests;
+pub(crate) mod tests;

@@ -152,3 +152,6 @@ fn kind_of(class: &Class) -> LibKind
         LibKind::Open
     }
 }
+
+#[cfg(test)]
+mod tests;

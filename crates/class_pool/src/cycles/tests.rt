@@ -17,7 +17,13 @@ fn names_of(alloc: Global, names: &[&str]) -> M<Items<Name>> {
     Ok(list)
 }
 
-fn file(alloc: Global, flags: Access, names: [&str; 2], interfaces: &[&str]) -> M<NamedClass> {
+/// A class with its file, by its flags, its name and its superclass, and its interfaces.
+pub(crate) fn file(
+    alloc: Global,
+    flags: Access,
+    names: [&str; 2],
+    interfaces: &[&str],
+) -> M<NamedClass> {
     let [name, super_name] = names;
     let mut path = Text::from_str(alloc, name)?;
     path.push_str(".class")?;
@@ -47,7 +53,7 @@ fn classes(alloc: Global, rows: &[[&str; 2]]) -> M<Items<NamedClass>> {
     Ok(files)
 }
 
-fn ascends(files: &[NamedClass]) -> bool
+pub(crate) fn ascends(files: &[NamedClass]) -> bool
     ensures { IsTrue result → Ascends files.now }
 {
     for number in 1..files.len() {
@@ -58,7 +64,7 @@ fn ascends(files: &[NamedClass]) -> bool
     true
 }
 
-fn are_few(files: &[NamedClass]) -> bool
+pub(crate) fn are_few(files: &[NamedClass]) -> bool
     ensures { IsTrue result → item_count (classes_of files.now) < 4294967295 }
 {
     let mut count = 0usize;
