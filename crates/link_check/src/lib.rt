@@ -2,5 +2,6 @@
 #![tactic(auto)]
 
 mod fault;
+mod kinds;
 
 pub use fault::{LinkKind, ProfileFault, ProfileKind};
