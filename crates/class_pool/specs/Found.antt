@@ -1,5 +1,5 @@
 -- Members as they are found, with what links ask of them (JVMS 4.5, 4.6, 4.2.1, 5.3). Of a member that isn't there nothing that is said matters.
-use Rattle.std.specs.Prelude.{ℕ, ◌+◌, ◌==◌, Bool, true, false, not, ◌&&◌, List, [], ◌++◌, map, Option, slice_get, if◌then◌else◌}
+use Rattle.std.specs.Prelude.{◌<◌, ℕ, ◌+◌, ◌==◌, Bool, true, false, not, ◌&&◌, List, [], ◌++◌, length, map, Option, slice_get, if◌then◌else◌}
 use Rattle.std.specs.List.{before_last, filter_map}
 use Rattle.std.specs.Option.{option_map, option_map_or}
 use Rattle.jv_base.specs.Names.{is_text}
@@ -11,10 +11,12 @@ use Rattle.class_model.specs.declared.class.Method.{Method}
 use Rattle.lib_table.specs.Library.{LibraryMember}
 use Rattle.lib_table.specs.Lookups as table
 use Rattle.lib_table.specs.declared.class.LibKind.{LibKind}
+use Rattle.lib_table.specs.declared.member.Role.{Role}
+use Rattle.lib_table.specs.declared.member.Role.TheVariants.{Callable}
 use Rattle.class_pool.specs.declared.id.ClassId.{ClassId}
 use Rattle.class_pool.specs.declared.id.ClassId.TheVariants.{Prog, Lib}
 use Rattle.class_pool.specs.declared.id.MemberAt.{MemberAt}
-use Rattle.class_pool.specs.Hierarchy.{is_interface_kind}
+use Rattle.class_pool.specs.Hierarchy.{IsClass, is_interface_kind}
 use Rattle.class_pool.specs.Members.{declared_at}
 use Rattle.class_pool.specs.Walk.{same_class}
 
@@ -66,6 +68,10 @@ row_at classes m = slice_get (rows_in classes m.class) m.index
 abbrev pub named_at : List Class → MemberAt → NameAndType
 named_at classes m = option_map_or (λ row. row.named) (row_at classes m) ([], [])
 
+-- the member is there
+abbrev pub IsMember : List Class → MemberAt → Type 0
+IsMember classes m = IsClass classes m.class × m.index < length (rows_in classes m.class)
+
 -- it has all of these flags
 abbrev pub has_flag : List Class → ℕ → MemberAt → Bool
 has_flag classes flag m = option_map_or (λ row. has flag row.flags) (row_at classes m) false
@@ -94,6 +100,13 @@ is_instance_row row = row.is_method && not (is_static row.flags) && not (is_init
 
 abbrev pub is_instance_method : List Class → MemberAt → Bool
 is_instance_method classes m = option_map_or is_instance_row (row_at classes m) false
+
+-- how a program may use a member; one of its own it may name
+abbrev pub role_at : MemberAt → Role
+role_at m = role_in m.class m.index where
+  role_in : ClassId → ℕ → Role
+  role_in (Prog n) index = Callable
+  role_in (Lib id) index = option_map_or (λ row. row.role) (slice_get (table.class_at id).members index) Callable
 
 -- ---- packages
 

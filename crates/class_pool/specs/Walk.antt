@@ -10,7 +10,7 @@ use Rattle.class_pool.specs.Hierarchy.{superclass, interfaces}
 
 -- more than any set has classes, those of the library with them
 abbrev pub highest : ℕ
-highest = 2 ^ 32
+highest = 2 ^ 33
 
 -- two classes are one
 abbrev pub same_class : ClassId → ClassId → Bool

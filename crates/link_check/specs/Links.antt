@@ -1,17 +1,15 @@
 -- What a reference to a field or a method means in a class, or the first rule that it breaks (JVMS 5.4.3, 5.4.4).
-use Rattle.std.specs.Prelude.{ℕ, Bool, true, false, not, ◌==◌, List, Option, Some, None, Result, Ok, Err, slice_get, if◌then◌else◌}
+use Rattle.std.specs.Prelude.{Bool, true, false, not, ◌==◌, List, Option, Some, None, Result, Ok, Err, if◌then◌else◌}
 use Rattle.std.specs.Bool.{beq}
-use Rattle.std.specs.Option.{option_map_or}
 use Rattle.jv_base.specs.declared.types.Base.{Base}
 use Rattle.jv_base.specs.declared.types.Base.TheVariants as base
 use Rattle.class_model.specs.declared.class.Class.{Class}
 use Rattle.class_model.specs.declared.op.MemberRef.{MemberRef}
-use Rattle.lib_table.specs.Lookups as table
 use Rattle.lib_table.specs.declared.member.Role.{Role}
 use Rattle.lib_table.specs.declared.member.Role.TheVariants.{Callable}
 use Rattle.class_pool.specs.declared.id.ClassId.{ClassId}
-use Rattle.class_pool.specs.declared.id.ClassId.TheVariants.{Prog, Lib}
 use Rattle.class_pool.specs.declared.id.MemberAt.{MemberAt}
+use Rattle.class_pool.specs.Found.{role_at}
 use Rattle.class_pool.specs.Hierarchy.{class_named}
 use Rattle.class_pool.specs.Resolution.{field_found, is_class_accessible, is_interface_in, is_member_accessible, method_found}
 use Rattle.link_check.specs.declared.fault.LinkKind.{LinkKind}
@@ -21,13 +19,6 @@ use Rattle.link_check.specs.declared.fault.LinkKind.TheVariants.{Unresolved, Ina
 abbrev pub is_callable_role : Role → Bool
 is_callable_role Callable = true
 is_callable_role _ = false
-
--- how a program may use a member; one of its own it may name
-abbrev pub role_at : MemberAt → Role
-role_at m = role_in m.class m.index where
-  role_in : ClassId → ℕ → Role
-  role_in (Prog n) index = Callable
-  role_in (Lib id) index = option_map_or (λ row. row.role) (slice_get (table.class_at id).members index) Callable
 
 module _ (classes : List Class) (from : ClassId) where
   -- a member that was found through a class, where that is named as it has to be

@@ -31,12 +31,12 @@ use Rattle.lib_table.specs.declared.member.Role.TheVariants.{NoOverride}
 use Rattle.class_pool.specs.declared.id.ClassId.{ClassId}
 use Rattle.class_pool.specs.declared.id.ClassId.TheVariants.{Prog, Lib}
 use Rattle.class_pool.specs.declared.id.MemberAt.{MemberAt}
-use Rattle.class_pool.specs.Found.{declared_by, is_final_member, is_instance_method, is_static_member, named_at, rows_in}
+use Rattle.class_pool.specs.Found.{declared_by, is_final_member, is_instance_method, is_static_member, named_at, role_at, rows_in}
 use Rattle.class_pool.specs.Hierarchy.{class_named}
 use Rattle.class_pool.specs.Resolution.{first, is_class_accessible, is_class_below, is_interface_in}
 use Rattle.class_pool.specs.Selection.{overrides, selected}
 use Rattle.class_pool.specs.Walk.{same_class, superclasses_from, superinterfaces}
-use Rattle.link_check.specs.Links.{is_callable_role, resolved_field, resolved_method, role_at}
+use Rattle.link_check.specs.Links.{is_callable_role, resolved_field, resolved_method}
 use Rattle.link_check.specs.declared.fault.LinkKind.{LinkKind}
 use Rattle.link_check.specs.declared.fault.LinkKind.TheVariants as link
 use Rattle.link_check.specs.declared.fault.ProfileFault.{ProfileFault}
