@@ -6,14 +6,15 @@ ghost use Rattle.jv_base.specs.Names.{is_text};
 ghost use Rattle.jv_base.specs.Outcome.{IsDue};
 ghost use Rattle.class_pool.specs.Faults.{is_super_missing, is_super_wrong, is_wrong_interface, is_wrong_superclass};
 ghost use Rattle.class_pool.specs.Faults.{name_fault, name_faults, super_fault, super_faults};
-ghost use Rattle.class_pool.specs.Hierarchy.{IsClass, class_named, kind_in, kind_of};
+ghost use Rattle.class_pool.specs.Hierarchy.{class_named};
 
+use crate::kind::kind_in;
 use crate::lookup::ClassesByName;
-use crate::{ClassId, NamedClass, PoolFault, PoolKind};
+use crate::{NamedClass, PoolFault, PoolKind};
 use bitflags::Flags;
 use class_model::Class;
 use jv_base::{Access, Items, M, Name, Or, Text};
-use lib_table::{LibKind, lib_kind};
+use lib_table::LibKind;
 
 /// The first round: names.
 pub(crate) fn check_names(files: &Items<NamedClass>) -> Result<(), Or<PoolFault>>
@@ -112,7 +113,7 @@ fn has_wrong_superclass(set: &ClassesByName, class: &Class) -> bool
     ensures { result ≡ is_wrong_superclass set.now class.now }
 {
     match set.find(&class.super_name) {
-        Some(id) => !matches!(kind(set, id), LibKind::Open),
+        Some(id) => !matches!(kind_in(set, id), LibKind::Open),
         None => false,
     }
 }
@@ -127,30 +128,8 @@ fn is_no_interface(set: &ClassesByName, name: &Name) -> bool
     ensures { result ≡ is_wrong_interface set.now name.now }
 {
     match set.find(name) {
-        Some(id) => !matches!(kind(set, id), LibKind::Interface),
+        Some(id) => !matches!(kind_in(set, id), LibKind::Interface),
         None => false,
-    }
-}
-
-fn kind(set: &ClassesByName, id: ClassId) -> LibKind
-    requires { IsClass set.now id }
-    ensures { result ≡ kind_in set.now id }
-{
-    match id {
-        ClassId::Prog(number) => kind_of(set.class(number)),
-        ClassId::Lib(id) => lib_kind(id),
-    }
-}
-
-fn kind_of(class: &Class) -> LibKind
-    ensures { result ≡ kind_of class.now }
-{
-    if class.flags.contains(Access::INTERFACE) {
-        LibKind::Interface
-    } else if class.flags.contains(Access::FINAL) {
-        LibKind::Final
-    } else {
-        LibKind::Open
     }
 }
 
