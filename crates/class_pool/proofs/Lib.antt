@@ -10,3 +10,5 @@ pub mod Closing
 pub mod Graphing
 pub mod Telling
 pub mod Listing
+pub mod ToldMembers
+pub mod Packages

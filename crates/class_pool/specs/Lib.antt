@@ -7,6 +7,7 @@ pub mod Faults
 pub mod Count
 pub mod Walk
 pub mod Found
+pub mod ToldMembers
 pub mod Resolution
 pub mod Selection
 pub mod LinkRows

@@ -3,17 +3,18 @@ ghost use Rattle.std.specs.Prelude.{◌≡◌, ◌≢◌, ◌<◌, IfOk, map};
 ghost use Rattle.std.specs.List.{AllPairs, AllZip};
 ghost use Rattle.class_pool.specs.ByName.{IsIndexOf};
 ghost use Rattle.class_pool.specs.Count.{item_count};
-ghost use Rattle.class_pool.specs.Faults.{Ascends, Builds, NamesDiffer, classes_of};
+ghost use Rattle.class_pool.specs.Faults.{Ascends, Builds, classes_of};
+ghost use Rattle.class_pool.specs.Supertypes.{NoCycle};
 
 use crate::closure::closure_of;
 use crate::cycles::check_cycles;
 use crate::graph::{graph_of, library_of};
+use crate::lookup::ClassesByName;
 use crate::members::MemberIndex;
 use crate::rounds::{check_names, check_supertypes};
 use crate::{ClassSet, NamedClass, PoolFault};
 use class_model::Class;
-use indexmap::IndexSet;
-use jv_base::{Items, M, Name, Or};
+use jv_base::{Items, M, Or};
 use std::alloc::Global;
 
 /// The set of some classes, in the order of their paths. The paths ascend, and the classes and their members are fewer
@@ -24,11 +25,10 @@ pub fn build(alloc: Global, files: Items<NamedClass>) -> Result<ClassSet, Or<Poo
     ensures { Builds result files }
 {
     check_names(&files)?;
-    let classes = take_classes(alloc, files)?;
-    let set = set_of(alloc, classes)?;
-    check_supertypes(&set)?;
-    check_cycles(alloc, &set)?;
-    Ok(set)
+    let classes = ClassesByName::of(alloc, take_classes(alloc, files)?)?;
+    check_supertypes(&classes)?;
+    check_cycles(alloc, &classes)?;
+    Ok(set_of(alloc, classes)?)
 }
 
 fn take_classes(alloc: Global, files: Items<NamedClass>) -> M<Items<Class>>
@@ -42,43 +42,28 @@ fn take_classes(alloc: Global, files: Items<NamedClass>) -> M<Items<Class>>
     Ok(classes)
 }
 
-fn set_of(alloc: Global, classes: Items<Class>) -> M<ClassSet>
-    requires differ { NamesDiffer classes }
-    requires few { item_count classes < 4294967295 }
+fn set_of(alloc: Global, classes: ClassesByName) -> M<ClassSet>
+    requires { NoCycle classes }
     ensures { IfOk result (λ set. set ≡ classes) }
 {
-    let names = names_of(alloc, &classes)?;
     let members = members_of(alloc, &classes)?;
     let library = library_of(alloc)?;
-    let needs = graph_of(alloc, &classes, &names, &library)?;
+    let needs = graph_of(alloc, &classes, &library)?;
     let closure = closure_of(alloc, needs.as_slice(), needs.len())?;
     Ok(ClassSet {
         classes,
-        names,
         members,
         library,
         closure,
     })
 }
 
-fn names_of(alloc: Global, classes: &Items<Class>) -> M<IndexSet<Name>>
-    requires { NamesDiffer classes.now }
-    ensures { IfOk result (λ names. names.keys ≡ map (λ c. c.name) classes.now) }
-{
-    let mut names = IndexSet::new(alloc);
-    for class in classes.as_slice() {
-        names.insert_full(class.name.clone()?)?;
-    }
-    Ok(names)
-}
-
-fn members_of(alloc: Global, classes: &Items<Class>) -> M<Items<MemberIndex>>
-    requires { item_count classes.now < 4294967295 }
+fn members_of(alloc: Global, classes: &ClassesByName) -> M<Items<MemberIndex>>
     ensures { IfOk result (AllZip IsIndexOf classes.now) }
 {
     let mut members = Items::new(alloc);
-    for class in classes.as_slice() {
-        members.push(MemberIndex::of(alloc, class)?)?;
+    for number in 0..classes.len() {
+        members.push(MemberIndex::of(alloc, classes.class(number))?)?;
     }
     Ok(members)
 }

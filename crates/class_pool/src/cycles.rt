@@ -5,16 +5,17 @@ ghost use Rattle.class_pool.specs.Numbers.{IsHierarchy, above, numbers_named};
 ghost use Rattle.class_pool.specs.Supertypes.{IsCyclic};
 
 use crate::components::component_ranks;
+use crate::lookup::ClassesByName;
 use crate::ranks::{are_ranked, first_unranked, none_rises, ranks_of};
 use crate::rounds::fault_at;
-use crate::{ClassSet, PoolFault, PoolKind};
+use crate::{PoolFault, PoolKind};
 use class_model::Class;
 use jv_base::{Items, M, Name, Or};
 use mark_core::{System, plain_marks};
 use std::alloc::Global;
 
 /// Where the classes can be ranked so that each stands above its supertypes, there is no cycle.
-pub(crate) fn check_cycles(alloc: Global, set: &ClassSet) -> Result<(), Or<PoolFault>>
+pub(crate) fn check_cycles(alloc: Global, set: &ClassesByName) -> Result<(), Or<PoolFault>>
     ensures { FindsCycle set.now result }
 {
     let mut hierarchy = hierarchy_of(alloc, set)?;
@@ -30,7 +31,7 @@ pub(crate) fn check_cycles(alloc: Global, set: &ClassSet) -> Result<(), Or<PoolF
 
 /// By ranks of components: none rises towards the supertypes, and the first class that doesn't stand above them all is
 /// the one, where it is on a cycle. So it always is, but that is not proved: else each class is looked at.
-fn first_cyclic(alloc: Global, set: &ClassSet, hierarchy: &mut System) -> M<Option<u32>>
+fn first_cyclic(alloc: Global, set: &ClassesByName, hierarchy: &mut System) -> M<Option<u32>>
     requires { IsHierarchy set.now hierarchy.old }
     ensures { IfOk result (IsFirstCyclic set.now) }
 {
@@ -44,7 +45,7 @@ fn first_cyclic(alloc: Global, set: &ClassSet, hierarchy: &mut System) -> M<Opti
 }
 
 /// The first class that doesn't stand above all its supertypes, where no rank rises towards them.
-fn first_level(set: &ClassSet, hierarchy: &System, ranks: &[usize]) -> Option<u32>
+fn first_level(set: &ClassesByName, hierarchy: &System, ranks: &[usize]) -> Option<u32>
     requires { IsHierarchy set.now hierarchy.now }
     ensures there { IfSome result (λ n. n < length set.now) }
     ensures before { IfSome result (λ n. (m : ℕ) → m < n → IsCyclic set.now m → ⊥) }
@@ -56,7 +57,7 @@ fn first_level(set: &ClassSet, hierarchy: &System, ranks: &[usize]) -> Option<u3
 }
 
 /// Looks at each class: whether it is among the classes that its direct supertypes lead to.
-fn first_of_each(alloc: Global, set: &ClassSet, hierarchy: &mut System) -> M<Option<u32>>
+fn first_of_each(alloc: Global, set: &ClassesByName, hierarchy: &mut System) -> M<Option<u32>>
     requires { IsHierarchy set.now hierarchy.old }
     ensures { IfOk result (IsFirstCyclic set.now) }
 {
@@ -68,7 +69,7 @@ fn first_of_each(alloc: Global, set: &ClassSet, hierarchy: &mut System) -> M<Opt
     Ok(None)
 }
 
-fn is_cyclic(alloc: Global, set: &ClassSet, hierarchy: &mut System, number: u32) -> M<bool>
+fn is_cyclic(alloc: Global, set: &ClassesByName, hierarchy: &mut System, number: u32) -> M<bool>
     requires there { number < length set.now }
     requires hierarchy { IsHierarchy set.now hierarchy.old }
     ensures told { IfOk result (λ b. IsTrue b ↔ IsCyclic set.now number) }
@@ -79,7 +80,7 @@ fn is_cyclic(alloc: Global, set: &ClassSet, hierarchy: &mut System, number: u32)
     Ok(marks[number as usize])
 }
 
-fn hierarchy_of(alloc: Global, set: &ClassSet) -> M<System>
+fn hierarchy_of(alloc: Global, set: &ClassesByName) -> M<System>
     ensures { IfOk result (IsHierarchy set.now) }
 {
     let mut needs = Items::new(alloc);
@@ -95,7 +96,7 @@ fn hierarchy_of(alloc: Global, set: &ClassSet) -> M<System>
 }
 
 /// The direct supertypes that are in the set.
-fn above(alloc: Global, set: &ClassSet, class: &Class) -> M<Items<u32>>
+fn above(alloc: Global, set: &ClassesByName, class: &Class) -> M<Items<u32>>
     ensures { IfOk result (λ numbers. numbers ≡ above set.now class.now) }
 {
     let mut numbers = Items::new(alloc);
@@ -106,7 +107,7 @@ fn above(alloc: Global, set: &ClassSet, class: &Class) -> M<Items<u32>>
     Ok(numbers)
 }
 
-fn push_number(set: &ClassSet, numbers: &mut Items<u32>, name: &Name) -> M<()>
+fn push_number(set: &ClassesByName, numbers: &mut Items<u32>, name: &Name) -> M<()>
     ensures { OnOk result (numbers.new ≡ numbers.old ++ numbers_named set.now (name.now ∷ [])) }
 {
     if let Some(number) = set.number_of(name) {

@@ -3,14 +3,12 @@ ghost use Rattle.std.specs.Prelude.{◌≡◌, ◌++◌, ◌<◌, IfOk, OnOk, []
 ghost use Rattle.std.specs.List.{cons_option, filter_map, range_with_len};
 ghost use Rattle.lib_table.specs.Library.{library as library_rows};
 ghost use Rattle.lib_table.specs.Lookups.{class_named as library_class};
-ghost use Rattle.class_pool.specs.Count.{item_count};
 ghost use Rattle.class_pool.specs.Graph.{IsThere, above_class, above_library, graph, library_ids, number};
 ghost use Rattle.class_pool.specs.Hierarchy.{IsClass, classes_named};
 
 use crate::ClassId;
-use crate::lookup::class_named;
+use crate::lookup::ClassesByName;
 use class_model::Class;
-use indexmap::IndexSet;
 use jv_base::{Items, M, Name, Text};
 use lib_table::{LibId, lib_class, lib_interface, lib_super};
 use std::alloc::Global;
@@ -65,18 +63,15 @@ fn library_number(library: &[LibId], id: LibId) -> usize
 /// For each class the numbers of its direct supertypes.
 pub(crate) fn graph_of(
     alloc: Global,
-    classes: &Items<Class>,
-    names: &IndexSet<Name>,
+    classes: &ClassesByName,
     library: &Items<LibId>,
 ) -> M<Items<Items<usize>>>
-    requires names { names.now.keys ≡ map (λ c. c.name) classes.now }
-    requires few { item_count classes.now < 4294967295 }
-    requires library { library.now ≡ library_ids }
+    requires { library.now ≡ library_ids }
     ensures { IfOk result (λ needs. needs ≡ graph classes.now) }
 {
     let mut needs = library_graph(alloc, library)?;
-    for class in classes.as_slice() {
-        needs.push(above_class(alloc, classes, names, library, class)?)?;
+    for class in classes.classes.as_slice() {
+        needs.push(above_class(alloc, classes, library, class)?)?;
     }
     Ok(needs)
 }
@@ -94,37 +89,31 @@ fn library_graph(alloc: Global, library: &Items<LibId>) -> M<Items<Items<usize>>
 
 fn above_class(
     alloc: Global,
-    classes: &Items<Class>,
-    names: &IndexSet<Name>,
+    classes: &ClassesByName,
     library: &Items<LibId>,
     class: &Class,
 ) -> M<Items<usize>>
-    requires names { names.now.keys ≡ map (λ c. c.name) classes.now }
-    requires few { item_count classes.now < 4294967295 }
-    requires library { library.now ≡ library_ids }
+    requires { library.now ≡ library_ids }
     ensures { IfOk result (λ numbers. numbers ≡ above_class classes.now class.now) }
 {
     let mut numbers = Items::new(alloc);
-    push_named(classes, names, library, &mut numbers, &class.super_name)?;
+    push_named(classes, library, &mut numbers, &class.super_name)?;
     for name in class.interfaces.as_slice() {
-        push_named(classes, names, library, &mut numbers, name)?;
+        push_named(classes, library, &mut numbers, name)?;
     }
     Ok(numbers)
 }
 
 fn push_named(
-    classes: &Items<Class>,
-    names: &IndexSet<Name>,
+    classes: &ClassesByName,
     library: &Items<LibId>,
     numbers: &mut Items<usize>,
     name: &Name,
 ) -> M<()>
-    requires names { names.now.keys ≡ map (λ c. c.name) classes.now }
-    requires few { item_count classes.now < 4294967295 }
-    requires library { library.now ≡ library_ids }
+    requires { library.now ≡ library_ids }
     ensures { OnOk result (numbers.new ≡ numbers.old ++ map number (classes_named classes.now (name.now ∷ []))) }
 {
-    if let Some(id) = class_named(classes, names, name) {
+    if let Some(id) = classes.find(name) {
         numbers.push(number(library, id))?;
     }
     Ok(())

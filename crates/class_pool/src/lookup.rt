@@ -1,47 +1,93 @@
-// Names of classes, each looked up once.
-ghost use Rattle.std.specs.Prelude.{◌≡◌, ◌<◌, IfSome, length, map};
+// Classes, found by their names.
+ghost use Rattle.std.specs.Prelude.{◌≡◌, ◌+◌, ◌<◌, IfOk, IfSome, Some, length, map, slice_get};
 ghost use Rattle.std.specs.List.{position};
 ghost use Rattle.jv_base.specs.Names.{is_text};
 ghost use Rattle.class_pool.specs.Count.{item_count};
+ghost use Rattle.class_pool.specs.Faults.{NamesDiffer};
 ghost use Rattle.class_pool.specs.Hierarchy.{IsClass, class_named};
 
 use crate::ClassId;
 use class_model::Class;
 use indexmap::IndexSet;
-use jv_base::{Items, Name};
+use jv_base::{Items, M, Name};
 use lib_table::lib_class;
+use std::alloc::Global;
+use std::marker::Model;
 
-/// The class of a name in internal form, in the set of these classes or in the library.
-pub(crate) fn class_named(
-    classes: &Items<Class>,
-    names: &IndexSet<Name>,
-    name: &Name,
-) -> Option<ClassId>
-    requires names { names.now.keys ≡ map (λ c. c.name) classes.now }
-    requires few { item_count classes.now < 4294967295 }
-    ensures found { result ≡ class_named classes.now name.now }
-    ensures there { IfSome result (IsClass classes.now) }
-{
-    match number_named(classes, names, name) {
-        Some(number) => Some(ClassId::Prog(number)),
-        None => {
-            let id = lib_class(name)?;
-            Some(ClassId::Lib(id))
+/// Classes with names of their own, numbered from 0 in their order.
+#[derive(Drop)]
+pub(crate) struct ClassesByName {
+    pub(crate) classes: Items<Class>,
+    names: IndexSet<Name>,
+}
+
+impl Model for ClassesByName {
+    ghost use Rattle.std.specs.Prelude.{List, ◌≡◌, ◌<◌, map};
+    ghost use Rattle.class_model.specs.declared.class.Class.{Class};
+    ghost use Rattle.class_pool.specs.Count.{item_count};
+
+    ghost Value = { List Class };
+
+    ghost view = { λ s. s.classes };
+
+    ghost invariant = { λ s. (s.names.keys ≡ map (λ c. c.name) s.classes) × (item_count s.classes < 4294967295) };
+}
+
+impl ClassesByName {
+    pub(crate) fn of(alloc: Global, classes: Items<Class>) -> M<ClassesByName>
+        requires differ { NamesDiffer classes }
+        requires few { item_count classes < 4294967295 }
+        ensures { IfOk result (λ named. named ≡ classes) }
+    {
+        let names = names_of(alloc, &classes)?;
+        Ok(ClassesByName { classes, names })
+    }
+
+    pub(crate) fn len(&self) -> u32
+        ensures { result ≡ length self.now }
+    {
+        self.classes.len() as u32
+    }
+
+    /// The class of a name in internal form, here or in the library, by one look-up.
+    pub(crate) fn find(&self, name: &Name) -> Option<ClassId>
+        ensures found { result ≡ class_named self.now name.now }
+        ensures there { IfSome result (IsClass self.now) }
+    {
+        match self.number_of(name) {
+            Some(number) => Some(ClassId::Prog(number)),
+            None => {
+                let id = lib_class(name)?;
+                Some(ClassId::Lib(id))
+            }
         }
+    }
+
+    pub(crate) fn number_of(&self, name: &Name) -> Option<u32>
+        ensures found { result ≡ position (λ c. is_text name.now c.name) self.now }
+        ensures there { IfSome result (λ n. n < length self.now) }
+    {
+        let number = self.names.get_index_of(name)?;
+        Some(number as u32)
+    }
+
+    /// The class with a number.
+    pub(crate) fn class(&self, id: u32) -> &Class
+        requires { id < length self.now }
+        ensures is { slice_get self.now id ≡ Some result.now }
+        ensures few { length result.now.fields + length result.now.methods < 4294967295 }
+    {
+        &self.classes[id as usize]
     }
 }
 
-/// The number of the class of a name in the set of these classes.
-pub(crate) fn number_named(
-    classes: &Items<Class>,
-    names: &IndexSet<Name>,
-    name: &Name,
-) -> Option<u32>
-    requires names { names.now.keys ≡ map (λ c. c.name) classes.now }
-    requires few { item_count classes.now < 4294967295 }
-    ensures found { result ≡ position (λ c. is_text name.now c.name) classes.now }
-    ensures there { IfSome result (λ n. n < length classes.now) }
+fn names_of(alloc: Global, classes: &Items<Class>) -> M<IndexSet<Name>>
+    requires { NamesDiffer classes.now }
+    ensures { IfOk result (λ names. names.keys ≡ map (λ c. c.name) classes.now) }
 {
-    let number = names.get_index_of(name)?;
-    Some(number as u32)
+    let mut names = IndexSet::new(alloc);
+    for class in classes.as_slice() {
+        names.insert_full(class.name.clone()?)?;
+    }
+    Ok(names)
 }

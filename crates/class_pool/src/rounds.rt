@@ -6,13 +6,15 @@ ghost use Rattle.jv_base.specs.Names.{is_text};
 ghost use Rattle.jv_base.specs.Outcome.{IsDue};
 ghost use Rattle.class_pool.specs.Faults.{is_super_missing, is_super_wrong, is_wrong_interface, is_wrong_superclass};
 ghost use Rattle.class_pool.specs.Faults.{name_fault, name_faults, super_fault, super_faults};
-ghost use Rattle.class_pool.specs.Hierarchy.{IsClass, class_named, kind_in, kind_of};
+ghost use Rattle.class_pool.specs.Hierarchy.{class_named};
 
-use crate::{ClassId, ClassSet, NamedClass, PoolFault, PoolKind};
+use crate::kind::kind_in;
+use crate::lookup::ClassesByName;
+use crate::{NamedClass, PoolFault, PoolKind};
 use bitflags::Flags;
 use class_model::Class;
 use jv_base::{Access, Items, M, Name, Or, Text};
-use lib_table::{LibKind, lib_kind};
+use lib_table::LibKind;
 
 /// The first round: names.
 pub(crate) fn check_names(files: &Items<NamedClass>) -> Result<(), Or<PoolFault>>
@@ -27,7 +29,7 @@ pub(crate) fn check_names(files: &Items<NamedClass>) -> Result<(), Or<PoolFault>
 }
 
 /// The second round: direct supertypes.
-pub(crate) fn check_supertypes(set: &ClassSet) -> Result<(), Or<PoolFault>>
+pub(crate) fn check_supertypes(set: &ClassesByName) -> Result<(), Or<PoolFault>>
     ensures { IsDue result (super_faults set.now) }
 {
     for class in set.classes.as_slice() {
@@ -68,7 +70,7 @@ fn is_path_of(path: &Text, name: &Name) -> bool
     }
 }
 
-fn super_kind(set: &ClassSet, class: &Class) -> Option<PoolKind>
+fn super_kind(set: &ClassesByName, class: &Class) -> Option<PoolKind>
     ensures { result ≡ super_fault set.now class.now }
 {
     if lacks_supertype(set, class) {
@@ -80,25 +82,25 @@ fn super_kind(set: &ClassSet, class: &Class) -> Option<PoolKind>
     None
 }
 
-fn lacks_supertype(set: &ClassSet, class: &Class) -> bool
+fn lacks_supertype(set: &ClassesByName, class: &Class) -> bool
     ensures { result ≡ is_super_missing set.now class.now }
 {
     is_missing(set, &class.super_name) || some_missing(set, class.interfaces.as_slice())
 }
 
-fn some_missing(set: &ClassSet, names: &[Name]) -> bool
+fn some_missing(set: &ClassesByName, names: &[Name]) -> bool
     ensures { result ≡ list_any (λ name. is_none (class_named set.now name)) names.now }
 {
     names.iter().any(|name| is_missing(set, name))
 }
 
-fn is_missing(set: &ClassSet, name: &Name) -> bool
+fn is_missing(set: &ClassesByName, name: &Name) -> bool
     ensures { result ≡ is_none (class_named set.now name.now) }
 {
     set.find(name).is_none()
 }
 
-fn has_wrong_supertype(set: &ClassSet, class: &Class) -> bool
+fn has_wrong_supertype(set: &ClassesByName, class: &Class) -> bool
     ensures { result ≡ is_super_wrong set.now class.now }
 {
     has_wrong_superclass(set, class)
@@ -107,49 +109,27 @@ fn has_wrong_supertype(set: &ClassSet, class: &Class) -> bool
             && class.super_name.as_str() != "java/lang/Object"
 }
 
-fn has_wrong_superclass(set: &ClassSet, class: &Class) -> bool
+fn has_wrong_superclass(set: &ClassesByName, class: &Class) -> bool
     ensures { result ≡ is_wrong_superclass set.now class.now }
 {
     match set.find(&class.super_name) {
-        Some(id) => !matches!(kind(set, id), LibKind::Open),
+        Some(id) => !matches!(kind_in(set, id), LibKind::Open),
         None => false,
     }
 }
 
-fn some_is_no_interface(set: &ClassSet, names: &[Name]) -> bool
+fn some_is_no_interface(set: &ClassesByName, names: &[Name]) -> bool
     ensures { result ≡ list_any (is_wrong_interface set.now) names.now }
 {
     names.iter().any(|name| is_no_interface(set, name))
 }
 
-fn is_no_interface(set: &ClassSet, name: &Name) -> bool
+fn is_no_interface(set: &ClassesByName, name: &Name) -> bool
     ensures { result ≡ is_wrong_interface set.now name.now }
 {
     match set.find(name) {
-        Some(id) => !matches!(kind(set, id), LibKind::Interface),
+        Some(id) => !matches!(kind_in(set, id), LibKind::Interface),
         None => false,
-    }
-}
-
-fn kind(set: &ClassSet, id: ClassId) -> LibKind
-    requires { IsClass set.now id }
-    ensures { result ≡ kind_in set.now id }
-{
-    match id {
-        ClassId::Prog(number) => kind_of(set.class(number)),
-        ClassId::Lib(id) => lib_kind(id),
-    }
-}
-
-fn kind_of(class: &Class) -> LibKind
-    ensures { result ≡ kind_of class.now }
-{
-    if class.flags.contains(Access::INTERFACE) {
-        LibKind::Interface
-    } else if class.flags.contains(Access::FINAL) {
-        LibKind::Final
-    } else {
-        LibKind::Open
     }
 }
 

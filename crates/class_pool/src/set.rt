@@ -5,44 +5,43 @@ ghost use Rattle.jv_base.specs.Names.{is_text};
 ghost use Rattle.class_pool.specs.Hierarchy.{IsClass, class_named, superclass};
 ghost use Rattle.class_pool.specs.Members.{declared_at};
 ghost use Rattle.class_pool.specs.Supers.{IsSupers};
-ghost use Rattle.class_pool.specs.Supertypes.{Sub};
+ghost use Rattle.class_pool.specs.Supertypes.{NoCycle, Sub};
 
 use crate::ClassId;
 use crate::closure::Closure;
 use crate::graph::number;
+use crate::lookup::ClassesByName;
 use crate::members::MemberIndex;
 use crate::supers::supers_of;
 use class_model::Class;
-use indexmap::IndexSet;
 use jv_base::{Items, M, Name, Text};
-use lib_table::{LibId, lib_class, lib_member, lib_super};
+use lib_table::{LibId, lib_member, lib_super};
 use std::alloc::Global;
 use std::marker::Model;
 
 /// A set of classes, numbered from 0 in the order of their files.
 #[derive(Drop)]
 pub struct ClassSet {
-    pub(crate) classes: Items<Class>,
-    pub(crate) names: IndexSet<Name>,
+    pub(crate) classes: ClassesByName,
     pub(crate) members: Items<MemberIndex>,
     pub(crate) library: Items<LibId>,
     pub(crate) closure: Closure,
 }
 
 impl Model for ClassSet {
-    ghost use Rattle.std.specs.Prelude.{List, ◌≡◌, ◌<◌, map};
+    ghost use Rattle.std.specs.Prelude.{List, ◌≡◌};
     ghost use Rattle.std.specs.List.{AllZip};
     ghost use Rattle.class_model.specs.declared.class.Class.{Class};
     ghost use Rattle.class_pool.specs.ByName.{IsIndexOf};
-    ghost use Rattle.class_pool.specs.Count.{item_count};
     ghost use Rattle.class_pool.specs.Graph.{Tells, library_ids};
+    ghost use Rattle.class_pool.specs.Supertypes.{NoCycle};
 
     ghost Value = { List Class };
 
     ghost view = { λ s. s.classes };
 
-    ghost invariant = { λ s. (s.names.keys ≡ map (λ c. c.name) s.classes) × (item_count s.classes < 4294967295)
-        × (s.library ≡ library_ids) × Tells s.classes s.closure.blocks × AllZip IsIndexOf s.classes s.members };
+    ghost invariant = { λ s. (s.library ≡ library_ids) × Tells s.classes s.closure.blocks × AllZip IsIndexOf s.classes s.members
+        × NoCycle s.classes };
 }
 
 impl ClassSet {
@@ -50,7 +49,7 @@ impl ClassSet {
     pub fn len(&self) -> u32
         ensures { result ≡ length self.now }
     {
-        self.classes.len() as u32
+        self.classes.len()
     }
 
     /// The class of a name in internal form, in the set or in the library, by one look-up.
@@ -58,21 +57,7 @@ impl ClassSet {
         ensures found { result ≡ class_named self.now name.now }
         ensures there { IfSome result (IsClass self.now) }
     {
-        match self.number_of(name) {
-            Some(number) => Some(ClassId::Prog(number)),
-            None => {
-                let id = lib_class(name)?;
-                Some(ClassId::Lib(id))
-            }
-        }
-    }
-
-    pub(crate) fn number_of(&self, name: &Name) -> Option<u32>
-        ensures found { result ≡ position (λ c. is_text name.now c.name) self.now }
-        ensures there { IfSome result (λ n. n < length self.now) }
-    {
-        let number = self.names.get_index_of(name)?;
-        Some(number as u32)
+        self.classes.find(name)
     }
 
     /// The class with a number.
@@ -81,7 +66,7 @@ impl ClassSet {
         ensures is { slice_get self.now id ≡ Some result.now }
         ensures few { length result.now.fields + length result.now.methods < 4294967295 }
     {
-        &self.classes[id as usize]
+        self.classes.class(id)
     }
 
     /// The direct superclass (JVMS 4.1); only Object has none. That of an interface is Object.
@@ -107,6 +92,13 @@ impl ClassSet {
         let below = number(&self.library, a);
         let above = number(&self.library, b);
         below == above || self.closure.has(below, above)
+    }
+
+    /// No class of the set is its own supertype (JVMS 5.3.5). It does nothing.
+    pub fn no_class_is_its_own_supertype(&self)
+        ensures { NoCycle self.now }
+    {
+        let _ = &self.classes;
     }
 
     /// The supertypes of a class, direct or not (JVMS 4.10), without the class itself. Each comes once: those of the

@@ -1,7 +1,6 @@
 // Lists of supertypes.
 ghost use Rattle.std.specs.Prelude.{◌≡◌, ◌+◌, ◌<◌, IfOk, length};
 ghost use Rattle.lib_table.specs.Library.{library as library_rows};
-ghost use Rattle.class_pool.specs.Count.{item_count};
 ghost use Rattle.class_pool.specs.Graph.{Tells, id_at, library_ids};
 ghost use Rattle.class_pool.specs.Hierarchy.{IsClass};
 ghost use Rattle.class_pool.specs.Supers.{IsSupers};
@@ -9,7 +8,7 @@ ghost use Rattle.class_pool.specs.Supers.{IsSupers};
 use crate::ClassId;
 use crate::closure::Closure;
 use crate::graph::number;
-use class_model::Class;
+use crate::lookup::ClassesByName;
 use jv_base::{Items, M};
 use lib_table::LibId;
 use std::alloc::Global;
@@ -17,12 +16,11 @@ use std::alloc::Global;
 /// The supertypes of a class without the class itself, by their numbers.
 pub(crate) fn supers_of(
     alloc: Global,
-    classes: &Items<Class>,
+    classes: &ClassesByName,
     library: &Items<LibId>,
     closure: &Closure,
     id: ClassId,
 ) -> M<Items<ClassId>>
-    requires few { item_count classes.now < 4294967295 }
     requires library { library.now ≡ library_ids }
     requires told { Tells classes.now closure.now.blocks }
     requires there { IsClass classes.now id }
@@ -30,7 +28,7 @@ pub(crate) fn supers_of(
 {
     let below = number(library, id);
     let mut ids = Items::new(alloc);
-    for above in 0..library.len() + classes.len() {
+    for above in 0..library.len() + classes.len() as usize {
         if closure.has(below, above) {
             ids.push(id_at(library, above))?;
         }

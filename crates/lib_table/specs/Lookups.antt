@@ -30,7 +30,7 @@ is_member name descriptor m = is_text m.name name && is_text m.descriptor descri
 
 -- what a call tells of a member with its number
 abbrev pub member_told : ℕ × LibraryMember → LibMember
-member_told (at, m) = record { role = m.role; is_static = m.is_static; is_init = is_text m.name (codes "<init>"); at = at }
+member_told (at, m) = record { role = m.role; is_method = m.is_method; is_static = m.is_static; is_init = is_text m.name (codes "<init>"); at = at }
 
 -- the member with this name and this descriptor
 abbrev pub member_named : List LibraryMember → List ℕ → List ℕ → Option LibMember

@@ -47,6 +47,13 @@ pub fn lib_class(name: &Name) -> Option<LibId>
     class_of_name(name.as_str())
 }
 
+/// The name in internal form (JVMS 4.2.1).
+pub fn lib_name(id: LibId) -> &'static str
+    ensures { result.now ≡ (class_at id).name }
+{
+    row(id).name
+}
+
 /// The direct superclass (JVMS 4.1); only Object has none. That of an interface is Object.
 pub fn lib_super(id: LibId) -> Option<LibId>
     ensures { result ≡ super_of id }

@@ -2,6 +2,7 @@
 ghost use Rattle.std.specs.Prelude.{◌≡◌, ◌<◌, ◌^◌, ◌&&◌, length, map, slice_get};
 ghost use Rattle.std.specs.Bool.{beq};
 ghost use Rattle.std.specs.List.{list_any};
+ghost use Rattle.std.specs.Option.{option_map};
 ghost use Rattle.jv_base.specs.Names.{is_text};
 ghost use Rattle.jv_base.specs.Types.{method_text};
 ghost use Rattle.lib_table.specs.Lookups.{are_same_methods, class_at, is_method, is_named, member_named, member_told, methods_told};
@@ -28,6 +29,8 @@ pub enum Role {
 #[derive(Clone, Copy, Debug, PartialEq, Eq)]
 pub struct LibMember {
     pub role: Role,
+    /// Whether it is a method and not a field.
+    pub is_method: bool,
     pub is_static: bool,
     /// Whether it is a constructor.
     pub is_init: bool,
@@ -40,6 +43,14 @@ pub fn lib_member(id: LibId, name: &Name, ty: &Text) -> Option<LibMember>
     ensures { result ≡ member_named (class_at id).members name.now ty.now }
 {
     row_of_member(row(id).members, name.as_str(), ty.as_str())
+}
+
+/// The member with a number.
+pub fn lib_member_at(id: LibId, at: u32) -> Option<LibMember>
+    ensures { result ≡ option_map (λ m. member_told (at, m)) (slice_get (class_at id).members at) }
+{
+    let member = row(id).members.get(at as usize)?;
+    Some(told(at, member))
 }
 
 /// The method with a number; only methods count, constructors among them, from 0.
@@ -137,6 +148,7 @@ fn told(at: u32, member: &MemberRow) -> LibMember
 {
     LibMember {
         role: member.role,
+        is_method: member.is_method,
         is_static: member.is_static,
         is_init: member.name == "<init>",
         at,

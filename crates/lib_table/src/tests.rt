@@ -63,6 +63,20 @@ fn a_member_has_its_role_and_its_number(rt: HostRuntime) -> Result<(), Fail> {
 }
 
 #[test]
+fn a_member_is_told_by_its_number(rt: HostRuntime) -> Result<(), Fail> {
+    let alloc = rt.alloc();
+    let system = class(&rt, alloc, "java/lang/System")?;
+    let text = class(&rt, alloc, "java/lang/String")?;
+    assert!(rt; lib_name(system) == "java/lang/System");
+    let out = lib_member_at(system, 0).expect(&rt, "out");
+    assert!(rt; !out.is_method && out.is_static && out.at == 0);
+    let value_of = lib_member_at(text, 12).expect(&rt, "valueOf");
+    assert!(rt; value_of.is_method && value_of.is_static);
+    assert!(rt; lib_member_at(text, 13).is_none());
+    Ok(())
+}
+
+#[test]
 fn a_method_is_known_by_its_name_and_its_type(rt: HostRuntime) -> Result<(), Fail> {
     let alloc = rt.alloc();
     let text = class(&rt, alloc, "java/lang/String")?;

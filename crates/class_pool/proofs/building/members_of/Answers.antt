@@ -1,16 +1,16 @@
-use Rattle.std.proofs.Common.{rules, ◌≡◌, ◌∙◌, ◌+◌, ◌<◌, List, length, get_or, ap, sym, subst, arith, ◌++◌, ◌∷◌, [], take}
+use Rattle.std.proofs.Common.{rules, ◌≡◌, ◌+◌, ◌<◌, List, length, get_or, sym, subst, arith, ◌++◌, ◌∷◌, [], take}
 use Rattle.std.specs.List.{AllZip}
-use Rattle.class_model.specs.declared.class.Class.{Class}
+use Rattle.std.proofs.lemmas.Option.{get_or_from_slice_get}
 use Rattle.class_pool.specs.declared.members.MemberIndex.{MemberIndex}
 use Rattle.class_pool.specs.ByName.{IsIndexOf}
 use Rattle.class_pool.proofs.NamedMembers.{index_more}
 use Rattle.class_pool.proofs.building.members_of.Goals as goal
 
-pub loop-class-preserved : goal.loop-class-preserved
-loop-class-preserved c =
-    let x = c.class-item.result in
-    let at : x ≡ get_or c.args.classes.now c.loop-class.class-index x = c.class-item.is ∙ ap (λ (xs : List Class). get_or xs c.loop-class.class-index x) c.as_slice-class-items.ensures in
-    let within : c.loop-class.class-index < length c.args.classes.now = omega (arith, c.loop-class-test.true, ap length c.as_slice-class-items.ensures) in
-    let put : c.push.new.self ≡ c.loop-class.members ++ c.in_ok-of.field-0 ∷ [] = search rules in
-    subst (λ (members : List MemberIndex). AllZip IsIndexOf (take (c.loop-class.class-index + 1) c.args.classes.now) members) (sym put)
-    (index_more c.args.classes.now c.loop-class.members c.loop-class.class-index x c.in_ok-of.field-0 c.loop-class.invariant within at c.in_ok-of.ensures)
+pub loop-number-preserved : goal.loop-number-preserved
+loop-number-preserved c =
+    let x = c.class.result.now in
+    let at : x ≡ get_or c.args.classes.now c.loop-number.number x = sym (get_or_from_slice_get c.args.classes.now c.loop-number.number x x c.class.ensures.is) in
+    let within : c.loop-number.number < length c.args.classes.now = omega (arith, c.loop-number-test.true, c.len-number-end.ensures) in
+    let put : c.push.new.self ≡ c.loop-number.members ++ c.in_ok-of.field-0 ∷ [] = search rules in
+    subst (λ (members : List MemberIndex). AllZip IsIndexOf (take (c.loop-number.number + 1) c.args.classes.now) members) (sym put)
+    (index_more c.args.classes.now c.loop-number.members c.loop-number.number x c.in_ok-of.field-0 c.loop-number.invariant within at c.in_ok-of.ensures)

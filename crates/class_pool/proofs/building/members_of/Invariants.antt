@@ -3,5 +3,5 @@ use Rattle.std.specs.List.{AllZip}
 use Rattle.class_pool.specs.ByName.{IsIndexOf}
 use Rattle.class_pool.proofs.building.members_of.Given as goal
 
-abbrev pub invariant-loop-class : goal.invariant-loop-class
-invariant-loop-class l = AllZip IsIndexOf (take l.class-index l.classes) l.members
+abbrev pub invariant-loop-number : goal.invariant-loop-number
+invariant-loop-number l = AllZip IsIndexOf (take l.number l.classes) l.members

@@ -7,11 +7,10 @@ pub invariant_of-result : goal.invariant_of-result
 invariant_of-result c =
     let long = graph_length c.args.classes in
     let needs = ap length c.in_ok-needs.ensures in (
-      c.in_ok-names.ensures,
-      c.requires.few,
       c.in_ok-library.ensures,
       told c.args.classes c.len.result c.in_ok-closure.closure.blocks
           (subst (λ (ns : List (List ℕ)). IsClosure ns c.len.result c.in_ok-closure.closure.blocks) (c.as_slice.ensures ∙ c.in_ok-needs.ensures) c.in_ok-closure.ensures)
           (omega (arith, c.len.ensures, needs, long)),
       c.in_ok-members.ensures,
+      c.requires,
     )

@@ -4,7 +4,6 @@ use Rattle.lib_table.proofs.Computed.{count}
 use Rattle.class_pool.specs.declared.id.ClassId.{ClassId}
 use Rattle.class_pool.specs.Closure.{has}
 use Rattle.class_pool.specs.Graph.{number}
-use Rattle.class_pool.proofs.Counting.{classes_counted}
 use Rattle.class_pool.proofs.Graphing.{library_length}
 use Rattle.class_pool.proofs.Listing.{Listed, listed_all, listed_none, listed_pass, listed_put}
 use Rattle.class_pool.proofs.supers.supers_of.Goals.{then-has+in_ok-push, else-has}
@@ -13,8 +12,7 @@ use Rattle.class_pool.proofs.supers.supers_of.Goals as goal
 pub overflow_add-above-end : goal.overflow_add-above-end
 overflow_add-above-end c =
     let long = library_length c.args.library.now c.requires.library in
-    let few = classes_counted c.args.classes.now in
-    omega (arith, long, few, count, c.requires.few, c.len.ensures, c.len-2.ensures)
+    omega (arith, long, count, c.len.ensures, c.len-2.ensures)
 
 pub loop-above-init : goal.loop-above-init
 loop-above-init c =
@@ -23,8 +21,7 @@ loop-above-init c =
 pub id_at-requires-clause-there : goal.id_at-requires-clause-there
 id_at-requires-clause-there c =
     let long = library_length c.args.library.now c.requires.library in
-    let few = classes_counted c.args.classes.now in
-    omega (arith, long, few, c.requires.few, c.len.ensures, c.len-2.ensures, c.loop-above-test.true)
+    omega (arith, long, c.len.ensures, c.len-2.ensures, c.loop-above-test.true)
 
 pub loop-above-preserved : goal.loop-above-preserved
 loop-above-preserved c =

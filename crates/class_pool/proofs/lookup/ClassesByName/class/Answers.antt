@@ -1,6 +1,6 @@
 use Rattle.std.proofs.Common.{arith}
 use Rattle.class_pool.proofs.Counting.{members_counted}
-use Rattle.class_pool.proofs.set.ClassSet.class.Goals as goal
+use Rattle.class_pool.proofs.lookup.ClassesByName.class.Goals as goal
 
 pub returns-clause-few : goal.returns-clause-few
 returns-clause-few c =

@@ -4,7 +4,7 @@ use Rattle.jv_base.specs.Names.{is_text}
 use Rattle.class_model.specs.declared.class.Class.{Class}
 use Rattle.class_pool.proofs.Counting.{classes_counted}
 use Rattle.class_pool.proofs.Naming.{number_found, number_below}
-use Rattle.class_pool.proofs.set.ClassSet.number_of.Goals as goal
+use Rattle.class_pool.proofs.lookup.ClassesByName.number_of.Goals as goal
 
 pub returns-in_err-number-clause-found : goal.returns-in_err-number-clause-found
 returns-in_err-number-clause-found c =

@@ -3,7 +3,7 @@ use Rattle.indexmap.specs.IndexSet.{insert_key}
 use Rattle.jv_base.specs.Names.{is_text}
 use Rattle.class_model.specs.declared.class.Class.{Class}
 use Rattle.class_pool.proofs.Naming.{name_put}
-use Rattle.class_pool.proofs.building.names_of.Goals as goal
+use Rattle.class_pool.proofs.lookup.names_of.Goals as goal
 
 pub loop-class-preserved : goal.loop-class-preserved
 loop-class-preserved c =

@@ -1,6 +1,6 @@
 use Rattle.std.proofs.Common.{arith}
 use Rattle.class_pool.proofs.Counting.{classes_counted}
-use Rattle.class_pool.proofs.set.ClassSet.len.Goals as goal
+use Rattle.class_pool.proofs.lookup.ClassesByName.len.Goals as goal
 
 pub overflow_cast-result : goal.overflow_cast-result
 overflow_cast-result c =

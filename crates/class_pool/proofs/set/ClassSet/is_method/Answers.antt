@@ -1,0 +1,6 @@
+use Rattle.class_pool.specs.Found.{row_at}
+use Rattle.class_pool.proofs.ToldMembers.{told_method}
+use Rattle.class_pool.proofs.set.ClassSet.is_method.Goals as goal
+
+pub returns : goal.returns
+returns c = told_method (row_at c.args.self.now c.args.m) c.told.result c.told.ensures
