@@ -26,9 +26,8 @@ module _ (classes : List Class) (from : ClassId) where
   linked named right None = Err Unresolved
   linked named right (Some m) =
       if not (is_member_accessible classes from named m) then Err Inaccessible
-      else if not right then Err WrongKind
-      else if is_callable_role (role_at m) then Ok m
-      else Err LeftOutMember
+      else if right then Ok m
+      else Err WrongKind
 
   -- what is found through a class that is there and accessible
   abbrev pub through : Option ClassId → (ClassId → Result MemberAt LinkKind) → Result MemberAt LinkKind
@@ -45,15 +44,28 @@ module _ (classes : List Class) (from : ClassId) where
   of_class (base.Class name) found = through (class_named classes name) found
   of_class _ found = Err Unresolved
 
-  -- the field of a reference
-  abbrev pub resolved_field : MemberRef → Result MemberAt LinkKind
-  resolved_field r =
+  -- the field of a reference, one too that a program may not name
+  abbrev pub linked_field : MemberRef → Result MemberAt LinkKind
+  linked_field r =
       if r.class.dims == 0 then of_class r.class.base (λ c. linked c true (field_found classes c (r.name, r.ty)))
       else of_array true r.class.base
 
-  -- the method of a reference; a class has to be named as one, and an interface as one (JVMS 5.4.3.3, 5.4.3.4)
-  abbrev pub resolved_method : MemberRef → Result MemberAt LinkKind
-  resolved_method r =
+  -- the method of a reference, one too that a program may not name; a class has to be named as one, and an interface as one (JVMS 5.4.3.3, 5.4.3.4)
+  abbrev pub linked_method : MemberRef → Result MemberAt LinkKind
+  linked_method r =
       if r.class.dims == 0
       then of_class r.class.base (λ c. linked c (beq (is_interface_in classes c) r.of_interface) (method_found classes c (r.name, r.ty)))
       else of_array (not r.of_interface) r.class.base
+
+  -- a member that a program may name
+  abbrev pub callable : Result MemberAt LinkKind → Result MemberAt LinkKind
+  callable (Ok m) = if is_callable_role (role_at m) then Ok m else Err LeftOutMember
+  callable (Err kind) = Err kind
+
+  -- the field of a reference
+  abbrev pub resolved_field : MemberRef → Result MemberAt LinkKind
+  resolved_field r = callable (linked_field r)
+
+  -- the method of a reference
+  abbrev pub resolved_method : MemberRef → Result MemberAt LinkKind
+  resolved_method r = callable (linked_method r)

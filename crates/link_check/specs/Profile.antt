@@ -36,7 +36,7 @@ use Rattle.class_pool.specs.Hierarchy.{class_named}
 use Rattle.class_pool.specs.Resolution.{first, is_class_accessible, is_class_below, is_interface_in}
 use Rattle.class_pool.specs.Selection.{overrides, selected}
 use Rattle.class_pool.specs.Walk.{same_class, superclasses_from, superinterfaces}
-use Rattle.link_check.specs.Links.{is_callable_role, resolved_field, resolved_method}
+use Rattle.link_check.specs.Links.{is_callable_role, linked_field, linked_method}
 use Rattle.link_check.specs.declared.fault.LinkKind.{LinkKind}
 use Rattle.link_check.specs.declared.fault.LinkKind.TheVariants as link
 use Rattle.link_check.specs.declared.fault.ProfileFault.{ProfileFault}
@@ -129,9 +129,9 @@ module _ (classes : List Class) (number : ℕ) where
 
   -- ---- members that are named
 
-  -- the reference's own fault, or what the member breaks
+  -- the reference's own fault, or what the member breaks, one too that a program may not name
   abbrev pub member_kinds : Result MemberAt LinkKind → (MemberAt → List ProfileKind) → List ProfileKind
-  member_kinds (Ok m) of_member = of_member m
+  member_kinds (Ok m) of_member = unless (is_callable_role (role_at m)) LeftOutMember ++ of_member m
   member_kinds (Err kind) of_member = of_link kind ∷ []
 
   -- static where it has to be, and not where it may not be
@@ -149,7 +149,7 @@ module _ (classes : List Class) (number : ℕ) where
   -- by an instruction of the method of this name: static, and whether it is written
   abbrev pub field_kinds : List ℕ → Bool → Bool → MemberRef → List ProfileKind
   field_kinds method static written r = field_text_kinds (read_field r.ty)
-      ++ member_kinds (resolved_field classes from r)
+      ++ member_kinds (linked_field classes from r)
       (λ m. static_kinds static m
       ++ (if written then written_kinds (if static then codes "<clinit>" else codes "<init>") method m
       ++ unless (not (static && is_of_library m.class)) LeftOutMember
@@ -159,7 +159,7 @@ module _ (classes : List Class) (number : ℕ) where
   abbrev pub call_kinds : Bool → MemberRef → List ProfileKind
   call_kinds static r = method_text_kinds (read_method r.ty)
       ++ unless (not (is_text r.name (codes "<clinit>"))) WrongKind
-      ++ member_kinds (resolved_method classes from r) (static_kinds static)
+      ++ member_kinds (linked_method classes from r) (static_kinds static)
 
   -- no instance initialisation method is called so
   abbrev pub no_init_kinds : MemberRef → List ProfileKind
@@ -173,15 +173,17 @@ module _ (classes : List Class) (number : ℕ) where
     of_base _ = None
 
   -- an instance initialisation method is one of the class that is named
-  abbrev pub init_kinds : MemberRef → List ProfileKind
-  init_kinds r = member_kinds (resolved_method classes from r) (λ m. unless (option_map_or (same_class m.class) (class_of r) false) WrongKind)
+  abbrev pub init_kinds : ClassId → MemberRef → List ProfileKind
+  init_kinds named r = member_kinds (linked_method classes from r) (λ m. unless (same_class m.class named) WrongKind)
 
   -- another method is called by invokespecial in the own class or a superclass alone
-  abbrev pub super_kinds : MemberRef → List ProfileKind
-  super_kinds r = unless (option_map_or (λ c. is_class_below classes from c) (class_of r) false) WrongKind
+  abbrev pub super_kinds : ClassId → List ProfileKind
+  super_kinds named = unless (is_class_below classes from named) WrongKind
 
+  -- no method of an array is called by invokespecial
   abbrev pub special_kinds : MemberRef → List ProfileKind
-  special_kinds r = call_kinds false r ++ (if is_init r.name then init_kinds r else super_kinds r)
+  special_kinds r = call_kinds false r
+      ++ option_map_or (λ named. if is_init r.name then init_kinds named r else super_kinds named) (class_of r) (WrongKind ∷ [])
 
   abbrev pub is_abstract_class : ClassId → Bool
   is_abstract_class (Prog n) = option_map_or (λ c. has acc_abstract c.flags.0) (slice_get classes n) false
