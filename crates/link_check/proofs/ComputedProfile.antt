@@ -7,7 +7,7 @@ use Rattle.jv_base.specs.Walk.{walk}
 use Rattle.lib_table.specs.Library.{library}
 use Rattle.class_pool.specs.Walk.{upwards, walked}
 use Rattle.link_check.specs.Profile.{least}
-use Rattle.link_check.specs.ProfileRows.{ResolvedFieldRows, ResolvedMethodRows, LibraryMethodRows, ResolvedArrayRows, SupertypeRows, TypeRows, OperandRows, HandlerRows, FieldRows, CallRows, LibraryCallRows, SpecialRows, InitRows, NewRows, ArrayCallRows, FinalRows, OverridingRows, OverridingThroughRows, LibraryOverridingRows, SuperinterfaceRows, ImplementingRows, InterfaceBodyRows, FlagRows, NotedRows, FloatRows, SeveralRows}
+use Rattle.link_check.specs.ProfileRows.{ResolvedFieldRows, ResolvedMethodRows, LibraryMethodRows, ResolvedArrayRows, SupertypeRows, TypeRows, OperandRows, HandlerRows, FieldRows, CallRows, LibraryCallRows, AccessRows, SpecialRows, InitRows, NewRows, ArrayCallRows, FinalRows, OverridingRows, OverridingThroughRows, LibraryOverridingRows, SuperinterfaceRows, ImplementingRows, InterfaceBodyRows, FlagRows, NotedRows, FloatRows, SeveralRows}
 
 pub resolved_fields : ResolvedFieldRows
 unfolding library upwards walked field_text base_text method_text result_text grown read_field read_method walk
@@ -62,17 +62,22 @@ calls = (refl, refl, refl, refl, refl, refl)
 pub library_calls : LibraryCallRows
 unfolding library upwards walked field_text base_text method_text result_text grown read_field read_method walk
     is_class_name is_member_name is_primitive_or_void is_name_byte part_after words_of argument_words least
-library_calls = (refl, refl, refl, refl)
+library_calls = (refl, refl, refl, refl, refl, refl)
+
+pub access : AccessRows
+unfolding library upwards walked field_text base_text method_text result_text grown read_field read_method walk
+    is_class_name is_member_name is_primitive_or_void is_name_byte part_after words_of argument_words least
+access = (refl, refl, refl, refl, refl)
 
 pub special_calls : SpecialRows
 unfolding library upwards walked field_text base_text method_text result_text grown read_field read_method walk
     is_class_name is_member_name is_primitive_or_void is_name_byte part_after words_of argument_words least
-special_calls = (refl, refl, refl, refl, refl)
+special_calls = (refl, refl, refl, refl, refl, refl)
 
 pub instance_initialisation : InitRows
 unfolding library upwards walked field_text base_text method_text result_text grown read_field read_method walk
     is_class_name is_member_name is_primitive_or_void is_name_byte part_after words_of argument_words least
-instance_initialisation = (refl, refl, refl, refl, refl)
+instance_initialisation = (refl, refl, refl, refl, refl, refl)
 
 pub new_objects : NewRows
 unfolding library upwards walked field_text base_text method_text result_text grown read_field read_method walk

@@ -317,6 +317,29 @@ LibraryCallRows =
     × (links_checked (main (op.InvokeStatic hash_code) ∷ []) ≡ in_run WrongKind)
     × (links_checked (main (op.InvokeVirtual equals) ∷ []) ≡ taken)
     × (links_checked (main (op.InvokeSpecial (of_class object (codes "finalize") no_result)) ∷ []) ≡ in_run LeftOutMember)
+    × (links_checked (main (op.InvokeInterface (of_interface (codes "q/Able") (codes "hashCode") (codes "()I"))) ∷ interface_able ∷ [])
+    ≡ in_run LeftOutMember)
+    × (links_checked (main (op.InvokeStatic (of_interface (codes "q/Able") (codes "hashCode") (codes "()I"))) ∷ interface_able ∷ [])
+    ≡ in_run WrongKind)
+
+-- class q.Main { void run() }, whose code has this instruction
+abbrev pub main_beside : Op → Class
+main_beside op = plain_class 0x0020 (codes "q/Main") object [] [] (running 0x0000 (codes "run") (op ∷ []) ∷ [])
+
+-- public class q.Guarded { protected void g() private void h() }
+abbrev pub class_guarded : Class
+class_guarded = plain_class 0x0021 (codes "q/Guarded") object [] [] (plain_method 0x0004 (codes "g") ∷ plain_method 0x0002 (codes "h") ∷ [])
+
+-- a method of the package from there and from another one, a protected one from a subclass and from another class, and a private one
+abbrev pub AccessRows : Type 0
+AccessRows =
+    (links_checked (main_beside (op.InvokeVirtual (of_class (codes "q/Open") (codes "own") no_result)) ∷ class_open ∷ []) ≡ taken)
+    × (links_checked (main (op.InvokeVirtual (of_class (codes "q/Open") (codes "own") no_result)) ∷ class_open ∷ []) ≡ in_run Inaccessible)
+    × (links_checked (main_below (codes "q/Guarded") (op.InvokeVirtual (of_class (codes "p/Main") (codes "g") no_result)) ∷ class_guarded ∷ [])
+    ≡ taken)
+    × (links_checked (main (op.InvokeVirtual (of_class (codes "q/Guarded") (codes "g") no_result)) ∷ class_guarded ∷ []) ≡ in_run Inaccessible)
+    × (links_checked (main_beside (op.InvokeVirtual (of_class (codes "q/Guarded") (codes "h") no_result)) ∷ class_guarded ∷ [])
+    ≡ in_run Inaccessible)
 
 -- public class q.Above { public q.Above() public void m() }
 abbrev pub class_above : Class
@@ -328,6 +351,7 @@ SpecialRows =
     (links_checked (main (op.InvokeSpecial (of_class (codes "p/Main") (codes "run") no_result)) ∷ []) ≡ taken)
     × (links_checked (main_below (codes "q/Above") (op.InvokeSpecial (of_class (codes "q/Above") (codes "m") no_result)) ∷ class_above ∷ [])
     ≡ taken)
+    × (links_checked (main_below (codes "q/Above") (op.InvokeSpecial equals) ∷ class_above ∷ []) ≡ taken)
     × (links_checked (main (op.InvokeSpecial (of_class (codes "q/Open") (codes "m") no_result)) ∷ class_open ∷ []) ≡ in_run WrongKind)
     × (links_checked (main (op.InvokeSpecial (of_interface (codes "q/Able") (codes "a") no_result)) ∷ interface_able ∷ []) ≡ in_run WrongKind)
     × (links_checked (main (op.InvokeSpecial (of_class (codes "q/Open") (codes "s") no_result)) ∷ class_open ∷ []) ≡ in_run WrongKind)
@@ -340,6 +364,7 @@ InitRows =
     × (links_checked (main (op.InvokeVirtual (of_class (codes "q/Above") init no_result)) ∷ class_above ∷ []) ≡ in_run WrongKind)
     × (links_checked (main (op.InvokeStatic (of_class (codes "q/Above") init no_result)) ∷ class_above ∷ []) ≡ in_run WrongKind)
     × (links_checked (main (op.InvokeSpecial (of_class (codes "java/lang/LinkageError") init no_result)) ∷ []) ≡ in_run WrongKind)
+    × (links_checked (main (op.InvokeSpecial (of_interface (codes "q/Able") init no_result)) ∷ interface_able ∷ []) ≡ in_run WrongKind)
 
 -- a class of the program and one of the library, and what no object is made of
 abbrev pub NewRows : Type 0

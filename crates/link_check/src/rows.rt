@@ -2,7 +2,7 @@
 //
 // Each clause is computed from the definitions. The classes are written out in specs/ProfileRows.antt; what is told of them follows
 // from JVMS 4.10, 5.4.3 to 5.4.5 and 6.5. Not all of them could stand in one program.
-ghost use Rattle.link_check.specs.ProfileRows.{ArrayCallRows, CallRows, FieldRows, FinalRows, FlagRows, FloatRows, HandlerRows, ImplementingRows, InitRows, InterfaceBodyRows, LibraryCallRows, LibraryMethodRows, LibraryOverridingRows, NewRows, NotedRows, OperandRows, OverridingRows, OverridingThroughRows, ResolvedArrayRows, ResolvedFieldRows, ResolvedMethodRows, SeveralRows, SpecialRows, SuperinterfaceRows, SupertypeRows, TypeRows};
+ghost use Rattle.link_check.specs.ProfileRows.{AccessRows, ArrayCallRows, CallRows, FieldRows, FinalRows, FlagRows, FloatRows, HandlerRows, ImplementingRows, InitRows, InterfaceBodyRows, LibraryCallRows, LibraryMethodRows, LibraryOverridingRows, NewRows, NotedRows, OperandRows, OverridingRows, OverridingThroughRows, ResolvedArrayRows, ResolvedFieldRows, ResolvedMethodRows, SeveralRows, SpecialRows, SuperinterfaceRows, SupertypeRows, TypeRows};
 
 /// Carries what the rules give for a few small sets of classes. It does nothing.
 pub fn computed_profile()
@@ -17,6 +17,7 @@ pub fn computed_profile()
     ensures fields { FieldRows }
     ensures calls { CallRows }
     ensures library_calls { LibraryCallRows }
+    ensures access { AccessRows }
     ensures special_calls { SpecialRows }
     ensures instance_initialisation { InitRows }
     ensures new_objects { NewRows }

@@ -34,6 +34,9 @@ returns-clause-calls c = computed.calls
 pub returns-clause-library_calls : goal.returns-clause-library_calls
 returns-clause-library_calls c = computed.library_calls
 
+pub returns-clause-access : goal.returns-clause-access
+returns-clause-access c = computed.access
+
 pub returns-clause-special_calls : goal.returns-clause-special_calls
 returns-clause-special_calls c = computed.special_calls
 
