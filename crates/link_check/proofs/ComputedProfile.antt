@@ -47,7 +47,7 @@ operands = (refl, refl, refl, refl, refl, refl)
 pub handlers : HandlerRows
 unfolding library upwards walked field_text base_text method_text result_text grown read_field read_method walk
     is_class_name is_member_name is_primitive_or_void is_name_byte part_after words_of argument_words least
-handlers = (refl, refl, refl, refl, refl)
+handlers = (refl, refl, refl, refl, refl, refl)
 
 pub fields : FieldRows
 unfolding library upwards walked field_text base_text method_text result_text grown read_field read_method walk
@@ -77,7 +77,7 @@ special_calls = (refl, refl, refl, refl, refl, refl)
 pub instance_initialisation : InitRows
 unfolding library upwards walked field_text base_text method_text result_text grown read_field read_method walk
     is_class_name is_member_name is_primitive_or_void is_name_byte part_after words_of argument_words least
-instance_initialisation = (refl, refl, refl, refl, refl, refl)
+instance_initialisation = (refl, refl, refl, refl, refl, refl, refl)
 
 pub new_objects : NewRows
 unfolding library upwards walked field_text base_text method_text result_text grown read_field read_method walk

@@ -269,20 +269,21 @@ OperandRows =
     × (links_checked (main (op.InvokeVirtual (of_class object (codes "getClass") (codes "()Ljava/lang/Class;"))) ∷ []) ≡ in_run Unresolved)
 
 -- class p.Main { void run() }, whose code has a handler and a frame
-abbrev pub main_with : Option (List ℕ) → VType → Class
-main_with caught item = plain_class 0x0020 (codes "p/Main") object [] []
+abbrev pub main_with : Option (List ℕ) → List VType → List VType → Class
+main_with caught locals stack = plain_class 0x0020 (codes "p/Main") object [] []
     (made_method 0x0000 (codes "run") [] None [] (Some (code_of (op.Nop ∷ op.Nop ∷ [])
     (record { from = 0; to = 1; entry = 1; caught = caught } ∷ [])
-    (record { index = 1; frame = record { locals = vtype.Int ∷ item ∷ []; stack = [] } } ∷ []))) ∷ [])
+    (record { index = 1; frame = record { locals = locals; stack = stack } } ∷ []))) ∷ [])
 
 -- in handlers and frames
 abbrev pub HandlerRows : Type 0
 HandlerRows =
-    (links_checked (main_with (Some (codes "java/lang/Throwable")) (vtype.Object open_type) ∷ class_open ∷ []) ≡ taken)
-    × (links_checked (main_with None (vtype.Uninit 0) ∷ []) ≡ taken)
-    × (links_checked (main_with (Some (codes "java/lang/Absent")) vtype.Null ∷ []) ≡ in_run Unresolved)
-    × (links_checked (main_with (Some (codes "q/Hidden")) vtype.Top ∷ class_hidden ∷ []) ≡ in_run Inaccessible)
-    × (links_checked (main_with None (vtype.Object (array_type hidden_class)) ∷ class_hidden ∷ []) ≡ in_run Inaccessible)
+    (links_checked (main_with (Some (codes "java/lang/Throwable")) (vtype.Object open_type ∷ []) [] ∷ class_open ∷ []) ≡ taken)
+    × (links_checked (main_with None (vtype.Top ∷ vtype.Uninit 0 ∷ []) (vtype.Null ∷ []) ∷ []) ≡ taken)
+    × (links_checked (main_with (Some (codes "java/lang/Absent")) [] [] ∷ []) ≡ in_run Unresolved)
+    × (links_checked (main_with (Some (codes "q/Hidden")) [] [] ∷ class_hidden ∷ []) ≡ in_run Inaccessible)
+    × (links_checked (main_with None (vtype.Int ∷ vtype.Object (array_type hidden_class) ∷ []) [] ∷ class_hidden ∷ []) ≡ in_run Inaccessible)
+    × (links_checked (main_with None [] (vtype.Object absent_type ∷ []) ∷ []) ≡ in_run Unresolved)
 
 -- ---- members that are named
 
@@ -363,6 +364,7 @@ InitRows =
     × (links_checked (main (op.InvokeSpecial (of_class (codes "q/Open") init no_result)) ∷ class_open ∷ []) ≡ in_run WrongKind)
     × (links_checked (main (op.InvokeVirtual (of_class (codes "q/Above") init no_result)) ∷ class_above ∷ []) ≡ in_run WrongKind)
     × (links_checked (main (op.InvokeStatic (of_class (codes "q/Above") init no_result)) ∷ class_above ∷ []) ≡ in_run WrongKind)
+    × (links_checked (main (op.InvokeInterface (of_interface (codes "q/Able") init no_result)) ∷ interface_able ∷ []) ≡ in_run WrongKind)
     × (links_checked (main (op.InvokeSpecial (of_class (codes "java/lang/LinkageError") init no_result)) ∷ []) ≡ in_run WrongKind)
     × (links_checked (main (op.InvokeSpecial (of_interface (codes "q/Able") init no_result)) ∷ interface_able ∷ []) ≡ in_run WrongKind)
 
@@ -526,7 +528,7 @@ FloatRows =
     × (links_checked (main (op.GetStatic (of_class (codes "q/Open") (codes "count") (codes "F"))) ∷ class_open ∷ []) ≡ in_run LeftOutType)
     × (links_checked (main (op.InvokeStatic (of_class (codes "q/Open") (codes "s") (codes "([D)V"))) ∷ class_open ∷ []) ≡ in_run LeftOutType)
     × (links_checked (main (op.CheckCast (array_type base.Float)) ∷ []) ≡ in_run LeftOutType)
-    × (links_checked (main_with None (vtype.Object (array_type base.Double)) ∷ []) ≡ in_run LeftOutType)
+    × (links_checked (main_with None (vtype.Object (array_type base.Double) ∷ []) [] ∷ []) ≡ in_run LeftOutType)
     × (links_checked (main (op.CheckCast (array_type base.Long)) ∷ []) ≡ taken)
 
 -- ---- several faults
