@@ -112,7 +112,7 @@ library_overriding = (refl, refl, refl, refl)
 pub superinterfaces : SuperinterfaceRows
 unfolding library upwards walked field_text base_text method_text result_text grown read_field read_method walk
     is_class_name is_member_name is_primitive_or_void is_name_byte part_after words_of argument_words least
-superinterfaces = (refl, refl, refl, refl, refl)
+superinterfaces = (refl, refl, refl, refl, refl, refl)
 
 pub implementing : ImplementingRows
 unfolding library upwards walked field_text base_text method_text result_text grown read_field read_method walk

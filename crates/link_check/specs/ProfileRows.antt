@@ -464,17 +464,24 @@ LibraryOverridingRows =
 abbrev pub naming : List ℕ → Class
 naming name = plain_class 0x0600 (codes "p/I") object [] [] (plain_method 0x0401 name ∷ [])
 
+-- interface p.I { boolean equals(Object); }
+abbrev pub naming_equals : Class
+naming_equals = plain_class 0x0600 (codes "p/I") object [] []
+    (made_method 0x0401 (codes "equals") (class_type object ∷ []) (Some (record { dims = 0; base = base.Boolean })) [] None ∷ [])
+
 -- class p.C extends .. implements p.I
 abbrev pub implementing : ℕ → List ℕ → List Method → Class
 implementing flags above methods = plain_class flags (codes "p/C") above (codes "p/I" ∷ []) [] methods
 
--- an interface's method that runs one of the library that a program may not name, one of the class, a private one too, and none
+-- an interface's method that runs one of the library that a program may not name, one of the class, a private one too, one of the library
+-- that a program may name, and none
 abbrev pub SuperinterfaceRows : Type 0
 SuperinterfaceRows =
     (links_checked (implementing 0x0020 object [] ∷ naming (codes "notify") ∷ []) ≡ in_class 0 LeftOutMember)
     × (links_checked (implementing 0x0020 object [] ∷ naming (codes "finalize") ∷ []) ≡ in_class 0 LeftOutMember)
     × (links_checked (implementing 0x0020 object (plain_method 0x0001 (codes "notify") ∷ []) ∷ naming (codes "notify") ∷ []) ≡ taken)
     × (links_checked (implementing 0x0020 object (plain_method 0x0002 (codes "notify") ∷ []) ∷ naming (codes "notify") ∷ []) ≡ taken)
+    × (links_checked (implementing 0x0020 object [] ∷ naming_equals ∷ []) ≡ taken)
     × (links_checked (implementing 0x0020 object [] ∷ naming (codes "m") ∷ []) ≡ taken)
 
 -- not of an abstract class or an interface, but of a class below; and of no interface of the library
