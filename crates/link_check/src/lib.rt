@@ -3,5 +3,7 @@
 
 mod fault;
 mod kinds;
+mod rows;
 
 pub use fault::{LinkKind, ProfileFault, ProfileKind};
+pub use rows::computed_profile;
