@@ -1,0 +1,3 @@
+mod Picked
+mod Left
+pub mod Writable

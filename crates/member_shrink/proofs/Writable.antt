@@ -1,0 +1,190 @@
+-- What is left of classes that can be written can be written too.
+use Rattle.std.proofs.Common.{◌≡◌, ℕ, ◌+◌, ◌<◌, Bool, List, [], ◌∷◌, length, map, Option, Some, None, refl, sym, ap, subst, ◌∙◌}
+use Rattle.std.specs.Option.{IfSome, is_some, option_map}
+use Rattle.std.specs.List.{AllByRecursion, AllPairs, slice_get}
+use Rattle.std.proofs.lemmas.List.{length-map}
+use Rattle.std.proofs.lemmas.Bool.{false≢true}
+use Rattle.std.proofs.lemmas.Option.{slice_get-map}
+use Rattle.class_model.specs.declared.op.Op.TheVariants as op
+use Rattle.class_model.specs.declared.code.Ins.{Ins}
+use Rattle.class_model.specs.declared.code.Code.{Code}
+use Rattle.class_model.specs.declared.frame.VType.{VType}
+use Rattle.class_model.specs.declared.frame.VType.TheVariants as vtype
+use Rattle.class_model.specs.declared.frame.FrameAt.{FrameAt}
+use Rattle.class_model.specs.declared.class.Field.{Field}
+use Rattle.class_model.specs.declared.class.Method.{Method}
+use Rattle.class_model.specs.declared.class.Class.{Class}
+use Rattle.class_model.specs.Flags.{is_interface}
+use Rattle.class_model.specs.Members.{FieldsDiffer, MethodsDiffer}
+use Rattle.class_model.specs.WellFormed.{IsGoodOp, IsGoodHandler, IsGoodType, IsGoodFrame, IsGoodCode, IsGoodField, IsGoodMethod, LinesGoOn, HasFewWords}
+use Rattle.class_write.specs.ClassValues.{IsInsValue, IsCodeValue, IsFieldValue, IsMethodValue}
+use Rattle.class_write.specs.SpellingLaws.{IsWritable}
+use Rattle.member_shrink.specs.Shrunk.{class_item, is_marked, chosen, with_marked_members}
+use Rattle.member_shrink.specs.Attributes.{without_line, without_lines, field_without_optional, method_without_optional}
+use Rattle.member_shrink.specs.Laws.{ShrunkAreWritable, WithoutOptionalIsWritable}
+use Rattle.member_shrink.proofs.Picked.{all_mapped, some_mapped, all_picked, pairs_mapped, pairs_picked}
+
+-- the counts of a method's code fit
+abbrev CodeCounts : Code → Type 0
+CodeCounts code = AllByRecursion (λ (i : Ins). HasFewWords i.op) code.ins
+
+abbrev MethodCounts : Method → Type 0
+MethodCounts m = IfSome m.code CodeCounts
+
+-- ---- some members
+
+all_chosen : {A : Type 0} (P : A → Type 0) (marks : List Bool) (first : ℕ) (xs : List A) → AllByRecursion P xs → AllByRecursion P (chosen marks first xs)
+all_chosen {A} P marks first xs h = all_picked P P (λ (e : ℕ × A). is_marked marks e.0) (λ (e : ℕ × A). e.1) (λ e p. p) first xs h
+
+pairs_chosen : {A : Type 0} (R : A → A → Type 0) (marks : List Bool) (first : ℕ) (xs : List A) → AllPairs R xs → AllPairs R (chosen marks first xs)
+pairs_chosen {A} R marks first xs h = pairs_picked R (λ (e : ℕ × A). is_marked marks e.0) first xs h
+
+members_writable : (marks : List Bool) (item : ℕ) (c : Class) → IsWritable c → IsWritable (with_marked_members marks item c)
+members_writable marks item c w =
+    let formed = w.well_formed in
+    let field = item + 1 in
+    let method = item + 1 + length c.fields in
+    record {
+      well_formed = record {
+        nothing_left_out = formed.nothing_left_out;
+        meant = formed.meant;
+        flags = formed.flags;
+        no_annotation_or_enum = formed.no_annotation_or_enum;
+        name = formed.name;
+        super_name = formed.super_name;
+        interfaces = formed.interfaces;
+        fields = all_chosen (IsGoodField (is_interface c.flags.0)) marks field c.fields formed.fields;
+        fields_differ = pairs_chosen FieldsDiffer marks field c.fields formed.fields_differ;
+        methods = all_chosen (IsGoodMethod (is_interface c.flags.0)) marks method c.methods formed.methods;
+        methods_differ = pairs_chosen MethodsDiffer marks method c.methods formed.methods_differ;
+        source = formed.source;
+      };
+      counts = all_chosen MethodCounts marks method c.methods w.counts;
+      value = record {
+        fields = all_chosen IsFieldValue marks field c.fields w.value.fields;
+        methods = all_chosen IsMethodValue marks method c.methods w.value.methods;
+      };
+    }
+
+pub shrunk_writable : ShrunkAreWritable
+shrunk_writable classes marks h =
+    all_picked IsWritable IsWritable
+    (λ (e : ℕ × Class). is_marked marks (class_item classes e.0))
+    (λ (e : ℕ × Class). with_marked_members marks (class_item classes e.0) e.1)
+    (λ e w. members_writable marks (class_item classes e.0) e.1 w) 0 classes h
+
+-- ---- no lines
+
+same_count : (code : Code) → length code.ins ≡ length (map without_line code.ins)
+same_count code = sym (length-map code.ins without_line)
+
+new_stays : (k : ℕ) (code : Code) → ((at : Ins) × (name : List ℕ) × (slice_get code.ins k ≡ Some at) × (at.op ≡ op.New name))
+    → (at : Ins) × (name : List ℕ) × (slice_get (map without_line code.ins) k ≡ Some at) × (at.op ≡ op.New name)
+new_stays k code h = (without_line h.0, h.1, slice_get-map without_line code.ins k ∙ ap (option_map without_line) h.2, h.3)
+
+type_stays : (code : Code) (t : VType) → IsGoodType code.ins t → IsGoodType (map without_line code.ins) t
+type_stays code (vtype.Object ty) h = h
+type_stays code (vtype.Uninit k) h = new_stays k code h
+type_stays code _ h = tt
+
+types_stay : (code : Code) (ts : List VType) → AllByRecursion (IsGoodType code.ins) ts → AllByRecursion (IsGoodType (map without_line code.ins)) ts
+types_stay code [] h = tt
+types_stay code (t ∷ ts) h = (type_stays code t h.0, types_stay code ts h.1)
+
+frame_stays : (code : Code) (f : FrameAt) → IsGoodFrame code f → IsGoodFrame (without_lines code) f
+frame_stays code f g = record {
+  index = subst (λ (n : ℕ). f.index < n) (same_count code) g.index;
+  locals = types_stay code f.frame.locals g.locals;
+  cut = g.cut;
+  locals_fit = g.locals_fit;
+  stack = types_stay code f.frame.stack g.stack;
+  stack_fits = g.stack_fits;
+}
+
+frames_stay : (code : Code) (fs : List FrameAt) → AllByRecursion (IsGoodFrame code) fs → AllByRecursion (IsGoodFrame (without_lines code)) fs
+frames_stay code [] h = tt
+frames_stay code (f ∷ fs) h = (frame_stays code f h.0, frames_stay code fs h.1)
+
+-- no instruction has a line, so none is missing behind one with a line
+no_lines : (xs : List Ins) → AllPairs (λ (one next : Ins). LinesGoOn (without_line one) (without_line next)) xs
+no_lines xs i j d lt within h = absurd (false≢true h)
+
+code_good : (code : Code) → IsGoodCode code → IsGoodCode (without_lines code)
+code_good code g = record {
+  some = subst (λ (n : ℕ). 0 < n) (same_count code) g.some;
+  instructions =
+      all_mapped (λ (i : Ins). IsGoodOp (length code.ins) i.op) (λ (i : Ins). IsGoodOp (length (map without_line code.ins)) i.op) without_line
+      (λ i h. subst (λ (n : ℕ). IsGoodOp n i.op) (same_count code) h) code.ins g.instructions;
+  lines = pairs_mapped LinesGoOn without_line code.ins (no_lines code.ins);
+  handlers = subst (λ (n : ℕ). AllByRecursion (IsGoodHandler n) code.handlers) (same_count code) g.handlers;
+  frames = frames_stay code code.frames g.frames;
+  ascending = g.ascending;
+}
+
+code_value : (code : Code) → IsCodeValue code → IsCodeValue (without_lines code)
+code_value code v = record {
+  max_stack = v.max_stack;
+  max_locals = v.max_locals;
+  ins = all_mapped IsInsValue IsInsValue without_line (λ i h. record { op = h.op; pushed = h.pushed; line = tt }) code.ins v.ins;
+  frames = v.frames;
+}
+
+code_counts : (code : Code) → CodeCounts code → CodeCounts (without_lines code)
+code_counts code h = all_mapped (λ (i : Ins). HasFewWords i.op) (λ (i : Ins). HasFewWords i.op) without_line (λ i few. few) code.ins h
+
+-- ---- no optional attributes
+
+field_good : (in_interface : Bool) (field : Field) → IsGoodField in_interface field → IsGoodField in_interface (field_without_optional field)
+field_good in_interface field g = record { meant = g.meant; flags = g.flags; name = g.name; typed = g.typed; constant = g.constant }
+
+body_stays : (o : Option Code) → is_some (option_map without_lines o) ≡ is_some o
+body_stays None = refl
+body_stays (Some code) = refl
+
+method_good : (in_interface : Bool) (m : Method) → IsGoodMethod in_interface m → IsGoodMethod in_interface (method_without_optional m)
+method_good in_interface m g = record {
+  meant = g.meant;
+  flags = g.flags;
+  not_native = g.not_native;
+  name = g.name;
+  typed = g.typed;
+  room_for_this = g.room_for_this;
+  initial_flags = g.initial_flags;
+  initial_type = g.initial_type;
+  body = body_stays m.code ∙ g.body;
+  code = some_mapped IsGoodCode IsGoodCode without_lines code_good m.code g.code;
+  throws = tt;
+}
+
+method_value : (m : Method) → IsMethodValue m → IsMethodValue (method_without_optional m)
+method_value m v = record { ty = v.ty; code = some_mapped IsCodeValue IsCodeValue without_lines code_value m.code v.code }
+
+pub without_optional_writable : WithoutOptionalIsWritable
+without_optional_writable c w =
+    let formed = w.well_formed in
+    record {
+      well_formed = record {
+        nothing_left_out = formed.nothing_left_out;
+        meant = formed.meant;
+        flags = formed.flags;
+        no_annotation_or_enum = formed.no_annotation_or_enum;
+        name = formed.name;
+        super_name = formed.super_name;
+        interfaces = formed.interfaces;
+        fields =
+            all_mapped (IsGoodField (is_interface c.flags.0)) (IsGoodField (is_interface c.flags.0)) field_without_optional
+            (field_good (is_interface c.flags.0)) c.fields formed.fields;
+        fields_differ = pairs_mapped FieldsDiffer field_without_optional c.fields formed.fields_differ;
+        methods =
+            all_mapped (IsGoodMethod (is_interface c.flags.0)) (IsGoodMethod (is_interface c.flags.0)) method_without_optional
+            (method_good (is_interface c.flags.0)) c.methods formed.methods;
+        methods_differ = pairs_mapped MethodsDiffer method_without_optional c.methods formed.methods_differ;
+        source = tt;
+      };
+      counts =
+          all_mapped MethodCounts MethodCounts method_without_optional (λ m h. some_mapped CodeCounts CodeCounts without_lines code_counts m.code h) c.methods w.counts;
+      value = record {
+        fields = all_mapped IsFieldValue IsFieldValue field_without_optional (λ field v. record { ty = v.ty; constant = v.constant }) c.fields w.value.fields;
+        methods = all_mapped IsMethodValue IsMethodValue method_without_optional method_value c.methods w.value.methods;
+      };
+    }

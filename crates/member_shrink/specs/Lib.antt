@@ -1,0 +1,3 @@
+pub mod Shrunk
+pub mod Attributes
+pub mod Laws
