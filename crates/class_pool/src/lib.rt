@@ -4,6 +4,7 @@
 mod building;
 mod closure;
 mod components;
+mod count;
 mod cycles;
 mod fault;
 mod found;

@@ -1,0 +1,7 @@
+use Rattle.std.proofs.Common.{◌≡◌, ◌++◌, codes, take}
+use Rattle.std.specs.List.{flat_map}
+use Rattle.jv_base.specs.External.{external_text}
+use Rattle.report_text.proofs.spelled.push_types.Given as goal
+
+abbrev pub invariant-loop-ty : goal.invariant-loop-ty
+invariant-loop-ty l = l.text ≡ l.initial.text ++ flat_map (λ ty. codes "," ++ external_text ty) (take l.ty-index l.rest)

@@ -1,0 +1,9 @@
+//! How classes and their members are spelled in texts for people: with external names, and types as Java source has them.
+#![tactic(auto)]
+
+mod spelled;
+
+pub use spelled::{class_text, member_text};
+
+#[cfg(test)]
+mod tests;

@@ -1,0 +1,85 @@
+// The texts of classes and members.
+ghost use Rattle.std.specs.Prelude.{◌≡◌, ◌+◌, ◌<◌, ◌++◌, IfOk, OnOk, Some, codes, length, slice_get};
+ghost use Rattle.std.specs.List.{flat_map, join_by};
+ghost use Rattle.jv_base.specs.External.{external_text};
+ghost use Rattle.report_text.specs.Spelled.{class_text, field_text, member_texts, method_text, result_text};
+
+use class_model::{Class, Field, Method};
+use jv_base::{Base, FieldType, M, Text, external};
+use std::alloc::Global;
+
+/// The name of a class with dots, as `java.lang.String` (JLS 13.1).
+#[tactic(auto, using(crate::proofs::ClassNames::class_spelled))]
+pub fn class_text(alloc: Global, class: &Class) -> M<Text>
+    ensures { IfOk result (λ text. text ≡ class_text class.now) }
+{
+    let base = Base::Class(class.name.clone()?);
+    external(alloc, &FieldType { dims: 0, base })
+}
+
+/// The text of a member as a mapping file of ProGuard has it: `int x` of a field, `void main(java.lang.String[])` of a
+/// method. The fields are numbered first, then the methods.
+pub fn member_text(alloc: Global, class: &Class, member: u32) -> M<Text>
+    requires { member < length class.now.fields + length class.now.methods }
+    ensures { IfOk result (λ text. slice_get (member_texts class.now) member ≡ Some text) }
+{
+    let index = member as usize;
+    let fields = class.fields.len();
+    if index < fields {
+        field_text(alloc, &class.fields[index])
+    } else {
+        method_text(alloc, &class.methods[index - fields])
+    }
+}
+
+fn field_text(alloc: Global, field: &Field) -> M<Text>
+    ensures { IfOk result (λ text. text ≡ field_text field.now) }
+{
+    let mut text = external(alloc, &field.ty)?;
+    text.push_str(" ")?;
+    text.push_str(field.name.as_str())?;
+    Ok(text)
+}
+
+fn method_text(alloc: Global, method: &Method) -> M<Text>
+    ensures { IfOk result (λ text. text ≡ method_text method.now) }
+{
+    let mut text = result_text(alloc, &method.ty.ret)?;
+    text.push_str(" ")?;
+    text.push_str(method.name.as_str())?;
+    text.push_str("(")?;
+    push_types(alloc, &mut text, method.ty.args.as_slice())?;
+    text.push_str(")")?;
+    Ok(text)
+}
+
+fn result_text(alloc: Global, ret: &Option<FieldType>) -> M<Text>
+    ensures { IfOk result (λ text. text ≡ result_text ret.now) }
+{
+    match ret {
+        Some(ty) => external(alloc, ty),
+        None => Ok(Text::from_str(alloc, "void")?),
+    }
+}
+
+fn push_types(alloc: Global, text: &mut Text, types: &[FieldType]) -> M<()>
+    ensures { OnOk result (text.new ≡ text.old ++ join_by external_text (codes ",") types.now) }
+{
+    let [first, rest @ ..] = types else {
+        return Ok(());
+    };
+    push_type(alloc, text, first)?;
+    for ty in rest {
+        text.push_str(",")?;
+        push_type(alloc, text, ty)?;
+    }
+    Ok(())
+}
+
+fn push_type(alloc: Global, text: &mut Text, ty: &FieldType) -> M<()>
+    ensures { OnOk result (text.new ≡ text.old ++ external_text ty.now) }
+{
+    let spelled = external(alloc, ty)?;
+    text.push_str(spelled.as_str())?;
+    Ok(())
+}

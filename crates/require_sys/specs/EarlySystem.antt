@@ -1,0 +1,96 @@
+-- What has to be kept where only static methods are removed, as a system of requirements on the items of a set of classes: everything but
+-- the static methods is kept in any case, and a static method where it is asked for or where a method that is kept calls it.
+use Rattle.std.specs.Prelude.{ℕ, ◌+◌, Bool, true, false, not, ◌||◌, List, [], ◌∷◌, ◌++◌, length, map, take, replicate, Option, Some, None, Result, Ok, Err, if◌then◌else◌}
+use Rattle.std.specs.List.{enumerate_from, filter_map, flat_map}
+use Rattle.std.specs.Option.{option_and_then}
+use Rattle.mark_core.specs.declared.system.System.{System}
+use Rattle.class_model.specs.Flags.{is_clinit, is_static}
+use Rattle.class_model.specs.declared.class.Class.{Class}
+use Rattle.class_model.specs.declared.class.Method.{Method}
+use Rattle.class_model.specs.declared.code.Code.{Code}
+use Rattle.class_model.specs.declared.code.Ins.{Ins}
+use Rattle.class_model.specs.declared.op.Op.{Op}
+use Rattle.class_model.specs.declared.op.Op.TheVariants as op
+use Rattle.class_pool.specs.Count.{item_count}
+use Rattle.class_pool.specs.Found.{declared_in, is_static_member}
+use Rattle.class_pool.specs.Hierarchy.{class_named}
+use Rattle.class_pool.specs.declared.id.ClassId.{ClassId}
+use Rattle.class_pool.specs.declared.id.ClassId.TheVariants.{Prog, Lib}
+use Rattle.class_pool.specs.declared.id.MemberAt.{MemberAt}
+use Rattle.link_check.specs.Links.{resolved_method}
+use Rattle.link_check.specs.declared.fault.LinkKind.{LinkKind}
+use Rattle.require_sys.specs.declared.asked.AskedMethod.{AskedMethod}
+
+-- ---- items: each class in the order of the set, then its fields, then its methods
+
+-- the item of a class: as many stand before it as the classes before it have
+abbrev pub class_item : List Class → ℕ → ℕ
+class_item classes n = item_count (take n classes)
+
+-- the item of a member of the program, by the number of its class and by its own
+abbrev pub item_in : List Class → ClassId → ℕ → Option ℕ
+item_in classes (Prog n) index = Some (class_item classes n + 1 + index)
+item_in classes (Lib id) index = None
+
+abbrev pub item_of : List Class → MemberAt → Option ℕ
+item_of classes m = item_in classes m.class m.index
+
+-- ---- seeds
+
+-- a method that is kept in any case: each but the static ones, and of these a class initialisation method (JVMS 2.9, 4.6)
+abbrev pub is_kept_anyway : Method → Bool
+is_kept_anyway m = not (is_static m.flags.0) || is_clinit m.name
+
+-- for each item of a class whether it is kept in any case, as the class and its fields are
+abbrev pub are_kept_anyway : Class → List Bool
+are_kept_anyway c = replicate (1 + length c.fields) true ++ map is_kept_anyway c.methods
+
+-- the places of a list that have true, counted from n
+abbrev pub places_of_true : ℕ → List Bool → List ℕ
+places_of_true n [] = []
+places_of_true n (b ∷ bs) = if b then n ∷ places_of_true (n + 1) bs else places_of_true (n + 1) bs
+
+-- the item of the method that is asked for, where its class declares it
+abbrev pub asked_item : List Class → AskedMethod → Option ℕ
+asked_item classes a =
+    option_and_then (item_of classes) (option_and_then (declared_in classes (a.name, a.descriptor)) (class_named classes a.class))
+
+abbrev pub seeds_of : List Class → List AskedMethod → List ℕ
+seeds_of classes asked = places_of_true 0 (flat_map are_kept_anyway classes) ++ filter_map (asked_item classes) asked
+
+-- ---- needs
+
+-- the item of a static method of the program that a reference means
+abbrev pub static_item : List Class → Result MemberAt LinkKind → Option ℕ
+static_item classes (Ok m) = if is_static_member classes m then item_of classes m else None
+static_item classes (Err kind) = None
+
+-- the item of the static method that an instruction in the class with this number calls (JVMS 6.5, invokestatic)
+unfoldable pub called_item : List Class → ℕ → Op → Option ℕ
+called_item classes n (op.InvokeStatic r) = static_item classes (resolved_method classes (Prog n) r)
+called_item classes n _ = None
+
+abbrev pub instructions_of : Option Code → List Ins
+instructions_of None = []
+instructions_of (Some code) = code.ins
+
+-- a method needs the static methods that it calls
+abbrev pub method_needs : List Class → ℕ → Method → List ℕ
+method_needs classes n m = filter_map (λ (i : Ins). called_item classes n i.op) (instructions_of m.code)
+
+-- what each item of a class needs; the class and its fields need nothing
+abbrev pub class_needs : List Class → ℕ × Class → List (List ℕ)
+class_needs classes (n, c) = replicate (1 + length c.fields) [] ++ map (method_needs classes n) c.methods
+
+abbrev pub needs_of : List Class → List (List ℕ)
+needs_of classes = flat_map (class_needs classes) (enumerate_from 0 classes)
+
+-- ---- the system
+
+abbrev pub system_of : List Class → List AskedMethod → System
+system_of classes asked = record {
+  n = item_count classes;
+  seeds = seeds_of classes asked;
+  needs = needs_of classes;
+  pairs = [];
+}

@@ -1,0 +1,2 @@
+pub mod EarlySystem
+pub mod Starts
