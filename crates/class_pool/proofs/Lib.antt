@@ -12,3 +12,4 @@ pub mod Telling
 pub mod Listing
 pub mod ToldMembers
 pub mod Packages
+pub mod LikeMethods

@@ -8,6 +8,7 @@ pub mod Count
 pub mod Walk
 pub mod Found
 pub mod ToldMembers
+pub mod Descriptors
 pub mod Resolution
 pub mod Selection
 pub mod LinkRows

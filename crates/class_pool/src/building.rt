@@ -8,6 +8,7 @@ ghost use Rattle.class_pool.specs.Supertypes.{NoCycle};
 
 use crate::closure::closure_of;
 use crate::cycles::check_cycles;
+use crate::descriptors::descriptors_of;
 use crate::graph::{graph_of, library_of};
 use crate::lookup::ClassesByName;
 use crate::members::MemberIndex;
@@ -47,12 +48,14 @@ fn set_of(alloc: Global, classes: ClassesByName) -> M<ClassSet>
     ensures { IfOk result (λ set. set ≡ classes) }
 {
     let members = members_of(alloc, &classes)?;
+    let descriptors = descriptors_of(alloc, &classes)?;
     let library = library_of(alloc)?;
     let needs = graph_of(alloc, &classes, &library)?;
     let closure = closure_of(alloc, needs.as_slice(), needs.len())?;
     Ok(ClassSet {
         classes,
         members,
+        descriptors,
         library,
         closure,
     })

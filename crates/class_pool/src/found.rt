@@ -139,7 +139,8 @@ impl ClassSet {
         self.has_flag(m, Access::ABSTRACT)
     }
 
-    /// Whether it is a method that is neither static nor an instance initialisation method (JVMS 2.9).
+    /// Whether it is a method that is neither static nor an instance initialisation method
+    /// (JVMS 2.9).
     pub fn is_instance_method(&self, m: MemberAt) -> bool
         requires there { IsMember self.now m }
         ensures { result ≡ is_instance_method self.now m }

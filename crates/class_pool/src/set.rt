@@ -24,15 +24,18 @@ use std::marker::Model;
 pub struct ClassSet {
     pub(crate) classes: ClassesByName,
     pub(crate) members: Items<MemberIndex>,
+    /// For each class the descriptors of its methods.
+    pub(crate) descriptors: Items<Items<Text>>,
     pub(crate) library: Items<LibId>,
     pub(crate) closure: Closure,
 }
 
 impl Model for ClassSet {
-    ghost use Rattle.std.specs.Prelude.{List, ◌≡◌};
+    ghost use Rattle.std.specs.Prelude.{List, ◌≡◌, map};
     ghost use Rattle.std.specs.List.{AllZip};
     ghost use Rattle.class_model.specs.declared.class.Class.{Class};
     ghost use Rattle.class_pool.specs.ByName.{IsIndexOf};
+    ghost use Rattle.class_pool.specs.Descriptors.{method_texts};
     ghost use Rattle.class_pool.specs.Graph.{Tells, library_ids};
     ghost use Rattle.class_pool.specs.Supertypes.{NoCycle};
 
@@ -41,7 +44,7 @@ impl Model for ClassSet {
     ghost view = { λ s. s.classes };
 
     ghost invariant = { λ s. (s.library ≡ library_ids) × Tells s.classes s.closure.blocks × AllZip IsIndexOf s.classes s.members
-        × NoCycle s.classes };
+        × NoCycle s.classes × (s.descriptors ≡ map method_texts s.classes) };
 }
 
 impl ClassSet {

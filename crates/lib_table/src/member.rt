@@ -2,7 +2,7 @@
 ghost use Rattle.std.specs.Prelude.{◌≡◌, ◌<◌, ◌^◌, ◌&&◌, length, map, slice_get};
 ghost use Rattle.std.specs.Bool.{beq};
 ghost use Rattle.std.specs.List.{list_any};
-ghost use Rattle.std.specs.Option.{option_map};
+ghost use Rattle.std.specs.Option.{option_and_then, option_map};
 ghost use Rattle.jv_base.specs.Names.{is_text};
 ghost use Rattle.jv_base.specs.Types.{method_text};
 ghost use Rattle.lib_table.specs.Lookups.{are_same_methods, class_at, is_method, is_named, member_named, member_told, methods_told};
@@ -51,6 +51,15 @@ pub fn lib_member_at(id: LibId, at: u32) -> Option<LibMember>
 {
     let member = row(id).members.get(at as usize)?;
     Some(told(at, member))
+}
+
+/// The member of a class with the name and the descriptor of another class's member, which is told
+/// by its number.
+pub fn lib_like(id: LibId, other: LibId, at: u32) -> Option<LibMember>
+    ensures { result ≡ option_and_then (λ m. member_named (class_at id).members m.name m.descriptor) (slice_get (class_at other).members at) }
+{
+    let member = row(other).members.get(at as usize)?;
+    row_of_member(row(id).members, member.name, member.descriptor)
 }
 
 /// The method with a number; only methods count, constructors among them, from 0.

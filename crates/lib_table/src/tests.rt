@@ -97,6 +97,8 @@ fn a_method_is_known_by_its_name_and_its_type(rt: HostRuntime) -> Result<(), Fai
     assert!(rt; lib_is(text, 1, &name, &ty));
     assert!(rt; !lib_is(text, 0, &name, &ty));
     assert!(rt; lib_same(text, 1, sequence, 1));
+    assert!(rt; lib_like(sequence, text, 1).is_some_and(|member| member.at == 1));
+    assert!(rt; lib_like(sequence, text, 2).is_none());
     assert!(rt; !lib_same(text, 1, sequence, 0));
     assert!(rt; lib_named(&name, true) && !lib_named(&name, false));
     Ok(())

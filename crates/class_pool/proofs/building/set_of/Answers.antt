@@ -13,4 +13,5 @@ invariant_of-result c =
           (omega (arith, c.len.ensures, needs, long)),
       c.in_ok-members.ensures,
       c.requires,
+      c.in_ok-descriptors.ensures,
     )

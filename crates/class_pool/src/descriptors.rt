@@ -1,0 +1,29 @@
+// The descriptors of methods as texts (JVMS 4.3.3).
+ghost use Rattle.std.specs.Prelude.{◌≡◌, IfOk, map};
+ghost use Rattle.class_pool.specs.Descriptors.{method_texts};
+
+use crate::lookup::ClassesByName;
+use class_model::Class;
+use jv_base::{Items, M, Text, method_text};
+use std::alloc::Global;
+
+/// For each class the descriptors of its methods, in their order.
+pub(crate) fn descriptors_of(alloc: Global, classes: &ClassesByName) -> M<Items<Items<Text>>>
+    ensures { IfOk result (λ texts. texts ≡ map method_texts classes.now) }
+{
+    let mut texts = Items::new(alloc);
+    for number in 0..classes.len() {
+        texts.push(texts_of(alloc, classes.class(number))?)?;
+    }
+    Ok(texts)
+}
+
+fn texts_of(alloc: Global, class: &Class) -> M<Items<Text>>
+    ensures { IfOk result (λ texts. texts ≡ method_texts class.now) }
+{
+    let mut texts = Items::new(alloc);
+    for method in class.methods.as_slice() {
+        texts.push(method_text(alloc, &method.ty)?)?;
+    }
+    Ok(texts)
+}
