@@ -1,9 +1,10 @@
 // A set, made from files.
-ghost use Rattle.std.specs.Prelude.{◌≡◌, ◌≢◌, ◌<◌, IfOk, map};
+ghost use Rattle.std.specs.Prelude.{codes, ◌≡◌, ◌≢◌, ◌<◌, IfOk, map};
 ghost use Rattle.std.specs.List.{AllPairs, AllZip};
 ghost use Rattle.class_pool.specs.ByName.{IsIndexOf};
 ghost use Rattle.class_pool.specs.Count.{item_count};
 ghost use Rattle.class_pool.specs.Faults.{Ascends, Builds, classes_of};
+ghost use Rattle.class_pool.specs.Hierarchy.{class_named};
 ghost use Rattle.class_pool.specs.Supertypes.{NoCycle};
 
 use crate::closure::closure_of;
@@ -13,9 +14,9 @@ use crate::graph::{graph_of, library_of};
 use crate::lookup::ClassesByName;
 use crate::members::MemberIndex;
 use crate::rounds::{check_names, check_supertypes};
-use crate::{ClassSet, NamedClass, PoolFault};
+use crate::{ClassId, ClassSet, NamedClass, PoolFault};
 use class_model::Class;
-use jv_base::{Items, M, Or};
+use jv_base::{Items, M, Or, Text};
 use std::alloc::Global;
 
 /// The set of some classes, in the order of their paths. The paths ascend, and the classes and their members are fewer
@@ -52,13 +53,22 @@ fn set_of(alloc: Global, classes: ClassesByName) -> M<ClassSet>
     let library = library_of(alloc)?;
     let needs = graph_of(alloc, &classes, &library)?;
     let closure = closure_of(alloc, needs.as_slice(), needs.len())?;
+    let object = object_of(alloc, &classes)?;
     Ok(ClassSet {
         classes,
         members,
         descriptors,
         library,
         closure,
+        object,
     })
+}
+
+fn object_of(alloc: Global, classes: &ClassesByName) -> M<Option<ClassId>>
+    ensures { IfOk result (λ object. object ≡ class_named classes.now (codes "java/lang/Object")) }
+{
+    let name = Text::from_str(alloc, "java/lang/Object")?;
+    Ok(classes.find(&name))
 }
 
 fn members_of(alloc: Global, classes: &ClassesByName) -> M<Items<MemberIndex>>

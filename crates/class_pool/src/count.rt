@@ -9,6 +9,6 @@ impl ClassSet {
     pub fn few_items(&self)
         ensures { item_count self.now < 4294967295 }
     {
-        let _classes = &self.classes;
+        let _count = self.classes.len();
     }
 }

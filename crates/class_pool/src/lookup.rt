@@ -44,7 +44,8 @@ impl ClassesByName {
     }
 
     pub(crate) fn len(&self) -> u32
-        ensures { result ≡ length self.now }
+        ensures is { result ≡ length self.now }
+        ensures few { item_count self.now < 4294967295 }
     {
         self.classes.len() as u32
     }

@@ -1,5 +1,5 @@
 // A set of classes.
-ghost use Rattle.std.specs.Prelude.{◌≡◌, ◌+◌, ◌<◌, ◌↔◌, IsTrue, length, slice_get, IfOk, IfSome, Some};
+ghost use Rattle.std.specs.Prelude.{codes, ◌≡◌, ◌+◌, ◌<◌, ◌↔◌, IsTrue, length, slice_get, IfOk, IfSome, Some};
 ghost use Rattle.std.specs.List.{position};
 ghost use Rattle.jv_base.specs.Names.{is_text};
 ghost use Rattle.class_pool.specs.Hierarchy.{IsClass, class_named, superclass};
@@ -28,15 +28,17 @@ pub struct ClassSet {
     pub(crate) descriptors: Items<Items<Text>>,
     pub(crate) library: Items<LibId>,
     pub(crate) closure: Closure,
+    pub(crate) object: Option<ClassId>,
 }
 
 impl Model for ClassSet {
-    ghost use Rattle.std.specs.Prelude.{List, ◌≡◌, map};
+    ghost use Rattle.std.specs.Prelude.{List, codes, ◌≡◌, map};
     ghost use Rattle.std.specs.List.{AllZip};
     ghost use Rattle.class_model.specs.declared.class.Class.{Class};
     ghost use Rattle.class_pool.specs.ByName.{IsIndexOf};
     ghost use Rattle.class_pool.specs.Descriptors.{method_texts};
     ghost use Rattle.class_pool.specs.Graph.{Tells, library_ids};
+    ghost use Rattle.class_pool.specs.Hierarchy.{class_named};
     ghost use Rattle.class_pool.specs.Supertypes.{NoCycle};
 
     ghost Value = { List Class };
@@ -44,7 +46,8 @@ impl Model for ClassSet {
     ghost view = { λ s. s.classes };
 
     ghost invariant = { λ s. (s.library ≡ library_ids) × Tells s.classes s.closure.blocks × AllZip IsIndexOf s.classes s.members
-        × NoCycle s.classes × (s.descriptors ≡ map method_texts s.classes) };
+        × NoCycle s.classes × (s.descriptors ≡ map method_texts s.classes)
+        × (s.object ≡ class_named s.classes (codes "java/lang/Object")) };
 }
 
 impl ClassSet {
@@ -61,6 +64,14 @@ impl ClassSet {
         ensures there { IfSome result (IsClass self.now) }
     {
         self.classes.find(name)
+    }
+
+    /// Object, the class above all others, as it is found by its name (JVMS 4.1). Takes no memory.
+    pub fn object(&self) -> Option<ClassId>
+        ensures found { result ≡ class_named self.now (codes "java/lang/Object") }
+        ensures there { IfSome result (IsClass self.now) }
+    {
+        self.object
     }
 
     /// The class with a number.

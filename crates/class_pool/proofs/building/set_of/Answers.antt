@@ -14,4 +14,5 @@ invariant_of-result c =
       c.in_ok-members.ensures,
       c.requires,
       c.in_ok-descriptors.ensures,
+      c.in_ok-object.ensures,
     )
