@@ -10,3 +10,8 @@ pub mod Closing
 pub mod Graphing
 pub mod Telling
 pub mod Listing
+pub mod EachOnce
+pub mod Walking
+pub mod Ranking
+pub mod Marking
+pub mod FillingLaws

@@ -11,7 +11,9 @@ use crate::cycles::check_cycles;
 use crate::graph::{graph_of, library_of};
 use crate::lookup::ClassesByName;
 use crate::members::MemberIndex;
+use crate::order::order_of;
 use crate::rounds::{check_names, check_supertypes};
+use crate::superinterfaces::superinterfaces_of;
 use crate::{ClassSet, NamedClass, PoolFault};
 use class_model::Class;
 use jv_base::{Items, M, Or};
@@ -50,11 +52,14 @@ fn set_of(alloc: Global, classes: ClassesByName) -> M<ClassSet>
     let library = library_of(alloc)?;
     let needs = graph_of(alloc, &classes, &library)?;
     let closure = closure_of(alloc, needs.as_slice(), needs.len())?;
+    let order = order_of(alloc, needs.as_slice())?;
+    let superinterfaces = superinterfaces_of(alloc, &classes, &library, order.as_slice())?;
     Ok(ClassSet {
         classes,
         members,
         library,
         closure,
+        superinterfaces,
     })
 }
 

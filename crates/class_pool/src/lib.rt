@@ -10,11 +10,13 @@ mod graph;
 mod id;
 mod lookup;
 mod members;
+mod met;
 mod order;
 mod ranks;
 mod rounds;
 mod rows;
 mod set;
+mod superinterfaces;
 mod supers;
 
 pub use building::build;

@@ -1,11 +1,12 @@
 // A set of classes.
-ghost use Rattle.std.specs.Prelude.{◌≡◌, ◌+◌, ◌<◌, ◌↔◌, IsTrue, length, slice_get, IfOk, IfSome, Some};
-ghost use Rattle.std.specs.List.{position};
+ghost use Rattle.std.specs.Prelude.{◌≡◌, ◌+◌, [], ◌<◌, ◌↔◌, IsTrue, length, slice_get, IfOk, IfSome, Some};
+ghost use Rattle.std.specs.List.{All};
 ghost use Rattle.jv_base.specs.Names.{is_text};
 ghost use Rattle.class_pool.specs.Hierarchy.{IsClass, class_named, superclass};
 ghost use Rattle.class_pool.specs.Members.{declared_at};
 ghost use Rattle.class_pool.specs.Supers.{IsSupers};
 ghost use Rattle.class_pool.specs.Supertypes.{NoCycle, Sub};
+ghost use Rattle.class_pool.specs.Walk.{each_once, own_superinterfaces};
 
 use crate::ClassId;
 use crate::closure::Closure;
@@ -26,6 +27,8 @@ pub struct ClassSet {
     pub(crate) members: Items<MemberIndex>,
     pub(crate) library: Items<LibId>,
     pub(crate) closure: Closure,
+    /// For each class, by its number, the superinterfaces that it has itself.
+    pub(crate) superinterfaces: Items<Items<ClassId>>,
 }
 
 impl Model for ClassSet {
@@ -34,6 +37,7 @@ impl Model for ClassSet {
     ghost use Rattle.class_model.specs.declared.class.Class.{Class};
     ghost use Rattle.class_pool.specs.ByName.{IsIndexOf};
     ghost use Rattle.class_pool.specs.Graph.{Tells, library_ids};
+    ghost use Rattle.class_pool.specs.Lists.{AreOwn};
     ghost use Rattle.class_pool.specs.Supertypes.{NoCycle};
 
     ghost Value = { List Class };
@@ -41,7 +45,7 @@ impl Model for ClassSet {
     ghost view = { λ s. s.classes };
 
     ghost invariant = { λ s. (s.library ≡ library_ids) × Tells s.classes s.closure.blocks × AllZip IsIndexOf s.classes s.members
-        × NoCycle s.classes };
+        × NoCycle s.classes × AreOwn s.classes s.superinterfaces };
 }
 
 impl ClassSet {
@@ -92,6 +96,16 @@ impl ClassSet {
         let below = number(&self.library, a);
         let above = number(&self.library, b);
         below == above || self.closure.has(below, above)
+    }
+
+    /// The superinterfaces that a class has itself: the direct ones in their order, each followed by its own, each once,
+    /// where it is met first. It takes no memory.
+    pub fn own_superinterfaces(&self, id: ClassId) -> &[ClassId]
+        requires there { IsClass self.now id }
+        ensures are { result.now ≡ each_once [] (own_superinterfaces self.now id) }
+        ensures there { All (IsClass self.now) result.now }
+    {
+        self.superinterfaces[number(&self.library, id)].as_slice()
     }
 
     /// No class of the set is its own supertype (JVMS 5.3.5). It does nothing.
