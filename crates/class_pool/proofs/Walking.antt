@@ -2,11 +2,13 @@
 use Rattle.std.proofs.Common.{◌≡◌, ℕ, zero, suc, ◌<◌, ◌≤◌, List, [], ◌∷◌, ◌++◌, get_or, Option, Some, None, refl, sym, ap, ◌∙◌, arith}
 use Rattle.std.specs.List.{All, cons_option, flat_map}
 use Rattle.std.proofs.lemmas.List.Elements.{All-head, All-tail}
+use Rattle.std.specs.Prelude.{IfSome}
+use Rattle.std.specs.Option.{option_map_or}
 use Rattle.class_model.specs.declared.class.Class.{Class}
 use Rattle.class_pool.specs.declared.id.ClassId.{ClassId}
 use Rattle.class_pool.specs.Hierarchy.{IsClass, interfaces, superclass}
 use Rattle.class_pool.specs.Supertypes.{direct}
-use Rattle.class_pool.specs.Walk.{highest, own_superinterfaces, walked}
+use Rattle.class_pool.specs.Walk.{highest, own_superinterfaces, superclasses_from, upwards, walked}
 use Rattle.class_pool.proofs.Telling.{direct_valid}
 
 -- a rank of each class, below which those of its direct supertypes are
@@ -78,3 +80,46 @@ own_step classes rank n h a falls a-in e low =
 pub own_next : (classes : List Class) (rank : ClassId → ℕ) (a : ClassId) → Falls classes rank → IsClass classes a → rank a < 8589934592
     → own_superinterfaces classes a ≡ flat_map (λ i. i ∷ own_superinterfaces classes i) (interfaces classes a)
 own_next classes rank a falls a-in low = own_step classes rank highest 8589934591 a falls a-in refl low
+
+-- ---- superclasses
+
+first_of : (P : ClassId → Type 0) (o : Option ClassId) (xs : List ClassId) → All P (cons_option o xs) → IfSome o P
+first_of P None xs h = tt
+first_of P (Some x) xs h = All-head P x xs h
+
+up_step : (P Q : ClassId → Type 0) (f g : ClassId → List ClassId) (o : Option ClassId) → IfSome o P → IfSome o Q → ((d : ClassId) → P d → Q d → f d ≡ g d) → option_map_or f o [] ≡ option_map_or g o []
+up_step P Q f g None p q h = refl
+up_step P Q f g (Some d) p q h = h d p q
+
+up_unfolded : (n : ℕ) (classes : List Class) (c : ClassId) → upwards (suc n) classes c ≡ c ∷ option_map_or (upwards n classes) (superclass classes c) []
+unfolding upwards
+up_unfolded n classes c = refl
+
+-- superclasses of more levels than ranks are one list
+up_same : (classes : List Class) (rank : ClassId → ℕ) → Falls classes rank → (n m : ℕ) (c : ClassId) → IsClass classes c → rank c < n → rank c < m → upwards n classes c ≡ upwards m classes c
+up_same classes rank falls zero m c c-in n-low m-low = absurd (omega (arith, n-low))
+up_same classes rank falls (suc n) zero c c-in n-low m-low = absurd (omega (arith, m-low))
+up_same classes rank falls (suc n) (suc m) c c-in n-low m-low =
+    up_unfolded n classes c
+    ∙ ap (λ (t : List ClassId). c ∷ t)
+    (up_step (IsClass classes) (λ b. rank b < rank c) (upwards n classes) (upwards m classes) (superclass classes c)
+    (first_of (IsClass classes) (superclass classes c) (interfaces classes c) (direct_valid classes c))
+    (first_of (λ b. rank b < rank c) (superclass classes c) (interfaces classes c) (falls c c-in))
+    (λ d d-in d-low. up_same classes rank falls n m d d-in (omega (arith, d-low, n-low)) (omega (arith, d-low, m-low))))
+    ∙ sym (up_unfolded m classes c)
+
+up_next : (classes : List Class) (rank : ClassId → ℕ) (n h : ℕ) (c : ClassId) → Falls classes rank → IsClass classes c → n ≡ suc h → rank c < n
+    → upwards n classes c ≡ c ∷ option_map_or (upwards n classes) (superclass classes c) []
+up_next classes rank n h c falls c-in e low =
+    ap (λ (k : ℕ). upwards k classes c) e
+    ∙ up_unfolded h classes c
+    ∙ ap (λ (t : List ClassId). c ∷ t)
+    (up_step (IsClass classes) (λ b. rank b < rank c) (upwards h classes) (upwards n classes) (superclass classes c)
+    (first_of (IsClass classes) (superclass classes c) (interfaces classes c) (direct_valid classes c))
+    (first_of (λ b. rank b < rank c) (superclass classes c) (interfaces classes c) (falls c c-in))
+    (λ d d-in d-low. up_same classes rank falls h n d d-in (omega (arith, d-low, low, e)) (omega (arith, d-low, low))))
+
+-- a class, and then the superclasses of its superclass
+pub superclasses_next : (classes : List Class) (rank : ClassId → ℕ) (c : ClassId) → Falls classes rank → IsClass classes c → rank c < 8589934592
+    → superclasses_from classes c ≡ c ∷ option_map_or (superclasses_from classes) (superclass classes c) []
+superclasses_next classes rank c falls c-in low = up_next classes rank highest 8589934591 c falls c-in refl low

@@ -1,7 +1,7 @@
 // Classes that are met in a walk.
 ghost use Rattle.std.specs.Prelude.{◌≡◌, ◌++◌, ◌<◌, [], ◌∷◌, length, IfOk, OnOk};
 ghost use Rattle.std.specs.List.{All};
-ghost use Rattle.class_pool.specs.Graph.{IsThere, library_ids, number};
+ghost use Rattle.class_pool.specs.Graph.{library_ids, number};
 ghost use Rattle.class_pool.specs.Marked.{IsBelow, IsLeft};
 ghost use Rattle.class_pool.specs.Walk.{each_once};
 

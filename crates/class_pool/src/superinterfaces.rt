@@ -1,11 +1,11 @@
 // The superinterfaces that each class has itself, as lists.
-ghost use Rattle.std.specs.Prelude.{◌≡◌, ◌+◌, ◌++◌, ◌<◌, ℕ, false, true, [], ◌∷◌, length, slice_index_or, IfOk, IsTrue, OnOk, Some};
+ghost use Rattle.std.specs.Prelude.{◌≡◌, ◌+◌, ◌++◌, ◌<◌, ℕ, false, true, [], ◌∷◌, length, IfOk, IsTrue, OnOk, Some};
 ghost use Rattle.std.specs.List.{All, filter_map, flat_map, list_all};
 ghost use Rattle.lib_table.specs.Lookups.{interfaces_of};
 ghost use Rattle.class_pool.specs.declared.id.ClassId.{ClassId};
 ghost use Rattle.class_pool.specs.Filling.{AreFilled, IsFilling, Keeps, is_filled};
 ghost use Rattle.class_pool.specs.Lists.{AreOwn, AreSteps, HasRanks, list_at};
-ghost use Rattle.class_pool.specs.Graph.{IsThere, library_ids};
+ghost use Rattle.class_pool.specs.Graph.{library_ids};
 ghost use Rattle.class_pool.specs.Hierarchy.{IsClass, classes_named, interfaces};
 ghost use Rattle.class_pool.specs.Marked.{IsBelow};
 ghost use Rattle.class_pool.specs.Walk.{each_once};
