@@ -66,7 +66,7 @@ some_below [] k x is = absurd cc
 some_below (y ∷ ys) zero x is = omega arith
 some_below (y ∷ ys) (suc k) x is = let h = some_below ys k x is in omega (arith, h)
 
-none_over : (xs : List ℕ) (k : ℕ) → slice_get xs k ≡ None → length xs ≤ k
+pub none_over : (xs : List ℕ) (k : ℕ) → slice_get xs k ≡ None → length xs ≤ k
 none_over [] k is = omega arith
 none_over (y ∷ ys) zero is = absurd cc
 none_over (y ∷ ys) (suc k) is = let h = none_over ys k is in omega (arith, h)
@@ -79,7 +79,7 @@ taken_next [] k x is = absurd cc
 taken_next (y ∷ ys) zero x is = cc
 taken_next (y ∷ ys) (suc k) x is = ap (λ (zs : List ℕ). y ∷ zs) (taken_next ys k x is)
 
-some_taken : (xs : List ℕ) (k x : ℕ) → slice_get xs k ≡ Some x → take k xs ++ x ∷ [] ≡ take (k + 1) xs
+pub some_taken : (xs : List ℕ) (k x : ℕ) → slice_get xs k ≡ Some x → take k xs ++ x ∷ [] ≡ take (k + 1) xs
 some_taken xs k x is = let e : suc k ≡ k + 1 = omega arith in taken_next xs k x is ∙ ap (λ (n : ℕ). take n xs) e
 
 cons_pushed : (o : Option ℕ) (xs : List ℕ) (x : ℕ) → cons_option o xs ++ x ∷ [] ≡ cons_option o (xs ++ x ∷ [])

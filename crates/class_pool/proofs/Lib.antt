@@ -13,3 +13,8 @@ pub mod Listing
 pub mod ToldMembers
 pub mod Packages
 pub mod LikeMethods
+pub mod EachOnce
+pub mod Walking
+pub mod Ranking
+pub mod Marking
+pub mod FillingLaws

@@ -68,7 +68,7 @@ super_below : (o : Option (List ℕ)) (n : ℕ) → option_and_then table.class_
 super_below None n is = absurd cc
 super_below (Some name) n is = class_below name n is
 
-direct_valid : (classes : List Class) (id : ClassId) → All (IsClass classes) (direct classes id)
+pub direct_valid : (classes : List Class) (id : ClassId) → All (IsClass classes) (direct classes id)
 direct_valid classes (Prog n) =
     ⊎_elim
     (λ p. subst (All (IsClass classes)) (sym (direct_of classes n p.0 p.2)) (named_valid classes (p.0.super_name ∷ p.0.interfaces)))
@@ -187,7 +187,7 @@ told classes count blocks closure enough a b a-in b-in =
 
 -- ---- a class and its supertypes
 
-proper_direct : (classes : List Class) (a : ClassId) → All (IsProperSub classes a) (direct classes a)
+pub proper_direct : (classes : List Class) (a : ClassId) → All (IsProperSub classes a) (direct classes a)
 proper_direct classes a k d within set starts closed = starts k d within
 
 proper_on : (classes : List Class) (a x : ClassId) → IsProperSub classes a x → All (IsProperSub classes a) (direct classes x)

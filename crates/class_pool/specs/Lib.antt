@@ -15,3 +15,6 @@ pub mod LinkRows
 pub mod Closure
 pub mod Graph
 pub mod Supers
+pub mod Marked
+pub mod Lists
+pub mod Filling

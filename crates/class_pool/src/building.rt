@@ -1,6 +1,6 @@
 // A set, made from files.
-ghost use Rattle.std.specs.Prelude.{codes, ◌≡◌, ◌≢◌, ◌<◌, IfOk, map};
-ghost use Rattle.std.specs.List.{AllPairs, AllZip};
+ghost use Rattle.std.specs.Prelude.{◌≡◌, ◌<◌, IfOk, codes};
+ghost use Rattle.std.specs.List.{AllZip};
 ghost use Rattle.class_pool.specs.ByName.{IsIndexOf};
 ghost use Rattle.class_pool.specs.Count.{item_count};
 ghost use Rattle.class_pool.specs.Faults.{Ascends, Builds, classes_of};
@@ -13,7 +13,9 @@ use crate::descriptors::descriptors_of;
 use crate::graph::{graph_of, library_of};
 use crate::lookup::ClassesByName;
 use crate::members::MemberIndex;
+use crate::order::order_of;
 use crate::rounds::{check_names, check_supertypes};
+use crate::superinterfaces::superinterfaces_of;
 use crate::{ClassId, ClassSet, NamedClass, PoolFault};
 use class_model::Class;
 use jv_base::{Items, M, Or, Text};
@@ -54,12 +56,15 @@ fn set_of(alloc: Global, classes: ClassesByName) -> M<ClassSet>
     let needs = graph_of(alloc, &classes, &library)?;
     let closure = closure_of(alloc, needs.as_slice(), needs.len())?;
     let object = object_of(alloc, &classes)?;
+    let order = order_of(alloc, needs.as_slice())?;
+    let superinterfaces = superinterfaces_of(alloc, &classes, &library, order.as_slice())?;
     Ok(ClassSet {
         classes,
         members,
         descriptors,
         library,
         closure,
+        superinterfaces,
         object,
     })
 }

@@ -1,10 +1,10 @@
 // The direct supertypes of all classes as a graph of numbers.
 ghost use Rattle.std.specs.Prelude.{◌≡◌, ◌++◌, ◌<◌, IfOk, OnOk, [], ◌∷◌, length, map};
-ghost use Rattle.std.specs.List.{cons_option, filter_map, range_with_len};
+ghost use Rattle.std.specs.List.{filter_map};
 ghost use Rattle.lib_table.specs.Library.{library as library_rows};
 ghost use Rattle.lib_table.specs.Lookups.{class_named as library_class};
 ghost use Rattle.class_pool.specs.Graph.{IsThere, above_class, above_library, graph, library_ids, number};
-ghost use Rattle.class_pool.specs.Hierarchy.{IsClass, classes_named};
+ghost use Rattle.class_pool.specs.Hierarchy.{classes_named};
 
 use crate::ClassId;
 use crate::lookup::ClassesByName;

@@ -14,6 +14,7 @@ mod id;
 mod kind;
 mod lookup;
 mod members;
+mod met;
 mod method_like;
 mod order;
 mod package;
@@ -21,6 +22,7 @@ mod ranks;
 mod rounds;
 mod rows;
 mod set;
+mod superinterfaces;
 mod supers;
 
 pub use building::build;

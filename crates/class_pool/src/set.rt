@@ -1,11 +1,11 @@
 // A set of classes.
-ghost use Rattle.std.specs.Prelude.{codes, ◌≡◌, ◌+◌, ◌<◌, ◌↔◌, IsTrue, length, slice_get, IfOk, IfSome, Some};
-ghost use Rattle.std.specs.List.{position};
-ghost use Rattle.jv_base.specs.Names.{is_text};
+ghost use Rattle.std.specs.Prelude.{◌≡◌, ◌+◌, [], ◌<◌, ◌↔◌, IsTrue, codes, length, slice_get, IfOk, IfSome, Some};
+ghost use Rattle.std.specs.List.{All};
 ghost use Rattle.class_pool.specs.Hierarchy.{IsClass, class_named, superclass};
 ghost use Rattle.class_pool.specs.Members.{declared_at};
 ghost use Rattle.class_pool.specs.Supers.{IsSupers};
 ghost use Rattle.class_pool.specs.Supertypes.{NoCycle, Sub};
+ghost use Rattle.class_pool.specs.Walk.{each_once, own_superinterfaces};
 
 use crate::ClassId;
 use crate::closure::Closure;
@@ -28,6 +28,9 @@ pub struct ClassSet {
     pub(crate) descriptors: Items<Items<Text>>,
     pub(crate) library: Items<LibId>,
     pub(crate) closure: Closure,
+    /// For each class, by its number, the superinterfaces that it has itself.
+    pub(crate) superinterfaces: Items<Items<ClassId>>,
+    /// Object, where its name leads to a class.
     pub(crate) object: Option<ClassId>,
 }
 
@@ -39,6 +42,7 @@ impl Model for ClassSet {
     ghost use Rattle.class_pool.specs.Descriptors.{method_texts};
     ghost use Rattle.class_pool.specs.Graph.{Tells, library_ids};
     ghost use Rattle.class_pool.specs.Hierarchy.{class_named};
+    ghost use Rattle.class_pool.specs.Lists.{AreOwn};
     ghost use Rattle.class_pool.specs.Supertypes.{NoCycle};
 
     ghost Value = { List Class };
@@ -46,7 +50,7 @@ impl Model for ClassSet {
     ghost view = { λ s. s.classes };
 
     ghost invariant = { λ s. (s.library ≡ library_ids) × Tells s.classes s.closure.blocks × AllZip IsIndexOf s.classes s.members
-        × NoCycle s.classes × (s.descriptors ≡ map method_texts s.classes)
+        × NoCycle s.classes × AreOwn s.classes s.superinterfaces × (s.descriptors ≡ map method_texts s.classes)
         × (s.object ≡ class_named s.classes (codes "java/lang/Object")) };
 }
 
@@ -106,6 +110,16 @@ impl ClassSet {
         let below = number(&self.library, a);
         let above = number(&self.library, b);
         below == above || self.closure.has(below, above)
+    }
+
+    /// The superinterfaces that a class has itself: the direct ones in their order, each followed by its own, each once,
+    /// where it is met first. It takes no memory.
+    pub fn own_superinterfaces(&self, id: ClassId) -> &[ClassId]
+        requires there { IsClass self.now id }
+        ensures are { result.now ≡ each_once [] (own_superinterfaces self.now id) }
+        ensures there { All (IsClass self.now) result.now }
+    {
+        self.superinterfaces[number(&self.library, id)].as_slice()
     }
 
     /// No class of the set is its own supertype (JVMS 5.3.5). It does nothing.

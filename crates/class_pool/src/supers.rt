@@ -37,7 +37,7 @@ pub(crate) fn supers_of(
 }
 
 /// The class of a number.
-fn id_at(library: &Items<LibId>, number: usize) -> ClassId
+pub(crate) fn id_at(library: &Items<LibId>, number: usize) -> ClassId
     requires library { library.now ≡ library_ids }
     requires there { number < length library_rows + 4294967295 }
     ensures { result ≡ id_at number }

@@ -20,7 +20,7 @@ index-descriptor-requires c =
     let within = slice_get_within c.class-class.result.now.methods (c.args.index - length c.class-class.result.now.fields) p.0 p.2 in
     let texts : c.index.result.now ≡ method_texts c.class-class.result.now =
     mapped_at method_texts c.args.self.now c.self.inside.descriptors c.args.number c.class-class.result.now c.index.result.now
-    (c.self.invariant.4 ∙ ap (map method_texts) c.self.view_is) c.class-class.ensures.is c.index.ensures in
+    (c.self.invariant.5 ∙ ap (map method_texts) c.self.view_is) c.class-class.ensures.is c.index.ensures in
     mapped_within text_of c.class-class.result.now.methods c.index.result.now (c.args.index - c.len.result) texts (omega (arith, within, c.len.ensures))
 
 pub index-requires-2 : goal.index-requires-2
@@ -37,7 +37,7 @@ returns c =
     let same : c.index-2.result.now ≡ p.0 = same_Some c.index-2.result.now p.0 (sym c.index-2.ensures ∙ there) in
     let texts : c.index.result.now ≡ method_texts c.class-class.result.now =
     mapped_at method_texts c.args.self.now c.self.inside.descriptors c.args.number c.class-class.result.now c.index.result.now
-    (c.self.invariant.4 ∙ ap (map method_texts) c.self.view_is) c.class-class.ensures.is c.index.ensures in
+    (c.self.invariant.5 ∙ ap (map method_texts) c.self.view_is) c.class-class.ensures.is c.index.ensures in
     let text : c.index-descriptor.result.now ≡ method_text p.0.ty =
     mapped_at text_of methods c.index.result.now (c.args.index - c.len.result) p.0 c.index-descriptor.result.now texts there c.index-descriptor.ensures in
     c.declares.ensures

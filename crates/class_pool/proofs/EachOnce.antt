@@ -1,0 +1,108 @@
+-- Lists with each class once.
+use Rattle.std.proofs.Common.{append_assoc, ◌≡◌, ⊎_elim, ℕ, ◌+◌, ◌<◌, ◌⊎◌, inl, inr, ◌||◌, Bool, true, false, cond, List, [], ◌∷◌, ◌++◌, length, take, get_or, refl, sym, ap, ◌∙◌}
+use Rattle.std.specs.List.{list_any}
+use Rattle.std.proofs.lemmas.Bool.{eqb-true, eq-eqb}
+use Rattle.std.proofs.lemmas.List.{append-nil, take_more}
+use Rattle.class_pool.specs.declared.id.ClassId.{ClassId}
+use Rattle.class_pool.specs.declared.id.ClassId.TheVariants.{Prog, Lib}
+use Rattle.class_pool.specs.Walk.{each_once, same_class}
+
+pub bool_cases : (b : Bool) → (b ≡ true) ⊎ (b ≡ false)
+bool_cases true = inl refl
+bool_cases false = inr refl
+
+pub same_is : (a b : ClassId) → same_class a b ≡ true → a ≡ b
+same_is (Prog m) (Prog n) h = ap Prog (eqb-true m n h)
+same_is (Lib m) (Lib n) h = ap Lib (eqb-true m n h)
+same_is (Prog m) (Lib n) h = absurd cc
+same_is (Lib m) (Prog n) h = absurd cc
+
+pub same_itself : (a : ClassId) → same_class a a ≡ true
+same_itself (Prog m) = eq-eqb m m refl
+same_itself (Lib m) = eq-eqb m m refl
+
+cond_same : (p q : Bool) (a b c d : List ClassId) → p ≡ q → a ≡ c → b ≡ d → cond p a b ≡ cond q c d
+cond_same p q a b c d h i j = cc
+
+or_swap : (p q r : Bool) → (p || (q || r)) ≡ (q || (p || r))
+or_swap true true r = refl
+or_swap true false r = refl
+or_swap false true r = refl
+or_swap false false r = refl
+
+any_middle : (c x : ClassId) (s t : List ClassId) → list_any (same_class c) ((x ∷ s) ++ t) ≡ list_any (same_class c) (s ++ x ∷ t)
+any_middle c x [] t = refl
+any_middle c x (y ∷ s) t = or_swap (same_class c x) (same_class c y) (list_any (same_class c) (s ++ t)) ∙ ap (λ (b : Bool). same_class c y || b) (any_middle c x s t)
+
+-- what is left out depends on which classes were seen, and not on their order
+pub once_same : (xs s t : List ClassId) → ((c : ClassId) → list_any (same_class c) s ≡ list_any (same_class c) t) → each_once s xs ≡ each_once t xs
+unfolding each_once
+once_same [] s t h = refl
+once_same (x ∷ xs) s t h =
+    cond_same (list_any (same_class x) s) (list_any (same_class x) t) (each_once s xs) (x ∷ each_once (x ∷ s) xs) (each_once t xs) (x ∷ each_once (x ∷ t) xs) (h x) (once_same xs s t h)
+    (ap (λ (ys : List ClassId). x ∷ ys) (once_same xs (x ∷ s) (x ∷ t) (λ c. ap (λ (b : Bool). same_class c x || b) (h c))))
+
+pub once_append : (xs ys s : List ClassId) → each_once s (xs ++ ys) ≡ each_once s xs ++ each_once (s ++ each_once s xs) ys
+unfolding each_once
+once_append [] ys s = once_same ys s (s ++ []) (λ c. ap (list_any (same_class c)) (sym (append-nil s)))
+once_append (x ∷ xs) ys s =
+    elim (list_any (same_class x) s) as (λ b. cond b (each_once s (xs ++ ys)) (x ∷ each_once (x ∷ s) (xs ++ ys))
+    ≡ cond b (each_once s xs) (x ∷ each_once (x ∷ s) xs) ++ each_once (s ++ cond b (each_once s xs) (x ∷ each_once (x ∷ s) xs)) ys) [
+      | true ↦ once_append xs ys s
+      | false ↦
+          ap (λ (t : List ClassId). x ∷ t)
+          (once_append xs ys (x ∷ s)
+          ∙ ap (λ (t : List ClassId). each_once (x ∷ s) xs ++ t) (once_same ys ((x ∷ s) ++ each_once (x ∷ s) xs) (s ++ x ∷ each_once (x ∷ s) xs) (λ c. any_middle c x s (each_once (x ∷ s) xs))))
+    ]
+
+within_more : (c x : ClassId) (s t : List ClassId) → list_any (same_class x) s ≡ true → (list_any (same_class c) t ≡ true → list_any (same_class c) s ≡ true)
+    → (same_class c x || list_any (same_class c) t) ≡ true → list_any (same_class c) s ≡ true
+within_more c x s t seen h is =
+    ⊎_elim
+    (λ same. ap (λ (y : ClassId). list_any (same_class y) s) (same_is c x same) ∙ seen)
+    (λ other. h (sym (ap (λ (b : Bool). b || list_any (same_class c) t) other) ∙ is))
+    (bool_cases (same_class c x))
+
+both_more : (p q r : Bool) → (q ≡ true → r ≡ true) → (p || q) ≡ true → (p || r) ≡ true
+both_more true q r h is = refl
+both_more false q r h is = h is
+
+-- leaving out what was seen, in two steps
+pub once_drop : (xs s t : List ClassId) → ((c : ClassId) → list_any (same_class c) t ≡ true → list_any (same_class c) s ≡ true) → each_once s (each_once t xs) ≡ each_once s xs
+unfolding each_once
+once_drop [] s t h = refl
+once_drop (x ∷ xs) s t h =
+    ⊎_elim
+    (λ seen.
+    ap (λ (b : Bool). each_once s (cond b (each_once t xs) (x ∷ each_once (x ∷ t) xs))) seen
+    ∙ once_drop xs s t h
+    ∙ sym (ap (λ (b : Bool). cond b (each_once s xs) (x ∷ each_once (x ∷ s) xs)) (h x seen)))
+    (λ new.
+    ap (λ (b : Bool). each_once s (cond b (each_once t xs) (x ∷ each_once (x ∷ t) xs))) new
+    ∙ ⊎_elim
+    (λ seen.
+    ap (λ (b : Bool). cond b (each_once s (each_once (x ∷ t) xs)) (x ∷ each_once (x ∷ s) (each_once (x ∷ t) xs))) seen
+    ∙ once_drop xs s (x ∷ t) (λ c is. within_more c x s t seen (h c) is)
+    ∙ sym (ap (λ (b : Bool). cond b (each_once s xs) (x ∷ each_once (x ∷ s) xs)) seen))
+    (λ unseen.
+    ap (λ (b : Bool). cond b (each_once s (each_once (x ∷ t) xs)) (x ∷ each_once (x ∷ s) (each_once (x ∷ t) xs))) unseen
+    ∙ ap (λ (ys : List ClassId). x ∷ ys) (once_drop xs (x ∷ s) (x ∷ t) (λ c is. both_more (same_class c x) (list_any (same_class c) t) (list_any (same_class c) s) (h c) is))
+    ∙ sym (ap (λ (b : Bool). cond b (each_once s xs) (x ∷ each_once (x ∷ s) xs)) unseen))
+    (bool_cases (list_any (same_class x) s)))
+    (bool_cases (list_any (same_class x) t))
+
+pub once_twice : (s xs : List ClassId) → each_once s (each_once [] xs) ≡ each_once s xs
+once_twice s xs = once_drop xs s [] (λ c is. absurd cc)
+
+pub once_one : (s : List ClassId) (x : ClassId) → each_once s (x ∷ []) ≡ cond (list_any (same_class x) s) [] (x ∷ [])
+unfolding each_once
+once_one s x = refl
+
+pub once_none : (s : List ClassId) → each_once s [] ≡ []
+unfolding each_once
+once_none s = refl
+
+-- one more of a list whose first ones were met
+pub once_more : (s xs : List ClassId) (i : ℕ) (d : ClassId) (ids : List ClassId) → i < length xs → ids ≡ s ++ each_once s (take i xs)
+    → ids ++ each_once ids (get_or xs i d ∷ []) ≡ s ++ each_once s (take (i + 1) xs)
+once_more s xs i d ids within before = cc (append_assoc s (each_once s (take i xs)) (each_once (s ++ each_once s (take i xs)) (get_or xs i d ∷ [])), once_append (take i xs) (get_or xs i d ∷ []) s, take_more xs i d within)
