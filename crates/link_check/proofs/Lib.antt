@@ -1,1 +1,18 @@
+mod FaultPlace
+mod First
+mod Least
+mod Likes
+mod Methods
+mod Once
+mod Walks
+pub mod Alike
+pub mod Choosing
+pub mod Climbing
 pub mod ComputedProfile
+pub mod Declared
+pub mod Declaring
+pub mod Interfaces
+pub mod Linking
+pub mod OverridingLaws
+pub mod Passing
+pub mod Upwards

@@ -1,3 +1,5 @@
 pub mod Links
+pub mod Overriding
 pub mod Profile
 pub mod ProfileRows
+pub mod Walks

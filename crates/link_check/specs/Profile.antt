@@ -1,6 +1,6 @@
 -- The rules for classes that are taken, beside those of the format: what is left out, and what references and overriding have to meet
 -- (JVMS 4.10, 5.4.3 to 5.4.5, 6.5).
-use Rattle.std.specs.Prelude.{ℕ, Bool, true, false, not, ◌&&◌, ◌||◌, ◌==◌, List, [], ◌∷◌, ◌++◌, length, map, codes, Option, Some, None, Result, Ok, Err, slice_get, if◌then◌else◌}
+use Rattle.std.specs.Prelude.{◌≡◌, ◌+◌, ◌<◌, IfSome, ℕ, Bool, true, false, not, ◌&&◌, ◌||◌, ◌==◌, List, [], ◌∷◌, ◌++◌, length, map, codes, Option, Some, None, Result, Ok, Err, slice_get, if◌then◌else◌}
 use Rattle.std.specs.Bool.{beq}
 use Rattle.std.specs.List.{cons_option, enumerate_from, filter, filter_map, find, flat_map, list_any}
 use Rattle.std.specs.Option.{option_map, option_map_or}
@@ -60,7 +60,7 @@ abbrev pub all_kinds : List ProfileKind
 all_kinds = LeftOutFlag ∷ LeftOutConstant ∷ LeftOutOpcode ∷ LeftOutType ∷ Unresolved ∷ Inaccessible ∷ WrongKind ∷ LeftOutMember ∷ []
 
 -- of several kinds the first one in that order
-abbrev pub least : List ProfileKind → Option ProfileKind
+unfoldable pub least : List ProfileKind → Option ProfileKind
 least kinds = find (λ k. list_any (λ other. rank_of k == rank_of other) kinds) all_kinds
 
 -- a kind where a rule is broken
@@ -91,6 +91,66 @@ same_place _ _ = false
 abbrev pub left_out_at : Option LeftOut → Option ℕ → List ProfileKind
 left_out_at None place = []
 left_out_at (Some l) place = unless (not (same_place l.member place)) (of_left l.kind)
+
+-- a fault at a place of the class with this number, if a rule is broken there
+abbrev pub fault_at : ℕ → Option ℕ → List ProfileKind → Option ProfileFault
+fault_at number place kinds = option_map (λ kind. record { class = number; member = place; kind = kind }) (least kinds)
+
+-- ---- members
+
+-- the reference's own fault, or what the member breaks, one too that a program may not name
+abbrev pub member_kinds : Result MemberAt LinkKind → (MemberAt → List ProfileKind) → List ProfileKind
+member_kinds (Ok m) of_member = unless (is_callable_role (role_at m)) LeftOutMember ++ of_member m
+member_kinds (Err kind) of_member = of_link kind ∷ []
+
+abbrev pub is_of_library : ClassId → Bool
+is_of_library (Prog n) = false
+is_of_library (Lib id) = true
+
+-- no instance initialisation method is called so
+abbrev pub no_init_kinds : MemberRef → List ProfileKind
+no_init_kinds r = unless (not (is_init r.name)) WrongKind
+
+abbrev pub may_be_overridden_role : Role → Bool
+may_be_overridden_role NoOverride = false
+may_be_overridden_role _ = true
+
+-- a method of an interface has no body, but that which initialises it
+abbrev pub body_kinds : Class → Method → List ProfileKind
+body_kinds c m = unless (not (is_interface c.flags.0) || has acc_abstract m.flags.0 || is_text m.name (codes "<clinit>")) LeftOutMember
+
+module _ (classes : List Class) where
+  -- static where it has to be, and not where it may not be
+  abbrev pub static_kinds : Bool → MemberAt → List ProfileKind
+  static_kinds wanted m = unless (beq (is_static_member classes m) wanted) WrongKind
+
+  -- the class that a reference names, where it is none of an array
+  abbrev pub class_of : MemberRef → Option ClassId
+  class_of r = if r.class.dims == 0 then of_base r.class.base else None where
+    of_base : Base → Option ClassId
+    of_base (base.Class name) = class_named classes name
+    of_base _ = None
+
+  abbrev pub is_abstract_class : ClassId → Bool
+  is_abstract_class (Prog n) = option_map_or (λ c. has acc_abstract c.flags.0) (slice_get classes n) false
+  is_abstract_class (Lib id) = false
+
+  -- an object is made of a class that is neither an interface nor abstract
+  abbrev pub made_kinds : ClassId → List ProfileKind
+  made_kinds c = unless (not (is_interface_in classes c) && not (is_abstract_class c)) WrongKind
+
+  -- a method overrides no final one, and none of the library that may not be overridden
+  abbrev pub overridden_kinds : MemberAt → MemberAt → List ProfileKind
+  overridden_kinds m above =
+      if not (same_class m.class above.class) && overrides classes m above
+      then unless (not (is_final_member classes above)) WrongKind ++ unless (may_be_overridden_role (role_at above)) LeftOutMember
+      else []
+
+  -- the instance methods of a program interface
+  abbrev pub methods_of : ClassId → List MemberAt
+  methods_of (Lib id) = []
+  methods_of (Prog n) = filter (is_instance_method classes)
+      (map (λ p. record { class = Prog n; index = p.0 }) (enumerate_from 0 (rows_in classes (Prog n))))
 
 module _ (classes : List Class) (number : ℕ) where
   -- the class that is looked at
@@ -129,48 +189,29 @@ module _ (classes : List Class) (number : ℕ) where
 
   -- ---- members that are named
 
-  -- the reference's own fault, or what the member breaks, one too that a program may not name
-  abbrev pub member_kinds : Result MemberAt LinkKind → (MemberAt → List ProfileKind) → List ProfileKind
-  member_kinds (Ok m) of_member = unless (is_callable_role (role_at m)) LeftOutMember ++ of_member m
-  member_kinds (Err kind) of_member = of_link kind ∷ []
-
-  -- static where it has to be, and not where it may not be
-  abbrev pub static_kinds : Bool → MemberAt → List ProfileKind
-  static_kinds wanted m = unless (beq (is_static_member classes m) wanted) WrongKind
-
   -- a final field is written in its own class alone, by a method of this name
   abbrev pub written_kinds : List ℕ → List ℕ → MemberAt → List ProfileKind
   written_kinds writer method m = unless (not (is_final_member classes m) || (same_class m.class from && is_text method writer)) WrongKind
 
-  abbrev pub is_of_library : ClassId → Bool
-  is_of_library (Prog n) = false
-  is_of_library (Lib id) = true
-
-  -- by an instruction of the method of this name: static, and whether it is written
-  abbrev pub field_kinds : List ℕ → Bool → Bool → MemberRef → List ProfileKind
-  field_kinds method static written r = field_text_kinds (read_field r.ty)
-      ++ member_kinds (linked_field classes from r)
-      (λ m. static_kinds static m
-      ++ (if written then written_kinds (if static then codes "<clinit>" else codes "<init>") method m
+  -- where it is written
+  abbrev pub changed_kinds : List ℕ → Bool → Bool → MemberAt → List ProfileKind
+  changed_kinds method static written m =
+      if written then written_kinds (if static then codes "<clinit>" else codes "<init>") method m
       ++ unless (not (static && is_of_library m.class)) LeftOutMember
-      else []))
+      else []
+
+  -- of a field that an instruction of the method of this name uses: static, and whether it is written
+  abbrev pub used_kinds : List ℕ → Bool → Bool → MemberAt → List ProfileKind
+  used_kinds method static written m = static_kinds classes static m ++ changed_kinds method static written m
+
+  abbrev pub field_kinds : List ℕ → Bool → Bool → MemberRef → List ProfileKind
+  field_kinds method static written r = field_text_kinds (read_field r.ty) ++ member_kinds (linked_field classes from r) (used_kinds method static written)
 
   -- how a method is called
   abbrev pub call_kinds : Bool → MemberRef → List ProfileKind
   call_kinds static r = method_text_kinds (read_method r.ty)
       ++ unless (not (is_text r.name (codes "<clinit>"))) WrongKind
-      ++ member_kinds (linked_method classes from r) (static_kinds static)
-
-  -- no instance initialisation method is called so
-  abbrev pub no_init_kinds : MemberRef → List ProfileKind
-  no_init_kinds r = unless (not (is_init r.name)) WrongKind
-
-  -- the class that a reference names, where it is none of an array
-  abbrev pub class_of : MemberRef → Option ClassId
-  class_of r = if r.class.dims == 0 then of_base r.class.base else None where
-    of_base : Base → Option ClassId
-    of_base (base.Class name) = class_named classes name
-    of_base _ = None
+      ++ member_kinds (linked_method classes from r) (static_kinds classes static)
 
   -- an instance initialisation method is one of the class that is named
   abbrev pub init_kinds : ClassId → MemberRef → List ProfileKind
@@ -181,18 +222,14 @@ module _ (classes : List Class) (number : ℕ) where
   super_kinds named = unless (is_class_below classes from named) WrongKind
 
   -- no method of an array is called by invokespecial
+  abbrev pub special_class_kinds : MemberRef → List ProfileKind
+  special_class_kinds r = option_map_or (λ named. if is_init r.name then init_kinds named r else super_kinds named) (class_of classes r) (WrongKind ∷ [])
+
   abbrev pub special_kinds : MemberRef → List ProfileKind
-  special_kinds r = call_kinds false r
-      ++ option_map_or (λ named. if is_init r.name then init_kinds named r else super_kinds named) (class_of r) (WrongKind ∷ [])
+  special_kinds r = call_kinds false r ++ special_class_kinds r
 
-  abbrev pub is_abstract_class : ClassId → Bool
-  is_abstract_class (Prog n) = option_map_or (λ c. has acc_abstract c.flags.0) (slice_get classes n) false
-  is_abstract_class (Lib id) = false
-
-  -- an object is made of a class that is neither an interface nor abstract
   abbrev pub new_kinds : List ℕ → List ProfileKind
-  new_kinds name = name_kinds name
-      ++ option_map_or (λ c. unless (not (is_interface_in classes c) && not (is_abstract_class c)) WrongKind) (class_named classes name) []
+  new_kinds name = name_kinds name ++ option_map_or (made_kinds classes) (class_named classes name) []
 
   -- ---- code
 
@@ -228,20 +265,9 @@ module _ (classes : List Class) (number : ℕ) where
 
   -- ---- overriding
 
-  abbrev pub may_be_overridden_role : Role → Bool
-  may_be_overridden_role NoOverride = false
-  may_be_overridden_role _ = true
-
-  -- a method overrides no final one, and none of the library that may not be overridden
-  abbrev pub overridden_kinds : MemberAt → MemberAt → List ProfileKind
-  overridden_kinds m above =
-      if not (same_class m.class above.class) && overrides classes m above
-      then unless (not (is_final_member classes above)) WrongKind ++ unless (may_be_overridden_role (role_at above)) LeftOutMember
-      else []
-
   -- of the method with this number among the class's members
   abbrev pub overriding_kinds : MemberAt → List ProfileKind
-  overriding_kinds m = flat_map (overridden_kinds m) (declared_by classes (named_at classes m) (superclasses_from classes from))
+  overriding_kinds m = flat_map (overridden_kinds classes m) (declared_by classes (named_at classes m) (superclasses_from classes from))
 
   -- ---- the places
 
@@ -249,16 +275,10 @@ module _ (classes : List Class) (number : ℕ) where
   abbrev pub selected_kinds : MemberAt → List ProfileKind
   selected_kinds m = option_map_or (λ one. unless (is_callable_role (role_at one)) LeftOutMember) (selected classes from m) []
 
-  -- the instance methods of a program interface
-  abbrev pub methods_of : ClassId → List MemberAt
-  methods_of (Lib id) = []
-  methods_of (Prog n) = filter (is_instance_method classes)
-      (map (λ p. record { class = Prog n; index = p.0 }) (enumerate_from 0 (rows_in classes (Prog n))))
-
   abbrev pub implementing_kinds : Class → List ProfileKind
   implementing_kinds c =
       if has acc_abstract c.flags.0 then []
-      else flat_map (λ i. flat_map selected_kinds (methods_of i)) (superinterfaces classes from)
+      else flat_map (λ i. flat_map selected_kinds (methods_of classes i)) (superinterfaces classes from)
 
   -- of the class itself
   abbrev pub kinds_of_class : Class → List ProfileKind
@@ -269,25 +289,21 @@ module _ (classes : List Class) (number : ℕ) where
   abbrev pub kinds_of_field : Class → ℕ → Field → List ProfileKind
   kinds_of_field c n f = left_out_at c.left_out (Some n) ++ type_kinds f.ty
 
-  -- a method of an interface has no body, but that which initialises it
-  abbrev pub body_kinds : Class → Method → List ProfileKind
-  body_kinds c m = unless (not (is_interface c.flags.0) || has acc_abstract m.flags.0 || is_text m.name (codes "<clinit>")) LeftOutMember
+  -- of the declaration of the method with this number among the class's members
+  abbrev pub declaration_kinds : Class → ℕ → Method → List ProfileKind
+  declaration_kinds c n m = left_out_at c.left_out (Some n) ++ unless (not (is_native m.flags.0)) LeftOutFlag
+      ++ method_type_kinds m.ty ++ flat_map name_kinds m.throws
 
   -- of the method with this number among the class's members
   abbrev pub kinds_of_method : Class → ℕ → Method → List ProfileKind
-  kinds_of_method c n m = left_out_at c.left_out (Some n) ++ unless (not (is_native m.flags.0)) LeftOutFlag
-      ++ method_type_kinds m.ty ++ flat_map name_kinds m.throws ++ body_kinds c m ++ overriding_kinds (record { class = from; index = n })
+  kinds_of_method c n m = declaration_kinds c n m ++ body_kinds c m ++ overriding_kinds (record { class = from; index = n })
       ++ option_map_or (code_kinds m.name) m.code []
-
-  -- a fault at a place, if a rule is broken there
-  abbrev pub fault_at : Option ℕ → List ProfileKind → Option ProfileFault
-  fault_at place kinds = option_map (λ kind. record { class = number; member = place; kind = kind }) (least kinds)
 
   -- the faults of a class in the order of its places
   abbrev pub faults_of : Class → List ProfileFault
-  faults_of c = cons_option (fault_at None (kinds_of_class c))
-      (filter_map (λ p. fault_at (Some p.0) (kinds_of_field c p.0 p.1)) (enumerate_from 0 c.fields)
-      ++ filter_map (λ p. fault_at (Some p.0) (kinds_of_method c p.0 p.1)) (enumerate_from (length c.fields) c.methods))
+  faults_of c = cons_option (fault_at number None (kinds_of_class c))
+      (filter_map (λ p. fault_at number (Some p.0) (kinds_of_field c p.0 p.1)) (enumerate_from 0 c.fields)
+      ++ filter_map (λ p. fault_at number (Some p.0) (kinds_of_method c p.0 p.1)) (enumerate_from (length c.fields) c.methods))
 
 -- the first fault of a set
 abbrev pub links_checked : List Class → Result (Unit {0}) ProfileFault
@@ -295,3 +311,7 @@ links_checked classes = ended (first (flat_map (λ p. faults_of classes p.0 p.1)
   ended : Option ProfileFault → Result (Unit {0}) ProfileFault
   ended None = Ok tt
   ended (Some f) = Err f
+
+-- the class of a fault is one of the set, and the member one of the class
+abbrev pub IsPlace : List Class → ProfileFault → Type 0
+IsPlace classes f = (c : Class) × (slice_get classes f.class ≡ Some c) × IfSome f.member (λ n. n < length c.fields + length c.methods)

@@ -1,0 +1,124 @@
+// The methods that run where those of the superinterfaces of a class are called (JVMS 5.4.5, 6.5).
+#![tactic(auto, using(crate::proofs::Least::is_none))]
+
+ghost use Rattle.std.specs.Prelude.{◌≡◌, ◌<◌, [], IsTrue, false, if◌then◌else◌, length};
+ghost use Rattle.std.specs.List.{All, flat_map};
+ghost use Rattle.std.specs.Option.{option_map_or};
+ghost use Rattle.class_pool.specs.Found.{IsMember, is_instance_method, row_at};
+ghost use Rattle.class_pool.specs.Hierarchy.{IsClass};
+ghost use Rattle.class_pool.specs.Walk.{own_superinterfaces, superinterfaces};
+ghost use Rattle.class_pool.specs.declared.id.ClassId.TheVariants.{Prog};
+ghost use Rattle.link_check.specs.Profile.{implementing_kinds, least, methods_of, selected_kinds};
+
+use crate::ProfileKind;
+use crate::kind_order::lesser;
+use crate::member_uses::role_kind;
+use crate::overridden::HIGHEST;
+use crate::selection::select;
+use bitflags::Flags;
+use class_model::Class;
+use class_pool::{ClassId, ClassSet, MemberAt};
+use jv_base::Access;
+
+/// What is wrong with the methods that run where those of the program's superinterfaces of a class are called; an
+/// abstract class has no objects.
+pub(crate) fn implementing_kind(set: &ClassSet, number: u32, class: &Class) -> Option<ProfileKind>
+    requires there { number < length set.now }
+    ensures { result ≡ least (implementing_kinds set.now number class.now) }
+{
+    if class.flags.contains(Access::ABSTRACT) {
+        return None;
+    }
+    superinterfaces_kind(set, number)
+}
+
+fn superinterfaces_kind(set: &ClassSet, number: u32) -> Option<ProfileKind>
+    requires there { number < length set.now }
+    ensures { result ≡ least (flat_map (λ i. flat_map (selected_kinds set.now number) (methods_of set.now i)) (superinterfaces set.now (Prog number))) }
+{
+    let mut kind = None;
+    let mut next = Some(ClassId::Prog(number));
+    for _ in 0..HIGHEST {
+        let Some(class) = &next else {
+            return kind;
+        };
+        kind = lesser(kind, own_kind(set, number, class));
+        next = set.super_of(*class);
+    }
+    kind
+}
+
+/// The same of the superinterfaces that a class has itself.
+fn own_kind(set: &ClassSet, number: u32, class: &ClassId) -> Option<ProfileKind>
+    requires there { number < length set.now }
+    requires class { IsClass set.now class.now }
+    ensures { result ≡ least (flat_map (λ i. flat_map (selected_kinds set.now number) (methods_of set.now i)) (own_superinterfaces set.now class.now)) }
+{
+    interfaces_kind(set, number, set.own_superinterfaces(*class))
+}
+
+fn interfaces_kind(set: &ClassSet, number: u32, interfaces: &[ClassId]) -> Option<ProfileKind>
+    requires there { number < length set.now }
+    requires interfaces { All (IsClass set.now) interfaces.now }
+    ensures { result ≡ least (flat_map (λ i. flat_map (selected_kinds set.now number) (methods_of set.now i)) interfaces.now) }
+{
+    let mut kind = None;
+    for interface in interfaces {
+        kind = lesser(kind, interface_kind(set, number, interface));
+    }
+    kind
+}
+
+fn interface_kind(set: &ClassSet, number: u32, interface: &ClassId) -> Option<ProfileKind>
+    requires there { number < length set.now }
+    requires interface { IsClass set.now interface.now }
+    ensures { result ≡ least (flat_map (selected_kinds set.now number) (methods_of set.now interface.now)) }
+{
+    match interface {
+        ClassId::Prog(interface) => methods_kind(set, number, *interface),
+        ClassId::Lib(_) => None,
+    }
+}
+
+fn methods_kind(set: &ClassSet, number: u32, interface: u32) -> Option<ProfileKind>
+    requires there { number < length set.now }
+    requires interface { interface < length set.now }
+    ensures { result ≡ least (flat_map (selected_kinds set.now number) (methods_of set.now (Prog interface))) }
+{
+    let class = set.class(interface);
+    let count = class.fields.len() + class.methods.len();
+    let mut kind = None;
+    for index in 0..count as u32 {
+        let m = MemberAt {
+            class: ClassId::Prog(interface),
+            index,
+        };
+        kind = lesser(kind, member_kind(set, number, &m));
+    }
+    kind
+}
+
+/// What is wrong with the method that runs where an instance method is called.
+fn member_kind(set: &ClassSet, number: u32, m: &MemberAt) -> Option<ProfileKind>
+    requires there { number < length set.now }
+    requires member { IsMember set.now m.now }
+    ensures { result ≡ least (if is_instance_method set.now m.now then selected_kinds set.now number m.now else []) }
+{
+    if set.is_instance_method(*m) {
+        selected_kind(set, number, m)
+    } else {
+        None
+    }
+}
+
+fn selected_kind(set: &ClassSet, number: u32, m: &MemberAt) -> Option<ProfileKind>
+    requires there { number < length set.now }
+    requires member { IsMember set.now m.now }
+    requires method { IsTrue (option_map_or (λ row. row.is_method) (row_at set.now m.now) false) }
+    ensures { result ≡ least (selected_kinds set.now number m.now) }
+{
+    match &select(set, ClassId::Prog(number), *m) {
+        Some(one) => role_kind(set, one),
+        None => None,
+    }
+}

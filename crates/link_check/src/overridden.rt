@@ -1,0 +1,98 @@
+// The methods that a method overrides (JVMS 5.4.5).
+#![tactic(auto, using(crate::proofs::Least::is_none))]
+
+ghost use Rattle.std.specs.Prelude.{◌≡◌, ◌<◌, ◌&&◌, [], IsTrue, false, length, not};
+ghost use Rattle.std.specs.Option.{option_map_or};
+ghost use Rattle.class_pool.specs.Found.{IsMember, declared_in, is_final_member, named_at, role_at, row_at};
+ghost use Rattle.class_pool.specs.Hierarchy.{IsClass};
+ghost use Rattle.class_pool.specs.Selection.{overrides};
+ghost use Rattle.class_pool.specs.Walk.{same_class};
+ghost use Rattle.link_check.specs.Profile.{least, may_be_overridden_role, overridden_kinds, overriding_kinds, unless};
+ghost use Rattle.link_check.specs.declared.fault.ProfileKind.TheVariants.{LeftOutMember, WrongKind};
+
+use crate::ProfileKind;
+use crate::kind_order::{lesser, unless};
+use crate::member_uses::is_same_class;
+use crate::selection::overrides;
+use class_pool::{ClassId, ClassSet, MemberAt};
+use lib_table::Role;
+
+/// More than any set has classes, those of the library with them.
+pub(crate) const HIGHEST: u64 = 1 << 33;
+
+/// What is wrong with the methods that a method of the class with a number overrides.
+pub(crate) fn overriding_kind(set: &ClassSet, number: u32, m: &MemberAt) -> Option<ProfileKind>
+    requires there { number < length set.now }
+    requires member { IsMember set.now m.now }
+    requires method { IsTrue (option_map_or (λ row. row.is_method) (row_at set.now m.now) false) }
+    ensures { result ≡ least (overriding_kinds set.now number m.now) }
+{
+    let mut kind = None;
+    let mut next = Some(ClassId::Prog(number));
+    for _ in 0..HIGHEST {
+        let Some(class) = &next else {
+            return kind;
+        };
+        kind = lesser(kind, like_kind(set, m, class));
+        next = set.super_of(*class);
+    }
+    kind
+}
+
+/// The same of the method that a class declares with its name and its descriptor.
+fn like_kind(set: &ClassSet, m: &MemberAt, class: &ClassId) -> Option<ProfileKind>
+    requires member { IsMember set.now m.now }
+    requires method { IsTrue (option_map_or (λ row. row.is_method) (row_at set.now m.now) false) }
+    requires class { IsClass set.now class.now }
+    ensures { result ≡ least (option_map_or (overridden_kinds set.now m.now) (declared_in set.now (named_at set.now m.now) class.now) []) }
+{
+    match &set.method_like(*class, *m) {
+        Some(above) => overridden_kind(set, m, above),
+        None => None,
+    }
+}
+
+fn overridden_kind(set: &ClassSet, m: &MemberAt, above: &MemberAt) -> Option<ProfileKind>
+    requires member { IsMember set.now m.now }
+    requires above { IsMember set.now above.now }
+    requires method { IsTrue (option_map_or (λ row. row.is_method) (row_at set.now above.now) false) }
+    ensures { result ≡ least (overridden_kinds set.now m.now above.now) }
+{
+    if !overrides_other(set, m, above) {
+        return None;
+    }
+    lesser(final_kind(set, above), overridden_role_kind(set, above))
+}
+
+/// Whether a method overrides one of another class.
+fn overrides_other(set: &ClassSet, m: &MemberAt, above: &MemberAt) -> bool
+    requires member { IsMember set.now m.now }
+    requires above { IsMember set.now above.now }
+    requires method { IsTrue (option_map_or (λ row. row.is_method) (row_at set.now above.now) false) }
+    ensures { result ≡ (not (same_class m.now.class above.now.class) && overrides set.now m.now above.now) }
+{
+    !is_same_class(&m.class, &above.class) && overrides(set, *m, *above)
+}
+
+fn final_kind(set: &ClassSet, above: &MemberAt) -> Option<ProfileKind>
+    requires { IsMember set.now above.now }
+    ensures { result ≡ least (unless (not (is_final_member set.now above.now)) WrongKind) }
+{
+    unless(!set.is_final_member(*above), ProfileKind::WrongKind)
+}
+
+fn overridden_role_kind(set: &ClassSet, above: &MemberAt) -> Option<ProfileKind>
+    requires { IsMember set.now above.now }
+    ensures { result ≡ least (unless (may_be_overridden_role (role_at above.now)) LeftOutMember) }
+{
+    unless(
+        may_be_overridden(set.role(*above)),
+        ProfileKind::LeftOutMember,
+    )
+}
+
+fn may_be_overridden(role: Role) -> bool
+    ensures { result ≡ may_be_overridden_role role }
+{
+    !matches!(role, Role::NoOverride)
+}
