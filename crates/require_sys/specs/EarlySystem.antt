@@ -1,6 +1,6 @@
 -- What has to be kept where only static methods are removed, as a system of requirements on the items of a set of classes: everything but
 -- the static methods is kept in any case, and a static method where it is asked for or where a method that is kept calls it.
-use Rattle.std.specs.Prelude.{ℕ, ◌+◌, Bool, true, false, not, ◌||◌, List, [], ◌∷◌, ◌++◌, length, map, take, replicate, Option, Some, None, Result, Ok, Err, if◌then◌else◌}
+use Rattle.std.specs.Prelude.{ℕ, ◌+◌, Bool, true, not, ◌||◌, List, [], ◌∷◌, ◌++◌, length, map, take, replicate, Option, Some, None, Result, Ok, Err, if◌then◌else◌}
 use Rattle.std.specs.List.{enumerate_from, filter_map, flat_map}
 use Rattle.std.specs.Option.{option_and_then}
 use Rattle.mark_core.specs.declared.system.System.{System}

@@ -121,7 +121,8 @@ fn set(alloc: Global) -> Result<ClassSet, Or<PoolFault>> {
     build(alloc, files)
 }
 
-fn asked(alloc: Global, names: &[&str]) -> M<Items<AskedMethod>> {
+/// The system of the set where these methods of the class are asked for.
+fn system(alloc: Global, names: &[&str]) -> Result<System, Or<PoolFault>> {
     let mut asked = Items::new(alloc);
     for name in names {
         asked.push(AskedMethod {
@@ -130,7 +131,8 @@ fn asked(alloc: Global, names: &[&str]) -> M<Items<AskedMethod>> {
             descriptor: Text::from_str(alloc, "()V")?,
         })?;
     }
-    Ok(asked)
+    let set = set(alloc)?;
+    Ok(system_of(alloc, &set, &asked)?)
 }
 
 fn has_seeds(sys: &System, wanted: &[u32]) -> bool {
@@ -147,11 +149,10 @@ fn has_needs(sys: &System, item: usize, wanted: &[u32]) -> bool {
 #[test]
 fn all_but_static_methods_are_seeds(rt: HostRuntime) -> Result<(), Fail> {
     let alloc = rt.alloc();
-    let set = set(alloc)?;
-    let nothing = system_of(alloc, &set, &asked(alloc, &[])?)?;
+    let nothing = system(alloc, &[])?;
     assert!(rt; nothing.n == 6);
     assert!(rt; has_seeds(&nothing, &[0, 1, 2, 5]));
-    let some = system_of(alloc, &set, &asked(alloc, &["g", "other"])?)?;
+    let some = system(alloc, &["g", "other"])?;
     assert!(rt; has_seeds(&some, &[0, 1, 2, 5, 4]));
     Ok(())
 }
@@ -159,8 +160,7 @@ fn all_but_static_methods_are_seeds(rt: HostRuntime) -> Result<(), Fail> {
 #[test]
 fn a_method_needs_the_static_methods_of_the_set_that_it_calls(rt: HostRuntime) -> Result<(), Fail> {
     let alloc = rt.alloc();
-    let set = set(alloc)?;
-    let sys = system_of(alloc, &set, &asked(alloc, &[])?)?;
+    let sys = system(alloc, &[])?;
     assert!(rt; sys.needs.len() == 6);
     assert!(rt; has_needs(&sys, 0, &[]));
     assert!(rt; has_needs(&sys, 1, &[]));

@@ -1,4 +1,4 @@
-use Rattle.std.proofs.Common.{◌≡◌, ℕ, ◌+◌, ◌<◌, Option, IfSome, [], length, sym, ap, subst, ◌∙◌, arith}
+use Rattle.std.proofs.Common.{ℕ, ◌<◌, Option, IfSome, [], length, sym, subst, ◌∙◌, arith}
 use Rattle.std.proofs.lemmas.List.Elements.{All-push, All-same}
 use Rattle.class_model.specs.declared.code.Ins.{Ins}
 use Rattle.class_pool.specs.Count.{item_count}
