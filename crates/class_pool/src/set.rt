@@ -156,3 +156,6 @@ impl ClassSet {
         }
     }
 }
+
+#[cfg(test)]
+mod tests;
