@@ -151,6 +151,3 @@ fn of_array(set: &ClassSet, from: u32, right: bool, base: &Base) -> Result<Membe
         Err(LinkKind::WrongKind)
     }
 }
-
-#[cfg(test)]
-mod tests;

@@ -126,6 +126,3 @@ fn overrides_where(set: &ClassSet, m: &MemberAt, above: &MemberAt, opened: bool)
     is_same(m, above)
         || (may_override(set, m) && (opened || may_be_overridden(set, &m.class, above)))
 }
-
-#[cfg(test)]
-mod tests;

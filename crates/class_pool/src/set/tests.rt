@@ -1,14 +1,14 @@
 use crate::cycles::tests::{are_few, ascends, file};
-use crate::{ClassSet, PoolFault, build};
-use jv_base::{Access, Items, Or, Text};
+use crate::{ClassSet, NamedClass, PoolFault, build};
+use jv_base::{Access, Items, M, Or, Text};
 use std::alloc::{AllocError, Global};
 use std::process::Abort;
 use std::test::Fail;
 
 const OBJECT: &str = "java/lang/Object";
 
-/// The class A has the interfaces W and X, which both have Y, and X has Z before it. The class B extends A.
-fn set(rt: &impl Abort, alloc: Global) -> Result<ClassSet, Or<PoolFault>> {
+/// The class A has the interfaces X and W, which both have Y, and X has Z before it. The class B extends A.
+fn files(alloc: Global) -> M<Items<NamedClass>> {
     let mut files = Items::new(alloc);
     files.push(file(alloc, Access::SUPER, ["A", OBJECT], &["X", "W"])?)?;
     files.push(file(alloc, Access::SUPER, ["B", "A"], &[])?)?;
@@ -16,9 +16,21 @@ fn set(rt: &impl Abort, alloc: Global) -> Result<ClassSet, Or<PoolFault>> {
     files.push(file(alloc, Access::INTERFACE, ["X", OBJECT], &["Z", "Y"])?)?;
     files.push(file(alloc, Access::INTERFACE, ["Y", OBJECT], &[])?)?;
     files.push(file(alloc, Access::INTERFACE, ["Z", OBJECT], &[])?)?;
+    Ok(files)
+}
+
+fn built(
+    rt: &impl Abort,
+    alloc: Global,
+    files: Items<NamedClass>,
+) -> Result<ClassSet, Or<PoolFault>> {
     assert!(rt; ascends(files.as_slice()));
     assert!(rt; are_few(files.as_slice()));
     build(alloc, files)
+}
+
+fn set(rt: &impl Abort, alloc: Global) -> Result<ClassSet, Or<PoolFault>> {
+    built(rt, alloc, files(alloc)?)
 }
 
 fn is_sub(
