@@ -39,7 +39,7 @@ library_done id k ids is before = before ∙ ap (filter_map (λ n. Some (Lib n))
 
 -- ---- walks over lists
 
-once_then : (s xs ys ids new : List ClassId) → ids ≡ s ++ each_once s xs → new ≡ ids ++ each_once ids ys → new ≡ s ++ each_once s (xs ++ ys)
+pub once_then : (s xs ys ids new : List ClassId) → ids ≡ s ++ each_once s xs → new ≡ ids ++ each_once ids ys → new ≡ s ++ each_once s (xs ++ ys)
 once_then s xs ys ids new before is = cc (append_assoc s (each_once s xs) (each_once (s ++ each_once s xs) ys), once_append xs ys s)
 
 -- one more interface is met, and then its list

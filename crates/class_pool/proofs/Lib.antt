@@ -8,6 +8,7 @@ pub mod CycleLaws
 pub mod ComputedLinks
 pub mod Closing
 pub mod Graphing
+pub mod Within
 pub mod Telling
 pub mod Listing
 pub mod ToldMembers
@@ -18,3 +19,5 @@ pub mod Walking
 pub mod Ranking
 pub mod Marking
 pub mod FillingLaws
+pub mod SupersLaws
+pub mod ObjectLaws

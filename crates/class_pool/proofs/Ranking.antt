@@ -104,7 +104,7 @@ super_low classes blocks id (Some n) ns h =
     let parts = both (nat_lt n id) (list_all (λ j. nat_lt j id) ns) h in
     All-cons (λ b. rank classes blocks b < id) (Lib n) (filter_map (λ i. Some (Lib i)) ns) (ltb-true n id parts.0) (lib_low classes blocks id ns parts.1)
 
-proper_then : (classes : List Class) (a b c : ClassId) → IsProperSub classes a b → IsProperSub classes b c → IsProperSub classes a c
+pub proper_then : (classes : List Class) (a b c : ClassId) → IsProperSub classes a b → IsProperSub classes b c → IsProperSub classes a c
 proper_then classes a b c first second set starts closed = second set (closed b (first set starts closed)) closed
 
 prog_low : (classes : List Class) (blocks : List (List ℕ)) (n : ℕ) (b : ClassId) → Tells classes blocks → NoCycle classes → n < length classes → IsClass classes b → IsProperSub classes (Prog n) b

@@ -31,12 +31,12 @@ direct_past classes id over =
     (get_or_past library id d over)
 
 -- the direct supertypes of what is no class
-none_above : (classes : List Class) (id : ClassId) → (IsClass classes id → ⊥) → direct classes id ≡ []
+pub none_above : (classes : List Class) (id : ClassId) → (IsClass classes id → ⊥) → direct classes id ≡ []
 none_above classes (Prog n) other =
     ⊎_elim (λ p. absurd (other p.1)) (λ p. direct_none classes n p.1) (slice_get_cases classes n).1
 none_above classes (Lib id) other = ⊎_elim (λ within. absurd (other within)) (λ over. direct_past classes id over) (cases_lt id (length library))
 
-class_cases : (classes : List Class) (id : ClassId) → IsClass classes id ⊎ (IsClass classes id → ⊥)
+pub class_cases : (classes : List Class) (id : ClassId) → IsClass classes id ⊎ (IsClass classes id → ⊥)
 class_cases classes (Prog n) = ⊎_elim (λ w. inl w) (λ o. inr (λ w. omega (arith, w, o))) (cases_lt n (length classes))
 class_cases classes (Lib id) = ⊎_elim (λ w. inl w) (λ o. inr (λ w. omega (arith, w, o))) (cases_lt id (length library))
 
@@ -190,7 +190,7 @@ told classes count blocks closure enough a b a-in b-in =
 pub proper_direct : (classes : List Class) (a : ClassId) → All (IsProperSub classes a) (direct classes a)
 proper_direct classes a k d within set starts closed = starts k d within
 
-proper_on : (classes : List Class) (a x : ClassId) → IsProperSub classes a x → All (IsProperSub classes a) (direct classes x)
+pub proper_on : (classes : List Class) (a x : ClassId) → IsProperSub classes a x → All (IsProperSub classes a) (direct classes x)
 proper_on classes a x proper k d within set starts closed = closed x (proper set starts closed) k d within
 
 same_number : (classes : List Class) (a b : ClassId) → IsClass classes a → IsClass classes b → number a ≡ number b → a ≡ b

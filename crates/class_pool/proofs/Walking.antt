@@ -20,7 +20,7 @@ flat_map_same f g [] h = refl
 flat_map_same {X} f g (x ∷ xs) h =
     ap (λ (t : List X). t ++ flat_map f xs) (All-head (λ y. f y ≡ g y) x xs h) ∙ ap (λ (t : List X). g x ++ t) (flat_map_same f g xs (All-tail (λ y. f y ≡ g y) x xs h))
 
-rest_of : (P : ClassId → Type 0) (o : Option ClassId) (xs : List ClassId) → All P (cons_option o xs) → All P xs
+pub rest_of : (P : ClassId → Type 0) (o : Option ClassId) (xs : List ClassId) → All P (cons_option o xs) → All P xs
 rest_of P None xs h = h
 rest_of P (Some x) xs h = All-tail P x xs h
 
@@ -39,7 +39,7 @@ pub walked_next : (n : ℕ) (classes : List Class) (is : List ClassId) → walke
 unfolding walked
 walked_next n classes is = refl
 
-no_rank : (rank : ClassId → ℕ) (is : List ClassId) (r : ℕ) → r ≡ 0 → All (λ i. rank i < r) is → is ≡ []
+pub no_rank : (rank : ClassId → ℕ) (is : List ClassId) (r : ℕ) → r ≡ 0 → All (λ i. rank i < r) is → is ≡ []
 no_rank rank [] r e h = refl
 no_rank rank (i ∷ is) r e h = let low = All-head (λ j. rank j < r) i is h in absurd (omega (arith, low, e))
 
@@ -83,7 +83,7 @@ own_next classes rank a falls a-in low = own_step classes rank highest 858993459
 
 -- ---- superclasses
 
-first_of : (P : ClassId → Type 0) (o : Option ClassId) (xs : List ClassId) → All P (cons_option o xs) → IfSome o P
+pub first_of : (P : ClassId → Type 0) (o : Option ClassId) (xs : List ClassId) → All P (cons_option o xs) → IfSome o P
 first_of P None xs h = tt
 first_of P (Some x) xs h = All-head P x xs h
 
@@ -91,12 +91,12 @@ up_step : (P Q : ClassId → Type 0) (f g : ClassId → List ClassId) (o : Optio
 up_step P Q f g None p q h = refl
 up_step P Q f g (Some d) p q h = h d p q
 
-up_unfolded : (n : ℕ) (classes : List Class) (c : ClassId) → upwards (suc n) classes c ≡ c ∷ option_map_or (upwards n classes) (superclass classes c) []
+pub up_unfolded : (n : ℕ) (classes : List Class) (c : ClassId) → upwards (suc n) classes c ≡ c ∷ option_map_or (upwards n classes) (superclass classes c) []
 unfolding upwards
 up_unfolded n classes c = refl
 
 -- superclasses of more levels than ranks are one list
-up_same : (classes : List Class) (rank : ClassId → ℕ) → Falls classes rank → (n m : ℕ) (c : ClassId) → IsClass classes c → rank c < n → rank c < m → upwards n classes c ≡ upwards m classes c
+pub up_same : (classes : List Class) (rank : ClassId → ℕ) → Falls classes rank → (n m : ℕ) (c : ClassId) → IsClass classes c → rank c < n → rank c < m → upwards n classes c ≡ upwards m classes c
 up_same classes rank falls zero m c c-in n-low m-low = absurd (omega (arith, n-low))
 up_same classes rank falls (suc n) zero c c-in n-low m-low = absurd (omega (arith, m-low))
 up_same classes rank falls (suc n) (suc m) c c-in n-low m-low =

@@ -5,6 +5,7 @@ ghost use Rattle.class_pool.specs.ByName.{IsIndexOf};
 ghost use Rattle.class_pool.specs.Count.{item_count};
 ghost use Rattle.class_pool.specs.Faults.{Ascends, Builds, classes_of};
 ghost use Rattle.class_pool.specs.Hierarchy.{class_named};
+ghost use Rattle.class_pool.specs.Lists.{HasObject};
 ghost use Rattle.class_pool.specs.Supertypes.{NoCycle};
 
 use crate::closure::closure_of;
@@ -47,7 +48,8 @@ fn take_classes(alloc: Global, files: Items<NamedClass>) -> M<Items<Class>>
 }
 
 fn set_of(alloc: Global, classes: ClassesByName) -> M<ClassSet>
-    requires { NoCycle classes }
+    requires acyclic { NoCycle classes }
+    requires object { HasObject classes }
     ensures { IfOk result (λ set. set ≡ classes) }
 {
     let members = members_of(alloc, &classes)?;

@@ -4,13 +4,13 @@ ghost use Rattle.std.specs.List.{position};
 ghost use Rattle.jv_base.specs.Names.{is_text};
 ghost use Rattle.class_pool.specs.Count.{item_count};
 ghost use Rattle.class_pool.specs.Faults.{NamesDiffer};
-ghost use Rattle.class_pool.specs.Hierarchy.{IsClass, class_named};
+ghost use Rattle.class_pool.specs.Hierarchy.{IsClass, class_named, superclass};
 
 use crate::ClassId;
 use class_model::Class;
 use indexmap::IndexSet;
 use jv_base::{Items, M, Name};
-use lib_table::lib_class;
+use lib_table::{lib_class, lib_super};
 use std::alloc::Global;
 use std::marker::Model;
 
@@ -70,6 +70,21 @@ impl ClassesByName {
     {
         let number = self.names.get_index_of(name)?;
         Some(number as u32)
+    }
+
+    /// The direct superclass (JVMS 4.1).
+    pub(crate) fn super_of(&self, id: ClassId) -> Option<ClassId>
+        requires { IsClass self.now id }
+        ensures is { result ≡ superclass self.now id }
+        ensures there { IfSome result (IsClass self.now) }
+    {
+        match id {
+            ClassId::Prog(number) => self.find(&self.class(number).super_name),
+            ClassId::Lib(id) => {
+                let above = lib_super(id)?;
+                Some(ClassId::Lib(above))
+            }
+        }
     }
 
     /// The class with a number.

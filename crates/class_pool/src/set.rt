@@ -5,7 +5,7 @@ ghost use Rattle.class_pool.specs.Hierarchy.{IsClass, class_named, superclass};
 ghost use Rattle.class_pool.specs.Members.{declared_at};
 ghost use Rattle.class_pool.specs.Supers.{IsSupers};
 ghost use Rattle.class_pool.specs.Supertypes.{NoCycle, Sub};
-ghost use Rattle.class_pool.specs.Walk.{each_once, own_superinterfaces};
+ghost use Rattle.class_pool.specs.Walk.{each_once, own_superinterfaces, supers};
 
 use crate::ClassId;
 use crate::closure::Closure;
@@ -15,7 +15,7 @@ use crate::members::MemberIndex;
 use crate::supers::supers_of;
 use class_model::Class;
 use jv_base::{Items, M, Name, Text};
-use lib_table::{LibId, lib_member, lib_super};
+use lib_table::{LibId, lib_member};
 use std::alloc::Global;
 use std::marker::Model;
 
@@ -42,7 +42,7 @@ impl Model for ClassSet {
     ghost use Rattle.class_pool.specs.Descriptors.{method_texts};
     ghost use Rattle.class_pool.specs.Graph.{Tells, library_ids};
     ghost use Rattle.class_pool.specs.Hierarchy.{class_named};
-    ghost use Rattle.class_pool.specs.Lists.{AreOwn};
+    ghost use Rattle.class_pool.specs.Lists.{AreOwn, HasObject};
     ghost use Rattle.class_pool.specs.Supertypes.{NoCycle};
 
     ghost Value = { List Class };
@@ -51,7 +51,7 @@ impl Model for ClassSet {
 
     ghost invariant = { λ s. (s.library ≡ library_ids) × Tells s.classes s.closure.blocks × AllZip IsIndexOf s.classes s.members
         × NoCycle s.classes × AreOwn s.classes s.superinterfaces × (s.descriptors ≡ map method_texts s.classes)
-        × (s.object ≡ class_named s.classes (codes "java/lang/Object")) };
+        × (s.object ≡ class_named s.classes (codes "java/lang/Object")) × HasObject s.classes };
 }
 
 impl ClassSet {
@@ -92,13 +92,7 @@ impl ClassSet {
         requires { IsClass self.now id }
         ensures { result ≡ superclass self.now id }
     {
-        match id {
-            ClassId::Prog(number) => self.find(&self.class(number).super_name),
-            ClassId::Lib(id) => {
-                let above = lib_super(id)?;
-                Some(ClassId::Lib(above))
-            }
-        }
+        self.classes.super_of(id)
     }
 
     /// Whether a class is the other one or has it as a supertype, direct or not (JVMS 4.10).
@@ -129,13 +123,16 @@ impl ClassSet {
         let _ = &self.classes;
     }
 
-    /// The supertypes of a class, direct or not (JVMS 4.10), without the class itself. Each comes once: those of the
-    /// library first, in the order of its table, then those of the set in its order.
+    /// The supertypes of a class, direct or not (JVMS 4.10), without the class itself. First come its superclasses
+    /// upwards, then the superinterfaces that it has itself, those of its superclass, and so on. Each comes once, where
+    /// it is met first.
     pub fn supers(&self, alloc: Global, id: ClassId) -> M<Items<ClassId>>
         requires { IsClass self.now id }
-        ensures { IfOk result (IsSupers self.now id) }
+        ensures order { IfOk result (λ ids. ids ≡ supers self.now id) }
+        ensures are { IfOk result (IsSupers self.now id) }
     {
-        supers_of(alloc, &self.classes, &self.library, &self.closure, id)
+        let superinterfaces = &self.superinterfaces;
+        supers_of(alloc, &self.classes, &self.library, superinterfaces, id)
     }
 
     /// The number of the member that the class declares with a name and a descriptor (JVMS 4.3). A program class has its

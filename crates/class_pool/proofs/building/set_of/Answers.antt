@@ -15,7 +15,7 @@ superinterfaces_of-requires-clause-ranks c =
     (omega (arith, c.len.ensures, needs, long)) in
     record {
       rank = rank c.args.classes c.in_ok-closure.closure.blocks;
-      falls = falls c.args.classes c.in_ok-closure.closure.blocks tells c.requires;
+      falls = falls c.args.classes c.in_ok-closure.closure.blocks tells c.requires.acyclic;
       most = rank_most c.args.classes c.in_ok-closure.closure.blocks;
     }
 
@@ -28,8 +28,9 @@ invariant_of-result c =
           (subst (λ (ns : List (List ℕ)). IsClosure ns c.len.result c.in_ok-closure.closure.blocks) (c.as_slice.ensures ∙ c.in_ok-needs.ensures) c.in_ok-closure.ensures)
           (omega (arith, c.len.ensures, needs, long)),
       c.in_ok-members.ensures,
-      c.requires,
+      c.requires.acyclic,
       c.in_ok-superinterfaces.ensures,
       c.in_ok-descriptors.ensures,
       c.in_ok-object.ensures,
+      c.requires.object,
     )
