@@ -52,16 +52,19 @@ fn like_kind(set: &ClassSet, m: &MemberAt, class: &ClassId) -> Option<ProfileKin
     }
 }
 
+/// Whether it overrides the one above is looked at last, since few methods may not be overridden.
 fn overridden_kind(set: &ClassSet, m: &MemberAt, above: &MemberAt) -> Option<ProfileKind>
     requires member { IsMember set.now m.now }
     requires above { IsMember set.now above.now }
     requires method { IsTrue (option_map_or (λ row. row.is_method) (row_at set.now above.now) false) }
     ensures { result ≡ least (overridden_kinds set.now m.now above.now) }
 {
-    if !overrides_other(set, m, above) {
-        return None;
+    let kind = lesser(final_kind(set, above), overridden_role_kind(set, above));
+    if kind.is_some() && overrides_other(set, m, above) {
+        kind
+    } else {
+        None
     }
-    lesser(final_kind(set, above), overridden_role_kind(set, above))
 }
 
 /// Whether a method overrides one of another class.
