@@ -67,6 +67,36 @@ fn own_superinterfaces_are(
     Ok(true)
 }
 
+fn supers_are(
+    rt: &impl Abort,
+    alloc: Global,
+    set: &ClassSet,
+    class: &str,
+    wanted: &[&str],
+) -> M<bool> {
+    let id = set
+        .find(&Text::from_str(alloc, class)?)
+        .expect(rt, "a class");
+    let ids = set.supers(alloc, id)?;
+    if ids.len() != wanted.len() {
+        return Ok(false);
+    }
+    for number in 0..wanted.len() {
+        if set.find(&Text::from_str(alloc, wanted[number])?) != Some(ids[number]) {
+            return Ok(false);
+        }
+    }
+    Ok(true)
+}
+
+#[test]
+fn superclasses_come_before_superinterfaces(rt: HostRuntime) -> Result<(), Fail> {
+    let alloc = rt.alloc();
+    let set = set(&rt, alloc)?;
+    assert!(rt; supers_are(&rt, alloc, &set, "B", &["A", OBJECT, "X", "Z", "Y", "W"])?);
+    Ok(())
+}
+
 #[test]
 fn superinterfaces_come_in_the_order_of_the_walk_and_once(rt: HostRuntime) -> Result<(), Fail> {
     let alloc = rt.alloc();
