@@ -27,9 +27,13 @@ or_found None other = other
 abbrev pub class_named : List Class → List ℕ → Option ClassId
 class_named classes name = or_found (position (λ c. is_text name c.name) classes) (option_map Lib (table.class_named name))
 
+-- the class that a class names as its superclass (JVMS 4.1)
+abbrev pub superclass_of : List Class → Class → Option ClassId
+superclass_of classes c = class_named classes c.super_name
+
 -- the direct superclass (JVMS 4.1); that of an interface is Object
 abbrev pub superclass : List Class → ClassId → Option ClassId
-superclass classes (Prog n) = option_and_then (λ c. class_named classes c.super_name) (slice_get classes n)
+superclass classes (Prog n) = option_and_then (superclass_of classes) (slice_get classes n)
 superclass classes (Lib id) = option_map Lib (table.super_of id)
 
 -- the classes among these names that are there

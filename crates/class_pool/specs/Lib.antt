@@ -18,3 +18,4 @@ pub mod Supers
 pub mod Marked
 pub mod Lists
 pub mod Filling
+pub mod KindNames

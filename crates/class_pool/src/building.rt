@@ -16,6 +16,7 @@ use crate::lookup::ClassesByName;
 use crate::members::MemberIndex;
 use crate::order::order_of;
 use crate::rounds::{check_names, check_supertypes};
+use crate::superclasses::superclasses_of;
 use crate::superinterfaces::superinterfaces_of;
 use crate::{ClassId, ClassSet, NamedClass, PoolFault};
 use class_model::Class;
@@ -58,6 +59,7 @@ fn set_of(alloc: Global, classes: ClassesByName) -> M<ClassSet>
     let needs = graph_of(alloc, &classes, &library)?;
     let closure = closure_of(alloc, needs.as_slice(), needs.len())?;
     let object = object_of(alloc, &classes)?;
+    let superclasses = superclasses_of(alloc, &classes)?;
     let order = order_of(alloc, needs.as_slice())?;
     let superinterfaces = superinterfaces_of(alloc, &classes, &library, order.as_slice())?;
     Ok(ClassSet {
@@ -68,6 +70,7 @@ fn set_of(alloc: Global, classes: ClassesByName) -> M<ClassSet>
         closure,
         superinterfaces,
         object,
+        superclasses,
     })
 }
 

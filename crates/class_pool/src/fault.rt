@@ -1,4 +1,7 @@
 // What is handed to a set, and why it may be none.
+ghost use Rattle.std.specs.Prelude.{◌≡◌};
+ghost use Rattle.class_pool.specs.KindNames.{pool_name};
+
 use class_model::Class;
 use jv_base::{Name, Text};
 
@@ -32,4 +35,19 @@ pub enum PoolKind {
     SuperKind,
     /// Third round: the class is its own proper supertype (JVMS 5.3.5).
     Cycle,
+}
+
+impl PoolKind {
+    /// Its name, as it stands in the texts of faults.
+    pub fn name(self) -> &'static str
+        ensures { result.now ≡ pool_name self }
+    {
+        match self {
+            PoolKind::NameMismatch => "NameMismatch",
+            PoolKind::LibraryName => "LibraryName",
+            PoolKind::SuperMissing => "SuperMissing",
+            PoolKind::SuperKind => "SuperKind",
+            PoolKind::Cycle => "Cycle",
+        }
+    }
 }

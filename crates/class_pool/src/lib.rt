@@ -22,6 +22,7 @@ mod ranks;
 mod rounds;
 mod rows;
 mod set;
+mod superclasses;
 mod superinterfaces;
 mod supers;
 

@@ -50,6 +50,12 @@ impl ClassesByName {
         self.classes.len() as u32
     }
 
+    pub(crate) fn into_classes(self) -> Items<Class>
+        ensures { result ≡ self }
+    {
+        self.classes
+    }
+
     /// The class of a name in internal form, here or in the library, by one look-up.
     pub(crate) fn find(&self, name: &Name) -> Option<ClassId>
         ensures found { result ≡ class_named self.now name.now }

@@ -15,7 +15,7 @@ use crate::members::MemberIndex;
 use crate::supers::supers_of;
 use class_model::Class;
 use jv_base::{Items, M, Name, Text};
-use lib_table::{LibId, lib_member};
+use lib_table::{LibId, lib_member, lib_super};
 use std::alloc::Global;
 use std::marker::Model;
 
@@ -32,6 +32,8 @@ pub struct ClassSet {
     pub(crate) superinterfaces: Items<Items<ClassId>>,
     /// Object, where its name leads to a class.
     pub(crate) object: Option<ClassId>,
+    /// For each class its superclass.
+    pub(crate) superclasses: Items<Option<ClassId>>,
 }
 
 impl Model for ClassSet {
@@ -41,7 +43,7 @@ impl Model for ClassSet {
     ghost use Rattle.class_pool.specs.ByName.{IsIndexOf};
     ghost use Rattle.class_pool.specs.Descriptors.{method_texts};
     ghost use Rattle.class_pool.specs.Graph.{Tells, library_ids};
-    ghost use Rattle.class_pool.specs.Hierarchy.{class_named};
+    ghost use Rattle.class_pool.specs.Hierarchy.{class_named, superclass_of};
     ghost use Rattle.class_pool.specs.Lists.{AreOwn, HasObject};
     ghost use Rattle.class_pool.specs.Supertypes.{NoCycle};
 
@@ -51,7 +53,8 @@ impl Model for ClassSet {
 
     ghost invariant = { λ s. (s.library ≡ library_ids) × Tells s.classes s.closure.blocks × AllZip IsIndexOf s.classes s.members
         × NoCycle s.classes × AreOwn s.classes s.superinterfaces × (s.descriptors ≡ map method_texts s.classes)
-        × (s.object ≡ class_named s.classes (codes "java/lang/Object")) × HasObject s.classes };
+        × (s.object ≡ class_named s.classes (codes "java/lang/Object")) × HasObject s.classes
+        × (s.superclasses ≡ map (superclass_of s.classes) s.classes) };
 }
 
 impl ClassSet {
@@ -60,6 +63,13 @@ impl ClassSet {
         ensures { result ≡ length self.now }
     {
         self.classes.len()
+    }
+
+    /// The classes alone, in their order. Takes no memory.
+    pub fn into_classes(self) -> Items<Class>
+        ensures { result ≡ self }
+    {
+        self.classes.into_classes()
     }
 
     /// The class of a name in internal form, in the set or in the library, by one look-up.
@@ -87,12 +97,18 @@ impl ClassSet {
         self.classes.class(id)
     }
 
-    /// The direct superclass (JVMS 4.1); only Object has none. That of an interface is Object.
+    /// The direct superclass (JVMS 4.1); only Object has none. That of an interface is Object. No name is looked up.
     pub fn super_of(&self, id: ClassId) -> Option<ClassId>
         requires { IsClass self.now id }
         ensures { result ≡ superclass self.now id }
     {
-        self.classes.super_of(id)
+        match id {
+            ClassId::Prog(number) => self.superclasses[number as usize],
+            ClassId::Lib(id) => {
+                let above = lib_super(id)?;
+                Some(ClassId::Lib(above))
+            }
+        }
     }
 
     /// Whether a class is the other one or has it as a supertype, direct or not (JVMS 4.10).

@@ -2,8 +2,6 @@
 use Rattle.std.specs.Prelude.{ℕ, List, ◌++◌, codes, Option, Some, None, Result, Ok, Err}
 use Rattle.std.specs.Fmt.{decimal}
 use Rattle.format_reading.specs.declared.fault.FormatFault.{FormatFault}
-use Rattle.format_reading.specs.declared.fault.FormatKind.{FormatKind}
-use Rattle.format_reading.specs.declared.fault.FormatKind.TheVariants as bad
 use Rattle.class_model.specs.declared.class.Class.{Class}
 use Rattle.class_model.specs.declared.class.LeftKind.{LeftKind}
 use Rattle.class_model.specs.declared.class.LeftKind.TheVariants as left
@@ -11,29 +9,8 @@ use Rattle.class_model.specs.declared.class.LeftOut.{LeftOut}
 use Rattle.class_model.specs.declared.limit.WriteLimit.{WriteLimit}
 use Rattle.class_model.specs.declared.limit.WriteLimit.TheVariants as limit
 use Rattle.class_model.specs.WriteLimits.{class_written}
+use Rattle.report_text.specs.Kinds.{format_name}
 use Rattle.hex.specs.Hex.{encode_lower}
-
--- the name of the rule that is broken
-abbrev pub fault_name : FormatKind → List ℕ
-fault_name bad.Cut = codes "Cut"
-fault_name bad.BadMagic = codes "BadMagic"
-fault_name bad.BadVersion = codes "BadVersion"
-fault_name bad.BadTag = codes "BadTag"
-fault_name bad.BadUtf8 = codes "BadUtf8"
-fault_name bad.BadIndex = codes "BadIndex"
-fault_name bad.BadName = codes "BadName"
-fault_name bad.BadDescriptor = codes "BadDescriptor"
-fault_name bad.BadFlags = codes "BadFlags"
-fault_name bad.BadAttribute = codes "BadAttribute"
-fault_name bad.BadConstant = codes "BadConstant"
-fault_name bad.BadCode = codes "BadCode"
-fault_name bad.BadOpcode = codes "BadOpcode"
-fault_name bad.BadOperand = codes "BadOperand"
-fault_name bad.BadTarget = codes "BadTarget"
-fault_name bad.BadHandler = codes "BadHandler"
-fault_name bad.BadFrame = codes "BadFrame"
-fault_name bad.Repeated = codes "Repeated"
-fault_name bad.Trailing = codes "Trailing"
 
 -- the name of what is left out
 abbrev pub left_name : LeftKind → List ℕ
@@ -72,7 +49,7 @@ class_answer class (Some left_out) = left_answer left_out
 
 -- what is said of a fault
 abbrev pub fault_answer : FormatFault → List ℕ
-fault_answer f = codes "fault " ++ (decimal f.offset ++ (codes " " ++ fault_name f.kind))
+fault_answer f = codes "fault " ++ (decimal f.offset ++ (codes " " ++ format_name f.kind))
 
 -- what is said of bytes
 abbrev pub answer : Result Class FormatFault → List ℕ

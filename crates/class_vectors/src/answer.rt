@@ -5,7 +5,8 @@ ghost use Rattle.class_model.specs.WellFormed.{CountsFit, IsWellFormed};
 ghost use Rattle.class_model.specs.WriteLimits.{class_written};
 ghost use Rattle.class_vectors.specs.Answers.{answer, fault_answer, left_answer, member_text, written_answer};
 
-use crate::kinds::{fault_name, left_name, limit_name};
+use crate::kinds::{left_name, limit_name};
+use report_text::format_name;
 use class_model::{Class, LeftOut};
 use class_read::read_class;
 use class_write::{spelled_classes_can_be_written, write_class};
@@ -74,7 +75,7 @@ fn member_text(alloc: Global, member: Option<u32>) -> M<Text>
 fn fault_answer(alloc: Global, fault: FormatFault) -> M<Text>
     ensures { IfOk result (λ text. text ≡ fault_answer fault) }
 {
-    let kind = fault_name(fault.kind);
+    let kind = format_name(fault.kind);
     let offset = fault.offset;
     let text = format!(in alloc; "fault {offset} {kind}")?;
     Ok(Text::from_string(text))

@@ -3,3 +3,4 @@ pub mod Overriding
 pub mod Profile
 pub mod ProfileRows
 pub mod Walks
+pub mod KindNames

@@ -1,4 +1,7 @@
 // Why classes are refused.
+ghost use Rattle.std.specs.Prelude.{◌≡◌};
+ghost use Rattle.link_check.specs.KindNames.{profile_name};
+
 
 /// What is wrong with a reference to a field or a method. Of several kinds the first counts.
 #[derive(Clone, Copy, Debug, PartialEq, Eq)]
@@ -33,6 +36,24 @@ pub enum ProfileKind {
     /// One that is named, overridden or run through an interface is a member of the library that a program may not use so, or a
     /// method of an interface has a body.
     LeftOutMember,
+}
+
+impl ProfileKind {
+    /// Its name, as it stands in the texts of faults.
+    pub fn name(self) -> &'static str
+        ensures { result.now ≡ profile_name self }
+    {
+        match self {
+            ProfileKind::LeftOutFlag => "LeftOutFlag",
+            ProfileKind::LeftOutConstant => "LeftOutConstant",
+            ProfileKind::LeftOutOpcode => "LeftOutOpcode",
+            ProfileKind::LeftOutType => "LeftOutType",
+            ProfileKind::Unresolved => "Unresolved",
+            ProfileKind::Inaccessible => "Inaccessible",
+            ProfileKind::WrongKind => "WrongKind",
+            ProfileKind::LeftOutMember => "LeftOutMember",
+        }
+    }
 }
 
 /// The first place of a set that breaks a rule: class after class in order, in a class first itself, then its fields, then its

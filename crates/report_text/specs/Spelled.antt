@@ -1,4 +1,4 @@
--- Classes and members in texts: names with dots, types as Java source spells them (JLS 13.1), members as a mapping file has them
+-- Classes and members in texts: names with dots (JLS 13.1), types as Java source spells them, members as a mapping file has them
 -- (ProGuard manual, ReTrace, the mapping file).
 use Rattle.std.specs.Prelude.{ℕ, List, ◌++◌, Option, Some, None, codes, map}
 use Rattle.std.specs.List.{join_by}

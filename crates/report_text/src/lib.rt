@@ -1,9 +1,11 @@
 //! How classes and their members are spelled in texts for people: with external names, and types as Java source has them.
 #![tactic(auto)]
 
+mod kinds;
 mod spelled;
 
-pub use spelled::{class_text, member_text};
+pub use kinds::format_name;
+pub use spelled::{class_text, member_text, name_text};
 
 #[cfg(test)]
 mod tests;

@@ -1,20 +1,27 @@
 // The texts of classes and members.
 ghost use Rattle.std.specs.Prelude.{◌≡◌, ◌+◌, ◌<◌, ◌++◌, IfOk, OnOk, Some, codes, length, slice_get};
 ghost use Rattle.std.specs.List.{flat_map, join_by};
-ghost use Rattle.jv_base.specs.External.{external_text};
+ghost use Rattle.jv_base.specs.External.{dotted, external_text};
 ghost use Rattle.report_text.specs.Spelled.{class_text, field_text, member_texts, method_text, result_text};
 
 use class_model::{Class, Field, Method};
-use jv_base::{Base, FieldType, M, Text, external};
+use jv_base::{Base, FieldType, M, Name, Text, external};
 use std::alloc::Global;
 
-/// The name of a class with dots, as `java.lang.String` (JLS 13.1).
+/// A class name in internal form with dots, as `java.lang.String` (JLS 13.1).
 #[tactic(auto, using(crate::proofs::ClassNames::class_spelled))]
+pub fn name_text(alloc: Global, name: &Name) -> M<Text>
+    ensures { IfOk result (λ text. text ≡ dotted name.now) }
+{
+    let base = Base::Class(name.clone()?);
+    external(alloc, &FieldType { dims: 0, base })
+}
+
+/// The name of a class with dots (JLS 13.1).
 pub fn class_text(alloc: Global, class: &Class) -> M<Text>
     ensures { IfOk result (λ text. text ≡ class_text class.now) }
 {
-    let base = Base::Class(class.name.clone()?);
-    external(alloc, &FieldType { dims: 0, base })
+    name_text(alloc, &class.name)
 }
 
 /// The text of a member as a mapping file of ProGuard has it: `int x` of a field, `void main(java.lang.String[])` of a

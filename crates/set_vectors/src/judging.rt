@@ -4,7 +4,6 @@ ghost use Rattle.class_pool.specs.Count.{item_count};
 ghost use Rattle.class_pool.specs.Faults.{Ascends, classes_of};
 ghost use Rattle.set_vectors.specs.Judgement.{IsJudged};
 
-use crate::kinds::{pool_name, profile_name};
 use class_pool::{ClassSet, NamedClass, PoolFault, build};
 use jv_base::{Items, M, Or, OutOfMemory, Text};
 use link_check::{ProfileFault, check_links};
@@ -81,7 +80,7 @@ pub fn judgement_text(alloc: Global, judgement: &Judgement) -> M<Text> {
         Judgement::Taken => Ok(Text::from_str(alloc, "ok")?),
         Judgement::NotListed => Ok(Text::from_str(alloc, "no list")?),
         Judgement::NoSet(fault) => {
-            line_of(alloc, "pool ", &fault.class, None, pool_name(fault.kind))
+            line_of(alloc, "pool ", &fault.class, None, fault.kind.name())
         }
         Judgement::Breaks(class, fault) => {
             let member = member_text(alloc, fault.member)?;
@@ -90,7 +89,7 @@ pub fn judgement_text(alloc: Global, judgement: &Judgement) -> M<Text> {
                 "profile ",
                 class,
                 Some(&member),
-                profile_name(fault.kind),
+                fault.kind.name(),
             )
         }
     }

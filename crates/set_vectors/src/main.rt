@@ -8,7 +8,6 @@
 
 mod files;
 mod judging;
-mod kinds;
 mod lines;
 
 use lines::{Stop, answer_lines};

@@ -33,4 +33,5 @@ invariant_of-result c =
       c.in_ok-descriptors.ensures,
       c.in_ok-object.ensures,
       c.requires.object,
+      c.in_ok-superclasses.ensures,
     )

@@ -1,0 +1,11 @@
+-- The names of what makes files no set.
+use Rattle.std.specs.Prelude.{ℕ, List, codes}
+use Rattle.class_pool.specs.declared.fault.PoolKind.{PoolKind}
+use Rattle.class_pool.specs.declared.fault.PoolKind.TheVariants.{NameMismatch, LibraryName, SuperMissing, SuperKind, Cycle}
+
+abbrev pub pool_name : PoolKind → List ℕ
+pool_name NameMismatch = codes "NameMismatch"
+pool_name LibraryName = codes "LibraryName"
+pool_name SuperMissing = codes "SuperMissing"
+pool_name SuperKind = codes "SuperKind"
+pool_name Cycle = codes "Cycle"

@@ -1,0 +1,25 @@
+-- The names of the rules of class files.
+use Rattle.std.specs.Prelude.{ℕ, List, codes}
+use Rattle.format_reading.specs.declared.fault.FormatKind.{FormatKind}
+use Rattle.format_reading.specs.declared.fault.FormatKind.TheVariants as bad
+
+abbrev pub format_name : FormatKind → List ℕ
+format_name bad.Cut = codes "Cut"
+format_name bad.BadMagic = codes "BadMagic"
+format_name bad.BadVersion = codes "BadVersion"
+format_name bad.BadTag = codes "BadTag"
+format_name bad.BadUtf8 = codes "BadUtf8"
+format_name bad.BadIndex = codes "BadIndex"
+format_name bad.BadName = codes "BadName"
+format_name bad.BadDescriptor = codes "BadDescriptor"
+format_name bad.BadFlags = codes "BadFlags"
+format_name bad.BadAttribute = codes "BadAttribute"
+format_name bad.BadConstant = codes "BadConstant"
+format_name bad.BadCode = codes "BadCode"
+format_name bad.BadOpcode = codes "BadOpcode"
+format_name bad.BadOperand = codes "BadOperand"
+format_name bad.BadTarget = codes "BadTarget"
+format_name bad.BadHandler = codes "BadHandler"
+format_name bad.BadFrame = codes "BadFrame"
+format_name bad.Repeated = codes "Repeated"
+format_name bad.Trailing = codes "Trailing"
