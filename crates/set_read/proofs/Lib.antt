@@ -1,0 +1,5 @@
+mod Few
+mod Files
+mod Sets
+mod Writable
+pub mod OneSet

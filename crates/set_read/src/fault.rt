@@ -1,0 +1,48 @@
+// Why class files aren't taken.
+ghost use Rattle.std.specs.Prelude.{◌≡◌};
+ghost use Rattle.set_read.specs.Accepted.{rule_name};
+
+use class_pool::PoolKind;
+use format_reading::FormatFault;
+use jv_base::Text;
+use link_check::ProfileKind;
+
+/// Why files aren't taken as a set of classes.
+#[derive(Debug, Drop)]
+pub enum SetFault {
+    /// The bytes of the file with this path are no class file.
+    Format(Text, FormatFault),
+    /// All files are class files, and a class breaks a rule.
+    Rule(RuleFault),
+}
+
+/// The first place of a set that breaks a rule.
+#[derive(Debug, Drop)]
+pub struct RuleFault {
+    /// The class, with its external name.
+    pub class: Text,
+    /// The member as a mapping file has it; none for the class itself.
+    pub member: Option<Text>,
+    pub kind: RuleKind,
+}
+
+/// The rule that is broken.
+#[derive(Clone, Copy, Debug, PartialEq, Eq)]
+pub enum RuleKind {
+    /// One that makes classes a set.
+    Pool(PoolKind),
+    /// One for the classes of a set.
+    Profile(ProfileKind),
+}
+
+impl RuleKind {
+    /// Its name, as it stands in the texts of faults.
+    pub fn name(self) -> &'static str
+        ensures { result.now ≡ rule_name self }
+    {
+        match self {
+            RuleKind::Pool(kind) => kind.name(),
+            RuleKind::Profile(kind) => kind.name(),
+        }
+    }
+}
