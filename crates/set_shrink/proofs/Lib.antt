@@ -1,0 +1,5 @@
+mod Few
+mod Kept
+mod Members
+mod Written
+pub mod OneShrunk

@@ -1,0 +1,3 @@
+pub mod ShrunkSet
+pub mod Steps
+pub mod OneShrunk

@@ -1,0 +1,78 @@
+-- What is written of a set of classes (ProGuard manual, "Usage": shrinking removes what isn't kept).
+use Rattle.std.specs.Prelude.{◌≡◌, ℕ, Bool, List, ◌∷◌, ◌++◌, length, map, codes, Result, Ok, Err}
+use Rattle.std.specs.List.{AllByRecursion, AllZip, sum_by}
+use Rattle.jv_base.specs.declared.outcome.Or.{Or}
+use Rattle.jv_base.specs.declared.outcome.Or.TheVariants.{Fault, OutOfMemory}
+use Rattle.tree_io.specs.declared.file_at.FileAt.{FileAt}
+use Rattle.mark_core.specs.Marks.{Marks}
+use Rattle.class_model.specs.WriteLimits.{class_written}
+use Rattle.class_model.specs.declared.class.Class.{Class}
+use Rattle.class_model.specs.declared.limit.WriteLimit.{WriteLimit}
+use Rattle.member_shrink.specs.Attributes.{without_optional}
+use Rattle.member_shrink.specs.Shrunk.{shrunk}
+use Rattle.require_sys.specs.EarlySystem.{system_of}
+use Rattle.require_sys.specs.declared.asked.AskedMethod.{AskedMethod}
+use Rattle.set_shrink.specs.declared.counts.Counts.{Counts}
+use Rattle.set_shrink.specs.declared.shrunk.ShrunkSet.{ShrunkSet}
+
+-- ---- what is kept
+
+-- the classes of the least closed set of the system, with their members of that set, without optional attributes
+pub record IsKept (classes : List Class) (asked : List AskedMethod) (kept : List Class) : Type 0 where
+  pub marks : List Bool
+  pub least : Marks (system_of classes asked) marks
+  pub left : kept ≡ map without_optional (shrunk classes marks)
+
+-- ---- files
+
+-- the file of a class below a directory
+abbrev pub path_of : List ℕ → Class → List ℕ
+path_of directory c = directory ++ codes "/" ++ c.name ++ codes ".class"
+
+-- it has the canonical spelling of the class (JVMS 4)
+abbrev pub IsFileOf : List ℕ → Class → FileAt → Type 0
+IsFileOf directory c f = (f.path ≡ path_of directory c) × (class_written c ≡ Ok f.bytes)
+
+abbrev pub AreFilesOf : List ℕ → List Class → List FileAt → Type 0
+AreFilesOf directory classes files = AllZip (IsFileOf directory) classes files
+
+-- no limit of the format is passed
+abbrev pub Fits : Class → Type 0
+Fits c = (bytes : List ℕ) × (class_written c ≡ Ok bytes)
+
+-- the first class that passes one passes this limit first (JVMS 4.11)
+pub record PassLimit (classes : List Class) (limit : WriteLimit) : Type 0 where
+  pub before : List Class
+  pub class : Class
+  pub after : List Class
+  pub split : classes ≡ before ++ class ∷ after
+  pub fit : AllByRecursion Fits before
+  pub passes : class_written class ≡ Err limit
+
+-- ---- counts
+
+abbrev pub counts_of : List Class → Counts
+counts_of classes = record {
+  classes = length classes;
+  fields = sum_by (λ (c : Class). length c.fields) classes;
+  methods = sum_by (λ (c : Class). length c.methods) classes;
+}
+
+-- ---- the whole
+
+-- the files of what is kept, and the counts of all and of what is kept
+pub record IsShrunk (classes : List Class) (asked : List AskedMethod) (directory : List ℕ) (set : ShrunkSet) : Type 0 where
+  pub kept : List Class
+  pub are_kept : IsKept classes asked kept
+  pub files : AreFilesOf directory kept set.files
+  pub read : set.read ≡ counts_of classes
+  pub left : set.kept ≡ counts_of kept
+
+-- a class that is kept passes a limit
+abbrev pub PassesLimit : List Class → List AskedMethod → WriteLimit → Type 0
+PassesLimit classes asked limit = (kept : List Class) × IsKept classes asked kept × PassLimit kept limit
+
+abbrev pub Shrinks : Result ShrunkSet (Or WriteLimit) → List Class → List AskedMethod → List ℕ → Type 0
+Shrinks (Ok set) classes asked directory = IsShrunk classes asked directory set
+Shrinks (Err (Fault limit)) classes asked directory = PassesLimit classes asked limit
+Shrinks (Err OutOfMemory) classes asked directory = Unit {0}
