@@ -8,10 +8,7 @@ use jv_base::{Items, M};
 use std::alloc::Global;
 
 /// For each class its direct superclass, in the order of the classes; none where no class has its name.
-pub(crate) fn superclasses_of(
-    alloc: Global,
-    classes: &ClassesByName,
-) -> M<Items<Option<ClassId>>>
+pub(crate) fn superclasses_of(alloc: Global, classes: &ClassesByName) -> M<Items<Option<ClassId>>>
     ensures { IfOk result (λ ids. ids ≡ map (superclass_of classes.now) classes.now) }
 {
     let mut ids = Items::new(alloc);

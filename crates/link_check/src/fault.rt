@@ -2,7 +2,6 @@
 ghost use Rattle.std.specs.Prelude.{◌≡◌};
 ghost use Rattle.link_check.specs.KindNames.{profile_name};
 
-
 /// What is wrong with a reference to a field or a method. Of several kinds the first counts.
 #[derive(Clone, Copy, Debug, PartialEq, Eq)]
 pub enum LinkKind {

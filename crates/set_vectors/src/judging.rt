@@ -84,13 +84,7 @@ pub fn judgement_text(alloc: Global, judgement: &Judgement) -> M<Text> {
         }
         Judgement::Breaks(class, fault) => {
             let member = member_text(alloc, fault.member)?;
-            line_of(
-                alloc,
-                "profile ",
-                class,
-                Some(&member),
-                fault.kind.name(),
-            )
+            line_of(alloc, "profile ", class, Some(&member), fault.kind.name())
         }
     }
 }

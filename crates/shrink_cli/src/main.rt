@@ -11,28 +11,33 @@ use tree_io::{FileTree, OpenGate, Sink, StreamSink};
 
 const HELP: &[u8] = b"Usage: shrink CONFIG OUTWIT
 
-Reads CONFIG, and the class file IN/Main.class of the directory that it names, and writes the
-class to OUT/Main.class with the methods alone that are kept, in its canonical spelling. Then it
-says how many there were and how many are kept. Nothing is written to OUTWIT yet.
+Reads CONFIG, and the class files below the directory IN that it names, and writes them below the
+directory OUT without the methods that aren't kept, each in its canonical spelling. Then it says
+how many classes, fields and methods there were and how many are kept. Nothing is written to
+OUTWIT yet.
 
 CONFIG is four lines:
   -injars IN
   -outjars OUT
   -printmapping MAP
   -keep class Main { static int NAME(int,int); }
-The last one names one method or more, each behind a blank, with int any number of times. These
-are kept, and all methods that kept ones call. OUT must have no file. Nothing is written to MAP
-yet.
+The last one names one method or more, each behind a blank, with int any number of times. OUT must
+have no file. Nothing is written to MAP yet.
 
-So far the class is one named Main, below java.lang.Object, without interfaces, fields and
-attributes, whose methods are static, take ints, give an int, compute with int instructions and
-call each other alone.
+All classes and fields are kept, and all methods but static ones. Of these class initialisation
+methods are kept, those of Main that CONFIG names, and all that kept methods call. The attributes
+SourceFile, Exceptions, LineNumberTable, Synthetic and Deprecated are left out.
+
+Class files are the files whose names end in .class. Each lies at the path of its class, as
+IN/demo/X.class for demo.X. Classes, fields and methods that they name are their own or those of
+the part of the JDK that is known here.
 
   -h, --help       prints this text
   -V, --version    prints the version
 
-Status: 0 written, 1 faulty words, 2 no config, 3 faulty config, 4 no such class, 6 config too
-long, 7 a device failed, 8 a file below OUT, 10 memory was wanting.
+Status: 0 written, 1 faulty words, 2 no config or a file that went away, 3 faulty config, 4 no
+class file, 5 a class that breaks a rule, 6 a limit passed, 7 a device failed, 8 a file below OUT,
+10 memory was wanting.
 ";
 
 const VERSION: &[u8] = b"cixorradde 0.1.0\n";

@@ -1,23 +1,29 @@
 -- What a command is to do on told files.
-use Rattle.std.specs.Prelude.{◌≡◌, ◌≤◌, ◌<◌, ℕ, Bool, List, [], length, Some, None, Result, Ok, Err}
+use Rattle.std.specs.Prelude.{◌≡◌, ◌≤◌, ◌<◌, ℕ, List, [], length, map, Some, None, Result, Ok, Err}
 use Rattle.std.specs.FinMap.{get, keys}
 use Rattle.tree_io.specs.Below.{paths_below}
 use Rattle.tree_io.specs.Files.{Files}
+use Rattle.tree_io.specs.declared.file_at.FileAt.{FileAt}
+use Rattle.class_files.specs.Input.{input_due, path_in}
+use Rattle.class_files.specs.declared.input.InputFault.TheVariants.{TooManyFiles, TooManyClasses, TooLong}
 use Rattle.class_model.specs.declared.class.Class.{Class}
-use Rattle.mark_core.specs.Marks.{Marks}
-use Rattle.shrink_core.specs.SmallLayout.{layout}
-use Rattle.shrink_core.specs.Small.{IsSmall}
-use Rattle.shrink_core.specs.Path.{main_path}
-use Rattle.shrink_core.specs.Words.{files_in}
+use Rattle.class_model.specs.declared.limit.WriteLimit.{WriteLimit}
+use Rattle.require_sys.specs.declared.asked.AskedMethod.{AskedMethod}
+use Rattle.set_read.specs.Accepted.{IsAccepted, IsFault}
+use Rattle.set_read.specs.declared.fault.SetFault.TheVariants as set
+use Rattle.set_shrink.specs.ShrunkSet.{IsShrunk, PassesLimit}
+use Rattle.set_shrink.specs.declared.shrunk.ShrunkSet.{ShrunkSet}
+use Rattle.shrink_core.specs.Asked.{asked_method}
 use Rattle.shrink_core.specs.Config.{IsConfig}
-use Rattle.shrink_core.specs.Kept.{system_of, shrunk}
+use Rattle.shrink_core.specs.Refusal.{quantity_of}
 use Rattle.shrink_core.specs.Summary.{summary_text}
-use Rattle.shrink_core.specs.declared.config.KeptMethod.{KeptMethod}
 use Rattle.shrink_core.specs.declared.config.Config.{Config}
 use Rattle.shrink_core.specs.declared.words.CommandFiles.{CommandFiles}
 use Rattle.shrink_core.specs.declared.shrink.Plan.{Plan}
+use Rattle.shrink_core.specs.declared.quantity.Quantity.{Quantity}
+use Rattle.shrink_core.specs.declared.quantity.Quantity.TheVariants as quantity
 use Rattle.shrink_core.specs.declared.refusal.Refusal.{Refusal}
-use Rattle.shrink_core.specs.declared.refusal.Refusal.TheVariants.{Words, Absent, ConfigTooLong, Rules, NotEmpty, NotBuilt}
+use Rattle.shrink_core.specs.declared.refusal.Refusal.TheVariants.{NoConfig, NotBuilt, NotEmpty, Format, Profile, Limit}
 
 -- ---- what stands in told files
 
@@ -34,50 +40,80 @@ HasConfig files path config = (bytes : List ℕ) × HasBytes files path bytes ×
 abbrev pub IsEmpty : Files → List ℕ → Type 0
 IsEmpty files directory = paths_below directory (keys files) ≡ []
 
--- a told file of at most 64 MiB spells this small class
-abbrev pub HasSmall : Files → List ℕ → Class → Type 0
-HasSmall files path class = (bytes : List ℕ) × HasBytes files path bytes × IsSmall bytes class
+-- the class files below the directory, within the limits on them
+abbrev pub HasInput : Files → List ℕ → List FileAt → Type 0
+HasInput files directory inputs = input_due files directory ≡ Ok inputs
+
+-- these class files are taken as a set of these classes
+abbrev pub HasSet : Files → List ℕ → List Class → Type 0
+HasSet files directory classes = (inputs : List FileAt) × HasInput files directory inputs × IsAccepted inputs classes
 
 -- ---- the result
 
--- the file and the summary for a class of which these items are kept
-abbrev pub plan_for : List ℕ → Class → List Bool → Plan
-plan_for output class marks = record {
-  file = record { path = main_path output; bytes = layout (shrunk class marks) };
-  summary = summary_text (length class.methods) (length (shrunk class marks).methods);
-}
+-- the methods that a config keeps
+abbrev pub asked_by : Config → List AskedMethod
+asked_by config = map asked_method config.methods
 
--- the same, where what is kept is the least that the config asks for
-abbrev pub IsPlan : Config → Class → Plan → Type 0
-IsPlan config class plan = (marks : List Bool) × Marks (system_of class config.methods) marks × (plan ≡ plan_for config.output class marks)
+-- the files of what the config keeps of the classes, and the summary
+pub record IsPlan (config : Config) (classes : List Class) (plan : Plan) : Type 0 where
+  pub shrunk : ShrunkSet
+  pub is_shrunk : IsShrunk classes (asked_by config) config.output shrunk
+  pub files : plan.files ≡ shrunk.files
+  pub summary : plan.summary ≡ summary_text shrunk.read shrunk.kept
 
--- the config, the empty directory and the class that lead to a plan
+-- the config, the empty directory and the set that lead to a plan
 pub record IsResult (files : Files) (named : CommandFiles) (plan : Plan) : Type 0 where
   pub config : Config
-  pub class : Class
+  pub classes : List Class
   pub configured : HasConfig files named.config config
   pub empty : IsEmpty files config.output
-  pub small : HasSmall files (main_path config.input) class
-  pub planned : IsPlan config class plan
-
--- what is written of a class without the methods that nothing kept needs is a spelling of it
-abbrev pub ShrunkIsSmall : Type 0
-ShrunkIsSmall = (bytes : List ℕ) (class : Class) (kept : List KeptMethod) (marks : List Bool) → IsSmall bytes class → Marks (system_of class kept) marks
-    → IsSmall (layout (shrunk class marks)) (shrunk class marks)
+  pub taken : HasSet files config.input classes
+  pub planned : IsPlan config classes plan
 
 -- ---- refusals, each where what was looked at before is right
 
-abbrev pub IsRefused : Files → CommandFiles → Refusal → Type 0
-IsRefused files named Words = ⊥
-IsRefused files named (Absent path) = (path ≡ named.config) × (get files named.config ≡ None)
-IsRefused files named ConfigTooLong = (bytes : List ℕ) × (get files named.config ≡ Some bytes) × (67108864 < length bytes)
-IsRefused files named Rules = (bytes : List ℕ) × HasBytes files named.config bytes × ((config : Config) → IsConfig bytes config → ⊥)
-IsRefused files named (NotEmpty directory) = (config : Config) × HasConfig files named.config config × (directory ≡ config.output) × (IsEmpty files directory → ⊥)
-IsRefused files named (NotBuilt path) = (config : Config) × HasConfig files named.config config × IsEmpty files config.output × (path ≡ main_path config.input)
-    × ((class : Class) → HasSmall files path class → ⊥)
+-- the input directory has too many files, too many class files, or too many bytes of these; no other quantity is counted there
+abbrev pub PassesInput : Files → List ℕ → Quantity → Type 0
+PassesInput files directory quantity.Files = input_due files directory ≡ Err TooManyFiles
+PassesInput files directory quantity.Classes = input_due files directory ≡ Err TooManyClasses
+PassesInput files directory quantity.Input = input_due files directory ≡ Err TooLong
+PassesInput files directory _ = ⊥
+
+-- the files below the input directory aren't taken as a set: they pass a limit, one is no class file, or a class breaks a rule. A file
+-- that was listed is always there, so none is Gone
+abbrev pub RefusesInput : Files → List ℕ → Refusal → Type 0
+RefusesInput files directory (Limit quantity) = PassesInput files directory quantity
+RefusesInput files directory (Format path fault) = (inputs : List FileAt) × HasInput files directory inputs
+    × (below : List ℕ) × (path ≡ path_in directory below) × IsFault inputs (set.Format below fault)
+RefusesInput files directory (Profile fault) = (inputs : List FileAt) × HasInput files directory inputs × IsFault inputs (set.Rule fault)
+RefusesInput files directory _ = ⊥
+
+-- a class that is to be written passes a limit of the format
+abbrev pub RefusesPlan : Config → List Class → Refusal → Type 0
+RefusesPlan config classes (Limit quantity) = (limit : WriteLimit) × PassesLimit classes (asked_by config) limit × (quantity ≡ quantity_of limit)
+RefusesPlan config classes _ = ⊥
+
+-- the config isn't there, is too long, or is none
+abbrev pub RefusesConfig : Files → List ℕ → Refusal → Type 0
+RefusesConfig files path NoConfig = get files path ≡ None
+RefusesConfig files path (Limit quantity.Config) = (bytes : List ℕ) × (get files path ≡ Some bytes) × (67108864 < length bytes)
+RefusesConfig files path NotBuilt = (bytes : List ℕ) × HasBytes files path bytes × ((config : Config) → IsConfig bytes config → ⊥)
+RefusesConfig files path _ = ⊥
+
+-- a file lies below the output directory
+abbrev pub RefusesOutput : Files → List ℕ → Refusal → Type 0
+RefusesOutput files directory (NotEmpty named) = (named ≡ directory) × (IsEmpty files directory → ⊥)
+RefusesOutput files directory _ = ⊥
+
+-- the config is refused; or the output directory is; or the input directory is; or what is to be written is
+pub data IsRefused (files : Files) (named : CommandFiles) (refusal : Refusal) : Type 0 where
+  by_config : RefusesConfig files named.config refusal → IsRefused files named refusal
+  by_output : (config : Config) → HasConfig files named.config config → RefusesOutput files config.output refusal → IsRefused files named refusal
+  by_input : (config : Config) → HasConfig files named.config config → IsEmpty files config.output → RefusesInput files config.input refusal → IsRefused files named refusal
+  by_plan : (config : Config) (classes : List Class) → HasConfig files named.config config → IsEmpty files config.output → HasSet files config.input classes
+      → RefusesPlan config classes refusal → IsRefused files named refusal
 
 -- what `shrink CONFIG OUTWIT` is to write and to say, or why it is refused
-abbrev pub IsDue : List (List ℕ) → Files → Result Plan Refusal → Type 0
-IsDue words files (Ok plan) = (named : CommandFiles) × (files_in words ≡ Some named) × IsResult files named plan
-IsDue words files (Err Words) = files_in words ≡ None
-IsDue words files (Err refusal) = (named : CommandFiles) × (files_in words ≡ Some named) × IsRefused files named refusal
+abbrev pub IsDue : Files → CommandFiles → Result Plan Refusal → Type 0
+IsDue files named (Ok plan) = IsResult files named plan
+IsDue files named (Err refusal) = IsRefused files named refusal

@@ -1,5 +1,5 @@
 -- Paths: an optional `/`, and then segments joined by `/`.
-use Rattle.std.specs.Prelude.{◌≡◌, ℕ, ◌+◌, take, drop, Bool, not, ◌&&◌, ◌==◌, List, [], ◌∷◌, ◌++◌, length, Option, Some, None, if◌then◌else◌, codes}
+use Rattle.std.specs.Prelude.{◌≡◌, ℕ, ◌+◌, take, drop, Bool, not, ◌&&◌, ◌==◌, List, [], ◌∷◌, length, Option, Some, None, if◌then◌else◌, codes}
 use Rattle.std.specs.List.{list_all, slice_split}
 use Rattle.jv_base.specs.Names.{is_text}
 
@@ -39,7 +39,3 @@ directory_in word = let text = without_slash word in if is_path text then Some t
 -- the file that a word names
 abbrev pub file_in : List ℕ → Option (List ℕ)
 file_in word = if is_path word then Some word else None
-
--- the class file of the class Main below a directory
-abbrev pub main_path : List ℕ → List ℕ
-main_path directory = directory ++ codes "/Main.class"

@@ -1,27 +1,102 @@
 -- The stops of a command, each with its status and its line.
-use Rattle.std.specs.Prelude.{ℕ, List, ◌++◌, codes}
-use Rattle.shrink_core.specs.declared.refusal.Refusal.TheVariants.{Words, Absent, ConfigTooLong, Rules, NotEmpty, NotBuilt}
+use Rattle.std.specs.Prelude.{ℕ, List, ◌++◌, Option, Some, None, codes}
+use Rattle.std.specs.Fmt.{decimal}
+use Rattle.format_reading.specs.declared.fault.FormatFault.{FormatFault}
+use Rattle.class_model.specs.declared.limit.WriteLimit.{WriteLimit}
+use Rattle.class_model.specs.declared.limit.WriteLimit.TheVariants as limit
+use Rattle.report_text.specs.Kinds.{format_name}
+use Rattle.set_read.specs.Accepted.{rule_name}
+use Rattle.set_read.specs.declared.fault.RuleFault.{RuleFault}
+use Rattle.shrink_core.specs.declared.quantity.Quantity.{Quantity}
+use Rattle.shrink_core.specs.declared.quantity.Quantity.TheVariants.{Config, Files, Classes, Input, Pool, Utf8, Code, Table, Branch, Attribute}
+use Rattle.shrink_core.specs.declared.refusal.Refusal.{Refusal}
+use Rattle.shrink_core.specs.declared.refusal.Refusal.TheVariants.{NoConfig, NotBuilt, NotEmpty, Gone, Format, Profile, Limit}
 use Rattle.shrink_core.specs.declared.refusal.Stop.{Stop}
 use Rattle.shrink_core.specs.declared.refusal.Stop.TheVariants.{Refused, Device, OutOfMemory}
 
--- the status of each
-abbrev pub status_of : Stop → ℕ
-status_of (Refused Words) = 1
-status_of (Refused (Absent path)) = 2
-status_of (Refused Rules) = 3
-status_of (Refused (NotBuilt path)) = 4
-status_of (Refused ConfigTooLong) = 6
-status_of Device = 7
-status_of (Refused (NotEmpty directory)) = 8
-status_of OutOfMemory = 10
+-- ---- quantities
 
--- the line of each
-abbrev pub line_of : Stop → List ℕ
-line_of (Refused Words) = codes "error 1 words\n"
-line_of (Refused (Absent path)) = codes "error 2 absent " ++ (path ++ codes "\n")
-line_of (Refused Rules) = codes "error 3 rules 0 NotBuilt\n"
-line_of (Refused (NotBuilt path)) = codes "error 4 format " ++ (path ++ codes " 0 NotBuilt\n")
-line_of (Refused ConfigTooLong) = codes "error 6 limit config 67108864\n"
-line_of Device = codes "error 7 device\n"
-line_of (Refused (NotEmpty directory)) = codes "error 8 not-empty " ++ (directory ++ codes "\n")
-line_of OutOfMemory = codes "error 10 memory\n"
+abbrev pub quantity_name : Quantity → List ℕ
+quantity_name Config = codes "config"
+quantity_name Files = codes "files"
+quantity_name Classes = codes "classes"
+quantity_name Input = codes "input"
+quantity_name Pool = codes "pool"
+quantity_name Utf8 = codes "utf8"
+quantity_name Code = codes "code"
+quantity_name Table = codes "table"
+quantity_name Branch = codes "branch"
+quantity_name Attribute = codes "attribute"
+
+-- the greatest number that each may be; those of a class file are the format's own (JVMS 4.7, 4.11, 6.5)
+abbrev pub quantity_limit : Quantity → ℕ
+quantity_limit Config = 67108864
+quantity_limit Files = 65536
+quantity_limit Classes = 20000
+quantity_limit Input = 67108864
+quantity_limit Pool = 65535
+quantity_limit Utf8 = 65535
+quantity_limit Code = 65535
+quantity_limit Table = 65535
+quantity_limit Branch = 32767
+quantity_limit Attribute = 4294967295
+
+-- what a limit of the format counts
+abbrev pub quantity_of : WriteLimit → Quantity
+quantity_of (limit.PoolFull count) = Pool
+quantity_of (limit.TextTooLong length) = Utf8
+quantity_of (limit.CodeTooLong length) = Code
+quantity_of (limit.BranchTooFar index distance) = Branch
+quantity_of (limit.AttributeFull count) = Table
+quantity_of (limit.AttributeTooLong length) = Attribute
+
+-- ---- lines
+
+-- a file that is no class file
+abbrev pub format_line : List ℕ → FormatFault → List ℕ
+format_line path fault = codes "error 4 format " ++ (path ++ (codes " " ++ (decimal fault.offset ++ (codes " " ++ (format_name fault.kind ++ codes "\n")))))
+
+-- the text of a member, `-` where there is none
+abbrev pub member_word : Option (List ℕ) → List ℕ
+member_word None = codes "-"
+member_word (Some member) = member
+
+-- a class that breaks a rule
+abbrev pub profile_line : RuleFault → List ℕ
+profile_line fault = codes "error 5 profile " ++ (fault.class ++ (codes " " ++ (member_word fault.member ++ (codes " " ++ (rule_name fault.kind ++ codes "\n")))))
+
+-- a quantity that passes its limit
+abbrev pub limit_line : Quantity → List ℕ
+limit_line q = codes "error 6 limit " ++ (quantity_name q ++ (codes " " ++ (decimal (quantity_limit q) ++ codes "\n")))
+
+-- the line of a refusal, where the config stands at this path
+abbrev pub refusal_line : List ℕ → Refusal → List ℕ
+refusal_line config NoConfig = codes "error 2 absent " ++ (config ++ codes "\n")
+refusal_line config NotBuilt = codes "error 3 rules 0 NotBuilt\n"
+refusal_line config (NotEmpty directory) = codes "error 8 not-empty " ++ (directory ++ codes "\n")
+refusal_line config (Gone path) = codes "error 2 absent " ++ (path ++ codes "\n")
+refusal_line config (Format path fault) = format_line path fault
+refusal_line config (Profile fault) = profile_line fault
+refusal_line config (Limit quantity) = limit_line quantity
+
+-- the line of a stop
+abbrev pub line_of : List ℕ → Stop → List ℕ
+line_of config (Refused refusal) = refusal_line config refusal
+line_of config Device = codes "error 7 device\n"
+line_of config OutOfMemory = codes "error 10 memory\n"
+
+-- ---- statuses
+
+abbrev pub refusal_status : Refusal → ℕ
+refusal_status NoConfig = 2
+refusal_status NotBuilt = 3
+refusal_status (NotEmpty directory) = 8
+refusal_status (Gone path) = 2
+refusal_status (Format path fault) = 4
+refusal_status (Profile fault) = 5
+refusal_status (Limit quantity) = 6
+
+abbrev pub status_of : Stop → ℕ
+status_of (Refused refusal) = refusal_status refusal
+status_of Device = 7
+status_of OutOfMemory = 10

@@ -1,9 +1,16 @@
 -- The summary of a shrink.
 use Rattle.std.specs.Prelude.{ℕ, List, ◌++◌, codes}
 use Rattle.std.specs.Fmt.{decimal}
+use Rattle.set_shrink.specs.declared.counts.Counts.{Counts}
 
--- a line for classes, fields and methods, each with the count before and after, and for how many methods were edited and how
--- many were left as they were because their edited code would not be taken. So far there is one class without fields, and no method is edited
-abbrev pub summary_text : ℕ → ℕ → List ℕ
-summary_text methods kept =
-    codes "classes 1 1\nfields 0 0\nmethods " ++ (decimal methods ++ (codes " " ++ (decimal kept ++ codes "\nedited 0\nfallback 0\n")))
+-- a word, how many were read and how many are kept
+abbrev pub count_line : List ℕ → ℕ → ℕ → List ℕ
+count_line word read kept = word ++ (codes " " ++ (decimal read ++ (codes " " ++ (decimal kept ++ codes "\n"))))
+
+-- a line each for classes, fields and methods, and for how many methods were edited and how many were left as they were because
+-- their edited code would not be taken; so far no method is edited
+abbrev pub summary_text : Counts → Counts → List ℕ
+summary_text read kept =
+    count_line (codes "classes") read.classes kept.classes
+    ++ (count_line (codes "fields") read.fields kept.fields
+    ++ (count_line (codes "methods") read.methods kept.methods ++ codes "edited 0\nfallback 0\n"))

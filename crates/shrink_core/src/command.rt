@@ -1,14 +1,14 @@
 // The command line: words in, a status out.
-ghost use Rattle.std.specs.Prelude.{◌≡◌, ◌⊎◌, ◌≤◌, ◌↔◌, ◌++◌, ℕ, List, Option, Some, None, IfSome, codes};
+ghost use Rattle.std.specs.Prelude.{◌≡◌, ◌≢◌, ◌⊎◌, ◌≤◌, ◌↔◌, [], None, Some};
 ghost use Rattle.tree_io.specs.Count.{Rose};
 ghost use Rattle.shrink_core.specs.Words.{files_in};
-ghost use Rattle.shrink_core.specs.Answer.{Ending, Puts, Ended, outside};
-ghost use Rattle.shrink_core.specs.Steps.{SaysLine, SaysPath, Says, SaysSummary};
-ghost use Rattle.shrink_core.specs.Refusal.{line_of, status_of};
-ghost use Rattle.shrink_core.specs.declared.refusal.Stop.TheVariants.{Device as failed_device, OutOfMemory as no_memory};
+ghost use Rattle.shrink_core.specs.Answer.{Ended, Puts, outside};
+ghost use Rattle.shrink_core.specs.Steps.{Says, SaysLine, SaysSummary};
+ghost use Rattle.shrink_core.specs.declared.refusal.Stop.TheVariants.{Device as failed_device, OutOfMemory as no_memory, Refused};
 
-use crate::refusal::{Refusal, Stop, line_of};
+use crate::refusal::{Refusal, Stop, refusal_line, refusal_status};
 use crate::shrink::shrink;
+use crate::words::{CommandFiles, read_words};
 use jv_base::{Items, Text};
 use std::alloc::Global;
 use std::thread::Threads;
@@ -26,7 +26,7 @@ fn end<S: Sink>(status: u8, line: &[u8], out: &mut S) -> u8
 
 // Says that a device failed.
 fn say_device<S: Sink>(out: &mut S) -> u8
-    ensures line { SaysLine failed_device result (S.written out.old) (S.written out.new) (S.faults out.old) (S.faults out.new) }
+    ensures line { SaysLine [] failed_device result (S.written out.old) (S.written out.new) (S.faults out.old) (S.faults out.new) }
     ensures later { S.faults out.old ≤ S.faults out.new }
 {
     end(7, b"error 7 device\n", out)
@@ -34,47 +34,28 @@ fn say_device<S: Sink>(out: &mut S) -> u8
 
 // Says that memory is wanting.
 fn say_no_memory<S: Sink>(out: &mut S) -> u8
-    ensures { SaysLine no_memory result (S.written out.old) (S.written out.new) (S.faults out.old) (S.faults out.new) }
+    ensures { SaysLine [] no_memory result (S.written out.old) (S.written out.new) (S.faults out.old) (S.faults out.new) }
 {
     end(10, b"error 10 memory\n", out)
 }
 
-// Says a line that names a path.
-fn say_path<S: Sink>(
-    alloc: Global,
-    status: u8,
-    front: &str,
-    path: &Text,
-    back: &str,
-    out: &mut S,
-) -> u8
-    ensures { ((result ≡ status) × Puts (front.now ++ (path.now ++ back.now)) (S.written out.old) (S.written out.new) (S.faults out.old) (S.faults out.new))
-        ⊎ SaysLine no_memory result (S.written out.old) (S.written out.new) (S.faults out.old) (S.faults out.new) }
+// Says why a command is refused, whose config is at a path, and answers the status.
+fn say_refusal<S: Sink>(alloc: Global, config: &Text, refusal: &Refusal, out: &mut S) -> u8
+    ensures { Says config.now (Refused refusal.now) result (S.written out.old) (S.written out.new) (S.faults out.old) (S.faults out.new) }
 {
-    match line_of(alloc, front, path, back) {
-        Ok(line) => end(status, line.as_bytes(), out),
+    match refusal_line(alloc, config, refusal) {
+        Ok(line) => end(refusal_status(refusal), line.as_bytes(), out),
         Err(_) => say_no_memory(out),
     }
 }
 
 // Says why a command ends without its result, and answers the status.
-fn say<S: Sink>(alloc: Global, stop: &Stop, out: &mut S) -> u8
-    ensures { Says stop.now result (S.written out.old) (S.written out.new) (S.faults out.old) (S.faults out.new) }
+fn say<S: Sink>(alloc: Global, config: &Text, stop: &Stop, out: &mut S) -> u8
+    ensures { Says config.now stop.now result (S.written out.old) (S.written out.new) (S.faults out.old) (S.faults out.new) }
 {
     match stop {
-        Stop::Refused(Refusal::Words) => end(1, b"error 1 words\n", out),
-        Stop::Refused(Refusal::Absent(path)) => {
-            say_path(alloc, 2, "error 2 absent ", path, "\n", out)
-        }
-        Stop::Refused(Refusal::Rules) => end(3, b"error 3 rules 0 NotBuilt\n", out),
-        Stop::Refused(Refusal::NotBuilt(path)) => {
-            say_path(alloc, 4, "error 4 format ", path, " 0 NotBuilt\n", out)
-        }
-        Stop::Refused(Refusal::ConfigTooLong) => { end(6, b"error 6 limit config 67108864\n", out) }
+        Stop::Refused(refusal) => say_refusal(alloc, config, refusal, out),
         Stop::Device => say_device(out),
-        Stop::Refused(Refusal::NotEmpty(directory)) => {
-            say_path(alloc, 8, "error 8 not-empty ", directory, "\n", out)
-        }
         Stop::OutOfMemory => say_no_memory(out),
     }
 }
@@ -91,12 +72,25 @@ fn finish<S: Sink>(summary: &Text, out: &mut S) -> u8
     }
 }
 
+// Runs the command on the files that its words name.
+fn run_on<T: Tree, S: Sink>(alloc: Global, named: &CommandFiles, tree: &mut T, out: &mut S) -> u8
+    ensures words { result ≢ 1 }
+    ensures device { result ≡ 7 → Rose (T.faults tree.old) (T.faults tree.new) ⊎ Rose (S.faults out.old) (S.faults out.new) }
+    ensures ended { Ended (Some named.now) result
+        (outside (T.files tree.old) (T.faults tree.old) (S.written out.old) (S.faults out.old))
+        (outside (T.files tree.new) (T.faults tree.new) (S.written out.new) (S.faults out.new)) }
+{
+    match shrink(alloc, named, tree) {
+        Ok(plan) => finish(&plan.summary, out),
+        Err(stop) => say(alloc, &named.config, &stop, out),
+    }
+}
+
 /// Runs a command and answers the status with which the program ends.
 ///
-/// `shrink CONFIG OUTWIT` reads the config, and the class file `IN/Main.class` of the directory that
-/// it names, and writes the class to `OUT/Main.class` with the methods alone that are kept, in the
-/// canonical spelling. CONFIG and OUTWIT are paths: an optional `/`, and then segments joined by `/`,
-/// none of them empty, `.` or `..`. Nothing is written to OUTWIT yet.
+/// `shrink CONFIG OUTWIT` reads the config and the class files of the directory that it names, keeps what the config
+/// asks for, and writes the classes that are left to another directory. CONFIG and OUTWIT are paths: an optional `/`,
+/// and then segments joined by `/`, none of them empty, `.` or `..`. Nothing is written to OUTWIT yet.
 ///
 /// A config is four lines, each with its end:
 ///
@@ -107,32 +101,36 @@ fn finish<S: Sink>(summary: &Text, out: &mut S) -> u8
 /// -keep class Main { static int NAME(int,int); }
 /// ```
 ///
-/// IN, OUT and MAP are paths without blanks; one `/` at the end of a directory is dropped. The keep
-/// line has one method or more, each behind a blank, with `int` any number of times. Nothing is
-/// written to MAP yet. The methods of these names and parameters are kept, and so are all that kept
-/// methods call.
+/// IN, OUT and MAP are paths without blanks; one `/` at the end of a directory is dropped. The keep line has one method
+/// or more, each behind a blank, with `int` any number of times. Nothing is written to MAP yet. All classes and fields
+/// are kept, and all methods but static ones; of these class initialisation methods, the methods of `Main` that the keep
+/// line names, and all that kept methods call; a method that `Main` lacks asks for nothing. Each class is written in its
+/// canonical spelling, without the attributes SourceFile, Exceptions, LineNumberTable, Synthetic and Deprecated.
 ///
 /// | Status | Comes | Text |
 /// |---|---|---|
-/// | 0 | where the file was written | the summary |
+/// | 0 | where the files were written | the summary |
 /// | 1 | exactly where the words aren't those | `error 1 words` |
-/// | 2 | where no file stands at CONFIG | `error 2 absent CONFIG` |
+/// | 2 | where no file stands at CONFIG, or a class file that was listed isn't there any more | `error 2 absent PATH` |
 /// | 3 | where the config is another one | `error 3 rules 0 NotBuilt` |
-/// | 4 | where IN has no file `Main.class` of at most 64 MiB that spells a small class | `error 4 format IN/Main.class 0 NotBuilt` |
-/// | 6 | where the config has more than 64 MiB | `error 6 limit config 67108864` |
-/// | 7 | only where a count of faults rose: the tree's, or, once the file was written, the sink's | `error 7 device` |
+/// | 4 | where a file below IN that ends in `.class` is no class file | `error 4 format PATH OFFSET KIND` |
+/// | 5 | where these are no set of classes, or one of them breaks a rule | `error 5 profile CLASS MEMBER KIND` |
+/// | 6 | where a quantity passes its limit | `error 6 limit QUANTITY LIMIT` |
+/// | 7 | only where a count of faults rose: the tree's, or, once the files were written, the sink's | `error 7 device` |
 /// | 8 | where a file lies below OUT | `error 8 not-empty OUT` |
 /// | 10 | where memory is wanting | `error 10 memory` |
 ///
-/// The config is looked at first, then OUT, then the class. A small class is named `Main` and has the
-/// superclass `java/lang/Object`. It has no interface, field or attribute. Each method is static,
-/// takes ints, gives an int and has the one attribute Code, without handlers and attributes, of the
-/// instructions nop, iconst, bipush, sipush, iload, istore, pop, iadd, isub, imul, idiv, irem, ineg,
-/// iinc, ireturn, and invokestatic of a method that the class declares. The pool holds Utf8, Class,
-/// Methodref and NameAndType entries alone.
+/// The config is looked at first, then OUT, then IN: the number of its files, of its class files, and of their bytes; then
+/// each class file by itself, in the order of their paths, and then all as a set; last what is to be written. CLASS is a
+/// name with dots, MEMBER as `int x` or `int f(int)`, and `-` where the class itself is at fault. Limits: `config` and
+/// `input` (the class files together) 67,108,864 bytes, `files` 65,536 and `classes` 20,000 below IN, and what a class
+/// file has room for (`pool`, `utf8`, `code`, `table`, `branch`, `attribute`).
 ///
-/// The summary is five lines: `classes 1 1`, `fields 0 0`, `methods` with how many the class has and
-/// how many are kept, `edited 0` and `fallback 0`.
+/// After 1 to 6 and 8 no file has changed. After 7 and 10 the first of the files to be written may stand, in the order of
+/// their paths; after 7 the next path may hold any bytes.
+///
+/// The summary is five lines: `classes`, `fields` and `methods`, each with how many were read and how many are kept,
+/// `edited 0` and `fallback 0`.
 pub fn run<Rt: Threads + Sync, T: Tree, S: Sink, G: Gate>(
     _rt: &Rt,
     alloc: Global,
@@ -148,12 +146,13 @@ pub fn run<Rt: Threads + Sync, T: Tree, S: Sink, G: Gate>(
     ensures device { result ≡ 7 → Rose (T.faults tree.old) (T.faults tree.new) ⊎ Rose (S.faults out.old) (S.faults out.new) }
 
     // The run has an ending, which tells its status, which device is blamed, what became of the told files and what was said.
-    ensures ended { (ending : Ending) × Ended ending result words.now
+    ensures ended { Ended (files_in words.now) result
         (outside (T.files tree.old) (T.faults tree.old) (S.written out.old) (S.faults out.old))
         (outside (T.files tree.new) (T.faults tree.new) (S.written out.new) (S.faults out.new)) }
 {
-    match shrink(alloc, words, tree) {
-        Ok(plan) => finish(&plan.summary, out),
-        Err(stop) => say(alloc, &stop, out),
+    match read_words(alloc, words) {
+        Ok(Some(named)) => run_on(alloc, &named, tree, out),
+        Ok(None) => end(1, b"error 1 words\n", out),
+        Err(_) => say_no_memory(out),
     }
 }

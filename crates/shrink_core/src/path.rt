@@ -1,10 +1,7 @@
 // Paths and directories.
-ghost use Rattle.std.specs.Prelude.{◌≡◌, ◌<◌, IfOk, IfSome, IfNone, length, position};
+ghost use Rattle.std.specs.Prelude.{◌≡◌, ◌<◌, IfSome, IfNone, length, position};
 ghost use Rattle.std.specs.Option.{option_copied};
-ghost use Rattle.shrink_core.specs.Path.{EndsFirst, is_slash, is_segment, are_segments, without_root, is_path, without_slash, directory_in, file_in, main_path};
-
-use jv_base::{M, Text};
-use std::alloc::Global;
+ghost use Rattle.shrink_core.specs.Path.{EndsFirst, is_slash, is_segment, are_segments, without_root, is_path, without_slash, directory_in, file_in};
 
 fn is_segment(segment: &[u8]) -> bool
     ensures { result ≡ is_segment segment.now }
@@ -78,13 +75,4 @@ pub fn file_in(word: &str) -> Option<&str>
     ensures { option_copied result ≡ file_in word.now }
 {
     if is_path(word) { Some(word) } else { None }
-}
-
-/// The path of the class `Main` below a directory.
-pub fn main_path(alloc: Global, directory: &str) -> M<Text>
-    ensures { IfOk result (λ path. path ≡ main_path directory.now) }
-{
-    let mut path = Text::from_str(alloc, directory)?;
-    path.push_str("/Main.class")?;
-    Ok(path)
 }

@@ -1,17 +1,28 @@
 // What is said at the end of a shrink.
 ghost use Rattle.std.specs.Prelude.{◌≡◌, IfOk};
-ghost use Rattle.shrink_core.specs.Summary.{summary_text};
+ghost use Rattle.shrink_core.specs.Summary.{count_line, summary_text};
 
 use jv_base::{M, Text};
+use set_shrink::Counts;
 use std::alloc::Global;
 
-/// The five lines that count what was read and what was kept of one class: classes, fields and
-/// methods, and how many methods were edited or left as they were.
-pub fn summary_text(alloc: Global, methods: usize, kept: usize) -> M<Text>
-    ensures { IfOk result (λ text. text ≡ summary_text methods kept) }
+/// The five lines that count what was read and what was kept: classes, fields and methods, and how many methods were
+/// edited or left as they were.
+pub fn summary_text(alloc: Global, read: Counts, kept: Counts) -> M<Text>
+    ensures { IfOk result (λ text. text ≡ summary_text read kept) }
 {
-    let text = format!(in alloc;
-        "classes 1 1\nfields 0 0\nmethods {methods} {kept}\nedited 0\nfallback 0\n"
-    )?;
-    Ok(Text::from_string(text))
+    let mut text = count_line(alloc, "classes", read.classes, kept.classes)?;
+    let fields = count_line(alloc, "fields", read.fields, kept.fields)?;
+    text.push_str(fields.as_str())?;
+    let methods = count_line(alloc, "methods", read.methods, kept.methods)?;
+    text.push_str(methods.as_str())?;
+    text.push_str("edited 0\nfallback 0\n")?;
+    Ok(text)
+}
+
+fn count_line(alloc: Global, word: &str, read: usize, kept: usize) -> M<Text>
+    ensures { IfOk result (λ line. line ≡ count_line word.now read kept) }
+{
+    let line = format!(in alloc; "{word} {read} {kept}\n")?;
+    Ok(Text::from_string(line))
 }

@@ -1,0 +1,137 @@
+// What a command finds in a tree of files.
+ghost use Rattle.std.specs.Prelude.{◌≡◌, ◌≤◌, IfOk, IfSome, IsErrOf, map};
+ghost use Rattle.std.specs.List.{AllByRecursion};
+ghost use Rattle.tree_io.specs.Below.{IsAscending};
+ghost use Rattle.tree_io.specs.Count.{Rose};
+ghost use Rattle.class_files.specs.Input.{path_in, total};
+ghost use Rattle.class_write.specs.SpellingLaws.{IsWritable};
+ghost use Rattle.shrink_core.specs.Config.{IsConfig};
+ghost use Rattle.shrink_core.specs.Due.{HasBytes, HasConfig, HasSet, IsEmpty, RefusesConfig, RefusesInput, RefusesOutput};
+ghost use Rattle.shrink_core.specs.Steps.{ConfigOf, Finds, ReadsSet, input_stop};
+
+use crate::config::{Config, read_config};
+use crate::quantity::Quantity;
+use crate::refusal::{Refusal, Stop};
+use class_files::{InputFault, read_files};
+use class_pool::ClassSet;
+use jv_base::{Bytes, Items, M, Or, Text};
+use set_read::{SetFault, read_set};
+use std::alloc::Global;
+use tree_io::{FileAt, ListFault, ReadFault, Tree};
+
+/// The greatest length of a config, in bytes.
+const MAX_CONFIG: u64 = 67_108_864;
+
+// ---- the config
+
+/// The config at a path.
+pub fn find_config<T: Tree>(alloc: Global, path: &Text, tree: &mut T) -> Result<Config, Stop>
+    ensures files { T.files tree.new ≡ T.files tree.old }
+    ensures later { T.faults tree.old ≤ T.faults tree.new }
+    ensures device { IsErrOf result Stop.Device → Rose (T.faults tree.old) (T.faults tree.new) }
+    ensures told { IfSome (T.files tree.old) (λ fs. Finds result (HasConfig fs path.now) (RefusesConfig fs path.now)) }
+{
+    let bytes = config_bytes(alloc, path, tree)?;
+    config_in(alloc, bytes.as_slice())
+}
+
+/// The bytes of the config at a path.
+fn config_bytes<T: Tree>(alloc: Global, path: &Text, tree: &mut T) -> Result<Bytes, Stop>
+    ensures files { T.files tree.new ≡ T.files tree.old }
+    ensures later { T.faults tree.old ≤ T.faults tree.new }
+    ensures device { IsErrOf result Stop.Device → Rose (T.faults tree.old) (T.faults tree.new) }
+    ensures told { IfSome (T.files tree.old) (λ fs. Finds result (HasBytes fs path.now) (RefusesConfig fs path.now)) }
+{
+    match tree.read(alloc, path, MAX_CONFIG) {
+        Ok(bytes) => Ok(bytes),
+        Err(ReadFault::Absent) => Err(Stop::Refused(Refusal::NoConfig)),
+        Err(ReadFault::TooLong) => Err(Stop::Refused(Refusal::Limit(Quantity::Config))),
+        Err(ReadFault::Failed) => Err(Stop::Device),
+        Err(ReadFault::OutOfMemory) => Err(Stop::OutOfMemory),
+    }
+}
+
+/// The config that bytes are.
+fn config_in(alloc: Global, bytes: &[u8]) -> Result<Config, Stop>
+    ensures { ConfigOf result bytes.now }
+{
+    match read_config(alloc, bytes)? {
+        Some(config) => Ok(config),
+        None => Err(Stop::Refused(Refusal::NotBuilt)),
+    }
+}
+
+// ---- the output directory
+
+/// Whether no file lies below a directory.
+pub fn check_empty<T: Tree>(alloc: Global, directory: &Text, tree: &mut T) -> Result<(), Stop>
+    ensures files { T.files tree.new ≡ T.files tree.old }
+    ensures later { T.faults tree.old ≤ T.faults tree.new }
+    ensures device { IsErrOf result Stop.Device → Rose (T.faults tree.old) (T.faults tree.new) }
+    ensures told { IfSome (T.files tree.old) (λ fs. Finds result (λ _. IsEmpty fs directory.now) (RefusesOutput fs directory.now)) }
+{
+    match tree.list(alloc, directory, 0) {
+        Ok(_) => Ok(()),
+        Err(ListFault::TooMany) => Err(Stop::Refused(Refusal::NotEmpty(directory.clone()?))),
+        Err(ListFault::Failed) => Err(Stop::Device),
+        Err(ListFault::OutOfMemory) => Err(Stop::OutOfMemory),
+    }
+}
+
+// ---- the input directory
+
+/// The set of the class files below a directory. Each class can be written.
+pub fn find_set<T: Tree>(alloc: Global, directory: &Text, tree: &mut T) -> Result<ClassSet, Stop>
+    ensures files { T.files tree.new ≡ T.files tree.old }
+    ensures later { T.faults tree.old ≤ T.faults tree.new }
+    ensures device { IsErrOf result Stop.Device → Rose (T.faults tree.old) (T.faults tree.new) }
+    ensures writable { IfOk result (AllByRecursion IsWritable) }
+    ensures told { IfSome (T.files tree.old) (λ fs. Finds result (HasSet fs directory.now) (RefusesInput fs directory.now)) }
+{
+    match read_files(alloc, directory, tree) {
+        Ok(files) => set_of(alloc, directory, files),
+        Err(fault) => Err(input_stop(fault)),
+    }
+}
+
+/// Why a command stops where class files aren't given.
+fn input_stop(fault: InputFault) -> Stop
+    ensures { result ≡ input_stop fault }
+{
+    match fault {
+        InputFault::TooManyFiles => Stop::Refused(Refusal::Limit(Quantity::Files)),
+        InputFault::TooManyClasses => Stop::Refused(Refusal::Limit(Quantity::Classes)),
+        InputFault::TooLong => Stop::Refused(Refusal::Limit(Quantity::Input)),
+        InputFault::Absent(path) => Stop::Refused(Refusal::Gone(path)),
+        InputFault::Failed => Stop::Device,
+        InputFault::OutOfMemory => Stop::OutOfMemory,
+    }
+}
+
+/// The set of class files that lie below a directory.
+fn set_of(alloc: Global, directory: &Text, files: Items<FileAt>) -> Result<ClassSet, Stop>
+    requires ascending { IsAscending (map (λ f. f.path) files) }
+    requires short { total files ≤ 67108864 }
+    ensures read { ReadsSet result directory.now files }
+    ensures writable { IfOk result (AllByRecursion IsWritable) }
+{
+    match read_set(alloc, files) {
+        Ok(set) => Ok(set),
+        Err(Or::Fault(SetFault::Format(below, fault))) => {
+            let path = path_in(directory, &below)?;
+            Err(Stop::Refused(Refusal::Format(path, fault)))
+        }
+        Err(Or::Fault(SetFault::Rule(fault))) => Err(Stop::Refused(Refusal::Profile(fault))),
+        Err(Or::OutOfMemory) => Err(Stop::OutOfMemory),
+    }
+}
+
+/// The path of a file below a directory.
+fn path_in(directory: &Text, below: &Text) -> M<Text>
+    ensures { IfOk result (λ path. path ≡ path_in directory.now below.now) }
+{
+    let mut path = directory.clone()?;
+    path.push_str("/")?;
+    path.push_str(below.as_str())?;
+    Ok(path)
+}
