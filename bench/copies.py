@@ -1,7 +1,7 @@
 #!/usr/bin/env python3
 """Copies the class files of a directory many times, each copy in packages of its own.
 
-    bench/copies.py FROM TO CLASSES
+    python3 bench/copies.py FROM TO CLASSES
 
 writes the class files below FROM to TO as they are, and then again and again below the packages c1, c2
 and so on, with the names of FROM's classes changed in every text of the constant pool (JVMS 4.4), until

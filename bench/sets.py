@@ -1,10 +1,10 @@
 #!/usr/bin/env python3
 """Writes a line for the program of crates/set_vectors to standard output.
 
-    bench/sets.py directory DIR      the class files below DIR
-    bench/sets.py chain N            N classes, each the superclass of the one before
-    bench/sets.py diamond N          N levels of two interfaces that both extend both of the next level, and a class
-    bench/sets.py references N       N classes with six methods and five fields, each with ten references to the next
+    python3 bench/sets.py directory DIR      the class files below DIR
+    python3 bench/sets.py chain N            N classes, each the superclass of the one before
+    python3 bench/sets.py diamond N          N levels of two interfaces that both extend both of the next level, and a class
+    python3 bench/sets.py references N       N classes with six methods and five fields, each with ten references to the next
 """
 import os
 import sys

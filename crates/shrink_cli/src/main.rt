@@ -25,8 +25,8 @@ The last one names one method or more, each behind a blank, with int any number 
 have no file. Nothing is written to MAP yet.
 
 All classes and fields are kept, and all methods but static ones. Of these class initialisation
-methods are kept, those of Main that CONFIG names, and all that kept methods call. The attributes
-SourceFile, Exceptions, LineNumberTable, Synthetic and Deprecated are left out.
+methods are kept, those of Main that CONFIG names, and all that kept methods call; so main goes,
+unless kept code calls it. All attributes but ConstantValue, Code and StackMapTable are left out.
 
 Class files are the files whose names end in .class. Each lies at the path of its class, as
 IN/demo/X.class for demo.X. Classes, fields and methods that they name are their own or those of

@@ -90,7 +90,8 @@ RefusesInput files directory _ = ⊥
 
 -- a class that is to be written passes a limit of the format
 abbrev pub RefusesPlan : Config → List Class → Refusal → Type 0
-RefusesPlan config classes (Limit quantity) = (limit : WriteLimit) × PassesLimit classes (asked_by config) limit × (quantity ≡ quantity_of limit)
+RefusesPlan config classes (Limit quantity) =
+    (limit : WriteLimit) × PassesLimit classes (asked_by config) limit × (quantity ≡ quantity_of limit)
 RefusesPlan config classes _ = ⊥
 
 -- the config isn't there, is too long, or is none
@@ -108,9 +109,12 @@ RefusesOutput files directory _ = ⊥
 -- the config is refused; or the output directory is; or the input directory is; or what is to be written is
 pub data IsRefused (files : Files) (named : CommandFiles) (refusal : Refusal) : Type 0 where
   by_config : RefusesConfig files named.config refusal → IsRefused files named refusal
-  by_output : (config : Config) → HasConfig files named.config config → RefusesOutput files config.output refusal → IsRefused files named refusal
-  by_input : (config : Config) → HasConfig files named.config config → IsEmpty files config.output → RefusesInput files config.input refusal → IsRefused files named refusal
-  by_plan : (config : Config) (classes : List Class) → HasConfig files named.config config → IsEmpty files config.output → HasSet files config.input classes
+  by_output : (config : Config) → HasConfig files named.config config → RefusesOutput files config.output refusal
+      → IsRefused files named refusal
+  by_input : (config : Config) → HasConfig files named.config config → IsEmpty files config.output
+      → RefusesInput files config.input refusal → IsRefused files named refusal
+  by_plan : (config : Config) (classes : List Class) → HasConfig files named.config config → IsEmpty files config.output
+      → HasSet files config.input classes
       → RefusesPlan config classes refusal → IsRefused files named refusal
 
 -- what `shrink CONFIG OUTWIT` is to write and to say, or why it is refused

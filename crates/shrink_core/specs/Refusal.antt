@@ -54,7 +54,8 @@ quantity_of (limit.AttributeTooLong length) = Attribute
 
 -- a file that is no class file
 abbrev pub format_line : List ℕ → FormatFault → List ℕ
-format_line path fault = codes "error 4 format " ++ (path ++ (codes " " ++ (decimal fault.offset ++ (codes " " ++ (format_name fault.kind ++ codes "\n")))))
+format_line path fault =
+    codes "error 4 format " ++ (path ++ (codes " " ++ (decimal fault.offset ++ (codes " " ++ (format_name fault.kind ++ codes "\n")))))
 
 -- the text of a member, `-` where there is none
 abbrev pub member_word : Option (List ℕ) → List ℕ
@@ -63,7 +64,8 @@ member_word (Some member) = member
 
 -- a class that breaks a rule
 abbrev pub profile_line : RuleFault → List ℕ
-profile_line fault = codes "error 5 profile " ++ (fault.class ++ (codes " " ++ (member_word fault.member ++ (codes " " ++ (rule_name fault.kind ++ codes "\n")))))
+profile_line fault =
+    codes "error 5 profile " ++ (fault.class ++ (codes " " ++ (member_word fault.member ++ (codes " " ++ (rule_name fault.kind ++ codes "\n")))))
 
 -- a quantity that passes its limit
 abbrev pub limit_line : Quantity → List ℕ

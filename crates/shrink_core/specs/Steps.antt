@@ -50,7 +50,8 @@ input_stop input.OutOfMemory = OutOfMemory
 -- the set of class files below a directory, or why they are none
 abbrev pub ReadsSet : Result (List Class) Stop → List ℕ → List FileAt → Type 0
 ReadsSet (Ok classes) directory inputs = IsAccepted inputs classes
-ReadsSet (Err (Refused (Format path fault))) directory inputs = (below : List ℕ) × (path ≡ path_in directory below) × IsFault inputs (set.Format below fault)
+ReadsSet (Err (Refused (Format path fault))) directory inputs =
+    (below : List ℕ) × (path ≡ path_in directory below) × IsFault inputs (set.Format below fault)
 ReadsSet (Err (Refused (Profile fault))) directory inputs = IsFault inputs (set.Rule fault)
 ReadsSet (Err (Refused _)) directory inputs = ⊥
 ReadsSet (Err Device) directory inputs = ⊥

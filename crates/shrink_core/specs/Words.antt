@@ -11,7 +11,8 @@ both_named _ _ = None
 
 -- the files of `shrink CONFIG OUTWIT`
 abbrev pub files_in : List (List ℕ) → Option CommandFiles
-files_in (command ∷ config ∷ witness ∷ []) = if is_text command (codes "shrink") then both_named (file_in config) (file_in witness) else None
+files_in (command ∷ config ∷ witness ∷ []) =
+    if is_text command (codes "shrink") then both_named (file_in config) (file_in witness) else None
 files_in _ = None
 
 -- the words are those of the command

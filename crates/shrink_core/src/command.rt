@@ -105,7 +105,7 @@ fn run_on<T: Tree, S: Sink>(alloc: Global, named: &CommandFiles, tree: &mut T, o
 /// or more, each behind a blank, with `int` any number of times. Nothing is written to MAP yet. All classes and fields
 /// are kept, and all methods but static ones; of these class initialisation methods, the methods of `Main` that the keep
 /// line names, and all that kept methods call; a method that `Main` lacks asks for nothing. Each class is written in its
-/// canonical spelling, without the attributes SourceFile, Exceptions, LineNumberTable, Synthetic and Deprecated.
+/// canonical spelling, with the attributes ConstantValue, Code and StackMapTable and no others.
 ///
 /// | Status | Comes | Text |
 /// |---|---|---|
