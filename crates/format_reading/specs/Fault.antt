@@ -1,4 +1,4 @@
--- A fault of a class file.
+-- A fault of a class file (the project's own: which item is at fault, by its offset).
 use Rattle.std.specs.Prelude.{ℕ}
 use Rattle.jv_base.specs.declared.cursor.End.{End}
 use Rattle.jv_base.specs.declared.outcome.Or.{Or}

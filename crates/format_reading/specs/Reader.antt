@@ -1,4 +1,4 @@
--- Reading from left to right, with the first fault that is met.
+-- Reading from left to right, with the first fault that is met (the project's own: JVMS 4 has no order of faults).
 use Rattle.std.specs.Prelude.{◌≡◌, ℕ, zero, suc, List, [], ◌∷◌, ◌++◌, Result, Ok, Err, ◌==◌, if◌then◌else◌}
 use Rattle.std.specs.Int.{w8, w16, w32}
 use Rattle.jv_base.specs.declared.cursor.End.{End}
@@ -43,7 +43,7 @@ u2 p = or_cut (number_at w16 p)
 unfoldable pub u4 : Reader ℕ
 u4 p = or_cut (number_at w32 p)
 
--- the next n bytes
+-- the next n bytes (JVMS 4)
 unfoldable pub bytes : ℕ → Reader (List ℕ)
 bytes n p = or_cut (taken_at n p)
 
@@ -111,7 +111,7 @@ in_part attribute r (Err f) = Err f
 unfoldable pub part : {A : Type 0} → ℕ → ℕ → Reader A → Reader A
 part attribute n r p = in_part attribute r (or_cut (part_at n p))
 
--- n values, one behind the other
+-- n values, one behind the other (JVMS 4)
 unfoldable pub many : {A : Type 0} → ℕ → Reader A → Reader (List A)
 many zero r = give []
 many (suc n) r = do
@@ -119,7 +119,7 @@ many (suc n) r = do
   others ← many n r
   give (first ∷ others)
 
--- what is read, behind what was read before
+-- what is read, behind what was read before (only the proofs of loops that read items need it)
 abbrev pub behind : {A : Type 0} → List A → Result (List A × Place) FormatFault → Result (List A × Place) FormatFault
 behind front (Ok x) = Ok (front ++ x.0, x.1)
 behind front (Err f) = Err f

@@ -1,4 +1,5 @@
--- What a text spells: a structure of the standard, which stands for a value.
+-- What a text spells: a structure of the standard, which stands for a value
+-- (the project's own: each structure of JVMS 4 is told so).
 use Rattle.std.specs.Prelude.{◌≡◌, ℕ, ◌+◌, List, [], ◌∷◌, length}
 
 -- which structures, beginning at an offset, stand for which values

@@ -1,4 +1,4 @@
--- Reading Modified UTF-8 from left to right.
+-- Reading Modified UTF-8 from left to right (JVMS 4.4.7).
 use Rattle.std.specs.Prelude.{◌≡◌, ℕ, ◌+◌, ◌-◌, ◌*◌, ◌<◌, ◌&&◌, Bool, List, [], ◌∷◌, ◌++◌, nat_le, ◌==◌, Option, Some, None, Result, Ok, Err, if◌then◌else◌}
 use Rattle.jv_base.specs.Mutf8.{mutf8, IsUnits}
 use Rattle.jv_base.specs.Walk.{walk}
@@ -37,14 +37,14 @@ byte_taken (Middle bits) b =
     if is_from_to (if bits == 0 then 0xA0 else 0x80) 0xBF b then Some (Part (Last (with_six bits b))) else None
 byte_taken (Last bits) b = if is_from_to 0x80 0xBF b then Some (Whole (with_six bits b)) else None
 
--- so many bits can stand before the awaited byte
+-- so many bits can stand before the awaited byte (only the proof of units_of_mutf8 needs it)
 abbrev pub HasBits : Awaited → Type 0
 HasBits Lead = Unit {0}
 HasBits Zero = Unit {0}
 HasBits (Middle bits) = bits < 16
 HasBits (Last bits) = bits < 1024
 
--- the same of a byte that was taken
+-- the same of a byte that was taken (only the proof of units_of_mutf8 needs it)
 abbrev pub TakesBits : Option Taken → Type 0
 TakesBits (Some (Part next)) = HasBits next
 TakesBits (Some (Whole unit)) = unit < 65536
@@ -55,6 +55,7 @@ pub record Decoded : Type 0 where
   pub units : List ℕ
   pub awaited : Awaited
 
+-- what is decoded behind one more byte, if it can stand there (JVMS 4.4.7)
 abbrev pub decoded_on : List ℕ → Option Taken → Option Decoded
 decoded_on units (Some (Whole unit)) = Some (record { units = units ++ unit ∷ []; awaited = Lead })
 decoded_on units (Some (Part next)) = Some (record { units = units; awaited = next })
@@ -64,6 +65,7 @@ decoded_on units None = None
 abbrev pub decode_byte : Decoded → ℕ → Option Decoded
 decode_byte d b = decoded_on d.units (byte_taken d.awaited b)
 
+-- the units, where no byte is awaited (JVMS 4.4.7)
 abbrev pub whole_units : List ℕ → Awaited → Option (List ℕ)
 whole_units units Lead = Some units
 whole_units units Zero = None
@@ -78,10 +80,12 @@ decode_end d = whole_units d.units d.awaited
 abbrev pub decode_from : Decoded → ℕ → List ℕ → Result (List ℕ) ℕ
 decode_from d at bytes = walk decode_byte decode_end d at bytes
 
+-- a place as the fault that tells it (the project's own: where the spelling breaks off)
 abbrev pub bad_utf8 : {V : Type 0} → Result V ℕ → Result V BadUtf8
 bad_utf8 (Ok x) = Ok x
 bad_utf8 (Err at) = Err (record { offset = at })
 
 -- the units that the bytes spell, or the place of the first byte where no spelling goes on
+-- (JVMS 4.4.7; the place of a fault is the project's own)
 unfoldable pub read_mutf8 : List ℕ → Result (List ℕ) BadUtf8
 read_mutf8 bytes = bad_utf8 (decode_from (record { units = []; awaited = Lead }) 0 bytes)

@@ -1,4 +1,5 @@
--- What the reader of descriptors keeps, by places in the text.
+-- What the reader of descriptors keeps, by places in the text
+-- (only the proof of read_field_type and read_method_type needs it).
 use Rattle.std.specs.Prelude.{◌≡◌, Bool, ℕ, ◌≤◌, List, slice_range, Option, Some, None}
 use Rattle.std.specs.Str.{IsCharBoundary}
 use Rattle.jv_base.specs.declared.types.Base.TheVariants.{Class}

@@ -1,4 +1,4 @@
--- Types as Java source spells them.
+-- Types as Java source spells them (JLS 4.2, 4.3, 10.1, with classes by their binary names, JLS 13.1).
 use Rattle.std.specs.Prelude.{◌≡◌, ℕ, ◌+◌, ◌<◌, ◌≤◌, ◌&&◌, Bool, false, List, [], ◌∷◌, ◌++◌, map, take, nat_lt, ◌==◌, Option, Some, None, Result, codes, if◌then◌else◌}
 use Rattle.std.specs.List.{repeat}
 use Rattle.jv_base.specs.Descriptors.{typed, bad_descriptor}
@@ -20,6 +20,7 @@ swapped from to b = if b == from then to else b
 abbrev pub dotted : List ℕ → List ℕ
 dotted name = map (swapped 47 46) name
 
+-- a text with slashes in place of dots (JVMS 4.2.1)
 abbrev pub slashed : List ℕ → List ℕ
 slashed text = map (swapped 46 47) text
 
@@ -56,6 +57,7 @@ keyword_base word =
     else if is_text word (codes "double") then Some Double
     else None
 
+-- the base type of a keyword, else of a class name (JLS 4.2, 4.3)
 abbrev pub or_class : List ℕ → Option Base → Option Base
 or_class word (Some base) = Some base
 or_class word None = if is_class_name word then Some (Class word) else None
@@ -70,29 +72,35 @@ pub data External : Type 0 where
   opened : ℕ → Base → External
   closed : ℕ → Base → External
 
+-- so much of a word, which goes on (JLS 13.1)
 abbrev pub word_on : List ℕ → Option Bool → Option External
 word_on text (Some in_part) = Some (word text in_part)
 word_on text None = None
 
+-- a `[` behind a word (JLS 10.1)
 abbrev pub word_opened : Option Base → Option External
 word_opened (Some base) = Some (opened 0 base)
 word_opened None = None
 
+-- a word with one more byte: a dot stands where a class name has a slash (JLS 13.1)
 abbrev pub word_byte : List ℕ → Bool → ℕ → Option External
 word_byte text in_part b =
     if b == 91 then word_opened (word_base text)
     else if b == 47 then None
     else word_on (text ++ swapped 46 47 b ∷ []) (part_after in_part (swapped 46 47 b))
 
+-- a spelling with one more byte; at most 255 dimensions (JLS 10.1; JVMS 4.4.1)
 unfoldable pub external_byte : External → ℕ → Option External
 external_byte (word text in_part) b = word_byte text in_part b
 external_byte (opened dims base) b = if b == 93 then Some (closed (dims + 1) base) else None
 external_byte (closed dims base) b = if b == 91 && nat_lt dims 255 then Some (opened dims base) else None
 
+-- the type of a word, without dimensions (JLS 4.2, 4.3)
 abbrev pub word_whole : Option Base → Option FieldType
 word_whole (Some base) = Some (typed 0 base)
 word_whole None = None
 
+-- the type, where it is whole (JLS 4.2, 4.3, 10.1)
 unfoldable pub external_end : External → Option FieldType
 external_end (word text in_part) = word_whole (word_base text)
 external_end (opened dims base) = None
@@ -102,12 +110,15 @@ external_end (closed dims base) = Some (typed dims base)
 unfoldable pub read_external : List ℕ → Result FieldType BadDescriptor
 read_external text = bad_descriptor (walk external_byte external_end (word [] false) 0 text)
 
+-- ---- What the reader keeps (only the proof of read_external needs it)
+
 -- what the reader keeps before a place
 abbrev pub external_at : List ℕ → ℕ → kept.ExternalRead → External
 external_at text at (read.Word in_part) = word (slashed (take at text)) in_part
 external_at text at (read.Opened dims base) = opened dims base
 external_at text at (read.Closed dims base) = closed dims base
 
+-- the same behind one more byte, if it can stand there (only the proof of read_external needs it)
 abbrev pub external_next_at : List ℕ → ℕ → Option kept.ExternalRead → Option External
 external_next_at text at (Some r) = Some (external_at text at r)
 external_next_at text at None = None
@@ -118,10 +129,12 @@ HasRoom (read.Word in_part) = Unit {0}
 HasRoom (read.Opened dims base) = dims < 255
 HasRoom (read.Closed dims base) = dims ≤ 255
 
+-- the same behind one more byte (only the proof of read_external needs it)
 abbrev pub NextHasRoom : Option kept.ExternalRead → Type 0
 NextHasRoom (Some r) = HasRoom r
 NextHasRoom None = Unit {0}
 
+-- a word, which goes on (only the proof of read_external needs it)
 abbrev pub word_read : Option Bool → Option kept.ExternalRead
 word_read (Some in_part) = Some (read.Word in_part)
 word_read None = None

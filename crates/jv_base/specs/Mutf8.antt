@@ -14,6 +14,6 @@ unit_bytes unit =
 unfoldable pub mutf8 : List ℕ → List ℕ
 mutf8 units = flat_map unit_bytes units
 
--- each number is a UTF-16 unit
+-- each number is a UTF-16 unit (Unicode Standard 3.9, UTF-16)
 abbrev pub IsUnits : List ℕ → Type 0
 IsUnits units = (i : ℕ) → slice_index units i < 65536

@@ -1,4 +1,4 @@
--- What a call answers that may want memory, beside what is due.
+-- What a call answers that may want memory, beside what is due (the project's own: each call may want memory).
 use Rattle.std.specs.Prelude.{◌≡◌, Result, Ok, Err}
 use Rattle.jv_base.specs.declared.outcome.Or.{Or}
 use Rattle.jv_base.specs.declared.outcome.Or.TheVariants.{Fault, OutOfMemory}

@@ -1,4 +1,4 @@
--- A place in bytes, and what is read there.
+-- A place in bytes, and what is read there (the project's own: readers go from left to right).
 use Rattle.std.specs.Prelude.{◌≡◌, ℕ, ◌+◌, ◌-◌, List, length, take, slice_range, Result, Ok, Err, nat_lt, if◌then◌else◌}
 use Rattle.std.specs.Int.{Width, byte_len, from_be_bytes}
 use Rattle.jv_base.specs.declared.cursor.End.{End}
@@ -36,7 +36,7 @@ part_at n p =
     if nat_lt (length p.bytes - p.at) n then Err (ended p)
     else Ok (cut_off n p, after n p)
 
--- the big-endian number in the next bytes
+-- the big-endian number in the next bytes (JVMS 4)
 abbrev pub number_at : Width → Place → Result (ℕ × Place) End
 number_at w p =
     if nat_lt (length p.bytes - p.at) (byte_len w) then Err (ended p)

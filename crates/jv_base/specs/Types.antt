@@ -32,7 +32,7 @@ result_text (Some ty) = field_text ty
 unfoldable pub method_text : MethodType → List ℕ
 method_text ty = codes "(" ++ (flat_map field_text ty.args ++ (codes ")" ++ result_text ty.ret))
 
--- a long or a double takes two words
+-- a long or a double takes two words (JVMS 4.3.3)
 abbrev pub is_wide_base : Base → Bool
 is_wide_base Long = true
 is_wide_base Double = true
@@ -42,11 +42,11 @@ is_wide_base _ = false
 unfoldable pub words_of : FieldType → ℕ
 words_of ty = if ty.dims == 0 && is_wide_base ty.base then 2 else 1
 
--- how many words the arguments take, `this` aside
+-- how many words the arguments take, `this` aside (JVMS 4.3.3)
 unfoldable pub argument_words : List FieldType → ℕ
 argument_words args = sum_by words_of args
 
--- a class is named by a class name
+-- a class is named by a class name (JVMS 4.3.2)
 abbrev pub IsBase : Base → Type 0
 IsBase (Class name) = IsTrue (is_class_name name)
 IsBase _ = Unit {0}

@@ -1,4 +1,4 @@
--- The UTF-16 units of a text, which is seen as its bytes in UTF-8.
+-- The UTF-16 units of a text, which is seen as its bytes in UTF-8 (Unicode Standard 3.9, UTF-8 and UTF-16).
 use Rattle.std.specs.Prelude.{◌≡◌, ℕ, List, IsUtf8}
 use Rattle.std.specs.Char.Escape.{encode_utf16}
 use Rattle.std.specs.List.{flat_map}

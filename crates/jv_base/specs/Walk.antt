@@ -1,4 +1,4 @@
--- Reading bytes one by one.
+-- Reading bytes one by one (the project's own: texts are read byte by byte).
 use Rattle.std.specs.Prelude.{ℕ, ◌+◌, List, [], ◌∷◌, Option, Some, None, Result, Ok, Err}
 
 -- a value that is there, or a fault at the place
