@@ -28,12 +28,12 @@ field_attributes = codes "ConstantValue" ∷ codes "Synthetic" ∷ codes "Deprec
 abbrev pub method_attributes : List (List ℕ)
 method_attributes = codes "Code" ∷ codes "Exceptions" ∷ codes "Synthetic" ∷ codes "Deprecated" ∷ []
 
--- the units are those of a name, whose characters are ASCII
+-- the units are those of a name, whose characters are ASCII (JVMS 4.7)
 abbrev pub is_named : Option (List ℕ) → List ℕ → Bool
 is_named (Some units) name = pointwise nat_eq units name
 is_named None name = false
 
--- the attributes of a name
+-- the attributes of a name (JVMS 4.7)
 abbrev pub named : List Entry → List ℕ → List AttributeInfo → List AttributeInfo
 named pool name attributes = filter (λ (a : AttributeInfo). is_named (units_at pool a.attribute_name_index) name) attributes
 
@@ -44,12 +44,12 @@ pub record IsAttribute (pool : List Entry) (a : AttributeInfo) : Type 0 where
   pub named : units_at pool a.attribute_name_index ≡ Some name
   pub length_fits : length a.info < 2 ^ 32
 
--- a list of attributes, each with a name
+-- a list of attributes, each with a name (JVMS 4.7)
 pub record AreAttributes (pool : List Entry) (attributes : List AttributeInfo) : Type 0 where
   pub count_fits : length attributes < 2 ^ 16
   pub each : AllByRecursion (IsAttribute pool) attributes
 
--- at most one attribute, whose contents stand for the value; with none there is no value
+-- at most one attribute, whose contents stand for the value; with none there is no value (JVMS 4.7)
 abbrev pub Single : {A : Type 0} → (List ℕ → A → Type 0) → List AttributeInfo → Option A → Type 0
 Single Stands [] None = Unit {0}
 Single Stands [] (Some x) = ⊥
@@ -76,13 +76,13 @@ pub record IsExceptions (pool : List Entry) (info : List ℕ) (classes : List (L
   pub count_fits : length indices < 2 ^ 16
   pub each : AllZip (IsClassAt pool) indices classes
 
--- no attribute Exceptions names no class
+-- no attribute Exceptions names no class (JVMS 4.7.5)
 abbrev pub AreThrown : List Entry → List AttributeInfo → List (List ℕ) → Type 0
 AreThrown pool [] classes = classes ≡ []
 AreThrown pool (a ∷ []) classes = IsExceptions pool a.info classes
 AreThrown pool (a ∷ b ∷ others) classes = ⊥
 
--- the type is this one
+-- the type is this one (JVMS 4.3.2)
 abbrev pub IsPlain : Base → FieldType → Type 0
 IsPlain b ty = (ty.dims ≡ 0) × (ty.base ≡ b)
 
@@ -100,11 +100,12 @@ IsConstantOf pool index ty None =
     IsPlain base.Float ty × (slice_get pool index ≡ Some (entry.LeftOut 4))
     ⊎ IsPlain base.Double ty × (slice_get pool index ≡ Some (entry.LeftOut 6))
 
--- ConstantValue: a constant by its index
+-- ConstantValue: a constant by its index (JVMS 4.7.2)
 abbrev pub IsConstantValue : List Entry → FieldType → List ℕ → Option Constant → Type 0
 IsConstantValue pool ty info value = (index : ℕ) × (index < 2 ^ 16) × (info ≡ to_be_bytes w16 index) × IsConstantOf pool index ty value
 
--- a static field has the constant of its attribute ConstantValue, of which there is at most one; elsewhere it is dropped
+-- a static field has the constant of its attribute ConstantValue, of which there is at most one; elsewhere it is
+-- dropped (JVMS 4.7.2)
 abbrev pub AreConstants : List Entry → Bool → FieldType → List AttributeInfo → Option Constant → Type 0
 AreConstants pool is_static ty [] value = value ≡ None
 AreConstants pool true ty (a ∷ []) value = IsConstantValue pool ty a.info value

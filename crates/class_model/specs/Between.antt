@@ -1,4 +1,4 @@
--- Numbers from one to another.
+-- Numbers from one to another (the project's own: opcodes and numbers come in ranges).
 use Rattle.std.specs.Prelude.{ℕ, ℤ, Bool, nat_le, ◌&&◌, int_le}
 
 -- a number from the first to the second

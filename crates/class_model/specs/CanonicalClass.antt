@@ -1,4 +1,4 @@
--- The canonical spelling of a class (JVMS 4).
+-- The canonical spelling of a class (JVMS 4; which of its spellings it is, is the project's own).
 use Rattle.std.specs.Prelude.{ℕ, ◌+◌, Bool, true, not, List, [], ◌∷◌, ◌++◌, length, map, slice_index, codes, Option, Some, None, nat_eq, ◌==◌, if◌then◌else◌}
 use Rattle.std.specs.Int.{w16, to_be_bytes}
 use Rattle.std.specs.List.{flat_map}
@@ -24,7 +24,7 @@ use Rattle.class_model.specs.CanonicalPool.{text_constants, class_constant, clas
 use Rattle.class_model.specs.CanonicalCode.{places, code_bytes, pushed_constants, op_constants}
 use Rattle.class_model.specs.CanonicalFrames.{frame_constants, rows}
 
--- ---- constants, in the order of the file
+-- ---- constants, in the order of the file (the project's own: one order for each class)
 
 -- the code of a method that has one, none of an abstract one (JVMS 4.7.3)
 abbrev pub code_in : Option Code → List Code
@@ -48,7 +48,7 @@ attribute_constants written name contents = if written then text_constants name 
 abbrev pub is_some_item : {A : Type 0} → List A → Bool
 is_some_item xs = not (length xs == 0)
 
--- Synthetic and Deprecated
+-- Synthetic and Deprecated (JVMS 4.7.8, 4.7.15)
 abbrev pub mark_constants : Bool → Bool → List PoolConstant
 mark_constants synthetic deprecated =
     attribute_constants synthetic (codes "Synthetic") [] ++ attribute_constants deprecated (codes "Deprecated") []
@@ -59,7 +59,7 @@ value_constants (constant.Int n) = Integer n ∷ []
 value_constants (constant.Long n) = long_constants n
 value_constants (constant.Text units) = string_constants units
 
--- those of a ConstantValue: the attribute's name, then the value
+-- those of a ConstantValue: the attribute's name, then the value (JVMS 4.7.2)
 abbrev pub constant_value_constants : Option Constant → List PoolConstant
 constant_value_constants (Some value) = text_constants (codes "ConstantValue") ++ value_constants value
 constant_value_constants None = []
@@ -74,7 +74,7 @@ abbrev pub caught_constants : Option (List ℕ) → List PoolConstant
 caught_constants (Some name) = class_constants name
 caught_constants None = []
 
--- the line differs from that of the instruction before
+-- the line differs from that of the instruction before (the project's own: no row says the same twice)
 abbrev pub is_new_line : Option ℕ → ℕ → Bool
 is_new_line (Some before) line = not (nat_eq before line)
 is_new_line None line = true
@@ -84,28 +84,29 @@ abbrev pub line_row : Option ℕ → ℕ → Option ℕ → List LineNumber
 line_row before place None = []
 line_row before place (Some line) = if is_new_line before line then record { start_pc = place; line_number = line } ∷ [] else []
 
--- the rows of instructions from number n on; all gives the offset of each by its number
+-- the rows of instructions from number n on; all gives the offset of each by its number (JVMS 4.7.12)
 abbrev pub line_rows_from : Option ℕ → List ℕ → ℕ → List Ins → List LineNumber
 line_rows_from before all n [] = []
 line_rows_from before all n (i ∷ ins) = line_row before (slice_index all n) i.line ++ line_rows_from i.line all (n + 1) ins
 
 -- the LineNumberTable of a code whose instructions are at these places; before is the line ahead of its first one
+-- (JVMS 4.7.12)
 abbrev pub line_rows : Option ℕ → List ℕ → List Ins → List LineNumber
 line_rows before all ins = line_rows_from before all 0 ins
 
--- instructions, handlers, attributes
+-- instructions, handlers, attributes (JVMS 4.7.3, 4.7.4, 4.7.12)
 abbrev pub code_constants : List VType → Code → List PoolConstant
 code_constants first code = flat_map (λ (i : Ins). op_constants i.op) code.ins
     ++ (flat_map (λ (h : Handler). caught_constants h.caught) code.handlers
     ++ (attribute_constants (is_some_item (line_rows None [] code.ins)) (codes "LineNumberTable") []
     ++ attribute_constants (is_some_item code.frames) (codes "StackMapTable") (frame_constants first code.frames)))
 
--- those of the attribute Code, its name first; a method without code has no such attribute
+-- those of the attribute Code, its name first; a method without code has no such attribute (JVMS 4.7.3)
 abbrev pub body_constants : List VType → Option Code → List PoolConstant
 body_constants first (Some code) = text_constants (codes "Code") ++ code_constants first code
 body_constants first None = []
 
--- the locals of a method's initial frame
+-- the locals of a method's initial frame (JVMS 4.10.1.6)
 abbrev pub first_locals : List ℕ → Method → List VType
 first_locals class m = initial_locals class (is_static m.flags.0) m.name m.ty
 
@@ -135,19 +136,19 @@ pool_of c = filled (wanted c)
 -- ---- the structure
 
 module _ (pool : List PoolConstant) where
-  -- the index of the CONSTANT_Utf8 of a name or a descriptor
+  -- the index of the CONSTANT_Utf8 of a name or a descriptor (JVMS 4.4.7)
   abbrev pub text_index : List ℕ → ℕ
   text_index text = index_of pool (Utf8 (units_of text))
 
-  -- the index of the CONSTANT_Class of a name
+  -- the index of the CONSTANT_Class of a name (JVMS 4.4.1)
   abbrev pub class_index : List ℕ → ℕ
   class_index name = index_of pool (class_constant name)
 
-  -- a number as a u2: two bytes, the high one first
+  -- a number as a u2: two bytes, the high one first (JVMS 4)
   abbrev pub u2_of : ℕ → List ℕ
   u2_of n = to_be_bytes w16 n
 
-  -- an attribute that is written
+  -- an attribute that is written (JVMS 4.7)
   abbrev pub attribute : Bool → List ℕ → List ℕ → List AttributeInfo
   attribute written name info = if written then record { attribute_name_index = text_index name; info = info } ∷ [] else []
 
@@ -161,7 +162,7 @@ module _ (pool : List PoolConstant) where
   value_index (constant.Long n) = index_of pool (Long n)
   value_index (constant.Text units) = index_of pool (Str units)
 
-  -- the attribute ConstantValue of a field that has a value, whose contents are an index
+  -- the attribute ConstantValue of a field that has a value, whose contents are an index (JVMS 4.7.2)
   abbrev pub constant_attributes : Option Constant → List AttributeInfo
   constant_attributes (Some value) = attribute true (codes "ConstantValue") (u2_of (value_index value))
   constant_attributes None = []
@@ -180,7 +181,7 @@ module _ (pool : List PoolConstant) where
   caught_index (Some name) = class_index name
   caught_index None = 0
 
-  -- a handler, where instructions are at these places
+  -- a handler, where instructions are at these places (JVMS 4.7.3)
   abbrev pub handler_raw : List ℕ → Handler → ExceptionInfo
   handler_raw all h = record {
     start_pc = slice_index all h.from;
@@ -193,7 +194,7 @@ module _ (pool : List PoolConstant) where
   abbrev pub line_table : List LineNumber → List ℕ
   line_table lines = u2_of (length lines) ++ flat_map line_number lines
 
-  -- a code whose instructions are at these places
+  -- a code whose instructions are at these places (JVMS 4.7.4, 4.7.12)
   abbrev pub code_attributes : List VType → List ℕ → Code → List AttributeInfo
   code_attributes first all code =
       attribute (is_some_item (line_rows None all code.ins)) (codes "LineNumberTable") (line_table (line_rows None all code.ins))
@@ -209,16 +210,16 @@ module _ (pool : List PoolConstant) where
     attributes = code_attributes first all code;
   }
 
-  -- the contents of the attribute Code
+  -- the contents of the attribute Code (JVMS 4.7.3)
   abbrev pub code_contents : List VType → Code → List ℕ
   code_contents first code = code_info (code_raw first (places pool code.ins) code)
 
-  -- the attribute Code of a method that has a code
+  -- the attribute Code of a method that has a code (JVMS 4.7.3)
   abbrev pub body_attributes : List VType → Option Code → List AttributeInfo
   body_attributes first (Some code) = attribute true (codes "Code") (code_contents first code)
   body_attributes first None = []
 
-  -- the contents of the attribute Exceptions
+  -- the contents of the attribute Exceptions (JVMS 4.7.5)
   abbrev pub exceptions : List (List ℕ) → List ℕ
   exceptions throws = u2_of (length throws) ++ flat_map (λ name. u2_of (class_index name)) throws
 
@@ -232,7 +233,7 @@ module _ (pool : List PoolConstant) where
         ++ (attribute (is_some_item m.throws) (codes "Exceptions") (exceptions m.throws) ++ mark_attributes m.synthetic m.deprecated);
   }
 
-  -- the attribute SourceFile, where the name of the source file is known
+  -- the attribute SourceFile, where the name of the source file is known (JVMS 4.7.10)
   abbrev pub source_attributes : Option (List ℕ) → List AttributeInfo
   source_attributes (Some units) = attribute true (codes "SourceFile") (u2_of (index_of pool (Utf8 units)))
   source_attributes None = []
@@ -251,6 +252,6 @@ module _ (pool : List PoolConstant) where
     attributes = source_attributes c.source ++ mark_attributes c.synthetic c.deprecated;
   }
 
--- the one canonical spelling
+-- the one canonical spelling (JVMS 4.1; which one is the project's own)
 unfoldable pub layout : Class → List ℕ
 layout c = class_file (class_raw (pool_of c) c)

@@ -1,4 +1,5 @@
--- The canonical spelling of instructions: the shortest, ldc where the index is at most 255, and goto in place of goto_w.
+-- The canonical spelling of instructions: the shortest, ldc where the index is at most 255, and goto in place of goto_w
+-- (JVMS 6.5; which of its spellings it is, is the project's own).
 use Rattle.std.specs.Prelude.{ℕ, ◌+◌, ◌*◌, ℤ, pos, negsuc, ◌+ℤ◌, ◌-ℤ◌, Bool, ◌&&◌, List, [], ◌∷◌, length, map, replicate, slice_index, Option, Some, None, unwrap_or, nat_lt, nat_le, if◌then◌else◌}
 use Rattle.std.specs.Int.{w8, w16, w32, cast_unsigned}
 use Rattle.std.specs.List.{flat_map}
@@ -64,9 +65,9 @@ cond_number cond.Ge = 3
 cond_number cond.Gt = 4
 cond_number cond.Le = 5
 
--- ---- opcodes
+-- ---- opcodes (JVMS 6.5, 7)
 
--- of add, sub, mul, div and rem there is one for each of int, long, float and double
+-- of add, sub, mul, div and rem there is one for each of int, long, float and double (JVMS 6.5, 7)
 abbrev pub arith_opcode : ArithOp → ℕ
 arith_opcode arith.Add = 0x60
 arith_opcode arith.Sub = 0x64
@@ -86,7 +87,7 @@ logic_opcode logic.And = 0x7E
 logic_opcode logic.Or = 0x80
 logic_opcode logic.Xor = 0x82
 
--- the conversions in which no float and no double takes part
+-- the conversions in which no float and no double takes part (JVMS 6.5, 7)
 abbrev pub conv_opcode : ConvOp → ℕ
 conv_opcode conv.I2l = 0x85
 conv_opcode conv.L2i = 0x88
@@ -94,7 +95,7 @@ conv_opcode conv.I2b = 0x91
 conv_opcode conv.I2c = 0x92
 conv_opcode conv.I2s = 0x93
 
--- ireturn, lreturn, areturn, and return where there is no value
+-- ireturn, lreturn, areturn, and return where there is no value (JVMS 6.5, 7)
 abbrev pub return_opcode : Option Kind → ℕ
 return_opcode (Some k) = 0xAC + kind_number k
 return_opcode None = 0xB1
@@ -111,15 +112,16 @@ array_type_code _ = 0
 
 -- ---- pushes
 
--- the number fits the operand of sipush
+-- the number fits the operand of sipush (JVMS 6.5.sipush)
 abbrev pub is_short : ℤ → Bool
 is_short n = int_between (negsuc 32767) (pos 32767) n
 
--- ldc, whose index is a byte, or ldc_w
+-- ldc, whose index is a byte, or ldc_w (JVMS 6.5.ldc, 6.5.ldc_w)
 abbrev pub load_constant : List PoolConstant → PoolConstant → Info
 load_constant pool k = if nat_le (index_of pool k) 255 then Ldc (index_of pool k) else LdcWide 0x13 (index_of pool k)
 
 -- iconst_<i> from -1 to 5, bipush from -128 to 127, sipush from -32768 to 32767, else a constant
+-- (JVMS 6.5; that the shortest is taken is the project's own)
 abbrev pub push_int : List PoolConstant → ℤ → Info
 push_int pool n =
     if int_between (negsuc 0) (pos 5) n then Plain (cast_unsigned w8 (n +ℤ pos 3))
@@ -127,24 +129,25 @@ push_int pool n =
     else if is_short n then Sipush (cast_unsigned w16 n)
     else load_constant pool (Integer n)
 
--- 0 and 1, which have an instruction lconst_<l>
+-- 0 and 1, which have an instruction lconst_<l> (JVMS 6.5.lconst_l)
 abbrev pub is_lconst : ℤ → Bool
 is_lconst n = int_between (pos 0) (pos 1) n
 
--- lconst_0 and lconst_1, else ldc2_w of a constant
+-- lconst_0 and lconst_1, else ldc2_w of a constant (JVMS 6.5; that the shortest is taken is the project's own)
 abbrev pub push_long : List PoolConstant → ℤ → Info
 push_long pool n = if is_lconst n then Plain (0x09 + cast_unsigned w8 n) else LdcWide 0x14 (index_of pool (Long n))
 
 -- ---- slots
 
 -- the opcode that names a slot below 4, else one of the type's and the slot
+-- (JVMS 6.5; that the shortest is taken is the project's own)
 abbrev pub slot_info : ℕ → ℕ → Kind → ℕ → Info
 slot_info opcode first k slot =
     if nat_lt slot 4 then Plain (first + (4 * kind_number k + slot))
     else if nat_lt slot 256 then Local (opcode + kind_number k) slot
     else WideLocal (opcode + kind_number k) slot
 
--- iinc where the slot fits a byte and the increment a signed byte, else wide iinc
+-- iinc where the slot fits a byte and the increment a signed byte, else wide iinc (JVMS 6.5.iinc, 6.5.wide)
 abbrev pub inc_info : ℕ → ℤ → Info
 inc_info slot delta =
     if nat_lt slot 256 && int_between (negsuc 127) (pos 127) delta then Iinc slot (cast_unsigned w8 delta)
@@ -154,23 +157,24 @@ inc_info slot delta =
 
 -- place gives the offset of an instruction by its number, and at is the offset of this one
 module _ (pool : List PoolConstant) (place : ℕ → ℕ) (at : ℕ) where
-  -- how far it is to a target
+  -- how far it is to a target (JVMS 6.5)
   abbrev pub distance : ℕ → ℤ
   distance to = pos (place to) -ℤ pos at
 
-  -- the distance as a branch has it: in two bytes, in two's complement
+  -- the distance as a branch has it: in two bytes, in two's complement (JVMS 6.5)
   abbrev pub near : ℕ → ℕ
   near to = cast_unsigned w16 (distance to)
 
-  -- the distance as a switch has it: in four bytes, in two's complement
+  -- the distance as a switch has it: in four bytes, in two's complement (JVMS 6.5.tableswitch, 6.5.lookupswitch)
   abbrev pub far : ℕ → ℕ
   far to = cast_unsigned w32 (distance to)
 
   -- the zeros between a switch's opcode and its default
+  -- (JVMS 6.5.tableswitch, 6.5.lookupswitch; that it is 0 is the project's own)
   abbrev pub padding : List ℕ
   padding = replicate (pad_length at) 0
 
-  -- the index of the CONSTANT_Class of a class or an array type
+  -- the index of the CONSTANT_Class of a class or an array type (JVMS 4.4.1)
   abbrev pub class_index : FieldType → ℕ
   class_index ty = index_of pool (class_constant (type_name ty))
 
@@ -228,45 +232,47 @@ module _ (pool : List PoolConstant) (place : ℕ → ℕ) (at : ℕ) where
   op_info (op.InstanceOf ty) = ClassOperand 0xC1 (class_index ty)
   op_info (op.MultiNewArray ty dimensions) = MultiNewArray (class_index ty) dimensions
 
--- how many bytes an instruction at an offset takes, which its targets don't change
+-- how many bytes an instruction at an offset takes, which its targets don't change (JVMS 4.7.3, 6.5)
 abbrev pub size_of : List PoolConstant → ℕ → Op → ℕ
 size_of pool at o = length (info_bytes (op_info pool (λ to. 0) at o))
 
--- where each instruction begins, and where the last one ends
+-- where each instruction begins, and where the last one ends (JVMS 4.7.3)
 abbrev pub places_from : List PoolConstant → ℕ → List Ins → List ℕ
 places_from pool at [] = at ∷ []
 places_from pool at (i ∷ ins) = at ∷ places_from pool (at + size_of pool at i.op) ins
 
 -- the places in a code, the first at offset 0; one more than there are instructions, the last of them is code_length
+-- (JVMS 4.7.3)
 unfoldable pub places : List PoolConstant → List Ins → List ℕ
 places pool ins = places_from pool 0 ins
 
--- instructions as they are written, the first at an offset; all are the places of the whole code
+-- instructions as they are written, the first at an offset; all are the places of the whole code (JVMS 4.7.3)
 abbrev pub infos_from : List PoolConstant → List ℕ → ℕ → List Ins → List Info
 infos_from pool all at [] = []
 infos_from pool all at (i ∷ ins) = op_info pool (slice_index all) at i.op ∷ infos_from pool all (at + size_of pool at i.op) ins
 
--- the bytes of the instructions, whose places are all these
+-- the bytes of the instructions, whose places are all these (JVMS 4.7.3)
 unfoldable pub code_bytes : List PoolConstant → List ℕ → List Ins → List ℕ
 code_bytes pool all ins = flat_map info_bytes (infos_from pool all 0 ins)
 
 -- ---- constants
 
 -- the constant that a push loads by ldc, which has the lowest indices
+-- (JVMS 6.5.ldc; the lowest indices are the project's own)
 abbrev pub pushed_constants : Op → List PoolConstant
 pushed_constants (op.PushInt n) = if is_short n then [] else Integer n ∷ []
 pushed_constants (op.PushText units) = string_constants units
 pushed_constants _ = []
 
--- a CONSTANT_Fieldref with its parts before it
+-- a CONSTANT_Fieldref with its parts before it (JVMS 4.4.2)
 abbrev pub field_constants : MemberRef → List PoolConstant
 field_constants reference = with_parts reference (fieldref reference)
 
--- a CONSTANT_Methodref or CONSTANT_InterfaceMethodref with its parts before it
+-- a CONSTANT_Methodref or CONSTANT_InterfaceMethodref with its parts before it (JVMS 4.4.2)
 abbrev pub method_constants : MemberRef → List PoolConstant
 method_constants reference = with_parts reference (methodref reference)
 
--- the constants that an instruction names
+-- the constants that an instruction names (JVMS 4.4, 6.5)
 abbrev pub op_constants : Op → List PoolConstant
 op_constants (op.PushLong n) = if is_lconst n then [] else long_constants n
 op_constants (op.GetStatic reference) = field_constants reference

@@ -1,4 +1,5 @@
--- The canonical spelling of stack map frames: the first form that fits (JVMS 4.7.4).
+-- The canonical spelling of stack map frames: the first form that fits
+-- (JVMS 4.7.4; which form is taken is the project's own).
 use Rattle.std.specs.Prelude.{ℕ, ◌+◌, ◌-◌, Bool, true, false, ◌&&◌, List, [], ◌∷◌, ◌++◌, length, take, drop, map, slice_index, Option, Some, None, nat_eq, nat_le, if◌then◌else◌}
 use Rattle.std.specs.List.{flat_map}
 use Rattle.std.specs.Cmp.Lexicographic.{pointwise}
@@ -12,7 +13,7 @@ use Rattle.class_model.specs.Frames.{VerificationTypeInfo, TagInfo, ObjectInfo, 
 use Rattle.class_model.specs.declared.constant.PoolConstant.{PoolConstant}
 use Rattle.class_model.specs.CanonicalPool.{class_constant, class_constants, type_name, index_of}
 
--- the types are one; types of objects are where their descriptors are
+-- the types are one; types of objects are where their descriptors are (JVMS 4.7.4)
 abbrev pub same_type : VType → VType → Bool
 same_type vtype.Top vtype.Top = true
 same_type vtype.Int vtype.Int = true
@@ -23,7 +24,7 @@ same_type (vtype.Object a) (vtype.Object b) = is_text (field_text a) (field_text
 same_type (vtype.Uninit a) (vtype.Uninit b) = nat_eq a b
 same_type _ _ = false
 
--- there are as many of both, and in each place they are one
+-- there are as many of both, and in each place they are one (JVMS 4.7.4)
 abbrev pub same_types : List VType → List VType → Bool
 same_types one other = pointwise same_type one other
 
@@ -37,17 +38,17 @@ pub data Form : Type 0 where
   append : (new : List VType) → Form
   full : (locals stack : List VType) → Form
 
--- from one to three of the last locals go
+-- from one to three of the last locals go (JVMS 4.7.4, chop_frame)
 abbrev pub is_chop : List VType → List VType → Bool
 is_chop before locals =
     between 1 3 (length before - length locals) && same_types locals (take (length locals) before)
 
--- from one to three locals are new
+-- from one to three locals are new (JVMS 4.7.4, append_frame)
 abbrev pub is_append : List VType → List VType → Bool
 is_append before locals =
     between 1 3 (length locals - length before) && same_types before (take (length before) locals)
 
--- with an empty stack, with one item, with more
+-- with an empty stack, with one item, with more (JVMS 4.7.4; that the first form is taken is the project's own)
 abbrev pub form_of : List VType → List VType → List VType → Form
 form_of before locals [] =
     if same_types before locals then same
@@ -67,12 +68,12 @@ types_written (full locals stack) = locals ++ stack
 
 -- ---- constants
 
--- the class or array type of an object, with its name; no other type refers to the pool
+-- the class or array type of an object, with its name; no other type refers to the pool (JVMS 4.4.1, 4.7.4)
 abbrev pub type_constants : VType → List PoolConstant
 type_constants (vtype.Object ty) = class_constants (type_name ty)
 type_constants _ = []
 
--- the classes that the frames name where they write them, the first frame behind these locals
+-- the classes that the frames name where they write them, the first frame behind these locals (JVMS 4.4.1, 4.7.4)
 abbrev pub frame_constants : List VType → List FrameAt → List PoolConstant
 frame_constants before [] = []
 frame_constants before (frame ∷ frames) =

@@ -1,4 +1,5 @@
--- The constants of a class, told by what they say, and their indices in its canonical pool.
+-- The constants of a class, told by what they say, and their indices in its canonical pool
+-- (the project's own: one pool for each class).
 use Rattle.std.specs.Prelude.{ℕ, ◌+◌, ◌/◌, ◌%◌, ◌^◌, ℤ, Bool, false, ◌&&◌, ◌==◌, if◌then◌else◌, List, [], ◌∷◌, ◌++◌, nat_eq}
 use Rattle.std.specs.Int.{w32, w64, cast_unsigned}
 use Rattle.std.specs.List.{flat_map, position_or_len}
@@ -16,11 +17,11 @@ use Rattle.class_model.specs.declared.constant.PoolConstant.TheVariants.{Utf8, I
 use Rattle.class_model.specs.declared.op.MemberRef.{MemberRef}
 use Rattle.class_model.specs.ConstantPool.{CpInfo, Utf8Info, IntegerInfo, LongInfo, ClassInfo, StringInfo, FieldrefInfo, MethodrefInfo, InterfaceMethodrefInfo, NameAndTypeInfo}
 
--- equal unit by unit
+-- equal unit by unit (JVMS 4.4.7)
 abbrev pub same_text : List ℕ → List ℕ → Bool
 same_text one other = pointwise nat_eq one other
 
--- the constants are one
+-- the constants are one (JVMS 4.4)
 abbrev pub same : PoolConstant → PoolConstant → Bool
 same (Utf8 a) (Utf8 b) = same_text a b
 same (Integer a) (Integer b) = int_eq a b
@@ -45,11 +46,11 @@ abbrev pub type_name_of_base : FieldType → Base → List ℕ
 type_name_of_base ty (base.Class name) = if ty.dims == 0 then name else field_text ty
 type_name_of_base ty _ = field_text ty
 
--- the name in the CONSTANT_Class of a class or an array type
+-- the name in the CONSTANT_Class of a class or an array type (JVMS 4.4.1)
 abbrev pub type_name : FieldType → List ℕ
 type_name ty = type_name_of_base ty ty.base
 
--- a CONSTANT_Class of this name alone, without its part
+-- a CONSTANT_Class of this name alone, without its part (JVMS 4.4.1)
 abbrev pub class_constant : List ℕ → PoolConstant
 class_constant name = Class (units_of name)
 
@@ -75,12 +76,13 @@ abbrev pub fieldref : MemberRef → PoolConstant
 fieldref reference = Fieldref (units_of (type_name reference.class)) (units_of reference.name) (units_of reference.ty)
 
 -- a reference to a method, without its parts: which of the two it is, is told by whether its class is an interface
+-- (JVMS 4.4.2)
 abbrev pub methodref : MemberRef → PoolConstant
 methodref reference =
     if reference.of_interface then InterfaceMethodref (units_of (type_name reference.class)) (units_of reference.name) (units_of reference.ty)
     else Methodref (units_of (type_name reference.class)) (units_of reference.name) (units_of reference.ty)
 
--- this constant of a reference behind its class and its name and type
+-- this constant of a reference behind its class and its name and type (JVMS 4.4.2, 4.4.6)
 abbrev pub with_parts : MemberRef → PoolConstant → List PoolConstant
 with_parts reference k = class_constants (type_name reference.class) ++ (name_and_type_constants reference.name reference.ty ++ k ∷ [])
 
@@ -90,11 +92,11 @@ with_parts reference k = class_constants (type_name reference.class) ++ (name_an
 unfoldable pub filled : List PoolConstant → List PoolConstant
 filled wanted = insert_all same [] wanted
 
--- the index of a constant
+-- the index of a constant (JVMS 4.1, 4.4)
 abbrev pub index_of : List PoolConstant → PoolConstant → ℕ
 index_of pool k = 1 + position_or_len (same k) pool
 
--- a constant as it is written
+-- a constant as it is written (JVMS 4.4.1 to 4.4.7)
 abbrev pub info_of : List PoolConstant → PoolConstant → List CpInfo
 info_of pool (Utf8 text) = Utf8Info (mutf8 text) ∷ []
 info_of pool (Integer value) = IntegerInfo (cast_unsigned w32 value) ∷ []
@@ -108,6 +110,6 @@ info_of pool (Methodref class name descriptor) = MethodrefInfo (index_of pool (C
 info_of pool (InterfaceMethodref class name descriptor) =
     InterfaceMethodrefInfo (index_of pool (Class class)) (index_of pool (NameAndType name descriptor)) ∷ []
 
--- the constant_pool table; the second index of a CONSTANT_Long has no item there
+-- the constant_pool table; the second index of a CONSTANT_Long has no item there (JVMS 4.4, 4.4.5)
 abbrev pub infos_of : List PoolConstant → List CpInfo
 infos_of pool = flat_map (info_of pool) pool

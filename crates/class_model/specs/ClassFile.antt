@@ -30,7 +30,7 @@ pub record ClassFile : Type 0 where
   pub methods : List MemberInfo
   pub attributes : List AttributeInfo
 
--- magic and version 52.0, and then the items
+-- magic and version 52.0, and then the items (JVMS 4.1)
 abbrev pub class_file : ClassFile → List ℕ
 class_file c = head ++ (to_be_bytes w16 c.constant_pool_count ++ (flat_map cp_info c.constant_pool
     ++ (to_be_bytes w16 c.access_flags ++ (to_be_bytes w16 c.this_class ++ (to_be_bytes w16 c.super_class
@@ -39,7 +39,7 @@ class_file c = head ++ (to_be_bytes w16 c.constant_pool_count ++ (flat_map cp_in
     ++ (to_be_bytes w16 (length c.methods) ++ (flat_map member_info c.methods
     ++ (to_be_bytes w16 (length c.attributes) ++ flat_map attribute_info c.attributes))))))))))))
 
--- ---- what is left out
+-- ---- what is left out (the project's own: no value of a class has it)
 
 -- a Float, a Double, a MethodHandle, a MethodType or an InvokeDynamic (JVMS 4.4.4, 4.4.5, 4.4.8 to 4.4.10)
 abbrev pub is_left_out_entry : Entry → Bool
@@ -67,7 +67,7 @@ first_left_out None fields kinds = left_out_of_members fields kinds
 
 -- ---- what it stands for
 
--- each structure is a method, with what is left out in it
+-- each structure is a method, with what is left out in it (JVMS 4.6)
 abbrev pub AreMethods : List Entry → Bool → List ℕ → List MemberInfo → List Method → List (Option LeftKind) → Type 0
 AreMethods pool in_interface class [] [] [] = Unit {0}
 AreMethods pool in_interface class (raw ∷ raws) (method ∷ methods) (kind ∷ kinds) =
@@ -95,6 +95,6 @@ pub record IsClass (raw : ClassFile) (class : Class) (pool : List Entry) : Type 
   pub deprecated : IsMark (named pool (codes "Deprecated") raw.attributes) class.deprecated
   pub left_out : class.left_out ≡ first_left_out (left_out_of_class raw.access_flags pool) (length raw.fields) left_out_kinds
 
--- the bytes are a spelling of the class
+-- the bytes are a spelling of the class (JVMS 4.1)
 abbrev pub File : List ℕ → Class → Type 0
 File bytes class = (raw : ClassFile) × (bytes ≡ class_file raw) × (pool : List Entry) × IsClass raw class pool

@@ -17,11 +17,12 @@ use Rattle.class_model.specs.Attributes.{named, AreAttributes}
 use Rattle.class_model.specs.LineNumbers.{LineNumber, AreLineTables, line_at}
 use Rattle.class_model.specs.Frames.{StackMapFrame, names_float, AreFrames, IsMapOf}
 
--- the bytes of an instruction at an offset stand for the instruction with its line
+-- the bytes of an instruction at an offset stand for the instruction with its line (JVMS 4.7.12, 6.5)
 abbrev pub IsIns : List Entry → List ℕ → List LineNumber → ℕ → Info → Ins → Type 0
 IsIns pool starts lines at info ins = IsOp (Begins starts) pool at info ins.op × (ins.line ≡ line_at lines at)
 
--- a row of the exception table, in a code whose instructions begin at these offsets and that ends at another, is a handler
+-- a row of the exception table, in a code whose instructions begin at these offsets and that ends at another, is a
+-- handler (JVMS 4.7.3)
 pub record IsHandler (pool : List Entry) (starts : List ℕ) (end : ℕ) (raw : ExceptionInfo) (handler : Handler) : Type 0 where
   pub from : slice_get starts handler.from ≡ Some raw.start_pc
   pub to : slice_get (starts ++ end ∷ []) handler.to ≡ Some raw.end_pc
@@ -29,7 +30,7 @@ pub record IsHandler (pool : List Entry) (starts : List ℕ) (end : ℕ) (raw : 
   pub entry : slice_get starts handler.entry ≡ Some raw.handler_pc
   pub caught : IsOptionalClassAt pool raw.catch_type handler.caught
 
--- the sizes that each Code tells
+-- the sizes that each Code tells (JVMS 4.7.3, 4.9.1)
 pub record HasCodeSizes (raw : CodeInfo) : Type 0 where
   pub max_stack_fits : raw.max_stack < 2 ^ 16
   pub max_locals_fits : raw.max_locals < 2 ^ 16
@@ -37,11 +38,12 @@ pub record HasCodeSizes (raw : CodeInfo) : Type 0 where
   pub length_to : length raw.code < 2 ^ 16
   pub handlers_fit : length raw.exception_table < 2 ^ 16
 
--- a float or a double in the frames is left out
+-- a float or a double in the frames is left out (the project's own: no value of a frame has them)
 abbrev pub left_out_frames : List StackMapFrame → Option LeftKind
 left_out_frames rows = if list_any names_float rows then Some left.FloatType else None
 
 -- the contents stand for a code, with what is left out in it; first are the locals of the method's initial frame
+-- (JVMS 4.7.3)
 pub record IsCode (pool : List Entry) (first : List VType) (raw : CodeInfo) (code : Code) (left_out : Option LeftKind) : Type 0 where
   pub sizes : HasCodeSizes raw
   pub max_stack : code.max_stack ≡ raw.max_stack
@@ -58,13 +60,13 @@ pub record IsCode (pool : List Entry) (first : List VType) (raw : CodeInfo) (cod
   pub frames : AreFrames pool (starts_of infos) code.ins raw.max_stack raw.max_locals first None rows code.frames
   pub floats : left_out ≡ left_out_frames rows
 
--- ---- a code with an instruction that is left out
+-- ---- a code with an instruction that is left out (the project's own: it is passed over)
 
--- the items fit their bytes
+-- the items fit their bytes (JVMS 4.7.3)
 abbrev pub FitsException : ExceptionInfo → Type 0
 FitsException e = (e.start_pc < 2 ^ 16) × (e.end_pc < 2 ^ 16) × (e.handler_pc < 2 ^ 16) × (e.catch_type < 2 ^ 16)
 
--- the index fits two bytes, and the length of the contents four; the name need not be one
+-- the index fits two bytes, and the length of the contents four; the name need not be one (JVMS 4.7)
 abbrev pub FitsAttribute : AttributeInfo → Type 0
 FitsAttribute a = (a.attribute_name_index < 2 ^ 16) × (length a.info < 2 ^ 32)
 
@@ -77,6 +79,7 @@ pub record IsPassedOver (pool : List Entry) (raw : CodeInfo) (kind : LeftKind) :
   pub attributes : AllByRecursion FitsAttribute raw.attributes
 
 -- the contents of a Code, with what is left out: there is no code where an instruction is
+-- (JVMS 4.7.3; that there may be no code is the project's own)
 abbrev pub IsBody : List Entry → List VType → List ℕ → Option Code → Option LeftKind → Type 0
 IsBody pool first info (Some code) left_out = (raw : CodeInfo) × (info ≡ code_info raw) × IsCode pool first raw code left_out
 IsBody pool first info None left_out = (raw : CodeInfo) × (info ≡ code_info raw) × (kind : LeftKind) × (left_out ≡ Some kind) × IsPassedOver pool raw kind

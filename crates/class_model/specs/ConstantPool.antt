@@ -41,11 +41,11 @@ tag_of (InterfaceMethodrefInfo class_index name_and_type_index) = 11
 tag_of (NameAndTypeInfo name_index descriptor_index) = 12
 tag_of (LeftOutInfo tag bytes) = tag
 
--- two indices
+-- two indices (JVMS 4.4.2, 4.4.6)
 abbrev pub two_indices : ℕ → ℕ → List ℕ
 two_indices first second = to_be_bytes w16 first ++ to_be_bytes w16 second
 
--- what stands behind the tag
+-- what stands behind the tag (JVMS 4.4.1 to 4.4.7)
 abbrev pub contents_of : CpInfo → List ℕ
 contents_of (Utf8Info bytes) = to_be_bytes w16 (length bytes) ++ bytes
 contents_of (IntegerInfo bytes) = to_be_bytes w32 bytes
@@ -75,7 +75,7 @@ left_out_length tag =
 
 -- ---- the entries that they stand for
 
--- both are indices
+-- both are indices (JVMS 4.4)
 abbrev pub AreIndices : ℕ → ℕ → Type 0
 AreIndices first second = (first < 2 ^ 16) × (second < 2 ^ 16)
 
@@ -83,7 +83,7 @@ AreIndices first second = (first < 2 ^ 16) × (second < 2 ^ 16)
 abbrev pub long_of : ℕ → ℕ → ℤ
 long_of high_bytes low_bytes = cast_signed w64 (2 ^ 32 * high_bytes + low_bytes)
 
--- a constant stands for an entry
+-- a constant stands for an entry (JVMS 4.4.1 to 4.4.7)
 abbrev pub IsConstant : CpInfo → Entry → Type 0
 IsConstant (Utf8Info bytes) e = (length bytes < 2 ^ 16) × (units : List ℕ) × IsUnits units × (bytes ≡ mutf8 units) × (e ≡ entry.Utf8 units)
 IsConstant (IntegerInfo bytes) e = (bytes < 2 ^ 32) × (e ≡ entry.Integer (cast_signed w32 bytes))
@@ -102,7 +102,7 @@ takes_two (entry.Long n) = true
 takes_two (entry.LeftOut tag) = tag == 6
 takes_two _ = false
 
--- what stands at the one or two indices that an entry takes
+-- what stands at the one or two indices that an entry takes (JVMS 4.4.5)
 abbrev pub places_of : Entry → List Entry
 places_of e = if takes_two e then e ∷ entry.Gap ∷ [] else e ∷ []
 
@@ -125,18 +125,18 @@ abbrev pub name_and_type_in : Entry → Option (ℕ × ℕ)
 name_and_type_in (entry.NameAndType name_index descriptor_index) = Some (name_index, descriptor_index)
 name_and_type_in _ = None
 
--- the two indices, if there is a CONSTANT_NameAndType at the index
+-- the two indices, if there is a CONSTANT_NameAndType at the index (JVMS 4.4.6)
 abbrev pub name_and_type_at : List Entry → ℕ → Option (ℕ × ℕ)
 name_and_type_at pool index = option_and_then name_and_type_in (slice_get pool index)
 
--- the CONSTANT_NameAndType at an index has this name and this descriptor
+-- the CONSTANT_NameAndType at an index has this name and this descriptor (JVMS 4.4.6)
 pub record IsNameAndTypeAt (pool : List Entry) (index : ℕ) (name descriptor : List ℕ) : Type 0 where
   pub indices : ℕ × ℕ
   pub entry : name_and_type_at pool index ≡ Some indices
   pub name_text : IsText (units_at pool indices.0) name
   pub descriptor_text : IsText (units_at pool indices.1) descriptor
 
--- the class of a name, as a type that is no array type
+-- the class of a name, as a type that is no array type (JVMS 4.4.1)
 abbrev pub class_type : List ℕ → FieldType
 class_type name = record { dims = 0; base = ClassBase name }
 
@@ -157,7 +157,7 @@ pub record RefersRight (pool : List Entry) (class_index index : ℕ) (is_name : 
   pub named : IsTrue (is_name name)
   pub described : IsDescriptor descriptor
 
--- what an entry names is there
+-- what an entry names is there (JVMS 4.4.1 to 4.4.3, 4.4.6)
 abbrev pub NamesRight : List Entry → Entry → Type 0
 NamesRight pool (entry.Class name_index) = (text : List ℕ) × IsText (units_at pool name_index) text × IsTypeText text
 NamesRight pool (entry.Str string_index) = (units : List ℕ) × (units_at pool string_index ≡ Some units)
@@ -185,17 +185,17 @@ abbrev pub fieldref_in : Entry → Option (ℕ × ℕ)
 fieldref_in (entry.Field class_index index) = Some (class_index, index)
 fieldref_in _ = None
 
--- the two indices of a CONSTANT_Methodref
+-- the two indices of a CONSTANT_Methodref (JVMS 4.4.2)
 abbrev pub methodref_in : Entry → Option (ℕ × ℕ)
 methodref_in (entry.Method class_index index) = Some (class_index, index)
 methodref_in _ = None
 
--- the two indices of a CONSTANT_InterfaceMethodref
+-- the two indices of a CONSTANT_InterfaceMethodref (JVMS 4.4.2)
 abbrev pub interface_methodref_in : Entry → Option (ℕ × ℕ)
 interface_methodref_in (entry.InterfaceMethod class_index index) = Some (class_index, index)
 interface_methodref_in _ = None
 
--- an entry of the kind that refers_in tells is at the index, and is this reference
+-- an entry of the kind that refers_in tells is at the index, and is this reference (JVMS 4.4.2, 4.4.6)
 pub record IsReferenceAt (refers_in : Entry → Option (ℕ × ℕ)) (pool : List Entry) (index : ℕ) (reference : MemberRef) : Type 0 where
   pub index_fits : index < 2 ^ 16
   pub indices : ℕ × ℕ
@@ -203,15 +203,15 @@ pub record IsReferenceAt (refers_in : Entry → Option (ℕ × ℕ)) (pool : Lis
   pub class : IsTypeAt pool indices.0 reference.class
   pub name_and_type : IsNameAndTypeAt pool indices.1 reference.name reference.ty
 
--- a CONSTANT_Fieldref at the index is this reference
+-- a CONSTANT_Fieldref at the index is this reference (JVMS 4.4.2)
 abbrev pub IsFieldrefAt : List Entry → ℕ → MemberRef → Type 0
 IsFieldrefAt pool index reference = IsReferenceAt fieldref_in pool index reference × (reference.of_interface ≡ false)
 
--- a CONSTANT_Methodref at the index is this reference
+-- a CONSTANT_Methodref at the index is this reference (JVMS 4.4.2)
 abbrev pub IsMethodrefAt : List Entry → ℕ → MemberRef → Type 0
 IsMethodrefAt pool index reference = IsReferenceAt methodref_in pool index reference × (reference.of_interface ≡ false)
 
--- a CONSTANT_InterfaceMethodref at the index is this reference, which is marked as one of an interface
+-- a CONSTANT_InterfaceMethodref at the index is this reference, which is marked as one of an interface (JVMS 4.4.2)
 abbrev pub IsInterfaceMethodrefAt : List Entry → ℕ → MemberRef → Type 0
 IsInterfaceMethodrefAt pool index reference = IsReferenceAt interface_methodref_in pool index reference × (reference.of_interface ≡ true)
 
@@ -224,7 +224,7 @@ string_index_in _ = None
 abbrev pub string_units_at : List Entry → ℕ → Option (List ℕ)
 string_units_at pool index = option_and_then (units_at pool) (option_and_then string_index_in (slice_get pool index))
 
--- index 0 for no class, else the class that is named there
+-- index 0 for no class, else the class that is named there (JVMS 4.7.3, catch_type)
 abbrev pub IsOptionalClassAt : List Entry → ℕ → Option (List ℕ) → Type 0
 IsOptionalClassAt pool index None = index ≡ 0
 IsOptionalClassAt pool index (Some name) = IsClassAt pool index name

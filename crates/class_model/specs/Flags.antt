@@ -5,94 +5,106 @@ use Rattle.jv_base.specs.Names.{is_text}
 
 -- ---- the flags (tables 4.1-A, 4.5-A, 4.6-A); of three bits the name depends on the place
 
+-- declared public (JVMS 4.1, 4.5, 4.6)
 abbrev pub acc_public : ℕ
 acc_public = 0x0001
 
+-- declared private, of a field or a method (JVMS 4.5, 4.6)
 abbrev pub acc_private : ℕ
 acc_private = 0x0002
 
+-- declared protected, of a field or a method (JVMS 4.5, 4.6)
 abbrev pub acc_protected : ℕ
 acc_protected = 0x0004
 
+-- declared static, of a field or a method (JVMS 4.5, 4.6)
 abbrev pub acc_static : ℕ
 acc_static = 0x0008
 
+-- declared final (JVMS 4.1, 4.5, 4.6)
 abbrev pub acc_final : ℕ
 acc_final = 0x0010
 
--- of a method
+-- of a method (JVMS 4.6)
 abbrev pub acc_synchronized : ℕ
 acc_synchronized = 0x0020
 
--- of a class
+-- of a class (JVMS 4.1)
 abbrev pub acc_super : ℕ
 acc_super = 0x0020
 
--- of a field
+-- of a field (JVMS 4.5)
 abbrev pub acc_volatile : ℕ
 acc_volatile = 0x0040
 
--- of a method
+-- of a method (JVMS 4.6)
 abbrev pub acc_bridge : ℕ
 acc_bridge = 0x0040
 
--- of a field
+-- of a field (JVMS 4.5)
 abbrev pub acc_transient : ℕ
 acc_transient = 0x0080
 
--- of a method
+-- of a method (JVMS 4.6)
 abbrev pub acc_varargs : ℕ
 acc_varargs = 0x0080
 
+-- declared native, of a method (JVMS 4.6)
 abbrev pub acc_native : ℕ
 acc_native = 0x0100
 
+-- an interface, not a class (JVMS 4.1)
 abbrev pub acc_interface : ℕ
 acc_interface = 0x0200
 
+-- declared abstract, of a class or a method (JVMS 4.1, 4.6)
 abbrev pub acc_abstract : ℕ
 acc_abstract = 0x0400
 
+-- declared strictfp, of a method (JVMS 4.6)
 abbrev pub acc_strict : ℕ
 acc_strict = 0x0800
 
+-- not in the source (JVMS 4.1, 4.5, 4.6)
 abbrev pub acc_synthetic : ℕ
 acc_synthetic = 0x1000
 
+-- an annotation type (JVMS 4.1)
 abbrev pub acc_annotation : ℕ
 acc_annotation = 0x2000
 
+-- an enum type, or an element of one (JVMS 4.1, 4.5)
 abbrev pub acc_enum : ℕ
 acc_enum = 0x4000
 
 -- ---- sets of them
 
--- all of these flags are set
+-- all of these flags are set (JVMS 4.1, 4.5, 4.6)
 abbrev pub has : ℕ → ℕ → Bool
 has wanted flags = bit_and flags wanted == wanted
 
--- some of these flags is set
+-- some of these flags is set (JVMS 4.1, 4.5, 4.6)
 abbrev pub has_some : ℕ → ℕ → Bool
 has_some wanted flags = not (bit_and flags wanted == 0)
 
--- those that mean something on a class (table 4.1-A)
+-- those that mean something on a class (JVMS 4.1, table 4.1-A)
 abbrev pub class_mask : ℕ
 class_mask = acc_public + acc_final + acc_super + acc_interface + acc_abstract + acc_synthetic + acc_annotation + acc_enum
 
--- on a field (table 4.5-A)
+-- those that mean something on a field (JVMS 4.5, table 4.5-A)
 abbrev pub field_mask : ℕ
 field_mask = acc_public + acc_private + acc_protected + acc_static + acc_final + acc_volatile + acc_transient + acc_synthetic + acc_enum
 
--- on a method (table 4.6-A)
+-- those that mean something on a method (JVMS 4.6, table 4.6-A)
 abbrev pub method_mask : ℕ
 method_mask = acc_public + acc_private + acc_protected + acc_static + acc_final + acc_synchronized + acc_bridge + acc_varargs
     + acc_native + acc_abstract + acc_strict + acc_synthetic
 
--- the flags that mean something in their place; the others are dropped
+-- the flags that mean something in their place; the others are dropped (JVMS 4.1, 4.5, 4.6)
 abbrev pub meant : ℕ → ℕ → ℕ
 meant mask flags = bit_and flags mask
 
--- which of public, private and protected are set
+-- which of public, private and protected are set (JVMS 4.5, 4.6)
 abbrev pub access_of : ℕ → ℕ
 access_of flags = bit_and flags (acc_public + acc_private + acc_protected)
 
@@ -120,7 +132,7 @@ has_body flags = not (has_some (acc_abstract + acc_native) flags)
 abbrev pub are_class_flags : ℕ → Bool
 are_class_flags flags = not (has (acc_final + acc_abstract) flags) && (not (has acc_interface flags) || has acc_abstract flags)
 
--- a class that is an annotation or an enum is left out
+-- a class that is an annotation or an enum is left out (the project's own: annotations and enums aren't taken yet)
 abbrev pub is_left_out_class : ℕ → Bool
 is_left_out_class flags = has_some (acc_annotation + acc_enum) flags
 

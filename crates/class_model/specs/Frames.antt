@@ -19,7 +19,8 @@ use Rattle.class_model.specs.ConstantPool.{IsTypeAt, class_type}
 
 -- ---- the table as it is written
 
--- verification_type_info: an object's class by its index, an uninitialised object by the offset of its new, others by their tag
+-- verification_type_info: an object's class by its index, an uninitialised object by the offset of its new, others by
+-- their tag (JVMS 4.7.4)
 pub data VerificationTypeInfo : Type 0 where
   TagInfo : (tag : ℕ) → VerificationTypeInfo
   ObjectInfo : (cpool_index : ℕ) → VerificationTypeInfo
@@ -31,7 +32,7 @@ verification_type_info (TagInfo tag) = tag ∷ []
 verification_type_info (ObjectInfo cpool_index) = 7 ∷ to_be_bytes w16 cpool_index
 verification_type_info (UninitializedInfo offset) = 8 ∷ to_be_bytes w16 offset
 
--- stack_map_frame
+-- stack_map_frame (JVMS 4.7.4)
 pub data StackMapFrame : Type 0 where
   SameFrame : (frame_type : ℕ) → StackMapFrame
   SameLocalsOneStackItem : (frame_type : ℕ) → (item : VerificationTypeInfo) → StackMapFrame
@@ -41,7 +42,7 @@ pub data StackMapFrame : Type 0 where
   AppendFrame : (frame_type offset_delta : ℕ) → (locals : List VerificationTypeInfo) → StackMapFrame
   FullFrame : (offset_delta : ℕ) → (locals stack : List VerificationTypeInfo) → StackMapFrame
 
--- the locals or the stack of a full_frame, behind number_of_locals or number_of_stack_items
+-- the locals or the stack of a full_frame, behind number_of_locals or number_of_stack_items (JVMS 4.7.4)
 abbrev pub counted_types : List VerificationTypeInfo → List ℕ
 counted_types infos = to_be_bytes w16 (length infos) ++ flat_map verification_type_info infos
 
@@ -57,13 +58,14 @@ stack_map_frame (AppendFrame frame_type offset_delta locals) =
 stack_map_frame (FullFrame offset_delta locals stack) =
     255 ∷ (to_be_bytes w16 offset_delta ++ (counted_types locals ++ counted_types stack))
 
--- the contents of a StackMapTable
+-- the contents of a StackMapTable (JVMS 4.7.4)
 abbrev pub stack_map_table : List StackMapFrame → List ℕ
 stack_map_table rows = to_be_bytes w16 (length rows) ++ flat_map stack_map_frame rows
 
 -- ---- types
 
 -- the types that are their tag; a float and a double, which are left out, stand as Top
+-- (JVMS 4.7.4; that float and double stand as Top is the project's own)
 abbrev pub tagged_type : ℕ → Option VType
 tagged_type tag =
     if tag == 0 then Some vtype.Top
@@ -75,12 +77,12 @@ tagged_type tag =
     else if tag == 6 then Some vtype.UninitThis
     else None
 
--- the tag of a float or of a double
+-- the tag of a float or of a double (JVMS 4.7.4)
 abbrev pub is_float_info : VerificationTypeInfo → Bool
 is_float_info (TagInfo tag) = tag == 2 || tag == 3
 is_float_info _ = false
 
--- a row names a float or a double
+-- a row names a float or a double (the project's own: floats and doubles are left out)
 abbrev pub names_float : StackMapFrame → Bool
 names_float (SameLocalsOneStackItem frame_type item) = is_float_info item
 names_float (SameLocalsOneStackItemExtended offset_delta item) = is_float_info item
@@ -89,25 +91,26 @@ names_float (FullFrame offset_delta locals stack) = list_any is_float_info local
 names_float _ = false
 
 -- a long takes two words; a double stands as Top, and takes one
+-- (JVMS 4.7.4, Long_variable_info; that a double takes one is the project's own)
 abbrev pub words_of_type : VType → ℕ
 words_of_type vtype.Long = 2
 words_of_type _ = 1
 
--- how much of max_locals or max_stack the types take
+-- how much of max_locals or max_stack the types take (JVMS 4.7.3)
 abbrev pub words_of_types : List VType → ℕ
 words_of_types types = sum_by words_of_type types
 
--- a Top before others stays, one at the end is cut
+-- a Top before others stays, one at the end is cut (the project's own: locals of frames end in no Top)
 abbrev pub before_cut : VType → List VType → List VType
 before_cut vtype.Top [] = []
 before_cut ty types = ty ∷ types
 
--- the types without the Tops at their end
+-- the types without the Tops at their end (the project's own: locals of frames end in no Top)
 abbrev pub cut_tops : List VType → List VType
 cut_tops [] = []
 cut_tops (ty ∷ types) = before_cut ty (cut_tops types)
 
--- the type that a parameter with this base and no dimensions has in the initial frame
+-- the type that a parameter with this base and no dimensions has in the initial frame (JVMS 4.10.1.6)
 abbrev pub base_vtype : FieldType → Base → VType
 base_vtype ty base.Long = vtype.Long
 base_vtype ty base.Float = vtype.Top
@@ -130,13 +133,13 @@ initial_locals class is_static name ty = (if is_static then [] else this_type cl
 
 -- ---- what the rows stand for
 
--- the first offset is its delta, each other one lies behind the one before by its delta and 1
+-- the first offset is its delta, each other one lies behind the one before by its delta and 1 (JVMS 4.7.4)
 abbrev pub offset_behind : Option ℕ → ℕ → ℕ
 offset_behind None delta = delta
 offset_behind (Some previous) delta = previous + delta + 1
 
 module _ (pool : List Entry) (starts : List ℕ) (ins : List Ins) where
-  -- the instruction of this number is a new
+  -- the instruction of this number is a new (JVMS 4.7.4, Uninitialized_variable_info)
   pub record IsNew (n : ℕ) : Type 0 where
     pub at : Ins
     pub there : slice_get ins n ≡ Some at
@@ -151,11 +154,11 @@ module _ (pool : List Entry) (starts : List ℕ) (ins : List Ins) where
   IsVType (UninitializedInfo offset) ty =
       (offset < 2 ^ 16) × (n : ℕ) × (slice_get starts n ≡ Some offset) × IsNew n × (ty ≡ vtype.Uninit n)
 
-  -- so many types, which fit their count
+  -- so many types, which fit their count (JVMS 4.7.4)
   abbrev pub AreVTypes : List VerificationTypeInfo → List VType → Type 0
   AreVTypes infos types = (length infos < 2 ^ 16) × AllZip IsVType infos types
 
-  -- a row, behind these locals, stands for an offset_delta, locals and a stack
+  -- a row, behind these locals, stands for an offset_delta, locals and a stack (JVMS 4.7.4)
   abbrev pub IsFrame : List VType → StackMapFrame → ℕ → List VType → List VType → Type 0
   IsFrame before (SameFrame frame_type) delta locals stack =
       (frame_type ≤ 63) × (delta ≡ frame_type) × (locals ≡ before) × (stack ≡ [])
@@ -176,6 +179,7 @@ module _ (pool : List Entry) (starts : List ℕ) (ins : List Ins) where
 
   module _ (max_stack max_locals : ℕ) where
     -- a row behind these locals and this offset stands for a frame, whose locals and offset lie before the next row
+    -- (JVMS 4.7.4)
     pub record IsFrameAt (before : List VType) (previous : Option ℕ) (row : StackMapFrame) (frame : FrameAt) (locals : List VType) (offset : ℕ) : Type 0 where
       pub delta : ℕ
       pub stands : IsFrame before row delta locals frame.frame.stack
@@ -185,7 +189,7 @@ module _ (pool : List Entry) (starts : List ℕ) (ins : List Ins) where
       pub locals_fit : words_of_types locals ≤ max_locals
       pub stack_fits : words_of_types frame.frame.stack ≤ max_stack
 
-    -- rows behind these locals and this offset stand for frames
+    -- rows behind these locals and this offset stand for frames (JVMS 4.7.4)
     abbrev pub AreFrames : List VType → Option ℕ → List StackMapFrame → List FrameAt → Type 0
     AreFrames before previous [] [] = Unit {0}
     AreFrames before previous [] (frame ∷ frames) = ⊥
@@ -193,7 +197,7 @@ module _ (pool : List Entry) (starts : List ℕ) (ins : List Ins) where
     AreFrames before previous (row ∷ rows) (frame ∷ frames) =
         (locals : List VType) × (offset : ℕ) × IsFrameAt before previous row frame locals offset × AreFrames locals (Some offset) rows frames
 
--- at most one table, of these rows
+-- at most one table, of these rows (JVMS 4.7.4)
 abbrev pub IsMapOf : List AttributeInfo → List StackMapFrame → Type 0
 IsMapOf [] rows = rows ≡ []
 IsMapOf (a ∷ []) rows = (length rows < 2 ^ 16) × (a.info ≡ stack_map_table rows)

@@ -1,4 +1,4 @@
--- The instruction that its bytes stand for, computed.
+-- The instruction that its bytes stand for, computed (JVMS 6.5).
 use Rattle.std.specs.Prelude.{ℕ, ◌+◌, ℤ, pos, negsuc, Bool, true, List, [], ◌∷◌, slice_get, position, nat_eq, nat_le, Option, Some, None, option_map, option_and_then, Result, Ok, Err, ◌==◌, if◌then◌else◌}
 use Rattle.std.specs.Int.{w8, w16, w32, cast_signed}
 use Rattle.jv_base.specs.Outcome.{◌>>=◌}
@@ -21,63 +21,64 @@ use Rattle.class_model.specs.Lookups.{due, class_at, value_of, type_at, fieldref
 
 -- ---- operands
 
--- one or the other
+-- one or the other (the project's own: constants of several kinds are tried)
 abbrev pub or_else : {A : Type 0} → Option A → Option A → Option A
 or_else (Some x) other = Some x
 or_else None other = other
 
--- what an opcode makes of its operand
+-- what an opcode makes of its operand (the project's own: which fault is due)
 abbrev pub made : {A : Type 0} → Option (A → Op) → A → Result Op FormatKind
 made table operand = due bad.BadOperand (option_map (λ make. make operand) table)
 
--- an int
+-- an int (JVMS 6.5.ldc)
 abbrev pub int_in : Option Entry → Option Op
 int_in (Some (entry.Integer n)) = Some (op.PushInt n)
 int_in _ = None
 
--- an int or a string
+-- an int or a string (JVMS 6.5.ldc)
 abbrev pub loaded : List Entry → ℕ → Option Op
 loaded pool index = or_else (int_in (slice_get pool index)) (option_map (λ units. op.PushText units) (string_units_at pool index))
 
--- a long
+-- a long (JVMS 6.5.ldc2_w)
 abbrev pub long_in : Option Entry → Option Op
 long_in (Some (entry.Long n)) = Some (op.PushLong n)
 long_in _ = None
 
--- what ldc_w or ldc2_w loads
+-- what ldc_w or ldc2_w loads (JVMS 6.5.ldc_w, 6.5.ldc2_w)
 abbrev pub loaded_wide : ℕ → List Entry → ℕ → Option Op
 loaded_wide opcode pool index = if opcode == 0x13 then loaded pool index else long_in (slice_get pool index)
 
--- the reference that an instruction on a method names
+-- the reference that an instruction on a method names (JVMS 4.9.1)
 abbrev pub method_named : ℕ → List Entry → ℕ → Option MemberRef
 method_named opcode pool index =
     or_else (methodref_at pool index) (if takes_interface_method opcode then interface_methodref_at pool index else None)
 
--- an instruction on a field or a method
+-- an instruction on a field or a method (JVMS 4.9.1)
 abbrev pub member_made : Option (MemberRef → Op) → Option (MemberRef → Op) → ℕ → List Entry → ℕ → Option Op
 member_made (Some make) on_method opcode pool index = option_map make (fieldref_at pool index)
 member_made None (Some make) opcode pool index = option_map make (method_named opcode pool index)
 member_made None None opcode pool index = None
 
 -- the instruction that names a field or a method at an index, the interface methods of invokeinterface aside
+-- (JVMS 4.9.1)
 abbrev pub member_op : ℕ → List Entry → ℕ → Option Op
 member_op opcode pool index = member_made (field_op opcode) (method_op opcode) opcode pool index
 
--- the elements of a new array have at most 254 dimensions
+-- the elements of a new array have at most 254 dimensions (JVMS 4.9.1, anewarray)
 abbrev pub can_be_operand : ℕ → FieldType → Bool
 can_be_operand opcode ty = if opcode == 0xBD then nat_le ty.dims 254 else true
 
--- anewarray, checkcast or instanceof of a type
+-- anewarray, checkcast or instanceof of a type (JVMS 4.9.1)
 abbrev pub of_type : ℕ → FieldType → Option Op
 of_type opcode ty = if can_be_operand opcode ty then option_map (λ make. make ty) (type_op opcode) else None
 
--- new, anewarray, checkcast and instanceof
+-- new, anewarray, checkcast and instanceof (JVMS 4.9.1)
 abbrev pub class_op : ℕ → List Entry → ℕ → Option Op
 class_op opcode pool index =
     if opcode == 0xBB then option_map (λ name. op.New name) (value_of (class_at pool index))
     else option_and_then (of_type opcode) (type_at pool index)
 
--- the count of invokeinterface
+-- the count of invokeinterface (JVMS 6.5.invokeinterface)
 abbrev pub count_of : MemberRef → Option ℕ
 count_of reference = option_map (λ (ty : MethodType). argument_words ty.args + 1) (method_type_of reference.ty)
 
@@ -89,7 +90,7 @@ module _ (aim : ℤ → Result ℕ FormatKind) (at : ℕ) where
   abbrev pub aimed : ℕ → Result ℕ FormatKind
   aimed offset = aim (branch_target at (cast_signed w32 offset))
 
-  -- the targets of a tableswitch, or the first fault among them
+  -- the targets of a tableswitch, or the first fault among them (JVMS 6.5.tableswitch)
   abbrev pub all_aimed : List ℕ → Result (List ℕ) FormatKind
   all_aimed [] = Ok []
   all_aimed (offset ∷ offsets) = do
@@ -98,6 +99,7 @@ module _ (aim : ℤ → Result ℕ FormatKind) (at : ℕ) where
     Ok (to ∷ others)
 
   -- the cases of a lookupswitch, each match as a signed number, or the first fault among the targets
+  -- (JVMS 6.5.lookupswitch)
   abbrev pub cases_aimed : List MatchOffset → Result (List Case) FormatKind
   cases_aimed [] = Ok []
   cases_aimed (pair ∷ pairs) = do
@@ -106,6 +108,7 @@ module _ (aim : ℤ → Result ℕ FormatKind) (at : ℕ) where
     Ok (record { key = cast_signed w32 pair.key; to = to } ∷ others)
 
   -- tableswitch; a wrong default is found before a wrong case
+  -- (JVMS 6.5.tableswitch; the order of faults is the project's own)
   abbrev pub table_switch : ℕ → ℕ → List ℕ → Result Op FormatKind
   table_switch default low offsets = do
     other ← aimed default
@@ -113,6 +116,7 @@ module _ (aim : ℤ → Result ℕ FormatKind) (at : ℕ) where
     Ok (op.TableSwitch (cast_signed w32 low) other cases)
 
   -- lookupswitch; a wrong default is found before a wrong case
+  -- (JVMS 6.5.lookupswitch; the order of faults is the project's own)
   abbrev pub lookup_switch : ℕ → List MatchOffset → Result Op FormatKind
   lookup_switch default pairs = do
     other ← aimed default
@@ -148,7 +152,7 @@ op_of aim pool at (ClassOperand opcode index) = due bad.BadOperand (class_op opc
 op_of aim pool at (NewArray atype) = due bad.BadOperand (option_map (λ ty. op.NewArray ty) (array_type_of atype))
 op_of aim pool at (MultiNewArray index dimensions) = due bad.BadOperand (option_map (λ ty. op.MultiNewArray ty dimensions) (type_at pool index))
 
--- the number of the instruction that begins at an offset
+-- the number of the instruction that begins at an offset (JVMS 4.9.1)
 abbrev pub aim_at : List ℕ → ℤ → Result ℕ FormatKind
 aim_at starts (pos offset) = due bad.BadTarget (position (nat_eq offset) starts)
 aim_at starts (negsuc n) = Err bad.BadTarget

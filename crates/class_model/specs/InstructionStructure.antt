@@ -3,12 +3,12 @@ use Rattle.std.specs.Prelude.{ℕ, ◌+◌, ◌-◌, ◌%◌, List, [], ◌∷�
 use Rattle.std.specs.Int.{w16, w32, to_be_bytes}
 use Rattle.std.specs.List.{flat_map}
 
--- a match and its offset, in lookupswitch
+-- a match and its offset, in lookupswitch (JVMS 6.5.lookupswitch)
 pub record MatchOffset : Type 0 where
   pub key : ℕ
   pub offset : ℕ
 
--- an instruction; where several opcodes have these operands, the opcode comes first
+-- an instruction; where several opcodes have these operands, the opcode comes first (JVMS 6.5)
 pub data Info : Type 0 where
   Plain : (opcode : ℕ) → Info
   Bipush : (byte : ℕ) → Info
@@ -29,11 +29,11 @@ pub data Info : Type 0 where
   NewArray : (atype : ℕ) → Info
   MultiNewArray : (index dimensions : ℕ) → Info
 
--- the bytes of a match and its offset
+-- the bytes of a match and its offset (JVMS 6.5.lookupswitch)
 abbrev pub match_offset : MatchOffset → List ℕ
 match_offset pair = to_be_bytes w32 pair.key ++ to_be_bytes w32 pair.offset
 
--- the bytes of an instruction
+-- the bytes of an instruction (JVMS 6.5)
 abbrev pub info_bytes : Info → List ℕ
 info_bytes (Plain opcode) = opcode ∷ []
 info_bytes (Bipush byte) = 0x10 ∷ byte ∷ []
@@ -57,14 +57,15 @@ info_bytes (NewArray atype) = 0xBC ∷ atype ∷ []
 info_bytes (MultiNewArray index dimensions) = 0xC5 ∷ (to_be_bytes w16 index ++ dimensions ∷ [])
 
 -- how many bytes pad a switch at an offset: its default begins at a multiple of four
+-- (JVMS 6.5.tableswitch, 6.5.lookupswitch)
 abbrev pub pad_length : ℕ → ℕ
 pad_length at = 3 - at % 4
 
--- where each of these begins, the first at an offset
+-- where each of these begins, the first at an offset (JVMS 4.7.3)
 abbrev pub starts_from : ℕ → List Info → List ℕ
 starts_from at [] = []
 starts_from at (info ∷ infos) = at ∷ starts_from (at + length (info_bytes info)) infos
 
--- where each instruction of a code begins
+-- where each instruction of a code begins (JVMS 4.7.3)
 abbrev pub starts_of : List Info → List ℕ
 starts_of infos = starts_from 0 infos

@@ -25,22 +25,22 @@ use Rattle.class_model.specs.InstructionStructure.{MatchOffset, Info, Plain, Bip
 abbrev pub Makes : {A : Type 0} → Option (A → Op) → A → Op → Type 0
 Makes table operand o = option_map (λ make. make operand) table ≡ Some o
 
--- the constant that ldc and ldc_w load: an int or a string
+-- the constant that ldc and ldc_w load: an int or a string (JVMS 6.5.ldc; a class or a float is left out)
 abbrev pub IsLoaded : List Entry → ℕ → Op → Type 0
 IsLoaded pool index o = ((n : ℤ) × (slice_get pool index ≡ Some (entry.Integer n)) × (o ≡ op.PushInt n))
     ⊎ ((units : List ℕ) × (string_units_at pool index ≡ Some units) × (o ≡ op.PushText units))
 
--- the constant that ldc2_w loads: a long
+-- the constant that ldc2_w loads: a long (JVMS 6.5.ldc2_w; a double is left out)
 abbrev pub IsLoadedLong : List Entry → ℕ → Op → Type 0
 IsLoadedLong pool index o = (n : ℤ) × (slice_get pool index ≡ Some (entry.Long n)) × (o ≡ op.PushLong n)
 
--- the instruction on a field or a method, the interface methods of invokeinterface aside
+-- the instruction on a field or a method, the interface methods of invokeinterface aside (JVMS 4.9.1, 6.5)
 abbrev pub IsMember : List Entry → ℕ → ℕ → MemberRef → Op → Type 0
 IsMember pool opcode index reference o = IsFieldrefAt pool index reference × Makes (field_op opcode) reference o
     ⊎ IsMethodrefAt pool index reference × Makes (method_op opcode) reference o
     ⊎ IsInterfaceMethodrefAt pool index reference × IsTrue (takes_interface_method opcode) × Makes (method_op opcode) reference o
 
--- invokeinterface: count is the number of argument words with the object's
+-- invokeinterface: count is the number of argument words with the object's (JVMS 6.5.invokeinterface)
 pub record IsInvokeInterface (pool : List Entry) (index count : ℕ) (o : Op) : Type 0 where
   pub reference : MemberRef
   pub refers : IsInterfaceMethodrefAt pool index reference
@@ -51,16 +51,16 @@ pub record IsInvokeInterface (pool : List Entry) (index count : ℕ) (o : Op) : 
   pub counted : count ≡ argument_words ty.args + 1
   pub is : o ≡ op.InvokeInterface reference
 
--- an array has at most 255 dimensions, so the elements of a new one have at most 254
+-- an array has at most 255 dimensions, so the elements of a new one have at most 254 (JVMS 4.9.1, anewarray)
 abbrev pub IsElementOf : ℕ → FieldType → Type 0
 IsElementOf opcode ty = opcode ≡ 0xBD → ty.dims ≤ 254
 
--- new, of a class; anewarray, checkcast and instanceof, of a class or an array type
+-- new, of a class; anewarray, checkcast and instanceof, of a class or an array type (JVMS 4.9.1, 6.5)
 abbrev pub IsOfType : List Entry → ℕ → ℕ → Op → Type 0
 IsOfType pool opcode index o = ((name : List ℕ) × (opcode ≡ 0xBB) × IsClassAt pool index name × (o ≡ op.New name))
     ⊎ ((ty : FieldType) × (index < 2 ^ 16) × IsTypeAt pool index ty × IsElementOf opcode ty × Makes (type_op opcode) ty o)
 
--- multianewarray
+-- multianewarray (JVMS 4.9.1, 6.5.multianewarray)
 pub record IsMultiNewArray (pool : List Entry) (index dimensions : ℕ) (o : Op) : Type 0 where
   pub index_fits : index < 2 ^ 16
   pub ty : FieldType
@@ -78,17 +78,17 @@ abbrev pub branch_target : ℕ → ℤ → ℤ
 branch_target at branch = pos at +ℤ branch
 
 module _ (Leads : ℤ → ℕ → Type 0) (at : ℕ) where
-  -- a branch offset of four bytes leads to an instruction
+  -- a branch offset of four bytes leads to an instruction (JVMS 6.5.tableswitch, 6.5.lookupswitch, 6.5.goto_w)
   abbrev pub Leads4 : ℕ → ℕ → Type 0
   Leads4 offset to = (offset < 2 ^ 32) × Leads (branch_target at (cast_signed w32 offset)) to
 
-  -- a match with its offset is a case
+  -- a match with its offset is a case (JVMS 6.5.lookupswitch)
   pub record IsCase (pair : MatchOffset) (case : Case) : Type 0 where
     pub key_fits : pair.key < 2 ^ 32
     pub key : case.key ≡ cast_signed w32 pair.key
     pub leads : Leads4 pair.offset case.to
 
-  -- tableswitch
+  -- tableswitch (JVMS 6.5.tableswitch)
   pub record IsTableSwitch (pad : List ℕ) (default low high : ℕ) (offsets : List ℕ) (o : Op) : Type 0 where
     pub padded : length pad ≡ pad_length at
     pub low_fits : low < 2 ^ 32
@@ -101,7 +101,7 @@ module _ (Leads : ℤ → ℕ → Type 0) (at : ℕ) where
     pub cases_lead : AllZip Leads4 offsets cases
     pub is : o ≡ op.TableSwitch (cast_signed w32 low) other cases
 
-  -- lookupswitch: the keys ascend
+  -- lookupswitch: the keys ascend (JVMS 6.5.lookupswitch)
   pub record IsLookupSwitch (pad : List ℕ) (default : ℕ) (pairs : List MatchOffset) (o : Op) : Type 0 where
     pub padded : length pad ≡ pad_length at
     pub count_fits : length pairs < 2 ^ 31
@@ -114,7 +114,7 @@ module _ (Leads : ℤ → ℕ → Type 0) (at : ℕ) where
 
 -- ---- instructions
 
--- the bytes of an instruction at an offset of a code stand for an instruction
+-- the bytes of an instruction at an offset of a code stand for an instruction (JVMS 6.5)
 abbrev pub IsOp : (ℤ → ℕ → Type 0) → List Entry → ℕ → Info → Op → Type 0
 IsOp Leads pool at (Plain opcode) o = plain_op opcode ≡ Some o
 IsOp Leads pool at (Bipush byte) o = (byte < 2 ^ 8) × (o ≡ op.PushInt (cast_signed w8 byte))
@@ -137,11 +137,11 @@ IsOp Leads pool at (ClassOperand opcode index) o = IsOfType pool opcode index o
 IsOp Leads pool at (NewArray atype) o = option_map op.NewArray (array_type_of atype) ≡ Some o
 IsOp Leads pool at (MultiNewArray index dimensions) o = IsMultiNewArray pool index dimensions o
 
--- where instructions begin: a target is the number of the one that begins there
+-- where instructions begin: a target is the number of the one that begins there (JVMS 4.9.1)
 abbrev pub Begins : List ℕ → ℤ → ℕ → Type 0
 Begins starts target to = (offset : ℕ) × (target ≡ pos offset) × (slice_get starts to ≡ Some offset)
 
--- ---- what is left out
+-- ---- what is left out (the project's own: no value of an instruction has it)
 
 -- the entry is a class, a float or a double, which no instruction loads here
 abbrev pub is_left_out_load : Entry → Bool

@@ -19,19 +19,19 @@ use Rattle.class_model.specs.Attributes.{named, AreAttributes, IsMark, AreConsta
 use Rattle.class_model.specs.Frames.{initial_locals}
 use Rattle.class_model.specs.CodeAttribute.{IsBody}
 
--- the flags of a member, where those that mean something pass a test
+-- the flags of a member, where those that mean something pass a test (JVMS 4.5, 4.6)
 pub record AreFlags (mask : ℕ) (passes : ℕ → Bool) (bits : ℕ) (flags : Access) : Type 0 where
   pub fit : bits < 2 ^ 16
   pub are : flags ≡ flags_of (meant mask bits)
   pub good : IsTrue (passes bits)
 
--- the attributes of this name
+-- the attributes of this name (JVMS 4.7)
 abbrev pub named_in : List Entry → MemberInfo → List ℕ → List AttributeInfo
 named_in pool raw name = named pool name raw.attributes
 
 -- ---- fields
 
--- field_info, in an interface or a class
+-- field_info, in an interface or a class (JVMS 4.5)
 pub record IsField (pool : List Entry) (in_interface : Bool) (raw : MemberInfo) (field : Field) : Type 0 where
   pub flags : AreFlags field_mask (are_field_flags in_interface) raw.access_flags field.flags
   pub name : IsTextAt pool raw.name_index field.name
@@ -43,7 +43,7 @@ pub record IsField (pool : List Entry) (in_interface : Bool) (raw : MemberInfo) 
   pub synthetic : IsMark (named_in pool raw (codes "Synthetic")) field.synthetic
   pub deprecated : IsMark (named_in pool raw (codes "Deprecated")) field.deprecated
 
--- no two fields have one name and one descriptor
+-- no two fields have one name and one descriptor (JVMS 4.5)
 abbrev pub FieldsDiffer : Field → Field → Type 0
 FieldsDiffer one other = ¬ ((one.name ≡ other.name) × (field_text one.ty ≡ field_text other.ty))
 
@@ -58,17 +58,18 @@ abbrev pub is_initial_type : List ℕ → MethodType → Bool
 is_initial_type name ty =
     (not (is_init name || is_clinit name) || is_none ty.ret) && (not (is_clinit name) || length ty.args == 0)
 
--- the code of a method with these flags, by its attributes Code, with what is left out; first are the locals of its initial frame
+-- the code of a method with these flags, by its attributes Code, with what is left out; first are the locals of its
+-- initial frame (JVMS 4.7.3; that native methods are left out is the project's own)
 abbrev pub IsCodeOf : List Entry → List VType → ℕ → Bool → List AttributeInfo → Option Code → Option LeftKind → Type 0
 IsCodeOf pool first flags true (a ∷ []) code left_out = IsBody pool first a.info code left_out
 IsCodeOf pool first flags false [] code left_out = (code ≡ None) × (left_out ≡ (if is_native flags then Some left.Flag else None))
 IsCodeOf pool first flags has_code attributes code left_out = ⊥
 
--- the locals of the initial frame of a method in a class of this name
+-- the locals of the initial frame of a method in a class of this name (JVMS 4.10.1.6)
 abbrev pub first_locals : List ℕ → MemberInfo → Method → List VType
 first_locals class raw method = initial_locals class (is_static raw.access_flags) method.name method.ty
 
--- method_info, in an interface or a class of this name, with what is left out in it
+-- method_info, in an interface or a class of this name, with what is left out in it (JVMS 4.6)
 pub record IsMethod (pool : List Entry) (in_interface : Bool) (class : List ℕ) (raw : MemberInfo) (method : Method) (left_out : Option LeftKind) : Type 0 where
   pub flags : AreFlags method_mask are_method_flags raw.access_flags method.flags
   pub name : IsTextAt pool raw.name_index method.name
@@ -84,6 +85,6 @@ pub record IsMethod (pool : List Entry) (in_interface : Bool) (class : List ℕ)
   pub synthetic : IsMark (named_in pool raw (codes "Synthetic")) method.synthetic
   pub deprecated : IsMark (named_in pool raw (codes "Deprecated")) method.deprecated
 
--- no two methods have one name and one descriptor
+-- no two methods have one name and one descriptor (JVMS 4.6)
 abbrev pub MethodsDiffer : Method → Method → Type 0
 MethodsDiffer one other = ¬ ((one.name ≡ other.name) × (method_text one.ty ≡ method_text other.ty))

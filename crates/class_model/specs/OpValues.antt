@@ -1,4 +1,5 @@
--- The numbers and texts of an instruction are those that its type in the code can hold.
+-- The numbers and texts of an instruction are those that its type in the code can hold
+-- (the project's own: the code's numbers and texts are bounded).
 use Rattle.std.specs.Prelude.{◌^◌, ◌<◌, IsUtf8}
 use Rattle.std.specs.Int.{w16, w32}
 use Rattle.std.specs.Int.RustNames.{FitsSigned}

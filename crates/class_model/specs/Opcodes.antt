@@ -21,11 +21,11 @@ use Rattle.class_model.specs.Between.{between}
 
 -- ---- the order in which the standard goes through types and comparisons
 
--- int, long, float, double, reference; float and double are left out
+-- int, long, float, double, reference; float and double are left out (JVMS 6.5)
 abbrev pub kind_of : ℕ → Option Kind
 kind_of n = if n == 0 then Some kind.Int else if n == 1 then Some kind.Long else if n == 4 then Some kind.Ref else None
 
--- int, long, float, double, reference, byte or boolean, char, short
+-- int, long, float, double, reference, byte or boolean, char, short (JVMS 6.5)
 abbrev pub elem_of : ℕ → Option Elem
 elem_of n =
     if n == 0 then Some elem.Int
@@ -36,7 +36,7 @@ elem_of n =
     else if n == 7 then Some elem.Short
     else None
 
--- eq, ne, lt, ge, gt, le
+-- eq, ne, lt, ge, gt, le (JVMS 6.5)
 abbrev pub cond_of : ℕ → Option Cond
 cond_of n =
     if n == 0 then Some cond.Eq
@@ -211,7 +211,7 @@ array_type_of code =
     else if code == 11 then Some base.Long
     else None
 
--- ---- what is left out
+-- ---- what is left out (the project's own: no value of an instruction has it)
 
 -- a float or a double in the operand of newarray
 abbrev pub is_left_out_array_type : ℕ → Bool

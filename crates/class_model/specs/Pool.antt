@@ -17,19 +17,19 @@ abbrev pub name_index_in : Entry → Option ℕ
 name_index_in (entry.Class name_index) = Some name_index
 name_index_in _ = None
 
--- the units of the CONSTANT_Utf8 at an index
+-- the units of the CONSTANT_Utf8 at an index (JVMS 4.4.7)
 abbrev pub units_at : List Entry → ℕ → Option (List ℕ)
 units_at pool index = option_and_then units_in (slice_get pool index)
 
--- the units of the text that the CONSTANT_Class at an index names
+-- the units of the text that the CONSTANT_Class at an index names (JVMS 4.4.1)
 abbrev pub class_units_at : List Entry → ℕ → Option (List ℕ)
 class_units_at pool index = option_and_then (units_at pool) (option_and_then name_index_in (slice_get pool index))
 
--- the units are those of this text
+-- the units are those of this text (JVMS 4.4.7)
 abbrev pub IsText : Option (List ℕ) → List ℕ → Type 0
 IsText units text = IsUtf8 text × (units ≡ Some (units_of text))
 
--- a CONSTANT_Utf8 at the index holds this text
+-- a CONSTANT_Utf8 at the index holds this text (JVMS 4.4.7)
 abbrev pub IsTextAt : List Entry → ℕ → List ℕ → Type 0
 IsTextAt pool index text = (index < 2 ^ 16) × IsText (units_at pool index) text
 

@@ -1,4 +1,4 @@
--- The entries that the constants of a pool are read as.
+-- The entries that the constants of a pool are read as (only the proof of canonical_spells_the_class needs it).
 use Rattle.std.specs.Prelude.{◌≡◌, ◌^◌, ◌<◌, ℤ, [], ◌∷◌, true, List, length, map, Option, Some, None}
 use Rattle.std.specs.Int.{w32, w64}
 use Rattle.std.specs.Int.RustNames.{FitsSigned}

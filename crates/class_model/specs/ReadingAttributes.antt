@@ -18,7 +18,7 @@ use Rattle.class_model.specs.Lookups.{due, test, class_at}
 
 -- ---- the header
 
--- the rest of an attribute whose contents have a length: read as a part where it is known, else passed over
+-- the rest of an attribute whose contents have a length: read as a part where it is known, else passed over (JVMS 4.7)
 abbrev pub contents : {S : Type 0} → ℕ → ℕ → S → Option (Reader S) → Reader S
 contents at n seen (Some r) = part at n r
 contents at n seen None = do
@@ -26,6 +26,7 @@ contents at n seen None = do
   give seen
 
 -- an attribute; known says what to read, by the attribute's offset, its name, its length and what was seen before
+-- (JVMS 4.7)
 abbrev pub attribute : {S : Type 0} → List Entry → (ℕ → List ℕ → ℕ → S → Option (Reader S)) → S → Reader S
 attribute pool known seen = do
   at ← here
@@ -33,20 +34,20 @@ attribute pool known seen = do
   n ← u4
   contents at n seen (known at name n seen)
 
--- n attributes
+-- n attributes (JVMS 4.7)
 unfoldable pub attributes : {S : Type 0} → ℕ → List Entry → (ℕ → List ℕ → ℕ → S → Option (Reader S)) → S → Reader S
 attributes zero pool known seen = give seen
 attributes (suc n) pool known seen = do
   now ← attribute pool known seen
   attributes n pool known now
 
--- attributes, behind their count
+-- attributes, behind their count (JVMS 4.1, 4.5, 4.6, 4.7.3)
 abbrev pub counted_attributes : {S : Type 0} → List Entry → (ℕ → List ℕ → ℕ → S → Option (Reader S)) → S → Reader S
 counted_attributes pool known seen = do
   n ← u2
   attributes n pool known seen
 
--- an attribute that may stand once in its place
+-- an attribute that may stand once in its place (JVMS 4.7.2 to 4.7.5, 4.7.10)
 abbrev pub once : {S : Type 0} → ℕ → Bool → Reader S → Reader S
 once at had r = do
   first ← settle at (test bad.Repeated (not had))
@@ -88,35 +89,36 @@ is_int_base base.Byte = true
 is_int_base base.Boolean = true
 is_int_base _ = false
 
--- the type whose constants are a CONSTANT_Long
+-- the type whose constants are a CONSTANT_Long (JVMS 4.7.2, table 4.7.2-A)
 abbrev pub is_long_base : Base → Bool
 is_long_base base.Long = true
 is_long_base _ = false
 
--- the class whose constants are a CONSTANT_String
+-- the class whose constants are a CONSTANT_String (JVMS 4.7.2, table 4.7.2-A)
 abbrev pub is_string_base : Base → Bool
 is_string_base (base.Class name) = is_text name (codes "java/lang/String")
 is_string_base _ = false
 
--- the type whose constants are a CONSTANT_Float
+-- the type whose constants are a CONSTANT_Float (JVMS 4.7.2, table 4.7.2-A)
 abbrev pub is_float_base : Base → Bool
 is_float_base base.Float = true
 is_float_base _ = false
 
--- the type whose constants are a CONSTANT_Double
+-- the type whose constants are a CONSTANT_Double (JVMS 4.7.2, table 4.7.2-A)
 abbrev pub is_double_base : Base → Bool
 is_double_base base.Double = true
 is_double_base _ = false
 
--- a constant of the kind that fits
+-- a constant of the kind that fits (JVMS 4.7.2)
 abbrev pub fitting : Bool → Option Constant → Result (Option Constant) FormatKind
 fitting fits value = if fits then Ok value else Err bad.BadConstant
 
--- whether a type is no array and its base is this one
+-- whether a type is no array and its base is this one (JVMS 4.3.2)
 abbrev pub plain : (Base → Bool) → FieldType → Bool
 plain is_base ty = ty.dims == 0 && is_base ty.base
 
 -- the constant that an entry is for a field of a type; a float or a double is left out
+-- (JVMS 4.7.2; that float and double are left out is the project's own)
 abbrev pub constant_in : List Entry → ℕ → FieldType → Option Entry → Result (Option Constant) FormatKind
 constant_in pool index ty (Some (entry.Integer n)) = fitting (plain is_int_base ty) (Some (constant.Int n))
 constant_in pool index ty (Some (entry.Long n)) = fitting (plain is_long_base ty) (Some (constant.Long n))
@@ -128,6 +130,7 @@ constant_in pool index ty (Some (entry.LeftOut tag)) =
     else Err bad.BadIndex
 constant_in pool index ty _ = Err bad.BadIndex
 
--- the contents of a ConstantValue, for a static field of this type; a constant that does not fit is at fault at its index
+-- the contents of a ConstantValue, for a static field of this type; a constant that does not fit is at fault at its
+-- index (JVMS 4.7.2)
 abbrev pub constant_value : List Entry → FieldType → Reader (Option Constant)
 constant_value pool ty = item u2 (λ index. constant_in pool index ty (slice_get pool index))

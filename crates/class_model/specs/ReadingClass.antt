@@ -25,20 +25,20 @@ use Rattle.class_model.specs.ReadingMembers.{read_flags, read_fields, read_metho
 abbrev pub wanted : ℕ → FormatKind → ℕ → Result (Unit {0}) FormatKind
 wanted number kind n = test kind (n == number)
 
--- magic, minor_version and major_version: CAFEBABE, 0 and 52
+-- magic, minor_version and major_version: CAFEBABE, 0 and 52 (JVMS 4.1; that 52.0 alone is taken is the project's own)
 unfoldable pub read_head : Reader (Unit {0})
 read_head = do
   magic ← item u4 (wanted 0xCAFEBABE bad.BadMagic)
   minor_version ← item u2 (wanted 0 bad.BadVersion)
   item u2 (wanted 52 bad.BadVersion)
 
--- what was seen of the class's attributes
+-- what was seen of the class's attributes (JVMS 4.1, 4.7)
 pub record ClassSeen : Type 0 where
   pub source : Option (List ℕ)
   pub synthetic : Bool
   pub deprecated : Bool
 
--- what was seen before the first attribute of a class
+-- what was seen before the first attribute of a class (JVMS 4.7)
 abbrev pub no_class_attribute : ClassSeen
 no_class_attribute = record { source = None; synthetic = false; deprecated = false }
 
@@ -56,13 +56,13 @@ known_of_class pool at name n seen =
     else if is_text name (codes "Deprecated") then Some (once at seen.deprecated (give (record seen { deprecated = true })))
     else None
 
--- the fields
+-- the fields (JVMS 4.1)
 unfoldable pub read_all_fields : List Entry → ℕ → Reader (List Field)
 read_all_fields pool flags = do
   n ← u2
   read_fields n pool (is_interface flags) []
 
--- the methods, and what is left out in each
+-- the methods, and what is left out in each (JVMS 4.1)
 unfoldable pub read_all_methods : List Entry → ℕ → List ℕ → Reader (List Method × List (Option LeftKind))
 read_all_methods pool flags class = do
   n ← u2
@@ -89,7 +89,7 @@ class_of flags pool name super_name interfaces fields methods seen = record {
   left_out = first_left_out (left_out_of_class flags pool) (length fields) methods.1;
 }
 
--- ClassFile
+-- ClassFile (JVMS 4.1)
 unfoldable pub read_class_file : Reader Class
 read_class_file = do
   head ← read_head
@@ -103,11 +103,11 @@ read_class_file = do
   seen ← counted_attributes pool (known_of_class pool) no_class_attribute
   give (class_of flags pool name super_name interfaces fields methods seen)
 
--- no byte may follow
+-- no byte may follow (JVMS 4.8)
 abbrev pub all_read : Result (Class × Place) FormatFault → Result Class FormatFault
 all_read (Ok x) = if x.1.at == length x.1.bytes then Ok x.0 else Err (fault x.1.at bad.Trailing)
 all_read (Err f) = Err f
 
--- the class that the bytes spell, or the first fault
+-- the class that the bytes spell, or the first fault (JVMS 4.1; the first fault is the project's own)
 unfoldable pub class_read : List ℕ → Result Class FormatFault
 class_read bytes = all_read (read_class_file (start bytes))

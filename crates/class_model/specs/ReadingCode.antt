@@ -21,30 +21,32 @@ use Rattle.class_model.specs.Lookups.{test, type_at, interface_methodref_at}
 
 -- ---- one instruction
 
--- an instruction, or the opcode of one that is left out
+-- an instruction, or the opcode of one that is left out (JVMS 6.5; that instructions are left out is the project's own)
 pub data Read : Type 0 where
   instruction : Info → Read
   left_out : (opcode : ℕ) → Read
 
 -- a constant that can't be loaded here, or else an instruction; ldc, ldc_w, ldc2_w and invokedynamic name a constant
+-- (the project's own: which kind is left out)
 abbrev pub left_out_kind : ℕ → LeftKind
 left_out_kind opcode = if between 0x12 0x14 opcode || opcode == 0xBA then left.Constant else left.Opcode
 
--- an instruction that was read as far as this needs nothing more
+-- an instruction that was read as far as this needs nothing more (JVMS 6.5)
 abbrev pub whole : Info → Reader Read
 whole info = give (instruction info)
 
--- what follows an operand that has a meaning
+-- what follows an operand that has a meaning (the project's own: which fault is due)
 abbrev pub if_meant : {A B : Type 0} → Option A → B → Result B FormatKind
 if_meant (Some x) y = Ok y
 if_meant None y = Err bad.BadOperand
 
 -- the entry at an index, if there is one, is a constant that no instruction loads here
+-- (the project's own: such a constant is left out)
 abbrev pub is_left_out_at : Option Entry → Bool
 is_left_out_at (Some e) = is_left_out_load e
 is_left_out_at None = false
 
--- an instruction that loads a constant
+-- an instruction that loads a constant (JVMS 6.5.ldc, 6.5.ldc_w, 6.5.ldc2_w)
 abbrev pub load_read : List Entry → ℕ → ℕ → Option Op → Info → Result Read FormatKind
 load_read pool opcode index meaning info =
     if is_left_out_at (slice_get pool index) then Ok (left_out opcode) else if_meant meaning (instruction info)
@@ -57,13 +59,13 @@ ldc pool = item u1 (λ index. load_read pool 0x12 index (loaded pool index) (Ldc
 abbrev pub ldc_wide : List Entry → ℕ → Reader Read
 ldc_wide pool opcode = item u2 (λ index. load_read pool opcode index (loaded_wide opcode pool index) (LdcWide opcode index))
 
--- an instruction whose one operand is a byte: bipush, and those of a slot without wide
+-- an instruction whose one operand is a byte: bipush, and those of a slot without wide (JVMS 6.5)
 abbrev pub one_byte : (ℕ → Info) → Reader Read
 one_byte make = do
   operand ← u1
   whole (make operand)
 
--- an instruction whose one operand has two bytes: sipush, branches, and those of a slot behind wide
+-- an instruction whose one operand has two bytes: sipush, branches, and those of a slot behind wide (JVMS 6.5)
 abbrev pub two_bytes : (ℕ → Info) → Reader Read
 two_bytes make = do
   operand ← u2
@@ -83,7 +85,7 @@ wide_iinc = do
   const ← u2
   whole (WideIinc index const)
 
--- what stands behind wide
+-- what stands behind wide (JVMS 6.5.wide)
 abbrev pub widened : ℕ → Result (Reader Read) FormatKind
 widened opcode =
     if opcode == 0x84 then Ok wide_iinc
@@ -97,7 +99,7 @@ goto_wide = do
   offset ← u4
   whole (GotoWide offset)
 
--- how many offsets a tableswitch has, whose high is at least its low
+-- how many offsets a tableswitch has, whose high is at least its low (JVMS 6.5.tableswitch)
 abbrev pub table_length : ℕ → ℕ → ℕ
 table_length low high = unsigned_abs (cast_signed w32 high -ℤ cast_signed w32 low) + 1
 
@@ -106,6 +108,7 @@ abbrev pub table_high : ℕ → ℕ → Result ℕ FormatKind
 table_high low high = if int_le (cast_signed w32 low) (cast_signed w32 high) then Ok high else Err bad.BadOperand
 
 -- tableswitch at an offset of the code, which decides how many bytes pad it; what they are is free
+-- (JVMS 6.5.tableswitch)
 abbrev pub table_switch : ℕ → Reader Read
 table_switch at = do
   pad ← bytes (pad_length at)
@@ -115,11 +118,11 @@ table_switch at = do
   offsets ← many (table_length low high) u4
   whole (TableSwitch pad default low high offsets)
 
--- npairs is a signed number that isn't negative
+-- npairs is a signed number that isn't negative (JVMS 6.5.lookupswitch)
 abbrev pub lookup_count : ℕ → Result ℕ FormatKind
 lookup_count n = if nat_lt n (2 ^ 31) then Ok n else Err bad.BadOperand
 
--- a key is greater than the one before
+-- a key is greater than the one before (JVMS 6.5.lookupswitch)
 abbrev pub ascends : Option ℕ → ℕ → Bool
 ascends None key = true
 ascends (Some previous) key = int_lt (cast_signed w32 previous) (cast_signed w32 key)
@@ -128,7 +131,7 @@ ascends (Some previous) key = int_lt (cast_signed w32 previous) (cast_signed w32
 abbrev pub lookup_key : Option ℕ → ℕ → Result ℕ FormatKind
 lookup_key previous key = if ascends previous key then Ok key else Err bad.BadOperand
 
--- n pairs of match and offset, behind a key that may have come before
+-- n pairs of match and offset, behind a key that may have come before (JVMS 6.5.lookupswitch)
 unfoldable pub match_offsets : ℕ → Option ℕ → Reader (List MatchOffset)
 match_offsets zero previous = give []
 match_offsets (suc n) previous = do
@@ -138,6 +141,7 @@ match_offsets (suc n) previous = do
   give (record { key = key; offset = offset } ∷ others)
 
 -- lookupswitch at an offset of the code, which decides how many bytes pad it; what they are is free
+-- (JVMS 6.5.lookupswitch)
 abbrev pub lookup_switch : ℕ → Reader Read
 lookup_switch at = do
   pad ← bytes (pad_length at)
@@ -159,7 +163,7 @@ abbrev pub is_count : Option ℕ → ℕ → Bool
 is_count (Some wanted) n = n == wanted
 is_count None n = false
 
--- the count that invokeinterface has to tell for the method at an index
+-- the count that invokeinterface has to tell for the method at an index (JVMS 6.5.invokeinterface)
 abbrev pub count_at : List Entry → ℕ → Option ℕ
 count_at pool index = option_and_then count_of (interface_methodref_at pool index)
 
@@ -171,12 +175,12 @@ invoke_interface pool = do
   last ← item u1 (λ n. test bad.BadOperand (n == 0))
   whole (InvokeInterface index count)
 
--- the operand of newarray
+-- the operand of newarray (JVMS 6.5.newarray)
 abbrev pub array_type_read : ℕ → Result Read FormatKind
 array_type_read atype =
     if is_left_out_array_type atype then Ok (left_out 0xBC) else if_meant (array_type_of atype) (instruction (NewArray atype))
 
--- of the dimensions of its type at least one is made
+-- of the dimensions of its type at least one is made (JVMS 4.9.1, 6.5.multianewarray)
 abbrev pub are_dimensions : Option FieldType → ℕ → Bool
 are_dimensions (Some ty) n = nat_lt 0 n && nat_le n ty.dims
 are_dimensions None n = false
@@ -188,15 +192,15 @@ multi_new_array pool = do
   dimensions ← item u1 (λ n. if are_dimensions (type_at pool index) n then Ok n else Err bad.BadOperand)
   whole (MultiNewArray index dimensions)
 
--- an opcode that names a field or a method, the interface methods of invokeinterface aside
+-- an opcode that names a field or a method, the interface methods of invokeinterface aside (JVMS 6.5)
 abbrev pub is_member_opcode : ℕ → Bool
 is_member_opcode opcode = is_some (field_op opcode) || is_some (method_op opcode)
 
--- an opcode that names a class or an array type, multianewarray aside: new, anewarray, checkcast, instanceof
+-- an opcode that names a class or an array type, multianewarray aside: new, anewarray, checkcast, instanceof (JVMS 6.5)
 abbrev pub is_class_opcode : ℕ → Bool
 is_class_opcode opcode = opcode == 0xBB || is_some (type_op opcode)
 
--- what an opcode at an offset of the code begins
+-- what an opcode at an offset of the code begins (JVMS 6.5)
 abbrev pub begun : List Entry → ℕ → ℕ → Result (Reader Read) FormatKind
 begun pool at opcode =
     if is_some (plain_op opcode) then Ok (whole (Plain opcode))
@@ -225,27 +229,30 @@ in_code bad.Cut = bad.BadCode
 in_code kind = kind
 
 -- each fault of an instruction is one at its first byte, whichever operand is wrong
+-- (the project's own: the instruction is at fault)
 abbrev pub at_instruction : {A : Type 0} → ℕ → Result (A × Place) FormatFault → Result (A × Place) FormatFault
 at_instruction at (Ok x) = Ok x
 at_instruction at (Err f) = Err (fault at (in_code f.kind))
 
--- an instruction of a code that begins at the offset from
+-- an instruction of a code that begins at the offset from (JVMS 6.5)
 unfoldable pub read_instruction : List Entry → ℕ → Reader Read
 read_instruction pool from p = at_instruction p.at (lead u1 (begun pool (p.at - from)) p)
 
 -- ---- all of them
 
 -- a code: its instructions, or the offset and the opcode of the first that is left out
+-- (JVMS 4.7.3; that instructions are left out is the project's own)
 pub data CodeRead : Type 0 where
   instructions : List Info → CodeRead
   has_left_out : (offset opcode : ℕ) → CodeRead
 
--- an instruction before those that were read; before one that is left out it no longer counts
+-- an instruction before those that were read; before one that is left out it no longer counts (JVMS 4.7.3)
 abbrev pub in_front : Info → CodeRead → CodeRead
 in_front info (instructions infos) = instructions (info ∷ infos)
 in_front info (has_left_out offset opcode) = has_left_out offset opcode
 
--- what follows what was read at an offset of the code; behind an instruction that is left out the bytes up to the end are passed over
+-- what follows what was read at an offset of the code; behind an instruction that is left out the bytes up to the end
+-- are passed over (JVMS 4.7.3; that the rest is passed over is the project's own)
 abbrev pub goes_on : Reader CodeRead → ℕ → ℕ → Read → Reader CodeRead
 goes_on others offset end (instruction info) = do
   behind ← others
@@ -256,6 +263,7 @@ goes_on others offset end (left_out opcode) = do
   give (has_left_out offset opcode)
 
 -- the instructions of a code that begins at the offset from and ends at another; n is at least how many bytes are left
+-- (JVMS 4.7.3, 4.9.1)
 unfoldable pub until_end : ℕ → List Entry → ℕ → ℕ → Reader CodeRead
 until_end zero pool from end = give (instructions [])
 until_end (suc n) pool from end = do
@@ -264,24 +272,27 @@ until_end (suc n) pool from end = do
     read ← read_instruction pool from
     goes_on (until_end n pool from end) (at - from) end read)
 
--- what was read, without the place behind it
+-- what was read, without the place behind it (the project's own: a code alone ends nowhere)
 abbrev pub without_place : {A : Type 0} → Result (A × Place) FormatFault → Result A FormatFault
 without_place (Ok x) = Ok x.0
 without_place (Err f) = Err f
 
 -- a code alone, from its first byte on; an instruction that the end cuts is BadCode here; targets are judged by ops_of
+-- (JVMS 4.9.1)
 unfoldable pub code_read : List Entry → List ℕ → Result CodeRead FormatFault
 code_read pool code = without_place (until_end (length code) pool 0 (length code) (start code))
 
 -- ---- targets
 
 -- an instruction before others: of several faults the one at the least offset is told
+-- (the project's own: the first fault counts)
 abbrev pub op_then : ℕ → Result Op FormatKind → Result (List Op) FormatFault → Result (List Op) FormatFault
 op_then at (Ok o) (Ok os) = Ok (o ∷ os)
 op_then at (Ok o) (Err f) = Err f
 op_then at (Err kind) others = Err (fault at kind)
 
 -- the instructions from an offset of the code on, or the first whose target is none; the code begins at the offset from
+-- (JVMS 4.9.1)
 unfoldable pub ops_from : (ℤ → Result ℕ FormatKind) → List Entry → ℕ → ℕ → List Info → Result (List Op) FormatFault
 ops_from aim pool from at [] = Ok []
 ops_from aim pool from at (info ∷ infos) =

@@ -22,16 +22,16 @@ use Rattle.class_model.specs.ReadingAttributes.{counted_attributes, once, line_n
 
 -- ---- handlers
 
--- the numbers of the instructions that begin at three offsets, of which the second may be the end
+-- the numbers of the instructions that begin at three offsets, of which the second may be the end (JVMS 4.7.3)
 abbrev pub Places : Type 0
 Places = ℕ × ℕ × ℕ
 
--- all three, where each was found
+-- all three, where each was found (JVMS 4.7.3)
 abbrev pub places : Option ℕ → Option ℕ → Option ℕ → Option Places
 places (Some from) (Some to) (Some entry) = Some (from, to, entry)
 places _ _ _ = None
 
--- the number of the instruction that begins at an offset of the code, none inside of one
+-- the number of the instruction that begins at an offset of the code, none inside of one (JVMS 4.9.1)
 abbrev pub begins : List ℕ → ℕ → Option ℕ
 begins starts offset = position (nat_eq offset) starts
 
@@ -44,7 +44,7 @@ handler_places starts end start_pc end_pc handler_pc =
 abbrev pub handler : Places → Option (List ℕ) → Handler
 handler at caught = record { from = at.0; to = at.1; entry = at.2; caught = caught }
 
--- a row of the exception table: its places first, then what it catches
+-- a row of the exception table: its places first, then what it catches (JVMS 4.7.3)
 abbrev pub read_handler : List Entry → List ℕ → ℕ → Reader Handler
 read_handler pool starts end = do
   at ← here
@@ -63,16 +63,16 @@ read_handlers pool starts end = do
 
 -- ---- attributes of a Code
 
--- what was seen of them: rows of lines, and the frames, with whether one names a float or a double
+-- what was seen of them: rows of lines, and the frames, with whether one names a float or a double (JVMS 4.7.4, 4.7.12)
 pub record CodeSeen : Type 0 where
   pub lines : List LineNumber
   pub map : Option (Bool × List FrameAt)
 
--- before the first attribute: no rows, no frames
+-- before the first attribute: no rows, no frames (JVMS 4.7.4, 4.7.12)
 abbrev pub nothing_seen : CodeSeen
 nothing_seen = record { lines = []; map = None }
 
--- whether an attribute that may stand only once was seen before
+-- whether an attribute that may stand only once was seen before (JVMS 4.7)
 abbrev pub is_there : {A : Type 0} → Option A → Bool
 is_there (Some x) = true
 is_there None = false
@@ -89,7 +89,7 @@ frames_seen frames seen = do
   map ← frames
   give (record seen { map = Some map })
 
--- LineNumberTable as often as it stands, StackMapTable once
+-- LineNumberTable as often as it stands, StackMapTable once (JVMS 4.7.4, 4.7.12)
 abbrev pub known_of_code : Reader (Bool × List FrameAt) → ℕ → List ℕ → ℕ → CodeSeen → Option (Reader CodeSeen)
 known_of_code frames at name n seen =
     if is_text name (codes "LineNumberTable") then Some (lines_seen seen)
@@ -98,7 +98,7 @@ known_of_code frames at name n seen =
 
 -- ---- the code
 
--- a code, with what is left out in it
+-- a code, with what is left out in it (the project's own: a code may be left out)
 abbrev pub Body : Type 0
 Body = Option Code × Option LeftKind
 
@@ -106,7 +106,7 @@ Body = Option Code × Option LeftKind
 abbrev pub code_length : ℕ → Result ℕ FormatKind
 code_length n = if n == 0 then Err bad.BadCode else if nat_lt n (2 ^ 16) then Ok n else Err bad.BadCode
 
--- each instruction with its line
+-- each instruction with its line (JVMS 4.7.12)
 abbrev pub with_lines : List LineNumber → ℕ → List Info → List Op → List Ins
 with_lines rows at [] ops = []
 with_lines rows at (info ∷ infos) [] = []
@@ -117,12 +117,12 @@ abbrev pub frames_of : Option (Bool × List FrameAt) → List FrameAt
 frames_of (Some map) = map.1
 frames_of None = []
 
--- what the frames leave out: a float or a double among their types
+-- what the frames leave out: a float or a double among their types (the project's own: floats and doubles are left out)
 abbrev pub left_out_of : Option (Bool × List FrameAt) → Option LeftKind
 left_out_of (Some map) = if map.0 then Some left.FloatType else None
 left_out_of None = None
 
--- the parts of a Code together, each instruction with its line, and what its frames leave out
+-- the parts of a Code together, each instruction with its line, and what its frames leave out (JVMS 4.7.3)
 abbrev pub code_of : ℕ → ℕ → List Info → List Op → List Handler → CodeSeen → Body
 code_of max_stack max_locals infos ops handlers seen = (
   Some (record {
@@ -135,7 +135,7 @@ code_of max_stack max_locals infos ops handlers seen = (
   left_out_of seen.map,
 )
 
--- an attribute that is passed over by its length, its name not looked at
+-- an attribute that is passed over by its length, its name not looked at (JVMS 4.7)
 abbrev pub skipped_attribute : Reader (Unit {0})
 skipped_attribute = do
   name_index ← u2
@@ -144,6 +144,7 @@ skipped_attribute = do
   give tt
 
 -- what stands behind the instructions: of a code in which one is left out it is passed over
+-- (JVMS 4.7.3; that it may be passed over is the project's own)
 abbrev pub behind_code : List Entry → List VType → ℕ → ℕ → ℕ → ℕ → CodeRead → Reader Body
 behind_code pool first max_stack max_locals from end (instructions infos) = do
   ops ← told (ops_of pool from infos)
@@ -157,7 +158,7 @@ behind_code pool first max_stack max_locals from end (has_left_out offset opcode
   skipped ← many m skipped_attribute
   give (None, Some (left_out_kind opcode))
 
--- the contents of the Code at an offset; first are the locals of the method's initial frame
+-- the contents of the Code at an offset; first are the locals of the method's initial frame (JVMS 4.7.3)
 unfoldable pub read_code : List Entry → List VType → ℕ → Reader Body
 read_code pool first attribute = do
   max_stack ← u2

@@ -29,7 +29,7 @@ uninitialized_info = do
   offset ← u2
   give (UninitializedInfo offset)
 
--- what the tag of a type begins
+-- what the tag of a type begins (JVMS 4.7.4)
 abbrev pub type_begun : ℕ → Result (Reader VerificationTypeInfo) FormatKind
 type_begun tag =
     if tag == 7 then Ok object_info
@@ -95,7 +95,7 @@ row_begun frame_type =
     else if nat_le frame_type 254 then Ok (append frame_type)
     else Ok full
 
--- each fault of a row is one at its first byte
+-- each fault of a row is one at its first byte (the project's own: the row is at fault)
 abbrev pub at_row : {A : Type 0} → ℕ → Result (A × Place) FormatFault → Result (A × Place) FormatFault
 at_row at (Ok x) = Ok x
 at_row at (Err f) = Err (fault at f.kind)
@@ -107,23 +107,24 @@ read_row p = at_row p.at (lead u1 row_begun p)
 -- ---- what a row stands for
 
 -- the frame before a row: its locals, Tops at their end among them, and its offset if it isn't the initial one
+-- (JVMS 4.7.4)
 pub record Before : Type 0 where
   pub locals : List VType
   pub offset : Option ℕ
 
--- an offset_delta, locals and a stack
+-- an offset_delta, locals and a stack (JVMS 4.7.4)
 pub record Written : Type 0 where
   pub delta : ℕ
   pub locals : List VType
   pub stack : List VType
 
 module _ (pool : List Entry) (starts : List ℕ) (ops : List Op) where
-  -- there is an instruction, and it is a new
+  -- there is an instruction, and it is a new (JVMS 4.7.4, Uninitialized_variable_info)
   abbrev pub is_new : Option Op → Bool
   is_new (Some (op.New name)) = true
   is_new _ = false
 
-  -- the number of a new
+  -- the number of a new (JVMS 4.7.4, Uninitialized_variable_info)
   abbrev pub only_new : ℕ → Option VType
   only_new n = if is_new (slice_get ops n) then Some (vtype.Uninit n) else None
 
@@ -133,20 +134,20 @@ module _ (pool : List Entry) (starts : List ℕ) (ops : List Op) where
   type_of (ObjectInfo cpool_index) = option_map (λ class. vtype.Object class) (type_at pool cpool_index)
   type_of (UninitializedInfo offset) = option_and_then only_new (position (nat_eq offset) starts)
 
-  -- the types in their order, if each is one
+  -- the types in their order, if each is one (JVMS 4.7.4)
   abbrev pub types_of : List VerificationTypeInfo → Option (List VType)
   types_of [] = Some []
   types_of (info ∷ infos) = option_and_then (λ ty. option_map (λ types. ty ∷ types) (types_of infos)) (type_of info)
 
-  -- an offset_delta, locals and a stack together
+  -- an offset_delta, locals and a stack together (JVMS 4.7.4)
   abbrev pub written : ℕ → List VType → List VType → Written
   written delta locals stack = record { delta = delta; locals = locals; stack = stack }
 
-  -- the frame that is left when this many locals go
+  -- the frame that is left when this many locals go (JVMS 4.7.4, chop_frame)
   abbrev pub chopped : ℕ → ℕ → List VType → Option Written
   chopped n delta before = if nat_le n (length before) then Some (written delta (take (length before - n) before) []) else None
 
-  -- what a row behind these locals writes
+  -- what a row behind these locals writes (JVMS 4.7.4)
   abbrev pub written_by : List VType → StackMapFrame → Option Written
   written_by before (SameFrame frame_type) = Some (written frame_type before [])
   written_by before (SameLocalsOneStackItem frame_type item) =
@@ -161,28 +162,29 @@ module _ (pool : List Entry) (starts : List ℕ) (ops : List Op) where
       option_and_then (λ locals. option_map (λ stack. written offset_delta locals stack) (types_of items)) (types_of infos)
 
   module _ (max_stack max_locals : ℕ) where
-    -- the locals and the stack are not too large
+    -- the locals and the stack are not too large (JVMS 4.7.4)
     abbrev pub fits : Written → Bool
     fits w = nat_le (words_of_types w.locals) max_locals && nat_le (words_of_types w.stack) max_stack
 
-    -- the frame at the instruction of a number
+    -- the frame at the instruction of a number (JVMS 4.7.4; that Tops at the end are cut is the project's own)
     abbrev pub frame_at : Written → ℕ → FrameAt
     frame_at w n = record { index = n; frame = record { locals = cut_tops w.locals; stack = w.stack } }
 
-    -- the frame at an offset, if an instruction begins there
+    -- the frame at an offset, if an instruction begins there (JVMS 4.7.4)
     abbrev pub frame_of : ℕ → Written → Option (FrameAt × Before)
     frame_of offset w =
         if fits w then option_map (λ n. (frame_at w n, record { locals = w.locals; offset = Some offset })) (position (nat_eq offset) starts)
         else None
 
     -- a row's frame, if its types are types, its locals and stack have room, and an instruction begins at its offset
+    -- (JVMS 4.7.4)
     abbrev pub row_stands : Before → StackMapFrame → Option (FrameAt × Before)
     row_stands before row =
         option_and_then (λ (w : Written). frame_of (offset_behind before.offset w.delta) w) (written_by before.locals row)
 
     -- ---- rows
 
-    -- a row's frame and the frame before the next row
+    -- a row's frame and the frame before the next row (JVMS 4.7.4)
     unfoldable pub read_frame : Before → Reader (Bool × FrameAt × Before)
     read_frame before = do
       at ← here
@@ -190,7 +192,7 @@ module _ (pool : List Entry) (starts : List ℕ) (ops : List Op) where
       frame ← settle at (due bad.BadFrame (row_stands before row))
       give (names_float row, frame.0, frame.1)
 
-    -- n rows: whether one names a float or a double, and the frames
+    -- n rows: whether one names a float or a double, and the frames (JVMS 4.7.4)
     unfoldable pub read_frames_behind : ℕ → Before → Reader (Bool × List FrameAt)
     read_frames_behind zero before = give (false, [])
     read_frames_behind (suc n) before = do
@@ -198,7 +200,7 @@ module _ (pool : List Entry) (starts : List ℕ) (ops : List Op) where
       others ← read_frames_behind n first.2
       give (first.0 || others.0, first.1 ∷ others.1)
 
-    -- the contents of a StackMapTable; first are the locals of the method's initial frame
+    -- the contents of a StackMapTable; first are the locals of the method's initial frame (JVMS 4.7.4)
     unfoldable pub read_frames : List VType → Reader (Bool × List FrameAt)
     read_frames first = do
       n ← u2

@@ -21,11 +21,11 @@ use Rattle.class_model.specs.MemberTypes.{field_type_at, method_type_at}
 use Rattle.class_model.specs.ReadingAttributes.{counted_attributes, once, exceptions, constant_value}
 use Rattle.class_model.specs.ReadingCodeAttribute.{Body, is_there, read_code}
 
--- flags that pass a test
+-- flags that pass a test (JVMS 4.1, 4.5, 4.6)
 abbrev pub read_flags : (ℕ → Bool) → Reader ℕ
 read_flags passes = item u2 (λ flags. if passes flags then Ok flags else Err bad.BadFlags)
 
--- a name with the descriptor of its member
+-- a name with the descriptor of its member (JVMS 4.5, 4.6)
 abbrev pub Signature : Type 0
 Signature = List ℕ × List ℕ
 
@@ -33,29 +33,29 @@ Signature = List ℕ × List ℕ
 abbrev pub same_signature : Signature → Signature → Bool
 same_signature one other = is_text one.0 other.0 && is_text one.1 other.1
 
--- the member at an offset is none of those before
+-- the member at an offset is none of those before (JVMS 4.5, 4.6)
 abbrev pub fresh : ℕ → List Signature → Signature → Reader (Unit {0})
 fresh at before signature = settle at (test bad.Repeated (not (list_any (same_signature signature) before)))
 
 -- ---- fields
 
--- what was seen of a field's attributes
+-- what was seen of a field's attributes (JVMS 4.5)
 pub record FieldSeen : Type 0 where
   pub constant : Option (Option Constant)
   pub synthetic : Bool
   pub deprecated : Bool
 
--- what was seen before the first attribute of a field
+-- what was seen before the first attribute of a field (JVMS 4.5)
 abbrev pub no_field_attribute : FieldSeen
 no_field_attribute = record { constant = None; synthetic = false; deprecated = false }
 
--- contents of a length that are passed over
+-- contents of a length that are passed over (JVMS 4.7)
 abbrev pub dropped : {S : Type 0} → ℕ → S → Reader S
 dropped n seen = do
   skipped ← bytes n
   give seen
 
--- ConstantValue counts on static fields alone; elsewhere its contents are passed over
+-- ConstantValue counts on static fields alone; elsewhere its contents are passed over (JVMS 4.7.2)
 abbrev pub constant_seen : List Entry → FieldType → FieldSeen → Reader FieldSeen
 constant_seen pool ty seen = do
   value ← constant_value pool ty
@@ -70,7 +70,7 @@ known_of_field pool static ty at name n seen =
     else if is_text name (codes "Deprecated") then Some (once at seen.deprecated (give (record seen { deprecated = true })))
     else None
 
--- a field without ConstantValue, or with one that is left out or passed over, has no constant
+-- a field without ConstantValue, or with one that is left out or passed over, has no constant (JVMS 4.7.2)
 abbrev pub constant_of : Option (Option Constant) → Option Constant
 constant_of (Some value) = value
 constant_of None = None
@@ -86,7 +86,7 @@ field_of flags name ty seen = record {
   deprecated = seen.deprecated;
 }
 
--- a field behind those of these signatures
+-- a field behind those of these signatures (JVMS 4.5)
 unfoldable pub read_field_info : List Entry → Bool → List Signature → Reader (Field × Signature)
 read_field_info pool in_interface before = do
   at ← here
@@ -97,7 +97,7 @@ read_field_info pool in_interface before = do
   seen ← counted_attributes pool (known_of_field pool (is_static flags) ty) no_field_attribute
   give (field_of flags name ty seen, (name, field_text ty))
 
--- so many fields behind those of these signatures, each unlike all before it
+-- so many fields behind those of these signatures, each unlike all before it (JVMS 4.1, 4.5)
 unfoldable pub read_fields : ℕ → List Entry → Bool → List Signature → Reader (List Field)
 read_fields zero pool in_interface before = give []
 read_fields (suc n) pool in_interface before = do
@@ -107,14 +107,14 @@ read_fields (suc n) pool in_interface before = do
 
 -- ---- methods
 
--- what was seen of a method's attributes
+-- what was seen of a method's attributes (JVMS 4.6)
 pub record MethodSeen : Type 0 where
   pub body : Option Body
   pub throws : Option (List (List ℕ))
   pub synthetic : Bool
   pub deprecated : Bool
 
--- what was seen before the first attribute of a method
+-- what was seen before the first attribute of a method (JVMS 4.6)
 abbrev pub no_method_attribute : MethodSeen
 no_method_attribute = record { body = None; throws = None; synthetic = false; deprecated = false }
 
@@ -130,7 +130,7 @@ code_seen code seen = do
   body ← code
   give (record seen { body = Some body })
 
--- a Code where there may be none is at fault itself, before its contents
+-- a Code where there may be none is at fault itself, before its contents (JVMS 4.7.3)
 abbrev pub one_code : ℕ → Bool → Reader Body → MethodSeen → Reader MethodSeen
 one_code at wanted code seen = do
   allowed ← settle at (test bad.BadAttribute wanted)
@@ -146,11 +146,12 @@ known_of_method pool wanted code at name n seen =
     else None
 
 -- the code, with what is left out: a native method is
+-- (JVMS 4.7.3; that native methods are left out is the project's own)
 abbrev pub body_of : ℕ → Option Body → Body
 body_of flags (Some body) = body
 body_of flags None = (None, if is_native flags then Some left.Flag else None)
 
--- a method without Exceptions declares none
+-- a method without Exceptions declares none (JVMS 4.7.5)
 abbrev pub throws_of : Option (List (List ℕ)) → List (List ℕ)
 throws_of (Some classes) = classes
 throws_of None = []
@@ -167,11 +168,11 @@ method_of flags name ty seen = record {
   deprecated = seen.deprecated;
 }
 
--- a method, its signature, and what is left out in it
+-- a method, its signature, and what is left out in it (JVMS 4.6)
 abbrev pub MethodRead : Type 0
 MethodRead = Method × Signature × Option LeftKind
 
--- a method behind those of these signatures, in a class of this name
+-- a method behind those of these signatures, in a class of this name (JVMS 4.6)
 unfoldable pub read_method_info : List Entry → Bool → List ℕ → List Signature → Reader MethodRead
 read_method_info pool in_interface class before = do
   at ← here
@@ -184,7 +185,7 @@ read_method_info pool in_interface class before = do
   whole ← settle at (test bad.BadAttribute (not (has_body flags) || is_there seen.body))
   give (method_of flags name ty seen, (name, method_text ty), (body_of flags seen.body).1)
 
--- methods, and what is left out in each
+-- methods, and what is left out in each (JVMS 4.1, 4.6)
 unfoldable pub read_methods : ℕ → List Entry → Bool → List ℕ → List Signature → Reader (List Method × List (Option LeftKind))
 read_methods zero pool in_interface class before = give ([], [])
 read_methods (suc n) pool in_interface class before = do

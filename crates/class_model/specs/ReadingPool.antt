@@ -12,7 +12,7 @@ use Rattle.class_model.specs.declared.pool.Entry.TheVariants as entry
 use Rattle.class_model.specs.ConstantPool.{left_out_length, long_of, takes_two}
 use Rattle.class_model.specs.Lookups.{due, value_of, names_right}
 
--- an entry, and the offset of its tag
+-- an entry, and the offset of its tag (the project's own: entries are judged when all are read)
 pub record Slot : Type 0 where
   pub entry : Entry
   pub at : ℕ
@@ -53,17 +53,19 @@ two_indices make = do
   give (make first second)
 
 -- a constant that is left out: its bytes may be any, and only its tag is kept
+-- (JVMS 4.4; that it is left out is the project's own)
 abbrev pub passed_over : ℕ → ℕ → Reader Entry
 passed_over tag n = do
   skipped ← bytes n
   give (entry.LeftOut tag)
 
 -- a constant that is left out, by the length of its contents; a tag without one is no tag
+-- (JVMS 4.4; that it is left out is the project's own)
 abbrev pub left_out : ℕ → Option ℕ → Result (Reader Entry) FormatKind
 left_out tag (Some n) = Ok (passed_over tag n)
 left_out tag None = Err bad.BadTag
 
--- a Long or a Double needs room for its second index
+-- a Long or a Double needs room for its second index (JVMS 4.4.5)
 abbrev pub has_no_room : Bool → ℕ → Bool
 has_no_room room tag = not room && (if tag == 5 then true else tag == 6)
 
@@ -82,13 +84,14 @@ tagged room tag =
     else if tag == 12 then Ok (two_indices (λ i j. entry.NameAndType i j))
     else left_out tag (left_out_length tag)
 
--- cp_info; a bad tag is at fault at the tag itself
+-- cp_info; a bad tag is at fault at the tag itself (JVMS 4.4)
 unfoldable pub read_entry : Bool → Reader Entry
 read_entry room = lead u1 (tagged room)
 
 -- ---- the pool
 
 -- the next index, which is the second one of a Long or a Double where `second` is true; room is there for one more
+-- (JVMS 4.4.5)
 unfoldable pub slot : Bool → Bool → Reader Slot
 slot true room = do
   at ← here
@@ -98,7 +101,7 @@ slot false room = do
   e ← read_entry room
   give (record { entry = e; at = at })
 
--- n indices
+-- n indices (JVMS 4.1, 4.4)
 unfoldable pub slots : ℕ → Bool → Reader (List Slot)
 slots zero second = give []
 slots (suc n) second = do
@@ -111,16 +114,19 @@ abbrev pub entries_of : List Slot → List Entry
 entries_of xs = entry.Gap ∷ map (λ (s : Slot). s.entry) xs
 
 -- an entry's own fault, at its tag, comes before those of the entries behind it
+-- (the project's own: the first entry's fault counts)
 abbrev pub fault_of : ℕ → Result (Unit {0}) FormatKind → Result (Unit {0}) FormatFault → Result (Unit {0}) FormatFault
 fault_of at (Ok x) others = others
 fault_of at (Err kind) others = Err (fault at kind)
 
 -- the first entry that names what isn't there, in the order of indices, used or not
+-- (JVMS 4.4; that each entry is judged is the project's own)
 unfoldable pub all_name_right : List Entry → List Slot → Result (Unit {0}) FormatFault
 all_name_right pool [] = Ok tt
 all_name_right pool (s ∷ xs) = fault_of s.at (names_right pool s.entry) (all_name_right pool xs)
 
 -- constant_pool_count and the constants; a count of 0 is taken as 1
+-- (JVMS 4.1; that 0 is taken as 1 is the project's own)
 unfoldable pub read_pool : Reader (List Entry)
 read_pool = do
   count ← u2

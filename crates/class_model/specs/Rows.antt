@@ -1,4 +1,5 @@
--- What the definitions give for a few class files, which are computed. The files are written in hexadecimal digits.
+-- What the definitions give for a few class files, which are computed (the project's own: definitions are tried on
+-- files). The files are written in hexadecimal digits.
 use Rattle.std.specs.Prelude.{pos, replicate, ◌≡◌, ℕ, ◌+◌, ◌-◌, ◌*◌, List, [], ◌∷◌, ◌++◌, length, map, take, drop, filter, codes, Option, Some, None, option_map, Result, Ok, Err, is_err, nat_le, false, if◌then◌else◌}
 use Rattle.std.specs.Int.{w32, to_be_bytes}
 use Rattle.std.specs.List.{range_with_len}

@@ -36,7 +36,7 @@ module _ (entries : List Entry) (index : ℕ) where
       (class_index : ℕ) × (name_and_type_index : ℕ) × (slice_get entries index ≡ Some (made class_index name_and_type_index))
       × SaysClass entries class_index class × SaysNameAndType entries name_and_type_index name descriptor
 
-  -- the entry at the index says what the constant does; the second index of a long says nothing
+  -- the entry at the index says what the constant does; the second index of a long says nothing (JVMS 4.4.1 to 4.4.7)
   abbrev pub Says : PoolConstant → Type 0
   Says (Utf8 units) = SaysUnits entries index units
   Says (Integer n) = slice_get entries index ≡ Some (entry.Integer n)
@@ -49,10 +49,10 @@ module _ (entries : List Entry) (index : ℕ) where
   Says (Methodref class name descriptor) = SaysReference entry.Method class name descriptor
   Says (InterfaceMethodref class name descriptor) = SaysReference entry.InterfaceMethod class name descriptor
 
--- the entry at a constant's index in a pool says it, and the index has two bytes
+-- the entry at a constant's index in a pool says it, and the index has two bytes (JVMS 4.4)
 abbrev pub IsSaid : List Entry → List PoolConstant → PoolConstant → Type 0
 IsSaid entries pool k = (index_of pool k < 2 ^ 16) × Says entries (index_of pool k) k
 
--- so do those of all constants that the instructions name
+-- so do those of all constants that the instructions name (JVMS 4.4)
 abbrev pub AreSaid : List Entry → List PoolConstant → List Ins → Type 0
 AreSaid entries pool ins = AllByRecursion (λ (i : Ins). AllByRecursion (IsSaid entries pool) (op_constants i.op)) ins

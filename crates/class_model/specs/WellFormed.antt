@@ -44,7 +44,7 @@ IsClassName name = IsName is_class_name name
 abbrev pub IsClassOrArray : FieldType → Type 0
 IsClassOrArray ty = IsFieldType ty × ((0 < ty.dims) ⊎ ((name : List ℕ) × (ty.base ≡ base.Class name)))
 
--- all flags mean something
+-- all flags mean something (JVMS 4.1, 4.5, 4.6)
 abbrev pub AreMeant : ℕ → ℕ → Type 0
 AreMeant mask flags = meant mask flags ≡ flags
 
@@ -56,24 +56,26 @@ pub record IsReference (is_name : List ℕ → Bool) (IsDescriptor : List ℕ �
   pub name : IsName is_name reference.name
   pub descriptor : IsDescriptor reference.ty
 
--- an unqualified name and a field descriptor; only a method is ever marked as that of an interface
+-- an unqualified name and a field descriptor; only a method is ever marked as that of an interface (JVMS 4.4.2)
 abbrev pub IsFieldReference : MemberRef → Type 0
 IsFieldReference reference = IsReference is_member_name IsFieldText reference × (reference.of_interface ≡ false)
 
 -- a method's name, those of initialisation methods included, and a method descriptor, of a class or an interface
+-- (JVMS 4.4.2)
 abbrev pub IsMethodReference : MemberRef → Type 0
 IsMethodReference reference = IsReference is_method_name IsMethodText reference
 
 -- a code of n instructions
 module _ (n : ℕ) where
   -- all targets are instructions, there is one case at least, and high, the key of the last, is at most 2^31 - 1
+  -- (JVMS 6.5.tableswitch)
   pub record IsTableSwitch (low : ℤ) (other : ℕ) (cases : List ℕ) : Type 0 where
     pub other_target : other < n
     pub targets : AllByRecursion (λ to. to < n) cases
     pub least : 0 < length cases
     pub most : (low +ℤ pos (length cases)) <ℤ pos (2 ^ 31 + 1)
 
-  -- all targets are instructions, and the keys ascend, each of them once
+  -- all targets are instructions, and the keys ascend, each of them once (JVMS 6.5.lookupswitch)
   pub record IsLookupSwitch (other : ℕ) (cases : List Case) : Type 0 where
     pub other_target : other < n
     pub targets : AllByRecursion (λ (c : Case). c.to < n) cases
@@ -105,7 +107,7 @@ module _ (n : ℕ) where
   IsGoodOp (op.MultiNewArray ty dimensions) = IsFieldType ty × (0 < dimensions) × (dimensions ≤ ty.dims)
   IsGoodOp _ = Unit {0}
 
-  -- a handler covers an instruction at least
+  -- a handler covers an instruction at least (JVMS 4.7.3)
   pub record IsGoodHandler (h : Handler) : Type 0 where
     pub range : h.from < h.to
     pub to : h.to ≤ n
@@ -114,13 +116,14 @@ module _ (n : ℕ) where
 
 -- ---- frames
 
--- a type in a frame of this code: an uninitialised object is that of a new
+-- a type in a frame of this code: an uninitialised object is that of a new (JVMS 4.7.4)
 abbrev pub IsGoodType : List Ins → VType → Type 0
 IsGoodType ins (vtype.Object ty) = IsClassOrArray ty
 IsGoodType ins (vtype.Uninit k) = (at : Ins) × (name : List ℕ) × (slice_get ins k ≡ Some at) × (at.op ≡ op.New name)
 IsGoodType ins _ = Unit {0}
 
 -- a frame at an instruction, without Tops at the end of its locals
+-- (JVMS 4.7.4; that no Tops end the locals is the project's own)
 pub record IsGoodFrame (code : Code) (frame : FrameAt) : Type 0 where
   pub index : frame.index < length code.ins
   pub locals : AllByRecursion (IsGoodType code.ins) frame.frame.locals
@@ -131,11 +134,11 @@ pub record IsGoodFrame (code : Code) (frame : FrameAt) : Type 0 where
 
 -- ---- code
 
--- an instruction behind one with a line has a line
+-- an instruction behind one with a line has a line (JVMS 4.7.12; that a row counts up to the next is the project's own)
 abbrev pub LinesGoOn : Ins → Ins → Type 0
 LinesGoOn one next = IsSome one.line → IsSome next.line
 
--- the frames ascend
+-- the frames ascend (JVMS 4.7.4)
 abbrev pub Ascend : FrameAt → FrameAt → Type 0
 Ascend one next = one.index < next.index
 
@@ -150,7 +153,7 @@ pub record IsGoodCode (code : Code) : Type 0 where
 
 -- ---- members
 
--- the type is java.lang.String, no array of it
+-- the type is java.lang.String, no array of it (JVMS 4.7.2, table 4.7.2-A)
 abbrev pub IsString : FieldType → Type 0
 IsString ty = IsPlain (base.Class (codes "java/lang/String")) ty
 
@@ -168,7 +171,7 @@ pub record IsGoodField (in_interface : Bool) (field : Field) : Type 0 where
   pub typed : IsFieldType field.ty
   pub constant : IfSome field.constant (λ value. IsTrue (is_static field.flags.0) × FitsField field.ty value)
 
--- a method; one that is native is left out
+-- a method; one that is native is left out (JVMS 4.6)
 pub record IsGoodMethod (in_interface : Bool) (m : Method) : Type 0 where
   pub meant : AreMeant method_mask m.flags.0
   pub flags : IsTrue (are_method_flags m.flags.0)
@@ -206,6 +209,6 @@ abbrev pub HasFewWords : Op → Type 0
 HasFewWords (op.InvokeInterface reference) = (ty : MethodType) → IsMethodType ty → reference.ty ≡ method_text ty → argument_words ty.args ≤ 254
 HasFewWords _ = Unit {0}
 
--- each count of an invokeinterface in the class fits a byte
+-- each count of an invokeinterface in the class fits a byte (JVMS 6.5.invokeinterface)
 abbrev pub CountsFit : Class → Type 0
 CountsFit c = AllByRecursion (λ (m : Method). IfSome m.code (λ (code : Code). AllByRecursion (λ (i : Ins). HasFewWords i.op) code.ins)) c.methods
