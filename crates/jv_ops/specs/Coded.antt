@@ -17,13 +17,14 @@ use Rattle.class_model.specs.declared.op.Case.{Case}
 use Rattle.class_model.specs.WriteLimits.{fits_u2, branches_fit}
 use Rattle.jv_ops.specs.declared.encoding.Coded.{Coded}
 
--- the places of the instructions of a code that isn't too long, and behind them its length
+-- the places of the instructions of a code that isn't too long, and behind them its length (JVMS 4.7.3)
 unfoldable pub placed : List PoolConstant → List Ins → Result (List ℕ) WriteLimit
 placed pool ins = do
   short ← fits_u2 (λ n. CodeTooLong n) (length (code_bytes pool (places pool ins) ins))
   Ok (places pool ins)
 
--- the canonical bytes of instructions with the offset of each, or the first limit that is passed: the length, then the branches
+-- the canonical bytes of instructions with the offset of each, or the first limit that is passed: the length, then the
+-- branches (JVMS 4.7.3, 4.9.1; the order of limits is the project's own)
 unfoldable pub coded : List PoolConstant → List Ins → Result Coded WriteLimit
 coded pool ins = do
   all ← placed pool ins
@@ -34,7 +35,7 @@ coded pool ins = do
 abbrev pub HasIndex : List PoolConstant → PoolConstant → Type 0
 HasIndex pool k = index_of pool k < 2 ^ 16
 
--- so has that of each constant that an instruction names
+-- so has that of each constant that an instruction names (JVMS 4.4)
 abbrev pub HasIndices : List PoolConstant → Op → Type 0
 HasIndices pool (op.PushInt n) = is_short n ≡ false → HasIndex pool (Integer n)
 HasIndices pool (op.PushLong n) = is_lconst n ≡ false → HasIndex pool (Long n)
@@ -59,6 +60,6 @@ abbrev pub IsNear : (ℕ → ℤ) → Option ℕ → Type 0
 IsNear distance (Some to) = int_between (negsuc 32767) (pos 32767) (distance to) ≡ true
 IsNear distance None = Unit {0}
 
--- a case of a lookupswitch as it is written
+-- a case of a lookupswitch as it is written (only the proof of encode_with needs it)
 abbrev pub match_of : (ℕ → ℕ) → ℕ → Case → MatchOffset
 match_of place at c = record { key = cast_unsigned w32 c.key; offset = far [] place at c.to }

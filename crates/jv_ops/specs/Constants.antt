@@ -12,15 +12,16 @@ use Rattle.class_model.specs.CanonicalPool.{same}
 use Rattle.jv_ops.specs.declared.said.Member.{Member}
 
 -- an entry that says nothing here is told as the second index of a Long, which no instruction names
+-- (the project's own: each index has a constant)
 abbrev pub nothing : PoolConstant
 nothing = SecondOfLong (pos 0)
 
--- what is said of a text, if it is there
+-- what is said of a text, if it is there (JVMS 4.4.1, 4.4.3)
 abbrev pub of_text : (List ℕ → PoolConstant) → Option (List ℕ) → PoolConstant
 of_text make (Some text) = make text
 of_text make None = nothing
 
--- what is said of a name and a descriptor, if both are there
+-- what is said of a name and a descriptor, if both are there (JVMS 4.4.6)
 abbrev pub of_texts : (List ℕ → List ℕ → PoolConstant) → Option (List ℕ) → Option (List ℕ) → PoolConstant
 of_texts make (Some name) (Some descriptor) = make name descriptor
 of_texts make _ _ = nothing
@@ -30,12 +31,12 @@ abbrev pub texts_of : Option (List ℕ) → Option (List ℕ) → Option (List �
 texts_of (Some class) (Some name) (Some descriptor) = Some (record { class = class; name = name; descriptor = descriptor })
 texts_of _ _ _ = None
 
--- those of a class, and of a name and a descriptor by their indices
+-- those of a class, and of a name and a descriptor by their indices (JVMS 4.4.2, 4.4.6)
 abbrev pub named_texts : List Entry → Option (List ℕ) → Option (ℕ × ℕ) → Option Member
 named_texts pool class (Some indices) = texts_of class (units_at pool indices.0) (units_at pool indices.1)
 named_texts pool class None = None
 
--- those of the class and of the name and type at two indices
+-- those of the class and of the name and type at two indices (JVMS 4.4.2)
 abbrev pub member_at : List Entry → ℕ → ℕ → Option Member
 member_at pool class index = named_texts pool (class_units_at pool class) (name_and_type_at pool index)
 
@@ -59,7 +60,7 @@ abbrev pub second_of : Option Entry → PoolConstant
 second_of (Some (entry.Long n)) = SecondOfLong n
 second_of _ = nothing
 
--- what an entry says, behind the one before it
+-- what an entry says, behind the one before it (JVMS 4.4.1 to 4.4.7)
 abbrev pub said : List Entry → Option Entry → Option Entry → PoolConstant
 said pool before (Some (entry.Utf8 text)) = Utf8 text
 said pool before (Some (entry.Integer n)) = Integer n
@@ -73,11 +74,11 @@ said pool before (Some (entry.InterfaceMethod class index)) = interface_methodre
 said pool before (Some entry.Gap) = second_of before
 said pool before _ = nothing
 
--- what the entry at an index says
+-- what the entry at an index says (JVMS 4.4.1 to 4.4.7)
 unfoldable pub said_at : List Entry → ℕ → PoolConstant
 said_at pool index = said pool (slice_get pool (index - 1)) (slice_get pool index)
 
--- what the entries from index 1 on say, as many as are told
+-- what the entries from index 1 on say, as many as are told (JVMS 4.1, 4.4)
 unfoldable pub first_constants : List Entry → ℕ → List PoolConstant
 first_constants pool zero = []
 first_constants pool (suc n) = first_constants pool n ++ said_at pool (suc n) ∷ []
@@ -86,6 +87,6 @@ first_constants pool (suc n) = first_constants pool n ++ said_at pool (suc n) �
 abbrev pub constants_in : List Entry → List PoolConstant
 constants_in pool = first_constants pool (length pool - 1)
 
--- an index is kept with each constant: that of its first place, from 1 on
+-- an index is kept with each constant: that of its first place, from 1 on (only the proof of ConstantTable needs it)
 abbrev pub IsIndexed : List PoolConstant → List (PoolConstant × ℕ) → Type 0
 IsIndexed constants indices = (k : PoolConstant) → lookup (same k) indices ≡ position_from (same k) 1 constants

@@ -1,4 +1,4 @@
--- A loop from five down to zero.
+-- A loop from five down to zero (the project's own: an example for tests).
 use Rattle.std.specs.Prelude.{List, [], ◌∷◌, None, pos, negsuc}
 use Rattle.class_model.specs.declared.op.Op.TheVariants as op
 use Rattle.class_model.specs.declared.op.Kind.TheVariants as kind

@@ -23,22 +23,23 @@ use Rattle.jv_ops.specs.Targets.{collected, placed_aimed, starts_of as starts_pl
 
 -- ---- by the reading of class files
 
--- instructions with their starts, or the first of them with a target that is the start of none
+-- instructions with their starts, or the first of them with a target that is the start of none (JVMS 4.9.1)
 abbrev pub with_starts : List Info → Result (List Op) FormatFault → Result Decoded CodeFault
 with_starts infos (Ok ops) = Ok (record { ops = ops; starts = starts_of infos })
 with_starts infos (Err f) = Err (code.BadTarget f.offset)
 
--- what was read of a code, as it is decoded
+-- what was read of a code, as it is decoded (the project's own: the faults of a code alone)
 abbrev pub as_decoded : List Entry → Result CodeRead FormatFault → Result Decoded CodeFault
 as_decoded pool (Ok (instructions infos)) = with_starts infos (ops_of pool 0 infos)
 as_decoded pool (Ok (has_left_out offset opcode)) = Err (code.LeftOutOpcode offset opcode)
 as_decoded pool (Err f) = Err (code_fault f.offset (wrong_of f.kind))
 
--- the instructions of a code with their starts, or its first fault; a target is asked for only where each instruction is one
+-- the instructions of a code with their starts, or its first fault; a target is asked for only where each instruction
+-- is one (JVMS 4.7.3, 4.9.1; which fault comes first is the project's own)
 unfoldable pub code_decoded : List Entry → List ℕ → Result Decoded CodeFault
 code_decoded pool bytes = as_decoded pool (code_read pool bytes)
 
--- the units of the texts in a pool are numbers of 16 bits
+-- the units of the texts in a pool are numbers of 16 bits (JVMS 4.4.7)
 abbrev pub HaveUnits : List Entry → Type 0
 HaveUnits pool = (index : ℕ) (units : List ℕ) → units_at pool index ≡ Some units → IsUnits units
 
@@ -52,7 +53,7 @@ abbrev pub ToldLeftOut : List Entry → List ℕ → CodeFault → Type 0
 ToldLeftOut pool bytes (code.LeftOutOpcode offset opcode) = IsLeftOutCode pool bytes (left_out_kind opcode)
 ToldLeftOut pool bytes _ = Unit {0}
 
--- ---- in the steps of the decoder
+-- ---- in the steps of the decoder (the project's own: in which order faults are met)
 
 -- the instructions with their starts, or the first of them with a target that is the start of none
 abbrev pub all_decoded : List Placed → Result Decoded CodeFault

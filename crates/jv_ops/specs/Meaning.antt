@@ -1,4 +1,5 @@
--- What an instruction's bytes stand for before its targets are known, and then with them.
+-- What an instruction's bytes stand for before its targets are known, and then with them
+-- (JVMS 6.5; that targets come last is the project's own).
 use Rattle.std.specs.Prelude.{ℕ, zero, suc, ℤ, is_some, if◌then◌else◌, List, [], ◌∷◌, map, Option, Some, None, Result, Ok, Err}
 use Rattle.std.specs.Int.{w16, w32, cast_signed}
 use Rattle.jv_base.specs.Place.{Place}
@@ -21,7 +22,7 @@ use Rattle.jv_ops.specs.declared.unaimed.Unaimed.{Unaimed}
 use Rattle.jv_ops.specs.declared.unaimed.Unaimed.TheVariants as unaimed
 use Rattle.jv_ops.specs.Fault.{wrong_of}
 
--- no target is asked for
+-- no target is asked for (the project's own: targets come last)
 abbrev pub no_aim : ℤ → Result ℕ FormatKind
 no_aim target = Err bad.BadTarget
 
@@ -30,7 +31,7 @@ abbrev pub whole : Result Op FormatKind → Result Unaimed Wrong
 whole (Ok o) = Ok (unaimed.Whole o)
 whole (Err kind) = Err (wrong_of kind)
 
--- what an operand means, which has to mean something
+-- what an operand means, which has to mean something (only the proof of decode_code needs it)
 abbrev pub whole_op : Option Op → Result Unaimed (Or Wrong)
 whole_op (Some o) = Ok (unaimed.Whole o)
 whole_op None = Err (Fault wrong.Operand)
@@ -39,14 +40,14 @@ whole_op None = Err (Fault wrong.Operand)
 abbrev pub match_of : MatchOffset → Match
 match_of pair = record { key = pair.key; offset = pair.offset }
 
--- a key that is greater than the one before, and its offset
+-- a key that is greater than the one before, and its offset (only the proof of decode_code needs it)
 unfoldable pub match_read : Option ℕ → Reader Match
 match_read previous = do
   key ← item u4 (lookup_key previous)
   offset ← u4
   give (record { key = key; offset = offset })
 
--- so many of them
+-- so many of them (only the proof of decode_code needs it)
 unfoldable pub matches_from : ℕ → Option ℕ → Reader (List Match)
 matches_from zero previous = give []
 matches_from (suc n) previous = do
@@ -54,13 +55,13 @@ matches_from (suc n) previous = do
   others ← matches_from n (Some first.key)
   give (first ∷ others)
 
--- a lookupswitch behind its count
+-- a lookupswitch behind its count (only the proof of decode_code needs it)
 abbrev pub matches_behind : List ℕ → ℕ → ℕ → Reader Read
 matches_behind pad default n = do
   pairs ← match_offsets n None
   give (instruction (LookupSwitch pad default pairs))
 
--- what an opcode of one of the tables begins
+-- what an opcode of one of the tables begins (only the proof of decode_code needs it)
 abbrev pub begun_by_table : List Entry → ℕ → Result (Reader Read) FormatKind
 begun_by_table pool opcode =
     if is_some (local_op opcode) then Ok (one_byte (λ index. Local opcode index))

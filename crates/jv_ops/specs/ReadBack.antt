@@ -1,4 +1,4 @@
--- The law that canonical bytes are read back.
+-- The law that canonical bytes are read back (the project's own: what is written can be read).
 use Rattle.std.specs.Prelude.{◌≡◌, List, length, map, take, Ok}
 use Rattle.class_model.specs.declared.pool.Entry.{Entry}
 use Rattle.class_model.specs.declared.constant.PoolConstant.{PoolConstant}

@@ -19,37 +19,37 @@ use Rattle.jv_ops.specs.declared.unaimed.Unaimed.TheVariants as unaimed
 
 -- ---- the number of the instruction at each offset
 
--- an entry that may be missing, of a table that may end before
+-- an entry that may be missing, of a table that may end before (only the proof of decode_code needs it)
 abbrev pub if_there : Option (Option ℕ) → Option ℕ
 if_there (Some x) = x
 if_there None = None
 
--- what a table of the offsets has
+-- what a table of the offsets has (only the proof of decode_code needs it)
 abbrev pub found : List (Option ℕ) → ℕ → Option ℕ
 found table offset = if_there (slice_get table offset)
 
--- the same with one more start, of which only the first counts
+-- the same with one more start, of which only the first counts (only the proof of decode_code needs it)
 abbrev pub noted : Option ℕ → ℕ → ℕ → ℕ → Option ℕ
 noted before start number offset = or_else before (if nat_eq offset start then Some number else None)
 
--- the number of the instruction at a target
+-- the number of the instruction at a target (only the proof of decode_code needs it)
 abbrev pub aim_in : List (Option ℕ) → ℤ → Result ℕ FormatKind
 aim_in table (pos offset) = due bad.BadTarget (found table offset)
 aim_in table (negsuc n) = Err bad.BadTarget
 
--- where instructions begin
+-- where instructions begin (JVMS 4.7.3)
 abbrev pub starts_of : List Placed → List ℕ
 starts_of placed = map (λ (p : Placed). p.at) placed
 
 -- ---- instructions
 
--- a result before those behind it; of several faults the first counts
+-- a result before those behind it; of several faults the first counts (the project's own: the first fault counts)
 abbrev pub with_first : {B X : Type 0} → Result B X → Result (List B) X → Result (List B) X
 with_first (Ok y) (Ok ys) = Ok (y ∷ ys)
 with_first (Ok y) (Err e) = Err e
 with_first (Err e) others = Err e
 
--- what each gives, or the first fault
+-- what each gives, or the first fault (the project's own: the first fault counts)
 unfoldable pub collected : {A B X : Type 0} → (A → Result B X) → List A → Result (List B) X
 collected f [] = Ok []
 collected f (x ∷ xs) = with_first (f x) (collected f xs)
@@ -74,14 +74,14 @@ lookup_aimed aim at default matches = do
   cases ← collected (case_aimed aim at) matches
   Ok (op.LookupSwitch other cases)
 
--- an instruction with the numbers of its targets
+-- an instruction with the numbers of its targets (JVMS 6.5)
 abbrev pub op_aimed : (ℤ → Result ℕ FormatKind) → ℕ → Unaimed → Result Op FormatKind
 op_aimed aim at (unaimed.Whole o) = Ok o
 op_aimed aim at (unaimed.Branch opcode offset) = branch aim at (branch_op opcode) offset
 op_aimed aim at (unaimed.TableSwitch default low offsets) = table_aimed aim at default low offsets
 op_aimed aim at (unaimed.LookupSwitch default matches) = lookup_aimed aim at default matches
 
--- what is wrong with a target, as the fault of the code
+-- what is wrong with a target, as the fault of the code (the project's own: the faults of a code alone)
 abbrev pub or_bad_target : ℕ → Result Op FormatKind → Result Op CodeFault
 or_bad_target at (Ok o) = Ok o
 or_bad_target at (Err kind) = Err (code.BadTarget at)
