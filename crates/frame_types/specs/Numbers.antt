@@ -1,4 +1,4 @@
--- The number of the instruction at each offset.
+-- The number of the instruction at each offset (only the proofs of Starts and of read_class need it).
 use Rattle.std.specs.Prelude.{ℕ, List, slice_get, nat_eq, if◌then◌else◌, Option, Some, None}
 
 -- an entry that may be missing, of a table that may end before

@@ -22,7 +22,7 @@ module _ (entries : List Entry) (constants : List PoolConstant) (starts : List �
     pub offset : slice_index starts n < 2 ^ 16
     pub number : position (nat_eq (slice_index starts n)) starts ≡ Some n
 
-  -- the entry at the index of its class says a type, and what isn't initialised is made by a new
+  -- the entry at the index of its class says a type, and what isn't initialised is made by a new (JVMS 4.7.4)
   abbrev pub IsKnownType : VType → Type 0
   IsKnownType (vtype.Object class) =
       (index_of constants (class_constant (type_name class)) < 2 ^ 16)
@@ -31,6 +31,7 @@ module _ (entries : List Entry) (constants : List PoolConstant) (starts : List �
   IsKnownType _ = Unit {0}
 
   -- a frame at an instruction, with types that are known and have room, and without Tops at the end of its locals
+  -- (JVMS 4.7.4)
   pub record IsKnownFrame (max_stack max_locals : ℕ) (frame : FrameAt) : Type 0 where
     pub place : HasPlace frame.index
     pub locals : AllByRecursion IsKnownType frame.frame.locals
@@ -41,18 +42,18 @@ module _ (entries : List Entry) (constants : List PoolConstant) (starts : List �
     pub stack_short : length frame.frame.stack < 2 ^ 16
     pub stack_fits : words_of_types frame.frame.stack ≤ max_stack
 
-  -- an offset lies behind another, if there is one
+  -- an offset lies behind another, if there is one (JVMS 4.7.4)
   abbrev pub IsBehind : Option ℕ → ℕ → Type 0
   IsBehind None offset = Unit {0}
   IsBehind (Some previous) offset = previous < offset
 
-  -- each frame lies behind the one before
+  -- each frame lies behind the one before (JVMS 4.7.4)
   abbrev pub Follow : Option ℕ → List FrameAt → Type 0
   Follow previous [] = Unit {0}
   Follow previous (frame ∷ frames) = IsBehind previous (slice_index starts frame.index)
       × Follow (Some (slice_index starts frame.index)) frames
 
--- the canonical rows of frames are read as these frames
+-- the canonical rows of frames are read as these frames (the project's own: what is written can be read)
 abbrev pub FramesAreReadBack : Type 0
 FramesAreReadBack =
     (entries : List Entry) (constants : List PoolConstant) (starts : List ℕ) (ops : List Op) (max_stack max_locals : ℕ)

@@ -6,7 +6,7 @@ use Rattle.class_model.specs.declared.frame.Frame.{Frame}
 abbrev pub IsOffset : ℕ → Type 0
 IsOffset offset = offset < 2 ^ 16
 
--- number_of_locals and number_of_stack_items fit two bytes each
+-- number_of_locals and number_of_stack_items fit two bytes each (JVMS 4.7.4, full_frame)
 pub record HasShortLists (frame : Frame) : Type 0 where
   pub locals : length frame.locals < 2 ^ 16
   pub stack : length frame.stack < 2 ^ 16
