@@ -1,4 +1,4 @@
--- Which attributes of a class are read, and what stands in them (JVMS 4.1).
+-- Which attributes of a class are read, and what stands in them (JVMS 4.1; only the proof of read_class needs it).
 use Rattle.std.specs.Prelude.{ℕ, true, List, codes, Option, Some, None, if◌then◌else◌}
 use Rattle.jv_base.specs.Names.{is_text}
 use Rattle.format_reading.specs.Reader.{Reader, give}
@@ -9,7 +9,7 @@ use Rattle.class_model.specs.ReadingClass.{ClassSeen, source_seen}
 use Rattle.class_read.specs.declared.class_attributes.ClassAttribute.{ClassAttribute}
 use Rattle.class_read.specs.declared.class_attributes.ClassAttribute.TheVariants as known
 
--- the attribute of a name, if it is read
+-- the attribute of a name, if it is read (JVMS 4.7, table 4.7-C)
 abbrev pub class_attribute : List ℕ → Option ClassAttribute
 class_attribute name =
     if is_text name (codes "SourceFile") then Some known.SourceFile

@@ -1,4 +1,4 @@
--- What stands behind the instructions of a Code (JVMS 4.7.3).
+-- What stands behind the instructions of a Code (JVMS 4.7.3; only the proof of read_class needs it).
 use Rattle.std.specs.Prelude.{ℕ, Bool, List, codes, Option, Some, None, if◌then◌else◌}
 use Rattle.jv_base.specs.Names.{is_text}
 use Rattle.format_reading.specs.Reader.{Reader, give, ◌>>=◌}

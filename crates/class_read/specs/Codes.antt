@@ -1,4 +1,4 @@
--- A Code, read part by part (JVMS 4.7.3).
+-- A Code, read part by part (JVMS 4.7.3; only the proof of read_class needs it).
 use Rattle.std.specs.Prelude.{ℕ, List, Some, None}
 use Rattle.format_reading.specs.Reader.{Reader, u2, u4, item, give, ◌>>=◌}
 use Rattle.class_model.specs.declared.pool.Entry.{Entry}

@@ -1,4 +1,4 @@
--- Parts of what is read of a constant pool (JVMS 4.4).
+-- Parts of what is read of a constant pool (JVMS 4.4; only the proof of read_class needs it).
 use Rattle.std.specs.Prelude.{ℕ, List, [], ◌∷◌, map, Option, Some, None, Result, Ok, Err}
 use Rattle.jv_base.specs.Decoding.{read_mutf8}
 use Rattle.format_reading.specs.Fault.{fault}

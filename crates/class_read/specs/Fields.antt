@@ -1,4 +1,4 @@
--- Which attributes of a field are read, and what stands in them (JVMS 4.5).
+-- Which attributes of a field are read, and what stands in them (JVMS 4.5; only the proof of read_class needs it).
 use Rattle.std.specs.Prelude.{ℕ, Bool, true, List, codes, Option, Some, None, if◌then◌else◌}
 use Rattle.jv_base.specs.Names.{is_text}
 use Rattle.jv_base.specs.declared.types.FieldType.{FieldType}

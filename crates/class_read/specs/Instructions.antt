@@ -1,4 +1,4 @@
--- The instructions of a Code, as they are decoded (JVMS 4.7.3, 4.9.1).
+-- The instructions of a Code, as they are decoded (JVMS 4.7.3, 4.9.1; only the proof of read_class needs it).
 use Rattle.std.specs.Prelude.{ℕ, ◌+◌, List, length, Result, Ok, Err}
 use Rattle.format_reading.specs.Fault.{fault}
 use Rattle.format_reading.specs.Reader.{Reader, give, here, told, part, ◌>>=◌}

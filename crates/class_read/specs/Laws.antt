@@ -1,4 +1,4 @@
--- The reading of class files and their grammar go together (JVMS 4.1).
+-- The reading of class files and their grammar go together (JVMS 4.1; that they do is the project's own law).
 use Rattle.std.specs.Prelude.{◌≡◌, ℕ, ◌<◌, List, slice_index, Ok}
 use Rattle.class_model.specs.declared.class.Class.{Class}
 use Rattle.class_model.specs.ClassFile.{File}

@@ -1,4 +1,4 @@
--- The line of each instruction (JVMS 4.7.12).
+-- The line of each instruction (JVMS 4.7.12; only the proof of read_class needs it).
 use Rattle.std.specs.Prelude.{ℕ, ◌+◌, List, [], ◌∷◌, fold, nat_eq, nat_lt, Option, Some, None, if◌then◌else◌}
 use Rattle.frame_types.specs.Numbers.{first_of_two}
 use Rattle.class_model.specs.declared.op.Op.{Op}

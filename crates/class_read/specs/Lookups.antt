@@ -1,4 +1,4 @@
--- Parts of what is judged of an entry of a constant pool (JVMS 4.4).
+-- Parts of what is judged of an entry of a constant pool (JVMS 4.4; only the proof of read_class needs it).
 use Rattle.std.specs.Prelude.{ℕ, List, Result, slice_get, option_and_then, is_some}
 use Rattle.jv_base.specs.Outcome.{◌>>=◌}
 use Rattle.format_reading.specs.declared.fault.FormatKind.{FormatKind}

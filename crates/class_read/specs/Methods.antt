@@ -1,4 +1,4 @@
--- Which attributes of a method are read, and what stands in them (JVMS 4.6).
+-- Which attributes of a method are read, and what stands in them (JVMS 4.6; only the proof of read_class needs it).
 use Rattle.std.specs.Prelude.{ℕ, Bool, true, List, codes, Option, Some, None, if◌then◌else◌}
 use Rattle.jv_base.specs.Names.{is_text, is_method_name}
 use Rattle.jv_base.specs.Types.{method_text}

@@ -1,4 +1,5 @@
--- What stands behind an instruction that is left out is passed over (JVMS 4.7.3).
+-- What stands behind an instruction that is left out is passed over
+-- (JVMS 4.7.3; only the proof of read_class needs it).
 use Rattle.std.specs.Prelude.{ℕ, zero, suc, ◌*◌}
 use Rattle.format_reading.specs.Reader.{Reader, u2, bytes, give, ◌>>=◌}
 use Rattle.class_model.specs.ReadingCodeAttribute.{skipped_attribute}

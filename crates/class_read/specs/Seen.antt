@@ -1,4 +1,4 @@
--- What answers that are lent show.
+-- What answers that are lent show (only the proof of read_class needs it).
 use Rattle.std.specs.Prelude.{Result, Ok, Err}
 use Rattle.std.specs.Borrow.{Bor}
 

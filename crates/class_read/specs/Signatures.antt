@@ -1,4 +1,4 @@
--- The signatures of the members before one.
+-- The signatures of the members before one (only the proof of read_class needs it).
 use Rattle.std.specs.Prelude.{List, [], ◌∷◌, ◌++◌}
 
 -- the last one first

@@ -1,4 +1,4 @@
--- The texts of a constant pool (JVMS 4.4.7).
+-- The texts of a constant pool (JVMS 4.4.7; only the proof of read_class needs it).
 use Rattle.std.specs.Prelude.{ℕ, Bool, List, Option, option_and_then}
 use Rattle.jv_base.specs.Names.{is_member_name, is_method_name}
 use Rattle.class_model.specs.declared.pool.Entry.{Entry}
