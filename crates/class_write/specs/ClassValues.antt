@@ -1,4 +1,5 @@
--- The numbers and texts of a class are those that its type in the code can hold.
+-- The numbers and texts of a class are those that its type in the code can hold
+-- (the project's own: the code's numbers and texts are bounded).
 use Rattle.std.specs.Prelude.{◌^◌, ◌<◌, IfSome}
 use Rattle.std.specs.Int.{w32, w64}
 use Rattle.std.specs.Int.RustNames.{FitsSigned}

@@ -1,4 +1,4 @@
--- An interface without members.
+-- An interface without members (the project's own: an example for tests).
 use Rattle.std.specs.Prelude.{[], codes, None, false}
 use Rattle.class_model.specs.declared.class.Class.{Class}
 use Rattle.class_model.specs.Flags.{flags_of}

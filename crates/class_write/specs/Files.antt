@@ -1,4 +1,4 @@
--- The parts of a ClassFile as they are written one behind the other (JVMS 4.1).
+-- The parts of a ClassFile as they are written one behind the other (JVMS 4.1; only the proof of write_class needs it).
 use Rattle.std.specs.Prelude.{ℕ, ◌+◌, List, ◌++◌, length, map}
 use Rattle.std.specs.Int.{w16, to_be_bytes}
 use Rattle.std.specs.List.{flat_map}

@@ -1,4 +1,4 @@
--- The limits of a pool, and the counts that a class to be written has.
+-- The limits of a pool, and the counts that a class to be written has (only the proof of write_class needs it).
 use Rattle.std.specs.Prelude.{◌<◌, ◌+◌, List, length, IfSome, Option, Result}
 use Rattle.std.specs.List.{All}
 use Rattle.jv_base.specs.Outcome.{◌>>=◌}

@@ -1,4 +1,5 @@
--- Codes with the places of their instructions, and what the writing of a code rests on (JVMS 4.7.3).
+-- Codes with the places of their instructions, and what the writing of a code rests on
+-- (JVMS 4.7.3; only the proof of write_class needs it).
 use Rattle.std.specs.Prelude.{◌<◌, List, length, map, Option, Some, None, IfSome, Result, Ok}
 use Rattle.std.specs.List.{AllByRecursion}
 use Rattle.jv_base.specs.Outcome.{◌>>=◌}

@@ -1,4 +1,4 @@
--- The constants that the pushes of one method load.
+-- The constants that the pushes of one method load (only the proof of write_class needs it).
 use Rattle.std.specs.Prelude.{List, [], Option, Some, None}
 use Rattle.std.specs.List.{flat_map}
 use Rattle.class_model.specs.declared.constant.PoolConstant.{PoolConstant}

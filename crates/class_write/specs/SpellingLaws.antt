@@ -1,4 +1,4 @@
--- What a class is written as spells it, and is read as it (JVMS 4.1).
+-- What a class is written as spells it, and is read as it (JVMS 4.1; that it does is the project's own law).
 use Rattle.std.specs.Prelude.{◌≡◌, ℕ, List, None, Ok}
 use Rattle.class_model.specs.declared.class.Class.{Class}
 use Rattle.class_model.specs.ClassFile.{File}

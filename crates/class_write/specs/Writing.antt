@@ -1,4 +1,4 @@
--- What the writing of attributes and methods rests on, and what it leaves.
+-- What the writing of attributes and methods rests on, and what it leaves (only the proof of write_class needs it).
 use Rattle.std.specs.Prelude.{◌≡◌, ℕ, ◌+◌, ◌^◌, ◌<◌, Bool, List, [], ◌++◌, length, map, None, IfSome, Result, Ok, Err, if◌then◌else◌}
 use Rattle.std.specs.Int.{w16, w32, to_be_bytes}
 use Rattle.std.specs.List.{flat_map}
