@@ -1,4 +1,4 @@
--- The least closed set of a system. A set is a test of items.
+-- The least closed set of a system (the project's own: what a shrinker keeps is such a set). A set is a test of items.
 use Rattle.std.specs.Prelude.{◌≡◌, ℕ, Bool, false, IsTrue, List, [], slice_index_or, length}
 use Rattle.std.specs.List.{All}
 use Rattle.mark_core.specs.declared.system.System.{System}

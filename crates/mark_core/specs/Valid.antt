@@ -1,4 +1,4 @@
--- Which systems are valid.
+-- Which systems are valid (the project's own: each number of a system names an item).
 use Rattle.std.specs.Prelude.{◌≡◌, ℕ, ◌<◌, length}
 use Rattle.std.specs.List.{All}
 use Rattle.mark_core.specs.declared.system.System.{System}

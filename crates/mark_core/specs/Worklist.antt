@@ -1,4 +1,4 @@
--- The state of the worklist: which items are marked, and which of these wait.
+-- The state of the worklist: which items are marked, and which of these wait (only the proof of plain_marks needs it).
 use Rattle.std.specs.Prelude.{◌≡◌, ◌⊎◌, ℕ, ◌+◌, ◌<◌, cond, IsTrue, length}
 use Rattle.std.specs.List.{All, Contains, sum_by}
 use Rattle.mark_core.specs.declared.system.System.{System}
