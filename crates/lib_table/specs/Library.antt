@@ -1,13 +1,14 @@
--- The classes of the Java library that a program may use, and their members, by name and descriptor (JVMS 4.2, 4.3). All are
--- public, no member is final, and the methods of an interface are abstract. Classes that a JDK has between these are left out, as
--- above PrintStream; so are the classes and members that stand nowhere here. A class stands behind its supertypes.
+-- The classes of the Java library that a program may use, and their members, by name and descriptor (JVMS 4.2, 4.3;
+-- which ones is the project's own, of those of the Java SE 8 API). All are public, no member is final, and the methods
+-- of an interface are abstract. Classes that a JDK has between these are left out, as above PrintStream; so are the
+-- classes and members that stand nowhere here. A class stands behind its supertypes.
 use Rattle.std.specs.Prelude.{ℕ, Bool, true, false, List, [], ◌∷◌, Option, Some, None, codes}
 use Rattle.lib_table.specs.declared.class.LibKind.{LibKind}
 use Rattle.lib_table.specs.declared.class.LibKind.TheVariants.{Interface, Final, Open}
 use Rattle.lib_table.specs.declared.member.Role.{Role}
 use Rattle.lib_table.specs.declared.member.Role.TheVariants.{Callable, KnownOnly, NoOverride}
 
--- a field or a method
+-- a field or a method (JVMS 4.5, 4.6)
 pub record LibraryMember : Type 0 where
   pub name : List ℕ
   pub descriptor : List ℕ
@@ -23,6 +24,7 @@ pub record LibraryClass : Type 0 where
   pub interfaces : List (List ℕ)
   pub members : List LibraryMember
 
+-- a class or an interface by its parts (JVMS 4.1)
 abbrev pub class : List ℕ → LibKind → Option (List ℕ) → List (List ℕ) → List LibraryMember → LibraryClass
 class name kind super_name interfaces members =
     record {
@@ -33,23 +35,27 @@ class name kind super_name interfaces members =
       members = members;
     }
 
+-- a method that isn't static (JVMS 4.6)
 abbrev pub method : Role → List ℕ → List ℕ → LibraryMember
 method role name descriptor = record { name = name; descriptor = descriptor; is_method = true; is_static = false; role = role }
 
+-- an instance initialisation method, which a program may call (JVMS 2.9)
 abbrev pub constructor : List ℕ → LibraryMember
 constructor descriptor = method Callable (codes "<init>") descriptor
 
+-- a static method, which a program may call (JVMS 4.6)
 abbrev pub static_method : List ℕ → List ℕ → LibraryMember
 static_method name descriptor = record { name = name; descriptor = descriptor; is_method = true; is_static = true; role = Callable }
 
+-- a static field, which a program may name (JVMS 4.5)
 abbrev pub static_field : List ℕ → List ℕ → LibraryMember
 static_field name descriptor = record { name = name; descriptor = descriptor; is_method = false; is_static = true; role = Callable }
 
--- of an exception that is made without a message, or with one
+-- of an exception that is made without a message, or with one (JVMS 2.9)
 abbrev pub two_constructors : List LibraryMember
 two_constructors = constructor (codes "()V") ∷ constructor (codes "(Ljava/lang/String;)V") ∷ []
 
--- the same, and with a message and a cause
+-- the same, and with a message and a cause (JVMS 2.9)
 abbrev pub three_constructors : List LibraryMember
 three_constructors =
     constructor (codes "()V")
@@ -57,7 +63,7 @@ three_constructors =
     ∷ constructor (codes "(Ljava/lang/String;Ljava/lang/Throwable;)V")
     ∷ []
 
--- the classes that others extend or implement
+-- the classes that others extend or implement (JVMS 4.2.1)
 abbrev pub object : List ℕ
 object = codes "java/lang/Object"
 
@@ -91,7 +97,7 @@ linkage_error = codes "java/lang/LinkageError"
 abbrev pub incompatible_change : List ℕ
 incompatible_change = codes "java/lang/IncompatibleClassChangeError"
 
--- every class, its members by their number
+-- every class, its members by their number (the project's own: what a program may use)
 unfoldable pub library : List LibraryClass
 library =
     class object Open None [] (

@@ -1,4 +1,5 @@
--- What the calls answer, by the table. A class is told by its number in the table, a member by its number in its class.
+-- What the calls answer, by the table (the project's own: what is asked of the library). A class is told by its number
+-- in the table, a member by its number in its class.
 use Rattle.std.specs.Prelude.{ℕ, Bool, false, ◌&&◌, List, [], Option, Some, None, slice_index_or, codes, map}
 use Rattle.std.specs.Bool.{beq}
 use Rattle.std.specs.List.{position, find, filter, filter_map, enumerate_from, list_any}
@@ -8,7 +9,7 @@ use Rattle.lib_table.specs.declared.class.LibKind.TheVariants.{Open}
 use Rattle.lib_table.specs.declared.member.LibMember.{LibMember}
 use Rattle.lib_table.specs.Library.{LibraryMember, LibraryClass, class, library}
 
--- the number of the class with a name
+-- the number of the class with a name (JVMS 4.2.1)
 abbrev pub class_named : List ℕ → Option ℕ
 class_named name = position (λ c. is_text c.name name) library
 
@@ -32,7 +33,7 @@ is_member name descriptor m = is_text m.name name && is_text m.descriptor descri
 abbrev pub member_told : ℕ × LibraryMember → LibMember
 member_told (at, m) = record { role = m.role; is_method = m.is_method; is_static = m.is_static; is_init = is_text m.name (codes "<init>"); at = at }
 
--- the member with this name and this descriptor
+-- the member with this name and this descriptor (JVMS 4.5, 4.6)
 abbrev pub member_named : List LibraryMember → List ℕ → List ℕ → Option LibMember
 member_named ms name descriptor = option_map member_told (find (λ p. is_member name descriptor p.1) (enumerate_from 0 ms))
 

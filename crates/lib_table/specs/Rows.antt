@@ -1,10 +1,11 @@
--- What the rows of the code's table tell.
+-- What the rows of the code's table tell (only the proofs of the calls need it).
 use Rattle.std.specs.Prelude.{ℕ, List, Option, Some, None, map}
 use Rattle.std.specs.Borrow.{Bor}
 use Rattle.lib_table.specs.declared.table.ClassRow.{ClassRow}
 use Rattle.lib_table.specs.declared.table.MemberRow.{MemberRow}
 use Rattle.lib_table.specs.Library.{LibraryMember, LibraryClass}
 
+-- the member that a row tells (only the proofs of the calls need it)
 abbrev pub told_member : MemberRow → LibraryMember
 told_member row =
     record {
@@ -15,10 +16,12 @@ told_member row =
       role = row.role;
     }
 
+-- the name, where there is one (only the proofs of the calls need it)
 abbrev pub told_name : Option (Bor (List ℕ)) → Option (List ℕ)
 told_name None = None
 told_name (Some name) = Some name.now
 
+-- the class that a row tells (only the proofs of the calls need it)
 abbrev pub told_class : ClassRow → LibraryClass
 told_class row =
     record {
