@@ -10,6 +10,7 @@ use Rattle.class_model.specs.declared.class.Class.{Class}
 abbrev pub without_line : Ins → Ins
 without_line i = record i { line = None }
 
+-- a code without LineNumberTable (JVMS 4.7.12)
 abbrev pub without_lines : Code → Code
 without_lines code = record code { ins = map without_line code.ins }
 

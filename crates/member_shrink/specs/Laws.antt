@@ -1,4 +1,4 @@
--- What is left of classes that can be written can be written too (JVMS 4.1).
+-- What is left of classes that can be written can be written too (JVMS 4.1; that it can is the project's own law).
 use Rattle.std.specs.Prelude.{Bool, List}
 use Rattle.std.specs.List.{AllByRecursion}
 use Rattle.class_model.specs.declared.class.Class.{Class}
