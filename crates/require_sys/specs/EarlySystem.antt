@@ -1,5 +1,6 @@
 -- What has to be kept where only static methods are removed, as a system of requirements on the items of a set of classes: everything but
--- the static methods is kept in any case, and a static method where it is asked for or where a method that is kept calls it.
+-- the static methods is kept in any case, and a static method where it is asked for or where a method that is kept
+-- calls it (the project's own: only static methods are removed so far).
 use Rattle.std.specs.Prelude.{ℕ, ◌+◌, Bool, true, not, ◌||◌, List, [], ◌∷◌, ◌++◌, length, map, take, replicate, Option, Some, None, Result, Ok, Err, if◌then◌else◌}
 use Rattle.std.specs.List.{enumerate_from, filter_map, flat_map}
 use Rattle.std.specs.Option.{option_and_then}
@@ -32,6 +33,7 @@ abbrev pub item_in : List Class → ClassId → ℕ → Option ℕ
 item_in classes (Prog n) index = Some (class_item classes n + 1 + index)
 item_in classes (Lib id) index = None
 
+-- the item of a member of the program (the project's own: requirements are on items)
 abbrev pub item_of : List Class → MemberAt → Option ℕ
 item_of classes m = item_in classes m.class m.index
 
@@ -55,6 +57,8 @@ abbrev pub asked_item : List Class → AskedMethod → Option ℕ
 asked_item classes a =
     option_and_then (item_of classes) (option_and_then (declared_in classes (a.name, a.descriptor)) (class_named classes a.class))
 
+-- what is kept in any case, and the methods that are asked for
+-- (the project's own: only static methods are removed so far)
 abbrev pub seeds_of : List Class → List AskedMethod → List ℕ
 seeds_of classes asked = places_of_true 0 (flat_map are_kept_anyway classes) ++ filter_map (asked_item classes) asked
 
@@ -70,6 +74,7 @@ unfoldable pub called_item : List Class → ℕ → Op → Option ℕ
 called_item classes n (op.InvokeStatic r) = static_item classes (resolved_method classes (Prog n) r)
 called_item classes n _ = None
 
+-- the instructions of a code, where there is one (JVMS 4.7.3)
 abbrev pub instructions_of : Option Code → List Ins
 instructions_of None = []
 instructions_of (Some code) = code.ins
@@ -82,11 +87,13 @@ method_needs classes n m = filter_map (λ (i : Ins). called_item classes n i.op)
 abbrev pub class_needs : List Class → ℕ × Class → List (List ℕ)
 class_needs classes (n, c) = replicate (1 + length c.fields) [] ++ map (method_needs classes n) c.methods
 
+-- what each item needs, in the order of the items (the project's own: only static methods are removed so far)
 abbrev pub needs_of : List Class → List (List ℕ)
 needs_of classes = flat_map (class_needs classes) (enumerate_from 0 classes)
 
 -- ---- the system
 
+-- the system of a set and the methods that are asked for (the project's own: only static methods are removed so far)
 abbrev pub system_of : List Class → List AskedMethod → System
 system_of classes asked = record {
   n = item_count classes;

@@ -1,4 +1,4 @@
--- A table of the items of classes.
+-- A table of the items of classes (only the proof of system_of needs it).
 use Rattle.std.specs.Prelude.{◌≡◌, ◌≤◌, ◌<◌, ℕ, ◌+◌, List, length, slice_index_or}
 use Rattle.std.specs.List.{All}
 use Rattle.class_model.specs.declared.class.Class.{Class}
