@@ -1,8 +1,9 @@
--- The names of the rules of class files.
+-- The names of the rules of class files (the project's own: what the command says).
 use Rattle.std.specs.Prelude.{ℕ, List, codes}
 use Rattle.format_reading.specs.declared.fault.FormatKind.{FormatKind}
 use Rattle.format_reading.specs.declared.fault.FormatKind.TheVariants as bad
 
+-- the word for a kind of fault (the project's own: what the command says)
 abbrev pub format_name : FormatKind → List ℕ
 format_name bad.Cut = codes "Cut"
 format_name bad.BadMagic = codes "BadMagic"
