@@ -1,4 +1,4 @@
--- Which class files are taken as a set, and why others aren't.
+-- Which class files are taken as a set, and why others aren't (the project's own: which files the command takes).
 use Rattle.std.specs.Prelude.{◌≡◌, ◌⊎◌, ℕ, List, ◌∷◌, ◌++◌, slice_get, Option, Some, None, Result, Ok, Err}
 use Rattle.std.specs.List.{AllByRecursion, AllZip}
 use Rattle.jv_base.specs.External.{dotted}
@@ -34,7 +34,7 @@ Spells f named = (named.path ≡ f.path) × File f.bytes named.class
 abbrev pub AreRead : List FileAt → List NamedClass → Type 0
 AreRead files named = AllZip Spells files named
 
--- the bytes of a file spell some class
+-- the bytes of a file spell some class (JVMS 4.1)
 abbrev pub IsClassFile : FileAt → Type 0
 IsClassFile f = (class : Class) × File f.bytes class
 

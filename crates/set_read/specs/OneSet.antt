@@ -1,4 +1,5 @@
--- The same files are never taken as two sets, nor refused for two faults, nor both.
+-- The same files are never taken as two sets, nor refused for two faults, nor both
+-- (the project's own: the answer is the only one).
 use Rattle.std.specs.Prelude.{◌≡◌, List}
 use Rattle.tree_io.specs.declared.file_at.FileAt.{FileAt}
 use Rattle.class_model.specs.declared.class.Class.{Class}

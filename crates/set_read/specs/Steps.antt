@@ -1,4 +1,4 @@
--- What the steps of reading a set give.
+-- What the steps of reading a set give (only the proof of read_set needs it).
 use Rattle.std.specs.Prelude.{◌≡◌, List, Result, Ok, Err}
 use Rattle.jv_base.specs.declared.outcome.Or.{Or}
 use Rattle.jv_base.specs.declared.outcome.Or.TheVariants as or
