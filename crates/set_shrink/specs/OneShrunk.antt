@@ -1,4 +1,5 @@
--- Of the same set, for what is asked, one thing at most is written, or one limit passed, and never both.
+-- Of the same set, for what is asked, one thing at most is written, or one limit passed, and never both
+-- (the project's own: the answer is the only one).
 use Rattle.std.specs.Prelude.{◌≡◌, ℕ, List}
 use Rattle.class_model.specs.declared.class.Class.{Class}
 use Rattle.class_model.specs.declared.limit.WriteLimit.{WriteLimit}

@@ -25,7 +25,7 @@ pub record IsKept (classes : List Class) (asked : List AskedMethod) (kept : List
 
 -- ---- files
 
--- the file of a class below a directory
+-- the file of a class below a directory (JLS 7.2.1)
 abbrev pub path_of : List ℕ → Class → List ℕ
 path_of directory c = directory ++ codes "/" ++ c.name ++ codes ".class"
 
@@ -33,10 +33,11 @@ path_of directory c = directory ++ codes "/" ++ c.name ++ codes ".class"
 abbrev pub IsFileOf : List ℕ → Class → FileAt → Type 0
 IsFileOf directory c f = (f.path ≡ path_of directory c) × (class_written c ≡ Ok f.bytes)
 
+-- the files of classes, in their order (JVMS 4)
 abbrev pub AreFilesOf : List ℕ → List Class → List FileAt → Type 0
 AreFilesOf directory classes files = AllZip (IsFileOf directory) classes files
 
--- no limit of the format is passed
+-- no limit of the format is passed (JVMS 4.11)
 abbrev pub Fits : Class → Type 0
 Fits c = (bytes : List ℕ) × (class_written c ≡ Ok bytes)
 
@@ -49,8 +50,9 @@ pub record PassLimit (classes : List Class) (limit : WriteLimit) : Type 0 where
   pub fit : AllByRecursion Fits before
   pub passes : class_written class ≡ Err limit
 
--- ---- counts
+-- ---- counts (the project's own: the summary tells them)
 
+-- how many classes, fields and methods there are
 abbrev pub counts_of : List Class → Counts
 counts_of classes = record {
   classes = length classes;
@@ -58,7 +60,7 @@ counts_of classes = record {
   methods = sum_by (λ (c : Class). length c.methods) classes;
 }
 
--- ---- the whole
+-- ---- the whole (the project's own: what the command promises)
 
 -- the files of what is kept, and the counts of all and of what is kept
 pub record IsShrunk (classes : List Class) (asked : List AskedMethod) (directory : List ℕ) (set : ShrunkSet) : Type 0 where
@@ -72,6 +74,7 @@ pub record IsShrunk (classes : List Class) (asked : List AskedMethod) (directory
 abbrev pub PassesLimit : List Class → List AskedMethod → WriteLimit → Type 0
 PassesLimit classes asked limit = (kept : List Class) × IsKept classes asked kept × PassLimit kept limit
 
+-- what is written of a set, or the first limit that it passes; want of memory is free
 abbrev pub Shrinks : Result ShrunkSet (Or WriteLimit) → List Class → List AskedMethod → List ℕ → Type 0
 Shrinks (Ok set) classes asked directory = IsShrunk classes asked directory set
 Shrinks (Err (Fault limit)) classes asked directory = PassesLimit classes asked limit
