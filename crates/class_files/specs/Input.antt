@@ -1,4 +1,5 @@
--- The class files below a directory of told files, within limits on their number and length.
+-- The class files below a directory of told files, within limits on their number and length
+-- (the project's own: limits on what is read).
 use Rattle.std.specs.Prelude.{◌≡◌, ℕ, nat_eq, nat_lt, Bool, List, [], ◌++◌, length, map, codes, Result, Ok, Err, if◌then◌else◌}
 use Rattle.std.specs.FinMap.{get, keys}
 use Rattle.std.specs.List.{ends_with, filter, sum_by}
@@ -25,6 +26,7 @@ path_in directory path = front_of directory ++ path
 abbrev pub file_in : Files → List ℕ → List ℕ → FileAt
 file_in files directory path = record { path = path; bytes = option_map_or (λ bytes. bytes) (get files (path_in directory path)) [] }
 
+-- the told files at paths below the directory
 abbrev pub files_in : Files → List ℕ → List (List ℕ) → List FileAt
 files_in files directory paths = map (file_in files directory) paths
 
@@ -53,7 +55,7 @@ FindsDue (Err TooManyClasses) due = due ≡ Err TooManyClasses
 FindsDue (Err TooLong) due = due ≡ Err TooLong
 FindsDue (Err (Absent path)) due = due ≡ Err (Absent path)
 
--- ---- the steps
+-- ---- the steps (only the proof of read_files needs it)
 
 -- the paths of the class files, or the first limit on numbers that they pass
 abbrev pub paths_due : Files → List ℕ → Result (List (List ℕ)) InputFault

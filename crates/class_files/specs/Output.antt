@@ -1,8 +1,9 @@
--- Files put one after the other into told files.
+-- Files put one after the other into told files (the project's own: what a stopped command leaves).
 use Rattle.std.specs.Prelude.{◌≡◌, ℕ, List, [], ◌∷◌, take, slice_get, Option, Some}
 use Rattle.tree_io.specs.Files.{Files, put_at, MayChangeAt}
 use Rattle.tree_io.specs.declared.file_at.FileAt.{FileAt}
 
+-- files put one after the other, each in place of any before at its path
 abbrev pub put_all : Option Files → List FileAt → Option Files
 put_all told [] = told
 put_all told (f ∷ fs) = put_all (put_at told f.path f.bytes) fs
