@@ -1,4 +1,4 @@
--- How a run ends: its status, what becomes of the files, what is said.
+-- How a run ends: its status, what becomes of the files, what is said (the project's own: what the command promises).
 use Rattle.std.specs.Prelude.{◌≡◌, ◌⊎◌, ◌≤◌, ℕ, List, Option, Some, None, Ok, Err, IfSome, codes}
 use Rattle.tree_io.specs.Count.{Rose}
 use Rattle.tree_io.specs.Files.{Files}
@@ -18,6 +18,7 @@ pub record Outside : Type 0 where
   pub text : Option (List ℕ)
   pub text_faults : ℕ
 
+-- told files and told text, with how often each device has failed
 abbrev pub outside : Option Files → ℕ → Option (List ℕ) → ℕ → Outside
 outside files file_faults text text_faults = record { files = files; file_faults = file_faults; text = text; text_faults = text_faults }
 
@@ -28,6 +29,7 @@ pub data Ending : Type 0 where
   summary_failed : Plan → Ending
   summary_without_memory : Plan → Ending
 
+-- the status of an ending
 abbrev pub status_of : Ending → ℕ
 status_of (done plan) = 0
 status_of (stopped stop) = refusal.status_of stop
@@ -58,6 +60,7 @@ StopsSo (Refused refusal) files named old new = IsDue files named (Err refusal) 
 StopsSo Device files named old new = (new ≡ old) ⊎ ((plan : Plan) × IsDue files named (Ok plan) × StopsWithin plan.files old new)
 StopsSo OutOfMemory files named old new = (new ≡ old) ⊎ ((plan : Plan) × IsDue files named (Ok plan) × StopsBetween plan.files old new)
 
+-- what becomes of the files where a command ends so
 abbrev pub EndsSo : Ending → Files → CommandFiles → Option Files → Option Files → Type 0
 EndsSo (done plan) files named old new = Writes plan files named old new
 EndsSo (stopped stop) files named old new = StopsSo stop files named old new
@@ -79,6 +82,7 @@ pub record FailsSo (summary : List ℕ) (old new : Option (List ℕ)) (before af
   pub line : Puts (codes "error 7 device\n") text new faults after
   pub later : faults ≤ after
 
+-- what is said where a command ends so
 abbrev pub SaidSo : Ending → List ℕ → Option (List ℕ) → Option (List ℕ) → ℕ → ℕ → Type 0
 SaidSo (done plan) config old new before after = new ≡ followed_by old plan.summary
 SaidSo (stopped stop) config old new before after = Puts (refusal.line_of config stop) old new before after

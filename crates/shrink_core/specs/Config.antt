@@ -22,15 +22,15 @@ Lacks byte text = AllByRecursion (λ b. b ≢ byte) text
 abbrev pub is_no_blank : ℕ → Bool
 is_no_blank b = not (b == 32) && not (b == 9)
 
--- a word in a line: it has no blank and no end of a line
+-- a word in a line: it has no blank and no end of a line (the project's own: names of files have no blanks so far)
 abbrev pub IsWord : List ℕ → Type 0
 IsWord word = IsTrue (list_all is_no_blank word) × Lacks 10 word
 
--- the word names this directory
+-- the word names this directory (the project's own: one form of each path)
 abbrev pub NamesDirectory : List ℕ → List ℕ → Type 0
 NamesDirectory word directory = IsWord word × (directory_in word ≡ Some directory)
 
--- the word is the path of a file
+-- the word is the path of a file (the project's own: one form of each path)
 abbrev pub NamesFile : List ℕ → Type 0
 NamesFile word = IsWord word × IsTrue (is_path word)
 

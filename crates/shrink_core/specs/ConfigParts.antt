@@ -1,4 +1,4 @@
--- The parts of a config's text.
+-- The parts of a config's text (only the proof of read_config needs it).
 use Rattle.std.specs.Prelude.{◌≡◌, ℕ, List, ◌∷◌, ◌++◌, IsTrue, codes}
 use Rattle.jv_base.specs.Names.{is_member_name}
 use Rattle.shrink_core.specs.Config.{Lacks, lines_text, ints_text}

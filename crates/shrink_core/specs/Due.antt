@@ -1,4 +1,4 @@
--- What a command is to do on told files.
+-- What a command is to do on told files (the project's own: what the command promises).
 use Rattle.std.specs.Prelude.{◌≡◌, ◌≤◌, ◌<◌, ℕ, List, [], length, map, Some, None, Result, Ok, Err}
 use Rattle.std.specs.FinMap.{get, keys}
 use Rattle.tree_io.specs.Below.{paths_below}

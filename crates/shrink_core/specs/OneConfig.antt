@@ -1,4 +1,4 @@
--- A text is one config at most.
+-- A text is one config at most (the project's own: a text is read in one way).
 use Rattle.std.specs.Prelude.{◌≡◌, ℕ, List}
 use Rattle.shrink_core.specs.Config.{IsConfig}
 use Rattle.shrink_core.specs.declared.config.Config.{Config}

@@ -1,4 +1,4 @@
--- One thing at most is due of told files: one plan, or one refusal.
+-- One thing at most is due of told files: one plan, or one refusal (the project's own: the answer is the only one).
 use Rattle.std.specs.Prelude.{◌≡◌, Result}
 use Rattle.tree_io.specs.Files.{Files}
 use Rattle.shrink_core.specs.Due.{IsDue}

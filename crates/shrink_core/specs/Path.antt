@@ -1,4 +1,4 @@
--- Paths: an optional `/`, and then segments joined by `/`.
+-- Paths: an optional `/`, and then segments joined by `/` (the project's own: one form of each path).
 use Rattle.std.specs.Prelude.{◌≡◌, ℕ, ◌+◌, take, drop, Bool, not, ◌&&◌, ◌==◌, List, [], ◌∷◌, length, Option, Some, None, if◌then◌else◌, codes}
 use Rattle.std.specs.List.{list_all, slice_split}
 use Rattle.jv_base.specs.Names.{is_text}
@@ -7,6 +7,7 @@ use Rattle.jv_base.specs.Names.{is_text}
 abbrev pub is_segment : List ℕ → Bool
 is_segment segment = not (length segment == 0) && not (is_text segment (codes ".")) && not (is_text segment (codes ".."))
 
+-- the byte is a `/`
 abbrev pub is_slash : ℕ → Bool
 is_slash b = b == 47
 
@@ -14,7 +15,7 @@ is_slash b = b == 47
 unfoldable pub are_segments : List ℕ → Bool
 are_segments text = list_all is_segment (slice_split is_slash text)
 
--- the first of several segments ends there
+-- the first of several segments ends there (only the proof of is_path needs it)
 abbrev pub EndsFirst : List ℕ → ℕ → Type 0
 EndsFirst text at = are_segments text ≡ (is_segment (take at text) && are_segments (drop (at + 1) text))
 
@@ -23,6 +24,7 @@ abbrev pub without_root : List ℕ → List ℕ
 without_root [] = []
 without_root (b ∷ rest) = if b == 47 then rest else b ∷ rest
 
+-- the text is a path
 abbrev pub is_path : List ℕ → Bool
 is_path text = are_segments (without_root text)
 

@@ -1,4 +1,4 @@
--- The stops of a command, each with its status and its line.
+-- The stops of a command, each with its status and its line (the project's own: what the command says).
 use Rattle.std.specs.Prelude.{ℕ, List, ◌++◌, Option, Some, None, codes}
 use Rattle.std.specs.Fmt.{decimal}
 use Rattle.format_reading.specs.declared.fault.FormatFault.{FormatFault}
@@ -16,6 +16,7 @@ use Rattle.shrink_core.specs.declared.refusal.Stop.TheVariants.{Refused, Device,
 
 -- ---- quantities
 
+-- the word for a quantity
 abbrev pub quantity_name : Quantity → List ℕ
 quantity_name Config = codes "config"
 quantity_name Files = codes "files"
@@ -89,6 +90,7 @@ line_of config OutOfMemory = codes "error 10 memory\n"
 
 -- ---- statuses
 
+-- the status of a refusal
 abbrev pub refusal_status : Refusal → ℕ
 refusal_status NoConfig = 2
 refusal_status NotBuilt = 3
@@ -98,6 +100,7 @@ refusal_status (Format path fault) = 4
 refusal_status (Profile fault) = 5
 refusal_status (Limit quantity) = 6
 
+-- the status of a stop
 abbrev pub status_of : Stop → ℕ
 status_of (Refused refusal) = refusal_status refusal
 status_of Device = 7

@@ -1,4 +1,4 @@
--- What the steps of a command have found or said.
+-- What the steps of a command have found or said (only the proof of run needs it).
 use Rattle.std.specs.Prelude.{◌≡◌, ◌⊎◌, ℕ, List, Option, [], Result, Ok, Err}
 use Rattle.tree_io.specs.Files.{Files}
 use Rattle.tree_io.specs.Sink.{followed_by}

@@ -1,4 +1,4 @@
--- The summary of a shrink.
+-- The summary of a shrink (the project's own: what the command says).
 use Rattle.std.specs.Prelude.{ℕ, List, ◌++◌, codes}
 use Rattle.std.specs.Fmt.{decimal}
 use Rattle.set_shrink.specs.declared.counts.Counts.{Counts}
