@@ -1,4 +1,5 @@
--- Calls that are counted, of which those whose numbers are named fail.
+-- Calls that are counted, of which those whose numbers are named fail
+-- (the project's own: devices that fail can be tried).
 use Rattle.std.specs.Prelude.{ℕ, Bool, List, nat_eq, if◌then◌else◌, refl}
 use Rattle.std.specs.Coded.{Coded, code_by, coded×, coded_list, coded_ℕ}
 use Rattle.std.specs.List.{list_any}

@@ -1,4 +1,4 @@
--- Trees and sinks in memory.
+-- Trees and sinks in memory (the project's own: devices in memory, for trials).
 use Rattle.std.specs.Prelude.{◌≡◌, ◌/◌, ℕ, IsTrue, IsFalse, List, [], ◌∷◌, length, take, Result, Ok, Err, refl}
 use Rattle.std.specs.Coded.{Coded, code_by, coded×}
 use Rattle.std.specs.FinMap.{from_entries, insert, empty}

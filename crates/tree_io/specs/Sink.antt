@@ -1,4 +1,4 @@
--- What a sink has taken.
+-- What a sink has taken (the project's own: what is promised of output).
 use Rattle.std.specs.Prelude.{◌≡◌, ℕ, List, ◌++◌, take, Option}
 use Rattle.std.specs.Option.{option_map}
 

@@ -1,4 +1,4 @@
--- What the calls of a tree are to answer where its files are told.
+-- What the calls of a tree are to answer where its files are told (the project's own: what is promised of files).
 use Rattle.std.specs.Prelude.{◌≡◌, ℕ, List, length, Option, Some, None, Result, Ok, Err, nat_le, if◌then◌else◌}
 use Rattle.std.specs.FinMap.{keys}
 use Rattle.tree_io.specs.Below.{paths_below}
