@@ -1,4 +1,4 @@
--- What is said of the bytes of a class file.
+-- What is said of the bytes of a class file (the project's own: lines that other readers can be checked by).
 use Rattle.std.specs.Prelude.{ℕ, List, ◌++◌, codes, Option, Some, None, Result, Ok, Err}
 use Rattle.std.specs.Fmt.{decimal}
 use Rattle.format_reading.specs.declared.fault.FormatFault.{FormatFault}

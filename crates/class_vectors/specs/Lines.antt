@@ -1,4 +1,4 @@
--- Lines that are class files in hex.
+-- Lines that are class files in hex (the project's own: how files are given to the program).
 use Rattle.std.specs.Prelude.{ℕ, ◌-◌, List, [], ◌∷◌, drop, length, take, nat_lt, Option, Some, None, Result, Ok, Err, if◌then◌else◌}
 use Rattle.jv_base.specs.Names.{is_text}
 use Rattle.hex.specs.declared.error.FromHexError.{FromHexError}
