@@ -1,4 +1,4 @@
--- What is said of a set of class files.
+-- What is said of a set of class files (the project's own: lines that other checkers can be checked by).
 use Rattle.std.specs.Prelude.{◌≡◌, List, Ok, Err}
 use Rattle.jv_base.specs.declared.outcome.Or.TheVariants.{Fault}
 use Rattle.class_pool.specs.declared.fault.NamedClass.{NamedClass}
