@@ -1,5 +1,6 @@
--- Class files that javac made, some of them damaged, and what the definitions give for them: one file for each kind of fault, for
--- each kind of what is left out, and one that is read. They are written in hexadecimal digits.
+-- Class files that javac made, some of them damaged, and what the definitions give for them: one file for each kind of
+-- fault, for each kind of what is left out, and one that is read (the project's own: definitions are tried on files).
+-- They are written in hexadecimal digits.
 use Rattle.std.specs.Prelude.{◌≡◌, List, ℕ, ◌++◌, codes, Some, Ok}
 use Rattle.format_reading.specs.declared.fault.FormatKind.{FormatKind}
 use Rattle.format_reading.specs.declared.fault.FormatKind.TheVariants as bad
