@@ -1,4 +1,5 @@
--- The members of a program class by their names, numbered as the class has them: fields first, then methods (JVMS 4.5, 4.6).
+-- The members of a program class by their names, numbered as the class has them: fields first, then methods
+-- (JVMS 4.5, 4.6; only the proof of ClassSet needs it).
 use Rattle.std.specs.Prelude.{◌≡◌, ◌<◌, ℕ, zero, suc, ◌+◌, ◌-◌, Bool, List, [], length, nat_lt, Option, Some, None, slice_get, if◌then◌else◌}
 use Rattle.std.specs.Map.{lookup}
 use Rattle.std.specs.Option.{option_map_or}

@@ -1,4 +1,5 @@
--- What the numbers of a graph lead to, and words of bits that tell it. The graph is a list of needs for each number.
+-- What the numbers of a graph lead to, and words of bits that tell it (only the proof of ClassSet needs it). The graph
+-- is a list of needs for each number.
 use Rattle.std.specs.Prelude.{◌≡◌, ◌+◌, ◌-◌, ◌*◌, ◌/◌, ◌%◌, ◌^◌, ◌<◌, ◌≤◌, ◌↔◌, ℕ, nat_eq, bit_or, Bool, IsTrue, List, [], ◌∷◌, length, slice_index_or, if◌then◌else◌}
 use Rattle.std.specs.Int.{bit_at}
 use Rattle.std.specs.List.{All, sum_by}
@@ -40,6 +41,7 @@ IsSettled needs block words n = joined words block (slice_index_or words n 0) (n
 abbrev pub room_of : ℕ → ℕ
 room_of word = 18446744073709551615 - word
 
+-- how much all of the words can gain yet
 abbrev pub room : List ℕ → ℕ
 room words = sum_by room_of words
 
@@ -57,5 +59,6 @@ IsBlock needs block words = (n j : ℕ) → n < length needs → j < 64 → (bit
 abbrev pub has : List (List ℕ) → ℕ → ℕ → Bool
 has blocks a b = nat_eq (bit_at (slice_index_or (slice_index_or blocks (b / 64) []) a 0) (b % 64)) 1
 
+-- for each number and each of the first count numbers, the bit tells whether the one leads to the other
 abbrev pub IsClosure : List (List ℕ) → ℕ → List (List ℕ) → Type 0
 IsClosure needs count blocks = (a b : ℕ) → a < length needs → b < count → IsTrue (has blocks a b) ↔ Leads needs a b

@@ -1,4 +1,4 @@
--- Lists of the superinterfaces that classes have themselves, while they are made.
+-- Lists of the superinterfaces that classes have themselves, while they are made (only the proof of build needs it).
 use Rattle.std.specs.Prelude.{◌≡◌, ◌+◌, ◌≤◌, Bool, true, false, List, [], length, slice_index_or}
 use Rattle.std.specs.List.{All}
 use Rattle.class_model.specs.declared.class.Class.{Class}

@@ -20,7 +20,7 @@ use Rattle.class_pool.specs.Hierarchy.{IsClass, is_interface_kind}
 use Rattle.class_pool.specs.Members.{declared_at}
 use Rattle.class_pool.specs.Walk.{same_class}
 
--- two members are one
+-- two members are one (the project's own: a member is its class and number)
 abbrev pub same_member : MemberAt → MemberAt → Bool
 same_member a b = same_class a.class b.class && a.index == b.index
 
@@ -28,28 +28,32 @@ same_member a b = same_class a.class b.class && a.index == b.index
 abbrev pub NameAndType : Type 0
 NameAndType = List ℕ × List ℕ
 
--- the member of this name and descriptor that a class declares
+-- the member of this name and descriptor that a class declares (JVMS 4.5, 4.6)
 abbrev pub declared_in : List Class → NameAndType → ClassId → Option MemberAt
 declared_in classes named c = option_map (λ n. record { class = c; index = n }) (declared_at classes c named.0 named.1)
 
--- those that these classes declare
+-- those that these classes declare (JVMS 4.5, 4.6)
 abbrev pub declared_by : List Class → NameAndType → List ClassId → List MemberAt
 declared_by classes named cs = filter_map (declared_in classes named) cs
 
 -- ---- what is told of a member
 
+-- name, descriptor and flags of a member, and whether it is a method (JVMS 4.5, 4.6)
 pub record MemberRow : Type 0 where
   pub named : NameAndType
   pub flags : ℕ
   pub is_method : Bool
 
+-- what is told of a field (JVMS 4.5)
 abbrev pub field_row : Field → MemberRow
 field_row f = record { named = (f.name, field_text f.ty); flags = f.flags.0; is_method = false }
 
+-- what is told of a method (JVMS 4.6)
 abbrev pub method_row : Method → MemberRow
 method_row m = record { named = (m.name, method_text m.ty); flags = m.flags.0; is_method = true }
 
 -- a member of the library is public and not final; a method of an interface is abstract
+-- (the project's own: what the table of the library says)
 abbrev pub library_row : LibKind → LibraryMember → MemberRow
 library_row kind m = record {
   named = (m.name, m.descriptor);
@@ -58,39 +62,48 @@ library_row kind m = record {
 }
 
 -- the members of a class in the order of their numbers: fields first, then methods
+-- (JVMS 4.5, 4.6; their order is the project's own)
 abbrev pub rows_in : List Class → ClassId → List MemberRow
 rows_in classes (Prog n) = option_map_or (λ c. map field_row c.fields ++ map method_row c.methods) (slice_get classes n) []
 rows_in classes (Lib id) = map (library_row (table.class_at id).kind) (table.class_at id).members
 
+-- what is told of a member, if it is there (JVMS 4.5, 4.6)
 abbrev pub row_at : List Class → MemberAt → Option MemberRow
 row_at classes m = slice_get (rows_in classes m.class) m.index
 
+-- the name and the descriptor of a member (JVMS 4.4.6)
 abbrev pub named_at : List Class → MemberAt → NameAndType
 named_at classes m = option_map_or (λ row. row.named) (row_at classes m) ([], [])
 
--- the member is there
+-- the member is there (the project's own: a member is its class and number)
 abbrev pub IsMember : List Class → MemberAt → Type 0
 IsMember classes m = IsClass classes m.class × m.index < length (rows_in classes m.class)
 
--- it has all of these flags
+-- it has all of these flags (JVMS 4.5, 4.6)
 abbrev pub has_flag : List Class → ℕ → MemberAt → Bool
 has_flag classes flag m = option_map_or (λ row. has flag row.flags) (row_at classes m) false
 
+-- declared public (JVMS 4.5, 4.6)
 abbrev pub is_public_member : List Class → MemberAt → Bool
 is_public_member classes m = has_flag classes acc_public m
 
+-- declared private (JVMS 4.5, 4.6)
 abbrev pub is_private_member : List Class → MemberAt → Bool
 is_private_member classes m = has_flag classes acc_private m
 
+-- declared protected (JVMS 4.5, 4.6)
 abbrev pub is_protected_member : List Class → MemberAt → Bool
 is_protected_member classes m = has_flag classes acc_protected m
 
+-- declared static (JVMS 4.5, 4.6)
 abbrev pub is_static_member : List Class → MemberAt → Bool
 is_static_member classes m = has_flag classes acc_static m
 
+-- declared final (JVMS 4.5, 4.6)
 abbrev pub is_final_member : List Class → MemberAt → Bool
 is_final_member classes m = has_flag classes acc_final m
 
+-- declared abstract (JVMS 4.6)
 abbrev pub is_abstract_member : List Class → MemberAt → Bool
 is_abstract_member classes m = has_flag classes acc_abstract m
 
@@ -98,10 +111,11 @@ is_abstract_member classes m = has_flag classes acc_abstract m
 abbrev pub is_instance_row : MemberRow → Bool
 is_instance_row row = row.is_method && not (is_static row.flags) && not (is_init row.named.0)
 
+-- the member is such a method (JVMS 2.9, 4.6)
 abbrev pub is_instance_method : List Class → MemberAt → Bool
 is_instance_method classes m = option_map_or is_instance_row (row_at classes m) false
 
--- how a program may use a member; one of its own it may name
+-- how a program may use a member; one of its own it may name (the project's own: what of the library may be used)
 abbrev pub role_at : MemberAt → Role
 role_at m = role_in m.class m.index where
   role_in : ClassId → ℕ → Role
@@ -110,7 +124,7 @@ role_at m = role_in m.class m.index where
 
 -- ---- packages
 
--- the name of a class
+-- the name of a class (JVMS 4.2.1)
 abbrev pub name_of : List Class → ClassId → List ℕ
 name_of classes (Prog n) = option_map_or (λ c. c.name) (slice_get classes n) []
 name_of classes (Lib id) = (table.class_at id).name

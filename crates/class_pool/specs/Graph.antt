@@ -1,4 +1,5 @@
--- The classes of the library and of a set as numbers, those of the library first, and their direct supertypes as a graph of these.
+-- The classes of the library and of a set as numbers, those of the library first, and their direct supertypes as a
+-- graph of these (only the proof of ClassSet needs it).
 use Rattle.std.specs.Prelude.{◌+◌, ◌-◌, ◌<◌, ◌↔◌, ℕ, nat_lt, IsTrue, List, ◌∷◌, ◌++◌, length, map, if◌then◌else◌}
 use Rattle.std.specs.List.{cons_option, range_with_len}
 use Rattle.class_model.specs.declared.class.Class.{Class}
@@ -10,6 +11,7 @@ use Rattle.class_pool.specs.Closure.{has}
 use Rattle.class_pool.specs.Hierarchy.{IsClass, classes_named}
 use Rattle.class_pool.specs.Supertypes.{IsProperSub}
 
+-- the number of a class
 abbrev pub number : ClassId → ℕ
 number (Prog n) = length library + n
 number (Lib id) = id
@@ -23,6 +25,7 @@ abbrev pub IsThere : ClassId → Type 0
 IsThere (Prog n) = Unit {0}
 IsThere (Lib id) = id < length library
 
+-- the numbers of the library's classes
 abbrev pub library_ids : List ℕ
 library_ids = range_with_len 0 (length library)
 
@@ -34,6 +37,7 @@ above_library id = cons_option (table.super_of id) (table.interfaces_of id)
 abbrev pub above_class : List Class → Class → List ℕ
 above_class classes c = map number (classes_named classes (c.super_name ∷ c.interfaces))
 
+-- for each class its direct supertypes, as numbers
 abbrev pub graph : List Class → List (List ℕ)
 graph classes = map above_library library_ids ++ map (above_class classes) classes
 

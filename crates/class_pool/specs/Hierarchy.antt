@@ -13,17 +13,18 @@ use Rattle.lib_table.specs.Lookups as table
 use Rattle.class_pool.specs.declared.id.ClassId.{ClassId}
 use Rattle.class_pool.specs.declared.id.ClassId.TheVariants.{Prog, Lib}
 
--- the id is one of the set or of the library
+-- the id is one of the set or of the library (the project's own: a class is told by its number)
 abbrev pub IsClass : List Class → ClassId → Type 0
 IsClass classes (Prog n) = n < length classes
 IsClass classes (Lib id) = id < length library
 
 -- a class of the set, where there is one, else a library class
+-- (the project's own: no program class has a library's name)
 abbrev pub or_found : Option ℕ → Option ClassId → Option ClassId
 or_found (Some n) other = Some (Prog n)
 or_found None other = other
 
--- the class of a name
+-- the class of a name (JVMS 5.3.5; that the set comes first is the project's own)
 abbrev pub class_named : List Class → List ℕ → Option ClassId
 class_named classes name = or_found (position (λ c. is_text name c.name) classes) (option_map Lib (table.class_named name))
 
@@ -36,7 +37,7 @@ abbrev pub superclass : List Class → ClassId → Option ClassId
 superclass classes (Prog n) = option_and_then (superclass_of classes) (slice_get classes n)
 superclass classes (Lib id) = option_map Lib (table.super_of id)
 
--- the classes among these names that are there
+-- the classes among these names that are there (JVMS 4.1)
 abbrev pub classes_named : List Class → List (List ℕ) → List ClassId
 classes_named classes names = filter_map (class_named classes) names
 
@@ -49,14 +50,17 @@ interfaces classes (Lib id) = filter_map (λ i. Some (Lib i)) (table.interfaces_
 abbrev pub kind_of : Class → LibKind
 kind_of c = if is_interface c.flags.0 then Interface else if has acc_final c.flags.0 then Final else Open
 
+-- the same of a class of the set or of the library (JVMS 4.1)
 abbrev pub kind_in : List Class → ClassId → LibKind
 kind_in classes (Prog n) = option_map_or kind_of (slice_get classes n) Open
 kind_in classes (Lib id) = (table.class_at id).kind
 
+-- an interface (JVMS 4.1)
 abbrev pub is_interface_kind : LibKind → Bool
 is_interface_kind Interface = true
 is_interface_kind _ = false
 
+-- a class that may have subclasses (JVMS 4.1)
 abbrev pub is_open_kind : LibKind → Bool
 is_open_kind Open = true
 is_open_kind _ = false

@@ -1,4 +1,5 @@
--- What the definitions of supertypes, resolution and selection give for a few classes, which are computed.
+-- What the definitions of supertypes, resolution and selection give for a few classes, which are computed
+-- (the project's own: definitions are tried on classes).
 use Rattle.std.specs.Prelude.{◌≡◌, ℕ, true, false, List, [], ◌∷◌, Option, Some, None, codes}
 use Rattle.jv_base.specs.declared.types.Base.TheVariants as base
 use Rattle.class_model.specs.Flags.{flags_of}
@@ -38,6 +39,7 @@ plain_method flags name = record {
   deprecated = false;
 }
 
+-- a class without attributes, by its parts
 abbrev pub plain_class : ℕ → List ℕ → List ℕ → List (List ℕ) → List Field → List Method → Class
 plain_class flags name super_name interfaces fields methods = record {
   flags = flags_of flags;
@@ -217,6 +219,7 @@ int name = (name, codes "I")
 
 -- ---- supertypes
 
+-- superclasses upwards; superinterfaces as they are met, and each once
 abbrev pub SupertypeRows : Type 0
 SupertypeRows =
     (superclasses_from the_set id_c ≡ id_c ∷ id_b ∷ id_a ∷ id_object ∷ [])
@@ -267,6 +270,7 @@ InterfaceMethodRows =
 
 -- ---- access
 
+-- a name with two packages, with one and with none
 abbrev pub PackageRows : Type 0
 PackageRows =
     (package_of (codes "p/q/X") ≡ codes "p/q")

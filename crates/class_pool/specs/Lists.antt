@@ -1,4 +1,4 @@
--- Lists of the superinterfaces that each class has itself.
+-- Lists of the superinterfaces that each class has itself (only the proof of ClassSet needs it).
 use Rattle.std.specs.Prelude.{◌≡◌, ◌+◌, ◌<◌, ◌≤◌, ℕ, List, [], ◌∷◌, length, Some, None, slice_index_or}
 use Rattle.std.specs.List.{All, flat_map}
 use Rattle.class_model.specs.declared.class.Class.{Class}

@@ -1,4 +1,4 @@
--- Classes that were met, each once, and marks that tell them by their numbers.
+-- Classes that were met, each once, and marks that tell them by their numbers (only the proof of ClassSet needs it).
 use Rattle.std.specs.Prelude.{◌≡◌, ◌<◌, ℕ, Bool, false, true, List, length, slice_index_or}
 use Rattle.std.specs.List.{All, list_any}
 use Rattle.class_pool.specs.declared.id.ClassId.{ClassId}

@@ -1,4 +1,5 @@
--- The direct supertypes of program classes that are in the set, as a system whose needs they are.
+-- The direct supertypes of program classes that are in the set, as a system whose needs they are
+-- (only the proof of build needs it).
 use Rattle.std.specs.Prelude.{◌≡◌, ◌<◌, ◌≤◌, ℕ, List, [], ◌∷◌, Option, Some, length, slice_get, slice_index_or}
 use Rattle.std.specs.List.{All, filter_map, position}
 use Rattle.jv_base.specs.Names.{is_text}
@@ -10,6 +11,7 @@ use Rattle.class_model.specs.declared.class.Class.{Class}
 abbrev pub number_named : List Class → List ℕ → Option ℕ
 number_named classes name = position (λ c. is_text name c.name) classes
 
+-- the numbers of the classes among these names that are there
 abbrev pub numbers_named : List Class → List (List ℕ) → List ℕ
 numbers_named classes names = filter_map (number_named classes) names
 

@@ -14,37 +14,39 @@ use Rattle.class_pool.specs.Walk.{same_class, superclasses_from}
 module _ (classes : List Class) where
   -- ---- overriding (JVMS 5.4.5)
 
-  -- an instance method of a class, not private; a method of an interface overrides none of a class
+  -- an instance method of a class, not private; a method of an interface overrides none of a class (JVMS 5.4.5)
   abbrev pub may_override : MemberAt → Bool
   may_override m = is_instance_method classes m && not (is_private_member classes m) && not (is_interface_in classes m.class)
 
-  -- an instance method that one of a subclass with this number may override by its flags
+  -- an instance method that one of a subclass with this number may override by its flags (JVMS 5.4.5)
   abbrev pub may_be_overridden : ClassId → MemberAt → Bool
   may_be_overridden below m = is_instance_method classes m
       && (is_public_member classes m || is_protected_member classes m
       || (not (is_private_member classes m) && same_package classes below m.class))
 
-  -- a method in front of those further up that override one or are it: it is that one, or overrides it by itself or through one of them
+  -- a method in front of those further up that override one or are it: it is that one, or overrides it by itself or
+  -- through one of them (JVMS 5.4.5)
   abbrev pub with_nearest : MemberAt → MemberAt → List MemberAt → List MemberAt
   with_nearest above m overriding =
       if same_member m above || (may_override m && list_any (may_be_overridden m.class) overriding) then m ∷ overriding else overriding
 
   -- of methods of one name and descriptor, the lowest class's first, those that override a method or are it
+  -- (JVMS 5.4.5)
   abbrev pub overriding : MemberAt → List MemberAt → List MemberAt
   overriding above [] = []
   overriding above (m ∷ ms) = with_nearest above m (overriding above ms)
 
-  -- those of a class and its superclasses
+  -- those of a class and its superclasses (JVMS 5.4.5)
   abbrev pub overriding_from : ClassId → MemberAt → List MemberAt
   overriding_from c above = overriding above (declared_by classes (named_at classes above) (superclasses_from classes c))
 
-  -- a method overrides another one, or is it
+  -- a method overrides another one, or is it (JVMS 5.4.5)
   abbrev pub overrides : MemberAt → MemberAt → Bool
   overrides m above = list_any (same_member m) (overriding_from m.class above)
 
   -- ---- selection
 
-  -- the first instance method from a class upwards
+  -- the first instance method from a class upwards (JVMS 6.5.invokeinterface, 6.5.invokespecial)
   abbrev pub first_instance : ClassId → NameAndType → Option MemberAt
   first_instance c named = find (is_instance_method classes) (declared_by classes named (superclasses_from classes c))
 
