@@ -1,8 +1,9 @@
--- The names of the rules for classes.
+-- The names of the rules for classes (the project's own: what the command says).
 use Rattle.std.specs.Prelude.{ℕ, List, codes}
 use Rattle.link_check.specs.declared.fault.ProfileKind.{ProfileKind}
 use Rattle.link_check.specs.declared.fault.ProfileKind.TheVariants.{LeftOutFlag, LeftOutConstant, LeftOutOpcode, LeftOutType, Unresolved, Inaccessible, WrongKind, LeftOutMember}
 
+-- the word for a kind of fault
 abbrev pub profile_name : ProfileKind → List ℕ
 profile_name LeftOutFlag = codes "LeftOutFlag"
 profile_name LeftOutConstant = codes "LeftOutConstant"

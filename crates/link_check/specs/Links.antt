@@ -15,13 +15,13 @@ use Rattle.class_pool.specs.Resolution.{field_found, is_class_accessible, is_int
 use Rattle.link_check.specs.declared.fault.LinkKind.{LinkKind}
 use Rattle.link_check.specs.declared.fault.LinkKind.TheVariants.{Unresolved, Inaccessible, WrongKind, LeftOutMember}
 
--- a member of the library that a program may name
+-- a member of the library that a program may name (the project's own: what of the library may be used)
 abbrev pub is_callable_role : Role → Bool
 is_callable_role Callable = true
 is_callable_role _ = false
 
 module _ (classes : List Class) (from : ClassId) where
-  -- a member that was found through a class, where that is named as it has to be
+  -- a member that was found through a class, where that is named as it has to be (JVMS 5.4.3.2 to 5.4.3.4, 5.4.4)
   abbrev pub linked : ClassId → Bool → Option MemberAt → Result MemberAt LinkKind
   linked named right None = Err Unresolved
   linked named right (Some m) =
@@ -29,22 +29,23 @@ module _ (classes : List Class) (from : ClassId) where
       else if right then Ok m
       else Err WrongKind
 
-  -- what is found through a class that is there and accessible
+  -- what is found through a class that is there and accessible (JVMS 5.4.3.1, 5.4.4)
   abbrev pub through : Option ClassId → (ClassId → Result MemberAt LinkKind) → Result MemberAt LinkKind
   through None found = Err Unresolved
   through (Some c) found = if is_class_accessible classes from c then found c else Err Inaccessible
 
   -- a member of an array is never taken; the class of its elements has to be there and accessible
+  -- (the project's own: no member of an array is taken yet)
   abbrev pub of_array : Bool → Base → Result MemberAt LinkKind
   of_array right (base.Class name) = through (class_named classes name) (λ c. if right then Err LeftOutMember else Err WrongKind)
   of_array right _ = if right then Err LeftOutMember else Err WrongKind
 
-  -- what a class finds, by its name; no other type has members
+  -- what a class finds, by its name; no other type has members (JVMS 5.4.3.2, 5.4.3.3)
   abbrev pub of_class : Base → (ClassId → Result MemberAt LinkKind) → Result MemberAt LinkKind
   of_class (base.Class name) found = through (class_named classes name) found
   of_class _ found = Err Unresolved
 
-  -- the field of a reference, one too that a program may not name
+  -- the field of a reference, one too that a program may not name (JVMS 5.4.3.2)
   abbrev pub linked_field : MemberRef → Result MemberAt LinkKind
   linked_field r =
       if r.class.dims == 0 then of_class r.class.base (λ c. linked c true (field_found classes c (r.name, r.ty)))
@@ -57,15 +58,15 @@ module _ (classes : List Class) (from : ClassId) where
       then of_class r.class.base (λ c. linked c (beq (is_interface_in classes c) r.of_interface) (method_found classes c (r.name, r.ty)))
       else of_array (not r.of_interface) r.class.base
 
-  -- a member that a program may name
+  -- a member that a program may name (the project's own: what of the library may be used)
   abbrev pub callable : Result MemberAt LinkKind → Result MemberAt LinkKind
   callable (Ok m) = if is_callable_role (role_at m) then Ok m else Err LeftOutMember
   callable (Err kind) = Err kind
 
-  -- the field of a reference
+  -- the field of a reference (JVMS 5.4.3.2)
   abbrev pub resolved_field : MemberRef → Result MemberAt LinkKind
   resolved_field r = callable (linked_field r)
 
-  -- the method of a reference
+  -- the method of a reference (JVMS 5.4.3.3, 5.4.3.4)
   abbrev pub resolved_method : MemberRef → Result MemberAt LinkKind
   resolved_method r = callable (linked_method r)

@@ -1,4 +1,5 @@
--- How a method overrides one that not all packages may override (JVMS 5.4.5): by itself, or through a method that all may.
+-- How a method overrides one that not all packages may override (JVMS 5.4.5): by itself, or through a method that all
+-- may (only the proofs of check_links and select need it).
 use Rattle.std.specs.Prelude.{Bool, false, ◌&&◌, ◌||◌, List, [], ◌∷◌}
 use Rattle.std.specs.List.{list_any}
 use Rattle.class_model.specs.declared.class.Class.{Class}

@@ -1,5 +1,5 @@
--- What the rules for classes give for a few small sets, which are computed. A set breaks one rule, but where several kinds meet; beside it
--- stands one that breaks none.
+-- What the rules for classes give for a few small sets, which are computed (the project's own: definitions are tried on
+-- classes). A set breaks one rule, but where several kinds meet; beside it stands one that breaks none.
 use Rattle.std.specs.Prelude.{◌≡◌, ℕ, true, false, Bool, List, [], ◌∷◌, map, Option, Some, None, Result, Ok, Err, codes}
 use Rattle.jv_base.specs.declared.types.Base.{Base}
 use Rattle.jv_base.specs.declared.types.Base.TheVariants as base

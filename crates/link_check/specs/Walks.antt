@@ -1,4 +1,5 @@
--- What is met where the superinterfaces of a class and of its superclasses are looked through (JVMS 5.4.3.3): of each class those that it has itself come each once.
+-- What is met where the superinterfaces of a class and of its superclasses are looked through (JVMS 5.4.3.3): of each
+-- class those that it has itself come each once (only the proofs of check_links and resolve_method need it).
 use Rattle.std.specs.Prelude.{ℕ, Bool, not, ◌&&◌, List, [], Result, Ok, Err, if◌then◌else◌}
 use Rattle.std.specs.List.{filter, flat_map}
 use Rattle.std.specs.Option.{option_map_or}
