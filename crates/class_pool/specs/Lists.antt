@@ -20,6 +20,7 @@ pub record AreOwn (classes : List Class) (lists : List (List ClassId)) : Type 0 
   pub own : (a : ClassId) → IsClass classes a → list_at lists a ≡ each_once [] (own_superinterfaces classes a)
 
 -- each class can be given a rank that those of its direct supertypes are below
+-- (the project's own: walks upwards come to an end)
 pub record HasRanks (classes : List Class) : Type 0 where
   pub rank : ClassId → ℕ
   pub falls : (a : ClassId) → IsClass classes a → All (λ b. rank b < rank a) (direct classes a)
