@@ -1,0 +1,289 @@
+#!/usr/bin/env python3
+"""Class files of one shape, and what a program takes for them.
+
+    python3 bench/shapes.py write SHAPE N DIR               writes the class files below DIR
+    python3 bench/shapes.py time PROGRAM [SHAPE=N,N,..]..   processor seconds and peak of `PROGRAM shrink` for each N
+
+Without shapes `time` goes over all of them. It writes below /dev/shm, and ends a run that takes more than a minute.
+"""
+import os, resource, shutil, struct, subprocess, sys, tempfile, time
+
+sys.dont_write_bytecode = True
+sys.path.insert(0, os.path.join(os.path.dirname(os.path.abspath(__file__)), '..', 'crates', 'set_vectors'))
+from assembler import OBJECT, PUBLIC, STATIC, File, Method, Pool, abstract, attribute, body, interface
+
+LONG = 'n' * 65000
+
+
+class Raw(Method):
+    """A method whose Code the shape makes itself."""
+
+
+def raw(make, name='run', descriptor='()V', flags=PUBLIC | STATIC):
+    method = Raw(name, descriptor, flags, code=())
+    method.make = make
+    return method
+
+
+def code_attribute(max_stack, max_locals, code, handlers=(), attributes=()):
+    rows = b''.join(struct.pack('>HHHH', *row) for row in handlers)
+    return (struct.pack('>HHI', max_stack, max_locals, len(code)) + code + struct.pack('>H', len(handlers)) + rows
+            + struct.pack('>H', len(attributes)) + b''.join(attributes))
+
+
+def instance(name, *code):
+    return Method(name, '()V', PUBLIC, [*code, 'return'])
+
+
+# ---- usual shapes
+
+def classes(n):
+    """N classes of five methods that call the next class, and two fields."""
+    for i in range(n):
+        other = f'p/C{(i + 1) % n:05}'
+        calls = [('invokestatic', (other, 's', '()V')), ('getstatic', (other, 'f0', 'I')), 'pop']
+        yield File(f'p/C{i:05}', fields=[(PUBLIC | STATIC, f'f{k}', 'I') for k in range(2)],
+                   methods=[instance(f'm{k}', *calls) for k in range(4)] + [body(name='s')])
+
+
+def chain(n):
+    """N classes, each the superclass of the one before."""
+    for i in range(n):
+        yield File(f'p/C{i:05}', f'p/C{i + 1:05}' if i + 1 < n else OBJECT)
+
+
+def overriding(n, methods=1):
+    """The same, each with a method that overrides the one above."""
+    for i in range(n):
+        yield File(f'p/C{i:05}', f'p/C{i + 1:05}' if i + 1 < n else OBJECT, methods=[instance(f'm{k}') for k in range(methods)])
+
+
+def implementing(n):
+    """A chain of N classes, the last of which implements an interface with a method that the first one has."""
+    yield interface('p/I', methods=[abstract('run')])
+    for i in range(n):
+        yield File(f'p/C{i:05}', f'p/C{i + 1:05}' if i + 1 < n else OBJECT, ['p/I'] if i == 0 else [],
+                   methods=[instance('run')] if i == n - 1 else [])
+
+
+def interfaces(n):
+    """One class that implements N interfaces."""
+    for i in range(n):
+        yield interface(f'p/I{i:05}')
+    yield File('p/A', interfaces=[f'p/I{i:05}' for i in range(n)])
+
+
+def extending(n):
+    """A chain of N interfaces."""
+    for i in range(n):
+        yield interface(f'p/I{i:05}', *([f'p/I{i + 1:05}'] if i + 1 < n else []))
+
+
+def calls(n):
+    """One class with N static methods, each of which calls the next."""
+    for j in range(n):
+        pass
+    yield File('p/A', methods=[instance('run', ('invokestatic', ('p/A', 's00000', '()V')))]
+               + [body(*([('invokestatic', ('p/A', f's{j + 1:05}', '()V'))] if j + 1 < n else []), name=f's{j:05}') for j in range(n)])
+
+
+# ---- hostile shapes: legal class files, small for what they ask
+
+def strings(n):
+    """N ldc_w of one text of 65,000 bytes."""
+    def make(pool):
+        at = pool.add(b'\x08' + struct.pack('>H', pool.utf8(LONG)))
+        return code_attribute(1, 0, (b'\x13' + struct.pack('>H', at) + b'\x57') * n + b'\xb1')
+    yield File('p/A', methods=[raw(make)])
+
+
+def long_calls(n):
+    """N calls of one method whose name has 65,000 letters."""
+    call = ('invokestatic', ('p/A', LONG, '()V'))
+    yield File('p/A', methods=[body(name=LONG), body(*[call] * n)])
+
+
+def handlers(n):
+    """N handlers that catch one class whose name has 65,000 letters (refused: the class isn't there)."""
+    def make(pool):
+        caught = pool.of_class('p/' + LONG)
+        return code_attribute(1, 0, b'\x00\xb1', [(0, 1, 1, caught)] * n)
+    yield File('p/A', methods=[raw(make)])
+
+
+def throws(n):
+    """A method that throws one class whose name has 65,000 letters, named N times (refused: the class isn't there)."""
+    yield File('p/A', methods=[Method('run', '()V', PUBLIC, ['return'], throws=['p/' + LONG] * n)])
+
+
+def descriptors(n):
+    """N methods with one descriptor of 65,000 bytes (refused: a class that it names isn't there)."""
+    yield File('p/A', methods=[body(name=f'm{k}', descriptor=f'(Lp/{LONG};)V') for k in range(n)])
+
+
+def long_arguments(n):
+    """N methods with one descriptor of 255 arguments, of classes that are there."""
+    yield File('p/A', methods=[Method(f'm{k}', f'({"Lp/A;" * 255})V', PUBLIC | STATIC | 0x100 & 0, ['return']) for k in range(n)])
+
+
+def frames(n):
+    """N frames, each of which appends a local."""
+    def make(pool):
+        rows = b''.join(b'\xfc' + struct.pack('>H', 0) + b'\x01' for _ in range(n))
+        table = attribute(pool, 'StackMapTable', struct.pack('>H', n) + rows)
+        return code_attribute(1, n + 1, b'\x00' * (n + 1) + b'\xb1', attributes=[table])
+    yield File('p/A', methods=[raw(make)])
+
+
+def tall(n):
+    """A chain of N classes below an interface with N methods, which the first class has."""
+    yield interface('p/I', methods=[abstract(f'm{k}') for k in range(n)])
+    for i in range(n):
+        yield File(f'p/C{i:05}', f'p/C{i + 1:05}' if i + 1 < n else OBJECT, ['p/I'] if i == 0 else [],
+                   methods=[instance(f'm{k}') for k in range(n)] if i == n - 1 else [])
+
+
+def overriding_twenty(n):
+    """A chain of N classes with twenty methods each, which override those above."""
+    return overriding(n, 20)
+
+
+def descriptor(k):
+    letters = []
+    for _ in range(8):
+        letters.append('IJBC'[k % 4])
+        k //= 4
+    return f'({"".join(letters)})V'
+
+
+def overloads(n):
+    """One class with N methods of one name, and 200 calls of the last ones."""
+    named = [body(name='m', descriptor=descriptor(k)) for k in range(n)]
+
+    def make(pool):
+        code = b''
+        for k in range(n - 200, n):
+            for letter in descriptor(k)[1:-2]:
+                code += b'\x09' if letter == 'J' else b'\x03'
+            code += b'\xb8' + struct.pack('>H', pool.member(10, ('p/A', 'm', descriptor(k))))
+        return code_attribute(20, 0, code + b'\xb1')
+    yield File('p/A', methods=[*named, raw(make)])
+
+
+def two_overloads(n):
+    """Two classes with N methods of one name, one class below the other."""
+    for name, above in (('p/A', OBJECT), ('p/B', 'p/A')):
+        yield File(name, above, methods=[Method('m', descriptor(k), PUBLIC, ['return']) for k in range(n)])
+
+
+def folded(a, b):
+    product = a * b
+    return (product ^ product >> 64) & 0xFFFFFFFFFFFFFFFF
+
+
+def colliding_names(n):
+    """Names of 48 letters with one hash in the library's tables, whose seed is fixed."""
+    length, seed, multiplier = 48, 0x243F6A8885A308D3, 0x9E3779B97F4A7C15
+    allowed = set(b'abcdefghijklmnopqrstuvwxyzABCDEFGHIJKLMNOPQRSTUVWXYZ0123456789_')
+    k = 0
+    while True:
+        first = f'{k:016}'.encode()
+        state = folded(int.from_bytes(first[:8], 'little') ^ (seed + length), int.from_bytes(first[8:], 'little') ^ multiplier)
+        zero = state.to_bytes(8, 'little')
+        if set(zero) <= allowed:
+            break
+        k += 1
+    for i in range(n):
+        yield (first + zero).decode() + f'{i:08}' + 't' * 16
+
+
+def colliding(n):
+    """One class with N methods whose names have one hash."""
+    yield File('p/A', methods=[body(name=name) for name in colliding_names(n)])
+
+
+USUAL = [classes, chain, overriding, implementing, interfaces, extending, calls]
+HOSTILE = [strings, long_calls, handlers, throws, descriptors, long_arguments, frames, tall, overriding_twenty, overloads, two_overloads, colliding]
+SIZES = {
+    'classes': [2000, 4000, 8000], 'calls': [4000, 8000, 16000], 'strings': [8000, 16000], 'long_calls': [5000, 10000, 20000],
+    'handlers': [16000, 32000, 65000], 'throws': [16000, 32000, 65000], 'descriptors': [5000, 10000, 20000],
+    'long_arguments': [5000, 10000, 20000], 'frames': [2500, 5000, 10000, 20000], 'tall': [500, 1000, 2000],
+    'overriding_twenty': [1000, 2000, 4000], 'overloads': [15000, 30000, 60000], 'two_overloads': [5000, 10000, 20000],
+    'colliding': [5000, 10000, 20000],
+}
+
+
+def file_bytes(file):
+    """The class file, its raw methods with the Code that they make."""
+    import assembler
+    plain = assembler.code_of
+    made = iter([m for m in file.methods if m.code is not None])
+
+    def code_of(pool, code, handlers, frames):
+        method = next(made)
+        return method.make(pool) if isinstance(method, Raw) else plain(pool, code, handlers, frames)
+    assembler.code_of = code_of
+    try:
+        return file.bytes()
+    finally:
+        assembler.code_of = plain
+
+
+def write(shape, n, top):
+    for file in shape(n):
+        path = os.path.join(top, file.name + '.class')
+        os.makedirs(os.path.dirname(path), exist_ok=True)
+        with open(path, 'wb') as out:
+            out.write(file_bytes(file))
+
+
+def run(program, shape, n):
+    with tempfile.TemporaryDirectory(dir='/dev/shm' if os.path.isdir('/dev/shm') else None) as top:
+        write(shape, n, f'{top}/in')
+        with open(f'{top}/s.pro', 'w') as out:
+            out.write(f'-injars {top}/in\n-outjars {top}/out\n-printmapping {top}/map.txt\n-keep class Main {{ static int f(); }}\n')
+        begun = time.time()
+        child = subprocess.Popen([program, 'shrink', f'{top}/s.pro', f'{top}/o.wit'], stdout=subprocess.PIPE)
+        peak = 0
+        while child.poll() is None:
+            try:
+                peak = max([peak] + [int(line.split()[1]) for line in open(f'/proc/{child.pid}/status') if line.startswith('VmHWM')])
+                if time.time() - begun > 60 or peak > 6_000_000:
+                    child.kill()
+            except OSError:
+                pass
+            time.sleep(0.002)
+        said = child.stdout.read().decode().split('\n')[0]
+    return said or 'stopped', peak / 1000
+
+
+def measure(program, asked):
+    print('| shape | N | processor s | times the one before | peak MB | first line |\n|---|---|---|---|---|---|')
+    for shape, sizes in asked:
+        before = None
+        for n in sizes:
+            used = resource.getrusage(resource.RUSAGE_CHILDREN)
+            said, peak = run(program, shape, n)
+            after = resource.getrusage(resource.RUSAGE_CHILDREN)
+            seconds = after.ru_utime + after.ru_stime - used.ru_utime - used.ru_stime
+            grown = f'{seconds / before:.1f}' if before else ''
+            print(f'| {shape.__name__} | {n:,} | {seconds:.2f} | {grown} | {peak:.0f} | {said[:60]} |', flush=True)
+            before = max(seconds, 0.001)
+            if said == 'stopped':
+                break
+
+
+def main(words):
+    shapes = {shape.__name__: shape for shape in USUAL + HOSTILE}
+    if len(words) == 4 and words[0] == 'write' and words[1] in shapes:
+        write(shapes[words[1]], int(words[2]), words[3])
+    elif len(words) >= 2 and words[0] == 'time':
+        asked = [word.partition('=') for word in words[2:]] or [(name, '', '') for name in shapes]
+        measure(words[1], [(shapes[name], [int(n) for n in sizes.split(',')] if sizes else SIZES.get(name, [1000, 2000, 4000, 8000]))
+                           for name, _, sizes in asked])
+    else:
+        sys.exit(__doc__)
+
+
+if __name__ == '__main__':
+    main(sys.argv[1:])
