@@ -21,7 +21,7 @@ const MAX_CLASSES: usize = 20_000;
 const MAX_INPUT: u64 = 67_108_864;
 
 /// Why the class files of a directory aren't given.
-#[derive(Debug, Drop)]
+#[derive(Drop)]
 pub enum InputFault {
     /// More than 65,536 files lie below the directory.
     TooManyFiles,
@@ -168,8 +168,6 @@ fn read_file<T: Tree>(
 fn path_in(alloc: Global, directory: &Text, path: &Text) -> M<Text>
     ensures { IfOk result (λ full. full ≡ path_in directory.now path.now) }
 {
-    let mut full = directory.clone()?;
-    full.push_str("/")?;
-    full.push_str(path.as_str())?;
-    Ok(full)
+    let (directory, path) = (directory.as_str(), path.as_str());
+    Ok(Text::from_string(alloc, format!(in alloc; "{directory}/{path}")?)?)
 }

@@ -4,7 +4,7 @@ use jv_base::{Access, FieldType, Items, MethodType, Name, Units};
 
 /// A class or an interface (JVMS 4.1). Its version, its constant pool and the attributes that have no
 /// place here aren't kept.
-#[derive(Debug, Drop)]
+#[derive(Drop)]
 pub struct Class {
     /// The flags that mean something on a class (JVMS 4.1, table 4.1-A).
     pub flags: Access,
@@ -27,7 +27,7 @@ pub struct Class {
 }
 
 /// A field (JVMS 4.5).
-#[derive(Debug, Drop)]
+#[derive(Drop)]
 pub struct Field {
     /// The flags that mean something on a field (JVMS 4.5, table 4.5-A).
     pub flags: Access,
@@ -42,7 +42,7 @@ pub struct Field {
 }
 
 /// The value with which a static field begins (JVMS 4.7.2).
-#[derive(Debug, Drop)]
+#[derive(Drop)]
 pub enum Constant {
     /// Of a field of type int, short, char, byte or boolean.
     Int(i32),
@@ -53,7 +53,7 @@ pub enum Constant {
 }
 
 /// A method, an instance initialisation method or a class initialisation method (JVMS 4.6 and 2.9).
-#[derive(Debug, Drop)]
+#[derive(Drop)]
 pub struct Method {
     /// The flags that mean something on a method (JVMS 4.6, table 4.6-A).
     pub flags: Access,
@@ -71,7 +71,7 @@ pub struct Method {
 
 /// Something that a class file may hold and that is left out here. Of several things the one at the
 /// least member counts, no member being before all members, and at one member the first kind.
-#[derive(Clone, Copy, Debug, PartialEq, Eq)]
+#[derive(Clone, Copy, PartialEq, Eq)]
 pub struct LeftOut {
     /// The number of the member, from 0: fields first, then methods. Without one it is the class's own.
     pub member: Option<u32>,
@@ -79,7 +79,7 @@ pub struct LeftOut {
 }
 
 /// What is left out.
-#[derive(Clone, Copy, Debug, PartialEq, Eq)]
+#[derive(Clone, Copy, PartialEq, Eq)]
 pub enum LeftKind {
     /// A native method, or a class that is an annotation or an enum (JVMS 4.1 and 4.6).
     Flag,

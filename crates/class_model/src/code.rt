@@ -3,7 +3,7 @@ use crate::{FrameAt, Op};
 use jv_base::{Items, Name};
 
 /// The attribute Code. Its instructions are numbered from 0, and places in it are such numbers.
-#[derive(Debug, Drop)]
+#[derive(Drop)]
 pub struct Code {
     /// How many words the operand stack takes at most.
     pub max_stack: u16,
@@ -17,14 +17,14 @@ pub struct Code {
 }
 
 /// An instruction with its line of the source, as LineNumberTable tells it (JVMS 4.7.12).
-#[derive(Debug, Drop)]
+#[derive(Drop)]
 pub struct Ins {
     pub op: Op,
     pub line: Option<u16>,
 }
 
 /// An exception handler, a row of the exception table (JVMS 4.7.3).
-#[derive(Debug, Drop)]
+#[derive(Drop)]
 pub struct Handler {
     /// The first instruction that it covers.
     pub from: u32,

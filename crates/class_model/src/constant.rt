@@ -3,7 +3,7 @@ use jv_base::Units;
 
 /// A constant of the pool that a class is written with, told by its texts in UTF-16 and not by
 /// indices (JVMS 4.4).
-#[derive(Debug, Drop, PartialEq, Eq, Hash)]
+#[derive(Drop, PartialEq, Eq, Hash)]
 pub enum PoolConstant {
     Utf8(Units),
     Integer(i32),

@@ -2,7 +2,7 @@
 use jv_base::{FieldType, Items};
 
 /// The frame that is declared at an instruction.
-#[derive(Debug, Drop)]
+#[derive(Drop)]
 pub struct FrameAt {
     /// The instruction's number.
     pub index: u32,
@@ -11,7 +11,7 @@ pub struct FrameAt {
 
 /// The types of the local variables and of the operand stack (JVMS 4.10.1.4). A long is one item in
 /// both; trailing Tops of the locals are cut.
-#[derive(Debug, Drop)]
+#[derive(Drop)]
 pub struct Frame {
     pub locals: Items<VType>,
     /// From the bottom to the top.
@@ -19,7 +19,7 @@ pub struct Frame {
 }
 
 /// A verification type (JVMS 4.10.1.2).
-#[derive(Debug, Drop)]
+#[derive(Drop)]
 pub enum VType {
     Top,
     /// An int, or a boolean, byte, char or short.

@@ -1,8 +1,8 @@
 // Instructions by families (JVMS 6.5).
-use jv_base::{Base, FieldType, Items, Name, Text, Units};
+use jv_base::{Base, FieldType, Items, Name, Shared, Text, Units};
 
 /// The type of the numbers that an instruction computes with.
-#[derive(Clone, Copy, Debug, PartialEq, Eq)]
+#[derive(Clone, Copy, PartialEq, Eq)]
 pub enum Num {
     Int,
     Long,
@@ -10,7 +10,7 @@ pub enum Num {
 
 /// The type of a value that an instruction moves: an int, a long or a reference. An int may be a
 /// boolean, byte, char or short.
-#[derive(Clone, Copy, Debug, PartialEq, Eq)]
+#[derive(Clone, Copy, PartialEq, Eq)]
 pub enum Kind {
     Int,
     Long,
@@ -18,7 +18,7 @@ pub enum Kind {
 }
 
 /// The element type of an array. `Byte` is byte or boolean.
-#[derive(Clone, Copy, Debug, PartialEq, Eq)]
+#[derive(Clone, Copy, PartialEq, Eq)]
 pub enum Elem {
     Int,
     Long,
@@ -29,7 +29,7 @@ pub enum Elem {
 }
 
 /// Arithmetic of two numbers.
-#[derive(Clone, Copy, Debug, PartialEq, Eq)]
+#[derive(Clone, Copy, PartialEq, Eq)]
 pub enum ArithOp {
     Add,
     Sub,
@@ -39,7 +39,7 @@ pub enum ArithOp {
 }
 
 /// A shift: left, right, and right without the sign.
-#[derive(Clone, Copy, Debug, PartialEq, Eq)]
+#[derive(Clone, Copy, PartialEq, Eq)]
 pub enum ShiftOp {
     Shl,
     Shr,
@@ -47,7 +47,7 @@ pub enum ShiftOp {
 }
 
 /// Logic on the bits of two numbers.
-#[derive(Clone, Copy, Debug, PartialEq, Eq)]
+#[derive(Clone, Copy, PartialEq, Eq)]
 pub enum LogicOp {
     And,
     Or,
@@ -55,7 +55,7 @@ pub enum LogicOp {
 }
 
 /// A conversion between numbers.
-#[derive(Clone, Copy, Debug, PartialEq, Eq)]
+#[derive(Clone, Copy, PartialEq, Eq)]
 pub enum ConvOp {
     I2l,
     L2i,
@@ -65,7 +65,7 @@ pub enum ConvOp {
 }
 
 /// A comparison of an int with 0, or of two ints.
-#[derive(Clone, Copy, Debug, PartialEq, Eq)]
+#[derive(Clone, Copy, PartialEq, Eq)]
 pub enum Cond {
     Eq,
     Ne,
@@ -76,14 +76,14 @@ pub enum Cond {
 }
 
 /// A case of a LookupSwitch: a key, and the instruction to which it leads.
-#[derive(Clone, Copy, Debug, PartialEq, Eq)]
+#[derive(Clone, Copy, PartialEq, Eq)]
 pub struct Case {
     pub key: i32,
     pub to: u32,
 }
 
 /// A symbolic reference to a field or a method (JVMS 4.4.2).
-#[derive(Clone, Debug, Drop, PartialEq, Eq)]
+#[derive(Clone, Drop, PartialEq, Eq)]
 pub struct MemberRef {
     /// The class, interface or array type that it names.
     pub class: FieldType,
@@ -95,8 +95,9 @@ pub struct MemberRef {
 }
 
 /// An instruction (JVMS 6.5), whichever of its spellings the class file has. A target is the number of
-/// an instruction of the code, a slot the number of a local variable.
-#[derive(Debug, Drop)]
+/// an instruction of the code, a slot the number of a local variable. What takes more than a few bytes is shared,
+/// so an instruction is small, and those of one constant of the pool hold it together.
+#[derive(Drop)]
 pub enum Op {
     /// nop.
     Nop,
@@ -107,7 +108,7 @@ pub enum Op {
     /// lconst_<l>, and ldc2_w of a long.
     PushLong(i64),
     /// ldc and ldc_w of a string, in UTF-16.
-    PushText(Units),
+    PushText(Shared<Units>),
     /// iload, lload and aload, of a slot.
     Load(Kind, u16),
     /// istore, lstore and astore, to a slot.
@@ -168,45 +169,45 @@ pub enum Op {
     TableSwitch {
         low: i32,
         other: u32,
-        cases: Items<u32>,
+        cases: Shared<Items<u32>>,
     },
     /// lookupswitch: the default target, and the cases.
     LookupSwitch {
         other: u32,
-        cases: Items<Case>,
+        cases: Shared<Items<Case>>,
     },
     /// ireturn, lreturn, areturn, and return where nothing is returned.
     Return(Option<Kind>),
     /// getstatic.
-    GetStatic(MemberRef),
+    GetStatic(Shared<MemberRef>),
     /// putstatic.
-    PutStatic(MemberRef),
+    PutStatic(Shared<MemberRef>),
     /// getfield.
-    GetField(MemberRef),
+    GetField(Shared<MemberRef>),
     /// putfield.
-    PutField(MemberRef),
+    PutField(Shared<MemberRef>),
     /// invokevirtual.
-    InvokeVirtual(MemberRef),
+    InvokeVirtual(Shared<MemberRef>),
     /// invokespecial.
-    InvokeSpecial(MemberRef),
+    InvokeSpecial(Shared<MemberRef>),
     /// invokestatic.
-    InvokeStatic(MemberRef),
+    InvokeStatic(Shared<MemberRef>),
     /// invokeinterface. Its count follows from the descriptor.
-    InvokeInterface(MemberRef),
+    InvokeInterface(Shared<MemberRef>),
     /// new: the class.
     New(Name),
     /// newarray: the type of the elements.
     NewArray(Base),
     /// anewarray: the type of the elements.
-    ANewArray(FieldType),
+    ANewArray(Shared<FieldType>),
     /// arraylength.
     ArrayLength,
     /// athrow.
     Throw,
     /// checkcast: the type.
-    CheckCast(FieldType),
+    CheckCast(Shared<FieldType>),
     /// instanceof: the type.
-    InstanceOf(FieldType),
+    InstanceOf(Shared<FieldType>),
     /// multianewarray: the type of the array, and how many of its dimensions are made.
-    MultiNewArray(FieldType, u8),
+    MultiNewArray(Shared<FieldType>, u8),
 }

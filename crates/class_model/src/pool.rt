@@ -3,14 +3,14 @@ use jv_base::{Items, Units};
 
 /// A constant pool. The entry of index i stands at place i. Place 0 and the second place of a Long or a Double hold
 /// a `Gap`.
-#[derive(Debug, Drop)]
+#[derive(Drop)]
 pub struct Pool {
     pub entries: Items<Entry>,
 }
 
 /// An entry (JVMS 4.4). A u16 is an index of the pool; two of them stand in the order of the class
 /// file.
-#[derive(Debug, Drop)]
+#[derive(Drop)]
 pub enum Entry {
     /// CONSTANT_Utf8: a text, in UTF-16 (JVMS 4.4.7).
     Utf8(Units),

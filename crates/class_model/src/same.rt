@@ -98,7 +98,7 @@ fn is_push_text(text: &Units, right: &Op) -> bool
     ensures { IsTrue result ↔ (Op.PushText text.now ≡ right.now) }
 {
     match right {
-        Op::PushText(other) => text == other,
+        Op::PushText(other) => *text == **other,
         _ => false,
     }
 }
@@ -312,7 +312,7 @@ fn is_table_switch(low: i32, other: u32, cases: &Items<u32>, right: &Op) -> bool
             low: right_low,
             other: right_other,
             cases: right_cases,
-        } => low == *right_low && other == *right_other && cases == right_cases,
+        } => low == *right_low && other == *right_other && *cases == **right_cases,
         _ => false,
     }
 }
@@ -348,7 +348,7 @@ fn is_get_static(member: &MemberRef, right: &Op) -> bool
     ensures { IsTrue result ↔ (Op.GetStatic member.now ≡ right.now) }
 {
     match right {
-        Op::GetStatic(other) => member == other,
+        Op::GetStatic(other) => *member == **other,
         _ => false,
     }
 }
@@ -357,7 +357,7 @@ fn is_put_static(member: &MemberRef, right: &Op) -> bool
     ensures { IsTrue result ↔ (Op.PutStatic member.now ≡ right.now) }
 {
     match right {
-        Op::PutStatic(other) => member == other,
+        Op::PutStatic(other) => *member == **other,
         _ => false,
     }
 }
@@ -366,7 +366,7 @@ fn is_get_field(member: &MemberRef, right: &Op) -> bool
     ensures { IsTrue result ↔ (Op.GetField member.now ≡ right.now) }
 {
     match right {
-        Op::GetField(other) => member == other,
+        Op::GetField(other) => *member == **other,
         _ => false,
     }
 }
@@ -375,7 +375,7 @@ fn is_put_field(member: &MemberRef, right: &Op) -> bool
     ensures { IsTrue result ↔ (Op.PutField member.now ≡ right.now) }
 {
     match right {
-        Op::PutField(other) => member == other,
+        Op::PutField(other) => *member == **other,
         _ => false,
     }
 }
@@ -384,7 +384,7 @@ fn is_invoke_virtual(member: &MemberRef, right: &Op) -> bool
     ensures { IsTrue result ↔ (Op.InvokeVirtual member.now ≡ right.now) }
 {
     match right {
-        Op::InvokeVirtual(other) => member == other,
+        Op::InvokeVirtual(other) => *member == **other,
         _ => false,
     }
 }
@@ -393,7 +393,7 @@ fn is_invoke_special(member: &MemberRef, right: &Op) -> bool
     ensures { IsTrue result ↔ (Op.InvokeSpecial member.now ≡ right.now) }
 {
     match right {
-        Op::InvokeSpecial(other) => member == other,
+        Op::InvokeSpecial(other) => *member == **other,
         _ => false,
     }
 }
@@ -402,7 +402,7 @@ fn is_invoke_static(member: &MemberRef, right: &Op) -> bool
     ensures { IsTrue result ↔ (Op.InvokeStatic member.now ≡ right.now) }
 {
     match right {
-        Op::InvokeStatic(other) => member == other,
+        Op::InvokeStatic(other) => *member == **other,
         _ => false,
     }
 }
@@ -411,7 +411,7 @@ fn is_invoke_interface(member: &MemberRef, right: &Op) -> bool
     ensures { IsTrue result ↔ (Op.InvokeInterface member.now ≡ right.now) }
 {
     match right {
-        Op::InvokeInterface(other) => member == other,
+        Op::InvokeInterface(other) => *member == **other,
         _ => false,
     }
 }
@@ -438,7 +438,7 @@ fn is_a_new_array(ty: &FieldType, right: &Op) -> bool
     ensures { IsTrue result ↔ (Op.ANewArray ty.now ≡ right.now) }
 {
     match right {
-        Op::ANewArray(other) => ty == other,
+        Op::ANewArray(other) => *ty == **other,
         _ => false,
     }
 }
@@ -459,7 +459,7 @@ fn is_check_cast(ty: &FieldType, right: &Op) -> bool
     ensures { IsTrue result ↔ (Op.CheckCast ty.now ≡ right.now) }
 {
     match right {
-        Op::CheckCast(other) => ty == other,
+        Op::CheckCast(other) => *ty == **other,
         _ => false,
     }
 }
@@ -468,7 +468,7 @@ fn is_instance_of(ty: &FieldType, right: &Op) -> bool
     ensures { IsTrue result ↔ (Op.InstanceOf ty.now ≡ right.now) }
 {
     match right {
-        Op::InstanceOf(other) => ty == other,
+        Op::InstanceOf(other) => *ty == **other,
         _ => false,
     }
 }
@@ -477,7 +477,7 @@ fn is_multi_new_array(ty: &FieldType, dims: u8, right: &Op) -> bool
     ensures { IsTrue result ↔ (Op.MultiNewArray ty.now dims ≡ right.now) }
 {
     match right {
-        Op::MultiNewArray(right_ty, right_dims) => ty == right_ty && dims == *right_dims,
+        Op::MultiNewArray(right_ty, right_dims) => *ty == **right_ty && dims == *right_dims,
         _ => false,
     }
 }

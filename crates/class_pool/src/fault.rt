@@ -6,7 +6,7 @@ use class_model::Class;
 use jv_base::{Name, Text};
 
 /// A class, and the path of its file below the directory.
-#[derive(Debug, Drop)]
+#[derive(Drop)]
 pub struct NamedClass {
     pub path: Text,
     pub class: Class,
@@ -14,7 +14,7 @@ pub struct NamedClass {
 
 /// The files are no set. The tests go in three rounds, each over all classes in the order of the files; the first
 /// fault counts, and at one class of a round the kinds come in their order.
-#[derive(Debug, Drop)]
+#[derive(Drop)]
 pub struct PoolFault {
     /// The name of the class at fault.
     pub class: Name,

@@ -126,7 +126,7 @@ pub fn text_of(alloc: Global, units: &[u16]) -> M<Option<Text>>
     ensures { IfOk result (λ text. text ≡ text_of units.now) }
 {
     match String::from_utf16(alloc, units)? {
-        Ok(text) => Ok(Some(Text::from_string(text))),
+        Ok(text) => Ok(Some(Text::from_string(alloc, text)?)),
         Err(_) => Ok(None),
     }
 }

@@ -38,14 +38,12 @@ fn written_answer(alloc: Global, class: &Class) -> M<Text>
     match write_class(alloc, class) {
         Ok(bytes) => {
             let digits = hex::encode(alloc, bytes.as_slice())?;
-            let mut text = Text::from_str(alloc, "ok ")?;
-            text.push_str(digits.as_str())?;
-            Ok(text)
+            let digits = digits.as_str();
+            Ok(Text::from_string(alloc, format!(in alloc; "ok {digits}")?)?)
         }
         Err(Or::Fault(limit)) => {
-            let mut text = Text::from_str(alloc, "limit ")?;
-            text.push_str(limit_name(limit))?;
-            Ok(text)
+            let name = limit_name(limit);
+            Ok(Text::from_string(alloc, format!(in alloc; "limit {name}")?)?)
         }
         Err(Or::OutOfMemory) => Err(OutOfMemory),
     }
@@ -55,19 +53,16 @@ fn left_answer(alloc: Global, left_out: LeftOut) -> M<Text>
     ensures { IfOk result (λ text. text ≡ left_answer left_out) }
 {
     let member = member_text(alloc, left_out.member)?;
+    let member = member.as_str();
     let kind = left_name(left_out.kind);
-    let mut text = Text::from_str(alloc, "left-out ")?;
-    text.push_str(member.as_str())?;
-    text.push_str(" ")?;
-    text.push_str(kind)?;
-    Ok(text)
+    Ok(Text::from_string(alloc, format!(in alloc; "left-out {member} {kind}")?)?)
 }
 
 fn member_text(alloc: Global, member: Option<u32>) -> M<Text>
     ensures { IfOk result (λ text. text ≡ member_text member) }
 {
     match member {
-        Some(number) => Ok(Text::from_string(format!(in alloc; "{number}")?)),
+        Some(number) => Ok(Text::from_string(alloc, format!(in alloc; "{number}")?)?),
         None => Ok(Text::from_str(alloc, "-")?),
     }
 }
@@ -78,5 +73,5 @@ fn fault_answer(alloc: Global, fault: FormatFault) -> M<Text>
     let kind = format_name(fault.kind);
     let offset = fault.offset;
     let text = format!(in alloc; "fault {offset} {kind}")?;
-    Ok(Text::from_string(text))
+    Ok(Text::from_string(alloc, text)?)
 }

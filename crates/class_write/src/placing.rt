@@ -9,7 +9,7 @@ use jv_ops::{ConstantTable, encode_with};
 use std::alloc::Global;
 
 /// A code in its canonical spelling.
-#[derive(Debug, Drop)]
+#[derive(Drop)]
 pub struct PlacedCode {
     pub bytes: Bytes,
     /// The offset of each instruction, and behind them the length of the code.

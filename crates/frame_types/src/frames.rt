@@ -13,7 +13,7 @@ use jv_base::{Items, M};
 use std::alloc::Global;
 
 /// An offset_delta, and the locals and the stack that a row writes.
-#[derive(Debug, Drop)]
+#[derive(Drop)]
 pub struct Written {
     pub delta: u16,
     pub locals: Items<VType>,
@@ -21,7 +21,7 @@ pub struct Written {
 }
 
 /// The frame before a row.
-#[derive(Debug, Drop)]
+#[derive(Drop)]
 pub struct Before {
     /// Its locals, the Tops at their end among them.
     pub locals: Items<VType>,
@@ -30,7 +30,7 @@ pub struct Before {
 }
 
 /// A row's frame, and the same frame as the one before the next row.
-#[derive(Debug, Drop)]
+#[derive(Drop)]
 pub struct Next {
     pub frame: FrameAt,
     pub before: Before,

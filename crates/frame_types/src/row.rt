@@ -13,7 +13,7 @@ pub enum TypeInfo {
 }
 
 /// A row, its frame_type first: stack_map_frame. Only the forms of several frame_types keep it.
-#[derive(Debug, Drop)]
+#[derive(Drop)]
 pub enum Row {
     Same {
         frame_type: u8,

@@ -17,7 +17,7 @@ use jv_base::{Cursor, Items, Or};
 use std::alloc::Global;
 
 /// The frames of a StackMapTable.
-#[derive(Debug, Drop)]
+#[derive(Drop)]
 pub struct StackMapTable {
     /// Ascending, as their rows stand.
     pub frames: Items<FrameAt>,

@@ -1,5 +1,6 @@
 // Descriptors of fields and methods (JVMS 4.3).
-ghost use Rattle.std.specs.Prelude.{◌≡◌, ℕ, ◌+◌, ◌≤◌, ◌<◌, List, [], length, slice_index, slice_range, IfOk, OnOk, Ok, Some, None, codes, replicate, ◌++◌, if◌then◌else◌};
+ghost use Rattle.std.specs.Prelude.{◌≡◌, ℕ, ◌+◌, ◌≤◌, ◌<◌, List, [], length, slice_index, slice_range, codes, replicate};
+ghost use Rattle.std.specs.Prelude.{IfOk, OnOk, Ok, Some, None, ◌++◌, if◌then◌else◌, string_bytes};
 ghost use Rattle.std.specs.List.{flat_map};
 ghost use Rattle.std.specs.Str.{IsCharBoundary};
 ghost use Rattle.jv_base.specs.DescriptorPlaces.{AreCounted, begun_at, class_whole, field_at, field_of, field_read_at, grown_at, IsFieldPlaced, IsFieldReadPlaced, IsGrownPlaced, IsMethodNextPlaced, IsMethodPlaced, IsPlaced, method_next_at, method_read_at, more_of};
@@ -48,9 +49,9 @@ pub fn field_text(alloc: Global, ty: &FieldType) -> M<Text>
     ensures written { IfOk result (λ text. text ≡ field_text ty.now) }
     ensures read_back { IsFieldType ty.now → IfOk result (λ text. read_field text ≡ Ok ty.now) }
 {
-    let mut text = Text::from_string(String::new(alloc));
+    let mut text = String::new(alloc);
     push_field(&mut text, ty)?;
-    Ok(text)
+    Ok(Text::from_string(alloc, text)?)
 }
 
 /// The descriptor of a method type (JVMS 4.3.3).
@@ -58,17 +59,17 @@ pub fn method_text(alloc: Global, ty: &MethodType) -> M<Text>
     ensures written { IfOk result (λ text. text ≡ method_text ty.now) }
     ensures read_back { IsMethodType ty.now → IfOk result (λ text. read_method text ≡ Ok ty.now) }
 {
-    let mut text = Text::from_string(String::new(alloc));
+    let mut text = String::new(alloc);
     text.push_str("(")?;
     push_parameters(&mut text, ty.args.as_slice())?;
     text.push_str(")")?;
     push_result(&mut text, &ty.ret)?;
-    Ok(text)
+    Ok(Text::from_string(alloc, text)?)
 }
 
 #[tactic(auto, unfolding(crate::specs::Types::result_text))]
-fn push_result(text: &mut Text, ret: &Option<FieldType>) -> M<()>
-    ensures { OnOk result (text.new ≡ text.old ++ result_text ret.now) }
+fn push_result(text: &mut String, ret: &Option<FieldType>) -> M<()>
+    ensures { OnOk result (string_bytes text.new ≡ string_bytes text.old ++ result_text ret.now) }
 {
     match ret {
         Some(ty) => push_field(text, ty),
@@ -79,8 +80,8 @@ fn push_result(text: &mut Text, ret: &Option<FieldType>) -> M<()>
     }
 }
 
-fn push_parameters(text: &mut Text, types: &[FieldType]) -> M<()>
-    ensures { OnOk result (text.new ≡ text.old ++ flat_map field_text types.now) }
+fn push_parameters(text: &mut String, types: &[FieldType]) -> M<()>
+    ensures { OnOk result (string_bytes text.new ≡ string_bytes text.old ++ flat_map field_text types.now) }
 {
     for ty in types {
         push_field(text, ty)?;
@@ -89,16 +90,16 @@ fn push_parameters(text: &mut Text, types: &[FieldType]) -> M<()>
 }
 
 #[tactic(auto, unfolding(crate::specs::Types::field_text))]
-fn push_field(text: &mut Text, ty: &FieldType) -> M<()>
-    ensures { OnOk result (text.new ≡ text.old ++ field_text ty.now) }
+fn push_field(text: &mut String, ty: &FieldType) -> M<()>
+    ensures { OnOk result (string_bytes text.new ≡ string_bytes text.old ++ field_text ty.now) }
 {
     push_brackets(text, ty.dims)?;
     push_base(text, &ty.base)?;
     Ok(())
 }
 
-fn push_brackets(text: &mut Text, count: u8) -> M<()>
-    ensures { OnOk result (text.new ≡ text.old ++ replicate count 91) }
+fn push_brackets(text: &mut String, count: u8) -> M<()>
+    ensures { OnOk result (string_bytes text.new ≡ string_bytes text.old ++ replicate count 91) }
 {
     for _ in 0..count {
         text.push_str("[")?;
@@ -107,8 +108,8 @@ fn push_brackets(text: &mut Text, count: u8) -> M<()>
 }
 
 #[tactic(auto, unfolding(crate::specs::Types::base_text))]
-fn push_base(text: &mut Text, base: &Base) -> M<()>
-    ensures { OnOk result (text.new ≡ text.old ++ base_text base.now) }
+fn push_base(text: &mut String, base: &Base) -> M<()>
+    ensures { OnOk result (string_bytes text.new ≡ string_bytes text.old ++ base_text base.now) }
 {
     let letter = match base {
         Base::Boolean => "Z",
@@ -125,8 +126,8 @@ fn push_base(text: &mut Text, base: &Base) -> M<()>
     Ok(())
 }
 
-fn push_class(text: &mut Text, name: &Name) -> M<()>
-    ensures { OnOk result (text.new ≡ text.old ++ (codes "L" ++ (name.now ++ codes ";"))) }
+fn push_class(text: &mut String, name: &Name) -> M<()>
+    ensures { OnOk result (string_bytes text.new ≡ string_bytes text.old ++ (codes "L" ++ (name.now ++ codes ";"))) }
 {
     text.push_str("L")?;
     text.push_str(name.as_str())?;

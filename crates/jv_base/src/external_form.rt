@@ -18,10 +18,10 @@ pub fn external(alloc: Global, ty: &FieldType) -> M<Text>
     ensures written { IfOk result (λ text. text ≡ external_text ty.now) }
     ensures read_back { IsFieldType ty.now → IfOk result (λ text. read_external text ≡ Ok ty.now) }
 {
-    let mut text = Text::from_string(String::new(alloc));
+    let mut text = String::new(alloc);
     push_word(alloc, &mut text, &ty.base)?;
     push_dimensions(&mut text, ty.dims)?;
-    Ok(text)
+    Ok(Text::from_string(alloc, text)?)
 }
 
 /// The type that a text spells as Java source does: a class name with dots, or the word of a base type, and then
@@ -37,8 +37,8 @@ pub fn read_external(alloc: Global, text: &Text) -> Result<FieldType, Or<BadDesc
 }
 
 #[tactic(auto, unfolding(crate::specs::External::word_text))]
-fn push_word(alloc: Global, text: &mut Text, base: &Base) -> M<()>
-    ensures { OnOk result (text.new ≡ text.old ++ word_text base.now) }
+fn push_word(alloc: Global, text: &mut String, base: &Base) -> M<()>
+    ensures { OnOk result (string_bytes text.new ≡ string_bytes text.old ++ word_text base.now) }
 {
     let word = match base {
         Base::Boolean => "boolean",
@@ -59,8 +59,8 @@ fn push_word(alloc: Global, text: &mut Text, base: &Base) -> M<()>
     Ok(())
 }
 
-fn push_dimensions(text: &mut Text, count: u8) -> M<()>
-    ensures { OnOk result (text.new ≡ text.old ++ repeat count (codes "[]")) }
+fn push_dimensions(text: &mut String, count: u8) -> M<()>
+    ensures { OnOk result (string_bytes text.new ≡ string_bytes text.old ++ repeat count (codes "[]")) }
 {
     for _ in 0..count {
         text.push_str("[]")?;
@@ -176,7 +176,7 @@ fn word_base(alloc: Global, text: &str, to: usize) -> M<Option<Base>>
         return Ok(Some(base));
     }
     if is_class_name(word.as_str()) {
-        Ok(Some(Base::Class(Text::from_string(word))))
+        Ok(Some(Base::Class(Text::from_string(alloc, word)?)))
     } else {
         Ok(None)
     }

@@ -54,7 +54,7 @@ pub fn mutf8_of_units(alloc: Global, units: &Units) -> M<Bytes>
     ensures written { IfOk result (λ bytes. bytes ≡ mutf8 units.now) }
     ensures read_back { IfOk result (λ bytes. read_mutf8 bytes ≡ Ok units.now) }
 {
-    let mut bytes = Items::new(alloc);
+    let mut bytes = Items::with_capacity(alloc, units.len())?;
     for unit in units.as_slice() {
         push_unit(&mut bytes, *unit)?;
     }
@@ -103,7 +103,7 @@ fn decoded(alloc: Global, bytes: &[u8]) -> Result<Units, Or<BadUtf8>>
     requires { length bytes.now < 4294967295 }
     ensures { IsDue result (read_mutf8 bytes.now) }
 {
-    let mut units = Items::new(alloc);
+    let mut units = Items::with_capacity(alloc, bytes.len())?;
     let mut awaited = Awaited::Lead;
     for (at, byte) in bytes.iter().enumerate() {
         let Some(taken) = take(awaited, *byte) else {

@@ -11,8 +11,7 @@ fn lists_and_texts_keep_what_is_put_in(rt: HostRuntime) -> Result<(), Fail> {
     assert_eq!(rt; items[1], 5);
     let copy = items.clone()?;
     assert!(rt; copy == items);
-    let mut text = Text::from_str(alloc, "in")?;
-    text.push_str("/a")?;
+    let text = Text::from_str(alloc, "in/a")?;
     assert_eq!(rt; text.as_str(), "in/a");
     assert!(rt; text.clone()? == text);
     Ok(())
@@ -30,12 +29,12 @@ fn repeated(
     count: u32,
     end: &str,
 ) -> Result<Text, Fail> {
-    let mut made = text(rt, start)?;
+    let mut made = String::from_str(rt.alloc(), start)?;
     for _ in 0..count {
         made.push_str(piece)?;
     }
     made.push_str(end)?;
-    Ok(made)
+    Ok(Text::from_string(rt.alloc(), made)?)
 }
 
 /// The place of the fault, if there is one.

@@ -1,5 +1,5 @@
 // A text in a public record.
-ghost use Rattle.std.specs.Prelude.{◌≡◌, ℕ, ◌++◌, ◌==◌, length, IfOk, if◌then◌else◌, is_ok, string_bytes, Some, nat_eq, refl};
+ghost use Rattle.std.specs.Prelude.{◌≡◌, ℕ, ◌==◌, length, IfOk, string_bytes, Some, nat_eq, refl};
 ghost use Rattle.std.specs.Cmp.Lexicographic.{pointwise, slice_cmp, nat_list_cmp_total, nat_list_eq_equiv, texts_po, texts_ties};
 ghost use Rattle.std.specs.Cmp as compared;
 ghost use Rattle.std.specs.Hash as fed;
@@ -7,15 +7,18 @@ ghost use Rattle.std.specs.Cmp.Rules.{hashing};
 ghost use Rattle.std.proofs.Common.{rules};
 ghost use Rattle.std.specs.Ordering.{nat_cmp};
 
+use crate::Shared;
 use std::alloc::{AllocError, Global};
 use std::cmp::Ordering;
 use std::hash::{Hash, Hasher};
 use std::marker::Model;
 
 /// A text, which contracts see as its bytes in UTF-8.
-#[derive(Debug, Drop)]
+///
+/// Its string is kept once however many texts own it, so a copy takes no memory.
+#[derive(Drop)]
 pub struct Text {
-    text: String,
+    text: Shared<String>,
 }
 
 impl Model for Text {
@@ -27,27 +30,20 @@ impl Model for Text {
 }
 
 impl Text {
-    /// The text of a string, which takes no memory.
-    pub fn from_string(text: String) -> Self
-        ensures { result ≡ string_bytes text }
+    /// The text of a string.
+    pub fn from_string(alloc: Global, text: String) -> Result<Text, AllocError>
+        ensures { IfOk result (λ t. t ≡ string_bytes text) }
     {
-        Text { text }
+        Ok(Text {
+            text: Shared::new(alloc, text)?,
+        })
     }
 
     /// A copy of a text.
     pub fn from_str(alloc: Global, text: &str) -> Result<Text, AllocError>
         ensures { IfOk result (λ t. t ≡ text.now) }
     {
-        Ok(Text {
-            text: String::from_str(alloc, text)?,
-        })
-    }
-
-    /// The string of the text, which takes no memory.
-    pub fn into_string(self) -> String
-        ensures { string_bytes result ≡ self }
-    {
-        self.text
+        Text::from_string(alloc, String::from_str(alloc, text)?)
     }
 
     /// The text.
@@ -77,13 +73,6 @@ impl Text {
     {
         self.text.is_empty()
     }
-
-    /// Appends a text; where memory is wanting, this one is as it was.
-    pub fn push_str(&mut self, more: &str) -> Result<(), AllocError>
-        ensures { self.new ≡ (if is_ok result then self.old ++ more.now else self.old) }
-    {
-        self.text.push_str(more)
-    }
 }
 
 impl PartialEq for Text {
@@ -92,7 +81,7 @@ impl PartialEq for Text {
     ghost laws = { compared.partial_equiv_from_equiv nat_list_eq_equiv };
 
     fn eq(&self, other: &Text) -> bool {
-        self.text == other.text
+        self.as_str() == other.as_str()
     }
 }
 
@@ -120,7 +109,7 @@ impl Ord for Text {
     ghost matches_eq = { texts_ties };
 
     fn cmp(&self, other: &Text) -> Ordering {
-        self.text.cmp(&other.text)
+        self.as_str().cmp(other.as_str())
     }
 }
 
@@ -140,6 +129,6 @@ impl Hash for Text {
     ghost respects_eq = { Prim.search (hashing, rules) };
 
     fn hash<H: Hasher>(&self, state: &mut H) {
-        self.text.hash(state);
+        self.as_str().hash(state);
     }
 }

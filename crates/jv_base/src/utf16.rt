@@ -13,7 +13,7 @@ pub fn text_of_units(alloc: Global, units: &[u16]) -> M<Option<Text>>
     ensures only { IfOk result (λ text. (t : List ℕ) → IsTextOf t units.now → text ≡ Some t) }
 {
     match String::from_utf16(alloc, units)? {
-        Ok(text) => Ok(Some(Text::from_string(text))),
+        Ok(text) => Ok(Some(Text::from_string(alloc, text)?)),
         Err(_) => Ok(None),
     }
 }
@@ -23,7 +23,7 @@ pub fn units_of_text(alloc: Global, text: &Text) -> M<Units>
     ensures written { IfOk result (λ units. units ≡ units_of text.now) }
     ensures read_back { IfOk result (λ units. IsTextOf text.now units) }
 {
-    let mut units = Items::new(alloc);
+    let mut units = Items::with_capacity(alloc, text.len())?;
     for unit in text.as_str().encode_utf16() {
         units.push(unit)?;
     }

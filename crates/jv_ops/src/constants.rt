@@ -17,7 +17,7 @@ use std::marker::Model;
 
 /// The constants of a pool in the order of their indices, the first at index 1. Contracts see the list of
 /// them. The index of a constant is found without going through the others.
-#[derive(Debug, Drop)]
+#[derive(Drop)]
 pub struct ConstantTable {
     constants: Vec<PoolConstant>,
     /// The index of the first place of each.

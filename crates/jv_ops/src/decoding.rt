@@ -16,7 +16,7 @@ use jv_base::{Cursor, Items, M, Or};
 use std::alloc::Global;
 
 /// The instructions of a code, and the offset of each one's first byte.
-#[derive(Debug, Drop)]
+#[derive(Drop)]
 pub struct Decoded {
     pub ops: Items<Op>,
     /// As many as there are instructions, ascending from 0.

@@ -15,7 +15,7 @@ use jv_base::{Bytes, Items, M, Or};
 use std::alloc::Global;
 
 /// The bytes of a code, and the offset of each instruction's first byte.
-#[derive(Debug, Drop)]
+#[derive(Drop)]
 pub struct Coded {
     pub bytes: Bytes,
     /// As many as there are instructions, ascending from 0.

@@ -25,7 +25,7 @@ use crate::opcodes::{
 };
 use crate::unaimed::{Match, Unaimed};
 use class_model::{Entry, MemberRef, Op, Pool};
-use jv_base::{Base, Cursor, FieldType, Items, M, Or};
+use jv_base::{Base, Cursor, FieldType, Items, M, Or, Shared};
 use std::alloc::Global;
 
 // ---- what an operand means
@@ -58,7 +58,7 @@ fn loaded(alloc: Global, pool: &Pool, index: u16) -> M<Option<Op>>
         return Ok(Some(Op::PushInt(*value)));
     }
     match string_units_at(pool, index) {
-        Some(units) => Ok(Some(Op::PushText(units.clone()?))),
+        Some(units) => Ok(Some(Op::PushText(Shared::new(alloc, units.clone()?)?))),
         None => Ok(None),
     }
 }
@@ -93,12 +93,12 @@ fn member_op(alloc: Global, opcode: u8, pool: &Pool, index: u16) -> M<Option<Op>
 {
     if is_on_field(opcode) {
         return match fieldref_at(alloc, pool, index)? {
-            Some(field) => Ok(field_op(opcode, field)),
+            Some(field) => Ok(field_op(opcode, Shared::new(alloc, field)?)),
             None => Ok(None),
         };
     }
     match method_named(alloc, opcode, pool, index)? {
-        Some(method) => Ok(method_op(opcode, method)),
+        Some(method) => Ok(method_op(opcode, Shared::new(alloc, method)?)),
         None => Ok(None),
     }
 }
@@ -110,7 +110,7 @@ fn can_be_operand(opcode: u8, ty: &FieldType) -> bool
     opcode != 0xBD || ty.dims <= 254
 }
 
-fn of_type(opcode: u8, ty: FieldType) -> Option<Op>
+fn of_type(opcode: u8, ty: Shared<FieldType>) -> Option<Op>
     ensures { result ≡ of_type opcode ty }
 {
     if can_be_operand(opcode, &ty) {
@@ -131,7 +131,7 @@ fn class_op(alloc: Global, opcode: u8, pool: &Pool, index: u16) -> M<Option<Op>>
         };
     }
     match type_at(alloc, pool, index)? {
-        Some(ty) => Ok(of_type(opcode, ty)),
+        Some(ty) => Ok(of_type(opcode, Shared::new(alloc, ty)?)),
         None => Ok(None),
     }
 }
@@ -345,7 +345,7 @@ fn invoke_interface(alloc: Global, pool: &Pool, cursor: &mut Cursor) -> Result<U
     if cursor.u1()? != 0 {
         return bad_operand();
     }
-    Ok(Unaimed::Whole(Op::InvokeInterface(method)))
+    Ok(Unaimed::Whole(Op::InvokeInterface(Shared::new(alloc, method)?)))
 }
 
 fn new_array(cursor: &mut Cursor) -> Result<Unaimed, Or<Wrong>>
@@ -372,7 +372,7 @@ fn multi_new_array(alloc: Global, pool: &Pool, cursor: &mut Cursor) -> Result<Un
     if dimensions == 0 || dimensions > ty.dims {
         return bad_operand();
     }
-    Ok(Unaimed::Whole(Op::MultiNewArray(ty, dimensions)))
+    Ok(Unaimed::Whole(Op::MultiNewArray(Shared::new(alloc, ty)?, dimensions)))
 }
 
 // ---- switches

@@ -4,7 +4,7 @@ ghost use Rattle.class_model.specs.Opcodes.{kind_of, elem_of, cond_of, constant_
 ghost use Rattle.class_model.specs.declared.op.Op.TheVariants as op;
 
 use class_model::{ArithOp, Cond, ConvOp, Elem, Kind, LogicOp, MemberRef, Num, Op, ShiftOp};
-use jv_base::{Base, FieldType};
+use jv_base::{Base, FieldType, Shared};
 
 // ---- the order in which the standard goes through types and comparisons
 
@@ -251,7 +251,7 @@ pub fn branch_op(opcode: u8, to: u32) -> Option<Op>
 }
 
 /// The instruction on a field.
-pub fn field_op(opcode: u8, field: MemberRef) -> Option<Op>
+pub fn field_op(opcode: u8, field: Shared<MemberRef>) -> Option<Op>
     ensures { result ≡ option_map (λ make. make field) (field_op opcode) }
 {
     match opcode {
@@ -264,7 +264,7 @@ pub fn field_op(opcode: u8, field: MemberRef) -> Option<Op>
 }
 
 /// The instruction on a method, invokeinterface aside.
-pub fn method_op(opcode: u8, method: MemberRef) -> Option<Op>
+pub fn method_op(opcode: u8, method: Shared<MemberRef>) -> Option<Op>
     ensures { result ≡ option_map (λ make. make method) (method_op opcode) }
 {
     match opcode {
@@ -283,7 +283,7 @@ pub fn takes_interface_method(opcode: u8) -> bool
 }
 
 /// The instruction on a type, new aside.
-pub fn type_op(opcode: u8, ty: FieldType) -> Option<Op>
+pub fn type_op(opcode: u8, ty: Shared<FieldType>) -> Option<Op>
     ensures { result ≡ option_map (λ make. make ty) (type_op opcode) }
 {
     match opcode {

@@ -10,7 +10,7 @@ use jv_base::{Items, M, Units};
 use std::alloc::Global;
 
 /// The texts of a reference to a member (JVMS 4.4.2).
-#[derive(Debug, Drop)]
+#[derive(Drop)]
 pub struct Member {
     pub class: Units,
     pub name: Units,

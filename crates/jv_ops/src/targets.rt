@@ -13,7 +13,7 @@ use crate::opcodes::branch_op;
 use crate::unaimed::{Match, Placed, Unaimed};
 use class_model::{Case, Op};
 use format_reading::FormatKind;
-use jv_base::{Items, M, Or};
+use jv_base::{Items, M, Or, Shared};
 use std::alloc::Global;
 
 // ---- the number of the instruction at each offset
@@ -134,7 +134,7 @@ fn branch(table: &[Option<u32>], at: u32, opcode: u8, offset: i32) -> Result<Op,
     }
 }
 
-fn table_op(low: u32, other: u32, cases: Items<u32>) -> Op
+fn table_op(low: u32, other: u32, cases: Shared<Items<u32>>) -> Op
     ensures { result ≡ op.TableSwitch (cast_signed w32 low) other cases }
 {
     Op::TableSwitch {
@@ -159,7 +159,7 @@ fn table_aimed(
         Err(kind) => return Err(Or::Fault(kind)),
     };
     let cases = targets(alloc, table, at, offsets)?;
-    Ok(table_op(low, other, cases))
+    Ok(table_op(low, other, Shared::new(alloc, cases)?))
 }
 
 fn lookup_aimed(
@@ -176,6 +176,7 @@ fn lookup_aimed(
         Err(kind) => return Err(Or::Fault(kind)),
     };
     let cases = cases(alloc, table, at, matches)?;
+    let cases = Shared::new(alloc, cases)?;
     Ok(Op::LookupSwitch { other, cases })
 }
 

@@ -6,7 +6,7 @@ use class_model::{
     ArithOp, Case, Cond, ConvOp, Elem, Entry, Ins, Kind, LogicOp, Num, Op, Pool, ShiftOp,
     WriteLimit, same_op,
 };
-use jv_base::{Base, Items, M, Or};
+use jv_base::{Base, Items, M, Or, Shared};
 use std::alloc::Global;
 use std::test::Fail;
 
@@ -191,7 +191,7 @@ fn targets_and_switches(rt: HostRuntime) -> Result<(), Fail> {
         Op::TableSwitch {
             low: -1,
             other: 2,
-            cases: one,
+            cases: Shared::new(alloc, one)?,
         },
         Op::Return(None),
     ];
@@ -207,7 +207,10 @@ fn targets_and_switches(rt: HostRuntime) -> Result<(), Fail> {
         Op::Nop,
         Op::Nop,
         Op::Nop,
-        Op::LookupSwitch { other: 4, cases },
+        Op::LookupSwitch {
+            other: 4,
+            cases: Shared::new(alloc, cases)?,
+        },
         Op::Return(None),
     ];
     assert!(rt; decodes(alloc, &lookup, &pool, &ops, &[0, 1, 2, 3, 28]));

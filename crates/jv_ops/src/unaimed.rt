@@ -4,7 +4,7 @@ use jv_base::Items;
 
 /// An instruction whose targets are still told as the class file does: by how many bytes they are away from
 /// it (JVMS 4.9.1). Numbers of four bytes stand as they are written, in two's complement.
-#[derive(Debug, Drop)]
+#[derive(Drop)]
 pub enum Unaimed {
     /// It has no target.
     Whole(Op),
@@ -27,14 +27,14 @@ pub enum Unaimed {
 }
 
 /// A key of a lookupswitch, and the offset of its target.
-#[derive(Clone, Copy, Debug)]
+#[derive(Clone, Copy)]
 pub struct Match {
     pub key: u32,
     pub offset: u32,
 }
 
 /// An instruction with the offset of its first byte.
-#[derive(Debug, Drop)]
+#[derive(Drop)]
 pub struct Placed {
     pub at: u32,
     pub op: Unaimed,

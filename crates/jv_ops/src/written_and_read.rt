@@ -10,7 +10,7 @@ use class_model::{
     ArithOp, Case, Cond, ConvOp, Elem, Entry, Ins, Kind, LogicOp, MemberRef, Num, Op, Pool,
     ShiftOp, WriteLimit, same_op,
 };
-use jv_base::{Base, FieldType, Items, M, Or, Text, units_of_text};
+use jv_base::{Base, FieldType, Items, M, Or, Shared, Text, units_of_text};
 use std::alloc::Global;
 use std::test::Fail;
 
@@ -562,7 +562,7 @@ fn table_switch(alloc: Global) -> M<Op> {
     Ok(Op::TableSwitch {
         low: 1,
         other: 10,
-        cases,
+        cases: Shared::new(alloc, cases)?,
     })
 }
 
@@ -570,7 +570,10 @@ fn table_switch(alloc: Global) -> M<Op> {
 fn lookup_switch(alloc: Global) -> M<Op> {
     let mut cases = Items::new(alloc);
     cases.push(Case { key: 1, to: 0 })?;
-    Ok(Op::LookupSwitch { other: 10, cases })
+    Ok(Op::LookupSwitch {
+        other: 10,
+        cases: Shared::new(alloc, cases)?,
+    })
 }
 
 // Both kinds have the same operands here: low and high are 1, or one pair with the key 1.
@@ -651,22 +654,24 @@ fn rows_of_ints() -> FieldType {
     }
 }
 
-fn field(alloc: Global) -> M<MemberRef> {
-    Ok(MemberRef {
+fn field(alloc: Global) -> M<Shared<MemberRef>> {
+    let field = MemberRef {
         class: class_a(alloc)?,
         name: Text::from_str(alloc, "f")?,
         ty: Text::from_str(alloc, "I")?,
         of_interface: false,
-    })
+    };
+    Ok(Shared::new(alloc, field)?)
 }
 
-fn method(alloc: Global, of_interface: bool) -> M<MemberRef> {
-    Ok(MemberRef {
+fn method(alloc: Global, of_interface: bool) -> M<Shared<MemberRef>> {
+    let method = MemberRef {
         class: class_a(alloc)?,
         name: Text::from_str(alloc, "m")?,
         ty: Text::from_str(alloc, "(J)V")?,
         of_interface,
-    })
+    };
+    Ok(Shared::new(alloc, method)?)
 }
 
 #[test]
@@ -701,15 +706,15 @@ fn operands_of_the_pool(rt: HostRuntime) -> Result<(), Fail> {
     );
     let types = vec![in alloc;
         Op::New(Text::from_str(alloc, "A")?),
-        Op::ANewArray(class_a(alloc)?),
-        Op::ANewArray(rows_of_ints()),
-        Op::CheckCast(class_a(alloc)?),
-        Op::CheckCast(rows_of_ints()),
-        Op::InstanceOf(class_a(alloc)?),
-        Op::InstanceOf(rows_of_ints()),
-        Op::MultiNewArray(rows_of_ints(), 1),
-        Op::MultiNewArray(rows_of_ints(), 2),
-        Op::PushText(units_of_text(alloc, &Text::from_str(alloc, "f")?)?),
+        Op::ANewArray(Shared::new(alloc, class_a(alloc)?)?),
+        Op::ANewArray(Shared::new(alloc, rows_of_ints())?),
+        Op::CheckCast(Shared::new(alloc, class_a(alloc)?)?),
+        Op::CheckCast(Shared::new(alloc, rows_of_ints())?),
+        Op::InstanceOf(Shared::new(alloc, class_a(alloc)?)?),
+        Op::InstanceOf(Shared::new(alloc, rows_of_ints())?),
+        Op::MultiNewArray(Shared::new(alloc, rows_of_ints())?, 1),
+        Op::MultiNewArray(Shared::new(alloc, rows_of_ints())?, 2),
+        Op::PushText(Shared::new(alloc, units_of_text(alloc, &Text::from_str(alloc, "f")?)?)?),
     ]?;
     let bytes = [
         0xBB, 0, 2, 0xBD, 0, 2, 0xBD, 0, 13, 0xC0, 0, 2, 0xC0, 0, 13, 0xC1, 0, 2, 0xC1, 0, 13,

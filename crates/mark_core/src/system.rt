@@ -15,7 +15,7 @@ pub struct Pair {
 
 /// The items are the numbers below `n`. A seed is marked; the list at `x` in `needs` holds the items
 /// that are marked where `x` is; and a pair marks its derived item where both of its items are marked.
-#[derive(Debug, Drop)]
+#[derive(Drop)]
 pub struct System {
     pub n: u32,
     pub seeds: Items<u32>,

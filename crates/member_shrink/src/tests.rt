@@ -111,7 +111,7 @@ fn two_classes(alloc: Global) -> M<Items<Class>>
 // ---- what is left
 
 /// Adds the name of a class and those of its members.
-fn push_names(names: &mut Text, class: &Class) -> M<()> {
+fn push_names(names: &mut String, class: &Class) -> M<()> {
     names.push_str(class.name.as_str())?;
     for field in class.fields.as_slice() {
         names.push_str(field.name.as_str())?;
@@ -126,7 +126,7 @@ fn are_left(alloc: Global, marks: &[bool; 8], names: &str) -> M<bool> {
     let classes = two_classes(alloc)?;
     let marks = Items::from_vec(marks.to_vec(alloc)?);
     let left = shrunk(alloc, classes, &marks)?;
-    let mut found = Text::from_str(alloc, "")?;
+    let mut found = String::new(alloc);
     for class in left.as_slice() {
         push_names(&mut found, class)?;
     }

@@ -1,5 +1,5 @@
 // The texts of classes and members.
-ghost use Rattle.std.specs.Prelude.{◌≡◌, ◌+◌, ◌<◌, ◌++◌, IfOk, OnOk, Some, codes, length, slice_get};
+ghost use Rattle.std.specs.Prelude.{◌≡◌, ◌+◌, ◌<◌, ◌++◌, IfOk, OnOk, Some, codes, length, slice_get, string_bytes};
 ghost use Rattle.std.specs.List.{flat_map, join_by};
 ghost use Rattle.jv_base.specs.External.{dotted, external_text};
 ghost use Rattle.report_text.specs.Spelled.{class_text, field_text, member_texts, method_text, result_text};
@@ -42,22 +42,18 @@ pub fn member_text(alloc: Global, class: &Class, member: u32) -> M<Text>
 fn field_text(alloc: Global, field: &Field) -> M<Text>
     ensures { IfOk result (λ text. text ≡ field_text field.now) }
 {
-    let mut text = external(alloc, &field.ty)?;
-    text.push_str(" ")?;
-    text.push_str(field.name.as_str())?;
-    Ok(text)
+    let ty = external(alloc, &field.ty)?;
+    let (ty, name) = (ty.as_str(), field.name.as_str());
+    Ok(Text::from_string(alloc, format!(in alloc; "{ty} {name}")?)?)
 }
 
 fn method_text(alloc: Global, method: &Method) -> M<Text>
     ensures { IfOk result (λ text. text ≡ method_text method.now) }
 {
-    let mut text = result_text(alloc, &method.ty.ret)?;
-    text.push_str(" ")?;
-    text.push_str(method.name.as_str())?;
-    text.push_str("(")?;
-    push_types(alloc, &mut text, method.ty.args.as_slice())?;
-    text.push_str(")")?;
-    Ok(text)
+    let ret = result_text(alloc, &method.ty.ret)?;
+    let args = types_text(alloc, method.ty.args.as_slice())?;
+    let (ret, name, args) = (ret.as_str(), method.name.as_str(), args.as_str());
+    Ok(Text::from_string(alloc, format!(in alloc; "{ret} {name}({args})")?)?)
 }
 
 fn result_text(alloc: Global, ret: &Option<FieldType>) -> M<Text>
@@ -69,8 +65,17 @@ fn result_text(alloc: Global, ret: &Option<FieldType>) -> M<Text>
     }
 }
 
-fn push_types(alloc: Global, text: &mut Text, types: &[FieldType]) -> M<()>
-    ensures { OnOk result (text.new ≡ text.old ++ join_by external_text (codes ",") types.now) }
+/// The types with commas between them.
+fn types_text(alloc: Global, types: &[FieldType]) -> M<String>
+    ensures { IfOk result (λ text. string_bytes text ≡ join_by external_text (codes ",") types.now) }
+{
+    let mut text = String::new(alloc);
+    push_types(alloc, &mut text, types)?;
+    Ok(text)
+}
+
+fn push_types(alloc: Global, text: &mut String, types: &[FieldType]) -> M<()>
+    ensures { OnOk result (string_bytes text.new ≡ string_bytes text.old ++ join_by external_text (codes ",") types.now) }
 {
     let [first, rest @ ..] = types else {
         return Ok(());
@@ -83,8 +88,8 @@ fn push_types(alloc: Global, text: &mut Text, types: &[FieldType]) -> M<()>
     Ok(())
 }
 
-fn push_type(alloc: Global, text: &mut Text, ty: &FieldType) -> M<()>
-    ensures { OnOk result (text.new ≡ text.old ++ external_text ty.now) }
+fn push_type(alloc: Global, text: &mut String, ty: &FieldType) -> M<()>
+    ensures { OnOk result (string_bytes text.new ≡ string_bytes text.old ++ external_text ty.now) }
 {
     let spelled = external(alloc, ty)?;
     text.push_str(spelled.as_str())?;

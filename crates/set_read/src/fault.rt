@@ -8,7 +8,7 @@ use jv_base::Text;
 use link_check::ProfileKind;
 
 /// Why files aren't taken as a set of classes.
-#[derive(Debug, Drop)]
+#[derive(Drop)]
 pub enum SetFault {
     /// The bytes of the file with this path are no class file.
     Format(Text, FormatFault),
@@ -17,7 +17,7 @@ pub enum SetFault {
 }
 
 /// The first place of a set that breaks a rule.
-#[derive(Debug, Drop)]
+#[derive(Drop)]
 pub struct RuleFault {
     /// The class, with its external name.
     pub class: Text,

@@ -35,17 +35,14 @@ fn file_of(alloc: Global, class: Class, directory: &Text) -> Result<FileAt, Or<W
     ensures exact { WritesOne result class directory.now }
 {
     let bytes = write_class(alloc, &class)?;
-    let path = path_of(directory, &class)?;
+    let path = path_of(alloc, directory, &class)?;
     Ok(FileAt { path, bytes })
 }
 
 /// The path of a class's file below a directory.
-fn path_of(directory: &Text, class: &Class) -> M<Text>
+fn path_of(alloc: Global, directory: &Text, class: &Class) -> M<Text>
     ensures { IfOk result (λ path. path ≡ path_of directory.now class.now) }
 {
-    let mut path = directory.clone()?;
-    path.push_str("/")?;
-    path.push_str(class.name.as_str())?;
-    path.push_str(".class")?;
-    Ok(path)
+    let (directory, name) = (directory.as_str(), class.name.as_str());
+    Ok(Text::from_string(alloc, format!(in alloc; "{directory}/{name}.class")?)?)
 }

@@ -18,7 +18,7 @@ use std::alloc::Global;
 use tree_io::FileAt;
 
 /// What is written of a set, and what was kept of it.
-#[derive(Debug, Drop)]
+#[derive(Drop)]
 pub struct ShrunkSet {
     /// The files of the kept classes, in the order of the set.
     pub files: Items<FileAt>,

@@ -10,7 +10,7 @@ use link_check::{ProfileFault, check_links};
 use std::alloc::Global;
 
 /// What is said of a set.
-#[derive(Debug, Drop)]
+#[derive(Drop)]
 pub enum Judgement {
     Taken,
     /// The paths of the files don't ascend, or they are too many.
@@ -90,7 +90,7 @@ pub fn judgement_text(alloc: Global, judgement: &Judgement) -> M<Text> {
 }
 
 fn line_of(alloc: Global, front: &str, class: &Text, member: Option<&Text>, kind: &str) -> M<Text> {
-    let mut text = Text::from_str(alloc, front)?;
+    let mut text = String::from_str(alloc, front)?;
     text.push_str(class.as_str())?;
     if let Some(member) = member {
         text.push_str(" ")?;
@@ -98,12 +98,12 @@ fn line_of(alloc: Global, front: &str, class: &Text, member: Option<&Text>, kind
     }
     text.push_str(" ")?;
     text.push_str(kind)?;
-    Ok(text)
+    Ok(Text::from_string(alloc, text)?)
 }
 
 fn member_text(alloc: Global, member: Option<u32>) -> M<Text> {
     match member {
-        Some(number) => Ok(Text::from_string(format!(in alloc; "{number}")?)),
+        Some(number) => Ok(Text::from_string(alloc, format!(in alloc; "{number}")?)?),
         None => Ok(Text::from_str(alloc, "-")?),
     }
 }

@@ -60,7 +60,7 @@ fn words_of(rt: &HostRuntime, alloc: Global) -> M<Items<Text>> {
     match env::args(rt) {
         Ok(args) => {
             for word in args.skip(1) {
-                words.push(Text::from_string(word))?;
+                words.push(Text::from_string(alloc, word)?)?;
             }
         }
         Err(error) if error.kind() == ErrorKind::OutOfMemory => return Err(jv_base::OutOfMemory),

@@ -32,10 +32,10 @@ fn asked_method(alloc: Global, method: &KeptMethod) -> M<AskedMethod>
 fn ints_descriptor(alloc: Global, ints: usize) -> M<Text>
     ensures { IfOk result (λ text. text ≡ ints_descriptor ints) }
 {
-    let mut text = Text::from_str(alloc, "(")?;
+    let mut text = String::from_str(alloc, "(")?;
     for _ in 0..ints {
         text.push_str("I")?;
     }
     text.push_str(")I")?;
-    Ok(text)
+    Ok(Text::from_string(alloc, text)?)
 }

@@ -12,7 +12,7 @@ use jv_base::{Items, M, Name, Text, is_member_name};
 use std::alloc::Global;
 
 /// A method of `Main` that is kept: `static int NAME(int,..,int);`.
-#[derive(Debug, Drop)]
+#[derive(Drop)]
 pub struct KeptMethod {
     pub name: Name,
     /// How many ints it takes.
@@ -20,7 +20,7 @@ pub struct KeptMethod {
 }
 
 /// What a config says.
-#[derive(Debug, Drop)]
+#[derive(Drop)]
 pub struct Config {
     /// The directory of `-injars`.
     pub input: Text,

@@ -118,7 +118,7 @@ fn set_of(alloc: Global, directory: &Text, files: Items<FileAt>) -> Result<Class
     match read_set(alloc, files) {
         Ok(set) => Ok(set),
         Err(Or::Fault(SetFault::Format(below, fault))) => {
-            let path = path_in(directory, &below)?;
+            let path = path_in(alloc, directory, &below)?;
             Err(Stop::Refused(Refusal::Format(path, fault)))
         }
         Err(Or::Fault(SetFault::Rule(fault))) => Err(Stop::Refused(Refusal::Profile(fault))),
@@ -127,11 +127,9 @@ fn set_of(alloc: Global, directory: &Text, files: Items<FileAt>) -> Result<Class
 }
 
 /// The path of a file below a directory.
-fn path_in(directory: &Text, below: &Text) -> M<Text>
+fn path_in(alloc: Global, directory: &Text, below: &Text) -> M<Text>
     ensures { IfOk result (λ path. path ≡ path_in directory.now below.now) }
 {
-    let mut path = directory.clone()?;
-    path.push_str("/")?;
-    path.push_str(below.as_str())?;
-    Ok(path)
+    let (directory, below) = (directory.as_str(), below.as_str());
+    Ok(Text::from_string(alloc, format!(in alloc; "{directory}/{below}")?)?)
 }

@@ -5,7 +5,7 @@ ghost use Rattle.shrink_core.specs.Refusal.{quantity_limit, quantity_name, quant
 use class_model::WriteLimit;
 
 /// A counted quantity with a limit.
-#[derive(Clone, Copy, Debug, PartialEq, Eq)]
+#[derive(Clone, Copy, PartialEq, Eq)]
 pub enum Quantity {
     /// The bytes of the config.
     Config,

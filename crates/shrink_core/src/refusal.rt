@@ -11,7 +11,7 @@ use set_read::RuleFault;
 use std::alloc::{AllocError, Global};
 
 /// Why a command is refused.
-#[derive(Debug, Drop)]
+#[derive(Drop)]
 pub enum Refusal {
     /// No file stands at the path of the config.
     NoConfig,
@@ -30,7 +30,7 @@ pub enum Refusal {
 }
 
 /// Why a command ends without its result.
-#[derive(Debug, Drop)]
+#[derive(Drop)]
 pub enum Stop {
     Refused(Refusal),
     /// A device failed.
@@ -87,10 +87,8 @@ pub fn refusal_line(alloc: Global, config: &Text, refusal: &Refusal) -> M<Text>
 fn path_line(alloc: Global, front: &str, path: &Text) -> M<Text>
     ensures { IfOk result (λ line. line ≡ front.now ++ (path.now ++ codes "\n")) }
 {
-    let mut line = Text::from_str(alloc, front)?;
-    line.push_str(path.as_str())?;
-    line.push_str("\n")?;
-    Ok(line)
+    let path = path.as_str();
+    Ok(Text::from_string(alloc, format!(in alloc; "{front}{path}\n")?)?)
 }
 
 /// The line of a file that is no class file.
@@ -101,7 +99,7 @@ fn format_line(alloc: Global, path: &Text, fault: &FormatFault) -> M<Text>
     let offset = fault.offset;
     let kind = format_name(fault.kind);
     let line = format!(in alloc; "error 4 format {path} {offset} {kind}\n")?;
-    Ok(Text::from_string(line))
+    Ok(Text::from_string(alloc, line)?)
 }
 
 /// The line of a class that breaks a rule.
@@ -115,7 +113,7 @@ fn profile_line(alloc: Global, fault: &RuleFault) -> M<Text>
     };
     let kind = fault.kind.name();
     let line = format!(in alloc; "error 5 profile {class} {member} {kind}\n")?;
-    Ok(Text::from_string(line))
+    Ok(Text::from_string(alloc, line)?)
 }
 
 /// The line of a quantity that passes its limit.
@@ -125,5 +123,5 @@ fn limit_line(alloc: Global, quantity: Quantity) -> M<Text>
     let name = quantity.name();
     let limit = quantity.limit();
     let line = format!(in alloc; "error 6 limit {name} {limit}\n")?;
-    Ok(Text::from_string(line))
+    Ok(Text::from_string(alloc, line)?)
 }

@@ -21,7 +21,7 @@ use std::alloc::Global;
 use tree_io::{FileAt, Tree, WriteFault};
 
 /// What a shrink is to write and to say.
-#[derive(Debug, Drop)]
+#[derive(Drop)]
 pub struct Plan {
     pub files: Items<FileAt>,
     /// The summary.

@@ -1,5 +1,5 @@
 // What is said at the end of a shrink.
-ghost use Rattle.std.specs.Prelude.{◌≡◌, IfOk};
+ghost use Rattle.std.specs.Prelude.{◌≡◌, IfOk, string_bytes};
 ghost use Rattle.shrink_core.specs.Summary.{count_line, summary_text};
 
 use jv_base::{M, Text};
@@ -17,12 +17,11 @@ pub fn summary_text(alloc: Global, read: Counts, kept: Counts) -> M<Text>
     let methods = count_line(alloc, "methods", read.methods, kept.methods)?;
     text.push_str(methods.as_str())?;
     text.push_str("edited 0\nfallback 0\n")?;
-    Ok(text)
+    Ok(Text::from_string(alloc, text)?)
 }
 
-fn count_line(alloc: Global, word: &str, read: usize, kept: usize) -> M<Text>
-    ensures { IfOk result (λ line. line ≡ count_line word.now read kept) }
+fn count_line(alloc: Global, word: &str, read: usize, kept: usize) -> M<String>
+    ensures { IfOk result (λ line. string_bytes line ≡ count_line word.now read kept) }
 {
-    let line = format!(in alloc; "{word} {read} {kept}\n")?;
-    Ok(Text::from_string(line))
+    Ok(format!(in alloc; "{word} {read} {kept}\n")?)
 }

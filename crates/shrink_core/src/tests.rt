@@ -574,7 +574,7 @@ fn crowd(alloc: Global, count: u32, ending: &str) -> M<Items<FileAt>> {
     let mut files = files_of(alloc, &[(CONFIG, KEEP_F)])?;
     for number in 0..count {
         files.push(FileAt {
-            path: Text::from_string(format!(in alloc; "in/{number}{ending}")?),
+            path: Text::from_string(alloc, format!(in alloc; "in/{number}{ending}")?)?,
             bytes: Bytes::new(alloc),
         })?;
     }

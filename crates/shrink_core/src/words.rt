@@ -7,7 +7,7 @@ use jv_base::{Items, M, Text};
 use std::alloc::Global;
 
 /// The files that a command line names.
-#[derive(Debug, Drop)]
+#[derive(Drop)]
 pub struct CommandFiles {
     /// The config that is read.
     pub config: Text,

@@ -127,12 +127,12 @@ fn add_entry(
 
 // A path below a folder; either one may be empty.
 fn joined(alloc: Global, folder: &str, path: &str) -> Result<Text, AllocError> {
-    let mut joined = Text::from_str(alloc, folder)?;
+    let mut joined = String::from_str(alloc, folder)?;
     if !folder.is_empty() && !path.is_empty() {
         joined.push_str("/")?;
     }
     joined.push_str(path)?;
-    Ok(joined)
+    Text::from_string(alloc, joined)
 }
 
 // The paths in ascending order, each once.

@@ -115,12 +115,11 @@ fn rest_after<'a>(front: &str, path: &'a str) -> Option<&'a str>
 }
 
 // The directory and the slash after it.
-fn front_of(dir: &Text) -> Result<Text, AllocError>
-    ensures { IfOk result (λ front. front ≡ front_of dir.now) }
+fn front_of(alloc: Global, dir: &Text) -> Result<String, AllocError>
+    ensures { IfOk result (λ front. string_bytes front ≡ front_of dir.now) }
 {
-    let mut front = dir.clone()?;
-    front.push_str("/")?;
-    Ok(front)
+    let dir = dir.as_str();
+    format!(in alloc; "{dir}/")
 }
 
 // The paths of the files below a directory.
@@ -132,7 +131,7 @@ fn paths_below(
     ensures all { IfOk result (λ paths. paths.items ≡ paths_below dir.now (map.keys (told files.now.entries))) }
     ensures ascending { IfOk result (λ paths. IsAscending paths.items) }
 {
-    let front = front_of(dir)?;
+    let front = front_of(alloc, dir)?;
     let mut paths = Vec::new(alloc);
     for path in files.keys() {
         if let Some(rest) = rest_after(front.as_str(), path.as_str()) {

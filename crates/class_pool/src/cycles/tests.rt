@@ -25,8 +25,7 @@ pub(crate) fn file(
     interfaces: &[&str],
 ) -> M<NamedClass> {
     let [name, super_name] = names;
-    let mut path = Text::from_str(alloc, name)?;
-    path.push_str(".class")?;
+    let path = Text::from_string(alloc, format!(in alloc; "{name}.class")?)?;
     Ok(NamedClass {
         path,
         class: Class {

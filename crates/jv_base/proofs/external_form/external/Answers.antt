@@ -9,7 +9,8 @@ pub returns-clause-written : goal.returns-clause-written
 unfolding external_text
 returns-clause-written c =
     let ty = c.args.ty.now in
-    c.in_ok-push_dimensions.ensures ∙ ap (λ (t : List ℕ). t ++ repeat ty.dims (codes "[]")) (c.in_ok-push_word.ensures ∙ ap (λ (t : List ℕ). t ++ word_text ty.base) (c.from_string-text.ensures ∙ c.new.ensures.bytes))
+    let word = c.in_ok-push_word.ensures ∙ ap (λ (t : List ℕ). t ++ word_text ty.base) c.new-text.ensures.bytes in
+    c.in_ok-from_string.ensures ∙ c.in_ok-push_dimensions.ensures ∙ ap (λ (t : List ℕ). t ++ repeat ty.dims (codes "[]")) word
 
 pub returns-clause-read_back : goal.returns-clause-read_back
-returns-clause-read_back c = λ is. read_external-only c.push_dimensions.new.text c.args.ty.now (is, sym (returns-clause-written c))
+returns-clause-read_back c = λ is. read_external-only _ c.args.ty.now (is, sym (returns-clause-written c))

@@ -7,7 +7,7 @@ use Rattle.jv_base.proofs.mutf8.mutf8_of_units.Goals as goal
 
 pub loop-unit-init : goal.loop-unit-init
 unfolding mutf8
-loop-unit-init c = record { fit = λ i. let f = c.type_inv.unit-items i in omega arith; so_far = c.new-bytes.ensures }
+loop-unit-init c = record { fit = λ i. let f = c.type_inv.unit-items i in omega arith; so_far = c.in_ok-bytes.ensures }
 
 pub loop-unit-preserved : goal.loop-unit-preserved
 loop-unit-preserved c = record {
