@@ -8,7 +8,7 @@
 In a document a list stands between the lines <!-- definitions CRATE FUNCTION --> and <!-- end of definitions -->.
 
 Begun with the names in the function's `requires` and `ensures`, each name is looked up in the imports of the file in
-which it stands, and the definition that it means is read in turn. Lines are those of the definition with its comment.
+which it stands, and the definition that it means is read in turn. Lines are those of the definition without comments.
 A name that is bound in a definition and means a definition elsewhere in its file counts too, so a list may be a few
 lines too long, never too short. What std defines (`Rattle.std`) is named and not counted.
 """
@@ -19,24 +19,26 @@ from pathlib import Path
 
 ROOT = Path(__file__).resolve().parent.parent / "crates"
 WORD = re.compile(r"(?<![\w.])([A-Za-z_]\w*(?:\.[A-Za-z_]\w*)*)")
-IMPORT = re.compile(r"^(?:ghost )?use Rattle\.([\w.]+?)(?:\.\{(.*?)\}| as (\w+))\s*;?\s*$", re.M)
+IMPORT = re.compile(r"^(?:ghost )?use Rattle\.([\w.]+?)(?:\.\{([^}]*)\}| as (\w+))[ \t]*;?[ \t]*$", re.M)
+NO_DEFINITION = re.compile(r"\s*(?:module |infix|(?:pub )?mod |use |obeys )")
 DECLARED = "declared"
 
 
 class Module:
-    """A file of specs/: what it imports, and its definitions by name, each a text with its comment."""
+    """A file of specs/: what it imports, and its definitions by name, each a text without comments."""
 
     def __init__(self, path, text):
         self.names, self.aliases = imports(text)
         self.path, self.definitions = path, {}
-        for block in re.split(r"\n\s*\n", text):
-            lines = [it for it in block.split("\n") if not IMPORT.match(it) and not it.startswith("module ")]
-            first = next((it.strip() for it in lines if it and not it.lstrip().startswith("--")), "")
-            head = re.match(r"^(?:pub |abbrev |unfoldable |opaque )*(record |data )?(\w+)", first)
-            if head and not first.startswith(("pub mod ", "mod ", "use ", "obeys ")):
+        for block in re.split(r"\n\s*\n", IMPORT.sub("", text)):
+            lines = [it for it in block.split("\n") if not it.lstrip().startswith("--")]
+            lines = [it for it in lines if it and not NO_DEFINITION.match(it)]
+            first = lines[0].strip() if lines else ""
+            head = re.match(r"^(?:pub |abbrev |unfoldable |opaque )*(record |data )?(\S+)", first)
+            if head:
                 names = {head[2], *re.findall(r"^  (?:pub )?(\w+) :", block if head[1] == "data " else "", re.M)}
                 for name in names:
-                    self.definitions[name] = (head[2], "\n".join(lines).strip("\n"))
+                    self.definitions[name] = (head[2], "\n".join(lines))
 
 
 def imports(text):
@@ -52,7 +54,7 @@ def imports(text):
 
 
 def words_of(text):
-    return WORD.findall(re.sub(r"--.*", "", re.sub(r'"(?:[^"\\]|\\.)*"', "", text)))
+    return WORD.findall(re.sub(r" --.*", "", re.sub(r'"(?:[^"\\]|\\.)*"', "", text)))
 
 
 def contract(crate, function):
@@ -92,8 +94,12 @@ class Reach:
                 yield aliases[first], rest.split(".")[0]
             elif first in names:
                 yield names[first]
-            elif own and self.module(own) and first in self.module(own).definitions:
+            elif own and first in self.module(own).definitions:
                 yield own, first
+        for name in (it for it in {**names, **dict.fromkeys(self.module(own).definitions if own else ())} if "◌" in it):
+            signs = [it for it in name.split("◌") if it]
+            if all(it in text for it in signs) or (signs == [">>="] and "←" in text):
+                yield names.get(name) or (own, name)
 
     def take(self, module, name):
         if module.startswith("std") or not (ROOT / module.split(".")[0]).is_dir():
@@ -163,7 +169,7 @@ def listing(crate, function):
     for of, file, name in reach.types:
         types.setdefault(of, []).append((name, declared_lines(of, file, name)))
     more = sum(lines for it in types.values() for _, lines in it)
-    said = [f"{count} definitions in {len(rows)} files, {total:,} lines with their comments.", ""]
+    said = [f"{count} definitions in {len(rows)} files, {total:,} lines without their comments.", ""]
     said += ["| Crate | File of `specs/` | Definitions | Lines |", "|---|---|---|---|", *rows, ""]
     said += [f"The types of the code that they speak of ({sum(map(len, types.values()))}, {more} lines):", ""]
     order = list(dict.fromkeys(module.split(".")[0] for module in reach.order()))
