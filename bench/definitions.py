@@ -58,8 +58,11 @@ def words_of(text):
 
 
 def contract(crate, function):
-    """Gives the file in which a public function stands, and its clauses."""
-    for path in sorted((ROOT / crate / "src").rglob("*.rt")):
+    """Gives the file in which a public function stands, that of the root's `pub use` first, and its clauses."""
+    folder = ROOT / crate / "src"
+    root = (folder / "lib.rt").read_text() if (folder / "lib.rt").is_file() else ""
+    shown = [module for module, listed in re.findall(r"pub use (\w+)::([^;]*);", root) if re.search(rf"\b{function}\b", listed)]
+    for path in [folder / f"{it}.rt" for it in shown] + sorted(folder.rglob("*.rt")):
         text = path.read_text()
         found = re.search(rf"^ *pub (?:const )?fn {function}\b(.*?)^ *\{{", text, re.M | re.S)
         if found:
