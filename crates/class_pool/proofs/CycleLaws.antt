@@ -15,7 +15,8 @@ use Rattle.class_pool.specs.declared.fault.PoolFault.{PoolFault}
 use Rattle.class_pool.specs.Faults.{Builds, classes_of, FindsCycle, first_faults, IsFirstCycle, name_faults, super_faults, then_super_faults}
 use Rattle.class_pool.specs.declared.id.ClassId.{ClassId}
 use Rattle.class_pool.specs.declared.id.ClassId.TheVariants.{Prog, Lib}
-use Rattle.class_pool.specs.Numbers.{IsHierarchy, IsRanked, IsRankedBefore, NoneRises, above, rank_of}
+use Rattle.mark_core.specs.Ranks.{IsRanked, IsRankedBefore, NoneRises, rank_of}
+use Rattle.class_pool.specs.Numbers.{IsHierarchy, above}
 use Rattle.class_pool.specs.Supertypes.{IsClosed, IsCyclic, NoCycle}
 use Rattle.class_pool.proofs.Above.{direct_of, direct_none, down, library_up, lifted, no_needs, up}
 

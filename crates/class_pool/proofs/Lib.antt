@@ -21,3 +21,6 @@ pub mod Marking
 pub mod FillingLaws
 pub mod SupersLaws
 pub mod ObjectLaws
+pub mod Declaring
+pub mod Distinct
+pub mod Among

@@ -14,6 +14,7 @@ use Rattle.class_pool.specs.declared.id.ClassId.TheVariants.{Prog, Lib}
 use Rattle.class_pool.specs.Closure.{has}
 use Rattle.class_pool.specs.Graph.{Tells, above_library, library_ids, number}
 use Rattle.class_pool.specs.Hierarchy.{IsClass}
+use Rattle.class_pool.specs.Lists.{HasRanks}
 use Rattle.class_pool.specs.Supertypes.{IsProperSub, NoCycle, direct}
 use Rattle.class_pool.proofs.EachOnce.{bool_cases}
 use Rattle.class_pool.proofs.Telling.{direct_valid, proper_direct}
@@ -128,3 +129,10 @@ pub falls : (classes : List Class) (blocks : List (List ℕ)) → Tells classes 
 falls classes blocks tells acyclic (Prog n) a-in k d within =
     prog_low classes blocks n (get_or (direct classes (Prog n)) k d) tells acyclic a-in (direct_valid classes (Prog n) k d within) (proper_direct classes (Prog n) k d within)
 falls classes blocks tells acyclic (Lib id) a-in k d within = lib_falls classes blocks id a-in k d within
+
+pub has_ranks : (classes : List Class) (blocks : List (List ℕ)) → Tells classes blocks → NoCycle classes → HasRanks classes
+has_ranks classes blocks tells acyclic = record {
+  rank = rank classes blocks;
+  falls = falls classes blocks tells acyclic;
+  most = rank_most classes blocks;
+}

@@ -19,3 +19,6 @@ pub mod Marked
 pub mod Lists
 pub mod Filling
 pub mod KindNames
+pub mod Tables
+pub mod Items
+pub mod Distinct

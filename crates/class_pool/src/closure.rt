@@ -1,6 +1,7 @@
 // Which numbers the numbers of a graph lead to: each of a list of needs, and what these lead to.
 ghost use Rattle.std.specs.Prelude.{◌≡◌, ◌<◌, ◌+◌, ◌*◌, ◌/◌, ℕ, IfOk, IsTrue, false, length, replicate, slice_index_or};
-ghost use Rattle.class_pool.specs.Closure.{Grows, IsBlock, IsClosure, IsSettled, has, joined, needs_at, own, room, taken};
+ghost use Rattle.class_pool.specs.Closure.{Grows, IsBlock, IsClosure, IsSettled, has, joined, needs_at, own, room};
+ghost use Rattle.class_pool.specs.Closure.{taken};
 
 use crate::order::order_of;
 use jv_base::{Items, M};

@@ -3,7 +3,6 @@
 
 mod building;
 mod closure;
-mod components;
 mod count;
 mod cycles;
 mod descriptors;
@@ -18,7 +17,6 @@ mod met;
 mod method_like;
 mod order;
 mod package;
-mod ranks;
 mod rounds;
 mod rows;
 mod set;

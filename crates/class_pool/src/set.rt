@@ -2,6 +2,7 @@
 ghost use Rattle.std.specs.Prelude.{◌≡◌, ◌+◌, [], ◌<◌, ◌↔◌, IsTrue, codes, length, slice_get, IfOk, IfSome, Some};
 ghost use Rattle.std.specs.List.{All};
 ghost use Rattle.class_pool.specs.Hierarchy.{IsClass, class_named, superclass};
+ghost use Rattle.class_pool.specs.Lists.{HasRanks};
 ghost use Rattle.class_pool.specs.Members.{declared_at};
 ghost use Rattle.class_pool.specs.Supers.{IsSupers};
 ghost use Rattle.class_pool.specs.Supertypes.{NoCycle, Sub};
@@ -122,7 +123,8 @@ impl ClassSet {
         below == above || self.closure.has(below, above)
     }
 
-    /// The superinterfaces that a class has itself: the direct ones in their order, each followed by its own, each once,
+    /// The superinterfaces that a class has itself: the direct ones in their order, each followed by its own, each
+    /// once,
     /// where it is met first. It takes no memory.
     pub fn own_superinterfaces(&self, id: ClassId) -> &[ClassId]
         requires there { IsClass self.now id }
@@ -139,6 +141,13 @@ impl ClassSet {
         let _ = &self.classes;
     }
 
+    /// Each class can be given a rank above those of its direct supertypes. It does nothing.
+    pub fn has_ranks(&self)
+        ensures { HasRanks self.now }
+    {
+        let _ = &self.classes;
+    }
+
     /// The supertypes of a class, direct or not (JVMS 4.10), without the class itself. First come its superclasses
     /// upwards, then the superinterfaces that it has itself, those of its superclass, and so on. Each comes once, where
     /// it is met first.
@@ -151,7 +160,8 @@ impl ClassSet {
         supers_of(alloc, &self.classes, &self.library, superinterfaces, id)
     }
 
-    /// The number of the member that the class declares with a name and a descriptor (JVMS 4.3). A program class has its
+    /// The number of the member that the class declares with a name and a descriptor (JVMS 4.3). A program class has
+    /// its
     /// fields and then its methods. No call takes memory, and of a program class only the members of that name are
     /// looked at.
     pub fn declares(&self, id: ClassId, name: &Name, ty: &Text) -> Option<u32>
@@ -169,6 +179,3 @@ impl ClassSet {
         }
     }
 }
-
-#[cfg(test)]
-mod tests;
