@@ -46,3 +46,47 @@ among_once c seen (x ∷ xs) e new =
         ap (λ (u : Bool). same_class c x || u)
         (r (x ∷ seen) e (ap (λ (u : Bool). u || list_any (same_class c) seen) b ∙ new))
         ∙ or_true (same_class c x)
+
+or_false : (x : Bool) → (x || false) ≡ x
+or_false true = refl
+or_false false = refl
+
+any_met : (c : ClassId) (seen xs : List ClassId)
+    → (list_any (same_class c) (each_once seen xs) || list_any (same_class c) seen)
+    ≡ (list_any (same_class c) xs || list_any (same_class c) seen)
+unfolding each_once
+any_met c seen [] = refl
+any_met c seen (x ∷ xs) =
+    by (list_any (same_class x) seen) refl (same_class c x) refl (any_met c seen xs) (any_met c (x ∷ seen) xs)
+  where
+    by : (met : Bool) → list_any (same_class x) seen ≡ met → (b : Bool) → same_class c x ≡ b
+        → (list_any (same_class c) (each_once seen xs) || list_any (same_class c) seen)
+        ≡ (list_any (same_class c) xs || list_any (same_class c) seen)
+        → (list_any (same_class c) (each_once (x ∷ seen) xs) || (same_class c x || list_any (same_class c) seen))
+        ≡ (list_any (same_class c) xs || (same_class c x || list_any (same_class c) seen))
+        → (list_any (same_class c) (cond met (each_once seen xs) (x ∷ each_once (x ∷ seen) xs))
+        || list_any (same_class c) seen)
+        ≡ ((b || list_any (same_class c) xs) || list_any (same_class c) seen)
+    by true met true b r s =
+        let there : list_any (same_class c) seen ≡ true =
+        ap (λ (y : ClassId). list_any (same_class y) seen) (same_is c x b) ∙ met in
+        ap (λ (t : Bool). list_any (same_class c) (each_once seen xs) || t) there
+        ∙ or_true (list_any (same_class c) (each_once seen xs))
+    by true met false b r s = r
+    by false met true b r s =
+        ap (λ (t : Bool). (t || list_any (same_class c) (each_once (x ∷ seen) xs))
+        || list_any (same_class c) seen) b
+    by false met false b r s =
+        ap (λ (t : Bool). (t || list_any (same_class c) (each_once (x ∷ seen) xs))
+        || list_any (same_class c) seen) b
+        ∙ ap (λ (t : Bool). list_any (same_class c) (each_once (x ∷ seen) xs)
+        || (t || list_any (same_class c) seen))
+        (sym b)
+        ∙ s
+        ∙ ap (λ (t : Bool). list_any (same_class c) xs || (t || list_any (same_class c) seen)) b
+
+-- a list in which each class stands once has the same classes
+pub any_once : (c : ClassId) (xs : List ClassId)
+    → list_any (same_class c) (each_once [] xs) ≡ list_any (same_class c) xs
+any_once c xs =
+    sym (or_false (list_any (same_class c) (each_once [] xs))) ∙ any_met c [] xs ∙ or_false (list_any (same_class c) xs)

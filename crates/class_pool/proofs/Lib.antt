@@ -6,10 +6,9 @@ pub mod Ascending
 pub mod Above
 pub mod CycleLaws
 pub mod ComputedLinks
-pub mod Closing
 pub mod Graphing
 pub mod Within
-pub mod Telling
+pub mod Directs
 pub mod Listing
 pub mod ToldMembers
 pub mod Packages

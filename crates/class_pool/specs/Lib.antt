@@ -12,7 +12,6 @@ pub mod Descriptors
 pub mod Resolution
 pub mod Selection
 pub mod LinkRows
-pub mod Closure
 pub mod Graph
 pub mod Supers
 pub mod Marked
@@ -22,3 +21,4 @@ pub mod KindNames
 pub mod Tables
 pub mod Items
 pub mod Distinct
+pub mod Cycles

@@ -7,14 +7,13 @@ use Rattle.class_pool.specs.declared.building.MemberTables.{MemberTables}
 use Rattle.class_pool.specs.declared.building.Tables.{Tables}
 use Rattle.class_pool.specs.ByName.{IsIndexOf}
 use Rattle.class_pool.specs.Descriptors.{method_texts}
-use Rattle.class_pool.specs.Graph.{Tells, library_ids}
+use Rattle.class_pool.specs.Graph.{library_ids}
 use Rattle.class_pool.specs.Hierarchy.{class_named, superclass_of}
 use Rattle.class_pool.specs.Lists.{AreOwn}
 
--- the library, the proper supertypes of each class, and the superinterfaces that it has itself
+-- the library, and the superinterfaces that each class has itself
 pub record IsAbove (classes : List Class) (above : Above) : Type 0 where
   pub library : above.library ≡ library_ids
-  pub proper : Tells classes above.closure.blocks
   pub own : AreOwn classes above.superinterfaces
 
 -- an index of the members of each class, and the descriptors of its methods

@@ -7,10 +7,8 @@ ghost use Rattle.class_pool.specs.Faults.{Ascends, Builds, classes_of};
 ghost use Rattle.class_pool.specs.Graph.{library_ids};
 ghost use Rattle.class_pool.specs.Hierarchy.{class_named};
 ghost use Rattle.class_pool.specs.Lists.{AreOwn, HasObject, HasRanks};
-ghost use Rattle.class_pool.specs.Supertypes.{NoCycle};
 ghost use Rattle.class_pool.specs.Tables.{AreMembers, AreTables, IsAbove};
 
-use crate::closure::{Closure, closure_of};
 use crate::cycles::check_cycles;
 use crate::descriptors::descriptors_of;
 use crate::graph::{graph_of, library_of};
@@ -64,7 +62,6 @@ struct Tables {
 #[derive(Drop)]
 struct Above {
     library: Items<LibId>,
-    closure: Closure,
     superinterfaces: Items<Items<ClassId>>,
 }
 
@@ -76,7 +73,7 @@ struct MemberTables {
 }
 
 fn set_of(alloc: Global, classes: ClassesByName) -> M<ClassSet>
-    requires acyclic { NoCycle classes }
+    requires ranks { HasRanks classes }
     requires object { HasObject classes }
     ensures { IfOk result (λ set. set ≡ classes) }
 {
@@ -85,7 +82,7 @@ fn set_of(alloc: Global, classes: ClassesByName) -> M<ClassSet>
 }
 
 fn joined(classes: ClassesByName, tables: Tables) -> ClassSet
-    requires acyclic { NoCycle classes }
+    requires ranks { HasRanks classes }
     requires object { HasObject classes }
     requires tables { AreTables classes tables }
     ensures { result ≡ classes }
@@ -98,7 +95,6 @@ fn joined(classes: ClassesByName, tables: Tables) -> ClassSet
     } = tables;
     let Above {
         library,
-        closure,
         superinterfaces,
     } = above;
     let MemberTables {
@@ -110,7 +106,6 @@ fn joined(classes: ClassesByName, tables: Tables) -> ClassSet
         members: indexes,
         descriptors,
         library,
-        closure,
         superinterfaces,
         object,
         superclasses,
@@ -118,7 +113,7 @@ fn joined(classes: ClassesByName, tables: Tables) -> ClassSet
 }
 
 fn tables_of(alloc: Global, classes: &ClassesByName) -> M<Tables>
-    requires { NoCycle classes.now }
+    requires { HasRanks classes.now }
     ensures { IfOk result (AreTables classes.now) }
 {
     let object = object_of(alloc, classes)?;
@@ -134,16 +129,13 @@ fn tables_of(alloc: Global, classes: &ClassesByName) -> M<Tables>
 }
 
 fn above_of(alloc: Global, classes: &ClassesByName) -> M<Above>
-    requires { NoCycle classes.now }
+    requires { HasRanks classes.now }
     ensures { IfOk result (IsAbove classes.now) }
 {
     let library = library_of(alloc)?;
-    let needs = graph_of(alloc, classes, &library)?;
-    let closure = closure_of(alloc, needs.as_slice(), needs.len())?;
-    let superinterfaces = ordered_superinterfaces(alloc, classes, &library, needs.as_slice())?;
+    let superinterfaces = ordered_superinterfaces(alloc, classes, &library)?;
     Ok(Above {
         library,
-        closure,
         superinterfaces,
     })
 }
@@ -152,13 +144,13 @@ fn ordered_superinterfaces(
     alloc: Global,
     classes: &ClassesByName,
     library: &Items<LibId>,
-    needs: &[Items<usize>],
 ) -> M<Items<Items<ClassId>>>
     requires library { library.now ≡ library_ids }
     requires ranks { HasRanks classes.now }
     ensures { IfOk result (AreOwn classes.now) }
 {
-    let order = order_of(alloc, needs)?;
+    let needs = graph_of(alloc, classes, library)?;
+    let order = order_of(alloc, needs.as_slice())?;
     superinterfaces_of(alloc, classes, library, order.as_slice())
 }
 

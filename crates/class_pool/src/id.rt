@@ -1,4 +1,8 @@
 // Classes by their numbers.
+ghost use Rattle.std.specs.Prelude.{◌≡◌};
+ghost use Rattle.std.specs.List.{list_any};
+ghost use Rattle.class_pool.specs.Walk.{same_class};
+
 use lib_table::LibId;
 
 /// A class of a set, by its number there, or a class of the library.
@@ -15,4 +19,18 @@ pub enum ClassId {
 pub struct MemberAt {
     pub class: ClassId,
     pub index: u32,
+}
+
+/// Whether two classes are one.
+pub(crate) fn is_same_class(one: &ClassId, other: &ClassId) -> bool
+    ensures { result ≡ same_class one.now other.now }
+{
+    one == other
+}
+
+/// Whether a list has a class.
+pub(crate) fn has_class(ids: &[ClassId], class: &ClassId) -> bool
+    ensures { result ≡ list_any (same_class class.now) ids.now }
+{
+    ids.iter().any(|id| is_same_class(class, id))
 }

@@ -2,7 +2,6 @@
 #![tactic(auto)]
 
 mod building;
-mod closure;
 mod count;
 mod cycles;
 mod descriptors;

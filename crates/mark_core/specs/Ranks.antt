@@ -6,11 +6,12 @@ use Rattle.std.specs.List.{All}
 abbrev pub rank_of : List ℕ → ℕ → ℕ
 rank_of ranks n = slice_index_or ranks n 0
 
--- what each item needs has a lower rank
+-- no rank is higher than there are items, and what each item needs has a lower one
 abbrev pub IsRanked : List (List ℕ) → List ℕ → Type 0
-IsRanked needs ranks = (n : ℕ) → n < length needs → All (λ m. rank_of ranks m < rank_of ranks n) (slice_index_or needs n [])
+IsRanked needs ranks = (n : ℕ) → n < length needs
+    → (rank_of ranks n ≤ length needs) × All (λ m. rank_of ranks m < rank_of ranks n) (slice_index_or needs n [])
 
--- so it is of each item before one
+-- what each item before one needs has a lower rank
 abbrev pub IsRankedBefore : ℕ → List (List ℕ) → List ℕ → Type 0
 IsRankedBefore first needs ranks = (n : ℕ) → n < first → All (λ m. rank_of ranks m < rank_of ranks n) (slice_index_or needs n [])
 

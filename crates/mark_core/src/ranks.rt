@@ -9,13 +9,14 @@ use crate::System;
 use jv_base::{Items, M};
 use std::alloc::Global;
 
-/// Whether each item's needs have lower ranks than it.
+/// Whether no rank is higher than there are items, and each item's needs have lower ranks than it.
 pub fn are_ranked(needs: &[Items<u32>], ranks: &[usize]) -> bool
     ensures { IsTrue result → IsRanked needs.now ranks.now }
 {
     let mut number = 0;
     for list in needs {
-        if !all_lower(ranks, list.as_slice(), rank(ranks, number)) {
+        let bound = rank(ranks, number);
+        if bound > needs.len() || !all_lower(ranks, list.as_slice(), bound) {
             return false;
         }
         number += 1;
@@ -119,7 +120,11 @@ fn note_unranked(unranked: &mut Unranked, number: usize, needs: usize) -> M<()> 
     Ok(())
 }
 
-fn ranks_by_counting(alloc: Global, needing: &Needing, unranked: &mut Unranked) -> M<Vec<usize>> {
+fn ranks_by_counting(
+    alloc: Global,
+    needing: &Needing,
+    unranked: &mut Unranked,
+) -> M<Vec<usize>> {
     let mut ranks = vec![in alloc; 0usize; needing.first.len()]?;
     for rank in 0..needing.first.len() {
         if let Some(item) = unranked.ready.pop() {

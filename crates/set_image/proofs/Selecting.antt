@@ -20,7 +20,7 @@ use Rattle.class_pool.specs.Supers.{is_below}
 use Rattle.class_pool.specs.Walk.{highest, same_class, superclasses_from, superinterfaces, upwards}
 use Rattle.class_pool.proofs.Among.{member_is}
 use Rattle.class_pool.proofs.EachOnce.{same_is, same_itself}
-use Rattle.class_pool.proofs.Telling.{direct_valid}
+use Rattle.class_pool.proofs.Directs.{direct_valid}
 use Rattle.class_pool.proofs.Walking.{first_of, superclasses_next}
 use Rattle.set_image.specs.Image.{Image, IsProperSet, SelectedKept}
 use Rattle.set_image.proofs.MappedLists.{any_append, any_moved, find_moved, first_map, moved_gone, moved_kept}
