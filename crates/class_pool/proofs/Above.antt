@@ -52,6 +52,17 @@ valid classes sys h = (
   λ k d within. absurd (omega (arith, within, ap length h.pairs)),
 )
 
+-- the same system, with the direct supertypes of a class as its seeds
+pub seeded : (classes : List Class) (c : Class) (sys : System) (seeds : List ℕ) → IsHierarchy classes sys
+    → seeds ≡ above classes c → IsHierarchy classes (record sys { seeds = seeds })
+seeded classes c sys seeds h is = record {
+  count = h.count;
+  lists = h.lists;
+  needs = h.needs;
+  pairs = h.pairs;
+  seeds = subst (All (λ x. x < length classes)) (sym is) (above_below classes (c.super_name ∷ c.interfaces));
+}
+
 -- the needs of an item that is none
 pub no_needs : (classes : List Class) (sys : System) (k : ℕ) → IsHierarchy classes sys → length classes ≤ k → needs_of sys k ≡ []
 no_needs classes sys k h over = get_or_past sys.needs k [] (omega (arith, over, h.lists))

@@ -21,7 +21,7 @@ use Rattle.class_pool.specs.Walk.{each_once, highest, own_superinterfaces, same_
 use Rattle.class_pool.proofs.EachOnce.{once_append, once_twice}
 use Rattle.class_pool.proofs.Graphing.{is_there, none_over, some_taken}
 use Rattle.class_pool.proofs.Marking.{same_place}
-use Rattle.class_pool.proofs.Telling.{id_at_number}
+use Rattle.class_pool.proofs.Directs.{id_at_number}
 use Rattle.class_pool.proofs.Walking.{interfaces_fall, interfaces_valid, own_next}
 
 -- ---- interfaces of a library class

@@ -6,10 +6,9 @@ pub mod Ascending
 pub mod Above
 pub mod CycleLaws
 pub mod ComputedLinks
-pub mod Closing
 pub mod Graphing
 pub mod Within
-pub mod Telling
+pub mod Directs
 pub mod Listing
 pub mod ToldMembers
 pub mod Packages
@@ -21,3 +20,6 @@ pub mod Marking
 pub mod FillingLaws
 pub mod SupersLaws
 pub mod ObjectLaws
+pub mod Declaring
+pub mod Distinct
+pub mod Among

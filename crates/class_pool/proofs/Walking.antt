@@ -9,7 +9,7 @@ use Rattle.class_pool.specs.declared.id.ClassId.{ClassId}
 use Rattle.class_pool.specs.Hierarchy.{IsClass, interfaces, superclass}
 use Rattle.class_pool.specs.Supertypes.{direct}
 use Rattle.class_pool.specs.Walk.{highest, own_superinterfaces, superclasses_from, upwards, walked}
-use Rattle.class_pool.proofs.Telling.{direct_valid}
+use Rattle.class_pool.proofs.Directs.{direct_valid}
 
 -- a rank of each class, below which those of its direct supertypes are
 abbrev pub Falls : List Class → (ClassId → ℕ) → Type 0

@@ -1,15 +1,13 @@
 -- The classes of the library and of a set as numbers, those of the library first, and their direct supertypes as a
 -- graph of these (only the proof of ClassSet needs it).
-use Rattle.std.specs.Prelude.{◌+◌, ◌-◌, ◌<◌, ◌↔◌, ℕ, nat_lt, IsTrue, List, ◌∷◌, ◌++◌, length, map, if◌then◌else◌}
+use Rattle.std.specs.Prelude.{◌+◌, ◌-◌, ◌<◌, ℕ, nat_lt, List, ◌∷◌, ◌++◌, length, map, if◌then◌else◌}
 use Rattle.std.specs.List.{cons_option, range_with_len}
 use Rattle.class_model.specs.declared.class.Class.{Class}
 use Rattle.lib_table.specs.Library.{library}
 use Rattle.lib_table.specs.Lookups as table
 use Rattle.class_pool.specs.declared.id.ClassId.{ClassId}
 use Rattle.class_pool.specs.declared.id.ClassId.TheVariants.{Prog, Lib}
-use Rattle.class_pool.specs.Closure.{has}
-use Rattle.class_pool.specs.Hierarchy.{IsClass, classes_named}
-use Rattle.class_pool.specs.Supertypes.{IsProperSub}
+use Rattle.class_pool.specs.Hierarchy.{classes_named}
 
 -- the number of a class
 abbrev pub number : ClassId → ℕ
@@ -40,7 +38,3 @@ above_class classes c = map number (classes_named classes (c.super_name ∷ c.in
 -- for each class its direct supertypes, as numbers
 abbrev pub graph : List Class → List (List ℕ)
 graph classes = map above_library library_ids ++ map (above_class classes) classes
-
--- the bits are just those of a class and its proper supertypes
-abbrev pub Tells : List Class → List (List ℕ) → Type 0
-Tells classes blocks = (a b : ClassId) → IsClass classes a → IsClass classes b → IsTrue (has blocks (number a) (number b)) ↔ IsProperSub classes a b

@@ -12,10 +12,13 @@ pub mod Descriptors
 pub mod Resolution
 pub mod Selection
 pub mod LinkRows
-pub mod Closure
 pub mod Graph
 pub mod Supers
 pub mod Marked
 pub mod Lists
 pub mod Filling
 pub mod KindNames
+pub mod Tables
+pub mod Items
+pub mod Distinct
+pub mod Cycles

@@ -4,11 +4,11 @@ ghost use Rattle.std.specs.List.{AllZip};
 ghost use Rattle.class_pool.specs.ByName.{IsIndexOf};
 ghost use Rattle.class_pool.specs.Count.{item_count};
 ghost use Rattle.class_pool.specs.Faults.{Ascends, Builds, classes_of};
+ghost use Rattle.class_pool.specs.Graph.{library_ids};
 ghost use Rattle.class_pool.specs.Hierarchy.{class_named};
-ghost use Rattle.class_pool.specs.Lists.{HasObject};
-ghost use Rattle.class_pool.specs.Supertypes.{NoCycle};
+ghost use Rattle.class_pool.specs.Lists.{AreOwn, HasObject, HasRanks};
+ghost use Rattle.class_pool.specs.Tables.{AreMembers, AreTables, IsAbove};
 
-use crate::closure::closure_of;
 use crate::cycles::check_cycles;
 use crate::descriptors::descriptors_of;
 use crate::graph::{graph_of, library_of};
@@ -21,6 +21,7 @@ use crate::superinterfaces::superinterfaces_of;
 use crate::{ClassId, ClassSet, NamedClass, PoolFault};
 use class_model::Class;
 use jv_base::{Items, M, Or, Text};
+use lib_table::LibId;
 use std::alloc::Global;
 
 /// The set of some classes, in the order of their paths. The paths ascend, and the classes and their members are fewer
@@ -48,29 +49,119 @@ fn take_classes(alloc: Global, files: Items<NamedClass>) -> M<Items<Class>>
     Ok(classes)
 }
 
+/// What a set tells of its classes.
+#[derive(Drop)]
+struct Tables {
+    above: Above,
+    superclasses: Items<Option<ClassId>>,
+    members: MemberTables,
+    object: Option<ClassId>,
+}
+
+/// The supertypes of classes, those of the library first.
+#[derive(Drop)]
+struct Above {
+    library: Items<LibId>,
+    superinterfaces: Items<Items<ClassId>>,
+}
+
+/// For each class of a set how its members are found, and the descriptors of its methods.
+#[derive(Drop)]
+struct MemberTables {
+    indexes: Items<MemberIndex>,
+    descriptors: Items<Items<Text>>,
+}
+
 fn set_of(alloc: Global, classes: ClassesByName) -> M<ClassSet>
-    requires acyclic { NoCycle classes }
+    requires ranks { HasRanks classes }
     requires object { HasObject classes }
     ensures { IfOk result (λ set. set ≡ classes) }
 {
-    let members = members_of(alloc, &classes)?;
-    let descriptors = descriptors_of(alloc, &classes)?;
-    let library = library_of(alloc)?;
-    let needs = graph_of(alloc, &classes, &library)?;
-    let closure = closure_of(alloc, needs.as_slice(), needs.len())?;
-    let object = object_of(alloc, &classes)?;
-    let superclasses = superclasses_of(alloc, &classes)?;
-    let order = order_of(alloc, needs.as_slice())?;
-    let superinterfaces = superinterfaces_of(alloc, &classes, &library, order.as_slice())?;
-    Ok(ClassSet {
-        classes,
+    let tables = tables_of(alloc, &classes)?;
+    Ok(joined(classes, tables))
+}
+
+fn joined(classes: ClassesByName, tables: Tables) -> ClassSet
+    requires ranks { HasRanks classes }
+    requires object { HasObject classes }
+    requires tables { AreTables classes tables }
+    ensures { result ≡ classes }
+{
+    let Tables {
+        above,
+        superclasses,
         members,
+        object,
+    } = tables;
+    let Above {
+        library,
+        superinterfaces,
+    } = above;
+    let MemberTables {
+        indexes,
+        descriptors,
+    } = members;
+    ClassSet {
+        classes,
+        members: indexes,
         descriptors,
         library,
-        closure,
         superinterfaces,
         object,
         superclasses,
+    }
+}
+
+fn tables_of(alloc: Global, classes: &ClassesByName) -> M<Tables>
+    requires { HasRanks classes.now }
+    ensures { IfOk result (AreTables classes.now) }
+{
+    let object = object_of(alloc, classes)?;
+    let above = above_of(alloc, classes)?;
+    let superclasses = superclasses_of(alloc, classes)?;
+    let members = member_tables(alloc, classes)?;
+    Ok(Tables {
+        above,
+        superclasses,
+        members,
+        object,
+    })
+}
+
+fn above_of(alloc: Global, classes: &ClassesByName) -> M<Above>
+    requires { HasRanks classes.now }
+    ensures { IfOk result (IsAbove classes.now) }
+{
+    let library = library_of(alloc)?;
+    let superinterfaces = ordered_superinterfaces(alloc, classes, &library)?;
+    Ok(Above {
+        library,
+        superinterfaces,
+    })
+}
+
+fn ordered_superinterfaces(
+    alloc: Global,
+    classes: &ClassesByName,
+    library: &Items<LibId>,
+) -> M<Items<Items<ClassId>>>
+    requires library { library.now ≡ library_ids }
+    requires ranks { HasRanks classes.now }
+    ensures { IfOk result (AreOwn classes.now) }
+{
+    let needs = graph_of(alloc, classes, library)?;
+    let order = order_of(alloc, needs.as_slice())?;
+    superinterfaces_of(alloc, classes, library, order.as_slice())
+}
+
+fn member_tables(alloc: Global, classes: &ClassesByName) -> M<MemberTables>
+    ensures { IfOk result (AreMembers classes.now) }
+{
+    let indexes = members_of(alloc, classes)?;
+    let descriptors = descriptors_of(alloc, classes)?;
+    Ok(MemberTables {
+        indexes,
+        descriptors,
     })
 }
 

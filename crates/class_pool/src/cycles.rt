@@ -1,39 +1,56 @@
 // The third round: no class is its own proper supertype.
-ghost use Rattle.std.specs.Prelude.{◌≡◌, ◌++◌, ◌<◌, ◌↔◌, [], ◌∷◌, ℕ, IfOk, IfSome, IsTrue, OnOk, length};
-ghost use Rattle.class_pool.specs.Faults.{FindsCycle, IsFirstCyclic};
+ghost use Rattle.std.specs.Prelude.{◌≡◌, ◌++◌, ◌<◌, ◌↔◌, [], ◌∷◌, ℕ, List, IfOk, IfSome, IsTrue, OnOk, length};
+ghost use Rattle.mark_core.specs.Ranks.{IsRanked};
+ghost use Rattle.class_pool.specs.Cycles.{FindsRanks, HasTest};
+ghost use Rattle.class_pool.specs.Faults.{FindsCycle};
+ghost use Rattle.class_pool.specs.Lists.{HasRanks};
 ghost use Rattle.class_pool.specs.Numbers.{IsHierarchy, above, numbers_named};
 ghost use Rattle.class_pool.specs.Supertypes.{IsCyclic};
 
-use crate::components::component_ranks;
 use crate::lookup::ClassesByName;
-use crate::ranks::{are_ranked, first_unranked, none_rises, ranks_of};
 use crate::rounds::fault_at;
 use crate::{PoolFault, PoolKind};
 use class_model::Class;
 use jv_base::{Items, M, Name, Or};
-use mark_core::{System, plain_marks};
+use mark_core::{
+    System, are_ranked, component_ranks, first_unranked, none_rises, plain_marks, ranks_of,
+};
 use std::alloc::Global;
 
-/// Where the classes can be ranked so that each stands above its supertypes, there is no cycle.
+/// The fault names the first class that is its own proper supertype. Where there is none, each class has a rank.
 pub(crate) fn check_cycles(alloc: Global, set: &ClassesByName) -> Result<(), Or<PoolFault>>
-    ensures { FindsCycle set.now result }
+    ensures finds { FindsCycle set.now result }
+    ensures ranks { OnOk result (HasRanks set.now) }
 {
-    let mut hierarchy = hierarchy_of(alloc, set)?;
-    let ranks = ranks_of(alloc, hierarchy.needs.as_slice())?;
-    if are_ranked(hierarchy.needs.as_slice(), ranks.as_slice()) {
-        return Ok(());
-    }
-    match first_cyclic(alloc, set, &mut hierarchy)? {
+    match first_cyclic(alloc, set)? {
         Some(number) => Err(Or::Fault(fault_at(set.class(number), PoolKind::Cycle)?)),
         None => Ok(()),
     }
 }
 
+fn first_cyclic(alloc: Global, set: &ClassesByName) -> M<Option<u32>>
+    ensures { IfOk result (FindsRanks set.now) }
+{
+    let mut hierarchy = hierarchy_of(alloc, set)?;
+    if is_ranked(alloc, hierarchy.needs.as_slice())? {
+        return Ok(None);
+    }
+    first_on_cycle(alloc, set, &mut hierarchy)
+}
+
+/// Whether the items can be ranked so that each stands above what it needs: then there is no cycle.
+fn is_ranked(alloc: Global, needs: &[Items<u32>]) -> M<bool>
+    ensures { IfOk result (λ b. IsTrue b → (ranks : List ℕ) × IsRanked needs.now ranks) }
+{
+    let ranks = ranks_of(alloc, needs)?;
+    Ok(are_ranked(needs, ranks.as_slice()))
+}
+
 /// By ranks of components: none rises towards the supertypes, and the first class that doesn't stand above them all is
 /// the one, where it is on a cycle. So it always is, but that is not proved: else each class is looked at.
-fn first_cyclic(alloc: Global, set: &ClassesByName, hierarchy: &mut System) -> M<Option<u32>>
+fn first_on_cycle(alloc: Global, set: &ClassesByName, hierarchy: &mut System) -> M<Option<u32>>
     requires { IsHierarchy set.now hierarchy.old }
-    ensures { IfOk result (IsFirstCyclic set.now) }
+    ensures { IfOk result (FindsRanks set.now) }
 {
     let ranks = component_ranks(alloc, hierarchy.needs.as_slice())?;
     if let Some(number) = first_level(set, hierarchy, ranks.as_slice()) {
@@ -59,7 +76,7 @@ fn first_level(set: &ClassesByName, hierarchy: &System, ranks: &[usize]) -> Opti
 /// Looks at each class: whether it is among the classes that its direct supertypes lead to.
 fn first_of_each(alloc: Global, set: &ClassesByName, hierarchy: &mut System) -> M<Option<u32>>
     requires { IsHierarchy set.now hierarchy.old }
-    ensures { IfOk result (IsFirstCyclic set.now) }
+    ensures { IfOk result (FindsRanks set.now) }
 {
     for number in 0..set.len() {
         if is_cyclic(alloc, set, hierarchy, number)? {
@@ -72,7 +89,8 @@ fn first_of_each(alloc: Global, set: &ClassesByName, hierarchy: &mut System) -> 
 fn is_cyclic(alloc: Global, set: &ClassesByName, hierarchy: &mut System, number: u32) -> M<bool>
     requires there { number < length set.now }
     requires hierarchy { IsHierarchy set.now hierarchy.old }
-    ensures told { IfOk result (λ b. IsTrue b ↔ IsCyclic set.now number) }
+    ensures is { IfOk result (λ b. IsTrue b ↔ IsCyclic set.now number) }
+    ensures test { IfOk result (λ b. HasTest set.now number) }
     ensures hierarchy { OnOk result (IsHierarchy set.now hierarchy.new) }
 {
     hierarchy.seeds = above(alloc, set, set.class(number))?;
@@ -115,6 +133,3 @@ fn push_number(set: &ClassesByName, numbers: &mut Items<u32>, name: &Name) -> M<
     }
     Ok(())
 }
-
-#[cfg(test)]
-pub(crate) mod tests;

@@ -2,7 +2,10 @@
 ghost use Rattle.std.specs.Prelude.{◌≡◌, ◌<◌, ◌+◌, ◌++◌, IfSome, Some, false, if◌then◌else◌, length, map, slice_get};
 ghost use Rattle.std.specs.Option.{option_map, option_map_or};
 ghost use Rattle.class_model.specs.Flags.{acc_abstract, acc_public, acc_static, is_init};
-ghost use Rattle.class_pool.specs.Found.{IsMember, declared_in, field_row, has_flag, library_row, method_row, is_abstract_member, is_final_member, is_instance_method, is_private_member, is_protected_member, is_public_member, is_static_member, named_at, name_of, role_at, row_at, same_package};
+ghost use Rattle.class_pool.specs.Found.{IsMember, declared_in, field_row, has_flag, library_row, method_row};
+ghost use Rattle.class_pool.specs.Found.{is_abstract_member, is_final_member, is_instance_method, is_private_member};
+ghost use Rattle.class_pool.specs.Found.{is_protected_member, is_public_member, is_static_member, named_at, name_of};
+ghost use Rattle.class_pool.specs.Found.{role_at, row_at, same_package};
 ghost use Rattle.class_pool.specs.Hierarchy.{IsClass, kind_in};
 ghost use Rattle.class_pool.specs.ToldMembers.{told};
 ghost use Rattle.lib_table.specs.Lookups.{class_at};

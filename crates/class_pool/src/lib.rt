@@ -2,8 +2,6 @@
 #![tactic(auto)]
 
 mod building;
-mod closure;
-mod components;
 mod count;
 mod cycles;
 mod descriptors;
@@ -18,7 +16,6 @@ mod met;
 mod method_like;
 mod order;
 mod package;
-mod ranks;
 mod rounds;
 mod rows;
 mod set;

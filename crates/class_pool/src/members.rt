@@ -88,6 +88,3 @@ fn has_descriptor(class: &Class, number: u32, ty: &Text) -> bool
         is_method_descriptor(ty, &class.methods[index - fields].ty)
     }
 }
-
-#[cfg(test)]
-mod tests;

@@ -132,6 +132,3 @@ fn is_no_interface(set: &ClassesByName, name: &Name) -> bool
         None => false,
     }
 }
-
-#[cfg(test)]
-mod tests;

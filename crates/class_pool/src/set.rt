@@ -2,14 +2,15 @@
 ghost use Rattle.std.specs.Prelude.{◌≡◌, ◌+◌, [], ◌<◌, ◌↔◌, IsTrue, codes, length, slice_get, IfOk, IfSome, Some};
 ghost use Rattle.std.specs.List.{All};
 ghost use Rattle.class_pool.specs.Hierarchy.{IsClass, class_named, superclass};
+ghost use Rattle.class_pool.specs.Lists.{HasRanks};
 ghost use Rattle.class_pool.specs.Members.{declared_at};
-ghost use Rattle.class_pool.specs.Supers.{IsSupers};
+ghost use Rattle.class_pool.specs.Supers.{IsSupers, is_self_or_own};
 ghost use Rattle.class_pool.specs.Supertypes.{NoCycle, Sub};
 ghost use Rattle.class_pool.specs.Walk.{each_once, own_superinterfaces, supers};
 
 use crate::ClassId;
-use crate::closure::Closure;
 use crate::graph::number;
+use crate::id::{has_class, is_same_class};
 use crate::lookup::ClassesByName;
 use crate::members::MemberIndex;
 use crate::supers::supers_of;
@@ -27,7 +28,6 @@ pub struct ClassSet {
     /// For each class the descriptors of its methods.
     pub(crate) descriptors: Items<Items<Text>>,
     pub(crate) library: Items<LibId>,
-    pub(crate) closure: Closure,
     /// For each class, by its number, the superinterfaces that it has itself.
     pub(crate) superinterfaces: Items<Items<ClassId>>,
     /// Object, where its name leads to a class.
@@ -42,16 +42,16 @@ impl Model for ClassSet {
     ghost use Rattle.class_model.specs.declared.class.Class.{Class};
     ghost use Rattle.class_pool.specs.ByName.{IsIndexOf};
     ghost use Rattle.class_pool.specs.Descriptors.{method_texts};
-    ghost use Rattle.class_pool.specs.Graph.{Tells, library_ids};
+    ghost use Rattle.class_pool.specs.Graph.{library_ids};
     ghost use Rattle.class_pool.specs.Hierarchy.{class_named, superclass_of};
-    ghost use Rattle.class_pool.specs.Lists.{AreOwn, HasObject};
+    ghost use Rattle.class_pool.specs.Lists.{AreOwn, HasObject, HasRanks};
     ghost use Rattle.class_pool.specs.Supertypes.{NoCycle};
 
     ghost Value = { List Class };
 
     ghost view = { λ s. s.classes };
 
-    ghost invariant = { λ s. (s.library ≡ library_ids) × Tells s.classes s.closure.blocks × AllZip IsIndexOf s.classes s.members
+    ghost invariant = { λ s. (s.library ≡ library_ids) × HasRanks s.classes × AllZip IsIndexOf s.classes s.members
         × NoCycle s.classes × AreOwn s.classes s.superinterfaces × (s.descriptors ≡ map method_texts s.classes)
         × (s.object ≡ class_named s.classes (codes "java/lang/Object")) × HasObject s.classes
         × (s.superclasses ≡ map (superclass_of s.classes) s.classes) };
@@ -111,18 +111,37 @@ impl ClassSet {
         }
     }
 
-    /// Whether a class is the other one or has it as a supertype, direct or not (JVMS 4.10).
+    /// Whether a class is the other one or has it as a supertype, direct or not (JVMS 4.10). Takes no memory; its
+    /// superclasses are gone over upwards, each with its own superinterfaces.
     pub fn is_sub(&self, a: ClassId, b: ClassId) -> bool
         requires below { IsClass self.now a }
         requires above { IsClass self.now b }
         ensures { IsTrue result ↔ Sub self.now a b }
     {
-        let below = number(&self.library, a);
-        let above = number(&self.library, b);
-        below == above || self.closure.has(below, above)
+        let steps = self.library.len() + self.len() as usize;
+        let mut next = Some(a);
+        for _ in 0..steps + 1 {
+            let Some(class) = &next else {
+                return false;
+            };
+            if self.is_self_or_own(class, &b) {
+                return true;
+            }
+            next = self.super_of(*class);
+        }
+        false
     }
 
-    /// The superinterfaces that a class has itself: the direct ones in their order, each followed by its own, each once,
+    /// Whether a class is another one or has it as a superinterface itself.
+    fn is_self_or_own(&self, class: &ClassId, other: &ClassId) -> bool
+        requires { IsClass self.now class.now }
+        ensures { result ≡ is_self_or_own self.now other.now class.now }
+    {
+        is_same_class(other, class) || has_class(self.own_superinterfaces(*class), other)
+    }
+
+    /// The superinterfaces that a class has itself: the direct ones in their order, each followed by its own, each
+    /// once,
     /// where it is met first. It takes no memory.
     pub fn own_superinterfaces(&self, id: ClassId) -> &[ClassId]
         requires there { IsClass self.now id }
@@ -139,6 +158,13 @@ impl ClassSet {
         let _ = &self.classes;
     }
 
+    /// Each class can be given a rank above those of its direct supertypes. It does nothing.
+    pub fn has_ranks(&self)
+        ensures { HasRanks self.now }
+    {
+        let _ = &self.classes;
+    }
+
     /// The supertypes of a class, direct or not (JVMS 4.10), without the class itself. First come its superclasses
     /// upwards, then the superinterfaces that it has itself, those of its superclass, and so on. Each comes once, where
     /// it is met first.
@@ -151,7 +177,8 @@ impl ClassSet {
         supers_of(alloc, &self.classes, &self.library, superinterfaces, id)
     }
 
-    /// The number of the member that the class declares with a name and a descriptor (JVMS 4.3). A program class has its
+    /// The number of the member that the class declares with a name and a descriptor (JVMS 4.3). A program class has
+    /// its
     /// fields and then its methods. No call takes memory, and of a program class only the members of that name are
     /// looked at.
     pub fn declares(&self, id: ClassId, name: &Name, ty: &Text) -> Option<u32>
@@ -169,6 +196,3 @@ impl ClassSet {
         }
     }
 }
-
-#[cfg(test)]
-mod tests;

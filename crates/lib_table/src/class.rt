@@ -11,7 +11,7 @@ use jv_base::Name;
 use std::marker::Model;
 
 /// The number of a class of the table.
-#[derive(Clone, Copy, Debug, PartialEq, Eq)]
+#[derive(Clone, Copy, PartialEq, Eq)]
 pub struct LibId {
     number: u8,
 }
@@ -30,7 +30,7 @@ impl Model for LibId {
 }
 
 /// What may be done with a class of the library.
-#[derive(Clone, Copy, Debug, PartialEq, Eq)]
+#[derive(Clone, Copy, PartialEq, Eq)]
 pub enum LibKind {
     /// It is an interface.
     Interface,

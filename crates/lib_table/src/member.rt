@@ -15,7 +15,7 @@ use crate::table::{ClassRow, MemberRow, classes};
 use jv_base::{MethodType, Name, Text};
 
 /// How a program may use a member of the library.
-#[derive(Clone, Copy, Debug, PartialEq, Eq)]
+#[derive(Clone, Copy, PartialEq, Eq)]
 pub enum Role {
     /// A program may name it.
     Callable,
@@ -26,7 +26,7 @@ pub enum Role {
 }
 
 /// What is told of a member of a class.
-#[derive(Clone, Copy, Debug, PartialEq, Eq)]
+#[derive(Clone, Copy)]
 pub struct LibMember {
     pub role: Role,
     /// Whether it is a method and not a field.

@@ -6,7 +6,7 @@ ghost use Rattle.mark_core.specs.Valid.{PairBelow, Valid};
 use jv_base::Items;
 
 /// Where the items `one` and `two` are both marked, so is `derived`. The two may be the same item.
-#[derive(Clone, Copy, Debug, PartialEq, Eq)]
+#[derive(Clone, Copy)]
 pub struct Pair {
     pub one: u32,
     pub two: u32,

@@ -19,12 +19,12 @@ returns-in_err-check_cycles c =
     let is : c.in_ok-classes.classes ≡ classes_of c.args.files = c.in_ok-classes.ensures ∙ c.in_ok-take_classes.ensures in
     let first = first_are c.args.files c.in_ok-classes.classes c.in_ok-check_names.ensures c.in_ok-check_supertypes.ensures is in
     let p = err_from_is_err_and c.from_residual-in_err-check_cycles.result c.from_residual-in_err-check_cycles.ensures.1 in
-    rw (p.1, p.2) (cycle_built c.args.files c.in_ok-classes.classes c.in_err-check_cycles.field-0.0 first is c.in_err-check_cycles.ensures)
+    rw (p.1, p.2) (cycle_built c.args.files c.in_ok-classes.classes c.in_err-check_cycles.field-0.0 first is c.in_err-check_cycles.ensures.finds)
 
 pub returns : goal.returns
 returns c =
     let is : c.in_ok-classes.classes ≡ classes_of c.args.files = c.in_ok-classes.ensures ∙ c.in_ok-take_classes.ensures in (
       first_are c.args.files c.in_ok-classes.classes c.in_ok-check_names.ensures c.in_ok-check_supertypes.ensures is,
-      subst NoCycle is c.in_ok-check_cycles.ensures,
+      subst NoCycle is c.in_ok-check_cycles.ensures.finds,
       c.in_ok-set_of.ensures ∙ is,
     )

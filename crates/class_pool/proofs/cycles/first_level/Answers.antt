@@ -1,5 +1,5 @@
 use Rattle.std.proofs.Common.{List, ℕ, subst}
-use Rattle.class_pool.specs.Numbers.{NoneRises}
+use Rattle.mark_core.specs.Ranks.{NoneRises}
 use Rattle.class_pool.proofs.CycleLaws.{first_of_ranks}
 use Rattle.class_pool.proofs.cycles.first_level.Goals as goal
 

@@ -1,0 +1,6 @@
+use Rattle.std.proofs.Common.{subst}
+use Rattle.class_pool.specs.Lists.{HasRanks}
+use Rattle.class_pool.proofs.set.ClassSet.has_ranks.Goals as goal
+
+pub returns : goal.returns
+returns c = subst HasRanks c.self.view_is c.self.invariant.1

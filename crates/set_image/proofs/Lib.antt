@@ -1,0 +1,5 @@
+pub mod MappedLists
+pub mod Walks
+pub mod Finding
+pub mod Selecting
+pub mod Access
