@@ -1,6 +1,6 @@
 // A class, its fields and its methods (JVMS 4.1, 4.5 and 4.6).
 use crate::Code;
-use jv_base::{Access, FieldType, Items, MethodType, Name, Units};
+use jv_base::{Access, FieldType, Items, MethodType, Name, Shared, Units};
 
 /// A class or an interface (JVMS 4.1). Its version, its constant pool and the attributes that have no
 /// place here aren't kept.
@@ -49,7 +49,7 @@ pub enum Constant {
     /// Of a field of type long.
     Long(i64),
     /// Of a field of type String, in UTF-16.
-    Text(Units),
+    Text(Shared<Units>),
 }
 
 /// A method, an instance initialisation method or a class initialisation method (JVMS 4.6 and 2.9).

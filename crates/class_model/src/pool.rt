@@ -1,5 +1,5 @@
 // The constant pool as it is read (JVMS 4.4).
-use jv_base::{Items, Units};
+use jv_base::{Items, Shared, Units};
 
 /// A constant pool. The entry of index i stands at place i. Place 0 and the second place of a Long or a Double hold
 /// a `Gap`.
@@ -13,7 +13,7 @@ pub struct Pool {
 #[derive(Drop)]
 pub enum Entry {
     /// CONSTANT_Utf8: a text, in UTF-16 (JVMS 4.4.7).
-    Utf8(Units),
+    Utf8(Shared<Units>),
     /// CONSTANT_Integer (JVMS 4.4.4).
     Integer(i32),
     /// CONSTANT_Long (JVMS 4.4.5).

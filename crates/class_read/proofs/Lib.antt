@@ -1,5 +1,3 @@
-mod Units
-mod Found
 mod Slots
 mod Judging
 mod Newest

@@ -1,5 +1,4 @@
 pub mod Seen
-pub mod Texts
 pub mod Lines
 pub mod Lookups
 pub mod Entries
@@ -11,4 +10,5 @@ pub mod PassedOver
 pub mod ClassAttributes
 pub mod CodeAttributes
 pub mod Codes
+pub mod Classes
 pub mod Laws

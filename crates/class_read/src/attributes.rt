@@ -14,17 +14,20 @@ ghost use Rattle.class_read.specs.Seen.{shown};
 
 use crate::faults::fault;
 use crate::lookups::class_at;
-use crate::pool::KnownPool;
 use class_model::{Constant, Entry};
 use format_reading::{FormatFault, FormatKind};
-use jv_base::{Base, Cursor, FieldType, Items, M, Name, Or, Units};
+use jv_base::{Base, Cursor, FieldType, Items, M, Name, Or, Shared, Units};
+use known_pool::KnownPool;
 use std::alloc::Global;
 use std::marker::Model;
 
 // ---- the header
 
 /// The name of an attribute, or what the attribute SourceFile holds (JVMS 4.7, 4.7.10).
-pub fn read_units<'a>(pool: &'a KnownPool, cursor: &mut Cursor) -> Result<&'a Units, FormatFault>
+pub fn read_units<'a>(
+    pool: &'a KnownPool,
+    cursor: &mut Cursor,
+) -> Result<&'a Shared<Units>, FormatFault>
     ensures { Reads (shown result) cursor.new (item u2 (λ index. due BadIndex (units_at pool.now index)) cursor.old) }
 {
     let at = cursor.place();
@@ -79,11 +82,7 @@ pub fn source_file(
 }
 
 /// The name of a class that is no array type (JVMS 4.4.1).
-pub fn read_class(
-    alloc: Global,
-    pool: &KnownPool,
-    cursor: &mut Cursor,
-) -> Result<Name, Or<FormatFault>>
+pub fn read_class(pool: &KnownPool, cursor: &mut Cursor) -> Result<Name, Or<FormatFault>>
     ensures { ReadsOr result cursor.new (item u2 (class_at pool.now) cursor.old) }
 {
     let at = cursor.place();
@@ -103,9 +102,9 @@ fn classes(
 ) -> Result<Items<Name>, Or<FormatFault>>
     ensures { ReadsOr result cursor.new (many count (item u2 (class_at pool.now)) cursor.old) }
 {
-    let mut classes = Items::new(alloc);
+    let mut classes = Items::with_capacity(alloc, usize::from(count))?;
     for _ in 0..count {
-        let class = read_class(alloc, pool, cursor)?;
+        let class = read_class(pool, cursor)?;
         classes.push(class)?;
     }
     Ok(classes)
@@ -168,7 +167,7 @@ fn read_line(cursor: &mut Cursor) -> Result<Line, FormatFault>
 fn lines(alloc: Global, count: u16, cursor: &mut Cursor) -> Result<Items<Line>, Or<FormatFault>>
     ensures { ReadsOr result cursor.new (many count read_line cursor.old) }
 {
-    let mut lines = Items::new(alloc);
+    let mut lines = Items::with_capacity(alloc, usize::from(count))?;
     for _ in 0..count {
         let line = read_line(cursor)?;
         lines.push(line)?;
@@ -221,18 +220,17 @@ fn is_double(ty: &FieldType) -> bool
     ty.dims == 0 && matches!(ty.base, Base::Double)
 }
 
-fn text_constant(alloc: Global, pool: &KnownPool, index: u16) -> M<Option<Constant>>
+fn text_constant(pool: &KnownPool, index: u16) -> M<Option<Constant>>
     ensures { IfOk result (λ value. value ≡ option_map (λ units. Constant.Text units) (string_units_at pool.now index)) }
 {
     match pool.string_units_at(index) {
-        Some(units) => Ok(Some(Constant::Text(copy_of(alloc, units)?))),
+        Some(units) => Ok(Some(Constant::Text(units.clone()?))),
         None => Ok(None),
     }
 }
 
 // The constant that the entry at an index is for a static field of a type.
 fn constant_in(
-    alloc: Global,
     pool: &KnownPool,
     ty: &FieldType,
     index: u16,
@@ -245,7 +243,7 @@ fn constant_in(
     match entry {
         Entry::Integer(n) if is_int(ty) => Ok(Some(Constant::Int(*n))),
         Entry::Long(n) if is_long(ty) => Ok(Some(Constant::Long(*n))),
-        Entry::Str(_) if is_string(ty) => Ok(text_constant(alloc, pool, index)?),
+        Entry::Str(_) if is_string(ty) => Ok(text_constant(pool, index)?),
         Entry::LeftOut(4) if is_float(ty) => Ok(None),
         Entry::LeftOut(6) if is_double(ty) => Ok(None),
         Entry::Integer(_) | Entry::Long(_) | Entry::Str(_) | Entry::LeftOut(4 | 6) => {
@@ -257,7 +255,6 @@ fn constant_in(
 
 /// The contents of a ConstantValue, for a static field of this type. A float or a double is left out.
 pub fn constant_value(
-    alloc: Global,
     pool: &KnownPool,
     ty: &FieldType,
     cursor: &mut Cursor,
@@ -266,7 +263,7 @@ pub fn constant_value(
 {
     let at = cursor.place();
     let index = cursor.u2()?;
-    match constant_in(alloc, pool, ty, index) {
+    match constant_in(pool, ty, index) {
         Ok(value) => Ok(value),
         Err(Or::Fault(kind)) => Err(Or::Fault(fault(at, kind))),
         Err(Or::OutOfMemory) => Err(Or::OutOfMemory),

@@ -1,12 +1,13 @@
 // The class of a whole class file (JVMS 4.1).
-#![tactic(auto, unfolding(format_reading::specs::Reader::bind, format_reading::specs::Reader::give, class_model::specs::ReadingClass::read_class_file))]
+#![tactic(auto, unfolding(format_reading::specs::Reader::bind, format_reading::specs::Reader::give, class_model::specs::ReadingClass::read_class_file, crate::specs::Classes::behind_flags, crate::specs::Classes::behind_names))]
 
 ghost use Rattle.std.specs.Prelude.{◌≡◌, ◌<◌, length, Ok, IfOk};
 ghost use Rattle.jv_base.specs.Outcome.{IsDue};
 ghost use Rattle.format_reading.specs.Reader.{ReadsOr};
 ghost use Rattle.class_model.specs.declared.class.Class.{Class};
 ghost use Rattle.class_model.specs.ClassFile.{File};
-ghost use Rattle.class_model.specs.ReadingClass.{class_of, read_class_file, class_read};
+ghost use Rattle.class_model.specs.ReadingClass.{read_class_file, class_read};
+ghost use Rattle.class_read.specs.Classes.{behind_flags, behind_names, class_named};
 
 use crate::attributes::{interfaces, read_class as read_class_name};
 use crate::class_attributes::{SeenOfClass, read_class_attributes};
@@ -15,11 +16,19 @@ use crate::faults::fault;
 use crate::flags::{class_access, read_class_flags};
 use crate::head::read_head;
 use crate::parts::{first_left_out, left_out_of_class, read_all_fields, read_all_methods};
-use crate::pool::KnownPool;
 use class_model::{Class, Field, LeftKind, Method};
 use format_reading::{FormatFault, FormatKind};
 use jv_base::{Cursor, Items, M, Name, Or, OutOfMemory};
+use known_pool::KnownPool;
 use std::alloc::Global;
+
+/// The names that a class file begins with (JVMS 4.1).
+#[derive(Drop)]
+pub struct ClassNames {
+    pub name: Name,
+    pub super_name: Name,
+    pub interfaces: Items<Name>,
+}
 
 /// The class that the bytes of a class file of version 52 spell (JVMS 4), or the first fault from left to right: the
 /// rule that is broken, and the offset of the first byte of the item that breaks it. What is left out of a class is
@@ -53,15 +62,43 @@ fn read_class_file(alloc: Global, cursor: &mut Cursor) -> Result<Class, Or<Forma
     read_head(cursor)?;
     let pool = read_pool(alloc, cursor)?;
     let flags = read_class_flags(cursor)?;
-    let name = read_class_name(alloc, &pool, cursor)?;
-    let super_name = read_class_name(alloc, &pool, cursor)?;
-    let interfaces = interfaces(alloc, &pool, cursor)?;
-    let fields = read_all_fields(alloc, &pool, flags, cursor)?;
-    let methods = read_all_methods(alloc, &pool, flags, &name, cursor)?;
-    let seen = read_class_attributes(alloc, &pool, cursor)?;
-    let class = class_of(
-        flags, &pool, name, super_name, interfaces, fields, methods, seen,
-    )?;
+    behind_flags(alloc, &pool, flags, cursor)
+}
+
+#[tactic(auto, unfolding(format_reading::specs::Reader::bind, format_reading::specs::Reader::give, crate::specs::Classes::behind_flags))]
+fn behind_flags(
+    alloc: Global,
+    pool: &KnownPool,
+    flags: u16,
+    cursor: &mut Cursor,
+) -> Result<Class, Or<FormatFault>>
+    ensures { ReadsOr result cursor.new (behind_flags pool.now flags cursor.old) }
+{
+    let name = read_class_name(pool, cursor)?;
+    let super_name = read_class_name(pool, cursor)?;
+    let interfaces = interfaces(alloc, pool, cursor)?;
+    let names = ClassNames {
+        name,
+        super_name,
+        interfaces,
+    };
+    behind_names(alloc, pool, flags, names, cursor)
+}
+
+#[tactic(auto, unfolding(format_reading::specs::Reader::bind, format_reading::specs::Reader::give, crate::specs::Classes::behind_names))]
+fn behind_names(
+    alloc: Global,
+    pool: &KnownPool,
+    flags: u16,
+    names: ClassNames,
+    cursor: &mut Cursor,
+) -> Result<Class, Or<FormatFault>>
+    ensures { ReadsOr result cursor.new (behind_names pool.now flags names cursor.old) }
+{
+    let fields = read_all_fields(alloc, pool, flags, cursor)?;
+    let methods = read_all_methods(alloc, pool, flags, &names.name, cursor)?;
+    let seen = read_class_attributes(alloc, pool, cursor)?;
+    let class = class_of(flags, pool, names, fields, methods, seen)?;
     Ok(class)
 }
 
@@ -71,14 +108,12 @@ fn read_class_file(alloc: Global, cursor: &mut Cursor) -> Result<Class, Or<Forma
 fn class_of(
     flags: u16,
     pool: &KnownPool,
-    name: Name,
-    super_name: Name,
-    interfaces: Items<Name>,
+    names: ClassNames,
     fields: Items<Field>,
     methods: (Items<Method>, Items<Option<LeftKind>>),
     seen: SeenOfClass,
 ) -> M<Class>
-    ensures { IfOk result (λ class. class ≡ class_of flags pool.now name super_name interfaces fields methods seen) }
+    ensures { IfOk result (λ class. class ≡ class_named flags pool.now names fields methods seen) }
 {
     let (methods, kinds) = methods;
     if fields.len() > 65_535 || kinds.len() > 65_535 {
@@ -86,6 +121,11 @@ fn class_of(
     }
     let own = left_out_of_class(flags, pool);
     let left_out = first_left_out(own, fields.len() as u32, kinds.as_slice());
+    let ClassNames {
+        name,
+        super_name,
+        interfaces,
+    } = names;
     let SeenOfClass {
         source,
         synthetic,

@@ -9,9 +9,9 @@ ghost use Rattle.class_read.specs.ClassAttributes.{class_attribute, class_conten
 
 use crate::attributes::{check_end, check_once, read_units, source_file};
 use crate::names::is_named;
-use crate::pool::KnownPool;
 use format_reading::{FormatFault, of_part};
 use jv_base::{Cursor, Or, Units};
+use known_pool::KnownPool;
 use std::alloc::Global;
 use std::marker::Model;
 

@@ -12,10 +12,10 @@ use crate::initial_frame::initial_frame;
 use crate::instructions::{Instructions, read_instructions};
 use crate::methods::{Body, MethodHead};
 use crate::passed_over::pass_over;
-use crate::pool::KnownPool;
 use class_model::Frame;
 use format_reading::{FormatFault, FormatKind};
 use jv_base::{Cursor, Name, Or};
+use known_pool::KnownPool;
 use std::alloc::Global;
 
 /// The contents of the Code at an offset, of a method in a class of this name. There is none where an instruction

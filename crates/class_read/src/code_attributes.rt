@@ -14,12 +14,12 @@ use crate::handlers::read_handlers;
 use crate::lines::lined;
 use crate::methods::Body;
 use crate::names::is_named;
-use crate::pool::KnownPool;
 use class_model::{Code, Frame, FrameAt, Handler, LeftKind, Op};
 use format_reading::{FormatFault, of_part};
 use frame_types::{StackMapTable, Starts, frames_at};
 use jv_base::{Cursor, Items, M, Or, Units};
 use jv_ops::Decoded;
+use known_pool::KnownPool;
 use std::alloc::Global;
 use std::marker::Model;
 
@@ -73,7 +73,7 @@ fn read_frames(
         frames.max_locals,
         frames.ops,
         frames.starts,
-        frames.pool.pool(),
+        frames.pool,
     )
 }
 

@@ -1,11 +1,11 @@
 use crate::code_attributes::behind_instructions;
 use crate::initial_frame::initial_frame;
 use crate::methods::{Body, MethodHead};
-use crate::pool::{KnownPool, known_pool};
 use class_model::{Entry, Frame, Op, VType};
 use format_reading::{FormatFault, FormatKind};
-use jv_base::{Base, Cursor, FieldType, Items, M, MethodType, Or, Text, units_of_text};
+use jv_base::{Base, Cursor, FieldType, Items, M, MethodType, Or, Shared, Text, units_of_text};
 use jv_ops::Decoded;
+use known_pool::{KnownPool, pool_of};
 use std::alloc::Global;
 use std::test::Fail;
 
@@ -14,9 +14,10 @@ fn pool(alloc: Global) -> M<KnownPool> {
     let mut entries = Items::new(alloc);
     entries.push(Entry::Gap)?;
     for name in ["LineNumberTable", "StackMapTable"] {
-        entries.push(Entry::Utf8(units_of_text(alloc, &Text::from_str(alloc, name)?)?))?;
+        let units = units_of_text(alloc, &Text::from_str(alloc, name)?)?;
+        entries.push(Entry::Utf8(Shared::new(alloc, units)?))?;
     }
-    known_pool(alloc, entries)
+    pool_of(alloc, entries)
 }
 
 // Two instructions, of which the second begins at offset 3.

@@ -10,10 +10,10 @@ ghost use Rattle.class_read.specs.Entries.{units_of_bytes, offsets_of, fault_in,
 
 use crate::faults::fault;
 use crate::lookups::names_right;
-use crate::pool::{KnownPool, known_pool};
 use class_model::Entry;
 use format_reading::{FormatFault, FormatKind};
-use jv_base::{Cursor, Items, M, Or, Units, units_of_mutf8};
+use jv_base::{Cursor, Items, M, Or, Shared, Units, units_of_mutf8};
+use known_pool::{KnownPool, pool_of};
 use std::alloc::Global;
 use std::marker::Model;
 
@@ -40,7 +40,7 @@ pub fn read_pool(alloc: Global, cursor: &mut Cursor) -> Result<KnownPool, Or<For
     let slots = slots(alloc, count.saturating_sub(1), cursor)?;
     let offsets = offsets_of(alloc, slots.as_slice())?;
     let entries = entries_of(alloc, slots)?;
-    let pool = known_pool(alloc, entries)?;
+    let pool = pool_of(alloc, entries)?;
     all_named_right(&pool, &offsets)?;
     Ok(pool)
 }
@@ -64,7 +64,8 @@ fn utf8(alloc: Global, cursor: &mut Cursor) -> Result<Entry, Or<FormatFault>>
     let length = cursor.u2()?;
     let at = cursor.place();
     let bytes = cursor.take(u32::from(length))?;
-    Ok(Entry::Utf8(units_of_bytes(alloc, at, bytes)?))
+    let units = units_of_bytes(alloc, at, bytes)?;
+    Ok(Entry::Utf8(Shared::new(alloc, units)?))
 }
 
 fn integer(cursor: &mut Cursor) -> Result<Entry, Or<FormatFault>>
@@ -173,7 +174,7 @@ fn slots(
 ) -> Result<Items<PlacedEntry>, Or<FormatFault>>
     ensures { ReadsOr result cursor.new (slots count false cursor.old) }
 {
-    let mut slots = Items::new(alloc);
+    let mut slots = Items::with_capacity(alloc, usize::from(count))?;
     let mut second = false;
     for done in 0..count {
         let slot = slot(alloc, second, done + 1 < count, cursor)?;
@@ -187,7 +188,7 @@ fn slots(
 fn offsets_of(alloc: Global, slots: &[PlacedEntry]) -> M<Items<u32>>
     ensures { IfOk result (λ offsets. offsets ≡ offsets_of slots.now) }
 {
-    let mut offsets = Items::new(alloc);
+    let mut offsets = Items::with_capacity(alloc, slots.len() + 1)?;
     offsets.push(0)?;
     for slot in slots {
         offsets.push(slot.at)?;
@@ -199,7 +200,7 @@ fn offsets_of(alloc: Global, slots: &[PlacedEntry]) -> M<Items<u32>>
 fn entries_of(alloc: Global, slots: Items<PlacedEntry>) -> M<Items<Entry>>
     ensures { IfOk result (λ entries. entries ≡ entries_of slots) }
 {
-    let mut entries = Items::new(alloc);
+    let mut entries = Items::with_capacity(alloc, slots.len() + 1)?;
     entries.push(Entry::Gap)?;
     for slot in slots.into_vec() {
         entries.push(slot.entry)?;

@@ -1,7 +1,7 @@
 // Fields (JVMS 4.5).
 #![tactic(auto, unfolding(format_reading::specs::Reader::u1, format_reading::specs::Reader::u2, format_reading::specs::Reader::u4, format_reading::specs::Reader::bytes, format_reading::specs::Reader::lead, format_reading::specs::Reader::bind, format_reading::specs::Reader::give, format_reading::specs::Reader::here, format_reading::specs::Reader::settle, format_reading::specs::Reader::part))]
 
-ghost use Rattle.std.specs.Prelude.{◌≡◌, [], false, IfOk};
+ghost use Rattle.std.specs.Prelude.{◌≡◌, [], ◌∷◌, ◌++◌, false, IfOk, OnOk};
 ghost use Rattle.std.specs.List.{list_any};
 ghost use Rattle.format_reading.specs.Reader.{ReadsOr};
 ghost use Rattle.class_model.specs.Flags.{is_static};
@@ -13,12 +13,11 @@ use crate::attributes::{check_end, check_once, constant_value, read_units};
 use crate::flags::{field_access, is_static, read_field_flags};
 use crate::members::{read_field_type, read_name};
 use crate::names::is_named;
-use crate::pool::KnownPool;
 use crate::signatures::{Signature, Signatures};
-use crate::texts::TextRule;
 use class_model::{Constant, Field};
 use format_reading::{FormatFault, of_part};
-use jv_base::{Cursor, FieldType, Items, Name, Or, Units, field_text};
+use jv_base::{Cursor, FieldType, Items, M, Name, Or, Units};
+use known_pool::{KnownPool, TextRule};
 use std::alloc::Global;
 use std::marker::Model;
 
@@ -58,19 +57,30 @@ pub fn read_fields(
     ensures { ReadsOr result cursor.new (read_fields count pool.now in_interface [] cursor.old) }
 {
     let mut before = Signatures::new(alloc);
-    let mut fields = Items::new(alloc);
+    let mut fields = Items::with_capacity(alloc, usize::from(count))?;
     for _ in 0..count {
-        let member = field_info(alloc, pool, in_interface, &before, cursor)?;
-        before.push(member.1)?;
-        fields.push(member.0)?;
+        let member = field_info(pool, in_interface, &before, cursor)?;
+        keep(&mut fields, &mut before, member)?;
     }
     Ok(fields)
+}
+
+// One more field, whose signature is none of those before.
+#[tactic(auto)]
+fn keep(fields: &mut Items<Field>, before: &mut Signatures, member: (Field, Signature)) -> M<()>
+    requires { list_any (same_signature member.1) before.old ≡ false }
+    ensures fields { OnOk result (fields.new ≡ fields.old ++ member.0 ∷ []) }
+    ensures before { OnOk result (before.new ≡ member.1 ∷ before.old) }
+{
+    let (field, signature) = member;
+    before.push(signature)?;
+    fields.push(field)?;
+    Ok(())
 }
 
 // A field behind those of these signatures.
 #[tactic(auto, unfolding(format_reading::specs::Reader::u2, format_reading::specs::Reader::lead, format_reading::specs::Reader::bind, format_reading::specs::Reader::give, format_reading::specs::Reader::here, format_reading::specs::Reader::settle, class_model::specs::ReadingMembers::read_field_info))]
 fn field_info(
-    alloc: Global,
     pool: &KnownPool,
     in_interface: bool,
     before: &Signatures,
@@ -82,30 +92,30 @@ fn field_info(
     let at = cursor.place();
     let flags = read_field_flags(in_interface, cursor)?;
     let name = read_name(pool, TextRule::MemberName, cursor)?;
-    let ty = read_field_type(alloc, pool, cursor)?;
-    let signature = (name.text().clone()?, field_text(alloc, &ty)?);
+    let described = read_field_type(pool, cursor)?;
+    let signature = (name.text().clone()?, described.text().clone()?);
     before.check_fresh(at, &signature)?;
-    let seen = counted(alloc, pool, flags, &ty, cursor)?;
-    let name = name.text().clone()?;
-    Ok((field_of(flags, name, ty, seen), signature))
+    let seen = counted(pool, flags, described.ty(), cursor)?;
+    let field = field_of(flags, name.text(), described.ty(), seen)?;
+    Ok((field, signature))
 }
 
-fn field_of(flags: u16, name: Name, ty: FieldType, seen: SeenOfField) -> Field
-    ensures { result ≡ field_of flags name ty seen }
+fn field_of(flags: u16, name: &Name, ty: &FieldType, seen: SeenOfField) -> M<Field>
+    ensures { IfOk result (λ field. field ≡ field_of flags name.now ty.now seen) }
 {
     let SeenOfField {
         constant,
         synthetic,
         deprecated,
     } = seen;
-    Field {
+    Ok(Field {
         flags: field_access(flags),
-        name,
-        ty,
+        name: name.clone()?,
+        ty: ty.clone()?,
         constant: constant_of(constant),
         synthetic,
         deprecated,
-    }
+    })
 }
 
 fn constant_of(constant: Option<Option<Constant>>) -> Option<Constant>
@@ -117,7 +127,6 @@ fn constant_of(constant: Option<Option<Constant>>) -> Option<Constant>
 // ---- attributes
 
 fn counted(
-    alloc: Global,
     pool: &KnownPool,
     flags: u16,
     ty: &FieldType,
@@ -127,12 +136,11 @@ fn counted(
         (counted_attributes pool.now (known_of_field pool.now (is_static flags) ty.now) no_field_attribute cursor.old) }
 {
     let count = cursor.u2()?;
-    attributes(alloc, count, pool, flags, ty, cursor)
+    attributes(count, pool, flags, ty, cursor)
 }
 
 #[tactic(auto)]
 fn attributes(
-    alloc: Global,
     count: u16,
     pool: &KnownPool,
     flags: u16,
@@ -148,14 +156,13 @@ fn attributes(
         deprecated: false,
     };
     for _ in 0..count {
-        seen = attribute(alloc, pool, flags, ty, seen, cursor)?;
+        seen = attribute(pool, flags, ty, seen, cursor)?;
     }
     Ok(seen)
 }
 
 #[tactic(auto, unfolding(format_reading::specs::Reader::u2, format_reading::specs::Reader::u4, format_reading::specs::Reader::bytes, format_reading::specs::Reader::lead, format_reading::specs::Reader::bind, format_reading::specs::Reader::give, format_reading::specs::Reader::here, format_reading::specs::Reader::part), using(crate::proofs::Known::of_field))]
 fn attribute(
-    alloc: Global,
     pool: &KnownPool,
     flags: u16,
     ty: &FieldType,
@@ -172,7 +179,7 @@ fn attribute(
         return Ok(seen);
     };
     let mut part = cursor.part(length)?;
-    match contents(alloc, pool, flags, ty, at, length, known, seen, &mut part) {
+    match contents(pool, flags, ty, at, length, known, seen, &mut part) {
         Ok(seen) => {
             check_end(at, &part, cursor)?;
             Ok(seen)
@@ -196,7 +203,6 @@ fn field_attribute(name: &Units) -> Option<FieldAttribute>
 }
 
 fn contents(
-    alloc: Global,
     pool: &KnownPool,
     flags: u16,
     ty: &FieldType,
@@ -212,7 +218,7 @@ fn contents(
         FieldAttribute::ConstantValue => {
             check_once(at, seen.constant.is_some())?;
             if is_static(flags) {
-                let constant = constant_value(alloc, pool, ty, part)?;
+                let constant = constant_value(pool, ty, part)?;
                 return Ok(SeenOfField {
                     constant: Some(constant),
                     ..seen

@@ -9,11 +9,11 @@ ghost use Rattle.class_model.specs.ReadingCodeAttribute.{begins, places, handler
 
 use crate::faults::fault;
 use crate::lookups::class_at;
-use crate::pool::KnownPool;
 use class_model::Handler;
 use format_reading::{FormatFault, FormatKind};
 use frame_types::Starts;
 use jv_base::{Cursor, Items, Name, Or};
+use known_pool::KnownPool;
 use std::alloc::Global;
 
 // The number of the instruction that begins at an offset, or how many there are where the code ends there.
@@ -117,7 +117,7 @@ fn handlers(
     requires { count ≡ length starts.now }
     ensures { ReadsOr result cursor.new (many rows (read_handler pool.now starts.now end) cursor.old) }
 {
-    let mut handlers = Items::new(alloc);
+    let mut handlers = Items::with_capacity(alloc, usize::from(rows))?;
     for _ in 0..rows {
         let handler = read_handler(pool, starts, count, end, cursor)?;
         handlers.push(handler)?;

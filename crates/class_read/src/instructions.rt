@@ -9,11 +9,11 @@ ghost use Rattle.class_read.specs.Laws.{AreBytes};
 ghost use Rattle.class_read.specs.Instructions.{read_instructions, in_file, or_left_out, offset_told, count_of};
 
 use crate::faults::fault;
-use crate::pool::KnownPool;
 use class_model::LeftKind;
 use format_reading::{FormatFault, FormatKind};
 use jv_base::{Cursor, Or};
 use jv_ops::{CodeFault, Decoded, decode_code};
+use known_pool::KnownPool;
 use std::alloc::Global;
 
 /// The instructions of a code, or what is left out in it.
@@ -61,7 +61,7 @@ fn decoded(
     ensures bytes { AreBytes code.now }
     ensures count { IfOk result (λ read. count_of read ≤ length code.now) }
 {
-    match decode_code(alloc, code, pool.pool()) {
+    match decode_code(alloc, code, pool) {
         Ok(decoded) => Ok(Instructions::All(decoded)),
         Err(Or::Fault(wrong)) => Ok(or_left_out(from, wrong)?),
         Err(Or::OutOfMemory) => Err(Or::OutOfMemory),

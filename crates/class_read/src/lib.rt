@@ -22,9 +22,7 @@ mod methods;
 mod names;
 mod parts;
 mod passed_over;
-mod pool;
 mod signatures;
-mod texts;
 
 pub use class::read_class;
 pub use laws::files_are_read_where_spelled;

@@ -26,7 +26,7 @@ fn no_lines(alloc: Global, count: usize) -> M<Vec<Option<u16>>>
     ensures long { IfOk result (λ lines. length lines.items ≡ count) }
     ensures none { IfOk result (λ lines. (offset : ℕ) → found lines.items offset ≡ None) }
 {
-    let mut lines = Vec::new(alloc);
+    let mut lines = Vec::with_capacity(alloc, count)?;
     for _ in 0..count {
         lines.push(None)?;
     }
@@ -60,7 +60,7 @@ fn lines_there(alloc: Global, count: usize, rows: &[Line]) -> M<Vec<Option<u16>>
 fn carried(alloc: Global, lines: &[Option<u16>]) -> M<Vec<Option<u16>>>
     ensures { IfOk result (λ full. full.items ≡ carried None lines.now) }
 {
-    let mut full = Vec::new(alloc);
+    let mut full = Vec::with_capacity(alloc, lines.len())?;
     let mut line = None;
     for next in lines {
         line = next.or(line);
@@ -81,7 +81,7 @@ fn line_in(lines: &[Option<u16>], start: u32) -> Option<u16>
 fn lined_by(alloc: Global, lines: &[Option<u16>], starts: &[u32], ops: Items<Op>) -> M<Items<Ins>>
     ensures { IfOk result (λ ins. ins ≡ lined_by (found lines.now) starts.now ops) }
 {
-    let mut ins = Items::new(alloc);
+    let mut ins = Items::with_capacity(alloc, starts.len())?;
     let mut starts = starts.iter();
     for op in ops.into_vec() {
         let Some(start) = starts.next() else {

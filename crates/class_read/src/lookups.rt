@@ -4,12 +4,11 @@ ghost use Rattle.class_model.specs.Pool.{units_at};
 ghost use Rattle.class_model.specs.Lookups.{test, text_at, good_text_at, class_at, names_right, refers_right, test_of_units};
 ghost use Rattle.class_read.specs.Seen.{shown};
 ghost use Rattle.class_read.specs.Lookups.{referred, type_named_right};
-ghost use Rattle.class_read.specs.Texts.{obeys};
+ghost use Rattle.known_pool.specs.Texts.{obeys};
 
-use crate::pool::KnownPool;
-use crate::texts::{KnownText, TextRule};
 use class_model::Entry;
 use format_reading::FormatKind;
+use known_pool::{KnownPool, KnownText, TextRule};
 
 /// A test that has to pass, else a fault of the kind.
 pub fn test(kind: FormatKind, passed: bool) -> Result<(), FormatKind>

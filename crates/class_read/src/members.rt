@@ -1,22 +1,20 @@
 // The names and types of members (JVMS 4.5, 4.6).
 ghost use Rattle.std.specs.Prelude.{◌≡◌, ◌≤◌};
 ghost use Rattle.format_reading.specs.declared.fault.FormatKind.TheVariants.{BadName};
-ghost use Rattle.format_reading.specs.Reader.{Reads, ReadsOr, u2, item};
+ghost use Rattle.format_reading.specs.Reader.{Reads, u2, item};
 ghost use Rattle.class_model.specs.Lookups.{good_text_at};
 ghost use Rattle.class_model.specs.MemberTypes.{field_type_at, method_type_at};
 ghost use Rattle.class_model.specs.Members.{has_room_for_this, is_initial_type};
 ghost use Rattle.jv_base.specs.Types.{words_of, argument_words};
 ghost use Rattle.class_read.specs.Seen.{shown};
-ghost use Rattle.class_read.specs.Texts.{obeys};
+ghost use Rattle.known_pool.specs.Texts.{obeys};
 
 use crate::faults::fault;
 use crate::flags::{are_initial_flags, is_static};
 use crate::lookups::{good_text_at, test, text_at};
-use crate::pool::KnownPool;
-use crate::texts::{KnownText, TextRule};
 use format_reading::{FormatFault, FormatKind};
-use jv_base::{Base, Cursor, FieldType, MethodType, Name, Or};
-use std::alloc::Global;
+use jv_base::{Base, Cursor, FieldType, MethodType, Name};
+use known_pool::{DescribedField, DescribedMethod, KnownPool, KnownText, TextRule};
 
 /// A name that obeys a rule.
 pub fn read_name<'a>(
@@ -35,7 +33,7 @@ pub fn read_name<'a>(
 }
 
 #[tactic(auto, unfolding(class_model::specs::MemberTypes::field_type_at))]
-fn field_type_at(pool: &KnownPool, index: u16) -> Result<&FieldType, FormatKind>
+fn field_type_at(pool: &KnownPool, index: u16) -> Result<&DescribedField, FormatKind>
     ensures { shown result ≡ field_type_at pool.now index }
 {
     let text = text_at(pool, FormatKind::BadDescriptor, index)?;
@@ -46,18 +44,17 @@ fn field_type_at(pool: &KnownPool, index: u16) -> Result<&FieldType, FormatKind>
 }
 
 /// The type of a field.
-pub fn read_field_type(
-    alloc: Global,
-    pool: &KnownPool,
+pub fn read_field_type<'a>(
+    pool: &'a KnownPool,
     cursor: &mut Cursor,
-) -> Result<FieldType, Or<FormatFault>>
-    ensures { ReadsOr result cursor.new (item u2 (field_type_at pool.now) cursor.old) }
+) -> Result<&'a DescribedField, FormatFault>
+    ensures { Reads (shown result) cursor.new (item u2 (field_type_at pool.now) cursor.old) }
 {
     let at = cursor.place();
     let index = cursor.u2()?;
     match field_type_at(pool, index) {
-        Ok(ty) => Ok(ty.clone()?),
-        Err(kind) => Err(Or::Fault(fault(at, kind))),
+        Ok(ty) => Ok(ty),
+        Err(kind) => Err(fault(at, kind)),
     }
 }
 
@@ -108,37 +105,37 @@ fn method_type_at<'a>(
     flags: u16,
     name: &str,
     index: u16,
-) -> Result<&'a MethodType, FormatKind>
+) -> Result<&'a DescribedMethod, FormatKind>
     ensures { shown result ≡ method_type_at pool.now in_interface flags name.now index }
 {
     let text = text_at(pool, FormatKind::BadDescriptor, index)?;
-    let Some(ty) = text.method_type() else {
+    let Some(described) = text.method_type() else {
         return Err(FormatKind::BadDescriptor);
     };
+    let ty = described.ty();
     test(FormatKind::BadDescriptor, has_room_for_this(flags, ty))?;
     test(
         FormatKind::BadFlags,
         are_initial_flags(in_interface, flags, name),
     )?;
     test(FormatKind::BadDescriptor, is_initial_type(name, ty))?;
-    Ok(ty)
+    Ok(described)
 }
 
 /// The type of a method with these flags and this name.
-pub fn read_method_type(
-    alloc: Global,
-    pool: &KnownPool,
+pub fn read_method_type<'a>(
+    pool: &'a KnownPool,
     in_interface: bool,
     flags: u16,
     name: &Name,
     cursor: &mut Cursor,
-) -> Result<MethodType, Or<FormatFault>>
-    ensures { ReadsOr result cursor.new (item u2 (method_type_at pool.now in_interface flags name.now) cursor.old) }
+) -> Result<&'a DescribedMethod, FormatFault>
+    ensures { Reads (shown result) cursor.new (item u2 (method_type_at pool.now in_interface flags name.now) cursor.old) }
 {
     let at = cursor.place();
     let index = cursor.u2()?;
     match method_type_at(pool, in_interface, flags, name.as_str(), index) {
-        Ok(ty) => Ok(ty.clone()?),
-        Err(kind) => Err(Or::Fault(fault(at, kind))),
+        Ok(ty) => Ok(ty),
+        Err(kind) => Err(fault(at, kind)),
     }
 }

@@ -3,7 +3,7 @@
 
 ghost use Rattle.std.specs.Prelude.{◌≡◌, [], ◌∷◌, ◌++◌, ◌||◌, not, false, IfOk, OnOk};
 ghost use Rattle.std.specs.List.{list_any};
-ghost use Rattle.format_reading.specs.Reader.{ReadsOr};
+ghost use Rattle.format_reading.specs.Reader.{ReadsOr, part};
 ghost use Rattle.format_reading.specs.declared.fault.FormatKind.TheVariants.{BadAttribute};
 ghost use Rattle.class_model.specs.Flags.{has_body};
 ghost use Rattle.class_model.specs.Lookups.{test};
@@ -12,6 +12,7 @@ ghost use Rattle.class_model.specs.ReadingCodeAttribute.{is_there};
 ghost use Rattle.class_model.specs.ReadingMembers.{no_method_attribute, body_of, method_of, same_signature, read_method_info, read_methods};
 ghost use Rattle.class_read.specs.Entries.{found_at};
 ghost use Rattle.class_read.specs.Methods.{code_of_method, known_of, method_head, method_attribute, method_contents};
+ghost use Rattle.class_read.specs.declared.methods.MethodAttribute.TheVariants as kinds;
 
 use crate::attributes::{check_end, check_once, exceptions, read_units};
 use crate::code::read_code;
@@ -19,12 +20,11 @@ use crate::faults::fault;
 use crate::flags::{has_body, is_native, method_access, read_method_flags};
 use crate::members::{read_method_type, read_name};
 use crate::names::is_named;
-use crate::pool::KnownPool;
 use crate::signatures::{Signature, Signatures};
-use crate::texts::TextRule;
 use class_model::{Code, LeftKind, Method};
 use format_reading::{FormatFault, FormatKind, of_part};
-use jv_base::{Cursor, Items, M, MethodType, Name, Or, Units, method_text};
+use jv_base::{Cursor, Items, M, MethodType, Name, Or, Units};
+use known_pool::{KnownPool, TextRule};
 use std::alloc::Global;
 use std::marker::Model;
 
@@ -81,8 +81,8 @@ pub fn read_methods(
     ensures { ReadsOr result cursor.new (read_methods count pool.now in_interface class.now [] cursor.old) }
 {
     let mut before = Signatures::new(alloc);
-    let mut methods = Items::new(alloc);
-    let mut left_out = Items::new(alloc);
+    let mut methods = Items::with_capacity(alloc, usize::from(count))?;
+    let mut left_out = Items::with_capacity(alloc, usize::from(count))?;
     for _ in 0..count {
         let member = method_info(alloc, pool, in_interface, class, &before, cursor)?;
         keep(&mut methods, &mut left_out, &mut before, member)?;
@@ -124,7 +124,7 @@ fn method_info(
     ensures fresh { IfOk result (λ member. list_any (same_signature member.1) before.now ≡ false) }
 {
     let at = cursor.place();
-    let begun = method_head(alloc, pool, in_interface, before, cursor)?;
+    let begun = method_head(pool, in_interface, before, cursor)?;
     let seen = counted(alloc, pool, class, &begun.0, cursor)?;
     check_body(at, has_body(begun.0.flags), &seen)?;
     let made = method_of(alloc, begun.0, seen);
@@ -134,7 +134,6 @@ fn method_info(
 // What stands before the attributes of a method behind those of these signatures.
 #[tactic(auto, unfolding(format_reading::specs::Reader::u2, format_reading::specs::Reader::lead, format_reading::specs::Reader::bind, format_reading::specs::Reader::give, format_reading::specs::Reader::here, format_reading::specs::Reader::settle, crate::specs::Methods::method_head))]
 fn method_head(
-    alloc: Global,
     pool: &KnownPool,
     in_interface: bool,
     before: &Signatures,
@@ -147,9 +146,10 @@ fn method_head(
     let flags = read_method_flags(cursor)?;
     let known = read_name(pool, TextRule::MethodName, cursor)?;
     let name = known.text().clone()?;
-    let ty = read_method_type(alloc, pool, in_interface, flags, &name, cursor)?;
-    let signature = (name.clone()?, method_text(alloc, &ty)?);
+    let described = read_method_type(pool, in_interface, flags, &name, cursor)?;
+    let signature = (name.clone()?, described.text().clone()?);
     before.check_fresh(at, &signature)?;
+    let ty = described.ty().clone()?;
     Ok((MethodHead { flags, name, ty }, signature))
 }
 
@@ -255,6 +255,24 @@ fn attribute(
         cursor.take(length)?;
         return Ok(seen);
     };
+    known_attribute(alloc, pool, class, head, at, length, known, seen, cursor)
+}
+
+// The contents of the attribute at an offset, of a length, all of them.
+#[tactic(auto, unfolding(format_reading::specs::Reader::part))]
+fn known_attribute(
+    alloc: Global,
+    pool: &KnownPool,
+    class: &Name,
+    head: &MethodHead,
+    at: u32,
+    length: u32,
+    known: MethodAttribute,
+    seen: SeenOfMethod,
+    cursor: &mut Cursor,
+) -> Result<SeenOfMethod, Or<FormatFault>>
+    ensures { ReadsOr result cursor.new (part at length (method_contents pool.now class.now head.now at seen known) cursor.old) }
+{
     let mut part = cursor.part(length)?;
     match contents(alloc, pool, class, head, at, known, seen, &mut part) {
         Ok(seen) => {
@@ -294,23 +312,8 @@ fn contents(
     ensures { ReadsOr result part.new (method_contents pool.now class.now head.now at seen known part.old) }
 {
     match known {
-        MethodAttribute::Code => {
-            check_code(at, has_body(head.flags))?;
-            check_once(at, seen.body.is_some())?;
-            let body = read_code(alloc, pool, class, head, at, part)?;
-            Ok(SeenOfMethod {
-                body: Some(body),
-                ..seen
-            })
-        }
-        MethodAttribute::Exceptions => {
-            check_once(at, seen.throws.is_some())?;
-            let throws = exceptions(alloc, pool, part)?;
-            Ok(SeenOfMethod {
-                throws: Some(throws),
-                ..seen
-            })
-        }
+        MethodAttribute::Code => code_seen(alloc, pool, class, head, at, seen, part),
+        MethodAttribute::Exceptions => throws_seen(alloc, pool, class, head, at, seen, part),
         MethodAttribute::Synthetic => {
             check_once(at, seen.synthetic)?;
             Ok(SeenOfMethod {
@@ -326,6 +329,45 @@ fn contents(
             })
         }
     }
+}
+
+fn code_seen(
+    alloc: Global,
+    pool: &KnownPool,
+    class: &Name,
+    head: &MethodHead,
+    at: u32,
+    seen: SeenOfMethod,
+    part: &mut Cursor,
+) -> Result<SeenOfMethod, Or<FormatFault>>
+    ensures { ReadsOr result part.new (method_contents pool.now class.now head.now at seen kinds.Code part.old) }
+{
+    check_code(at, has_body(head.flags))?;
+    check_once(at, seen.body.is_some())?;
+    let body = read_code(alloc, pool, class, head, at, part)?;
+    Ok(SeenOfMethod {
+        body: Some(body),
+        ..seen
+    })
+}
+
+fn throws_seen(
+    alloc: Global,
+    pool: &KnownPool,
+    class: &Name,
+    head: &MethodHead,
+    at: u32,
+    seen: SeenOfMethod,
+    part: &mut Cursor,
+) -> Result<SeenOfMethod, Or<FormatFault>>
+    ensures { ReadsOr result part.new (method_contents pool.now class.now head.now at seen kinds.Exceptions part.old) }
+{
+    check_once(at, seen.throws.is_some())?;
+    let throws = exceptions(alloc, pool, part)?;
+    Ok(SeenOfMethod {
+        throws: Some(throws),
+        ..seen
+    })
 }
 
 // A Code stands where a method may have one.

@@ -10,10 +10,10 @@ ghost use Rattle.class_model.specs.ReadingClass.{read_all_fields, read_all_metho
 use crate::fields::read_fields;
 use crate::flags::{is_interface, is_left_out_class};
 use crate::methods::read_methods;
-use crate::pool::KnownPool;
 use class_model::{Entry, Field, LeftKind, LeftOut, Method};
 use format_reading::FormatFault;
 use jv_base::{Cursor, Items, Name, Or};
+use known_pool::KnownPool;
 use std::alloc::Global;
 
 /// The fields of a class with these flags.

@@ -8,8 +8,9 @@ ghost use Rattle.frame_types.specs.Before.{written_of, before_of, next_of};
 use crate::row::{Row, TypeInfo};
 use crate::starts::Starts;
 use crate::types::{fit, has_float, is_float, types_of, without_tops};
-use class_model::{Frame, FrameAt, Op, Pool, VType};
+use class_model::{Frame, FrameAt, Op, VType};
 use jv_base::{Items, M};
+use known_pool::KnownPool;
 use std::alloc::Global;
 
 /// An offset_delta, and the locals and the stack that a row writes.
@@ -55,15 +56,15 @@ pub fn names_float(row: &Row) -> bool
 
 fn with_item(
     alloc: Global,
-    pool: &Pool,
+    pool: &KnownPool,
     starts: &Starts,
     ops: &[Op],
     delta: u16,
     locals: Items<VType>,
     item: TypeInfo,
 ) -> M<Option<Written>>
-    ensures { IfOk result (λ w. option_map written_of w ≡ option_map (written pool.now.entries starts.now ops.now delta locals)
-        (types_of pool.now.entries starts.now ops.now (info_of item ∷ []))) }
+    ensures { IfOk result (λ w. option_map written_of w ≡ option_map (written pool.now starts.now ops.now delta locals)
+        (types_of pool.now starts.now ops.now (info_of item ∷ []))) }
 {
     match types_of(alloc, pool, starts, ops, &[item])? {
         Some(stack) => Ok(Some(Written {
@@ -93,15 +94,15 @@ fn chopped(alloc: Global, count: usize, delta: u16, before: Items<VType>) -> Opt
 
 fn appended(
     alloc: Global,
-    pool: &Pool,
+    pool: &KnownPool,
     starts: &Starts,
     ops: &[Op],
     delta: u16,
     before: Items<VType>,
     infos: &[TypeInfo],
 ) -> M<Option<Written>>
-    ensures { IfOk result (λ w. option_map written_of w ≡ option_map (λ types. written pool.now.entries starts.now ops.now delta
-        (before ++ types) []) (types_of pool.now.entries starts.now ops.now (map info_of infos.now))) }
+    ensures { IfOk result (λ w. option_map written_of w ≡ option_map (λ types. written pool.now starts.now ops.now delta
+        (before ++ types) []) (types_of pool.now starts.now ops.now (map info_of infos.now))) }
 {
     let Some(types) = types_of(alloc, pool, starts, ops, infos)? else {
         return Ok(None);
@@ -117,14 +118,14 @@ fn appended(
 
 fn written_whole(
     alloc: Global,
-    pool: &Pool,
+    pool: &KnownPool,
     starts: &Starts,
     ops: &[Op],
     delta: u16,
     locals: &[TypeInfo],
     stack: &[TypeInfo],
 ) -> M<Option<Written>>
-    ensures { IfOk result (λ w. option_map written_of w ≡ written_by pool.now.entries starts.now ops.now [] (FullFrame delta
+    ensures { IfOk result (λ w. option_map written_of w ≡ written_by pool.now starts.now ops.now [] (FullFrame delta
         (map info_of locals.now) (map info_of stack.now))) }
 {
     let Some(locals) = types_of(alloc, pool, starts, ops, locals)? else {
@@ -143,13 +144,13 @@ fn written_whole(
 // What a row behind these locals writes. Only the frame_types of its form stand in it, so no difference is cut off at 0.
 fn written_by(
     alloc: Global,
-    pool: &Pool,
+    pool: &KnownPool,
     starts: &Starts,
     ops: &[Op],
     before: Items<VType>,
     row: &Row,
 ) -> M<Option<Written>>
-    ensures { IfOk result (λ w. option_map written_of w ≡ written_by pool.now.entries starts.now ops.now before (row_of row.now)) }
+    ensures { IfOk result (λ w. option_map written_of w ≡ written_by pool.now starts.now ops.now before (row_of row.now)) }
 {
     match row {
         Row::Same { frame_type } => Ok(Some(Written {
@@ -251,7 +252,7 @@ fn frame_of(
 /// A row's frame, if its types are types, its locals and stack have room, and an instruction begins at its offset.
 pub fn row_stands(
     alloc: Global,
-    pool: &Pool,
+    pool: &KnownPool,
     starts: &Starts,
     ops: &[Op],
     max_stack: u16,
@@ -259,7 +260,7 @@ pub fn row_stands(
     before: Before,
     row: &Row,
 ) -> M<Option<Next>>
-    ensures { IfOk result (λ next. option_map next_of next ≡ row_stands pool.now.entries starts.now ops.now max_stack max_locals
+    ensures { IfOk result (λ next. option_map next_of next ≡ row_stands pool.now starts.now ops.now max_stack max_locals
         (before_of before) (row_of row.now)) }
 {
     let Before { locals, offset } = before;

@@ -32,7 +32,7 @@ fn type_infos(
 ) -> Result<Items<TypeInfo>, Or<FormatFault>>
     ensures { ReadsAsOr (map info_of) result cursor.new (many count read_type cursor.old) }
 {
-    let mut infos = Items::new(alloc);
+    let mut infos = Items::with_capacity(alloc, count)?;
     for _ in 0..count {
         let next = type_info(cursor)?;
         infos.push(next)?;

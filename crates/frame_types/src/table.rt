@@ -11,9 +11,10 @@ use crate::frames::{Before, Next, names_float, row_stands};
 use crate::reading::row;
 use crate::starts::Starts;
 use crate::types::copies;
-use class_model::{Frame, FrameAt, Op, Pool, VType};
+use class_model::{Frame, FrameAt, Op, VType};
 use format_reading::{FormatFault, FormatKind};
 use jv_base::{Cursor, Items, Or};
+use known_pool::KnownPool;
 use std::alloc::Global;
 
 /// The frames of a StackMapTable.
@@ -29,7 +30,7 @@ pub struct StackMapTable {
 #[tactic(auto, unfolding(format_reading::specs::Reader::lead, format_reading::specs::Reader::bind, format_reading::specs::Reader::give, format_reading::specs::Reader::here, format_reading::specs::Reader::settle, class_model::specs::ReadingFrames::read_frame))]
 fn frame(
     alloc: Global,
-    pool: &Pool,
+    pool: &KnownPool,
     starts: &Starts,
     ops: &[Op],
     max_stack: u16,
@@ -37,7 +38,7 @@ fn frame(
     before: Before,
     cursor: &mut Cursor,
 ) -> Result<(bool, Next), Or<FormatFault>>
-    ensures { ReadsAsOr row_read result cursor.new (read_frame pool.now.entries starts.now ops.now max_stack max_locals
+    ensures { ReadsAsOr row_read result cursor.new (read_frame pool.now starts.now ops.now max_stack max_locals
         (before_of before) cursor.old) }
 {
     let offset = cursor.place();
@@ -57,7 +58,7 @@ fn frame(
 // So many rows, the first of them behind these locals.
 fn frames(
     alloc: Global,
-    pool: &Pool,
+    pool: &KnownPool,
     starts: &Starts,
     ops: &[Op],
     max_stack: u16,
@@ -66,7 +67,7 @@ fn frames(
     first: Items<VType>,
     cursor: &mut Cursor,
 ) -> Result<StackMapTable, Or<FormatFault>>
-    ensures { ReadsAsOr table_of result cursor.new (read_frames_behind pool.now.entries starts.now ops.now max_stack max_locals count
+    ensures { ReadsAsOr table_of result cursor.new (read_frames_behind pool.now starts.now ops.now max_stack max_locals count
         (record { locals = first; offset = None }) cursor.old) }
 {
     let mut before = Before {
@@ -74,7 +75,7 @@ fn frames(
         offset: None,
     };
     let mut names_float = false;
-    let mut frames = Items::new(alloc);
+    let mut frames = Items::with_capacity(alloc, usize::from(count))?;
     for _ in 0..count {
         let (floats, next) = frame(
             alloc, pool, starts, ops, max_stack, max_locals, before, cursor,
@@ -103,10 +104,10 @@ pub fn frames_at(
     max_locals: u16,
     ops: &Items<Op>,
     starts: &Starts,
-    pool: &Pool,
+    pool: &KnownPool,
 ) -> Result<StackMapTable, Or<FormatFault>>
     ensures exact { ReadsAsOr table_of result cursor.new
-        (read_frames pool.now.entries starts.now ops.now max_stack max_locals first.now.locals cursor.old) }
+        (read_frames pool.now starts.now ops.now max_stack max_locals first.now.locals cursor.old) }
 {
     let count = cursor.u2()?;
     let locals = copies(alloc, first.locals.as_slice())?;
@@ -145,11 +146,11 @@ pub fn read_frames(
     max_locals: u16,
     ops: &Items<Op>,
     starts: &Items<u32>,
-    pool: &Pool,
+    pool: &KnownPool,
 ) -> Result<StackMapTable, Or<FrameFault>>
     requires bytes { length bytes.now < 4294967295 }
     requires starts { length starts.now < 4294967295 }
-    ensures exact { IsDue result (frames_of pool.now.entries starts.now ops.now max_stack max_locals first.now.locals bytes.now) }
+    ensures exact { IsDue result (frames_of pool.now starts.now ops.now max_stack max_locals first.now.locals bytes.now) }
 {
     let starts = Starts::new(alloc, starts.as_slice())?;
     let mut cursor = Cursor::new(bytes);

@@ -3,9 +3,10 @@ ghost use Rattle.class_model.specs.declared.frame.FrameAt.{FrameAt};
 ghost use Rattle.frame_types.specs.Writing.{IsOffset, HasShortLists};
 
 use super::*;
-use class_model::{Entry, Frame, FrameAt, Op, Pool, VType};
-use jv_base::{Base, FieldType, Items, M, Or, Text, units_of_text};
+use class_model::{Entry, Frame, FrameAt, Op, VType};
+use jv_base::{Base, FieldType, Items, M, Or, Shared, Text, units_of_text};
 use jv_ops::ConstantTable;
+use known_pool::{KnownPool, pool_of};
 use std::alloc::Global;
 use std::test::Fail;
 
@@ -17,16 +18,17 @@ fn class_a(alloc: Global) -> M<FieldType> {
 }
 
 // The class A stands at index 2.
-fn pool(alloc: Global) -> M<Pool> {
+fn pool(alloc: Global) -> M<KnownPool> {
     let mut entries = Items::new(alloc);
     entries.push(Entry::Gap)?;
-    entries.push(Entry::Utf8(units_of_text(alloc, &Text::from_str(alloc, "A")?)?))?;
+    let units = units_of_text(alloc, &Text::from_str(alloc, "A")?)?;
+    entries.push(Entry::Utf8(Shared::new(alloc, units)?))?;
     entries.push(Entry::Class(1))?;
-    Ok(Pool { entries })
+    pool_of(alloc, entries)
 }
 
 fn constants(alloc: Global) -> M<ConstantTable> {
-    ConstantTable::of_pool(alloc, &pool(alloc)?)
+    ConstantTable::of_pool(alloc, pool(alloc)?.pool())
 }
 
 fn starts(alloc: Global) -> M<Items<u32>> {

@@ -8,9 +8,9 @@ ghost use Rattle.frame_types.specs.Before.{is_top};
 
 use crate::row::TypeInfo;
 use crate::starts::Starts;
-use class_model::{Op, Pool, VType};
+use class_model::{Op, VType};
 use jv_base::{Items, M};
-use jv_ops::type_at;
+use known_pool::KnownPool;
 use std::alloc::Global;
 
 // ---- what is written
@@ -49,16 +49,16 @@ fn uninitialized(starts: &Starts, ops: &[Op], offset: u16) -> Option<VType>
 
 fn type_of(
     alloc: Global,
-    pool: &Pool,
+    pool: &KnownPool,
     starts: &Starts,
     ops: &[Op],
     info: TypeInfo,
 ) -> M<Option<VType>>
-    ensures { IfOk result (λ ty. ty ≡ type_of pool.now.entries starts.now ops.now (info_of info)) }
+    ensures { IfOk result (λ ty. ty ≡ type_of pool.now starts.now ops.now (info_of info)) }
 {
     match info {
         TypeInfo::Tag(tag) => Ok(tagged_type(tag)),
-        TypeInfo::Object(cpool_index) => match type_at(alloc, pool, cpool_index)? {
+        TypeInfo::Object(cpool_index) => match pool.type_at(cpool_index)? {
             Some(class) => Ok(Some(VType::Object(class))),
             None => Ok(None),
         },
@@ -69,14 +69,14 @@ fn type_of(
 /// The types in their order, if each is one.
 pub fn types_of(
     alloc: Global,
-    pool: &Pool,
+    pool: &KnownPool,
     starts: &Starts,
     ops: &[Op],
     infos: &[TypeInfo],
 ) -> M<Option<Items<VType>>>
-    ensures { IfOk result (λ types. types ≡ types_of pool.now.entries starts.now ops.now (map info_of infos.now)) }
+    ensures { IfOk result (λ types. types ≡ types_of pool.now starts.now ops.now (map info_of infos.now)) }
 {
-    let mut types = Items::new(alloc);
+    let mut types = Items::with_capacity(alloc, infos.len())?;
     for info in infos {
         let Some(ty) = type_of(alloc, pool, starts, ops, *info)? else {
             return Ok(None);
@@ -155,7 +155,7 @@ fn copy_of(ty: &VType) -> M<VType>
 pub fn copies(alloc: Global, types: &[VType]) -> M<Items<VType>>
     ensures { IfOk result (λ copies. copies ≡ types.now) }
 {
-    let mut copies = Items::new(alloc);
+    let mut copies = Items::with_capacity(alloc, types.len())?;
     for ty in types {
         copies.push(copy_of(ty)?)?;
     }

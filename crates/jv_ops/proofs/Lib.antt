@@ -19,6 +19,4 @@ mod Onward
 mod Alike
 mod Kept
 mod Saying
-mod Counted
-mod FewConstants
 mod ComputedCodes

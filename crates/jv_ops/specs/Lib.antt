@@ -6,5 +6,4 @@ pub mod Decoded
 pub mod ReadBack
 pub mod Constants
 pub mod Coded
-pub mod Countdown
 pub mod Examples

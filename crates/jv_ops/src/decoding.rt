@@ -11,8 +11,9 @@ use crate::fault::CodeFault;
 use crate::reading::placed_to_end;
 use crate::targets::{all_aimed, numbers_of};
 use crate::unaimed::Placed;
-use class_model::{Op, Pool};
+use class_model::Op;
 use jv_base::{Cursor, Items, M, Or};
+use known_pool::KnownPool;
 use std::alloc::Global;
 
 /// The instructions of a code, and the offset of each one's first byte.
@@ -26,7 +27,7 @@ pub struct Decoded {
 fn starts_of(alloc: Global, placed: &[Placed]) -> M<Items<u32>>
     ensures { IfOk result (λ starts. starts ≡ starts_of placed.now) }
 {
-    let mut starts = Items::new(alloc);
+    let mut starts = Items::with_capacity(alloc, placed.len())?;
     for next in placed {
         starts.push(next.at)?;
     }
@@ -45,9 +46,9 @@ fn all_decoded(alloc: Global, placed: Items<Placed>) -> Result<Decoded, Or<CodeF
 
 // The instructions of a code by the steps of the decoder: first each is read, then each target is found.
 #[tactic(auto, unfolding(crate::specs::Decoded::decoded))]
-fn decoded_in_steps(alloc: Global, bytes: &[u8], pool: &Pool) -> Result<Decoded, Or<CodeFault>>
+fn decoded_in_steps(alloc: Global, bytes: &[u8], pool: &KnownPool) -> Result<Decoded, Or<CodeFault>>
     requires { length bytes.now < 4294967295 }
-    ensures { IsDue result (decoded pool.now.entries bytes.now) }
+    ensures { IsDue result (decoded pool.now bytes.now) }
 {
     let mut cursor = Cursor::new(bytes);
     let placed = placed_to_end(alloc, pool, bytes.len(), &mut cursor)?;
@@ -59,12 +60,12 @@ fn decoded_in_steps(alloc: Global, bytes: &[u8], pool: &Pool) -> Result<Decoded,
 ///
 /// They are what the reading of class files gives for a code. The first fault from left to right counts. A target
 /// is asked for only where each instruction is one, so `BadTarget` comes behind all others.
-pub fn decode_code(alloc: Global, bytes: &[u8], pool: &Pool) -> Result<Decoded, Or<CodeFault>>
+pub fn decode_code(alloc: Global, bytes: &[u8], pool: &KnownPool) -> Result<Decoded, Or<CodeFault>>
     requires { length bytes.now < 4294967295 }
-    ensures found { HaveUnits pool.now.entries → IfOk result (λ decoded. IsDecoded pool.now.entries bytes.now decoded) }
-    ensures only { (decoded : Decoded) → IsDecoded pool.now.entries bytes.now decoded → IsDue result (Ok decoded) }
-    ensures left_out { HaveUnits pool.now.entries → IfFault result (ToldLeftOut pool.now.entries bytes.now) }
-    ensures exact { IsDue result (code_decoded pool.now.entries bytes.now) }
+    ensures found { HaveUnits pool.now → IfOk result (λ decoded. IsDecoded pool.now bytes.now decoded) }
+    ensures only { (decoded : Decoded) → IsDecoded pool.now bytes.now decoded → IsDue result (Ok decoded) }
+    ensures left_out { HaveUnits pool.now → IfFault result (ToldLeftOut pool.now bytes.now) }
+    ensures exact { IsDue result (code_decoded pool.now bytes.now) }
 {
     decoded_in_steps(alloc, bytes, pool)
 }

@@ -1,31 +1,27 @@
 // One instruction, read from left to right (JVMS 6.5).
-ghost use Rattle.std.specs.Prelude.{◌≡◌, ◌≤◌, ◌+◌, ◌≤ℤ◌, ℕ, List, IfOk, Err, None, option_map, option_and_then, slice_get};
+ghost use Rattle.std.specs.Prelude.{◌≡◌, ◌≤◌, ◌+◌, ◌≤ℤ◌, ℕ, List, IfOk, Err, None, option_map, option_and_then, option_copied, slice_get};
 ghost use Rattle.jv_base.specs.declared.outcome.Or.TheVariants.{Fault};
 ghost use Rattle.class_model.specs.declared.pool.Entry.{Entry};
 ghost use Rattle.jv_ops.specs.declared.fault.Wrong.TheVariants as wrong;
 ghost use Rattle.std.specs.Int.{w32, cast_signed};
-ghost use Rattle.jv_base.specs.Types.{argument_words, words_of};
 ghost use Rattle.format_reading.specs.Reader.{onwards, lead, item, u1, many, u4};
 ghost use Rattle.class_model.specs.InstructionStructure.{Bipush, Sipush, Local, WideLocal, Branch, pad_length};
 ghost use Rattle.class_model.specs.Instructions.{is_left_out_load};
-ghost use Rattle.class_model.specs.InstructionMeaning.{loaded, loaded_wide, member_op, class_op, count_of, method_named, of_type, can_be_operand};
+ghost use Rattle.class_model.specs.InstructionMeaning.{loaded, loaded_wide, member_op, class_op, method_named, of_type, can_be_operand};
 ghost use Rattle.class_model.specs.ReadingCode.{is_left_out_at, ldc, ldc_wide, one_byte, two_bytes, iinc, wide_iinc, widened, goto_wide, member, class_operand, is_count, invoke_interface, array_type_read, multi_new_array, table_length, table_switch, ascends, lookup_switch, begun};
 ghost use Rattle.jv_ops.specs.Fault.{MovesOr, told};
 ghost use Rattle.jv_ops.specs.Meaning.{meant, whole_op, match_read, matches_from, matches_behind, begun_by_table};
 
 use crate::fault::Wrong;
-use crate::lookups::{
-    class_at, fieldref_at, interface_methodref_at, method_type_of, methodref_at, string_units_at,
-    type_at,
-};
 use crate::opcodes::{
     array_type_of, field_op, is_branch, is_left_out_array_type, is_left_out_local,
     is_left_out_opcode, is_local, is_on_field, is_on_method, is_on_type, local_op, method_op,
     plain_op, takes_interface_method, type_op,
 };
 use crate::unaimed::{Match, Unaimed};
-use class_model::{Entry, MemberRef, Op, Pool};
-use jv_base::{Base, Cursor, FieldType, Items, M, Or, Shared};
+use class_model::{Entry, Op};
+use jv_base::{Cursor, FieldType, Items, M, Or, Shared};
+use known_pool::{KnownMember, KnownPool};
 use std::alloc::Global;
 
 // ---- what an operand means
@@ -41,64 +37,64 @@ fn is_left_out_load(entry: &Entry) -> bool
     }
 }
 
-fn is_left_out_at(pool: &Pool, index: u16) -> bool
-    ensures { result ≡ is_left_out_at (slice_get pool.now.entries index) }
+fn is_left_out_at(pool: &KnownPool, index: u16) -> bool
+    ensures { result ≡ is_left_out_at (slice_get pool.now index) }
 {
-    match pool.entries.get(usize::from(index)) {
+    match pool.entry_at(index) {
         Some(entry) => is_left_out_load(entry),
         None => false,
     }
 }
 
 // What ldc and ldc_w load: an int or a string.
-fn loaded(alloc: Global, pool: &Pool, index: u16) -> M<Option<Op>>
-    ensures { IfOk result (λ op. op ≡ loaded pool.now.entries index) }
+fn loaded(pool: &KnownPool, index: u16) -> M<Option<Op>>
+    ensures { IfOk result (λ op. op ≡ loaded pool.now index) }
 {
-    if let Some(Entry::Integer(value)) = pool.entries.get(usize::from(index)) {
+    if let Some(Entry::Integer(value)) = pool.entry_at(index) {
         return Ok(Some(Op::PushInt(*value)));
     }
-    match string_units_at(pool, index) {
-        Some(units) => Ok(Some(Op::PushText(Shared::new(alloc, units.clone()?)?))),
+    match pool.string_units_at(index) {
+        Some(units) => Ok(Some(Op::PushText(units.clone()?))),
         None => Ok(None),
     }
 }
 
 // What ldc_w loads, and ldc2_w, which loads a long.
-fn loaded_wide(alloc: Global, opcode: u8, pool: &Pool, index: u16) -> M<Option<Op>>
-    ensures { IfOk result (λ op. op ≡ loaded_wide opcode pool.now.entries index) }
+fn loaded_wide(opcode: u8, pool: &KnownPool, index: u16) -> M<Option<Op>>
+    ensures { IfOk result (λ op. op ≡ loaded_wide opcode pool.now index) }
 {
     if opcode == 0x13 {
-        return loaded(alloc, pool, index);
+        return loaded(pool, index);
     }
-    match pool.entries.get(usize::from(index)) {
+    match pool.entry_at(index) {
         Some(Entry::Long(value)) => Ok(Some(Op::PushLong(*value))),
         _ => Ok(None),
     }
 }
 
 // The method that an instruction of this opcode names.
-fn method_named(alloc: Global, opcode: u8, pool: &Pool, index: u16) -> M<Option<MemberRef>>
-    ensures { IfOk result (λ method. method ≡ method_named opcode pool.now.entries index) }
+fn method_named(opcode: u8, pool: &KnownPool, index: u16) -> Option<&KnownMember>
+    ensures { option_copied result ≡ method_named opcode pool.now index }
 {
-    match methodref_at(alloc, pool, index)? {
-        Some(method) => Ok(Some(method)),
-        None if takes_interface_method(opcode) => interface_methodref_at(alloc, pool, index),
-        None => Ok(None),
+    match pool.methodref_at(index) {
+        Some(method) => Some(method),
+        None if takes_interface_method(opcode) => pool.interface_methodref_at(index),
+        None => None,
     }
 }
 
 // The instruction on a field or a method.
-fn member_op(alloc: Global, opcode: u8, pool: &Pool, index: u16) -> M<Option<Op>>
-    ensures { IfOk result (λ op. op ≡ member_op opcode pool.now.entries index) }
+fn member_op(opcode: u8, pool: &KnownPool, index: u16) -> M<Option<Op>>
+    ensures { IfOk result (λ op. op ≡ member_op opcode pool.now index) }
 {
     if is_on_field(opcode) {
-        return match fieldref_at(alloc, pool, index)? {
-            Some(field) => Ok(field_op(opcode, Shared::new(alloc, field)?)),
+        return match pool.fieldref_at(index) {
+            Some(field) => Ok(field_op(opcode, field.reference().clone()?)),
             None => Ok(None),
         };
     }
-    match method_named(alloc, opcode, pool, index)? {
-        Some(method) => Ok(method_op(opcode, Shared::new(alloc, method)?)),
+    match method_named(opcode, pool, index) {
+        Some(method) => Ok(method_op(opcode, method.reference().clone()?)),
         None => Ok(None),
     }
 }
@@ -121,52 +117,17 @@ fn of_type(opcode: u8, ty: Shared<FieldType>) -> Option<Op>
 }
 
 // new, anewarray, checkcast and instanceof.
-fn class_op(alloc: Global, opcode: u8, pool: &Pool, index: u16) -> M<Option<Op>>
-    ensures { IfOk result (λ op. op ≡ class_op opcode pool.now.entries index) }
+fn class_op(alloc: Global, opcode: u8, pool: &KnownPool, index: u16) -> M<Option<Op>>
+    ensures { IfOk result (λ op. op ≡ class_op opcode pool.now index) }
 {
     if opcode == 0xBB {
-        return match class_at(alloc, pool, index)? {
-            Some(name) => Ok(Some(Op::New(name))),
+        return match pool.class_at(index) {
+            Some(name) => Ok(Some(Op::New(name.clone()?))),
             None => Ok(None),
         };
     }
-    match type_at(alloc, pool, index)? {
+    match pool.type_at(index)? {
         Some(ty) => Ok(of_type(opcode, Shared::new(alloc, ty)?)),
-        None => Ok(None),
-    }
-}
-
-#[tactic(auto, unfolding(jv_base::specs::Types::words_of))]
-fn words_of(ty: &FieldType) -> u32
-    ensures value { result ≡ words_of ty.now }
-    ensures most { result ≤ 2 }
-{
-    if ty.dims == 0 && matches!(ty.base, Base::Long | Base::Double) {
-        2
-    } else {
-        1
-    }
-}
-
-// How many words the arguments take (JVMS 4.3.3).
-#[tactic(auto, unfolding(jv_base::specs::Types::argument_words))]
-fn argument_words(args: &[FieldType]) -> u32
-    requires { argument_words args.now ≤ 255 }
-    ensures { result ≡ argument_words args.now }
-{
-    let mut words = 0;
-    for ty in args {
-        words += words_of(ty);
-    }
-    words
-}
-
-/// The count that invokeinterface has for a method: its argument words with the object's.
-pub fn count_of(alloc: Global, method: &MemberRef) -> M<Option<u32>>
-    ensures { IfOk result (λ count. count ≡ count_of method.now) }
-{
-    match method_type_of(alloc, &method.ty)? {
-        Some(ty) => Ok(Some(argument_words(ty.args.as_slice()) + 1)),
         None => Ok(None),
     }
 }
@@ -210,29 +171,24 @@ fn sipush(cursor: &mut Cursor) -> Result<Unaimed, Or<Wrong>>
     Ok(Unaimed::Whole(Op::PushInt(i32::from(short.cast_signed()))))
 }
 
-fn ldc(alloc: Global, pool: &Pool, cursor: &mut Cursor) -> Result<Unaimed, Or<Wrong>>
-    ensures { MovesOr result cursor.new (meant pool.now.entries (ldc pool.now.entries cursor.old)) }
+fn ldc(pool: &KnownPool, cursor: &mut Cursor) -> Result<Unaimed, Or<Wrong>>
+    ensures { MovesOr result cursor.new (meant pool.now (ldc pool.now cursor.old)) }
 {
     let index = u16::from(cursor.u1()?);
     if is_left_out_at(pool, index) {
         return left_out(0x12);
     }
-    whole(loaded(alloc, pool, index)?)
+    whole(loaded(pool, index)?)
 }
 
-fn ldc_wide(
-    alloc: Global,
-    pool: &Pool,
-    opcode: u8,
-    cursor: &mut Cursor,
-) -> Result<Unaimed, Or<Wrong>>
-    ensures { MovesOr result cursor.new (meant pool.now.entries (ldc_wide pool.now.entries opcode cursor.old)) }
+fn ldc_wide(pool: &KnownPool, opcode: u8, cursor: &mut Cursor) -> Result<Unaimed, Or<Wrong>>
+    ensures { MovesOr result cursor.new (meant pool.now (ldc_wide pool.now opcode cursor.old)) }
 {
     let index = cursor.u2()?;
     if is_left_out_at(pool, index) {
         return left_out(opcode);
     }
-    whole(loaded_wide(alloc, opcode, pool, index)?)
+    whole(loaded_wide(opcode, pool, index)?)
 }
 
 fn local(opcode: u8, cursor: &mut Cursor) -> Result<Unaimed, Or<Wrong>>
@@ -303,20 +259,20 @@ fn goto_wide(cursor: &mut Cursor) -> Result<Unaimed, Or<Wrong>>
     })
 }
 
-fn member(alloc: Global, pool: &Pool, opcode: u8, cursor: &mut Cursor) -> Result<Unaimed, Or<Wrong>>
-    ensures { MovesOr result cursor.new (meant pool.now.entries (member pool.now.entries opcode cursor.old)) }
+fn member(pool: &KnownPool, opcode: u8, cursor: &mut Cursor) -> Result<Unaimed, Or<Wrong>>
+    ensures { MovesOr result cursor.new (meant pool.now (member pool.now opcode cursor.old)) }
 {
     let index = cursor.u2()?;
-    whole(member_op(alloc, opcode, pool, index)?)
+    whole(member_op(opcode, pool, index)?)
 }
 
 fn class_operand(
     alloc: Global,
-    pool: &Pool,
+    pool: &KnownPool,
     opcode: u8,
     cursor: &mut Cursor,
 ) -> Result<Unaimed, Or<Wrong>>
-    ensures { MovesOr result cursor.new (meant pool.now.entries (class_operand pool.now.entries opcode cursor.old)) }
+    ensures { MovesOr result cursor.new (meant pool.now (class_operand pool.now opcode cursor.old)) }
 {
     let index = cursor.u2()?;
     whole(class_op(alloc, opcode, pool, index)?)
@@ -331,21 +287,21 @@ fn is_count(wanted: Option<u32>, count: u8) -> bool
     }
 }
 
-fn invoke_interface(alloc: Global, pool: &Pool, cursor: &mut Cursor) -> Result<Unaimed, Or<Wrong>>
-    ensures { MovesOr result cursor.new (meant pool.now.entries (invoke_interface pool.now.entries cursor.old)) }
+fn invoke_interface(pool: &KnownPool, cursor: &mut Cursor) -> Result<Unaimed, Or<Wrong>>
+    ensures { MovesOr result cursor.new (meant pool.now (invoke_interface pool.now cursor.old)) }
 {
     let index = cursor.u2()?;
-    let Some(method) = interface_methodref_at(alloc, pool, index)? else {
+    let Some(method) = pool.interface_methodref_at(index) else {
         return bad_operand();
     };
     let count = cursor.u1()?;
-    if !is_count(count_of(alloc, &method)?, count) {
+    if !is_count(method.count(), count) {
         return bad_operand();
     }
     if cursor.u1()? != 0 {
         return bad_operand();
     }
-    Ok(Unaimed::Whole(Op::InvokeInterface(Shared::new(alloc, method)?)))
+    Ok(Unaimed::Whole(Op::InvokeInterface(method.reference().clone()?)))
 }
 
 fn new_array(cursor: &mut Cursor) -> Result<Unaimed, Or<Wrong>>
@@ -361,11 +317,15 @@ fn new_array(cursor: &mut Cursor) -> Result<Unaimed, Or<Wrong>>
     }
 }
 
-fn multi_new_array(alloc: Global, pool: &Pool, cursor: &mut Cursor) -> Result<Unaimed, Or<Wrong>>
-    ensures { MovesOr result cursor.new (meant pool.now.entries (multi_new_array pool.now.entries cursor.old)) }
+fn multi_new_array(
+    alloc: Global,
+    pool: &KnownPool,
+    cursor: &mut Cursor,
+) -> Result<Unaimed, Or<Wrong>>
+    ensures { MovesOr result cursor.new (meant pool.now (multi_new_array pool.now cursor.old)) }
 {
     let index = cursor.u2()?;
-    let Some(ty) = type_at(alloc, pool, index)? else {
+    let Some(ty) = pool.type_at(index)? else {
         return bad_operand();
     };
     let dimensions = cursor.u1()?;
@@ -493,11 +453,11 @@ fn lookup_switch(alloc: Global, at: u32, cursor: &mut Cursor) -> Result<Unaimed,
 // What an opcode of one of the tables begins.
 fn begun_by_table(
     alloc: Global,
-    pool: &Pool,
+    pool: &KnownPool,
     opcode: u8,
     cursor: &mut Cursor,
 ) -> Result<Unaimed, Or<Wrong>>
-    ensures { (at : ℕ) → MovesOr result cursor.new (meant pool.now.entries (onwards at (begun_by_table pool.now.entries opcode) cursor.old)) }
+    ensures { (at : ℕ) → MovesOr result cursor.new (meant pool.now (onwards at (begun_by_table pool.now opcode) cursor.old)) }
 {
     if is_local(opcode) {
         return local(opcode, cursor);
@@ -506,7 +466,7 @@ fn begun_by_table(
         return branch(opcode, cursor);
     }
     if is_on_field(opcode) || is_on_method(opcode) {
-        return member(alloc, pool, opcode, cursor);
+        return member(pool, opcode, cursor);
     }
     if opcode == 0xBB || is_on_type(opcode) {
         return class_operand(alloc, pool, opcode, cursor);
@@ -520,12 +480,12 @@ fn begun_by_table(
 /// What an opcode at an offset of the code begins.
 pub fn begun(
     alloc: Global,
-    pool: &Pool,
+    pool: &KnownPool,
     at: u32,
     opcode: u8,
     cursor: &mut Cursor,
 ) -> Result<Unaimed, Or<Wrong>>
-    ensures { (offset : ℕ) → MovesOr result cursor.new (meant pool.now.entries (onwards offset (begun pool.now.entries at opcode) cursor.old)) }
+    ensures { (offset : ℕ) → MovesOr result cursor.new (meant pool.now (onwards offset (begun pool.now at opcode) cursor.old)) }
 {
     if let Some(op) = plain_op(opcode) {
         return Ok(Unaimed::Whole(op));
@@ -533,14 +493,14 @@ pub fn begun(
     match opcode {
         0x10 => bipush(cursor),
         0x11 => sipush(cursor),
-        0x12 => ldc(alloc, pool, cursor),
-        0x13 | 0x14 => ldc_wide(alloc, pool, opcode, cursor),
+        0x12 => ldc(pool, cursor),
+        0x13 | 0x14 => ldc_wide(pool, opcode, cursor),
         0x84 => iinc(cursor),
         0xC4 => wide(cursor),
         0xC8 => goto_wide(cursor),
         0xAA => table_switch(alloc, at, cursor),
         0xAB => lookup_switch(alloc, at, cursor),
-        0xB9 => invoke_interface(alloc, pool, cursor),
+        0xB9 => invoke_interface(pool, cursor),
         0xBC => new_array(cursor),
         0xC5 => multi_new_array(alloc, pool, cursor),
         0xBA => left_out(opcode),

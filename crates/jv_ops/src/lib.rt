@@ -21,9 +21,3 @@ pub use decoding::{Decoded, canonical_is_decoded, decode_code};
 pub use encoding::{Coded, encode_code, encode_with};
 pub use examples::computed_codes;
 pub use fault::CodeFault;
-pub use lookups::type_at;
-
-#[cfg(test)]
-mod tests;
-#[cfg(test)]
-mod written_and_read;

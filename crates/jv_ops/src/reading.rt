@@ -7,12 +7,12 @@ ghost use Rattle.jv_ops.specs.Decoding.{placed_at, placed_to_end};
 use crate::fault::{CodeFault, code_fault};
 use crate::instruction::begun;
 use crate::unaimed::Placed;
-use class_model::Pool;
 use jv_base::{Cursor, Items, Or};
+use known_pool::KnownPool;
 use std::alloc::Global;
 
-fn placed_at(alloc: Global, pool: &Pool, cursor: &mut Cursor) -> Result<Placed, Or<CodeFault>>
-    ensures { MovesOr result cursor.new (placed_at pool.now.entries cursor.old) }
+fn placed_at(alloc: Global, pool: &KnownPool, cursor: &mut Cursor) -> Result<Placed, Or<CodeFault>>
+    ensures { MovesOr result cursor.new (placed_at pool.now cursor.old) }
 {
     let at = cursor.place();
     let Ok(opcode) = cursor.u1() else {
@@ -28,11 +28,11 @@ fn placed_at(alloc: Global, pool: &Pool, cursor: &mut Cursor) -> Result<Placed, 
 /// The instructions up to the end of the bytes, `count` at most.
 pub fn placed_to_end(
     alloc: Global,
-    pool: &Pool,
+    pool: &KnownPool,
     count: usize,
     cursor: &mut Cursor,
 ) -> Result<Items<Placed>, Or<CodeFault>>
-    ensures placed { IsDue result (placed_to_end count pool.now.entries cursor.old) }
+    ensures placed { IsDue result (placed_to_end count pool.now cursor.old) }
     ensures count { IfOk result (λ placed. length placed ≤ count) }
 {
     let mut placed = Items::new(alloc);

@@ -13,13 +13,13 @@ ghost use Rattle.class_model.specs.WriteLimits.{branch_to};
 ghost use Rattle.jv_ops.specs.Coded.{HasIndex, HasIndices, IsNear, match_of};
 
 use crate::constants::{ConstantTable, class_constant, fieldref, methodref, type_constant};
-use crate::instruction::count_of;
 use crate::said::copied_units;
 use crate::sizes::{is_lconst, is_short, padding};
 use class_model::{
     ArithOp, Case, Cond, ConvOp, Elem, Kind, LogicOp, MemberRef, Num, Op, PoolConstant, ShiftOp,
 };
 use jv_base::{Base, FieldType, M, Name, Units};
+use known_pool::count_of;
 use std::alloc::Global;
 
 // ---- opcodes

@@ -6,7 +6,7 @@ use Rattle.class_read.proofs.fields.read_fields.Goals as goal
 
 pub returns-in_err-member : goal.returns-in_err-member
 returns-in_err-member c =
-    let p = err_from_is_err_and c.from_residual.result c.from_residual.ensures.1 in
+    let p = err_from_is_err_and c.from_residual-in_err-member.result c.from_residual-in_err-member.ensures.1 in
     let pool = c.args.pool.now in
     rw (p.1, p.2) (ends pool c.args.in_interface c.in_err-member.field-0.0 c.field_info.new.cursor c.field_info.new.cursor c.loop.fields c.args.count c.loop.counter c.loop.before c.loop.cursor (read_fields c.args.count pool c.args.in_interface [] c.args.cursor.now) c.loop-test.true c.in_err-member.ensures.read c.loop.invariant)
 
@@ -14,9 +14,8 @@ pub loop-preserved : goal.loop-preserved
 loop-preserved c =
     let pool = c.args.pool.now in
     let m = c.in_ok-member.member in
-    let b : c.push.new.self ≡ m.1 ∷ c.loop.before = c.in_ok-push.ensures in
-    let e : c.push-in-loop.new.self ≡ c.loop.fields ++ m.0 ∷ [] = c.in_ok-push-2.ensures in
-    rw (b, e) (goes_on pool c.args.in_interface c.loop.fields c.args.count c.loop.counter c.loop.before c.loop.cursor c.field_info.new.cursor m (read_fields c.args.count pool c.args.in_interface [] c.args.cursor.now) c.loop-test.true c.in_ok-member.ensures.read c.loop.invariant)
+    let kept = c.in_ok-keep.ensures in
+    rw (kept.before, kept.fields) (goes_on pool c.args.in_interface c.loop.fields c.args.count c.loop.counter c.loop.before c.loop.cursor c.field_info.new.cursor m (read_fields c.args.count pool c.args.in_interface [] c.args.cursor.now) c.loop-test.true c.in_ok-member.ensures.read c.loop.invariant)
 
 pub returns : goal.returns
 returns c =

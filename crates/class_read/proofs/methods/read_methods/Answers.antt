@@ -6,7 +6,7 @@ use Rattle.class_read.proofs.methods.read_methods.Goals as goal
 
 pub returns-in_err-member : goal.returns-in_err-member
 returns-in_err-member c =
-    let p = err_from_is_err_and c.from_residual.result c.from_residual.ensures.1 in
+    let p = err_from_is_err_and c.from_residual-in_err-member.result c.from_residual-in_err-member.ensures.1 in
     let pool = c.args.pool.now in
     let total = read_methods c.args.count pool c.args.in_interface c.args.class.now [] c.args.cursor.now in
     rw (p.1, p.2) (ends pool c.args.in_interface c.args.class.now c.in_err-member.field-0.0 c.method_info.new.cursor c.method_info.new.cursor (c.loop.methods, c.loop.left_out) c.args.count c.loop.counter c.loop.before c.loop.cursor total c.loop-test.true c.in_err-member.ensures.read c.loop.invariant)

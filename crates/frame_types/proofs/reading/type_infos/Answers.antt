@@ -9,7 +9,7 @@ use Rattle.frame_types.proofs.reading.type_infos.Goals as goal
 
 pub returns-in_err-next : goal.returns-in_err-next
 returns-in_err-next c =
-    let p = err_from_is_err_and c.from_residual.result c.from_residual.ensures.1 in
+    let p = err_from_is_err_and c.from_residual-in_err-next.result c.from_residual-in_err-next.ensures.1 in
     let total = many c.args.count read_type c.args.cursor.now in
     rw (p.1, p.2) (faults read_type (map info_of c.loop.infos) c.args.count c.loop.counter c.loop.cursor c.in_err-next.field-0.0 total
     c.loop-test.true c.loop.invariant c.in_err-next.ensures)

@@ -6,5 +6,5 @@ use Rattle.frame_types.proofs.types.types_of.Given as goal
 
 abbrev pub invariant-loop-info : goal.invariant-loop-info
 invariant-loop-info l =
-    onto l.types (types_from l.pool.entries l.starts l.ops l.info-index l.infos)
-    ≡ types_of l.pool.entries l.starts l.ops (map info_of l.infos)
+    onto l.types (types_from l.pool l.starts l.ops l.info-index l.infos)
+    ≡ types_of l.pool l.starts l.ops (map info_of l.infos)

@@ -10,7 +10,7 @@ use Rattle.jv_ops.proofs.decoding.decode_code.Goals as goal
 
 pub returns : goal.returns
 returns c =
-    let pool = c.args.pool.now.entries in
+    let pool = c.args.pool.now in
     let bytes = c.args.bytes.now in
     let due : IsDue c.decoded_in_steps.result (code_decoded pool bytes) = subst (λ (due : Result Decoded CodeFault). IsDue c.decoded_in_steps.result due) (decoded_is pool bytes (λ i. omega (arith, c.type_inv.bytes i))) c.decoded_in_steps.ensures in
     record {

@@ -10,14 +10,14 @@ use Rattle.jv_ops.proofs.Begun.{IsOther, begun_other, begun_load, is_19_or_20}
 use Rattle.jv_ops.proofs.instruction.begun.Goals as goal
 
 pub returns-in-16 : goal.returns-in-16
-returns-in-16 c = λ offset. rw c.in-16.is (c.bipush.ensures c.args.pool.now.entries)
+returns-in-16 c = λ offset. rw c.in-16.is (c.bipush.ensures c.args.pool.now)
 
 pub returns-in-17 : goal.returns-in-17
-returns-in-17 c = λ offset. rw c.in-17.is (c.sipush.ensures c.args.pool.now.entries)
+returns-in-17 c = λ offset. rw c.in-17.is (c.sipush.ensures c.args.pool.now)
 
 pub returns-in-19 : goal.returns-in-19
 returns-in-19 c = λ offset.
-    let pool = c.args.pool.now.entries in
+    let pool = c.args.pool.now in
     let code = c.args.opcode in
     let plain : is_some (plain_op code) ≡ false = ap is_some (sym c.plain_op.ensures ∙ c.in_default.is) in
     let bipush : eqb code 0x10 ≡ false = search rules in
@@ -30,7 +30,7 @@ returns-in-19 c = λ offset.
 
 pub returns-in_default-opcode : goal.returns-in_default-opcode
 returns-in_default-opcode c = λ offset.
-    let pool = c.args.pool.now.entries in
+    let pool = c.args.pool.now in
     let o : IsOther c.args.opcode = record {
       plain = ap is_some (sym c.plain_op.ensures ∙ c.in_default.is);
       bipush = search rules;
