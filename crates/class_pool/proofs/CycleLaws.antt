@@ -1,6 +1,7 @@
 -- Cycles, by marks and by ranks.
-use Rattle.std.proofs.Common.{◌≡◌, ⊎_elim, ℕ, ◌<◌, ◌≤◌, Bool, true, false, Ok, Err, inr, IsTrue, nat_lt, List, ◌∷◌}
+use Rattle.std.proofs.Common.{◌≡◌, ⊎_elim, ℕ, ◌<◌, ◌≤◌, Bool, true, false, Result, Ok, Err, inl, inr, IsTrue, nat_lt, List, ◌∷◌}
 use Rattle.std.proofs.Common.{length, slice_get, Option, Some, None, IfSome, sym, ap, subst, ◌∙◌, arith}
+use Rattle.std.specs.Prelude.{OnOk}
 use Rattle.std.specs.List.{All}
 use Rattle.std.proofs.lemmas.Bool.{ltb-true, lt-ltb}
 use Rattle.std.proofs.lemmas.Option.{slice_get_cases}
@@ -17,6 +18,7 @@ use Rattle.class_pool.specs.Faults.{super_faults, then_super_faults}
 use Rattle.class_pool.specs.declared.id.ClassId.{ClassId}
 use Rattle.class_pool.specs.declared.id.ClassId.TheVariants.{Prog, Lib}
 use Rattle.mark_core.specs.Ranks.{IsRanked, IsRankedBefore, NoneRises, rank_of}
+use Rattle.class_pool.specs.Cycles.{PassesHierarchy, PassesNames}
 use Rattle.class_pool.specs.Numbers.{IsHierarchy, above}
 use Rattle.class_pool.specs.Lists.{HasRanks}
 use Rattle.class_pool.specs.Supertypes.{IsClosed, IsCyclic, IsProperSub, NoCycle, direct}
@@ -145,8 +147,27 @@ pub first_are : (files : List NamedClass) (set : List Class) → name_faults fil
 first_are files set names supers is = ap (then_super_faults files) names
     ∙ subst (λ (cs : List Class). super_faults cs ≡ Ok tt) is supers
 
-pub cycle_built : (files : List NamedClass) (set : List Class) (e : Or PoolFault) → first_faults files ≡ Ok tt
-    → set ≡ classes_of files
-    → FindsCycle {T = Unit {0}} set (Err e) → Builds (Err e) files
-cycle_built files set (Fault f) first is found = inr (first, subst (λ (cs : List Class). IsFirstCycle cs f) is found)
-cycle_built files set OutOfMemory first is found = tt
+-- what is due where the first round has a fault
+pub names_built : (files : List NamedClass) (e : Or PoolFault) → PassesNames files (Err e) → Builds (Err e) files
+names_built files (Fault f) names = inl (ap (then_super_faults files) names)
+names_built files OutOfMemory names = tt
+
+-- and where another one has
+pub hierarchy_built : (files : List NamedClass) (set : List Class) (e : Or PoolFault) → name_faults files ≡ Ok tt
+    → set ≡ classes_of files → PassesHierarchy set (Err e) → Builds (Err e) files
+hierarchy_built files set (Fault f) names is found =
+    ⊎_elim
+    (λ supers.
+    inl
+    (ap (then_super_faults files) names ∙ subst (λ (cs : List Class). super_faults cs ≡ Err f) is supers))
+    (λ cycle.
+    inr (first_are files set names cycle.0 is, subst (λ (cs : List Class). IsFirstCycle cs f) is cycle.1))
+    found
+hierarchy_built files set OutOfMemory names is found = tt
+
+-- what the search for cycles finds after a round without fault
+pub cycles_passed : (set : List Class) (r : Result (Unit {0}) (Or PoolFault)) → super_faults set ≡ Ok tt
+    → FindsCycle set r → OnOk r (HasRanks set) → PassesHierarchy set r
+cycles_passed set (Ok t) supers found ranks = (supers, ranks)
+cycles_passed set (Err (Fault f)) supers found ranks = inr (supers, found)
+cycles_passed set (Err OutOfMemory) supers found ranks = tt

@@ -1,6 +1,7 @@
 pub mod Counting
 pub mod Naming
 pub mod NamedMembers
+pub mod Sorting
 pub mod FaultLaws
 pub mod Ascending
 pub mod Above

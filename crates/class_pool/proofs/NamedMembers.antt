@@ -1,67 +1,21 @@
 -- Members by their names.
-use Rattle.std.proofs.Common.{◌≡◌, ◌⊎◌, ⊎_elim, inl, inr, ℕ, zero, suc, ◌+◌, ◌-◌, ◌<◌, ◌≤◌, ◌&&◌, Bool, true, false}
+use Rattle.std.proofs.Common.{◌≡◌, ℕ, zero, suc, ◌+◌, ◌-◌, ◌<◌, ◌&&◌, Bool, true, false}
 use Rattle.std.proofs.Common.{cond, not, nat_lt, List, [], ◌∷◌, ◌++◌, length, get_or, take, slice_get, Option, Some}
 use Rattle.std.proofs.Common.{None, refl, sym, ap, subst, ◌∙◌, arith}
 use Rattle.std.specs.List.{AllZip, position, position_or_len}
-use Rattle.std.specs.Map.{lookup}
-use Rattle.std.specs.Option.{option_map, IfSome}
+use Rattle.std.specs.Option.{option_map}
 use Rattle.std.proofs.lemmas.Bool.{lt-ltb, le-ltb, ltb-true, ltb-false}
 use Rattle.std.proofs.lemmas.List.{take_more}
 use Rattle.std.proofs.lemmas.Option.{same_Some, slice_get_within}
 use Rattle.std.proofs.lemmas.Slice.Zip.{all_zipped_more}
 use Rattle.jv_base.specs.Names.{is_text}
 use Rattle.jv_base.specs.Types.{field_text, method_text}
-use Rattle.jv_base.proofs.Equality.{text_Decides}
 use Rattle.class_model.specs.declared.class.Class.{Class}
 use Rattle.class_model.specs.declared.class.Field.{Field}
 use Rattle.class_model.specs.declared.class.Method.{Method}
-use Rattle.class_pool.specs.ByName.{HasFirst, IsIndexOf, last_below, last_named, named_in}
+use Rattle.class_pool.specs.ByName.{IsIndexOf, named_in}
 use Rattle.class_pool.specs.Members.{is_field, is_method, member_named, or_method}
 use Rattle.class_pool.specs.declared.members.MemberIndex.{MemberIndex}
-
-next : (n : ℕ) → suc n ≡ n + 1
-next n = omega arith
-
-below_or_at : (k n : ℕ) → k < suc n → (k < n) ⊎ (k ≡ n)
-below_or_at zero zero h = inr refl
-below_or_at zero (suc n) h = inl (omega arith)
-below_or_at (suc k) zero h = absurd (omega (arith, h))
-below_or_at (suc k) (suc n) h = ⊎_elim (λ below. inl (omega (arith, below))) (λ at. inr (ap suc at))
-    (below_or_at k n (omega (arith, h)))
-
--- ---- one more member
-
-inner : {X : Type 0} (xs : List X) (y : X) (k : ℕ) → k < length xs → slice_get (xs ++ y ∷ []) k ≡ slice_get xs k
-inner [] y k within = absurd (omega (arith, within))
-inner (x ∷ xs) y zero within = refl
-inner (x ∷ xs) y (suc k) within = inner xs y k (omega (arith, within))
-
-outer : {X : Type 0} (xs : List X) (y : X) → slice_get (xs ++ y ∷ []) (length xs) ≡ Some y
-outer [] y = refl
-outer (x ∷ xs) y = outer xs y
-
-longer : {X : Type 0} (xs : List X) (y : X) → length (xs ++ y ∷ []) ≡ length xs + 1
-longer [] y = refl
-longer (x ∷ xs) y = let h = longer xs y in omega (arith, h)
-
-pub grown : (c : Class) (n : ℕ) (old new : MemberIndex) (name : List ℕ) → HasFirst c n old → name ≡ (named_in c n).0
-    → ((other : List ℕ) → lookup (is_text other) new.last.entries
-    ≡ cond (is_text name other) (Some n) (lookup (is_text other) old.last.entries))
-    → new.earlier ≡ old.earlier ++ lookup (is_text name) old.last.entries ∷ [] → HasFirst c (n + 1) new
-grown c n old new name has is last earlier = record {
-  count = ap length earlier ∙ longer old.earlier (lookup (is_text name) old.last.entries) ∙ ap (λ m. m + 1) has.count;
-  last = λ other. last other
-      ∙ ap (λ (t : List ℕ). cond (is_text t other) (Some n) (lookup (is_text other) old.last.entries)) is
-      ∙ ap (cond (is_text (named_in c n).0 other) (Some n)) (has.last other) ∙ ap (λ m. last_named c m other) (next n);
-  earlier = λ k within. ap (λ (xs : List (Option ℕ)). slice_get xs k) earlier ∙ ⊎_elim
-      (λ below. inner old.earlier _ k (subst (λ m. k < m) (sym has.count) below) ∙ has.earlier k below)
-      (λ at. subst (λ m. slice_get (old.earlier ++ lookup (is_text name) old.last.entries ∷ []) m
-      ≡ Some (last_named c m (named_in c m).0)) (sym at)
-      (subst (λ m. slice_get (old.earlier ++ lookup (is_text name) old.last.entries ∷ []) m
-      ≡ Some (last_named c n (named_in c n).0)) has.count
-      (outer old.earlier _ ∙ ap Some (has.last name ∙ ap (last_named c n) is))))
-      (below_or_at k n (omega (arith, within)));
-}
 
 -- ---- the first member of a name and a descriptor
 
@@ -69,33 +23,6 @@ grown c n old new name has is last earlier = record {
 abbrev pub first_below : (ℕ → Bool) → ℕ → Option ℕ → Option ℕ
 first_below test zero found = found
 first_below test (suc n) found = first_below test n (cond (test n) (Some n) found)
-
--- how many members are left to look at
-abbrev pub up_to : Option ℕ → ℕ
-up_to None = zero
-up_to (Some n) = suc n
-
-last_step : (test : ℕ → Bool) (n k : ℕ) (b : Bool) → test n ≡ b → cond b (Some n) (last_below test n) ≡ Some k
-    → (last_below test n ≡ Some k → (k < n) × (test k ≡ true)) → (k < suc n) × (test k ≡ true)
-last_step test n k true t is before = let same : n
-    ≡ k = same_Some n k is in (omega (arith, same), ap test (sym same) ∙ t)
-last_step test n k false t is before = let h = before is in (omega (arith, h.0), h.1)
-
-pub last_passes : (test : ℕ → Bool) (n k : ℕ) → last_below test n ≡ Some k → (k < n) × (test k ≡ true)
-last_passes test zero k is = absurd cc
-last_passes test (suc n) k is = last_step test n k (test n) refl is (last_passes test n k)
-
-skip_step : (p q : ℕ → Bool) (n : ℕ) (found : Option ℕ) (b : Bool) → p n ≡ b → (p n ≡ false → q n ≡ false)
-    → first_below q n found ≡ first_below q (up_to (last_below p n)) found
-    → first_below q (suc n) found ≡ first_below q (up_to (cond b (Some n) (last_below p n))) found
-skip_step p q n found true e other before = refl
-skip_step p q n found false e other before = ap (λ t. first_below q n (cond t (Some n) found)) (other e) ∙ before
-
--- only those that pass a weaker test are looked at
-pub skip : (p q : ℕ → Bool) → ((k : ℕ) → p k ≡ false → q k ≡ false) → (n : ℕ) (found : Option ℕ)
-    → first_below q n found ≡ first_below q (up_to (last_below p n)) found
-skip p q other zero found = refl
-skip p q other (suc n) found = skip_step p q n found (p n) refl (other n) (skip p q other n found)
 
 abbrev or_else : Option ℕ → Option ℕ → Option ℕ
 or_else (Some n) other = Some n
@@ -199,68 +126,6 @@ member_first c name descriptor =
     ∙ ap (λ o. or_else o (behind n (position (is_method name descriptor) c.methods)))
     (first_is (is_field name descriptor) c.fields q (λ k f is. ap tested (field_there c k f is)))
     ∙ or_is c name descriptor (position (is_field name descriptor) c.fields)
-
--- the members that are left to look at, and what was found behind them, lead to the member that is looked for
-pub record Leads (c : Class) (name descriptor : List ℕ) (next found : Option ℕ) : Type 0 where
-  pub rest : first_below (is_wanted c name descriptor) (up_to next) found ≡ member_named c name descriptor
-  pub there : IfSome next (λ n. (n < length c.fields + length c.methods) × (is_text (named_in c n).0 name ≡ true))
-
-last_there : (c : Class) (n : ℕ) (name : List ℕ) (o : Option ℕ) → n ≤ length c.fields + length c.methods
-    → o ≡ last_named c n name
-    → IfSome o (λ k. (k < length c.fields + length c.methods) × (is_text (named_in c k).0 name ≡ true))
-last_there c n name None within is = tt
-last_there c n name (Some k) within is =
-    let h = last_passes (λ j. is_text (named_in c j).0 name) n k (sym is) in
-    (omega (arith, h.0, within), h.1)
-
-not_wanted : (c : Class) (name descriptor : List ℕ) (k : ℕ) → is_text (named_in c k).0 name ≡ false
-    → is_wanted c name descriptor k ≡ false
-not_wanted c name descriptor k other = ap (λ t. t && is_text descriptor (named_in c k).1) other
-
-pub leads_first : (c : Class) (index : MemberIndex) (name descriptor : List ℕ) (next : Option ℕ) → IsIndexOf c index
-    → next ≡ lookup (is_text name) index.last.entries → Leads c name descriptor next None
-leads_first c index name descriptor next has is =
-    let n : ℕ = length c.fields + length c.methods in
-    let last : next ≡ last_named c n name = is ∙ has.last name in record {
-      rest = ap (λ o. first_below (is_wanted c name descriptor) (up_to o) None) last
-          ∙ sym (skip (λ k. is_text (named_in c k).0 name) (is_wanted c name descriptor)
-          (not_wanted c name descriptor) n None) ∙ member_first c name descriptor;
-      there = last_there c n name next (omega arith) last;
-    }
-
--- the one before a member of the name
-pub one_before : (c : Class) (index : MemberIndex) (name : List ℕ) (n : ℕ) (next : Option ℕ) → IsIndexOf c index
-    → n < length c.fields + length c.methods
-    → is_text (named_in c n).0 name ≡ true → slice_get index.earlier n ≡ Some next → next ≡ last_named c n name
-one_before c index name n next has within named at =
-    same_Some _ _ (sym at ∙ has.earlier n within) ∙ ap (last_named c n) ((text_Decides (named_in c n).0 name).0 named)
-
-pub leads_on : (c : Class) (index : MemberIndex) (name descriptor : List ℕ) (n : ℕ) (found next : Option ℕ) (b : Bool)
-    → IsIndexOf c index → Leads c name descriptor (Some n) found
-    → slice_get index.earlier n ≡ Some next → b ≡ is_text descriptor (named_in c n).1
-    → Leads c name descriptor next (cond b (Some n) found)
-leads_on c index name descriptor n found next b has leads at told =
-    let q : ℕ → Bool = is_wanted c name descriptor in
-    let p : ℕ → Bool = λ k. is_text (named_in c k).0 name in
-    let last : next ≡ last_named c n name = one_before c index name n next has leads.there.0 leads.there.1 at in
-    let wanted : b ≡ q n = told ∙ sym (ap (λ t. t && is_text descriptor (named_in c n).1) leads.there.1) in record {
-      rest = ap (λ o. first_below q (up_to o) (cond b (Some n) found)) last
-          ∙ sym (skip p q (not_wanted c name descriptor) n (cond b (Some n) found))
-          ∙ ap (λ t. first_below q n (cond t (Some n) found)) wanted ∙ leads.rest;
-      there = last_there c n name next (omega (arith, leads.there.0)) last;
-    }
-
-up_below : (n : ℕ) (o : Option ℕ) → ((k : ℕ) → o ≡ Some k → k < n) → up_to o < suc n
-up_below n None below = omega arith
-up_below n (Some k) below = let h = below k refl in omega (arith, h)
-
-pub fewer_left : (c : Class) (index : MemberIndex) (name descriptor : List ℕ) (n : ℕ) (found next : Option ℕ)
-    → IsIndexOf c index → Leads c name descriptor (Some n) found
-    → slice_get index.earlier n ≡ Some next → up_to next < suc n
-fewer_left c index name descriptor n found next has leads at =
-    up_below n next (λ k is.
-    (last_passes (λ j. is_text (named_in c j).0 name) n k
-    (sym (one_before c index name n next has leads.there.0 leads.there.1 at) ∙ is)).0)
 
 -- ---- an index for each class
 

@@ -1,9 +1,11 @@
 // A set, made from files.
-ghost use Rattle.std.specs.Prelude.{◌≡◌, ◌<◌, IfOk, codes};
+ghost use Rattle.std.specs.Prelude.{◌≡◌, ◌<◌, IfOk, codes, map};
 ghost use Rattle.std.specs.List.{AllZip};
 ghost use Rattle.class_pool.specs.ByName.{IsIndexOf};
 ghost use Rattle.class_pool.specs.Count.{item_count};
-ghost use Rattle.class_pool.specs.Faults.{Ascends, Builds, classes_of};
+ghost use Rattle.class_pool.specs.Cycles.{PassesHierarchy, PassesNames};
+ghost use Rattle.class_pool.specs.Descriptors.{method_texts};
+ghost use Rattle.class_pool.specs.Faults.{Ascends, Builds, NamesDiffer, classes_of};
 ghost use Rattle.class_pool.specs.Graph.{library_ids};
 ghost use Rattle.class_pool.specs.Hierarchy.{class_named};
 ghost use Rattle.class_pool.specs.Lists.{AreOwn, HasObject, HasRanks};
@@ -31,11 +33,36 @@ pub fn build(alloc: Global, files: Items<NamedClass>) -> Result<ClassSet, Or<Poo
     requires few { item_count (classes_of files) < 4294967295 }
     ensures { Builds result files }
 {
-    check_names(&files)?;
-    let classes = ClassesByName::of(alloc, take_classes(alloc, files)?)?;
-    check_supertypes(&classes)?;
-    check_cycles(alloc, &classes)?;
+    let classes = named_classes(alloc, files)?;
+    check_hierarchy(alloc, &classes)?;
     Ok(set_of(alloc, classes)?)
+}
+
+/// The classes of the files, after the first round of tests.
+fn named_classes(alloc: Global, files: Items<NamedClass>) -> Result<ClassesByName, Or<PoolFault>>
+    requires ascend { Ascends files }
+    requires few { item_count (classes_of files) < 4294967295 }
+    ensures { PassesNames files result }
+{
+    check_names(&files)?;
+    Ok(classes_by_name(alloc, files)?)
+}
+
+fn classes_by_name(alloc: Global, files: Items<NamedClass>) -> M<ClassesByName>
+    requires differ { NamesDiffer (classes_of files) }
+    requires few { item_count (classes_of files) < 4294967295 }
+    ensures { IfOk result (λ classes. classes ≡ classes_of files) }
+{
+    let classes = take_classes(alloc, files)?;
+    ClassesByName::of(alloc, classes)
+}
+
+/// The second and the third round of tests.
+fn check_hierarchy(alloc: Global, classes: &ClassesByName) -> Result<(), Or<PoolFault>>
+    ensures { PassesHierarchy classes.now result }
+{
+    check_supertypes(classes)?;
+    check_cycles(alloc, classes)
 }
 
 fn take_classes(alloc: Global, files: Items<NamedClass>) -> M<Items<Class>>
@@ -157,8 +184,8 @@ fn ordered_superinterfaces(
 fn member_tables(alloc: Global, classes: &ClassesByName) -> M<MemberTables>
     ensures { IfOk result (AreMembers classes.now) }
 {
-    let indexes = members_of(alloc, classes)?;
     let descriptors = descriptors_of(alloc, classes)?;
+    let indexes = members_of(alloc, classes, &descriptors)?;
     Ok(MemberTables {
         indexes,
         descriptors,
@@ -172,12 +199,18 @@ fn object_of(alloc: Global, classes: &ClassesByName) -> M<Option<ClassId>>
     Ok(classes.find(&name))
 }
 
-fn members_of(alloc: Global, classes: &ClassesByName) -> M<Items<MemberIndex>>
+fn members_of(
+    alloc: Global,
+    classes: &ClassesByName,
+    descriptors: &Items<Items<Text>>,
+) -> M<Items<MemberIndex>>
+    requires { descriptors.now ≡ map method_texts classes.now }
     ensures { IfOk result (AllZip IsIndexOf classes.now) }
 {
     let mut members = Items::new(alloc);
     for number in 0..classes.len() {
-        members.push(MemberIndex::of(alloc, classes.class(number))?)?;
+        let texts = &descriptors[number as usize];
+        members.push(MemberIndex::of(alloc, classes.class(number), texts)?)?;
     }
     Ok(members)
 }

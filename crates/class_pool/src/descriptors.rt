@@ -1,5 +1,5 @@
 // The descriptors of methods as texts (JVMS 4.3.3).
-ghost use Rattle.std.specs.Prelude.{◌≡◌, IfOk, map};
+ghost use Rattle.std.specs.Prelude.{◌≡◌, ◌++◌, [], ◌∷◌, IfOk, OnOk, map};
 ghost use Rattle.class_pool.specs.Descriptors.{method_texts};
 
 use crate::lookup::ClassesByName;
@@ -23,7 +23,27 @@ fn texts_of(alloc: Global, class: &Class) -> M<Items<Text>>
 {
     let mut texts = Items::new(alloc);
     for method in class.methods.as_slice() {
-        texts.push(method_text(alloc, &method.ty)?)?;
+        push_text(&mut texts, method_text(alloc, &method.ty)?)?;
     }
     Ok(texts)
+}
+
+fn push_text(texts: &mut Items<Text>, text: Text) -> M<()>
+    ensures { OnOk result (texts.new ≡ texts.old ++ text ∷ []) }
+{
+    let shared = as_last(texts, text)?;
+    texts.push(shared)?;
+    Ok(())
+}
+
+/// The text, which shares the string of the last one where they are the same.
+fn as_last(texts: &Items<Text>, text: Text) -> M<Text>
+    ensures { IfOk result (λ shared. shared ≡ text) }
+{
+    if let Some(last) = texts.as_slice().last() {
+        if *last == text {
+            return Ok(last.clone()?);
+        }
+    }
+    Ok(text)
 }

@@ -1,6 +1,7 @@
 // Classes, found by their names.
-ghost use Rattle.std.specs.Prelude.{◌≡◌, ◌+◌, ◌<◌, IfOk, IfSome, Some, length, map, slice_get};
+ghost use Rattle.std.specs.Prelude.{◌≡◌, ◌+◌, ◌<◌, IfOk, IfSome, OnOk, Some, length, map, slice_get};
 ghost use Rattle.std.specs.List.{position};
+ghost use Rattle.indexmap.specs.IndexSet.{insert_key};
 ghost use Rattle.jv_base.specs.Names.{is_text};
 ghost use Rattle.class_pool.specs.Count.{item_count};
 ghost use Rattle.class_pool.specs.Faults.{NamesDiffer};
@@ -109,7 +110,14 @@ fn names_of(alloc: Global, classes: &Items<Class>) -> M<IndexSet<Name>>
 {
     let mut names = IndexSet::new(alloc);
     for class in classes.as_slice() {
-        names.insert_full(class.name.clone()?)?;
+        insert_name(&mut names, &class.name)?;
     }
     Ok(names)
+}
+
+fn insert_name(names: &mut IndexSet<Name>, name: &Name) -> M<()>
+    ensures { OnOk result (names.new.keys ≡ insert_key is_text names.old.keys name.now) }
+{
+    names.insert_full(name.clone()?)?;
+    Ok(())
 }

@@ -1,7 +1,11 @@
-use Rattle.class_pool.proofs.NamedMembers.{grown}
+use Rattle.std.proofs.Common.{◌+◌, length}
+use Rattle.class_pool.proofs.Sorting.{moved_keys}
 use Rattle.class_pool.proofs.members.MemberIndex.of.Goals as goal
 
-pub loop-number-preserved : goal.loop-number-preserved
-loop-number-preserved c =
-    grown c.args.class.now c.loop-number.number c.loop-number.index c.push.new.self c.name_at.result.now
-    c.loop-number.invariant c.name_at.ensures c.in_ok-push.ensures.last c.in_ok-push.ensures.earlier
+pub returns : goal.returns
+returns c = record {
+  keys =
+      moved_keys c.args.class.now (length c.args.class.now.fields + length c.args.class.now.methods)
+      c.in_ok-keys.keys.items c.sort.new.self.items c.sort.ensures.permutation c.in_ok-keys.ensures;
+  sorted = c.in_ok-sort.ensures.sorted;
+}
