@@ -86,6 +86,7 @@ told_alike texts k q d h = same_from_decides _ _ (same_Decides k (constant_of te
   where
     there : key_of texts k ≡ q → k ≡ constant_of texts q
     there e = sym (constant_there texts k (subst (λ x. IsKeyIn (length texts) x) (sym e) h)) ∙ ap (constant_of texts) e
+
     decides : Decides (same_key (key_of texts k) q) (k ≡ constant_of texts q)
     decides = let d' = key_Decides (key_of texts k) q in
         (λ e. there (d'.0 e), λ e. d'.1 (ap (key_of texts) e ∙ key_there texts q d h))

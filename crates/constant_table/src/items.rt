@@ -53,13 +53,34 @@ fn put_item(alloc: Global, texts: &Texts, keys: &Keys, key: Key, out: &mut Vec<u
             put_indices(12, name, descriptor, out)
         }
         Key::Fieldref(class, name, descriptor) => {
-            put_reference(texts, keys, 9, class, Key::NameAndType(name, descriptor), out)
+            put_reference(
+                texts,
+                keys,
+                9,
+                class,
+                Key::NameAndType(name, descriptor),
+                out,
+            )
         }
         Key::Methodref(class, name, descriptor) => {
-            put_reference(texts, keys, 10, class, Key::NameAndType(name, descriptor), out)
+            put_reference(
+                texts,
+                keys,
+                10,
+                class,
+                Key::NameAndType(name, descriptor),
+                out,
+            )
         }
         Key::InterfaceMethodref(class, name, descriptor) => {
-            put_reference(texts, keys, 11, class, Key::NameAndType(name, descriptor), out)
+            put_reference(
+                texts,
+                keys,
+                11,
+                class,
+                Key::NameAndType(name, descriptor),
+                out,
+            )
         }
     }
 }

@@ -4,8 +4,9 @@ ghost use Rattle.frame_types.specs.Writing.{IsOffset, HasShortLists};
 
 use super::*;
 use class_model::{Entry, Frame, FrameAt, Op, Pool, VType};
+use constant_table::ConstantTable;
 use jv_base::{Base, FieldType, Items, M, Or, Text, units_of_text};
-use jv_ops::ConstantTable;
+use jv_ops::constants_in;
 use std::alloc::Global;
 use std::test::Fail;
 
@@ -26,7 +27,7 @@ fn pool(alloc: Global) -> M<Pool> {
 }
 
 fn constants(alloc: Global) -> M<ConstantTable> {
-    ConstantTable::of_pool(alloc, &pool(alloc)?)
+    constants_in(alloc, &pool(alloc)?)
 }
 
 fn starts(alloc: Global) -> M<Items<u32>> {
@@ -197,7 +198,7 @@ fn are_short(frames: &[FrameAt]) -> bool
 fn write(alloc: Global, frames: &Items<FrameAt>, first: &Frame) -> Result<Items<u8>, Fail> {
     let starts = starts(alloc)?;
     let constants = constants(alloc)?;
-    if constants.as_slice().len() >= 65_535
+    if constants.len() >= 65_535
         || frames.len() >= 65_536
         || !are_offsets(starts.as_slice())
         || !are_short(frames.as_slice())

@@ -9,15 +9,12 @@ pub mod ReadToEnd
 pub mod ReadWhole
 pub mod ReadGrammar
 pub mod BackDecoded
-mod Indexed
 mod Lengths
 mod Ends
 mod Counts
 mod Ready
 mod Branches
 mod Onward
-mod Alike
-mod Kept
 mod Saying
 mod Counted
 mod FewConstants

@@ -19,7 +19,7 @@ returns-clause-numbers c =
     let old = c.args.numbers.now.entries in
     let texts = c.put_unit.new.texts.keys in
     let h : HasNumber texts c.in_ok-number.number (units_of c.args.text.now) =
-        subst (λ (u : List ℕ). HasNumber texts c.in_ok-number.number u) c.in_ok-units_of_text.ensures.written c.in_ok-number.ensures.number in
+    subst (λ (u : List ℕ). HasNumber texts c.in_ok-number.number u) c.in_ok-units_of_text.ensures.written c.in_ok-number.ensures.number in
     let e : c.in_ok-name.name ≡ c.args.text.now = search rules in
     number_put texts old c.put_number.new.numbers.entries c.args.text.now c.in_ok-number.number
     (numbers_grown c.args.texts.now.keys texts old c.put_unit.ensures.grows c.requires) h

@@ -2,7 +2,7 @@ use Rattle.std.proofs.Common.{◌≡◌, ◌++◌, ◌∷◌, [], ◌-◌, lengt
 use Rattle.class_model.specs.declared.constant.PoolConstant.{PoolConstant}
 use Rattle.jv_ops.specs.Constants.{first_constants, said_at}
 use Rattle.jv_ops.proofs.Saying.{constants_next}
-use Rattle.jv_ops.proofs.constants.ConstantTable.of_pool.Goals as goal
+use Rattle.jv_ops.proofs.constants.constants_in.Goals as goal
 
 pub loop-index-preserved : goal.loop-index-preserved
 loop-index-preserved c =
