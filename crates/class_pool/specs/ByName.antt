@@ -1,5 +1,5 @@
--- The members of a program class by their names, numbered as the class has them: fields first, then methods
--- (JVMS 4.5, 4.6; only the proof of ClassSet needs it).
+-- The members of a program class by their names and descriptors, numbered as the class has them: fields first, then
+-- methods (JVMS 4.5, 4.6; only the proof of ClassSet needs it).
 use Rattle.std.specs.Prelude.{◌≡◌, ◌<◌, ◌≤◌, ℕ, ◌+◌, ◌-◌, Bool, true, false, List, [], length, nat_lt, slice_get}
 use Rattle.std.specs.Prelude.{slice_index_or, ◌&&◌, Option, Some, None, if◌then◌else◌}
 use Rattle.std.specs.Cmp.Lexicographic.{slice_cmp}

@@ -18,7 +18,7 @@ use Rattle.class_model.specs.WellFormed.{IsGoodCode, IsGoodMethod, HasFewWords}
 use Rattle.class_model.specs.WriteLimits.{fits_u2, first_of, text_fits, branches_fit, code_fits, frames_fit, body_tables_fit, method_tables_fit, table_fits, tables_fit}
 use Rattle.class_write.specs.Placing.{IsWritable, HasWritable}
 use Rattle.class_write.specs.Writing.{FitsTables, HasFitting}
-use Rattle.class_write.specs.Limits.{pool_fits}
+use Rattle.constant_table.specs.Limits.{pool_fits}
 
 abbrev Limited : Type 0
 Limited = Result (Unit {0}) WriteLimit

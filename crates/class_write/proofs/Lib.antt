@@ -1,3 +1,4 @@
+mod Places
 mod Inserted
 mod Counted
 mod PlacedCodes

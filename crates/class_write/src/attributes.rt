@@ -5,11 +5,10 @@ ghost use Rattle.std.specs.List.{flat_map};
 ghost use Rattle.class_model.specs.Structure.{attribute_info};
 ghost use Rattle.class_model.specs.CanonicalClass as canonical;
 
-use crate::bytes::{put, put_u2, put_u4};
 use crate::indices::{class_index, text_index, units_index, value_index};
 use class_model::Constant;
+use constant_table::{ConstantTable, put, put_u2, put_u4};
 use jv_base::{M, Name, Text, Units};
-use jv_ops::ConstantTable;
 use std::alloc::Global;
 
 /// attribute_info, where it is written (JVMS 4.7).
@@ -69,7 +68,7 @@ pub fn put_constant_value(
 {
     match constant {
         Some(value) => {
-            let index = value_index(alloc, pool, value)?.to_be_bytes();
+            let index = value_index(pool, value).to_be_bytes();
             put_attribute(alloc, pool, true, "ConstantValue", &index, out)
         }
         None => Ok(()),
@@ -88,7 +87,7 @@ pub fn put_source(
 {
     match source {
         Some(units) => {
-            let index = units_index(alloc, pool, units)?.to_be_bytes();
+            let index = units_index(pool, units).to_be_bytes();
             put_attribute(alloc, pool, true, "SourceFile", &index, out)
         }
         None => Ok(()),

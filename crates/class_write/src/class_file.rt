@@ -11,15 +11,13 @@ ghost use Rattle.class_write.specs.Placing.{placed_bodies};
 ghost use Rattle.class_write.specs.Writing.{Puts, HasFitting};
 
 use crate::attributes::{mark_count, put_class_indices, put_marks, put_source};
-use crate::bytes::{put, put_u2};
-use crate::entries::put_pool;
 use crate::fields::put_fields;
 use crate::indices::class_index;
 use crate::methods::put_methods;
 use crate::placing::PlacedCode;
 use class_model::{Class, WriteLimit};
+use constant_table::{ConstantTable, put, put_u2};
 use jv_base::{M, Name, Or};
-use jv_ops::ConstantTable;
 use std::alloc::Global;
 
 /// CAFEBABE, and version 52.0.
@@ -59,7 +57,7 @@ fn put_front(alloc: Global, pool: &ConstantTable, class: &Class, out: &mut Vec<u
     ensures { OnOk result (out.new.items ≡ out.old.items ++ front_text pool.now class.now) }
 {
     put_magic(out)?;
-    put_pool(alloc, pool, out)?;
+    pool.put(alloc, out)?;
     put_names(alloc, pool, class, out)?;
     put_interfaces(alloc, pool, class, out)?;
     put_fields(alloc, pool, class.fields.as_slice(), out)?;

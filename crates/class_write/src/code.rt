@@ -9,12 +9,11 @@ ghost use Rattle.class_model.specs.CanonicalFrames.{rows};
 ghost use Rattle.class_model.specs.CanonicalClass as canonical;
 ghost use Rattle.frame_types.specs.Writing.{IsOffset};
 
-use crate::bytes::put_u2;
 use crate::indices::class_index;
 use crate::lines::line_count;
 use class_model::{Handler, Ins};
+use constant_table::{ConstantTable, put_u2};
 use jv_base::{M, Name};
-use jv_ops::ConstantTable;
 use std::alloc::Global;
 
 /// The offset of an instruction, or the length of the code behind the last one.

@@ -14,14 +14,13 @@ ghost use Rattle.class_write.specs.Placing.{placed_code};
 ghost use Rattle.class_write.specs.Writing.{attribute_length, FitsTables, items_text, contents_due};
 
 use crate::attributes::put_attribute;
-use crate::bytes::{put, put_u2, put_u4};
 use crate::code::{line_table, put_handlers};
 use crate::lines::has_rows;
 use crate::placing::PlacedCode;
 use class_model::{Code, Frame, WriteLimit};
+use constant_table::{ConstantTable, put, put_u2, put_u4};
 use frame_types::write_frames_with;
 use jv_base::{Bytes, M, Or};
-use jv_ops::ConstantTable;
 use std::alloc::Global;
 
 /// The frames of a well-formed code have no more types than its max_locals and max_stack, which have two bytes.

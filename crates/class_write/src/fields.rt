@@ -6,11 +6,10 @@ ghost use Rattle.class_model.specs.Structure.{attribute_info, member_info};
 ghost use Rattle.class_model.specs.CanonicalClass as canonical;
 
 use crate::attributes::{mark_count, put_constant_value, put_marks};
-use crate::bytes::put_u2;
 use crate::indices::text_index;
 use class_model::Field;
+use constant_table::{ConstantTable, put_u2};
 use jv_base::{M, field_text};
-use jv_ops::ConstantTable;
 use std::alloc::Global;
 
 /// The fields, their count first.

@@ -1,38 +1,28 @@
 // The indices of constants in the pool (JVMS 4.4).
 ghost use Rattle.std.specs.Prelude.{◌≡◌, ◌+◌, ◌^◌, ◌<◌, length, IfOk};
+ghost use Rattle.class_model.specs.declared.constant.PoolConstant.{PoolConstant};
 ghost use Rattle.class_model.specs.CanonicalPool.{index_of};
 ghost use Rattle.class_model.specs.CanonicalClass as canonical;
 
-use crate::constants::copied;
-use class_model::{Constant, PoolConstant};
-use jv_base::{M, Name, Text, Units, units_of_text};
-use jv_ops::{ConstantTable, class_constant};
+use class_model::Constant;
+use constant_table::ConstantTable;
+use jv_base::{M, Name, Text, Units};
 use std::alloc::Global;
-
-/// The index of a constant.
-pub fn index_of(pool: &ConstantTable, constant: &PoolConstant) -> u16
-    requires { length pool.now + 1 < 2 ^ 16 }
-    ensures { result ≡ index_of pool.now constant.now }
-{
-    pool.index_of(constant) as u16
-}
 
 /// The index of the CONSTANT_Utf8 of a name or a descriptor.
 pub fn text_index(alloc: Global, pool: &ConstantTable, text: &Text) -> M<u16>
     requires { length pool.now + 1 < 2 ^ 16 }
     ensures { IfOk result (λ index. index ≡ canonical.text_index pool.now text.now) }
 {
-    let constant = PoolConstant::Utf8(units_of_text(alloc, text)?);
-    Ok(index_of(pool, &constant))
+    Ok(pool.text_index(alloc, text)? as u16)
 }
 
 /// The index of the CONSTANT_Utf8 of these units.
-pub fn units_index(alloc: Global, pool: &ConstantTable, units: &Units) -> M<u16>
+pub fn units_index(pool: &ConstantTable, units: &Units) -> u16
     requires { length pool.now + 1 < 2 ^ 16 }
-    ensures { IfOk result (λ index. index ≡ index_of pool.now (PoolConstant.Utf8 units.now)) }
+    ensures { result ≡ index_of pool.now (PoolConstant.Utf8 units.now) }
 {
-    let constant = PoolConstant::Utf8(copied(alloc, units)?);
-    Ok(index_of(pool, &constant))
+    pool.units_index(units) as u16
 }
 
 /// The index of the CONSTANT_Class of a name.
@@ -40,19 +30,23 @@ pub fn class_index(alloc: Global, pool: &ConstantTable, name: &Name) -> M<u16>
     requires { length pool.now + 1 < 2 ^ 16 }
     ensures { IfOk result (λ index. index ≡ canonical.class_index pool.now name.now) }
 {
-    let constant = class_constant(alloc, name)?;
-    Ok(index_of(pool, &constant))
+    Ok(pool.class_index(alloc, name)? as u16)
+}
+
+fn value_place(pool: &ConstantTable, value: &Constant) -> usize
+    ensures { result ≡ canonical.value_index pool.now value.now }
+{
+    match value {
+        Constant::Int(number) => pool.int_index(*number),
+        Constant::Long(number) => pool.long_index(*number),
+        Constant::Text(units) => pool.string_index(units),
+    }
 }
 
 /// A constantvalue_index (JVMS 4.7.2).
-pub fn value_index(alloc: Global, pool: &ConstantTable, value: &Constant) -> M<u16>
+pub fn value_index(pool: &ConstantTable, value: &Constant) -> u16
     requires { length pool.now + 1 < 2 ^ 16 }
-    ensures { IfOk result (λ index. index ≡ canonical.value_index pool.now value.now) }
+    ensures { result ≡ canonical.value_index pool.now value.now }
 {
-    let constant = match value {
-        Constant::Int(number) => PoolConstant::Integer(*number),
-        Constant::Long(number) => PoolConstant::Long(*number),
-        Constant::Text(units) => PoolConstant::Str(copied(alloc, units)?),
-    };
-    Ok(index_of(pool, &constant))
+    value_place(pool, value) as u16
 }

@@ -2,12 +2,9 @@
 #![tactic(auto)]
 
 mod attributes;
-mod bytes;
 mod class_file;
 mod code;
-mod constants;
 mod contents;
-mod entries;
 mod fields;
 mod frames;
 mod indices;

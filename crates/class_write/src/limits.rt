@@ -1,56 +1,13 @@
 // The limits of the format, in their order (JVMS 4.11).
 ghost use Rattle.std.specs.Prelude.{◌≡◌, ℕ, List, All, Some, IfSome};
-ghost use Rattle.jv_base.specs.Outcome.{IsDue};
 ghost use Rattle.class_model.specs.declared.class.Method.{Method};
 ghost use Rattle.class_model.specs.declared.frame.VType.{VType};
 ghost use Rattle.class_model.specs.WellFormed.{IsGoodCode};
-ghost use Rattle.class_model.specs.WriteLimits.{first_of, text_fits, table_fits, body_tables_fit, method_tables_fit, tables_fit};
-ghost use Rattle.class_write.specs.Limits.{pool_fits};
+ghost use Rattle.class_model.specs.WriteLimits.{first_of, table_fits, body_tables_fit, method_tables_fit, tables_fit};
 
 use crate::contents::frames_are_short;
 use crate::lines::line_count;
-use class_model::{Class, Code, Method, PoolConstant, WriteLimit};
-use jv_base::{Or, mutf8_of_units};
-use jv_ops::ConstantTable;
-use std::alloc::Global;
-
-// ---- the pool
-
-/// A text that is too long (JVMS 4.4.7).
-fn check_text(alloc: Global, constant: &PoolConstant) -> Result<(), Or<WriteLimit>>
-    ensures { IsDue result (text_fits constant.now) }
-{
-    let PoolConstant::Utf8(units) = constant else {
-        return Ok(());
-    };
-    let length = mutf8_of_units(alloc, units)?.len();
-    if length < 65_536 {
-        Ok(())
-    } else {
-        Err(Or::Fault(WriteLimit::TextTooLong(length as u64)))
-    }
-}
-
-/// The first text that is too long.
-fn check_texts(alloc: Global, constants: &[PoolConstant]) -> Result<(), Or<WriteLimit>>
-    ensures { IsDue result (first_of text_fits constants.now) }
-{
-    for constant in constants {
-        check_text(alloc, constant)?;
-    }
-    Ok(())
-}
-
-/// The count of the pool first, and then its texts.
-pub fn check_pool(alloc: Global, pool: &ConstantTable) -> Result<(), Or<WriteLimit>>
-    ensures { IsDue result (pool_fits pool.now) }
-{
-    let count = pool.as_slice().len() as u64 + 1;
-    if count > 65_535 {
-        return Err(Or::Fault(WriteLimit::PoolFull(count)));
-    }
-    check_texts(alloc, pool.as_slice())
-}
+use class_model::{Class, Code, Method, WriteLimit};
 
 // ---- tables with a count of two bytes
 

@@ -9,14 +9,13 @@ ghost use Rattle.class_write.specs.Placing.{placed_code, placed_body, placed_bod
 ghost use Rattle.class_write.specs.Writing.{Puts, FitsTables, HasFitting};
 
 use crate::attributes::{mark_count, put_attribute, put_exceptions, put_marks};
-use crate::bytes::put_u2;
 use crate::contents::code_contents;
 use crate::frames::first_frame;
 use crate::indices::text_index;
 use crate::placing::PlacedCode;
 use class_model::{Code, Frame, Method, WriteLimit};
+use constant_table::{ConstantTable, put_u2};
 use jv_base::{M, Name, Or, method_text};
-use jv_ops::ConstantTable;
 use std::alloc::Global;
 
 /// A method_info in front of its attributes, their count included.

@@ -1,5 +1,5 @@
 // The constants of a class in the order of the file, each once (JVMS 4.4).
-ghost use Rattle.std.specs.Prelude.{◌≡◌, [], IfOk, OnOk, codes, None};
+ghost use Rattle.std.specs.Prelude.{◌≡◌, [], ◌++◌, IfOk, OnOk, codes, None};
 ghost use Rattle.std.specs.List.{flat_map};
 ghost use Rattle.indexmap.specs.IndexSet.{insert_all};
 ghost use Rattle.class_model.specs.CanonicalPool.{same, class_constants};
@@ -10,15 +10,11 @@ ghost use Rattle.class_model.specs.declared.code.Ins.{Ins};
 ghost use Rattle.class_model.specs.declared.code.Handler.{Handler};
 ghost use Rattle.class_write.specs.Pushes.{pushes_of_body};
 
-use crate::constants::{
-    add_class, add_classes, add_field_reference, add_int, add_long, add_method_reference,
-    add_string, add_text, add_type, add_units,
-};
 use crate::frames::{first_frame, types_written};
 use crate::lines::has_rows;
 use class_model::{Class, Code, Constant, Field, FrameAt, Handler, Ins, Method, Op, VType};
+use constant_table::ConstantTable;
 use jv_base::{Items, M, Name, Text, Units, field_text, method_text};
-use jv_ops::ConstantTable;
 use std::alloc::Global;
 
 // ---- instructions
@@ -29,8 +25,8 @@ fn add_pushed(alloc: Global, pool: &mut ConstantTable, op: &Op) -> M<()>
 {
     match op {
         Op::PushInt(number) if -32_768 <= *number && *number <= 32_767 => Ok(()),
-        Op::PushInt(number) => add_int(alloc, pool, *number),
-        Op::PushText(units) => add_string(alloc, pool, units),
+        Op::PushInt(number) => pool.add_int(*number),
+        Op::PushText(units) => pool.add_string(alloc, units),
         _ => Ok(()),
     }
 }
@@ -41,17 +37,17 @@ fn add_op(alloc: Global, pool: &mut ConstantTable, op: &Op) -> M<()>
 {
     match op {
         Op::PushLong(number) if 0 <= *number && *number <= 1 => Ok(()),
-        Op::PushLong(number) => add_long(alloc, pool, *number),
+        Op::PushLong(number) => pool.add_long(*number),
         Op::GetStatic(field) | Op::PutStatic(field) | Op::GetField(field) | Op::PutField(field) => {
-            add_field_reference(alloc, pool, field)
+            pool.add_field(alloc, field)
         }
         Op::InvokeVirtual(method)
         | Op::InvokeSpecial(method)
         | Op::InvokeStatic(method)
-        | Op::InvokeInterface(method) => add_method_reference(alloc, pool, method),
-        Op::New(name) => add_class(alloc, pool, name),
+        | Op::InvokeInterface(method) => pool.add_method(alloc, method),
+        Op::New(name) => pool.add_class(alloc, name),
         Op::ANewArray(ty) | Op::CheckCast(ty) | Op::InstanceOf(ty) | Op::MultiNewArray(ty, _) => {
-            add_type(alloc, pool, ty)
+            pool.add_type(alloc, ty)
         }
         op => add_pushed(alloc, pool, op),
     }
@@ -81,7 +77,7 @@ fn add_vtype(alloc: Global, pool: &mut ConstantTable, ty: &VType) -> M<()>
     ensures { OnOk result (pool.new ≡ insert_all same pool.old (written.type_constants ty.now)) }
 {
     match ty {
-        VType::Object(ty) => add_type(alloc, pool, ty),
+        VType::Object(ty) => pool.add_type(alloc, ty),
         _ => Ok(()),
     }
 }
@@ -119,7 +115,7 @@ fn add_name(alloc: Global, pool: &mut ConstantTable, written: bool, name: &str) 
         return Ok(());
     }
     let name = Text::from_str(alloc, name)?;
-    add_text(alloc, pool, &name)
+    pool.add_text(alloc, &name)
 }
 
 /// The names of the attributes Synthetic and Deprecated.
@@ -137,7 +133,7 @@ fn add_caught(alloc: Global, pool: &mut ConstantTable, caught: &Option<Name>) ->
     ensures { OnOk result (pool.new ≡ insert_all same pool.old (canonical.caught_constants caught.now)) }
 {
     match caught {
-        Some(name) => add_class(alloc, pool, name),
+        Some(name) => pool.add_class(alloc, name),
         None => Ok(()),
     }
 }
@@ -203,6 +199,16 @@ fn add_body(alloc: Global, pool: &mut ConstantTable, class: &Name, method: &Meth
 
 // ---- members
 
+/// The classes of these names, one behind the other.
+fn add_classes(alloc: Global, pool: &mut ConstantTable, names: &[Name]) -> M<()>
+    ensures { OnOk result (pool.new ≡ insert_all same pool.old (flat_map class_constants names.now)) }
+{
+    for name in names {
+        pool.add_class(alloc, name)?;
+    }
+    Ok(())
+}
+
 /// The name of the attribute Exceptions, and the classes that it names.
 fn add_throws(alloc: Global, pool: &mut ConstantTable, throws: &[Name]) -> M<()>
     ensures { OnOk result (pool.new ≡ insert_all same pool.old (canonical.attribute_constants
@@ -219,8 +225,8 @@ fn add_throws(alloc: Global, pool: &mut ConstantTable, throws: &[Name]) -> M<()>
 fn add_method(alloc: Global, pool: &mut ConstantTable, class: &Name, method: &Method) -> M<()>
     ensures { OnOk result (pool.new ≡ insert_all same pool.old (canonical.method_constants class.now method.now)) }
 {
-    add_text(alloc, pool, &method.name)?;
-    add_text(alloc, pool, &method_text(alloc, &method.ty)?)?;
+    pool.add_text(alloc, &method.name)?;
+    pool.add_text(alloc, &method_text(alloc, &method.ty)?)?;
     add_body(alloc, pool, class, method)?;
     add_throws(alloc, pool, method.throws.as_slice())?;
     add_marks(alloc, pool, method.synthetic, method.deprecated)
@@ -240,9 +246,9 @@ fn add_value(alloc: Global, pool: &mut ConstantTable, value: &Constant) -> M<()>
     ensures { OnOk result (pool.new ≡ insert_all same pool.old (canonical.value_constants value.now)) }
 {
     match value {
-        Constant::Int(number) => add_int(alloc, pool, *number),
-        Constant::Long(number) => add_long(alloc, pool, *number),
-        Constant::Text(units) => add_string(alloc, pool, units),
+        Constant::Int(number) => pool.add_int(*number),
+        Constant::Long(number) => pool.add_long(*number),
+        Constant::Text(units) => pool.add_string(alloc, units),
     }
 }
 
@@ -263,8 +269,8 @@ fn add_constant(alloc: Global, pool: &mut ConstantTable, constant: &Option<Const
 fn add_field(alloc: Global, pool: &mut ConstantTable, field: &Field) -> M<()>
     ensures { OnOk result (pool.new ≡ insert_all same pool.old (canonical.field_constants field.now)) }
 {
-    add_text(alloc, pool, &field.name)?;
-    add_text(alloc, pool, &field_text(alloc, &field.ty)?)?;
+    pool.add_text(alloc, &field.name)?;
+    pool.add_text(alloc, &field_text(alloc, &field.ty)?)?;
     add_constant(alloc, pool, &field.constant)?;
     add_marks(alloc, pool, field.synthetic, field.deprecated)
 }
@@ -307,26 +313,42 @@ fn add_source(alloc: Global, pool: &mut ConstantTable, source: &Option<Units>) -
     match source {
         Some(units) => {
             add_name(alloc, pool, true, "SourceFile")?;
-            add_units(alloc, pool, units)
+            pool.add_units(alloc, units)
         }
         None => Ok(()),
     }
 }
 
+/// This class, its superclass and its interfaces.
+fn add_names(alloc: Global, pool: &mut ConstantTable, class: &Class) -> M<()>
+    ensures { OnOk result (pool.new ≡ insert_all same pool.old (class_constants class.now.name
+        ++ (class_constants class.now.super_name ++ flat_map class_constants class.now.interfaces))) }
+{
+    pool.add_class(alloc, &class.name)?;
+    pool.add_class(alloc, &class.super_name)?;
+    add_classes(alloc, pool, class.interfaces.as_slice())
+}
+
+/// All that a class needs, into a pool without constants.
+#[tactic(auto, unfolding(class_model::specs::CanonicalPool::filled, class_model::specs::CanonicalClass::pool_of))]
+fn add_all(alloc: Global, pool: &mut ConstantTable, class: &Class) -> M<()>
+    requires { pool.old ≡ [] }
+    ensures { OnOk result (pool.new ≡ canonical.pool_of class.now) }
+{
+    add_pushes(alloc, pool, class.methods.as_slice())?;
+    add_names(alloc, pool, class)?;
+    add_fields(alloc, pool, class.fields.as_slice())?;
+    add_methods(alloc, pool, &class.name, class.methods.as_slice())?;
+    add_source(alloc, pool, &class.source)?;
+    add_marks(alloc, pool, class.synthetic, class.deprecated)
+}
+
 /// The constants that a class needs, each once, where the file needs it first. That of index i stands at place i - 1; those
 /// that instructions push have the lowest indices.
-#[tactic(auto, unfolding(class_model::specs::CanonicalPool::filled, class_model::specs::CanonicalClass::pool_of))]
 pub fn pool_of(alloc: Global, class: &Class) -> M<ConstantTable>
     ensures { IfOk result (λ pool. pool ≡ canonical.pool_of class.now) }
 {
     let mut pool = ConstantTable::new(alloc);
-    add_pushes(alloc, &mut pool, class.methods.as_slice())?;
-    add_class(alloc, &mut pool, &class.name)?;
-    add_class(alloc, &mut pool, &class.super_name)?;
-    add_classes(alloc, &mut pool, class.interfaces.as_slice())?;
-    add_fields(alloc, &mut pool, class.fields.as_slice())?;
-    add_methods(alloc, &mut pool, &class.name, class.methods.as_slice())?;
-    add_source(alloc, &mut pool, &class.source)?;
-    add_marks(alloc, &mut pool, class.synthetic, class.deprecated)?;
+    add_all(alloc, &mut pool, class)?;
     Ok(pool)
 }

@@ -3,14 +3,13 @@ ghost use Rattle.std.specs.Prelude.{◌≡◌, IfOk};
 ghost use Rattle.class_model.specs.Rows as rows;
 ghost use Rattle.class_write.specs.Example.{interface_a};
 
-use crate::limits::check_pool;
 use crate::write_class;
 use class_model::{
     Class, Code, Cond, Constant, Field, Frame, FrameAt, Handler, Ins, Kind, Method, Op,
     PoolConstant, VType, WriteLimit,
 };
+use constant_table::ConstantTable;
 use jv_base::{Access, Base, FieldType, Items, M, MethodType, Or, Text, Units};
-use jv_ops::ConstantTable;
 use std::alloc::Global;
 use std::test::Fail;
 
@@ -194,9 +193,9 @@ fn integers(alloc: Global, count: i32) -> M<ConstantTable> {
 fn a_pool_has_a_count_of_65535_at_most(rt: HostRuntime) -> Result<(), Fail> {
     let alloc = rt.alloc();
     let mut pool = integers(alloc, 65_534)?;
-    assert!(rt; check_pool(alloc, &pool).is_ok());
+    assert!(rt; pool.check_limits(alloc).is_ok());
     pool.push(alloc, PoolConstant::Integer(-1))?;
-    let full = check_pool(alloc, &pool);
+    let full = pool.check_limits(alloc);
     assert!(rt; matches!(full, Err(Or::Fault(WriteLimit::PoolFull(65_536)))));
     Ok(())
 }
@@ -214,9 +213,9 @@ fn a_text_has_65535_bytes_at_most(rt: HostRuntime) -> Result<(), Fail> {
     let alloc = rt.alloc();
     let mut pool = ConstantTable::new(alloc);
     pool.push(alloc, PoolConstant::Utf8(letters(alloc, 65_535)?))?;
-    assert!(rt; check_pool(alloc, &pool).is_ok());
+    assert!(rt; pool.check_limits(alloc).is_ok());
     pool.push(alloc, PoolConstant::Utf8(letters(alloc, 65_536)?))?;
-    let long = check_pool(alloc, &pool);
+    let long = pool.check_limits(alloc);
     assert!(rt; matches!(long, Err(Or::Fault(WriteLimit::TextTooLong(65_536)))));
     Ok(())
 }

@@ -6,7 +6,7 @@ ghost use Rattle.class_model.specs.WriteLimits.{class_written};
 ghost use Rattle.class_write.specs.Limits.{AreCounted, IsCounted};
 
 use crate::class_file::put_class_file;
-use crate::limits::{check_pool, check_tables};
+use crate::limits::check_tables;
 use crate::placing::place_bodies;
 use crate::pool::pool_of;
 use class_model::{Class, Code, Method, WriteLimit};
@@ -60,7 +60,7 @@ fn write_counted(alloc: Global, class: &Class) -> Result<Bytes, Or<WriteLimit>>
     ensures exact { IsDue result (class_written class.now) }
 {
     let pool = pool_of(alloc, class)?;
-    check_pool(alloc, &pool)?;
+    pool.check_limits(alloc)?;
     let placed = place_bodies(alloc, &pool, class.methods.as_slice())?;
     if let Err(limit) = check_tables(class) {
         return Err(Or::Fault(limit));

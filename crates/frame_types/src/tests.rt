@@ -4,8 +4,9 @@ ghost use Rattle.frame_types.specs.Writing.{IsOffset, HasShortLists};
 
 use super::*;
 use class_model::{Entry, Frame, FrameAt, Op, VType};
+use constant_table::ConstantTable;
 use jv_base::{Base, FieldType, Items, M, Or, Shared, Text, units_of_text};
-use jv_ops::ConstantTable;
+use jv_ops::constants_in;
 use known_pool::{KnownPool, pool_of};
 use std::alloc::Global;
 use std::test::Fail;
@@ -28,7 +29,7 @@ fn pool(alloc: Global) -> M<KnownPool> {
 }
 
 fn constants(alloc: Global) -> M<ConstantTable> {
-    ConstantTable::of_pool(alloc, pool(alloc)?.pool())
+    constants_in(alloc, pool(alloc)?.pool())
 }
 
 fn starts(alloc: Global) -> M<Items<u32>> {
@@ -199,7 +200,7 @@ fn are_short(frames: &[FrameAt]) -> bool
 fn write(alloc: Global, frames: &Items<FrameAt>, first: &Frame) -> Result<Items<u8>, Fail> {
     let starts = starts(alloc)?;
     let constants = constants(alloc)?;
-    if constants.as_slice().len() >= 65_535
+    if constants.len() >= 65_535
         || frames.len() >= 65_536
         || !are_offsets(starts.as_slice())
         || !are_short(frames.as_slice())

@@ -12,8 +12,9 @@ use crate::bytes::{put, put_u2};
 use crate::comparing::same_types;
 use crate::constants::class_index;
 use class_model::{Frame, FrameAt, Pool, VType};
+use constant_table::ConstantTable;
 use jv_base::{Bytes, Items, M};
-use jv_ops::ConstantTable;
+use jv_ops::constants_in;
 use std::alloc::Global;
 
 // ---- types
@@ -328,6 +329,6 @@ pub fn write_frames(
     ensures canonical { IfOk result (λ bytes. bytes ≡ stack_map_table
         (canonical.rows (constants_in pool.now.entries) starts.now first.now.locals None frames.now)) }
 {
-    let constants = ConstantTable::of_pool(alloc, pool)?;
+    let constants = constants_in(alloc, pool)?;
     write_frames_with(alloc, frames, first, starts, &constants)
 }

@@ -9,14 +9,11 @@ pub mod ReadToEnd
 pub mod ReadWhole
 pub mod ReadGrammar
 pub mod BackDecoded
-mod Indexed
 mod Lengths
 mod Ends
 mod Counts
 mod Ready
 mod Branches
 mod Onward
-mod Alike
-mod Kept
 mod Saying
 mod ComputedCodes

@@ -1,5 +1,5 @@
 -- A code in its canonical spelling, or the limit that it passes (JVMS 4.7.3, 4.9.1).
-use Rattle.std.specs.Prelude.{◌≡◌, ℕ, ◌^◌, ◌<◌, ℤ, pos, negsuc, true, false, List, [], length, take, Option, Some, None, Result, Ok}
+use Rattle.std.specs.Prelude.{◌≡◌, ℕ, ◌^◌, ◌<◌, ℤ, pos, negsuc, true, false, List, [], length, take, nat_le, if◌then◌else◌, Option, Some, None, Result, Ok}
 use Rattle.std.specs.Int.{w32, cast_unsigned}
 use Rattle.jv_base.specs.Outcome.{◌>>=◌}
 use Rattle.class_model.specs.declared.limit.WriteLimit.{WriteLimit}
@@ -12,7 +12,7 @@ use Rattle.class_model.specs.declared.constant.PoolConstant.TheVariants.{Integer
 use Rattle.class_model.specs.CanonicalPool.{class_constant, type_name, fieldref, methodref, index_of}
 use Rattle.class_model.specs.CanonicalCode.{is_short, is_lconst, far, places, code_bytes}
 use Rattle.class_model.specs.Between.{int_between}
-use Rattle.class_model.specs.InstructionStructure.{MatchOffset}
+use Rattle.class_model.specs.InstructionStructure.{Info, Ldc, LdcWide, MatchOffset}
 use Rattle.class_model.specs.declared.op.Case.{Case}
 use Rattle.class_model.specs.WriteLimits.{fits_u2, branches_fit}
 use Rattle.jv_ops.specs.declared.encoding.Coded.{Coded}
@@ -30,6 +30,10 @@ coded pool ins = do
   all ← placed pool ins
   near ← branches_fit all 0 ins
   Ok (record { bytes = code_bytes pool all ins; starts = take (length ins) all })
+
+-- ldc, whose index is a byte, or ldc_w (JVMS 6.5)
+abbrev pub load_info : ℕ → Info
+load_info index = if nat_le index 255 then Ldc index else LdcWide 0x13 index
 
 -- the index of a constant has two bytes, as each index of a class file has (JVMS 4.1, 4.4)
 abbrev pub HasIndex : List PoolConstant → PoolConstant → Type 0

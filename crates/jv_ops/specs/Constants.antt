@@ -1,14 +1,11 @@
 -- The constants of a pool by what they say, in the order of their indices (JVMS 4.4).
 use Rattle.std.specs.Prelude.{◌≡◌, ℕ, zero, suc, ◌-◌, pos, List, [], ◌∷◌, ◌++◌, length, slice_get, Option, Some, None}
-use Rattle.std.specs.List.{position_from}
-use Rattle.std.specs.Map.{lookup}
 use Rattle.class_model.specs.declared.constant.PoolConstant.{PoolConstant}
 use Rattle.class_model.specs.declared.constant.PoolConstant.TheVariants.{Utf8, Integer, Long, SecondOfLong, Class, Str, NameAndType, Fieldref, Methodref, InterfaceMethodref}
 use Rattle.class_model.specs.declared.pool.Entry.{Entry}
 use Rattle.class_model.specs.declared.pool.Entry.TheVariants as entry
 use Rattle.class_model.specs.Pool.{units_at, class_units_at}
 use Rattle.class_model.specs.ConstantPool.{name_and_type_at}
-use Rattle.class_model.specs.CanonicalPool.{same}
 use Rattle.jv_ops.specs.declared.said.Member.{Member}
 
 -- an entry that says nothing here is told as the second index of a Long, which no instruction names
@@ -86,7 +83,3 @@ first_constants pool (suc n) = first_constants pool n ++ said_at pool (suc n) �
 -- what the entries of a pool say, that of index i at place i - 1; index 0 is no entry (JVMS 4.1)
 abbrev pub constants_in : List Entry → List PoolConstant
 constants_in pool = first_constants pool (length pool - 1)
-
--- an index is kept with each constant: that of its first place, from 1 on (only the proof of ConstantTable needs it)
-abbrev pub IsIndexed : List PoolConstant → List (PoolConstant × ℕ) → Type 0
-IsIndexed constants indices = (k : PoolConstant) → lookup (same k) indices ≡ position_from (same k) 1 constants

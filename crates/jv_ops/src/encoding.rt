@@ -7,10 +7,11 @@ ghost use Rattle.class_model.specs.WriteLimits.{branch_to, branch_fits, branches
 ghost use Rattle.jv_ops.specs.Coded.{HasIndices, coded};
 ghost use Rattle.jv_ops.specs.Constants.{constants_in};
 
-use crate::constants::ConstantTable;
+use crate::constants::constants_in;
 use crate::sizes::places;
 use crate::writing::{distance, put_op};
 use class_model::{Ins, Op, Pool, WriteLimit};
+use constant_table::ConstantTable;
 use jv_base::{Bytes, Items, M, Or};
 use std::alloc::Global;
 
@@ -120,6 +121,6 @@ pub fn encode_code(alloc: Global, ins: &Items<Ins>, pool: &Pool) -> Result<Coded
     requires indices { All (λ (i : Ins). HasIndices (constants_in pool.now.entries) i.op) ins.now }
     ensures exact { IsDue result (coded (constants_in pool.now.entries) ins.now) }
 {
-    let table = ConstantTable::of_pool(alloc, pool)?;
+    let table = constants_in(alloc, pool)?;
     encode_with(alloc, ins, &table)
 }

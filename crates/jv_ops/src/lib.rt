@@ -16,7 +16,7 @@ mod targets;
 mod unaimed;
 mod writing;
 
-pub use constants::{ConstantTable, class_constant, fieldref, methodref, type_constant};
+pub use constants::constants_in;
 pub use decoding::{Decoded, canonical_is_decoded, decode_code};
 pub use encoding::{Coded, encode_code, encode_with};
 pub use examples::computed_codes;

@@ -7,12 +7,11 @@ ghost use Rattle.std.specs.Int.RustNames.{FitsSigned};
 ghost use Rattle.jv_base.specs.Outcome.{IsDue};
 ghost use Rattle.class_model.specs.InstructionStructure.{info_bytes, pad_length};
 ghost use Rattle.class_model.specs.CanonicalCode as canonical;
-ghost use Rattle.jv_ops.specs.Coded.{placed};
+ghost use Rattle.jv_ops.specs.Coded.{load_info, placed};
 
-use crate::constants::ConstantTable;
-use crate::said::copied_units;
-use class_model::{Ins, Op, PoolConstant, WriteLimit};
-use jv_base::{Items, M, Or, OutOfMemory, Units};
+use class_model::{Ins, Op, WriteLimit};
+use constant_table::ConstantTable;
+use jv_base::{Items, M, Or, OutOfMemory};
 use std::alloc::Global;
 
 /// The limit of a code's length (JVMS 4.7.3).
@@ -45,14 +44,10 @@ pub fn is_lconst(number: i64) -> bool
 }
 
 // ldc, or ldc_w.
-fn load_size(table: &ConstantTable, constant: &PoolConstant) -> u64
-    ensures { result ≡ length (info_bytes (canonical.load_constant table.now constant.now)) }
+fn load_size(index: usize) -> u64
+    ensures { result ≡ length (info_bytes (load_info index)) }
 {
-    if table.index_of(constant) <= 255 {
-        2
-    } else {
-        3
-    }
+    if index <= 255 { 2 } else { 3 }
 }
 
 fn push_int_size(table: &ConstantTable, number: i32) -> u64
@@ -65,7 +60,7 @@ fn push_int_size(table: &ConstantTable, number: i32) -> u64
     } else if is_short(number) {
         3
     } else {
-        load_size(table, &PoolConstant::Integer(number))
+        load_size(table.int_index(number))
     }
 }
 
@@ -73,13 +68,6 @@ fn push_long_size(table: &ConstantTable, number: i64) -> u64
     ensures { result ≡ length (info_bytes (canonical.push_long table.now number)) }
 {
     if is_lconst(number) { 1 } else { 3 }
-}
-
-fn push_text_size(alloc: Global, table: &ConstantTable, text: &Units) -> M<u64>
-    ensures { IfOk result (λ size. size ≡ length (info_bytes (canonical.load_constant table.now (PoolConstant.Str text.now)))) }
-{
-    let constant = PoolConstant::Str(copied_units(alloc, text)?);
-    Ok(load_size(table, &constant))
 }
 
 // ---- slots
@@ -109,17 +97,17 @@ fn increment_size(slot: u16, delta: i16) -> u64
 // ---- instructions
 
 /// How many bytes an instruction at an offset takes.
-pub fn op_size(alloc: Global, table: &ConstantTable, at: u64, op: &Op) -> M<u64>
-    ensures { IfOk result (λ size. size ≡ canonical.size_of table.now at op.now) }
+pub fn op_size(table: &ConstantTable, at: u64, op: &Op) -> u64
+    ensures { result ≡ canonical.size_of table.now at op.now }
 {
     match op {
-        Op::PushInt(number) => Ok(push_int_size(table, *number)),
-        Op::PushLong(number) => Ok(push_long_size(table, *number)),
-        Op::PushText(text) => push_text_size(alloc, table, text),
-        Op::Load(_, slot) | Op::Store(_, slot) => Ok(slot_size(*slot)),
-        Op::Inc(slot, delta) => Ok(increment_size(*slot, *delta)),
-        Op::TableSwitch { cases, .. } => Ok(13 + padding(at) + 4 * cases.as_slice().len() as u64),
-        Op::LookupSwitch { cases, .. } => Ok(9 + padding(at) + 8 * cases.as_slice().len() as u64),
+        Op::PushInt(number) => push_int_size(table, *number),
+        Op::PushLong(number) => push_long_size(table, *number),
+        Op::PushText(text) => load_size(table.string_index(text)),
+        Op::Load(_, slot) | Op::Store(_, slot) => slot_size(*slot),
+        Op::Inc(slot, delta) => increment_size(*slot, *delta),
+        Op::TableSwitch { cases, .. } => 13 + padding(at) + 4 * cases.as_slice().len() as u64,
+        Op::LookupSwitch { cases, .. } => 9 + padding(at) + 8 * cases.as_slice().len() as u64,
         Op::IfZero(..)
         | Op::IfCmp(..)
         | Op::IfRef { .. }
@@ -135,10 +123,10 @@ pub fn op_size(alloc: Global, table: &ConstantTable, at: u64, op: &Op) -> M<u64>
         | Op::New(_)
         | Op::ANewArray(_)
         | Op::CheckCast(_)
-        | Op::InstanceOf(_) => Ok(3),
-        Op::InvokeInterface(_) => Ok(5),
-        Op::NewArray(_) => Ok(2),
-        Op::MultiNewArray(..) => Ok(4),
+        | Op::InstanceOf(_) => 3,
+        Op::InvokeInterface(_) => 5,
+        Op::NewArray(_) => 2,
+        Op::MultiNewArray(..) => 4,
         Op::Nop
         | Op::PushNull
         | Op::ALoad(_)
@@ -160,7 +148,7 @@ pub fn op_size(alloc: Global, table: &ConstantTable, at: u64, op: &Op) -> M<u64>
         | Op::LCmp
         | Op::Return(_)
         | Op::ArrayLength
-        | Op::Throw => Ok(1),
+        | Op::Throw => 1,
     }
 }
 
@@ -194,7 +182,7 @@ pub fn places(
     let mut at = 0;
     for instruction in ins {
         note(&mut places, at)?;
-        at = behind(at, op_size(alloc, table, at, &instruction.op)?)?;
+        at = behind(at, op_size(table, at, &instruction.op))?;
     }
     note(&mut places, at)?;
     if at > MOST_BYTES {

@@ -4,20 +4,20 @@ ghost use Rattle.std.specs.Int.{w16, w32, to_be_bytes, cast_unsigned};
 ghost use Rattle.std.specs.List.{flat_map};
 ghost use Rattle.class_model.specs.Between.{int_between};
 ghost use Rattle.class_model.specs.declared.op.Case.{Case};
+ghost use Rattle.class_model.specs.declared.constant.PoolConstant.{PoolConstant};
 ghost use Rattle.class_model.specs.InstructionStructure.{MatchOffset, match_offset, info_bytes, pad_length};
 ghost use Rattle.class_model.specs.InstructionMeaning.{count_of};
 ghost use Rattle.class_model.specs.CanonicalPool as pools;
 ghost use Rattle.class_model.specs.CanonicalCode as canonical;
 ghost use Rattle.class_model.specs.WellFormed.{IsGoodOp, HasFewWords};
 ghost use Rattle.class_model.specs.WriteLimits.{branch_to};
-ghost use Rattle.jv_ops.specs.Coded.{HasIndex, HasIndices, IsNear, match_of};
+ghost use Rattle.jv_ops.specs.Coded.{HasIndex, HasIndices, IsNear, load_info, match_of};
 
-use crate::constants::{ConstantTable, class_constant, fieldref, methodref, type_constant};
-use crate::said::copied_units;
 use crate::sizes::{is_lconst, is_short, padding};
 use class_model::{
-    ArithOp, Case, Cond, ConvOp, Elem, Kind, LogicOp, MemberRef, Num, Op, PoolConstant, ShiftOp,
+    ArithOp, Case, Cond, ConvOp, Elem, Kind, LogicOp, MemberRef, Num, Op, ShiftOp,
 };
+use constant_table::{ConstantTable, put, put_u4};
 use jv_base::{Base, FieldType, M, Name, Units};
 use known_pool::count_of;
 use std::alloc::Global;
@@ -147,19 +147,6 @@ fn array_type_code(base: &Base) -> u8
 
 // ---- bytes
 
-fn put(out: &mut Vec<u8>, bytes: &[u8]) -> M<()>
-    ensures { OnOk result (out.new.items ≡ out.old.items ++ bytes.now) }
-{
-    out.extend_from_slice(bytes)?;
-    Ok(())
-}
-
-fn put_u4(out: &mut Vec<u8>, number: u32) -> M<()>
-    ensures { OnOk result (out.new.items ≡ out.old.items ++ to_be_bytes w32 number) }
-{
-    put(out, &number.to_be_bytes())
-}
-
 // An opcode with an operand of two bytes.
 fn put_with_u2(out: &mut Vec<u8>, opcode: u8, operand: u16) -> M<()>
     ensures { OnOk result (out.new.items ≡ out.old.items ++ opcode ∷ to_be_bytes w16 operand) }
@@ -171,11 +158,10 @@ fn put_with_u2(out: &mut Vec<u8>, opcode: u8, operand: u16) -> M<()>
 // ---- pushes
 
 // ldc where the index is a byte, else ldc_w.
-fn put_load(table: &ConstantTable, constant: &PoolConstant, out: &mut Vec<u8>) -> M<()>
-    requires { HasIndex table.now constant.now }
-    ensures { OnOk result (out.new.items ≡ out.old.items ++ info_bytes (canonical.load_constant table.now constant.now)) }
+fn put_load(index: usize, out: &mut Vec<u8>) -> M<()>
+    requires { index < 2 ^ 16 }
+    ensures { OnOk result (out.new.items ≡ out.old.items ++ info_bytes (load_info index)) }
 {
-    let index = table.index_of(constant);
     if index <= 255 {
         put(out, &[0x12, index as u8])
     } else {
@@ -194,7 +180,7 @@ fn put_push_int(table: &ConstantTable, number: i32, out: &mut Vec<u8>) -> M<()>
     } else if is_short(number) {
         put_with_u2(out, 0x11, (number as i16).cast_unsigned())
     } else {
-        put_load(table, &PoolConstant::Integer(number), out)
+        put_load(table.int_index(number), out)
     }
 }
 
@@ -205,16 +191,15 @@ fn put_push_long(table: &ConstantTable, number: i64, out: &mut Vec<u8>) -> M<()>
     if is_lconst(number) {
         put(out, &[0x09 + number as u8])
     } else {
-        put_constant(table, 0x14, &PoolConstant::Long(number), out)
+        put_with_u2(out, 0x14, table.long_index(number) as u16)
     }
 }
 
-fn put_push_text(alloc: Global, table: &ConstantTable, text: &Units, out: &mut Vec<u8>) -> M<()>
+fn put_push_text(table: &ConstantTable, text: &Units, out: &mut Vec<u8>) -> M<()>
     requires { HasIndex table.now (PoolConstant.Str text.now) }
     ensures { OnOk result (out.new.items ≡ out.old.items ++ info_bytes (canonical.load_constant table.now (PoolConstant.Str text.now))) }
 {
-    let constant = PoolConstant::Str(copied_units(alloc, text)?);
-    put_load(table, &constant, out)
+    put_load(table.string_index(text), out)
 }
 
 // ---- slots
@@ -391,18 +376,6 @@ fn put_lookup_switch(
 
 // ---- constants
 
-fn put_constant(
-    table: &ConstantTable,
-    opcode: u8,
-    constant: &PoolConstant,
-    out: &mut Vec<u8>,
-) -> M<()>
-    requires { HasIndex table.now constant.now }
-    ensures { OnOk result (out.new.items ≡ out.old.items ++ opcode ∷ to_be_bytes w16 (pools.index_of table.now constant.now)) }
-{
-    put_with_u2(out, opcode, table.index_of(constant) as u16)
-}
-
 fn put_field(
     alloc: Global,
     table: &ConstantTable,
@@ -413,8 +386,8 @@ fn put_field(
     requires { HasIndex table.now (pools.fieldref field.now) }
     ensures { OnOk result (out.new.items ≡ out.old.items ++ opcode ∷ to_be_bytes w16 (pools.index_of table.now (pools.fieldref field.now))) }
 {
-    let constant = fieldref(alloc, field)?;
-    put_constant(table, opcode, &constant, out)
+    let index = table.field_index(alloc, field)?;
+    put_with_u2(out, opcode, index as u16)
 }
 
 fn put_method(
@@ -427,8 +400,8 @@ fn put_method(
     requires { HasIndex table.now (pools.methodref method.now) }
     ensures { OnOk result (out.new.items ≡ out.old.items ++ opcode ∷ to_be_bytes w16 (pools.index_of table.now (pools.methodref method.now))) }
 {
-    let constant = methodref(alloc, method)?;
-    put_constant(table, opcode, &constant, out)
+    let index = table.method_index(alloc, method)?;
+    put_with_u2(out, opcode, index as u16)
 }
 
 fn put_type(
@@ -441,16 +414,16 @@ fn put_type(
     requires { HasIndex table.now (pools.class_constant (pools.type_name ty.now)) }
     ensures { OnOk result (out.new.items ≡ out.old.items ++ opcode ∷ to_be_bytes w16 (pools.index_of table.now (pools.class_constant (pools.type_name ty.now)))) }
 {
-    let constant = type_constant(alloc, ty)?;
-    put_constant(table, opcode, &constant, out)
+    let index = table.type_index(alloc, ty)?;
+    put_with_u2(out, opcode, index as u16)
 }
 
 fn put_new(alloc: Global, table: &ConstantTable, name: &Name, out: &mut Vec<u8>) -> M<()>
     requires { HasIndex table.now (pools.class_constant name.now) }
     ensures { OnOk result (out.new.items ≡ out.old.items ++ 0xBB ∷ to_be_bytes w16 (pools.index_of table.now (pools.class_constant name.now))) }
 {
-    let constant = class_constant(alloc, name)?;
-    put_constant(table, 0xBB, &constant, out)
+    let index = table.class_index(alloc, name)?;
+    put_with_u2(out, 0xBB, index as u16)
 }
 
 // The argument words with the object's.
@@ -519,7 +492,7 @@ pub fn put_op(
         Op::PushNull => put(out, &[0x01]),
         Op::PushInt(number) => put_push_int(table, *number, out),
         Op::PushLong(number) => put_push_long(table, *number, out),
-        Op::PushText(text) => put_push_text(alloc, table, text, out),
+        Op::PushText(text) => put_push_text(table, text, out),
         Op::Load(kind, slot) => put_slot(0x15, 0x1A, *kind, *slot, out),
         Op::Store(kind, slot) => put_slot(0x36, 0x3B, *kind, *slot, out),
         Op::Inc(slot, delta) => put_increment(*slot, *delta, out),

@@ -9,26 +9,27 @@ use Rattle.class_model.specs.ClassFile.{class_file}
 use Rattle.class_model.specs.CanonicalClass.{class_raw}
 use Rattle.class_model.specs.WriteLimits.{first_of, code_fits, tables_fit}
 use Rattle.class_write.specs.Placing.{placed_bodies, bodies_due}
-use Rattle.class_write.specs.Limits.{IsCounted, pool_fits}
+use Rattle.class_write.specs.Limits.{IsCounted}
+use Rattle.constant_table.specs.Limits.{pool_fits}
 use Rattle.class_write.specs.Writing.{HasFitting}
 use Rattle.class_write.proofs.Dues.{bound_ok, pool_fault_due, codes_fault_due, tables_fault, bodies_fault_due, bytes_due}
 use Rattle.class_write.proofs.Fitting.{fitting, tables_ok, writables}
 use Rattle.class_write.proofs.writing.write_counted.Goals as goal
 
-pub returns-in_err-check_pool : goal.returns-in_err-check_pool
-returns-in_err-check_pool c =
+pub returns-in_err-check_limits : goal.returns-in_err-check_limits
+returns-in_err-check_limits c =
     let class = c.args.class.now in
     let pool = c.in_ok-pool.pool in
     let is = c.in_ok-pool.ensures in
-    let p = err_from_is_err_and c.from_residual-in_err-check_pool.result c.from_residual-in_err-check_pool.ensures.1 in
-    record { exact = rw (p.1, p.2) (pool_fault_due class pool is c.in_err-check_pool.field-0.0 c.in_err-check_pool.ensures) }
+    let p = err_from_is_err_and c.from_residual-in_err-check_limits.result c.from_residual-in_err-check_limits.ensures.1 in
+    record { exact = rw (p.1, p.2) (pool_fault_due class pool is c.in_err-check_limits.field-0.0 c.in_err-check_limits.ensures) }
 
 pub returns-in_err-placed : goal.returns-in_err-placed
 returns-in_err-placed c =
     let class = c.args.class.now in
     let pool = c.in_ok-pool.pool in
     let is = c.in_ok-pool.ensures in
-    let fits : pool_fits pool ≡ Ok tt = c.in_ok-check_pool.ensures in
+    let fits : pool_fits pool ≡ Ok tt = c.in_ok-check_limits.ensures in
     let p = err_from_is_err_and c.from_residual-in_err-placed.result c.from_residual-in_err-placed.ensures.1 in
     let fault : FaultIs c.in_err-placed.field-0.0 (bodies_due pool class.methods) =
     subst (λ (ms : List Method). FaultIs c.in_err-placed.field-0.0 (bodies_due pool ms)) c.as_slice.ensures c.in_err-placed.ensures in
@@ -39,7 +40,7 @@ returns-in-Err c =
     let class = c.args.class.now in
     let pool = c.in_ok-pool.pool in
     let is = c.in_ok-pool.ensures in
-    let fits : pool_fits pool ≡ Ok tt = c.in_ok-check_pool.ensures in
+    let fits : pool_fits pool ≡ Ok tt = c.in_ok-check_limits.ensures in
     let due : bodies_due pool class.methods ≡ Ok c.in_ok-placed.placed =
     subst (λ (ms : List Method). bodies_due pool ms ≡ Ok c.in_ok-placed.placed) c.as_slice.ensures c.in_ok-placed.ensures in
     let coded = (bound_ok (placed_bodies pool class.methods) (first_of (λ (m : Method). code_fits pool m.code) class.methods) c.in_ok-placed.placed due).0 in
@@ -62,7 +63,7 @@ returns-in_err-put_class_file c =
     let class = c.args.class.now in
     let pool = c.in_ok-pool.pool in
     let is = c.in_ok-pool.ensures in
-    let fits : pool_fits pool ≡ Ok tt = c.in_ok-check_pool.ensures in
+    let fits : pool_fits pool ≡ Ok tt = c.in_ok-check_limits.ensures in
     let due : bodies_due pool class.methods ≡ Ok c.in_ok-placed.placed =
     subst (λ (ms : List Method). bodies_due pool ms ≡ Ok c.in_ok-placed.placed) c.as_slice.ensures c.in_ok-placed.ensures in
     let coded = (bound_ok (placed_bodies pool class.methods) (first_of (λ (m : Method). code_fits pool m.code) class.methods) c.in_ok-placed.placed due).0 in
@@ -78,7 +79,7 @@ returns c =
     let class = c.args.class.now in
     let pool = c.in_ok-pool.pool in
     let is = c.in_ok-pool.ensures in
-    let fits : pool_fits pool ≡ Ok tt = c.in_ok-check_pool.ensures in
+    let fits : pool_fits pool ≡ Ok tt = c.in_ok-check_limits.ensures in
     let due : bodies_due pool class.methods ≡ Ok c.in_ok-placed.placed =
     subst (λ (ms : List Method). bodies_due pool ms ≡ Ok c.in_ok-placed.placed) c.as_slice.ensures c.in_ok-placed.ensures in
     let coded = (bound_ok (placed_bodies pool class.methods) (first_of (λ (m : Method). code_fits pool m.code) class.methods) c.in_ok-placed.placed due).0 in

@@ -1,11 +1,11 @@
 use Rattle.std.proofs.Common.{◌≤◌, length, arith}
 use Rattle.std.specs.List.{position_or_len}
 use Rattle.std.proofs.lemmas.List.Sums.{prefix_len-le-length}
-use Rattle.class_model.specs.CanonicalPool.{same}
+use Rattle.class_model.specs.CanonicalPool.{same, class_constant, type_name}
 use Rattle.frame_types.proofs.constants.class_index.Goals as goal
 
 pub overflow_cast-result : goal.overflow_cast-result
 overflow_cast-result c =
-    let keys = c.args.constants.now in
-    let within : position_or_len (same c.in_ok-constant.constant) keys ≤ length keys = prefix_len-le-length _ keys in
-    rw c.index_of-index.ensures (omega (arith, within, c.requires))
+    let pool = c.args.constants.now in
+    let within : position_or_len (same (class_constant (type_name c.args.ty.now))) pool ≤ length pool = prefix_len-le-length _ pool in
+    rw c.in_ok-type_index.ensures (omega (arith, within, c.requires))

@@ -1,0 +1,14 @@
+use Rattle.std.proofs.Common.{◌≡◌, List, rules, ap, subst, ◌∙◌}
+use Rattle.constant_table.specs.declared.finding.MemberNumbers.{MemberNumbers}
+use Rattle.constant_table.specs.Members.{field_key, method_key}
+use Rattle.class_model.specs.declared.constant.PoolConstant.{PoolConstant}
+use Rattle.class_model.specs.declared.constant.PoolConstant.TheVariants as constant
+use Rattle.class_model.specs.CanonicalPool as canonical
+use Rattle.constant_table.specs.declared.key.Key.TheVariants as key
+use Rattle.constant_table.proofs.table.ConstantTable.field_index.Goals as goal
+
+pub returns : goal.returns
+returns c =
+    let k : PoolConstant = canonical.fieldref c.args.field.now in
+    subst (λ (ks : List PoolConstant). c.index_of_key.result ≡ canonical.index_of ks k) c.self.view_is
+    (c.index_of_key.ensures k (ap field_key c.in_ok-m.ensures))

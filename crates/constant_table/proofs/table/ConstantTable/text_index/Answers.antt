@@ -1,0 +1,13 @@
+use Rattle.std.proofs.Common.{◌≡◌, List, rules, ap, subst, ◌∙◌}
+use Rattle.jv_base.specs.Utf16.{units_of}
+use Rattle.class_model.specs.declared.constant.PoolConstant.{PoolConstant}
+use Rattle.class_model.specs.declared.constant.PoolConstant.TheVariants as constant
+use Rattle.class_model.specs.CanonicalPool as canonical
+use Rattle.constant_table.specs.declared.key.Key.TheVariants as key
+use Rattle.constant_table.proofs.table.ConstantTable.text_index.Goals as goal
+
+pub returns : goal.returns
+returns c =
+    let k : PoolConstant = constant.Utf8 (units_of c.args.text.now) in
+    subst (λ (ks : List PoolConstant). c.index_of_key.result ≡ canonical.index_of ks k) c.self.view_is
+    (c.index_of_key.ensures k (ap (λ n. key.Utf8 n) c.in_ok-number.ensures))

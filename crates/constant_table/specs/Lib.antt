@@ -1,0 +1,4 @@
+pub mod Keys
+pub mod Texts
+pub mod Members
+pub mod Limits
