@@ -88,7 +88,7 @@ fn targets(
 ) -> Result<Items<u32>, Or<FormatKind>>
     ensures { IsDue result (collected (aimed (aim_in table.now) at) offsets.now) }
 {
-    let mut targets = Items::new(alloc);
+    let mut targets = Items::with_capacity(alloc, offsets.len())?;
     for offset in offsets {
         match offset_aimed(table, at, *offset) {
             Ok(to) => targets.push(to)?,
@@ -115,7 +115,7 @@ fn cases(
 ) -> Result<Items<Case>, Or<FormatKind>>
     ensures { IsDue result (collected (case_aimed (aim_in table.now) at) matches.now) }
 {
-    let mut cases = Items::new(alloc);
+    let mut cases = Items::with_capacity(alloc, matches.len())?;
     for next in matches {
         match case_aimed(table, at, *next) {
             Ok(case) => cases.push(case)?,
@@ -132,6 +132,30 @@ fn branch(table: &[Option<u32>], at: u32, opcode: u8, offset: i32) -> Result<Op,
         Some(op) => Ok(op),
         None => Err(FormatKind::BadOperand),
     }
+}
+
+fn shared_targets(
+    alloc: Global,
+    table: &[Option<u32>],
+    at: u32,
+    offsets: &[u32],
+) -> Result<Shared<Items<u32>>, Or<FormatKind>>
+    ensures { IsDue result (collected (aimed (aim_in table.now) at) offsets.now) }
+{
+    let targets = targets(alloc, table, at, offsets)?;
+    Ok(Shared::new(alloc, targets)?)
+}
+
+fn shared_cases(
+    alloc: Global,
+    table: &[Option<u32>],
+    at: u32,
+    matches: &[Match],
+) -> Result<Shared<Items<Case>>, Or<FormatKind>>
+    ensures { IsDue result (collected (case_aimed (aim_in table.now) at) matches.now) }
+{
+    let cases = cases(alloc, table, at, matches)?;
+    Ok(Shared::new(alloc, cases)?)
 }
 
 fn table_op(low: u32, other: u32, cases: Shared<Items<u32>>) -> Op
@@ -158,8 +182,8 @@ fn table_aimed(
         Ok(to) => to,
         Err(kind) => return Err(Or::Fault(kind)),
     };
-    let cases = targets(alloc, table, at, offsets)?;
-    Ok(table_op(low, other, Shared::new(alloc, cases)?))
+    let cases = shared_targets(alloc, table, at, offsets)?;
+    Ok(table_op(low, other, cases))
 }
 
 fn lookup_aimed(
@@ -175,8 +199,7 @@ fn lookup_aimed(
         Ok(to) => to,
         Err(kind) => return Err(Or::Fault(kind)),
     };
-    let cases = cases(alloc, table, at, matches)?;
-    let cases = Shared::new(alloc, cases)?;
+    let cases = shared_cases(alloc, table, at, matches)?;
     Ok(Op::LookupSwitch { other, cases })
 }
 
@@ -224,7 +247,7 @@ pub fn all_aimed(
 ) -> Result<Items<Op>, Or<CodeFault>>
     ensures { IsDue result (collected (placed_aimed (aim_in table.now)) placed) }
 {
-    let mut ops = Items::new(alloc);
+    let mut ops = Items::with_capacity(alloc, placed.len())?;
     for next in placed.into_vec() {
         let op = placed_aimed(alloc, table, next)?;
         ops.push(op)?;

@@ -10,7 +10,7 @@ pub returns-in_err-op : goal.returns-in_err-op
 returns-in_err-op c =
     let f = placed_aimed (aim_in c.args.table.now) in
     let total = collected f c.args.placed in
-    let p = err_from_is_err_and c.from_residual.result c.from_residual.ensures.1 in
+    let p = err_from_is_err_and c.from_residual-in_err-op.result c.from_residual-in_err-op.ensures.1 in
     let next : into_iter_items c.loop-next.next-iterator ≡ c.in-Some.next ∷ into_iter_items c.next.new.self = search rules in
     rw (p.1, p.2) (fault_comes f c.loop-next.ops c.in-Some.next (into_iter_items c.next.new.self) c.in_err-op.field-0.0 total c.in_err-op.ensures (ap (λ xs. onto c.loop-next.ops (collected f xs)) (sym next) ∙ c.loop-next.invariant.0))
 
