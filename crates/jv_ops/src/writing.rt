@@ -157,6 +157,14 @@ fn put_with_u2(out: &mut Vec<u8>, opcode: u8, operand: u16) -> M<()>
 
 // ---- pushes
 
+// An opcode with an index.
+fn put_index(opcode: u8, index: usize, out: &mut Vec<u8>) -> M<()>
+    requires { index < 2 ^ 16 }
+    ensures { OnOk result (out.new.items ≡ out.old.items ++ opcode ∷ to_be_bytes w16 index) }
+{
+    put_with_u2(out, opcode, index as u16)
+}
+
 // ldc where the index is a byte, else ldc_w.
 fn put_load(index: usize, out: &mut Vec<u8>) -> M<()>
     requires { index < 2 ^ 16 }
@@ -191,7 +199,7 @@ fn put_push_long(table: &ConstantTable, number: i64, out: &mut Vec<u8>) -> M<()>
     if is_lconst(number) {
         put(out, &[0x09 + number as u8])
     } else {
-        put_with_u2(out, 0x14, table.long_index(number) as u16)
+        put_index(0x14, table.long_index(number), out)
     }
 }
 
