@@ -1,4 +1,4 @@
--- Constants told by the numbers of their texts (JVMS 4.4).
+-- Constants told by the numbers of their texts (the project's own: only the proof of the table needs it).
 use Rattle.std.specs.Prelude.{◌≡◌, ℕ, ◌<◌, ◌+◌, Bool, false, ◌&&◌, List, [], map, length, nat_eq}
 use Rattle.std.specs.List.{position_from, position_or_len, slice_index_or, AllByRecursion, IsDistinct}
 use Rattle.std.specs.Map.{lookup}

@@ -1,4 +1,4 @@
--- The limits of a pool.
+-- The limits of a pool (JVMS 4.1, 4.4.7).
 use Rattle.std.specs.Prelude.{◌+◌, List, length, Result}
 use Rattle.jv_base.specs.Outcome.{◌>>=◌}
 use Rattle.class_model.specs.declared.limit.WriteLimit.{WriteLimit}

@@ -1,4 +1,4 @@
--- References to members by the numbers of their texts (JVMS 4.4.2).
+-- References to members by the numbers of their texts (the project's own: only the proof of the table needs it).
 use Rattle.std.specs.Prelude.{ℕ, Bool, List, [], ◌∷◌, ◌≡◌, length, if◌then◌else◌}
 use Rattle.jv_base.specs.Utf16.{units_of}
 use Rattle.class_model.specs.declared.constant.PoolConstant.{PoolConstant}

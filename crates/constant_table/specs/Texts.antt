@@ -1,4 +1,4 @@
--- Texts with numbers, each there once.
+-- Texts with numbers, each there once (the project's own: only the proof of the table needs it).
 use Rattle.std.specs.Prelude.{◌≡◌, ℕ, ◌<◌, List, ◌++◌, length, IfSome}
 use Rattle.std.specs.List.{IsDistinct}
 use Rattle.std.specs.Map.{lookup}
