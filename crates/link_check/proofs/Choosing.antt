@@ -13,7 +13,7 @@ use Rattle.class_pool.specs.Resolution.{first, is_maximally_specific, is_open, i
 use Rattle.class_pool.specs.Walk.{own_superinterfaces, same_class, superclasses_from, superinterfaces}
 use Rattle.link_check.specs.Walks.{candidates, each_superinterface, is_candidate, methods_met, superinterfaces_met}
 use Rattle.link_check.proofs.Alike.{Alike, alike_any, alike_all, alike_filter, alike_filter_map, alike_first, alike_flat_map, alike_once, class_itself}
-use Rattle.link_check.proofs.Declared.{all_declared}
+use Rattle.class_pool.proofs.Declaring.{all_declared}
 use Rattle.link_check.proofs.Interfaces.{superinterfaces_there}
 
 -- ---- the lists of what is met

@@ -5,15 +5,10 @@ use Rattle.std.specs.List.{All, position}
 use Rattle.std.specs.Option.{IfSome, option_map, option_and_then, option_map_or}
 use Rattle.std.proofs.lemmas.List.Elements.{All-cons, All-nil}
 use Rattle.class_model.specs.declared.class.Class.{Class}
-use Rattle.jv_base.specs.Names.{is_text}
-use Rattle.lib_table.specs.Lookups as table
-use Rattle.lib_table.specs.Library.{library}
-use Rattle.lib_table.proofs.Classes.{class_below}
 use Rattle.class_pool.specs.declared.id.ClassId.{ClassId}
-use Rattle.class_pool.specs.declared.id.ClassId.TheVariants.{Prog, Lib}
-use Rattle.class_pool.specs.Hierarchy.{IsClass, class_named, or_found, superclass}
+use Rattle.class_pool.specs.Hierarchy.{IsClass, superclass}
 use Rattle.class_pool.specs.Walk.{upwards}
-use Rattle.class_pool.proofs.Naming.{number_below}
+use Rattle.class_pool.proofs.Declaring.{superclass_there}
 
 -- a class, and those further up
 pub upwards_step : (n : ℕ) (classes : List Class) (c : ClassId) → 0 < n
@@ -29,34 +24,7 @@ unfolding upwards
 upwards_none classes (Some c) = refl
 upwards_none classes None = refl
 
-library_there : (classes : List Class) (o : Option ℕ) → ((n : ℕ) → o ≡ Some n → n < length library) → IfSome (option_map Lib o) (IsClass classes)
-library_there classes (Some n) h = h n refl
-library_there classes None h = tt
-
-found_there : (classes : List Class) (o t : Option ℕ) → ((n : ℕ) → o ≡ Some n → n < length classes) → ((n : ℕ) → t ≡ Some n → n < length library)
-    → IfSome (or_found o (option_map Lib t)) (IsClass classes)
-found_there classes (Some n) t first second = first n refl
-found_there classes None t first second = library_there classes t second
-
--- the class of a name is there
-pub named_there : (classes : List Class) (name : List ℕ) → IfSome (class_named classes name) (IsClass classes)
-named_there classes name =
-    found_there classes (position (λ c. is_text name c.name) classes) (table.class_named name) (number_below classes name) (class_below name)
-
-and_then_there : (classes : List Class) (o : Option Class) → IfSome (option_and_then (λ c. class_named classes c.super_name) o) (IsClass classes)
-and_then_there classes (Some c) = named_there classes c.super_name
-and_then_there classes None = tt
-
-library_super : (o : Option (List ℕ)) (n : ℕ) → option_and_then table.class_named o ≡ Some n → n < length library
-library_super (Some name) n is = class_below name n is
-library_super None n is = absurd cc
-
--- the direct superclass is there
-pub superclass_there : (classes : List Class) (c : ClassId) → IfSome (superclass classes c) (IsClass classes)
-superclass_there classes (Prog n) = and_then_there classes _
-superclass_there classes (Lib id) = library_there classes (table.super_of id) (library_super (table.class_at id).super_name)
-
-up_there : (n : ℕ) (classes : List Class) → ((c : ClassId) → IsClass classes c → All (IsClass classes) (upwards n classes c)) → (o : Option ClassId) → IfSome o (IsClass classes)
+pub up_there : (n : ℕ) (classes : List Class) → ((c : ClassId) → IsClass classes c → All (IsClass classes) (upwards n classes c)) → (o : Option ClassId) → IfSome o (IsClass classes)
     → All (IsClass classes) (option_map_or (upwards n classes) o [])
 up_there n classes others (Some c) there = others c there
 up_there n classes others None there = All-nil (IsClass classes)

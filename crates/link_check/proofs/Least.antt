@@ -135,3 +135,86 @@ lesser_second a b one other below p q =
 pub lesser_first : (a b : List ProfileKind) (one other : ProfileKind) → rank_of one ≤ rank_of other → Some one ≡ least a → Some other ≡ least b → Some one ≡ least (a ++ b)
 lesser_first a b one other below p q =
     sym (cond-false (ltb (rank_of other) (rank_of one)) (Some other) (Some one) (le-ltb (rank_of other) (rank_of one) below)) ∙ both_kinds a b one other p q
+
+-- ---- where there is no kind
+
+not_found : {A : Type 0} (test : A → Bool) (x : A) (xs : List A) → find test (x ∷ xs) ≡ None → (test x ≡ false) × (find test xs ≡ None)
+not_found test x xs none = by (test x) refl none where
+  by : (t : Bool) → test x ≡ t → cond t (Some x) (find test xs) ≡ None → (test x ≡ false) × (find test xs ≡ None)
+  by true is none = absurd cc
+  by false is none = (is, none)
+
+-- the kinds from a place of the order on
+abbrev kinds_8 : List ProfileKind
+kinds_8 = []
+
+abbrev kinds_7 : List ProfileKind
+kinds_7 = LeftOutMember ∷ kinds_8
+
+abbrev kinds_6 : List ProfileKind
+kinds_6 = WrongKind ∷ kinds_7
+
+abbrev kinds_5 : List ProfileKind
+kinds_5 = Inaccessible ∷ kinds_6
+
+abbrev kinds_4 : List ProfileKind
+kinds_4 = Unresolved ∷ kinds_5
+
+abbrev kinds_3 : List ProfileKind
+kinds_3 = LeftOutType ∷ kinds_4
+
+abbrev kinds_2 : List ProfileKind
+kinds_2 = LeftOutOpcode ∷ kinds_3
+
+abbrev kinds_1 : List ProfileKind
+kinds_1 = LeftOutConstant ∷ kinds_2
+
+none_0 : (test : ProfileKind → Bool) → find test all_kinds ≡ None → (test LeftOutFlag ≡ false) × (find test kinds_1 ≡ None)
+none_0 test none = not_found test LeftOutFlag kinds_1 none
+
+none_1 : (test : ProfileKind → Bool) → find test all_kinds ≡ None → (test LeftOutConstant ≡ false) × (find test kinds_2 ≡ None)
+none_1 test none = not_found test LeftOutConstant kinds_2 (none_0 test none).1
+
+none_2 : (test : ProfileKind → Bool) → find test all_kinds ≡ None → (test LeftOutOpcode ≡ false) × (find test kinds_3 ≡ None)
+none_2 test none = not_found test LeftOutOpcode kinds_3 (none_1 test none).1
+
+none_3 : (test : ProfileKind → Bool) → find test all_kinds ≡ None → (test LeftOutType ≡ false) × (find test kinds_4 ≡ None)
+none_3 test none = not_found test LeftOutType kinds_4 (none_2 test none).1
+
+none_4 : (test : ProfileKind → Bool) → find test all_kinds ≡ None → (test Unresolved ≡ false) × (find test kinds_5 ≡ None)
+none_4 test none = not_found test Unresolved kinds_5 (none_3 test none).1
+
+none_5 : (test : ProfileKind → Bool) → find test all_kinds ≡ None → (test Inaccessible ≡ false) × (find test kinds_6 ≡ None)
+none_5 test none = not_found test Inaccessible kinds_6 (none_4 test none).1
+
+none_6 : (test : ProfileKind → Bool) → find test all_kinds ≡ None → (test WrongKind ≡ false) × (find test kinds_7 ≡ None)
+none_6 test none = not_found test WrongKind kinds_7 (none_5 test none).1
+
+none_7 : (test : ProfileKind → Bool) → find test all_kinds ≡ None → (test LeftOutMember ≡ false) × (find test kinds_8 ≡ None)
+none_7 test none = not_found test LeftOutMember kinds_8 (none_6 test none).1
+
+none_stands : (test : ProfileKind → Bool) (k : ProfileKind) → find test all_kinds ≡ None → test k ≡ false
+none_stands test LeftOutFlag none = (none_0 test none).0
+none_stands test LeftOutConstant none = (none_1 test none).0
+none_stands test LeftOutOpcode none = (none_2 test none).0
+none_stands test LeftOutType none = (none_3 test none).0
+none_stands test Unresolved none = (none_4 test none).0
+none_stands test Inaccessible none = (none_5 test none).0
+none_stands test WrongKind none = (none_6 test none).0
+none_stands test LeftOutMember none = (none_7 test none).0
+
+itself_stands : (k : ProfileKind) (ks : List ProfileKind) → stands (k ∷ ks) k ≡ true
+itself_stands LeftOutFlag ks = refl
+itself_stands LeftOutConstant ks = refl
+itself_stands LeftOutOpcode ks = refl
+itself_stands LeftOutType ks = refl
+itself_stands Unresolved ks = refl
+itself_stands Inaccessible ks = refl
+itself_stands WrongKind ks = refl
+itself_stands LeftOutMember ks = refl
+
+-- where no kind counts, the list has none
+pub least_empty : (kinds : List ProfileKind) → least kinds ≡ None → kinds ≡ []
+unfolding least
+least_empty [] none = refl
+least_empty (k ∷ ks) none = absurd (let h = none_stands (stands (k ∷ ks)) k none in let e = itself_stands k ks in cc)

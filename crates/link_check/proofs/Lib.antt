@@ -1,5 +1,6 @@
 mod FaultPlace
 mod First
+mod Inheriting
 mod Least
 mod Likes
 mod Methods
@@ -9,10 +10,9 @@ pub mod Alike
 pub mod Choosing
 pub mod Climbing
 pub mod ComputedProfile
-pub mod Declared
-pub mod Declaring
 pub mod Interfaces
 pub mod Linking
 pub mod OverridingLaws
 pub mod Passing
+pub mod Taken
 pub mod Upwards

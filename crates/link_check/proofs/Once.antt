@@ -1,20 +1,13 @@
 -- A list of classes in which each stands once has the kinds of the whole one.
 use Rattle.std.proofs.Common.{◌≡◌, ◌||◌, Bool, true, false, cond, eqb, List, [], ◌∷◌, refl, sym, ap, ◌∙◌}
 use Rattle.std.specs.List.{flat_map, list_any}
-use Rattle.std.proofs.lemmas.Bool.{eqb-true}
 use Rattle.std.proofs.lemmas.List.Folds.{list_any-append}
 use Rattle.class_pool.specs.declared.id.ClassId.{ClassId}
-use Rattle.class_pool.specs.declared.id.ClassId.TheVariants.{Prog, Lib}
 use Rattle.class_pool.specs.Walk.{each_once, same_class}
 use Rattle.link_check.specs.declared.fault.ProfileKind.{ProfileKind}
 use Rattle.link_check.specs.Profile.{least, rank_of}
+use Rattle.link_check.proofs.Alike.{one_class}
 use Rattle.link_check.proofs.Least.{least_stands, stands}
-
-pub one_class : (a b : ClassId) → same_class a b ≡ true → a ≡ b
-one_class (Prog m) (Prog n) h = ap Prog (eqb-true m n h)
-one_class (Lib m) (Lib n) h = ap Lib (eqb-true m n h)
-one_class (Prog m) (Lib n) h = absurd cc
-one_class (Lib m) (Prog n) h = absurd cc
 
 absorbed : (x y z : Bool) → (x ≡ true → z ≡ true) → (y || z) ≡ ((x || y) || z)
 absorbed true true z h = refl

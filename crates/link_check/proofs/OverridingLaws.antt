@@ -4,21 +4,21 @@ use Rattle.std.specs.Prelude.{if◌then◌else◌}
 use Rattle.std.specs.Bool.{Decides}
 use Rattle.std.specs.Cmp.{unsigned_Decides}
 use Rattle.std.specs.List.{cons_option, filter_map, find, list_any}
-use Rattle.std.specs.Option.{option_map}
+use Rattle.std.specs.Option.{option_map, option_map_or}
 use Rattle.jv_base.proofs.Equality.{and_Decides, text_Decides}
 use Rattle.class_model.specs.declared.class.Class.{Class}
 use Rattle.class_pool.specs.declared.id.ClassId.{ClassId}
 use Rattle.class_pool.specs.declared.id.ClassId.TheVariants.{Prog, Lib}
 use Rattle.class_pool.specs.declared.id.MemberAt.{MemberAt}
-use Rattle.class_pool.specs.Found.{NameAndType, declared_in, is_instance_method, is_private_member, is_protected_member, is_public_member, name_of, named_at, package_of, same_member, same_package}
+use Rattle.class_pool.specs.Found.{NameAndType, declared_by, declared_in, is_instance_method, is_private_member, is_protected_member, is_public_member, name_of, named_at, package_of, same_member, same_package}
 use Rattle.class_pool.specs.Hierarchy.{superclass}
 use Rattle.class_pool.specs.Members.{declared_at}
 use Rattle.class_pool.specs.Resolution.{first, is_class_below, is_interface_in}
 use Rattle.class_pool.specs.Selection.{may_be_overridden, may_override, overrides, overriding, with_nearest}
-use Rattle.class_pool.specs.Walk.{highest, same_class, superclasses_from}
+use Rattle.class_pool.specs.Walk.{highest, same_class, superclasses_from, upwards}
 use Rattle.link_check.specs.Overriding.{alike_from, has_open_override, is_among, overrides_openly, overrides_where}
-use Rattle.link_check.proofs.Declaring.{declared_named}
-use Rattle.link_check.proofs.Upwards.{left_more, left_up}
+use Rattle.class_pool.proofs.Declaring.{declared_named}
+use Rattle.link_check.proofs.Climbing.{upwards_step}
 use Rattle.std.proofs.lemmas.Option.{same_Some}
 
 -- ---- tests
@@ -381,9 +381,9 @@ module _ (classes : List Class) (above : MemberAt) where
       → overrides classes m above
       ≡ (same_member m above || (may_override classes m && (may_be_overridden classes m.class above || has_open_override classes above (alike_from classes above m.class))))
   overridden_alike m first there =
-      let rest : List MemberAt = left_up classes (named_at classes above) (highest - 1) (superclass classes m.class) in
+      let rest : List MemberAt = declared_by classes (named_at classes above) (option_map_or (upwards (highest - 1) classes) (superclass classes m.class) []) in
       let e : alike_from classes above m.class ≡ m ∷ rest =
-      left_more classes (named_at classes above) highest 0 m.class (lit< tt) ∙ ap (λ o. cons_option o rest) first in
+      ap (declared_by classes (named_at classes above)) (upwards_step highest classes m.class (lit< tt)) ∙ ap (λ o. cons_option o rest) first in
       ap (λ ms. list_any (same_member m) (overriding classes above ms)) e
       ∙ own_overrides classes above m rest (sym (ap (is_among above) e) ∙ there)
       ∙ ap (λ ms. same_member m above || (may_override classes m && (may_be_overridden classes m.class above || has_open_override classes above ms))) (sym e)

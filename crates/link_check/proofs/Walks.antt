@@ -1,98 +1,36 @@
--- A walk up the superclasses of a class, and the kinds that it gathers.
-use Rattle.std.proofs.Common.{◌≡◌, ℕ, zero, suc, ◌+◌, ◌-◌, ◌<◌, ◌≤◌, List, [], ◌∷◌, ◌++◌, length, Option, Some, None, IfSome, refl, sym, ap, ◌∙◌, arith}
-use Rattle.std.specs.List.{cons_option, filter_map, flat_map, position}
-use Rattle.std.specs.Option.{option_and_then, option_map, option_map_or}
+-- What is gathered on a walk: of the classes that it has passed the least kind.
+use Rattle.std.proofs.Common.{◌≡◌, List, [], ◌∷◌, ◌++◌, Option, Some, None, refl, sym, ap, ◌∙◌}
+use Rattle.std.specs.List.{cons_option, filter_map, flat_map}
+use Rattle.std.specs.Option.{option_map_or}
 use Rattle.std.proofs.lemmas.List.{append-nil, append_assoc}
 use Rattle.std.proofs.lemmas.List.Concat.{flat_map-append}
-use Rattle.jv_base.specs.Names.{is_text}
-use Rattle.class_model.specs.declared.class.Class.{Class}
-use Rattle.lib_table.specs.Library.{library}
-use Rattle.lib_table.specs.Lookups as table
-use Rattle.lib_table.proofs.Classes.{class_below}
 use Rattle.class_pool.specs.declared.id.ClassId.{ClassId}
-use Rattle.class_pool.specs.declared.id.ClassId.TheVariants.{Prog, Lib}
-use Rattle.class_pool.specs.Hierarchy.{IsClass, class_named, or_found, superclass}
-use Rattle.class_pool.specs.Walk.{highest, superclasses_from, upwards}
-use Rattle.class_pool.proofs.Naming.{number_below}
 use Rattle.link_check.specs.declared.fault.ProfileKind.{ProfileKind}
 use Rattle.link_check.specs.Profile.{least}
 use Rattle.link_check.proofs.Least.{is_none}
 
--- ---- the superclass is there
-
-or_there : (classes : List Class) (o t : Option ℕ) → ((n : ℕ) → o ≡ Some n → n < length classes) → ((n : ℕ) → t ≡ Some n → n < length library)
-    → IfSome (or_found o (option_map Lib t)) (IsClass classes)
-or_there classes (Some n) t first second = first n refl
-or_there classes None (Some n) first second = second n refl
-or_there classes None None first second = tt
-
-named_there : (classes : List Class) (o : Option Class) → IfSome (option_and_then (λ c. class_named classes c.super_name) o) (IsClass classes)
-named_there classes (Some c) =
-    or_there classes (position (λ x. is_text c.super_name x.name) classes) (table.class_named c.super_name) (number_below classes c.super_name) (class_below c.super_name)
-named_there classes None = tt
-
-library_below : (o : Option (List ℕ)) (n : ℕ) → option_and_then table.class_named o ≡ Some n → n < length library
-library_below (Some name) n is = class_below name n is
-library_below None n is = absurd cc
-
-pub super_there : (classes : List Class) (c : ClassId) → IfSome (superclass classes c) (IsClass classes)
-super_there classes (Prog n) = named_there classes _
-super_there classes (Lib id) = or_there classes None (table.super_of id) (λ n is. absurd cc) (library_below (table.class_at id).super_name)
-
--- ---- what is left of a walk
-
-abbrev pub left_up : List Class → ℕ → Option ClassId → List ClassId
-left_up classes n next = option_map_or (upwards n classes) next []
-
-one_up : (classes : List Class) (n : ℕ) (c : ClassId) → upwards (suc n) classes c ≡ c ∷ left_up classes n (superclass classes c)
-unfolding upwards
-one_up classes n c = refl
-
-none_up : (classes : List Class) (next : Option ClassId) → left_up classes zero next ≡ []
-unfolding upwards
-none_up classes (Some c) = refl
-none_up classes None = refl
-
--- ---- what is gathered
-
--- the least of the kinds of the classes that the walk has passed
-pub record Gathered (f : ClassId → List ProfileKind) (classes : List Class) (start : ClassId) (counter : ℕ) (next : Option ClassId) (kind : Option ProfileKind) : Type 0 where
+-- the least of the kinds of the classes of the whole walk that come before the rest
+pub record Gathered (f : ClassId → List ProfileKind) (whole rest : List ClassId) (kind : Option ProfileKind) : Type 0 where
   pub kinds : List ProfileKind
   pub are : kind ≡ least kinds
-  pub rest : kinds ++ flat_map f (left_up classes (highest - counter) next) ≡ flat_map f (superclasses_from classes start)
+  pub all : kinds ++ flat_map f rest ≡ flat_map f whole
 
-pub gathered_none : (f : ClassId → List ProfileKind) (classes : List Class) (start : ClassId) → Gathered f classes start 0 (Some start) None
-gathered_none f classes start = record { kinds = []; are = is_none; rest = refl }
+pub gathered_none : (f : ClassId → List ProfileKind) (whole rest : List ClassId) → rest ≡ whole → Gathered f whole rest None
+gathered_none f whole rest is = record { kinds = []; are = is_none; all = ap (flat_map f) is }
 
-pub gathered_more : (f : ClassId → List ProfileKind) (classes : List Class) (start c : ClassId) (counter : ℕ) (kind one new : Option ProfileKind) → counter < highest
-    → Gathered f classes start counter (Some c) kind → one ≡ least (f c) → ((a b : List ProfileKind) → kind ≡ least a → one ≡ least b → new ≡ least (a ++ b))
-    → Gathered f classes start (counter + 1) (superclass classes c) new
-gathered_more f classes start c counter kind one new below g here joined =
-    let e : highest - counter ≡ suc (highest - (counter + 1)) = omega (arith, below) in
-    let left : List ClassId = left_up classes (highest - (counter + 1)) (superclass classes c) in
-    let more : left_up classes (highest - counter) (Some c) ≡ c ∷ left =
-    ap (λ (m : ℕ). left_up classes m (Some c)) e ∙ one_up classes (highest - (counter + 1)) c in
-    record {
-      kinds = g.kinds ++ f c;
-      are = joined g.kinds (f c) g.are here;
-      rest = append_assoc g.kinds (f c) (flat_map f left) ∙ ap (λ (cs : List ClassId). g.kinds ++ flat_map f cs) (sym more) ∙ g.rest;
-    }
+pub gathered_more : (f : ClassId → List ProfileKind) (whole old new : List ClassId) (c : ClassId) (kind one next : Option ProfileKind)
+    → old ≡ c ∷ new → Gathered f whole old kind → one ≡ least (f c)
+    → ((a b : List ProfileKind) → kind ≡ least a → one ≡ least b → next ≡ least (a ++ b)) → Gathered f whole new next
+gathered_more f whole old new c kind one next is g here joined = record {
+  kinds = g.kinds ++ f c;
+  are = joined g.kinds (f c) g.are here;
+  all = append_assoc g.kinds (f c) (flat_map f new) ∙ ap (λ (cs : List ClassId). g.kinds ++ flat_map f cs) (sym is) ∙ g.all;
+}
 
-gathered_end : (f : ClassId → List ProfileKind) (classes : List Class) (start : ClassId) (counter : ℕ) (next : Option ClassId) (kind : Option ProfileKind)
-    → Gathered f classes start counter next kind → left_up classes (highest - counter) next ≡ [] → kind ≡ least (flat_map f (superclasses_from classes start))
-gathered_end f classes start counter next kind g over =
-    g.are ∙ ap least (sym (append-nil g.kinds) ∙ ap (λ (cs : List ClassId). g.kinds ++ flat_map f cs) (sym over) ∙ g.rest)
-
-pub gathered_top : (f : ClassId → List ProfileKind) (classes : List Class) (start : ClassId) (counter : ℕ) (next : Option ClassId) (kind : Option ProfileKind)
-    → Gathered f classes start counter next kind → next ≡ None → kind ≡ least (flat_map f (superclasses_from classes start))
-gathered_top f classes start counter next kind g top =
-    gathered_end f classes start counter next kind g (ap (λ (o : Option ClassId). left_up classes (highest - counter) o) top)
-
-pub gathered_all : (f : ClassId → List ProfileKind) (classes : List Class) (start : ClassId) (counter : ℕ) (next : Option ClassId) (kind : Option ProfileKind)
-    → Gathered f classes start counter next kind → highest ≤ counter → kind ≡ least (flat_map f (superclasses_from classes start))
-gathered_all f classes start counter next kind g over =
-    let e : highest - counter ≡ zero = omega (arith, over) in
-    gathered_end f classes start counter next kind g (ap (λ (m : ℕ). left_up classes m next) e ∙ none_up classes next)
+pub gathered_all : (f : ClassId → List ProfileKind) (whole rest : List ClassId) (kind : Option ProfileKind) → Gathered f whole rest kind
+    → rest ≡ [] → kind ≡ least (flat_map f whole)
+gathered_all f whole rest kind g over =
+    g.are ∙ ap least (sym (append-nil g.kinds) ∙ ap (λ (cs : List ClassId). g.kinds ++ flat_map f cs) (sym over) ∙ g.all)
 
 -- ---- lists of lists
 

@@ -1,20 +1,23 @@
 // The methods that run where those of the superinterfaces of a class are called (JVMS 5.4.5, 6.5).
 #![tactic(auto, using(crate::proofs::Least::is_none))]
 
-ghost use Rattle.std.specs.Prelude.{◌≡◌, ◌<◌, [], IsTrue, false, if◌then◌else◌, length};
+ghost use Rattle.std.specs.Prelude.{◌≡◌, ◌<◌, [], IfSome, IsTrue, false, if◌then◌else◌, length};
 ghost use Rattle.std.specs.List.{All, flat_map};
 ghost use Rattle.std.specs.Option.{option_map_or};
 ghost use Rattle.class_pool.specs.Found.{IsMember, is_instance_method, row_at};
 ghost use Rattle.class_pool.specs.Hierarchy.{IsClass};
-ghost use Rattle.class_pool.specs.Walk.{own_superinterfaces, superinterfaces};
+ghost use Rattle.class_pool.specs.Walk.{own_superinterfaces};
 ghost use Rattle.class_pool.specs.declared.id.ClassId.TheVariants.{Prog};
+ghost use Rattle.link_check.specs.Inherited.{AreKnown, running_kinds, running_kinds_of};
 ghost use Rattle.link_check.specs.Profile.{implementing_kinds, least, methods_of, selected_kinds};
+ghost use Rattle.link_check.specs.Walks.{superclasses_up};
 
 use crate::ProfileKind;
+use crate::inherited::{Known, fits_in, program_number};
 use crate::kind_order::lesser;
 use crate::member_uses::role_kind;
-use crate::overridden::HIGHEST;
 use crate::selection::select;
+use crate::supertypes::Superclasses;
 use bitflags::Flags;
 use class_model::Class;
 use class_pool::{ClassId, ClassSet, MemberAt};
@@ -22,28 +25,57 @@ use jv_base::Access;
 
 /// What is wrong with the methods that run where those of the program's superinterfaces of a class are called; an
 /// abstract class has no objects.
-pub(crate) fn implementing_kind(set: &ClassSet, number: u32, class: &Class) -> Option<ProfileKind>
+pub(crate) fn implementing_kind(
+    set: &ClassSet,
+    known: &[Option<Known>],
+    number: u32,
+    class: &Class,
+) -> Option<ProfileKind>
     requires there { number < length set.now }
+    requires known { AreKnown set.now known.now }
     ensures { result ≡ least (implementing_kinds set.now number class.now) }
 {
     if class.flags.contains(Access::ABSTRACT) {
         return None;
     }
-    superinterfaces_kind(set, number)
+    running_kind(set, known, number)
 }
 
-fn superinterfaces_kind(set: &ClassSet, number: u32) -> Option<ProfileKind>
+/// The same of a class that may be abstract. What fits the superclass fits the class, but for its own superinterfaces.
+pub(crate) fn running_kind(
+    set: &ClassSet,
+    known: &[Option<Known>],
+    number: u32,
+) -> Option<ProfileKind>
     requires there { number < length set.now }
-    ensures { result ≡ least (flat_map (λ i. flat_map (selected_kinds set.now number) (methods_of set.now i)) (superinterfaces set.now (Prog number))) }
+    requires known { AreKnown set.now known.now }
+    ensures { result ≡ least (running_kinds set.now number) }
+{
+    if fits_in(known, number) {
+        return None;
+    }
+    set.has_ranks();
+    let _count = set.len();
+    let above = set.super_of(ClassId::Prog(number));
+    let own = own_kind(set, number, &ClassId::Prog(number));
+    if let Some(superclass) = program_number(&above) {
+        if fits_in(known, superclass) {
+            return own;
+        }
+    }
+    lesser(own, superinterfaces_kind(set, number, above))
+}
+
+/// The same of the superinterfaces of a class and of its superclasses.
+fn superinterfaces_kind(set: &ClassSet, number: u32, class: Option<ClassId>) -> Option<ProfileKind>
+    requires there { number < length set.now }
+    requires class { IfSome class (IsClass set.now) }
+    ensures { result ≡ least (flat_map (running_kinds_of set.now number) (flat_map (own_superinterfaces set.now) (superclasses_up set.now class))) }
 {
     let mut kind = None;
-    let mut next = Some(ClassId::Prog(number));
-    for _ in 0..HIGHEST {
-        let Some(class) = &next else {
-            return kind;
-        };
+    for class in Superclasses::up(set, class) {
+        let class = &class;
         kind = lesser(kind, own_kind(set, number, class));
-        next = set.super_of(*class);
     }
     kind
 }
@@ -52,7 +84,7 @@ fn superinterfaces_kind(set: &ClassSet, number: u32) -> Option<ProfileKind>
 fn own_kind(set: &ClassSet, number: u32, class: &ClassId) -> Option<ProfileKind>
     requires there { number < length set.now }
     requires class { IsClass set.now class.now }
-    ensures { result ≡ least (flat_map (λ i. flat_map (selected_kinds set.now number) (methods_of set.now i)) (own_superinterfaces set.now class.now)) }
+    ensures { result ≡ least (flat_map (running_kinds_of set.now number) (own_superinterfaces set.now class.now)) }
 {
     interfaces_kind(set, number, set.own_superinterfaces(*class))
 }
@@ -60,7 +92,7 @@ fn own_kind(set: &ClassSet, number: u32, class: &ClassId) -> Option<ProfileKind>
 fn interfaces_kind(set: &ClassSet, number: u32, interfaces: &[ClassId]) -> Option<ProfileKind>
     requires there { number < length set.now }
     requires interfaces { All (IsClass set.now) interfaces.now }
-    ensures { result ≡ least (flat_map (λ i. flat_map (selected_kinds set.now number) (methods_of set.now i)) interfaces.now) }
+    ensures { result ≡ least (flat_map (running_kinds_of set.now number) interfaces.now) }
 {
     let mut kind = None;
     for interface in interfaces {

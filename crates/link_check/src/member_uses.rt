@@ -2,7 +2,7 @@
 #![tactic(auto, using(crate::proofs::Least::is_none, crate::proofs::Least::is_one))]
 
 ghost use Rattle.std.specs.Prelude.{◌≡◌};
-ghost use Rattle.class_pool.specs.Found.{IsMember, role_at};
+ghost use Rattle.class_pool.specs.Found.{IsMember, role_at, same_member};
 ghost use Rattle.class_pool.specs.Walk.{same_class};
 ghost use Rattle.link_check.specs.Links.{is_callable_role};
 ghost use Rattle.link_check.specs.Profile.{least, static_kinds, unless};
@@ -39,4 +39,10 @@ pub(crate) fn is_same_class(one: &ClassId, other: &ClassId) -> bool
     ensures { result ≡ same_class one.now other.now }
 {
     one == other
+}
+
+pub(crate) fn is_same(one: &MemberAt, other: &MemberAt) -> bool
+    ensures { result ≡ same_member one.now other.now }
+{
+    is_same_class(&one.class, &other.class) && one.index == other.index
 }

@@ -7,34 +7,39 @@ ghost use Rattle.class_pool.specs.Found.{IsMember, declared_in, is_final_member,
 ghost use Rattle.class_pool.specs.Hierarchy.{IsClass};
 ghost use Rattle.class_pool.specs.Selection.{overrides};
 ghost use Rattle.class_pool.specs.Walk.{same_class};
+ghost use Rattle.class_pool.specs.declared.id.ClassId.TheVariants.{Prog};
+ghost use Rattle.link_check.specs.Inherited.{AreKnown};
 ghost use Rattle.link_check.specs.Profile.{least, may_be_overridden_role, overridden_kinds, overriding_kinds, unless};
 ghost use Rattle.link_check.specs.declared.fault.ProfileKind.TheVariants.{LeftOutMember, WrongKind};
 
 use crate::ProfileKind;
+use crate::inherited::{Known, start_in};
 use crate::kind_order::{lesser, unless};
 use crate::member_uses::is_same_class;
 use crate::selection::overrides;
+use crate::supertypes::Superclasses;
 use class_pool::{ClassId, ClassSet, MemberAt};
 use lib_table::Role;
 
-/// More than any set has classes, those of the library with them.
-pub(crate) const HIGHEST: u64 = 1 << 33;
-
-/// What is wrong with the methods that a method of the class with a number overrides.
-pub(crate) fn overriding_kind(set: &ClassSet, number: u32, m: &MemberAt) -> Option<ProfileKind>
+/// What is wrong with the methods that a method of the class with a number overrides. Superclasses are looked at from the
+/// nearest one that may have a method that none may override.
+pub(crate) fn overriding_kind(
+    set: &ClassSet,
+    known: &[Option<Known>],
+    number: u32,
+    m: &MemberAt,
+) -> Option<ProfileKind>
     requires there { number < length set.now }
+    requires known { AreKnown set.now known.now }
     requires member { IsMember set.now m.now }
+    requires own { m.now.class ≡ Prog number }
     requires method { IsTrue (option_map_or (λ row. row.is_method) (row_at set.now m.now) false) }
     ensures { result ≡ least (overriding_kinds set.now number m.now) }
 {
     let mut kind = None;
-    let mut next = Some(ClassId::Prog(number));
-    for _ in 0..HIGHEST {
-        let Some(class) = &next else {
-            return kind;
-        };
+    for class in Superclasses::up(set, start_in(known, number)) {
+        let class = &class;
         kind = lesser(kind, like_kind(set, m, class));
-        next = set.super_of(*class);
     }
     kind
 }

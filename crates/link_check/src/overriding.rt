@@ -1,17 +1,16 @@
 // Which methods a method overrides (JVMS 5.4.5).
 ghost use Rattle.std.specs.Prelude.{◌≡◌, ◌↔◌, IsTrue, Some, false};
 ghost use Rattle.std.specs.Option.{option_map_or};
-ghost use Rattle.class_pool.specs.Found.{IsMember, declared_in, named_at, row_at, same_member};
+ghost use Rattle.class_pool.specs.Found.{IsMember, declared_in, named_at, row_at};
 ghost use Rattle.class_pool.specs.Hierarchy.{IsClass};
 ghost use Rattle.class_pool.specs.Resolution.{is_class_below};
 ghost use Rattle.class_pool.specs.Selection.{may_be_overridden, may_override, overrides};
 ghost use Rattle.link_check.specs.Overriding.{alike_from, has_open_override, is_among, overrides_openly};
 
 use crate::access::is_class_below;
+use crate::member_uses::is_same;
+use crate::supertypes::Superclasses;
 use class_pool::{ClassId, ClassSet, MemberAt};
-
-/// More classes than a set can have, those of the library with them.
-pub(crate) const HIGHEST: u64 = 1 << 33;
 
 /// Whether a method overrides one that its class or a superclass declares with its name and descriptor, or is it. Other classes
 /// are looked at only where it may override some method, but not this one by itself.
@@ -52,12 +51,6 @@ pub(crate) fn is_first_like(set: &ClassSet, m: &MemberAt, other: &MemberAt) -> b
     }
 }
 
-pub(crate) fn is_same(a: &MemberAt, b: &MemberAt) -> bool
-    ensures { result ≡ same_member a.now b.now }
-{
-    a == b
-}
-
 /// An instance method of a class, not private; a method of an interface overrides none of a class.
 pub(crate) fn may_override(set: &ClassSet, m: &MemberAt) -> bool
     requires { IsMember set.now m.now }
@@ -96,20 +89,15 @@ pub(crate) fn has_open_override(set: &ClassSet, class: &ClassId, above: &MemberA
     requires method { IsTrue (option_map_or (λ row. row.is_method) (row_at set.now above.now) false) }
     ensures { result ≡ has_open_override set.now above.now (alike_from set.now above.now class.now) }
 {
-    let mut next = Some(*class);
     let mut opened = false;
-    for _ in 0..HIGHEST {
-        let Some(id) = &next else {
-            return false;
-        };
-        if let Some(m) = &set.method_like(*id, *above) {
+    for class in Superclasses::of(set, *class) {
+        if let Some(m) = &set.method_like(class, *above) {
             if !opened {
                 opened = overrides_openly(set, m, above);
             } else if is_same(m, above) {
                 return true;
             }
         }
-        next = set.super_of(*id);
     }
     false
 }

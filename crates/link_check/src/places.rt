@@ -8,10 +8,12 @@ ghost use Rattle.jv_base.specs.Names.{is_text};
 ghost use Rattle.class_model.specs.Flags.{acc_abstract, has, is_interface, is_left_out_class, is_native};
 ghost use Rattle.class_pool.specs.Found.{IsMember, row_at};
 ghost use Rattle.class_pool.specs.declared.id.ClassId.TheVariants.{Prog};
+ghost use Rattle.link_check.specs.Inherited.{AreKnown};
 ghost use Rattle.link_check.specs.Profile.{body_kinds, code_kinds, declaration_kinds, kinds_of_class, kinds_of_field, kinds_of_method, least, left_out_at, name_kinds, same_place};
 
 use crate::ProfileKind;
 use crate::implemented::implementing_kind;
+use crate::inherited::Known;
 use crate::instructions::code_kind;
 use crate::kind_order::{lesser, unless};
 use crate::named_classes::{method_type_kind, name_kind, names_kind, type_kind};
@@ -26,14 +28,20 @@ use std::alloc::Global;
 const ANNOTATION_OR_ENUM: u16 = 0x2000 | 0x4000;
 
 /// What is wrong with a class itself.
-pub(crate) fn kind_of_class(set: &ClassSet, number: u32, class: &Class) -> Option<ProfileKind>
+pub(crate) fn kind_of_class(
+    set: &ClassSet,
+    known: &[Option<Known>],
+    number: u32,
+    class: &Class,
+) -> Option<ProfileKind>
     requires there { number < length set.now }
+    requires known { AreKnown set.now known.now }
     ensures { result ≡ least (kinds_of_class set.now number class.now) }
 {
     let of_file = left_out_kind(class, None);
     let of_flags = unless(!is_left_out(class), ProfileKind::LeftOutFlag);
     let of_supertypes = supertypes_kind(set, number, class);
-    let of_methods = implementing_kind(set, number, class);
+    let of_methods = implementing_kind(set, known, number, class);
     lesser(lesser(lesser(of_file, of_flags), of_supertypes), of_methods)
 }
 
@@ -73,12 +81,14 @@ pub(crate) fn kind_of_field(
 pub(crate) fn kind_of_method(
     alloc: Global,
     set: &ClassSet,
+    known: &[Option<Known>],
     number: u32,
     class: &Class,
     index: u32,
     method: &Method,
 ) -> M<Option<ProfileKind>>
     requires there { number < length set.now }
+    requires known { AreKnown set.now known.now }
     requires member { IsMember set.now (record { class = Prog number; index = index }) }
     requires method { IsTrue (option_map_or (λ row. row.is_method) (row_at set.now (record { class = Prog number; index = index })) false) }
     ensures { IfOk result (λ kind. kind ≡ least (kinds_of_method set.now number class.now index method.now)) }
@@ -89,7 +99,7 @@ pub(crate) fn kind_of_method(
     };
     let of_declaration = declaration_kind(set, number, class, index, method);
     let of_body = body_kind(class, method);
-    let of_overridden = overriding_kind(set, number, &m);
+    let of_overridden = overriding_kind(set, known, number, &m);
     let of_code = method_code_kind(alloc, set, number, method)?;
     Ok(lesser(
         lesser(lesser(of_declaration, of_body), of_overridden),

@@ -4,9 +4,11 @@ ghost use Rattle.std.specs.List.{enumerate_from, filter_map, flat_map};
 ghost use Rattle.jv_base.specs.Longest.{IfFault};
 ghost use Rattle.jv_base.specs.Outcome.{IsDue};
 ghost use Rattle.class_pool.specs.Resolution.{first};
+ghost use Rattle.link_check.specs.Inherited.{AreKnown};
 ghost use Rattle.link_check.specs.Profile.{IsPlace, fault_at, faults_of, kinds_of_field, kinds_of_method, links_checked};
 
 use crate::ProfileFault;
+use crate::inherited::{Known, known_of_all};
 use crate::places::{kind_of_class, kind_of_field, kind_of_method};
 use class_model::Class;
 use class_pool::ClassSet;
@@ -31,8 +33,9 @@ pub fn check_links(alloc: Global, set: &ClassSet) -> Result<(), Or<ProfileFault>
 fn first_fault(alloc: Global, set: &ClassSet) -> M<Option<ProfileFault>>
     ensures { IfOk result (λ fault. fault ≡ first (flat_map (λ p. faults_of set.now p.0 p.1) (enumerate_from 0 set.now))) }
 {
+    let known = known_of_all(alloc, set)?;
     for number in 0..set.len() {
-        let fault = fault_of(alloc, set, number, set.class(number))?;
+        let fault = fault_of(alloc, set, known.as_slice(), number, set.class(number))?;
         if fault.is_some() {
             return Ok(fault);
         }
@@ -41,13 +44,20 @@ fn first_fault(alloc: Global, set: &ClassSet) -> M<Option<ProfileFault>>
 }
 
 /// The first fault of a class.
-fn fault_of(alloc: Global, set: &ClassSet, number: u32, class: &Class) -> M<Option<ProfileFault>>
+fn fault_of(
+    alloc: Global,
+    set: &ClassSet,
+    known: &[Option<Known>],
+    number: u32,
+    class: &Class,
+) -> M<Option<ProfileFault>>
     requires there { number < length set.now }
+    requires known { AreKnown set.now known.now }
     requires class { slice_get set.now number ≡ Some class.now }
     requires few { length class.now.fields + length class.now.methods < 4294967295 }
     ensures { IfOk result (λ fault. fault ≡ first (faults_of set.now number class.now)) }
 {
-    if let Some(kind) = kind_of_class(set, number, class) {
+    if let Some(kind) = kind_of_class(set, known, number, class) {
         return Ok(Some(ProfileFault {
             class: number,
             member: None,
@@ -57,7 +67,7 @@ fn fault_of(alloc: Global, set: &ClassSet, number: u32, class: &Class) -> M<Opti
     if let Some(fault) = field_fault(set, number, class) {
         return Ok(Some(fault));
     }
-    method_fault(alloc, set, number, class)
+    method_fault(alloc, set, known, number, class)
 }
 
 /// The first fault of its fields.
@@ -83,10 +93,12 @@ fn field_fault(set: &ClassSet, number: u32, class: &Class) -> Option<ProfileFaul
 fn method_fault(
     alloc: Global,
     set: &ClassSet,
+    known: &[Option<Known>],
     number: u32,
     class: &Class,
 ) -> M<Option<ProfileFault>>
     requires there { number < length set.now }
+    requires known { AreKnown set.now known.now }
     requires class { slice_get set.now number ≡ Some class.now }
     requires few { length class.now.fields + length class.now.methods < 4294967295 }
     ensures { IfOk result (λ fault. fault ≡ first (filter_map (λ p. fault_at number (Some p.0) (kinds_of_method set.now number class.now p.0 p.1)) (enumerate_from (length class.now.fields) class.now.methods))) }
@@ -95,7 +107,7 @@ fn method_fault(
     for at in 0..class.methods.len() as u32 {
         let method = &class.methods[at as usize];
         let index = before + at;
-        if let Some(kind) = kind_of_method(alloc, set, number, class, index, method)? {
+        if let Some(kind) = kind_of_method(alloc, set, known, number, class, index, method)? {
             return Ok(Some(ProfileFault {
                 class: number,
                 member: Some(index),

@@ -8,10 +8,12 @@ ghost use Rattle.class_pool.specs.Resolution.{first};
 ghost use Rattle.class_pool.specs.Selection.{first_instance, overrides, overriding_from, selected};
 ghost use Rattle.link_check.specs.Overriding.{alike_from, has_open_override, overrides_where};
 
+use crate::member_uses::is_same;
 use crate::overriding::{
-    HIGHEST, has_open_override, is_declared_from, is_first_like, is_same, may_be_overridden,
-    may_override, overrides_above,
+    has_open_override, is_declared_from, is_first_like, may_be_overridden, may_override,
+    overrides_above,
 };
+use crate::supertypes::Superclasses;
 use class_pool::{ClassId, ClassSet, MemberAt};
 
 /// The method that runs where an object of a class is the receiver of a call of a method (JVMS 6.5.invokevirtual,
@@ -54,17 +56,12 @@ fn first_instance(set: &ClassSet, class: ClassId, m: &MemberAt) -> Option<Member
     ensures is { result ≡ first_instance set.now class (named_at set.now m.now) }
     ensures there { IfSome result (IsMember set.now) }
 {
-    let mut next = Some(class);
-    for _ in 0..HIGHEST {
-        let Some(id) = &next else {
-            return None;
-        };
-        if let Some(found) = &set.method_like(*id, *m) {
+    for class in Superclasses::of(set, class) {
+        if let Some(found) = &set.method_like(class, *m) {
             if set.is_instance_method(*found) {
                 return Some(*found);
             }
         }
-        next = set.super_of(*id);
     }
     None
 }
@@ -102,17 +99,12 @@ fn nearest(set: &ClassSet, class: &ClassId, m: &MemberAt, opened: bool) -> Optio
     ensures is { result ≡ find (overrides_where set.now m.now opened) (alike_from set.now m.now class.now) }
     ensures there { IfSome result (IsMember set.now) }
 {
-    let mut next = Some(*class);
-    for _ in 0..HIGHEST {
-        let Some(id) = &next else {
-            return None;
-        };
-        if let Some(found) = &set.method_like(*id, *m) {
+    for class in Superclasses::of(set, *class) {
+        if let Some(found) = &set.method_like(class, *m) {
             if overrides_where(set, found, m, opened) {
                 return Some(*found);
             }
         }
-        next = set.super_of(*id);
     }
     None
 }

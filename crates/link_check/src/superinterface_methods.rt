@@ -7,6 +7,7 @@ ghost use Rattle.class_pool.specs.Hierarchy.{IsClass};
 ghost use Rattle.class_pool.specs.Resolution.{chosen, first, is_maximally_specific, is_open, is_subinterface, maximally_specific, superinterface_methods};
 ghost use Rattle.link_check.specs.Walks.{candidates, is_candidate, methods_met, open_methods};
 
+use crate::member_uses::is_same;
 use crate::supertypes::Superinterfaces;
 use class_pool::{ClassId, ClassSet, MemberAt};
 use jv_base::{Name, Text};
@@ -76,12 +77,6 @@ fn is_only_candidate(
         }
     }
     true
-}
-
-fn is_same(one: &MemberAt, other: &MemberAt) -> bool
-    ensures { result ≡ same_member one.now other.now }
-{
-    one == other
 }
 
 /// Whether a method of a superinterface isn't abstract and is maximally specific. Most are abstract, so that the others need no look.

@@ -1,9 +1,9 @@
 // The supertypes of a class, one after the other (JVMS 4.10).
-ghost use Rattle.std.specs.Prelude.{◌≡◌, ◌++◌, [], length};
+ghost use Rattle.std.specs.Prelude.{◌≡◌, ◌++◌, [], IfSome};
 ghost use Rattle.std.specs.List.{All};
 ghost use Rattle.class_pool.specs.Hierarchy.{IsClass};
 ghost use Rattle.class_pool.specs.Walk.{superclasses_from};
-ghost use Rattle.link_check.specs.Walks.{superinterfaces_met, superinterfaces_of};
+ghost use Rattle.link_check.specs.Walks.{superclasses_up, superinterfaces_met, superinterfaces_of};
 
 use class_pool::{ClassId, ClassSet};
 use std::marker::Model;
@@ -41,11 +41,17 @@ impl<'a> Superclasses<'a> {
         ensures are { result ≡ superclasses_from set.now class }
         ensures there { All (IsClass set.now) result }
     {
-        Superclasses {
-            set,
-            next: Some(class),
-            left: HIGHEST,
-        }
+        Superclasses::up(set, Some(class))
+    }
+
+    /// From this class upwards, if there is one.
+    pub(crate) fn up(set: &'a ClassSet, next: Option<ClassId>) -> Self
+        requires { IfSome next (IsClass set.now) }
+        ensures are { result ≡ superclasses_up set.now next }
+        ensures there { All (IsClass set.now) result }
+    {
+        let left = HIGHEST;
+        Superclasses { set, next, left }
     }
 }
 

@@ -1,42 +1,30 @@
-use Rattle.std.proofs.Common.{List, ◌+◌, ◌≤◌, Option, Some, ◌∙◌, ap, sym, subst}
+use Rattle.std.proofs.Common.{List, [], ◌∙◌, ap, sym}
 use Rattle.std.specs.List.{flat_map}
-use Rattle.std.specs.Option.{IfSome}
+use Rattle.std.proofs.lemmas.List.Elements.{All-rest}
 use Rattle.class_pool.specs.declared.id.ClassId.{ClassId}
-use Rattle.class_pool.specs.declared.id.ClassId.TheVariants.{Prog}
 use Rattle.class_pool.specs.Hierarchy.{IsClass}
-use Rattle.class_pool.specs.Walk.{highest, own_superinterfaces, superclasses_from}
+use Rattle.class_pool.specs.Walk.{own_superinterfaces}
 use Rattle.link_check.specs.declared.fault.ProfileKind.{ProfileKind}
-use Rattle.link_check.specs.Profile.{least, methods_of, selected_kinds}
-use Rattle.link_check.proofs.Walks.{Gathered, flat_flat, gathered_all, gathered_more, gathered_top, super_there}
+use Rattle.link_check.specs.Inherited.{running_kinds_of}
+use Rattle.link_check.specs.Profile.{least}
+use Rattle.link_check.specs.Walks.{superclasses_up}
+use Rattle.link_check.proofs.Walks.{flat_flat, gathered_all, gathered_more, gathered_none}
 use Rattle.link_check.proofs.implemented.superinterfaces_kind.Goals as goal
 
-pub returns-in_default : goal.returns-in_default
-returns-in_default c =
-    let h : ClassId → List ClassId = own_superinterfaces c.args.set.now in
-    let f : ClassId → List ProfileKind = λ i. flat_map (selected_kinds c.args.set.now c.args.number) (methods_of c.args.set.now i) in
-    gathered_top (λ d. flat_map f (h d)) c.args.set.now (Prog c.args.number) c.loop.counter c.loop.next c.loop.kind c.loop.invariant.gathered c.in_default.is
-    ∙ ap least (sym (flat_flat f h (superclasses_from c.args.set.now (Prog c.args.number))))
-
-pub loop-preserved : goal.loop-preserved
-loop-preserved c =
-    let h : ClassId → List ClassId = own_superinterfaces c.args.set.now in
-    let f : ClassId → List ProfileKind = λ i. flat_map (selected_kinds c.args.set.now c.args.number) (methods_of c.args.set.now i) in
-    let g : ClassId → List ProfileKind = λ d. flat_map f (h d) in
-    let class : ClassId = c.in-Some.class in
-    let at : Gathered g c.args.set.now (Prog c.args.number) c.loop.counter (Some class) c.loop.kind =
-    subst (λ (o : Option ClassId). Gathered g c.args.set.now (Prog c.args.number) c.loop.counter o c.loop.kind) c.in-Some.is c.loop.invariant.gathered in
+pub loop-class-preserved : goal.loop-class-preserved
+loop-class-preserved c =
+    let kinds : ClassId → List ProfileKind = λ d. flat_map (running_kinds_of c.args.set.now c.args.number) (own_superinterfaces c.args.set.now d) in
     record {
-      there = subst (λ (o : Option ClassId). IfSome o (IsClass c.args.set.now)) (sym c.super_of-next.ensures) (super_there c.args.set.now class);
+      there = All-rest (IsClass c.args.set.now) c.in-Some.class c.next.new.self c.loop-class.class-iterator c.in-Some.ensures.steps c.loop-class.invariant.there;
       gathered =
-          subst (λ (o : Option ClassId). Gathered g c.args.set.now (Prog c.args.number) (c.loop.counter + 1) o c.lesser-kind.result) (sym c.super_of-next.ensures)
-          (gathered_more g c.args.set.now (Prog c.args.number) class c.loop.counter c.loop.kind c.own_kind.result c.lesser-kind.result c.loop-test.true at c.own_kind.ensures
-          c.lesser-kind.ensures);
+          gathered_more kinds (superclasses_up c.args.set.now c.args.class) c.loop-class.class-iterator c.next.new.self c.in-Some.class c.loop-class.kind
+          c.own_kind.result c.lesser-kind.result c.in-Some.ensures.steps c.loop-class.invariant.gathered c.own_kind.ensures c.lesser-kind.ensures;
     }
 
 pub returns : goal.returns
 returns c =
+    let f : ClassId → List ProfileKind = running_kinds_of c.args.set.now c.args.number in
     let h : ClassId → List ClassId = own_superinterfaces c.args.set.now in
-    let f : ClassId → List ProfileKind = λ i. flat_map (selected_kinds c.args.set.now c.args.number) (methods_of c.args.set.now i) in
-    let over : highest ≤ c.loop.counter = c.loop-test.false in
-    gathered_all (λ d. flat_map f (h d)) c.args.set.now (Prog c.args.number) c.loop.counter c.loop.next c.loop.kind c.loop.invariant.gathered over
-    ∙ ap least (sym (flat_flat f h (superclasses_from c.args.set.now (Prog c.args.number))))
+    gathered_all (λ d. flat_map f (h d)) (superclasses_up c.args.set.now c.args.class) c.loop-class.class-iterator c.loop-class.kind c.loop-class.invariant.gathered
+    c.in-None.ensures.steps.0
+    ∙ ap least (sym (flat_flat f h (superclasses_up c.args.set.now c.args.class)))

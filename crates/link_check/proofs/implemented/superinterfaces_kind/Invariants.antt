@@ -1,14 +1,13 @@
-use Rattle.std.specs.List.{flat_map}
-use Rattle.std.specs.Option.{IfSome}
+use Rattle.std.specs.List.{All, flat_map}
 use Rattle.class_pool.specs.Hierarchy.{IsClass}
 use Rattle.class_pool.specs.Walk.{own_superinterfaces}
-use Rattle.class_pool.specs.declared.id.ClassId.TheVariants.{Prog}
-use Rattle.link_check.specs.Profile.{methods_of, selected_kinds}
+use Rattle.link_check.specs.Inherited.{running_kinds_of}
+use Rattle.link_check.specs.Walks.{superclasses_up}
 use Rattle.link_check.proofs.Walks.{Gathered}
 use Rattle.link_check.proofs.implemented.superinterfaces_kind.Given as goal
 
-abbrev pub invariant-loop : goal.invariant-loop
-invariant-loop l = record {
-  there : IfSome l.next (IsClass l.set);
-  gathered : Gathered (λ c. flat_map (λ i. flat_map (selected_kinds l.set l.number) (methods_of l.set i)) (own_superinterfaces l.set c)) l.set (Prog l.number) l.counter l.next l.kind;
+abbrev pub invariant-loop-class : goal.invariant-loop-class
+invariant-loop-class l = record {
+  there : All (IsClass l.set) l.class-iterator;
+  gathered : Gathered (λ d. flat_map (running_kinds_of l.set l.number) (own_superinterfaces l.set d)) (superclasses_up l.set l.fn.class) l.class-iterator l.kind;
 }

@@ -1,43 +1,41 @@
-use Rattle.std.proofs.Common.{List, [], ◌+◌, ◌≤◌, Option, Some, ◌∙◌, ap, sym, subst}
-use Rattle.std.specs.Option.{IfSome, option_map_or}
+use Rattle.std.proofs.Common.{Option, IfSome, ◌∙◌, ap, subst, sym}
+use Rattle.std.proofs.lemmas.List.Elements.{All-rest, All-same}
 use Rattle.class_pool.specs.declared.id.ClassId.{ClassId}
-use Rattle.class_pool.specs.declared.id.ClassId.TheVariants.{Prog}
-use Rattle.class_pool.specs.declared.id.MemberAt.{MemberAt}
-use Rattle.class_pool.specs.Found.{declared_in, named_at}
 use Rattle.class_pool.specs.Hierarchy.{IsClass}
-use Rattle.class_pool.specs.Walk.{highest, superclasses_from}
-use Rattle.link_check.specs.declared.fault.ProfileKind.{ProfileKind}
-use Rattle.link_check.specs.Profile.{least, overridden_kinds}
-use Rattle.link_check.proofs.Walks.{Gathered, flat_filter, gathered_all, gathered_more, gathered_top, super_there}
+use Rattle.link_check.specs.Inherited.{start_at}
+use Rattle.link_check.specs.Profile.{least}
+use Rattle.link_check.specs.Walks.{superclasses_up}
+use Rattle.link_check.proofs.Inheriting.{overridden_from, overridden_in, start_known}
+use Rattle.link_check.proofs.Walks.{gathered_all, gathered_more, gathered_none}
 use Rattle.link_check.proofs.overridden.overriding_kind.Goals as goal
 
-pub returns-in_default : goal.returns-in_default
-returns-in_default c =
-    let h : ClassId → Option MemberAt = declared_in c.args.set.now (named_at c.args.set.now c.args.m.now) in
-    let f : MemberAt → List ProfileKind = overridden_kinds c.args.set.now c.args.m.now in
-    gathered_top (λ d. option_map_or f (h d) []) c.args.set.now (Prog c.args.number) c.loop.counter c.loop.next c.loop.kind c.loop.invariant.gathered c.in_default.is
-    ∙ ap least (sym (flat_filter f h (superclasses_from c.args.set.now (Prog c.args.number))))
+pub up-class-items-requires : goal.up-class-items-requires
+up-class-items-requires c =
+    subst (λ (o : Option ClassId). IfSome o (IsClass c.args.set.now)) (sym c.start_in.ensures)
+    (start_known c.args.set.now c.args.known.now c.args.number c.requires.known c.requires.there).there
 
-pub loop-preserved : goal.loop-preserved
-loop-preserved c =
-    let h : ClassId → Option MemberAt = declared_in c.args.set.now (named_at c.args.set.now c.args.m.now) in
-    let f : MemberAt → List ProfileKind = overridden_kinds c.args.set.now c.args.m.now in
-    let g : ClassId → List ProfileKind = λ d. option_map_or f (h d) [] in
-    let class : ClassId = c.in-Some.class in
-    let at : Gathered g c.args.set.now (Prog c.args.number) c.loop.counter (Some class) c.loop.kind =
-    subst (λ (o : Option ClassId). Gathered g c.args.set.now (Prog c.args.number) c.loop.counter o c.loop.kind) c.in-Some.is c.loop.invariant.gathered in
-    record {
-      there = subst (λ (o : Option ClassId). IfSome o (IsClass c.args.set.now)) (sym c.super_of-next.ensures) (super_there c.args.set.now class);
-      gathered =
-          subst (λ (o : Option ClassId). Gathered g c.args.set.now (Prog c.args.number) (c.loop.counter + 1) o c.lesser-kind.result) (sym c.super_of-next.ensures)
-          (gathered_more g c.args.set.now (Prog c.args.number) class c.loop.counter c.loop.kind c.like_kind.result c.lesser-kind.result c.loop-test.true at c.like_kind.ensures
-          c.lesser-kind.ensures);
-    }
+pub loop-class-init : goal.loop-class-init
+loop-class-init c = record {
+  there =
+      All-same (IsClass c.args.set.now) c.into_iter-class-iterator.result c.up-class-items.result c.into_iter-class-iterator.ensures.into_iter_gives
+      c.up-class-items.ensures.there;
+  gathered =
+      gathered_none (overridden_in c.args.set.now c.args.m.now) (superclasses_up c.args.set.now (start_at c.args.known.now c.args.number)) c.into_iter-class-iterator.result
+      (c.into_iter-class-iterator.ensures.into_iter_gives ∙ c.up-class-items.ensures.are ∙ ap (superclasses_up c.args.set.now) c.start_in.ensures);
+}
+
+pub loop-class-preserved : goal.loop-class-preserved
+loop-class-preserved c = record {
+  there = All-rest (IsClass c.args.set.now) c.in-Some.class c.next.new.self c.loop-class.class-iterator c.in-Some.ensures.steps c.loop-class.invariant.there;
+  gathered =
+      gathered_more (overridden_in c.args.set.now c.args.m.now) (superclasses_up c.args.set.now (start_at c.args.known.now c.args.number)) c.loop-class.class-iterator
+      c.next.new.self c.in-Some.class c.loop-class.kind c.like_kind.result c.lesser-kind.result c.in-Some.ensures.steps c.loop-class.invariant.gathered
+      c.like_kind.ensures c.lesser-kind.ensures;
+}
 
 pub returns : goal.returns
 returns c =
-    let h : ClassId → Option MemberAt = declared_in c.args.set.now (named_at c.args.set.now c.args.m.now) in
-    let f : MemberAt → List ProfileKind = overridden_kinds c.args.set.now c.args.m.now in
-    let over : highest ≤ c.loop.counter = c.loop-test.false in
-    gathered_all (λ d. option_map_or f (h d) []) c.args.set.now (Prog c.args.number) c.loop.counter c.loop.next c.loop.kind c.loop.invariant.gathered over
-    ∙ ap least (sym (flat_filter f h (superclasses_from c.args.set.now (Prog c.args.number))))
+    gathered_all (overridden_in c.args.set.now c.args.m.now) (superclasses_up c.args.set.now (start_at c.args.known.now c.args.number)) c.loop-class.class-iterator
+    c.loop-class.kind c.loop-class.invariant.gathered c.in-None.ensures.steps.0
+    ∙ ap least (overridden_from c.args.set.now c.args.m.now c.args.number (start_at c.args.known.now c.args.number)
+    (start_known c.args.set.now c.args.known.now c.args.number c.requires.known c.requires.there) c.requires.own c.requires.method)

@@ -1,0 +1,5 @@
+use Rattle.link_check.proofs.Taken.{links_taken}
+use Rattle.link_check.proofs.laws.taken_sets_break_no_rule.Goals as goal
+
+pub returns : goal.returns
+returns c = links_taken
