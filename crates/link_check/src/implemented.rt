@@ -13,7 +13,7 @@ ghost use Rattle.link_check.specs.Profile.{implementing_kinds, least, methods_of
 ghost use Rattle.link_check.specs.Walks.{superclasses_up};
 
 use crate::ProfileKind;
-use crate::inherited::{Known, fits_in};
+use crate::inherited::{Known, fits_in, program_number};
 use crate::kind_order::lesser;
 use crate::member_uses::role_kind;
 use crate::selection::select;
@@ -58,8 +58,8 @@ pub(crate) fn running_kind(
     let _count = set.len();
     let above = set.super_of(ClassId::Prog(number));
     let own = own_kind(set, number, &ClassId::Prog(number));
-    if let Some(ClassId::Prog(above)) = above {
-        if fits_in(known, above) {
+    if let Some(superclass) = program_number(&above) {
+        if fits_in(known, superclass) {
             return own;
         }
     }
@@ -67,11 +67,7 @@ pub(crate) fn running_kind(
 }
 
 /// The same of the superinterfaces of a class and of its superclasses.
-fn superinterfaces_kind(
-    set: &ClassSet,
-    number: u32,
-    class: Option<ClassId>,
-) -> Option<ProfileKind>
+fn superinterfaces_kind(set: &ClassSet, number: u32, class: Option<ClassId>) -> Option<ProfileKind>
     requires there { number < length set.now }
     requires class { IfSome class (IsClass set.now) }
     ensures { result ≡ least (flat_map (running_kinds_of set.now number) (flat_map (own_superinterfaces set.now) (superclasses_up set.now class))) }

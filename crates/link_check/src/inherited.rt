@@ -2,7 +2,8 @@
 //
 // A class is looked at when its superclass is known. In which order that comes is not proved: what isn't known is looked for
 // in all superclasses, and only speed rests on it.
-ghost use Rattle.std.specs.Prelude.{◌≡◌, ◌<◌, IfOk, IsTrue, None, false, length, slice_index_or};
+ghost use Rattle.std.specs.Prelude.{◌≡◌, ◌<◌, IfOk, IfSome, IsTrue, None, Some, false, length, slice_index_or};
+ghost use Rattle.class_pool.specs.declared.id.ClassId.TheVariants.{Prog};
 ghost use Rattle.std.specs.List.{All};
 ghost use Rattle.std.specs.Option.{option_map_or};
 ghost use Rattle.link_check.specs.Inherited.{AreKnown, Fits, IsKnown, IsStart, has_final_method, start_at};
@@ -40,12 +41,7 @@ pub(crate) fn known_of_all(alloc: Global, set: &ClassSet) -> M<Vec<Option<Known>
 }
 
 /// The class and its superclasses in the set up to the first one that is known.
-fn unknown_from(
-    alloc: Global,
-    set: &ClassSet,
-    known: &[Option<Known>],
-    number: u32,
-) -> M<Vec<u32>>
+fn unknown_from(alloc: Global, set: &ClassSet, known: &[Option<Known>], number: u32) -> M<Vec<u32>>
     requires there { number < length set.now }
     ensures { IfOk result (λ unknown. All (λ n. n < length set.now) unknown.items) }
 {
@@ -94,9 +90,19 @@ fn start_of(set: &ClassSet, known: &[Option<Known>], number: u32) -> Option<Clas
     set.has_ranks();
     let _count = set.len();
     let above = set.super_of(ClassId::Prog(number));
-    match above {
-        Some(ClassId::Prog(number)) if is_plain_in(known, number) => start_in(known, number),
+    match program_number(&above) {
+        Some(superclass) if is_plain_in(known, superclass) => start_in(known, superclass),
         _ => above,
+    }
+}
+
+/// The number of a class of the set; one of the library has none.
+pub(crate) fn program_number(class: &Option<ClassId>) -> Option<u32>
+    ensures { IfSome result (λ number. class.now ≡ Some (Prog number)) }
+{
+    match class {
+        Some(ClassId::Prog(number)) => Some(*number),
+        _ => None,
     }
 }
 

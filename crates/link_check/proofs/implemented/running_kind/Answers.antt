@@ -13,9 +13,9 @@ use Rattle.link_check.proofs.implemented.running_kind.Goals as goal
 pub returns-then-fits_in-2 : goal.returns-then-fits_in-2
 returns-then-fits_in-2 c =
     c.own_kind-own.ensures
-    ∙ ap least (running_own c.args.set.now c.has_ranks.ensures c.args.number (omega (arith, c.len-count.ensures)) c.requires.there c.in-Some-Prog.above
-    c.super_of-above.result c.super_of-above.ensures c.in-Some-Prog.is
-    (fits_known c.args.set.now c.args.known.now c.in-Some-Prog.above c.requires.known (sym c.fits_in-in-Some-Prog.ensures ∙ c.if-fits_in-2.true)))
+    ∙ ap least (running_own c.args.set.now c.has_ranks.ensures c.args.number (omega (arith, c.len-count.ensures)) c.requires.there c.in-Some.superclass
+    c.super_of-above.result c.super_of-above.ensures c.in-Some.ensures
+    (fits_known c.args.set.now c.args.known.now c.in-Some.superclass c.requires.known (sym c.fits_in-in-Some.ensures ∙ c.if-fits_in-2.true)))
 
 pub returns : goal.returns
 returns c =
