@@ -1,6 +1,6 @@
 -- The paths that are told, and files that are read one after the other.
-use Rattle.std.proofs.Common.{◌≡◌, ◌≤◌, ℕ, ◌+◌, ◌-◌, Bool, true, false, cond, List, [], ◌∷◌, ◌++◌, ◌||◌, length, map, take, drop, Option, Some, None, Ok, Err, refl, sym, ap, ◌∙◌, subst, arith}
-use Rattle.std.specs.Prelude.{IfSome, IsSome, nat_eq, nat_lt, is_some}
+use Rattle.std.proofs.Common.{◌≡◌, ◌≤◌, ℕ, ◌+◌, ◌-◌, Bool, true, false, cond, List, [], ◌∷◌, ◌++◌, ◌||◌, length, map, take, drop, Option, Some, None, Result, Ok, Err, refl, sym, ap, ◌∙◌, subst, arith}
+use Rattle.std.specs.Prelude.{IsSome, nat_eq, nat_lt, is_some}
 use Rattle.std.specs.FinMap.{get, keys, contains_key-keys}
 use Rattle.std.specs.Ordering.{eq_by_cmp, nat_cmp}
 use Rattle.std.specs.Cmp.Lexicographic.{nat_list_cmp_total, slice_cmp}
@@ -10,15 +10,13 @@ use Rattle.std.proofs.lemmas.List.{map-append, take-append-drop}
 use Rattle.std.proofs.lemmas.Slice.Eq.{slice_eq-Decides}
 use Rattle.std.specs.Cmp.{unsigned_Decides}
 use Rattle.std.proofs.lemmas.List.Sums.{sum_by-append}
+use Rattle.std.proofs.lemmas.Bool.{lt-ltb, ltb-true}
 use Rattle.tree_io.specs.Below.{front_of, paths_below, rest_after}
 use Rattle.tree_io.specs.Files.{Files}
 use Rattle.tree_io.specs.declared.file_at.FileAt.{FileAt}
-use Rattle.class_files.specs.declared.input.InputFault.TheVariants.{TooLong, TooManyClasses, TooManyFiles}
-use Rattle.class_files.specs.Input.{class_paths, file_due, file_in, files_in, is_class_path, path_in, paths_due, total}
-
-pub if_both : {A : Type 0} {P Q R : A → Type 0} (o : Option A) → IfSome o P → IfSome o Q → ((x : A) → P x → Q x → R x) → IfSome o R
-if_both None p q f = tt
-if_both (Some x) p q f = f x p q
+use Rattle.class_files.specs.declared.input.InputFault.{InputFault}
+use Rattle.class_files.specs.declared.input.InputFault.TheVariants.{Absent, Failed, OutOfMemory, TooLong, TooManyClasses, TooManyFiles}
+use Rattle.class_files.specs.Input.{AreThere, FindsDue, IsThere, class_paths, file_due, file_in, files_in, input_due, is_class_path, limited, path_in, paths_due, total}
 
 or_true : (a : Bool) {b : Bool} → b ≡ true → a || b ≡ true
 or_true true h = refl
@@ -119,6 +117,56 @@ pub paths_told : (fs : Files) (directory : List ℕ) (found : List (List ℕ)) �
 paths_told fs directory found h =
     due_paths (nat_lt 65536 (length (paths_below directory (keys fs)))) (nat_lt 20000 (length (class_paths fs directory))) (class_paths fs directory) found h
 
-pub if_told : {A : Type 0} {P Q : A → Type 0} (o : Option A) → IfSome o P → ((x : A) → P x → Q x) → IfSome o Q
-if_told None p f = tt
-if_told (Some x) p f = f x p
+-- where the numbers are within their limits, what is due is the files
+pub input_is : (fs : Files) (directory : List ℕ) (found : List (List ℕ)) → paths_due fs directory ≡ Ok found → input_due fs directory ≡ limited (files_in fs directory found)
+input_is fs directory found h =
+    last_is (nat_lt 65536 (length (paths_below directory (keys fs)))) (nat_lt 20000 (length (class_paths fs directory))) (class_paths fs directory) found _ h
+    ∙ ap (λ (ps : List (List ℕ)). limited (files_in fs directory ps)) (sym (paths_told fs directory found h))
+  where
+    last_is : (many more : Bool) (paths found : List (List ℕ)) (last : Result (List FileAt) InputFault)
+        → cond many (Err TooManyFiles) (cond more (Err TooManyClasses) (Ok paths)) ≡ Ok found
+        → cond many (Err TooManyFiles) (cond more (Err TooManyClasses) last) ≡ last
+    last_is true more paths found last h = absurd cc
+    last_is false true paths found last h = absurd cc
+    last_is false false paths found last h = refl
+
+-- the paths that were found are there
+pub found_there : (fs : Files) (directory : List ℕ) (found : List (List ℕ)) → paths_due fs directory ≡ Ok found → AreThere fs directory found
+found_there fs directory found h = subst (AreThere fs directory) (sym (paths_told fs directory found h)) (class_paths_told fs directory)
+
+-- ---- a file that isn't given
+
+long_by : (long : Bool) (told : FileAt) (fault : InputFault) → cond long (Err TooLong) (Ok told) ≡ Err fault → (long ≡ true) × (fault ≡ TooLong)
+long_by true told fault h = (refl, cc)
+long_by false told fault h = absurd cc
+
+too_long : (fs : Files) (directory : List ℕ) (files : List FileAt) (path : List ℕ) (rest all : List (List ℕ)) (room : ℕ) → room + total files ≡ 67108864
+    → files ++ files_in fs directory (path ∷ rest) ≡ files_in fs directory all → nat_lt room (length (file_in fs directory path).bytes) ≡ true
+    → limited (files_in fs directory all) ≡ Err TooLong
+too_long fs directory files path rest all room sum split long =
+    let less = ltb-true _ _ long in
+    let parts : total (files ++ files_in fs directory (path ∷ rest)) ≡ total files + total (files_in fs directory (path ∷ rest)) =
+    sum_by-append (λ (f : FileAt). length f.bytes) files (files_in fs directory (path ∷ rest)) in
+    let whole : total (files ++ files_in fs directory (path ∷ rest)) ≡ total (files_in fs directory all) = ap total split in
+    let one : total (files_in fs directory (path ∷ rest)) ≡ (0 + length (file_in fs directory path).bytes) + total (files_in fs directory rest) =
+    sum_by-append (λ (f : FileAt). length f.bytes) (file_in fs directory path ∷ []) (files_in fs directory rest) in
+    let over : nat_lt 67108864 (total (files_in fs directory all)) ≡ true = lt-ltb _ _ (omega (arith, less, one, parts, whole, sum)) in
+    ap (λ (b : Bool). cond b (Err TooLong) (Ok (files_in fs directory all))) over
+
+abbrev pub no_file : InputFault → Result FileAt InputFault
+no_file fault = Err fault
+
+abbrev pub no_files : InputFault → Result (List FileAt) InputFault
+no_files fault = Err fault
+
+-- where one of the files isn't given, the files aren't
+pub fails_so : (fs : Files) (directory : List ℕ) (files : List FileAt) (path : List ℕ) (rest all : List (List ℕ)) (room : ℕ) (fault : InputFault)
+    → room + total files ≡ 67108864 → files ++ files_in fs directory (path ∷ rest) ≡ files_in fs directory all
+    → FindsDue (no_file fault) (file_due fs directory path room) → FindsDue (no_files fault) (limited (files_in fs directory all))
+fails_so fs directory files path rest all room TooLong sum split h =
+    too_long fs directory files path rest all room sum split (long_by _ (file_in fs directory path) TooLong h).0
+fails_so fs directory files path rest all room Failed sum split h = tt
+fails_so fs directory files path rest all room OutOfMemory sum split h = tt
+fails_so fs directory files path rest all room TooManyFiles sum split h = (let is = (long_by _ (file_in fs directory path) TooManyFiles h).1 in absurd cc)
+fails_so fs directory files path rest all room TooManyClasses sum split h = (let is = (long_by _ (file_in fs directory path) TooManyClasses h).1 in absurd cc)
+fails_so fs directory files path rest all room (Absent at) sum split h = (let is = (long_by _ (file_in fs directory path) (Absent at) h).1 in absurd cc)

@@ -1,8 +1,8 @@
 -- The class files below a directory of told files, within limits on their number and length
 -- (the project's own: limits on what is read).
-use Rattle.std.specs.Prelude.{◌≡◌, ℕ, nat_eq, nat_lt, Bool, List, [], ◌++◌, length, map, codes, Result, Ok, Err, if◌then◌else◌}
+use Rattle.std.specs.Prelude.{◌≡◌, ℕ, nat_eq, nat_lt, Bool, List, [], ◌∷◌, ◌++◌, length, map, codes, Option, Some, None, IsSome, Result, Ok, Err, if◌then◌else◌}
 use Rattle.std.specs.FinMap.{get, keys}
-use Rattle.std.specs.List.{ends_with, filter, sum_by}
+use Rattle.std.specs.List.{AllByRecursion, ends_with, filter, sum_by}
 use Rattle.std.specs.Option.{option_map_or}
 use Rattle.tree_io.specs.Below.{front_of, paths_below}
 use Rattle.tree_io.specs.Files.{Files}
@@ -44,6 +44,24 @@ input_due files directory =
     if nat_lt 65536 (length (paths_below directory (keys files))) then Err TooManyFiles
     else if nat_lt 20000 (length (class_paths files directory)) then Err TooManyClasses
     else limited (files_in files directory (class_paths files directory))
+
+-- a class file stands below the directory
+abbrev pub IsThere : Files → List ℕ → List ℕ → Type 0
+IsThere files directory path = IsSome (get files (path_in directory path))
+
+abbrev pub AreThere : Files → List ℕ → List (List ℕ) → Type 0
+AreThere files directory paths = AllByRecursion (IsThere files directory) paths
+
+-- the paths at which a reading found no file; where memory was wanting none is told (the project's own: a file that was listed may be gone
+-- when it is read)
+abbrev pub missed : {A : Type 0} → Result A InputFault → Option (List (List ℕ))
+missed (Ok x) = Some []
+missed (Err (Absent path)) = Some (path ∷ [])
+missed (Err OutOfMemory) = None
+missed (Err TooManyFiles) = Some []
+missed (Err TooManyClasses) = Some []
+missed (Err TooLong) = Some []
+missed (Err Failed) = Some []
 
 -- the answer is the one that is due, unless the device failed or memory was wanting
 abbrev pub FindsDue : {A : Type 0} → Result A InputFault → Result A InputFault → Type 0

@@ -1,17 +1,32 @@
--- Files put one after the other into told files (the project's own: what a stopped command leaves).
-use Rattle.std.specs.Prelude.{◌≡◌, ℕ, List, [], ◌∷◌, take, slice_get, Option, Some}
-use Rattle.tree_io.specs.Files.{Files, put_at, MayChangeAt}
+-- Files put one after the other (the project's own: what is written, and what stands where the writing stops).
+use Rattle.std.specs.Prelude.{◌≡◌, ◌⊎◌, ℕ, List, [], ◌∷◌, ◌++◌, take, slice_get, Some, Result, Ok, Err}
+use Rattle.std.specs.FinMap.{insert}
+use Rattle.tree_io.specs.Event.{files_to_write}
+use Rattle.tree_io.specs.Files.{Files}
+use Rattle.tree_io.specs.Runs.{Did, Run}
+use Rattle.tree_io.specs.declared.event.Event.{Event}
+use Rattle.tree_io.specs.declared.faults.WriteFault.{WriteFault}
+use Rattle.tree_io.specs.declared.faults.WriteFault.TheVariants.{Failed, OutOfMemory}
 use Rattle.tree_io.specs.declared.file_at.FileAt.{FileAt}
 
--- files put one after the other, each in place of any before at its path
-abbrev pub put_all : Option Files → List FileAt → Option Files
-put_all told [] = told
-put_all told (f ∷ fs) = put_all (put_at told f.path f.bytes) fs
+abbrev pub put_all : Files → List FileAt → Files
+put_all files [] = files
+put_all files (f ∷ fs) = put_all (insert files f.path f.bytes) fs
 
--- the first n files were put, and any bytes may stand at the path of the next
-abbrev pub StopsWithin : List FileAt → Option Files → Option Files → Type 0
-StopsWithin fs old new = (n : ℕ) × (f : FileAt) × (slice_get fs n ≡ Some f) × MayChangeAt f.path (put_all old (take n fs)) new
+-- the first n files were put, and then this one was to be
+pub record StopsAt (files : List FileAt) (n : ℕ) (next : FileAt) (calls : List Event) : Type 0 where
+  pub is_next : slice_get files n ≡ Some next
+  pub wrote : files_to_write calls ≡ take n files ++ next ∷ []
 
--- the first n files were put
-abbrev pub StopsBetween : List FileAt → Option Files → Option Files → Type 0
-StopsBetween fs old new = (n : ℕ) × (new ≡ put_all old (take n fs))
+-- the path of the next file may hold any bytes
+abbrev pub StopsWithin : List FileAt → ℕ → FileAt → Files → Files → Type 0
+StopsWithin files n next old new =
+    (new ≡ put_all old (take n files)) ⊎ ((bytes : List ℕ) × (new ≡ insert (put_all old (take n files)) next.path bytes))
+
+-- all was put; or the device failed at one of the files; or memory was wanting for it
+abbrev pub Writes : Result (Unit {0}) WriteFault → List FileAt → List Event → Type 0
+Writes (Ok _) files calls = Did files [] calls × ((old new : Files) → Run calls old new → new ≡ put_all old files)
+Writes (Err Failed) files calls = (n : ℕ) × (next : FileAt) × StopsAt files n next calls × Did (take n files ++ next ∷ []) [] calls
+    × ((old new : Files) → Run calls old new → StopsWithin files n next old new)
+Writes (Err OutOfMemory) files calls = (n : ℕ) × (next : FileAt) × StopsAt files n next calls
+    × ((old new : Files) → Run calls old new → new ≡ put_all old (take n files))

@@ -1,10 +1,10 @@
 // The class files below a directory, as they stand in a tree.
-ghost use Rattle.std.specs.Prelude.{◌≡◌, ◌≤◌, ◌++◌, ◌-◌, IfOk, IfSome, IsErrOf, IsSome, length, map};
-ghost use Rattle.std.specs.FinMap.{get};
-ghost use Rattle.std.specs.List.{AllByRecursion, filter};
+ghost use Rattle.std.specs.Prelude.{◌≡◌, ◌≤◌, ◌++◌, ◌-◌, IfOk, IsErrOf, length, map};
+ghost use Rattle.std.specs.List.{filter};
 ghost use Rattle.tree_io.specs.Below.{IsAscending};
 ghost use Rattle.tree_io.specs.Count.{Rose};
-ghost use Rattle.class_files.specs.Input.{FindsDue, file_due, files_in, input_due, is_class_path, limited, path_in, paths_due, total};
+ghost use Rattle.tree_io.specs.Runs.{Made, Sees};
+ghost use Rattle.class_files.specs.Input.{FindsDue, IsThere, AreThere, file_due, files_in, input_due, is_class_path, limited, missed, path_in, paths_due, total};
 ghost use Rattle.class_files.specs.declared.input.InputFault.TheVariants as fault;
 
 use jv_base::{Items, M, OutOfMemory, Text};
@@ -62,6 +62,9 @@ impl From<OutOfMemory> for InputFault {
 
 /// The files below a directory whose paths end in `.class`, with their paths below it, in ascending order of the bytes
 /// of these. No file changes.
+///
+/// What is found is what is due of all files that the tree's calls fit. A class file that was listed and isn't there when
+/// it is read is named.
 pub fn read_files<T: Tree>(
     alloc: Global,
     directory: &Text,
@@ -72,7 +75,8 @@ pub fn read_files<T: Tree>(
     ensures device { IsErrOf result InputFault.Failed → Rose (T.faults tree.old) (T.faults tree.new) }
     ensures short { IfOk result (λ files. total files ≤ 67108864) }
     ensures ascending { IfOk result (λ files. IsAscending (map (λ f. f.path) files)) }
-    ensures told { IfSome (T.files tree.old) (λ fs. FindsDue result (input_due fs directory.now)) }
+    ensures seen { Made (T.log tree.old) (T.log tree.new) (T.files tree.old) (T.files tree.new)
+        (Sees (missed result) (λ fs. FindsDue result (input_due fs directory.now))) }
 {
     let paths = class_paths(alloc, directory, tree)?;
     read_each(alloc, directory, paths, tree)
@@ -88,7 +92,8 @@ fn class_paths<T: Tree>(
     ensures later { T.faults tree.old ≤ T.faults tree.new }
     ensures device { IsErrOf result InputFault.Failed → Rose (T.faults tree.old) (T.faults tree.new) }
     ensures ascending { IfOk result IsAscending }
-    ensures told { IfSome (T.files tree.old) (λ fs. FindsDue result (paths_due fs directory.now)) }
+    ensures seen { Made (T.log tree.old) (T.log tree.new) (T.files tree.old) (T.files tree.new)
+        (Sees (missed result) (λ fs. FindsDue result (paths_due fs directory.now))) }
 {
     let paths = match tree.list(alloc, directory, MAX_FILES) {
         Ok(paths) => those_of_classes(alloc, paths)?,
@@ -121,13 +126,13 @@ fn read_each<T: Tree>(
     paths: Items<Text>,
     tree: &mut T,
 ) -> Result<Items<FileAt>, InputFault>
-    requires there { IfSome (T.files tree.old) (λ fs. AllByRecursion (λ path. IsSome (get fs (path_in directory.now path))) paths) }
     ensures files { T.files tree.new ≡ T.files tree.old }
     ensures later { T.faults tree.old ≤ T.faults tree.new }
     ensures device { IsErrOf result InputFault.Failed → Rose (T.faults tree.old) (T.faults tree.new) }
     ensures short { IfOk result (λ files. total files ≤ 67108864) }
     ensures paths { IfOk result (λ files. map (λ f. f.path) files ≡ paths) }
-    ensures told { IfSome (T.files tree.old) (λ fs. FindsDue result (limited (files_in fs directory.now paths))) }
+    ensures seen { Made (T.log tree.old) (T.log tree.new) (T.files tree.old) (T.files tree.new)
+        (Sees (missed result) (λ fs. AreThere fs directory.now paths → FindsDue result (limited (files_in fs directory.now paths)))) }
 {
     let mut files = Items::new(alloc);
     let mut room = MAX_INPUT;
@@ -146,13 +151,13 @@ fn read_file<T: Tree>(
     max: u64,
     tree: &mut T,
 ) -> Result<FileAt, InputFault>
-    requires there { IfSome (T.files tree.old) (λ fs. IsSome (get fs (path_in directory.now path))) }
     ensures files { T.files tree.new ≡ T.files tree.old }
     ensures later { T.faults tree.old ≤ T.faults tree.new }
     ensures device { IsErrOf result InputFault.Failed → Rose (T.faults tree.old) (T.faults tree.new) }
     ensures short { IfOk result (λ file. length file.bytes ≤ max) }
     ensures path { IfOk result (λ file. file.path ≡ path) }
-    ensures told { IfSome (T.files tree.old) (λ fs. FindsDue result (file_due fs directory.now path max)) }
+    ensures seen { Made (T.log tree.old) (T.log tree.new) (T.files tree.old) (T.files tree.new)
+        (Sees (missed result) (λ fs. IsThere fs directory.now path → FindsDue result (file_due fs directory.now path max))) }
 {
     let full = path_in(alloc, directory, &path)?;
     match tree.read(alloc, &full, max) {

@@ -1,7 +1,8 @@
 // Files that are written one after the other.
-ghost use Rattle.std.specs.Prelude.{◌≡◌, ◌≤◌, OnOk, IsErrOf};
+ghost use Rattle.std.specs.Prelude.{◌≤◌, IsErrOf};
 ghost use Rattle.tree_io.specs.Count.{Rose};
-ghost use Rattle.class_files.specs.Output.{put_all, StopsBetween, StopsWithin};
+ghost use Rattle.tree_io.specs.Runs.{Made};
+ghost use Rattle.class_files.specs.Output.{Writes};
 
 use jv_base::Items;
 use std::alloc::Global;
@@ -19,10 +20,8 @@ pub fn write_files<T: Tree>(
     tree: &mut T,
 ) -> Result<(), WriteFault>
     ensures later { T.faults tree.old ≤ T.faults tree.new }
-    ensures ok { OnOk result (T.files tree.new ≡ put_all (T.files tree.old) files.now) }
     ensures failed { IsErrOf result WriteFault.Failed → Rose (T.faults tree.old) (T.faults tree.new) }
-    ensures within { IsErrOf result WriteFault.Failed → StopsWithin files.now (T.files tree.old) (T.files tree.new) }
-    ensures between { IsErrOf result WriteFault.OutOfMemory → StopsBetween files.now (T.files tree.old) (T.files tree.new) }
+    ensures written { Made (T.log tree.old) (T.log tree.new) (T.files tree.old) (T.files tree.new) (Writes result files.now) }
 {
     for file in files.as_slice() {
         tree.write(alloc, &file.path, file.bytes.as_slice())?;

@@ -199,15 +199,15 @@ fn are_short(frames: &[FrameAt]) -> bool
 
 fn write(alloc: Global, frames: &Items<FrameAt>, first: &Frame) -> Result<Items<u8>, Fail> {
     let starts = starts(alloc)?;
-    let constants = constants(alloc)?;
-    if constants.len() >= 65_535
+    let known = pool(alloc)?;
+    if constants_in(alloc, known.pool())?.len() >= 65_535
         || frames.len() >= 65_536
         || !are_offsets(starts.as_slice())
         || !are_short(frames.as_slice())
     {
         return Ok(Items::new(alloc));
     }
-    Ok(write_frames_with(alloc, frames, first, &starts, &constants)?)
+    Ok(write_frames(alloc, frames, first, &starts, known.pool())?)
 }
 
 fn push_frame(

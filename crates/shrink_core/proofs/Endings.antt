@@ -1,60 +1,79 @@
 -- What a run that ended has answered.
-use Rattle.std.proofs.Common.{◌≡◌, ℕ, List, Option, Some, None, Result, Err, refl, inl, inr}
-use Rattle.std.specs.Prelude.{IfSome, IsErrOf}
+use Rattle.std.proofs.Common.{◌≡◌, ◌<◌, ℕ, List, [], ◌++◌, length, Option, Some, None, Result, Err, refl, ap, ◌∙◌, inl, inr, arith}
+use Rattle.std.specs.Prelude.{IsErrOf}
+use Rattle.std.proofs.lemmas.List.{append-nil}
+use Rattle.std.proofs.lemmas.List.Elements.{filter-append}
 use Rattle.tree_io.specs.Count.{Rose}
+use Rattle.tree_io.specs.Event.{wants_memory, without_memory}
 use Rattle.tree_io.specs.Files.{Files}
+use Rattle.tree_io.specs.Runs.{Made, memory_faults}
+use Rattle.tree_io.specs.declared.event.Event.{Event}
+use Rattle.tree_io.proofs.Runs.{made_so}
 use Rattle.shrink_core.specs.declared.shrink.Plan.{Plan}
 use Rattle.shrink_core.specs.declared.words.CommandFiles.{CommandFiles}
 use Rattle.shrink_core.specs.declared.refusal.Refusal.{Refusal}
 use Rattle.shrink_core.specs.declared.refusal.Stop.{Stop}
 use Rattle.shrink_core.specs.declared.refusal.Stop.TheVariants.{Refused, Device, OutOfMemory}
-use Rattle.shrink_core.specs.Answer.{outside, done, stopped, summary_failed, summary_without_memory, Writes, StopsSo, Ended}
+use Rattle.shrink_core.specs.Answer.{Ended, Ending, LeavesSo, Outside, Output, StopsSo, Writes}
+use Rattle.shrink_core.specs.Answer.{done, outside, status_of, stopped, summary_failed, summary_without_memory}
 use Rattle.shrink_core.specs.Steps.{Says, SaysLine, SaysSummary}
+use Rattle.shrink_core.proofs.Found.{no_plan, nothing_done}
 
 -- a run that wrote its files
-pub finished : (plan : Plan) (named : CommandFiles) (status : ℕ) (told new : Option Files) (file_faults file_faults2 : ℕ) (text text2 : Option (List ℕ)) (faults faults2 : ℕ)
-    → IfSome told (λ files. Writes plan files named told new) → SaysSummary plan.summary status text text2 faults faults2
-    → (status ≡ 7 → Rose faults faults2)
-    → Ended (Some named) status (outside told file_faults text faults) (outside new file_faults2 text2 faults2)
-finished plan named status told new ff ff2 text text2 f f2 left (inl said) rose =
+pub finished : (plan : Plan) (named : CommandFiles) (status : ℕ) (x y : Option Files) (f f2 : ℕ) (a b : List Event) (old new : Output)
+    → Made a b x y (Writes plan named) → SaysSummary plan.summary status old new → (status ≡ 7 → Rose old.faults new.faults)
+    → Ended (Some named) status (outside x f a old) (outside y f2 b new)
+finished plan named status x y f f2 a b old new left (inl said) rose =
     (done plan, record { answered = said.0; blamed = tt; left = left; said = said.1 })
-finished plan named status told new ff ff2 text text2 f f2 left (inr (inl said)) rose =
+finished plan named status x y f f2 a b old new left (inr (inl said)) rose =
     (summary_failed plan, record { answered = said.0; blamed = rose said.0; left = left; said = said.1 })
-finished plan named status told new ff ff2 text text2 f f2 left (inr (inr said)) rose =
+finished plan named status x y f f2 a b old new left (inr (inr said)) rose =
     (summary_without_memory plan, record { answered = said.0; blamed = tt; left = left; said = said.1 })
 
 -- where there is no memory for the line of a refusal, the files are as they were all the same
-unchanged : (told new : Option Files) (refusal : Refusal) (named : CommandFiles)
-    → IfSome told (λ files. StopsSo (Refused refusal) files named told new)
-    → IfSome told (λ files. StopsSo OutOfMemory files named told new)
-unchanged None new refusal named left = tt
-unchanged (Some files) new refusal named left = inl left.1
-
-abbrev no_plan : Stop → Result Plan Stop
-no_plan stop = Err stop
+unsaid : (refusal : Refusal) (named : CommandFiles) (x y : Option Files) (a b : List Event)
+    → Made a b x y (StopsSo (Refused refusal) named) → Made a b x y (StopsSo OutOfMemory named)
+unsaid refusal named x y a b left = made_so (StopsSo (Refused refusal) named) (StopsSo OutOfMemory named) a b x y (λ calls p. inl p.unwritten) left
 
 -- a run that stopped before
-pub ended_before : (stop : Stop) (named : CommandFiles) (status : ℕ) (told new : Option Files) (file_faults file_faults2 : ℕ) (text text2 : Option (List ℕ)) (faults faults2 : ℕ)
-    → (IsErrOf (no_plan stop) Device → Rose file_faults file_faults2) → IfSome told (λ files. StopsSo stop files named told new)
-    → Says named.config stop status text text2 faults faults2
-    → Ended (Some named) status (outside told file_faults text faults) (outside new file_faults2 text2 faults2)
-ended_before (Refused refusal) named status told new ff ff2 text text2 f f2 rose left (inl said) =
+pub ended_before : (stop : Stop) (named : CommandFiles) (status : ℕ) (x y : Option Files) (f f2 : ℕ) (a b : List Event) (old new : Output)
+    → (IsErrOf (no_plan stop) Device → Rose f f2) → Made a b x y (StopsSo stop named) → Says named.config stop status old new
+    → Ended (Some named) status (outside x f a old) (outside y f2 b new)
+ended_before (Refused refusal) named status x y f f2 a b old new rose left (inl said) =
     (stopped (Refused refusal), record { answered = said.0; blamed = tt; left = left; said = said.1 })
-ended_before (Refused refusal) named status told new ff ff2 text text2 f f2 rose left (inr said) =
-    (stopped OutOfMemory, record { answered = said.0; blamed = tt; left = unchanged told new refusal named left; said = said.1 })
-ended_before Device named status told new ff ff2 text text2 f f2 rose left said =
+ended_before (Refused refusal) named status x y f f2 a b old new rose left (inr said) =
+    (stopped OutOfMemory, record { answered = said.0; blamed = tt; left = unsaid refusal named x y a b left; said = said.1 })
+ended_before Device named status x y f f2 a b old new rose left said =
     (stopped Device, record { answered = said.0; blamed = rose refl; left = left; said = said.1 })
-ended_before OutOfMemory named status told new ff ff2 text text2 f f2 rose left said =
+ended_before OutOfMemory named status x y f f2 a b old new rose left said =
     (stopped OutOfMemory, record { answered = said.0; blamed = tt; left = left; said = said.1 })
 
 -- a run without memory for its words
-pub without_memory : (named : Option CommandFiles) (status : ℕ) (told : Option Files) (file_faults file_faults2 : ℕ) (text text2 : Option (List ℕ)) (faults faults2 : ℕ) (some : CommandFiles)
-    → named ≡ Some some → SaysLine some.config OutOfMemory status text text2 faults faults2
-    → Ended named status (outside told file_faults text faults) (outside told file_faults2 text2 faults2)
-without_memory None status told ff ff2 text text2 f f2 some is said = absurd cc
-without_memory (Some named) status told ff ff2 text text2 f f2 some is said =
-    (stopped OutOfMemory, record { answered = said.0; blamed = tt; left = same told; said = said.1 })
-  where
-    same : (o : Option Files) → IfSome o (λ files. StopsSo OutOfMemory files named o o)
-    same None = tt
-    same (Some files) = inl refl
+pub ended_at_once : (named : Option CommandFiles) (status : ℕ) (x : Option Files) (f f2 : ℕ) (a : List Event) (old new : Output) (some : CommandFiles)
+    → named ≡ Some some → SaysLine some.config OutOfMemory status old new
+    → Ended named status (outside x f a old) (outside x f2 a new)
+ended_at_once None status x f f2 a old new some is said = absurd cc
+ended_at_once (Some named) status x f f2 a old new some is said =
+    (stopped OutOfMemory, record { answered = said.0; blamed = tt; left = nothing_done named a x; said = said.1 })
+
+-- ---- memory
+
+-- calls for which memory was never wanting don't raise the count
+same_count : (a b calls : List Event) → b ≡ a ++ calls → without_memory calls ≡ [] → memory_faults b ≡ memory_faults a
+same_count a b calls is none =
+    ap memory_faults is ∙ ap length (filter-append wants_memory a calls ∙ ap (λ (l : List Event). without_memory a ++ l) none ∙ append-nil (without_memory a))
+
+-- where the count rose, the answer says so
+lacked : (ending : Ending) (named : CommandFiles) (status : ℕ) (a b calls : List Event) → b ≡ a ++ calls → LeavesSo ending named calls
+    → status ≡ status_of ending → memory_faults a < memory_faults b → status ≡ 10
+lacked (done plan) named status a b calls is left answered rose = absurd omega (arith, rose, same_count a b calls is left.did.had_memory)
+lacked (summary_failed plan) named status a b calls is left answered rose = absurd omega (arith, rose, same_count a b calls is left.did.had_memory)
+lacked (summary_without_memory plan) named status a b calls is left answered rose = answered
+lacked (stopped (Refused refusal)) named status a b calls is left answered rose = absurd omega (arith, rose, same_count a b calls is left.did.had_memory)
+lacked (stopped Device) named status a b calls is left answered rose = absurd omega (arith, rose, same_count a b calls is left.0)
+lacked (stopped OutOfMemory) named status a b calls is left answered rose = answered
+
+pub answers_memory : (named : CommandFiles) (status : ℕ) (before after : Outside) → Ended (Some named) status before after
+    → memory_faults before.calls < memory_faults after.calls → status ≡ 10
+answers_memory named status before after ended rose =
+    lacked ended.0 named status before.calls after.calls ended.1.left.0 ended.1.left.1 ended.1.left.3 ended.1.answered rose

@@ -1,26 +1,44 @@
--- How a run ends: its status, what becomes of the files, what is said (the project's own: what the command promises).
-use Rattle.std.specs.Prelude.{◌≡◌, ◌⊎◌, ◌≤◌, ℕ, List, Option, Some, None, Ok, Err, IfSome, codes}
+-- How a run ends: its status, what the tree was asked and what becomes of the files, what is said (the project's own: the command's answers
+-- are no part of a standard).
+use Rattle.std.specs.Prelude.{◌≡◌, ◌⊎◌, ◌≤◌, ℕ, List, [], ◌∷◌, ◌++◌, take, Option, Some, None, Result, Ok, Err, codes}
 use Rattle.tree_io.specs.Count.{Rose}
+use Rattle.tree_io.specs.Event.{files_to_write, without_memory}
 use Rattle.tree_io.specs.Files.{Files}
-use Rattle.tree_io.specs.Sink.{followed_by, GainsFront}
-use Rattle.class_files.specs.Output.{put_all, StopsBetween, StopsWithin}
+use Rattle.tree_io.specs.Runs.{Did, Made, Run}
+use Rattle.tree_io.specs.Sink.{Takes}
+use Rattle.tree_io.specs.declared.event.Event.{Event}
+use Rattle.tree_io.specs.declared.event.Event.TheVariants.{Put}
+use Rattle.tree_io.specs.declared.faults.PutFault.{PutFault}
+use Rattle.tree_io.specs.declared.faults.PutFault.TheVariants as sink
+use Rattle.tree_io.specs.declared.file_at.FileAt.{FileAt}
+use Rattle.class_files.specs.Output.{put_all, StopsAt, StopsWithin}
 use Rattle.shrink_core.specs.Due.{IsDue}
 use Rattle.shrink_core.specs.Refusal as refusal
 use Rattle.shrink_core.specs.declared.shrink.Plan.{Plan}
 use Rattle.shrink_core.specs.declared.words.CommandFiles.{CommandFiles}
+use Rattle.shrink_core.specs.declared.refusal.Refusal.{Refusal}
+use Rattle.shrink_core.specs.declared.refusal.Refusal.TheVariants.{NoConfig, NotBuilt, NotEmpty, Gone, Format, Profile, Limit}
 use Rattle.shrink_core.specs.declared.refusal.Stop.{Stop}
 use Rattle.shrink_core.specs.declared.refusal.Stop.TheVariants.{Refused, Device, OutOfMemory}
 
--- what a run meets outside: told files and told text, and how often each device has failed
+-- what was put to a sink: told text, how often its device has failed, and every call with its answer
+pub record Output : Type 0 where
+  pub text : Option (List ℕ)
+  pub faults : ℕ
+  pub calls : List Event
+
+abbrev pub output : Option (List ℕ) → ℕ → List Event → Output
+output text faults calls = record { text = text; faults = faults; calls = calls }
+
+-- what a run meets outside: told files, how often the tree's device has failed, every call of the tree with its answer, and the sink
 pub record Outside : Type 0 where
   pub files : Option Files
   pub file_faults : ℕ
-  pub text : Option (List ℕ)
-  pub text_faults : ℕ
+  pub calls : List Event
+  pub out : Output
 
--- told files and told text, with how often each device has failed
-abbrev pub outside : Option Files → ℕ → Option (List ℕ) → ℕ → Outside
-outside files file_faults text text_faults = record { files = files; file_faults = file_faults; text = text; text_faults = text_faults }
+abbrev pub outside : Option Files → ℕ → List Event → Output → Outside
+outside files file_faults calls out = record { files = files; file_faults = file_faults; calls = calls; out = out }
 
 -- the plan was done; or the command stopped before; or its files were written, and the summary's device failed or memory was wanting for it
 pub data Ending : Type 0 where
@@ -29,7 +47,6 @@ pub data Ending : Type 0 where
   summary_failed : Plan → Ending
   summary_without_memory : Plan → Ending
 
--- the status of an ending
 abbrev pub status_of : Ending → ℕ
 status_of (done plan) = 0
 status_of (stopped stop) = refusal.status_of stop
@@ -44,65 +61,110 @@ Blames (stopped (Refused refusal)) before after = Unit {0}
 Blames (stopped Device) before after = Rose before.file_faults after.file_faults
 Blames (stopped OutOfMemory) before after = Unit {0}
 Blames (done plan) before after = Unit {0}
-Blames (summary_failed plan) before after = Rose before.text_faults after.text_faults
+Blames (summary_failed plan) before after = Rose before.out.faults after.out.faults
 Blames (summary_without_memory plan) before after = Unit {0}
 
 -- ---- files
 
--- the plan is the one that is due, and its files were written
-abbrev pub Writes : Plan → Files → CommandFiles → Option Files → Option Files → Type 0
-Writes plan files named old new = IsDue files named (Ok plan) × (new ≡ put_all old plan.files)
+-- the path at which a refusal says that there is no file; the config stands at this one
+abbrev pub absent_by : List ℕ → Refusal → List (List ℕ)
+absent_by config NoConfig = config ∷ []
+absent_by config (Gone path) = path ∷ []
+absent_by config NotBuilt = []
+absent_by config (NotEmpty directory) = []
+absent_by config (Format path fault) = []
+absent_by config (Profile fault) = []
+absent_by config (Limit quantity) = []
 
--- a refusal is the one that is due, and the files are as they were. Where a device failed or memory was wanting they are so too, or the
--- first files of the plan that is due were written; where a device failed, any bytes may stand at the path of the next one
-abbrev pub StopsSo : Stop → Files → CommandFiles → Option Files → Option Files → Type 0
-StopsSo (Refused refusal) files named old new = IsDue files named (Err refusal) × (new ≡ old)
-StopsSo Device files named old new = (new ≡ old) ⊎ ((plan : Plan) × IsDue files named (Ok plan) × StopsWithin plan.files old new)
-StopsSo OutOfMemory files named old new = (new ≡ old) ⊎ ((plan : Plan) × IsDue files named (Ok plan) × StopsBetween plan.files old new)
+-- the calls were to write no file, so files that they fit are as they were
+pub record Unwritten (calls : List Event) : Type 0 where
+  pub wrote : files_to_write calls ≡ []
+  pub same : (old new : Files) → Run calls old new → new ≡ old
 
--- what becomes of the files where a command ends so
-abbrev pub EndsSo : Ending → Files → CommandFiles → Option Files → Option Files → Type 0
-EndsSo (done plan) files named old new = Writes plan files named old new
-EndsSo (stopped stop) files named old new = StopsSo stop files named old new
-EndsSo (summary_failed plan) files named old new = Writes plan files named old new
-EndsSo (summary_without_memory plan) files named old new = Writes plan files named old new
+-- the calls were to write the files of a plan and nothing else, in their order, and found each file that they read; of any files that they
+-- fit the plan is the one that is due, and its files were put
+pub record Writes (plan : Plan) (named : CommandFiles) (calls : List Event) : Type 0 where
+  pub did : Did plan.files [] calls
+  pub due : (old new : Files) → Run calls old new → IsDue old named (Ok plan)
+  pub put : (old new : Files) → Run calls old new → new ≡ put_all old plan.files
+
+-- the calls wrote nothing, and found no file to read just where the refusal says so; of any files that they fit it is the one that is due
+pub record Refuses (refusal : Refusal) (named : CommandFiles) (calls : List Event) : Type 0 where
+  pub did : Did [] (absent_by named.config refusal) calls
+  pub due : (old new : Files) → Run calls old new → IsDue old named (Err refusal)
+  pub unwritten : Unwritten calls
+
+-- the calls were to write a front of the files of a plan, in their order, up to this one; of any files that they fit the plan is the one
+-- that is due, and so they were left
+pub record WritesUntil (named : CommandFiles) (calls : List Event) (Left : List FileAt → ℕ → FileAt → Files → Files → Type 0) : Type 0 where
+  pub plan : Plan
+  pub number : ℕ
+  pub next : FileAt
+  pub at : StopsAt plan.files number next calls
+  pub due : (old new : Files) → Run calls old new → IsDue old named (Ok plan)
+  pub left : (old new : Files) → Run calls old new → Left plan.files number next old new
+
+-- the files before the next one were put
+abbrev pub StopsBefore : List FileAt → ℕ → FileAt → Files → Files → Type 0
+StopsBefore files n next old new = new ≡ put_all old (take n files)
+
+-- a refusal; or the device failed, before the first file was written or at one of them; or memory was wanting, before it or at one of them
+abbrev pub StopsSo : Stop → CommandFiles → List Event → Type 0
+StopsSo (Refused refusal) named calls = Refuses refusal named calls
+StopsSo Device named calls = (without_memory calls ≡ []) × (Unwritten calls ⊎ WritesUntil named calls StopsWithin)
+StopsSo OutOfMemory named calls = Unwritten calls ⊎ WritesUntil named calls StopsBefore
+
+abbrev pub LeavesSo : Ending → CommandFiles → List Event → Type 0
+LeavesSo (done plan) named calls = Writes plan named calls
+LeavesSo (stopped stop) named calls = StopsSo stop named calls
+LeavesSo (summary_failed plan) named calls = Writes plan named calls
+LeavesSo (summary_without_memory plan) named calls = Writes plan named calls
 
 -- ---- text
 
--- the text was appended; or a front of it, where the sink's count rose; or nothing, where memory was wanting
-abbrev pub Puts : List ℕ → Option (List ℕ) → Option (List ℕ) → ℕ → ℕ → Type 0
-Puts text old new before after = (new ≡ followed_by old text) ⊎ ((Rose before after × GainsFront text old new) ⊎ (new ≡ old))
+-- a text was handed to the sink, which gave this answer
+abbrev pub Hands : List ℕ → Result (Unit {0}) PutFault → Output → Output → Type 0
+Hands text answer old new = (new.calls ≡ old.calls ++ Put text answer ∷ []) × Takes answer text old.text new.text old.faults new.faults
 
--- a front of the summary was appended where its device failed, and then the line of a failed device
-pub record FailsSo (summary : List ℕ) (old new : Option (List ℕ)) (before after : ℕ) : Type 0 where
-  pub text : Option (List ℕ)
-  pub faults : ℕ
-  pub rose : Rose before faults
-  pub front : GainsFront summary old text
-  pub line : Puts (codes "error 7 device\n") text new faults after
-  pub later : faults ≤ after
+-- the text was handed to the sink, once: it took all; or a front, where its count of faults rose; or nothing, where memory was wanting
+abbrev pub Puts : List ℕ → Output → Output → Type 0
+Puts text old new = (answer : Result (Unit {0}) PutFault) × Hands text answer old new
 
--- what is said where a command ends so
-abbrev pub SaidSo : Ending → List ℕ → Option (List ℕ) → Option (List ℕ) → ℕ → ℕ → Type 0
-SaidSo (done plan) config old new before after = new ≡ followed_by old plan.summary
-SaidSo (stopped stop) config old new before after = Puts (refusal.line_of config stop) old new before after
-SaidSo (summary_failed plan) config old new before after = FailsSo plan.summary old new before after
-SaidSo (summary_without_memory plan) config old new before after = Puts (refusal.line_of config OutOfMemory) old new before after
+-- the summary was handed to the sink, whose device failed at it, and then the line of a failed device
+pub record FailsSo (summary : List ℕ) (old new : Output) : Type 0 where
+  pub mid : Output
+  pub handed : Hands summary (Err sink.Failed) old mid
+  pub line : Puts (codes "error 7 device\n") mid new
+  pub later : mid.faults ≤ new.faults
+
+-- the summary was handed to the sink, which wanted memory for it, and then the line of want of memory
+pub record LacksSo (summary : List ℕ) (old new : Output) : Type 0 where
+  pub mid : Output
+  pub handed : Hands summary (Err sink.OutOfMemory) old mid
+  pub line : Puts (codes "error 10 memory\n") mid new
+
+abbrev pub SaidSo : Ending → List ℕ → Output → Output → Type 0
+SaidSo (done plan) config old new = Hands plan.summary (Ok tt) old new
+SaidSo (stopped stop) config old new = Puts (refusal.line_of config stop) old new
+SaidSo (summary_failed plan) config old new = FailsSo plan.summary old new
+SaidSo (summary_without_memory plan) config old new = LacksSo plan.summary old new
 
 -- ---- the whole
 
--- a command on these files has this ending: its status, the device that is blamed, what became of the files, what was said
+-- a command has this ending: its status, the device that is blamed, what the tree was asked and what became of files that fit its answers,
+-- what was said
 pub record Ends (ending : Ending) (named : CommandFiles) (status : ℕ) (before after : Outside) : Type 0 where
   pub answered : status ≡ status_of ending
   pub blamed : Blames ending before after
-  pub left : IfSome before.files (λ files. EndsSo ending files named before.files after.files)
-  pub said : SaidSo ending named.config before.text after.text before.text_faults after.text_faults
+  pub left : Made before.calls after.calls before.files after.files (LeavesSo ending named)
+  pub said : SaidSo ending named.config before.out after.out
 
--- words that aren't those of a command are refused as such, and no file changes
+-- words that aren't those of a command are refused as such, and the tree isn't asked
 pub record Misused (status : ℕ) (before after : Outside) : Type 0 where
   pub answered : status ≡ 1
+  pub asked : after.calls ≡ before.calls
   pub left : after.files ≡ before.files
-  pub said : Puts (codes "error 1 words\n") before.text after.text before.text_faults after.text_faults
+  pub said : Puts (codes "error 1 words\n") before.out after.out
 
 -- what a run has done that was given words which name these files, or other words
 abbrev pub Ended : Option CommandFiles → ℕ → Outside → Outside → Type 0

@@ -18,9 +18,9 @@ line option value rest = option ++ (value ++ 10 ∷ rest)
 abbrev pub Lacks : ℕ → List ℕ → Type 0
 Lacks byte text = AllByRecursion (λ b. b ≢ byte) text
 
--- neither a space nor a tab
+-- neither a space nor a tab, a form feed or a carriage return, at which the manual's reader of configs would end a word
 abbrev pub is_no_blank : ℕ → Bool
-is_no_blank b = not (b == 32) && not (b == 9)
+is_no_blank b = ((not (b == 32) && not (b == 9)) && not (b == 12)) && not (b == 13)
 
 -- a word in a line: it has no blank and no end of a line (the project's own: names of files have no blanks so far)
 abbrev pub IsWord : List ℕ → Type 0

@@ -1,7 +1,6 @@
 -- What the steps of a command have found or said (only the proof of run needs it).
-use Rattle.std.specs.Prelude.{◌≡◌, ◌⊎◌, ℕ, List, Option, [], Result, Ok, Err}
-use Rattle.tree_io.specs.Files.{Files}
-use Rattle.tree_io.specs.Sink.{followed_by}
+use Rattle.std.specs.Prelude.{◌≡◌, ◌⊎◌, ℕ, List, Option, Some, None, [], Result, Ok, Err}
+use Rattle.tree_io.specs.declared.event.Event.{Event}
 use Rattle.tree_io.specs.declared.file_at.FileAt.{FileAt}
 use Rattle.class_files.specs.Input.{path_in}
 use Rattle.class_files.specs.declared.input.InputFault.{InputFault}
@@ -9,7 +8,7 @@ use Rattle.class_files.specs.declared.input.InputFault.TheVariants as input
 use Rattle.class_model.specs.declared.class.Class.{Class}
 use Rattle.set_read.specs.Accepted.{IsAccepted, IsFault}
 use Rattle.set_read.specs.declared.fault.SetFault.TheVariants as set
-use Rattle.shrink_core.specs.Answer.{Puts, FailsSo, Writes, StopsSo}
+use Rattle.shrink_core.specs.Answer.{FailsSo, Hands, LacksSo, Output, Puts, StopsSo, Writes, absent_by}
 use Rattle.shrink_core.specs.Config.{IsConfig}
 use Rattle.shrink_core.specs.Refusal.{status_of, line_of}
 use Rattle.shrink_core.specs.declared.config.Config.{Config}
@@ -21,12 +20,26 @@ use Rattle.shrink_core.specs.declared.refusal.Stop.TheVariants.{Refused, Device,
 use Rattle.shrink_core.specs.declared.shrink.Plan.{Plan}
 use Rattle.shrink_core.specs.declared.words.CommandFiles.{CommandFiles}
 
+-- a refusal is so; where the device failed or memory was wanting nothing is said
+abbrev pub StopsAs : Stop → (Refusal → Type 0) → Type 0
+StopsAs (Refused refusal) IsRefused = IsRefused refusal
+StopsAs Device IsRefused = Unit {0}
+StopsAs OutOfMemory IsRefused = Unit {0}
+
 -- what was found is so, or a refusal is, unless the device failed or memory was wanting
 abbrev pub Finds : {A : Type 0} → Result A Stop → (A → Type 0) → (Refusal → Type 0) → Type 0
 Finds (Ok x) Is IsRefused = Is x
-Finds (Err (Refused refusal)) Is IsRefused = IsRefused refusal
-Finds (Err Device) Is IsRefused = Unit {0}
-Finds (Err OutOfMemory) Is IsRefused = Unit {0}
+Finds (Err stop) Is IsRefused = StopsAs stop IsRefused
+
+-- the paths at which no file was found to read, where the config stands at this path; where memory was wanting they aren't told
+abbrev pub missed_by : List ℕ → Stop → Option (List (List ℕ))
+missed_by config (Refused refusal) = Some (absent_by config refusal)
+missed_by config Device = Some []
+missed_by config OutOfMemory = None
+
+abbrev pub missed : {A : Type 0} → List ℕ → Result A Stop → Option (List (List ℕ))
+missed config (Ok x) = Some []
+missed config (Err stop) = missed_by config stop
 
 -- ---- the steps
 
@@ -58,25 +71,24 @@ ReadsSet (Err Device) directory inputs = ⊥
 ReadsSet (Err OutOfMemory) directory inputs = Unit {0}
 
 -- the plan was done, or the command stopped before
-abbrev pub Shrinks : Result Plan Stop → Files → CommandFiles → Option Files → Option Files → Type 0
-Shrinks (Ok plan) files named old new = Writes plan files named old new
-Shrinks (Err stop) files named old new = StopsSo stop files named old new
+abbrev pub Shrinks : Result Plan Stop → CommandFiles → List Event → Type 0
+Shrinks (Ok plan) named calls = Writes plan named calls
+Shrinks (Err stop) named calls = StopsSo stop named calls
 
 -- ---- what was said
 
 -- the line of a stop was said, with its status; the config stands at this path
-abbrev pub SaysLine : List ℕ → Stop → ℕ → Option (List ℕ) → Option (List ℕ) → ℕ → ℕ → Type 0
-SaysLine config stop status old new before after = (status ≡ status_of stop) × Puts (line_of config stop) old new before after
+abbrev pub SaysLine : List ℕ → Stop → ℕ → Output → Output → Type 0
+SaysLine config stop status old new = (status ≡ status_of stop) × Puts (line_of config stop) old new
 
 -- memory may be wanting for the line of a refusal
-abbrev pub Says : List ℕ → Stop → ℕ → Option (List ℕ) → Option (List ℕ) → ℕ → ℕ → Type 0
-Says config (Refused refusal) status old new before after =
-    SaysLine config (Refused refusal) status old new before after ⊎ SaysLine config OutOfMemory status old new before after
-Says config Device status old new before after = SaysLine config Device status old new before after
-Says config OutOfMemory status old new before after = SaysLine config OutOfMemory status old new before after
+abbrev pub Says : List ℕ → Stop → ℕ → Output → Output → Type 0
+Says config (Refused refusal) status old new = SaysLine config (Refused refusal) status old new ⊎ SaysLine config OutOfMemory status old new
+Says config Device status old new = SaysLine config Device status old new
+Says config OutOfMemory status old new = SaysLine config OutOfMemory status old new
 
 -- the summary was said whole; or its device failed; or memory was wanting
-abbrev pub SaysSummary : List ℕ → ℕ → Option (List ℕ) → Option (List ℕ) → ℕ → ℕ → Type 0
-SaysSummary summary status old new before after =
-    ((status ≡ 0) × (new ≡ followed_by old summary))
-    ⊎ (((status ≡ 7) × FailsSo summary old new before after) ⊎ SaysLine [] OutOfMemory status old new before after)
+abbrev pub SaysSummary : List ℕ → ℕ → Output → Output → Type 0
+SaysSummary summary status old new =
+    ((status ≡ 0) × Hands summary (Ok tt) old new)
+    ⊎ (((status ≡ 7) × FailsSo summary old new) ⊎ ((status ≡ 10) × LacksSo summary old new))

@@ -1,8 +1,9 @@
 // The command line: words in, a status out.
-ghost use Rattle.std.specs.Prelude.{◌≡◌, ◌≢◌, ◌⊎◌, ◌≤◌, ◌↔◌, [], None, Some};
+ghost use Rattle.std.specs.Prelude.{◌≡◌, ◌≢◌, ◌⊎◌, ◌≤◌, ◌<◌, ◌↔◌, [], None, Some};
 ghost use Rattle.tree_io.specs.Count.{Rose};
+ghost use Rattle.tree_io.specs.Runs.{memory_faults};
 ghost use Rattle.shrink_core.specs.Words.{files_in};
-ghost use Rattle.shrink_core.specs.Answer.{Ended, Puts, outside};
+ghost use Rattle.shrink_core.specs.Answer.{Ended, Puts, outside, output};
 ghost use Rattle.shrink_core.specs.Steps.{Says, SaysLine, SaysSummary};
 ghost use Rattle.shrink_core.specs.declared.refusal.Stop.TheVariants.{Device as failed_device, OutOfMemory as no_memory, Refused};
 
@@ -17,7 +18,8 @@ use tree_io::{Gate, PutFault, Sink, Tree};
 // Puts the line of a status, which stays where the line can't be put.
 fn end<S: Sink>(status: u8, line: &[u8], out: &mut S) -> u8
     ensures status { result ≡ status }
-    ensures text { Puts line.now (S.written out.old) (S.written out.new) (S.faults out.old) (S.faults out.new) }
+    ensures text { Puts line.now
+        (output (S.written out.old) (S.faults out.old) (S.log out.old)) (output (S.written out.new) (S.faults out.new) (S.log out.new)) }
     ensures later { S.faults out.old ≤ S.faults out.new }
 {
     let _ = out.put(line);
@@ -26,7 +28,8 @@ fn end<S: Sink>(status: u8, line: &[u8], out: &mut S) -> u8
 
 // Says that a device failed.
 fn say_device<S: Sink>(out: &mut S) -> u8
-    ensures line { SaysLine [] failed_device result (S.written out.old) (S.written out.new) (S.faults out.old) (S.faults out.new) }
+    ensures line { SaysLine [] failed_device result
+        (output (S.written out.old) (S.faults out.old) (S.log out.old)) (output (S.written out.new) (S.faults out.new) (S.log out.new)) }
     ensures later { S.faults out.old ≤ S.faults out.new }
 {
     end(7, b"error 7 device\n", out)
@@ -34,14 +37,16 @@ fn say_device<S: Sink>(out: &mut S) -> u8
 
 // Says that memory is wanting.
 fn say_no_memory<S: Sink>(out: &mut S) -> u8
-    ensures { SaysLine [] no_memory result (S.written out.old) (S.written out.new) (S.faults out.old) (S.faults out.new) }
+    ensures { SaysLine [] no_memory result
+        (output (S.written out.old) (S.faults out.old) (S.log out.old)) (output (S.written out.new) (S.faults out.new) (S.log out.new)) }
 {
     end(10, b"error 10 memory\n", out)
 }
 
 // Says why a command is refused, whose config is at a path, and answers the status.
 fn say_refusal<S: Sink>(alloc: Global, config: &Text, refusal: &Refusal, out: &mut S) -> u8
-    ensures { Says config.now (Refused refusal.now) result (S.written out.old) (S.written out.new) (S.faults out.old) (S.faults out.new) }
+    ensures { Says config.now (Refused refusal.now) result
+        (output (S.written out.old) (S.faults out.old) (S.log out.old)) (output (S.written out.new) (S.faults out.new) (S.log out.new)) }
 {
     match refusal_line(alloc, config, refusal) {
         Ok(line) => end(refusal_status(refusal), line.as_bytes(), out),
@@ -51,7 +56,8 @@ fn say_refusal<S: Sink>(alloc: Global, config: &Text, refusal: &Refusal, out: &m
 
 // Says why a command ends without its result, and answers the status.
 fn say<S: Sink>(alloc: Global, config: &Text, stop: &Stop, out: &mut S) -> u8
-    ensures { Says config.now stop.now result (S.written out.old) (S.written out.new) (S.faults out.old) (S.faults out.new) }
+    ensures { Says config.now stop.now result
+        (output (S.written out.old) (S.faults out.old) (S.log out.old)) (output (S.written out.new) (S.faults out.new) (S.log out.new)) }
 {
     match stop {
         Stop::Refused(refusal) => say_refusal(alloc, config, refusal, out),
@@ -63,7 +69,8 @@ fn say<S: Sink>(alloc: Global, config: &Text, stop: &Stop, out: &mut S) -> u8
 // Says the summary, and answers the status.
 fn finish<S: Sink>(summary: &Text, out: &mut S) -> u8
     ensures device { result ≡ 7 → Rose (S.faults out.old) (S.faults out.new) }
-    ensures said { SaysSummary summary.now result (S.written out.old) (S.written out.new) (S.faults out.old) (S.faults out.new) }
+    ensures said { SaysSummary summary.now result
+        (output (S.written out.old) (S.faults out.old) (S.log out.old)) (output (S.written out.new) (S.faults out.new) (S.log out.new)) }
 {
     match out.put(summary.as_bytes()) {
         Ok(()) => 0,
@@ -75,10 +82,11 @@ fn finish<S: Sink>(summary: &Text, out: &mut S) -> u8
 // Runs the command on the files that its words name.
 fn run_on<T: Tree, S: Sink>(alloc: Global, named: &CommandFiles, tree: &mut T, out: &mut S) -> u8
     ensures words { result ≢ 1 }
+    ensures memory { memory_faults (T.log tree.old) < memory_faults (T.log tree.new) → result ≡ 10 }
     ensures device { result ≡ 7 → Rose (T.faults tree.old) (T.faults tree.new) ⊎ Rose (S.faults out.old) (S.faults out.new) }
     ensures ended { Ended (Some named.now) result
-        (outside (T.files tree.old) (T.faults tree.old) (S.written out.old) (S.faults out.old))
-        (outside (T.files tree.new) (T.faults tree.new) (S.written out.new) (S.faults out.new)) }
+        (outside (T.files tree.old) (T.faults tree.old) (T.log tree.old) (output (S.written out.old) (S.faults out.old) (S.log out.old)))
+        (outside (T.files tree.new) (T.faults tree.new) (T.log tree.new) (output (S.written out.new) (S.faults out.new) (S.log out.new))) }
 {
     match shrink(alloc, named, tree) {
         Ok(plan) => finish(&plan.summary, out),
@@ -145,10 +153,14 @@ pub fn run<Rt: Threads + Sync, T: Tree, S: Sink, G: Gate>(
     // A device is blamed only where its count rose.
     ensures device { result ≡ 7 → Rose (T.faults tree.old) (T.faults tree.new) ⊎ Rose (S.faults out.old) (S.faults out.new) }
 
-    // The run has an ending, which tells its status, which device is blamed, what became of the told files and what was said.
+    // Where memory was wanting for a call of the tree, the status says so.
+    ensures memory { memory_faults (T.log tree.old) < memory_faults (T.log tree.new) → result ≡ 10 }
+
+    // The run has an ending, which tells its status, which device is blamed, what the tree was asked, what became of all files
+    // that its answers fit, told ones among them, and what was said.
     ensures ended { Ended (files_in words.now) result
-        (outside (T.files tree.old) (T.faults tree.old) (S.written out.old) (S.faults out.old))
-        (outside (T.files tree.new) (T.faults tree.new) (S.written out.new) (S.faults out.new)) }
+        (outside (T.files tree.old) (T.faults tree.old) (T.log tree.old) (output (S.written out.old) (S.faults out.old) (S.log out.old)))
+        (outside (T.files tree.new) (T.faults tree.new) (T.log tree.new) (output (S.written out.new) (S.faults out.new) (S.log out.new))) }
 {
     match read_words(alloc, words) {
         Ok(Some(named)) => run_on(alloc, &named, tree, out),

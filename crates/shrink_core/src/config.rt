@@ -93,7 +93,9 @@ fn lines_of(text: &str) -> Option<Lines<'_>>
 fn has_no_blank(word: &str) -> bool
     ensures { result ≡ list_all is_no_blank word.now }
 {
-    word.as_bytes().iter().all(|b| *b != b' ' && *b != b'\t')
+    word.as_bytes()
+        .iter()
+        .all(|b| *b != b' ' && *b != b'\t' && *b != 12 && *b != b'\r')
 }
 
 // The directory that a value names.

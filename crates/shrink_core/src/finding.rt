@@ -1,13 +1,14 @@
 // What a command finds in a tree of files.
-ghost use Rattle.std.specs.Prelude.{◌≡◌, ◌≤◌, IfOk, IfSome, IsErrOf, map};
+ghost use Rattle.std.specs.Prelude.{◌≡◌, ◌≤◌, ℕ, List, IfOk, IsErrOf, map};
 ghost use Rattle.std.specs.List.{AllByRecursion};
 ghost use Rattle.tree_io.specs.Below.{IsAscending};
 ghost use Rattle.tree_io.specs.Count.{Rose};
+ghost use Rattle.tree_io.specs.Runs.{Made, Sees};
 ghost use Rattle.class_files.specs.Input.{path_in, total};
 ghost use Rattle.class_write.specs.SpellingLaws.{IsWritable};
 ghost use Rattle.shrink_core.specs.Config.{IsConfig};
 ghost use Rattle.shrink_core.specs.Due.{HasBytes, HasConfig, HasSet, IsEmpty, RefusesConfig, RefusesInput, RefusesOutput};
-ghost use Rattle.shrink_core.specs.Steps.{ConfigOf, Finds, ReadsSet, input_stop};
+ghost use Rattle.shrink_core.specs.Steps.{ConfigOf, Finds, ReadsSet, input_stop, missed};
 
 use crate::config::{Config, read_config};
 use crate::quantity::Quantity;
@@ -29,7 +30,8 @@ pub fn find_config<T: Tree>(alloc: Global, path: &Text, tree: &mut T) -> Result<
     ensures files { T.files tree.new ≡ T.files tree.old }
     ensures later { T.faults tree.old ≤ T.faults tree.new }
     ensures device { IsErrOf result Stop.Device → Rose (T.faults tree.old) (T.faults tree.new) }
-    ensures told { IfSome (T.files tree.old) (λ fs. Finds result (HasConfig fs path.now) (RefusesConfig fs path.now)) }
+    ensures seen { Made (T.log tree.old) (T.log tree.new) (T.files tree.old) (T.files tree.new)
+        (Sees (missed path.now result) (λ fs. Finds result (HasConfig fs path.now) (RefusesConfig fs path.now))) }
 {
     let bytes = config_bytes(alloc, path, tree)?;
     config_in(alloc, bytes.as_slice())
@@ -40,7 +42,8 @@ fn config_bytes<T: Tree>(alloc: Global, path: &Text, tree: &mut T) -> Result<Byt
     ensures files { T.files tree.new ≡ T.files tree.old }
     ensures later { T.faults tree.old ≤ T.faults tree.new }
     ensures device { IsErrOf result Stop.Device → Rose (T.faults tree.old) (T.faults tree.new) }
-    ensures told { IfSome (T.files tree.old) (λ fs. Finds result (HasBytes fs path.now) (RefusesConfig fs path.now)) }
+    ensures seen { Made (T.log tree.old) (T.log tree.new) (T.files tree.old) (T.files tree.new)
+        (Sees (missed path.now result) (λ fs. Finds result (HasBytes fs path.now) (RefusesConfig fs path.now))) }
 {
     match tree.read(alloc, path, MAX_CONFIG) {
         Ok(bytes) => Ok(bytes),
@@ -68,7 +71,8 @@ pub fn check_empty<T: Tree>(alloc: Global, directory: &Text, tree: &mut T) -> Re
     ensures files { T.files tree.new ≡ T.files tree.old }
     ensures later { T.faults tree.old ≤ T.faults tree.new }
     ensures device { IsErrOf result Stop.Device → Rose (T.faults tree.old) (T.faults tree.new) }
-    ensures told { IfSome (T.files tree.old) (λ fs. Finds result (λ _. IsEmpty fs directory.now) (RefusesOutput fs directory.now)) }
+    ensures seen { (config : List ℕ) → Made (T.log tree.old) (T.log tree.new) (T.files tree.old) (T.files tree.new)
+        (Sees (missed config result) (λ fs. Finds result (λ _. IsEmpty fs directory.now) (RefusesOutput fs directory.now))) }
 {
     match tree.list(alloc, directory, 0) {
         Ok(_) => Ok(()),
@@ -86,7 +90,8 @@ pub fn find_set<T: Tree>(alloc: Global, directory: &Text, tree: &mut T) -> Resul
     ensures later { T.faults tree.old ≤ T.faults tree.new }
     ensures device { IsErrOf result Stop.Device → Rose (T.faults tree.old) (T.faults tree.new) }
     ensures writable { IfOk result (AllByRecursion IsWritable) }
-    ensures told { IfSome (T.files tree.old) (λ fs. Finds result (HasSet fs directory.now) (RefusesInput fs directory.now)) }
+    ensures seen { (config : List ℕ) → Made (T.log tree.old) (T.log tree.new) (T.files tree.old) (T.files tree.new)
+        (Sees (missed config result) (λ fs. Finds result (HasSet fs directory.now) (RefusesInput fs directory.now))) }
 {
     match read_files(alloc, directory, tree) {
         Ok(files) => set_of(alloc, directory, files),

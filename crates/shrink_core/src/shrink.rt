@@ -1,10 +1,11 @@
 // The command `shrink` without what it says.
-ghost use Rattle.std.specs.Prelude.{◌≡◌, ◌≤◌, IfOk, IfSome, IsErrOf};
+ghost use Rattle.std.specs.Prelude.{◌≡◌, ◌≤◌, IsErrOf};
 ghost use Rattle.std.specs.List.{AllByRecursion};
 ghost use Rattle.tree_io.specs.Count.{Rose};
+ghost use Rattle.tree_io.specs.Runs.{Made, Sees};
 ghost use Rattle.class_write.specs.SpellingLaws.{IsWritable};
 ghost use Rattle.shrink_core.specs.Due.{IsPlan, IsRefused, IsResult, RefusesPlan};
-ghost use Rattle.shrink_core.specs.Steps.{Finds, Shrinks};
+ghost use Rattle.shrink_core.specs.Steps.{Finds, Shrinks, missed};
 
 use crate::asked::asked_methods;
 use crate::config::Config;
@@ -32,7 +33,7 @@ pub struct Plan {
 pub fn shrink<T: Tree>(alloc: Global, named: &CommandFiles, tree: &mut T) -> Result<Plan, Stop>
     ensures later { T.faults tree.old ≤ T.faults tree.new }
     ensures device { IsErrOf result Stop.Device → Rose (T.faults tree.old) (T.faults tree.new) }
-    ensures told { IfSome (T.files tree.old) (λ fs. Shrinks result fs named.now (T.files tree.old) (T.files tree.new)) }
+    ensures ended { Made (T.log tree.old) (T.log tree.new) (T.files tree.old) (T.files tree.new) (Shrinks result named.now) }
 {
     let plan = due_plan(alloc, named, tree)?;
     match write_files(alloc, &plan.files, tree) {
@@ -47,7 +48,8 @@ fn due_plan<T: Tree>(alloc: Global, named: &CommandFiles, tree: &mut T) -> Resul
     ensures files { T.files tree.new ≡ T.files tree.old }
     ensures later { T.faults tree.old ≤ T.faults tree.new }
     ensures device { IsErrOf result Stop.Device → Rose (T.faults tree.old) (T.faults tree.new) }
-    ensures told { IfSome (T.files tree.old) (λ fs. Finds result (IsResult fs named.now) (IsRefused fs named.now)) }
+    ensures seen { Made (T.log tree.old) (T.log tree.new) (T.files tree.old) (T.files tree.new)
+        (Sees (missed named.now.config result) (λ fs. Finds result (IsResult fs named.now) (IsRefused fs named.now))) }
 {
     let config = find_config(alloc, &named.config, tree)?;
     check_empty(alloc, &config.output, tree)?;

@@ -1,3 +1,6 @@
 pub mod Below
 pub mod Known
+pub mod MemoryRuns
+pub mod Runs
 pub mod Told
+pub mod Walks

@@ -1,7 +1,10 @@
 pub mod Below
 pub mod Calls
 pub mod Count
+pub mod Event
 pub mod Files
 pub mod Memory
+pub mod Runs
 pub mod Sink
+pub mod System
 pub mod Tree

@@ -4,11 +4,13 @@
 #![tactic(auto)]
 
 mod calls;
+mod event;
 mod faults;
 mod file_at;
 mod file_tree;
 mod gate;
 mod listing;
+mod log;
 mod memory_sink;
 mod memory_tree;
 mod pieces;
@@ -16,10 +18,12 @@ mod sink;
 mod stream_sink;
 mod tree;
 
+pub use event::{Event, Note};
 pub use faults::{ListFault, PutFault, ReadFault, WriteFault};
 pub use file_at::FileAt;
 pub use file_tree::FileTree;
 pub use gate::{Gate, OpenGate, Turn};
+pub use log::Log;
 pub use memory_sink::MemorySink;
 pub use memory_tree::MemoryTree;
 pub use sink::Sink;

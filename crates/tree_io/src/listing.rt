@@ -16,9 +16,8 @@ const MAX_ENTRIES: u32 = 1_048_576;
 /// The paths of the files below a folder, each from there on, in ascending order. A folder that is
 /// missing has none.
 ///
-/// No symbolic link is followed, also where the folder's own path ends in one: the system refuses to
-/// open it, as it refuses a file in place of a folder. Below the folder links, and what else is
-/// neither a file nor a folder, are left out.
+/// The folder's own path may end in a symbolic link to a folder. Below it none is followed: each entry
+/// that is no folder counts as a file, also a link, a pipe or a socket.
 ///
 /// The device fails at an error of the system, at a name that isn't UTF-8, and where the folders
 /// have more than 1,048,576 entries.
@@ -63,7 +62,7 @@ fn read_folder(
     folder: &str,
     found: &mut Found,
 ) -> Result<(), Or<DeviceFailed>> {
-    let path = joined(alloc, root, folder)?;
+    let path = path_of(alloc, root, folder)?;
     let mut names = match rt.open_dir(path.as_str()) {
         Ok(names) => names,
         Err(error) if error.kind() == ErrorKind::NotFound => return Ok(()),
@@ -101,7 +100,7 @@ fn add_entries(
     Ok(())
 }
 
-// Adds an entry, if it is a file or a folder.
+// Adds an entry, as a folder or as a file.
 fn add_entry(
     rt: &impl Files,
     alloc: Global,
@@ -113,26 +112,33 @@ fn add_entry(
         return Err(Or::Fault(DeviceFailed));
     }
     found.entries += 1;
-    let path = joined(alloc, root, entry.as_str())?;
+    let path = path_of(alloc, root, entry.as_str())?;
     let Ok(metadata) = rt.symlink_metadata(path.as_str()) else {
         return Err(Or::Fault(DeviceFailed));
     };
     if metadata.is_dir() {
         found.folders.push(entry)?;
-    } else if metadata.is_file() {
+    } else {
         found.files.push(entry)?;
     }
     Ok(())
 }
 
-// A path below a folder; either one may be empty.
-fn joined(alloc: Global, folder: &str, path: &str) -> Result<Text, AllocError> {
-    let mut joined = String::from_str(alloc, folder)?;
-    if !folder.is_empty() && !path.is_empty() {
-        joined.push_str("/")?;
+// The path of what stands below the listed folder. That of the folder itself ends in `/`, so that the
+// system follows a link there; no folder below it is opened through a link.
+fn path_of(alloc: Global, root: &str, below: &str) -> Result<String, AllocError> {
+    if root.is_empty() {
+        return String::from_str(alloc, below);
     }
-    joined.push_str(path)?;
-    Text::from_string(alloc, joined)
+    format!(in alloc; "{root}/{below}")
+}
+
+// A path below a folder; the folder may be the listed one, whose path is empty.
+fn joined(alloc: Global, folder: &str, name: &str) -> Result<Text, AllocError> {
+    if folder.is_empty() {
+        return Text::from_str(alloc, name);
+    }
+    Text::from_string(alloc, format!(in alloc; "{folder}/{name}")?)
 }
 
 // The paths in ascending order, each once.

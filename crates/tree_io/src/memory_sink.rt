@@ -1,9 +1,12 @@
 // Text in memory.
-ghost use Rattle.std.specs.Prelude.{◌≡◌, ◌↔◌, ◌++◌, Some, IsTrue, if◌then◌else◌, is_ok, IfOk, IsErrOf};
+ghost use Rattle.std.specs.Prelude.{◌≡◌, ◌↔◌, [], ◌∷◌, ◌++◌, Some, IsTrue, if◌then◌else◌, is_ok, IfOk, IsErrOf};
 ghost use Rattle.tree_io.specs.Calls.{called, fails_next};
 ghost use Rattle.tree_io.specs.Memory.{sink_of};
+ghost use Rattle.tree_io.specs.declared.event.Event.TheVariants.{Put};
 
 use crate::calls::Calls;
+use crate::event::Note;
+use crate::log::Log;
 use crate::{PutFault, Sink};
 use jv_base::{Items, M};
 use std::alloc::Global;
@@ -17,14 +20,17 @@ use std::marker::Model;
 pub struct MemorySink {
     text: Vec<u8>,
     calls: Calls,
+    log: Log,
 }
 
 impl Model for MemorySink {
-    ghost use Rattle.tree_io.specs.Memory.{MemoryText};
+    ghost use Rattle.tree_io.specs.Memory.{MemoryText, memory_text_code};
 
     ghost Value = { MemoryText };
 
-    ghost view = { λ s. record { text = s.text.items; counts = s.calls } };
+    ghost coded = { memory_text_code };
+
+    ghost view = { λ s. record { text = s.text.items; counts = s.calls; log = s.log.events } };
 }
 
 impl MemorySink {
@@ -35,6 +41,7 @@ impl MemorySink {
         Ok(MemorySink {
             text: Vec::new(alloc),
             calls: Calls::new(fails),
+            log: Log::new(),
         })
     }
 
@@ -46,20 +53,37 @@ impl MemorySink {
     }
 }
 
+// What `put` answers.
+fn put_or_fail(text: &mut Vec<u8>, calls: &mut Calls, bytes: &[u8]) -> Result<(), PutFault>
+    ensures named { IsErrOf result PutFault.Failed ↔ IsTrue (fails_next calls.old) }
+    ensures after { calls.new ≡ called calls.old }
+    ensures text { text.new.items ≡ (if is_ok result then text.old.items ++ bytes.now else text.old.items) }
+{
+    if calls.begin() {
+        calls.fail();
+        return Err(PutFault::Failed);
+    }
+    text.extend_from_slice(bytes)?;
+    Ok(())
+}
+
 impl Sink for MemorySink {
     ghost written = { λ s. Some s.text };
 
     ghost faults = { λ s. s.counts.faults };
 
+    ghost log = { λ s. s.log };
+
     fn put(&mut self, bytes: &[u8]) -> Result<(), PutFault>
         ensures named { IsErrOf result PutFault.Failed ↔ IsTrue (fails_next self.old.counts) }
-        ensures after { self.new ≡ record { text = if is_ok result then self.old.text ++ bytes.now else self.old.text; counts = called self.old.counts } }
+        ensures after { self.new ≡ record {
+          text = if is_ok result then self.old.text ++ bytes.now else self.old.text;
+          counts = called self.old.counts;
+          log = self.old.log ++ Put bytes.now result ∷ [];
+        } }
     {
-        if self.calls.begin() {
-            self.calls.fail();
-            return Err(PutFault::Failed);
-        }
-        self.text.extend_from_slice(bytes)?;
-        Ok(())
+        let answer = put_or_fail(&mut self.text, &mut self.calls, bytes);
+        self.log = self.log.then(&Note::Put(bytes, &answer));
+        answer
     }
 }

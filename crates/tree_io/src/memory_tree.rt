@@ -1,20 +1,24 @@
 // Files in memory.
-ghost use Rattle.std.specs.Prelude.{◌≡◌, ◌↔◌, ◌≤◌, Some, IsTrue, length, OnOk, OnErr, IfOk, IsErrOf};
+ghost use Rattle.std.specs.Prelude.{◌≡◌, [], ◌∷◌, ◌++◌, ◌↔◌, ◌≤◌, Some, IsTrue, length, string_bytes, OnOk, OnErr, IfOk, IsErrOf};
 ghost use Rattle.std.specs.Option.{option_copied};
 ghost use Rattle.std.specs.FinMap as map;
+ghost use Rattle.tree_io.specs.declared.event.Event.TheVariants.{Listed, Read, Wrote};
 ghost use Rattle.tree_io.specs.Below.{front_of, rest_after, paths_below, IsAscending};
 ghost use Rattle.tree_io.specs.Calls.{called, fails_next};
+ghost use Rattle.tree_io.specs.Runs.{Tells};
 ghost use Rattle.tree_io.specs.Tree.{due_list, due_read, Lists, Reads};
 ghost use Rattle.tree_io.specs.Memory.{told, overlaid, tree_of, Writes};
 
 use crate::calls::Calls;
+use crate::event::Note;
+use crate::log::Log;
 use crate::{FileAt, ListFault, ReadFault, Tree, WriteFault};
 use jv_base::{Bytes, Items, M, Text};
 use std::alloc::{AllocError, Global};
 use std::collections::BTreeMap;
 use std::marker::Model;
 
-/// A tree whose files are in memory. Contracts see its files and its counts of calls.
+/// A tree whose files are in memory. Contracts see its files, its counts of calls and the calls.
 ///
 /// Each call of `list`, `read` and `write` counts, whatever it answers, from 0 on; at 2^64 - 1 the
 /// count stands still. A call fails just where its number is named. A write that fails leaves the
@@ -24,6 +28,7 @@ use std::marker::Model;
 pub struct MemoryTree {
     files: BTreeMap<Text, Bytes>,
     calls: Calls,
+    log: Log,
 }
 
 impl Model for MemoryTree {
@@ -33,7 +38,7 @@ impl Model for MemoryTree {
 
     ghost coded = { memory_files_code };
 
-    ghost view = { λ t. record { files = told t.files.entries; counts = t.calls } };
+    ghost view = { λ t. record { files = told t.files.entries; counts = t.calls; log = t.log.events } };
 }
 
 impl MemoryTree {
@@ -46,6 +51,7 @@ impl MemoryTree {
         Ok(MemoryTree {
             files: overlaid(alloc, files)?,
             calls: Calls::new(fails),
+            log: Log::new(),
         })
     }
 
@@ -141,62 +147,120 @@ fn paths_below(
     Ok(paths)
 }
 
+// What `list` answers.
+fn listed(
+    alloc: Global,
+    files: &BTreeMap<Text, Bytes>,
+    calls: &mut Calls,
+    dir: &Text,
+    max: u32,
+) -> Result<Items<Text>, ListFault>
+    ensures named { IsErrOf result ListFault.Failed ↔ IsTrue (fails_next calls.old) }
+    ensures after { calls.new ≡ called calls.old }
+    ensures told { Lists result (due_list (told files.now.entries) dir.now max) }
+    ensures count { IfOk result (λ paths. length paths ≤ max) }
+    ensures ascending { IfOk result (λ paths. IsAscending paths) }
+{
+    if calls.begin() {
+        calls.fail();
+        return Err(ListFault::Failed);
+    }
+    let paths = paths_below(alloc, files, dir)?;
+    if paths.len() > max as usize {
+        return Err(ListFault::TooMany);
+    }
+    Ok(Items::from_vec(paths))
+}
+
+// What `read` answers.
+fn found(
+    alloc: Global,
+    files: &BTreeMap<Text, Bytes>,
+    calls: &mut Calls,
+    path: &Text,
+    max: u64,
+) -> Result<Bytes, ReadFault>
+    ensures named { IsErrOf result ReadFault.Failed ↔ IsTrue (fails_next calls.old) }
+    ensures after { calls.new ≡ called calls.old }
+    ensures told { Reads result (due_read (map.get (told files.now.entries) path.now) max) }
+    ensures length { IfOk result (λ bytes. length bytes ≤ max) }
+{
+    if calls.begin() {
+        calls.fail();
+        return Err(ReadFault::Failed);
+    }
+    let Some(bytes) = at_path(files, path) else {
+        return Err(ReadFault::Absent);
+    };
+    if bytes.len() as u64 > max {
+        return Err(ReadFault::TooLong);
+    }
+    Ok(copy_of(alloc, bytes.as_slice())?)
+}
+
+// What `write` answers.
+fn put_or_fail(
+    alloc: Global,
+    files: &mut BTreeMap<Text, Bytes>,
+    calls: &mut Calls,
+    path: &Text,
+    bytes: &[u8],
+) -> Result<(), WriteFault>
+    ensures cases { Writes result path.now bytes.now (told files.old.entries) calls.old (told files.new.entries) calls.new }
+{
+    let fails = calls.begin();
+    let kept = if fails {
+        &bytes[..bytes.len() / 2]
+    } else {
+        bytes
+    };
+    put_copy(alloc, files, path, kept)?;
+    if fails {
+        calls.fail();
+        return Err(WriteFault::Failed);
+    }
+    Ok(())
+}
+
 impl Tree for MemoryTree {
     ghost files = { λ t. Some t.files };
 
     ghost faults = { λ t. t.counts.faults };
 
+    ghost log = { λ t. t.log };
+
     fn list(&mut self, alloc: Global, dir: &Text, max: u32) -> Result<Items<Text>, ListFault>
         ensures named { IsErrOf result ListFault.Failed ↔ IsTrue (fails_next self.old.counts) }
-        ensures after { self.new ≡ record self.old { counts = called self.old.counts } }
+        ensures after { self.new ≡ record self.old { counts = called self.old.counts; log = self.old.log ++ Listed dir.now max result ∷ [] } }
+        ensures fits { Tells (Some self.old.files) (Some self.new.files) (Listed dir.now max result ∷ []) }
         ensures told { Lists result (due_list self.old.files dir.now max) }
         ensures count { IfOk result (λ paths. length paths ≤ max) }
         ensures ascending { IfOk result (λ paths. IsAscending paths) }
     {
-        if self.calls.begin() {
-            self.calls.fail();
-            return Err(ListFault::Failed);
-        }
-        let paths = paths_below(alloc, &self.files, dir)?;
-        if paths.len() > max as usize {
-            return Err(ListFault::TooMany);
-        }
-        Ok(Items::from_vec(paths))
+        let answer = listed(alloc, &self.files, &mut self.calls, dir, max);
+        self.log = self.log.then(&Note::Listed(dir, max, &answer));
+        answer
     }
 
     fn read(&mut self, alloc: Global, path: &Text, max: u64) -> Result<Bytes, ReadFault>
         ensures named { IsErrOf result ReadFault.Failed ↔ IsTrue (fails_next self.old.counts) }
-        ensures after { self.new ≡ record self.old { counts = called self.old.counts } }
+        ensures after { self.new ≡ record self.old { counts = called self.old.counts; log = self.old.log ++ Read path.now max result ∷ [] } }
+        ensures fits { Tells (Some self.old.files) (Some self.new.files) (Read path.now max result ∷ []) }
         ensures told { Reads result (due_read (map.get self.old.files path.now) max) }
         ensures length { IfOk result (λ bytes. length bytes ≤ max) }
     {
-        if self.calls.begin() {
-            self.calls.fail();
-            return Err(ReadFault::Failed);
-        }
-        let Some(bytes) = at_path(&self.files, path) else {
-            return Err(ReadFault::Absent);
-        };
-        if bytes.len() as u64 > max {
-            return Err(ReadFault::TooLong);
-        }
-        Ok(copy_of(alloc, bytes.as_slice())?)
+        let answer = found(alloc, &self.files, &mut self.calls, path, max);
+        self.log = self.log.then(&Note::Read(path, max, &answer));
+        answer
     }
 
     fn write(&mut self, alloc: Global, path: &Text, bytes: &[u8]) -> Result<(), WriteFault>
-        ensures cases { Writes result path.now bytes.now self.old self.new }
+        ensures log { self.new.log ≡ self.old.log ++ Wrote path.now bytes.now result ∷ [] }
+        ensures fits { Tells (Some self.old.files) (Some self.new.files) (Wrote path.now bytes.now result ∷ []) }
+        ensures cases { Writes result path.now bytes.now self.old.files self.old.counts self.new.files self.new.counts }
     {
-        let fails = self.calls.begin();
-        let kept = if fails {
-            &bytes[..bytes.len() / 2]
-        } else {
-            bytes
-        };
-        put_copy(alloc, &mut self.files, path, kept)?;
-        if fails {
-            self.calls.fail();
-            return Err(WriteFault::Failed);
-        }
-        Ok(())
+        let answer = put_or_fail(alloc, &mut self.files, &mut self.calls, path, bytes);
+        self.log = self.log.then(&Note::Wrote(path, bytes, &answer));
+        answer
     }
 }

@@ -1,7 +1,8 @@
 // Where a program's text goes.
-ghost use Rattle.std.specs.Prelude.{◌≡◌, ◌≤◌, ℕ, List, Option, OnOk, IsErrOf};
-ghost use Rattle.tree_io.specs.Count.{Rose};
-ghost use Rattle.tree_io.specs.Sink.{followed_by, GainsFront};
+ghost use Rattle.std.specs.Prelude.{◌≡◌, ◌≤◌, ℕ, List, [], ◌∷◌, ◌++◌, Option};
+ghost use Rattle.tree_io.specs.Sink.{Takes};
+ghost use Rattle.tree_io.specs.declared.event.Event.{Event};
+ghost use Rattle.tree_io.specs.declared.event.Event.TheVariants.{Put};
 
 use crate::PutFault;
 
@@ -13,6 +14,9 @@ pub trait Sink {
     /// How many calls of the device have failed. It never falls, and stands still at 2^64 - 1.
     ghost faults: { Self → ℕ };
 
+    /// Every call so far with its answer.
+    ghost log: { Self → List Event };
+
     /// Appends bytes.
     ///
     /// # Errors
@@ -20,10 +24,7 @@ pub trait Sink {
     /// `Failed` where the device failed: then a front of the bytes was appended. After
     /// `OutOfMemory` nothing was appended.
     fn put(&mut self, bytes: &[u8]) -> Result<(), PutFault>
+        ensures log { log self.new ≡ log self.old ++ Put bytes.now result ∷ [] }
         ensures later { faults self.old ≤ faults self.new }
-        ensures ok { OnOk result (written self.new ≡ followed_by (written self.old) bytes.now) }
-        ensures failed { IsErrOf result PutFault.Failed → Rose (faults self.old) (faults self.new) }
-        ensures partly { IsErrOf result PutFault.Failed → GainsFront bytes.now (written self.old) (written self.new) }
-        ensures no_memory { IsErrOf result PutFault.OutOfMemory → written self.new ≡ written self.old }
-        ensures no_fault { IsErrOf result PutFault.OutOfMemory → faults self.new ≡ faults self.old };
+        ensures takes { Takes result bytes.now (written self.old) (written self.new) (faults self.old) (faults self.new) };
 }

@@ -1,7 +1,10 @@
 use super::*;
 use jv_base::{Items, Text};
-use std::alloc::Global;
+use std::alloc::{Allocator, Global};
 use std::fmt::Display;
+use std::fs::{File, Metadata, OpenOptions};
+use std::io::{ErrorKind, PipeReader, PipeWriter, Write};
+use std::os::fd::AsRawFd;
 use std::os::unix::fs::symlink;
 use std::process::Abort;
 use std::rt::Files;
@@ -104,20 +107,6 @@ fn the_named_calls_of_a_tree_fail(rt: HostRuntime) -> Result<(), Fail> {
 }
 
 #[test]
-fn a_failed_write_leaves_half(rt: HostRuntime) -> Result<(), Fail> {
-    let alloc = rt.alloc();
-    let mut tree = memory_tree(alloc, &[0])?;
-    assert_eq!(rt;
-        write(alloc, &mut tree, "in/b", "12345")?.as_str(),
-        "Failed"
-    );
-    let path = Text::from_str(alloc, "in/b")?;
-    let half = tree.file(alloc, &path)?.map_or(9, |bytes| bytes.len());
-    assert_eq!(rt; half, 2);
-    Ok(())
-}
-
-#[test]
 fn the_named_calls_of_a_sink_append_nothing(rt: HostRuntime) -> Result<(), Fail> {
     let alloc = rt.alloc();
     let mut sink = MemorySink::new(alloc, Items::from_vec([1].to_vec(alloc)?))?;
@@ -128,6 +117,16 @@ fn the_named_calls_of_a_sink_append_nothing(rt: HostRuntime) -> Result<(), Fail>
     Ok(())
 }
 
+// A path of more than 3,000 bytes.
+fn long_path(alloc: Global) -> Result<String, Fail> {
+    let mut path = String::new(alloc);
+    for _ in 0..300 {
+        path.push_str("a_folder_/")?;
+    }
+    path.push_str("end")?;
+    Ok(path)
+}
+
 // Makes the files of a test in a folder of their own.
 fn system_files<R: Files + AllocGlobal + Abort + Print>(
     rt: &R,
@@ -135,33 +134,43 @@ fn system_files<R: Files + AllocGlobal + Abort + Print>(
     tree: &mut impl Tree,
 ) -> Result<(), Fail> {
     let _ = fs::remove_dir_all(rt, "tree_io_test");
+    fs::create_dir_all(rt, "tree_io_test/in/empty")?;
+    for (link, target) in [
+        ("tree_io_test/in/link", "a"),
+        ("tree_io_test/in/folder", "b"),
+        ("tree_io_test/in/loop", "loop"),
+        ("tree_io_test/in/nowhere", "nobody"),
+    ] {
+        symlink(rt, target, link)?;
+    }
     for (path, text, want) in [
         ("tree_io_test/in/b/c/d", "", ""),
         ("tree_io_test/in/a", "a longer text", ""),
         ("tree_io_test/in/a", "short", ""),
         ("tree_io_test/in/b", "a folder", "Failed"),
         ("tree_io_test/in/a/e", "below a file", "Failed"),
+        ("tree_io_test/in/loop", "a link to itself", "Failed"),
+        ("tree_io_test/in/nowhere", "a link to nothing", "Failed"),
+        ("/dev/null", "a device", ""),
     ] {
         assert_eq!(rt; write(alloc, tree, path, text)?.as_str(), want, "at {path}");
     }
-    fs::create_dir(rt, "tree_io_test/in/empty")?;
-    symlink(rt, "a", "tree_io_test/in/link")?;
-    symlink(rt, "b", "tree_io_test/in/folder")?;
     Ok(())
 }
 
 #[test]
-fn a_tree_of_the_system_writes_lists_and_reads(rt: HostRuntime) -> Result<(), Fail> {
+fn a_tree_of_the_system_lists_each_entry_that_is_no_folder(rt: HostRuntime) -> Result<(), Fail> {
     let alloc = rt.alloc();
     let mut tree = FileTree::new(&rt);
     system_files(&rt, alloc, &mut tree)?;
     for (dir, max, want) in [
-        ("tree_io_test/in", 2, "a b/c/d "),
-        ("tree_io_test/in", 1, "TooMany"),
+        ("tree_io_test/in", 6, "a b/c/d folder link loop nowhere "),
+        ("tree_io_test/in", 5, "TooMany"),
+        ("tree_io_test/in/folder", 9, "c/d "),
         ("tree_io_test/in/empty", 0, ""),
         ("tree_io_test/out", 0, ""),
         ("tree_io_test/in/a", 9, "Failed"),
-        ("tree_io_test/in/folder", 9, "Failed"),
+        ("tree_io_test/in/loop", 9, "Failed"),
     ] {
         assert_eq!(rt;
             list(alloc, &mut tree, dir, max)?.as_str(),
@@ -169,11 +178,47 @@ fn a_tree_of_the_system_writes_lists_and_reads(rt: HostRuntime) -> Result<(), Fa
             "of {dir}"
         );
     }
+    Ok(())
+}
+
+#[test]
+fn a_tree_of_the_system_lists_long_paths(rt: HostRuntime) -> Result<(), Fail> {
+    let alloc = rt.alloc();
+    let mut tree = FileTree::new(&rt);
+    let _ = fs::remove_dir_all(&rt, "tree_io_long");
+    let long = long_path(alloc)?;
+    let path = format!(in alloc; "tree_io_long/{long}")?;
+    assert_eq!(rt;
+        write(alloc, &mut tree, path.as_str(), "deep")?.as_str(),
+        ""
+    );
+    let paths = list(alloc, &mut tree, "tree_io_long", 1)?;
+    assert_eq!(rt; paths.as_str().trim_end(), long.as_str());
+    Ok(())
+}
+
+#[test]
+fn a_tree_of_the_system_reads_what_was_written(rt: HostRuntime) -> Result<(), Fail> {
+    let alloc = rt.alloc();
+    let mut tree = FileTree::new(&rt);
+    let _ = fs::remove_dir_all(&rt, "tree_io_read");
+    fs::create_dir(&rt, "tree_io_read")?;
+    symlink(&rt, "text", "tree_io_read/link")?;
+    symlink(&rt, "loop", "tree_io_read/loop")?;
+    assert_eq!(rt;
+        write(alloc, &mut tree, "tree_io_read/text", "short")?.as_str(),
+        ""
+    );
     for (path, max, want) in [
-        ("tree_io_test/in/a", 5, "short"),
-        ("tree_io_test/in/a", 4, "TooLong"),
-        ("tree_io_test/out", 9, "Absent"),
-        ("tree_io_test/in/b", 9, "Failed"),
+        ("tree_io_read/text", 5, "short"),
+        ("tree_io_read/text", 4, "TooLong"),
+        ("tree_io_read/link", 5, "short"),
+        ("tree_io_read/none", 9, "Absent"),
+        ("tree_io_read/none/none", 9, "Absent"),
+        ("tree_io_read", 9, "Failed"),
+        ("tree_io_read/text/e", 9, "Failed"),
+        ("tree_io_read/loop", 9, "Failed"),
+        ("/dev/null", 9, "Failed"),
     ] {
         assert_eq!(rt;
             read(alloc, &mut tree, path, max)?.as_str(),
@@ -181,13 +226,106 @@ fn a_tree_of_the_system_writes_lists_and_reads(rt: HostRuntime) -> Result<(), Fa
             "at {path}"
         );
     }
-    fs::remove_dir_all(&rt, "tree_io_test")?;
     Ok(())
 }
 
-// Takes at most so many bytes of a piece.
+// What a tree reads of a pipe to which a text was written.
+fn piped<R: Files>(rt: &R, alloc: Global, text: &str) -> Result<String, Fail> {
+    let (reader, mut writer) = rt.pipe()?;
+    writer.write_all(text.as_bytes())?;
+    drop(writer);
+    let path = format!(in alloc; "/proc/self/fd/{}", reader.as_raw_fd())?;
+    read(alloc, &mut FileTree::new(rt), path.as_str(), 9)
+}
+
+#[test]
+fn a_tree_of_the_system_reads_pipes_to_their_end(rt: HostRuntime) -> Result<(), Fail> {
+    let alloc = rt.alloc();
+    for (text, want) in [
+        ("piped", "piped"),
+        ("", "Failed"),
+        ("longer text", "TooLong"),
+    ] {
+        assert_eq!(rt; piped(&rt, alloc, text)?.as_str(), want, "at {text}");
+    }
+    Ok(())
+}
+
+// Files of which no one may open one.
 #[derive(Drop)]
-struct Narrow(usize);
+struct Locked;
+
+fn denied() -> io::Error {
+    io::Error::from(ErrorKind::PermissionDenied)
+}
+
+impl Files for Locked {
+    type File = File;
+
+    type Dir = File;
+
+    fn open_file(&self, _how: &OpenOptions, _path: &str) -> io::Result<File> {
+        Err(denied())
+    }
+
+    fn open_dir(&self, _path: &str) -> io::Result<File> {
+        Err(denied())
+    }
+
+    fn metadata(&self, path: &str) -> io::Result<Metadata> {
+        match path {
+            "seen" => Ok(Metadata::of_file(1)),
+            _ => Err(denied()),
+        }
+    }
+
+    fn symlink_metadata(&self, path: &str) -> io::Result<Metadata> {
+        self.metadata(path)
+    }
+
+    fn copy(&self, _from: &str, _to: &str) -> io::Result<u64> {
+        Err(denied())
+    }
+
+    fn rename(&self, _from: &str, _to: &str) -> io::Result<()> {
+        Err(denied())
+    }
+
+    fn remove_file(&self, _path: &str) -> io::Result<()> {
+        Err(denied())
+    }
+
+    fn create_dir(&self, _path: &str) -> io::Result<()> {
+        Err(denied())
+    }
+
+    fn remove_dir(&self, _path: &str) -> io::Result<()> {
+        Err(denied())
+    }
+
+    fn remove_dir_all<B: Allocator>(&self, _alloc: B, _path: &str) -> io::Result<()> {
+        Err(denied())
+    }
+}
+
+#[test]
+fn what_may_not_be_opened_has_failed(rt: HostRuntime) -> Result<(), Fail> {
+    let alloc = rt.alloc();
+    let mut tree = FileTree::new(&Locked);
+    for path in ["seen", "hidden"] {
+        assert_eq!(rt; list(alloc, &mut tree, path, 9)?.as_str(), "Failed");
+        assert_eq!(rt; read(alloc, &mut tree, path, 9)?.as_str(), "Failed");
+        assert_eq!(rt; write(alloc, &mut tree, path, "text")?.as_str(), "Failed");
+    }
+    Ok(())
+}
+
+// Hands on at most so many bytes of a piece.
+#[derive(Drop)]
+struct Narrow {
+    width: usize,
+    to: PipeWriter,
+}
 
 impl Print for Narrow {
     fn print<D: Display + Drop>(&self, _value: D) -> io::Result<()> {
@@ -203,16 +341,41 @@ impl Print for Narrow {
     }
 
     fn write_some(&self, bytes: &[u8]) -> io::Result<usize> {
-        Ok(bytes.len().min(self.0))
+        let mut to = &self.to;
+        to.write(&bytes[..bytes.len().min(self.width)])
     }
+}
+
+// Whether a stream took a text, and what arrived of it.
+fn arrived(
+    rt: &impl Files,
+    alloc: Global,
+    width: usize,
+    text: &str,
+) -> Result<(bool, String), Fail> {
+    let (from, to) = rt.pipe()?;
+    let taken = put_narrow(Narrow { width, to }, text);
+    let from: PipeReader = from;
+    Ok((taken, io::read_to_string(alloc, from)?))
+}
+
+fn put_narrow(narrow: Narrow, text: &str) -> bool {
+    StreamSink::new(&narrow).put(text.as_bytes()).is_ok()
 }
 
 #[test]
 fn a_stream_takes_text_piece_by_piece(rt: HostRuntime) -> Result<(), Fail> {
+    let alloc = rt.alloc();
     StreamSink::new(&rt).put(b"to standard output\n")?;
-    for (width, text, want) in [(2, "by pieces", true), (0, "none", false), (0, "", true)] {
-        let taken = StreamSink::new(&Narrow(width)).put(text.as_bytes());
-        assert_eq!(rt; taken.is_ok(), want, "at {text}");
+    for (width, text, want, all) in [
+        (2, "by pieces", true, "by pieces"),
+        (99, "whole", true, "whole"),
+        (0, "none", false, ""),
+        (0, "", true, ""),
+    ] {
+        let (taken, got) = arrived(&rt, alloc, width, text)?;
+        assert_eq!(rt; taken, want, "at {text}");
+        assert_eq!(rt; got.as_str(), all, "at {text}");
     }
     Ok(())
 }

@@ -1,16 +1,14 @@
-use Rattle.std.proofs.Common.{Option, subst, sym}
-use Rattle.std.specs.Prelude.{IfSome, IsSome}
-use Rattle.std.specs.FinMap.{get}
-use Rattle.std.specs.List.{AllByRecursion}
-use Rattle.tree_io.specs.Files.{Files}
-use Rattle.class_files.specs.Input.{path_in}
-use Rattle.class_files.proofs.Totals.{class_paths_told, if_told, paths_told}
+use Rattle.std.proofs.Common.{◌≡◌, Ok, subst, sym}
+use Rattle.class_files.specs.Input.{AreThere, FindsDue, files_in, input_due, limited, missed, paths_due}
+use Rattle.tree_io.proofs.Runs.{made_sees}
+use Rattle.class_files.proofs.Totals.{found_there, input_is}
 use Rattle.class_files.proofs.input.read_files.Goals as goal
 
-pub read_each-requires : goal.read_each-requires
-read_each-requires g c = record {
-  there =
-      let dir = c.args.directory.now in
-      subst (λ (o : Option Files). IfSome o (λ fs. AllByRecursion (λ p. IsSome (get fs (path_in dir p))) c.in_ok-paths.paths)) (sym c.in_ok-paths.ensures.files)
-      (if_told _ c.in_ok-paths.ensures.told (λ fs due. subst (AllByRecursion (λ p. IsSome (get fs (path_in dir p)))) (sym (paths_told fs dir c.in_ok-paths.paths due)) (class_paths_told fs dir)));
-}
+pub returns-clause-seen : goal.returns-clause-seen
+returns-clause-seen g c =
+    let dir = c.args.directory.now in
+    let paths = c.in_ok-paths.paths in
+    let result = c.read_each.result in
+    made_sees (missed result) (λ fs. paths_due fs dir ≡ Ok paths) (λ fs. AreThere fs dir paths → FindsDue result (limited (files_in fs dir paths))) (λ fs. FindsDue result (input_due fs dir))
+    _ _ _ _ _ _ (λ fs due found. subst (FindsDue result) (sym (input_is fs dir paths due)) (found (found_there fs dir paths due)))
+    c.in_ok-paths.ensures.seen c.read_each.ensures.seen

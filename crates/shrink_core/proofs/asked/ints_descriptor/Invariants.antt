@@ -1,5 +1,5 @@
-use Rattle.std.proofs.Common.{◌≡◌, ◌++◌, replicate, codes}
+use Rattle.std.proofs.Common.{◌≡◌, ◌++◌, replicate, codes, string_bytes}
 use Rattle.shrink_core.proofs.asked.ints_descriptor.Given as goal
 
 abbrev pub invariant-loop : goal.invariant-loop
-invariant-loop l = l.text ≡ codes "(" ++ replicate l.counter 73
+invariant-loop l = string_bytes l.text ≡ codes "(" ++ replicate l.counter 73

@@ -1,10 +1,16 @@
-use Rattle.shrink_core.proofs.Endings.{ended_before, finished}
+use Rattle.shrink_core.proofs.Endings.{answers_memory, ended_before, finished}
 use Rattle.shrink_core.proofs.command.run_on.Goals as goal
 
 pub returns-in-Ok-clause-ended : goal.returns-in-Ok-clause-ended
 returns-in-Ok-clause-ended g c =
-    finished c.in-Ok.plan c.args.named.now c.finish.result _ _ _ _ _ _ _ _ c.in-Ok.ensures.told c.finish.ensures.said c.finish.ensures.device
+    finished c.in-Ok.plan c.args.named.now c.finish.result _ _ _ _ _ _ _ _ c.in-Ok.ensures.ended c.finish.ensures.said c.finish.ensures.device
+
+pub returns-in-Ok-clause-memory : goal.returns-in-Ok-clause-memory
+returns-in-Ok-clause-memory g c = answers_memory c.args.named.now c.finish.result _ _ (returns-in-Ok-clause-ended g c)
 
 pub returns-in-Err-clause-ended : goal.returns-in-Err-clause-ended
 returns-in-Err-clause-ended g c =
-    ended_before c.in-Err.stop c.args.named.now c.say.result _ _ _ _ _ _ _ _ c.in-Err.ensures.device c.in-Err.ensures.told c.say.ensures
+    ended_before c.in-Err.stop c.args.named.now c.say.result _ _ _ _ _ _ _ _ c.in-Err.ensures.device c.in-Err.ensures.ended c.say.ensures
+
+pub returns-in-Err-clause-memory : goal.returns-in-Err-clause-memory
+returns-in-Err-clause-memory g c = answers_memory c.args.named.now c.say.result _ _ (returns-in-Err-clause-ended g c)

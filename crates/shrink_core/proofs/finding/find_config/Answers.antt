@@ -1,10 +1,16 @@
-use Rattle.std.proofs.Common.{ℕ, List, subst}
+use Rattle.std.proofs.Common.{List, subst}
+use Rattle.std.proofs.lemmas.Result.{err_from_is_err_and}
 use Rattle.shrink_core.specs.Steps.{ConfigOf}
-use Rattle.shrink_core.proofs.Found.{config_told}
+use Rattle.shrink_core.proofs.Found.{config_seen}
 use Rattle.shrink_core.proofs.finding.find_config.Goals as goal
 
-pub returns-clause-told : goal.returns-clause-told
-returns-clause-told g c =
+pub returns-in_err-bytes-clause-seen : goal.returns-in_err-bytes-clause-seen
+returns-in_err-bytes-clause-seen g c =
+    let p = err_from_is_err_and c.from_residual.result c.from_residual.ensures.1 in
+    rw (p.1, p.2) c.in_err-bytes.ensures.seen
+
+pub returns-clause-seen : goal.returns-clause-seen
+returns-clause-seen g c =
     let answer = c.config_in.result in
-    let is : ConfigOf answer c.in_ok-bytes.bytes = subst (λ (t : List ℕ). ConfigOf answer t) c.as_slice.ensures c.config_in.ensures in
-    config_told (g.T.Tree.files c.args.tree.now) c.args.path.now c.in_ok-bytes.bytes answer c.in_ok-bytes.ensures.told is
+    let is : ConfigOf answer c.in_ok-bytes.bytes = subst (λ (t : List _). ConfigOf answer t) c.as_slice.ensures c.config_in.ensures in
+    config_seen c.args.path.now c.in_ok-bytes.bytes answer _ _ _ _ c.in_ok-bytes.ensures.seen is
