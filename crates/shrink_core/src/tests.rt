@@ -482,6 +482,8 @@ fn other_configs_are_refused(rt: HostRuntime) -> Result<(), Fail> {
         b"-injars in\n-outjars out\n-printmapping m\n-keep class Main { static int f(int,); }\n",
         b"-injars in\n-outjars out\n-printmapping m\n-keep class Main { static int <init>(); }\n",
         b"-outjars out\n-injars in\n-printmapping m\n-keep class Main { static int f(int); }\n",
+        b"-injars in\r\n-outjars out\n-printmapping m\n-keep class Main { static int f(int); }\n",
+        b"-injars in\x0C\n-outjars out\n-printmapping m\n-keep class Main { static int f(int); }\n",
         b"-injars \xFF\n-outjars out\n-printmapping m\n-keep class Main { static int f(int); }\n",
     ] {
         let files = [(CONFIG, config), ("in/Main.class", MAIN)];
