@@ -15,7 +15,8 @@ use Rattle.class_pool.specs.Hierarchy.{IsClass}
 use Rattle.class_pool.specs.declared.id.ClassId.{ClassId}
 use Rattle.class_pool.specs.declared.id.ClassId.TheVariants.{Prog}
 use Rattle.class_pool.specs.declared.id.MemberAt.{MemberAt}
-use Rattle.require_sys.specs.EarlySystem.{are_kept_anyway, class_item, class_needs, item_in, item_of, places_of_true}
+use Rattle.class_pool.specs.Items.{class_item, item_in, item_of}
+use Rattle.require_sys.specs.EarlySystem.{are_kept_anyway, class_needs, places_of_true}
 use Rattle.require_sys.specs.Starts.{AreStarts}
 
 -- one more element

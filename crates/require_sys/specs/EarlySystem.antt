@@ -1,6 +1,6 @@
 -- What has to be kept where only static methods are removed, as a system of requirements on the items of a set of classes: everything but
 -- the static methods is kept in any case, and a static method where it is asked for or where a method that is kept calls it.
-use Rattle.std.specs.Prelude.{ℕ, ◌+◌, Bool, true, not, ◌||◌, List, [], ◌∷◌, ◌++◌, length, map, take, replicate, Option, Some, None, Result, Ok, Err, if◌then◌else◌}
+use Rattle.std.specs.Prelude.{ℕ, ◌+◌, Bool, true, not, ◌||◌, List, [], ◌∷◌, ◌++◌, length, map, replicate, Option, Some, None, Result, Ok, Err, if◌then◌else◌}
 use Rattle.std.specs.List.{enumerate_from, filter_map, flat_map}
 use Rattle.std.specs.Option.{option_and_then}
 use Rattle.mark_core.specs.declared.system.System.{System}
@@ -14,26 +14,12 @@ use Rattle.class_model.specs.declared.op.Op.TheVariants as op
 use Rattle.class_pool.specs.Count.{item_count}
 use Rattle.class_pool.specs.Found.{declared_in, is_static_member}
 use Rattle.class_pool.specs.Hierarchy.{class_named}
-use Rattle.class_pool.specs.declared.id.ClassId.{ClassId}
-use Rattle.class_pool.specs.declared.id.ClassId.TheVariants.{Prog, Lib}
+use Rattle.class_pool.specs.Items.{item_of}
+use Rattle.class_pool.specs.declared.id.ClassId.TheVariants.{Prog}
 use Rattle.class_pool.specs.declared.id.MemberAt.{MemberAt}
 use Rattle.link_check.specs.Links.{resolved_method}
 use Rattle.link_check.specs.declared.fault.LinkKind.{LinkKind}
 use Rattle.require_sys.specs.declared.asked.AskedMethod.{AskedMethod}
-
--- ---- items: each class in the order of the set, then its fields, then its methods
-
--- the item of a class: as many stand before it as the classes before it have
-abbrev pub class_item : List Class → ℕ → ℕ
-class_item classes n = item_count (take n classes)
-
--- the item of a member of the program, by the number of its class and by its own
-abbrev pub item_in : List Class → ClassId → ℕ → Option ℕ
-item_in classes (Prog n) index = Some (class_item classes n + 1 + index)
-item_in classes (Lib id) index = None
-
-abbrev pub item_of : List Class → MemberAt → Option ℕ
-item_of classes m = item_in classes m.class m.index
 
 -- ---- seeds
 

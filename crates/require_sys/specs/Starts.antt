@@ -2,7 +2,7 @@
 use Rattle.std.specs.Prelude.{◌≡◌, ◌≤◌, ◌<◌, ℕ, ◌+◌, List, length, slice_index_or}
 use Rattle.std.specs.List.{All}
 use Rattle.class_model.specs.declared.class.Class.{Class}
-use Rattle.require_sys.specs.EarlySystem.{class_item}
+use Rattle.class_pool.specs.Items.{class_item}
 
 -- the item of each class, and behind these how many items there are
 pub record AreStarts (classes : List Class) (starts : List ℕ) : Type 0 where

@@ -9,6 +9,3 @@ mod system;
 
 pub use asked::AskedMethod;
 pub use system::system_of;
-
-#[cfg(test)]
-mod tests;

@@ -1,5 +1,5 @@
 use Rattle.std.proofs.Common.{rules, ◌≡◌, ◌+◌, ◌++◌, ◌∷◌, [], arith}
-use Rattle.require_sys.specs.EarlySystem.{class_item}
+use Rattle.class_pool.specs.Items.{class_item}
 use Rattle.require_sys.proofs.Numbering.{class_item-le, class_item-next, table_more}
 use Rattle.require_sys.proofs.numbered.starts_of.Goals as goal
 

@@ -1,5 +1,5 @@
 use Rattle.std.proofs.Common.{◌≡◌, ◌≤◌, ℕ, ◌+◌, length, get_or}
-use Rattle.require_sys.specs.EarlySystem.{class_item}
+use Rattle.class_pool.specs.Items.{class_item}
 use Rattle.require_sys.proofs.numbered.starts_of.Given as goal
 
 abbrev pub invariant-loop-number : goal.invariant-loop-number
