@@ -4,7 +4,9 @@ use Rattle.std.specs.List.{filter, enumerate_from}
 use Rattle.std.proofs.lemmas.List.Sums.{sum_by-append}
 use Rattle.std.proofs.Math.Seq.{take-append_seam}
 use Rattle.class_model.specs.declared.class.Class.{Class}
-use Rattle.member_shrink.specs.Shrunk.{items_of, item_count, class_item, is_marked, chosen, with_marked_members, shrunk}
+use Rattle.class_pool.specs.Count.{item_count, items_of}
+use Rattle.class_pool.specs.Items.{class_item}
+use Rattle.member_shrink.specs.Shrunk.{is_marked, chosen, with_marked_members, shrunk}
 use Rattle.member_shrink.proofs.Picked.{by_test}
 
 -- one member more was looked at

@@ -1,3 +1,2 @@
-mod Picked
 mod Left
-pub mod Writable
+pub mod Picked

@@ -1,3 +1,2 @@
 pub mod Shrunk
 pub mod Attributes
-pub mod Laws

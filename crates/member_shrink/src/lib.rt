@@ -2,12 +2,7 @@
 #![tactic(auto)]
 
 mod attributes;
-mod laws;
 mod removal;
 
 pub use attributes::without_optional;
-pub use laws::{classes_without_optional_can_be_written, shrunk_can_be_written};
 pub use removal::shrunk;
-
-#[cfg(test)]
-mod tests;

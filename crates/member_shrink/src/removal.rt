@@ -1,6 +1,7 @@
 // The classes and the members that are kept, without the rest.
 ghost use Rattle.std.specs.Prelude.{◌≡◌, ◌≤◌, ◌+◌, [], ◌∷◌, ◌++◌, if◌then◌else◌, OnOk, IfOk, length};
-ghost use Rattle.member_shrink.specs.Shrunk.{items_of, item_count, is_marked, chosen, with_marked_members, shrunk};
+ghost use Rattle.class_pool.specs.Count.{item_count, items_of};
+ghost use Rattle.member_shrink.specs.Shrunk.{is_marked, chosen, with_marked_members, shrunk};
 
 use class_model::Class;
 use jv_base::{Items, M};

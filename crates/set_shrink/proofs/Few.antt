@@ -5,7 +5,9 @@ use Rattle.std.proofs.lemmas.List.{length-map}
 use Rattle.std.proofs.lemmas.List.Sums.{sum_by-cons}
 use Rattle.class_model.specs.declared.class.Class.{Class}
 use Rattle.member_shrink.specs.Attributes.{without_optional, field_without_optional, method_without_optional}
-use Rattle.member_shrink.specs.Shrunk.{items_of, item_count, class_item, is_marked, chosen, with_marked_members, shrunk}
+use Rattle.class_pool.specs.Count.{item_count, items_of}
+use Rattle.class_pool.specs.Items.{class_item}
+use Rattle.member_shrink.specs.Shrunk.{is_marked, chosen, with_marked_members, shrunk}
 
 -- ---- members
 

@@ -5,7 +5,7 @@ use Rattle.class_model.specs.declared.class.Class.{Class}
 use Rattle.class_write.specs.SpellingLaws.{IsWritable}
 use Rattle.member_shrink.specs.Attributes.{without_optional}
 use Rattle.member_shrink.specs.Shrunk.{shrunk}
-use Rattle.member_shrink.proofs.Writable.{shrunk_writable, without_optional_writable}
+use Rattle.set_shrink.proofs.Writable.{shrunk_writable, without_optional_writable}
 
 all_writable : (classes : List Class) → AllByRecursion IsWritable classes → AllByRecursion IsWritable (map without_optional classes)
 all_writable [] h = tt

@@ -3,3 +3,4 @@ mod Kept
 mod Members
 mod Written
 pub mod OneShrunk
+pub mod Writable

@@ -1,9 +1,10 @@
 // A set without what isn't kept.
 ghost use Rattle.std.specs.Prelude.{◌≡◌, IfOk, length, map};
 ghost use Rattle.std.specs.List.{AllByRecursion};
+ghost use Rattle.class_pool.specs.Count.{item_count};
 ghost use Rattle.class_write.specs.SpellingLaws.{IsWritable};
 ghost use Rattle.member_shrink.specs.Attributes.{without_optional};
-ghost use Rattle.member_shrink.specs.Shrunk.{item_count, shrunk};
+ghost use Rattle.member_shrink.specs.Shrunk.{shrunk};
 ghost use Rattle.set_shrink.specs.ShrunkSet.{Shrinks};
 
 use crate::counts::{Counts, counts_of};

@@ -1,7 +1,8 @@
 use Rattle.std.proofs.Common.{◌≡◌, ℕ, ◌+◌, List, ◌++◌, length, ap, subst, sym, ◌∙◌, arith}
 use Rattle.std.specs.Vec.Iter.{into_iter_items}
 use Rattle.class_model.specs.declared.class.Class.{Class}
-use Rattle.member_shrink.specs.Shrunk.{items_of, item_count, shrunk}
+use Rattle.class_pool.specs.Count.{item_count, items_of}
+use Rattle.member_shrink.specs.Shrunk.{shrunk}
 use Rattle.member_shrink.proofs.Left.{left_from, left_all, left_more, items_more}
 use Rattle.member_shrink.proofs.removal.shrunk.Goals as goal
 

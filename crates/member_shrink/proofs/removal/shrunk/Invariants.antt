@@ -1,6 +1,7 @@
 use Rattle.std.proofs.Common.{◌≡◌, ◌+◌, ◌++◌, length}
 use Rattle.std.specs.Vec.Iter.{into_iter_items}
-use Rattle.member_shrink.specs.Shrunk.{item_count, shrunk}
+use Rattle.class_pool.specs.Count.{item_count}
+use Rattle.member_shrink.specs.Shrunk.{shrunk}
 use Rattle.member_shrink.proofs.Left.{left_from}
 use Rattle.member_shrink.proofs.removal.shrunk.Given as goal
 

@@ -2,7 +2,7 @@ use Rattle.std.proofs.Common.{List, ap, sym, subst, ◌∙◌, arith}
 use Rattle.std.specs.List.{AllByRecursion}
 use Rattle.class_model.specs.declared.class.Class.{Class}
 use Rattle.class_write.specs.SpellingLaws.{IsWritable}
-use Rattle.member_shrink.specs.Shrunk.{item_count}
+use Rattle.class_pool.specs.Count.{item_count}
 use Rattle.set_shrink.proofs.Few.{kept_few}
 use Rattle.set_shrink.proofs.Kept.{kept_writable}
 use Rattle.set_shrink.proofs.shrunk.shrink_set.Goals as goal

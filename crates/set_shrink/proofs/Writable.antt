@@ -19,9 +19,10 @@ use Rattle.class_model.specs.Members.{FieldsDiffer, MethodsDiffer}
 use Rattle.class_model.specs.WellFormed.{IsGoodOp, IsGoodHandler, IsGoodType, IsGoodFrame, IsGoodCode, IsGoodField, IsGoodMethod, LinesGoOn, HasFewWords}
 use Rattle.class_write.specs.ClassValues.{IsInsValue, IsCodeValue, IsFieldValue, IsMethodValue}
 use Rattle.class_write.specs.SpellingLaws.{IsWritable}
-use Rattle.member_shrink.specs.Shrunk.{class_item, is_marked, chosen, with_marked_members}
+use Rattle.class_pool.specs.Items.{class_item}
+use Rattle.member_shrink.specs.Shrunk.{is_marked, chosen, with_marked_members}
 use Rattle.member_shrink.specs.Attributes.{without_line, without_lines, field_without_optional, method_without_optional}
-use Rattle.member_shrink.specs.Laws.{ShrunkAreWritable, WithoutOptionalIsWritable}
+use Rattle.set_shrink.specs.Writable.{ShrunkAreWritable, WithoutOptionalIsWritable}
 use Rattle.member_shrink.proofs.Picked.{all_mapped, some_mapped, all_picked, pairs_mapped, pairs_picked}
 
 -- the counts of a method's code fit

@@ -1,5 +1,0 @@
-use Rattle.member_shrink.proofs.Writable.{shrunk_writable}
-use Rattle.member_shrink.proofs.laws.shrunk_can_be_written.Goals as goal
-
-pub returns : goal.returns
-returns c = shrunk_writable

@@ -1,0 +1,5 @@
+use Rattle.set_shrink.proofs.Writable.{shrunk_writable}
+use Rattle.set_shrink.proofs.laws.shrunk_can_be_written.Goals as goal
+
+pub returns : goal.returns
+returns c = shrunk_writable
