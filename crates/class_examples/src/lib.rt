@@ -4,7 +4,11 @@
 //! specs/Compiled.antt.
 #![tactic(auto)]
 
-ghost use Rattle.class_examples.specs.Compiled.{IsCut, IsBadMagic, IsBadVersion, IsBadTag, IsBadUtf8, IsBadIndex, IsBadName, IsBadDescriptor, IsBadFlags, IsBadAttribute, IsBadCode, IsBadOpcode, IsBadOperand, IsBadTarget, IsBadHandler, IsBadFrame, IsRepeated, IsTrailing, LeavesFlag, LeavesConstant, LeavesOpcode, LeavesFloatType, IsRespelled};
+ghost use Rattle.class_examples.specs.Compiled.{IsCut, IsBadMagic, IsBadVersion, IsBadTag, IsBadUtf8, IsBadIndex};
+ghost use Rattle.class_examples.specs.Compiled.{IsBadName, IsBadDescriptor, IsBadFlags, IsBadAttribute, IsBadCode};
+ghost use Rattle.class_examples.specs.Compiled.{IsBadOpcode, IsBadOperand, IsBadTarget, IsBadHandler, IsBadFrame};
+ghost use Rattle.class_examples.specs.Compiled.{IsRepeated, IsTrailing, LeavesFlag, LeavesConstant, LeavesOpcode};
+ghost use Rattle.class_examples.specs.Compiled.{LeavesFloatType, IsRespelled};
 
 /// Carries what the definitions give for class files that javac made. It does nothing.
 pub fn computed_examples()

@@ -1,6 +1,7 @@
 -- The class files below a directory of told files, within limits on their number and length
 -- (the project's own: limits on what is read).
-use Rattle.std.specs.Prelude.{◌≡◌, ℕ, nat_eq, nat_lt, Bool, List, [], ◌∷◌, ◌++◌, length, map, codes, Option, Some, None, IsSome, Result, Ok, Err, if◌then◌else◌}
+use Rattle.std.specs.Prelude.{◌≡◌, ℕ, nat_eq, nat_lt, Bool, List, [], ◌∷◌, ◌++◌, length, map, codes, Option, Some, None}
+use Rattle.std.specs.Prelude.{IsSome, Result, Ok, Err, if◌then◌else◌}
 use Rattle.std.specs.FinMap.{get, keys}
 use Rattle.std.specs.List.{AllByRecursion, ends_with, filter, sum_by}
 use Rattle.std.specs.Option.{option_map_or}
@@ -8,7 +9,8 @@ use Rattle.tree_io.specs.Below.{front_of, paths_below}
 use Rattle.tree_io.specs.Files.{Files}
 use Rattle.tree_io.specs.declared.file_at.FileAt.{FileAt}
 use Rattle.class_files.specs.declared.input.InputFault.{InputFault}
-use Rattle.class_files.specs.declared.input.InputFault.TheVariants.{TooManyFiles, TooManyClasses, TooLong, Absent, Failed, OutOfMemory}
+use Rattle.class_files.specs.declared.input.InputFault.TheVariants.{TooManyFiles, TooManyClasses, TooLong, Absent}
+use Rattle.class_files.specs.declared.input.InputFault.TheVariants.{Failed, OutOfMemory}
 
 -- the path of a class file ends so
 abbrev pub is_class_path : List ℕ → Bool
@@ -24,7 +26,11 @@ path_in directory path = front_of directory ++ path
 
 -- the told file at a path below the directory
 abbrev pub file_in : Files → List ℕ → List ℕ → FileAt
-file_in files directory path = record { path = path; bytes = option_map_or (λ bytes. bytes) (get files (path_in directory path)) [] }
+file_in files directory path = record {
+  path = path;
+  bytes = option_map_or (λ bytes. bytes)
+      (get files (path_in directory path)) [];
+}
 
 -- the told files at paths below the directory
 abbrev pub files_in : Files → List ℕ → List (List ℕ) → List FileAt
@@ -52,7 +58,8 @@ IsThere files directory path = IsSome (get files (path_in directory path))
 abbrev pub AreThere : Files → List ℕ → List (List ℕ) → Type 0
 AreThere files directory paths = AllByRecursion (IsThere files directory) paths
 
--- the paths at which a reading found no file; where memory was wanting none is told (the project's own: a file that was listed may be gone
+-- the paths at which a reading found no file; where memory was wanting none is told (the project's own: a file that was
+-- listed may be gone
 -- when it is read)
 abbrev pub missed : {A : Type 0} → Result A InputFault → Option (List (List ℕ))
 missed (Ok x) = Some []

@@ -21,12 +21,14 @@ pub record StopsAt (files : List FileAt) (n : ℕ) (next : FileAt) (calls : List
 -- the path of the next file may hold any bytes
 abbrev pub StopsWithin : List FileAt → ℕ → FileAt → Files → Files → Type 0
 StopsWithin files n next old new =
-    (new ≡ put_all old (take n files)) ⊎ ((bytes : List ℕ) × (new ≡ insert (put_all old (take n files)) next.path bytes))
+    (new ≡ put_all old (take n files))
+    ⊎ ((bytes : List ℕ) × (new ≡ insert (put_all old (take n files)) next.path bytes))
 
 -- all was put; or the device failed at one of the files; or memory was wanting for it
 abbrev pub Writes : Result (Unit {0}) WriteFault → List FileAt → List Event → Type 0
 Writes (Ok _) files calls = Did files [] calls × ((old new : Files) → Run calls old new → new ≡ put_all old files)
-Writes (Err Failed) files calls = (n : ℕ) × (next : FileAt) × StopsAt files n next calls × Did (take n files ++ next ∷ []) [] calls
+Writes (Err Failed) files calls = (n : ℕ) × (next : FileAt) × StopsAt files n next calls
+    × Did (take n files ++ next ∷ []) [] calls
     × ((old new : Files) → Run calls old new → StopsWithin files n next old new)
 Writes (Err OutOfMemory) files calls = (n : ℕ) × (next : FileAt) × StopsAt files n next calls
     × ((old new : Files) → Run calls old new → new ≡ put_all old (take n files))

@@ -4,7 +4,8 @@ ghost use Rattle.std.specs.List.{filter};
 ghost use Rattle.tree_io.specs.Below.{IsAscending};
 ghost use Rattle.tree_io.specs.Count.{Rose};
 ghost use Rattle.tree_io.specs.Runs.{Made, Sees};
-ghost use Rattle.class_files.specs.Input.{FindsDue, IsThere, AreThere, file_due, files_in, input_due, is_class_path, limited, missed, path_in, paths_due, total};
+ghost use Rattle.class_files.specs.Input.{FindsDue, IsThere, AreThere, file_due, files_in, input_due, is_class_path};
+ghost use Rattle.class_files.specs.Input.{limited, missed, path_in, paths_due, total};
 ghost use Rattle.class_files.specs.declared.input.InputFault.TheVariants as fault;
 
 use jv_base::{Items, M, OutOfMemory, Text};
@@ -63,7 +64,8 @@ impl From<OutOfMemory> for InputFault {
 /// The files below a directory whose paths end in `.class`, with their paths below it, in ascending order of the bytes
 /// of these. No file changes.
 ///
-/// What is found is what is due of all files that the tree's calls fit. A class file that was listed and isn't there when
+/// What is found is what is due of all files that the tree's calls fit. A class file that was listed and isn't there
+/// when
 /// it is read is named.
 pub fn read_files<T: Tree>(
     alloc: Global,

@@ -24,7 +24,8 @@ use Rattle.class_model.specs.Lookups.{due}
 use Rattle.class_model.specs.Opcodes.{plain_op}
 use Rattle.class_model.specs.InstructionStructure.{Info, Plain}
 use Rattle.class_model.specs.InstructionMeaning.{op_of}
-use Rattle.class_model.specs.CanonicalCode.{num_number, elem_number, arith_opcode, shift_opcode, logic_opcode, conv_opcode, return_opcode}
+use Rattle.class_model.specs.CanonicalCode.{num_number, elem_number, arith_opcode, shift_opcode, logic_opcode}
+use Rattle.class_model.specs.CanonicalCode.{conv_opcode, return_opcode}
 use Rattle.class_model.proofs.BackInfos.{IsRead, read_plain}
 
 -- the bytes at an offset of a code are read, and mean the instruction, where aim finds the numbers of targets
@@ -36,9 +37,14 @@ pub record IsBack (aim : ℤ → Result ℕ FormatKind) (entries : List Entry) (
 abbrev pub IsPlain : ℕ → Op → Type 0
 IsPlain opcode o = (opcode < 256) × (plain_op opcode ≡ Some o)
 
-pub plain_back : (aim : ℤ → Result ℕ FormatKind) (entries : List Entry) (at opcode : ℕ) (o : Op) → IsPlain opcode o → IsBack aim entries at (Plain opcode) o
+pub plain_back : (aim : ℤ → Result ℕ FormatKind) (entries : List Entry) (at opcode : ℕ) (o : Op) → IsPlain opcode o
+    → IsBack aim entries at (Plain opcode) o
 unfolding op_of
-plain_back aim entries at opcode o h = record { read = read_plain entries at opcode h.0 (ap is_some h.1); meant = ap (due bad.BadOperand) h.1 }
+plain_back aim entries at opcode o h = record {
+  read = read_plain entries at opcode h.0 (ap is_some h.1);
+  meant = ap
+      (due bad.BadOperand) h.1;
+}
 
 pub is_load : (e : Elem) → IsPlain (0x2E + elem_number e) (op.ALoad e)
 is_load elem.Int = (omega arith, refl)

@@ -1,5 +1,6 @@
 -- Pushes of constants are read back.
-use Rattle.std.proofs.Common.{◌≡◌, ℕ, zero, suc, ◌+◌, ◌^◌, ◌<◌, ◌≤◌, Bool, true, false, cond, leb, List, [], ◌∷◌, Some, Result, Ok, ℤ, pos, negsuc, ◌+ℤ◌, refl, ap, subst, arith}
+use Rattle.std.proofs.Common.{◌≡◌, ℕ, zero, suc, ◌+◌, ◌^◌, ◌<◌, ◌≤◌, Bool, true, false, cond, leb, List, [], ◌∷◌, Some}
+use Rattle.std.proofs.Common.{Result, Ok, ℤ, pos, negsuc, ◌+ℤ◌, refl, ap, subst, arith}
 use Rattle.std.specs.Prelude.{slice_get}
 use Rattle.std.specs.Int.{w8, w16, cast_unsigned}
 use Rattle.std.specs.List.{AllByRecursion}
@@ -36,7 +37,8 @@ is_numeral (pos (suc (suc (suc (suc zero))))) h = (omega arith, refl)
 is_numeral (pos (suc (suc (suc (suc (suc zero)))))) h = (omega arith, refl)
 is_numeral (pos (suc (suc (suc (suc (suc (suc n))))))) h = let g = leb-true _ _ h in absurd (omega arith)
 is_numeral (negsuc zero) h = (omega arith, refl)
-is_numeral (negsuc (suc n)) h = let t = and_parts (leb (suc n) 0) true h in let g : suc n ≤ 0 = leb-true _ _ t.0 in absurd (omega arith)
+is_numeral (negsuc (suc n)) h = let t = and_parts
+    (leb (suc n) 0) true h in let g : suc n ≤ 0 = leb-true _ _ t.0 in absurd (omega arith)
 
 -- lconst_<l>
 is_long_numeral : (n : ℤ) → is_lconst n ≡ true → IsPlain (0x09 + cast_unsigned w8 n) (op.PushLong n)
@@ -49,25 +51,30 @@ is_long_numeral (pos (suc (suc n))) h =
 is_long_numeral (negsuc n) h = absurd cc
 
 -- what ldc loads: an int
-loads_int : (entries : List Entry) (index : ℕ) (n : ℤ) → slice_get entries index ≡ Some (entry.Integer n) → (is_left_out_at (slice_get entries index) ≡ false) × (loaded entries index ≡ Some (op.PushInt n))
+loads_int : (entries : List Entry) (index : ℕ) (n : ℤ) → slice_get entries index ≡ Some (entry.Integer n)
+    → (is_left_out_at (slice_get entries index) ≡ false) × (loaded entries index ≡ Some (op.PushInt n))
 loads_int entries index n h = (rw h refl, rw h refl)
 
 -- what ldc2_w loads
-loads_long : (entries : List Entry) (index : ℕ) (n : ℤ) → slice_get entries index ≡ Some (entry.Long n) → (is_left_out_at (slice_get entries index) ≡ false) × (loaded_wide 0x14 entries index ≡ Some (op.PushLong n))
+loads_long : (entries : List Entry) (index : ℕ) (n : ℤ) → slice_get entries index ≡ Some (entry.Long n)
+    → (is_left_out_at (slice_get entries index) ≡ false) × (loaded_wide 0x14 entries index ≡ Some (op.PushLong n))
 loads_long entries index n h = (rw h refl, rw h refl)
 
 -- or a string
-loads_text : (entries : List Entry) (index : ℕ) (units : List ℕ) → SaysString entries index units → (is_left_out_at (slice_get entries index) ≡ false) × (loaded entries index ≡ Some (op.PushText units))
+loads_text : (entries : List Entry) (index : ℕ) (units : List ℕ) → SaysString entries index units
+    → (is_left_out_at (slice_get entries index) ≡ false) × (loaded entries index ≡ Some (op.PushText units))
 loads_text entries index units h =
     let text : units_at entries h.0 ≡ Some units = units_back entries h.0 units h.2 in
     (rw h.1 refl, rw (h.1, text) refl)
 
 module _ (aim : ℤ → Result ℕ FormatKind) (entries : List Entry) (at : ℕ) (pool : List PoolConstant) where
   load_by : (b : Bool) (k : PoolConstant) (o : Op) → leb (index_of pool k) 255 ≡ b → index_of pool k < 2 ^ 16
-      → (is_left_out_at (slice_get entries (index_of pool k)) ≡ false) × (loaded entries (index_of pool k) ≡ Some o) → IsBack aim entries at (load_constant pool k) o
+      → (is_left_out_at (slice_get entries (index_of pool k)) ≡ false) × (loaded entries (index_of pool k) ≡ Some o)
+      → IsBack aim entries at (load_constant pool k) o
   unfolding op_of
   load_by true k o e fits h = rw e (record {
-    read = read_ldc entries at (index_of pool k) o (let g : index_of pool k ≤ 255 = leb-true _ _ e in omega arith) h.0 h.1;
+    read = read_ldc entries at (index_of pool k) o
+        (let g : index_of pool k ≤ 255 = leb-true _ _ e in omega arith) h.0 h.1;
     meant = ap (due bad.BadOperand) h.1;
   })
   load_by false k o e fits h = rw e (record {
@@ -76,7 +83,8 @@ module _ (aim : ℤ → Result ℕ FormatKind) (entries : List Entry) (at : ℕ)
   })
 
   -- ints
-  push_int_by : (a b c : Bool) (n : ℤ) → int_between (negsuc 0) (pos 5) n ≡ a → int_between (negsuc 127) (pos 127) n ≡ b → is_short n ≡ c
+  push_int_by : (a b c : Bool) (n : ℤ) → int_between (negsuc 0) (pos 5) n ≡ a → int_between (negsuc 127) (pos 127) n ≡ b
+      → is_short n ≡ c
       → (c ≡ false → IsSaid entries pool (Integer n)) → IsBack aim entries at (push_int pool n) (op.PushInt n)
   unfolding op_of
   push_int_by true b c n p q r says = rw p (plain_back aim entries at _ (op.PushInt n) (is_numeral n p))
@@ -90,32 +98,43 @@ module _ (aim : ℤ → Result ℕ FormatKind) (entries : List Entry) (at : ℕ)
   })
   push_int_by false false false n p q r says =
       let said = says refl in
-      rw (p, q, r) (load_by (leb (index_of pool (Integer n)) 255) (Integer n) (op.PushInt n) refl said.0 (loads_int entries (index_of pool (Integer n)) n said.1))
+      rw (p, q, r) (load_by (leb (index_of pool (Integer n)) 255) (Integer n) (op.PushInt n) refl said.0
+      (loads_int entries (index_of pool (Integer n)) n said.1))
 
-  said_int : (n : ℤ) (b : Bool) → is_short n ≡ b → AllByRecursion (IsSaid entries pool) (op_constants (op.PushInt n)) → b ≡ false → IsSaid entries pool (Integer n)
+  said_int : (n : ℤ) (b : Bool) → is_short n ≡ b → AllByRecursion (IsSaid entries pool) (op_constants (op.PushInt n))
+      → b ≡ false → IsSaid entries pool (Integer n)
   said_int n true e says h = absurd cc
-  said_int n false e says h = (subst (λ (b : Bool). AllByRecursion (IsSaid entries pool) (cond b [] (Integer n ∷ []))) e says).0
+  said_int n false e says h =
+      (subst (λ (b : Bool). AllByRecursion (IsSaid entries pool) (cond b [] (Integer n ∷ []))) e says).0
 
-  pub push_int_back : (n : ℤ) → AllByRecursion (IsSaid entries pool) (op_constants (op.PushInt n)) → IsBack aim entries at (push_int pool n) (op.PushInt n)
+  pub push_int_back : (n : ℤ) → AllByRecursion (IsSaid entries pool) (op_constants (op.PushInt n))
+      → IsBack aim entries at (push_int pool n) (op.PushInt n)
   push_int_back n says = push_int_by _ _ (is_short n) n refl refl refl (said_int n (is_short n) refl says)
 
   -- longs
-  push_long_by : (b : Bool) (n : ℤ) → is_lconst n ≡ b → AllByRecursion (IsSaid entries pool) (op_constants (op.PushLong n)) → IsBack aim entries at (push_long pool n) (op.PushLong n)
+  push_long_by : (b : Bool) (n : ℤ) → is_lconst n ≡ b
+      → AllByRecursion (IsSaid entries pool) (op_constants (op.PushLong n))
+      → IsBack aim entries at (push_long pool n) (op.PushLong n)
   unfolding op_of
   push_long_by true n e says = rw e (plain_back aim entries at _ (op.PushLong n) (is_long_numeral n e))
   push_long_by false n e says =
-      let said : IsSaid entries pool (Long n) = (subst (λ (b : Bool). AllByRecursion (IsSaid entries pool) (cond b [] (long_constants n))) e says).0 in
+      let said : IsSaid entries pool (Long n) =
+      (subst (λ (b : Bool). AllByRecursion (IsSaid entries pool) (cond b [] (long_constants n))) e says).0 in
       let index = index_of pool (Long n) in
-      let loads : (is_left_out_at (slice_get entries index) ≡ false) × (loaded_wide 0x14 entries index ≡ Some (op.PushLong n)) = loads_long entries index n said.1 in
+      let loads : (is_left_out_at (slice_get entries index) ≡ false)
+      × (loaded_wide 0x14 entries index ≡ Some (op.PushLong n)) = loads_long entries index n said.1 in
       rw e (record {
         read = read_ldc_wide entries at 0x14 index (op.PushLong n) (omega arith) refl said.0 loads.0 loads.1;
         meant = ap (due bad.BadOperand) loads.1;
       })
 
-  pub push_long_back : (n : ℤ) → AllByRecursion (IsSaid entries pool) (op_constants (op.PushLong n)) → IsBack aim entries at (push_long pool n) (op.PushLong n)
+  pub push_long_back : (n : ℤ) → AllByRecursion (IsSaid entries pool) (op_constants (op.PushLong n))
+      → IsBack aim entries at (push_long pool n) (op.PushLong n)
   push_long_back n says = push_long_by (is_lconst n) n refl says
 
-  pub push_text_back : (units : List ℕ) → AllByRecursion (IsSaid entries pool) (op_constants (op.PushText units)) → IsBack aim entries at (load_constant pool (Str units)) (op.PushText units)
+  pub push_text_back : (units : List ℕ) → AllByRecursion (IsSaid entries pool) (op_constants (op.PushText units))
+      → IsBack aim entries at (load_constant pool (Str units)) (op.PushText units)
   push_text_back units says =
       let said = says.1.0 in
-      load_by (leb (index_of pool (Str units)) 255) (Str units) (op.PushText units) refl said.0 (loads_text entries (index_of pool (Str units)) units said.1)
+      load_by (leb (index_of pool (Str units)) 255) (Str units) (op.PushText units) refl said.0
+      (loads_text entries (index_of pool (Str units)) units said.1)

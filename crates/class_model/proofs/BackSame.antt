@@ -5,7 +5,9 @@ use Rattle.std.specs.Cmp.{signed_Decides}
 use Rattle.std.proofs.lemmas.Bool.{and_parts}
 use Rattle.jv_base.proofs.Equality.{text_Decides}
 use Rattle.class_model.specs.declared.constant.PoolConstant.{PoolConstant}
-use Rattle.class_model.specs.declared.constant.PoolConstant.TheVariants.{Utf8, Integer, Long, SecondOfLong, Class, Str, NameAndType, Fieldref, Methodref, InterfaceMethodref}
+use Rattle.class_model.specs.declared.constant.PoolConstant.TheVariants.{Utf8, Integer, Long, SecondOfLong, Class, Str}
+use Rattle.class_model.specs.declared.constant.PoolConstant.TheVariants.{NameAndType, Fieldref, Methodref}
+use Rattle.class_model.specs.declared.constant.PoolConstant.TheVariants.{InterfaceMethodref}
 use Rattle.class_model.specs.CanonicalPool.{same, same_text}
 
 text_is : (a b : List _) → same_text a b ≡ true → a ≡ b
@@ -27,7 +29,8 @@ same_is (Long a) (Long b) h = ap (λ n. Long n) (number_is a b h)
 same_is (SecondOfLong a) (SecondOfLong b) h = ap (λ n. SecondOfLong n) (number_is a b h)
 same_is (Class a) (Class b) h = ap (λ t. Class t) (text_is a b h)
 same_is (Str a) (Str b) h = ap (λ t. Str t) (text_is a b h)
-same_is (NameAndType a b) (NameAndType c d) h = let p = and_parts _ _ h in λ i. NameAndType (text_is a c p.0 i) (text_is b d p.1 i)
+same_is (NameAndType a b) (NameAndType c d) h = let p = and_parts _ _ h in λ i. NameAndType (text_is a c p.0 i)
+    (text_is b d p.1 i)
 same_is (Fieldref a b c) (Fieldref d e f) h =
     let p = and_parts _ _ h in
     let q = and_parts _ _ p.1 in

@@ -1,6 +1,7 @@
 -- What an opcode leads to, by one form for each kind of operands (JVMS 6.5).
-use Rattle.std.proofs.Common.{◌≡◌, ℕ, zero, suc, ◌<◌, Bool, true, false, cond, eqb, ◌||◌, ◌&&◌, List, Result, Ok, Err, refl, ap, ◌∙◌, arith}
-use Rattle.std.proofs.lemmas.Bool.{eqb-true, eqb-false}
+use Rattle.std.proofs.Common.{◌≡◌, ℕ, zero, suc, ◌<◌, Bool, true, false, cond, eqb, ◌||◌, ◌&&◌, List, Result, Ok, Err}
+use Rattle.std.proofs.Common.{refl, ap, ◌∙◌, arith}
+use Rattle.std.proofs.lemmas.Bool.{eqb-true, eqb-false, and_parts}
 use Rattle.std.specs.Prelude.{is_some}
 use Rattle.format_reading.specs.Reader.{Reader, u1, lead, item, give}
 use Rattle.format_reading.specs.declared.fault.FormatKind.{FormatKind}
@@ -8,7 +9,10 @@ use Rattle.format_reading.specs.declared.fault.FormatKind.TheVariants as bad
 use Rattle.class_model.specs.declared.pool.Entry.{Entry}
 use Rattle.class_model.specs.Opcodes.{plain_op, local_op, branch_op, is_left_out_local, is_left_out_opcode}
 use Rattle.class_model.specs.InstructionStructure.{Plain, Bipush, Sipush, Local, WideLocal, Branch}
-use Rattle.class_model.specs.ReadingCode.{Read, left_out, whole, ldc, ldc_wide, one_byte, two_bytes, iinc, wide_iinc, widened, goto_wide, table_switch, lookup_switch, member, class_operand, invoke_interface, array_type_read, multi_new_array, is_member_opcode, is_class_opcode, begun}
+use Rattle.class_model.specs.ReadingCode.{Read, left_out, whole, ldc, ldc_wide, one_byte, two_bytes, iinc, wide_iinc}
+use Rattle.class_model.specs.ReadingCode.{widened, goto_wide, table_switch, lookup_switch, member, class_operand}
+use Rattle.class_model.specs.ReadingCode.{invoke_interface, array_type_read, multi_new_array, is_member_opcode}
+use Rattle.class_model.specs.ReadingCode.{is_class_opcode, begun}
 
 -- ---- a chain of tests
 
@@ -18,7 +22,8 @@ through f true x y r h = refl
 through f false x y r h = h
 
 -- what holds of either choice holds of what a test chooses
-either_holds : {A : Type 0} (g : A → Bool) (b : Bool) (x y : A) → (b ≡ true → g x ≡ true) → g y ≡ true → g (cond b x y) ≡ true
+either_holds : {A : Type 0} (g : A → Bool) (b : Bool) (x y : A) → (b ≡ true → g x ≡ true) → g y ≡ true
+    → g (cond b x y) ≡ true
 either_holds g true x y h k = h refl
 either_holds g false x y h k = k
 
@@ -28,11 +33,8 @@ unfoldable pub all_below : ℕ → (ℕ → Bool) → Bool
 all_below zero test = true
 all_below (suc n) test = test n && all_below n test
 
-first_of : (a b : Bool) → (a && b) ≡ true → (a ≡ true) × (b ≡ true)
-first_of true b h = (refl, h)
-first_of false b h = absurd cc
-
-at_or_below : (n : ℕ) (test : ℕ → Bool) (c : ℕ) (b : Bool) → eqb c n ≡ b → c < suc n → test n ≡ true → (c < n → test c ≡ true) → test c ≡ true
+at_or_below : (n : ℕ) (test : ℕ → Bool) (c : ℕ) (b : Bool) → eqb c n ≡ b → c < suc n → test n ≡ true
+    → (c < n → test c ≡ true) → test c ≡ true
 at_or_below n test c true is lt here below = ap test (eqb-true c n is) ∙ here
 at_or_below n test c false is lt here below = below (let d : c ≡ n → ⊥ = eqb-false c n is in grind arith)
 
@@ -41,7 +43,7 @@ pub below_at : (n : ℕ) (test : ℕ → Bool) (c : ℕ) → c < n → all_below
 unfolding all_below
 below_at zero test c lt h = absurd (omega (arith, lt))
 below_at (suc n) test c lt h =
-    let both = first_of (test n) (all_below n test) h in
+    let both = and_parts (test n) (all_below n test) h in
     at_or_below n test c (eqb c n) refl lt both.0 (λ less. below_at n test c less both.1)
 
 -- a test that follows from another
@@ -110,12 +112,18 @@ pub begun_is : (pool : List Entry) (at c : ℕ) → begun pool at c ≡ begun_by
 unfolding form_of begun_by
 begun_is pool at c =
     let f : Form → Result (Reader Read) FormatKind = begun_by pool at c in
-    through f (is_some (plain_op c)) Alone _ _ (through f (eqb c 0x10) OfByte _ _ (through f (eqb c 0x11) OfShort _ _ (through f (eqb c 0x12) OfLoad _ _
-    (through f (eqb c 0x13 || eqb c 0x14) OfWideLoad _ _ (through f (is_some (local_op c)) OfLocal _ _ (through f (eqb c 0x84) OfIinc _ _
-    (through f (eqb c 0xC4) OfWide _ _ (through f (is_some (branch_op c)) OfBranch _ _ (through f (eqb c 0xC8) OfWideGoto _ _
-    (through f (eqb c 0xAA) OfTable _ _ (through f (eqb c 0xAB) OfLookup _ _ (through f (is_member_opcode c) OfMember _ _
-    (through f (eqb c 0xB9) OfInterface _ _ (through f (is_class_opcode c) OfClass _ _ (through f (eqb c 0xBC) OfArray _ _
-    (through f (eqb c 0xC5) OfArrays _ _ (through f (eqb c 0xBA || is_left_out_opcode c) OfNone NoForm _ refl)))))))))))))))))
+    through f (is_some (plain_op c)) Alone _ _
+    (through f (eqb c 0x10) OfByte _ _ (through f (eqb c 0x11) OfShort _ _ (through f (eqb c 0x12) OfLoad _ _
+    (through f (eqb c 0x13 || eqb c 0x14) OfWideLoad _ _
+    (through f (is_some (local_op c)) OfLocal _ _ (through f (eqb c 0x84) OfIinc _ _
+    (through f (eqb c 0xC4) OfWide _ _
+    (through f (is_some (branch_op c)) OfBranch _ _ (through f (eqb c 0xC8) OfWideGoto _ _
+    (through f (eqb c 0xAA) OfTable _ _
+    (through f (eqb c 0xAB) OfLookup _ _ (through f (is_member_opcode c) OfMember _ _
+    (through f (eqb c 0xB9) OfInterface _ _
+    (through f (is_class_opcode c) OfClass _ _ (through f (eqb c 0xBC) OfArray _ _
+    (through f (eqb c 0xC5) OfArrays _ _
+    (through f (eqb c 0xBA || is_left_out_opcode c) OfNone NoForm _ refl)))))))))))))))))
 
 -- the test that an opcode of a form passes
 unfoldable pub passes : ℕ → Form → Bool
@@ -144,12 +152,19 @@ pub form_passes : (c : ℕ) → passes c (form_of c) ≡ true
 unfolding form_of passes
 form_passes c =
     let g : Form → Bool = passes c in
-    either_holds g (is_some (plain_op c)) Alone _ (λ h. h) (either_holds g (eqb c 0x10) OfByte _ (λ h. h) (either_holds g (eqb c 0x11) OfShort _ (λ h. h) (either_holds g (eqb c 0x12) OfLoad _ (λ h. h)
-    (either_holds g (eqb c 0x13 || eqb c 0x14) OfWideLoad _ (λ h. h) (either_holds g (is_some (local_op c)) OfLocal _ (λ h. h) (either_holds g (eqb c 0x84) OfIinc _ (λ h. h)
-    (either_holds g (eqb c 0xC4) OfWide _ (λ h. h) (either_holds g (is_some (branch_op c)) OfBranch _ (λ h. h) (either_holds g (eqb c 0xC8) OfWideGoto _ (λ h. h)
-    (either_holds g (eqb c 0xAA) OfTable _ (λ h. h) (either_holds g (eqb c 0xAB) OfLookup _ (λ h. h) (either_holds g (is_member_opcode c) OfMember _ (λ h. h)
-    (either_holds g (eqb c 0xB9) OfInterface _ (λ h. h) (either_holds g (is_class_opcode c) OfClass _ (λ h. h) (either_holds g (eqb c 0xBC) OfArray _ (λ h. h)
-    (either_holds g (eqb c 0xC5) OfArrays _ (λ h. h) (either_holds g (eqb c 0xBA || is_left_out_opcode c) OfNone NoForm (λ h. h) refl)))))))))))))))))
+    either_holds g (is_some (plain_op c)) Alone _ (λ h. h)
+    (either_holds g (eqb c 0x10) OfByte _ (λ h. h)
+    (either_holds g (eqb c 0x11) OfShort _ (λ h. h) (either_holds g (eqb c 0x12) OfLoad _ (λ h. h)
+    (either_holds g (eqb c 0x13 || eqb c 0x14) OfWideLoad _ (λ h. h)
+    (either_holds g (is_some (local_op c)) OfLocal _ (λ h. h) (either_holds g (eqb c 0x84) OfIinc _ (λ h. h)
+    (either_holds g (eqb c 0xC4) OfWide _ (λ h. h)
+    (either_holds g (is_some (branch_op c)) OfBranch _ (λ h. h) (either_holds g (eqb c 0xC8) OfWideGoto _ (λ h. h)
+    (either_holds g (eqb c 0xAA) OfTable _ (λ h. h)
+    (either_holds g (eqb c 0xAB) OfLookup _ (λ h. h) (either_holds g (is_member_opcode c) OfMember _ (λ h. h)
+    (either_holds g (eqb c 0xB9) OfInterface _ (λ h. h)
+    (either_holds g (is_class_opcode c) OfClass _ (λ h. h) (either_holds g (eqb c 0xBC) OfArray _ (λ h. h)
+    (either_holds g (eqb c 0xC5) OfArrays _ (λ h. h)
+    (either_holds g (eqb c 0xBA || is_left_out_opcode c) OfNone NoForm (λ h. h) refl)))))))))))))))))
 
 -- ---- behind wide
 
@@ -162,7 +177,8 @@ pub data WideForm : Type 0 where
 
 -- the form of an opcode behind wide
 unfoldable pub wide_form_of : ℕ → WideForm
-wide_form_of c = cond (eqb c 0x84) WideOfIinc (cond (is_left_out_local c) WideOfNone (cond (is_some (local_op c)) WideOfLocal NoWideForm))
+wide_form_of c = cond (eqb c 0x84) WideOfIinc
+    (cond (is_left_out_local c) WideOfNone (cond (is_some (local_op c)) WideOfLocal NoWideForm))
 
 -- what an opcode of a form begins behind wide
 unfoldable pub widened_by : ℕ → WideForm → Result (Reader Read) FormatKind
@@ -176,7 +192,9 @@ pub widened_is : (c : ℕ) → widened c ≡ widened_by c (wide_form_of c)
 unfolding wide_form_of widened_by
 widened_is c =
     let f : WideForm → Result (Reader Read) FormatKind = widened_by c in
-    through f (eqb c 0x84) WideOfIinc _ _ (through f (is_left_out_local c) WideOfNone _ _ (through f (is_some (local_op c)) WideOfLocal NoWideForm _ refl))
+    through f (eqb c 0x84) WideOfIinc _ _
+    (through f (is_left_out_local c) WideOfNone _ _
+    (through f (is_some (local_op c)) WideOfLocal NoWideForm _ refl))
 
 -- the test that an opcode of a form passes behind wide
 unfoldable pub wide_passes : ℕ → WideForm → Bool
@@ -190,4 +208,6 @@ pub wide_form_passes : (c : ℕ) → wide_passes c (wide_form_of c) ≡ true
 unfolding wide_form_of wide_passes
 wide_form_passes c =
     let g : WideForm → Bool = wide_passes c in
-    either_holds g (eqb c 0x84) WideOfIinc _ (λ h. h) (either_holds g (is_left_out_local c) WideOfNone _ (λ h. h) (either_holds g (is_some (local_op c)) WideOfLocal NoWideForm (λ h. h) refl))
+    either_holds g (eqb c 0x84) WideOfIinc _ (λ h. h)
+    (either_holds g (is_left_out_local c) WideOfNone _ (λ h. h)
+    (either_holds g (is_some (local_op c)) WideOfLocal NoWideForm (λ h. h) refl))

@@ -1,5 +1,7 @@
--- What an index of the pool leads to is found exactly where it is there: types, classes and references (JVMS 4.4.1, 4.4.2).
-use Rattle.std.proofs.Common.{◌≡◌, inl, inr, ℕ, suc, ◌-◌, ◌^◌, ◌<◌, Bool, true, false, cond, not, ◌&&◌, eqb, List, ◌++◌, Option, Some, None, Result, Ok, Err, refl, sym, ap, subst, ◌∙◌, arith}
+-- What an index of the pool leads to is found exactly where it is there: types, classes and references (JVMS 4.4.1,
+-- 4.4.2).
+use Rattle.std.proofs.Common.{◌≡◌, inl, inr, ℕ, suc, ◌-◌, ◌^◌, ◌<◌, Bool, true, false, cond, not, ◌&&◌, eqb, List, ◌++◌}
+use Rattle.std.proofs.Common.{Option, Some, None, Result, Ok, Err, refl, sym, ap, subst, ◌∙◌, arith}
 use Rattle.std.specs.Prelude.{slice_get, option_and_then, option_map, replicate}
 use Rattle.std.proofs.lemmas.Bool.{eqb-false, ne_eqb}
 use Rattle.jv_base.specs.Outcome.{◌>>=◌}
@@ -18,40 +20,19 @@ use Rattle.class_model.specs.declared.pool.Entry.{Entry}
 use Rattle.class_model.specs.declared.op.MemberRef.{MemberRef}
 use Rattle.class_model.specs.Pool.{units_at, class_units_at, name_index_in, IsText}
 use Rattle.class_model.specs.ConstantPool.{name_and_type_at, class_type, IsNameOfType, IsTypeAt, IsReferenceAt}
-use Rattle.class_model.specs.Lookups.{due, test, value_of, text_of, field_type_of, method_type_of, only_array, named_type, class_at, type_at, text_there, reference, reference_of, reference_at}
+use Rattle.class_model.specs.Lookups.{due, test, value_of, text_of, field_type_of, method_type_of, only_array}
+use Rattle.class_model.specs.Lookups.{named_type, class_at, type_at, text_there, reference, reference_of, reference_at}
 use Rattle.class_model.proofs.TextLaw.{text_found}
-use Rattle.class_model.proofs.BackEntries.{text_back}
-use Rattle.class_model.proofs.NameLaw.{HaveUnits}
+use Rattle.class_model.proofs.BackEntries.{text_back, not_class, array_back}
+use Rattle.class_model.proofs.NameLaw.{HaveUnits, then_ok, due_is, test_is, value_is, both_there}
 
 -- ---- steps
 
--- a step over something that is there
-pub both_there : {A B : Type 0} (f : A → Option B) (o : Option A) (y : B) → option_and_then f o ≡ Some y → (x : A) × (o ≡ Some x) × (f x ≡ Some y)
-both_there f (Some x) y h = (x, refl, h)
-both_there f None y h = absurd cc
-
 -- what was made of something that is there
-pub mapped : {A B : Type 0} (f : A → B) (o : Option A) (y : B) → option_map f o ≡ Some y → (x : A) × (o ≡ Some x) × (f x ≡ y)
+pub mapped : {A B : Type 0} (f : A → B) (o : Option A) (y : B) → option_map f o ≡ Some y
+    → (x : A) × (o ≡ Some x) × (f x ≡ y)
 mapped f (Some x) y h = (x, refl, cc)
 mapped f None y h = absurd cc
-
--- a value that had to be there
-pub due_is : {A : Type 0} (kind : FormatKind) (o : Option A) (x : A) → due kind o ≡ Ok x → o ≡ Some x
-due_is kind (Some y) x h = let e : y ≡ x = cc in ap (λ v. Some v) e
-due_is kind None x h = absurd cc
-
--- a step that did not fail
-pub then_ok : {A B X : Type 0} (r : Result A X) (f : A → Result B X) (y : B) → (r >>= f) ≡ Ok y → (x : A) × (r ≡ Ok x) × (f x ≡ Ok y)
-then_ok (Ok x) f y h = (x, refl, h)
-then_ok (Err e) f y h = absurd cc
-
-test_is : (kind : FormatKind) (b : Bool) (u : Unit {0}) → test kind b ≡ Ok u → b ≡ true
-test_is kind true u h = refl
-test_is kind false u h = absurd cc
-
-pub value_is : {A X : Type 0} (r : Result A X) (x : A) → value_of r ≡ Some x → r ≡ Ok x
-value_is (Ok y) x h = let e : y ≡ x = cc in ap (λ v. Ok v) e
-value_is (Err e) x h = absurd cc
 
 -- ---- types
 
@@ -66,7 +47,9 @@ array_is t ty false e h =
 named_found : (text : List ℕ) (ty : FieldType) → named_type text ≡ Some ty → IsFieldType ty × IsNameOfType text ty
 named_found text ty h = by (is_class_name text) refl h
   where
-    by : (b : Bool) → is_class_name text ≡ b → cond b (Some (class_type text)) (option_and_then only_array (field_type_of text)) ≡ Some ty → IsFieldType ty × IsNameOfType text ty
+    by : (b : Bool) → is_class_name text ≡ b
+        → cond b (Some (class_type text)) (option_and_then only_array (field_type_of text)) ≡ Some ty
+        → IsFieldType ty × IsNameOfType text ty
     by true e g =
         let same : class_type text ≡ ty = cc in
         (subst (λ (t : FieldType). IsFieldType t) same (record { dimensions = omega arith; named = e }), inl (sym same))
@@ -75,19 +58,6 @@ named_found text ty h = by (is_class_name text) refl h
         let f = read_field-found text a.0 (value_is (read_field text) a.0 a.1) in
         let some = array_is a.0 ty (eqb a.0.dims 0) refl a.2 in
         (subst (λ (t : FieldType). IsFieldType t) some.0 f.0, inr (some.1, sym f.1 ∙ ap field_text some.0))
-
--- an array type's descriptor is no class name
-not_class : (ty : FieldType) (n : ℕ) → ty.dims ≡ suc n → is_class_name (field_text ty) ≡ false
-unfolding field_text is_name_byte
-not_class ty n e = class_name_is (field_text ty) ∙ ap (λ (k : ℕ). parts_whole false (replicate k 91 ++ base_text ty.base) && not (is_primitive_or_void (replicate k 91 ++ base_text ty.base))) e
-
-array_back : (ty : FieldType) → IsFieldType ty → 0 < ty.dims → named_type (field_text ty) ≡ Some ty
-array_back ty is some =
-    let n : suc (ty.dims - 1) ≡ ty.dims = omega arith in
-    let other : is_class_name (field_text ty) ≡ false = not_class ty (ty.dims - 1) (sym n) in
-    let dims : eqb ty.dims 0 ≡ false = ne_eqb ty.dims 0 (λ e. omega arith) in
-    let read : field_type_of (field_text ty) ≡ Some ty = ap value_of (read_field-only (field_text ty) ty (is, refl)) in
-    rw (other, read, dims) refl
 
 named_only : (text : List ℕ) (ty : FieldType) → IsFieldType ty → IsNameOfType text ty → named_type text ≡ Some ty
 named_only text ty is (inl class) =
@@ -98,17 +68,21 @@ named_only text ty is (inr array) = ap named_type array.1 ∙ array_back ty is a
 -- ---- at an index
 
 -- units of a class are units of the pool
-class_fits : (pool : List Entry) (index : ℕ) (units : List ℕ) → HaveUnits pool → class_units_at pool index ≡ Some units → IsUnits units
-class_fits pool index units fit h = let a = both_there (units_at pool) (option_and_then name_index_in (slice_get pool index)) units h in fit a.0 units a.2
+class_fits : (pool : List Entry) (index : ℕ) (units : List ℕ) → HaveUnits pool → class_units_at pool index ≡ Some units
+    → IsUnits units
+class_fits pool index units fit h = let a = both_there (units_at pool)
+    (option_and_then name_index_in (slice_get pool index)) units h in fit a.0 units a.2
 
 -- a text of a class
-class_text_found : (pool : List Entry) (index : ℕ) (text : List ℕ) → HaveUnits pool → option_and_then text_of (class_units_at pool index) ≡ Some text → IsText (class_units_at pool index) text
+class_text_found : (pool : List Entry) (index : ℕ) (text : List ℕ) → HaveUnits pool
+    → option_and_then text_of (class_units_at pool index) ≡ Some text → IsText (class_units_at pool index) text
 class_text_found pool index text fit h =
     let a = both_there text_of (class_units_at pool index) text h in
     let f = text_found a.0 text (class_fits pool index a.0 fit a.1) a.2 in
     (f.0, a.1 ∙ ap (λ (u : List ℕ). Some u) f.1)
 
-there_found : (pool : List Entry) (index : ℕ) (text : List ℕ) → HaveUnits pool → text_there pool index ≡ Some text → IsText (units_at pool index) text
+there_found : (pool : List Entry) (index : ℕ) (text : List ℕ) → HaveUnits pool → text_there pool index ≡ Some text
+    → IsText (units_at pool index) text
 there_found pool index text fit h =
     let a = both_there text_of (units_at pool index) text h in
     let f = text_found a.0 text (fit index a.0 a.1) a.2 in
@@ -118,7 +92,8 @@ text_only : (units : Option (List ℕ)) (text : List ℕ) → IsText units text 
 text_only units text h = ap (option_and_then text_of) h.1 ∙ text_back text h.0
 
 -- a class or an array type
-pub type_found : (pool : List Entry) (index : ℕ) (ty : FieldType) → HaveUnits pool → type_at pool index ≡ Some ty → IsTypeAt pool index ty
+pub type_found : (pool : List Entry) (index : ℕ) (ty : FieldType) → HaveUnits pool → type_at pool index ≡ Some ty
+    → IsTypeAt pool index ty
 unfolding type_at
 type_found pool index ty fit h =
     let a = both_there named_type (option_and_then text_of (class_units_at pool index)) ty h in
@@ -127,39 +102,54 @@ type_found pool index ty fit h =
 
 pub type_only : (pool : List Entry) (index : ℕ) (ty : FieldType) → IsTypeAt pool index ty → type_at pool index ≡ Some ty
 unfolding type_at
-type_only pool index ty h = ap (option_and_then named_type) (text_only (class_units_at pool index) h.0 h.1) ∙ named_only h.0 ty h.2 h.3
+type_only pool index ty h = ap (option_and_then named_type) (text_only (class_units_at pool index) h.0 h.1)
+    ∙ named_only h.0 ty h.2 h.3
 
 -- a class
-pub class_found : (pool : List Entry) (index : ℕ) (name : List ℕ) → HaveUnits pool → class_at pool index ≡ Ok name → IsText (class_units_at pool index) name × (is_class_name name ≡ true)
+pub class_found : (pool : List Entry) (index : ℕ) (name : List ℕ) → HaveUnits pool → class_at pool index ≡ Ok name
+    → IsText (class_units_at pool index) name × (is_class_name name ≡ true)
 unfolding class_at
 class_found pool index name fit h =
-    let a = then_ok (due bad.BadIndex (class_units_at pool index)) (λ units. due bad.BadName (text_of units) >>= (λ text. test bad.BadName (is_class_name text) >>= (λ named. Ok text))) name h in
-    let b = then_ok (due bad.BadName (text_of a.0)) (λ text. test bad.BadName (is_class_name text) >>= (λ named. Ok text)) name a.2 in
+    let a = then_ok (due bad.BadIndex (class_units_at pool index))
+    (λ units. due bad.BadName (text_of units) >>=
+    (λ text. test bad.BadName (is_class_name text) >>= (λ named. Ok text))) name h in
+    let b = then_ok (due bad.BadName (text_of a.0))
+    (λ text. test bad.BadName (is_class_name text) >>= (λ named. Ok text)) name a.2 in
     let c = then_ok (test bad.BadName (is_class_name b.0)) (λ named. Ok b.0) name b.2 in
     let is : b.0 ≡ name = (let e : Ok b.0 ≡ Ok name = c.2 in cc) in
     let units : class_units_at pool index ≡ Some a.0 = due_is bad.BadIndex (class_units_at pool index) a.0 a.1 in
     let f = text_found a.0 b.0 (class_fits pool index a.0 fit units) (due_is bad.BadName (text_of a.0) b.0 b.1) in
-    subst (λ (t : List ℕ). IsText (class_units_at pool index) t × (is_class_name t ≡ true)) is ((f.0, units ∙ ap (λ (u : List ℕ). Some u) f.1), test_is bad.BadName (is_class_name b.0) c.0 c.1)
+    subst (λ (t : List ℕ). IsText (class_units_at pool index) t × (is_class_name t ≡ true)) is
+    ((f.0, units ∙ ap (λ (u : List ℕ). Some u) f.1), test_is bad.BadName (is_class_name b.0) c.0 c.1)
 
-pub class_only : (pool : List Entry) (index : ℕ) (name : List ℕ) → IsText (class_units_at pool index) name → is_class_name name ≡ true → class_at pool index ≡ Ok name
+pub class_only : (pool : List Entry) (index : ℕ) (name : List ℕ) → IsText (class_units_at pool index) name
+    → is_class_name name ≡ true → class_at pool index ≡ Ok name
 unfolding class_at
 class_only pool index name h named = rw (h.1, text_back name h.0, named) refl
 
 -- ---- references
 
-reference_is : (of_interface : Bool) (class : Option FieldType) (name ty : Option (List ℕ)) (r : MemberRef) → reference of_interface class name ty ≡ Some r
+reference_is : (of_interface : Bool) (class : Option FieldType) (name ty : Option (List ℕ)) (r : MemberRef)
+    → reference of_interface class name ty ≡ Some r
     → (class ≡ Some r.class) × (name ≡ Some r.name) × (ty ≡ Some r.ty) × (r.of_interface ≡ of_interface)
 reference_is of_interface (Some c) (Some n) (Some t) r h =
-    let is : (let m : MemberRef = record { class = c; name = n; ty = t; of_interface = of_interface } in m) ≡ r = cc in
-    (ap (λ (m : MemberRef). Some m.class) is, ap (λ (m : MemberRef). Some m.name) is, ap (λ (m : MemberRef). Some m.ty) is, sym (ap (λ (m : MemberRef). m.of_interface) is))
+    let is : (let m : MemberRef = record { class = c; name = n; ty = t; of_interface = of_interface } in m) ≡ r = cc in (
+      ap (λ (m : MemberRef). Some m.class) is,
+      ap (λ (m : MemberRef). Some m.name) is,
+      ap
+          (λ (m : MemberRef). Some m.ty) is,
+      sym (ap (λ (m : MemberRef). m.of_interface) is),
+    )
 reference_is of_interface (Some c) (Some n) None r h = absurd cc
 reference_is of_interface (Some c) None t r h = absurd cc
 reference_is of_interface None n t r h = absurd cc
 
-pub reference_found : (refers_in : Entry → Option (ℕ × ℕ)) (of_interface : Bool) (pool : List Entry) (index : ℕ) (r : MemberRef) → HaveUnits pool → index < 2 ^ 16 → reference_at refers_in of_interface pool index ≡ Some r
+pub reference_found : (refers_in : Entry → Option (ℕ × ℕ)) (of_interface : Bool) (pool : List Entry) (index : ℕ)
+    (r : MemberRef) → HaveUnits pool → index < 2 ^ 16 → reference_at refers_in of_interface pool index ≡ Some r
     → IsReferenceAt refers_in pool index r × (r.of_interface ≡ of_interface)
 reference_found refers_in of_interface pool index r fit small h =
-    let a = both_there (λ (two : ℕ × ℕ). option_and_then (reference_of of_interface pool two.0) (name_and_type_at pool two.1)) (option_and_then refers_in (slice_get pool index)) r h in
+    let a = both_there (λ (two : ℕ × ℕ). option_and_then (reference_of of_interface pool two.0)
+    (name_and_type_at pool two.1)) (option_and_then refers_in (slice_get pool index)) r h in
     let b = both_there (reference_of of_interface pool a.0.0) (name_and_type_at pool a.0.1) r a.2 in
     let c = reference_is of_interface (type_at pool a.0.0) (text_there pool b.0.0) (text_there pool b.0.1) r b.2 in (
       record {
@@ -172,17 +162,28 @@ reference_found refers_in of_interface pool index r fit small h =
       c.3,
     )
 
-pub reference_only : (refers_in : Entry → Option (ℕ × ℕ)) (of_interface : Bool) (pool : List Entry) (index : ℕ) (r : MemberRef) → IsReferenceAt refers_in pool index r → r.of_interface ≡ of_interface
+pub reference_only : (refers_in : Entry → Option (ℕ × ℕ)) (of_interface : Bool) (pool : List Entry) (index : ℕ)
+    (r : MemberRef) → IsReferenceAt refers_in pool index r → r.of_interface ≡ of_interface
     → reference_at refers_in of_interface pool index ≡ Some r
 reference_only refers_in of_interface pool index r h is =
     let n = h.name_and_type in
-    rw (h.entry, n.entry, type_only pool h.indices.0 r.class h.class, text_only (units_at pool n.indices.0) r.name n.name_text, text_only (units_at pool n.indices.1) r.ty n.descriptor_text)
-    (ap (λ (b : Bool). Some (let m : MemberRef = record { class = r.class; name = r.name; ty = r.ty; of_interface = b } in m)) (sym is))
+    rw (
+      h.entry,
+      n.entry,
+      type_only pool h.indices.0 r.class h.class,
+      text_only
+          (units_at pool n.indices.0) r.name n.name_text,
+      text_only (units_at pool n.indices.1) r.ty n.descriptor_text,
+    )
+    (ap (λ (b : Bool). Some
+    (let m : MemberRef = record { class = r.class; name = r.name; ty = r.ty; of_interface = b } in m)) (sym is))
 
 -- ---- the type of a method
 
-pub method_found : (text : List ℕ) (ty : MethodType) → method_type_of text ≡ Some ty → IsMethodType ty × (text ≡ method_text ty)
+pub method_found : (text : List ℕ) (ty : MethodType) → method_type_of text ≡ Some ty
+    → IsMethodType ty × (text ≡ method_text ty)
 method_found text ty h = let f = read_method-found text ty (value_is (read_method text) ty h) in (f.0, sym f.1)
 
-pub method_only : (text : List ℕ) (ty : MethodType) → IsMethodType ty → text ≡ method_text ty → method_type_of text ≡ Some ty
+pub method_only : (text : List ℕ) (ty : MethodType) → IsMethodType ty → text ≡ method_text ty
+    → method_type_of text ≡ Some ty
 method_only text ty is e = ap value_of (read_method-only text ty (is, sym e))

@@ -1,5 +1,6 @@
 -- What an entry of the constant pool names is found right exactly where it is right (JVMS 4.4).
-use Rattle.std.proofs.Common.{◌≡◌, ℕ, ◌<◌, Bool, true, false, cond, ◌||◌, eqb, List, Option, Some, None, Result, Ok, Err, ◌⊎◌, inl, inr, refl, sym, ap, subst, ◌∙◌, arith}
+use Rattle.std.proofs.Common.{◌≡◌, ℕ, ◌<◌, Bool, true, false, cond, ◌||◌, eqb, List, Option, Some, None, Result, Ok}
+use Rattle.std.proofs.Common.{Err, ◌⊎◌, inl, inr, refl, sym, ap, subst, ◌∙◌, arith}
 use Rattle.std.specs.Prelude.{slice_get, is_some, option_and_then}
 use Rattle.std.proofs.lemmas.Bool.{eqb-false, ne_eqb}
 use Rattle.jv_base.specs.Outcome.{◌>>=◌}
@@ -16,20 +17,24 @@ use Rattle.format_reading.specs.declared.fault.FormatKind.TheVariants as bad
 use Rattle.class_model.specs.declared.pool.Entry.{Entry}
 use Rattle.class_model.specs.declared.pool.Entry.TheVariants as entry
 use Rattle.class_model.specs.Pool.{units_at, name_index_in, IsText, IsTypeText}
-use Rattle.class_model.specs.ConstantPool.{IsFieldText, IsMethodText, name_and_type_in, name_and_type_at, class_type, IsNameOfType, IsTypeAt, RefersRight, NamesRight}
-use Rattle.class_model.specs.Lookups.{due, test, value_of, text_of, field_type_of, method_type_of, only_array, named_type, text_at, good_text_at, is_field_text, is_method_text, is_descriptor, test_of_units, refers_right, names_right}
+use Rattle.class_model.specs.ConstantPool.{IsFieldText, IsMethodText, name_and_type_in, name_and_type_at, class_type}
+use Rattle.class_model.specs.ConstantPool.{IsNameOfType, IsTypeAt, RefersRight, NamesRight}
+use Rattle.class_model.specs.Lookups.{due, test, value_of, text_of, field_type_of, method_type_of, only_array}
+use Rattle.class_model.specs.Lookups.{named_type, text_at, good_text_at, is_field_text, is_method_text, is_descriptor}
+use Rattle.class_model.specs.Lookups.{test_of_units, refers_right, names_right}
 use Rattle.class_model.proofs.TextLaw.{text_found}
 use Rattle.class_model.proofs.BackEntries.{text_back}
 
 -- ---- a value, or a kind of fault
 
 -- a step that did not fail
-pub then_ok : {A B X : Type 0} (r : Result A X) (f : A → Result B X) (y : B) → (r >>= f) ≡ Ok y → (x : A) × (r ≡ Ok x) × (f x ≡ Ok y)
+pub then_ok : {A B X : Type 0} (r : Result A X) (f : A → Result B X) (y : B) → (r >>= f) ≡ Ok y
+    → (x : A) × (r ≡ Ok x) × (f x ≡ Ok y)
 then_ok (Ok x) f y h = (x, refl, h)
 then_ok (Err e) f y h = absurd cc
 
 -- a value that had to be there
-due_is : {A : Type 0} (kind : FormatKind) (o : Option A) (x : A) → due kind o ≡ Ok x → o ≡ Some x
+pub due_is : {A : Type 0} (kind : FormatKind) (o : Option A) (x : A) → due kind o ≡ Ok x → o ≡ Some x
 due_is kind (Some y) x h = let e : y ≡ x = cc in ap (λ v. Some v) e
 due_is kind None x h = absurd cc
 
@@ -39,7 +44,7 @@ test_is kind true u h = refl
 test_is kind false u h = absurd cc
 
 -- a value that was read
-value_is : {A X : Type 0} (r : Result A X) (x : A) → value_of r ≡ Some x → r ≡ Ok x
+pub value_is : {A X : Type 0} (r : Result A X) (x : A) → value_of r ≡ Some x → r ≡ Ok x
 value_is (Ok y) x h = let e : y ≡ x = cc in ap (λ v. Ok v) e
 value_is (Err e) x h = absurd cc
 
@@ -49,7 +54,8 @@ some_is (Some x) h = (x, refl)
 some_is None h = absurd cc
 
 -- a step over something that is there
-both_there : {A B : Type 0} (f : A → Option B) (o : Option A) (y : B) → option_and_then f o ≡ Some y → (x : A) × (o ≡ Some x) × (f x ≡ Some y)
+pub both_there : {A B : Type 0} (f : A → Option B) (o : Option A) (y : B) → option_and_then f o ≡ Some y
+    → (x : A) × (o ≡ Some x) × (f x ≡ Some y)
 both_there f (Some x) y h = (x, refl, h)
 both_there f None y h = absurd cc
 
@@ -60,7 +66,8 @@ abbrev pub HaveUnits : List Entry → Type 0
 HaveUnits pool = (index : ℕ) (units : List ℕ) → units_at pool index ≡ Some units → IsUnits units
 
 -- the units at an index that were read as a text are those of the text
-pub text_at_found : (pool : List Entry) (kind : FormatKind) (index : ℕ) (text : List ℕ) → HaveUnits pool → text_at kind pool index ≡ Ok text → IsText (units_at pool index) text
+pub text_at_found : (pool : List Entry) (kind : FormatKind) (index : ℕ) (text : List ℕ) → HaveUnits pool
+    → text_at kind pool index ≡ Ok text → IsText (units_at pool index) text
 text_at_found pool kind index text fit h =
     let a = then_ok (due bad.BadIndex (units_at pool index)) (λ units. due kind (text_of units)) text h in
     let there : units_at pool index ≡ Some a.0 = due_is bad.BadIndex (units_at pool index) a.0 a.1 in
@@ -68,18 +75,25 @@ text_at_found pool kind index text fit h =
     (f.0, there ∙ ap (λ (u : List ℕ). Some u) f.1)
 
 -- the units of a text at an index are read as it
-pub text_at_only : (pool : List Entry) (kind : FormatKind) (index : ℕ) (text : List ℕ) → IsText (units_at pool index) text → text_at kind pool index ≡ Ok text
+pub text_at_only : (pool : List Entry) (kind : FormatKind) (index : ℕ) (text : List ℕ)
+    → IsText (units_at pool index) text → text_at kind pool index ≡ Ok text
 text_at_only pool kind index text h = rw (h.1, text_back text h.0) refl
 
 -- a text that passes a test
-pub good_found : (pool : List Entry) (kind : FormatKind) (passes : List ℕ → Bool) (index : ℕ) (text : List ℕ) → HaveUnits pool → good_text_at kind passes pool index ≡ Ok text → IsText (units_at pool index) text × (passes text ≡ true)
+pub good_found : (pool : List Entry) (kind : FormatKind) (passes : List ℕ → Bool) (index : ℕ) (text : List ℕ)
+    → HaveUnits pool → good_text_at kind passes pool index ≡ Ok text
+    → IsText (units_at pool index) text × (passes text ≡ true)
 good_found pool kind passes index text fit h =
     let a = then_ok (text_at kind pool index) (λ t. test kind (passes t) >>= (λ good. Ok t)) text h in
     let b = then_ok (test kind (passes a.0)) (λ good. Ok a.0) text a.2 in
-    let is : a.0 ≡ text = (let e : Ok a.0 ≡ Ok text = b.2 in cc) in
-    (subst (λ (t : List ℕ). IsText (units_at pool index) t) is (text_at_found pool kind index a.0 fit a.1), subst (λ (t : List ℕ). passes t ≡ true) is (test_is kind (passes a.0) b.0 b.1))
+    let is : a.0 ≡ text = (let e : Ok a.0 ≡ Ok text = b.2 in cc) in (
+      subst (λ (t : List ℕ). IsText (units_at pool index) t) is (text_at_found pool kind index a.0 fit a.1),
+      subst
+          (λ (t : List ℕ). passes t ≡ true) is (test_is kind (passes a.0) b.0 b.1),
+    )
 
-pub good_only : (pool : List Entry) (kind : FormatKind) (passes : List ℕ → Bool) (index : ℕ) (text : List ℕ) → IsText (units_at pool index) text → passes text ≡ true → good_text_at kind passes pool index ≡ Ok text
+pub good_only : (pool : List Entry) (kind : FormatKind) (passes : List ℕ → Bool) (index : ℕ) (text : List ℕ)
+    → IsText (units_at pool index) text → passes text ≡ true → good_text_at kind passes pool index ≡ Ok text
 good_only pool kind passes index text h good = rw (h.1, text_back text h.0, good) refl
 
 -- ---- types
@@ -121,12 +135,17 @@ descriptor_only text (inr h) = by (is_field_text text)
     by false = method_only text h
 
 -- an array type of a text that is no class name
-array_found : (text : List ℕ) (ty : FieldType) → option_and_then only_array (field_type_of text) ≡ Some ty → IsFieldType ty × (0 < ty.dims) × (text ≡ field_text ty)
+array_found : (text : List ℕ) (ty : FieldType) → option_and_then only_array (field_type_of text) ≡ Some ty
+    → IsFieldType ty × (0 < ty.dims) × (text ≡ field_text ty)
 array_found text ty h =
     let a = both_there only_array (field_type_of text) ty h in
     let f = read_field-found text a.0 (value_is (read_field text) a.0 a.1) in
-    let some = by a.0 (eqb a.0.dims 0) refl a.2 in
-    (subst (λ (t : FieldType). IsFieldType t) some.1 f.0, subst (λ (t : FieldType). 0 < t.dims) some.1 some.0, sym f.1 ∙ ap field_text some.1)
+    let some = by a.0 (eqb a.0.dims 0) refl a.2 in (
+      subst (λ (t : FieldType). IsFieldType t) some.1 f.0,
+      subst (λ (t : FieldType). 0 < t.dims) some.1 some.0,
+      sym f.1
+          ∙ ap field_text some.1,
+    )
   where
     by : (t : FieldType) (b : Bool) → eqb t.dims 0 ≡ b → cond b None (Some t) ≡ Some ty → (0 < t.dims) × (t ≡ ty)
     by t true e g = absurd cc
@@ -136,14 +155,17 @@ array_found text ty h =
 pub named_found : (text : List ℕ) (ty : FieldType) → named_type text ≡ Some ty → IsTypeText text × IsNameOfType text ty
 named_found text ty h = by (is_class_name text) refl h
   where
-    by : (b : Bool) → is_class_name text ≡ b → cond b (Some (class_type text)) (option_and_then only_array (field_type_of text)) ≡ Some ty → IsTypeText text × IsNameOfType text ty
+    by : (b : Bool) → is_class_name text ≡ b
+        → cond b (Some (class_type text)) (option_and_then only_array (field_type_of text)) ≡ Some ty
+        → IsTypeText text × IsNameOfType text ty
     by true e g = (inl e, inl (sym (let k : class_type text ≡ ty = cc in k)))
     by false e g = let a = array_found text ty g in (inr (ty, a.0, a.1, a.2), inr (a.1, a.2))
 
 named_only : (text : List ℕ) → IsTypeText text → is_some (named_type text) ≡ true
 named_only text h = by (is_class_name text) refl h
   where
-    by : (b : Bool) → is_class_name text ≡ b → IsTypeText text → is_some (cond b (Some (class_type text)) (option_and_then only_array (field_type_of text))) ≡ true
+    by : (b : Bool) → is_class_name text ≡ b → IsTypeText text
+        → is_some (cond b (Some (class_type text)) (option_and_then only_array (field_type_of text))) ≡ true
     by true e k = refl
     by false e (inl k) = let f : true ≡ false = sym k ∙ e in cc
     by false e (inr a) =
@@ -154,7 +176,8 @@ named_only text h = by (is_class_name text) refl h
 -- ---- what entries name
 
 -- the entry at an index of the pool, seen by what it holds
-at_index : {A : Type 0} (f : Entry → Option A) (o : Option Entry) (x : A) → option_and_then f o ≡ Some x → (e : Entry) × (o ≡ Some e) × (f e ≡ Some x)
+pub at_index : {A : Type 0} (f : Entry → Option A) (o : Option Entry) (x : A) → option_and_then f o ≡ Some x
+    → (e : Entry) × (o ≡ Some e) × (f e ≡ Some x)
 at_index f o x h = both_there f o x h
 
 -- a Class entry by its name_index
@@ -173,7 +196,8 @@ class_is entry.Gap n h = absurd cc
 
 -- a NameAndType entry by its two indices
 name_and_type_is : (e : Entry) (two : ℕ × ℕ) → name_and_type_in e ≡ Some two → e ≡ entry.NameAndType two.0 two.1
-name_and_type_is (entry.NameAndType i j) two h = let k : (i, j) ≡ two = cc in ap (λ (t : ℕ × ℕ). entry.NameAndType t.0 t.1) k
+name_and_type_is (entry.NameAndType i j) two h = let k : (i, j)
+    ≡ two = cc in ap (λ (t : ℕ × ℕ). entry.NameAndType t.0 t.1) k
 name_and_type_is (entry.Utf8 units) two h = absurd cc
 name_and_type_is (entry.Integer i) two h = absurd cc
 name_and_type_is (entry.Long i) two h = absurd cc
@@ -186,7 +210,8 @@ name_and_type_is (entry.LeftOut tag) two h = absurd cc
 name_and_type_is entry.Gap two h = absurd cc
 
 -- a Class names right
-class_found : (pool : List Entry) (index : ℕ) → HaveUnits pool → names_right pool (entry.Class index) ≡ Ok tt → NamesRight pool (entry.Class index)
+class_found : (pool : List Entry) (index : ℕ) → HaveUnits pool → names_right pool (entry.Class index) ≡ Ok tt
+    → NamesRight pool (entry.Class index)
 unfolding names_right
 class_found pool index fit h =
     let a = then_ok (text_at bad.BadName pool index) (λ text. test bad.BadName (is_some (named_type text))) tt h in
@@ -194,10 +219,12 @@ class_found pool index fit h =
     (a.0, text_at_found pool bad.BadName index a.0 fit a.1, (named_found a.0 t.0 t.1).0)
 
 -- a name and type names right
-name_and_type_found : (pool : List Entry) (i j : ℕ) → HaveUnits pool → names_right pool (entry.NameAndType i j) ≡ Ok tt → NamesRight pool (entry.NameAndType i j)
+name_and_type_found : (pool : List Entry) (i j : ℕ) → HaveUnits pool → names_right pool (entry.NameAndType i j) ≡ Ok tt
+    → NamesRight pool (entry.NameAndType i j)
 unfolding names_right
 name_and_type_found pool i j fit h =
-    let a = then_ok (good_text_at bad.BadName is_method_name pool i) (λ name. good_text_at bad.BadDescriptor is_descriptor pool j >>= (λ descriptor. Ok tt)) tt h in
+    let a = then_ok (good_text_at bad.BadName is_method_name pool i)
+    (λ name. good_text_at bad.BadDescriptor is_descriptor pool j >>= (λ descriptor. Ok tt)) tt h in
     let b = then_ok (good_text_at bad.BadDescriptor is_descriptor pool j) (λ descriptor. Ok tt) tt a.2 in
     let name = good_found pool bad.BadName is_method_name i a.0 fit a.1 in
     let descriptor = good_found pool bad.BadDescriptor is_descriptor j b.0 fit b.1 in
@@ -208,31 +235,67 @@ abbrev pub AllFound : List Entry → Type 0
 AllFound pool = (index : ℕ) (e : Entry) → slice_get pool index ≡ Some e → names_right pool e ≡ Ok tt
 
 -- a class that an entry names, by the type that its text names
-class_of_text : (pool : List Entry) (class_index name_index : ℕ) (text : List ℕ) → slice_get pool class_index ≡ Some (entry.Class name_index) → IsText (units_at pool name_index) text → IsTypeText text → (ty : FieldType) × IsTypeAt pool class_index ty
-class_of_text pool class_index name_index text there is (inl named) =
-    (class_type text, (text, (is.0, ap (λ o. option_and_then (units_at pool) (option_and_then name_index_in o)) there ∙ is.1), record { dimensions = omega arith; named = named }, inl refl))
-class_of_text pool class_index name_index text there is (inr array) =
-    (array.0, (text, (is.0, ap (λ o. option_and_then (units_at pool) (option_and_then name_index_in o)) there ∙ is.1), array.1, inr (array.2, array.3)))
+class_of_text : (pool : List Entry) (class_index name_index : ℕ) (text : List ℕ)
+    → slice_get pool class_index ≡ Some (entry.Class name_index) → IsText (units_at pool name_index) text
+    → IsTypeText text → (ty : FieldType) × IsTypeAt pool class_index ty
+class_of_text pool class_index name_index text there is (inl named) = (
+  class_type text,
+  (
+    text,
+    (
+      is.0,
+      ap (λ o. option_and_then (units_at pool) (option_and_then name_index_in o)) there
+          ∙ is.1,
+    ),
+    record { dimensions = omega arith; named = named },
+    inl refl,
+  ),
+)
+class_of_text pool class_index name_index text there is (inr array) = (
+  array.0,
+  (
+    text,
+    (
+      is.0,
+      ap (λ o. option_and_then (units_at pool) (option_and_then name_index_in o)) there
+          ∙ is.1,
+    ),
+    array.1,
+    inr (array.2, array.3),
+  ),
+)
 
 -- the units of a text of a name and type pass a test
-units_pass : (pool : List Entry) (kind : FormatKind) (passes : List ℕ → Bool) (index : ℕ) (text : List ℕ) (u : Unit {0}) → IsText (units_at pool index) text → test_of_units kind passes (units_at pool index) ≡ Ok u → passes text ≡ true
-units_pass pool kind passes index text u is h = test_is kind (passes text) u (sym (rw (is.1, text_back text is.0) refl) ∙ h)
+units_pass : (pool : List Entry) (kind : FormatKind) (passes : List ℕ → Bool) (index : ℕ) (text : List ℕ) (u : Unit {0})
+    → IsText (units_at pool index) text → test_of_units kind passes (units_at pool index) ≡ Ok u → passes text ≡ true
+units_pass pool kind passes index text u is h = test_is kind (passes text) u
+    (sym (rw (is.1, text_back text is.0) refl) ∙ h)
 
 -- a reference names right where all entries do
-reference_found : (pool : List Entry) (is_name is_described : List ℕ → Bool) (Described : List ℕ → Type 0) (class_index index : ℕ) → HaveUnits pool → AllFound pool → ((text : List ℕ) → is_described text ≡ true → Described text)
-    → refers_right is_name is_described pool class_index index ≡ Ok tt → RefersRight pool class_index index is_name Described
+reference_found : (pool : List Entry) (is_name is_described : List ℕ → Bool) (Described : List ℕ → Type 0)
+    (class_index index : ℕ) → HaveUnits pool → AllFound pool
+    → ((text : List ℕ) → is_described text ≡ true → Described text)
+    → refers_right is_name is_described pool class_index index ≡ Ok tt
+    → RefersRight pool class_index index is_name Described
 reference_found pool is_name is_described Described class_index index fit all described h =
     let a = then_ok (due bad.BadIndex (option_and_then name_index_in (slice_get pool class_index)))
-    (λ class. due bad.BadIndex (name_and_type_at pool index) >>= (λ indices. test_of_units bad.BadName is_name (units_at pool indices.0) >>= (λ named. test_of_units bad.BadDescriptor is_described (units_at pool indices.1)))) tt h in
+    (λ class. due bad.BadIndex (name_and_type_at pool index) >>=
+    (λ indices. test_of_units bad.BadName is_name (units_at pool indices.0) >>=
+    (λ named. test_of_units bad.BadDescriptor is_described (units_at pool indices.1)))) tt h in
     let b = then_ok (due bad.BadIndex (name_and_type_at pool index))
-    (λ indices. test_of_units bad.BadName is_name (units_at pool indices.0) >>= (λ named. test_of_units bad.BadDescriptor is_described (units_at pool indices.1))) tt a.2 in
-    let c = then_ok (test_of_units bad.BadName is_name (units_at pool b.0.0)) (λ named. test_of_units bad.BadDescriptor is_described (units_at pool b.0.1)) tt b.2 in
-    let class = at_index name_index_in (slice_get pool class_index) a.0 (due_is bad.BadIndex (option_and_then name_index_in (slice_get pool class_index)) a.0 a.1) in
-    let class-there : slice_get pool class_index ≡ Some (entry.Class a.0) = class.1 ∙ ap (λ (e : Entry). Some e) (class_is class.0 a.0 class.2) in
+    (λ indices. test_of_units bad.BadName is_name (units_at pool indices.0) >>=
+    (λ named. test_of_units bad.BadDescriptor is_described (units_at pool indices.1))) tt a.2 in
+    let c = then_ok (test_of_units bad.BadName is_name (units_at pool b.0.0))
+    (λ named. test_of_units bad.BadDescriptor is_described (units_at pool b.0.1)) tt b.2 in
+    let class = at_index name_index_in (slice_get pool class_index) a.0
+    (due_is bad.BadIndex (option_and_then name_index_in (slice_get pool class_index)) a.0 a.1) in
+    let class-there : slice_get pool class_index ≡ Some (entry.Class a.0) = class.1
+    ∙ ap (λ (e : Entry). Some e) (class_is class.0 a.0 class.2) in
     let class-right = class_found pool a.0 fit (all class_index (entry.Class a.0) class-there) in
     let two-at : name_and_type_at pool index ≡ Some b.0 = due_is bad.BadIndex (name_and_type_at pool index) b.0 b.1 in
     let two = at_index name_and_type_in (slice_get pool index) b.0 two-at in
-    let two-there : slice_get pool index ≡ Some (entry.NameAndType b.0.0 b.0.1) = two.1 ∙ ap (λ (e : Entry). Some e) (name_and_type_is two.0 b.0 two.2) in
+    let two-there : slice_get pool index ≡ Some (entry.NameAndType b.0.0 b.0.1) = two.1
+    ∙ ap (λ (e : Entry). Some e) (name_and_type_is two.0 b.0 two.2) in
     let two-right = name_and_type_found pool b.0.0 b.0.1 fit (all index (entry.NameAndType b.0.0 b.0.1) two-there) in
     record {
       class = class_of_text pool class_index a.0 class-right.0 class-there class-right.1 class-right.2;
@@ -240,20 +303,25 @@ reference_found pool is_name is_described Described class_index index fit all de
       descriptor = two-right.1;
       name_and_type = record { indices = b.0; entry = two-at; name_text = two-right.2; descriptor_text = two-right.4 };
       named = units_pass pool bad.BadName is_name b.0.0 two-right.0 c.0 two-right.2 c.1;
-      described = described two-right.1 (units_pass pool bad.BadDescriptor is_described b.0.1 two-right.1 tt two-right.4 c.2);
+      described = described two-right.1
+          (units_pass pool bad.BadDescriptor is_described b.0.1 two-right.1 tt two-right.4 c.2);
     }
 
 -- an entry names right where all entries are found so
-pub names_found : (pool : List Entry) (e : Entry) → HaveUnits pool → AllFound pool → names_right pool e ≡ Ok tt → NamesRight pool e
+pub names_found : (pool : List Entry) (e : Entry) → HaveUnits pool → AllFound pool → names_right pool e ≡ Ok tt
+    → NamesRight pool e
 unfolding names_right
 names_found pool (entry.Class i) fit all h = class_found pool i fit h
 names_found pool (entry.Str i) fit all h =
     let a = then_ok (due bad.BadIndex (units_at pool i)) (λ units. Ok tt) tt h in
     (a.0, due_is bad.BadIndex (units_at pool i) a.0 a.1)
 names_found pool (entry.NameAndType i j) fit all h = name_and_type_found pool i j fit h
-names_found pool (entry.Field i j) fit all h = reference_found pool is_member_name is_field_text IsFieldText i j fit all field_found h
-names_found pool (entry.Method i j) fit all h = reference_found pool is_method_name is_method_text IsMethodText i j fit all method_found h
-names_found pool (entry.InterfaceMethod i j) fit all h = reference_found pool is_method_name is_method_text IsMethodText i j fit all method_found h
+names_found pool
+    (entry.Field i j) fit all h = reference_found pool is_member_name is_field_text IsFieldText i j fit all field_found h
+names_found pool
+    (entry.Method i j) fit all h = reference_found pool is_method_name is_method_text IsMethodText i j fit all method_found h
+names_found pool
+    (entry.InterfaceMethod i j) fit all h = reference_found pool is_method_name is_method_text IsMethodText i j fit all method_found h
 names_found pool (entry.Utf8 units) fit all h = tt
 names_found pool (entry.Integer n) fit all h = tt
 names_found pool (entry.Long n) fit all h = tt
@@ -263,25 +331,36 @@ names_found pool entry.Gap fit all h = tt
 -- ---- and the other way
 
 -- the units of a text of a name and type pass a test that the text passes
-units_pass_only : (pool : List Entry) (kind : FormatKind) (passes : List ℕ → Bool) (index : ℕ) (text : List ℕ) → IsText (units_at pool index) text → passes text ≡ true → test_of_units kind passes (units_at pool index) ≡ Ok tt
+units_pass_only : (pool : List Entry) (kind : FormatKind) (passes : List ℕ → Bool) (index : ℕ) (text : List ℕ)
+    → IsText (units_at pool index) text → passes text ≡ true → test_of_units kind passes (units_at pool index) ≡ Ok tt
 units_pass_only pool kind passes index text is good = rw (is.1, text_back text is.0, good) refl
 
-reference_only : (pool : List Entry) (is_name is_described : List ℕ → Bool) (Described : List ℕ → Type 0) (class_index index : ℕ) → ((text : List ℕ) → Described text → is_described text ≡ true)
-    → RefersRight pool class_index index is_name Described → refers_right is_name is_described pool class_index index ≡ Ok tt
+reference_only : (pool : List Entry) (is_name is_described : List ℕ → Bool) (Described : List ℕ → Type 0)
+    (class_index index : ℕ) → ((text : List ℕ) → Described text → is_described text ≡ true)
+    → RefersRight pool class_index index is_name Described
+    → refers_right is_name is_described pool class_index index ≡ Ok tt
 reference_only pool is_name is_described Described class_index index described r =
     let two = r.name_and_type in
-    let class = both_there (units_at pool) (option_and_then name_index_in (slice_get pool class_index)) (units_of r.class.1.0) r.class.1.1.1 in
-    rw (class.1, two.entry, units_pass_only pool bad.BadName is_name two.indices.0 r.name two.name_text r.named) (units_pass_only pool bad.BadDescriptor is_described two.indices.1 r.descriptor two.descriptor_text (described r.descriptor r.described))
+    let class = both_there (units_at pool) (option_and_then name_index_in (slice_get pool class_index))
+    (units_of r.class.1.0) r.class.1.1.1 in
+    rw (class.1, two.entry, units_pass_only pool bad.BadName is_name two.indices.0 r.name two.name_text r.named)
+    (units_pass_only pool bad.BadDescriptor is_described two.indices.1 r.descriptor two.descriptor_text
+    (described r.descriptor r.described))
 
 -- an entry that names right is found so
 pub names_only : (pool : List Entry) (e : Entry) → NamesRight pool e → names_right pool e ≡ Ok tt
 unfolding names_right
 names_only pool (entry.Class i) h = rw (text_at_only pool bad.BadName i h.0 h.1, named_only h.0 h.2) refl
 names_only pool (entry.Str i) h = rw h.1 refl
-names_only pool (entry.NameAndType i j) h = rw (good_only pool bad.BadName is_method_name i h.0 h.2 h.3, good_only pool bad.BadDescriptor is_descriptor j h.1 h.4 (descriptor_only h.1 h.5)) refl
+names_only pool (entry.NameAndType i j) h = rw (
+  good_only pool bad.BadName is_method_name i h.0 h.2 h.3,
+  good_only pool bad.BadDescriptor is_descriptor j h.1 h.4
+      (descriptor_only h.1 h.5),
+) refl
 names_only pool (entry.Field i j) h = reference_only pool is_member_name is_field_text IsFieldText i j field_only h
 names_only pool (entry.Method i j) h = reference_only pool is_method_name is_method_text IsMethodText i j method_only h
-names_only pool (entry.InterfaceMethod i j) h = reference_only pool is_method_name is_method_text IsMethodText i j method_only h
+names_only pool
+    (entry.InterfaceMethod i j) h = reference_only pool is_method_name is_method_text IsMethodText i j method_only h
 names_only pool (entry.Utf8 units) h = refl
 names_only pool (entry.Integer n) h = refl
 names_only pool (entry.Long n) h = refl

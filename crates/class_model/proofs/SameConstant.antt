@@ -1,7 +1,9 @@
 -- Two constants are one by the derived comparison where they are by the definition.
 use Rattle.std.proofs.Common.{◌≡◌, refl}
 use Rattle.class_model.specs.declared.constant.PoolConstant.{PoolConstant}
-use Rattle.class_model.specs.declared.constant.PoolConstant.TheVariants.{Utf8, Integer, Long, SecondOfLong, Class, Str, NameAndType, Fieldref, Methodref, InterfaceMethodref}
+use Rattle.class_model.specs.declared.constant.PoolConstant.TheVariants.{Utf8, Integer, Long, SecondOfLong, Class, Str}
+use Rattle.class_model.specs.declared.constant.PoolConstant.TheVariants.{NameAndType, Fieldref, Methodref}
+use Rattle.class_model.specs.declared.constant.PoolConstant.TheVariants.{InterfaceMethodref}
 use Rattle.class_model.specs.contracts.constant.PoolConstantPartialEq.TheImpl.{eq-value}
 use Rattle.class_model.specs.CanonicalPool.{same}
 

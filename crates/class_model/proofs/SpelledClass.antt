@@ -3,7 +3,7 @@ use Rattle.std.proofs.Common.{◌≡◌, ℕ, ◌<◌, Bool, true, false, List, 
 use Rattle.std.specs.Prelude.{pos, codes, None, AllPairs, length, ◌&&◌, nat_lt}
 use Rattle.std.specs.List.{list_all}
 use Rattle.std.specs.Str.{chars}
-use Rattle.std.proofs.lemmas.Bool.{ltb-true}
+use Rattle.std.proofs.lemmas.Bool.{ltb-true, and_parts}
 use Rattle.jv_base.specs.Utf16.{units_of}
 use Rattle.jv_base.specs.Mutf8.{unit_bytes, mutf8, IsUnits}
 use Rattle.jv_base.specs.Names.{is_primitive_or_void, is_name_byte, is_member_name, is_method_name, is_class_name}
@@ -56,8 +56,10 @@ method_raw = record {
 abbrev raw : ClassFile
 raw = record {
   constant_pool_count = 17;
-  constant_pool = Utf8Info (codes "T") ∷ ClassInfo 1 ∷ Utf8Info object ∷ ClassInfo 3 ∷ Utf8Info (codes "f") ∷ Utf8Info (codes "(I)I")
-      ∷ Utf8Info (codes "Code") ∷ Utf8Info (codes "StackMapTable") ∷ LongInfo 1 2 ∷ Utf8Info (codes "ConstantValue") ∷ Utf8Info (codes "J")
+  constant_pool = Utf8Info (codes "T") ∷ ClassInfo 1 ∷ Utf8Info object ∷ ClassInfo 3 ∷ Utf8Info (codes "f") ∷ Utf8Info
+      (codes "(I)I")
+      ∷ Utf8Info (codes "Code") ∷ Utf8Info (codes "StackMapTable") ∷ LongInfo 1 2 ∷ Utf8Info
+      (codes "ConstantValue") ∷ Utf8Info (codes "J")
       ∷ IntegerInfo 7 ∷ Utf8Info (codes "LineNumberTable") ∷ Utf8Info (codes "<init>") ∷ Utf8Info (codes "()V") ∷ [];
   access_flags = 0x0021;
   this_class = 2;
@@ -69,14 +71,20 @@ raw = record {
 }
 
 abbrev entries : List Entry
-entries = entry.Utf8 (codes "T") ∷ entry.Class 1 ∷ entry.Utf8 object ∷ entry.Class 3 ∷ entry.Utf8 (codes "f") ∷ entry.Utf8 (codes "(I)I")
-    ∷ entry.Utf8 (codes "Code") ∷ entry.Utf8 (codes "StackMapTable") ∷ entry.Long (long_of 1 2) ∷ entry.Utf8 (codes "ConstantValue") ∷ entry.Utf8 (codes "J")
-    ∷ entry.Integer (pos 7) ∷ entry.Utf8 (codes "LineNumberTable") ∷ entry.Utf8 (codes "<init>") ∷ entry.Utf8 (codes "()V") ∷ []
+entries = entry.Utf8 (codes "T") ∷ entry.Class 1 ∷ entry.Utf8 object ∷ entry.Class 3 ∷ entry.Utf8
+    (codes "f") ∷ entry.Utf8 (codes "(I)I")
+    ∷ entry.Utf8 (codes "Code") ∷ entry.Utf8 (codes "StackMapTable") ∷ entry.Long (long_of 1 2) ∷ entry.Utf8
+    (codes "ConstantValue") ∷ entry.Utf8 (codes "J")
+    ∷ entry.Integer (pos 7) ∷ entry.Utf8 (codes "LineNumberTable") ∷ entry.Utf8 (codes "<init>") ∷ entry.Utf8
+    (codes "()V") ∷ []
 
 abbrev pool : List Entry
-pool = entry.Gap ∷ entry.Utf8 (codes "T") ∷ entry.Class 1 ∷ entry.Utf8 object ∷ entry.Class 3 ∷ entry.Utf8 (codes "f") ∷ entry.Utf8 (codes "(I)I")
-    ∷ entry.Utf8 (codes "Code") ∷ entry.Utf8 (codes "StackMapTable") ∷ entry.Long (long_of 1 2) ∷ entry.Gap ∷ entry.Utf8 (codes "ConstantValue") ∷ entry.Utf8 (codes "J")
-    ∷ entry.Integer (pos 7) ∷ entry.Utf8 (codes "LineNumberTable") ∷ entry.Utf8 (codes "<init>") ∷ entry.Utf8 (codes "()V") ∷ []
+pool = entry.Gap ∷ entry.Utf8 (codes "T") ∷ entry.Class 1 ∷ entry.Utf8 object ∷ entry.Class 3 ∷ entry.Utf8
+    (codes "f") ∷ entry.Utf8 (codes "(I)I")
+    ∷ entry.Utf8 (codes "Code") ∷ entry.Utf8 (codes "StackMapTable") ∷ entry.Long (long_of 1 2) ∷ entry.Gap ∷ entry.Utf8
+    (codes "ConstantValue") ∷ entry.Utf8 (codes "J")
+    ∷ entry.Integer (pos 7) ∷ entry.Utf8 (codes "LineNumberTable") ∷ entry.Utf8 (codes "<init>") ∷ entry.Utf8
+    (codes "()V") ∷ []
 
 -- ---- texts
 
@@ -101,23 +109,19 @@ field_descriptor : IsText (units_at pool 12) (codes "J")
 unfolding units_of chars lib.Utf8.encode
 field_descriptor = ((codes "J", (refl, refl)), refl)
 
--- both tests pass
-both : (x y : Bool) → (x && y) ≡ true → (x ≡ true) × (y ≡ true)
-both true y h = (refl, h)
-both false y h = cc
-
 -- numbers that pass a test are units
 abbrev is_unit : ℕ → Bool
 is_unit n = nat_lt n 65536
 
 units : (numbers : List ℕ) → list_all is_unit numbers ≡ true → IsUnits numbers
 units [] h i = omega arith
-units (n ∷ numbers) h zero = ltb-true n 65536 (both (is_unit n) (list_all is_unit numbers) h).0
-units (n ∷ numbers) h (suc i) = units numbers (both (is_unit n) (list_all is_unit numbers) h).1 i
+units (n ∷ numbers) h zero = ltb-true n 65536 (and_parts (is_unit n) (list_all is_unit numbers) h).0
+units (n ∷ numbers) h (suc i) = units numbers (and_parts (is_unit n) (list_all is_unit numbers) h).1 i
 
 -- ---- the pool
 
-utf8 : (text : List ℕ) → length text < 65536 → list_all is_unit text ≡ true → text ≡ mutf8 text → IsConstant (Utf8Info text) (entry.Utf8 text)
+utf8 : (text : List ℕ) → length text < 65536 → list_all is_unit text ≡ true → text ≡ mutf8 text
+    → IsConstant (Utf8Info text) (entry.Utf8 text)
 utf8 text short small same = (short, text, units text small, same, refl)
 
 pool_is : IsPool 17 raw.constant_pool pool
@@ -150,7 +154,10 @@ pool_is = record {
                           (omega arith, refl),
                           (
                             utf8 (codes "LineNumberTable") (omega arith) refl refl,
-                            (utf8 (codes "<init>") (omega arith) refl refl, (utf8 (codes "()V") (omega arith) refl refl, tt)),
+                            (
+                              utf8 (codes "<init>") (omega arith) refl refl,
+                              (utf8 (codes "()V") (omega arith) refl refl, tt),
+                            ),
                           ),
                         ),
                       ),
@@ -167,7 +174,19 @@ pool_is = record {
   numbers = refl;
   count_fits = omega arith;
   counted = refl;
-  names = (tt, ((codes "T", t_text, inl refl), (tt, ((object, object_text, inl refl), (tt, (tt, (tt, (tt, (tt, (tt, (tt, (tt, (tt, (tt, (tt, tt)))))))))))))));
+  names = (
+    tt,
+    (
+      (codes "T", t_text, inl refl),
+      (
+        tt,
+        (
+          (object, object_text, inl refl),
+          (tt, (tt, (tt, (tt, (tt, (tt, (tt, (tt, (tt, (tt, (tt, tt))))))))))),
+        ),
+      ),
+    ),
+  );
 }
 
 -- ---- members
@@ -180,7 +199,11 @@ field_is = record {
   named_right = refl;
   descriptor = (omega arith, field_descriptor);
   typed = record { dimensions = omega arith; named = tt };
-  attributes = record { count_fits = omega arith; each = (record { index_fits = omega arith; name = codes "ConstantValue"; named = refl; length_fits = omega arith }, tt) };
+  attributes = record {
+    count_fits = omega arith;
+    each =
+        (record { index_fits = omega arith; name = codes "ConstantValue"; named = refl; length_fits = omega arith }, tt);
+  };
   constant = (9, omega arith, refl, ((refl, refl), refl));
   synthetic = refl;
   deprecated = refl;
@@ -201,8 +224,24 @@ code_is = record {
   infos = infos;
   is = refl;
   lines = lines;
-  instructions = ((refl, refl), (((omega arith, 4, (6, refl, refl), refl), refl), ((refl, refl), ((refl, refl), ((refl, refl), ((refl, refl), tt))))));
-  handlers = (record { from = refl; to = refl; range = omega arith; entry = refl; caught = (omega arith, object_text, refl) }, tt);
+  instructions = (
+    (refl, refl),
+    (
+      ((omega arith, 4, (6, refl, refl), refl), refl),
+      ((refl, refl), ((refl, refl), ((refl, refl), ((refl, refl), tt)))),
+    ),
+  );
+  handlers = (
+    record {
+      from = refl;
+      to = refl;
+      range = omega arith;
+      entry = refl;
+      caught =
+          (omega arith, object_text, refl);
+    },
+    tt,
+  );
   attributes = record {
     count_fits = omega arith;
     each = (
@@ -210,7 +249,18 @@ code_is = record {
       (record { index_fits = omega arith; name = codes "StackMapTable"; named = refl; length_fits = omega arith }, tt),
     );
   };
-  line_tables = (lines, [], record { is = refl; count_fits = omega arith; fit = ((omega arith, omega arith), tt) }, refl, refl);
+  line_tables = (
+    lines,
+    [],
+    record {
+      is = refl;
+      count_fits = omega arith;
+      fit =
+          ((omega arith, omega arith), tt);
+    },
+    refl,
+    refl,
+  );
   rows = SameFrame 6 ∷ [];
   map = (omega arith, refl);
   frames = (
@@ -245,7 +295,11 @@ method_is = record {
   room_for_this = refl;
   initial_flags = refl;
   initial_type = refl;
-  attributes = record { count_fits = omega arith; each = (record { index_fits = omega arith; name = codes "Code"; named = refl; length_fits = omega arith }, tt) };
+  attributes = record {
+    count_fits = omega arith;
+    each =
+        (record { index_fits = omega arith; name = codes "Code"; named = refl; length_fits = omega arith }, tt);
+  };
   code = (code_raw, refl, code_is);
   throws = refl;
   synthetic = refl;

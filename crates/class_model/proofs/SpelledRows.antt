@@ -59,7 +59,21 @@ a_units : IsUnits a_name
 a_units = (units_cons 65 [] (omega arith) units_nil)
 
 object_units : IsUnits object
-object_units = (units_cons 106 (codes "ava/lang/Object") (omega arith) (units_cons 97 (codes "va/lang/Object") (omega arith) (units_cons 118 (codes "a/lang/Object") (omega arith) (units_cons 97 (codes "/lang/Object") (omega arith) (units_cons 47 (codes "lang/Object") (omega arith) (units_cons 108 (codes "ang/Object") (omega arith) (units_cons 97 (codes "ng/Object") (omega arith) (units_cons 110 (codes "g/Object") (omega arith) (units_cons 103 (codes "/Object") (omega arith) (units_cons 47 (codes "Object") (omega arith) (units_cons 79 (codes "bject") (omega arith) (units_cons 98 (codes "ject") (omega arith) (units_cons 106 (codes "ect") (omega arith) (units_cons 101 (codes "ct") (omega arith) (units_cons 99 (codes "t") (omega arith) (units_cons 116 [] (omega arith) units_nil))))))))))))))))
+object_units = (units_cons 106 (codes "ava/lang/Object") (omega arith)
+    (units_cons 97 (codes "va/lang/Object") (omega arith)
+    (units_cons 118 (codes "a/lang/Object") (omega arith)
+    (units_cons 97 (codes "/lang/Object") (omega arith)
+    (units_cons 47 (codes "lang/Object") (omega arith)
+    (units_cons 108 (codes "ang/Object") (omega arith)
+    (units_cons 97 (codes "ng/Object") (omega arith)
+    (units_cons 110 (codes "g/Object") (omega arith)
+    (units_cons 103 (codes "/Object") (omega arith)
+    (units_cons 47 (codes "Object") (omega arith)
+    (units_cons 79 (codes "bject") (omega arith)
+    (units_cons 98 (codes "ject") (omega arith)
+    (units_cons 106 (codes "ect") (omega arith)
+    (units_cons 101 (codes "ct") (omega arith)
+    (units_cons 99 (codes "t") (omega arith) (units_cons 116 [] (omega arith) units_nil))))))))))))))))
 
 -- nothing has no pairs
 no_pairs : {X : Type 0} (R : X → X → Type 0) → AllPairs R []
@@ -69,7 +83,10 @@ pool_is : IsPool 5 raw.constant_pool pool
 unfolding unit_bytes mutf8 is_primitive_or_void is_name_byte is_member_name is_class_name
 pool_is = record {
   entries = entries;
-  stand = ((omega arith, a_name, a_units, refl, refl), ((omega arith, refl), ((omega arith, object, object_units, refl, refl), ((omega arith, refl), tt))));
+  stand = (
+    (omega arith, a_name, a_units, refl, refl),
+    ((omega arith, refl), ((omega arith, object, object_units, refl, refl), ((omega arith, refl), tt))),
+  );
   numbers = refl;
   count_fits = omega arith;
   counted = refl;

@@ -25,7 +25,8 @@ none_there (None ∷ os) h = refl
 none_there (Some x ∷ os) h = ap (with_first (Some x)) (none_there os h)
 
 -- where no surrogate is alone, the characters are a text
-pub text_is : (units : List ℕ) → has_unpaired_surrogate units ≡ false → text_of units ≡ Some (encode_utf8_all (utf16_lossy_chars units))
+pub text_is : (units : List ℕ) → has_unpaired_surrogate units ≡ false
+    → text_of units ≡ Some (encode_utf8_all (utf16_lossy_chars units))
 unfolding text_of
 text_is units h = ap (option_map encode_utf8_all) (all_lossy (utf16_chars units) h)
 

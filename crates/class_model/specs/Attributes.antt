@@ -1,5 +1,6 @@
 -- The attributes of a class file by their names, and those whose contents are short (JVMS 4.7).
-use Rattle.std.specs.Prelude.{◌≡◌, ◌⊎◌, ℕ, ◌^◌, ◌<◌, Bool, true, false, List, [], ◌∷◌, ◌++◌, length, filter, Option, Some, None, nat_eq, codes, slice_get}
+use Rattle.std.specs.Prelude.{◌≡◌, ◌⊎◌, ℕ, ◌^◌, ◌<◌, Bool, true, false, List, [], ◌∷◌, ◌++◌, length, filter, Option}
+use Rattle.std.specs.Prelude.{Some, None, nat_eq, codes, slice_get}
 use Rattle.std.specs.Int.{w16, to_be_bytes}
 use Rattle.std.specs.List.{AllByRecursion, AllZip, flat_map}
 use Rattle.std.specs.Cmp.Lexicographic.{pointwise}
@@ -35,7 +36,8 @@ is_named None name = false
 
 -- the attributes of a name (JVMS 4.7)
 abbrev pub named : List Entry → List ℕ → List AttributeInfo → List AttributeInfo
-named pool name attributes = filter (λ (a : AttributeInfo). is_named (units_at pool a.attribute_name_index) name) attributes
+named pool name attributes = filter
+    (λ (a : AttributeInfo). is_named (units_at pool a.attribute_name_index) name) attributes
 
 -- an attribute with any name, whose contents have a length (JVMS 4.7)
 pub record IsAttribute (pool : List Entry) (a : AttributeInfo) : Type 0 where
@@ -67,7 +69,8 @@ IsMark (a ∷ b ∷ others) set = ⊥
 
 -- SourceFile: the units of the text at its index (JVMS 4.7.10)
 abbrev pub IsSourceFile : List Entry → List ℕ → List ℕ → Type 0
-IsSourceFile pool info units = (index : ℕ) × (index < 2 ^ 16) × (info ≡ to_be_bytes w16 index) × (units_at pool index ≡ Some units)
+IsSourceFile pool info units = (index : ℕ) × (index < 2 ^ 16) × (info ≡ to_be_bytes w16 index)
+    × (units_at pool index ≡ Some units)
 
 -- Exceptions: classes by their indices (JVMS 4.7.5)
 pub record IsExceptions (pool : List Entry) (info : List ℕ) (classes : List (List ℕ)) : Type 0 where
@@ -88,21 +91,26 @@ IsPlain b ty = (ty.dims ≡ 0) × (ty.base ≡ b)
 
 -- the types whose constants are ints (JVMS 4.7.2, table 4.7.2-A)
 abbrev pub IsIntLike : FieldType → Type 0
-IsIntLike ty = IsPlain base.Int ty ⊎ IsPlain base.Short ty ⊎ IsPlain base.Char ty ⊎ IsPlain base.Byte ty ⊎ IsPlain base.Boolean ty
+IsIntLike ty = IsPlain base.Int ty ⊎ IsPlain base.Short ty ⊎ IsPlain base.Char ty ⊎ IsPlain base.Byte ty
+    ⊎ IsPlain base.Boolean ty
 
--- the constant that a field of a type has by an entry of the pool; a float or a double is left out, and then there is none
+-- the constant that a field of a type has by an entry of the pool; a float or a double is left out, and then there is
+-- none
 -- (JVMS 4.7.2)
 abbrev pub IsConstantOf : List Entry → ℕ → FieldType → Option Constant → Type 0
 IsConstantOf pool index ty (Some (constant.Int n)) = IsIntLike ty × (slice_get pool index ≡ Some (entry.Integer n))
-IsConstantOf pool index ty (Some (constant.Long n)) = IsPlain base.Long ty × (slice_get pool index ≡ Some (entry.Long n))
-IsConstantOf pool index ty (Some (constant.Text units)) = IsPlain (base.Class (codes "java/lang/String")) ty × (string_units_at pool index ≡ Some units)
+IsConstantOf pool index ty (Some (constant.Long n)) = IsPlain base.Long ty
+    × (slice_get pool index ≡ Some (entry.Long n))
+IsConstantOf pool index ty (Some (constant.Text units)) = IsPlain (base.Class (codes "java/lang/String")) ty
+    × (string_units_at pool index ≡ Some units)
 IsConstantOf pool index ty None =
     IsPlain base.Float ty × (slice_get pool index ≡ Some (entry.LeftOut 4))
     ⊎ IsPlain base.Double ty × (slice_get pool index ≡ Some (entry.LeftOut 6))
 
 -- ConstantValue: a constant by its index (JVMS 4.7.2)
 abbrev pub IsConstantValue : List Entry → FieldType → List ℕ → Option Constant → Type 0
-IsConstantValue pool ty info value = (index : ℕ) × (index < 2 ^ 16) × (info ≡ to_be_bytes w16 index) × IsConstantOf pool index ty value
+IsConstantValue pool ty info value = (index : ℕ) × (index < 2 ^ 16) × (info ≡ to_be_bytes w16 index)
+    × IsConstantOf pool index ty value
 
 -- a static field has the constant of its attribute ConstantValue, of which there is at most one; elsewhere it is
 -- dropped (JVMS 4.7.2)

@@ -1,5 +1,6 @@
 -- The canonical spelling of a class (JVMS 4; which of its spellings it is, is the project's own).
-use Rattle.std.specs.Prelude.{ℕ, ◌+◌, Bool, true, not, List, [], ◌∷◌, ◌++◌, length, map, slice_index, codes, Option, Some, None, nat_eq, ◌==◌, if◌then◌else◌}
+use Rattle.std.specs.Prelude.{ℕ, ◌+◌, Bool, true, not, List, [], ◌∷◌, ◌++◌, length, map, slice_index, codes, Option}
+use Rattle.std.specs.Prelude.{Some, None, nat_eq, ◌==◌, if◌then◌else◌}
 use Rattle.std.specs.Int.{w16, to_be_bytes}
 use Rattle.std.specs.List.{flat_map}
 use Rattle.jv_base.specs.Utf16.{units_of}
@@ -20,7 +21,8 @@ use Rattle.class_model.specs.LineNumbers.{LineNumber, line_number}
 use Rattle.class_model.specs.ClassFile.{ClassFile, class_file}
 use Rattle.class_model.specs.declared.constant.PoolConstant.{PoolConstant}
 use Rattle.class_model.specs.declared.constant.PoolConstant.TheVariants.{Utf8, Integer, Long, Str}
-use Rattle.class_model.specs.CanonicalPool.{text_constants, class_constant, class_constants, string_constants, long_constants, filled, index_of, infos_of}
+use Rattle.class_model.specs.CanonicalPool.{text_constants, class_constant, class_constants, string_constants}
+use Rattle.class_model.specs.CanonicalPool.{long_constants, filled, index_of, infos_of}
 use Rattle.class_model.specs.CanonicalCode.{places, code_bytes, pushed_constants, op_constants}
 use Rattle.class_model.specs.CanonicalFrames.{frame_constants, rows}
 
@@ -38,7 +40,8 @@ codes_of_methods (m ∷ methods) = code_in m.code ++ codes_of_methods methods
 
 -- the constants that are pushed, over all methods and instructions
 abbrev pub class_pushes : List Method → List PoolConstant
-class_pushes methods = flat_map (λ (code : Code). flat_map (λ (i : Ins). pushed_constants i.op) code.ins) (codes_of_methods methods)
+class_pushes methods = flat_map (λ (code : Code). flat_map (λ (i : Ins). pushed_constants i.op) code.ins)
+    (codes_of_methods methods)
 
 -- the name of an attribute that is written, and what its contents want
 abbrev pub attribute_constants : Bool → List ℕ → List PoolConstant → List PoolConstant
@@ -82,12 +85,14 @@ is_new_line None line = true
 -- a row at an instruction with a line that differs from that of the instruction before, else none (JVMS 4.7.12)
 abbrev pub line_row : Option ℕ → ℕ → Option ℕ → List LineNumber
 line_row before place None = []
-line_row before place (Some line) = if is_new_line before line then record { start_pc = place; line_number = line } ∷ [] else []
+line_row before place
+    (Some line) = if is_new_line before line then record { start_pc = place; line_number = line } ∷ [] else []
 
 -- the rows of instructions from number n on; all gives the offset of each by its number (JVMS 4.7.12)
 abbrev pub line_rows_from : Option ℕ → List ℕ → ℕ → List Ins → List LineNumber
 line_rows_from before all n [] = []
-line_rows_from before all n (i ∷ ins) = line_row before (slice_index all n) i.line ++ line_rows_from i.line all (n + 1) ins
+line_rows_from before all n (i ∷ ins) = line_row before (slice_index all n) i.line ++ line_rows_from i.line all
+    (n + 1) ins
 
 -- the LineNumberTable of a code whose instructions are at these places; before is the line ahead of its first one
 -- (JVMS 4.7.12)
@@ -154,7 +159,8 @@ module _ (pool : List PoolConstant) where
 
   -- Synthetic and then Deprecated, both without contents (JVMS 4.7.8, 4.7.15)
   abbrev pub mark_attributes : Bool → Bool → List AttributeInfo
-  mark_attributes synthetic deprecated = attribute synthetic (codes "Synthetic") [] ++ attribute deprecated (codes "Deprecated") []
+  mark_attributes synthetic deprecated = attribute synthetic (codes "Synthetic") [] ++ attribute deprecated
+      (codes "Deprecated") []
 
   -- the constantvalue_index of a field (JVMS 4.7.2)
   abbrev pub value_index : Constant → ℕ
@@ -197,8 +203,10 @@ module _ (pool : List PoolConstant) where
   -- a code whose instructions are at these places (JVMS 4.7.4, 4.7.12)
   abbrev pub code_attributes : List VType → List ℕ → Code → List AttributeInfo
   code_attributes first all code =
-      attribute (is_some_item (line_rows None all code.ins)) (codes "LineNumberTable") (line_table (line_rows None all code.ins))
-      ++ attribute (is_some_item code.frames) (codes "StackMapTable") (stack_map_table (rows pool all first None code.frames))
+      attribute (is_some_item (line_rows None all code.ins)) (codes "LineNumberTable")
+      (line_table (line_rows None all code.ins))
+      ++ attribute (is_some_item code.frames) (codes "StackMapTable")
+      (stack_map_table (rows pool all first None code.frames))
 
   -- the items of a Code whose instructions are at these places; first are the locals of the initial frame (JVMS 4.7.3)
   abbrev pub code_raw : List VType → List ℕ → Code → CodeInfo
@@ -230,7 +238,8 @@ module _ (pool : List PoolConstant) where
     name_index = text_index m.name;
     descriptor_index = text_index (method_text m.ty);
     attributes = body_attributes (first_locals class m) m.code
-        ++ (attribute (is_some_item m.throws) (codes "Exceptions") (exceptions m.throws) ++ mark_attributes m.synthetic m.deprecated);
+        ++ (attribute (is_some_item m.throws) (codes "Exceptions")
+        (exceptions m.throws) ++ mark_attributes m.synthetic m.deprecated);
   }
 
   -- the attribute SourceFile, where the name of the source file is known (JVMS 4.7.10)

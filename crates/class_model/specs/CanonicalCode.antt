@@ -1,6 +1,7 @@
 -- The canonical spelling of instructions: the shortest, ldc where the index is at most 255, and goto in place of goto_w
 -- (JVMS 6.5; which of its spellings it is, is the project's own).
-use Rattle.std.specs.Prelude.{ℕ, ◌+◌, ◌*◌, ℤ, pos, negsuc, ◌+ℤ◌, ◌-ℤ◌, Bool, ◌&&◌, List, [], ◌∷◌, length, map, replicate, slice_index, Option, Some, None, unwrap_or, nat_lt, nat_le, if◌then◌else◌}
+use Rattle.std.specs.Prelude.{ℕ, ◌+◌, ◌*◌, ℤ, pos, negsuc, ◌+ℤ◌, ◌-ℤ◌, Bool, ◌&&◌, List, [], ◌∷◌, length, map}
+use Rattle.std.specs.Prelude.{replicate, slice_index, Option, Some, None, unwrap_or, nat_lt, nat_le, if◌then◌else◌}
 use Rattle.std.specs.Int.{w8, w16, w32, cast_unsigned}
 use Rattle.std.specs.List.{flat_map}
 use Rattle.jv_base.specs.declared.types.FieldType.{FieldType}
@@ -28,11 +29,15 @@ use Rattle.class_model.specs.declared.op.Cond.{Cond}
 use Rattle.class_model.specs.declared.op.Cond.TheVariants as cond
 use Rattle.class_model.specs.declared.code.Ins.{Ins}
 use Rattle.class_model.specs.Between.{int_between}
-use Rattle.class_model.specs.InstructionStructure.{Info, Plain, Bipush, Sipush, Ldc, LdcWide, Local, WideLocal, Iinc, WideIinc, Branch, TableSwitch, LookupSwitch, MemberOperand, InvokeInterface, ClassOperand, NewArray, MultiNewArray, info_bytes, pad_length}
+use Rattle.class_model.specs.InstructionStructure.{Info, Plain, Bipush, Sipush, Ldc, LdcWide, Local, WideLocal, Iinc}
+use Rattle.class_model.specs.InstructionStructure.{WideIinc, Branch, TableSwitch, LookupSwitch, MemberOperand}
+use Rattle.class_model.specs.InstructionStructure.{InvokeInterface, ClassOperand, NewArray, MultiNewArray, info_bytes}
+use Rattle.class_model.specs.InstructionStructure.{pad_length}
 use Rattle.class_model.specs.InstructionMeaning.{count_of}
 use Rattle.class_model.specs.declared.constant.PoolConstant.{PoolConstant}
 use Rattle.class_model.specs.declared.constant.PoolConstant.TheVariants.{Integer, Long, Str}
-use Rattle.class_model.specs.CanonicalPool.{class_constant, class_constants, string_constants, long_constants, type_name, fieldref, methodref, with_parts, index_of}
+use Rattle.class_model.specs.CanonicalPool.{class_constant, class_constants, string_constants, long_constants}
+use Rattle.class_model.specs.CanonicalPool.{type_name, fieldref, methodref, with_parts, index_of}
 
 -- ---- the order in which the standard goes through types and comparisons
 
@@ -222,7 +227,8 @@ module _ (pool : List PoolConstant) (place : ℕ → ℕ) (at : ℕ) where
   op_info (op.InvokeVirtual reference) = MemberOperand 0xB6 (index_of pool (methodref reference))
   op_info (op.InvokeSpecial reference) = MemberOperand 0xB7 (index_of pool (methodref reference))
   op_info (op.InvokeStatic reference) = MemberOperand 0xB8 (index_of pool (methodref reference))
-  op_info (op.InvokeInterface reference) = InvokeInterface (index_of pool (methodref reference)) (unwrap_or (count_of reference) 0)
+  op_info (op.InvokeInterface reference) = InvokeInterface (index_of pool (methodref reference))
+      (unwrap_or (count_of reference) 0)
   op_info (op.New name) = ClassOperand 0xBB (index_of pool (class_constant name))
   op_info (op.NewArray b) = NewArray (array_type_code b)
   op_info (op.ANewArray ty) = ClassOperand 0xBD (class_index ty)
@@ -249,7 +255,8 @@ places pool ins = places_from pool 0 ins
 -- instructions as they are written, the first at an offset; all are the places of the whole code (JVMS 4.7.3)
 abbrev pub infos_from : List PoolConstant → List ℕ → ℕ → List Ins → List Info
 infos_from pool all at [] = []
-infos_from pool all at (i ∷ ins) = op_info pool (slice_index all) at i.op ∷ infos_from pool all (at + size_of pool at i.op) ins
+infos_from pool all at (i ∷ ins) = op_info pool (slice_index all) at i.op ∷ infos_from pool all
+    (at + size_of pool at i.op) ins
 
 -- the bytes of the instructions, whose places are all these (JVMS 4.7.3)
 unfoldable pub code_bytes : List PoolConstant → List ℕ → List Ins → List ℕ

@@ -1,6 +1,7 @@
 -- The canonical spelling of stack map frames: the first form that fits
 -- (JVMS 4.7.4; which form is taken is the project's own).
-use Rattle.std.specs.Prelude.{ℕ, ◌+◌, ◌-◌, Bool, true, false, ◌&&◌, List, [], ◌∷◌, ◌++◌, length, take, drop, map, slice_index, Option, Some, None, nat_eq, nat_le, if◌then◌else◌}
+use Rattle.std.specs.Prelude.{ℕ, ◌+◌, ◌-◌, Bool, true, false, ◌&&◌, List, [], ◌∷◌, ◌++◌, length, take, drop, map}
+use Rattle.std.specs.Prelude.{slice_index, Option, Some, None, nat_eq, nat_le, if◌then◌else◌}
 use Rattle.std.specs.List.{flat_map}
 use Rattle.std.specs.Cmp.Lexicographic.{pointwise}
 use Rattle.jv_base.specs.Names.{is_text}
@@ -9,7 +10,9 @@ use Rattle.class_model.specs.declared.frame.VType.{VType}
 use Rattle.class_model.specs.declared.frame.VType.TheVariants as vtype
 use Rattle.class_model.specs.declared.frame.FrameAt.{FrameAt}
 use Rattle.class_model.specs.Between.{between}
-use Rattle.class_model.specs.Frames.{VerificationTypeInfo, TagInfo, ObjectInfo, UninitializedInfo, StackMapFrame, SameFrame, SameLocalsOneStackItem, SameLocalsOneStackItemExtended, ChopFrame, SameFrameExtended, AppendFrame, FullFrame}
+use Rattle.class_model.specs.Frames.{VerificationTypeInfo, TagInfo, ObjectInfo, UninitializedInfo, StackMapFrame}
+use Rattle.class_model.specs.Frames.{SameFrame, SameLocalsOneStackItem, SameLocalsOneStackItemExtended, ChopFrame}
+use Rattle.class_model.specs.Frames.{SameFrameExtended, AppendFrame, FullFrame}
 use Rattle.class_model.specs.declared.constant.PoolConstant.{PoolConstant}
 use Rattle.class_model.specs.CanonicalPool.{class_constant, class_constants, type_name, index_of}
 
@@ -83,7 +86,8 @@ frame_constants before (frame ∷ frames) =
 -- ---- rows
 
 module _ (pool : List PoolConstant) (all : List ℕ) where
-  -- a verification_type_info: an object by its class's index, an uninitialised one by the offset of its new (JVMS 4.7.4)
+  -- a verification_type_info: an object by its class's index, an uninitialised one by the offset of its new (JVMS
+  -- 4.7.4)
   abbrev pub type_info : VType → VerificationTypeInfo
   type_info vtype.Top = TagInfo 0
   type_info vtype.Int = TagInfo 1

@@ -1,6 +1,7 @@
 -- The constants of a class, told by what they say, and their indices in its canonical pool
 -- (the project's own: one pool for each class).
-use Rattle.std.specs.Prelude.{ℕ, ◌+◌, ◌/◌, ◌%◌, ◌^◌, ℤ, Bool, false, ◌&&◌, ◌==◌, if◌then◌else◌, List, [], ◌∷◌, ◌++◌, nat_eq}
+use Rattle.std.specs.Prelude.{ℕ, ◌+◌, ◌/◌, ◌%◌, ◌^◌, ℤ, Bool, false, ◌&&◌, ◌==◌, if◌then◌else◌, List, [], ◌∷◌, ◌++◌}
+use Rattle.std.specs.Prelude.{nat_eq}
 use Rattle.std.specs.Int.{w32, w64, cast_unsigned}
 use Rattle.std.specs.List.{flat_map, position_or_len}
 use Rattle.std.specs.Ordering.{int_eq}
@@ -13,9 +14,12 @@ use Rattle.jv_base.specs.declared.types.FieldType.{FieldType}
 use Rattle.jv_base.specs.declared.types.Base.{Base}
 use Rattle.jv_base.specs.declared.types.Base.TheVariants as base
 use Rattle.class_model.specs.declared.constant.PoolConstant.{PoolConstant}
-use Rattle.class_model.specs.declared.constant.PoolConstant.TheVariants.{Utf8, Integer, Long, SecondOfLong, Class, Str, NameAndType, Fieldref, Methodref, InterfaceMethodref}
+use Rattle.class_model.specs.declared.constant.PoolConstant.TheVariants.{Utf8, Integer, Long, SecondOfLong, Class, Str}
+use Rattle.class_model.specs.declared.constant.PoolConstant.TheVariants.{NameAndType, Fieldref, Methodref}
+use Rattle.class_model.specs.declared.constant.PoolConstant.TheVariants.{InterfaceMethodref}
 use Rattle.class_model.specs.declared.op.MemberRef.{MemberRef}
-use Rattle.class_model.specs.ConstantPool.{CpInfo, Utf8Info, IntegerInfo, LongInfo, ClassInfo, StringInfo, FieldrefInfo, MethodrefInfo, InterfaceMethodrefInfo, NameAndTypeInfo}
+use Rattle.class_model.specs.ConstantPool.{CpInfo, Utf8Info, IntegerInfo, LongInfo, ClassInfo, StringInfo, FieldrefInfo}
+use Rattle.class_model.specs.ConstantPool.{MethodrefInfo, InterfaceMethodrefInfo, NameAndTypeInfo}
 
 -- equal unit by unit (JVMS 4.4.7)
 abbrev pub same_text : List ℕ → List ℕ → Bool
@@ -79,12 +83,14 @@ fieldref reference = Fieldref (units_of (type_name reference.class)) (units_of r
 -- (JVMS 4.4.2)
 abbrev pub methodref : MemberRef → PoolConstant
 methodref reference =
-    if reference.of_interface then InterfaceMethodref (units_of (type_name reference.class)) (units_of reference.name) (units_of reference.ty)
+    if reference.of_interface then InterfaceMethodref (units_of (type_name reference.class)) (units_of reference.name)
+    (units_of reference.ty)
     else Methodref (units_of (type_name reference.class)) (units_of reference.name) (units_of reference.ty)
 
 -- this constant of a reference behind its class and its name and type (JVMS 4.4.2, 4.4.6)
 abbrev pub with_parts : MemberRef → PoolConstant → List PoolConstant
-with_parts reference k = class_constants (type_name reference.class) ++ (name_and_type_constants reference.name reference.ty ++ k ∷ [])
+with_parts reference k = class_constants (type_name reference.class) ++
+    (name_and_type_constants reference.name reference.ty ++ k ∷ [])
 
 -- ---- the pool
 
@@ -104,9 +110,12 @@ info_of pool (Long value) = LongInfo (cast_unsigned w64 value / 2 ^ 32) (cast_un
 info_of pool (SecondOfLong value) = []
 info_of pool (Class name) = ClassInfo (index_of pool (Utf8 name)) ∷ []
 info_of pool (Str text) = StringInfo (index_of pool (Utf8 text)) ∷ []
-info_of pool (NameAndType name descriptor) = NameAndTypeInfo (index_of pool (Utf8 name)) (index_of pool (Utf8 descriptor)) ∷ []
-info_of pool (Fieldref class name descriptor) = FieldrefInfo (index_of pool (Class class)) (index_of pool (NameAndType name descriptor)) ∷ []
-info_of pool (Methodref class name descriptor) = MethodrefInfo (index_of pool (Class class)) (index_of pool (NameAndType name descriptor)) ∷ []
+info_of pool (NameAndType name descriptor) = NameAndTypeInfo (index_of pool (Utf8 name))
+    (index_of pool (Utf8 descriptor)) ∷ []
+info_of pool (Fieldref class name descriptor) = FieldrefInfo (index_of pool (Class class))
+    (index_of pool (NameAndType name descriptor)) ∷ []
+info_of pool (Methodref class name descriptor) = MethodrefInfo (index_of pool (Class class))
+    (index_of pool (NameAndType name descriptor)) ∷ []
 info_of pool (InterfaceMethodref class name descriptor) =
     InterfaceMethodrefInfo (index_of pool (Class class)) (index_of pool (NameAndType name descriptor)) ∷ []
 

@@ -1,5 +1,6 @@
 -- Which bytes spell a class: the ClassFile structure and what it stands for (JVMS 4.1).
-use Rattle.std.specs.Prelude.{◌≡◌, ℕ, ◌+◌, ◌^◌, ◌<◌, Bool, true, false, List, [], ◌∷◌, ◌++◌, length, AllPairs, Option, Some, None, codes, if◌then◌else◌}
+use Rattle.std.specs.Prelude.{◌≡◌, ℕ, ◌+◌, ◌^◌, ◌<◌, Bool, true, false, List, [], ◌∷◌, ◌++◌, length, AllPairs, Option}
+use Rattle.std.specs.Prelude.{Some, None, codes, if◌then◌else◌}
 use Rattle.std.specs.Int.{w16, to_be_bytes}
 use Rattle.std.specs.List.{AllZip, flat_map, list_any}
 use Rattle.class_model.specs.declared.pool.Entry.{Entry}
@@ -59,7 +60,8 @@ left_out_of_members n [] = None
 left_out_of_members n (Some kind ∷ kinds) = Some (record { member = Some n; kind = kind })
 left_out_of_members n (None ∷ kinds) = left_out_of_members (n + 1) kinds
 
--- what is left out of the class itself comes first, and then by members, of which each leaves out at most one kind; the methods
+-- what is left out of the class itself comes first, and then by members, of which each leaves out at most one kind; the
+-- methods
 -- are numbered behind the fields
 abbrev pub first_left_out : Option LeftKind → ℕ → List (Option LeftKind) → Option LeftOut
 first_left_out (Some kind) fields kinds = Some (record { member = None; kind = kind })
@@ -93,7 +95,8 @@ pub record IsClass (raw : ClassFile) (class : Class) (pool : List Entry) : Type 
   pub source : Single (IsSourceFile pool) (named pool (codes "SourceFile") raw.attributes) class.source
   pub synthetic : IsMark (named pool (codes "Synthetic") raw.attributes) class.synthetic
   pub deprecated : IsMark (named pool (codes "Deprecated") raw.attributes) class.deprecated
-  pub left_out : class.left_out ≡ first_left_out (left_out_of_class raw.access_flags pool) (length raw.fields) left_out_kinds
+  pub left_out : class.left_out
+      ≡ first_left_out (left_out_of_class raw.access_flags pool) (length raw.fields) left_out_kinds
 
 -- the bytes are a spelling of the class (JVMS 4.1)
 abbrev pub File : List ℕ → Class → Type 0

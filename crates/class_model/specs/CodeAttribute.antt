@@ -1,5 +1,6 @@
 -- The attribute Code (JVMS 4.7.3).
-use Rattle.std.specs.Prelude.{◌≡◌, ℕ, ◌^◌, ◌<◌, List, [], ◌∷◌, ◌++◌, length, slice_get, Option, Some, None, codes, if◌then◌else◌}
+use Rattle.std.specs.Prelude.{◌≡◌, ℕ, ◌^◌, ◌<◌, List, [], ◌∷◌, ◌++◌, length, slice_get, Option, Some, None, codes}
+use Rattle.std.specs.Prelude.{if◌then◌else◌}
 use Rattle.std.specs.List.{AllByRecursion, AllZip, flat_map, list_any}
 use Rattle.format_reading.specs.Spelling.{AllStand}
 use Rattle.class_model.specs.declared.pool.Entry.{Entry}
@@ -23,7 +24,8 @@ IsIns pool starts lines at info ins = IsOp (Begins starts) pool at info ins.op �
 
 -- a row of the exception table, in a code whose instructions begin at these offsets and that ends at another, is a
 -- handler (JVMS 4.7.3)
-pub record IsHandler (pool : List Entry) (starts : List ℕ) (end : ℕ) (raw : ExceptionInfo) (handler : Handler) : Type 0 where
+pub record IsHandler (pool : List Entry) (starts : List ℕ) (end : ℕ) (raw : ExceptionInfo)
+    (handler : Handler) : Type 0 where
   pub from : slice_get starts handler.from ≡ Some raw.start_pc
   pub to : slice_get (starts ++ end ∷ []) handler.to ≡ Some raw.end_pc
   pub range : raw.start_pc < raw.end_pc
@@ -44,7 +46,8 @@ left_out_frames rows = if list_any names_float rows then Some left.FloatType els
 
 -- the contents stand for a code, with what is left out in it; first are the locals of the method's initial frame
 -- (JVMS 4.7.3)
-pub record IsCode (pool : List Entry) (first : List VType) (raw : CodeInfo) (code : Code) (left_out : Option LeftKind) : Type 0 where
+pub record IsCode (pool : List Entry) (first : List VType) (raw : CodeInfo) (code : Code)
+    (left_out : Option LeftKind) : Type 0 where
   pub sizes : HasCodeSizes raw
   pub max_stack : code.max_stack ≡ raw.max_stack
   pub max_locals : code.max_locals ≡ raw.max_locals
@@ -81,5 +84,7 @@ pub record IsPassedOver (pool : List Entry) (raw : CodeInfo) (kind : LeftKind) :
 -- the contents of a Code, with what is left out: there is no code where an instruction is
 -- (JVMS 4.7.3; that there may be no code is the project's own)
 abbrev pub IsBody : List Entry → List VType → List ℕ → Option Code → Option LeftKind → Type 0
-IsBody pool first info (Some code) left_out = (raw : CodeInfo) × (info ≡ code_info raw) × IsCode pool first raw code left_out
-IsBody pool first info None left_out = (raw : CodeInfo) × (info ≡ code_info raw) × (kind : LeftKind) × (left_out ≡ Some kind) × IsPassedOver pool raw kind
+IsBody pool first info (Some code) left_out = (raw : CodeInfo) × (info ≡ code_info raw)
+    × IsCode pool first raw code left_out
+IsBody pool first info None left_out = (raw : CodeInfo) × (info ≡ code_info raw) × (kind : LeftKind)
+    × (left_out ≡ Some kind) × IsPassedOver pool raw kind

@@ -1,5 +1,6 @@
 -- The constant pool of a class file (JVMS 4.4): its constants as they are written, and the entries that they stand for.
-use Rattle.std.specs.Prelude.{◌≡◌, ◌⊎◌, ℕ, ℤ, ◌+◌, ◌-◌, ◌*◌, ◌^◌, ◌<◌, ◌==◌, Bool, true, false, List, [], ◌∷◌, ◌++◌, length, slice_get, Option, Some, None, option_and_then, IsTrue, if◌then◌else◌}
+use Rattle.std.specs.Prelude.{◌≡◌, ◌⊎◌, ℕ, ℤ, ◌+◌, ◌-◌, ◌*◌, ◌^◌, ◌<◌, ◌==◌, Bool, true, false, List, [], ◌∷◌, ◌++◌}
+use Rattle.std.specs.Prelude.{length, slice_get, Option, Some, None, option_and_then, IsTrue, if◌then◌else◌}
 use Rattle.std.specs.Int.{w16, w32, w64, to_be_bytes, cast_signed}
 use Rattle.std.specs.List.{AllByRecursion, AllZip, flat_map}
 use Rattle.jv_base.specs.Mutf8.{mutf8, IsUnits}
@@ -62,7 +63,8 @@ contents_of (LeftOutInfo tag bytes) = bytes
 abbrev pub cp_info : CpInfo → List ℕ
 cp_info constant = tag_of constant ∷ contents_of constant
 
--- how many bytes stand behind the tag of a constant that is left out: Float, Double, MethodHandle, MethodType and InvokeDynamic
+-- how many bytes stand behind the tag of a constant that is left out: Float, Double, MethodHandle, MethodType and
+-- InvokeDynamic
 -- (JVMS 4.4.4, 4.4.5, 4.4.8 to 4.4.10)
 abbrev pub left_out_length : ℕ → Option ℕ
 left_out_length tag =
@@ -85,14 +87,17 @@ long_of high_bytes low_bytes = cast_signed w64 (2 ^ 32 * high_bytes + low_bytes)
 
 -- a constant stands for an entry (JVMS 4.4.1 to 4.4.7)
 abbrev pub IsConstant : CpInfo → Entry → Type 0
-IsConstant (Utf8Info bytes) e = (length bytes < 2 ^ 16) × (units : List ℕ) × IsUnits units × (bytes ≡ mutf8 units) × (e ≡ entry.Utf8 units)
+IsConstant (Utf8Info bytes) e = (length bytes < 2 ^ 16) × (units : List ℕ) × IsUnits units × (bytes ≡ mutf8 units)
+    × (e ≡ entry.Utf8 units)
 IsConstant (IntegerInfo bytes) e = (bytes < 2 ^ 32) × (e ≡ entry.Integer (cast_signed w32 bytes))
-IsConstant (LongInfo high_bytes low_bytes) e = (high_bytes < 2 ^ 32) × (low_bytes < 2 ^ 32) × (e ≡ entry.Long (long_of high_bytes low_bytes))
+IsConstant (LongInfo high_bytes low_bytes) e = (high_bytes < 2 ^ 32) × (low_bytes < 2 ^ 32)
+    × (e ≡ entry.Long (long_of high_bytes low_bytes))
 IsConstant (ClassInfo name_index) e = (name_index < 2 ^ 16) × (e ≡ entry.Class name_index)
 IsConstant (StringInfo string_index) e = (string_index < 2 ^ 16) × (e ≡ entry.Str string_index)
 IsConstant (FieldrefInfo class_index index) e = AreIndices class_index index × (e ≡ entry.Field class_index index)
 IsConstant (MethodrefInfo class_index index) e = AreIndices class_index index × (e ≡ entry.Method class_index index)
-IsConstant (InterfaceMethodrefInfo class_index index) e = AreIndices class_index index × (e ≡ entry.InterfaceMethod class_index index)
+IsConstant (InterfaceMethodrefInfo class_index index) e = AreIndices class_index index
+    × (e ≡ entry.InterfaceMethod class_index index)
 IsConstant (NameAndTypeInfo name_index index) e = AreIndices name_index index × (e ≡ entry.NameAndType name_index index)
 IsConstant (LeftOutInfo tag bytes) e = (left_out_length tag ≡ Some (length bytes)) × (e ≡ entry.LeftOut tag)
 
@@ -106,7 +111,8 @@ takes_two _ = false
 abbrev pub places_of : Entry → List Entry
 places_of e = if takes_two e then e ∷ entry.Gap ∷ [] else e ∷ []
 
--- the entries as they are numbered: index 0 is no entry, nor is the second index of a Long or a Double (JVMS 4.1, 4.4.5)
+-- the entries as they are numbered: index 0 is no entry, nor is the second index of a Long or a Double (JVMS 4.1,
+-- 4.4.5)
 abbrev pub numbered : List Entry → List Entry
 numbered entries = entry.Gap ∷ flat_map places_of entries
 
@@ -146,10 +152,12 @@ IsNameOfType text ty = (ty ≡ class_type text) ⊎ ((0 < ty.dims) × (text ≡ 
 
 -- the CONSTANT_Class at an index names this class or array type (JVMS 4.4.1)
 abbrev pub IsTypeAt : List Entry → ℕ → FieldType → Type 0
-IsTypeAt pool index ty = (text : List ℕ) × IsText (class_units_at pool index) text × IsFieldType ty × IsNameOfType text ty
+IsTypeAt pool index ty = (text : List ℕ) × IsText (class_units_at pool index) text × IsFieldType ty
+    × IsNameOfType text ty
 
 -- a reference has such a name and a descriptor of this kind (JVMS 4.4.2)
-pub record RefersRight (pool : List Entry) (class_index index : ℕ) (is_name : List ℕ → Bool) (IsDescriptor : List ℕ → Type 0) : Type 0 where
+pub record RefersRight (pool : List Entry) (class_index index : ℕ) (is_name : List ℕ → Bool)
+    (IsDescriptor : List ℕ → Type 0) : Type 0 where
   pub class : (ty : FieldType) × IsTypeAt pool class_index ty
   pub name : List ℕ
   pub descriptor : List ℕ
@@ -166,7 +174,8 @@ NamesRight pool (entry.NameAndType name_index descriptor_index) =
     × IsText (units_at pool descriptor_index) descriptor × (IsFieldText descriptor ⊎ IsMethodText descriptor)
 NamesRight pool (entry.Field class_index index) = RefersRight pool class_index index is_member_name IsFieldText
 NamesRight pool (entry.Method class_index index) = RefersRight pool class_index index is_method_name IsMethodText
-NamesRight pool (entry.InterfaceMethod class_index index) = RefersRight pool class_index index is_method_name IsMethodText
+NamesRight pool
+    (entry.InterfaceMethod class_index index) = RefersRight pool class_index index is_method_name IsMethodText
 NamesRight pool _ = Unit {0}
 
 -- the constants, counted by constant_pool_count, are a pool, which numbers them; a count of 0 is taken as 1 (JVMS 4.1)
@@ -196,7 +205,8 @@ interface_methodref_in (entry.InterfaceMethod class_index index) = Some (class_i
 interface_methodref_in _ = None
 
 -- an entry of the kind that refers_in tells is at the index, and is this reference (JVMS 4.4.2, 4.4.6)
-pub record IsReferenceAt (refers_in : Entry → Option (ℕ × ℕ)) (pool : List Entry) (index : ℕ) (reference : MemberRef) : Type 0 where
+pub record IsReferenceAt (refers_in : Entry → Option (ℕ × ℕ)) (pool : List Entry) (index : ℕ)
+    (reference : MemberRef) : Type 0 where
   pub index_fits : index < 2 ^ 16
   pub indices : ℕ × ℕ
   pub entry : option_and_then refers_in (slice_get pool index) ≡ Some indices
@@ -213,7 +223,8 @@ IsMethodrefAt pool index reference = IsReferenceAt methodref_in pool index refer
 
 -- a CONSTANT_InterfaceMethodref at the index is this reference, which is marked as one of an interface (JVMS 4.4.2)
 abbrev pub IsInterfaceMethodrefAt : List Entry → ℕ → MemberRef → Type 0
-IsInterfaceMethodrefAt pool index reference = IsReferenceAt interface_methodref_in pool index reference × (reference.of_interface ≡ true)
+IsInterfaceMethodrefAt pool index reference = IsReferenceAt interface_methodref_in pool index reference
+    × (reference.of_interface ≡ true)
 
 -- the index of the text of a CONSTANT_String (JVMS 4.4.3)
 abbrev pub string_index_in : Entry → Option ℕ

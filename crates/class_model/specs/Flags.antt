@@ -130,7 +130,8 @@ has_body flags = not (has_some (acc_abstract + acc_native) flags)
 
 -- a class isn't both final and abstract, and an interface is abstract (JVMS 4.1)
 abbrev pub are_class_flags : ℕ → Bool
-are_class_flags flags = not (has (acc_final + acc_abstract) flags) && (not (has acc_interface flags) || has acc_abstract flags)
+are_class_flags flags = not (has (acc_final + acc_abstract) flags)
+    && (not (has acc_interface flags) || has acc_abstract flags)
 
 -- a class that is an annotation or an enum is left out (the project's own: annotations and enums aren't taken yet)
 abbrev pub is_left_out_class : ℕ → Bool
@@ -154,11 +155,13 @@ is_init name = is_text name (codes "<init>")
 abbrev pub is_clinit : List ℕ → Bool
 is_clinit name = is_text name (codes "<clinit>")
 
--- an instance initialisation method stands in no interface and is neither static, final, synchronized, native nor abstract,
+-- an instance initialisation method stands in no interface and is neither static, final, synchronized, native nor
+-- abstract,
 -- and a class initialisation method is static (JVMS 2.9, 4.6)
 abbrev pub are_initial_flags : Bool → ℕ → List ℕ → Bool
 are_initial_flags in_interface flags name =
-    (not (is_init name) || (not in_interface && not (has_some (acc_static + acc_final + acc_synchronized + acc_native + acc_abstract) flags)))
+    (not (is_init name) || (not in_interface && not (has_some
+    (acc_static + acc_final + acc_synchronized + acc_native + acc_abstract) flags)))
     && (not (is_clinit name) || is_static flags)
 
 -- access_flags of these bits (JVMS 4.1, 4.5, 4.6)

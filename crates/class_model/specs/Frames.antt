@@ -1,5 +1,6 @@
 -- The attribute StackMapTable (JVMS 4.7.4, 4.10.1.2, 4.10.1.6).
-use Rattle.std.specs.Prelude.{◌≡◌, ℕ, ◌+◌, ◌-◌, ◌^◌, ◌<◌, ◌≤◌, Bool, false, List, [], ◌∷◌, ◌++◌, length, take, map, slice_get, sum_by, Option, Some, None, IsTrue, ◌==◌, ◌||◌, if◌then◌else◌, codes}
+use Rattle.std.specs.Prelude.{◌≡◌, ℕ, ◌+◌, ◌-◌, ◌^◌, ◌<◌, ◌≤◌, Bool, false, List, [], ◌∷◌, ◌++◌, length, take, map}
+use Rattle.std.specs.Prelude.{slice_get, sum_by, Option, Some, None, IsTrue, ◌==◌, ◌||◌, if◌then◌else◌, codes}
 use Rattle.std.specs.Int.{w16, to_be_bytes}
 use Rattle.std.specs.List.{AllZip, flat_map, list_any}
 use Rattle.jv_base.specs.Names.{is_text}
@@ -50,7 +51,8 @@ counted_types infos = to_be_bytes w16 (length infos) ++ flat_map verification_ty
 abbrev pub stack_map_frame : StackMapFrame → List ℕ
 stack_map_frame (SameFrame frame_type) = frame_type ∷ []
 stack_map_frame (SameLocalsOneStackItem frame_type item) = frame_type ∷ verification_type_info item
-stack_map_frame (SameLocalsOneStackItemExtended offset_delta item) = 247 ∷ (to_be_bytes w16 offset_delta ++ verification_type_info item)
+stack_map_frame (SameLocalsOneStackItemExtended offset_delta item) = 247 ∷
+    (to_be_bytes w16 offset_delta ++ verification_type_info item)
 stack_map_frame (ChopFrame frame_type offset_delta) = frame_type ∷ to_be_bytes w16 offset_delta
 stack_map_frame (SameFrameExtended offset_delta) = 251 ∷ to_be_bytes w16 offset_delta
 stack_map_frame (AppendFrame frame_type offset_delta locals) =
@@ -126,7 +128,8 @@ vtype_of ty = if ty.dims == 0 then base_vtype ty ty.base else vtype.Object ty
 abbrev pub this_type : List ℕ → List ℕ → VType
 this_type class name = if is_text name (codes "<init>") then vtype.UninitThis else vtype.Object (class_type class)
 
--- the locals of the initial frame: `this` where the method isn't static, and the parameters (JVMS 4.10.1.6); the Tops of float
+-- the locals of the initial frame: `this` where the method isn't static, and the parameters (JVMS 4.10.1.6); the Tops
+-- of float
 -- and double parameters count, also at the end, and chop and append begin from them
 abbrev pub initial_locals : List ℕ → Bool → List ℕ → MethodType → List VType
 initial_locals class is_static name ty = (if is_static then [] else this_type class name ∷ []) ++ map vtype_of ty.args
@@ -163,7 +166,8 @@ module _ (pool : List Entry) (starts : List ℕ) (ins : List Ins) where
   IsFrame before (SameFrame frame_type) delta locals stack =
       (frame_type ≤ 63) × (delta ≡ frame_type) × (locals ≡ before) × (stack ≡ [])
   IsFrame before (SameLocalsOneStackItem frame_type item) delta locals stack =
-      IsTrue (between 64 127 frame_type) × (delta ≡ frame_type - 64) × (locals ≡ before) × AllZip IsVType (item ∷ []) stack
+      IsTrue (between 64 127 frame_type) × (delta ≡ frame_type - 64) × (locals ≡ before)
+      × AllZip IsVType (item ∷ []) stack
   IsFrame before (SameLocalsOneStackItemExtended offset_delta item) delta locals stack =
       (offset_delta < 2 ^ 16) × (delta ≡ offset_delta) × (locals ≡ before) × AllZip IsVType (item ∷ []) stack
   IsFrame before (ChopFrame frame_type offset_delta) delta locals stack =
@@ -172,7 +176,8 @@ module _ (pool : List Entry) (starts : List ℕ) (ins : List Ins) where
   IsFrame before (SameFrameExtended offset_delta) delta locals stack =
       (offset_delta < 2 ^ 16) × (delta ≡ offset_delta) × (locals ≡ before) × (stack ≡ [])
   IsFrame before (AppendFrame frame_type offset_delta infos) delta locals stack =
-      IsTrue (between 252 254 frame_type) × (offset_delta < 2 ^ 16) × (delta ≡ offset_delta) × (length infos ≡ frame_type - 251)
+      IsTrue (between 252 254 frame_type) × (offset_delta < 2 ^ 16) × (delta ≡ offset_delta)
+      × (length infos ≡ frame_type - 251)
       × (types : List VType) × AreVTypes infos types × (locals ≡ before ++ types) × (stack ≡ [])
   IsFrame before (FullFrame offset_delta infos items) delta locals stack =
       (offset_delta < 2 ^ 16) × (delta ≡ offset_delta) × AreVTypes infos locals × AreVTypes items stack
@@ -180,7 +185,8 @@ module _ (pool : List Entry) (starts : List ℕ) (ins : List Ins) where
   module _ (max_stack max_locals : ℕ) where
     -- a row behind these locals and this offset stands for a frame, whose locals and offset lie before the next row
     -- (JVMS 4.7.4)
-    pub record IsFrameAt (before : List VType) (previous : Option ℕ) (row : StackMapFrame) (frame : FrameAt) (locals : List VType) (offset : ℕ) : Type 0 where
+    pub record IsFrameAt (before : List VType) (previous : Option ℕ) (row : StackMapFrame) (frame : FrameAt)
+        (locals : List VType) (offset : ℕ) : Type 0 where
       pub delta : ℕ
       pub stands : IsFrame before row delta locals frame.frame.stack
       pub offset_is : offset ≡ offset_behind previous delta
@@ -195,7 +201,8 @@ module _ (pool : List Entry) (starts : List ℕ) (ins : List Ins) where
     AreFrames before previous [] (frame ∷ frames) = ⊥
     AreFrames before previous (row ∷ rows) [] = ⊥
     AreFrames before previous (row ∷ rows) (frame ∷ frames) =
-        (locals : List VType) × (offset : ℕ) × IsFrameAt before previous row frame locals offset × AreFrames locals (Some offset) rows frames
+        (locals : List VType) × (offset : ℕ) × IsFrameAt before previous row frame locals offset
+        × AreFrames locals (Some offset) rows frames
 
 -- at most one table, of these rows (JVMS 4.7.4)
 abbrev pub IsMapOf : List AttributeInfo → List StackMapFrame → Type 0

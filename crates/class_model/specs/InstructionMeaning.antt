@@ -1,5 +1,6 @@
 -- The instruction that its bytes stand for, computed (JVMS 6.5).
-use Rattle.std.specs.Prelude.{ℕ, ◌+◌, ℤ, pos, negsuc, Bool, true, List, [], ◌∷◌, slice_get, position, nat_eq, nat_le, Option, Some, None, option_map, option_and_then, Result, Ok, Err, ◌==◌, if◌then◌else◌}
+use Rattle.std.specs.Prelude.{ℕ, ◌+◌, ℤ, pos, negsuc, Bool, true, List, [], ◌∷◌, slice_get, position, nat_eq, nat_le}
+use Rattle.std.specs.Prelude.{Option, Some, None, option_map, option_and_then, Result, Ok, Err, ◌==◌, if◌then◌else◌}
 use Rattle.std.specs.Int.{w8, w16, w32, cast_signed}
 use Rattle.jv_base.specs.Outcome.{◌>>=◌}
 use Rattle.jv_base.specs.Types.{argument_words}
@@ -14,10 +15,15 @@ use Rattle.class_model.specs.declared.op.Case.{Case}
 use Rattle.class_model.specs.declared.op.Op.{Op}
 use Rattle.class_model.specs.declared.op.Op.TheVariants as op
 use Rattle.class_model.specs.ConstantPool.{string_units_at}
-use Rattle.class_model.specs.Opcodes.{plain_op, local_op, branch_op, field_op, method_op, takes_interface_method, type_op, array_type_of}
-use Rattle.class_model.specs.InstructionStructure.{MatchOffset, Info, Plain, Bipush, Sipush, Ldc, LdcWide, Local, WideLocal, Iinc, WideIinc, Branch, GotoWide, TableSwitch, LookupSwitch, MemberOperand, InvokeInterface, ClassOperand, NewArray, MultiNewArray}
+use Rattle.class_model.specs.Opcodes.{plain_op, local_op, branch_op, field_op, method_op, takes_interface_method}
+use Rattle.class_model.specs.Opcodes.{type_op, array_type_of}
+use Rattle.class_model.specs.InstructionStructure.{MatchOffset, Info, Plain, Bipush, Sipush, Ldc, LdcWide, Local}
+use Rattle.class_model.specs.InstructionStructure.{WideLocal, Iinc, WideIinc, Branch, GotoWide, TableSwitch}
+use Rattle.class_model.specs.InstructionStructure.{LookupSwitch, MemberOperand, InvokeInterface, ClassOperand, NewArray}
+use Rattle.class_model.specs.InstructionStructure.{MultiNewArray}
 use Rattle.class_model.specs.Instructions.{branch_target}
-use Rattle.class_model.specs.Lookups.{due, class_at, value_of, type_at, fieldref_at, methodref_at, interface_methodref_at, method_type_of}
+use Rattle.class_model.specs.Lookups.{due, class_at, value_of, type_at, fieldref_at, methodref_at}
+use Rattle.class_model.specs.Lookups.{interface_methodref_at, method_type_of}
 
 -- ---- operands
 
@@ -37,7 +43,8 @@ int_in _ = None
 
 -- an int or a string (JVMS 6.5.ldc)
 abbrev pub loaded : List Entry → ℕ → Option Op
-loaded pool index = or_else (int_in (slice_get pool index)) (option_map (λ units. op.PushText units) (string_units_at pool index))
+loaded pool index = or_else (int_in (slice_get pool index))
+    (option_map (λ units. op.PushText units) (string_units_at pool index))
 
 -- a long (JVMS 6.5.ldc2_w)
 abbrev pub long_in : Option Entry → Option Op
@@ -51,7 +58,8 @@ loaded_wide opcode pool index = if opcode == 0x13 then loaded pool index else lo
 -- the reference that an instruction on a method names (JVMS 4.9.1)
 abbrev pub method_named : ℕ → List Entry → ℕ → Option MemberRef
 method_named opcode pool index =
-    or_else (methodref_at pool index) (if takes_interface_method opcode then interface_methodref_at pool index else None)
+    or_else (methodref_at pool index)
+    (if takes_interface_method opcode then interface_methodref_at pool index else None)
 
 -- an instruction on a field or a method (JVMS 4.9.1)
 abbrev pub member_made : Option (MemberRef → Op) → Option (MemberRef → Op) → ℕ → List Entry → ℕ → Option Op
@@ -131,7 +139,8 @@ module _ (aim : ℤ → Result ℕ FormatKind) (at : ℕ) where
 
 -- ---- instructions
 
--- the meaning of an instruction at an offset of a code; of its operands only targets can still be wrong, once it has been read
+-- the meaning of an instruction at an offset of a code; of its operands only targets can still be wrong, once it has
+-- been read
 unfoldable pub op_of : (ℤ → Result ℕ FormatKind) → List Entry → ℕ → Info → Result Op FormatKind
 op_of aim pool at (Plain opcode) = due bad.BadOperand (plain_op opcode)
 op_of aim pool at (Bipush byte) = Ok (op.PushInt (cast_signed w8 byte))
@@ -147,10 +156,12 @@ op_of aim pool at (GotoWide offset) = branch aim at (Some op.Goto) (cast_signed 
 op_of aim pool at (TableSwitch pad default low high offsets) = table_switch aim at default low offsets
 op_of aim pool at (LookupSwitch pad default pairs) = lookup_switch aim at default pairs
 op_of aim pool at (MemberOperand opcode index) = due bad.BadOperand (member_op opcode pool index)
-op_of aim pool at (InvokeInterface index count) = due bad.BadOperand (option_map (λ reference. op.InvokeInterface reference) (interface_methodref_at pool index))
+op_of aim pool at (InvokeInterface index count) = due bad.BadOperand
+    (option_map (λ reference. op.InvokeInterface reference) (interface_methodref_at pool index))
 op_of aim pool at (ClassOperand opcode index) = due bad.BadOperand (class_op opcode pool index)
 op_of aim pool at (NewArray atype) = due bad.BadOperand (option_map (λ ty. op.NewArray ty) (array_type_of atype))
-op_of aim pool at (MultiNewArray index dimensions) = due bad.BadOperand (option_map (λ ty. op.MultiNewArray ty dimensions) (type_at pool index))
+op_of aim pool at (MultiNewArray index dimensions) = due bad.BadOperand
+    (option_map (λ ty. op.MultiNewArray ty dimensions) (type_at pool index))
 
 -- the number of the instruction that begins at an offset (JVMS 4.9.1)
 abbrev pub aim_at : List ℕ → ℤ → Result ℕ FormatKind

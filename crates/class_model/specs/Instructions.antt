@@ -1,5 +1,6 @@
 -- Which instruction its bytes stand for (JVMS 4.9.1, 6.5).
-use Rattle.std.specs.Prelude.{◌≡◌, ◌⊎◌, ℕ, ◌+◌, ◌^◌, ◌<◌, ◌≤◌, ℤ, pos, ◌+ℤ◌, ◌-ℤ◌, ◌<ℤ◌, ◌≤ℤ◌, Bool, true, false, ◌||◌, List, [], ◌∷◌, ◌++◌, length, slice_get, Option, Some, option_map, AllPairs, IsTrue, ◌==◌}
+use Rattle.std.specs.Prelude.{◌≡◌, ◌⊎◌, ℕ, ◌+◌, ◌^◌, ◌<◌, ◌≤◌, ℤ, pos, ◌+ℤ◌, ◌-ℤ◌, ◌<ℤ◌, ◌≤ℤ◌, Bool, true, false, ◌||◌}
+use Rattle.std.specs.Prelude.{List, [], ◌∷◌, ◌++◌, length, slice_get, Option, Some, option_map, AllPairs, IsTrue, ◌==◌}
 use Rattle.std.specs.Int.{w8, w16, w32, to_be_bytes, cast_signed}
 use Rattle.std.specs.List.{AllZip, flat_map}
 use Rattle.jv_base.specs.Types.{method_text, IsMethodType, argument_words}
@@ -15,9 +16,15 @@ use Rattle.class_model.specs.declared.op.Op.TheVariants as op
 use Rattle.class_model.specs.declared.class.LeftKind.{LeftKind}
 use Rattle.class_model.specs.declared.class.LeftKind.TheVariants as left
 use Rattle.class_model.specs.Pool.{IsClassAt}
-use Rattle.class_model.specs.ConstantPool.{IsTypeAt, IsFieldrefAt, IsMethodrefAt, IsInterfaceMethodrefAt, string_units_at}
-use Rattle.class_model.specs.Opcodes.{plain_op, local_op, branch_op, field_op, method_op, takes_interface_method, type_op, array_type_of, is_left_out_local, is_left_out_array_type, is_left_out_opcode}
-use Rattle.class_model.specs.InstructionStructure.{MatchOffset, Info, Plain, Bipush, Sipush, Ldc, LdcWide, Local, WideLocal, Iinc, WideIinc, Branch, GotoWide, TableSwitch, LookupSwitch, MemberOperand, InvokeInterface, ClassOperand, NewArray, MultiNewArray, info_bytes, pad_length}
+use Rattle.class_model.specs.ConstantPool.{IsTypeAt, IsFieldrefAt, IsMethodrefAt, IsInterfaceMethodrefAt}
+use Rattle.class_model.specs.ConstantPool.{string_units_at}
+use Rattle.class_model.specs.Opcodes.{plain_op, local_op, branch_op, field_op, method_op, takes_interface_method}
+use Rattle.class_model.specs.Opcodes.{type_op, array_type_of, is_left_out_local, is_left_out_array_type}
+use Rattle.class_model.specs.Opcodes.{is_left_out_opcode}
+use Rattle.class_model.specs.InstructionStructure.{MatchOffset, Info, Plain, Bipush, Sipush, Ldc, LdcWide, Local}
+use Rattle.class_model.specs.InstructionStructure.{WideLocal, Iinc, WideIinc, Branch, GotoWide, TableSwitch}
+use Rattle.class_model.specs.InstructionStructure.{LookupSwitch, MemberOperand, InvokeInterface, ClassOperand, NewArray}
+use Rattle.class_model.specs.InstructionStructure.{MultiNewArray, info_bytes, pad_length}
 
 -- ---- operands
 
@@ -38,7 +45,8 @@ IsLoadedLong pool index o = (n : ℤ) × (slice_get pool index ≡ Some (entry.L
 abbrev pub IsMember : List Entry → ℕ → ℕ → MemberRef → Op → Type 0
 IsMember pool opcode index reference o = IsFieldrefAt pool index reference × Makes (field_op opcode) reference o
     ⊎ IsMethodrefAt pool index reference × Makes (method_op opcode) reference o
-    ⊎ IsInterfaceMethodrefAt pool index reference × IsTrue (takes_interface_method opcode) × Makes (method_op opcode) reference o
+    ⊎ IsInterfaceMethodrefAt pool index reference × IsTrue (takes_interface_method opcode)
+    × Makes (method_op opcode) reference o
 
 -- invokeinterface: count is the number of argument words with the object's (JVMS 6.5.invokeinterface)
 pub record IsInvokeInterface (pool : List Entry) (index count : ℕ) (o : Op) : Type 0 where
@@ -58,7 +66,8 @@ IsElementOf opcode ty = opcode ≡ 0xBD → ty.dims ≤ 254
 -- new, of a class; anewarray, checkcast and instanceof, of a class or an array type (JVMS 4.9.1, 6.5)
 abbrev pub IsOfType : List Entry → ℕ → ℕ → Op → Type 0
 IsOfType pool opcode index o = ((name : List ℕ) × (opcode ≡ 0xBB) × IsClassAt pool index name × (o ≡ op.New name))
-    ⊎ ((ty : FieldType) × (index < 2 ^ 16) × IsTypeAt pool index ty × IsElementOf opcode ty × Makes (type_op opcode) ty o)
+    ⊎ ((ty : FieldType) × (index < 2 ^ 16) × IsTypeAt pool index ty × IsElementOf opcode ty
+    × Makes (type_op opcode) ty o)
 
 -- multianewarray (JVMS 4.9.1, 6.5.multianewarray)
 pub record IsMultiNewArray (pool : List Entry) (index dimensions : ℕ) (o : Op) : Type 0 where
@@ -125,7 +134,8 @@ IsOp Leads pool at (LdcWide opcode index) o = (index < 2 ^ 16)
 IsOp Leads pool at (Local opcode index) o = (index < 2 ^ 8) × Makes (local_op opcode) index o
 IsOp Leads pool at (WideLocal opcode index) o = (index < 2 ^ 16) × Makes (local_op opcode) index o
 IsOp Leads pool at (Iinc index const) o = (index < 2 ^ 8) × (const < 2 ^ 8) × (o ≡ op.Inc index (cast_signed w8 const))
-IsOp Leads pool at (WideIinc index const) o = (index < 2 ^ 16) × (const < 2 ^ 16) × (o ≡ op.Inc index (cast_signed w16 const))
+IsOp Leads pool at (WideIinc index const) o = (index < 2 ^ 16) × (const < 2 ^ 16)
+    × (o ≡ op.Inc index (cast_signed w16 const))
 IsOp Leads pool at (Branch opcode branch) o = (branch < 2 ^ 16)
     × (to : ℕ) × Leads (branch_target at (cast_signed w16 branch)) to × Makes (branch_op opcode) to o
 IsOp Leads pool at (GotoWide branch) o = (to : ℕ) × Leads4 Leads at branch to × (o ≡ op.Goto to)

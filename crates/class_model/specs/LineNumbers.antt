@@ -1,5 +1,6 @@
 -- The attribute LineNumberTable (JVMS 4.7.12).
-use Rattle.std.specs.Prelude.{◌≡◌, ℕ, ◌^◌, ◌<◌, Bool, true, List, [], ◌∷◌, ◌++◌, length, fold, Option, Some, None, option_map, nat_le, ◌&&◌, if◌then◌else◌}
+use Rattle.std.specs.Prelude.{◌≡◌, ℕ, ◌^◌, ◌<◌, Bool, true, List, [], ◌∷◌, ◌++◌, length, fold, Option, Some, None}
+use Rattle.std.specs.Prelude.{option_map, nat_le, ◌&&◌, if◌then◌else◌}
 use Rattle.std.specs.Int.{w16, to_be_bytes}
 use Rattle.std.specs.List.{AllByRecursion, flat_map}
 use Rattle.class_model.specs.Structure.{AttributeInfo}
@@ -27,7 +28,8 @@ pub record IsLineTable (info : List ℕ) (rows : List LineNumber) : Type 0 where
 abbrev pub AreLineTables : List AttributeInfo → List LineNumber → Type 0
 AreLineTables [] rows = rows ≡ []
 AreLineTables (a ∷ others) rows =
-    (first : List LineNumber) × (behind : List LineNumber) × IsLineTable a.info first × AreLineTables others behind × (rows ≡ first ++ behind)
+    (first : List LineNumber) × (behind : List LineNumber) × IsLineTable a.info first × AreLineTables others behind
+    × (rows ≡ first ++ behind)
 
 -- of two rows at or before an instruction the one with the greater start counts, and of equals the later one
 -- (the project's own: JVMS 4.7.12 doesn't say which counts)

@@ -1,5 +1,6 @@
 -- What is found at an index of the pool, or why not; and what a text says (JVMS 4.3, 4.4).
-use Rattle.std.specs.Prelude.{ℕ, Bool, true, false, ◌||◌, List, [], ◌∷◌, slice_get, Option, Some, None, is_some, option_map, option_and_then, encode_utf8_all, Result, Ok, Err, ◌==◌, if◌then◌else◌}
+use Rattle.std.specs.Prelude.{ℕ, Bool, true, false, ◌||◌, List, [], ◌∷◌, slice_get, Option, Some, None, is_some}
+use Rattle.std.specs.Prelude.{option_map, option_and_then, encode_utf8_all, Result, Ok, Err, ◌==◌, if◌then◌else◌}
 use Rattle.std.specs.Char.Utf16.{utf16_chars}
 use Rattle.jv_base.specs.Outcome.{◌>>=◌}
 use Rattle.jv_base.specs.Names.{is_class_name, is_member_name, is_method_name}
@@ -12,7 +13,8 @@ use Rattle.class_model.specs.declared.pool.Entry.{Entry}
 use Rattle.class_model.specs.declared.pool.Entry.TheVariants as entry
 use Rattle.class_model.specs.declared.op.MemberRef.{MemberRef}
 use Rattle.class_model.specs.Pool.{units_at, class_units_at, name_index_in}
-use Rattle.class_model.specs.ConstantPool.{class_type, name_and_type_at, fieldref_in, methodref_in, interface_methodref_in}
+use Rattle.class_model.specs.ConstantPool.{class_type, name_and_type_at, fieldref_in, methodref_in}
+use Rattle.class_model.specs.ConstantPool.{interface_methodref_in}
 
 -- ---- a value, or a kind of fault (the project's own: which fault is due)
 
@@ -100,7 +102,8 @@ type_at pool index = option_and_then named_type (option_and_then text_of (class_
 -- a reference whose class, name and descriptor were all found; of_interface tells a CONSTANT_InterfaceMethodref
 -- (JVMS 4.4.2)
 abbrev pub reference : Bool → Option FieldType → Option (List ℕ) → Option (List ℕ) → Option MemberRef
-reference of_interface (Some class) (Some name) (Some ty) = Some (record { class = class; name = name; ty = ty; of_interface = of_interface })
+reference of_interface (Some class) (Some name) (Some ty) = Some
+    (record { class = class; name = name; ty = ty; of_interface = of_interface })
 reference of_interface _ _ _ = None
 
 -- the text of the CONSTANT_Utf8 at an index, if it has no unpaired surrogate (JVMS 4.4.7)
@@ -115,7 +118,8 @@ reference_of of_interface pool class_index indices =
 -- the reference that an entry of the kind that refers_in tells is (JVMS 4.4.2)
 abbrev pub reference_at : (Entry → Option (ℕ × ℕ)) → Bool → List Entry → ℕ → Option MemberRef
 reference_at refers_in of_interface pool index =
-    option_and_then (λ (two : ℕ × ℕ). option_and_then (reference_of of_interface pool two.0) (name_and_type_at pool two.1))
+    option_and_then (λ (two : ℕ × ℕ). option_and_then (reference_of of_interface pool two.0)
+    (name_and_type_at pool two.1))
     (option_and_then refers_in (slice_get pool index))
 
 -- by a CONSTANT_Fieldref (JVMS 4.4.2)
@@ -178,5 +182,6 @@ names_right pool (entry.NameAndType name_index descriptor_index) = do
   Ok tt
 names_right pool (entry.Field class_index index) = refers_right is_member_name is_field_text pool class_index index
 names_right pool (entry.Method class_index index) = refers_right is_method_name is_method_text pool class_index index
-names_right pool (entry.InterfaceMethod class_index index) = refers_right is_method_name is_method_text pool class_index index
+names_right pool
+    (entry.InterfaceMethod class_index index) = refers_right is_method_name is_method_text pool class_index index
 names_right pool _ = Ok tt

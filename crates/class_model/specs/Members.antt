@@ -1,5 +1,6 @@
 -- Fields and methods (JVMS 4.5, 4.6).
-use Rattle.std.specs.Prelude.{◌≡◌, ℕ, ◌^◌, ◌<◌, Bool, true, false, not, ◌&&◌, ◌||◌, List, [], ◌∷◌, Option, Some, None, is_none, IsTrue, codes, length, ◌==◌, if◌then◌else◌}
+use Rattle.std.specs.Prelude.{◌≡◌, ℕ, ◌^◌, ◌<◌, Bool, true, false, not, ◌&&◌, ◌||◌, List, [], ◌∷◌, Option, Some, None}
+use Rattle.std.specs.Prelude.{is_none, IsTrue, codes, length, ◌==◌, if◌then◌else◌}
 use Rattle.jv_base.specs.declared.access.Access.{Access}
 use Rattle.jv_base.specs.declared.types.MethodType.{MethodType}
 use Rattle.jv_base.specs.Names.{is_member_name, is_method_name}
@@ -14,7 +15,8 @@ use Rattle.class_model.specs.declared.class.LeftKind.TheVariants as left
 use Rattle.class_model.specs.Pool.{IsTextAt}
 use Rattle.class_model.specs.Flags.{flags_of}
 use Rattle.class_model.specs.Structure.{AttributeInfo, MemberInfo}
-use Rattle.class_model.specs.Flags.{field_mask, method_mask, meant, is_static, is_native, has_body, are_field_flags, are_method_flags, are_initial_flags, is_init, is_clinit}
+use Rattle.class_model.specs.Flags.{field_mask, method_mask, meant, is_static, is_native, has_body, are_field_flags}
+use Rattle.class_model.specs.Flags.{are_method_flags, are_initial_flags, is_init, is_clinit}
 use Rattle.class_model.specs.Attributes.{named, AreAttributes, IsMark, AreConstants, AreThrown}
 use Rattle.class_model.specs.Frames.{initial_locals}
 use Rattle.class_model.specs.CodeAttribute.{IsBody}
@@ -39,7 +41,8 @@ pub record IsField (pool : List Entry) (in_interface : Bool) (raw : MemberInfo) 
   pub descriptor : IsTextAt pool raw.descriptor_index (field_text field.ty)
   pub typed : IsFieldType field.ty
   pub attributes : AreAttributes pool raw.attributes
-  pub constant : AreConstants pool (is_static raw.access_flags) field.ty (named_in pool raw (codes "ConstantValue")) field.constant
+  pub constant : AreConstants pool (is_static raw.access_flags) field.ty
+      (named_in pool raw (codes "ConstantValue")) field.constant
   pub synthetic : IsMark (named_in pool raw (codes "Synthetic")) field.synthetic
   pub deprecated : IsMark (named_in pool raw (codes "Deprecated")) field.deprecated
 
@@ -62,7 +65,8 @@ is_initial_type name ty =
 -- initial frame (JVMS 4.7.3; that native methods are left out is the project's own)
 abbrev pub IsCodeOf : List Entry → List VType → ℕ → Bool → List AttributeInfo → Option Code → Option LeftKind → Type 0
 IsCodeOf pool first flags true (a ∷ []) code left_out = IsBody pool first a.info code left_out
-IsCodeOf pool first flags false [] code left_out = (code ≡ None) × (left_out ≡ (if is_native flags then Some left.Flag else None))
+IsCodeOf pool first flags false [] code left_out = (code ≡ None)
+    × (left_out ≡ (if is_native flags then Some left.Flag else None))
 IsCodeOf pool first flags has_code attributes code left_out = ⊥
 
 -- the locals of the initial frame of a method in a class of this name (JVMS 4.10.1.6)
@@ -70,7 +74,8 @@ abbrev pub first_locals : List ℕ → MemberInfo → Method → List VType
 first_locals class raw method = initial_locals class (is_static raw.access_flags) method.name method.ty
 
 -- method_info, in an interface or a class of this name, with what is left out in it (JVMS 4.6)
-pub record IsMethod (pool : List Entry) (in_interface : Bool) (class : List ℕ) (raw : MemberInfo) (method : Method) (left_out : Option LeftKind) : Type 0 where
+pub record IsMethod (pool : List Entry) (in_interface : Bool) (class : List ℕ) (raw : MemberInfo) (method : Method)
+    (left_out : Option LeftKind) : Type 0 where
   pub flags : AreFlags method_mask are_method_flags raw.access_flags method.flags
   pub name : IsTextAt pool raw.name_index method.name
   pub named_right : IsTrue (is_method_name method.name)
@@ -80,7 +85,8 @@ pub record IsMethod (pool : List Entry) (in_interface : Bool) (class : List ℕ)
   pub initial_flags : IsTrue (are_initial_flags in_interface raw.access_flags method.name)
   pub initial_type : IsTrue (is_initial_type method.name method.ty)
   pub attributes : AreAttributes pool raw.attributes
-  pub code : IsCodeOf pool (first_locals class raw method) raw.access_flags (has_body raw.access_flags) (named_in pool raw (codes "Code")) method.code left_out
+  pub code : IsCodeOf pool (first_locals class raw method) raw.access_flags (has_body raw.access_flags)
+      (named_in pool raw (codes "Code")) method.code left_out
   pub throws : AreThrown pool (named_in pool raw (codes "Exceptions")) method.throws
   pub synthetic : IsMark (named_in pool raw (codes "Synthetic")) method.synthetic
   pub deprecated : IsMark (named_in pool raw (codes "Deprecated")) method.deprecated

@@ -1,5 +1,6 @@
 -- The opcodes by families (JVMS 6.5 and 7): what each stands for, and which are left out.
-use Rattle.std.specs.Prelude.{ℕ, ◌-◌, pos, ◌-ℤ◌, Bool, true, false, ◌||◌, Option, Some, None, option_map, ◌==◌, nat_lt, nat_le, if◌then◌else◌}
+use Rattle.std.specs.Prelude.{ℕ, ◌-◌, pos, ◌-ℤ◌, Bool, true, false, ◌||◌, Option, Some, None, option_map, ◌==◌, nat_lt}
+use Rattle.std.specs.Prelude.{nat_le, if◌then◌else◌}
 use Rattle.jv_base.specs.declared.types.Base.{Base}
 use Rattle.jv_base.specs.declared.types.Base.TheVariants as base
 use Rattle.jv_base.specs.declared.types.FieldType.{FieldType}

@@ -1,5 +1,6 @@
 -- What an index of the constant pool leads to: texts, and names of classes (JVMS 4.4.1, 4.4.7).
-use Rattle.std.specs.Prelude.{◌≡◌, ◌⊎◌, ℕ, ◌^◌, ◌<◌, List, slice_get, Option, Some, None, option_and_then, IsTrue, IsUtf8}
+use Rattle.std.specs.Prelude.{◌≡◌, ◌⊎◌, ℕ, ◌^◌, ◌<◌, List, slice_get, Option, Some, None, option_and_then, IsTrue}
+use Rattle.std.specs.Prelude.{IsUtf8}
 use Rattle.jv_base.specs.Names.{is_class_name}
 use Rattle.jv_base.specs.Utf16.{units_of}
 use Rattle.jv_base.specs.Types.{field_text, IsFieldType}

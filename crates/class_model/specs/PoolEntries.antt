@@ -7,7 +7,9 @@ use Rattle.jv_base.specs.Mutf8.{mutf8, IsUnits}
 use Rattle.class_model.specs.declared.pool.Entry.{Entry}
 use Rattle.class_model.specs.declared.pool.Entry.TheVariants as entry
 use Rattle.class_model.specs.declared.constant.PoolConstant.{PoolConstant}
-use Rattle.class_model.specs.declared.constant.PoolConstant.TheVariants.{Utf8, Integer, Long, SecondOfLong, Class, Str, NameAndType, Fieldref, Methodref, InterfaceMethodref}
+use Rattle.class_model.specs.declared.constant.PoolConstant.TheVariants.{Utf8, Integer, Long, SecondOfLong, Class, Str}
+use Rattle.class_model.specs.declared.constant.PoolConstant.TheVariants.{NameAndType, Fieldref, Methodref}
+use Rattle.class_model.specs.declared.constant.PoolConstant.TheVariants.{InterfaceMethodref}
 use Rattle.class_model.specs.CanonicalPool.{same, index_of}
 
 -- a constant, its parts by their indices (JVMS 4.4)
@@ -18,9 +20,12 @@ entry_of pool (Long value) = entry.Long value
 entry_of pool (SecondOfLong value) = entry.Gap
 entry_of pool (Class name) = entry.Class (index_of pool (Utf8 name))
 entry_of pool (Str text) = entry.Str (index_of pool (Utf8 text))
-entry_of pool (NameAndType name descriptor) = entry.NameAndType (index_of pool (Utf8 name)) (index_of pool (Utf8 descriptor))
-entry_of pool (Fieldref class name descriptor) = entry.Field (index_of pool (Class class)) (index_of pool (NameAndType name descriptor))
-entry_of pool (Methodref class name descriptor) = entry.Method (index_of pool (Class class)) (index_of pool (NameAndType name descriptor))
+entry_of pool (NameAndType name descriptor) = entry.NameAndType (index_of pool (Utf8 name))
+    (index_of pool (Utf8 descriptor))
+entry_of pool (Fieldref class name descriptor) = entry.Field (index_of pool (Class class))
+    (index_of pool (NameAndType name descriptor))
+entry_of pool (Methodref class name descriptor) = entry.Method (index_of pool (Class class))
+    (index_of pool (NameAndType name descriptor))
 entry_of pool (InterfaceMethodref class name descriptor) =
     entry.InterfaceMethod (index_of pool (Class class)) (index_of pool (NameAndType name descriptor))
 

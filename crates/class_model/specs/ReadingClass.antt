@@ -1,5 +1,6 @@
 -- Reading a class file from left to right (JVMS 4.1).
-use Rattle.std.specs.Prelude.{ℕ, Bool, true, false, List, [], length, codes, Option, Some, None, Result, Ok, Err, ◌==◌, if◌then◌else◌}
+use Rattle.std.specs.Prelude.{ℕ, Bool, true, false, List, [], length, codes, Option, Some, None, Result, Ok, Err, ◌==◌}
+use Rattle.std.specs.Prelude.{if◌then◌else◌}
 use Rattle.jv_base.specs.Place.{Place, start}
 use Rattle.jv_base.specs.Names.{is_text}
 use Rattle.format_reading.specs.Fault.{fault}
@@ -52,8 +53,10 @@ source_seen pool seen = do
 abbrev pub known_of_class : List Entry → ℕ → List ℕ → ℕ → ClassSeen → Option (Reader ClassSeen)
 known_of_class pool at name n seen =
     if is_text name (codes "SourceFile") then Some (once at (is_there seen.source) (source_seen pool seen))
-    else if is_text name (codes "Synthetic") then Some (once at seen.synthetic (give (record seen { synthetic = true })))
-    else if is_text name (codes "Deprecated") then Some (once at seen.deprecated (give (record seen { deprecated = true })))
+    else if is_text name (codes "Synthetic") then Some
+    (once at seen.synthetic (give (record seen { synthetic = true })))
+    else if is_text name (codes "Deprecated") then Some
+    (once at seen.deprecated (give (record seen { deprecated = true })))
     else None
 
 -- the fields (JVMS 4.1)
@@ -75,7 +78,8 @@ read_interfaces pool = do
   many n (item u2 (class_at pool))
 
 -- the class of these items; flags that mean nothing for a class are dropped (JVMS 4.1, table 4.1-A)
-abbrev pub class_of : ℕ → List Entry → List ℕ → List ℕ → List (List ℕ) → List Field → List Method × List (Option LeftKind) → ClassSeen → Class
+abbrev pub class_of : ℕ → List Entry → List ℕ → List ℕ → List (List ℕ) → List Field
+    → List Method × List (Option LeftKind) → ClassSeen → Class
 class_of flags pool name super_name interfaces fields methods seen = record {
   flags = flags_of (meant class_mask flags);
   name = name;

@@ -1,5 +1,7 @@
 -- Reading the instructions of a code from left to right (JVMS 4.9.1, 6.5).
-use Rattle.std.specs.Prelude.{ℕ, zero, suc, ◌+◌, ◌-◌, ◌^◌, ℤ, ◌-ℤ◌, int_lt, int_le, unsigned_abs, Bool, true, false, ◌&&◌, ◌||◌, List, [], ◌∷◌, length, slice_get, Option, Some, None, is_some, option_and_then, Result, Ok, Err, nat_lt, nat_le, ◌==◌, if◌then◌else◌}
+use Rattle.std.specs.Prelude.{ℕ, zero, suc, ◌+◌, ◌-◌, ◌^◌, ℤ, ◌-ℤ◌, int_lt, int_le, unsigned_abs, Bool, true, false}
+use Rattle.std.specs.Prelude.{◌&&◌, ◌||◌, List, [], ◌∷◌, length, slice_get, Option, Some, None, is_some}
+use Rattle.std.specs.Prelude.{option_and_then, Result, Ok, Err, nat_lt, nat_le, ◌==◌, if◌then◌else◌}
 use Rattle.std.specs.Int.{w32, cast_signed}
 use Rattle.jv_base.specs.Place.{Place, start}
 use Rattle.jv_base.specs.declared.types.FieldType.{FieldType}
@@ -13,8 +15,12 @@ use Rattle.class_model.specs.declared.op.Op.{Op}
 use Rattle.class_model.specs.declared.class.LeftKind.{LeftKind}
 use Rattle.class_model.specs.declared.class.LeftKind.TheVariants as left
 use Rattle.class_model.specs.Between.{between}
-use Rattle.class_model.specs.Opcodes.{plain_op, local_op, branch_op, field_op, method_op, type_op, array_type_of, is_left_out_local, is_left_out_array_type, is_left_out_opcode}
-use Rattle.class_model.specs.InstructionStructure.{MatchOffset, Info, Plain, Bipush, Sipush, Ldc, LdcWide, Local, WideLocal, Iinc, WideIinc, Branch, GotoWide, TableSwitch, LookupSwitch, MemberOperand, InvokeInterface, ClassOperand, NewArray, MultiNewArray, info_bytes, pad_length, starts_of}
+use Rattle.class_model.specs.Opcodes.{plain_op, local_op, branch_op, field_op, method_op, type_op, array_type_of}
+use Rattle.class_model.specs.Opcodes.{is_left_out_local, is_left_out_array_type, is_left_out_opcode}
+use Rattle.class_model.specs.InstructionStructure.{MatchOffset, Info, Plain, Bipush, Sipush, Ldc, LdcWide, Local}
+use Rattle.class_model.specs.InstructionStructure.{WideLocal, Iinc, WideIinc, Branch, GotoWide, TableSwitch}
+use Rattle.class_model.specs.InstructionStructure.{LookupSwitch, MemberOperand, InvokeInterface, ClassOperand, NewArray}
+use Rattle.class_model.specs.InstructionStructure.{MultiNewArray, info_bytes, pad_length, starts_of}
 use Rattle.class_model.specs.Instructions.{is_left_out_load}
 use Rattle.class_model.specs.InstructionMeaning.{op_of, aim_at, loaded, loaded_wide, member_op, class_op, count_of}
 use Rattle.class_model.specs.Lookups.{test, type_at, interface_methodref_at}
@@ -57,7 +63,8 @@ ldc pool = item u1 (λ index. load_read pool 0x12 index (loaded pool index) (Ldc
 
 -- ldc_w and ldc2_w: two bytes of index; a long is loaded by ldc2_w alone (JVMS 6.5)
 abbrev pub ldc_wide : List Entry → ℕ → Reader Read
-ldc_wide pool opcode = item u2 (λ index. load_read pool opcode index (loaded_wide opcode pool index) (LdcWide opcode index))
+ldc_wide pool opcode = item u2
+    (λ index. load_read pool opcode index (loaded_wide opcode pool index) (LdcWide opcode index))
 
 -- an instruction whose one operand is a byte: bipush, and those of a slot without wide (JVMS 6.5)
 abbrev pub one_byte : (ℕ → Info) → Reader Read
@@ -152,11 +159,13 @@ lookup_switch at = do
 
 -- the index of a field or a method; it has to lead to what the opcode asks for (JVMS 4.9.1)
 abbrev pub member : List Entry → ℕ → Reader Read
-member pool opcode = item u2 (λ index. if_meant (member_op opcode pool index) (instruction (MemberOperand opcode index)))
+member pool opcode = item u2
+    (λ index. if_meant (member_op opcode pool index) (instruction (MemberOperand opcode index)))
 
 -- the index of a class or an array type; for new it has to be a class (JVMS 4.9.1)
 abbrev pub class_operand : List Entry → ℕ → Reader Read
-class_operand pool opcode = item u2 (λ index. if_meant (class_op opcode pool index) (instruction (ClassOperand opcode index)))
+class_operand pool opcode = item u2
+    (λ index. if_meant (class_op opcode pool index) (instruction (ClassOperand opcode index)))
 
 -- the count is the number of argument words by the descriptor, with that of the object (JVMS 6.5)
 abbrev pub is_count : Option ℕ → ℕ → Bool
@@ -178,7 +187,8 @@ invoke_interface pool = do
 -- the operand of newarray (JVMS 6.5.newarray)
 abbrev pub array_type_read : ℕ → Result Read FormatKind
 array_type_read atype =
-    if is_left_out_array_type atype then Ok (left_out 0xBC) else if_meant (array_type_of atype) (instruction (NewArray atype))
+    if is_left_out_array_type atype then Ok (left_out 0xBC) else if_meant (array_type_of atype)
+    (instruction (NewArray atype))
 
 -- of the dimensions of its type at least one is made (JVMS 4.9.1, 6.5.multianewarray)
 abbrev pub are_dimensions : Option FieldType → ℕ → Bool

@@ -1,5 +1,6 @@
 -- Reading the attribute Code from left to right (JVMS 4.7.3).
-use Rattle.std.specs.Prelude.{ℕ, ◌+◌, ◌*◌, ◌^◌, Bool, true, false, List, [], ◌∷◌, ◌++◌, length, position, nat_eq, nat_lt, codes, Option, Some, None, Result, Ok, Err, ◌==◌, if◌then◌else◌}
+use Rattle.std.specs.Prelude.{ℕ, ◌+◌, ◌*◌, ◌^◌, Bool, true, false, List, [], ◌∷◌, ◌++◌, length, position, nat_eq}
+use Rattle.std.specs.Prelude.{nat_lt, codes, Option, Some, None, Result, Ok, Err, ◌==◌, if◌then◌else◌}
 use Rattle.jv_base.specs.Names.{is_text}
 use Rattle.format_reading.specs.Reader.{Reader, u2, u4, bytes, item, give, here, settle, told, part, many, ◌>>=◌}
 use Rattle.format_reading.specs.declared.fault.FormatKind.{FormatKind}
@@ -38,7 +39,8 @@ begins starts offset = position (nat_eq offset) starts
 -- the range is not empty; its places begin instructions, though end_pc may be the end of the code (JVMS 4.7.3)
 abbrev pub handler_places : List ℕ → ℕ → ℕ → ℕ → ℕ → Option Places
 handler_places starts end start_pc end_pc handler_pc =
-    if nat_lt start_pc end_pc then places (begins starts start_pc) (begins (starts ++ end ∷ []) end_pc) (begins starts handler_pc) else None
+    if nat_lt start_pc end_pc then places (begins starts start_pc) (begins (starts ++ end ∷ []) end_pc)
+    (begins starts handler_pc) else None
 
 -- a handler at three places, with the class that it catches, or none for any (JVMS 4.7.3)
 abbrev pub handler : Places → Option (List ℕ) → Handler
@@ -110,7 +112,8 @@ code_length n = if n == 0 then Err bad.BadCode else if nat_lt n (2 ^ 16) then Ok
 abbrev pub with_lines : List LineNumber → ℕ → List Info → List Op → List Ins
 with_lines rows at [] ops = []
 with_lines rows at (info ∷ infos) [] = []
-with_lines rows at (info ∷ infos) (o ∷ ops) = record { op = o; line = line_at rows at } ∷ with_lines rows (at + length (info_bytes info)) infos ops
+with_lines rows at (info ∷ infos) (o ∷ ops) = record { op = o; line = line_at rows at } ∷ with_lines rows
+    (at + length (info_bytes info)) infos ops
 
 -- a code without a StackMapTable has no frames: its implicit one is empty (JVMS 4.7.4)
 abbrev pub frames_of : Option (Bool × List FrameAt) → List FrameAt
@@ -149,7 +152,8 @@ abbrev pub behind_code : List Entry → List VType → ℕ → ℕ → ℕ → �
 behind_code pool first max_stack max_locals from end (instructions infos) = do
   ops ← told (ops_of pool from infos)
   handlers ← read_handlers pool (starts_of infos) end
-  seen ← counted_attributes pool (known_of_code (read_frames pool (starts_of infos) ops max_stack max_locals first)) nothing_seen
+  seen ← counted_attributes pool
+      (known_of_code (read_frames pool (starts_of infos) ops max_stack max_locals first)) nothing_seen
   give (code_of max_stack max_locals infos ops handlers seen)
 behind_code pool first max_stack max_locals from end (has_left_out offset opcode) = do
   n ← u2

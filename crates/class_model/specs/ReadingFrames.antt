@@ -1,5 +1,7 @@
 -- Reading the attribute StackMapTable from left to right (JVMS 4.7.4).
-use Rattle.std.specs.Prelude.{ℕ, zero, suc, ◌-◌, Bool, true, false, ◌&&◌, ◌||◌, List, [], ◌∷◌, ◌++◌, length, take, slice_get, position, nat_eq, nat_le, Option, Some, None, option_map, option_and_then, Result, Ok, Err, ◌==◌, if◌then◌else◌}
+use Rattle.std.specs.Prelude.{ℕ, zero, suc, ◌-◌, Bool, true, false, ◌&&◌, ◌||◌, List, [], ◌∷◌, ◌++◌, length, take}
+use Rattle.std.specs.Prelude.{slice_get, position, nat_eq, nat_le, Option, Some, None, option_map, option_and_then}
+use Rattle.std.specs.Prelude.{Result, Ok, Err, ◌==◌, if◌then◌else◌}
 use Rattle.jv_base.specs.Place.{Place}
 use Rattle.format_reading.specs.Fault.{fault}
 use Rattle.format_reading.specs.Reader.{Reader, u1, u2, lead, item, give, here, settle, many, ◌>>=◌}
@@ -12,7 +14,10 @@ use Rattle.class_model.specs.declared.op.Op.TheVariants as op
 use Rattle.class_model.specs.declared.frame.VType.{VType}
 use Rattle.class_model.specs.declared.frame.VType.TheVariants as vtype
 use Rattle.class_model.specs.declared.frame.FrameAt.{FrameAt}
-use Rattle.class_model.specs.Frames.{VerificationTypeInfo, TagInfo, ObjectInfo, UninitializedInfo, StackMapFrame, SameFrame, SameLocalsOneStackItem, SameLocalsOneStackItemExtended, ChopFrame, SameFrameExtended, AppendFrame, FullFrame, tagged_type, words_of_types, cut_tops, offset_behind, names_float}
+use Rattle.class_model.specs.Frames.{VerificationTypeInfo, TagInfo, ObjectInfo, UninitializedInfo, StackMapFrame}
+use Rattle.class_model.specs.Frames.{SameFrame, SameLocalsOneStackItem, SameLocalsOneStackItemExtended, ChopFrame}
+use Rattle.class_model.specs.Frames.{SameFrameExtended, AppendFrame, FullFrame, tagged_type, words_of_types, cut_tops}
+use Rattle.class_model.specs.Frames.{offset_behind, names_float}
 use Rattle.class_model.specs.Lookups.{due, type_at}
 
 -- ---- rows as they are written
@@ -145,7 +150,8 @@ module _ (pool : List Entry) (starts : List ℕ) (ops : List Op) where
 
   -- the frame that is left when this many locals go (JVMS 4.7.4, chop_frame)
   abbrev pub chopped : ℕ → ℕ → List VType → Option Written
-  chopped n delta before = if nat_le n (length before) then Some (written delta (take (length before - n) before) []) else None
+  chopped n delta before = if nat_le n (length before) then Some
+      (written delta (take (length before - n) before) []) else None
 
   -- what a row behind these locals writes (JVMS 4.7.4)
   abbrev pub written_by : List VType → StackMapFrame → Option Written
@@ -159,7 +165,8 @@ module _ (pool : List Entry) (starts : List ℕ) (ops : List Op) where
   written_by before (AppendFrame frame_type offset_delta infos) =
       option_map (λ types. written offset_delta (before ++ types) []) (types_of infos)
   written_by before (FullFrame offset_delta infos items) =
-      option_and_then (λ locals. option_map (λ stack. written offset_delta locals stack) (types_of items)) (types_of infos)
+      option_and_then (λ locals. option_map (λ stack. written offset_delta locals stack) (types_of items))
+      (types_of infos)
 
   module _ (max_stack max_locals : ℕ) where
     -- the locals and the stack are not too large (JVMS 4.7.4)
@@ -173,14 +180,16 @@ module _ (pool : List Entry) (starts : List ℕ) (ops : List Op) where
     -- the frame at an offset, if an instruction begins there (JVMS 4.7.4)
     abbrev pub frame_of : ℕ → Written → Option (FrameAt × Before)
     frame_of offset w =
-        if fits w then option_map (λ n. (frame_at w n, record { locals = w.locals; offset = Some offset })) (position (nat_eq offset) starts)
+        if fits w then option_map (λ n. (frame_at w n, record { locals = w.locals; offset = Some offset }))
+        (position (nat_eq offset) starts)
         else None
 
     -- a row's frame, if its types are types, its locals and stack have room, and an instruction begins at its offset
     -- (JVMS 4.7.4)
     abbrev pub row_stands : Before → StackMapFrame → Option (FrameAt × Before)
     row_stands before row =
-        option_and_then (λ (w : Written). frame_of (offset_behind before.offset w.delta) w) (written_by before.locals row)
+        option_and_then (λ (w : Written). frame_of (offset_behind before.offset w.delta) w)
+        (written_by before.locals row)
 
     -- ---- rows
 

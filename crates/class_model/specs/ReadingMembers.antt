@@ -1,5 +1,6 @@
 -- Reading fields and methods from left to right (JVMS 4.5, 4.6).
-use Rattle.std.specs.Prelude.{ℕ, zero, suc, Bool, true, false, ◌&&◌, ◌||◌, not, List, [], ◌∷◌, codes, Option, Some, None, Ok, Err, if◌then◌else◌}
+use Rattle.std.specs.Prelude.{ℕ, zero, suc, Bool, true, false, ◌&&◌, ◌||◌, not, List, [], ◌∷◌, codes, Option, Some}
+use Rattle.std.specs.Prelude.{None, Ok, Err, if◌then◌else◌}
 use Rattle.std.specs.List.{list_any}
 use Rattle.jv_base.specs.Names.{is_text, is_member_name, is_method_name}
 use Rattle.jv_base.specs.Types.{field_text, method_text}
@@ -14,7 +15,8 @@ use Rattle.class_model.specs.declared.class.Method.{Method}
 use Rattle.class_model.specs.declared.class.LeftKind.{LeftKind}
 use Rattle.class_model.specs.declared.class.LeftKind.TheVariants as left
 use Rattle.class_model.specs.Flags.{flags_of}
-use Rattle.class_model.specs.Flags.{field_mask, method_mask, meant, is_static, is_native, has_body, are_field_flags, are_method_flags}
+use Rattle.class_model.specs.Flags.{field_mask, method_mask, meant, is_static, is_native, has_body, are_field_flags}
+use Rattle.class_model.specs.Flags.{are_method_flags}
 use Rattle.class_model.specs.Frames.{initial_locals}
 use Rattle.class_model.specs.Lookups.{test, good_text_at}
 use Rattle.class_model.specs.MemberTypes.{field_type_at, method_type_at}
@@ -66,8 +68,10 @@ abbrev pub known_of_field : List Entry → Bool → FieldType → ℕ → List �
 known_of_field pool static ty at name n seen =
     if is_text name (codes "ConstantValue") then Some (once at (is_there seen.constant)
     (if static then constant_seen pool ty seen else dropped n (record seen { constant = Some None })))
-    else if is_text name (codes "Synthetic") then Some (once at seen.synthetic (give (record seen { synthetic = true })))
-    else if is_text name (codes "Deprecated") then Some (once at seen.deprecated (give (record seen { deprecated = true })))
+    else if is_text name (codes "Synthetic") then Some
+    (once at seen.synthetic (give (record seen { synthetic = true })))
+    else if is_text name (codes "Deprecated") then Some
+    (once at seen.deprecated (give (record seen { deprecated = true })))
     else None
 
 -- a field without ConstantValue, or with one that is left out or passed over, has no constant (JVMS 4.7.2)
@@ -136,13 +140,17 @@ one_code at wanted code seen = do
   allowed ← settle at (test bad.BadAttribute wanted)
   once at (is_there seen.body) (code_seen code seen)
 
--- the attributes of a method that are read, each at most once (JVMS 4.7.3, 4.7.5, 4.7.8, 4.7.15); others are passed over
-abbrev pub known_of_method : List Entry → Bool → (ℕ → Reader Body) → ℕ → List ℕ → ℕ → MethodSeen → Option (Reader MethodSeen)
+-- the attributes of a method that are read, each at most once (JVMS 4.7.3, 4.7.5, 4.7.8, 4.7.15); others are passed
+-- over
+abbrev pub known_of_method : List Entry → Bool → (ℕ → Reader Body) → ℕ → List ℕ → ℕ → MethodSeen
+    → Option (Reader MethodSeen)
 known_of_method pool wanted code at name n seen =
     if is_text name (codes "Code") then Some (one_code at wanted (code at) seen)
     else if is_text name (codes "Exceptions") then Some (once at (is_there seen.throws) (exceptions_seen pool seen))
-    else if is_text name (codes "Synthetic") then Some (once at seen.synthetic (give (record seen { synthetic = true })))
-    else if is_text name (codes "Deprecated") then Some (once at seen.deprecated (give (record seen { deprecated = true })))
+    else if is_text name (codes "Synthetic") then Some
+    (once at seen.synthetic (give (record seen { synthetic = true })))
+    else if is_text name (codes "Deprecated") then Some
+    (once at seen.deprecated (give (record seen { deprecated = true })))
     else None
 
 -- the code, with what is left out: a native method is
@@ -186,7 +194,8 @@ read_method_info pool in_interface class before = do
   give (method_of flags name ty seen, (name, method_text ty), (body_of flags seen.body).1)
 
 -- methods, and what is left out in each (JVMS 4.1, 4.6)
-unfoldable pub read_methods : ℕ → List Entry → Bool → List ℕ → List Signature → Reader (List Method × List (Option LeftKind))
+unfoldable pub read_methods : ℕ → List Entry → Bool → List ℕ → List Signature
+    → Reader (List Method × List (Option LeftKind))
 read_methods zero pool in_interface class before = give ([], [])
 read_methods (suc n) pool in_interface class before = do
   first ← read_method_info pool in_interface class before

@@ -1,6 +1,8 @@
 -- What the definitions give for a few class files, which are computed (the project's own: definitions are tried on
 -- files). The files are written in hexadecimal digits.
-use Rattle.std.specs.Prelude.{pos, replicate, ◌≡◌, ℕ, ◌+◌, ◌-◌, ◌*◌, List, [], ◌∷◌, ◌++◌, length, map, take, drop, filter, codes, Option, Some, None, option_map, Result, Ok, Err, is_err, nat_le, false, if◌then◌else◌}
+use Rattle.std.specs.Prelude.{pos, replicate, ◌≡◌, ℕ, ◌+◌, ◌-◌, ◌*◌, List, [], ◌∷◌, ◌++◌, length, map, take, drop}
+use Rattle.std.specs.Prelude.{filter, codes, Option, Some, None, option_map, Result, Ok, Err, is_err, nat_le, false}
+use Rattle.std.specs.Prelude.{if◌then◌else◌}
 use Rattle.std.specs.Int.{w32, to_be_bytes}
 use Rattle.std.specs.List.{range_with_len}
 use Rattle.format_reading.specs.Fault.{fault}
@@ -88,7 +90,8 @@ refused offset kind = Err (fault offset kind)
 
 -- each beginning of the bytes ends too soon, at its end
 abbrev pub IsCutAnywhere : Type 0
-IsCutAnywhere = map (λ n. class_read (take n bytes_of_a)) (range_with_len 0 53) ≡ map (λ n. refused n bad.Cut) (range_with_len 0 53)
+IsCutAnywhere = map (λ n. class_read (take n bytes_of_a)) (range_with_len 0 53)
+    ≡ map (λ n. refused n bad.Cut) (range_with_len 0 53)
 
 -- one more byte follows the class file
 abbrev pub IsTrailed : Type 0
@@ -100,7 +103,8 @@ IsTrailed = class_read (bytes_of_a ++ 0 ∷ []) ≡ refused 53 bad.Trailing
 abbrev pub with_bytes : ℕ → List ℕ → List ℕ
 with_bytes n others = take n bytes_of_a ++ (others ++ drop (n + length others) bytes_of_a)
 
--- the magic; minor_version and major_version; a tag; a byte 0 in a text; a Class entry that names a Class entry; a name with a dot; an
+-- the magic; minor_version and major_version; a tag; a byte 0 in a text; a Class entry that names a Class entry; a name
+-- with a dot; an
 -- interface that isn't abstract; a this_class that names a text
 abbrev pub HeadFaults : Type 0
 HeadFaults =
@@ -116,11 +120,14 @@ HeadFaults =
 
 -- ---- a class with a method
 
--- class T up to its interfaces; its pool has 1 "T", 2 Class 1, 3 "java/lang/Object", 4 Class 3, 5 "f", 6 "(I)I", 7 "Code",
--- 8 "StackMapTable", 9 a long, 11 "ConstantValue", 12 "J", 13 the int 7, 14 "LineNumberTable", 15 "<init>", 16 "()V"; fields_count
+-- class T up to its interfaces; its pool has 1 "T", 2 Class 1, 3 "java/lang/Object", 4 Class 3, 5 "f", 6 "(I)I", 7
+-- "Code",
+-- 8 "StackMapTable", 9 a long, 11 "ConstantValue", 12 "J", 13 the int 7, 14 "LineNumberTable", 15 "<init>", 16 "()V";
+-- fields_count
 -- is at 148
 abbrev pub head_of_t : List ℕ
-head_of_t = (hex (codes "CAFEBABE000000340011010001540700010100106A6176612F6C616E672F4F626A656374070003010001660100042849")
+head_of_t =
+    (hex (codes "CAFEBABE000000340011010001540700010100106A6176612F6C616E672F4F626A656374070003010001660100042849")
     ++ (hex (codes "2949010004436F646501000D537461636B4D61705461626C6505000000010000000201000D436F6E7374616E7456616C")
     ++ (hex (codes "75650100014A030000000701000F4C696E654E756D6265725461626C650100063C696E69743E01000328295600210002")
     ++ (hex (codes "00040000")))))
@@ -129,15 +136,19 @@ head_of_t = (hex (codes "CAFEBABE000000340011010001540700010100106A6176612F6C616
 abbrev pub with_members : List ℕ → List ℕ → List ℕ
 with_members fields methods = head_of_t ++ (fields ++ (methods ++ hex (codes "0000")))
 
--- the class with the method public static int f(int) alone, which begins at 152 and whose attribute Code begins at 160, with these
+-- the class with the method public static int f(int) alone, which begins at 152 and whose attribute Code begins at 160,
+-- with these
 -- contents; its instructions begin at 174
 abbrev pub with_code : List ℕ → List ℕ
 with_code contents = with_members (hex (codes "0000"))
     (hex (codes "000100090005000600010007") ++ (to_be_bytes w32 (length contents) ++ contents))
 
--- a code of length 0; a code that ends inside an instruction; jsr; wide before nop; ldc of a long; keys of lookupswitch that
--- do not ascend; a branch into an instruction; an empty range; a frame_type without a form; a frame inside an instruction; a
--- local too many; two locals gone of one; a frame that runs past its attribute; two StackMapTables; a byte behind the contents
+-- a code of length 0; a code that ends inside an instruction; jsr; wide before nop; ldc of a long; keys of lookupswitch
+-- that
+-- do not ascend; a branch into an instruction; an empty range; a frame_type without a form; a frame inside an
+-- instruction; a
+-- local too many; two locals gone of one; a frame that runs past its attribute; two StackMapTables; a byte behind the
+-- contents
 -- of Code; Code without its attributes_count
 abbrev pub CodeFaults : Type 0
 CodeFaults =
@@ -146,15 +157,24 @@ CodeFaults =
     × (class_read (with_code (hex (codes "00020001000000041AA8000000000000"))) ≡ refused 175 bad.BadOpcode)
     × (class_read (with_code (hex (codes "0002000100000003C400AC00000000"))) ≡ refused 174 bad.BadOpcode)
     × (class_read (with_code (hex (codes "00020001000000031209AC00000000"))) ≡ refused 174 bad.BadOperand)
-    × (class_read (with_code (hex (codes "000200010000001D1AAB00000000001B0000000200000005000000130000000500000013AC00000000"))) ≡ refused 175 bad.BadOperand)
+    × (class_read
+    (with_code (hex (codes "000200010000001D1AAB00000000001B0000000200000005000000130000000500000013AC00000000")))
+    ≡ refused 175 bad.BadOperand)
     × (class_read (with_code (hex (codes "00020001000000061A9900021AAC00000000"))) ≡ refused 175 bad.BadTarget)
-    × (class_read (with_code (hex (codes "00020001000000041A0460AC000100010001000000000000"))) ≡ refused 180 bad.BadHandler)
-    × (class_read (with_code (hex (codes "00020001000000041A0460AC00000001000800000003000180"))) ≡ refused 190 bad.BadFrame)
-    × (class_read (with_code (hex (codes "00020001000000031004AC00000001000800000003000101"))) ≡ refused 189 bad.BadFrame)
-    × (class_read (with_code (hex (codes "00020001000000041A0460AC000000010008000000060001FC000101"))) ≡ refused 190 bad.BadFrame)
-    × (class_read (with_code (hex (codes "00020001000000041A0460AC000000010008000000050001F90001"))) ≡ refused 190 bad.BadFrame)
-    × (class_read (with_code (hex (codes "00020001000000041A0460AC000000010008000000050001FC0001"))) ≡ refused 182 bad.BadAttribute)
-    × (class_read (with_code (hex (codes "00020001000000041A0460AC0000000200080000000200000008000000020000"))) ≡ refused 190 bad.Repeated)
+    × (class_read (with_code (hex (codes "00020001000000041A0460AC000100010001000000000000")))
+    ≡ refused 180 bad.BadHandler)
+    × (class_read (with_code (hex (codes "00020001000000041A0460AC00000001000800000003000180")))
+    ≡ refused 190 bad.BadFrame)
+    × (class_read (with_code (hex (codes "00020001000000031004AC00000001000800000003000101")))
+    ≡ refused 189 bad.BadFrame)
+    × (class_read (with_code (hex (codes "00020001000000041A0460AC000000010008000000060001FC000101")))
+    ≡ refused 190 bad.BadFrame)
+    × (class_read (with_code (hex (codes "00020001000000041A0460AC000000010008000000050001F90001")))
+    ≡ refused 190 bad.BadFrame)
+    × (class_read (with_code (hex (codes "00020001000000041A0460AC000000010008000000050001FC0001")))
+    ≡ refused 182 bad.BadAttribute)
+    × (class_read (with_code (hex (codes "00020001000000041A0460AC0000000200080000000200000008000000020000")))
+    ≡ refused 190 bad.Repeated)
     × (class_read (with_code (hex (codes "00020001000000041A0460AC0000000000"))) ≡ refused 160 bad.BadAttribute)
     × (class_read (with_code (hex (codes "00020001000000041A0460AC0000"))) ≡ refused 160 bad.BadAttribute)
 
@@ -170,50 +190,87 @@ leaves_out kind = Some (Some (record { member = Some 0; kind = kind }))
 -- fload_0, then bytes that are no code and handlers that are none; ldc of a class; a float on the stack
 abbrev pub CodeLeftOut : Type 0
 CodeLeftOut =
-    (left_out_of (class_read (with_code (hex (codes "00020001000000041A22FFFF0001FFFFFFFFFFFFFFFF0000")))) ≡ leaves_out left.Opcode)
+    (left_out_of (class_read (with_code (hex (codes "00020001000000041A22FFFF0001FFFFFFFFFFFFFFFF0000"))))
+    ≡ leaves_out left.Opcode)
     × (left_out_of (class_read (with_code (hex (codes "00020001000000031202AC00000000")))) ≡ leaves_out left.Constant)
-    × (left_out_of (class_read (with_code (hex (codes "00020001000000041A0460AC0000000100080000000400014102")))) ≡ leaves_out left.FloatType)
+    × (left_out_of (class_read (with_code (hex (codes "00020001000000041A0460AC0000000100080000000400014102"))))
+    ≡ leaves_out left.FloatType)
 
--- two methods of one name and descriptor; a method both public and private; a method without Code; a field descriptor on a
--- method; a name with an opening parenthesis; a name index that leads to a class; an int for a field of type long; a static
+-- two methods of one name and descriptor; a method both public and private; a method without Code; a field descriptor
+-- on a
+-- method; a name with an opening parenthesis; a name index that leads to a class; an int for a field of type long; a
+-- static
 -- instance initialisation method; one that gives an int; an abstract method with a Code
 abbrev pub MemberFaults : Type 0
 MemberFaults =
-    (class_read (with_members (hex (codes "0000")) ((hex (codes "0002000900050006000100070000001000020001000000041A0460AC0000000000090005000600010007000000100002")
+    (class_read
+    (with_members (hex (codes "0000"))
+    ((hex (codes "0002000900050006000100070000001000020001000000041A0460AC0000000000090005000600010007000000100002")
     ++ (hex (codes "0001000000041A0460AC00000000"))))) ≡ refused 182 bad.Repeated)
-    × (class_read (with_members (hex (codes "0000")) (hex (codes "0001000300050006000100070000001000020001000000041A0460AC00000000"))) ≡ refused 152 bad.BadFlags)
-    × (class_read (with_members (hex (codes "0000")) (hex (codes "00010009000500060000"))) ≡ refused 152 bad.BadAttribute)
-    × (class_read (with_members (hex (codes "0000")) (hex (codes "000100090005000C000100070000001000020001000000041A0460AC00000000"))) ≡ refused 156 bad.BadDescriptor)
-    × (class_read (with_members (hex (codes "0000")) (hex (codes "0001000900060006000100070000001000020001000000041A0460AC00000000"))) ≡ refused 154 bad.BadName)
-    × (class_read (with_members (hex (codes "0000")) (hex (codes "0001000900020006000100070000001000020001000000041A0460AC00000000"))) ≡ refused 154 bad.BadIndex)
-    × (class_read (with_members (hex (codes "000100080005000C0001000B00000002000D")) (hex (codes "0000"))) ≡ refused 164 bad.BadConstant)
-    × (class_read (with_members (hex (codes "0000")) (hex (codes "00010009000F0010000100070000000D0002000100000001B100000000"))) ≡ refused 156 bad.BadFlags)
-    × (class_read (with_members (hex (codes "0000")) (hex (codes "00010001000F0006000100070000000E00020001000000021AAC00000000"))) ≡ refused 156 bad.BadDescriptor)
-    × (class_read (with_members (hex (codes "0000")) (hex (codes "0001040100050006000100070000001000020001000000041A0460AC00000000"))) ≡ refused 160 bad.BadAttribute)
+    × (class_read
+    (with_members (hex (codes "0000"))
+    (hex (codes "0001000300050006000100070000001000020001000000041A0460AC00000000"))) ≡ refused 152 bad.BadFlags)
+    × (class_read (with_members (hex (codes "0000")) (hex (codes "00010009000500060000")))
+    ≡ refused 152 bad.BadAttribute)
+    × (class_read
+    (with_members (hex (codes "0000"))
+    (hex (codes "000100090005000C000100070000001000020001000000041A0460AC00000000")))
+    ≡ refused 156 bad.BadDescriptor)
+    × (class_read
+    (with_members (hex (codes "0000"))
+    (hex (codes "0001000900060006000100070000001000020001000000041A0460AC00000000"))) ≡ refused 154 bad.BadName)
+    × (class_read
+    (with_members (hex (codes "0000"))
+    (hex (codes "0001000900020006000100070000001000020001000000041A0460AC00000000"))) ≡ refused 154 bad.BadIndex)
+    × (class_read (with_members (hex (codes "000100080005000C0001000B00000002000D")) (hex (codes "0000")))
+    ≡ refused 164 bad.BadConstant)
+    × (class_read
+    (with_members (hex (codes "0000")) (hex (codes "00010009000F0010000100070000000D0002000100000001B100000000")))
+    ≡ refused 156 bad.BadFlags)
+    × (class_read
+    (with_members (hex (codes "0000")) (hex (codes "00010001000F0006000100070000000E00020001000000021AAC00000000")))
+    ≡ refused 156 bad.BadDescriptor)
+    × (class_read
+    (with_members (hex (codes "0000"))
+    (hex (codes "0001040100050006000100070000001000020001000000041A0460AC00000000")))
+    ≡ refused 160 bad.BadAttribute)
 
--- a long at the last index, whose value is not read; a reference to a field whose NameAndType, behind it, has a text that is no
--- descriptor; a reference to a field with the name of an instance initialisation method; a text that is none, behind a class
--- that names nothing: the bytes come first; an unpaired surrogate in the name of a class; a class that names its own entry
+-- a long at the last index, whose value is not read; a reference to a field whose NameAndType, behind it, has a text
+-- that is no
+-- descriptor; a reference to a field with the name of an instance initialisation method; a text that is none, behind a
+-- class
+-- that names nothing: the bytes come first; an unpaired surrogate in the name of a class; a class that names its own
+-- entry
 abbrev pub PoolFaults : Type 0
 PoolFaults =
     (class_read (hex (codes "CAFEBABE00000034000205")) ≡ refused 10 bad.BadTag)
-    × (class_read (hex (codes "CAFEBABE00000034000709000300020C0005000607000401000141010001660100013F")) ≡ refused 10 bad.BadDescriptor)
-    × (class_read (hex (codes "CAFEBABE00000034000709000300020C00050006070004010001410100063C696E69743E01000149")) ≡ refused 10 bad.BadName)
+    × (class_read (hex (codes "CAFEBABE00000034000709000300020C0005000607000401000141010001660100013F"))
+    ≡ refused 10 bad.BadDescriptor)
+    × (class_read (hex (codes "CAFEBABE00000034000709000300020C00050006070004010001410100063C696E69743E01000149"))
+    ≡ refused 10 bad.BadName)
     × (class_read (hex (codes "CAFEBABE00000034000307000901000100")) ≡ refused 16 bad.BadUtf8)
     × (class_read (hex (codes "CAFEBABE000000340003070002010003EDA080")) ≡ refused 10 bad.BadName)
     × (class_read (hex (codes "CAFEBABE000000340002070001")) ≡ refused 10 bad.BadIndex)
 
--- what is left out of the class itself, or of a member without code: an annotation; a float that is not used; a native method
+-- what is left out of the class itself, or of a member without code: an annotation; a float that is not used; a native
+-- method
 abbrev pub ClassLeftOut : Type 0
 ClassLeftOut =
-    (left_out_of (class_read ((hex (codes "CAFEBABE000000340005010001410700010100106A6176612F6C616E672F4F626A656374070003260000020004000000")
+    (left_out_of
+    (class_read
+    ((hex (codes "CAFEBABE000000340005010001410700010100106A6176612F6C616E672F4F626A656374070003260000020004000000")
     ++ (hex (codes "0000000000"))))) ≡ Some (Some (record { member = None; kind = left.Flag })))
-    × (left_out_of (class_read ((hex (codes "CAFEBABE000000340006010001410700010100106A6176612F6C616E672F4F626A656374070003043F80000006000002")
+    × (left_out_of
+    (class_read
+    ((hex (codes "CAFEBABE000000340006010001410700010100106A6176612F6C616E672F4F626A656374070003043F80000006000002")
     ++ (hex (codes "00040000000000000000"))))) ≡ Some (Some (record { member = None; kind = left.Constant })))
-    × (left_out_of (class_read ((hex (codes "CAFEBABE000000340011010001540700010100106A6176612F6C616E672F4F626A656374070003010001660100042849")
+    × (left_out_of
+    (class_read
+    ((hex (codes "CAFEBABE000000340011010001540700010100106A6176612F6C616E672F4F626A656374070003010001660100042849")
     ++ (hex (codes "2949010004436F646501000D537461636B4D61705461626C6505000000010000000201000D436F6E7374616E7456616C")
     ++ (hex (codes "75650100014A030000000701000F4C696E654E756D6265725461626C650100063C696E69743E01000328295600210002")
-    ++ (hex (codes "000400000000000101010005000600000000"))))))) ≡ Some (Some (record { member = (Some 0); kind = left.Flag })))
+    ++ (hex (codes "000400000000000101010005000600000000")))))))
+    ≡ Some (Some (record { member = (Some 0); kind = left.Flag })))
 
 -- ---- a class with a field and a method, whose code has a branch, a handler, lines and a frame
 
@@ -235,12 +292,14 @@ ins_at_7 o = record { op = o; line = Some 7 }
 abbrev pub frame_of_t : FrameAt
 frame_of_t = record { index = 4; frame = record { locals = vtype.Int ∷ []; stack = [] } }
 
--- iload_0, ifeq to the handler, iconst_1, ireturn, and there iconst_0, ireturn; the handler catches from the first alone
+-- iload_0, ifeq to the handler, iconst_1, ireturn, and there iconst_0, ireturn; the handler catches from the first
+-- alone
 abbrev pub code_of_t : Code
 code_of_t = record {
   max_stack = 2;
   max_locals = 1;
-  ins = ins_at_7 (op.Load kind.Int 0) ∷ ins_at_7 (op.IfZero cond.Eq 4) ∷ ins_at_7 (op.PushInt (pos 1)) ∷ ins_at_7 (op.Return (Some kind.Int))
+  ins = ins_at_7 (op.Load kind.Int 0) ∷ ins_at_7 (op.IfZero cond.Eq 4) ∷ ins_at_7 (op.PushInt (pos 1)) ∷ ins_at_7
+      (op.Return (Some kind.Int))
       ∷ ins_at_7 (op.PushInt (pos 0)) ∷ ins_at_7 (op.Return (Some kind.Int)) ∷ [];
   handlers = record { from = 0; to = 1; entry = 4; caught = Some (codes "java/lang/Object") } ∷ [];
   frames = frame_of_t ∷ [];
@@ -307,7 +366,8 @@ abbrev pub code_over : List Op → Code
 code_over behind = record {
   max_stack = 1;
   max_locals = 0;
-  ins = map unlined (op.Goto (2 + length behind) ∷ op.TableSwitch (pos 0) 0 (replicate 8187 0) ∷ (behind ++ op.Return None ∷ []));
+  ins = map unlined (op.Goto (2 + length behind) ∷ op.TableSwitch (pos 0) 0 (replicate 8187 0) ∷
+      (behind ++ op.Return None ∷ []));
   handlers = [];
   frames = [];
 }
@@ -337,13 +397,15 @@ respelled (Err f) = None
 
 -- class Main with public static int f(int), which adds 1, in 104 bytes
 abbrev pub bytes_of_main : List ℕ
-bytes_of_main = (hex (codes "CAFEBABE0000003400080100044D61696E0700010100106A6176612F6C616E672F4F626A656374070003010001660100")
+bytes_of_main =
+    (hex (codes "CAFEBABE0000003400080100044D61696E0700010100106A6176612F6C616E672F4F626A656374070003010001660100")
     ++ (hex (codes "0428492949010004436F6465002100020004000000000001000900050006000100070000001000020001000000041A04")
     ++ (hex (codes "60AC000000000000"))))
 
 -- the same with iload 0 and bipush 1, in longer forms
 abbrev pub longer_main : List ℕ
-longer_main = (hex (codes "CAFEBABE0000003400080100044D61696E0700010100106A6176612F6C616E672F4F626A656374070003010001660100")
+longer_main =
+    (hex (codes "CAFEBABE0000003400080100044D61696E0700010100106A6176612F6C616E672F4F626A656374070003010001660100")
     ++ (hex (codes "0428492949010004436F6465002100020004000000000001000900050006000100070000001200020001000000061500")
     ++ (hex (codes "100160AC000000000000"))))
 
@@ -354,7 +416,8 @@ MainIsCanonical = (respelled (class_read bytes_of_main) ≡ Some (Ok bytes_of_ma
 
 -- class files as javac 8 writes them, and their canonical spellings: first an interface with a constant and a method
 abbrev pub compiled_1 : List ℕ
-compiled_1 = (hex (codes "CAFEBABE00000034001107000201000C7368617065732F53686170650700040100106A6176612F6C616E672F4F626A65")
+compiled_1 =
+    (hex (codes "CAFEBABE00000034001107000201000C7368617065732F53686170650700040100106A6176612F6C616E672F4F626A65")
     ++ (hex (codes "63740700060100146A6176612F6C616E672F436F6D70617261626C6501000553494445530100014901000D436F6E7374")
     ++ (hex (codes "616E7456616C75650300000004010004617265610100032829490100095369676E61747572650100384C6A6176612F6C")
     ++ (hex (codes "616E672F4F626A6563743B4C6A6176612F6C616E672F436F6D70617261626C653C4C7368617065732F53686170653B3E")
@@ -363,7 +426,8 @@ compiled_1 = (hex (codes "CAFEBABE00000034001107000201000C7368617065732F53686170
 
 -- the first respelled: constants in the order of their first use, and no attribute Signature
 abbrev pub canonical_1 : List ℕ
-canonical_1 = (hex (codes "CAFEBABE00000034000F01000C7368617065732F53686170650700010100106A6176612F6C616E672F4F626A65637407")
+canonical_1 =
+    (hex (codes "CAFEBABE00000034000F01000C7368617065732F53686170650700010100106A6176612F6C616E672F4F626A65637407")
     ++ (hex (codes "00030100146A6176612F6C616E672F436F6D70617261626C6507000501000553494445530100014901000D436F6E7374")
     ++ (hex (codes "616E7456616C756503000000040100046172656101000328294901000A536F7572636546696C6501000B536861706573")
     ++ (hex (codes "2E6A6176610600000200040001000600010019000700080001000900000002000A00010401000B000C00000001000D00")
@@ -371,7 +435,8 @@ canonical_1 = (hex (codes "CAFEBABE00000034000F01000C7368617065732F5368617065070
 
 -- a class with long constants, branches, frames and lines
 abbrev pub compiled_2 : List ℕ
-compiled_2 = (hex (codes "CAFEBABE0000003400240A000200030700040C000500060100106A6176612F6C616E672F4F626A6563740100063C696E")
+compiled_2 =
+    (hex (codes "CAFEBABE0000003400240A000200030700040C000500060100106A6176612F6C616E672F4F626A6563740100063C696E")
     ++ (hex (codes "69743E01000328295605000000000000000409000A000B07000C0C000D000E0100106A6176612F6C616E672F53797374")
     ++ (hex (codes "656D0100036F75740100154C6A6176612F696F2F5072696E7453747265616D3B0500000000000000030A001200130700")
     ++ (hex (codes "140C00150016010005466C6F77340100016601000528494A29490A0018001907001A0C001B001C0100136A6176612F69")
@@ -387,7 +452,8 @@ compiled_2 = (hex (codes "CAFEBABE0000003400240A000200030700040C000500060100106A
 
 -- the second respelled: the same code, with the constants in the order of their first use
 abbrev pub canonical_2 : List ℕ
-canonical_2 = (hex (codes "CAFEBABE000000340024010005466C6F77340700010100106A6176612F6C616E672F4F626A6563740700030100063C69")
+canonical_2 =
+    (hex (codes "CAFEBABE000000340024010005466C6F77340700010100106A6176612F6C616E672F4F626A6563740700030100063C69")
     ++ (hex (codes "6E69743E010003282956010004436F64650C000500060A0004000801000F4C696E654E756D6265725461626C65010001")
     ++ (hex (codes "6601000528494A294905000000000000000401000D537461636B4D61705461626C650100046D61696E010016285B4C6A")
     ++ (hex (codes "6176612F6C616E672F537472696E673B29560100106A6176612F6C616E672F53797374656D0700120100036F75740100")
@@ -410,7 +476,8 @@ CompiledAreRespelled = (respelled (class_read compiled_1) ≡ Some (Ok canonical
 
 -- the opcodes that begin no instruction: jsr, ret, jsr_w, and those from CA on
 abbrev pub UnknownOpcodes : Type 0
-UnknownOpcodes = filter (λ opcode. is_err (begun [] 0 opcode)) (range_with_len 0 256) ≡ 0xA8 ∷ 0xA9 ∷ 0xC9 ∷ range_with_len 0xCA 54
+UnknownOpcodes = filter (λ opcode. is_err (begun [] 0 opcode)) (range_with_len 0 256)
+    ≡ 0xA8 ∷ 0xA9 ∷ 0xC9 ∷ range_with_len 0xCA 54
 
 -- the canonical spelling of an instruction without operands is the opcode that stands for it
 abbrev pub PlainIsCanonical : Type 0

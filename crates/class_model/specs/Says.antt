@@ -4,7 +4,9 @@ use Rattle.std.specs.List.{AllByRecursion}
 use Rattle.class_model.specs.declared.pool.Entry.{Entry}
 use Rattle.class_model.specs.declared.pool.Entry.TheVariants as entry
 use Rattle.class_model.specs.declared.constant.PoolConstant.{PoolConstant}
-use Rattle.class_model.specs.declared.constant.PoolConstant.TheVariants.{Utf8, Integer, Long, SecondOfLong, Class, Str, NameAndType, Fieldref, Methodref, InterfaceMethodref}
+use Rattle.class_model.specs.declared.constant.PoolConstant.TheVariants.{Utf8, Integer, Long, SecondOfLong, Class, Str}
+use Rattle.class_model.specs.declared.constant.PoolConstant.TheVariants.{NameAndType, Fieldref, Methodref}
+use Rattle.class_model.specs.declared.constant.PoolConstant.TheVariants.{InterfaceMethodref}
 use Rattle.class_model.specs.declared.code.Ins.{Ins}
 use Rattle.class_model.specs.CanonicalPool.{index_of}
 use Rattle.class_model.specs.CanonicalCode.{op_constants}
@@ -17,23 +19,27 @@ module _ (entries : List Entry) (index : ℕ) where
 module _ (entries : List Entry) (index : ℕ) where
   -- a CONSTANT_Class of a name with these units (JVMS 4.4.1)
   abbrev pub SaysClass : List ℕ → Type 0
-  SaysClass name = (name_index : ℕ) × (slice_get entries index ≡ Some (entry.Class name_index)) × SaysUnits entries name_index name
+  SaysClass name = (name_index : ℕ) × (slice_get entries index ≡ Some (entry.Class name_index))
+      × SaysUnits entries name_index name
 
   -- a CONSTANT_String of these units (JVMS 4.4.3)
   abbrev pub SaysString : List ℕ → Type 0
-  SaysString units = (string_index : ℕ) × (slice_get entries index ≡ Some (entry.Str string_index)) × SaysUnits entries string_index units
+  SaysString units = (string_index : ℕ) × (slice_get entries index ≡ Some (entry.Str string_index))
+      × SaysUnits entries string_index units
 
   -- a CONSTANT_NameAndType (JVMS 4.4.6)
   abbrev pub SaysNameAndType : List ℕ → List ℕ → Type 0
   SaysNameAndType name descriptor =
-      (name_index : ℕ) × (descriptor_index : ℕ) × (slice_get entries index ≡ Some (entry.NameAndType name_index descriptor_index))
+      (name_index : ℕ) × (descriptor_index : ℕ)
+      × (slice_get entries index ≡ Some (entry.NameAndType name_index descriptor_index))
       × SaysUnits entries name_index name × SaysUnits entries descriptor_index descriptor
 
 module _ (entries : List Entry) (index : ℕ) where
   -- a reference of the kind that made tells (JVMS 4.4.2)
   abbrev pub SaysReference : (ℕ → ℕ → Entry) → List ℕ → List ℕ → List ℕ → Type 0
   SaysReference made class name descriptor =
-      (class_index : ℕ) × (name_and_type_index : ℕ) × (slice_get entries index ≡ Some (made class_index name_and_type_index))
+      (class_index : ℕ) × (name_and_type_index : ℕ)
+      × (slice_get entries index ≡ Some (made class_index name_and_type_index))
       × SaysClass entries class_index class × SaysNameAndType entries name_and_type_index name descriptor
 
   -- the entry at the index says what the constant does; the second index of a long says nothing (JVMS 4.4.1 to 4.4.7)

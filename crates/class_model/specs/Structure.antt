@@ -33,7 +33,8 @@ pub record ExceptionInfo : Type 0 where
 
 -- its bytes (JVMS 4.7.3)
 abbrev pub exception_info : ExceptionInfo → List ℕ
-exception_info e = to_be_bytes w16 e.start_pc ++ (to_be_bytes w16 e.end_pc ++ (to_be_bytes w16 e.handler_pc ++ to_be_bytes w16 e.catch_type))
+exception_info e = to_be_bytes w16 e.start_pc ++
+    (to_be_bytes w16 e.end_pc ++ (to_be_bytes w16 e.handler_pc ++ to_be_bytes w16 e.catch_type))
 
 -- the contents of a Code attribute (JVMS 4.7.3)
 pub record CodeInfo : Type 0 where
@@ -45,7 +46,8 @@ pub record CodeInfo : Type 0 where
 
 -- its bytes, with the length of the code and the counts of the tables (JVMS 4.7.3)
 abbrev pub code_info : CodeInfo → List ℕ
-code_info c = to_be_bytes w16 c.max_stack ++ (to_be_bytes w16 c.max_locals ++ (to_be_bytes w32 (length c.code) ++ (c.code
+code_info c = to_be_bytes w16 c.max_stack ++
+    (to_be_bytes w16 c.max_locals ++ (to_be_bytes w32 (length c.code) ++ (c.code
     ++ (to_be_bytes w16 (length c.exception_table) ++ (flat_map exception_info c.exception_table
     ++ (to_be_bytes w16 (length c.attributes) ++ flat_map attribute_info c.attributes))))))
 

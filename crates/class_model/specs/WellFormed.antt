@@ -1,6 +1,8 @@
--- Which classes are well formed: those of which nothing is left out and that meet the rules of the format, told of instruction
+-- Which classes are well formed: those of which nothing is left out and that meet the rules of the format, told of
+-- instruction
 -- numbers in place of offsets and without the limits on counts (JVMS 4.1 to 4.9).
-use Rattle.std.specs.Prelude.{◌≡◌, ◌⊎◌, ℕ, ◌+◌, ◌^◌, ◌<◌, ◌≤◌, ℤ, pos, ◌+ℤ◌, ◌<ℤ◌, Bool, true, false, not, List, length, slice_get, Some, None, IfSome, IsTrue, IsSome, AllPairs, IsUtf8, is_some, codes}
+use Rattle.std.specs.Prelude.{◌≡◌, ◌⊎◌, ℕ, ◌+◌, ◌^◌, ◌<◌, ◌≤◌, ℤ, pos, ◌+ℤ◌, ◌<ℤ◌, Bool, true, false, not, List, length}
+use Rattle.std.specs.Prelude.{slice_get, Some, None, IfSome, IsTrue, IsSome, AllPairs, IsUtf8, is_some, codes}
 use Rattle.std.specs.List.{AllByRecursion}
 use Rattle.jv_base.specs.Mutf8.{IsUnits}
 use Rattle.jv_base.specs.Names.{is_class_name, is_member_name, is_method_name}
@@ -25,7 +27,9 @@ use Rattle.class_model.specs.declared.class.Method.{Method}
 use Rattle.class_model.specs.declared.class.Class.{Class}
 use Rattle.class_model.specs.ConstantPool.{IsFieldText, IsMethodText}
 use Rattle.class_model.specs.Opcodes.{array_type_of}
-use Rattle.class_model.specs.Flags.{class_mask, field_mask, method_mask, meant, is_static, is_native, is_interface, has_body, is_left_out_class, are_class_flags, are_field_flags, are_method_flags, are_initial_flags}
+use Rattle.class_model.specs.Flags.{class_mask, field_mask, method_mask, meant, is_static, is_native, is_interface}
+use Rattle.class_model.specs.Flags.{has_body, is_left_out_class, are_class_flags, are_field_flags, are_method_flags}
+use Rattle.class_model.specs.Flags.{are_initial_flags}
 use Rattle.class_model.specs.Attributes.{IsPlain, IsIntLike}
 use Rattle.class_model.specs.Frames.{words_of_types, cut_tops}
 use Rattle.class_model.specs.Members.{FieldsDiffer, MethodsDiffer, has_room_for_this, is_initial_type}
@@ -81,7 +85,8 @@ module _ (n : ℕ) where
     pub targets : AllByRecursion (λ (c : Case). c.to < n) cases
     pub ascending : AllPairs (λ (one next : Case). one.key <ℤ next.key) cases
 
-  -- targets are instructions, and what refers to the pool names a class, an array type or a member as it should (JVMS 4.9.1)
+  -- targets are instructions, and what refers to the pool names a class, an array type or a member as it should (JVMS
+  -- 4.9.1)
   abbrev pub IsGoodOp : Op → Type 0
   IsGoodOp (op.PushText units) = IsUnits units
   IsGoodOp (op.IfZero c to) = to < n
@@ -142,7 +147,8 @@ LinesGoOn one next = IsSome one.line → IsSome next.line
 abbrev pub Ascend : FrameAt → FrameAt → Type 0
 Ascend one next = one.index < next.index
 
--- a code isn't empty; its instructions, handlers and frames are good, its frames ascend, its lines go on (JVMS 4.7.3, 4.9.1)
+-- a code isn't empty; its instructions, handlers and frames are good, its frames ascend, its lines go on (JVMS 4.7.3,
+-- 4.9.1)
 pub record IsGoodCode (code : Code) : Type 0 where
   pub some : 0 < length code.ins
   pub instructions : AllByRecursion (λ (i : Ins). IsGoodOp (length code.ins) i.op) code.ins
@@ -187,7 +193,8 @@ pub record IsGoodMethod (in_interface : Bool) (m : Method) : Type 0 where
 
 -- ---- the class
 
--- a whole class, no annotation or enum: flags, names, types and codes follow the format, no member twice (JVMS 4.1 to 4.9)
+-- a whole class, no annotation or enum: flags, names, types and codes follow the format, no member twice (JVMS 4.1 to
+-- 4.9)
 pub record IsWellFormed (c : Class) : Type 0 where
   pub nothing_left_out : c.left_out ≡ None
   pub meant : AreMeant class_mask c.flags.0
@@ -206,9 +213,11 @@ pub record IsWellFormed (c : Class) : Type 0 where
 
 -- an InvokeInterface names a method of at most 254 argument words, so that its count fits a byte (JVMS 6.5)
 abbrev pub HasFewWords : Op → Type 0
-HasFewWords (op.InvokeInterface reference) = (ty : MethodType) → IsMethodType ty → reference.ty ≡ method_text ty → argument_words ty.args ≤ 254
+HasFewWords (op.InvokeInterface reference) = (ty : MethodType) → IsMethodType ty → reference.ty ≡ method_text ty
+    → argument_words ty.args ≤ 254
 HasFewWords _ = Unit {0}
 
 -- each count of an invokeinterface in the class fits a byte (JVMS 6.5.invokeinterface)
 abbrev pub CountsFit : Class → Type 0
-CountsFit c = AllByRecursion (λ (m : Method). IfSome m.code (λ (code : Code). AllByRecursion (λ (i : Ins). HasFewWords i.op) code.ins)) c.methods
+CountsFit c = AllByRecursion
+    (λ (m : Method). IfSome m.code (λ (code : Code). AllByRecursion (λ (i : Ins). HasFewWords i.op) code.ins)) c.methods

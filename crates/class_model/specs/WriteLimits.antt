@@ -1,10 +1,12 @@
 -- The canonical spelling of a class, or the first limit of the format that it passes
 -- (JVMS 4.11; the order of limits is the project's own).
-use Rattle.std.specs.Prelude.{ℕ, ◌+◌, ◌^◌, ℤ, pos, negsuc, ◌-ℤ◌, List, [], ◌∷◌, length, slice_index, Option, Some, None, Result, Ok, Err, nat_lt, if◌then◌else◌}
+use Rattle.std.specs.Prelude.{ℕ, ◌+◌, ◌^◌, ℤ, pos, negsuc, ◌-ℤ◌, List, [], ◌∷◌, length, slice_index, Option, Some, None}
+use Rattle.std.specs.Prelude.{Result, Ok, Err, nat_lt, if◌then◌else◌}
 use Rattle.jv_base.specs.Mutf8.{mutf8}
 use Rattle.jv_base.specs.Outcome.{◌>>=◌}
 use Rattle.class_model.specs.declared.limit.WriteLimit.{WriteLimit}
-use Rattle.class_model.specs.declared.limit.WriteLimit.TheVariants.{PoolFull, TextTooLong, CodeTooLong, BranchTooFar, AttributeFull, AttributeTooLong}
+use Rattle.class_model.specs.declared.limit.WriteLimit.TheVariants.{PoolFull, TextTooLong, CodeTooLong, BranchTooFar}
+use Rattle.class_model.specs.declared.limit.WriteLimit.TheVariants.{AttributeFull, AttributeTooLong}
 use Rattle.class_model.specs.declared.op.Op.{Op}
 use Rattle.class_model.specs.declared.op.Op.TheVariants as op
 use Rattle.class_model.specs.declared.code.Code.{Code}
@@ -51,7 +53,8 @@ branch_to _ = None
 
 -- instruction n leads this far: the offset of a branch has two bytes, in two's complement (JVMS 6.5)
 abbrev pub distance_fits : ℕ → ℤ → Result (Unit {0}) WriteLimit
-distance_fits n distance = if int_between (negsuc 32767) (pos 32767) distance then Ok tt else Err (BranchTooFar n distance)
+distance_fits n distance = if int_between (negsuc 32767) (pos 32767) distance then Ok tt else Err
+    (BranchTooFar n distance)
 
 -- the branch of this number, where the instructions are at these places (JVMS 6.5)
 abbrev pub branch_fits : List ℕ → ℕ → Option ℕ → Result (Unit {0}) WriteLimit

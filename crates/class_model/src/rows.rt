@@ -2,7 +2,10 @@
 //
 // Each clause is computed from the definitions. The files are written out in specs/Whole/Rows.antt:
 // their offsets and kinds of fault follow from JVMS 4 and 6.5, and two of them were made by javac.
-ghost use Rattle.class_model.specs.Rows.{IsSpelled, IsRead, IsWritten, IsCutAnywhere, IsTrailed, HeadFaults, CodeFaults, CodeLeftOut, MemberFaults, PoolFaults, ClassLeftOut, TIsSpelled, TIsRead, CodeLimits, TIsWellFormed, MainIsCanonical, CompiledAreRespelled, UnknownOpcodes, PlainIsCanonical, Padding};
+ghost use Rattle.class_model.specs.Rows.{IsSpelled, IsRead, IsWritten, IsCutAnywhere, IsTrailed, HeadFaults};
+ghost use Rattle.class_model.specs.Rows.{CodeFaults, CodeLeftOut, MemberFaults, PoolFaults, ClassLeftOut, TIsSpelled};
+ghost use Rattle.class_model.specs.Rows.{TIsRead, CodeLimits, TIsWellFormed, MainIsCanonical, CompiledAreRespelled};
+ghost use Rattle.class_model.specs.Rows.{UnknownOpcodes, PlainIsCanonical, Padding};
 
 /// Carries what the definitions give for a few class files. It does nothing.
 pub fn computed_rows()

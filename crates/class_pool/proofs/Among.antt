@@ -1,24 +1,17 @@
 -- Classes and members that are one, and lists that have them.
 use Rattle.std.proofs.Common.{◌≡◌, ◌∙◌, ◌&&◌, ◌||◌, Bool, true, false, cond, List, [], ◌∷◌, refl, sym, ap}
 use Rattle.std.specs.List.{list_any}
-use Rattle.std.proofs.lemmas.Bool.{eqb-true}
+use Rattle.std.proofs.lemmas.Bool.{eqb-true, and_parts}
 use Rattle.class_pool.specs.declared.id.ClassId.{ClassId}
 use Rattle.class_pool.specs.declared.id.MemberAt.{MemberAt}
 use Rattle.class_pool.specs.Found.{same_member}
 use Rattle.class_pool.specs.Walk.{each_once, same_class}
 use Rattle.class_pool.proofs.EachOnce.{same_is}
-
-both : (x y : Bool) → (x && y) ≡ true → (x ≡ true) × (y ≡ true)
-both true y h = (refl, h)
-both false y h = absurd cc
-
-or_true : (x : Bool) → (x || true) ≡ true
-or_true true = refl
-or_true false = refl
+use Rattle.std.proofs.Math.Bool.{or-true}
 
 pub member_is : (m n : MemberAt) → same_member m n ≡ true → m ≡ n
 member_is m n h =
-    let parts = both (same_class m.class n.class) _ h in
+    let parts = and_parts (same_class m.class n.class) _ h in
     let c : m.class ≡ n.class = same_is m.class n.class parts.0 in
     let k : m.index ≡ n.index = eqb-true m.index n.index parts.1 in
     λ j. record { class = c j; index = k j }
@@ -45,7 +38,7 @@ among_once c seen (x ∷ xs) e new =
     by false b false met e r =
         ap (λ (u : Bool). same_class c x || u)
         (r (x ∷ seen) e (ap (λ (u : Bool). u || list_any (same_class c) seen) b ∙ new))
-        ∙ or_true (same_class c x)
+        ∙ or-true (same_class c x)
 
 or_false : (x : Bool) → (x || false) ≡ x
 or_false true = refl
@@ -71,7 +64,7 @@ any_met c seen (x ∷ xs) =
         let there : list_any (same_class c) seen ≡ true =
         ap (λ (y : ClassId). list_any (same_class y) seen) (same_is c x b) ∙ met in
         ap (λ (t : Bool). list_any (same_class c) (each_once seen xs) || t) there
-        ∙ or_true (list_any (same_class c) (each_once seen xs))
+        ∙ or-true (list_any (same_class c) (each_once seen xs))
     by true met false b r s = r
     by false met true b r s =
         ap (λ (t : Bool). (t || list_any (same_class c) (each_once (x ∷ seen) xs))

@@ -1,5 +1,6 @@
 -- Paths that ascend from each file to the next.
-use Rattle.std.proofs.Common.{◌≡◌, ⊎_elim, ℕ, ◌+◌, ◌-◌, ◌<◌, true, false, List, length, get_or, Ordering, Less, Equal, Greater, is_lt, is_ge, nat_cmp, refl, ap, sym, subst, arith}
+use Rattle.std.proofs.Common.{◌≡◌, ⊎_elim, ℕ, ◌+◌, ◌-◌, ◌<◌, true, false, List, length, get_or, Ordering, Less, Equal}
+use Rattle.std.proofs.Common.{Greater, is_lt, is_ge, nat_cmp, refl, ap, sym, subst, arith}
 use Rattle.std.specs.Cmp.Lexicographic.{slice_cmp}
 use Rattle.std.proofs.lemmas.Bool.{cases_lt}
 use Rattle.std.proofs.lemmas.Cmp.{nat_list_cmp_total}
@@ -20,17 +21,22 @@ not_ge Less h = refl
 not_ge Equal h = absurd cc
 not_ge Greater h = absurd cc
 
-trans : (files : List NamedClass) (i j k : ℕ) (d : NamedClass) → IsLess files i j d → IsLess files j k d → IsLess files i k d
-trans files i j k d first second = ap is_lt (nat_list_cmp_total.trans (get_or files i d).path (get_or files j d).path (get_or files k d).path (less _ first) (less _ second))
+trans : (files : List NamedClass) (i j k : ℕ) (d : NamedClass) → IsLess files i j d → IsLess files j k d
+    → IsLess files i k d
+trans files i j k d first second = ap is_lt
+    (nat_list_cmp_total.trans (get_or files i d).path (get_or files j d).path (get_or files k d).path (less _ first)
+    (less _ second))
 
 pub next_less : (files : List NamedClass) (n : ℕ) (x y d : NamedClass) → n < length files
     → is_ge (slice_cmp nat_cmp (get_or files (n - 1) x).path (get_or files n y).path) ≡ false → IsLess files (n - 1) n d
 next_less files n x y d within h =
-    let first : get_or files (n - 1) d ≡ get_or files (n - 1) x = get_or_default files (n - 1) d x (omega (arith, within)) in
+    let first : get_or files (n - 1) d
+    ≡ get_or files (n - 1) x = get_or_default files (n - 1) d x (omega (arith, within)) in
     let second : get_or files n d ≡ get_or files n y = get_or_default files n d y within in
     rw (first, second) (not_ge _ h)
 
-pub ascends_more : (files : List NamedClass) (n : ℕ) → ((i j : ℕ) (d : NamedClass) → i < j → j < n → IsLess files i j d) → ((d : NamedClass) → IsLess files (n - 1) n d)
+pub ascends_more : (files : List NamedClass) (n : ℕ) → ((i j : ℕ) (d : NamedClass) → i < j → j < n → IsLess files i j d)
+    → ((d : NamedClass) → IsLess files (n - 1) n d)
     → (i j : ℕ) (d : NamedClass) → i < j → j < n + 1 → IsLess files i j d
 ascends_more files n before next i j d low high =
     ⊎_elim

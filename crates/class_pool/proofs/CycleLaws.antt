@@ -1,5 +1,6 @@
 -- Cycles, by marks and by ranks.
-use Rattle.std.proofs.Common.{◌≡◌, ⊎_elim, ℕ, ◌<◌, ◌≤◌, Bool, true, false, Result, Ok, Err, inl, inr, IsTrue, nat_lt, List, ◌∷◌}
+use Rattle.std.proofs.Common.{◌≡◌, ⊎_elim, ℕ, ◌<◌, ◌≤◌, Bool, true, false, Result, Ok, Err, inl, inr, IsTrue, nat_lt}
+use Rattle.std.proofs.Common.{List, ◌∷◌}
 use Rattle.std.proofs.Common.{length, slice_get, Option, Some, None, IfSome, sym, ap, subst, ◌∙◌, arith}
 use Rattle.std.specs.Prelude.{OnOk}
 use Rattle.std.specs.List.{All}

@@ -28,10 +28,8 @@ use Rattle.class_pool.specs.Found.{method_row, named_at, rows_in}
 use Rattle.class_pool.specs.Hierarchy.{IsClass, class_named, or_found, superclass}
 use Rattle.class_pool.specs.Members.{declared_at, is_field, is_method, member_named, or_method}
 use Rattle.class_pool.proofs.Naming.{number_below}
-
-both : (a b : Bool) → (a && b) ≡ true → (a ≡ true) × (b ≡ true)
-both true b is = (refl, is)
-both false b is = absurd cc
+use Rattle.std.proofs.lemmas.Bool.{and_parts}
+use Rattle.class_pool.proofs.ToldMembers.{position_below, or_below, class_below, declared_below}
 
 placed : {X : Type 0} (p : X → Bool) (xs : List X) (n : ℕ) → position p xs ≡ Some n
     → (x : X) × (slice_get xs n ≡ Some x) × (p x ≡ true)
@@ -58,14 +56,14 @@ Named rows n named = (row : MemberRow) × (slice_get rows n ≡ Some row) × (ro
 
 named_field : (f : Field) (named : NameAndType) → is_field named.0 named.1 f ≡ true → (field_row f).named ≡ named
 named_field f named is =
-    let h = both (is_text f.name named.0) (is_text named.1 (field_text f.ty)) is in
+    let h = and_parts (is_text f.name named.0) (is_text named.1 (field_text f.ty)) is in
     let p : f.name ≡ named.0 = (text_Decides f.name named.0).0 h.0 in
     let q : field_text f.ty ≡ named.1 = sym ((text_Decides named.1 (field_text f.ty)).0 h.1) in
     λ i. (p i, q i)
 
 named_method : (m : Method) (named : NameAndType) → is_method named.0 named.1 m ≡ true → (method_row m).named ≡ named
 named_method m named is =
-    let h = both (is_text m.name named.0) (is_text named.1 (method_text m.ty)) is in
+    let h = and_parts (is_text m.name named.0) (is_text named.1 (method_text m.ty)) is in
     let p : m.name ≡ named.0 = (text_Decides m.name named.0).0 h.0 in
     let q : method_text m.ty ≡ named.1 = sym ((text_Decides named.1 (method_text m.ty)).0 h.1) in
     λ i. (p i, q i)
@@ -141,7 +139,7 @@ found_at p start (m ∷ ms) y is =
 named_member : (m : LibraryMember) (named : NameAndType) → table.is_member named.0 named.1 m ≡ true
     → (m.name, m.descriptor) ≡ named
 named_member m named is =
-    let h = both (is_text m.name named.0) (is_text m.descriptor named.1) is in
+    let h = and_parts (is_text m.name named.0) (is_text m.descriptor named.1) is in
     let p : m.name ≡ named.0 = (text_Decides m.name named.0).0 h.0 in
     let q : m.descriptor ≡ named.1 = (text_Decides m.descriptor named.1).0 h.1 in
     λ i. (p i, q i)
@@ -171,38 +169,11 @@ declared_named classes named (Lib id) x is =
 
 -- ---- it is there
 
-position_below : {X : Type 0} (p : X → Bool) (xs : List X) (n : ℕ) → position p xs ≡ Some n → n < length xs
-position_below p [] n is = absurd cc
-position_below p (x ∷ xs) n is = (position-Some p (x ∷ xs) n x is).0
-
 shifted : (first : ℕ) (o : Option ℕ) (n : ℕ) (rest : ℕ) → ((k : ℕ) → o ≡ Some k → k < rest)
     → option_map (λ k. first + k) o ≡ Some n → n < first + rest
 shifted first (Some k) n rest below is = let within : k < rest = below k refl in let at : first + k
     ≡ n = cc in omega (arith, within, at)
 shifted first None n rest below is = absurd cc
-
-or_below : (c : Class) (name ty : List ℕ) (o : Option ℕ) (n : ℕ) → ((k : ℕ) → o ≡ Some k → k < length c.fields)
-    → or_method c name ty o ≡ Some n → n < length c.fields + length c.methods
-or_below c name ty (Some k) n below is = let within : k < length c.fields = below k refl in let at : k
-    ≡ n = cc in omega (arith, within, at)
-or_below c name ty None n below is =
-    shifted (length c.fields) (position (is_method name ty) c.methods) n (length c.methods)
-    (position_below (is_method name ty) c.methods) is
-
-program_below : (o : Option Class) (name ty : List ℕ) (n : ℕ) → option_and_then (λ c. member_named c name ty) o ≡ Some n
-    → n < length (option_map_or (λ c. map field_row c.fields ++ map method_row c.methods) o [])
-program_below (Some c) name ty n is =
-    let within : n < length c.fields + length c.methods =
-    or_below c name ty (position (is_field name ty) c.fields) n (position_below (is_field name ty) c.fields) is in
-    omega (
-      arith,
-      within,
-      length-append (map field_row c.fields)
-          (map method_row c.methods),
-      length-map c.fields field_row,
-      length-map c.methods method_row,
-    )
-program_below None name ty n is = absurd cc
 
 find_step : (b : Bool) (i : ℕ) (m : LibraryMember) (o : Option (ℕ × LibraryMember)) (p : ℕ × LibraryMember) (rest : ℕ)
     → (o ≡ Some p → p.0 < i + 1 + rest)
@@ -225,17 +196,6 @@ told_below (Some p) n rest below is = let within : p.0 < rest = below p refl in 
     ≡ n = cc in omega (arith, within, at)
 told_below None n rest below is = absurd cc
 
-number_there : (classes : List Class) (c : ClassId) (name ty : List ℕ) (n : ℕ) → declared_at classes c name ty ≡ Some n
-    → n < length (rows_in classes c)
-number_there classes (Prog k) name ty n is = program_below (slice_get classes k) name ty n is
-number_there classes (Lib id) name ty n is =
-    let within : n < length (table.class_at id).members =
-    told_below (find (λ p. table.is_member name ty p.1) (enumerate_from 0 (table.class_at id).members)) n
-    (length (table.class_at id).members)
-    (λ p found. let there = find_below (λ q. table.is_member name ty q.1) 0 (table.class_at id).members p found in omega
-    (arith, there)) is in
-    omega (arith, within, length-map (table.class_at id).members (library_row (table.class_at id).kind))
-
 some_there : (classes : List Class) (c : ClassId) (o : Option ℕ) → IsClass classes c
     → ((n : ℕ) → o ≡ Some n → n < length (rows_in classes c))
     → IfSome (option_map (λ n. record { class = c; index = n }) o) (IsMember classes)
@@ -245,7 +205,7 @@ some_there classes c None there below = tt
 pub declared_there : (classes : List Class) (named : NameAndType) (c : ClassId) → IsClass classes c
     → IfSome (declared_in classes named c) (IsMember classes)
 declared_there classes named c there =
-    some_there classes c (declared_at classes c named.0 named.1) there (number_there classes c named.0 named.1)
+    some_there classes c (declared_at classes c named.0 named.1) there (declared_below classes c named.0 named.1)
 
 with_first : (classes : List Class) (o : Option MemberAt) (ms : List MemberAt) → IfSome o (IsMember classes)
     → All (IsMember classes) ms → All (IsMember classes) (cons_option o ms)

@@ -21,10 +21,7 @@ use Rattle.class_pool.specs.Hierarchy.{class_named, or_found}
 use Rattle.class_pool.specs.Members.{is_field, is_method}
 use Rattle.class_pool.proofs.LikeMethods.{begins, field_begins}
 use Rattle.class_pool.proofs.NamedMembers.{position_step}
-
-both : (x y : Bool) → (x && y) ≡ true → (x ≡ true) × (y ≡ true)
-both true y h = (refl, h)
-both false y h = absurd cc
+use Rattle.std.proofs.lemmas.Bool.{and_parts}
 
 -- ---- places
 
@@ -80,8 +77,8 @@ method_begins ty = refl
 pub members_differ : (c : Class) → IsWellFormed c → MembersDiffer c
 members_differ c well = record {
   fields = λ name descriptor. once_from_pairs (is_field name descriptor) FieldsDiffer (λ x y h k other.
-      let p = both (is_text x.name name) (is_text descriptor (field_text x.ty)) h in
-      let q = both (is_text y.name name) (is_text descriptor (field_text y.ty)) k in
+      let p = and_parts (is_text x.name name) (is_text descriptor (field_text x.ty)) h in
+      let q = and_parts (is_text y.name name) (is_text descriptor (field_text y.ty)) k in
       other (
         (text_Decides x.name name).0 p.0
             ∙ sym ((text_Decides y.name name).0 q.0),
@@ -89,8 +86,8 @@ members_differ c well = record {
             ∙ (text_Decides descriptor (field_text y.ty)).0 q.1,
       )) c.fields well.fields_differ;
   methods = λ name descriptor. once_from_pairs (is_method name descriptor) MethodsDiffer (λ x y h k other.
-      let p = both (is_text x.name name) (is_text descriptor (method_text x.ty)) h in
-      let q = both (is_text y.name name) (is_text descriptor (method_text y.ty)) k in
+      let p = and_parts (is_text x.name name) (is_text descriptor (method_text x.ty)) h in
+      let q = and_parts (is_text y.name name) (is_text descriptor (method_text y.ty)) k in
       other (
         (text_Decides x.name name).0 p.0
             ∙ sym ((text_Decides y.name name).0 q.0),
@@ -106,7 +103,7 @@ members_differ c well = record {
     field_of (x ∷ xs) k name descriptor is =
         let found = position-Some (is_field name descriptor) (x ∷ xs) k x is in
         let f = get_or (x ∷ xs) k x in
-        let p = both (is_text f.name name) (is_text descriptor (field_text f.ty)) found.1 in
+        let p = and_parts (is_text f.name name) (is_text descriptor (field_text f.ty)) found.1 in
         ap begins ((text_Decides descriptor (field_text f.ty)).0 p.1) ∙ field_begins f.ty
 
     method_of : (xs : List Method) (k : ℕ) (name descriptor : List ℕ) → position (is_method name descriptor) xs ≡ Some k
@@ -115,7 +112,7 @@ members_differ c well = record {
     method_of (x ∷ xs) k name descriptor is =
         let found = position-Some (is_method name descriptor) (x ∷ xs) k x is in
         let m = get_or (x ∷ xs) k x in
-        let p = both (is_text m.name name) (is_text descriptor (method_text m.ty)) found.1 in
+        let p = and_parts (is_text m.name name) (is_text descriptor (method_text m.ty)) found.1 in
         ap begins ((text_Decides descriptor (method_text m.ty)).0 p.1) ∙ method_begins m.ty
 
     by : (name descriptor : List ℕ) (k : ℕ) → position (is_field name descriptor) c.fields ≡ Some k → (o : Option ℕ)

@@ -1,5 +1,6 @@
 -- Lists with each class once.
-use Rattle.std.proofs.Common.{append_assoc, ◌≡◌, ⊎_elim, ℕ, ◌+◌, ◌<◌, ◌⊎◌, inl, inr, ◌||◌, Bool, true, false, cond, List, [], ◌∷◌, ◌++◌, length, take, get_or, refl, sym, ap, ◌∙◌}
+use Rattle.std.proofs.Common.{append_assoc, ◌≡◌, ⊎_elim, ℕ, ◌+◌, ◌<◌, ◌⊎◌, inl, inr, ◌||◌, Bool, true, false, cond}
+use Rattle.std.proofs.Common.{List, [], ◌∷◌, ◌++◌, length, take, get_or, refl, sym, ap, ◌∙◌}
 use Rattle.std.specs.List.{list_any}
 use Rattle.std.proofs.lemmas.Bool.{eqb-true, eq-eqb}
 use Rattle.std.proofs.lemmas.List.{append-nil, take_more}
@@ -30,32 +31,42 @@ or_swap true false r = refl
 or_swap false true r = refl
 or_swap false false r = refl
 
-any_middle : (c x : ClassId) (s t : List ClassId) → list_any (same_class c) ((x ∷ s) ++ t) ≡ list_any (same_class c) (s ++ x ∷ t)
+any_middle : (c x : ClassId) (s t : List ClassId)
+    → list_any (same_class c) ((x ∷ s) ++ t) ≡ list_any (same_class c) (s ++ x ∷ t)
 any_middle c x [] t = refl
-any_middle c x (y ∷ s) t = or_swap (same_class c x) (same_class c y) (list_any (same_class c) (s ++ t)) ∙ ap (λ (b : Bool). same_class c y || b) (any_middle c x s t)
+any_middle c x (y ∷ s) t = or_swap (same_class c x) (same_class c y) (list_any (same_class c) (s ++ t))
+    ∙ ap (λ (b : Bool). same_class c y || b) (any_middle c x s t)
 
 -- what is left out depends on which classes were seen, and not on their order
-pub once_same : (xs s t : List ClassId) → ((c : ClassId) → list_any (same_class c) s ≡ list_any (same_class c) t) → each_once s xs ≡ each_once t xs
+pub once_same : (xs s t : List ClassId) → ((c : ClassId) → list_any (same_class c) s ≡ list_any (same_class c) t)
+    → each_once s xs ≡ each_once t xs
 unfolding each_once
 once_same [] s t h = refl
 once_same (x ∷ xs) s t h =
-    cond_same (list_any (same_class x) s) (list_any (same_class x) t) (each_once s xs) (x ∷ each_once (x ∷ s) xs) (each_once t xs) (x ∷ each_once (x ∷ t) xs) (h x) (once_same xs s t h)
-    (ap (λ (ys : List ClassId). x ∷ ys) (once_same xs (x ∷ s) (x ∷ t) (λ c. ap (λ (b : Bool). same_class c x || b) (h c))))
+    cond_same (list_any (same_class x) s) (list_any (same_class x) t) (each_once s xs) (x ∷ each_once (x ∷ s) xs)
+    (each_once t xs) (x ∷ each_once (x ∷ t) xs) (h x) (once_same xs s t h)
+    (ap (λ (ys : List ClassId). x ∷ ys)
+    (once_same xs (x ∷ s) (x ∷ t) (λ c. ap (λ (b : Bool). same_class c x || b) (h c))))
 
-pub once_append : (xs ys s : List ClassId) → each_once s (xs ++ ys) ≡ each_once s xs ++ each_once (s ++ each_once s xs) ys
+pub once_append : (xs ys s : List ClassId)
+    → each_once s (xs ++ ys) ≡ each_once s xs ++ each_once (s ++ each_once s xs) ys
 unfolding each_once
 once_append [] ys s = once_same ys s (s ++ []) (λ c. ap (list_any (same_class c)) (sym (append-nil s)))
 once_append (x ∷ xs) ys s =
     elim (list_any (same_class x) s) as (λ b. cond b (each_once s (xs ++ ys)) (x ∷ each_once (x ∷ s) (xs ++ ys))
-    ≡ cond b (each_once s xs) (x ∷ each_once (x ∷ s) xs) ++ each_once (s ++ cond b (each_once s xs) (x ∷ each_once (x ∷ s) xs)) ys) [
+    ≡ cond b (each_once s xs) (x ∷ each_once (x ∷ s) xs) ++ each_once
+    (s ++ cond b (each_once s xs) (x ∷ each_once (x ∷ s) xs)) ys) [
       | true ↦ once_append xs ys s
       | false ↦
           ap (λ (t : List ClassId). x ∷ t)
           (once_append xs ys (x ∷ s)
-          ∙ ap (λ (t : List ClassId). each_once (x ∷ s) xs ++ t) (once_same ys ((x ∷ s) ++ each_once (x ∷ s) xs) (s ++ x ∷ each_once (x ∷ s) xs) (λ c. any_middle c x s (each_once (x ∷ s) xs))))
+          ∙ ap (λ (t : List ClassId). each_once (x ∷ s) xs ++ t)
+          (once_same ys ((x ∷ s) ++ each_once (x ∷ s) xs) (s ++ x ∷ each_once (x ∷ s) xs)
+          (λ c. any_middle c x s (each_once (x ∷ s) xs))))
     ]
 
-within_more : (c x : ClassId) (s t : List ClassId) → list_any (same_class x) s ≡ true → (list_any (same_class c) t ≡ true → list_any (same_class c) s ≡ true)
+within_more : (c x : ClassId) (s t : List ClassId) → list_any (same_class x) s ≡ true
+    → (list_any (same_class c) t ≡ true → list_any (same_class c) s ≡ true)
     → (same_class c x || list_any (same_class c) t) ≡ true → list_any (same_class c) s ≡ true
 within_more c x s t seen h is =
     ⊎_elim
@@ -68,7 +79,9 @@ both_more true q r h is = refl
 both_more false q r h is = h is
 
 -- leaving out what was seen, in two steps
-pub once_drop : (xs s t : List ClassId) → ((c : ClassId) → list_any (same_class c) t ≡ true → list_any (same_class c) s ≡ true) → each_once s (each_once t xs) ≡ each_once s xs
+pub once_drop : (xs s t : List ClassId)
+    → ((c : ClassId) → list_any (same_class c) t ≡ true → list_any (same_class c) s ≡ true)
+    → each_once s (each_once t xs) ≡ each_once s xs
 unfolding each_once
 once_drop [] s t h = refl
 once_drop (x ∷ xs) s t h =
@@ -86,7 +99,9 @@ once_drop (x ∷ xs) s t h =
     ∙ sym (ap (λ (b : Bool). cond b (each_once s xs) (x ∷ each_once (x ∷ s) xs)) seen))
     (λ unseen.
     ap (λ (b : Bool). cond b (each_once s (each_once (x ∷ t) xs)) (x ∷ each_once (x ∷ s) (each_once (x ∷ t) xs))) unseen
-    ∙ ap (λ (ys : List ClassId). x ∷ ys) (once_drop xs (x ∷ s) (x ∷ t) (λ c is. both_more (same_class c x) (list_any (same_class c) t) (list_any (same_class c) s) (h c) is))
+    ∙ ap (λ (ys : List ClassId). x ∷ ys)
+    (once_drop xs (x ∷ s) (x ∷ t)
+    (λ c is. both_more (same_class c x) (list_any (same_class c) t) (list_any (same_class c) s) (h c) is))
     ∙ sym (ap (λ (b : Bool). cond b (each_once s xs) (x ∷ each_once (x ∷ s) xs)) unseen))
     (bool_cases (list_any (same_class x) s)))
     (bool_cases (list_any (same_class x) t))
@@ -103,6 +118,13 @@ unfolding each_once
 once_none s = refl
 
 -- one more of a list whose first ones were met
-pub once_more : (s xs : List ClassId) (i : ℕ) (d : ClassId) (ids : List ClassId) → i < length xs → ids ≡ s ++ each_once s (take i xs)
+pub once_more : (s xs : List ClassId) (i : ℕ) (d : ClassId) (ids : List ClassId) → i < length xs
+    → ids ≡ s ++ each_once s (take i xs)
     → ids ++ each_once ids (get_or xs i d ∷ []) ≡ s ++ each_once s (take (i + 1) xs)
-once_more s xs i d ids within before = cc (append_assoc s (each_once s (take i xs)) (each_once (s ++ each_once s (take i xs)) (get_or xs i d ∷ [])), once_append (take i xs) (get_or xs i d ∷ []) s, take_more xs i d within)
+once_more s xs i d ids within before = cc (
+  append_assoc s (each_once s (take i xs))
+      (each_once (s ++ each_once s (take i xs)) (get_or xs i d ∷ [])),
+  once_append (take i xs)
+      (get_or xs i d ∷ []) s,
+  take_more xs i d within,
+)

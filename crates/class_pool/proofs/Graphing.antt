@@ -1,5 +1,6 @@
 -- Graphs of numbers.
-use Rattle.std.proofs.Common.{◌≡◌, ⊎_elim, ℕ, zero, suc, ◌+◌, ◌<◌, ◌≤◌, true, nat_le, List, [], ◌∷◌, ◌++◌, length, get_or, take, map, slice_get, Option, Some, None, refl, sym, ap, ◌∙◌, arith}
+use Rattle.std.proofs.Common.{◌≡◌, ⊎_elim, ℕ, zero, suc, ◌+◌, ◌<◌, ◌≤◌, true, nat_le, List, [], ◌∷◌, ◌++◌, length}
+use Rattle.std.proofs.Common.{get_or, take, map, slice_get, Option, Some, None, refl, sym, ap, ◌∙◌, arith}
 use Rattle.std.specs.List.{cons_option, filter_map, list_all}
 use Rattle.std.specs.Option.{option_and_then}
 use Rattle.std.specs.Borrow.{Bor}
@@ -27,16 +28,20 @@ pub library_at : (ids : List ℕ) (k x : ℕ) → ids ≡ library_ids → k < le
 library_at ids k x is within at =
     let long = library_length ids is in
     let plain : 0 + k ≡ k = omega arith in
-    at ∙ ap (λ (xs : List ℕ). get_or xs k x) is ∙ get_or-range_with_len 0 (length library) k x (omega (arith, within, long)) ∙ plain
+    at ∙ ap (λ (xs : List ℕ). get_or xs k x) is
+    ∙ get_or-range_with_len 0 (length library) k x (omega (arith, within, long)) ∙ plain
 
-pub library_more : (names : List (Bor (List ℕ))) (i : ℕ) (d : Bor (List ℕ)) (ids grown : List ℕ) (name : List ℕ) → i < length names → ids ≡ filter_map (λ n. class_named n.now) (take i names)
-    → name ≡ (get_or names i d).now → grown ≡ ids ++ filter_map class_named (name ∷ []) → grown ≡ filter_map (λ n. class_named n.now) (take (i + 1) names)
+pub library_more : (names : List (Bor (List ℕ))) (i : ℕ) (d : Bor (List ℕ)) (ids grown : List ℕ) (name : List ℕ)
+    → i < length names → ids ≡ filter_map (λ n. class_named n.now) (take i names)
+    → name ≡ (get_or names i d).now → grown ≡ ids ++ filter_map class_named (name ∷ [])
+    → grown ≡ filter_map (λ n. class_named n.now) (take (i + 1) names)
 library_more names i d ids grown name within before is put =
     put
     ∙ ap (λ (n : List ℕ). ids ++ filter_map class_named (n ∷ [])) is
     ∙ ap (λ (xs : List ℕ). xs ++ filter_map class_named ((get_or names i d).now ∷ [])) before
     ∙ sym (filter_map-append (λ (n : Bor (List ℕ)). class_named n.now) (take i names) (get_or names i d ∷ []))
-    ∙ ap (λ (ns : List (Bor (List ℕ))). filter_map (λ (n : Bor (List ℕ)). class_named n.now) ns) (sym (take_more names i d within))
+    ∙ ap (λ (ns : List (Bor (List ℕ))). filter_map (λ (n : Bor (List ℕ)). class_named n.now) ns)
+    (sym (take_more names i d within))
 
 few_named : list_all (λ c. nat_le (length c.interfaces) 3) library ≡ true
 unfolding library
@@ -46,7 +51,8 @@ length-filter_map : {X Y : Type 0} (f : X → Option Y) (xs : List X) → length
 length-filter_map f [] = omega arith
 length-filter_map f (x ∷ xs) = length-cons (f x) (filter_map f xs) xs x (length-filter_map f xs)
   where
-    length-cons : {X Y : Type 0} (o : Option Y) (ys : List Y) (xs : List X) (x : X) → length ys ≤ length xs → length (cons_option o ys) ≤ length (x ∷ xs)
+    length-cons : {X Y : Type 0} (o : Option Y) (ys : List Y) (xs : List X) (x : X) → length ys ≤ length xs
+        → length (cons_option o ys) ≤ length (x ∷ xs)
     length-cons None ys xs x h = omega (arith, h)
     length-cons (Some y) ys xs x h = omega (arith, h)
 
@@ -55,9 +61,11 @@ few_interfaces id =
     let d : LibraryClass = class [] Open None [] [] in
     let short = length-filter_map class_named (class_at id).interfaces in
     ⊎_elim
-    (λ within. let h : length (class_at id).interfaces ≤ 3 = leb-true _ _ (holds_at (λ c. nat_le (length c.interfaces) 3) library id d few_named within) in omega (arith, short, h))
+    (λ within. let h : length (class_at id).interfaces ≤ 3 = leb-true _ _
+    (holds_at (λ c. nat_le (length c.interfaces) 3) library id d few_named within) in omega (arith, short, h))
     (λ over.
-    let h : length (class_at id).interfaces ≡ 0 = ap (λ (c : LibraryClass). length c.interfaces) (get_or_past library id d over) in
+    let h : length (class_at id).interfaces
+    ≡ 0 = ap (λ (c : LibraryClass). length c.interfaces) (get_or_past library id d over) in
     omega (arith, short, h))
     (cases_lt id (length library))
 
@@ -86,7 +94,8 @@ cons_pushed : (o : Option ℕ) (xs : List ℕ) (x : ℕ) → cons_option o xs ++
 cons_pushed (Some y) xs x = refl
 cons_pushed None xs x = refl
 
-pub interface_put : (id k i n : ℕ) (numbers grown : List ℕ) → Some i ≡ slice_get (interfaces_of id) k → numbers ≡ cons_option (super_of id) (take k (interfaces_of id)) → n ≡ i
+pub interface_put : (id k i n : ℕ) (numbers grown : List ℕ) → Some i ≡ slice_get (interfaces_of id) k
+    → numbers ≡ cons_option (super_of id) (take k (interfaces_of id)) → n ≡ i
     → grown ≡ numbers ++ n ∷ [] → grown ≡ cons_option (super_of id) (take (k + 1) (interfaces_of id))
 interface_put id k i n numbers grown is before same put =
     put
@@ -95,14 +104,19 @@ interface_put id k i n numbers grown is before same put =
     ∙ cons_pushed (super_of id) (take k (interfaces_of id)) i
     ∙ ap (cons_option (super_of id)) (some_taken (interfaces_of id) k i (sym is))
 
-pub interfaces_all : (id k : ℕ) (numbers : List ℕ) → None ≡ slice_get (interfaces_of id) k → numbers ≡ cons_option (super_of id) (take k (interfaces_of id)) → numbers ≡ above_library id
-interfaces_all id k numbers is before = before ∙ ap (cons_option (super_of id)) (take_all k (interfaces_of id) (none_over (interfaces_of id) k (sym is)))
+pub interfaces_all : (id k : ℕ) (numbers : List ℕ) → None ≡ slice_get (interfaces_of id) k
+    → numbers ≡ cons_option (super_of id) (take k (interfaces_of id)) → numbers ≡ above_library id
+interfaces_all id k numbers is before = before
+    ∙ ap (cons_option (super_of id)) (take_all k (interfaces_of id) (none_over (interfaces_of id) k (sym is)))
 
-mapped_below : (names : List (List ℕ)) (k i : ℕ) → Some i ≡ slice_get (filter_map class_named names) k → i < length library
+mapped_below : (names : List (List ℕ)) (k i : ℕ) → Some i ≡ slice_get (filter_map class_named names) k
+    → i < length library
 mapped_below [] k i is = absurd cc
-mapped_below (name ∷ names) k i is = step (class_named name) (filter_map class_named names) (λ n at. class_below name n at) (mapped_below names) k is
+mapped_below (name ∷ names) k i is = step (class_named name) (filter_map class_named names)
+    (λ n at. class_below name n at) (mapped_below names) k is
   where
-    step : (o : Option ℕ) (xs : List ℕ) → ((n : ℕ) → o ≡ Some n → n < length library) → ((j i : ℕ) → Some i ≡ slice_get xs j → i < length library) → (j : ℕ) → Some i ≡ slice_get (cons_option o xs) j
+    step : (o : Option ℕ) (xs : List ℕ) → ((n : ℕ) → o ≡ Some n → n < length library)
+        → ((j i : ℕ) → Some i ≡ slice_get xs j → i < length library) → (j : ℕ) → Some i ≡ slice_get (cons_option o xs) j
         → i < length library
     step None xs first others j is = others j i is
     step (Some n) xs first others zero is = first i (sym is)
@@ -124,10 +138,13 @@ is_there classes (Lib id) within = within
 
 -- ---- program classes
 
-pub named_more : (classes : List Class) (first name : List ℕ) (names : List (List ℕ)) (i : ℕ) → i < length names → name ≡ get_or names i name
-    → map number (classes_named classes (first ∷ take i names)) ++ map number (classes_named classes (name ∷ [])) ≡ map number (classes_named classes (first ∷ take (i + 1) names))
+pub named_more : (classes : List Class) (first name : List ℕ) (names : List (List ℕ)) (i : ℕ) → i < length names
+    → name ≡ get_or names i name
+    → map number (classes_named classes (first ∷ take i names)) ++ map number (classes_named classes (name ∷ []))
+    ≡ map number (classes_named classes (first ∷ take (i + 1) names))
 named_more classes first name names i within is =
     sym (map-append number (classes_named classes (first ∷ take i names)) (classes_named classes (name ∷ [])))
     ∙ ap (map number)
     (sym (filter_map-append (hierarchy.class_named classes) (first ∷ take i names) (name ∷ []))
-    ∙ ap (λ (t : List (List ℕ)). classes_named classes (first ∷ t)) (sym (take_more names i name within ∙ ap (λ (n : List ℕ). take i names ++ n ∷ []) (sym is))))
+    ∙ ap (λ (t : List (List ℕ)). classes_named classes (first ∷ t))
+    (sym (take_more names i name within ∙ ap (λ (n : List ℕ). take i names ++ n ∷ []) (sym is))))

@@ -5,7 +5,7 @@ use Rattle.std.proofs.Common.{Option, Some, None, refl, sym, ap, subst, ◌∙�
 use Rattle.std.specs.Bool.{Decides, one_answer}
 use Rattle.std.specs.List.{list_all, position, prefix_len}
 use Rattle.std.specs.Option.{option_and_then, option_map, option_map_or}
-use Rattle.std.proofs.lemmas.Bool.{le-ltb}
+use Rattle.std.proofs.lemmas.Bool.{le-ltb, and_parts}
 use Rattle.std.proofs.lemmas.List.{length-map, map-append, take_more}
 use Rattle.std.proofs.lemmas.Option.{same_Some, slice_get-map}
 use Rattle.jv_base.specs.Names.{is_text}
@@ -187,15 +187,11 @@ methods_begin : list_all (λ c. list_all (λ m. not m.is_method || begins m.desc
 unfolding library
 methods_begin = refl
 
-both : (a b : Bool) → (a && b) ≡ true → (a ≡ true) × (b ≡ true)
-both true b h = (refl, h)
-both false b h = absurd cc
-
-all_at : {X : Type 0} (p : X → Bool) (xs : List X) (k : ℕ) (x : X) → list_all p xs ≡ true → slice_get xs k ≡ Some x
+pub all_at : {X : Type 0} (p : X → Bool) (xs : List X) (k : ℕ) (x : X) → list_all p xs ≡ true → slice_get xs k ≡ Some x
     → p x ≡ true
 all_at p [] k x all is = absurd cc
-all_at p (y ∷ xs) zero x all is = ap p (sym (same_Some y x is)) ∙ (both (p y) (list_all p xs) all).0
-all_at p (y ∷ xs) (suc k) x all is = all_at p xs k x (both (p y) (list_all p xs) all).1 is
+all_at p (y ∷ xs) zero x all is = ap p (sym (same_Some y x is)) ∙ (and_parts (p y) (list_all p xs) all).0
+all_at p (y ∷ xs) (suc k) x all is = all_at p xs k x (and_parts (p y) (list_all p xs) all).1 is
 
 library_begins : (id at : ℕ) (m : LibraryMember) → id < length library
     → slice_get (table.class_at id).members at ≡ Some m → m.is_method ≡ true → begins m.descriptor ≡ true

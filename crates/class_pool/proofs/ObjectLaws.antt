@@ -4,7 +4,7 @@ use Rattle.std.proofs.Common.{length, get_or, slice_get, codes, Option, Some, No
 use Rattle.std.proofs.Common.{subst, ◌∙◌, arith}
 use Rattle.std.specs.List.{All, cons_option, filter_map, list_all, list_any, position, starts_with}
 use Rattle.std.specs.Option.{is_none, option_and_then, option_map, option_map_or}
-use Rattle.std.proofs.lemmas.Bool.{both_ways, cases_lt, eqb-true}
+use Rattle.std.proofs.lemmas.Bool.{both_ways, cases_lt, eqb-true, and_parts, or_parts}
 use Rattle.std.proofs.lemmas.List.{get_or-map, get_or_past, length-map}
 use Rattle.std.proofs.lemmas.List.Elements.{All-cons, All-nil}
 use Rattle.std.proofs.lemmas.List.FromFn.{get_or-range_with_len, length-range_with_len}
@@ -83,15 +83,11 @@ lib_alone id within none =
     (eqb-true id 0 (when (is_none (table.super_of id)) (nat_eq id 0) (none_mapped (table.super_of id) none)
     (at_row (λ k. not (is_none (table.super_of k)) || nat_eq k 0) id rows_alone within)))
 
-both_true : (a b : Bool) → (a && b) ≡ true → (a ≡ true) × (b ≡ true)
-both_true true b h = (refl, h)
-both_true false b h = absurd cc
-
 lib_above : (classes : List Class) (ns : List ℕ) → list_all (λ i. is_first (table.super_of i)) ns ≡ true
     → All (λ i. superclass classes i ≡ Some (Lib 0)) (filter_map (λ i. Some (Lib i)) ns)
 lib_above classes [] h = All-nil (λ i. superclass classes i ≡ Some (Lib 0))
 lib_above classes (n ∷ ns) h =
-    let parts = both_true (is_first (table.super_of n)) (list_all (λ i. is_first (table.super_of i)) ns) h in
+    let parts = and_parts (is_first (table.super_of n)) (list_all (λ i. is_first (table.super_of i)) ns) h in
     All-cons (λ i. superclass classes i ≡ Some (Lib 0)) (Lib n) (filter_map (λ i. Some (Lib i)) ns)
     (ap (option_map Lib) (first_is (table.super_of n) parts.0)) (lib_above classes ns parts.1)
 
@@ -161,10 +157,6 @@ no_kinds true s j k h = absurd cc
 no_kinds false true j k h = absurd cc
 no_kinds false false j k h = (refl, refl)
 
-neither : (p q : Bool) → (p || q) ≡ false → (p ≡ false) × (q ≡ false)
-neither true q h = absurd cc
-neither false q h = (refl, h)
-
 -- a class of the set has no fault of its supertypes
 right_at : (classes : List Class) (n : ℕ) (c : Class) → super_faults classes ≡ Ok tt → slice_get classes n ≡ Some c
     → n < length classes
@@ -179,9 +171,9 @@ wrong_parts : (classes : List Class) (c : Class) → is_super_wrong classes c �
     × ((is_interface c.flags.0 && not (is_text c.super_name object_name)) ≡ false)
 wrong_parts classes c h =
     let flagged : Bool = is_interface c.flags.0 && not (is_text c.super_name object_name) in
-    let outer = neither (is_wrong_superclass classes c || list_any
+    let outer = or_parts (is_wrong_superclass classes c || list_any
     (is_wrong_interface classes) c.interfaces) flagged h in (
-      (neither (is_wrong_superclass classes c) (list_any (is_wrong_interface classes) c.interfaces) outer.0).1,
+      (or_parts (is_wrong_superclass classes c) (list_any (is_wrong_interface classes) c.interfaces) outer.0).1,
       outer.1,
     )
 
@@ -196,7 +188,7 @@ prog_alone classes n right within none =
     (λ p.
     let c : Class = p.0 in
     let missing = (right_at classes n c right p.2 within).0 in
-    let there = (neither (is_none (class_named classes c.super_name))
+    let there = (or_parts (is_none (class_named classes c.super_name))
     (list_any (λ name. is_none (class_named classes name)) c.interfaces) missing).0 in
     absurd (both_ways (is_none (class_named classes c.super_name)) there
     (ap is_none (sym (super_is classes n c p.2) ∙ none))))
@@ -259,7 +251,7 @@ named_above : (classes : List Class) (names : List (List ℕ)) → super_faults 
     → All (λ i. superclass classes i ≡ Some (Lib 0)) (classes_named classes names)
 named_above classes [] right object h = All-nil (λ i. superclass classes i ≡ Some (Lib 0))
 named_above classes (name ∷ names) right object h =
-    let parts = neither (is_wrong_interface classes name) (list_any (is_wrong_interface classes) names) h in
+    let parts = or_parts (is_wrong_interface classes name) (list_any (is_wrong_interface classes) names) h in
     named_step classes (class_named classes name) (classes_named classes names) right object parts.0
     (named_above classes names right object parts.1)
 

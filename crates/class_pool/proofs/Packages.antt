@@ -10,16 +10,21 @@ is_within b = not (b == 47)
 
 -- the bytes behind this place are of the last part
 abbrev pub IsLastPart : List ℕ → ℕ → Type 0
-IsLastPart name end = (end ≤ length name) × (suffix_len is_within name + end ≡ suffix_len is_within (take end name) + length name)
+IsLastPart name end = (end ≤ length name)
+    × (suffix_len is_within name + end ≡ suffix_len is_within (take end name) + length name)
 
-package_at : (name : List ℕ) (end : ℕ) → IsLastPart name end → suffix_len is_within (take end name) ≡ 0 → take (end - 1) name ≡ package_of name
+package_at : (name : List ℕ) (end : ℕ) → IsLastPart name end → suffix_len is_within (take end name) ≡ 0
+    → take (end - 1) name ≡ package_of name
 package_at name end last none =
     let e : end - 1 ≡ length name - suffix_len is_within name - 1 = omega (arith, last.0, last.1, none) in
     ap (λ (n : ℕ). take n name) e
 
-pub without_separator : (name : List ℕ) (end : ℕ) → IsLastPart name end → end ≡ 0 → take (end - 1) name ≡ package_of name
-without_separator name end last none = package_at name end last (ap (λ (n : ℕ). suffix_len is_within (take n name)) none)
+pub without_separator : (name : List ℕ) (end : ℕ) → IsLastPart name end → end ≡ 0
+    → take (end - 1) name ≡ package_of name
+without_separator name end last none = package_at name end last
+    (ap (λ (n : ℕ). suffix_len is_within (take n name)) none)
 
-pub behind_separator : (name : List ℕ) (end : ℕ) → IsLastPart name end → 0 < end → get_or name (end - 1) 0 ≡ 47 → take (end - 1) name ≡ package_of name
+pub behind_separator : (name : List ℕ) (end : ℕ) → IsLastPart name end → 0 < end → get_or name (end - 1) 0 ≡ 47
+    → take (end - 1) name ≡ package_of name
 behind_separator name end last some separator =
     package_at name end last (suffix_len-take_no is_within name end 0 some last.0 (ap is_within separator))

@@ -4,7 +4,7 @@ use Rattle.std.proofs.Common.{nat_lt, cond, List, [], ◌∷◌, length, get_or,
 use Rattle.std.proofs.Common.{subst, arith}
 use Rattle.std.specs.List.{All, cons_option, filter_map, list_all}
 use Rattle.std.specs.Option.{option_map}
-use Rattle.std.proofs.lemmas.Bool.{cases_eq, cases_lt, lt-ltb, ltb-true}
+use Rattle.std.proofs.lemmas.Bool.{cases_eq, cases_lt, lt-ltb, ltb-true, and_parts}
 use Rattle.std.proofs.lemmas.List.Elements.{All-cons, All-nil}
 use Rattle.std.proofs.lemmas.List.FromFn.{get_or-range_with_len, length-range_with_len}
 use Rattle.class_model.specs.declared.class.Class.{Class}
@@ -82,10 +82,6 @@ lower_all : list_all (λ k. list_all (λ j. nat_lt j k) (above_library k)) libra
 unfolding library
 lower_all = refl
 
-both : (a b : Bool) → (a && b) ≡ true → (a ≡ true) × (b ≡ true)
-both true b h = (refl, h)
-both false b h = absurd cc
-
 lower_at : (id : ℕ) → id < length library → list_all (λ j. nat_lt j id) (above_library id) ≡ true
 lower_at id within =
     let plain : 0 + id ≡ id = omega arith in
@@ -99,7 +95,7 @@ lib_low : (f : ℕ → ℕ) (id : ℕ) (ns : List ℕ) → list_all (λ j. nat_l
     → All (λ b. rank_by f b < id) (filter_map (λ i. Some (Lib i)) ns)
 lib_low f id [] h = All-nil (λ b. rank_by f b < id)
 lib_low f id (n ∷ ns) h =
-    let parts = both (nat_lt n id) (list_all (λ j. nat_lt j id) ns) h in
+    let parts = and_parts (nat_lt n id) (list_all (λ j. nat_lt j id) ns) h in
     All-cons (λ b. rank_by f b < id) (Lib n) (filter_map (λ i. Some (Lib i)) ns) (ltb-true n id parts.0)
     (lib_low f id ns parts.1)
 
@@ -108,7 +104,7 @@ super_low : (f : ℕ → ℕ) (id : ℕ) (o : Option ℕ) (ns : List ℕ)
     → All (λ b. rank_by f b < id) (cons_option (option_map Lib o) (filter_map (λ i. Some (Lib i)) ns))
 super_low f id None ns h = lib_low f id ns h
 super_low f id (Some n) ns h =
-    let parts = both (nat_lt n id) (list_all (λ j. nat_lt j id) ns) h in
+    let parts = and_parts (nat_lt n id) (list_all (λ j. nat_lt j id) ns) h in
     All-cons (λ b. rank_by f b < id) (Lib n) (filter_map (λ i. Some (Lib i)) ns) (ltb-true n id parts.0)
     (lib_low f id ns parts.1)
 

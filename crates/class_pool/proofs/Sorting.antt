@@ -9,7 +9,7 @@ use Rattle.std.specs.List.{Contains}
 use Rattle.std.specs.List.Sorted.{IsPermutation, IsSorted}
 use Rattle.std.specs.Option.{option_and_then}
 use Rattle.std.specs.Ordering.{is_eq, is_lt, nat_cmp, ordering_index, ordering_reverse, ordering_then}
-use Rattle.std.proofs.lemmas.Bool.{cases_lt, le-ltb, lt-ltb}
+use Rattle.std.proofs.lemmas.Bool.{cases_lt, le-ltb, lt-ltb, and_parts}
 use Rattle.std.proofs.lemmas.Cmp.{nat_cmp_total, nat_list_cmp_total, on_total, then_total, tied_itself}
 use Rattle.std.proofs.lemmas.List.Elements.{All-nil, All-push, All-weaker, Contains-append_left, Contains-push}
 use Rattle.std.proofs.lemmas.Option.{same_Some, get_or_from_slice_get, slice_get-get_or, slice_get_within}
@@ -132,10 +132,6 @@ first_at q (suc n) k found low is none =
 
 -- ---- the member that is found
 
-both : (a b : Bool) → (a && b) ≡ true → (a ≡ true) × (b ≡ true)
-both true b h = (refl, h)
-both false b h = absurd cc
-
 equal_is : (xs ys : List ℕ) → slice_cmp nat_cmp xs ys ≡ Equal → is_text xs ys ≡ true
 equal_is xs ys h = sym (is_eq-slice_cmp xs ys) ∙ ap is_eq h
 
@@ -186,7 +182,7 @@ module _ (c : Class) (keys : List Key) (name ty : List ℕ) (place : ℕ)
 
   wanted_key : (j : ℕ) → is_wanted c name ty j ≡ true → key_of c j ≡ (name, (ty, j))
   wanted_key j h =
-      let parts = both (is_text (named_in c j).0 name) (is_text ty (named_in c j).1) h in
+      let parts = and_parts (is_text (named_in c j).0 name) (is_text ty (named_in c j).1) h in
       let names : (named_in c j).0 ≡ name = (text_Decides (named_in c j).0 name).0 parts.0 in
       let types : (named_in c j).1 ≡ ty = sym ((text_Decides ty (named_in c j).1).0 parts.1) in
       λ i. (names i, (types i, j))
@@ -304,7 +300,7 @@ module _ (c : Class) (keys : List Key) (name ty : List ℕ) (place : ℕ)
           one : (b : Bool) → (is_text key.0 name && is_text key.1.0 ty) ≡ b
               → cond b (Some key.1.1) None ≡ member_named c name ty
           one true t =
-              let p = both (is_text key.0 name) (is_text key.1.0 ty) t in
+              let p = and_parts (is_text key.0 name) (is_text key.1.0 ty) t in
               found_at key e p.0 p.1
           one false t = none_at
               (λ other is both_are. absurd

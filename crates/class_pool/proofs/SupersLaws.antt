@@ -275,7 +275,8 @@ met_closed classes r h a low a-in =
     (walked_closed classes r.rank r.falls highest (r.rank c) (interfaces classes c) (interfaces_valid classes c)
     (interfaces_fall classes r.rank c r.falls c-in) (omega (arith, c-low)) j e inside))))
 
-pub not_itself : (classes : List Class) (r : HasRanks classes) (a : ClassId) → IsClass classes a → IsProperSub classes a a
+pub not_itself : (classes : List Class) (r : HasRanks classes) (a : ClassId) → IsClass classes a
+    → IsProperSub classes a a
     → ⊥
 not_itself classes r a a-in proper =
     let set : ClassId → Bool = λ x. nat_lt (r.rank x) (r.rank a) in

@@ -1,7 +1,8 @@
 -- What makes files no set: three rounds, each over all classes in set order, the first fault counting
 -- (the project's own: which files are taken as a set).
 use Rattle.std.specs.Prelude.{◌≡◌, ◌≢◌, ◌<◌, ◌⊎◌, slice_get, ℕ, nat_eq, Bool, true, false, not, ◌&&◌, ◌||◌}
-use Rattle.std.specs.Prelude.{List, [], ◌∷◌, ◌++◌, length, map, codes, Option, Some, None, Result, Ok, Err, if◌then◌else◌}
+use Rattle.std.specs.Prelude.{List, [], ◌∷◌, ◌++◌, length, map, codes, Option, Some, None, Result, Ok, Err}
+use Rattle.std.specs.Prelude.{if◌then◌else◌}
 use Rattle.std.specs.List.{AllPairs, list_any, starts_with}
 use Rattle.std.specs.Option.{is_none, option_map_or}
 use Rattle.std.specs.Cmp.Lexicographic.{slice_cmp}
@@ -14,7 +15,8 @@ use Rattle.class_model.specs.declared.class.Class.{Class}
 use Rattle.class_pool.specs.declared.fault.NamedClass.{NamedClass}
 use Rattle.class_pool.specs.declared.fault.PoolFault.{PoolFault}
 use Rattle.class_pool.specs.declared.fault.PoolKind.{PoolKind}
-use Rattle.class_pool.specs.declared.fault.PoolKind.TheVariants.{NameMismatch, LibraryName, SuperMissing, SuperKind, Cycle}
+use Rattle.class_pool.specs.declared.fault.PoolKind.TheVariants.{NameMismatch, LibraryName, SuperMissing, SuperKind}
+use Rattle.class_pool.specs.declared.fault.PoolKind.TheVariants.{Cycle}
 use Rattle.class_pool.specs.Hierarchy.{class_named, kind_in, is_interface_kind, is_open_kind}
 use Rattle.class_pool.specs.Supertypes.{IsCyclic, NoCycle}
 
@@ -60,7 +62,8 @@ is_wrong_superclass classes c =
 
 -- a direct superinterface that is none (JVMS 5.3.5, IncompatibleClassChangeError)
 abbrev pub is_wrong_interface : List Class → List ℕ → Bool
-is_wrong_interface classes name = option_map_or (λ id. not (is_interface_kind (kind_in classes id))) (class_named classes name) false
+is_wrong_interface classes name = option_map_or (λ id. not (is_interface_kind (kind_in classes id)))
+    (class_named classes name) false
 
 -- or an interface whose superclass isn't Object (JVMS 4.1, 4.10, 5.3.5)
 abbrev pub is_super_wrong : List Class → Class → Bool
@@ -101,7 +104,8 @@ IsFirstCyclic classes (Some n) = (n < length classes) × IsCyclic classes n × (
 -- third round: the fault names it (JVMS 5.3.5, ClassCircularityError)
 abbrev pub IsFirstCycle : List Class → PoolFault → Type 0
 IsFirstCycle classes f =
-    (n : ℕ) × (c : Class) × (slice_get classes n ≡ Some c) × (f ≡ record { class = c.name; kind = Cycle }) × IsCyclic classes n
+    (n : ℕ) × (c : Class) × (slice_get classes n ≡ Some c) × (f ≡ record { class = c.name; kind = Cycle })
+    × IsCyclic classes n
     × ((m : ℕ) → m < n → IsCyclic classes m → ⊥)
 
 -- no class is its own proper supertype, or the fault names the first that is (only the proof of build needs it)
@@ -113,5 +117,6 @@ FindsCycle classes (Err OutOfMemory) = Unit {0}
 -- the classes of the files, where no round has a fault; else the first fault
 abbrev pub Builds : Result (List Class) (Or PoolFault) → List NamedClass → Type 0
 Builds (Ok set) files = (first_faults files ≡ Ok tt) × NoCycle (classes_of files) × (set ≡ classes_of files)
-Builds (Err (Fault f)) files = (first_faults files ≡ Err f) ⊎ ((first_faults files ≡ Ok tt) × IsFirstCycle (classes_of files) f)
+Builds (Err (Fault f)) files = (first_faults files ≡ Err f)
+    ⊎ ((first_faults files ≡ Ok tt) × IsFirstCycle (classes_of files) f)
 Builds (Err OutOfMemory) files = Unit {0}

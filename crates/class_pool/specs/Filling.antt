@@ -26,7 +26,8 @@ pub record IsFilling (classes : List Class) (f : Filling) : Type 0 where
   pub count : f.met.count ≡ length library + length classes
   pub none : f.met.ids ≡ []
   pub there : All (All (IsClass classes)) f.lists.items
-  pub own : (a : ClassId) → IsClass classes a → is_filled f.filled.items a ≡ true → list_at f.lists.items a ≡ each_once [] (own_superinterfaces classes a)
+  pub own : (a : ClassId) → IsClass classes a → is_filled f.filled.items a ≡ true
+      → list_at f.lists.items a ≡ each_once [] (own_superinterfaces classes a)
 
 -- each class that is filled stays so
 abbrev pub Keeps : List Bool → List Bool → Type 0

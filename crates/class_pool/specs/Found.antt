@@ -1,10 +1,13 @@
--- Members as they are found, with what links ask of them (JVMS 4.5, 4.6, 4.2.1, 5.3). Of a member that isn't there nothing that is said matters.
-use Rattle.std.specs.Prelude.{◌<◌, ℕ, ◌+◌, ◌==◌, Bool, true, false, not, ◌&&◌, List, [], ◌++◌, length, map, Option, slice_get, if◌then◌else◌}
+-- Members as they are found, with what links ask of them (JVMS 4.5, 4.6, 4.2.1, 5.3). Of a member that isn't there
+-- nothing that is said matters.
+use Rattle.std.specs.Prelude.{◌<◌, ℕ, ◌+◌, ◌==◌, Bool, true, false, not, ◌&&◌, List, [], ◌++◌, length, map, Option}
+use Rattle.std.specs.Prelude.{slice_get, if◌then◌else◌}
 use Rattle.std.specs.List.{before_last, filter_map}
 use Rattle.std.specs.Option.{option_map, option_map_or}
 use Rattle.jv_base.specs.Names.{is_text}
 use Rattle.jv_base.specs.Types.{field_text, method_text}
-use Rattle.class_model.specs.Flags.{acc_public, acc_private, acc_protected, acc_static, acc_final, acc_abstract, has, is_init, is_static}
+use Rattle.class_model.specs.Flags.{acc_public, acc_private, acc_protected, acc_static, acc_final, acc_abstract, has}
+use Rattle.class_model.specs.Flags.{is_init, is_static}
 use Rattle.class_model.specs.declared.class.Class.{Class}
 use Rattle.class_model.specs.declared.class.Field.{Field}
 use Rattle.class_model.specs.declared.class.Method.{Method}
@@ -57,14 +60,16 @@ method_row m = record { named = (m.name, method_text m.ty); flags = m.flags.0; i
 abbrev pub library_row : LibKind → LibraryMember → MemberRow
 library_row kind m = record {
   named = (m.name, m.descriptor);
-  flags = acc_public + (if m.is_static then acc_static else 0) + (if m.is_method && is_interface_kind kind then acc_abstract else 0);
+  flags = acc_public + (if m.is_static then acc_static else 0) +
+      (if m.is_method && is_interface_kind kind then acc_abstract else 0);
   is_method = m.is_method;
 }
 
 -- the members of a class in the order of their numbers: fields first, then methods
 -- (JVMS 4.5, 4.6; their order is the project's own)
 abbrev pub rows_in : List Class → ClassId → List MemberRow
-rows_in classes (Prog n) = option_map_or (λ c. map field_row c.fields ++ map method_row c.methods) (slice_get classes n) []
+rows_in classes (Prog n) = option_map_or (λ c. map field_row c.fields ++ map method_row c.methods)
+    (slice_get classes n) []
 rows_in classes (Lib id) = map (library_row (table.class_at id).kind) (table.class_at id).members
 
 -- what is told of a member, if it is there (JVMS 4.5, 4.6)
@@ -133,6 +138,7 @@ name_of classes (Lib id) = (table.class_at id).name
 abbrev pub package_of : List ℕ → List ℕ
 package_of name = before_last (λ b. b == 47) name
 
--- two classes are of one run-time package; program classes have one loader, and none is in a package of the library (JVMS 5.3)
+-- two classes are of one run-time package; program classes have one loader, and none is in a package of the library
+-- (JVMS 5.3)
 abbrev pub same_package : List Class → ClassId → ClassId → Bool
 same_package classes a b = is_text (package_of (name_of classes a)) (package_of (name_of classes b))

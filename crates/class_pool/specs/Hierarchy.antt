@@ -1,5 +1,7 @@
--- A set of program classes, as the list of them in its order, and above it the library: which class a name names, and which classes
--- are the direct supertypes of one (JVMS 4.1). A program class is told by its number in the set, a library class by that in the table.
+-- A set of program classes, as the list of them in its order, and above it the library: which class a name names, and
+-- which classes
+-- are the direct supertypes of one (JVMS 4.1). A program class is told by its number in the set, a library class by
+-- that in the table.
 use Rattle.std.specs.Prelude.{◌<◌, ℕ, Bool, true, false, List, [], length, Option, Some, None, slice_get, if◌then◌else◌}
 use Rattle.std.specs.List.{position, filter_map}
 use Rattle.std.specs.Option.{option_map, option_and_then, option_map_or}
@@ -26,7 +28,8 @@ or_found None other = other
 
 -- the class of a name (JVMS 5.3.5; that the set comes first is the project's own)
 abbrev pub class_named : List Class → List ℕ → Option ClassId
-class_named classes name = or_found (position (λ c. is_text name c.name) classes) (option_map Lib (table.class_named name))
+class_named classes name = or_found (position (λ c. is_text name c.name) classes)
+    (option_map Lib (table.class_named name))
 
 -- the class that a class names as its superclass (JVMS 4.1)
 abbrev pub superclass_of : List Class → Class → Option ClassId

@@ -1,4 +1,5 @@
--- The items of a set as numbers: each class in the order of the set, then its fields, then its methods (the project's own).
+-- The items of a set as numbers: each class in the order of the set, then its fields, then its methods (the project's
+-- own).
 use Rattle.std.specs.Prelude.{ℕ, ◌+◌, List, take, Option, Some, None}
 use Rattle.class_model.specs.declared.class.Class.{Class}
 use Rattle.class_pool.specs.declared.id.ClassId.{ClassId}

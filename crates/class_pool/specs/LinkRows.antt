@@ -57,10 +57,13 @@ plain_class flags name super_name interfaces fields methods = record {
 abbrev pub object : List ℕ
 object = codes "java/lang/Object"
 
--- public class p.A implements p.I { private int x; public void m() void n() private void q() public static void s() protected void t() public p.A() }
+-- public class p.A implements p.I { private int x; public void m() void n() private void q() public static void s()
+-- protected void t() public p.A() }
 abbrev pub class_a : Class
 class_a = plain_class 0x0021 (codes "p/A") object (codes "p/I" ∷ []) (int_field 0x0002 (codes "x") ∷ [])
-    (plain_method 0x0001 (codes "m") ∷ plain_method 0x0000 (codes "n") ∷ plain_method 0x0002 (codes "q") ∷ plain_method 0x0009 (codes "s") ∷ plain_method 0x0004 (codes "t") ∷ plain_method 0x0001 (codes "<init>") ∷ [])
+    (plain_method 0x0001 (codes "m") ∷ plain_method 0x0000 (codes "n") ∷ plain_method 0x0002
+    (codes "q") ∷ plain_method 0x0009 (codes "s") ∷ plain_method 0x0004 (codes "t") ∷ plain_method 0x0001
+    (codes "<init>") ∷ [])
 
 -- class p.B extends p.A { public void n() public p.B() }
 abbrev pub class_b : Class
@@ -294,7 +297,8 @@ MemberAccessRows =
     × (is_member_accessible the_set id_b id_a (member id_a 3) ≡ false)
     × (is_member_accessible the_set id_a id_b (member id_a 3) ≡ true)
 
--- the protected t: in its package, through a subclass or a superclass of the one that names it, and not through a class beside it. A protected method of an interface is in no superclass
+-- the protected t: in its package, through a subclass or a superclass of the one that names it, and not through a class
+-- beside it. A protected method of an interface is in no superclass
 abbrev pub ProtectedRows : Type 0
 ProtectedRows =
     (is_member_accessible the_set id_h id_a (member id_a 5) ≡ true)
@@ -316,7 +320,8 @@ OverridingRows =
     × (selected the_set id_e (member id_d 0) ≡ at id_e 0)
     × (selected the_set id_e (member id_a 5) ≡ at id_e 1)
 
--- nothing overrides a private method or an instance initialisation method, a private method overrides none, and a method of an interface none of a class
+-- nothing overrides a private method or an instance initialisation method, a private method overrides none, and a
+-- method of an interface none of a class
 abbrev pub NotOverridingRows : Type 0
 NotOverridingRows =
     (selected the_set id_c (member id_a 3) ≡ at id_a 3)

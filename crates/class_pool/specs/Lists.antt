@@ -26,7 +26,8 @@ pub record HasRanks (classes : List Class) : Type 0 where
   pub falls : (a : ClassId) → IsClass classes a → All (λ b. rank b < rank a) (direct classes a)
   pub most : (a : ClassId) → IsClass classes a → rank a ≤ length library + length classes
 
--- Object stands above each class: a class without a superclass is Object, and the superclass of an interface is Object (JVMS 4.1)
+-- Object stands above each class: a class without a superclass is Object, and the superclass of an interface is Object
+-- (JVMS 4.1)
 pub record HasObject (classes : List Class) : Type 0 where
   pub object : ClassId
   pub alone : (a : ClassId) → IsClass classes a → superclass classes a ≡ None → a ≡ object
@@ -34,4 +35,5 @@ pub record HasObject (classes : List Class) : Type 0 where
 
 -- the superinterfaces of a class are the direct ones, each followed by its own
 abbrev pub AreSteps : List Class → Type 0
-AreSteps classes = (a : ClassId) → IsClass classes a → own_superinterfaces classes a ≡ flat_map (λ i. i ∷ own_superinterfaces classes i) (interfaces classes a)
+AreSteps classes = (a : ClassId) → IsClass classes a
+    → own_superinterfaces classes a ≡ flat_map (λ i. i ∷ own_superinterfaces classes i) (interfaces classes a)

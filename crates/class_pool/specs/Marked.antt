@@ -17,8 +17,10 @@ IsBelow count a = IsThere a × number a < count
 -- each class that was met is marked, and no other
 pub record IsMarked (marks : List Bool) (ids : List ClassId) : Type 0 where
   pub there : All (IsBelow (length marks)) ids
-  pub told : (a : ClassId) → IsBelow (length marks) a → slice_index_or marks (number a) false ≡ list_any (same_class a) ids
+  pub told : (a : ClassId) → IsBelow (length marks) a
+      → slice_index_or marks (number a) false ≡ list_any (same_class a) ids
 
 -- what is marked yet was marked before, and is none of these classes
 abbrev pub IsLeft : List Bool → List ClassId → List Bool → Type 0
-IsLeft old ids new = (a : ClassId) → IsBelow (length old) a → slice_index_or new (number a) false ≡ true → (slice_index_or old (number a) false ≡ true) × (list_any (same_class a) ids ≡ false)
+IsLeft old ids new = (a : ClassId) → IsBelow (length old) a → slice_index_or new (number a) false ≡ true
+    → (slice_index_or old (number a) false ≡ true) × (list_any (same_class a) ids ≡ false)

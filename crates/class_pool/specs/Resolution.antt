@@ -1,5 +1,6 @@
 -- Which field or method a symbolic reference means, and what is accessible to whom (JVMS 5.4.3.2 to 5.4.3.4, 5.4.4).
-use Rattle.std.specs.Prelude.{Bool, true, false, not, ◌&&◌, ◌||◌, List, [], ◌∷◌, Option, Some, None, slice_get, if◌then◌else◌, codes}
+use Rattle.std.specs.Prelude.{Bool, true, false, not, ◌&&◌, ◌||◌, List, [], ◌∷◌, Option, Some, None, slice_get}
+use Rattle.std.specs.Prelude.{if◌then◌else◌, codes}
 use Rattle.std.specs.List.{filter, find, flat_map, list_all, list_any}
 use Rattle.std.specs.Option.{option_and_then, option_map_or, option_or}
 use Rattle.class_model.specs.Flags.{acc_public, has}
@@ -7,7 +8,8 @@ use Rattle.class_model.specs.declared.class.Class.{Class}
 use Rattle.class_pool.specs.declared.id.ClassId.{ClassId}
 use Rattle.class_pool.specs.declared.id.ClassId.TheVariants.{Prog, Lib}
 use Rattle.class_pool.specs.declared.id.MemberAt.{MemberAt}
-use Rattle.class_pool.specs.Found.{NameAndType, declared_by, declared_in, is_abstract_member, is_private_member, is_protected_member, is_public_member, is_static_member, same_member, same_package}
+use Rattle.class_pool.specs.Found.{NameAndType, declared_by, declared_in, is_abstract_member, is_private_member}
+use Rattle.class_pool.specs.Found.{is_protected_member, is_public_member, is_static_member, same_member, same_package}
 use Rattle.class_pool.specs.Hierarchy.{class_named, is_interface_kind, kind_in}
 use Rattle.class_pool.specs.Walk.{own_superinterfaces, same_class, superclasses_from, superinterfaces}
 
@@ -57,7 +59,8 @@ module _ (classes : List Class) where
 
   -- the maximally-specific superinterface method that isn't abstract, where there is just one (JVMS 5.4.3.3)
   abbrev pub maximally_specific : List MemberAt → Option MemberAt
-  maximally_specific ms = only_one (filter (λ m. not (is_abstract_member classes m)) (filter (is_maximally_specific ms) ms))
+  maximally_specific ms = only_one
+      (filter (λ m. not (is_abstract_member classes m)) (filter (is_maximally_specific ms) ms))
 
   -- the method of some superinterface: the maximally-specific one where just one isn't abstract, else, where the
   -- standard leaves the choice, the first one met (JVMS 5.4.3.3; that the first is taken is the project's own)
@@ -66,18 +69,21 @@ module _ (classes : List Class) where
 
   -- for a class that is no interface: the class and its superclasses, then its superinterfaces (JVMS 5.4.3.3)
   abbrev pub class_method_found : ClassId → NameAndType → Option MemberAt
-  class_method_found c named = option_or (first_declared named (superclasses_from classes c)) (chosen (superinterface_methods c named))
+  class_method_found c named = option_or (first_declared named (superclasses_from classes c))
+      (chosen (superinterface_methods c named))
 
   -- the public method of Object that isn't static (JVMS 5.4.3.4)
   abbrev pub object_method : NameAndType → Option MemberAt
   object_method named = option_and_then
-      (λ object. find (λ m. is_public_member classes m && not (is_static_member classes m)) (declared_by classes named (object ∷ [])))
+      (λ object. find (λ m. is_public_member classes m && not (is_static_member classes m))
+      (declared_by classes named (object ∷ [])))
       (class_named classes (codes "java/lang/Object"))
 
   -- for an interface: itself, Object, then its superinterfaces (JVMS 5.4.3.4)
   abbrev pub interface_method_found : ClassId → NameAndType → Option MemberAt
   interface_method_found c named =
-      option_or (declared_in classes named c) (option_or (object_method named) (chosen (superinterface_methods c named)))
+      option_or (declared_in classes named c)
+      (option_or (object_method named) (chosen (superinterface_methods c named)))
 
   -- the class is an interface (JVMS 4.1)
   abbrev pub is_interface_in : ClassId → Bool
@@ -102,7 +108,8 @@ module _ (classes : List Class) where
   abbrev pub is_class_below : ClassId → ClassId → Bool
   is_class_below a b = list_any (same_class b) (superclasses_from classes a)
 
-  -- a protected member is accessible in its class and the subclasses of it; one that isn't static where the class that the reference names is the one that names it, a
+  -- a protected member is accessible in its class and the subclasses of it; one that isn't static where the class that
+  -- the reference names is the one that names it, a
   -- subclass or a superclass of that (JVMS 5.4.4)
   abbrev pub is_protected_accessible : ClassId → ClassId → MemberAt → Bool
   is_protected_accessible from named m = is_class_below from m.class

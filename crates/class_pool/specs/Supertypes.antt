@@ -20,7 +20,8 @@ Sub classes a b = (set : ClassId → Bool) → IsTrue (set a) → IsClosed class
 
 -- b lies in each closed set that has the direct supertypes of a: it is a supertype, one step or more above (JLS 4.10)
 abbrev pub IsProperSub : List Class → ClassId → ClassId → Type 0
-IsProperSub classes a b = (set : ClassId → Bool) → All (λ c. IsTrue (set c)) (direct classes a) → IsClosed classes set → IsTrue (set b)
+IsProperSub classes a b = (set : ClassId → Bool) → All (λ c. IsTrue (set c)) (direct classes a) → IsClosed classes set
+    → IsTrue (set b)
 
 -- the class is its own proper supertype (JVMS 5.3.5, ClassCircularityError)
 abbrev pub IsCyclic : List Class → ℕ → Type 0

@@ -17,27 +17,39 @@ use Rattle.class_read.specs.CodeAttributes.{code_with, behind_instructions}
 use Rattle.class_read.proofs.CodeParts.{seen_behind}
 
 -- each instruction has its line by where it begins
-pub lines_same : (rows : List LineNumber) (at : ℕ) (infos : List Info) (ops : List Op) → with_lines rows at infos ops ≡ lined rows (starts_from at infos) ops
+pub lines_same : (rows : List LineNumber) (at : ℕ) (infos : List Info) (ops : List Op)
+    → with_lines rows at infos ops ≡ lined rows (starts_from at infos) ops
 lines_same rows at [] ops = refl
 lines_same rows at (info ∷ infos) [] = refl
 lines_same rows at (info ∷ infos) (o ∷ ops) =
-    ap (λ (others : List Ins). let ins : Ins = record { op = o; line = line_at rows at } in ins ∷ others) (lines_same rows (at + length (info_bytes info)) infos ops)
+    ap (λ (others : List Ins). let ins : Ins = record { op = o; line = line_at rows at } in ins ∷ others)
+    (lines_same rows (at + length (info_bytes info)) infos ops)
 
-code_same : (max_stack max_locals : ℕ) (infos : List Info) (ops : List Op) (handlers : List Handler) (seen : CodeSeen) → code_of max_stack max_locals infos ops handlers seen ≡ code_with max_stack max_locals (starts_of infos) ops handlers seen
+code_same : (max_stack max_locals : ℕ) (infos : List Info) (ops : List Op) (handlers : List Handler) (seen : CodeSeen)
+    → code_of max_stack max_locals infos ops handlers seen
+    ≡ code_with max_stack max_locals (starts_of infos) ops handlers seen
 code_same max_stack max_locals infos ops handlers seen = rw (lines_same seen.lines 0 infos ops) refl
 
 module _ (pool : List Entry) (first : List VType) (max_stack max_locals from end : ℕ) (infos : List Info) where
   -- what is made of the attributes that were seen
-  seen_same : (ops : List Op) (handlers : List Handler) (q : Place) (seen : Result (CodeSeen × Place) FormatFault) → seen_behind pool first max_stack max_locals end (starts_of infos) ops q ≡ seen
-      → bind (seen_behind pool first max_stack max_locals end (starts_of infos) ops) (λ s. give (code_of max_stack max_locals infos ops handlers s)) q
-      ≡ bind (seen_behind pool first max_stack max_locals end (starts_of infos) ops) (λ s. give (code_with max_stack max_locals (starts_of infos) ops handlers s)) q
+  seen_same : (ops : List Op) (handlers : List Handler) (q : Place) (seen : Result (CodeSeen × Place) FormatFault)
+      → seen_behind pool first max_stack max_locals end (starts_of infos) ops q ≡ seen
+      → bind (seen_behind pool first max_stack max_locals end (starts_of infos) ops)
+      (λ s. give (code_of max_stack max_locals infos ops handlers s)) q
+      ≡ bind (seen_behind pool first max_stack max_locals end (starts_of infos) ops)
+      (λ s. give (code_with max_stack max_locals (starts_of infos) ops handlers s)) q
   unfolding bind give
-  seen_same ops handlers q (Ok s) h = rw h (ap (λ (body : Body). let R : Result (Body × Place) FormatFault = Ok (body, s.1) in R) (code_same max_stack max_locals infos ops handlers s.0))
+  seen_same ops handlers q (Ok s) h = rw h
+      (ap (λ (body : Body). let R : Result (Body × Place) FormatFault = Ok (body, s.1) in R)
+      (code_same max_stack max_locals infos ops handlers s.0))
   seen_same ops handlers q (Err f) h = rw h refl
 
   -- the exception table and the attributes of such a code
-  table_same : (ops : List Op) (p : Place) (table : Result (List Handler × Place) FormatFault) → read_handlers pool (starts_of infos) end p ≡ table
-      → bind (read_handlers pool (starts_of infos) end) (λ handlers. bind (seen_behind pool first max_stack max_locals end (starts_of infos) ops) (λ s. give (code_of max_stack max_locals infos ops handlers s))) p
+  table_same : (ops : List Op) (p : Place) (table : Result (List Handler × Place) FormatFault)
+      → read_handlers pool (starts_of infos) end p ≡ table
+      → bind (read_handlers pool (starts_of infos) end)
+      (λ handlers. bind (seen_behind pool first max_stack max_locals end (starts_of infos) ops)
+      (λ s. give (code_of max_stack max_locals infos ops handlers s))) p
       ≡ behind_instructions pool first max_stack max_locals end (starts_of infos) ops p
   unfolding bind behind_instructions
   table_same ops p (Ok t) h = rw h (seen_same ops t.0 t.1 _ refl)
@@ -45,7 +57,9 @@ module _ (pool : List Entry) (first : List VType) (max_stack max_locals from end
 
   -- the same where the instructions have their targets, or one has none
   told_same : (ops : Result (List Op) FormatFault) (p : Place)
-      → bind (told ops) (λ os. bind (read_handlers pool (starts_of infos) end) (λ handlers. bind (seen_behind pool first max_stack max_locals end (starts_of infos) os) (λ s. give (code_of max_stack max_locals infos os handlers s)))) p
+      → bind (told ops) (λ os. bind (read_handlers pool (starts_of infos) end)
+      (λ handlers. bind (seen_behind pool first max_stack max_locals end (starts_of infos) os)
+      (λ s. give (code_of max_stack max_locals infos os handlers s)))) p
       ≡ bind (told ops) (λ os. behind_instructions pool first max_stack max_locals end (starts_of infos) os) p
   unfolding bind told
   told_same (Ok os) p = table_same os p _ refl
@@ -53,5 +67,6 @@ module _ (pool : List Entry) (first : List VType) (max_stack max_locals from end
 
   -- what stands behind a code is, after its targets, what stands behind its instructions
   pub behind_code_is : (p : Place) → behind_code pool first max_stack max_locals from end (instructions infos) p
-      ≡ bind (told (ops_of pool from infos)) (λ ops. behind_instructions pool first max_stack max_locals end (starts_of infos) ops) p
+      ≡ bind (told (ops_of pool from infos))
+      (λ ops. behind_instructions pool first max_stack max_locals end (starts_of infos) ops) p
   behind_code_is p = told_same (ops_of pool from infos) p

@@ -17,17 +17,21 @@ use Rattle.class_read.specs.CodeAttributes.{code_with, behind_instructions}
 module _ (pool : List Entry) (first : List VType) (max_stack max_locals end : ℕ) (starts : List ℕ) (ops : List Op) where
   -- the attributes
   abbrev pub seen_behind : Reader CodeSeen
-  seen_behind = counted_attributes pool (known_of_code (read_frames pool starts ops max_stack max_locals first)) nothing_seen
+  seen_behind = counted_attributes pool
+      (known_of_code (read_frames pool starts ops max_stack max_locals first)) nothing_seen
 
   -- at a fault in the attributes the whole is that fault
-  pub attributes_end : (e : Or FormatFault) (new q p after : Place) (handlers : List Handler) → read_handlers pool starts end p ≡ Ok (handlers, after) → ReadsOr {T = CodeSeen} (Err e) new (seen_behind after)
+  pub attributes_end : (e : Or FormatFault) (new q p after : Place) (handlers : List Handler)
+      → read_handlers pool starts end p ≡ Ok (handlers, after) → ReadsOr {T = CodeSeen} (Err e) new (seen_behind after)
       → ReadsOr {T = Body} (Err e) q (behind_instructions pool first max_stack max_locals end starts ops p)
   unfolding behind_instructions bind
   attributes_end OutOfMemory new q p after handlers h k = tt
   attributes_end (Fault f) new q p after handlers h k = rw (h, k) refl
 
   -- behind the attributes all is read
-  pub is_read : (p after behind : Place) (handlers : List Handler) (seen : CodeSeen) → read_handlers pool starts end p ≡ Ok (handlers, after) → seen_behind after ≡ Ok (seen, behind)
-      → behind_instructions pool first max_stack max_locals end starts ops p ≡ Ok (code_with max_stack max_locals starts ops handlers seen, behind)
+  pub is_read : (p after behind : Place) (handlers : List Handler) (seen : CodeSeen)
+      → read_handlers pool starts end p ≡ Ok (handlers, after) → seen_behind after ≡ Ok (seen, behind)
+      → behind_instructions pool first max_stack max_locals end starts ops p
+      ≡ Ok (code_with max_stack max_locals starts ops handlers seen, behind)
   unfolding behind_instructions bind give
   is_read p after behind handlers seen h k = rw (h, k) refl

@@ -7,5 +7,7 @@ use Rattle.class_model.specs.ReadingClass.{ClassSeen, known_of_class}
 use Rattle.class_read.specs.ClassAttributes.{class_attribute, class_contents}
 use Rattle.class_read.proofs.Known.{three}
 
-pub of_class : (pool : List Entry) (at : ℕ) (name : List ℕ) (n : ℕ) (seen : ClassSeen) → known_of_class pool at name n seen ≡ option_map (class_contents pool at seen) (class_attribute name)
-of_class pool at name n seen = three (class_contents pool at seen) (is_text name (codes "SourceFile")) (is_text name (codes "Synthetic")) (is_text name (codes "Deprecated")) _ _ _
+pub of_class : (pool : List Entry) (at : ℕ) (name : List ℕ) (n : ℕ) (seen : ClassSeen)
+    → known_of_class pool at name n seen ≡ option_map (class_contents pool at seen) (class_attribute name)
+of_class pool at name n seen = three (class_contents pool at seen) (is_text name (codes "SourceFile"))
+    (is_text name (codes "Synthetic")) (is_text name (codes "Deprecated")) _ _ _

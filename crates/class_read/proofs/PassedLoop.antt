@@ -7,7 +7,9 @@ use Rattle.class_model.specs.ReadingCodeAttribute.{skipped_attribute}
 use Rattle.class_read.specs.PassedOver.{attributes_passed}
 
 -- what is left behind an attribute
-pub goes_on : (count i : ℕ) (p after : Place) (total : Result (Unit {0} × Place) FormatFault) → i < count → skipped_attribute p ≡ Ok (tt, after) → attributes_passed (count - i) p ≡ total → attributes_passed (count - (i + 1)) after ≡ total
+pub goes_on : (count i : ℕ) (p after : Place) (total : Result (Unit {0} × Place) FormatFault) → i < count
+    → skipped_attribute p ≡ Ok (tt, after) → attributes_passed (count - i) p ≡ total
+    → attributes_passed (count - (i + 1)) after ≡ total
 unfolding attributes_passed bind
 goes_on count i p after total lt h so_far =
     let k : count - i ≡ suc (count - (i + 1)) = omega arith in
@@ -15,7 +17,8 @@ goes_on count i p after total lt h so_far =
     sym one ∙ so_far
 
 -- at a fault the whole is that fault
-pub ends : (count i : ℕ) (p : Place) (f : FormatFault) (total : Result (Unit {0} × Place) FormatFault) → i < count → skipped_attribute p ≡ Err f → attributes_passed (count - i) p ≡ total → total ≡ Err f
+pub ends : (count i : ℕ) (p : Place) (f : FormatFault) (total : Result (Unit {0} × Place) FormatFault) → i < count
+    → skipped_attribute p ≡ Err f → attributes_passed (count - i) p ≡ total → total ≡ Err f
 unfolding attributes_passed bind
 ends count i p f total lt h so_far =
     let k : count - i ≡ suc (count - (i + 1)) = omega arith in
@@ -23,7 +26,8 @@ ends count i p f total lt h so_far =
     sym so_far ∙ one
 
 -- behind the last one
-pub is_done : (count i : ℕ) (p : Place) (total : Result (Unit {0} × Place) FormatFault) → count ≤ i → attributes_passed (count - i) p ≡ total → total ≡ Ok (tt, p)
+pub is_done : (count i : ℕ) (p : Place) (total : Result (Unit {0} × Place) FormatFault) → count ≤ i
+    → attributes_passed (count - i) p ≡ total → total ≡ Ok (tt, p)
 unfolding attributes_passed give
 is_done count i p total le so_far =
     let k : count - i ≡ 0 = omega arith in

@@ -8,11 +8,13 @@ use Rattle.class_model.specs.declared.class.LeftKind.{LeftKind}
 use Rattle.class_model.specs.declared.pool.Entry.{Entry}
 use Rattle.class_model.specs.Lookups.{class_at}
 use Rattle.class_model.specs.ReadingAttributes.{counted_attributes}
-use Rattle.class_model.specs.ReadingClass.{ClassSeen, class_of, known_of_class, no_class_attribute, read_all_fields, read_all_methods, read_interfaces}
+use Rattle.class_model.specs.ReadingClass.{ClassSeen, class_of, known_of_class, no_class_attribute, read_all_fields}
+use Rattle.class_model.specs.ReadingClass.{read_all_methods, read_interfaces}
 use Rattle.class_read.specs.declared.class.ClassNames.{ClassNames}
 
 -- the class of these items, its names being together (only the proof of the reader needs it)
-abbrev pub class_named : ℕ → List Entry → ClassNames → List Field → List Method × List (Option LeftKind) → ClassSeen → Class
+abbrev pub class_named : ℕ → List Entry → ClassNames → List Field → List Method × List (Option LeftKind) → ClassSeen
+    → Class
 class_named flags pool names fields methods seen =
     class_of flags pool names.name names.super_name names.interfaces fields methods seen
 

@@ -9,7 +9,8 @@ use Rattle.class_model.specs.declared.frame.VType.{VType}
 use Rattle.class_model.specs.declared.frame.FrameAt.{FrameAt}
 use Rattle.class_model.specs.ReadingAttributes.{counted_attributes, once}
 use Rattle.class_model.specs.ReadingFrames.{read_frames}
-use Rattle.class_model.specs.ReadingCodeAttribute.{Body, CodeSeen, nothing_seen, is_there, lines_seen, frames_seen, known_of_code, read_handlers, frames_of, left_out_of}
+use Rattle.class_model.specs.ReadingCodeAttribute.{Body, CodeSeen, nothing_seen, is_there, lines_seen, frames_seen}
+use Rattle.class_model.specs.ReadingCodeAttribute.{known_of_code, read_handlers, frames_of, left_out_of}
 use Rattle.class_read.specs.Lines.{lined}
 use Rattle.class_read.specs.declared.code_attributes.CodeAttribute.{CodeAttribute}
 use Rattle.class_read.specs.declared.code_attributes.CodeAttribute.TheVariants as known

@@ -12,7 +12,8 @@ use Rattle.class_read.specs.PassedOver.{passed_over}
 
 -- what stands behind the instructions; where one is left out it is passed over
 abbrev pub behind_read : List Entry → List VType → ℕ → ℕ → ℕ → Instructions → Reader Body
-behind_read pool first max_stack max_locals end (All decoded) = behind_instructions pool first max_stack max_locals end decoded.starts decoded.ops
+behind_read pool first max_stack max_locals end
+    (All decoded) = behind_instructions pool first max_stack max_locals end decoded.starts decoded.ops
 behind_read pool first max_stack max_locals end (LeftOut kind) = do
   passed ← passed_over
   give (None, Some kind)

@@ -21,6 +21,9 @@ field_attribute name =
 -- its contents, of a length, behind what was seen before
 abbrev pub field_contents : List Entry → Bool → FieldType → ℕ → ℕ → FieldSeen → FieldAttribute → Reader FieldSeen
 field_contents pool static ty at n seen known.ConstantValue =
-    once at (is_there seen.constant) (if static then constant_seen pool ty seen else dropped n (record seen { constant = Some None }))
-field_contents pool static ty at n seen known.Synthetic = once at seen.synthetic (give (record seen { synthetic = true }))
-field_contents pool static ty at n seen known.Deprecated = once at seen.deprecated (give (record seen { deprecated = true }))
+    once at (is_there seen.constant)
+    (if static then constant_seen pool ty seen else dropped n (record seen { constant = Some None }))
+field_contents pool static ty at n seen known.Synthetic = once at seen.synthetic
+    (give (record seen { synthetic = true }))
+field_contents pool static ty at n seen known.Deprecated = once at seen.deprecated
+    (give (record seen { deprecated = true }))

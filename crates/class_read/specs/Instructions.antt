@@ -13,7 +13,8 @@ use Rattle.jv_ops.specs.declared.fault.CodeFault.TheVariants as code
 use Rattle.class_read.specs.declared.instructions.Instructions.{Instructions}
 use Rattle.class_read.specs.declared.instructions.Instructions.TheVariants.{All, LeftOut}
 
--- what was read of a code that begins at an offset: the instructions with their starts, where each target is one of them, or
+-- what was read of a code that begins at an offset: the instructions with their starts, where each target is one of
+-- them, or
 -- the kind of the first that is left out
 abbrev pub instructions_of : List Entry → ℕ → CodeRead → Reader Instructions
 instructions_of pool from (instructions infos) = do

@@ -11,14 +11,16 @@ use Rattle.class_model.specs.Lookups.{good_text_at}
 use Rattle.class_model.specs.MemberTypes.{method_type_at}
 use Rattle.class_model.specs.ReadingAttributes.{once}
 use Rattle.class_model.specs.ReadingCodeAttribute.{Body, is_there, read_code}
-use Rattle.class_model.specs.ReadingMembers.{MethodSeen, Signature, read_flags, fresh, exceptions_seen, one_code, known_of_method}
+use Rattle.class_model.specs.ReadingMembers.{MethodSeen, Signature, read_flags, fresh, exceptions_seen, one_code}
+use Rattle.class_model.specs.ReadingMembers.{known_of_method}
 use Rattle.class_read.specs.declared.methods.MethodHead.{MethodHead}
 use Rattle.class_read.specs.declared.methods.MethodAttribute.{MethodAttribute}
 use Rattle.class_read.specs.declared.methods.MethodAttribute.TheVariants as known
 
 -- the contents of the Code at an offset, of a method in a class of this name (JVMS 4.7.3)
 abbrev pub code_of_method : List Entry → List ℕ → MethodHead → ℕ → Reader Body
-code_of_method pool class head attribute = read_code pool (initial_locals class (is_static head.flags) head.name head.ty) attribute
+code_of_method pool class head attribute = read_code pool
+    (initial_locals class (is_static head.flags) head.name head.ty) attribute
 
 -- the attributes that are read of a method in a class of this name
 abbrev pub known_of : List Entry → List ℕ → MethodHead → ℕ → List ℕ → ℕ → MethodSeen → Option (Reader MethodSeen)
@@ -35,10 +37,13 @@ method_attribute name =
 
 -- its contents, behind what was seen before
 abbrev pub method_contents : List Entry → List ℕ → MethodHead → ℕ → MethodSeen → MethodAttribute → Reader MethodSeen
-method_contents pool class head at seen known.Code = one_code at (has_body head.flags) (code_of_method pool class head at) seen
+method_contents pool class head at seen known.Code = one_code at (has_body head.flags)
+    (code_of_method pool class head at) seen
 method_contents pool class head at seen known.Exceptions = once at (is_there seen.throws) (exceptions_seen pool seen)
-method_contents pool class head at seen known.Synthetic = once at seen.synthetic (give (record seen { synthetic = true }))
-method_contents pool class head at seen known.Deprecated = once at seen.deprecated (give (record seen { deprecated = true }))
+method_contents pool class head at seen known.Synthetic = once at seen.synthetic
+    (give (record seen { synthetic = true }))
+method_contents pool class head at seen known.Deprecated = once at seen.deprecated
+    (give (record seen { deprecated = true }))
 
 -- what stands before the attributes of a method behind those of these signatures, with its own signature
 unfoldable pub method_head : List Entry → Bool → List Signature → Reader (MethodHead × Signature)

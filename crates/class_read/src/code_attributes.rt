@@ -7,7 +7,8 @@ ghost use Rattle.frame_types.specs.Rows.{ReadsAsOr};
 ghost use Rattle.frame_types.specs.Before.{table_of};
 ghost use Rattle.class_model.specs.ReadingAttributes.{attribute, attributes, counted_attributes};
 ghost use Rattle.class_model.specs.ReadingCodeAttribute.{known_of_code, nothing_seen, frames_of, left_out_of};
-ghost use Rattle.class_read.specs.CodeAttributes.{code_attribute, code_contents, frames_by, code_with, behind_instructions};
+ghost use Rattle.class_read.specs.CodeAttributes.{code_attribute, code_contents, frames_by, code_with};
+ghost use Rattle.class_read.specs.CodeAttributes.{behind_instructions};
 
 use crate::attributes::{Line, check_end, check_once, line_number_table, read_units};
 use crate::handlers::read_handlers;

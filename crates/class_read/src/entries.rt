@@ -5,7 +5,8 @@ ghost use Rattle.std.specs.Prelude.{◌≡◌, ◌<◌, ◌+◌, ◌*◌, ◌^�
 ghost use Rattle.jv_base.specs.Outcome.{IsDue};
 ghost use Rattle.format_reading.specs.Reader.{ReadsOr, onwards};
 ghost use Rattle.class_model.specs.ConstantPool.{left_out_length, takes_two};
-ghost use Rattle.class_model.specs.ReadingPool.{utf8, integer, long, has_no_room, read_entry, slot, slots, left_out, entries_of, read_pool};
+ghost use Rattle.class_model.specs.ReadingPool.{utf8, integer, long, has_no_room, read_entry, slot, slots, left_out};
+ghost use Rattle.class_model.specs.ReadingPool.{entries_of, read_pool};
 ghost use Rattle.class_read.specs.Entries.{units_of_bytes, offsets_of, fault_in, faults_in};
 
 use crate::faults::fault;

@@ -6,7 +6,8 @@ ghost use Rattle.std.specs.List.{list_any};
 ghost use Rattle.format_reading.specs.Reader.{ReadsOr};
 ghost use Rattle.class_model.specs.Flags.{is_static};
 ghost use Rattle.class_model.specs.ReadingAttributes.{attribute, attributes, counted_attributes};
-ghost use Rattle.class_model.specs.ReadingMembers.{known_of_field, no_field_attribute, constant_of, field_of, same_signature, read_field_info, read_fields};
+ghost use Rattle.class_model.specs.ReadingMembers.{known_of_field, no_field_attribute, constant_of, field_of};
+ghost use Rattle.class_model.specs.ReadingMembers.{same_signature, read_field_info, read_fields};
 ghost use Rattle.class_read.specs.Fields.{field_attribute, field_contents};
 
 use crate::attributes::{check_end, check_once, constant_value, read_units};

@@ -1,7 +1,9 @@
 // Access flags (JVMS 4.1, 4.5, 4.6).
 ghost use Rattle.std.specs.Prelude.{◌≡◌};
 ghost use Rattle.format_reading.specs.Reader.{Reads};
-ghost use Rattle.class_model.specs.Flags.{has, has_some, is_left_out_class, has_one_access, is_interface, is_static, is_native, has_body, are_class_flags, are_field_flags, are_method_flags, are_initial_flags, flags_of, meant, class_mask, field_mask, method_mask};
+ghost use Rattle.class_model.specs.Flags.{has, has_some, is_left_out_class, has_one_access, is_interface, is_static};
+ghost use Rattle.class_model.specs.Flags.{is_native, has_body, are_class_flags, are_field_flags, are_method_flags};
+ghost use Rattle.class_model.specs.Flags.{are_initial_flags, flags_of, meant, class_mask, field_mask, method_mask};
 ghost use Rattle.class_model.specs.ReadingMembers.{read_flags};
 
 use crate::faults::fault;

@@ -1,7 +1,8 @@
 // What is found at an index of the constant pool, or why not (JVMS 4.4).
 ghost use Rattle.std.specs.Prelude.{◌≡◌};
 ghost use Rattle.class_model.specs.Pool.{units_at};
-ghost use Rattle.class_model.specs.Lookups.{test, text_at, good_text_at, class_at, names_right, refers_right, test_of_units};
+ghost use Rattle.class_model.specs.Lookups.{test, text_at, good_text_at, class_at, names_right, refers_right};
+ghost use Rattle.class_model.specs.Lookups.{test_of_units};
 ghost use Rattle.class_read.specs.Seen.{shown};
 ghost use Rattle.class_read.specs.Lookups.{referred, type_named_right};
 ghost use Rattle.known_pool.specs.Texts.{obeys};

@@ -4,7 +4,8 @@
 ghost use Rattle.std.specs.Prelude.{◌≡◌, ◌+◌, ◌<◌, length};
 ghost use Rattle.std.specs.List.{list_any};
 ghost use Rattle.format_reading.specs.Reader.{ReadsOr};
-ghost use Rattle.class_model.specs.ClassFile.{is_left_out_entry, left_out_of_class, left_out_of_members, first_left_out};
+ghost use Rattle.class_model.specs.ClassFile.{is_left_out_entry, left_out_of_class, left_out_of_members};
+ghost use Rattle.class_model.specs.ClassFile.{first_left_out};
 ghost use Rattle.class_model.specs.ReadingClass.{read_all_fields, read_all_methods};
 
 use crate::fields::read_fields;

@@ -6,7 +6,8 @@ use Rattle.std.proofs.lemmas.List.{length-append}
 use Rattle.std.proofs.Math.Nat.{mul-suc}
 
 -- each is as long as the others
-pub rows_length : {A : Type 0} (k : ℕ) (f : A → List ℕ) → ((x : A) → length (f x) ≡ k) → (xs : List A) → length (flat_map f xs) ≡ k * length xs
+pub rows_length : {A : Type 0} (k : ℕ) (f : A → List ℕ) → ((x : A) → length (f x) ≡ k) → (xs : List A)
+    → length (flat_map f xs) ≡ k * length xs
 rows_length k f each [] = omega arith
 rows_length k f each (x ∷ xs) =
     omega (arith, each x, length-append (f x) (flat_map f xs), rows_length k f each xs, mul-suc k (length xs))

@@ -1,5 +1,6 @@
 -- What well-formed classes have, and what it says that no limit is passed.
-use Rattle.std.proofs.Common.{◌≡◌, ℕ, ◌+◌, ◌^◌, ◌<◌, Bool, true, false, cond, List, [], ◌∷◌, length, Option, Some, None, Result, Ok, Err, refl}
+use Rattle.std.proofs.Common.{◌≡◌, ℕ, ◌+◌, ◌^◌, ◌<◌, Bool, true, false, cond, List, [], ◌∷◌, length, Option, Some, None}
+use Rattle.std.proofs.Common.{Result, Ok, Err, refl}
 use Rattle.std.specs.Prelude.{IfSome, nat_lt}
 use Rattle.std.specs.List.{AllByRecursion}
 use Rattle.std.proofs.lemmas.Bool.{ltb-true}
@@ -15,7 +16,8 @@ use Rattle.class_model.specs.declared.constant.PoolConstant.{PoolConstant}
 use Rattle.class_model.specs.CanonicalCode.{places, code_bytes}
 use Rattle.class_model.specs.CanonicalClass.{line_rows, first_locals}
 use Rattle.class_model.specs.WellFormed.{IsGoodCode, IsGoodMethod, HasFewWords}
-use Rattle.class_model.specs.WriteLimits.{fits_u2, first_of, text_fits, branches_fit, code_fits, frames_fit, body_tables_fit, method_tables_fit, table_fits, tables_fit}
+use Rattle.class_model.specs.WriteLimits.{fits_u2, first_of, text_fits, branches_fit, code_fits, frames_fit}
+use Rattle.class_model.specs.WriteLimits.{body_tables_fit, method_tables_fit, table_fits, tables_fit}
 use Rattle.class_write.specs.Placing.{IsWritable, HasWritable}
 use Rattle.class_write.specs.Writing.{FitsTables, HasFitting}
 use Rattle.constant_table.specs.Limits.{pool_fits}
@@ -47,14 +49,18 @@ module _ (pool : List PoolConstant) where
       let both = both_ok (fits_u2 (λ n. PoolFull n) (length pool + 1)) (first_of text_fits pool) h in
       (count_ok (λ n. PoolFull n) (length pool + 1) both.0, both.1)
 
-  fitting_body : (first : List VType) (o : Option Code) → IfSome o IsWritable → code_fits pool o ≡ Ok tt → body_tables_fit first o ≡ Ok tt → IfSome o (FitsTables pool)
+  fitting_body : (first : List VType) (o : Option Code) → IfSome o IsWritable → code_fits pool o ≡ Ok tt
+      → body_tables_fit first o ≡ Ok tt → IfSome o (FitsTables pool)
   fitting_body first None writable code tables = tt
   fitting_body first (Some code) writable short tables =
       let size = length (code_bytes pool (places pool code.ins) code.ins) in
       let rows = length (line_rows None [] code.ins) in
       let coded = both_ok (fits_u2 (λ n. CodeTooLong n) size) (branches_fit (places pool code.ins) 0 code.ins) short in
-      let one = both_ok (table_fits (length code.handlers)) (table_fits rows >>= (λ lines. table_fits (length code.frames) >>= (λ frames. frames_fit first code.frames))) tables in
-      let two = both_ok (table_fits rows) (table_fits (length code.frames) >>= (λ frames. frames_fit first code.frames)) one.1 in
+      let one = both_ok (table_fits (length code.handlers))
+      (table_fits rows >>=
+      (λ lines. table_fits (length code.frames) >>= (λ frames. frames_fit first code.frames))) tables in
+      let two = both_ok (table_fits rows)
+      (table_fits (length code.frames) >>= (λ frames. frames_fit first code.frames)) one.1 in
       let three = both_ok (table_fits (length code.frames)) (frames_fit first code.frames) two.1 in
       record {
         writable = writable;
@@ -65,14 +71,19 @@ module _ (pool : List PoolConstant) where
       }
 
   -- methods whose codes and tables pass no limit can be written
-  pub fitting : (class : List ℕ) (methods : List Method) → AllByRecursion HasWritable methods → first_of (λ (m : Method). code_fits pool m.code) methods ≡ Ok tt
+  pub fitting : (class : List ℕ) (methods : List Method) → AllByRecursion HasWritable methods
+      → first_of (λ (m : Method). code_fits pool m.code) methods ≡ Ok tt
       → first_of (method_tables_fit class) methods ≡ Ok tt → AllByRecursion (HasFitting pool) methods
   fitting class [] writable codes tables = tt
   fitting class (m ∷ methods) writable codes tables =
       let code = both_ok (code_fits pool m.code) (first_of (λ (m : Method). code_fits pool m.code) methods) codes in
       let table = both_ok (method_tables_fit class m) (first_of (method_tables_fit class) methods) tables in
       let throws = both_ok (body_tables_fit (first_locals class m) m.code) (table_fits (length m.throws)) table.0 in (
-        record { body = fitting_body (first_locals class m) m.code writable.0 code.0 throws.0; throws = count_ok (λ n. AttributeFull n) (length m.throws) throws.1 },
+        record {
+          body = fitting_body (first_locals class m) m.code writable.0 code.0 throws.0;
+          throws = count_ok
+              (λ n. AttributeFull n) (length m.throws) throws.1;
+        },
         fitting class methods writable.1 code.1 table.1,
       )
 
@@ -86,7 +97,8 @@ pub record AreFew (c : Class) : Type 0 where
 pub tables_ok : (c : Class) → tables_fit c ≡ Ok tt → AreFew c
 tables_ok c h =
     let rest = first_of (method_tables_fit c.name) c.methods in
-    let one = both_ok (table_fits (length c.interfaces)) (table_fits (length c.fields) >>= (λ fields. table_fits (length c.methods) >>= (λ methods. rest))) h in
+    let one = both_ok (table_fits (length c.interfaces))
+    (table_fits (length c.fields) >>= (λ fields. table_fits (length c.methods) >>= (λ methods. rest))) h in
     let two = both_ok (table_fits (length c.fields)) (table_fits (length c.methods) >>= (λ methods. rest)) one.1 in
     let three = both_ok (table_fits (length c.methods)) rest two.1 in
     record {
@@ -99,17 +111,22 @@ tables_ok c h =
 -- ---- well-formed methods
 
 module _ (in_interface : Bool) where
-  writable_body : (o : Option Code) → IfSome o IsGoodCode → IfSome o (λ (code : Code). AllByRecursion (λ (i : Ins). HasFewWords i.op) code.ins)
+  writable_body : (o : Option Code) → IfSome o IsGoodCode
+      → IfSome o (λ (code : Code). AllByRecursion (λ (i : Ins). HasFewWords i.op) code.ins)
       → IfSome o (λ (code : Code). length code.ins < 4294967295) → IfSome o IsWritable
   writable_body None good words count = tt
   writable_body (Some code) good words count = record { good = good; few_words = words; count = count }
 
   pub writables : (methods : List Method) → AllByRecursion (IsGoodMethod in_interface) methods
-      → AllByRecursion (λ (m : Method). IfSome m.code (λ (code : Code). AllByRecursion (λ (i : Ins). HasFewWords i.op) code.ins)) methods
-      → AllByRecursion (λ (m : Method). IfSome m.code (λ (code : Code). length code.ins < 4294967295)) methods → AllByRecursion HasWritable methods
+      → AllByRecursion (λ (m : Method). IfSome m.code (λ (code : Code). AllByRecursion
+      (λ (i : Ins). HasFewWords i.op) code.ins)) methods
+      → AllByRecursion (λ (m : Method). IfSome m.code (λ (code : Code). length code.ins < 4294967295)) methods
+      → AllByRecursion HasWritable methods
   writables [] good words counts = tt
-  writables (m ∷ methods) good words counts = (writable_body m.code good.0.code words.0 counts.0, writables methods good.1 words.1 counts.1)
+  writables (m ∷ methods) good words counts =
+      (writable_body m.code good.0.code words.0 counts.0, writables methods good.1 words.1 counts.1)
 
-  pub good_codes : (methods : List Method) → AllByRecursion (IsGoodMethod in_interface) methods → AllByRecursion (λ (m : Method). IfSome m.code IsGoodCode) methods
+  pub good_codes : (methods : List Method) → AllByRecursion (IsGoodMethod in_interface) methods
+      → AllByRecursion (λ (m : Method). IfSome m.code IsGoodCode) methods
   good_codes [] good = tt
   good_codes (m ∷ methods) good = (good.0.code, good_codes methods good.1)

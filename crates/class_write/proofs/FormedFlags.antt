@@ -3,7 +3,11 @@ use Rattle.std.proofs.Common.{◌≡◌, ℕ, ◌+◌, Bool, true, false, not, �
 use Rattle.std.specs.Int.Bits.{bit_and, and_self, and_zero_l}
 use Rattle.std.proofs.lemmas.Bool.{eqb-true}
 use Rattle.std.proofs.lemmas.Nat.{and_assoc}
-use Rattle.class_model.specs.Flags.{acc_private, acc_public, acc_protected, acc_static, acc_final, acc_synchronized, acc_volatile, acc_native, acc_interface, acc_abstract, acc_strict, acc_annotation, acc_enum, class_mask, field_mask, method_mask, meant, is_interface, is_static, is_native, has_body, are_class_flags, is_left_out_class, are_field_flags, are_method_flags, is_init, is_clinit, are_initial_flags}
+use Rattle.class_model.specs.Flags.{acc_private, acc_public, acc_protected, acc_static, acc_final, acc_synchronized}
+use Rattle.class_model.specs.Flags.{acc_volatile, acc_native, acc_interface, acc_abstract, acc_strict, acc_annotation}
+use Rattle.class_model.specs.Flags.{acc_enum, class_mask, field_mask, method_mask, meant, is_interface, is_static}
+use Rattle.class_model.specs.Flags.{is_native, has_body, are_class_flags, is_left_out_class, are_field_flags}
+use Rattle.class_model.specs.Flags.{are_method_flags, is_init, is_clinit, are_initial_flags}
 
 -- all of them mean something
 pub meant_again : (mask bits : ℕ) → meant mask (meant mask bits) ≡ meant mask bits
@@ -33,12 +37,14 @@ left_out_meant bits = ap (λ (n : ℕ). not (eqb n 0)) (part class_mask bits (ac
 pub field_static_meant : (bits : ℕ) → is_static (meant field_mask bits) ≡ is_static bits
 field_static_meant bits = ap (λ (n : ℕ). eqb n acc_static) (part field_mask bits acc_static refl)
 
-pub field_meant : (in_interface : Bool) (bits : ℕ) → are_field_flags in_interface (meant field_mask bits) ≡ are_field_flags in_interface bits
+pub field_meant : (in_interface : Bool) (bits : ℕ)
+    → are_field_flags in_interface (meant field_mask bits) ≡ are_field_flags in_interface bits
 field_meant in_interface bits =
     let a = part field_mask bits (acc_public + acc_private + acc_protected) refl in
     let b = part field_mask bits (acc_final + acc_volatile) refl in
     let c = part field_mask bits (acc_public + acc_static + acc_final) refl in
-    λ i. (ltb (a i) 3 || eqb (a i) acc_protected) && not (eqb (b i) (acc_final + acc_volatile)) && (not in_interface || eqb (c i) (acc_public + acc_static + acc_final))
+    λ i. (ltb (a i) 3 || eqb (a i) acc_protected) && not (eqb (b i) (acc_final + acc_volatile))
+    && (not in_interface || eqb (c i) (acc_public + acc_static + acc_final))
 
 -- ---- of a method
 
@@ -55,14 +61,17 @@ pub method_meant : (bits : ℕ) → are_method_flags (meant method_mask bits) �
 method_meant bits =
     let a = part method_mask bits (acc_public + acc_private + acc_protected) refl in
     let b = part method_mask bits acc_abstract refl in
-    let c = part method_mask bits (acc_private + acc_static + acc_final + acc_synchronized + acc_native + acc_strict) refl in
+    let c = part method_mask bits
+    (acc_private + acc_static + acc_final + acc_synchronized + acc_native + acc_strict) refl in
     λ i. (ltb (a i) 3 || eqb (a i) acc_protected) && (not (eqb (b i) acc_abstract) || not (not (eqb (c i) 0)))
 
-pub initial_meant : (in_interface : Bool) (bits : ℕ) (name : List ℕ) → are_initial_flags in_interface (meant method_mask bits) name ≡ are_initial_flags in_interface bits name
+pub initial_meant : (in_interface : Bool) (bits : ℕ) (name : List ℕ)
+    → are_initial_flags in_interface (meant method_mask bits) name ≡ are_initial_flags in_interface bits name
 initial_meant in_interface bits name =
     let a = part method_mask bits (acc_static + acc_final + acc_synchronized + acc_native + acc_abstract) refl in
     let b = part method_mask bits acc_static refl in
-    λ i. (not (is_init name) || (not in_interface && not (not (eqb (a i) 0)))) && (not (is_clinit name) || eqb (b i) acc_static)
+    λ i. (not (is_init name) || (not in_interface && not (not (eqb (a i) 0))))
+    && (not (is_clinit name) || eqb (b i) acc_static)
 
 -- a method with a body is not native
 pub body_not_native : (bits : ℕ) → has_body bits ≡ true → is_native bits ≡ false
@@ -70,6 +79,7 @@ body_not_native bits h = by (eqb (bit_and bits (acc_abstract + acc_native)) 0) r
   where
     by : (b : Bool) → eqb (bit_and bits (acc_abstract + acc_native)) 0 ≡ b → not (not b) ≡ true → is_native bits ≡ false
     by true e k =
-        let none : bit_and bits acc_native ≡ 0 = sym (part (acc_abstract + acc_native) bits acc_native refl) ∙ ap (λ (n : ℕ). bit_and n acc_native) (eqb-true _ 0 e) ∙ and_zero_l acc_native in
+        let none : bit_and bits acc_native ≡ 0 = sym (part (acc_abstract + acc_native) bits acc_native refl)
+        ∙ ap (λ (n : ℕ). bit_and n acc_native) (eqb-true _ 0 e) ∙ and_zero_l acc_native in
         ap (λ (n : ℕ). eqb n acc_native) none
     by false e k = absurd cc

@@ -1,10 +1,12 @@
 -- The names of classes in a descriptor that is a text are texts.
-use Rattle.std.proofs.Common.{◌≡◌, ℕ, zero, suc, ◌<◌, List, [], ◌∷◌, ◌++◌, length, take, drop, get_or, Option, Some, None, refl, sym, ap, subst, append_assoc, arith}
+use Rattle.std.proofs.Common.{◌≡◌, ℕ, zero, suc, ◌<◌, List, [], ◌∷◌, ◌++◌, length, take, drop, get_or, Option, Some}
+use Rattle.std.proofs.Common.{None, refl, sym, ap, subst, append_assoc, arith}
 use Rattle.std.specs.Prelude.{IsUtf8, IfSome, codes, replicate}
 use Rattle.std.specs.Str.{IsCharBoundary}
 use Rattle.std.specs.List.{AllByRecursion, flat_map}
 use Rattle.std.proofs.lemmas.List.{length-append}
-use Rattle.std.proofs.lemmas.Str.{IsUtf8-take, IsUtf8-drop, IsCharBoundary-at_seam, IsCharBoundary-from_take, IsCharBoundary-before_ascii}
+use Rattle.std.proofs.lemmas.Str.{IsUtf8-take, IsUtf8-drop, IsCharBoundary-at_seam, IsCharBoundary-from_take}
+use Rattle.std.proofs.lemmas.Str.{IsCharBoundary-before_ascii}
 use Rattle.jv_base.specs.Types.{base_text, field_text, result_text, method_text}
 use Rattle.jv_base.specs.declared.types.FieldType.{FieldType}
 use Rattle.jv_base.specs.declared.types.MethodType.{MethodType}
@@ -37,7 +39,8 @@ cut xs ys h b = (
 
 pub utf8_behind : (xs ys : List ℕ) → IsUtf8 xs → IsUtf8 (xs ++ ys) → IsUtf8 ys
 utf8_behind xs ys front h =
-    (cut xs ys h (IsCharBoundary-from_take (xs ++ ys) (length xs) h (omega (arith, length-append xs ys)) (subst (λ (l : List ℕ). IsUtf8 l) (sym (take_first xs ys)) front))).1
+    (cut xs ys h (IsCharBoundary-from_take (xs ++ ys) (length xs) h (omega (arith, length-append xs ys))
+    (subst (λ (l : List ℕ). IsUtf8 l) (sym (take_first xs ys)) front))).1
 
 pub utf8_before : (xs ys : List ℕ) → IsUtf8 ys → IsUtf8 (xs ++ ys) → IsUtf8 xs
 utf8_before xs ys back h = (cut xs ys h (IsCharBoundary-at_seam (xs ++ ys) xs ys refl back)).0
@@ -46,7 +49,8 @@ utf8_before xs ys back h = (cut xs ys h (IsCharBoundary-at_seam (xs ++ ys) xs ys
 
 base_value : (b : Base) → IsUtf8 (base_text b) → IsBaseValue b
 unfolding base_text
-base_value (base.Class name) h = utf8_before name (codes ";") end_utf8 (utf8_behind (codes "L") (name ++ codes ";") class_utf8 h)
+base_value (base.Class name) h = utf8_before name (codes ";") end_utf8
+    (utf8_behind (codes "L") (name ++ codes ";") class_utf8 h)
 base_value base.Boolean h = tt
 base_value base.Byte h = tt
 base_value base.Char h = tt
@@ -89,17 +93,22 @@ field_low ty rest = brackets_low ty.dims ty.base rest
 
 all_low : (tys : List FieldType) (tail : List ℕ) → BeginsLow tail → BeginsLow (flat_map field_text tys ++ tail)
 all_low [] tail h = h
-all_low (ty ∷ tys) tail h = subst BeginsLow (sym (append_assoc (field_text ty) (flat_map field_text tys) tail)) (field_low ty (flat_map field_text tys ++ tail))
+all_low (ty ∷ tys) tail h = subst BeginsLow (sym (append_assoc (field_text ty) (flat_map field_text tys) tail))
+    (field_low ty (flat_map field_text tys ++ tail))
 
 -- cut before such a byte
 cut_low : (xs ys : List ℕ) → BeginsLow ys → IsUtf8 (xs ++ ys) → IsUtf8 xs × IsUtf8 ys
-cut_low xs ys low h = cut xs ys h (IsCharBoundary-before_ascii (xs ++ ys) (length xs) (omega (arith, length-append xs ys, low.0)) (subst (λ (n : ℕ). n < 128) (sym (there_first xs ys)) low.1))
+cut_low xs ys low h = cut xs ys h
+    (IsCharBoundary-before_ascii (xs ++ ys) (length xs) (omega (arith, length-append xs ys, low.0))
+    (subst (λ (n : ℕ). n < 128) (sym (there_first xs ys)) low.1))
 
-arguments_value : (tys : List FieldType) (tail : List ℕ) → BeginsLow tail → IsUtf8 (flat_map field_text tys ++ tail) → AllByRecursion IsFieldTypeValue tys × IsUtf8 tail
+arguments_value : (tys : List FieldType) (tail : List ℕ) → BeginsLow tail → IsUtf8 (flat_map field_text tys ++ tail)
+    → AllByRecursion IsFieldTypeValue tys × IsUtf8 tail
 arguments_value [] tail low h = (tt, h)
 arguments_value (ty ∷ tys) tail low h =
     let rest = flat_map field_text tys in
-    let c = cut_low (field_text ty) (rest ++ tail) (all_low tys tail low) (subst (λ (l : List ℕ). IsUtf8 l) (append_assoc (field_text ty) rest tail) h) in
+    let c = cut_low (field_text ty) (rest ++ tail) (all_low tys tail low)
+    (subst (λ (l : List ℕ). IsUtf8 l) (append_assoc (field_text ty) rest tail) h) in
     let o = arguments_value tys tail low c.1 in
     ((field_value ty c.0, o.0), o.1)
 
@@ -113,5 +122,10 @@ pub method_value : (ty : MethodType) → IsUtf8 (method_text ty) → IsMethodTyp
 unfolding method_text
 method_value ty h =
     let tail = codes ")" ++ result_text ty.ret in
-    let a = arguments_value ty.args tail (omega arith, omega arith) (utf8_behind (codes "(") (flat_map field_text ty.args ++ tail) open_utf8 h) in
-    record { arguments = a.0; returned = result_value ty.ret (utf8_behind (codes ")") (result_text ty.ret) close_utf8 a.1) }
+    let a = arguments_value ty.args tail (omega arith, omega arith)
+    (utf8_behind (codes "(") (flat_map field_text ty.args ++ tail) open_utf8 h) in
+    record {
+      arguments = a.0;
+      returned = result_value ty.ret
+          (utf8_behind (codes ")") (result_text ty.ret) close_utf8 a.1);
+    }

@@ -1,5 +1,6 @@
 -- Codes with the places of their instructions.
-use Rattle.std.proofs.Common.{◌≡◌, ℕ, ◌+◌, ◌^◌, ◌<◌, ◌≤◌, Bool, true, false, cond, List, [], ◌∷◌, ◌++◌, length, take, Option, Some, Result, Ok, Err, refl, sym, ap, ◌∙◌, arith}
+use Rattle.std.proofs.Common.{◌≡◌, ℕ, ◌+◌, ◌^◌, ◌<◌, ◌≤◌, Bool, true, false, cond, List, [], ◌∷◌, ◌++◌, length, take}
+use Rattle.std.proofs.Common.{Option, Some, Result, Ok, Err, refl, sym, ap, ◌∙◌, arith}
 use Rattle.std.specs.Prelude.{All, nat_lt, slice_index}
 use Rattle.std.specs.List.{flat_map, AllByRecursion}
 use Rattle.std.proofs.lemmas.Bool.{ltb-true}
@@ -33,7 +34,8 @@ use Rattle.class_write.specs.Placing.{placed_code, code_due}
 module _ (pool : List PoolConstant) (few : length pool + 1 < 2 ^ 16) where
   -- the index of a constant, or the one behind the last, has two bytes
   pub has_index : (k : PoolConstant) → HasIndex pool k
-  has_index k = let within : position_or_len (same k) pool ≤ length pool = prefix_len-le-length _ pool in omega (arith, within, few)
+  has_index k = let within : position_or_len (same k) pool ≤ length pool = prefix_len-le-length _ pool in omega
+      (arith, within, few)
 
   has_indices : (o : Op) → HasIndices pool o
   has_indices (op.PushInt n) = λ wide. has_index (Integer n)
@@ -70,13 +72,20 @@ module _ (pool : List PoolConstant) where
   bytes_from all at ins = flat_map info_bytes (infos_from pool all at ins)
 
   bytes_behind : (all : List ℕ) (at : ℕ) (i : Ins) (ins : List Ins)
-      → at + length (bytes_from all at (i ∷ ins)) ≡ at + size_of pool at i.op + length (bytes_from all (at + size_of pool at i.op) ins)
+      → at + length (bytes_from all at (i ∷ ins))
+      ≡ at + size_of pool at i.op + length (bytes_from all (at + size_of pool at i.op) ins)
   bytes_behind all at i ins =
       let info = op_info pool (slice_index all) at i.op in
-      omega (arith, size_is pool (slice_index all) at i.op, length-append (info_bytes info) (bytes_from all (at + size_of pool at i.op) ins))
+      omega (
+        arith,
+        size_is pool (slice_index all) at i.op,
+        length-append (info_bytes info)
+            (bytes_from all (at + size_of pool at i.op) ins),
+      )
 
   last_is : (all : List ℕ) (at : ℕ) (ins : List Ins)
-      → take (length ins) (places_from pool at ins) ++ (at + length (bytes_from all at ins)) ∷ [] ≡ places_from pool at ins
+      → take (length ins) (places_from pool at ins) ++ (at + length (bytes_from all at ins)) ∷ []
+      ≡ places_from pool at ins
   last_is all at [] = ap (λ k. k ∷ []) (let e : at + 0 ≡ at = omega arith in e)
   last_is all at (i ∷ ins) =
       let next = at + size_of pool at i.op in
@@ -84,21 +93,26 @@ module _ (pool : List PoolConstant) where
       ∙ ap (λ (ps : List ℕ). at ∷ ps) (last_is all next ins)
 
   -- behind the places of the instructions is the length of the code
-  pub places_end : (all : List ℕ) (ins : List Ins) → take (length ins) (places pool ins) ++ length (code_bytes pool all ins) ∷ [] ≡ places pool ins
+  pub places_end : (all : List ℕ) (ins : List Ins)
+      → take (length ins) (places pool ins) ++ length (code_bytes pool all ins) ∷ [] ≡ places pool ins
   unfolding places code_bytes
-  places_end all ins = ap (λ k. take (length ins) (places_from pool 0 ins) ++ k ∷ []) (let e : length (bytes_from all 0 ins) ≡ 0
+  places_end all ins = ap (λ k. take (length ins) (places_from pool 0 ins) ++ k ∷ [])
+      (let e : length (bytes_from all 0 ins) ≡ 0
       + length (bytes_from all 0 ins) = omega arith in e) ∙ last_is all 0 ins
 
-  all_short : (all : List ℕ) (n at : ℕ) (ins : List Ins) → at + length (bytes_from all at ins) < n → AllByRecursion (λ place. place < n) (places_from pool at ins)
+  all_short : (all : List ℕ) (n at : ℕ) (ins : List Ins) → at + length (bytes_from all at ins) < n
+      → AllByRecursion (λ place. place < n) (places_from pool at ins)
   all_short all n at [] lt = (omega arith, tt)
   all_short all n at (i ∷ ins) lt =
       let next = at + size_of pool at i.op in
       (omega arith, all_short all n next ins (omega (arith, lt, bytes_behind all at i ins)))
 
   -- no place lies behind the length of the code
-  pub places_short : (n : ℕ) (all : List ℕ) (ins : List Ins) → length (code_bytes pool all ins) < n → All (λ place. place < n) (places pool ins)
+  pub places_short : (n : ℕ) (all : List ℕ) (ins : List Ins) → length (code_bytes pool all ins) < n
+      → All (λ place. place < n) (places pool ins)
   unfolding places code_bytes
-  places_short n all ins lt = All-from_recursion (λ place. place < n) (places_from pool 0 ins) (all_short all n 0 ins (omega (arith, lt)))
+  places_short n all ins lt = All-from_recursion (λ place. place < n) (places_from pool 0 ins)
+      (all_short all n 0 ins (omega (arith, lt)))
 
 -- ---- the code
 
@@ -106,26 +120,32 @@ module _ (pool : List PoolConstant) where
 abbrev fit : Bool → ℕ → Result (Unit {0}) WriteLimit
 fit b n = cond b (Ok tt) (Err (CodeTooLong n))
 
-abbrev coded_as : Bool → ℕ → List ℕ → (List ℕ → Result (Unit {0}) WriteLimit) → (List ℕ → Coded) → Result Coded WriteLimit
-coded_as b n all near made = (fit b n >>= (λ short. Ok all)) >>= (λ places. near places >>= (λ is_near. Ok (made places)))
+abbrev coded_as : Bool → ℕ → List ℕ → (List ℕ → Result (Unit {0}) WriteLimit) → (List ℕ → Coded)
+    → Result Coded WriteLimit
+coded_as b n all near made = (fit b n >>= (λ short. Ok all)) >>=
+    (λ places. near places >>= (λ is_near. Ok (made places)))
 
 abbrev fits_as : Bool → ℕ → Result (Unit {0}) WriteLimit → Result (Unit {0}) WriteLimit
 fits_as b n near = fit b n >>= (λ short. near)
 
-near_ok : (near : Result (Unit {0}) WriteLimit) (made r : Coded) → (near >>= (λ is_near. let R : Result Coded WriteLimit = Ok made in R)) ≡ Ok r → (near ≡ Ok tt) × (r ≡ made)
+near_ok : (near : Result (Unit {0}) WriteLimit) (made r : Coded)
+    → (near >>= (λ is_near. let R : Result Coded WriteLimit = Ok made in R)) ≡ Ok r → (near ≡ Ok tt) × (r ≡ made)
 near_ok (Ok tt) made r h = (refl, let e : made ≡ r = cc in sym e)
 near_ok (Err e) made r h = absurd cc
 
-as_ok : (b : Bool) (n : ℕ) (all : List ℕ) (near : List ℕ → Result (Unit {0}) WriteLimit) (made : List ℕ → Coded) (r : Coded)
+as_ok : (b : Bool) (n : ℕ) (all : List ℕ) (near : List ℕ → Result (Unit {0}) WriteLimit) (made : List ℕ → Coded)
+    (r : Coded)
     → coded_as b n all near made ≡ Ok r → (b ≡ true) × (fits_as b n (near all) ≡ Ok tt) × (r ≡ made all)
 as_ok true n all near made r h = let p = near_ok (near all) (made all) r h in (refl, p.0, p.1)
 as_ok false n all near made r h = absurd cc
 
-near_err : (near : Result (Unit {0}) WriteLimit) (made : Coded) (e : WriteLimit) → (near >>= (λ is_near. let R : Result Coded WriteLimit = Ok made in R)) ≡ Err e → near ≡ Err e
+near_err : (near : Result (Unit {0}) WriteLimit) (made : Coded) (e : WriteLimit)
+    → (near >>= (λ is_near. let R : Result Coded WriteLimit = Ok made in R)) ≡ Err e → near ≡ Err e
 near_err (Ok done) made e h = absurd cc
 near_err (Err limit) made e h = cc
 
-as_err : (b : Bool) (n : ℕ) (all : List ℕ) (near : List ℕ → Result (Unit {0}) WriteLimit) (made : List ℕ → Coded) (e : WriteLimit)
+as_err : (b : Bool) (n : ℕ) (all : List ℕ) (near : List ℕ → Result (Unit {0}) WriteLimit) (made : List ℕ → Coded)
+    (e : WriteLimit)
     → coded_as b n all near made ≡ Err e → fits_as b n (near all) ≡ Err e
 as_err true n all near made e h = near_err (near all) (made all) e h
 as_err false n all near made e h = cc
@@ -138,32 +158,42 @@ module _ (pool : List PoolConstant) (code : Code) where
   made all = record { bytes = code_bytes pool all code.ins; starts = take (length code.ins) all }
 
   -- what is encoded fits
-  pub coded_is : (r : Coded) → coded pool code.ins ≡ Ok r → (code_length < 2 ^ 16) × (code_fits pool (let O : Option Code = Some code in O) ≡ Ok tt) × (r ≡ made (places pool code.ins))
+  pub coded_is : (r : Coded) → coded pool code.ins ≡ Ok r
+      → (code_length < 2 ^ 16) × (code_fits pool (let O : Option Code = Some code in O) ≡ Ok tt)
+      × (r ≡ made (places pool code.ins))
   unfolding coded placed
   coded_is r h =
-      let p = as_ok (nat_lt code_length (2 ^ 16)) code_length (places pool code.ins) (λ all. branches_fit all 0 code.ins) made r h in
+      let p = as_ok (nat_lt code_length (2 ^ 16)) code_length (places pool code.ins)
+      (λ all. branches_fit all 0 code.ins) made r h in
       (ltb-true _ _ p.0, p.1, p.2)
 
   -- what isn't encoded passes the same limit
-  pub coded_fault : (e : WriteLimit) → coded pool code.ins ≡ Err e → code_fits pool (let O : Option Code = Some code in O) ≡ Err e
+  pub coded_fault : (e : WriteLimit) → coded pool code.ins ≡ Err e
+      → code_fits pool (let O : Option Code = Some code in O) ≡ Err e
   unfolding coded placed
-  coded_fault e h = as_err (nat_lt code_length (2 ^ 16)) code_length (places pool code.ins) (λ all. branches_fit all 0 code.ins) made e h
+  coded_fault e h = as_err (nat_lt code_length (2 ^ 16)) code_length (places pool code.ins)
+      (λ all. branches_fit all 0 code.ins) made e h
 
   -- so what came is due
-  pub placed_is : (r : Coded) (end : ℕ) (all : List ℕ) → coded pool code.ins ≡ Ok r → end ≡ length r.bytes → all ≡ r.starts ++ end ∷ []
+  pub placed_is : (r : Coded) (end : ℕ) (all : List ℕ) → coded pool code.ins ≡ Ok r → end ≡ length r.bytes
+      → all ≡ r.starts ++ end ∷ []
       → code_due pool code ≡ Ok (record { bytes = r.bytes; places = all })
   placed_is r end all h e is =
       let due = coded_is r h in
       let bytes : code_bytes pool (places pool code.ins) code.ins ≡ r.bytes = sym (ap (λ (c : Coded). c.bytes) due.2) in
-      let starts : take (length code.ins) (places pool code.ins) ≡ r.starts = sym (ap (λ (c : Coded). c.starts) due.2) in
+      let starts : take (length code.ins) (places pool code.ins)
+      ≡ r.starts = sym (ap (λ (c : Coded). c.starts) due.2) in
       let length_is : code_length ≡ end = ap length bytes ∙ sym e in
       let places_are : places pool code.ins ≡ all = sym (places_end pool (places pool code.ins) code.ins)
-      ∙ (ap (λ k. take (length code.ins) (places pool code.ins) ++ k ∷ []) length_is ∙ (ap (λ (ss : List ℕ). ss ++ end ∷ []) starts ∙ sym is)) in
-      ap (λ (f : Result (Unit {0}) WriteLimit). f >>= (λ fits. let R : Result PlacedCode WriteLimit = Ok (placed_code pool code) in R)) due.1
+      ∙ (ap (λ k. take (length code.ins) (places pool code.ins) ++ k ∷ []) length_is
+      ∙ (ap (λ (ss : List ℕ). ss ++ end ∷ []) starts ∙ sym is)) in
+      ap (λ (f : Result (Unit {0}) WriteLimit). f >>=
+      (λ fits. let R : Result PlacedCode WriteLimit = Ok (placed_code pool code) in R)) due.1
       ∙ (λ i. let R : Result PlacedCode WriteLimit = Ok (record { bytes = bytes i; places = places_are i }) in R)
 
   -- and so is a fault
   pub fault_due : (e : Or WriteLimit) → FaultIs e (coded pool code.ins) → FaultIs e (code_due pool code)
   fault_due (Fault limit) h =
-      ap (λ (f : Result (Unit {0}) WriteLimit). f >>= (λ fits. let R : Result PlacedCode WriteLimit = Ok (placed_code pool code) in R)) (coded_fault limit h)
+      ap (λ (f : Result (Unit {0}) WriteLimit). f >>=
+      (λ fits. let R : Result PlacedCode WriteLimit = Ok (placed_code pool code) in R)) (coded_fault limit h)
   fault_due OutOfMemory h = tt

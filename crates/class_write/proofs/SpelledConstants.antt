@@ -1,5 +1,6 @@
 -- The canonical pool of a well-formed class is a constant pool (JVMS 4.4).
-use Rattle.std.proofs.Common.{◌≡◌, ℕ, zero, suc, ◌+◌, ◌^◌, ◌<◌, Bool, true, false, cond, List, [], ◌∷◌, ◌++◌, length, drop, Option, Some, None, Result, Ok, Err, ℤ, refl, ltb}
+use Rattle.std.proofs.Common.{◌≡◌, ℕ, zero, suc, ◌+◌, ◌^◌, ◌<◌, Bool, true, false, cond, List, [], ◌∷◌, ◌++◌, length}
+use Rattle.std.proofs.Common.{drop, Option, Some, None, Result, Ok, Err, ℤ, refl, ltb}
 use Rattle.std.specs.Prelude.{IsUtf8, IfSome, codes}
 use Rattle.std.specs.List.{AllByRecursion, flat_map}
 use Rattle.std.proofs.lemmas.Bool.{ltb-true}
@@ -7,7 +8,9 @@ use Rattle.jv_base.specs.Mutf8.{mutf8, IsUnits}
 use Rattle.jv_base.specs.Outcome.{◌>>=◌}
 use Rattle.jv_base.specs.Types.{field_text, method_text}
 use Rattle.class_model.specs.declared.constant.PoolConstant.{PoolConstant}
-use Rattle.class_model.specs.declared.constant.PoolConstant.TheVariants.{Utf8, Integer, Long, SecondOfLong, Class as ClassOf, Str, NameAndType, Fieldref, Methodref, InterfaceMethodref}
+use Rattle.class_model.specs.declared.constant.PoolConstant.TheVariants.{Utf8, Integer, Long, SecondOfLong}
+use Rattle.class_model.specs.declared.constant.PoolConstant.TheVariants.{Class as ClassOf, Str, NameAndType, Fieldref}
+use Rattle.class_model.specs.declared.constant.PoolConstant.TheVariants.{Methodref, InterfaceMethodref}
 use Rattle.class_model.specs.declared.limit.WriteLimit.{WriteLimit}
 use Rattle.class_model.specs.declared.limit.WriteLimit.TheVariants.{TextTooLong}
 use Rattle.class_model.specs.declared.op.MemberRef.{MemberRef}
@@ -24,20 +27,30 @@ use Rattle.class_model.specs.declared.class.Constant.TheVariants as constant
 use Rattle.class_model.specs.declared.class.Field.{Field}
 use Rattle.class_model.specs.declared.class.Method.{Method}
 use Rattle.class_model.specs.declared.class.Class.{Class}
-use Rattle.class_model.specs.CanonicalPool.{same, text_constants, class_constants, long_constants, with_parts, filled, infos_of}
+use Rattle.class_model.specs.CanonicalPool.{same, text_constants, class_constants, long_constants, with_parts, filled}
+use Rattle.class_model.specs.CanonicalPool.{infos_of}
 use Rattle.class_model.specs.CanonicalCode.{is_short, is_lconst, pushed_constants, op_constants}
-use Rattle.class_model.specs.CanonicalFrames.{same as same_form, same_with_item, chop, append, full, is_chop, is_append, same_types, form_of, types_written, type_constants, frame_constants}
-use Rattle.class_model.specs.CanonicalClass.{code_in, codes_of_methods, class_pushes, attribute_constants, is_some_item, mark_constants, value_constants, constant_value_constants, field_constants, caught_constants, line_rows, code_constants, body_constants, first_locals, method_constants, source_constants, wanted, pool_of}
+use Rattle.class_model.specs.CanonicalFrames.{same as same_form, same_with_item, chop, append, full, is_chop, is_append}
+use Rattle.class_model.specs.CanonicalFrames.{same_types, form_of, types_written, type_constants, frame_constants}
+use Rattle.class_model.specs.CanonicalClass.{code_in, codes_of_methods, class_pushes, attribute_constants, is_some_item}
+use Rattle.class_model.specs.CanonicalClass.{mark_constants, value_constants, constant_value_constants, field_constants}
+use Rattle.class_model.specs.CanonicalClass.{caught_constants, line_rows, code_constants, body_constants, first_locals}
+use Rattle.class_model.specs.CanonicalClass.{method_constants, source_constants, wanted, pool_of}
 use Rattle.class_model.specs.PoolEntries.{entries_of, Has, ConstantFits, begun_by, ArePaired}
 use Rattle.class_model.specs.ConstantPool.{IsPool}
-use Rattle.class_model.specs.WellFormed.{IsClassName, IsGoodOp, IsGoodHandler, IsGoodType, IsGoodFrame, IsGoodCode, FitsField, IsGoodField, IsGoodMethod, IsWellFormed}
+use Rattle.class_model.specs.WellFormed.{IsClassName, IsGoodOp, IsGoodHandler, IsGoodType, IsGoodFrame, IsGoodCode}
+use Rattle.class_model.specs.WellFormed.{FitsField, IsGoodField, IsGoodMethod, IsWellFormed}
 use Rattle.class_model.specs.WriteLimits.{fits_u2, first_of, text_fits}
 use Rattle.class_model.proofs.BackPool.{filled_has}
 use Rattle.class_model.proofs.BackPaired.{filled_paired}
-use Rattle.class_write.specs.ClassValues.{IsInsValue, IsVTypeValue, IsFrameValue, IsCodeValue, IsFieldConstant, IsFieldValue, IsMethodValue, IsClassValue}
+use Rattle.class_write.specs.ClassValues.{IsInsValue, IsVTypeValue, IsFrameValue, IsCodeValue, IsFieldConstant}
+use Rattle.class_write.specs.ClassValues.{IsFieldValue, IsMethodValue, IsClassValue}
 use Rattle.class_write.proofs.SpelledLists.{all_front, all_back, all_both, all_two, all_put}
 use Rattle.class_write.proofs.SpelledPool.{IsRight, pool_is}
-use Rattle.class_write.proofs.SpelledWanted.{HasAll, AllRight, text_right, class_right, type_right, string_right, pushed_right, op_right, field_utf8, method_utf8}
+use Rattle.class_write.proofs.SpelledWanted.{HasAll, AllRight, text_right, class_right, type_right, string_right}
+use Rattle.class_write.proofs.SpelledWanted.{pushed_right, op_right, field_utf8, method_utf8}
+use Rattle.class_model.proofs.BackCode.{both_passed}
+use Rattle.class_write.proofs.Fitting.{count_ok}
 
 -- ---- names of attributes
 
@@ -75,7 +88,9 @@ source_utf8 = (codes "SourceFile", (refl, refl))
 
 -- ---- types that are written in frames
 
-form_by : (P : VType → Type 0) (before locals : List VType) (a b c : Bool) (gone n : ℕ) → AllByRecursion P locals → AllByRecursion P (types_written (cond a same_form (cond b (chop gone) (cond c (append (drop n locals)) (full locals [])))))
+form_by : (P : VType → Type 0) (before locals : List VType) (a b c : Bool) (gone n : ℕ) → AllByRecursion P locals
+    → AllByRecursion P (types_written (cond a same_form (cond b (chop gone)
+    (cond c (append (drop n locals)) (full locals [])))))
 form_by P before locals true b c gone n h = tt
 form_by P before locals false true c gone n h = tt
 form_by P before locals false false true gone n h = behind n locals h
@@ -86,12 +101,15 @@ form_by P before locals false false true gone n h = behind n locals h
     behind (suc k) (ty ∷ types) h = behind k types h.1
 form_by P before locals false false false gone n h = all_both P locals [] h tt
 
-item_by : (P : VType → Type 0) (locals : List VType) (item : VType) (a : Bool) → AllByRecursion P locals → P item → AllByRecursion P (types_written (cond a (same_with_item item) (full locals (item ∷ []))))
+item_by : (P : VType → Type 0) (locals : List VType) (item : VType) (a : Bool) → AllByRecursion P locals → P item
+    → AllByRecursion P (types_written (cond a (same_with_item item) (full locals (item ∷ []))))
 item_by P locals item true h k = (k, tt)
 item_by P locals item false h k = all_both P locals (item ∷ []) h (k, tt)
 
-pub types_of_form : (P : VType → Type 0) (before locals stack : List VType) → AllByRecursion P locals → AllByRecursion P stack → AllByRecursion P (types_written (form_of before locals stack))
-types_of_form P before locals [] h k = form_by P before locals (same_types before locals) (is_chop before locals) (is_append before locals) _ _ h
+pub types_of_form : (P : VType → Type 0) (before locals stack : List VType) → AllByRecursion P locals
+    → AllByRecursion P stack → AllByRecursion P (types_written (form_of before locals stack))
+types_of_form P before locals [] h k = form_by P before locals (same_types before locals) (is_chop before locals)
+    (is_append before locals) _ _ h
 types_of_form P before locals (item ∷ []) h k = item_by P locals item (same_types before locals) h k.0
 types_of_form P before locals (item ∷ next ∷ stack) h k = all_both P locals (item ∷ next ∷ stack) h k
 
@@ -105,14 +123,16 @@ module _ (pool : List PoolConstant) where
   both : (xs ys : List PoolConstant) → Makes xs → Makes ys → Makes (xs ++ ys)
   both xs ys f g h = all_both (IsRight pool) xs ys (f (all_front (Has pool) xs ys h)) (g (all_back (Has pool) xs ys h))
 
-  flat : {A : Type 0} (P : A → Type 0) (f : A → List PoolConstant) → ((x : A) → P x → Makes (f x)) → (xs : List A) → AllByRecursion P xs → Makes (flat_map f xs)
+  flat : {A : Type 0} (P : A → Type 0) (f : A → List PoolConstant) → ((x : A) → P x → Makes (f x)) → (xs : List A)
+      → AllByRecursion P xs → Makes (flat_map f xs)
   flat P f g [] h k = tt
   flat P f g (x ∷ xs) h k = both (f x) (flat_map f xs) (g x h.0) (flat P f g xs h.1) k
 
   text : (t : List ℕ) → IsUtf8 t → Makes (text_constants t)
   text t utf8 h = text_right pool t utf8
 
-  attribute : (b : Bool) (name : List ℕ) (contents : List PoolConstant) → IsUtf8 name → Makes contents → Makes (attribute_constants b name contents)
+  attribute : (b : Bool) (name : List ℕ) (contents : List PoolConstant) → IsUtf8 name → Makes contents
+      → Makes (attribute_constants b name contents)
   attribute false name contents utf8 f h = tt
   attribute true name contents utf8 f h = both (text_constants name) contents (text name utf8) f h
 
@@ -121,8 +141,10 @@ module _ (pool : List PoolConstant) where
 
   marks : (synthetic deprecated : Bool) → Makes (mark_constants synthetic deprecated)
   marks synthetic deprecated =
-      both (attribute_constants synthetic (codes "Synthetic") []) (attribute_constants deprecated (codes "Deprecated") [])
-      (attribute synthetic (codes "Synthetic") [] synthetic_utf8 none) (attribute deprecated (codes "Deprecated") [] deprecated_utf8 none)
+      both (attribute_constants synthetic (codes "Synthetic") [])
+      (attribute_constants deprecated (codes "Deprecated") [])
+      (attribute synthetic (codes "Synthetic") [] synthetic_utf8 none)
+      (attribute deprecated (codes "Deprecated") [] deprecated_utf8 none)
 
   -- ---- fields
 
@@ -131,11 +153,14 @@ module _ (pool : List PoolConstant) where
   value field (constant.Long n) fits is h = (is, (tt, tt))
   value field (constant.Text units) fits is h = string_right pool units fits.1 h
 
-  constant_value : (in_interface : Bool) (field : Field) (k : Option Constant) → IfSome k (λ v. FitsField field.ty v) → IfSome k IsFieldConstant → Makes (constant_value_constants k)
+  constant_value : (in_interface : Bool) (field : Field) (k : Option Constant) → IfSome k (λ v. FitsField field.ty v)
+      → IfSome k IsFieldConstant → Makes (constant_value_constants k)
   constant_value in_interface field None fits is = none
-  constant_value in_interface field (Some k) fits is = both (text_constants (codes "ConstantValue")) (value_constants k) (text (codes "ConstantValue") value_utf8) (value field k fits is)
+  constant_value in_interface field (Some k) fits is = both (text_constants (codes "ConstantValue")) (value_constants k)
+      (text (codes "ConstantValue") value_utf8) (value field k fits is)
 
-  fitting : (P : Type 0) (field : Field) (k : Option Constant) → IfSome k (λ v. P × FitsField field.ty v) → IfSome k (λ v. FitsField field.ty v)
+  fitting : (P : Type 0) (field : Field) (k : Option Constant) → IfSome k (λ v. P × FitsField field.ty v)
+      → IfSome k (λ v. FitsField field.ty v)
   fitting P field None h = tt
   fitting P field (Some v) h = h.1
 
@@ -148,7 +173,9 @@ module _ (pool : List PoolConstant) where
       let ty = text_constants (field_text f.ty) in
       both (text_constants f.name) (ty ++ (constant_value_constants f.constant ++ rest)) (text f.name is.0.name.0)
       (both ty (constant_value_constants f.constant ++ rest) (text (field_text f.ty) (field_utf8 f.ty is.1.ty))
-      (both (constant_value_constants f.constant) rest (constant_value in_interface f f.constant (fitting _ f f.constant is.0.constant) is.1.constant) (marks f.synthetic f.deprecated)))
+      (both (constant_value_constants f.constant) rest
+      (constant_value in_interface f f.constant (fitting _ f f.constant is.0.constant) is.1.constant)
+      (marks f.synthetic f.deprecated)))
 
   -- ---- codes
 
@@ -162,19 +189,24 @@ module _ (pool : List PoolConstant) where
   abbrev IsFrame : Code → FrameAt → Type 0
   IsFrame code f = IsGoodFrame code f × IsFrameValue f
 
-  pub frame_types : (code : Code) (f : FrameAt) → IsFrame code f → AllByRecursion (IsVType code.ins) f.frame.locals × AllByRecursion (IsVType code.ins) f.frame.stack
+  pub frame_types : (code : Code) (f : FrameAt) → IsFrame code f
+      → AllByRecursion (IsVType code.ins) f.frame.locals × AllByRecursion (IsVType code.ins) f.frame.stack
   frame_types code f is = (
-    all_two (IsGoodType code.ins) IsVTypeValue (IsVType code.ins) (λ ty a b. (a, b)) f.frame.locals is.0.locals is.1.locals,
-    all_two (IsGoodType code.ins) IsVTypeValue (IsVType code.ins) (λ ty a b. (a, b)) f.frame.stack is.0.stack is.1.stack,
+    all_two (IsGoodType code.ins) IsVTypeValue (IsVType code.ins)
+        (λ ty a b. (a, b)) f.frame.locals is.0.locals is.1.locals,
+    all_two (IsGoodType code.ins) IsVTypeValue (IsVType code.ins)
+        (λ ty a b. (a, b)) f.frame.stack is.0.stack is.1.stack,
   )
 
-  frames : (code : Code) (before : List VType) (fs : List FrameAt) → AllByRecursion (IsFrame code) fs → Makes (frame_constants before fs)
+  frames : (code : Code) (before : List VType) (fs : List FrameAt) → AllByRecursion (IsFrame code) fs
+      → Makes (frame_constants before fs)
   frames code before [] is = none
   frames code before (f ∷ fs) is =
       let form = form_of before f.frame.locals f.frame.stack in
       let t = frame_types code f is.0 in
       both (flat_map type_constants (types_written form)) (frame_constants f.frame.locals fs)
-      (flat (IsVType code.ins) type_constants (vtype_makes code.ins) (types_written form) (types_of_form (IsVType code.ins) before f.frame.locals f.frame.stack t.0 t.1))
+      (flat (IsVType code.ins) type_constants (vtype_makes code.ins) (types_written form)
+      (types_of_form (IsVType code.ins) before f.frame.locals f.frame.stack t.0 t.1))
       (frames code f.frame.locals fs is.1)
 
   caught : (n : ℕ) (h : Handler) → IsGoodHandler n h → Makes (caught_constants h.caught)
@@ -191,10 +223,12 @@ module _ (pool : List PoolConstant) where
   IsCode code = IsGoodCode code × IsCodeValue code
 
   pub ins_are : (code : Code) → IsCode code → AllByRecursion (IsIns (length code.ins)) code.ins
-  ins_are code is = all_two (λ (i : Ins). IsGoodOp (length code.ins) i.op) IsInsValue (IsIns (length code.ins)) (λ i a b. (a, b)) code.ins is.0.instructions is.1.ins
+  ins_are code is = all_two (λ (i : Ins). IsGoodOp (length code.ins) i.op) IsInsValue (IsIns (length code.ins))
+      (λ i a b. (a, b)) code.ins is.0.instructions is.1.ins
 
   pub frames_are : (code : Code) → IsCode code → AllByRecursion (IsFrame code) code.frames
-  frames_are code is = all_two (IsGoodFrame code) IsFrameValue (IsFrame code) (λ f a b. (a, b)) code.frames is.0.frames is.1.frames
+  frames_are code is = all_two (IsGoodFrame code) IsFrameValue (IsFrame code)
+      (λ f a b. (a, b)) code.frames is.0.frames is.1.frames
 
   code_makes : (first : List VType) (code : Code) → IsCode code → Makes (code_constants first code)
   code_makes first code is =
@@ -202,14 +236,21 @@ module _ (pool : List PoolConstant) where
       let ops = flat_map (λ (i : Ins). op_constants i.op) code.ins in
       let handlers = flat_map (λ (h : Handler). caught_constants h.caught) code.handlers in
       let lines = attribute_constants (is_some_item (line_rows None [] code.ins)) (codes "LineNumberTable") [] in
-      let map = attribute_constants (is_some_item code.frames) (codes "StackMapTable") (frame_constants first code.frames) in
-      both ops (handlers ++ (lines ++ map)) (flat (IsIns n) (λ (i : Ins). op_constants i.op) (λ i k. op_right pool n i.op k.0 k.1.op k.1.pushed) code.ins (ins_are code is))
-      (both handlers (lines ++ map) (flat (IsGoodHandler n) (λ (h : Handler). caught_constants h.caught) (caught n) code.handlers is.0.handlers)
-      (both lines map (attribute _ (codes "LineNumberTable") [] lines_utf8 none) (attribute _ (codes "StackMapTable") (frame_constants first code.frames) map_utf8 (frames code first code.frames (frames_are code is)))))
+      let map = attribute_constants (is_some_item code.frames) (codes "StackMapTable")
+      (frame_constants first code.frames) in
+      both ops (handlers ++ (lines ++ map))
+      (flat (IsIns n) (λ (i : Ins). op_constants i.op) (λ i k. op_right pool n i.op k.0 k.1.op k.1.pushed) code.ins
+      (ins_are code is))
+      (both handlers (lines ++ map)
+      (flat (IsGoodHandler n) (λ (h : Handler). caught_constants h.caught) (caught n) code.handlers is.0.handlers)
+      (both lines map (attribute _ (codes "LineNumberTable") [] lines_utf8 none)
+      (attribute _ (codes "StackMapTable") (frame_constants first code.frames) map_utf8
+      (frames code first code.frames (frames_are code is)))))
 
   body : (first : List VType) (code : Option Code) → IfSome code IsCode → Makes (body_constants first code)
   body first None is = none
-  body first (Some code) is = both (text_constants (codes "Code")) (code_constants first code) (text (codes "Code") code_utf8) (code_makes first code is)
+  body first (Some code) is = both (text_constants (codes "Code")) (code_constants first code)
+      (text (codes "Code") code_utf8) (code_makes first code is)
 
   -- ---- methods
 
@@ -220,17 +261,21 @@ module _ (pool : List PoolConstant) where
   some_both P Q None h k = tt
   some_both P Q (Some x) h k = (h, k)
 
-  method : (in_interface : Bool) (class : List ℕ) (m : Method) → IsMethod in_interface m → Makes (method_constants class m)
+  method : (in_interface : Bool) (class : List ℕ) (m : Method) → IsMethod in_interface m
+      → Makes (method_constants class m)
   method in_interface class m is =
       let first = first_locals class m in
       let ty = text_constants (method_text m.ty) in
       let bodies = body_constants first m.code in
-      let throws = attribute_constants (is_some_item m.throws) (codes "Exceptions") (flat_map class_constants m.throws) in
+      let throws = attribute_constants (is_some_item m.throws) (codes "Exceptions")
+      (flat_map class_constants m.throws) in
       let rest = mark_constants m.synthetic m.deprecated in
       both (text_constants m.name) (ty ++ (bodies ++ (throws ++ rest))) (text m.name is.0.name.0)
       (both ty (bodies ++ (throws ++ rest)) (text (method_text m.ty) (method_utf8 m.ty is.1.ty))
       (both bodies (throws ++ rest) (body first m.code (some_both IsGoodCode IsCodeValue m.code is.0.code is.1.code))
-      (both throws rest (attribute _ (codes "Exceptions") (flat_map class_constants m.throws) exceptions_utf8 (flat IsClassName class_constants (class_right pool) m.throws is.0.throws)) (marks m.synthetic m.deprecated))))
+      (both throws rest (attribute _ (codes "Exceptions") (flat_map class_constants m.throws) exceptions_utf8
+      (flat IsClassName class_constants (class_right pool) m.throws is.0.throws))
+      (marks m.synthetic m.deprecated))))
 
   -- ---- what is pushed
 
@@ -238,11 +283,14 @@ module _ (pool : List PoolConstant) where
   pushes code = flat_map (λ (i : Ins). pushed_constants i.op) code.ins
 
   pushes_make : (code : Code) → IsCode code → Makes (pushes code)
-  pushes_make code is = flat (IsIns (length code.ins)) (λ (i : Ins). pushed_constants i.op) (λ i k. pushed_right pool (length code.ins) i.op k.0 k.1.pushed) code.ins (ins_are code is)
+  pushes_make code is = flat (IsIns (length code.ins)) (λ (i : Ins). pushed_constants i.op)
+      (λ i k. pushed_right pool (length code.ins) i.op k.0 k.1.pushed) code.ins (ins_are code is)
 
-  codes_are : (in_interface : Bool) (ms : List Method) → AllByRecursion (IsMethod in_interface) ms → AllByRecursion IsCode (codes_of_methods ms)
+  codes_are : (in_interface : Bool) (ms : List Method) → AllByRecursion (IsMethod in_interface) ms
+      → AllByRecursion IsCode (codes_of_methods ms)
   codes_are in_interface [] is = tt
-  codes_are in_interface (m ∷ ms) is = all_both IsCode (code_in m.code) (codes_of_methods ms) (by m.code (some_both IsGoodCode IsCodeValue m.code is.0.0.code is.0.1.code)) (codes_are in_interface ms is.1)
+  codes_are in_interface (m ∷ ms) is = all_both IsCode (code_in m.code) (codes_of_methods ms)
+      (by m.code (some_both IsGoodCode IsCodeValue m.code is.0.0.code is.0.1.code)) (codes_are in_interface ms is.1)
     where
       by : (o : Option Code) → IfSome o IsCode → AllByRecursion IsCode (code_in o)
       by None k = tt
@@ -252,13 +300,18 @@ module _ (pool : List PoolConstant) where
 
   source : (o : Option (List ℕ)) → IfSome o IsUnits → Makes (source_constants o)
   source None is = none
-  source (Some units) is = both (text_constants (codes "SourceFile")) (Utf8 units ∷ []) (text (codes "SourceFile") source_utf8) (λ h. (is, tt))
+  source (Some units) is = both (text_constants (codes "SourceFile")) (Utf8 units ∷ [])
+      (text (codes "SourceFile") source_utf8) (λ h. (is, tt))
 
-  pub fields_are : (c : Class) (b : Bool) → AllByRecursion (IsGoodField b) c.fields → IsClassValue c → AllByRecursion (IsField b) c.fields
-  fields_are c b good value = all_two (IsGoodField b) IsFieldValue (IsField b) (λ f a b. (a, b)) c.fields good value.fields
+  pub fields_are : (c : Class) (b : Bool) → AllByRecursion (IsGoodField b) c.fields → IsClassValue c
+      → AllByRecursion (IsField b) c.fields
+  fields_are c b good value = all_two (IsGoodField b) IsFieldValue (IsField b)
+      (λ f a b. (a, b)) c.fields good value.fields
 
-  pub methods_are : (c : Class) (b : Bool) → AllByRecursion (IsGoodMethod b) c.methods → IsClassValue c → AllByRecursion (IsMethod b) c.methods
-  methods_are c b good value = all_two (IsGoodMethod b) IsMethodValue (IsMethod b) (λ f a b. (a, b)) c.methods good value.methods
+  pub methods_are : (c : Class) (b : Bool) → AllByRecursion (IsGoodMethod b) c.methods → IsClassValue c
+      → AllByRecursion (IsMethod b) c.methods
+  methods_are c b good value = all_two (IsGoodMethod b) IsMethodValue (IsMethod b)
+      (λ f a b. (a, b)) c.methods good value.methods
 
   pub wanted_right : (c : Class) → IsWellFormed c → IsClassValue c → HasAll pool (wanted c) → AllRight pool (wanted c)
   wanted_right c good values =
@@ -269,18 +322,23 @@ module _ (pool : List PoolConstant) where
       let fields = flat_map field_constants c.fields ++ methods in
       let interfaces = flat_map class_constants c.interfaces ++ fields in
       let super_name = class_constants c.super_name ++ interfaces in
-      both (class_pushes c.methods) (class_constants c.name ++ super_name) (flat IsCode pushes pushes_make (codes_of_methods c.methods) (codes_are _ c.methods ms))
+      both (class_pushes c.methods) (class_constants c.name ++ super_name)
+      (flat IsCode pushes pushes_make (codes_of_methods c.methods) (codes_are _ c.methods ms))
       (both (class_constants c.name) super_name (class_right pool c.name good.name)
       (both (class_constants c.super_name) interfaces (class_right pool c.super_name good.super_name)
-      (both (flat_map class_constants c.interfaces) fields (flat IsClassName class_constants (class_right pool) c.interfaces good.interfaces)
-      (both (flat_map field_constants c.fields) methods (flat (IsField _) field_constants (field _) c.fields (fields_are c _ good.fields values))
-      (both (flat_map (method_constants c.name) c.methods) sources (flat (IsMethod _) (method_constants c.name) (method _ c.name) c.methods ms)
+      (both (flat_map class_constants c.interfaces) fields
+      (flat IsClassName class_constants (class_right pool) c.interfaces good.interfaces)
+      (both (flat_map field_constants c.fields) methods
+      (flat (IsField _) field_constants (field _) c.fields (fields_are c _ good.fields values))
+      (both (flat_map (method_constants c.name) c.methods) sources
+      (flat (IsMethod _) (method_constants c.name) (method _ c.name) c.methods ms)
       (both (source_constants c.source) rest (source c.source good.source) (marks c.synthetic c.deprecated)))))))
 
 -- all constants of the pool stand with their parts
 pub pool_right : (c : Class) → IsWellFormed c → IsClassValue c → AllRight (pool_of c) (pool_of c)
 unfolding pool_of filled
-pool_right c good values = all_put (IsRight (pool_of c)) same (wanted c) [] tt (wanted_right (pool_of c) c good values (filled_has (wanted c)))
+pool_right c good values = all_put (IsRight (pool_of c)) same (wanted c) [] tt
+    (wanted_right (pool_of c) c good values (filled_has (wanted c)))
 
 pub pool_wanted : (c : Class) → HasAll (pool_of c) (wanted c)
 unfolding pool_of
@@ -304,7 +362,8 @@ Paired ks = ArePaired None ks
 paired : (xs ys : List PoolConstant) → Paired xs → Paired ys → Paired (xs ++ ys)
 paired xs ys h k = paired_both xs ys None h k
 
-paired_flat : {A : Type 0} (f : A → List PoolConstant) → ((x : A) → Paired (f x)) → (xs : List A) → Paired (flat_map f xs)
+paired_flat : {A : Type 0} (f : A → List PoolConstant) → ((x : A) → Paired (f x)) → (xs : List A)
+    → Paired (flat_map f xs)
 paired_flat f g [] = tt
 paired_flat f g (x ∷ xs) = paired (f x) (flat_map f xs) (g x) (paired_flat f g xs)
 
@@ -312,7 +371,8 @@ paired_if : (b : Bool) (xs ys : List PoolConstant) → Paired xs → Paired ys �
 paired_if true xs ys h k = h
 paired_if false xs ys h k = k
 
-paired_method : (b : Bool) (r : MemberRef) (x y z : List ℕ) → Paired (with_parts r (cond b (InterfaceMethodref x y z) (Methodref x y z)))
+paired_method : (b : Bool) (r : MemberRef) (x y z : List ℕ)
+    → Paired (with_parts r (cond b (InterfaceMethodref x y z) (Methodref x y z)))
 paired_method true r x y z = (tt, (tt, (tt, (tt, (tt, (tt, tt))))))
 paired_method false r x y z = (tt, (tt, (tt, (tt, (tt, (tt, tt))))))
 
@@ -340,13 +400,15 @@ paired_op (op.InstanceOf ty) = (tt, (tt, tt))
 paired_op (op.MultiNewArray ty dimensions) = (tt, (tt, tt))
 paired_op _ = tt
 
-paired_attribute : (b : Bool) (name : List ℕ) (contents : List PoolConstant) → Paired contents → Paired (attribute_constants b name contents)
+paired_attribute : (b : Bool) (name : List ℕ) (contents : List PoolConstant) → Paired contents
+    → Paired (attribute_constants b name contents)
 paired_attribute true name contents h = (tt, h)
 paired_attribute false name contents h = tt
 
 paired_marks : (synthetic deprecated : Bool) → Paired (mark_constants synthetic deprecated)
 paired_marks synthetic deprecated =
-    paired (attribute_constants synthetic (codes "Synthetic") []) (attribute_constants deprecated (codes "Deprecated") [])
+    paired (attribute_constants synthetic (codes "Synthetic") [])
+    (attribute_constants deprecated (codes "Deprecated") [])
     (paired_attribute synthetic (codes "Synthetic") [] tt) (paired_attribute deprecated (codes "Deprecated") [] tt)
 
 paired_value : (o : Option Constant) → Paired (constant_value_constants o)
@@ -356,7 +418,14 @@ paired_value (Some (constant.Long n)) = (tt, (tt, (refl, tt)))
 paired_value (Some (constant.Text units)) = (tt, (tt, (tt, tt)))
 
 paired_field : (f : Field) → Paired (field_constants f)
-paired_field f = (tt, (tt, paired (constant_value_constants f.constant) (mark_constants f.synthetic f.deprecated) (paired_value f.constant) (paired_marks f.synthetic f.deprecated)))
+paired_field f = (
+  tt,
+  (
+    tt,
+    paired (constant_value_constants f.constant) (mark_constants f.synthetic f.deprecated)
+        (paired_value f.constant) (paired_marks f.synthetic f.deprecated),
+  ),
+)
 
 paired_vtype : (ty : VType) → Paired (type_constants ty)
 paired_vtype (vtype.Object ty) = (tt, (tt, tt))
@@ -364,8 +433,11 @@ paired_vtype _ = tt
 
 paired_frames : (before : List VType) (fs : List FrameAt) → Paired (frame_constants before fs)
 paired_frames before [] = tt
-paired_frames before (f ∷ fs) = paired (flat_map type_constants (types_written (form_of before f.frame.locals f.frame.stack))) (frame_constants f.frame.locals fs)
-    (paired_flat type_constants paired_vtype (types_written (form_of before f.frame.locals f.frame.stack))) (paired_frames f.frame.locals fs)
+paired_frames before (f ∷ fs) = paired
+    (flat_map type_constants (types_written (form_of before f.frame.locals f.frame.stack)))
+    (frame_constants f.frame.locals fs)
+    (paired_flat type_constants paired_vtype (types_written (form_of before f.frame.locals f.frame.stack)))
+    (paired_frames f.frame.locals fs)
 
 paired_caught : (o : Option (List ℕ)) → Paired (caught_constants o)
 paired_caught None = tt
@@ -376,11 +448,16 @@ paired_body first None = tt
 paired_body first (Some code) =
     let handlers = flat_map (λ (h : Handler). caught_constants h.caught) code.handlers in
     let lines = attribute_constants (is_some_item (line_rows None [] code.ins)) (codes "LineNumberTable") [] in
-    let map = attribute_constants (is_some_item code.frames) (codes "StackMapTable") (frame_constants first code.frames) in (
+    let map = attribute_constants (is_some_item code.frames) (codes "StackMapTable")
+    (frame_constants first code.frames) in (
       tt,
-      paired (flat_map (λ (i : Ins). op_constants i.op) code.ins) (handlers ++ (lines ++ map)) (paired_flat (λ (i : Ins). op_constants i.op) (λ i. paired_op i.op) code.ins)
-          (paired handlers (lines ++ map) (paired_flat (λ (h : Handler). caught_constants h.caught) (λ h. paired_caught h.caught) code.handlers)
-          (paired lines map (paired_attribute _ (codes "LineNumberTable") [] tt) (paired_attribute _ (codes "StackMapTable") (frame_constants first code.frames) (paired_frames first code.frames)))),
+      paired (flat_map (λ (i : Ins). op_constants i.op) code.ins) (handlers ++ (lines ++ map))
+          (paired_flat (λ (i : Ins). op_constants i.op) (λ i. paired_op i.op) code.ins)
+          (paired handlers (lines ++ map)
+          (paired_flat (λ (h : Handler). caught_constants h.caught) (λ h. paired_caught h.caught) code.handlers)
+          (paired lines map (paired_attribute _ (codes "LineNumberTable") [] tt)
+          (paired_attribute _ (codes "StackMapTable") (frame_constants first code.frames)
+          (paired_frames first code.frames)))),
     )
 
 paired_class : (name : List ℕ) → Paired (class_constants name)
@@ -393,8 +470,10 @@ paired_member class m =
       tt,
       (
         tt,
-        paired (body_constants (first_locals class m) m.code) (throws ++ rest) (paired_body (first_locals class m) m.code)
-            (paired throws rest (paired_attribute _ (codes "Exceptions") (flat_map class_constants m.throws) (paired_flat class_constants paired_class m.throws)) (paired_marks m.synthetic m.deprecated)),
+        paired (body_constants (first_locals class m) m.code) (throws ++ rest)
+            (paired_body (first_locals class m) m.code)
+            (paired throws rest (paired_attribute _ (codes "Exceptions") (flat_map class_constants m.throws)
+            (paired_flat class_constants paired_class m.throws)) (paired_marks m.synthetic m.deprecated)),
       ),
     )
 
@@ -411,7 +490,9 @@ wanted_paired c =
     let interfaces = flat_map class_constants c.interfaces ++ fields in
     let super_name = class_constants c.super_name ++ interfaces in
     let pushed : Code → List PoolConstant = λ code. flat_map (λ (i : Ins). pushed_constants i.op) code.ins in
-    paired (class_pushes c.methods) (class_constants c.name ++ super_name) (paired_flat pushed (λ code. paired_flat (λ (i : Ins). pushed_constants i.op) (λ i. paired_pushed i.op) code.ins) (codes_of_methods c.methods)) (
+    paired (class_pushes c.methods) (class_constants c.name ++ super_name)
+    (paired_flat pushed (λ code. paired_flat (λ (i : Ins). pushed_constants i.op)
+    (λ i. paired_pushed i.op) code.ins) (codes_of_methods c.methods)) (
       tt,
       (
         tt,
@@ -419,10 +500,13 @@ wanted_paired c =
           tt,
           (
             tt,
-            paired (flat_map class_constants c.interfaces) fields (paired_flat class_constants paired_class c.interfaces)
+            paired (flat_map class_constants c.interfaces) fields
+                (paired_flat class_constants paired_class c.interfaces)
                 (paired (flat_map field_constants c.fields) methods (paired_flat field_constants paired_field c.fields)
-                (paired (flat_map (method_constants c.name) c.methods) sources (paired_flat (method_constants c.name) (paired_member c.name) c.methods)
-                (paired (source_constants c.source) rest (paired_source c.source) (paired_marks c.synthetic c.deprecated)))),
+                (paired (flat_map (method_constants c.name) c.methods) sources
+                (paired_flat (method_constants c.name) (paired_member c.name) c.methods)
+                (paired (source_constants c.source) rest (paired_source c.source)
+                (paired_marks c.synthetic c.deprecated)))),
           ),
         ),
       ),
@@ -430,25 +514,13 @@ wanted_paired c =
 
 -- ---- limits
 
--- a step before others that all passed
-pub both_passed : (one other : Result (Unit {0}) WriteLimit) → (one >>= (λ u. other)) ≡ Ok tt → (one ≡ Ok tt) × (other ≡ Ok tt)
-both_passed (Ok u) other h = (refl, h)
-both_passed (Err e) other h = absurd cc
-
-pub all_passed : {A : Type 0} (check : A → Result (Unit {0}) WriteLimit) (xs : List A) → first_of check xs ≡ Ok tt → AllByRecursion (λ x. check x ≡ Ok tt) xs
+pub all_passed : {A : Type 0} (check : A → Result (Unit {0}) WriteLimit) (xs : List A) → first_of check xs ≡ Ok tt
+    → AllByRecursion (λ x. check x ≡ Ok tt) xs
 all_passed check [] h = tt
 all_passed check (x ∷ xs) h = let p = both_passed (check x) (first_of check xs) h in (p.0, all_passed check xs p.1)
 
--- what passes is below the limit
-pub passed_below : (limit : ℕ → WriteLimit) (n : ℕ) → fits_u2 limit n ≡ Ok tt → n < 2 ^ 16
-passed_below limit n h = by (ltb n (2 ^ 16)) refl h
-  where
-    by : (b : Bool) → ltb n (2 ^ 16) ≡ b → (let R : Result (Unit {0}) WriteLimit = cond b (Ok tt) (Err (limit n)) in R) ≡ Ok tt → n < 2 ^ 16
-    by true e k = ltb-true n (2 ^ 16) e
-    by false e k = absurd cc
-
 fits_by : (pool : List PoolConstant) (k : PoolConstant) → IsRight pool k → text_fits k ≡ Ok tt → ConstantFits k
-fits_by pool (Utf8 units) h e = (h, passed_below (λ n. TextTooLong n) (length (mutf8 units)) e)
+fits_by pool (Utf8 units) h e = (h, count_ok (λ n. TextTooLong n) (length (mutf8 units)) e)
 fits_by pool (Integer n) h e = h
 fits_by pool (Long n) h e = h
 fits_by pool (SecondOfLong n) h e = tt
@@ -466,9 +538,12 @@ unfolding pool_of
 pool_paired c = filled_paired (wanted c) (wanted_paired c)
 
 -- the canonical pool of a class within the limits of its pool
-pub constant_pool_is : (c : Class) → IsWellFormed c → IsClassValue c → length (pool_of c) + 1 < 2 ^ 16 → first_of text_fits (pool_of c) ≡ Ok tt
+pub constant_pool_is : (c : Class) → IsWellFormed c → IsClassValue c → length (pool_of c) + 1 < 2 ^ 16
+    → first_of text_fits (pool_of c) ≡ Ok tt
     → IsPool (length (pool_of c) + 1) (infos_of (pool_of c)) (entries_of (pool_of c))
 constant_pool_is c good values count texts =
     let right = pool_right c good values in
     let pool = pool_of c in
-    pool_is pool right (pool_has c) (all_two (IsRight pool) (λ k. text_fits k ≡ Ok tt) ConstantFits (fits_by pool) pool right (all_passed text_fits pool texts)) (pool_paired c) count
+    pool_is pool right (pool_has c)
+    (all_two (IsRight pool) (λ k. text_fits k ≡ Ok tt) ConstantFits (fits_by pool) pool right
+    (all_passed text_fits pool texts)) (pool_paired c) count

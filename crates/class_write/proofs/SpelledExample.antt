@@ -38,7 +38,10 @@ value = record {
               record { op = tt; pushed = record { sfits = omega arith }; line = omega arith },
               (
                 record { op = tt; pushed = tt; line = omega arith },
-                (record { op = tt; pushed = record { sfits = omega arith }; line = omega arith }, (record { op = tt; pushed = tt; line = omega arith }, tt)),
+                (
+                  record { op = tt; pushed = record { sfits = omega arith }; line = omega arith },
+                  (record { op = tt; pushed = tt; line = omega arith }, tt),
+                ),
               ),
             ),
           ),

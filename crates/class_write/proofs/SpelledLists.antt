@@ -17,15 +17,18 @@ module _ {A : Type 0} (P : A → Type 0) where
   all_both (x ∷ xs) ys h k = (h.0, all_both xs ys h.1 k)
 
 -- of all items what follows for each
-pub all_map : {A : Type 0} (P Q : A → Type 0) → ((x : A) → P x → Q x) → (xs : List A) → AllByRecursion P xs → AllByRecursion Q xs
+pub all_map : {A : Type 0} (P Q : A → Type 0) → ((x : A) → P x → Q x) → (xs : List A) → AllByRecursion P xs
+    → AllByRecursion Q xs
 all_map P Q f [] h = tt
 all_map P Q f (x ∷ xs) h = (f x h.0, all_map P Q f xs h.1)
 
-pub all_two : {A : Type 0} (P Q R : A → Type 0) → ((x : A) → P x → Q x → R x) → (xs : List A) → AllByRecursion P xs → AllByRecursion Q xs → AllByRecursion R xs
+pub all_two : {A : Type 0} (P Q R : A → Type 0) → ((x : A) → P x → Q x → R x) → (xs : List A) → AllByRecursion P xs
+    → AllByRecursion Q xs → AllByRecursion R xs
 all_two P Q R f [] h k = tt
 all_two P Q R f (x ∷ xs) h k = (f x h.0 k.0, all_two P Q R f xs h.1 k.1)
 
-pub all_three : {A : Type 0} (P Q R S : A → Type 0) → ((x : A) → P x → Q x → R x → S x) → (xs : List A) → AllByRecursion P xs → AllByRecursion Q xs → AllByRecursion R xs → AllByRecursion S xs
+pub all_three : {A : Type 0} (P Q R S : A → Type 0) → ((x : A) → P x → Q x → R x → S x) → (xs : List A)
+    → AllByRecursion P xs → AllByRecursion Q xs → AllByRecursion R xs → AllByRecursion S xs
 all_three P Q R S f [] h k l = tt
 all_three P Q R S f (x ∷ xs) h k l = (f x h.0 k.0 l.0, all_three P Q R S f xs h.1 k.1 l.1)
 
@@ -40,7 +43,8 @@ module _ {A B : Type 0} (P : B → Type 0) (f : A → List B) where
   all_whole (x ∷ xs) h = all_both P (f x) (flat_map f xs) h.0 (all_whole xs h.1)
 
 -- a choice between lists
-pub all_if : {A : Type 0} (P : A → Type 0) (b : Bool) (xs ys : List A) → AllByRecursion P xs → AllByRecursion P ys → AllByRecursion P (cond b xs ys)
+pub all_if : {A : Type 0} (P : A → Type 0) (b : Bool) (xs ys : List A) → AllByRecursion P xs → AllByRecursion P ys
+    → AllByRecursion P (cond b xs ys)
 all_if P true xs ys h k = h
 all_if P false xs ys h k = k
 
@@ -50,6 +54,7 @@ module _ {A : Type 0} (P : A → Type 0) (eq : A → A → Bool) where
   one_put true ks k h p = h
   one_put false ks k h p = all_both P ks (k ∷ []) h (p, tt)
 
-  pub all_put : (wanted ks : List A) → AllByRecursion P ks → AllByRecursion P wanted → AllByRecursion P (insert_all eq ks wanted)
+  pub all_put : (wanted ks : List A) → AllByRecursion P ks → AllByRecursion P wanted
+      → AllByRecursion P (insert_all eq ks wanted)
   all_put [] ks h w = h
   all_put (k ∷ wanted) ks h w = all_put wanted (insert_key eq ks k) (one_put _ ks k h w.0) w.1

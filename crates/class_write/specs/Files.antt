@@ -15,15 +15,18 @@ pool_text pool = to_be_bytes w16 (length pool + 1) ++ flat_map cp_info (infos_of
 
 -- access_flags, this_class and super_class
 abbrev pub names_text : List PoolConstant → Class → List ℕ
-names_text pool c = to_be_bytes w16 c.flags.0 ++ (to_be_bytes w16 (class_index pool c.name) ++ to_be_bytes w16 (class_index pool c.super_name))
+names_text pool c = to_be_bytes w16 c.flags.0 ++
+    (to_be_bytes w16 (class_index pool c.name) ++ to_be_bytes w16 (class_index pool c.super_name))
 
 -- the interfaces behind their count
 abbrev pub interfaces_text : List PoolConstant → Class → List ℕ
-interfaces_text pool c = to_be_bytes w16 (length (map (class_index pool) c.interfaces)) ++ flat_map (to_be_bytes w16) (map (class_index pool) c.interfaces)
+interfaces_text pool c = to_be_bytes w16 (length (map (class_index pool) c.interfaces)) ++ flat_map (to_be_bytes w16)
+    (map (class_index pool) c.interfaces)
 
 -- the fields behind their count
 abbrev pub fields_text : List PoolConstant → Class → List ℕ
-fields_text pool c = to_be_bytes w16 (length (map (field_raw pool) c.fields)) ++ flat_map member_info (map (field_raw pool) c.fields)
+fields_text pool c = to_be_bytes w16 (length (map (field_raw pool) c.fields)) ++ flat_map member_info
+    (map (field_raw pool) c.fields)
 
 -- all in front of the methods
 abbrev pub front_text : List PoolConstant → Class → List ℕ

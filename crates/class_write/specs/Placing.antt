@@ -15,7 +15,11 @@ use Rattle.class_write.specs.declared.placing.PlacedCode.{PlacedCode}
 
 -- the bytes of a code, and its places
 abbrev pub placed_code : List PoolConstant → Code → PlacedCode
-placed_code pool code = record { bytes = code_bytes pool (places pool code.ins) code.ins; places = places pool code.ins }
+placed_code pool code = record {
+  bytes = code_bytes pool
+      (places pool code.ins) code.ins;
+  places = places pool code.ins;
+}
 
 -- of a method that has a code
 abbrev pub placed_body : List PoolConstant → Option Code → Option PlacedCode
@@ -36,7 +40,8 @@ placed_bodies pool methods = map (λ (m : Method). placed_body pool m.code) meth
 
 -- the same of all methods, in their order
 abbrev pub bodies_due : List PoolConstant → List Method → Result (List (Option PlacedCode)) WriteLimit
-bodies_due pool methods = first_of (λ (m : Method). code_fits pool m.code) methods >>= (λ fits. Ok (placed_bodies pool methods))
+bodies_due pool methods = first_of (λ (m : Method). code_fits pool m.code) methods >>=
+    (λ fits. Ok (placed_bodies pool methods))
 
 -- a well-formed code, its instructions counted by a number of four bytes and the words of each invokeinterface by one
 pub record IsWritable (code : Code) : Type 0 where

@@ -30,7 +30,8 @@ WrittenIsRead = (c : Class) (bytes : List ℕ) → IsWritable c → class_writte
 
 -- what is read of a file that was written is written as that file again
 abbrev pub ReadIsRewritten : Type 0
-ReadIsRewritten = (c d : Class) (bytes : List ℕ) → IsWritable c → class_written c ≡ Ok bytes → class_read bytes ≡ Ok d → class_written d ≡ Ok bytes
+ReadIsRewritten = (c d : Class) (bytes : List ℕ) → IsWritable c → class_written c ≡ Ok bytes → class_read bytes ≡ Ok d
+    → class_written d ≡ Ok bytes
 
 -- a class that bytes spell, of which nothing is left out, can be written
 abbrev pub SpelledIsWritable : Type 0
@@ -38,8 +39,10 @@ SpelledIsWritable = (bytes : List ℕ) (c : Class) → File bytes c → c.left_o
 
 -- a class that is read, of which nothing is left out, is read again from what is written of it
 abbrev pub ReadIsReadAgain : Type 0
-ReadIsReadAgain = (bytes written : List ℕ) (c : Class) → AreBytes bytes → class_read bytes ≡ Ok c → c.left_out ≡ None → class_written c ≡ Ok written → class_read written ≡ Ok c
+ReadIsReadAgain = (bytes written : List ℕ) (c : Class) → AreBytes bytes → class_read bytes ≡ Ok c → c.left_out ≡ None
+    → class_written c ≡ Ok written → class_read written ≡ Ok c
 
--- the class with a field, a method, a branch, a handler, lines and a frame is one that can be written, within the limits
+-- the class with a field, a method, a branch, a handler, lines and a frame is one that can be written, within the
+-- limits
 abbrev pub SomeIsWritable : Type 0
 SomeIsWritable = IsWritable class_t × (limits (pool_of class_t) class_t ≡ Ok tt)

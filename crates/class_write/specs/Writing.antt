@@ -1,5 +1,6 @@
 -- What the writing of attributes and methods rests on, and what it leaves (only the proof of write_class needs it).
-use Rattle.std.specs.Prelude.{◌≡◌, ℕ, ◌+◌, ◌^◌, ◌<◌, Bool, List, [], ◌++◌, length, map, None, IfSome, Result, Ok, Err, if◌then◌else◌}
+use Rattle.std.specs.Prelude.{◌≡◌, ℕ, ◌+◌, ◌^◌, ◌<◌, Bool, List, [], ◌++◌, length, map, None, IfSome, Result, Ok, Err}
+use Rattle.std.specs.Prelude.{if◌then◌else◌}
 use Rattle.std.specs.Int.{w16, w32, to_be_bytes}
 use Rattle.std.specs.List.{flat_map}
 use Rattle.jv_base.specs.declared.outcome.Or.{Or}
@@ -42,10 +43,12 @@ pub record HasFitting (pool : List PoolConstant) (m : Method) : Type 0 where
 -- what stands in front of the attributes in a Code
 abbrev pub items_text : List PoolConstant → Code → List ℕ
 items_text pool code = to_be_bytes w16 code.max_stack ++ (to_be_bytes w16 code.max_locals
-    ++ (to_be_bytes w32 (length (code_bytes pool (places pool code.ins) code.ins)) ++ (code_bytes pool (places pool code.ins) code.ins
+    ++ (to_be_bytes w32 (length (code_bytes pool (places pool code.ins) code.ins)) ++
+    (code_bytes pool (places pool code.ins) code.ins
     ++ (to_be_bytes w16 (length (map (handler_raw pool (places pool code.ins)) code.handlers))
     ++ flat_map exception_info (map (handler_raw pool (places pool code.ins)) code.handlers)))))
 
 -- the contents of the attribute Code, if their length fits four bytes
 abbrev pub contents_due : List PoolConstant → List VType → Code → Result (List ℕ) WriteLimit
-contents_due pool first code = body_length_fits (length (code_contents pool first code)) >>= (λ fits. Ok (code_contents pool first code))
+contents_due pool first code = body_length_fits (length (code_contents pool first code)) >>=
+    (λ fits. Ok (code_contents pool first code))

@@ -1,5 +1,6 @@
 // The attribute Code (JVMS 4.7.3).
-ghost use Rattle.std.specs.Prelude.{◌≡◌, ◌+◌, ◌^◌, ◌<◌, ◌≤◌, ◌++◌, ℕ, List, [], None, Ok, All, length, map, slice_index, codes, IfOk, OnOk, true};
+ghost use Rattle.std.specs.Prelude.{◌≡◌, ◌+◌, ◌^◌, ◌<◌, ◌≤◌, ◌++◌, ℕ, List, [], None, Ok, All, length, map};
+ghost use Rattle.std.specs.Prelude.{slice_index, codes, IfOk, OnOk, true};
 ghost use Rattle.std.specs.Int.{w16, to_be_bytes};
 ghost use Rattle.std.specs.List.{flat_map};
 ghost use Rattle.class_model.specs.Structure.{exception_info, attribute_info};

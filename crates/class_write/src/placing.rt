@@ -50,7 +50,8 @@ fn place_body(
     }
 }
 
-/// The codes of these methods, or the limit that the first of them passes: that of its length, or that of its first branch that
+/// The codes of these methods, or the limit that the first of them passes: that of its length, or that of its first
+/// branch that
 /// is too far.
 pub fn place_bodies(
     alloc: Global,

@@ -3,11 +3,14 @@ use Rattle.std.proofs.Common.{◌≡◌, ℕ, List, ◌&&◌, Decides, ap}
 use Rattle.std.specs.Cmp.{IsEquivalence, decided, signed_Decides}
 use Rattle.jv_base.proofs.Equality.{text_Decides, and_Decides}
 use Rattle.class_model.specs.declared.constant.PoolConstant.{PoolConstant}
-use Rattle.class_model.specs.declared.constant.PoolConstant.TheVariants.{Utf8, Integer, Long, SecondOfLong, Class, Str, NameAndType, Fieldref, Methodref, InterfaceMethodref}
+use Rattle.class_model.specs.declared.constant.PoolConstant.TheVariants.{Utf8, Integer, Long, SecondOfLong, Class, Str}
+use Rattle.class_model.specs.declared.constant.PoolConstant.TheVariants.{NameAndType, Fieldref, Methodref}
+use Rattle.class_model.specs.declared.constant.PoolConstant.TheVariants.{InterfaceMethodref}
 use Rattle.class_model.specs.CanonicalPool.{same, same_text}
 
 two_texts : (a b c d : List ℕ) → Decides (same_text a b && same_text c d) ((a ≡ b) × (c ≡ d))
-two_texts a b c d = and_Decides _ _ (text_Decides a b) (text_Decides c d) (λ p q. let r : (a ≡ b) × (c ≡ d) = (p, q) in r) (λ e. e.0) (λ e. e.1)
+two_texts a b c d = and_Decides _ _ (text_Decides a b) (text_Decides c d)
+    (λ p q. let r : (a ≡ b) × (c ≡ d) = (p, q) in r) (λ e. e.0) (λ e. e.1)
 
 pub same_Decides : (a b : PoolConstant) → Decides (same a b) (a ≡ b)
 same_Decides (Utf8 a1) (Utf8 b1) = let d = text_Decides a1 b1 in (λ e. ap (λ x. Utf8 x) (d.0 e), λ e. d.1 cc)
@@ -43,7 +46,8 @@ same_Decides (Long a1) (InterfaceMethodref b1 b2 b3) = (λ e. absurd cc, λ e. a
 same_Decides (SecondOfLong a1) (Utf8 b1) = (λ e. absurd cc, λ e. absurd cc)
 same_Decides (SecondOfLong a1) (Integer b1) = (λ e. absurd cc, λ e. absurd cc)
 same_Decides (SecondOfLong a1) (Long b1) = (λ e. absurd cc, λ e. absurd cc)
-same_Decides (SecondOfLong a1) (SecondOfLong b1) = let d = signed_Decides a1 b1 in (λ e. ap (λ x. SecondOfLong x) (d.0 e), λ e. d.1 cc)
+same_Decides (SecondOfLong a1) (SecondOfLong b1) = let d = signed_Decides a1 b1 in
+    (λ e. ap (λ x. SecondOfLong x) (d.0 e), λ e. d.1 cc)
 same_Decides (SecondOfLong a1) (Class b1) = (λ e. absurd cc, λ e. absurd cc)
 same_Decides (SecondOfLong a1) (Str b1) = (λ e. absurd cc, λ e. absurd cc)
 same_Decides (SecondOfLong a1) (NameAndType b1 b2) = (λ e. absurd cc, λ e. absurd cc)

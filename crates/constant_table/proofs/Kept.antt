@@ -1,5 +1,6 @@
 -- A table of constants keeps the index of each.
-use Rattle.std.proofs.Common.{◌≡◌, ℕ, ◌+◌, ◌-◌, take, Bool, true, false, cond, ◌||◌, List, [], ◌∷◌, ◌++◌, length, Option, Some, None, Result, Ok, Err, refl, sym, ap, subst, ◌∙◌, arith}
+use Rattle.std.proofs.Common.{◌≡◌, ℕ, ◌+◌, ◌-◌, take, Bool, true, false, cond, ◌||◌, List, [], ◌∷◌, ◌++◌, length}
+use Rattle.std.proofs.Common.{Option, Some, None, Result, Ok, Err, refl, sym, ap, subst, ◌∙◌, arith}
 use Rattle.std.specs.Prelude.{is_some, OnOk, OnErr}
 use Rattle.std.specs.Result.{is_err}
 use Rattle.std.specs.List.{position_from, list_any}
@@ -30,7 +31,8 @@ cut_back ks xs k n is e =
     let f : n - 1 ≡ length ks = omega (arith, e) in
     rw (is, f) (take_front ks (k ∷ []))
 
-any_by : (b : Bool) (i : ℕ) (found : Option ℕ) (rest : Bool) → is_some found ≡ rest → is_some (cond b (Some i) found) ≡ (b || rest)
+any_by : (b : Bool) (i : ℕ) (found : Option ℕ) (rest : Bool) → is_some found ≡ rest
+    → is_some (cond b (Some i) found) ≡ (b || rest)
 any_by true i found rest h = refl
 any_by false i found rest h = h
 
@@ -55,10 +57,12 @@ module _ (ks : List Key) (entries : List (Key × ℕ)) (k : Key) (kept : IsIndex
 
   -- a new one is kept with the index behind the others
   pub kept_new : (new : List (Key × ℕ)) (index : ℕ) → lookup (same_key k) entries ≡ None → index ≡ 1 + length ks
-      → ((q : Key) → lookup (same_key q) new ≡ cond (same_key k q) (Some index) (lookup (same_key q) entries)) → IsIndexed (ks ++ k ∷ []) new
+      → ((q : Key) → lookup (same_key q) new ≡ cond (same_key k q) (Some index) (lookup (same_key q) entries))
+      → IsIndexed (ks ++ k ∷ []) new
   kept_new new index none e updates =
       indexed_new same_key key_laws ks entries new k kept none
-      (subst (λ n. (q : Key) → lookup (same_key q) new ≡ cond (same_key k q) (Some n) (lookup (same_key q) entries)) e updates)
+      (subst (λ n. (q : Key) → lookup (same_key q) new ≡ cond (same_key k q) (Some n)
+      (lookup (same_key q) entries)) e updates)
 
   -- one that is there stays with its index
   pub kept_again : (index : ℕ) → Some index ≡ lookup (same_key k) entries → IsIndexed (ks ++ k ∷ []) entries

@@ -114,10 +114,12 @@ pub derived_is_same : eq-value.it ≡ same_key
 derived_is_same = λ i a b. compares a b i
 
 two_numbers : (a b c d : ℕ) → Decides (nat_eq a b && nat_eq c d) ((a ≡ b) × (c ≡ d))
-two_numbers a b c d = and_Decides _ _ (unsigned_Decides a b) (unsigned_Decides c d) (λ p q. let r : (a ≡ b) × (c ≡ d) = (p, q) in r) (λ e. e.0) (λ e. e.1)
+two_numbers a b c d = and_Decides _ _ (unsigned_Decides a b) (unsigned_Decides c d)
+    (λ p q. let r : (a ≡ b) × (c ≡ d) = (p, q) in r) (λ e. e.0) (λ e. e.1)
 
 pub key_Decides : (a b : Key) → Decides (same_key a b) (a ≡ b)
-key_Decides (key.Utf8 a1) (key.Utf8 b1) = let d = unsigned_Decides a1 b1 in (λ e. ap (λ x. key.Utf8 x) (d.0 e), λ e. d.1 cc)
+key_Decides (key.Utf8 a1) (key.Utf8 b1) = let d = unsigned_Decides a1 b1 in
+    (λ e. ap (λ x. key.Utf8 x) (d.0 e), λ e. d.1 cc)
 key_Decides (key.Utf8 a1) (key.Integer b1) = (λ e. absurd cc, λ e. absurd cc)
 key_Decides (key.Utf8 a1) (key.Long b1) = (λ e. absurd cc, λ e. absurd cc)
 key_Decides (key.Utf8 a1) (key.SecondOfLong b1) = (λ e. absurd cc, λ e. absurd cc)
@@ -128,7 +130,8 @@ key_Decides (key.Utf8 a1) (key.Fieldref b1 b2 b3) = (λ e. absurd cc, λ e. absu
 key_Decides (key.Utf8 a1) (key.Methodref b1 b2 b3) = (λ e. absurd cc, λ e. absurd cc)
 key_Decides (key.Utf8 a1) (key.InterfaceMethodref b1 b2 b3) = (λ e. absurd cc, λ e. absurd cc)
 key_Decides (key.Integer a1) (key.Utf8 b1) = (λ e. absurd cc, λ e. absurd cc)
-key_Decides (key.Integer a1) (key.Integer b1) = let d = signed_Decides a1 b1 in (λ e. ap (λ x. key.Integer x) (d.0 e), λ e. d.1 cc)
+key_Decides (key.Integer a1) (key.Integer b1) = let d = signed_Decides a1 b1 in
+    (λ e. ap (λ x. key.Integer x) (d.0 e), λ e. d.1 cc)
 key_Decides (key.Integer a1) (key.Long b1) = (λ e. absurd cc, λ e. absurd cc)
 key_Decides (key.Integer a1) (key.SecondOfLong b1) = (λ e. absurd cc, λ e. absurd cc)
 key_Decides (key.Integer a1) (key.Class b1) = (λ e. absurd cc, λ e. absurd cc)
@@ -139,7 +142,8 @@ key_Decides (key.Integer a1) (key.Methodref b1 b2 b3) = (λ e. absurd cc, λ e. 
 key_Decides (key.Integer a1) (key.InterfaceMethodref b1 b2 b3) = (λ e. absurd cc, λ e. absurd cc)
 key_Decides (key.Long a1) (key.Utf8 b1) = (λ e. absurd cc, λ e. absurd cc)
 key_Decides (key.Long a1) (key.Integer b1) = (λ e. absurd cc, λ e. absurd cc)
-key_Decides (key.Long a1) (key.Long b1) = let d = signed_Decides a1 b1 in (λ e. ap (λ x. key.Long x) (d.0 e), λ e. d.1 cc)
+key_Decides (key.Long a1) (key.Long b1) = let d = signed_Decides a1 b1 in
+    (λ e. ap (λ x. key.Long x) (d.0 e), λ e. d.1 cc)
 key_Decides (key.Long a1) (key.SecondOfLong b1) = (λ e. absurd cc, λ e. absurd cc)
 key_Decides (key.Long a1) (key.Class b1) = (λ e. absurd cc, λ e. absurd cc)
 key_Decides (key.Long a1) (key.Str b1) = (λ e. absurd cc, λ e. absurd cc)
@@ -150,7 +154,8 @@ key_Decides (key.Long a1) (key.InterfaceMethodref b1 b2 b3) = (λ e. absurd cc, 
 key_Decides (key.SecondOfLong a1) (key.Utf8 b1) = (λ e. absurd cc, λ e. absurd cc)
 key_Decides (key.SecondOfLong a1) (key.Integer b1) = (λ e. absurd cc, λ e. absurd cc)
 key_Decides (key.SecondOfLong a1) (key.Long b1) = (λ e. absurd cc, λ e. absurd cc)
-key_Decides (key.SecondOfLong a1) (key.SecondOfLong b1) = let d = signed_Decides a1 b1 in (λ e. ap (λ x. key.SecondOfLong x) (d.0 e), λ e. d.1 cc)
+key_Decides (key.SecondOfLong a1) (key.SecondOfLong b1) = let d = signed_Decides a1 b1 in
+    (λ e. ap (λ x. key.SecondOfLong x) (d.0 e), λ e. d.1 cc)
 key_Decides (key.SecondOfLong a1) (key.Class b1) = (λ e. absurd cc, λ e. absurd cc)
 key_Decides (key.SecondOfLong a1) (key.Str b1) = (λ e. absurd cc, λ e. absurd cc)
 key_Decides (key.SecondOfLong a1) (key.NameAndType b1 b2) = (λ e. absurd cc, λ e. absurd cc)
@@ -161,7 +166,8 @@ key_Decides (key.Class a1) (key.Utf8 b1) = (λ e. absurd cc, λ e. absurd cc)
 key_Decides (key.Class a1) (key.Integer b1) = (λ e. absurd cc, λ e. absurd cc)
 key_Decides (key.Class a1) (key.Long b1) = (λ e. absurd cc, λ e. absurd cc)
 key_Decides (key.Class a1) (key.SecondOfLong b1) = (λ e. absurd cc, λ e. absurd cc)
-key_Decides (key.Class a1) (key.Class b1) = let d = unsigned_Decides a1 b1 in (λ e. ap (λ x. key.Class x) (d.0 e), λ e. d.1 cc)
+key_Decides (key.Class a1) (key.Class b1) = let d = unsigned_Decides a1 b1 in
+    (λ e. ap (λ x. key.Class x) (d.0 e), λ e. d.1 cc)
 key_Decides (key.Class a1) (key.Str b1) = (λ e. absurd cc, λ e. absurd cc)
 key_Decides (key.Class a1) (key.NameAndType b1 b2) = (λ e. absurd cc, λ e. absurd cc)
 key_Decides (key.Class a1) (key.Fieldref b1 b2 b3) = (λ e. absurd cc, λ e. absurd cc)
@@ -172,7 +178,8 @@ key_Decides (key.Str a1) (key.Integer b1) = (λ e. absurd cc, λ e. absurd cc)
 key_Decides (key.Str a1) (key.Long b1) = (λ e. absurd cc, λ e. absurd cc)
 key_Decides (key.Str a1) (key.SecondOfLong b1) = (λ e. absurd cc, λ e. absurd cc)
 key_Decides (key.Str a1) (key.Class b1) = (λ e. absurd cc, λ e. absurd cc)
-key_Decides (key.Str a1) (key.Str b1) = let d = unsigned_Decides a1 b1 in (λ e. ap (λ x. key.Str x) (d.0 e), λ e. d.1 cc)
+key_Decides (key.Str a1) (key.Str b1) = let d = unsigned_Decides a1 b1 in
+    (λ e. ap (λ x. key.Str x) (d.0 e), λ e. d.1 cc)
 key_Decides (key.Str a1) (key.NameAndType b1 b2) = (λ e. absurd cc, λ e. absurd cc)
 key_Decides (key.Str a1) (key.Fieldref b1 b2 b3) = (λ e. absurd cc, λ e. absurd cc)
 key_Decides (key.Str a1) (key.Methodref b1 b2 b3) = (λ e. absurd cc, λ e. absurd cc)
@@ -184,7 +191,8 @@ key_Decides (key.NameAndType a1 a2) (key.SecondOfLong b1) = (λ e. absurd cc, λ
 key_Decides (key.NameAndType a1 a2) (key.Class b1) = (λ e. absurd cc, λ e. absurd cc)
 key_Decides (key.NameAndType a1 a2) (key.Str b1) = (λ e. absurd cc, λ e. absurd cc)
 key_Decides (key.NameAndType a1 a2) (key.NameAndType b1 b2) =
-    and_Decides _ _ (unsigned_Decides a1 b1) (unsigned_Decides a2 b2) (λ p q i. key.NameAndType (p i) (q i)) (λ e. cc) (λ e. cc)
+    and_Decides _ _ (unsigned_Decides a1 b1) (unsigned_Decides a2 b2) (λ p q i. key.NameAndType (p i) (q i)) (λ e. cc)
+    (λ e. cc)
 key_Decides (key.NameAndType a1 a2) (key.Fieldref b1 b2 b3) = (λ e. absurd cc, λ e. absurd cc)
 key_Decides (key.NameAndType a1 a2) (key.Methodref b1 b2 b3) = (λ e. absurd cc, λ e. absurd cc)
 key_Decides (key.NameAndType a1 a2) (key.InterfaceMethodref b1 b2 b3) = (λ e. absurd cc, λ e. absurd cc)
@@ -223,7 +231,8 @@ key_Decides (key.InterfaceMethodref a1 a2 a3) (key.Fieldref b1 b2 b3) = (λ e. a
 key_Decides (key.InterfaceMethodref a1 a2 a3) (key.Methodref b1 b2 b3) = (λ e. absurd cc, λ e. absurd cc)
 key_Decides (key.InterfaceMethodref a1 a2 a3) (key.InterfaceMethodref b1 b2 b3) =
     and_Decides _ _ (unsigned_Decides a1 b1) (two_numbers a2 b2 a3 b3)
-    (λ p q i. key.InterfaceMethodref (p i) (q.0 i) (q.1 i)) (λ e. cc) (λ e. let r : (a2 ≡ b2) × (a3 ≡ b3) = (cc, cc) in r)
+    (λ p q i. key.InterfaceMethodref (p i) (q.0 i) (q.1 i)) (λ e. cc)
+    (λ e. let r : (a2 ≡ b2) × (a3 ≡ b3) = (cc, cc) in r)
 
 pub key_laws : IsEquivalence same_key
 key_laws = decided same_key key_Decides

@@ -4,7 +4,9 @@ use Rattle.std.specs.List.{position_from, position_or_len, slice_index_or, AllBy
 use Rattle.std.specs.Map.{lookup}
 use Rattle.std.specs.Ordering.{int_eq}
 use Rattle.class_model.specs.declared.constant.PoolConstant.{PoolConstant}
-use Rattle.class_model.specs.declared.constant.PoolConstant.TheVariants.{Utf8, Integer, Long, SecondOfLong, Class, Str, NameAndType, Fieldref, Methodref, InterfaceMethodref}
+use Rattle.class_model.specs.declared.constant.PoolConstant.TheVariants.{Utf8, Integer, Long, SecondOfLong, Class, Str}
+use Rattle.class_model.specs.declared.constant.PoolConstant.TheVariants.{NameAndType, Fieldref, Methodref}
+use Rattle.class_model.specs.declared.constant.PoolConstant.TheVariants.{InterfaceMethodref}
 use Rattle.class_model.specs.CanonicalPool.{same_text}
 use Rattle.constant_table.specs.declared.key.Key.{Key}
 use Rattle.constant_table.specs.declared.key.Key.TheVariants as key
@@ -52,7 +54,8 @@ constant_of texts (key.Str a) = Str (text_of texts a)
 constant_of texts (key.NameAndType a b) = NameAndType (text_of texts a) (text_of texts b)
 constant_of texts (key.Fieldref a b c) = Fieldref (text_of texts a) (text_of texts b) (text_of texts c)
 constant_of texts (key.Methodref a b c) = Methodref (text_of texts a) (text_of texts b) (text_of texts c)
-constant_of texts (key.InterfaceMethodref a b c) = InterfaceMethodref (text_of texts a) (text_of texts b) (text_of texts c)
+constant_of texts (key.InterfaceMethodref a b c) = InterfaceMethodref (text_of texts a) (text_of texts b)
+    (text_of texts c)
 
 -- the key that tells a constant
 abbrev pub key_of : List (List ℕ) → PoolConstant → Key
@@ -65,7 +68,8 @@ key_of texts (Str a) = key.Str (number_of texts a)
 key_of texts (NameAndType a b) = key.NameAndType (number_of texts a) (number_of texts b)
 key_of texts (Fieldref a b c) = key.Fieldref (number_of texts a) (number_of texts b) (number_of texts c)
 key_of texts (Methodref a b c) = key.Methodref (number_of texts a) (number_of texts b) (number_of texts c)
-key_of texts (InterfaceMethodref a b c) = key.InterfaceMethodref (number_of texts a) (number_of texts b) (number_of texts c)
+key_of texts (InterfaceMethodref a b c) = key.InterfaceMethodref (number_of texts a) (number_of texts b)
+    (number_of texts c)
 
 -- each of its numbers is that of one of so many texts
 abbrev pub IsKeyIn : ℕ → Key → Type 0

@@ -36,7 +36,8 @@ pub record Tells (texts : List (List ℕ)) (k : Key) (constant : PoolConstant) :
   pub is : constant_of texts k ≡ constant
 
 -- the texts of these numbers
-pub record TellsTexts (texts : List (List ℕ)) (m : MemberNumbers) (of_class of_name of_descriptor : List ℕ) : Type 0 where
+pub record TellsTexts (texts : List (List ℕ)) (m : MemberNumbers)
+    (of_class of_name of_descriptor : List ℕ) : Type 0 where
   pub class : HasText texts m.class of_class
   pub name : HasText texts m.name of_name
   pub descriptor : HasText texts m.descriptor of_descriptor

@@ -18,7 +18,8 @@ pub record HasText (texts : List (List ℕ)) (number : ℕ) (text : List ℕ) : 
 
 -- the number that is kept with a text is that of its units
 abbrev pub AreNumbers : List (List ℕ) → List (List ℕ × ℕ) → Type 0
-AreNumbers texts numbers = (text : List ℕ) → IfSome (lookup (same_text text) numbers) (λ n. HasNumber texts n (units_of text))
+AreNumbers texts numbers = (text : List ℕ)
+    → IfSome (lookup (same_text text) numbers) (λ n. HasNumber texts n (units_of text))
 
 -- there may be more texts behind those that were there, and they are distinct where those were
 pub record Grows (old new : List (List ℕ)) : Type 0 where

@@ -1,9 +1,12 @@
 -- A reader takes exactly the texts that a grammar spells: what that says, and the law of each reader.
-use Rattle.std.proofs.Common.{◌≡◌, ℕ, zero, suc, ◌+◌, ◌-◌, ◌^◌, ◌<◌, ◌≤◌, Bool, true, false, cond, ltb, eqb, List, [], ◌∷◌, ◌++◌, length, get_or, take, drop, Result, Ok, Err, refl, sym, ap, subst, ◌∙◌, append_assoc, arith, inl, inr}
+use Rattle.std.proofs.Common.{◌≡◌, ℕ, zero, suc, ◌+◌, ◌-◌, ◌^◌, ◌<◌, ◌≤◌, Bool, true, false, cond, ltb, eqb, List, []}
+use Rattle.std.proofs.Common.{◌∷◌, ◌++◌, length, get_or, take, drop, Result, Ok, Err, refl, sym, ap, subst, ◌∙◌}
+use Rattle.std.proofs.Common.{append_assoc, arith, inl, inr}
 use Rattle.std.specs.Prelude.{slice_range}
 use Rattle.std.specs.Int.{Width, w8, w16, w32, byte_len, from_be_bytes, to_be_bytes}
 use Rattle.std.proofs.lemmas.Bool.{eqb-true, eq-eqb, ltb-false, le-ltb, cases_lt}
-use Rattle.std.proofs.lemmas.List.{drop_all, take_at, drop_at, append-nil, take-append-drop, drop-drop, drop-take, length-append, length-take, length-drop, get_or-drop, get_or-take, get_or_past}
+use Rattle.std.proofs.lemmas.List.{drop_all, take_at, drop_at, append-nil, take-append-drop, drop-drop, drop-take}
+use Rattle.std.proofs.lemmas.List.{length-append, length-take, length-drop, get_or-drop, get_or-take, get_or_past}
 use Rattle.std.specs.List.{flat_map}
 use Rattle.std.proofs.lemmas.List.Concat.{flat_map-cons}
 use Rattle.std.proofs.lemmas.Nat.{be_bytes_4, be_bytes_2, from_be_bytes-to_be_bytes_2, from_be_bytes-to_be_bytes_4}
@@ -13,7 +16,8 @@ use Rattle.format_reading.specs.Fault.{fault}
 use Rattle.format_reading.specs.declared.fault.FormatFault.{FormatFault}
 use Rattle.format_reading.specs.declared.fault.FormatKind.{FormatKind}
 use Rattle.format_reading.specs.declared.fault.FormatKind.TheVariants.{BadAttribute}
-use Rattle.format_reading.specs.Reader.{Reader, or_cut, u1, u2, u4, bytes, lead, bind, give, given, item, here, settle, told, part, in_part, closed, many, after_read, onwards}
+use Rattle.format_reading.specs.Reader.{Reader, or_cut, u1, u2, u4, bytes, lead, bind, give, given, item, here, settle}
+use Rattle.format_reading.specs.Reader.{told, part, in_part, closed, many, after_read, onwards}
 use Rattle.format_reading.specs.Spelling.{Spells, AllStand, ManyStand}
 
 -- what is left at a place
@@ -29,13 +33,16 @@ pub record Takes (p : Place) (text : List ℕ) (q : Place) : Type 0 where
   pub parts : left p ≡ text ++ left q
   pub moved : q ≡ after (length text) p
 
--- what a reader takes spells its value, and what spells a value is taken: the reader takes exactly the texts of a relation
+-- what a reader takes spells its value, and what spells a value is taken: the reader takes exactly the texts of a
+-- relation
 pub record Exact {A : Type 0} (r : Reader A) (g : ℕ → List ℕ → A → Type 0) : Type 0 where
-  pub found : (p : Place) (x : A) (q : Place) → IsBytes p.bytes → r p ≡ Ok (x, q) → (text : List ℕ) × g p.at text x × Takes p text q
+  pub found : (p : Place) (x : A) (q : Place) → IsBytes p.bytes → r p ≡ Ok (x, q)
+      → (text : List ℕ) × g p.at text x × Takes p text q
   pub only : (p : Place) (text : List ℕ) (x : A) (q : Place) → g p.at text x → Takes p text q → r p ≡ Ok (x, q)
 
 -- a place is told by its offset
-place_is : (b : List ℕ) (m n : ℕ) → m ≡ n → (let P : Place = record { bytes = b; at = m } in P) ≡ record { bytes = b; at = n }
+place_is : (b : List ℕ) (m n : ℕ) → m ≡ n
+    → (let P : Place = record { bytes = b; at = m } in P) ≡ record { bytes = b; at = n }
 place_is b m n e = ap (λ (k : ℕ). record { bytes = b; at = k }) e
 
 -- two texts that stand one behind the other are one
@@ -46,11 +53,23 @@ Takes-then p q r x y a b = record {
 }
 
 -- a text of two parts has a place between them
-pub Takes-split : (p r : Place) (x y : List ℕ) → Takes p (x ++ y) r → Takes p x (after (length x) p) × Takes (after (length x) p) y r
+pub Takes-split : (p r : Place) (x y : List ℕ) → Takes p (x ++ y) r
+    → Takes p x (after (length x) p) × Takes (after (length x) p) y r
 Takes-split p r x y t =
     let whole : left p ≡ x ++ (y ++ left r) = t.parts ∙ append_assoc x y (left r) in
-    let rest : left (after (length x) p) ≡ y ++ left r = sym (drop-drop (length x) p.at p.bytes) ∙ ap (drop (length x)) whole ∙ drop_at x (y ++ left r) (length x) refl in
-    (record { parts = whole ∙ ap (λ (u : List ℕ). x ++ u) (sym rest); moved = refl }, record { parts = rest; moved = t.moved ∙ place_is p.bytes _ _ (omega (arith, length-append x y)) })
+    let rest : left (after (length x) p) ≡ y ++ left r = sym (drop-drop (length x) p.at p.bytes)
+    ∙ ap (drop (length x)) whole ∙ drop_at x (y ++ left r) (length x) refl in (
+      record {
+        parts = whole
+            ∙ ap (λ (u : List ℕ). x ++ u) (sym rest);
+        moved = refl;
+      },
+      record {
+        parts = rest;
+        moved = t.moved
+            ∙ place_is p.bytes _ _ (omega (arith, length-append x y));
+      },
+    )
 
 -- the bytes are the same behind a text
 same_bytes : (p q : Place) (x : List ℕ) → Takes p x q → q.bytes ≡ p.bytes
@@ -63,12 +82,14 @@ fits_on p q x t h = rw (same_bytes p q x t) h
 -- ---- an item, and then more
 
 -- what an item led to was a reader
-onwards_ok : {B : Type 0} (at : ℕ) (o : Result (Reader B) FormatKind) (q : Place) (y : B × Place) → onwards at o q ≡ Ok y → (s : Reader B) × (o ≡ Ok s) × (s q ≡ Ok y)
+onwards_ok : {B : Type 0} (at : ℕ) (o : Result (Reader B) FormatKind) (q : Place) (y : B × Place)
+    → onwards at o q ≡ Ok y → (s : Reader B) × (o ≡ Ok s) × (s q ≡ Ok y)
 onwards_ok at (Ok s) q y h = (s, refl, h)
 onwards_ok at (Err k) q y h = absurd cc
 
 -- an item that led on was read, and so was what it led to
-lead_ok : {A B : Type 0} (at : ℕ) (f : A → Result (Reader B) FormatKind) (d : Result (A × Place) FormatFault) (y : B × Place) → after_read at f d ≡ Ok y
+lead_ok : {A B : Type 0} (at : ℕ) (f : A → Result (Reader B) FormatKind) (d : Result (A × Place) FormatFault)
+    (y : B × Place) → after_read at f d ≡ Ok y
     → (x : A) × (q : Place) × (s : Reader B) × (d ≡ Ok (x, q)) × (f x ≡ Ok s) × (s q ≡ Ok y)
 lead_ok at f (Err e) y h = absurd cc
 lead_ok at f (Ok x) y h = let o = onwards_ok at (f x.0) x.1 y h in (x.0, x.1, o.0, refl, o.1, o.2)
@@ -79,25 +100,31 @@ Leads (Ok s) g = Exact s g
 Leads (Err k) g = (at : ℕ) (t : List ℕ) (y : _) → g at t y → ⊥
 
 -- what fits the rest is read by the reader that the item leads to
-onwards_only : {B : Type 0} (at : ℕ) (o : Result (Reader B) FormatKind) (g : ℕ → List ℕ → B → Type 0) (p q : Place) (t : List ℕ) (y : B) → Leads o g → g p.at t y → Takes p t q → onwards at o p ≡ Ok (y, q)
+onwards_only : {B : Type 0} (at : ℕ) (o : Result (Reader B) FormatKind) (g : ℕ → List ℕ → B → Type 0) (p q : Place)
+    (t : List ℕ) (y : B) → Leads o g → g p.at t y → Takes p t q → onwards at o p ≡ Ok (y, q)
 onwards_only at (Ok s) g p q t y l h k = l.only p t y q h k
 onwards_only at (Err e) g p q t y l h k = absurd (l p.at t y h)
 
 -- the spelling of a pair of structures, of which the second depends on what the first stands for
-abbrev pub Both : {A B R S : Type 0} → (R → List ℕ) → (ℕ → R → A → Type 0) → (A → ℕ → S → B → Type 0) → ℕ → R × S → B → Type 0
+abbrev pub Both : {A B R S : Type 0} → (R → List ℕ) → (ℕ → R → A → Type 0) → (A → ℕ → S → B → Type 0) → ℕ → R × S → B
+    → Type 0
 Both s m n at w y = (x : _) × m at w.0 x × n x (at + length (s w.0)) w.1 y
 
 -- the rest may rely on what the first structure stands for
-pub lead_exact_of : {A B R S : Type 0} {r : Reader A} {s : R → List ℕ} {m : ℕ → R → A → Type 0} (f : A → Result (Reader B) FormatKind) (t : S → List ℕ) (n : A → ℕ → S → B → Type 0)
-    → Exact r (Spells s m) → ((at : ℕ) (w : R) (x : A) → m at w x → Leads (f x) (Spells t (n x))) → Exact (lead r f) (Spells (λ (w : R × S). s w.0 ++ t w.1) (Both s m n))
+pub lead_exact_of : {A B R S : Type 0} {r : Reader A} {s : R → List ℕ} {m : ℕ → R → A → Type 0}
+    (f : A → Result (Reader B) FormatKind) (t : S → List ℕ) (n : A → ℕ → S → B → Type 0)
+    → Exact r (Spells s m) → ((at : ℕ) (w : R) (x : A) → m at w x → Leads (f x) (Spells t (n x)))
+    → Exact (lead r f) (Spells (λ (w : R × S). s w.0 ++ t w.1) (Both s m n))
 unfolding lead
 lead_exact_of {r = r} {s = s} {m = m} f t n a b = record {
   found = λ p y q fits h.
       let o = lead_ok p.at f (r p) (y, q) h in
       let first = a.found p o.0 o.1 fits o.3 in
-      let then_ : Exact o.2 (Spells t (n o.0)) = subst (λ (v : Result (Reader _) FormatKind). Leads v (Spells t (n o.0))) o.4 (b p.at first.1.0 o.0 first.1.2) in
+      let then_ : Exact o.2 (Spells t (n o.0)) = subst
+      (λ (v : Result (Reader _) FormatKind). Leads v (Spells t (n o.0))) o.4 (b p.at first.1.0 o.0 first.1.2) in
       let second = then_.found o.1 y q (fits_on p o.1 first.0 first.2 fits) o.5 in
-      let moved : o.1.at ≡ p.at + length (s first.1.0) = ap (λ (z : Place). z.at) first.2.moved ∙ ap (λ (u : List ℕ). p.at + length u) first.1.1 in (
+      let moved : o.1.at ≡ p.at + length (s first.1.0) = ap (λ (z : Place). z.at) first.2.moved
+      ∙ ap (λ (u : List ℕ). p.at + length u) first.1.1 in (
         first.0 ++ second.0,
         (
           (first.1.0, second.1.0),
@@ -111,31 +138,43 @@ lead_exact_of {r = r} {s = s} {m = m} f t n a b = record {
       let parts = Takes-split p q (s w.0) (t w.1) (subst (λ (u : List ℕ). Takes p u q) h.1 k) in
       let mid : Place = after (length (s w.0)) p in
       let one : r p ≡ Ok (h.2.0, mid) = a.only p (s w.0) h.2.0 mid (w.0, refl, h.2.1) parts.0 in
-      let two : onwards p.at (f h.2.0) mid ≡ Ok (y, q) = onwards_only p.at (f h.2.0) (Spells t (n h.2.0)) mid q (t w.1) y (b p.at w.0 h.2.0 h.2.1) (w.1, refl, h.2.2) parts.1 in
+      let two : onwards p.at (f h.2.0) mid
+      ≡ Ok (y, q) = onwards_only p.at (f h.2.0) (Spells t (n h.2.0)) mid q (t w.1) y (b p.at w.0 h.2.0 h.2.1)
+      (w.1, refl, h.2.2) parts.1 in
       rw one two;
 }
 
 -- an item, and then what it leads to
-pub lead_exact : {A B R S : Type 0} {r : Reader A} {s : R → List ℕ} {m : ℕ → R → A → Type 0} (f : A → Result (Reader B) FormatKind) (t : S → List ℕ) (n : A → ℕ → S → B → Type 0)
-    → Exact r (Spells s m) → ((x : A) → Leads (f x) (Spells t (n x))) → Exact (lead r f) (Spells (λ (w : R × S). s w.0 ++ t w.1) (Both s m n))
+pub lead_exact : {A B R S : Type 0} {r : Reader A} {s : R → List ℕ} {m : ℕ → R → A → Type 0}
+    (f : A → Result (Reader B) FormatKind) (t : S → List ℕ) (n : A → ℕ → S → B → Type 0)
+    → Exact r (Spells s m) → ((x : A) → Leads (f x) (Spells t (n x)))
+    → Exact (lead r f) (Spells (λ (w : R × S). s w.0 ++ t w.1) (Both s m n))
 lead_exact f t n a b = lead_exact_of f t n a (λ at w x h. b x)
 
 -- an item, and then more, which may rely on what the item stands for
-pub bind_exact_of : {A B R S : Type 0} {r : Reader A} {s : R → List ℕ} {m : ℕ → R → A → Type 0} (f : A → Reader B) (t : S → List ℕ) (n : A → ℕ → S → B → Type 0)
-    → Exact r (Spells s m) → ((at : ℕ) (w : R) (x : A) → m at w x → Exact (f x) (Spells t (n x))) → Exact (bind r f) (Spells (λ (w : R × S). s w.0 ++ t w.1) (Both s m n))
+pub bind_exact_of : {A B R S : Type 0} {r : Reader A} {s : R → List ℕ} {m : ℕ → R → A → Type 0} (f : A → Reader B)
+    (t : S → List ℕ) (n : A → ℕ → S → B → Type 0)
+    → Exact r (Spells s m) → ((at : ℕ) (w : R) (x : A) → m at w x → Exact (f x) (Spells t (n x)))
+    → Exact (bind r f) (Spells (λ (w : R × S). s w.0 ++ t w.1) (Both s m n))
 unfolding bind lead
 bind_exact_of f t n a b = lead_exact_of (λ x. Ok (f x)) t n a b
 
 -- an item, and then more
-pub bind_exact : {A B R S : Type 0} {r : Reader A} {s : R → List ℕ} {m : ℕ → R → A → Type 0} (f : A → Reader B) (t : S → List ℕ) (n : A → ℕ → S → B → Type 0)
-    → Exact r (Spells s m) → ((x : A) → Exact (f x) (Spells t (n x))) → Exact (bind r f) (Spells (λ (w : R × S). s w.0 ++ t w.1) (Both s m n))
+pub bind_exact : {A B R S : Type 0} {r : Reader A} {s : R → List ℕ} {m : ℕ → R → A → Type 0} (f : A → Reader B)
+    (t : S → List ℕ) (n : A → ℕ → S → B → Type 0)
+    → Exact r (Spells s m) → ((x : A) → Exact (f x) (Spells t (n x)))
+    → Exact (bind r f) (Spells (λ (w : R × S). s w.0 ++ t w.1) (Both s m n))
 bind_exact f t n a b = bind_exact_of f t n a (λ at w x h. b x)
 
 -- the same structure, told with names
-pub as_raw : {A R S : Type 0} {r : Reader A} {s : R → List ℕ} {m : ℕ → R → A → Type 0} (t : S → List ℕ) (n : ℕ → S → A → Type 0) (to : R → S) (from : S → R)
-    → ((at : ℕ) (w : R) (x : A) → m at w x → (s w ≡ t (to w)) × n at (to w) x) → ((at : ℕ) (v : S) (x : A) → n at v x → (t v ≡ s (from v)) × m at (from v) x) → Exact r (Spells s m) → Exact r (Spells t n)
+pub as_raw : {A R S : Type 0} {r : Reader A} {s : R → List ℕ} {m : ℕ → R → A → Type 0} (t : S → List ℕ)
+    (n : ℕ → S → A → Type 0) (to : R → S) (from : S → R)
+    → ((at : ℕ) (w : R) (x : A) → m at w x → (s w ≡ t (to w)) × n at (to w) x)
+    → ((at : ℕ) (v : S) (x : A) → n at v x → (t v ≡ s (from v)) × m at (from v) x) → Exact r (Spells s m)
+    → Exact r (Spells t n)
 as_raw t n to from there back e = record {
-  found = λ p x q fits h. let o = e.found p x q fits h in let k = there p.at o.1.0 x o.1.2 in (o.0, (to o.1.0, o.1.1 ∙ k.0, k.1), o.2);
+  found = λ p x q fits h. let o = e.found p x q fits h in let k = there p.at o.1.0 x o.1.2 in
+      (o.0, (to o.1.0, o.1.1 ∙ k.0, k.1), o.2);
   only = λ p text x q h k. let b = back p.at h.0 x h.2 in e.only p text x q (from h.0, h.1 ∙ b.0, b.1) k;
 }
 
@@ -153,17 +192,25 @@ IsBytes-take n bytes h i =
 
 -- the bytes of a text that was taken
 taken_bytes : (p q : Place) (text : List ℕ) → Takes p text q → IsBytes p.bytes → IsBytes text
-taken_bytes p q text t fits = subst (λ (u : List ℕ). IsBytes u) (ap (take (length text)) t.parts ∙ take_at text (left q) (length text) refl) (IsBytes-take (length text) (left p) (IsBytes-drop p.at p.bytes fits))
+taken_bytes p q text t fits = subst (λ (u : List ℕ). IsBytes u)
+    (ap (take (length text)) t.parts ∙ take_at text (left q) (length text) refl)
+    (IsBytes-take (length text) (left p) (IsBytes-drop p.at p.bytes fits))
 
 -- the second part of bytes is bytes
 pub bytes_behind : (a b : List ℕ) → IsBytes (a ++ b) → IsBytes b
-bytes_behind a b h = subst (λ (u : List ℕ). IsBytes u) (drop_at a b (length a) refl) (IsBytes-drop (length a) (a ++ b) h)
+bytes_behind a b h = subst (λ (u : List ℕ). IsBytes u) (drop_at a b (length a) refl)
+    (IsBytes-drop (length a) (a ++ b) h)
 
 -- the same, where what stands for the value may rely on the text being bytes
-pub as_raw_bytes : {A R S : Type 0} {r : Reader A} {s : R → List ℕ} {m : ℕ → R → A → Type 0} (t : S → List ℕ) (n : ℕ → S → A → Type 0) (to : R → S) (from : S → R)
-    → ((at : ℕ) (w : R) (x : A) → IsBytes (s w) → m at w x → (s w ≡ t (to w)) × n at (to w) x) → ((at : ℕ) (v : S) (x : A) → n at v x → (t v ≡ s (from v)) × m at (from v) x) → Exact r (Spells s m) → Exact r (Spells t n)
+pub as_raw_bytes : {A R S : Type 0} {r : Reader A} {s : R → List ℕ} {m : ℕ → R → A → Type 0} (t : S → List ℕ)
+    (n : ℕ → S → A → Type 0) (to : R → S) (from : S → R)
+    → ((at : ℕ) (w : R) (x : A) → IsBytes (s w) → m at w x → (s w ≡ t (to w)) × n at (to w) x)
+    → ((at : ℕ) (v : S) (x : A) → n at v x → (t v ≡ s (from v)) × m at (from v) x) → Exact r (Spells s m)
+    → Exact r (Spells t n)
 as_raw_bytes t n to from there back e = record {
-  found = λ p x q fits h. let o = e.found p x q fits h in let k = there p.at o.1.0 x (subst (λ (u : List ℕ). IsBytes u) o.1.1 (taken_bytes p q o.0 o.2 fits)) o.1.2 in (o.0, (to o.1.0, o.1.1 ∙ k.0, k.1), o.2);
+  found = λ p x q fits h. let o = e.found p x q fits h in let k = there p.at o.1.0 x
+      (subst (λ (u : List ℕ). IsBytes u) o.1.1 (taken_bytes p q o.0 o.2 fits)) o.1.2 in
+      (o.0, (to o.1.0, o.1.1 ∙ k.0, k.1), o.2);
   only = λ p text x q h k. let b = back p.at h.0 x h.2 in e.only p text x q (from h.0, h.1 ∙ b.0, b.1) k;
 }
 
@@ -189,22 +236,44 @@ nothing_taken p = place_is p.bytes _ _ (omega arith)
 pub give_exact : {A : Type 0} (x : A) → Exact (give x) (Spells nothing (λ at u y. y ≡ x))
 unfolding give
 give_exact x = record {
-  found = λ p y q fits h. let e = ok_is (x, p) (y, q) h in let k : p ≡ q = ap (λ (w : _ × Place). w.1) e in ([], (tt, refl, sym (ap (λ (w : _ × Place). w.0) e)), record { parts = ap left k; moved = sym k ∙ nothing_taken p });
-  only = λ p text y q h k. let e : p ≡ q = nothing_taken p ∙ ap (λ (u : List ℕ). after (length u) p) (sym h.1) ∙ sym k.moved in rw (h.2, ← e) refl;
+  found = λ p y q fits h. let e = ok_is (x, p) (y, q) h in let k : p
+      ≡ q = ap (λ (w : _ × Place). w.1) e in (
+        [],
+        (tt, refl, sym (ap (λ (w : _ × Place). w.0) e)),
+        record {
+          parts = ap left k;
+          moved = sym k
+              ∙ nothing_taken p;
+        },
+      );
+  only = λ p text y q h k. let e : p ≡ q = nothing_taken p ∙ ap (λ (u : List ℕ). after (length u) p) (sym h.1)
+      ∙ sym k.moved in rw (h.2, ← e) refl;
 }
 
 -- the offset
 pub here_exact : Exact here (Spells nothing (λ at u y. y ≡ at))
 unfolding here
 here_exact = record {
-  found = λ p y q fits h. let e = ok_is (p.at, p) (y, q) h in let k : p ≡ q = ap (λ (w : _ × Place). w.1) e in ([], (tt, refl, sym (ap (λ (w : _ × Place). w.0) e)), record { parts = ap left k; moved = sym k ∙ nothing_taken p });
-  only = λ p text y q h k. let e : p ≡ q = nothing_taken p ∙ ap (λ (u : List ℕ). after (length u) p) (sym h.1) ∙ sym k.moved in rw (h.2, ← e) refl;
+  found = λ p y q fits h. let e = ok_is (p.at, p) (y, q) h in let k : p
+      ≡ q = ap (λ (w : _ × Place). w.1) e in (
+        [],
+        (tt, refl, sym (ap (λ (w : _ × Place). w.0) e)),
+        record {
+          parts = ap left k;
+          moved = sym k
+              ∙ nothing_taken p;
+        },
+      );
+  only = λ p text y q h k. let e : p ≡ q = nothing_taken p ∙ ap (λ (u : List ℕ). after (length u) p) (sym h.1)
+      ∙ sym k.moved in rw (h.2, ← e) refl;
 }
 
 -- a value that was found, or a fault before
-pub settle_exact : {A : Type 0} (at : ℕ) (o : Result A FormatKind) → Exact (settle at o) (Spells nothing (λ _ u y. o ≡ Ok y))
+pub settle_exact : {A : Type 0} (at : ℕ) (o : Result A FormatKind)
+    → Exact (settle at o) (Spells nothing (λ _ u y. o ≡ Ok y))
 unfolding settle give
-settle_exact at (Ok x) = as_raw nothing _ (λ w. w) (λ w. w) (λ at w y h. (refl, ap (λ v. Ok v) (sym h))) (λ at w y h. (refl, sym (let e : x ≡ y = cc in e))) (give_exact x)
+settle_exact at (Ok x) = as_raw nothing _ (λ w. w) (λ w. w) (λ at w y h. (refl, ap (λ v. Ok v) (sym h)))
+    (λ at w y h. (refl, sym (let e : x ≡ y = cc in e))) (give_exact x)
 settle_exact at (Err k) = record {
   found = λ p y q fits h. absurd cc;
   only = λ p text y q h t. absurd (let e : Err k ≡ Ok y = h.2 in cc);
@@ -213,24 +282,28 @@ settle_exact at (Err k) = record {
 -- a value that was found, or a fault with its offset
 pub told_exact : {A : Type 0} (o : Result A FormatFault) → Exact (told o) (Spells nothing (λ _ u y. o ≡ Ok y))
 unfolding told give
-told_exact (Ok x) = as_raw nothing _ (λ w. w) (λ w. w) (λ at w y h. (refl, ap (λ v. Ok v) (sym h))) (λ at w y h. (refl, sym (let e : x ≡ y = cc in e))) (give_exact x)
+told_exact (Ok x) = as_raw nothing _ (λ w. w) (λ w. w) (λ at w y h. (refl, ap (λ v. Ok v) (sym h)))
+    (λ at w y h. (refl, sym (let e : x ≡ y = cc in e))) (give_exact x)
 told_exact (Err k) = record {
   found = λ p y q fits h. absurd cc;
   only = λ p text y q h t. absurd (let e : Err k ≡ Ok y = h.2 in cc);
 }
 
 -- either reader, as a test goes
-pub if_exact : {A : Type 0} {r s : Reader A} {g : ℕ → List ℕ → A → Type 0} (b : Bool) → (b ≡ true → Exact r g) → (b ≡ false → Exact s g) → Exact (cond b r s) g
+pub if_exact : {A : Type 0} {r s : Reader A} {g : ℕ → List ℕ → A → Type 0} (b : Bool) → (b ≡ true → Exact r g)
+    → (b ≡ false → Exact s g) → Exact (cond b r s) g
 if_exact true a b = a refl
 if_exact false a b = b refl
 
 -- either lead, as a test goes
-pub leads_if : {A : Type 0} (r s : Result (Reader A) FormatKind) (g : ℕ → List ℕ → A → Type 0) (b : Bool) → (b ≡ true → Leads r g) → (b ≡ false → Leads s g) → Leads (cond b r s) g
+pub leads_if : {A : Type 0} (r s : Result (Reader A) FormatKind) (g : ℕ → List ℕ → A → Type 0) (b : Bool)
+    → (b ≡ true → Leads r g) → (b ≡ false → Leads s g) → Leads (cond b r s) g
 leads_if r s g true a b = a refl
 leads_if r s g false a b = b refl
 
 -- an item, and a value made of it
-pub map_exact : {A B R : Type 0} {r : Reader A} {s : R → List ℕ} {m : ℕ → R → A → Type 0} (f : A → B) → Exact r (Spells s m) → Exact (bind r (λ x. give (f x))) (Spells s (λ at raw y. (x : A) × m at raw x × (y ≡ f x)))
+pub map_exact : {A B R : Type 0} {r : Reader A} {s : R → List ℕ} {m : ℕ → R → A → Type 0} (f : A → B)
+    → Exact r (Spells s m) → Exact (bind r (λ x. give (f x))) (Spells s (λ at raw y. (x : A) × m at raw x × (y ≡ f x)))
 map_exact {s = s} {m = m} f e = as_raw s _ (λ w. w.0) (λ v. (v, tt))
     (λ at w y h. (append-nil (s w.0), h))
     (λ at v y h. (sym (append-nil (s v)), h))
@@ -238,11 +311,13 @@ map_exact {s = s} {m = m} f e = as_raw s _ (λ w. w.0) (λ v. (v, tt))
 
 -- the lead to a value that was found
 leads_given : {B : Type 0} (o : Result B FormatKind) → Leads (given o) (Spells nothing (λ at u y. o ≡ Ok y))
-leads_given (Ok x) = as_raw nothing _ (λ w. w) (λ w. w) (λ at w y h. (refl, ap (λ v. Ok v) (sym h))) (λ at w y h. (refl, sym (let e : x ≡ y = cc in e))) (give_exact x)
+leads_given (Ok x) = as_raw nothing _ (λ w. w) (λ w. w) (λ at w y h. (refl, ap (λ v. Ok v) (sym h)))
+    (λ at w y h. (refl, sym (let e : x ≡ y = cc in e))) (give_exact x)
 leads_given (Err k) = λ at t y h. absurd (let e : Err k ≡ Ok y = h.2 in cc)
 
 -- an item's meaning
-pub item_exact : {A B R : Type 0} {r : Reader A} {s : R → List ℕ} {m : ℕ → R → A → Type 0} (f : A → Result B FormatKind) → Exact r (Spells s m) → Exact (item r f) (Spells s (λ at raw y. (x : A) × m at raw x × (f x ≡ Ok y)))
+pub item_exact : {A B R : Type 0} {r : Reader A} {s : R → List ℕ} {m : ℕ → R → A → Type 0} (f : A → Result B FormatKind)
+    → Exact r (Spells s m) → Exact (item r f) (Spells s (λ at raw y. (x : A) × m at raw x × (f x ≡ Ok y)))
 item_exact {s = s} {m = m} f e = as_raw s _ (λ w. w.0) (λ v. (v, tt))
     (λ at w y h. (append-nil (s w.0), h))
     (λ at v y h. (sym (append-nil (s v)), h))
@@ -251,33 +326,52 @@ item_exact {s = s} {m = m} f e = as_raw s _ (λ w. w.0) (λ v. (v, tt))
 -- ---- n structures
 
 -- nothing read of no structure
-many_none : {A R : Type 0} (m : ℕ → R → A → Type 0) (s : R → List ℕ) (at : ℕ) (v : List R) (x : List A) → ManyStand s m 0 at v x → (flat_map s v ≡ []) × (x ≡ [])
+many_none : {A R : Type 0} (m : ℕ → R → A → Type 0) (s : R → List ℕ) (at : ℕ) (v : List R) (x : List A)
+    → ManyStand s m 0 at v x → (flat_map s v ≡ []) × (x ≡ [])
 many_none m s at [] [] h = (refl, refl)
 many_none m s at [] (y ∷ ys) h = absurd h.1
 many_none m s at (w ∷ v) x h = absurd (omega (arith, h.0))
 
 -- the head of what stands for a list
 abbrev Cons : {R A : Type 0} → (R → List ℕ) → (ℕ → R → A → Type 0) → ℕ → ℕ → List R → List A → Type 0
-Cons s m n at v x = (y : _) × (ys : _) × (w : _) × (ws : _) × (v ≡ w ∷ ws) × (x ≡ y ∷ ys) × m at w y × ManyStand s m n (at + length (s w)) ws ys
+Cons s m n at v x = (y : _) × (ys : _) × (w : _) × (ws : _) × (v ≡ w ∷ ws) × (x ≡ y ∷ ys) × m at w y
+    × ManyStand s m n (at + length (s w)) ws ys
 
-many_cons : {A R : Type 0} (s : R → List ℕ) (m : ℕ → R → A → Type 0) (n at : ℕ) (v : List R) (x : List A) → ManyStand s m (suc n) at v x → Cons s m n at v x
+many_cons : {A R : Type 0} (s : R → List ℕ) (m : ℕ → R → A → Type 0) (n at : ℕ) (v : List R) (x : List A)
+    → ManyStand s m (suc n) at v x → Cons s m n at v x
 many_cons s m n at [] x h = absurd (omega (arith, h.0))
 many_cons s m n at (w ∷ ws) [] h = absurd h.1
 many_cons s m n at (w ∷ ws) (y ∷ ys) h = (y, ys, w, ws, refl, refl, h.1.0, (omega (arith, h.0), h.1.1))
 
 -- one structure and n others
-both : {A R : Type 0} {r : Reader A} {s : R → List ℕ} {m : ℕ → R → A → Type 0} (n : ℕ) → Exact r (Spells s m) → Exact (many n r) (Spells (flat_map s) (ManyStand s m n))
-    → Exact (bind r (λ first. bind (many n r) (λ others. give (first ∷ others)))) (Spells (λ (w : R × List R). s w.0 ++ flat_map s w.1) (Both s m (λ first at raws xs. (ys : List A) × ManyStand s m n at raws ys × (xs ≡ first ∷ ys))))
-both {r = r} {s = s} {m = m} n e rest = bind_exact (λ first. bind (many n r) (λ others. give (first ∷ others))) (flat_map s) (λ first at raws xs. (ys : List _) × ManyStand s m n at raws ys × (xs ≡ first ∷ ys)) e (λ first. map_exact (λ others. first ∷ others) rest)
+both : {A R : Type 0} {r : Reader A} {s : R → List ℕ} {m : ℕ → R → A → Type 0} (n : ℕ) → Exact r (Spells s m)
+    → Exact (many n r) (Spells (flat_map s) (ManyStand s m n))
+    → Exact (bind r (λ first. bind (many n r) (λ others. give (first ∷ others))))
+    (Spells (λ (w : R × List R). s w.0 ++ flat_map s w.1)
+    (Both s m (λ first at raws xs. (ys : List A) × ManyStand s m n at raws ys × (xs ≡ first ∷ ys))))
+both {r = r} {s = s} {m = m} n e rest = bind_exact (λ first. bind (many n r) (λ others. give (first ∷ others)))
+    (flat_map s) (λ first at raws xs. (ys : List _) × ManyStand s m n at raws ys × (xs ≡ first ∷ ys)) e
+    (λ first. map_exact (λ others. first ∷ others) rest)
 
 -- one more structure
-step : {A R : Type 0} {r : Reader A} {s : R → List ℕ} {m : ℕ → R → A → Type 0} (n : ℕ) → Exact r (Spells s m) → Exact (many n r) (Spells (flat_map s) (ManyStand s m n))
-    → Exact (bind r (λ first. bind (many n r) (λ others. give (first ∷ others)))) (Spells (flat_map s) (ManyStand s m (suc n)))
+step : {A R : Type 0} {r : Reader A} {s : R → List ℕ} {m : ℕ → R → A → Type 0} (n : ℕ) → Exact r (Spells s m)
+    → Exact (many n r) (Spells (flat_map s) (ManyStand s m n))
+    → Exact (bind r (λ first. bind (many n r) (λ others. give (first ∷ others))))
+    (Spells (flat_map s) (ManyStand s m (suc n)))
 step {r = r} {s = s} {m = m} n e rest = record {
   found = λ p x q fits h.
       let o = (both {r = r} {s = s} {m = m} n e rest).found p x q fits h in
-      let w = o.1.0 in
-      (o.0, (w.0 ∷ w.1, o.1.1 ∙ sym (flat_map-cons s w.0 w.1), subst (λ (v : List _). ManyStand s m (suc n) p.at (w.0 ∷ w.1) v) (sym o.1.2.2.2) (ap suc o.1.2.2.1.0, (o.1.2.1, o.1.2.2.1.1))), o.2);
+      let w = o.1.0 in (
+        o.0,
+        (
+          w.0 ∷ w.1,
+          o.1.1 ∙ sym (flat_map-cons s w.0 w.1),
+          subst
+              (λ (v : List _). ManyStand s m (suc n) p.at (w.0 ∷ w.1) v) (sym o.1.2.2.2)
+              (ap suc o.1.2.2.1.0, (o.1.2.1, o.1.2.2.1.1)),
+        ),
+        o.2,
+      );
   only = λ p text x q h k.
       let c = many_cons s m n p.at h.0 x h.2 in
       let t : text ≡ s c.2 ++ flat_map s c.3 = h.1 ∙ ap (flat_map s) c.4 ∙ flat_map-cons s c.2 c.3 in
@@ -285,7 +379,8 @@ step {r = r} {s = s} {m = m} n e rest = record {
 }
 
 -- n structures, one behind the other
-pub many_exact : {A R : Type 0} {r : Reader A} {s : R → List ℕ} {m : ℕ → R → A → Type 0} (n : ℕ) → Exact r (Spells s m) → Exact (many n r) (Spells (flat_map s) (ManyStand s m n))
+pub many_exact : {A R : Type 0} {r : Reader A} {s : R → List ℕ} {m : ℕ → R → A → Type 0} (n : ℕ) → Exact r (Spells s m)
+    → Exact (many n r) (Spells (flat_map s) (ManyStand s m n))
 unfolding many
 many_exact {s = s} {m = m} zero e = as_raw {S = List _} (flat_map s) (ManyStand s m 0) (λ u. []) (λ v. tt)
     (λ at w x h. (refl, (refl, subst (λ (y : List _). AllStand s m at [] y) (sym h) tt)))
@@ -319,24 +414,42 @@ front_len n p le = rw front_is (omega (arith, length-take n (left p), length-dro
 
 -- they are taken where so many are left
 front_takes : (n : ℕ) (p : Place) → n ≤ length p.bytes - p.at → Takes p (front n p) (after n p)
-front_takes n p le = record { parts = sym (take-append-drop n (left p)) ∙ ap (λ (t : List ℕ). t ++ drop n (left p)) (sym (front_is n p)) ∙ ap (λ (t : List ℕ). front n p ++ t) (drop-drop n p.at p.bytes); moved = place_is p.bytes _ _ (ap (λ k. p.at + k) (sym (front_len n p le))) }
+front_takes n p le = record {
+  parts = sym (take-append-drop n (left p))
+      ∙ ap (λ (t : List ℕ). t ++ drop n (left p)) (sym (front_is n p))
+      ∙ ap (λ (t : List ℕ). front n p ++ t) (drop-drop n p.at p.bytes);
+  moved = place_is p.bytes _ _
+      (ap (λ k. p.at + k) (sym (front_len n p le)));
+}
 
 -- they are bytes
 front_bytes : (n : ℕ) (p : Place) → IsBytes p.bytes → IsBytes (front n p)
 front_bytes n p h = rw front_is (IsBytes-take n (left p) (IsBytes-drop p.at p.bytes h))
 
 -- what a text that is taken says of the bytes
-taken_front : (p q : Place) (t : List ℕ) → Takes p t q → (ltb (length p.bytes - p.at) (length t) ≡ false) × (front (length t) p ≡ t)
-taken_front p q t k = (le-ltb _ _ (omega (arith, length-drop p.at p.bytes, ap length k.parts, length-append t (left q))), front_is (length t) p ∙ ap (take (length t)) k.parts ∙ take_at t (left q) (length t) refl)
+taken_front : (p q : Place) (t : List ℕ) → Takes p t q
+    → (ltb (length p.bytes - p.at) (length t) ≡ false) × (front (length t) p ≡ t)
+taken_front p q t k = (
+  le-ltb _ _ (omega (
+    arith,
+    length-drop p.at p.bytes,
+    ap length k.parts,
+    length-append t
+        (left q),
+  )),
+  front_is (length t) p ∙ ap (take (length t)) k.parts ∙ take_at t (left q) (length t) refl,
+)
 
 -- the next n bytes
 pub bytes_exact : (n : ℕ) → Exact (bytes n) (Spells (λ t. t) (λ at t x. (length t ≡ n) × (x ≡ t)))
 unfolding bytes
 bytes_exact n = record {
   found = λ p x q fits h.
-      let g = guard_ok (ltb (length p.bytes - p.at) n) (ended p) (front n p, after n p) (x, q) (uncut (taken_at n p) (x, q) h) in
+      let g = guard_ok (ltb (length p.bytes - p.at) n) (ended p) (front n p, after n p) (x, q)
+      (uncut (taken_at n p) (x, q) h) in
       let long : n ≤ length p.bytes - p.at = ltb-false _ _ g.0 in
-      subst (λ (w : List ℕ × Place). (t : List ℕ) × Spells (λ t. t) (λ at t x. (length t ≡ n) × (x ≡ t)) p.at t w.0 × Takes p t w.1) g.1
+      subst (λ (w : List ℕ × Place). (t : List ℕ) × Spells (λ t. t) (λ at t x. (length t ≡ n) × (x ≡ t)) p.at t w.0
+      × Takes p t w.1) g.1
       (front n p, (front n p, refl, (front_len n p long, refl)), front_takes n p long);
   only = λ p text x q h k.
       let len : length text ≡ n = ap length h.1 ∙ h.2.0 in
@@ -348,7 +461,8 @@ bytes_exact n = record {
 -- the laws of the big-endian numbers of a width: below a limit, number and bytes tell each other
 pub record IsWide (w : Width) (limit : ℕ) : Type 0 where
   pub len : (n : ℕ) → length (to_be_bytes w n) ≡ byte_len w
-  pub back : (bytes : List ℕ) → length bytes ≡ byte_len w → IsBytes bytes → to_be_bytes w (from_be_bytes w bytes) ≡ bytes
+  pub back : (bytes : List ℕ) → length bytes ≡ byte_len w → IsBytes bytes
+      → to_be_bytes w (from_be_bytes w bytes) ≡ bytes
   pub again : (n : ℕ) → n < limit → from_be_bytes w (to_be_bytes w n) ≡ n
   pub below : (bytes : List ℕ) → IsBytes bytes → from_be_bytes w bytes < limit
 
@@ -368,7 +482,13 @@ one_byte (b ∷ c ∷ bs) len fits = absurd (omega (arith, len))
 
 -- numbers of one byte
 wide8 : IsWide w8 256
-wide8 = record { len = λ n. refl; back = one_byte; again = λ n lt. omega arith; below = λ bytes fits. omega (arith, fits 0) }
+wide8 = record {
+  len = λ n. refl;
+  back = one_byte;
+  again = λ n lt. omega arith;
+  below = λ bytes fits. omega
+      (arith, fits 0);
+}
 
 -- a number below a limit
 abbrev pub Below : ℕ → ℕ → ℕ → ℕ → Type 0
@@ -382,17 +502,26 @@ number w p = or_cut (number_at w p)
 number_exact : (w : Width) (limit : ℕ) → IsWide w limit → Exact (number w) (Spells (to_be_bytes w) (Below limit))
 number_exact w limit wide = record {
   found = λ p x q fits h.
-      let g = guard_ok (ltb (length p.bytes - p.at) (byte_len w)) (ended p) (from_be_bytes w (front (byte_len w) p), after (byte_len w) p) (x, q) (uncut (number_at w p) (x, q) h) in
+      let g = guard_ok (ltb (length p.bytes - p.at) (byte_len w)) (ended p)
+      (from_be_bytes w (front (byte_len w) p), after (byte_len w) p) (x, q) (uncut (number_at w p) (x, q) h) in
       let long : byte_len w ≤ length p.bytes - p.at = ltb-false _ _ g.0 in
       let f = front (byte_len w) p in
       let fit = front_bytes (byte_len w) p fits in
-      subst (λ (v : ℕ × Place). (t : List ℕ) × Spells (to_be_bytes w) (Below limit) p.at t v.0 × Takes p t v.1) g.1
-      (f, (from_be_bytes w f, sym (wide.back f (front_len (byte_len w) p long) fit), (wide.below f fit, refl)), front_takes (byte_len w) p long);
+      subst (λ (v : ℕ × Place). (t : List ℕ) × Spells (to_be_bytes w) (Below limit) p.at t v.0 × Takes p t v.1) g.1 (
+        f,
+        (
+          from_be_bytes w f,
+          sym (wide.back f (front_len (byte_len w) p long) fit),
+          (wide.below f fit, refl),
+        ),
+        front_takes (byte_len w) p long,
+      );
   only = λ p text x q h k.
       let len : length text ≡ byte_len w = ap length h.1 ∙ wide.len h.0 in
       let f = taken_front p q text k in
       let f0 : ltb (length p.bytes - p.at) (byte_len w) ≡ false = rw (← len) f.0 in
-      let f1 : from_be_bytes w (front (byte_len w) p) ≡ x = ap (λ j. from_be_bytes w (front j p)) (sym len) ∙ ap (from_be_bytes w) (f.1 ∙ h.1) ∙ wide.again h.0 h.2.0 ∙ sym h.2.1 in
+      let f1 : from_be_bytes w (front (byte_len w) p) ≡ x = ap (λ j. from_be_bytes w (front j p)) (sym len)
+      ∙ ap (from_be_bytes w) (f.1 ∙ h.1) ∙ wide.again h.0 h.2.0 ∙ sym h.2.1 in
       let f2 : after (byte_len w) p ≡ q = ap (λ j. after j p) (sym len) ∙ sym k.moved in
       rw (f0, f1, f2) refl;
 }
@@ -417,16 +546,19 @@ ok_reader : {B : Type 0} (a b : Reader B) → (let R : Result (Reader B) FormatK
 ok_reader a b h = cc
 
 -- a step leads where its lead does
-same_step : {A B : Type 0} (f : A → Reader B) (x : A) (s : Reader B) (q : Place) (y : B × Place) → (let R : Result (Reader B) FormatKind = Ok (f x) in R) ≡ Ok s → s q ≡ Ok y → f x q ≡ Ok y
+same_step : {A B : Type 0} (f : A → Reader B) (x : A) (s : Reader B) (q : Place) (y : B × Place)
+    → (let R : Result (Reader B) FormatKind = Ok (f x) in R) ≡ Ok s → s q ≡ Ok y → f x q ≡ Ok y
 same_step f x s q y e h = ap (λ (r : Reader _). r q) (ok_reader (f x) s e) ∙ h
 
 -- a step that did not fail
-pub bind_ok : {A B : Type 0} (r : Reader A) (f : A → Reader B) (p : Place) (y : B × Place) → bind r f p ≡ Ok y → (x : A) × (q : Place) × (r p ≡ Ok (x, q)) × (f x q ≡ Ok y)
+pub bind_ok : {A B : Type 0} (r : Reader A) (f : A → Reader B) (p : Place) (y : B × Place) → bind r f p ≡ Ok y
+    → (x : A) × (q : Place) × (r p ≡ Ok (x, q)) × (f x q ≡ Ok y)
 unfolding bind
 bind_ok r f p y h = let o = lead_ok p.at (λ x. Ok (f x)) (r p) y h in (o.0, o.1, o.3, same_step f o.0 o.2 o.1 y o.4 o.5)
 
 -- what follows an item that was read
-pub bind_is : {A B : Type 0} (r : Reader A) (f : A → Reader B) (p q : Place) (x : A) → r p ≡ Ok (x, q) → bind r f p ≡ f x q
+pub bind_is : {A B : Type 0} (r : Reader A) (f : A → Reader B) (p q : Place) (x : A) → r p ≡ Ok (x, q)
+    → bind r f p ≡ f x q
 unfolding bind
 bind_is r f p q x h = rw h refl
 
@@ -441,50 +573,64 @@ part_ended : (n : ℕ) (p : Place) → left (after n (cut_off n p)) ≡ []
 part_ended n p = drop_all (p.at + n) (take (p.at + n) p.bytes) (omega (arith, length-take (p.at + n) p.bytes))
 
 -- past a test that accepts
-guard_closed : {A X : Type 0} (b : Bool) (d : X) (x y : A) → cond b (Ok x) (Err d) ≡ Ok y → (b ≡ true) × (x ≡ y)
+pub guard_closed : {A X : Type 0} (b : Bool) (d : X) (x y : A) → cond b (Ok x) (Err d) ≡ Ok y → (b ≡ true) × (x ≡ y)
 guard_closed true d x y e = (refl, cc)
 guard_closed false d x y e = absurd cc
 
 -- a part that was read ended where it ends
-closed_ok : {A : Type 0} (attribute : ℕ) (end : Place) (read : Result (A × Place) FormatFault) (y : A × Place) → closed attribute end read ≡ Ok y
+closed_ok : {A : Type 0} (attribute : ℕ) (end : Place) (read : Result (A × Place) FormatFault) (y : A × Place)
+    → closed attribute end read ≡ Ok y
     → (q : Place) × (read ≡ Ok (y.0, q)) × (q.at ≡ end.at) × (y.1 ≡ end)
 closed_ok attribute end (Ok x) y h =
-    let g = guard_closed (eqb x.1.at end.at) (fault attribute BadAttribute) (x.0, end) y h in
-    (x.1, ap (λ (v : _ × Place). let R : Result (_ × Place) FormatFault = Ok (v.0, x.1) in R) g.1, eqb-true _ _ g.0, sym (ap (λ (v : _ × Place). v.1) g.1))
+    let g = guard_closed (eqb x.1.at end.at) (fault attribute BadAttribute) (x.0, end) y h in (
+      x.1,
+      ap (λ (v : _ × Place). let R : Result (_ × Place) FormatFault = Ok (v.0, x.1) in R) g.1,
+      eqb-true _ _ g.0,
+      sym
+          (ap (λ (v : _ × Place). v.1) g.1),
+    )
 closed_ok attribute end (Err f) y h = absurd cc
 
 -- a part that was read was there
-in_part_ok : {A : Type 0} (attribute : ℕ) (r : Reader A) (taken : Result (Place × Place) FormatFault) (y : A × Place) → in_part attribute r taken ≡ Ok y
+in_part_ok : {A : Type 0} (attribute : ℕ) (r : Reader A) (taken : Result (Place × Place) FormatFault) (y : A × Place)
+    → in_part attribute r taken ≡ Ok y
     → (places : Place × Place) × (taken ≡ Ok places) × (closed attribute places.1 (r places.0) ≡ Ok y)
 in_part_ok attribute r (Ok places) y h = (places, refl, h)
 in_part_ok attribute r (Err f) y h = absurd cc
 
 -- what a reader took of a part that it read to its end is the part
-part_takes : (n : ℕ) (p q : Place) (text : List ℕ) → n ≤ length p.bytes - p.at → q.at ≡ p.at + n → Takes (cut_off n p) text q → (length text ≡ n) × Takes p text (after n p)
+part_takes : (n : ℕ) (p q : Place) (text : List ℕ) → n ≤ length p.bytes - p.at → q.at ≡ p.at + n
+    → Takes (cut_off n p) text q → (length text ≡ n) × Takes p text (after n p)
 part_takes n p q text long end t =
     let moved : q.at ≡ p.at + length text = ap (λ (z : Place). z.at) t.moved in
     let len : length text ≡ n = omega (arith, moved, end) in
     let is : q ≡ after n (cut_off n p) = t.moved ∙ ap (λ k. after k (cut_off n p)) len in
     let none : left q ≡ [] = ap left is ∙ part_ended n p in
-    let whole : text ≡ front n p = sym (append-nil text) ∙ ap (λ (u : List ℕ). text ++ u) (sym none) ∙ sym t.parts ∙ part_left n p ∙ sym (front_is n p) in
+    let whole : text ≡ front n p = sym (append-nil text) ∙ ap (λ (u : List ℕ). text ++ u) (sym none) ∙ sym t.parts
+    ∙ part_left n p ∙ sym (front_is n p) in
     (len, subst (λ (u : List ℕ). Takes p u (after n p)) (sym whole) (front_takes n p long))
 
 -- a text that is taken is taken as a part too
-takes_part : (p q : Place) (text : List ℕ) → Takes p text q → Takes (cut_off (length text) p) text (after (length text) (cut_off (length text) p))
+takes_part : (p q : Place) (text : List ℕ) → Takes p text q
+    → Takes (cut_off (length text) p) text (after (length text) (cut_off (length text) p))
 takes_part p q text t = record {
-  parts = part_left (length text) p ∙ ap (take (length text)) t.parts ∙ take_at text (left q) (length text) refl ∙ sym (append-nil text) ∙ ap (λ (u : List ℕ). text ++ u) (sym (part_ended (length text) p));
+  parts = part_left (length text) p ∙ ap (take (length text)) t.parts ∙ take_at text (left q) (length text) refl
+      ∙ sym (append-nil text) ∙ ap (λ (u : List ℕ). text ++ u) (sym (part_ended (length text) p));
   moved = refl;
 }
 
 -- a part of n bytes is read in place exactly where they spell a structure that stands for the value
-pub part_exact : {A R : Type 0} {r : Reader A} {s : R → List ℕ} {m : ℕ → R → A → Type 0} (attribute n : ℕ) → Exact r (Spells s m)
+pub part_exact : {A R : Type 0} {r : Reader A} {s : R → List ℕ} {m : ℕ → R → A → Type 0} (attribute n : ℕ)
+    → Exact r (Spells s m)
     → Exact (part attribute n r) (Spells s (λ at raw x. (length (s raw) ≡ n) × m at raw x))
 unfolding part
 part_exact {r = r} {s = s} {m = m} attribute n e = record {
   found = λ p x q fits h.
       let o = in_part_ok attribute r (or_cut (part_at n p)) (x, q) h in
-      let g = guard_ok (ltb (length p.bytes - p.at) n) (ended p) (cut_off n p, after n p) o.0 (uncut (part_at n p) o.0 o.1) in
-      let c = closed_ok attribute (after n p) (r (cut_off n p)) (x, q) (subst (λ (w : Place × Place). closed attribute w.1 (r w.0) ≡ Ok (x, q)) (sym g.1) o.2) in
+      let g = guard_ok (ltb (length p.bytes - p.at) n) (ended p) (cut_off n p, after n p) o.0
+      (uncut (part_at n p) o.0 o.1) in
+      let c = closed_ok attribute (after n p) (r (cut_off n p)) (x, q)
+      (subst (λ (w : Place × Place). closed attribute w.1 (r w.0) ≡ Ok (x, q)) (sym g.1) o.2) in
       let f = e.found (cut_off n p) x c.0 (IsBytes-take (p.at + n) p.bytes fits) c.1 in
       let t = part_takes n p c.0 f.0 (ltb-false _ _ g.0) c.2 f.2 in
       (f.0, (f.1.0, f.1.1, (sym (ap length f.1.1) ∙ t.0, f.1.2)), subst (λ (z : Place). Takes p f.0 z) (sym c.3) t.1);
@@ -492,7 +638,9 @@ part_exact {r = r} {s = s} {m = m} attribute n e = record {
       let len : length text ≡ n = ap length h.1 ∙ h.2.0 in
       let within : Place = cut_off (length text) p in
       let there : ltb (length p.bytes - p.at) (length text) ≡ false = (taken_front p q text k).0 in
-      let one : r within ≡ Ok (x, after (length text) within) = e.only within text x (after (length text) within) (h.0, h.1, h.2.1) (takes_part p q text k) in
+      let one : r within ≡ Ok (x, after (length text) within) = e.only within text x (after (length text) within)
+      (h.0, h.1, h.2.1) (takes_part p q text k) in
       let end : eqb (p.at + length text) (p.at + length text) ≡ true = eq-eqb _ _ refl in
-      subst (λ (j : ℕ). in_part attribute r (or_cut (part_at j p)) ≡ Ok (x, q)) len (rw (there, one, end, k.moved) refl);
+      subst (λ (j : ℕ). in_part attribute r (or_cut (part_at j p)) ≡ Ok (x, q)) len
+      (rw (there, one, end, k.moved) refl);
 }

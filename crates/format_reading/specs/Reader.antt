@@ -53,7 +53,8 @@ onwards at (Ok r) p = r p
 onwards at (Err kind) p = Err (fault at kind)
 
 -- what an item that was read leads to; its fault stays
-abbrev pub after_read : {A B : Type 0} → ℕ → (A → Result (Reader B) FormatKind) → Result (A × Place) FormatFault → Result (B × Place) FormatFault
+abbrev pub after_read : {A B : Type 0} → ℕ → (A → Result (Reader B) FormatKind) → Result (A × Place) FormatFault
+    → Result (B × Place) FormatFault
 after_read at f (Ok x) = onwards at (f x.0) x.1
 after_read at f (Err e) = Err e
 

@@ -1,5 +1,6 @@
 -- Well-formed frames are read back from their canonical rows (JVMS 4.7.4).
-use Rattle.std.proofs.Common.{◌≡◌, ℕ, zero, suc, ◌+◌, ◌^◌, ◌<◌, ◌≤◌, Bool, true, false, List, [], ◌∷◌, length, map, get_or, Option, Some, None, refl, sym, ap, subst, ◌∙◌, ne_eqb, arith}
+use Rattle.std.proofs.Common.{◌≡◌, ℕ, zero, suc, ◌+◌, ◌^◌, ◌<◌, ◌≤◌, Bool, true, false, List, [], ◌∷◌, length, map}
+use Rattle.std.proofs.Common.{get_or, Option, Some, None, refl, sym, ap, subst, ◌∙◌, ne_eqb, arith}
 use Rattle.std.specs.Prelude.{AllPairs, option_map, position, nat_eq, slice_get, slice_index}
 use Rattle.std.specs.List.{AllByRecursion, position_from}
 use Rattle.std.proofs.lemmas.Bool.{eq-eqb}
@@ -38,12 +39,14 @@ first_at p k (suc n) (x ∷ xs) lt passes before =
     ∙ ap (λ (m : ℕ). let O : Option ℕ = Some m in O) e)
 
 -- of ascending offsets each is found where it stands
-number_is : (starts : List ℕ) (n : ℕ) → AllPairs ◌<◌ starts → n < length starts → position (nat_eq (get_or starts n 0)) starts ≡ Some n
+number_is : (starts : List ℕ) (n : ℕ) → AllPairs ◌<◌ starts → n < length starts
+    → position (nat_eq (get_or starts n 0)) starts ≡ Some n
 number_is starts n ascend lt =
     let e : 0 + n ≡ n = omega arith in
     position_from-zero (nat_eq (get_or starts n 0)) starts
     ∙ first_at (nat_eq (get_or starts n 0)) 0 n starts lt (eq-eqb _ _ refl)
-    (λ i below. let less : get_or starts i 0 < get_or starts n 0 = ascend i n 0 below lt in ne_eqb _ _ (λ same. absurd (omega
+    (λ i below. let less : get_or starts i 0 < get_or starts n 0 = ascend i n 0 below lt in ne_eqb _ _
+    (λ same. absurd (omega
     (arith, less, same))))
     ∙ ap (λ (m : ℕ). let O : Option ℕ = Some m in O) e
 
@@ -54,7 +57,7 @@ each_holds P (x ∷ xs) (suc n) all lt = each_holds P xs n all.1 (omega (arith, 
 
 -- ---- room
 
-some_words : (ty : VType) → 1 ≤ words_of_type ty
+pub some_words : (ty : VType) → 1 ≤ words_of_type ty
 some_words vtype.Top = omega arith
 some_words vtype.Int = omega arith
 some_words vtype.Long = omega arith
@@ -63,11 +66,12 @@ some_words vtype.UninitThis = omega arith
 some_words (vtype.Object class) = omega arith
 some_words (vtype.Uninit n) = omega arith
 
-words_more : (ty : VType) (types : List VType) → words_of_types (ty ∷ types) ≡ words_of_type ty + words_of_types types
+pub words_more : (ty : VType) (types : List VType)
+    → words_of_types (ty ∷ types) ≡ words_of_type ty + words_of_types types
 words_more ty types = sum_by-append words_of_type (ty ∷ []) types ∙ omega arith
 
 -- each type takes a word at least
-fewer_than_words : (types : List VType) → length types ≤ words_of_types types
+pub fewer_than_words : (types : List VType) → length types ≤ words_of_types types
 fewer_than_words [] = omega arith
 fewer_than_words (ty ∷ types) =
     let one = some_words ty in
@@ -85,7 +89,8 @@ module _ (entries : List Entry) (constants : List PoolConstant) (starts : List �
   abbrev ops_of : List Op
   ops_of = map (λ (i : Ins). i.op) code.ins
 
-  place_is : AreWritableFrames entries constants starts code → (n : ℕ) → n < length code.ins → HasPlace entries constants starts ops_of n
+  place_is : AreWritableFrames entries constants starts code → (n : ℕ) → n < length code.ins
+      → HasPlace entries constants starts ops_of n
   place_is w n lt =
       let within : n < length starts = subst (λ (k : ℕ). n < k) (sym w.begin) lt in
       record {
@@ -97,10 +102,12 @@ module _ (entries : List Entry) (constants : List PoolConstant) (starts : List �
   new_found : (n : ℕ) (at : Ins) (name : List ℕ) → slice_get code.ins n ≡ Some at → at.op ≡ op.New name
       → is_new entries starts ops_of (slice_get ops_of n) ≡ true
   new_found n at name there new =
-      ap (is_new entries starts ops_of) (slice_get-map (λ (i : Ins). i.op) code.ins n ∙ ap (option_map (λ (i : Ins). i.op)) there
+      ap (is_new entries starts ops_of) (slice_get-map (λ (i : Ins). i.op) code.ins n
+      ∙ ap (option_map (λ (i : Ins). i.op)) there
       ∙ ap (λ (o : Op). let O : Option Op = Some o in O) new)
 
-  type_is : AreWritableFrames entries constants starts code → (ty : VType) → IsGoodType code.ins ty → IsSaid entries constants ty
+  type_is : AreWritableFrames entries constants starts code → (ty : VType) → IsGoodType code.ins ty
+      → IsSaid entries constants ty
       → IsKnownType entries constants starts ops_of ty
   type_is w vtype.Top good said = tt
   type_is w vtype.Int good said = tt
@@ -108,9 +115,11 @@ module _ (entries : List Entry) (constants : List PoolConstant) (starts : List �
   type_is w vtype.Null good said = tt
   type_is w vtype.UninitThis good said = tt
   type_is w (vtype.Object class) good said = said
-  type_is w (vtype.Uninit n) good said = (place_is w n (slice_get_within code.ins n good.0 good.2), new_found n good.0 good.1 good.2 good.3)
+  type_is w (vtype.Uninit n) good said =
+      (place_is w n (slice_get_within code.ins n good.0 good.2), new_found n good.0 good.1 good.2 good.3)
 
-  types_are : AreWritableFrames entries constants starts code → (types : List VType) → AllByRecursion (IsGoodType code.ins) types
+  types_are : AreWritableFrames entries constants starts code → (types : List VType)
+      → AllByRecursion (IsGoodType code.ins) types
       → AllByRecursion (IsSaid entries constants) types
       → AllByRecursion (IsKnownType entries constants starts ops_of) types
   types_are w [] good said = tt
@@ -133,7 +142,8 @@ module _ (entries : List Entry) (constants : List PoolConstant) (starts : List �
         stack_fits = good.stack_fits;
       }
 
-  frames_are : AreWritableFrames entries constants starts code → (frames : List FrameAt) → AllByRecursion (IsGoodFrame code) frames
+  frames_are : AreWritableFrames entries constants starts code → (frames : List FrameAt)
+      → AllByRecursion (IsGoodFrame code) frames
       → AllByRecursion (TypesAreSaid entries constants) frames
       → AllByRecursion (IsKnownFrame entries constants starts ops_of code.max_stack code.max_locals) frames
   frames_are w [] good said = tt
@@ -145,8 +155,11 @@ module _ (entries : List Entry) (constants : List PoolConstant) (starts : List �
   follow_on w frame [] ascending good = tt
   follow_on w frame (next ∷ frames) ascending good =
       let before : frame.index < next.index = ascending 0 1 frame (omega arith) (omega arith) in
-      let within : next.index < length starts = subst (λ (k : ℕ). next.index < k) (sym w.begin) good.0.index in
-      (w.offsets_ascend frame.index next.index 0 before within, follow_on w next frames (tail_pairs frame (next ∷ frames) ascending) good.1)
+      let within : next.index < length starts = subst (λ (k : ℕ). next.index < k) (sym w.begin) good.0.index in (
+        w.offsets_ascend frame.index next.index 0 before within,
+        follow_on w next frames
+            (tail_pairs frame (next ∷ frames) ascending) good.1,
+      )
 
   follow_all : AreWritableFrames entries constants starts code → (frames : List FrameAt) → AllPairs Ascend frames
       → AllByRecursion (IsGoodFrame code) frames → Follow entries constants starts ops_of None frames
@@ -156,6 +169,7 @@ module _ (entries : List Entry) (constants : List PoolConstant) (starts : List �
 -- the canonical rows of the frames of a well-formed code are read as these frames
 pub good_frames_read_back : GoodFramesAreReadBack
 good_frames_read_back entries constants starts code first w =
-    frames_read_back entries constants starts (map (λ (i : Ins). i.op) code.ins) code.max_stack code.max_locals first code.frames w.count
+    frames_read_back entries constants starts
+    (map (λ (i : Ins). i.op) code.ins) code.max_stack code.max_locals first code.frames w.count
     (frames_are entries constants starts code w code.frames w.good w.said)
     (follow_all entries constants starts code w code.frames w.ascending w.good)

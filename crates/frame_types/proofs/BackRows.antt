@@ -1,5 +1,6 @@
 -- Canonical rows are read as they are written (JVMS 4.7.4).
-use Rattle.std.proofs.Common.{◌≡◌, ℕ, zero, suc, ◌+◌, ◌-◌, ◌^◌, ◌<◌, ◌≤◌, Bool, true, false, cond, leb, List, [], ◌∷◌, ◌++◌, length, map, Ok, refl, sym, ap, subst, append_assoc, arith}
+use Rattle.std.proofs.Common.{◌≡◌, ℕ, zero, suc, ◌+◌, ◌-◌, ◌^◌, ◌<◌, ◌≤◌, Bool, true, false, cond, leb, List, [], ◌∷◌}
+use Rattle.std.proofs.Common.{◌++◌, length, map, Ok, refl, sym, ap, subst, append_assoc, arith}
 use Rattle.std.specs.Int.{w16, to_be_bytes}
 use Rattle.std.specs.List.{AllByRecursion, flat_map}
 use Rattle.std.proofs.lemmas.Bool.{le-leb, lt-leb, leb-true}
@@ -13,30 +14,39 @@ use Rattle.class_model.specs.declared.frame.VType.TheVariants as vtype
 use Rattle.class_model.specs.CanonicalPool.{index_of, class_constant, type_name}
 use Rattle.class_model.specs.CanonicalFrames as canonical
 use Rattle.class_model.specs.CanonicalFrames.{Form, type_info, row}
-use Rattle.class_model.specs.Frames.{VerificationTypeInfo, TagInfo, ObjectInfo, UninitializedInfo, StackMapFrame, SameFrame, SameLocalsOneStackItem, SameLocalsOneStackItemExtended, ChopFrame, SameFrameExtended, AppendFrame, FullFrame, verification_type_info, counted_types, stack_map_frame}
+use Rattle.class_model.specs.Frames.{VerificationTypeInfo, TagInfo, ObjectInfo, UninitializedInfo, StackMapFrame}
+use Rattle.class_model.specs.Frames.{SameFrame, SameLocalsOneStackItem, SameLocalsOneStackItemExtended, ChopFrame}
+use Rattle.class_model.specs.Frames.{SameFrameExtended, AppendFrame, FullFrame, verification_type_info, counted_types}
+use Rattle.class_model.specs.Frames.{stack_map_frame}
 use Rattle.class_model.specs.ReadingFrames as reading
 use Rattle.class_model.specs.ReadingFrames.{read_type, type_begun, read_row, row_begun, at_row}
 use Rattle.frame_types.specs.ReadBack.{IsKnownType}
-use Rattle.frame_types.proofs.Spelled.{Gives, gives_nothing, gives_then, gives_last, gives_lead, gives_byte, gives_u2, gives_many}
+use Rattle.frame_types.proofs.Spelled.{Gives, gives_nothing, gives_then, gives_last, gives_lead, gives_byte, gives_u2}
+use Rattle.frame_types.proofs.Spelled.{gives_many}
 
 -- ---- types
 
 tag_back : (tag : ℕ) → tag < 256 → type_begun tag ≡ Ok (give (TagInfo tag)) → Gives read_type (tag ∷ []) (TagInfo tag)
 unfolding read_type
-tag_back tag lt begins = gives_lead u1 type_begun (give (TagInfo tag)) (tag ∷ []) [] tag (TagInfo tag) (gives_byte tag lt) begins
+tag_back tag lt begins = gives_lead u1 type_begun (give (TagInfo tag)) (tag ∷ []) [] tag (TagInfo tag)
+    (gives_byte tag lt) begins
     (gives_nothing (TagInfo tag))
 
-object_back : (index : ℕ) → index < 2 ^ 16 → Gives read_type (verification_type_info (ObjectInfo index)) (ObjectInfo index)
+object_back : (index : ℕ) → index < 2 ^ 16
+    → Gives read_type (verification_type_info (ObjectInfo index)) (ObjectInfo index)
 unfolding read_type
 object_back index lt =
-    gives_lead u1 type_begun reading.object_info (7 ∷ []) (to_be_bytes w16 index) 7 (ObjectInfo index) (gives_byte 7 (omega arith)) refl
+    gives_lead u1 type_begun reading.object_info (7 ∷ []) (to_be_bytes w16 index) 7 (ObjectInfo index)
+    (gives_byte 7 (omega arith)) refl
     (gives_last u2 (λ i. ObjectInfo i) (to_be_bytes w16 index) index (gives_u2 index lt))
 
-uninitialized_back : (offset : ℕ) → offset < 2 ^ 16 → Gives read_type (verification_type_info (UninitializedInfo offset))
+uninitialized_back : (offset : ℕ) → offset < 2 ^ 16
+    → Gives read_type (verification_type_info (UninitializedInfo offset))
     (UninitializedInfo offset)
 unfolding read_type
 uninitialized_back offset lt =
-    gives_lead u1 type_begun reading.uninitialized_info (8 ∷ []) (to_be_bytes w16 offset) 8 (UninitializedInfo offset) (gives_byte 8
+    gives_lead u1 type_begun reading.uninitialized_info (8 ∷ []) (to_be_bytes w16 offset) 8 (UninitializedInfo offset)
+    (gives_byte 8
     (omega arith)) refl
     (gives_last u2 (λ i. UninitializedInfo i) (to_be_bytes w16 offset) offset (gives_u2 offset lt))
 
@@ -65,29 +75,35 @@ module _ (entries : List Entry) (constants : List PoolConstant) (starts : List �
   type_back (vtype.Uninit n) known = uninitialized_back _ known.0.offset
 
   each_back : (types : List VType) → AllByRecursion Known types
-      → AllByRecursion (λ (i : VerificationTypeInfo). Gives read_type (verification_type_info i) i) (map (type_info constants starts) types)
+      → AllByRecursion (λ (i : VerificationTypeInfo). Gives read_type (verification_type_info i) i)
+      (map (type_info constants starts) types)
   each_back [] known = tt
   each_back (ty ∷ types) known = (type_back ty known.0, each_back types known.1)
 
   -- so many of them, one behind the other
-  types_back : (types : List VType) (n : ℕ) → n ≡ length (map (type_info constants starts) types) → AllByRecursion Known types
+  types_back : (types : List VType) (n : ℕ) → n ≡ length (map (type_info constants starts) types)
+      → AllByRecursion Known types
       → Gives (many n read_type) (flat_map verification_type_info (map (type_info constants starts) types)) (map
       (type_info constants starts) types)
   types_back types n counted known =
-      subst (λ (k : ℕ). Gives (many k read_type) (flat_map verification_type_info (map (type_info constants starts) types)) (map
+      subst (λ (k : ℕ). Gives (many k read_type)
+      (flat_map verification_type_info (map (type_info constants starts) types)) (map
       (type_info constants starts) types)) (sym counted)
       (gives_many read_type verification_type_info (map (type_info constants starts) types) (each_back types known))
 
   -- ---- forms
 
-  same_by : (delta : ℕ) (b : Bool) → leb delta 63 ≡ b → delta < 2 ^ 16 → IsReadRow (cond b (SameFrame delta) (SameFrameExtended delta))
+  same_by : (delta : ℕ) (b : Bool) → leb delta 63 ≡ b → delta < 2 ^ 16
+      → IsReadRow (cond b (SameFrame delta) (SameFrameExtended delta))
   same_by delta true short lt =
       let le : delta ≤ 63 = leb-true _ _ short in
       let least : delta < 256 = omega (arith, le) in
-      gives_lead u1 row_begun (give (SameFrame delta)) (delta ∷ []) [] delta (SameFrame delta) (gives_byte delta least) (rw short refl)
+      gives_lead u1 row_begun (give (SameFrame delta)) (delta ∷ []) [] delta (SameFrame delta) (gives_byte delta least)
+      (rw short refl)
       (gives_nothing (SameFrame delta))
   same_by delta false long lt =
-      gives_lead u1 row_begun reading.same_extended (251 ∷ []) (to_be_bytes w16 delta) 251 (SameFrameExtended delta) (gives_byte 251
+      gives_lead u1 row_begun reading.same_extended (251 ∷ []) (to_be_bytes w16 delta) 251 (SameFrameExtended delta)
+      (gives_byte 251
       (omega arith)) refl
       (gives_last u2 (λ d. SameFrameExtended d) (to_be_bytes w16 delta) delta (gives_u2 delta lt))
 
@@ -95,7 +111,8 @@ module _ (entries : List Entry) (constants : List PoolConstant) (starts : List �
   same_back delta lt = same_by delta (leb delta 63) refl lt
 
   item_by : (delta : ℕ) (item : VType) (b : Bool) → leb delta 63 ≡ b → delta < 2 ^ 16 → Known item
-      → IsReadRow (cond b (SameLocalsOneStackItem (64 + delta) (type_info constants starts item)) (SameLocalsOneStackItemExtended delta
+      → IsReadRow (cond b (SameLocalsOneStackItem (64 + delta) (type_info constants starts item))
+      (SameLocalsOneStackItemExtended delta
       (type_info constants starts item)))
   item_by delta item true short lt known =
       let le : delta ≤ 63 = leb-true _ _ short in
@@ -103,9 +120,11 @@ module _ (entries : List Entry) (constants : List PoolConstant) (starts : List �
       let below : leb (64 + delta) 127 ≡ true = le-leb (64 + delta) 127 (omega (arith, le)) in
       gives_lead u1 row_begun (reading.one_item (64 + delta)) ((64 + delta) ∷ []) (verification_type_info
       (type_info constants starts item)) (64 + delta)
-      (SameLocalsOneStackItem (64 + delta) (type_info constants starts item)) (gives_byte (64 + delta) (omega (arith, le))) (rw
+      (SameLocalsOneStackItem (64 + delta) (type_info constants starts item))
+      (gives_byte (64 + delta) (omega (arith, le))) (rw
       (above, below) refl)
-      (gives_last read_type (λ i. SameLocalsOneStackItem (64 + delta) i) _ (type_info constants starts item) (type_back item known))
+      (gives_last read_type (λ i. SameLocalsOneStackItem (64 + delta) i) _ (type_info constants starts item)
+      (type_back item known))
   item_by delta item false long lt known =
       gives_lead u1 row_begun reading.one_item_extended (247 ∷ []) (to_be_bytes w16 delta ++ verification_type_info
       (type_info constants starts item)) 247
@@ -113,49 +132,60 @@ module _ (entries : List Entry) (constants : List PoolConstant) (starts : List �
       (gives_then u2 (λ d. bind read_type (λ i. give (SameLocalsOneStackItemExtended d i))) (to_be_bytes w16 delta)
       (verification_type_info (type_info constants starts item)) delta
       (SameLocalsOneStackItemExtended delta (type_info constants starts item)) (gives_u2 delta lt)
-      (gives_last read_type (λ i. SameLocalsOneStackItemExtended delta i) _ (type_info constants starts item) (type_back item known)))
+      (gives_last read_type (λ i. SameLocalsOneStackItemExtended delta i) _ (type_info constants starts item)
+      (type_back item known)))
 
   pub item_back : (delta : ℕ) (item : VType) → delta < 2 ^ 16 → Known item
       → IsReadRow (row constants starts delta (canonical.same_with_item item))
   item_back delta item lt known = item_by delta item (leb delta 63) refl lt known
 
-  chop_of : (frame_type delta : ℕ) → frame_type < 256 → row_begun frame_type ≡ Ok (reading.chop frame_type) → delta < 2 ^ 16
+  chop_of : (frame_type delta : ℕ) → frame_type < 256 → row_begun frame_type ≡ Ok (reading.chop frame_type)
+      → delta < 2 ^ 16
       → IsReadRow (ChopFrame frame_type delta)
   chop_of frame_type delta byte begins lt =
-      gives_lead u1 row_begun (reading.chop frame_type) (frame_type ∷ []) (to_be_bytes w16 delta) frame_type (ChopFrame frame_type delta)
+      gives_lead u1 row_begun (reading.chop frame_type) (frame_type ∷ []) (to_be_bytes w16 delta) frame_type
+      (ChopFrame frame_type delta)
       (gives_byte frame_type byte) begins
       (gives_last u2 (λ d. ChopFrame frame_type d) (to_be_bytes w16 delta) delta (gives_u2 delta lt))
 
-  pub chop_back : (delta gone : ℕ) → 1 ≤ gone → gone ≤ 3 → delta < 2 ^ 16 → IsReadRow (row constants starts delta (canonical.chop gone))
+  pub chop_back : (delta gone : ℕ) → 1 ≤ gone → gone ≤ 3 → delta < 2 ^ 16
+      → IsReadRow (row constants starts delta (canonical.chop gone))
   chop_back delta zero least most lt = absurd (omega (arith, least))
   chop_back delta (suc zero) least most lt = chop_of 250 delta (omega arith) refl lt
   chop_back delta (suc (suc zero)) least most lt = chop_of 249 delta (omega arith) refl lt
   chop_back delta (suc (suc (suc zero))) least most lt = chop_of 248 delta (omega arith) refl lt
   chop_back delta (suc (suc (suc (suc n)))) least most lt = absurd (omega (arith, most))
 
-  append_of : (frame_type delta : ℕ) (types : List VType) → frame_type < 256 → row_begun frame_type ≡ Ok (reading.append frame_type)
+  append_of : (frame_type delta : ℕ) (types : List VType) → frame_type < 256
+      → row_begun frame_type ≡ Ok (reading.append frame_type)
       → frame_type - 251 ≡ length (map (type_info constants starts) types)
-      → delta < 2 ^ 16 → AllByRecursion Known types → IsReadRow (AppendFrame frame_type delta (map (type_info constants starts) types))
+      → delta < 2 ^ 16 → AllByRecursion Known types
+      → IsReadRow (AppendFrame frame_type delta (map (type_info constants starts) types))
   append_of frame_type delta types byte begins counted lt known =
       let infos = map (type_info constants starts) types in
       gives_lead u1 row_begun (reading.append frame_type) (frame_type ∷ [])
       (to_be_bytes w16 delta ++ flat_map verification_type_info infos) frame_type
       (AppendFrame frame_type delta infos) (gives_byte frame_type byte) begins
-      (gives_then u2 (λ d. bind (many (frame_type - 251) read_type) (λ l. give (AppendFrame frame_type d l))) (to_be_bytes w16 delta)
+      (gives_then u2 (λ d. bind (many (frame_type - 251) read_type) (λ l. give (AppendFrame frame_type d l)))
+      (to_be_bytes w16 delta)
       (flat_map verification_type_info infos) delta
       (AppendFrame frame_type delta infos) (gives_u2 delta lt)
-      (gives_last (many (frame_type - 251) read_type) (λ l. AppendFrame frame_type delta l) (flat_map verification_type_info infos) infos
+      (gives_last (many (frame_type - 251) read_type) (λ l. AppendFrame frame_type delta l)
+      (flat_map verification_type_info infos) infos
       (types_back types (frame_type - 251) counted known)))
 
-  pub append_back : (delta : ℕ) (types : List VType) → 1 ≤ length types → length types ≤ 3 → delta < 2 ^ 16 → AllByRecursion Known types
+  pub append_back : (delta : ℕ) (types : List VType) → 1 ≤ length types → length types ≤ 3 → delta < 2 ^ 16
+      → AllByRecursion Known types
       → IsReadRow (row constants starts delta (canonical.append types))
   append_back delta [] least most lt known = absurd (omega (arith, least))
   append_back delta (a ∷ []) least most lt known = append_of 252 delta (a ∷ []) (omega arith) refl refl lt known
   append_back delta (a ∷ b ∷ []) least most lt known = append_of 253 delta (a ∷ b ∷ []) (omega arith) refl refl lt known
-  append_back delta (a ∷ b ∷ c ∷ []) least most lt known = append_of 254 delta (a ∷ b ∷ c ∷ []) (omega arith) refl refl lt known
+  append_back delta (a ∷ b ∷ c ∷ []) least most lt known = append_of 254 delta (a ∷ b ∷ c ∷ [])
+      (omega arith) refl refl lt known
   append_back delta (a ∷ b ∷ c ∷ d ∷ types) least most lt known = absurd (omega (arith, most))
 
-  pub full_back : (delta : ℕ) (locals stack : List VType) → delta < 2 ^ 16 → length locals < 2 ^ 16 → length stack < 2 ^ 16
+  pub full_back : (delta : ℕ) (locals stack : List VType) → delta < 2 ^ 16 → length locals < 2 ^ 16
+      → length stack < 2 ^ 16
       → AllByRecursion Known locals → AllByRecursion Known stack
       → IsReadRow (row constants starts delta (canonical.full locals stack))
   full_back delta locals stack lt locals_short stack_short known_locals known_stack =
@@ -163,25 +193,32 @@ module _ (entries : List Entry) (constants : List PoolConstant) (starts : List �
       let ss = map (type_info constants starts) stack in
       let n = length ls in
       let m = length ss in
-      let n_short : n < 2 ^ 16 = subst (λ (k : ℕ). k < 2 ^ 16) (sym (length-map locals (type_info constants starts))) locals_short in
-      let m_short : m < 2 ^ 16 = subst (λ (k : ℕ). k < 2 ^ 16) (sym (length-map stack (type_info constants starts))) stack_short in
+      let n_short : n < 2 ^ 16 = subst (λ (k : ℕ). k < 2 ^ 16)
+      (sym (length-map locals (type_info constants starts))) locals_short in
+      let m_short : m < 2 ^ 16 = subst (λ (k : ℕ). k < 2 ^ 16)
+      (sym (length-map stack (type_info constants starts))) stack_short in
       let all = FullFrame delta ls ss in
-      let stack_given = gives_then u2 (λ k. bind (many k read_type) (λ s. give (FullFrame delta ls s))) (to_be_bytes w16 m)
+      let stack_given = gives_then u2 (λ k. bind (many k read_type) (λ s. give (FullFrame delta ls s)))
+      (to_be_bytes w16 m)
       (flat_map verification_type_info ss) m all (gives_u2 m m_short)
       (gives_last (many m read_type) (λ s. FullFrame delta ls s) (flat_map verification_type_info ss) ss
       (types_back stack m refl known_stack)) in
-      let locals_given = gives_then u2 (λ k. bind (many k read_type) (λ l. bind u2 (λ j. bind (many j read_type) (λ s. give
+      let locals_given = gives_then u2
+      (λ k. bind (many k read_type) (λ l. bind u2 (λ j. bind (many j read_type) (λ s. give
       (FullFrame delta l s))))) (to_be_bytes w16 n)
       (flat_map verification_type_info ls ++ counted_types ss) n all (gives_u2 n n_short)
       (gives_then (many n read_type) (λ l. bind u2 (λ j. bind (many j read_type) (λ s. give (FullFrame delta l s))))
       (flat_map verification_type_info ls) (counted_types ss) ls all
       (types_back locals n refl known_locals) stack_given) in
-      let grouped : to_be_bytes w16 n ++ (flat_map verification_type_info ls ++ counted_types ss) ≡ counted_types ls ++ counted_types ss =
+      let grouped : to_be_bytes w16 n ++ (flat_map verification_type_info ls ++ counted_types ss)
+      ≡ counted_types ls ++ counted_types ss =
       sym (append_assoc (to_be_bytes w16 n) (flat_map verification_type_info ls) (counted_types ss)) in
-      gives_lead u1 row_begun reading.full (255 ∷ []) (to_be_bytes w16 delta ++ (counted_types ls ++ counted_types ss)) 255 all
+      gives_lead u1 row_begun reading.full (255 ∷ [])
+      (to_be_bytes w16 delta ++ (counted_types ls ++ counted_types ss)) 255 all
       (gives_byte 255 (omega arith)) refl
       (gives_then u2 (λ d. bind u2 (λ k. bind (many k read_type) (λ l. bind u2 (λ j. bind (many j read_type) (λ s. give
       (FullFrame d l s)))))) (to_be_bytes w16 delta)
       (counted_types ls ++ counted_types ss) delta all (gives_u2 delta lt)
-      (subst (λ (t : List ℕ). Gives (bind u2 (λ k. bind (many k read_type) (λ l. bind u2 (λ j. bind (many j read_type) (λ s. give
+      (subst (λ (t : List ℕ). Gives
+      (bind u2 (λ k. bind (many k read_type) (λ l. bind u2 (λ j. bind (many j read_type) (λ s. give
       (FullFrame delta l s)))))) t all) grouped locals_given))

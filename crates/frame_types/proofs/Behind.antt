@@ -1,5 +1,6 @@
 -- Reading rows one behind the other, as a loop does.
-use Rattle.std.proofs.Common.{◌≡◌, ℕ, suc, ◌-◌, ◌+◌, ◌≤◌, ◌<◌, Bool, true, false, ◌||◌, List, [], ◌∷◌, ◌++◌, Result, Ok, Err, refl, sym, ap, ◌∙◌, append_assoc, arith}
+use Rattle.std.proofs.Common.{◌≡◌, ℕ, suc, ◌-◌, ◌+◌, ◌≤◌, ◌<◌, Bool, true, false, ◌||◌, List, [], ◌∷◌, ◌++◌, Result, Ok}
+use Rattle.std.proofs.Common.{Err, refl, sym, ap, ◌∙◌, append_assoc, arith}
 use Rattle.std.proofs.lemmas.List.{append-nil}
 use Rattle.jv_base.specs.Place.{Place}
 use Rattle.jv_base.specs.declared.outcome.Or.{Or}
@@ -14,6 +15,7 @@ use Rattle.frame_types.specs.Before.{table_of, row_read}
 use Rattle.frame_types.specs.Rows.{ReadsAsOr}
 use Rattle.frame_types.specs.declared.frames.Next.{Next}
 use Rattle.frame_types.specs.declared.table.StackMapTable.{StackMapTable}
+use Rattle.std.proofs.Math.Bool.{or-false}
 
 -- rows with their frames: whether one names a float or a double, and the frames
 abbrev pub Rows : Type 0
@@ -27,10 +29,6 @@ joined floats front (Err f) = Err f
 or_assoc : (a b c : Bool) → (a || (b || c)) ≡ ((a || b) || c)
 or_assoc true b c = refl
 or_assoc false b c = refl
-
-or_false : (a : Bool) → (a || false) ≡ a
-or_false true = refl
-or_false false = refl
 
 regroup : (floats : Bool) (front : List FrameAt) (float : Bool) (frame : FrameAt) (read : Rows)
     → joined floats front (joined float (frame ∷ []) read) ≡ joined (floats || float) (front ++ frame ∷ []) read
@@ -59,19 +57,23 @@ module _ (pool : List Entry) (starts : List ℕ) (ops : List Op) (max_stack max_
   next_is n before p after row h = rw h (first_read after.at row (rows_behind n row.2 after))
 
   -- one more row was read
-  pub rows_go_on : (floats : Bool) (front : List FrameAt) (count i : ℕ) (before : Before) (p after : Place) (row : Bool × FrameAt
+  pub rows_go_on : (floats : Bool) (front : List FrameAt) (count i : ℕ) (before : Before) (p after : Place)
+      (row : Bool × FrameAt
       × Before) (total : Rows) → i < count
       → read_frame pool starts ops max_stack max_locals before p ≡ Ok (row, after)
       → joined floats front (rows_behind (count - i) before p) ≡ total
       → joined (floats || row.0) (front ++ row.1 ∷ []) (rows_behind (count - (i + 1)) row.2 after) ≡ total
   rows_go_on floats front count i before p after row total lt h so_far =
       let k : count - i ≡ suc (count - (i + 1)) = omega arith in
-      let one : rows_behind (count - i) before p ≡ joined row.0 (row.1 ∷ []) (rows_behind (count - (i + 1)) row.2 after) = ap
+      let one : rows_behind (count - i) before p
+      ≡ joined row.0 (row.1 ∷ []) (rows_behind (count - (i + 1)) row.2 after) = ap
       (λ j. rows_behind j before p) k ∙ next_is (count - (i + 1)) before p after row h in
-      sym (ap (joined floats front) one ∙ regroup floats front row.0 row.1 (rows_behind (count - (i + 1)) row.2 after)) ∙ so_far
+      sym (ap (joined floats front) one ∙ regroup floats front row.0 row.1 (rows_behind (count - (i + 1)) row.2 after))
+      ∙ so_far
 
   -- at a fault the whole is that fault
-  pub rows_stop : (e : Or FormatFault) (new q : Place) (floats : Bool) (front : List FrameAt) (count i : ℕ) (before : Before) (p : Place)
+  pub rows_stop : (e : Or FormatFault) (new q : Place) (floats : Bool) (front : List FrameAt) (count i : ℕ)
+      (before : Before) (p : Place)
       (total : Rows) → i < count
       → ReadsAsOr {T = Bool × Next} row_read (Err e) new (read_frame pool starts ops max_stack max_locals before p)
       → joined floats front (rows_behind (count - i) before p) ≡ total
@@ -84,13 +86,15 @@ module _ (pool : List Entry) (starts : List ℕ) (ops : List Op) (max_stack max_
       sym so_far ∙ ap (joined floats front) one
 
   -- after the last row the whole is what was read
-  pub rows_done : (floats : Bool) (front : List FrameAt) (count i : ℕ) (before : Before) (p : Place) (total : Rows) → count ≤ i
+  pub rows_done : (floats : Bool) (front : List FrameAt) (count i : ℕ) (before : Before) (p : Place) (total : Rows)
+      → count ≤ i
       → joined floats front (rows_behind (count - i) before p) ≡ total
       → total ≡ Ok ((floats, front), p)
   unfolding read_frames_behind give
   rows_done floats front count i before p total le so_far =
       let k : count - i ≡ 0 = omega arith in
       let one : rows_behind (count - i) before p ≡ Ok ((false, []), p) = rw k refl in
-      sym so_far ∙ ap (joined floats front) one ∙ ap (λ (fs : List FrameAt). let R : Rows = Ok ((floats || false, fs), p) in R)
+      sym so_far ∙ ap (joined floats front) one
+      ∙ ap (λ (fs : List FrameAt). let R : Rows = Ok ((floats || false, fs), p) in R)
       (append-nil front)
-      ∙ ap (λ (b : Bool). let R : Rows = Ok ((b, front), p) in R) (or_false floats)
+      ∙ ap (λ (b : Bool). let R : Rows = Ok ((b, front), p) in R) (or-false floats)

@@ -9,4 +9,4 @@ mod Sameness
 mod BackRows
 mod BackForms
 mod BackFrames
-mod BackGood
+pub mod BackGood

@@ -1,5 +1,6 @@
 -- Types of a row one behind the other, and types with their Tops cut, as loops go through them.
-use Rattle.std.proofs.Common.{◌≡◌, ℕ, ◌+◌, ◌<◌, true, false, List, [], ◌∷◌, ◌++◌, length, map, take, drop, get_or, Option, Some, None, refl, sym, ap, ◌∙◌}
+use Rattle.std.proofs.Common.{◌≡◌, ℕ, ◌+◌, ◌<◌, true, false, List, [], ◌∷◌, ◌++◌, length, map, take, drop, get_or}
+use Rattle.std.proofs.Common.{Option, Some, None, refl, sym, ap, ◌∙◌}
 use Rattle.std.proofs.lemmas.List.{take_more}
 use Rattle.class_model.specs.declared.pool.Entry.{Entry}
 use Rattle.class_model.specs.declared.op.Op.{Op}
@@ -50,7 +51,8 @@ alone (vtype.Object class) h = refl
 alone (vtype.Uninit n) h = refl
 
 -- another type at the end isn't, nor is what stands before it
-pub cut_other : (types : List VType) (last : VType) → is_top last ≡ false → cut_tops (types ++ last ∷ []) ≡ types ++ last ∷ []
+pub cut_other : (types : List VType) (last : VType) → is_top last ≡ false
+    → cut_tops (types ++ last ∷ []) ≡ types ++ last ∷ []
 cut_other [] last h = alone last h
 cut_other (ty ∷ types) last h = ap (before_cut ty) (cut_other types last h) ∙ before_some ty last types
 

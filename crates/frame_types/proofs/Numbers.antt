@@ -1,17 +1,11 @@
 -- The table of the numbers of instructions.
-use Rattle.std.proofs.Common.{◌≡◌, ℕ, zero, suc, ◌+◌, ◌<◌, ◌≤◌, Bool, true, false, cond, eqb, List, [], ◌∷◌, ◌++◌, length, get_or, drop, Option, Some, None, add-one, drop-cons, refl, sym, ap, ◌∙◌}
+use Rattle.std.proofs.Common.{◌≡◌, ℕ, zero, suc, ◌+◌, ◌<◌, ◌≤◌, Bool, true, false, cond, eqb, List, [], ◌∷◌, ◌++◌}
+use Rattle.std.proofs.Common.{length, get_or, drop, Option, Some, None, add-one, drop-cons, refl, sym, ap, ◌∙◌}
 use Rattle.std.specs.Prelude.{nat_eq, position}
 use Rattle.std.proofs.lemmas.List.{drop_all}
 use Rattle.std.proofs.lemmas.Iterator.Adapters.{position_from-zero}
 use Rattle.std.specs.List.{position_from}
 use Rattle.frame_types.specs.Numbers.{found, noted, first_of_two}
-
--- an offset without a number is none
-pub found_push : (table : List (Option ℕ)) (offset : ℕ) → found (table ++ None ∷ []) offset ≡ found table offset
-found_push [] zero = refl
-found_push [] (suc n) = refl
-found_push (x ∷ xs) zero = refl
-found_push (x ∷ xs) (suc n) = found_push xs n
 
 or_none : (o : Option ℕ) → first_of_two o None ≡ o
 or_none (Some x) = refl
@@ -31,14 +25,17 @@ pub goes_on : (before after total : Option ℕ) (offset i : ℕ) (starts : List 
 goes_on before after total offset i starts d lt now so_far =
     let next : drop i starts ≡ get_or starts i d ∷ drop (i + 1) starts = rw (add-one, drop-cons starts i d) refl in
     ap (λ o. first_of_two o (position_from (nat_eq offset) (i + 1) (drop (i + 1) starts))) now
-    ∙ sym (or_cond before (eqb offset (get_or starts i d)) i (position_from (nat_eq offset) (i + 1) (drop (i + 1) starts)))
+    ∙ sym (or_cond before (eqb offset (get_or starts i d)) i
+    (position_from (nat_eq offset) (i + 1) (drop (i + 1) starts)))
     ∙ ap (λ rest. first_of_two before (position_from (nat_eq offset) i rest)) (sym next) ∙ so_far
 
 -- at the end the table has each number
 pub is_done : (table : List (Option ℕ)) (i : ℕ) (starts : List ℕ) → length starts ≤ i → ((offset : ℕ)
-    → first_of_two (found table offset) (position_from (nat_eq offset) i (drop i starts)) ≡ position_from (nat_eq offset) 0 starts)
+    → first_of_two (found table offset) (position_from (nat_eq offset) i (drop i starts))
+    ≡ position_from (nat_eq offset) 0 starts)
     → (offset : ℕ) → found table offset ≡ position (nat_eq offset) starts
 is_done table i starts le so_far offset =
-    let here : first_of_two (found table offset) None ≡ position_from (nat_eq offset) 0 starts = ap (λ rest. first_of_two
+    let here : first_of_two (found table offset) None
+    ≡ position_from (nat_eq offset) 0 starts = ap (λ rest. first_of_two
     (found table offset) (position_from (nat_eq offset) i rest)) (sym (drop_all i starts le)) ∙ so_far offset in
     sym (or_none (found table offset)) ∙ here ∙ sym (position_from-zero (nat_eq offset) starts)

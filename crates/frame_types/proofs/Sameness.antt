@@ -1,6 +1,6 @@
 -- Types that the test of the canonical spelling takes for one are one.
 use Rattle.std.proofs.Common.{◌≡◌, Bool, true, false, ◌&&◌, List, [], ◌∷◌, refl, ap, ◌∙◌}
-use Rattle.std.proofs.lemmas.Bool.{eqb-true}
+use Rattle.std.proofs.lemmas.Bool.{eqb-true, and_parts}
 use Rattle.std.specs.Cmp.Lexicographic.{pointwise}
 use Rattle.jv_base.specs.Types.{field_text}
 use Rattle.jv_base.proofs.Equality.{text_Decides}
@@ -9,18 +9,14 @@ use Rattle.class_model.specs.declared.frame.VType.TheVariants as vtype
 use Rattle.class_model.specs.CanonicalFrames.{same_type, same_types}
 use Rattle.frame_types.proofs.Descriptors.{type_is}
 
--- both parts of a test that passes
-pub both_pass : (a b : Bool) → (a && b) ≡ true → (a ≡ true) × (b ≡ true)
-both_pass true b h = (refl, h)
-both_pass false b h = absurd cc
-
 same_type_is : (a b : VType) → same_type a b ≡ true → a ≡ b
 same_type_is vtype.Top vtype.Top h = refl
 same_type_is vtype.Int vtype.Int h = refl
 same_type_is vtype.Long vtype.Long h = refl
 same_type_is vtype.Null vtype.Null h = refl
 same_type_is vtype.UninitThis vtype.UninitThis h = refl
-same_type_is (vtype.Object a) (vtype.Object b) h = ap (λ c. vtype.Object c) (type_is a b ((text_Decides (field_text a) (field_text b)).0 h))
+same_type_is (vtype.Object a) (vtype.Object b) h = ap (λ c. vtype.Object c)
+    (type_is a b ((text_Decides (field_text a) (field_text b)).0 h))
 same_type_is (vtype.Uninit a) (vtype.Uninit b) h = ap (λ n. vtype.Uninit n) (eqb-true a b h)
 same_type_is _ _ h = absurd cc
 
@@ -29,5 +25,6 @@ same_types_are [] [] h = refl
 same_types_are [] (y ∷ ys) h = absurd cc
 same_types_are (x ∷ xs) [] h = absurd cc
 same_types_are (x ∷ xs) (y ∷ ys) h =
-    let parts = both_pass (same_type x y) (pointwise same_type xs ys) h in
-    ap (λ (t : VType). t ∷ xs) (same_type_is x y parts.0) ∙ ap (λ (ts : List VType). y ∷ ts) (same_types_are xs ys parts.1)
+    let parts = and_parts (same_type x y) (pointwise same_type xs ys) h in
+    ap (λ (t : VType). t ∷ xs) (same_type_is x y parts.0)
+    ∙ ap (λ (ts : List VType). y ∷ ts) (same_types_are xs ys parts.1)

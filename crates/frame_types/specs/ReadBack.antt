@@ -1,5 +1,6 @@
 -- Which frames are read back from their canonical rows (JVMS 4.7.4).
-use Rattle.std.specs.Prelude.{◌≡◌, ℕ, ◌^◌, ◌<◌, ◌≤◌, true, false, List, [], ◌∷◌, length, slice_get, slice_index, position, nat_eq, Option, Some, None, Ok}
+use Rattle.std.specs.Prelude.{◌≡◌, ℕ, ◌^◌, ◌<◌, ◌≤◌, true, false, List, [], ◌∷◌, length, slice_get, slice_index}
+use Rattle.std.specs.Prelude.{position, nat_eq, Option, Some, None, Ok}
 use Rattle.std.specs.List.{AllByRecursion}
 use Rattle.class_model.specs.declared.pool.Entry.{Entry}
 use Rattle.class_model.specs.declared.op.Op.{Op}
@@ -14,7 +15,8 @@ use Rattle.class_model.specs.CanonicalFrames.{rows}
 use Rattle.class_model.specs.ReadingFrames.{is_new}
 use Rattle.frame_types.specs.Table.{frames_of}
 
--- a code whose instructions begin at these offsets, with the entries of the pool that is read and the constants of the one that
+-- a code whose instructions begin at these offsets, with the entries of the pool that is read and the constants of the
+-- one that
 -- was written
 module _ (entries : List Entry) (constants : List PoolConstant) (starts : List ℕ) (ops : List Op) where
   -- no instruction before the one of this number begins where it does, and its offset fits two bytes
@@ -60,5 +62,6 @@ FramesAreReadBack =
     (first : List VType) (frames : List FrameAt)
     → length frames < 2 ^ 16 → AllByRecursion (IsKnownFrame entries constants starts ops max_stack max_locals) frames
     → Follow entries constants starts ops None frames
-    → frames_of entries starts ops max_stack max_locals first (stack_map_table (rows constants starts first None frames))
+    → frames_of entries starts ops max_stack max_locals first
+    (stack_map_table (rows constants starts first None frames))
     ≡ Ok (record { frames = frames; names_float = false })

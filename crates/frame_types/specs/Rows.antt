@@ -4,7 +4,9 @@ use Rattle.jv_base.specs.Place.{Place}
 use Rattle.jv_base.specs.declared.outcome.Or.{Or}
 use Rattle.jv_base.specs.declared.outcome.Or.TheVariants.{Fault, OutOfMemory}
 use Rattle.format_reading.specs.declared.fault.FormatFault.{FormatFault}
-use Rattle.class_model.specs.Frames.{VerificationTypeInfo, TagInfo, ObjectInfo, UninitializedInfo, StackMapFrame, SameFrame, SameLocalsOneStackItem, SameLocalsOneStackItemExtended, ChopFrame, SameFrameExtended, AppendFrame, FullFrame}
+use Rattle.class_model.specs.Frames.{VerificationTypeInfo, TagInfo, ObjectInfo, UninitializedInfo, StackMapFrame}
+use Rattle.class_model.specs.Frames.{SameFrame, SameLocalsOneStackItem, SameLocalsOneStackItemExtended, ChopFrame}
+use Rattle.class_model.specs.Frames.{SameFrameExtended, AppendFrame, FullFrame}
 use Rattle.frame_types.specs.declared.row.TypeInfo.{TypeInfo}
 use Rattle.frame_types.specs.declared.row.TypeInfo.TheVariants.{Tag, Object, Uninitialized}
 use Rattle.frame_types.specs.declared.row.Row.{Row}
@@ -20,7 +22,8 @@ info_of (Uninitialized offset) = UninitializedInfo offset
 abbrev pub row_of : Row → StackMapFrame
 row_of (row.Same frame_type) = SameFrame frame_type
 row_of (row.SameLocalsOneStackItem frame_type item) = SameLocalsOneStackItem frame_type (info_of item)
-row_of (row.SameLocalsOneStackItemExtended offset_delta item) = SameLocalsOneStackItemExtended offset_delta (info_of item)
+row_of (row.SameLocalsOneStackItemExtended offset_delta item) = SameLocalsOneStackItemExtended offset_delta
+    (info_of item)
 row_of (row.Chop frame_type offset_delta) = ChopFrame frame_type offset_delta
 row_of (row.SameExtended offset_delta) = SameFrameExtended offset_delta
 row_of (row.Append frame_type offset_delta locals) = AppendFrame frame_type offset_delta (map info_of locals)
@@ -33,7 +36,8 @@ ReadsAs view (Ok x) new due = due ≡ Ok (view x, new)
 ReadsAs view (Err f) new due = due ≡ Err f
 
 -- the same of a call that takes memory; want of it is free (the project's own: want of memory is an answer)
-abbrev pub ReadsAsOr : {T V : Type 0} → (T → V) → Result T (Or FormatFault) → Place → Result (V × Place) FormatFault → Type 0
+abbrev pub ReadsAsOr : {T V : Type 0} → (T → V) → Result T (Or FormatFault) → Place → Result (V × Place) FormatFault
+    → Type 0
 ReadsAsOr view (Ok x) new due = due ≡ Ok (view x, new)
 ReadsAsOr view (Err (Fault f)) new due = due ≡ Err f
 ReadsAsOr view (Err OutOfMemory) new due = Unit {0}

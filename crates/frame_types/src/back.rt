@@ -2,7 +2,8 @@
 ghost use Rattle.frame_types.specs.ReadBack.{FramesAreReadBack};
 ghost use Rattle.frame_types.specs.WritableFrames.{GoodFramesAreReadBack};
 
-/// Carries the law that `read_frames` gives back the frames of which `write_frames_with` wrote the rows. It does nothing.
+/// Carries the law that `read_frames` gives back the frames of which `write_frames_with` wrote the rows. It does
+/// nothing.
 pub fn frames_are_read_back()
     ensures known { FramesAreReadBack }
     ensures good { GoodFramesAreReadBack }

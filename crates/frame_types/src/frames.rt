@@ -141,7 +141,8 @@ fn written_whole(
     }))
 }
 
-// What a row behind these locals writes. Only the frame_types of its form stand in it, so no difference is cut off at 0.
+// What a row behind these locals writes. Only the frame_types of its form stand in it, so no difference is cut off at
+// 0.
 fn written_by(
     alloc: Global,
     pool: &KnownPool,

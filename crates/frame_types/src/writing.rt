@@ -1,5 +1,6 @@
 // The canonical rows of a StackMapTable (JVMS 4.7.4).
-ghost use Rattle.std.specs.Prelude.{◌≡◌, ℕ, ◌+◌, ◌-◌, ◌^◌, ◌<◌, ◌≤◌, ◌&&◌, [], ◌∷◌, ◌++◌, length, map, take, slice_index, None, All, IfOk, OnOk};
+ghost use Rattle.std.specs.Prelude.{◌≡◌, ℕ, ◌+◌, ◌-◌, ◌^◌, ◌<◌, ◌≤◌, ◌&&◌, [], ◌∷◌, ◌++◌, length, map, take};
+ghost use Rattle.std.specs.Prelude.{slice_index, None, All, IfOk, OnOk};
 ghost use Rattle.std.specs.Int.{w16, to_be_bytes};
 ghost use Rattle.std.specs.List.{flat_map};
 ghost use Rattle.class_model.specs.Frames.{verification_type_info, counted_types, stack_map_frame, stack_map_table};
@@ -285,7 +286,8 @@ fn put_rows(
     Ok(())
 }
 
-/// The canonical contents of the StackMapTable with these frames (JVMS 4.7.4): each row in the first form that fits. The
+/// The canonical contents of the StackMapTable with these frames (JVMS 4.7.4): each row in the first form that fits.
+/// The
 /// instructions of their code begin at `starts`, and `first` is the frame before the first instruction.
 pub fn write_frames_with(
     alloc: Global,

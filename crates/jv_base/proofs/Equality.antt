@@ -12,7 +12,8 @@ pub texts_Decides : (a b : List (List ℕ)) → Decides (pointwise (pointwise na
 texts_Decides a b = slice_eq-Decides text_Decides a b _ refl
 
 -- two tests decide two parts of a value
-pub and_Decides : {P Q R : Type 0} (a b : Bool) → Decides a P → Decides b Q → (P → Q → R) → (R → P) → (R → Q) → Decides (a && b) R
+pub and_Decides : {P Q R : Type 0} (a b : Bool) → Decides a P → Decides b Q → (P → Q → R) → (R → P) → (R → Q)
+    → Decides (a && b) R
 and_Decides true true p q both first second = (λ e. both (p.0 refl) (q.0 refl), λ r. refl)
 and_Decides true false p q both first second = (λ e. absurd cc, λ r. q.1 (second r))
 and_Decides false b p q both first second = (λ e. absurd cc, λ r. p.1 (first r))

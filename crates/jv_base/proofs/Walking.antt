@@ -1,5 +1,6 @@
 -- Walks over bytes, as a loop makes them.
-use Rattle.std.proofs.Common.{◌≡◌, ℕ, ◌+◌, ◌<◌, ◌≤◌, List, get_or, drop, length, Option, Some, None, Result, Err, refl, sym, ap, ◌∙◌, arith}
+use Rattle.std.proofs.Common.{◌≡◌, ℕ, ◌+◌, ◌<◌, ◌≤◌, List, get_or, drop, length, Option, Some, None, Result, Err, refl}
+use Rattle.std.proofs.Common.{sym, ap, ◌∙◌, arith}
 use Rattle.std.proofs.lemmas.List.{drop_more, drop_all}
 use Rattle.jv_base.specs.Walk.{walk, walk_from, or_fault}
 
@@ -13,12 +14,14 @@ module _ {S V : Type 0} (step : S → ℕ → Option S) (end : S → Option V) w
   unfolding walk
   at_byte bytes i s lt = rw (drop_more bytes i 0 lt) refl
 
-  pub goes_on : (bytes : List ℕ) (i : ℕ) (s t : S) (total : Result V ℕ) → i < length bytes → step s (get_or bytes i 0) ≡ Some t
+  pub goes_on : (bytes : List ℕ) (i : ℕ) (s t : S) (total : Result V ℕ) → i < length bytes
+      → step s (get_or bytes i 0) ≡ Some t
       → from_index bytes i s ≡ total → from_index bytes (i + 1) t ≡ total
   goes_on bytes i s t total lt h so_far =
       sym (at_byte bytes i s lt ∙ ap (λ (o : Option S). walk_from i o (λ u. from_index bytes (i + 1) u)) h) ∙ so_far
 
-  pub stops : (bytes : List ℕ) (i : ℕ) (s : S) (total : Result V ℕ) → i < length bytes → step s (get_or bytes i 0) ≡ None
+  pub stops : (bytes : List ℕ) (i : ℕ) (s : S) (total : Result V ℕ) → i < length bytes
+      → step s (get_or bytes i 0) ≡ None
       → from_index bytes i s ≡ total → total ≡ Err i
   stops bytes i s total lt h so_far =
       sym so_far ∙ at_byte bytes i s lt ∙ ap (λ (o : Option S). walk_from i o (λ u. from_index bytes (i + 1) u)) h

@@ -1,5 +1,6 @@
 -- Reading Modified UTF-8 from left to right (JVMS 4.4.7).
-use Rattle.std.specs.Prelude.{◌≡◌, ℕ, ◌+◌, ◌-◌, ◌*◌, ◌<◌, ◌&&◌, Bool, List, [], ◌∷◌, ◌++◌, nat_le, ◌==◌, Option, Some, None, Result, Ok, Err, if◌then◌else◌}
+use Rattle.std.specs.Prelude.{◌≡◌, ℕ, ◌+◌, ◌-◌, ◌*◌, ◌<◌, ◌&&◌, Bool, List, [], ◌∷◌, ◌++◌, nat_le, ◌==◌, Option, Some}
+use Rattle.std.specs.Prelude.{None, Result, Ok, Err, if◌then◌else◌}
 use Rattle.jv_base.specs.Mutf8.{mutf8, IsUnits}
 use Rattle.jv_base.specs.Walk.{walk}
 use Rattle.jv_base.specs.declared.mutf8.Awaited.{Awaited}

@@ -3,7 +3,8 @@
 use Rattle.std.specs.Prelude.{◌≡◌, Bool, ℕ, ◌≤◌, List, slice_range, Option, Some, None}
 use Rattle.std.specs.Str.{IsCharBoundary}
 use Rattle.jv_base.specs.declared.types.Base.TheVariants.{Class}
-use Rattle.jv_base.specs.Descriptors.{typed, Begun, brackets, name, Grown, more, whole, FieldRead, field_begun, field_whole, MethodPart, before, parameter, returned, behind, MethodRead}
+use Rattle.jv_base.specs.Descriptors.{typed, Begun, brackets, name, Grown, more, whole, FieldRead, field_begun}
+use Rattle.jv_base.specs.Descriptors.{field_whole, MethodPart, before, parameter, returned, behind, MethodRead}
 use Rattle.jv_base.specs.Types.{argument_words}
 use Rattle.jv_base.specs.declared.descriptors as kept
 use Rattle.jv_base.specs.declared.descriptors.Begun.TheVariants as begun

@@ -1,5 +1,6 @@
 -- Reading descriptors from left to right (JVMS 4.3).
-use Rattle.std.specs.Prelude.{◌≡◌, ℕ, ◌+◌, ◌&&◌, Bool, false, List, [], ◌∷◌, ◌++◌, nat_le, nat_lt, ◌==◌, Option, Some, None, Result, Ok, Err, if◌then◌else◌}
+use Rattle.std.specs.Prelude.{◌≡◌, ℕ, ◌+◌, ◌&&◌, Bool, false, List, [], ◌∷◌, ◌++◌, nat_le, nat_lt, ◌==◌, Option, Some}
+use Rattle.std.specs.Prelude.{None, Result, Ok, Err, if◌then◌else◌}
 use Rattle.jv_base.specs.Names.{is_class_name, part_after}
 use Rattle.jv_base.specs.Types.{field_text, method_text, argument_words, IsFieldType, IsMethodType}
 use Rattle.jv_base.specs.Walk.{walk}
@@ -34,7 +35,8 @@ letter_base b =
     else if b == 68 then Some Double
     else None
 
--- what is begun of a field type: so many `[`, or an L behind them and so much of a class name, whose last part may be begun
+-- what is begun of a field type: so many `[`, or an L behind them and so much of a class name, whose last part may be
+-- begun
 pub data Begun : Type 0 where
   brackets : ℕ → Begun
   name : ℕ → List ℕ → Bool → Begun
@@ -132,7 +134,8 @@ returned_on args None = None
 
 -- a byte behind `)`: the V of no result, or one more of the result's type (JVMS 4.3.3)
 abbrev pub returned_byte : List FieldType → Begun → ℕ → Option MethodRead
-returned_byte args begun b = if is_fresh begun && b == 86 then method_at args (behind None) else returned_on args (grown begun b)
+returned_byte args begun b = if is_fresh begun
+    && b == 86 then method_at args (behind None) else returned_on args (grown begun b)
 
 -- a method descriptor with one more byte, where it stands here (JVMS 4.3.3)
 abbrev pub part_byte : List FieldType → MethodPart → ℕ → Option MethodRead

@@ -1,5 +1,6 @@
 -- Types as Java source spells them (JLS 4.2, 4.3, 10.1, with classes by their binary names, JLS 13.1).
-use Rattle.std.specs.Prelude.{◌≡◌, ℕ, ◌+◌, ◌<◌, ◌≤◌, ◌&&◌, Bool, false, List, [], ◌∷◌, ◌++◌, map, take, nat_lt, ◌==◌, Option, Some, None, Result, codes, if◌then◌else◌}
+use Rattle.std.specs.Prelude.{◌≡◌, ℕ, ◌+◌, ◌<◌, ◌≤◌, ◌&&◌, Bool, false, List, [], ◌∷◌, ◌++◌, map, take, nat_lt, ◌==◌}
+use Rattle.std.specs.Prelude.{Option, Some, None, Result, codes, if◌then◌else◌}
 use Rattle.std.specs.List.{repeat}
 use Rattle.jv_base.specs.Descriptors.{typed, bad_descriptor}
 use Rattle.jv_base.specs.Names.{is_class_name, is_text, part_after}

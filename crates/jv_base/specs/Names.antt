@@ -1,6 +1,9 @@
--- Names in internal form (JVMS 4.2), seen as their bytes in UTF-8. Of the names that the standard allows only those are taken
--- whose characters are the ones below; the standard forbids no more than `.`, `;`, `[`, `/` and, in method names, `<` and `>`.
-use Rattle.std.specs.Prelude.{ℕ, Bool, true, false, not, ◌&&◌, ◌||◌, List, [], ◌∷◌, length, nat_le, nat_eq, ◌==◌, codes, Option, Some, None, if◌then◌else◌}
+-- Names in internal form (JVMS 4.2), seen as their bytes in UTF-8. Of the names that the standard allows only those are
+-- taken
+-- whose characters are the ones below; the standard forbids no more than `.`, `;`, `[`, `/` and, in method names, `<`
+-- and `>`.
+use Rattle.std.specs.Prelude.{ℕ, Bool, true, false, not, ◌&&◌, ◌||◌, List, [], ◌∷◌, length, nat_le, nat_eq, ◌==◌, codes}
+use Rattle.std.specs.Prelude.{Option, Some, None, if◌then◌else◌}
 use Rattle.std.specs.Char.{is_ascii_alphanumeric}
 use Rattle.std.specs.Cmp.Lexicographic.{pointwise}
 use Rattle.std.specs.List.{list_all, list_any, slice_split}
@@ -9,7 +12,8 @@ use Rattle.std.specs.List.{list_all, list_any, slice_split}
 abbrev pub is_text : List ℕ → List ℕ → Bool
 is_text text other = pointwise nat_eq text other
 
--- an ASCII letter or digit, `_`, `$`, `-`, or a byte of a character from U+0080 on. In UTF-8 such a character has no byte
+-- an ASCII letter or digit, `_`, `$`, `-`, or a byte of a character from U+0080 on. In UTF-8 such a character has no
+-- byte
 -- below 128, and every other one is a single byte, so testing the bytes is testing the characters
 -- (the project's own: fewer characters than JVMS 4.2.2 takes)
 unfoldable pub is_name_byte : ℕ → Bool
@@ -45,7 +49,8 @@ is_class_name name = list_all is_member_name (name_parts name) && not (is_primit
 -- (only the proof of is_class_name needs it)
 abbrev pub parts_whole : Bool → List ℕ → Bool
 parts_whole in_part [] = in_part
-parts_whole in_part (b ∷ bs) = if b == 47 then in_part && parts_whole false bs else is_name_byte b && parts_whole true bs
+parts_whole in_part (b ∷ bs) = if b == 47 then in_part && parts_whole false bs else is_name_byte b
+    && parts_whole true bs
 
 -- whether a part is begun where a class name goes on with a byte, if it can (JVMS 4.2.1)
 unfoldable pub part_after : Bool → ℕ → Option Bool

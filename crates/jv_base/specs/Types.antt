@@ -1,5 +1,6 @@
 -- Descriptors of fields and methods (JVMS 4.3).
-use Rattle.std.specs.Prelude.{ℕ, ◌≤◌, ◌&&◌, ◌==◌, Bool, true, false, List, ◌++◌, IsTrue, Option, Some, None, IfSome, if◌then◌else◌, replicate, codes}
+use Rattle.std.specs.Prelude.{ℕ, ◌≤◌, ◌&&◌, ◌==◌, Bool, true, false, List, ◌++◌, IsTrue, Option, Some, None, IfSome}
+use Rattle.std.specs.Prelude.{if◌then◌else◌, replicate, codes}
 use Rattle.std.specs.List.{AllByRecursion, flat_map, sum_by}
 use Rattle.jv_base.specs.Names.{is_class_name}
 use Rattle.jv_base.specs.declared.types.Base.{Base}

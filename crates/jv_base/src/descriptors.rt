@@ -1,14 +1,21 @@
 // Descriptors of fields and methods (JVMS 4.3).
-ghost use Rattle.std.specs.Prelude.{◌≡◌, ℕ, ◌+◌, ◌≤◌, ◌<◌, List, [], length, slice_index, slice_range, codes, replicate};
+ghost use Rattle.std.specs.Prelude.{◌≡◌, ℕ, ◌+◌, ◌≤◌, ◌<◌, List, [], length, slice_index, slice_range, codes};
+ghost use Rattle.std.specs.Prelude.{replicate};
 ghost use Rattle.std.specs.Prelude.{IfOk, OnOk, Ok, Some, None, ◌++◌, if◌then◌else◌, string_bytes};
 ghost use Rattle.std.specs.List.{flat_map};
 ghost use Rattle.std.specs.Str.{IsCharBoundary};
-ghost use Rattle.jv_base.specs.DescriptorPlaces.{AreCounted, begun_at, class_whole, field_at, field_of, field_read_at, grown_at, IsFieldPlaced, IsFieldReadPlaced, IsGrownPlaced, IsMethodNextPlaced, IsMethodPlaced, IsPlaced, method_next_at, method_read_at, more_of};
-ghost use Rattle.jv_base.specs.Descriptors.{before, brackets, field_byte, grown, is_fresh, letter_base, method_byte, parameter_byte, parameter_on, read_field, read_method, returned_byte, returned_on, SpellsField, SpellsMethod, whole};
+ghost use Rattle.jv_base.specs.DescriptorPlaces.{AreCounted, begun_at, class_whole, field_at, field_of, field_read_at};
+ghost use Rattle.jv_base.specs.DescriptorPlaces.{grown_at, IsFieldPlaced, IsFieldReadPlaced, IsGrownPlaced};
+ghost use Rattle.jv_base.specs.DescriptorPlaces.{IsMethodNextPlaced, IsMethodPlaced, IsPlaced, method_next_at};
+ghost use Rattle.jv_base.specs.DescriptorPlaces.{method_read_at, more_of};
+ghost use Rattle.jv_base.specs.Descriptors.{before, brackets, field_byte, grown, is_fresh, letter_base, method_byte};
+ghost use Rattle.jv_base.specs.Descriptors.{parameter_byte, parameter_on, read_field, read_method, returned_byte};
+ghost use Rattle.jv_base.specs.Descriptors.{returned_on, SpellsField, SpellsMethod, whole};
 ghost use Rattle.jv_base.specs.Longest.{IfFault, IsLongest};
 ghost use Rattle.jv_base.specs.Names.{is_class_name};
 ghost use Rattle.jv_base.specs.Outcome.{IsDue};
-ghost use Rattle.jv_base.specs.Types.{base_text, field_text, IsFieldType, IsMethodType, method_text, result_text, words_of};
+ghost use Rattle.jv_base.specs.Types.{base_text, field_text, IsFieldType, IsMethodType, method_text, result_text};
+ghost use Rattle.jv_base.specs.Types.{words_of};
 
 use crate::names::part_after;
 use crate::{Base, FieldType, Items, M, MethodType, Name, Or, Text, is_class_name};

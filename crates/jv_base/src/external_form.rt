@@ -1,8 +1,11 @@
 // Types as Java source spells them.
-ghost use Rattle.std.specs.Prelude.{◌≡◌, ℕ, ◌+◌, ◌<◌, ◌++◌, List, map, take, length, slice_index, IfOk, OnOk, Ok, string_bytes, codes};
+ghost use Rattle.std.specs.Prelude.{◌≡◌, ℕ, ◌+◌, ◌<◌, ◌++◌, List, map, take, length, slice_index, IfOk, OnOk, Ok};
+ghost use Rattle.std.specs.Prelude.{string_bytes, codes};
 ghost use Rattle.std.specs.List.{repeat};
 ghost use Rattle.std.specs.Str.{IsCharBoundary};
-ghost use Rattle.jv_base.specs.External.{external_at, external_byte, external_end, external_next_at, external_text, HasRoom, keyword_base, NextHasRoom, read_external, slashed, SpellsExternal, swapped, word_base, word_byte, word_opened, word_read, word_text, word_whole};
+ghost use Rattle.jv_base.specs.External.{external_at, external_byte, external_end, external_next_at, external_text};
+ghost use Rattle.jv_base.specs.External.{HasRoom, keyword_base, NextHasRoom, read_external, slashed, SpellsExternal};
+ghost use Rattle.jv_base.specs.External.{swapped, word_base, word_byte, word_opened, word_read, word_text, word_whole};
 ghost use Rattle.jv_base.specs.Longest.{IfFault, IsLongest};
 ghost use Rattle.jv_base.specs.Outcome.{IsDue};
 ghost use Rattle.jv_base.specs.Types.{IsFieldType};

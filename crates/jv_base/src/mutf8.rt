@@ -1,6 +1,7 @@
 // Modified UTF-8 (JVMS 4.4.7).
 ghost use Rattle.std.specs.Prelude.{◌≡◌, ℕ, ◌+◌, ◌%◌, ◌<◌, ◌++◌, List, length, IfOk, OnOk, Ok, Some};
-ghost use Rattle.jv_base.specs.Decoding.{SpellsUnits, HasBits, TakesBits, byte_taken, decoded_on, is_from_to, lead_byte, read_mutf8};
+ghost use Rattle.jv_base.specs.Decoding.{SpellsUnits, HasBits, TakesBits, byte_taken, decoded_on, is_from_to};
+ghost use Rattle.jv_base.specs.Decoding.{lead_byte, read_mutf8};
 ghost use Rattle.jv_base.specs.Longest.{IfFault, IsLongest};
 ghost use Rattle.jv_base.specs.Mutf8.{mutf8, unit_bytes};
 ghost use Rattle.jv_base.specs.Outcome.{IsDue};

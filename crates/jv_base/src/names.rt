@@ -1,6 +1,7 @@
 // Names in internal form (JVMS 4.2).
 ghost use Rattle.std.specs.Prelude.{◌≡◌, false};
-ghost use Rattle.jv_base.specs.Names.{all_name_bytes, is_class_name, is_primitive_or_void, is_member_name, is_method_name, is_name_byte, part_after, parts_whole};
+ghost use Rattle.jv_base.specs.Names.{all_name_bytes, is_class_name, is_primitive_or_void, is_member_name};
+ghost use Rattle.jv_base.specs.Names.{is_method_name, is_name_byte, part_after, parts_whole};
 
 /// Whether a text is the name of a field, or of a method that initialises nothing (JVMS 4.2.2): at least one
 /// character, each an ASCII letter or digit, `_`, `$`, `-` or one from U+0080 on.

@@ -1,6 +1,7 @@
 // A text in a public record.
 ghost use Rattle.std.specs.Prelude.{◌≡◌, ℕ, ◌==◌, length, IfOk, string_bytes, Some, nat_eq, refl};
-ghost use Rattle.std.specs.Cmp.Lexicographic.{pointwise, slice_cmp, nat_list_cmp_total, nat_list_eq_equiv, texts_po, texts_ties};
+ghost use Rattle.std.specs.Cmp.Lexicographic.{pointwise, slice_cmp, nat_list_cmp_total, nat_list_eq_equiv, texts_po};
+ghost use Rattle.std.specs.Cmp.Lexicographic.{texts_ties};
 ghost use Rattle.std.specs.Cmp as compared;
 ghost use Rattle.std.specs.Hash as fed;
 ghost use Rattle.std.specs.Cmp.Rules.{hashing};

@@ -11,5 +11,7 @@ use Rattle.jv_ops.specs.ReadBack.{CanonicalIsDecoded}
 pub decoded_back : CanonicalIsDecoded
 unfolding code_decoded
 decoded_back entries pool ins h =
-    ap (as_decoded entries) (code_back entries pool ins h) ∙ ap (with_starts (infos pool ins)) (meant_back entries pool ins 0 h)
-    ∙ ap (λ (s : List ℕ). let R : Result Decoded CodeFault = Ok (record { ops = map op_in ins; starts = s }) in R) (starts_back pool ins)
+    ap (as_decoded entries) (code_back entries pool ins h)
+    ∙ ap (with_starts (infos pool ins)) (meant_back entries pool ins 0 h)
+    ∙ ap (λ (s : List ℕ). let R : Result Decoded CodeFault = Ok (record { ops = map op_in ins; starts = s }) in R)
+    (starts_back pool ins)

@@ -1,5 +1,6 @@
 -- Where a code ends, and where its instructions begin.
-use Rattle.std.proofs.Common.{◌≡◌, ℕ, suc, ◌+◌, ◌≤◌, ◌<◌, List, [], ◌∷◌, ◌++◌, length, drop, get_or, refl, sym, ap, ◌∙◌, append_assoc, arith, drop-cons}
+use Rattle.std.proofs.Common.{◌≡◌, ℕ, suc, ◌+◌, ◌≤◌, ◌<◌, List, [], ◌∷◌, ◌++◌, length, drop, get_or, refl, sym, ap, ◌∙◌}
+use Rattle.std.proofs.Common.{append_assoc, arith, drop-cons}
 use Rattle.std.specs.Prelude.{slice_index}
 use Rattle.std.specs.List.{flat_map, AllByRecursion}
 use Rattle.std.proofs.lemmas.List.{length-append, drop_all}
@@ -24,7 +25,8 @@ module _ (pool : List PoolConstant) where
   bytes_end all at [] = omega arith
   bytes_end all at (i ∷ ins) =
       let size = same_size pool (slice_index all) (λ to. 0) at i.op in
-      let more = length-append (info_bytes (op_info pool (slice_index all) at i.op)) (bytes_from all (at + size_of pool at i.op) ins) in
+      let more = length-append (info_bytes (op_info pool (slice_index all) at i.op))
+      (bytes_from all (at + size_of pool at i.op) ins) in
       let rest = bytes_end all (at + size_of pool at i.op) ins in
       omega (arith, size, more, rest)
 
@@ -38,14 +40,16 @@ module _ (pool : List PoolConstant) where
   begins_before at [] = omega arith
   begins_before at (i ∷ ins) = omega (arith, begins_before (at + size_of pool at i.op) ins)
 
-  all_short : (n at : ℕ) (ins : List Ins) → end_from at ins < n → AllByRecursion (λ place. place < n) (places_from pool at ins)
+  all_short : (n at : ℕ) (ins : List Ins) → end_from at ins < n
+      → AllByRecursion (λ place. place < n) (places_from pool at ins)
   all_short n at [] lt = (lt, tt)
   all_short n at (i ∷ ins) lt =
       let before : at ≤ end_from (at + size_of pool at i.op) ins = begins_before at (i ∷ ins) in
       (omega (arith, before, lt), all_short n (at + size_of pool at i.op) ins lt)
 
   -- the places of a code that isn't too long are numbers of two bytes
-  pub places_short : (n : ℕ) (all : List ℕ) (ins : List Ins) → length (code_bytes pool all ins) < n → AllByRecursion (λ place. place < n) (places pool ins)
+  pub places_short : (n : ℕ) (all : List ℕ) (ins : List Ins) → length (code_bytes pool all ins) < n
+      → AllByRecursion (λ place. place < n) (places pool ins)
   unfolding places
   places_short n all ins lt = all_short n 0 ins (omega (arith, code_end all ins, lt))
 
@@ -66,13 +70,15 @@ module _ (pool : List PoolConstant) where
       drop-cons ins n d lt ∙ ap (λ (rest : List Ins). get_or ins n d ∷ rest) e
 
   -- the end stays where it is
-  pub end_next : (ins : List Ins) (n at after : ℕ) (d : Ins) (end : ℕ) → n < length ins → after ≡ at + size_of pool at (get_or ins n d).op
+  pub end_next : (ins : List Ins) (n at after : ℕ) (d : Ins) (end : ℕ) → n < length ins
+      → after ≡ at + size_of pool at (get_or ins n d).op
       → end_from at (drop n ins) ≡ end → end_from after (drop (n + 1) ins) ≡ end
   end_next ins n at after d end lt e so_far =
       ap (λ k. end_from k (drop (n + 1) ins)) e ∙ sym (ap (end_from at) (next_is ins n d lt)) ∙ so_far
 
   -- a place is noted
-  pub places_next : (ins : List Ins) (n at after : ℕ) (d : Ins) (front noted total : List ℕ) → n < length ins → after ≡ at + size_of pool at (get_or ins n d).op → noted ≡ front ++ at ∷ []
+  pub places_next : (ins : List Ins) (n at after : ℕ) (d : Ins) (front noted total : List ℕ) → n < length ins
+      → after ≡ at + size_of pool at (get_or ins n d).op → noted ≡ front ++ at ∷ []
       → front ++ places_from pool at (drop n ins) ≡ total → noted ++ places_from pool after (drop (n + 1) ins) ≡ total
   places_next ins n at after d front noted total lt e is so_far =
       let one : places_from pool at (drop n ins) ≡ at ∷ places_from pool after (drop (n + 1) ins) =

@@ -1,9 +1,9 @@
-mod Loops
+pub mod Loops
 mod Begun
 mod Placed
 mod ToEnd
 mod Collecting
-mod Numbers
+pub mod Numbers
 pub mod ReadMeant
 pub mod ReadToEnd
 pub mod ReadWhole

@@ -41,12 +41,15 @@ same_rule bad.Repeated = refl
 same_rule bad.Trailing = refl
 
 -- so what was read is meant alike, wherever its fault is
-same_meaning : (pool : List Entry) (at : ℕ) (r : Result (Read × Place) FormatFault) → meant pool (at_instruction at r) ≡ meant pool r
+same_meaning : (pool : List Entry) (at : ℕ) (r : Result (Read × Place) FormatFault)
+    → meant pool (at_instruction at r) ≡ meant pool r
 same_meaning pool at (Ok x) = refl
-same_meaning pool at (Err f) = ap (λ (w : Wrong). let R : Result (Unaimed × Place) Wrong = Err w in R) (same_rule f.kind)
+same_meaning pool at (Err f) = ap (λ (w : Wrong). let R : Result (Unaimed × Place) Wrong = Err w in R)
+    (same_rule f.kind)
 
 -- an instruction of a code that begins at 0 is told its own offset
-placed_is : (pool : List Entry) (p : Place) → placed_at pool p ≡ at_offset p.at (meant pool (after_read p.at (begun pool p.at) (u1 p)))
+placed_is : (pool : List Entry) (p : Place)
+    → placed_at pool p ≡ at_offset p.at (meant pool (after_read p.at (begun pool p.at) (u1 p)))
 unfolding placed_at read_instruction lead
 placed_is pool p =
     let same : p.at - 0 ≡ p.at = omega arith in
@@ -56,14 +59,18 @@ placed_is pool p =
 -- an instruction whose opcode was read
 pub behind_opcode : (pool : List Entry) (p q : Place) (at opcode : ℕ) → at ≡ p.at → u1 p ≡ Ok (opcode, q)
     → placed_at pool p ≡ at_offset at (meant pool (onwards at (begun pool at opcode) q))
-behind_opcode pool p q at opcode is h = rw is (placed_is pool p ∙ ap (λ r. at_offset p.at (meant pool (after_read p.at (begun pool p.at) r))) h)
+behind_opcode pool p q at opcode is h = rw is
+    (placed_is pool p ∙ ap (λ r. at_offset p.at (meant pool (after_read p.at (begun pool p.at) r))) h)
 
 -- a place at which the code ends
-pub without_opcode : (pool : List Entry) (p : Place) (at : ℕ) (e : End) → at ≡ p.at → u1 p ≡ Err (cut e) → placed_at pool p ≡ Err (code.Cut at)
-without_opcode pool p at e is h = rw is (placed_is pool p ∙ ap (λ r. at_offset p.at (meant pool (after_read p.at (begun pool p.at) r))) h)
+pub without_opcode : (pool : List Entry) (p : Place) (at : ℕ) (e : End) → at ≡ p.at → u1 p ≡ Err (cut e)
+    → placed_at pool p ≡ Err (code.Cut at)
+without_opcode pool p at e is h = rw is
+    (placed_is pool p ∙ ap (λ r. at_offset p.at (meant pool (after_read p.at (begun pool p.at) r))) h)
 
 -- what is wrong with an instruction, where memory does not lack
-pub wrong_is : (o : Or Wrong) (w : Wrong) (new : Place) (r : Result (Unaimed × Place) Wrong) → o ≡ Fault w → MovesOr {T = Unaimed} (Err o) new r → r ≡ Err w
+pub wrong_is : (o : Or Wrong) (w : Wrong) (new : Place) (r : Result (Unaimed × Place) Wrong) → o ≡ Fault w
+    → MovesOr {T = Unaimed} (Err o) new r → r ≡ Err w
 wrong_is OutOfMemory w new r is h = absurd cc
 wrong_is (Fault v) w new r is h =
     let e : v ≡ w = cc in

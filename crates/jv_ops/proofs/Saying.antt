@@ -5,7 +5,8 @@ use Rattle.class_model.specs.declared.constant.PoolConstant.{PoolConstant}
 use Rattle.jv_ops.specs.Constants.{said_at, first_constants}
 
 -- with what one more entry says
-pub constants_next : (pool : List Entry) (index : ℕ) (front new : List PoolConstant) → 1 ≤ index → front ≡ first_constants pool (index - 1) → new ≡ front ++ said_at pool index ∷ []
+pub constants_next : (pool : List Entry) (index : ℕ) (front new : List PoolConstant) → 1 ≤ index
+    → front ≡ first_constants pool (index - 1) → new ≡ front ++ said_at pool index ∷ []
     → new ≡ first_constants pool (index + 1 - 1)
 unfolding first_constants
 constants_next pool zero front new le so_far is = absurd (omega (arith, le))

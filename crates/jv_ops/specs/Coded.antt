@@ -1,5 +1,6 @@
 -- A code in its canonical spelling, or the limit that it passes (JVMS 4.7.3, 4.9.1).
-use Rattle.std.specs.Prelude.{◌≡◌, ℕ, ◌^◌, ◌<◌, ℤ, pos, negsuc, true, false, List, [], length, take, nat_le, if◌then◌else◌, Option, Some, None, Result, Ok}
+use Rattle.std.specs.Prelude.{◌≡◌, ℕ, ◌^◌, ◌<◌, ℤ, pos, negsuc, true, false, List, [], length, take, nat_le}
+use Rattle.std.specs.Prelude.{if◌then◌else◌, Option, Some, None, Result, Ok}
 use Rattle.std.specs.Int.{w32, cast_unsigned}
 use Rattle.jv_base.specs.Outcome.{◌>>=◌}
 use Rattle.class_model.specs.declared.limit.WriteLimit.{WriteLimit}

@@ -1,7 +1,9 @@
 -- The constants of a pool by what they say, in the order of their indices (JVMS 4.4).
 use Rattle.std.specs.Prelude.{◌≡◌, ℕ, zero, suc, ◌-◌, pos, List, [], ◌∷◌, ◌++◌, length, slice_get, Option, Some, None}
 use Rattle.class_model.specs.declared.constant.PoolConstant.{PoolConstant}
-use Rattle.class_model.specs.declared.constant.PoolConstant.TheVariants.{Utf8, Integer, Long, SecondOfLong, Class, Str, NameAndType, Fieldref, Methodref, InterfaceMethodref}
+use Rattle.class_model.specs.declared.constant.PoolConstant.TheVariants.{Utf8, Integer, Long, SecondOfLong, Class, Str}
+use Rattle.class_model.specs.declared.constant.PoolConstant.TheVariants.{NameAndType, Fieldref, Methodref}
+use Rattle.class_model.specs.declared.constant.PoolConstant.TheVariants.{InterfaceMethodref}
 use Rattle.class_model.specs.declared.pool.Entry.{Entry}
 use Rattle.class_model.specs.declared.pool.Entry.TheVariants as entry
 use Rattle.class_model.specs.Pool.{units_at, class_units_at}
@@ -25,7 +27,8 @@ of_texts make _ _ = nothing
 
 -- the texts of a reference to a member, if all are there (JVMS 4.4.2)
 abbrev pub texts_of : Option (List ℕ) → Option (List ℕ) → Option (List ℕ) → Option Member
-texts_of (Some class) (Some name) (Some descriptor) = Some (record { class = class; name = name; descriptor = descriptor })
+texts_of (Some class) (Some name) (Some descriptor) = Some
+    (record { class = class; name = name; descriptor = descriptor })
 texts_of _ _ _ = None
 
 -- those of a class, and of a name and a descriptor by their indices (JVMS 4.4.2, 4.4.6)
@@ -64,7 +67,8 @@ said pool before (Some (entry.Integer n)) = Integer n
 said pool before (Some (entry.Long n)) = Long n
 said pool before (Some (entry.Class index)) = of_text (λ name. Class name) (units_at pool index)
 said pool before (Some (entry.Str index)) = of_text (λ text. Str text) (units_at pool index)
-said pool before (Some (entry.NameAndType name descriptor)) = of_texts (λ n d. NameAndType n d) (units_at pool name) (units_at pool descriptor)
+said pool before (Some (entry.NameAndType name descriptor)) = of_texts (λ n d. NameAndType n d) (units_at pool name)
+    (units_at pool descriptor)
 said pool before (Some (entry.Field class index)) = fieldref_of (member_at pool class index)
 said pool before (Some (entry.Method class index)) = methodref_of (member_at pool class index)
 said pool before (Some (entry.InterfaceMethod class index)) = interface_methodref_of (member_at pool class index)

@@ -43,12 +43,15 @@ code_decoded pool bytes = as_decoded pool (code_read pool bytes)
 abbrev pub HaveUnits : List Entry → Type 0
 HaveUnits pool = (index : ℕ) (units : List ℕ) → units_at pool index ≡ Some units → IsUnits units
 
--- the bytes of a code stand for these instructions, which begin at these offsets; a target is the number of one of them (JVMS 4.7.3, 4.9.1)
+-- the bytes of a code stand for these instructions, which begin at these offsets; a target is the number of one of them
+-- (JVMS 4.7.3, 4.9.1)
 abbrev pub IsDecoded : List Entry → List ℕ → Decoded → Type 0
-IsDecoded pool code decoded = (infos : List Info) × (code ≡ flat_map info_bytes infos) × (decoded.starts ≡ starts_of infos)
+IsDecoded pool code decoded = (infos : List Info) × (code ≡ flat_map info_bytes infos)
+    × (decoded.starts ≡ starts_of infos)
     × AllStand info_bytes (IsOp (Begins (starts_of infos)) pool) 0 infos decoded.ops
 
--- where an instruction is told as left out, the bytes of the code have such an instruction behind others that are none (JVMS 4.9.1)
+-- where an instruction is told as left out, the bytes of the code have such an instruction behind others that are none
+-- (JVMS 4.9.1)
 abbrev pub ToldLeftOut : List Entry → List ℕ → CodeFault → Type 0
 ToldLeftOut pool bytes (code.LeftOutOpcode offset opcode) = IsLeftOutCode pool bytes (left_out_kind opcode)
 ToldLeftOut pool bytes _ = Unit {0}

@@ -30,11 +30,13 @@ in_front front (Err f) = Err f
 
 -- an instruction, and from the place behind it the others; of several faults the first counts
 -- (the project's own: the first fault counts)
-abbrev pub after_first : Result (Placed × Place) CodeFault → (Place → Result (List Placed) CodeFault) → Result (List Placed) CodeFault
+abbrev pub after_first : Result (Placed × Place) CodeFault → (Place → Result (List Placed) CodeFault)
+    → Result (List Placed) CodeFault
 after_first (Ok x) others = in_front (x.0 ∷ []) (others x.1)
 after_first (Err f) others = Err f
 
 -- the instructions up to the end of the bytes, n at most (JVMS 4.7.3, 4.9.1)
 unfoldable pub placed_to_end : ℕ → List Entry → Place → Result (List Placed) CodeFault
 placed_to_end zero pool p = Ok []
-placed_to_end (suc n) pool p = if p.at == length p.bytes then Ok [] else after_first (placed_at pool p) (placed_to_end n pool)
+placed_to_end (suc n) pool p = if p.at == length p.bytes then Ok [] else after_first (placed_at pool p)
+    (placed_to_end n pool)

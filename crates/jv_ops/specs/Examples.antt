@@ -14,7 +14,8 @@ use Rattle.jv_ops.specs.Constants.{constants_in}
 -- the class A with a field f and a method m, which is also one of an interface, the array type [[I, and the string "f"
 -- (JVMS 4.4)
 abbrev pub filled_pool : List Entry
-filled_pool = entry.Gap ∷ entry.Utf8 (codes "A") ∷ entry.Class 1 ∷ entry.Utf8 (codes "f") ∷ entry.Utf8 (codes "I") ∷ entry.NameAndType 3 4
+filled_pool = entry.Gap ∷ entry.Utf8 (codes "A") ∷ entry.Class 1 ∷ entry.Utf8 (codes "f") ∷ entry.Utf8
+    (codes "I") ∷ entry.NameAndType 3 4
     ∷ entry.Field 2 5 ∷ entry.Utf8 (codes "m") ∷ entry.Utf8 (codes "(J)V") ∷ entry.NameAndType 7 8 ∷ entry.Method 2 9
     ∷ entry.InterfaceMethod 2 9 ∷ entry.Utf8 (codes "[[I") ∷ entry.Class 12 ∷ entry.Str 3 ∷ []
 
@@ -48,7 +49,8 @@ on_types = map unlined (op.New (codes "A") ∷ op.ANewArray class_a ∷ op.ANewA
 
 -- newarray of each type that is taken (JVMS 6.5.newarray)
 abbrev pub new_arrays : List Ins
-new_arrays = map unlined (op.NewArray base.Boolean ∷ op.NewArray base.Char ∷ op.NewArray base.Byte ∷ op.NewArray base.Short
+new_arrays = map unlined
+    (op.NewArray base.Boolean ∷ op.NewArray base.Char ∷ op.NewArray base.Byte ∷ op.NewArray base.Short
     ∷ op.NewArray base.Int ∷ op.NewArray base.Long ∷ [])
 
 -- the field at index 6, the method at 10, that of the interface at 11 with the count 3 for the object and a long

@@ -11,7 +11,8 @@ use Rattle.jv_ops.specs.declared.fault.CodeFault.TheVariants as code
 use Rattle.jv_ops.specs.declared.fault.Wrong.{Wrong}
 use Rattle.jv_ops.specs.declared.fault.Wrong.TheVariants as wrong
 
--- the rules that an instruction's bytes can break; anything else that the reading of one tells is that they end too soon
+-- the rules that an instruction's bytes can break; anything else that the reading of one tells is that they end too
+-- soon
 abbrev pub wrong_of : FormatKind → Wrong
 wrong_of bad.BadOpcode = wrong.Opcode
 wrong_of bad.BadOperand = wrong.Operand
@@ -24,7 +25,8 @@ code_fault offset wrong.Operand = code.BadOperand offset
 code_fault offset wrong.Cut = code.Cut offset
 code_fault offset (wrong.LeftOut opcode) = code.LeftOutOpcode offset opcode
 
--- what came is what is due, and the place is the one behind it; want of memory is free, and nothing is said of the place
+-- what came is what is due, and the place is the one behind it; want of memory is free, and nothing is said of the
+-- place
 -- after a fault (only the proof of decode_code needs it)
 abbrev pub MovesOr : {T X : Type 0} → Result T (Or X) → Place → Result (T × Place) X → Type 0
 MovesOr (Ok x) new due = due ≡ Ok (x, new)

@@ -1,6 +1,7 @@
 -- What an instruction's bytes stand for before its targets are known, and then with them
 -- (JVMS 6.5; that targets come last is the project's own).
-use Rattle.std.specs.Prelude.{ℕ, zero, suc, ℤ, is_some, if◌then◌else◌, List, [], ◌∷◌, map, Option, Some, None, Result, Ok, Err}
+use Rattle.std.specs.Prelude.{ℕ, zero, suc, ℤ, is_some, if◌then◌else◌, List, [], ◌∷◌, map, Option, Some, None, Result}
+use Rattle.std.specs.Prelude.{Ok, Err}
 use Rattle.std.specs.Int.{w16, w32, cast_signed}
 use Rattle.jv_base.specs.Place.{Place}
 use Rattle.jv_base.specs.declared.outcome.Or.{Or}
@@ -12,9 +13,11 @@ use Rattle.format_reading.specs.declared.fault.FormatKind.TheVariants as bad
 use Rattle.class_model.specs.declared.pool.Entry.{Entry}
 use Rattle.class_model.specs.declared.op.Op.{Op}
 use Rattle.class_model.specs.Opcodes.{local_op, branch_op, is_left_out_opcode}
-use Rattle.class_model.specs.InstructionStructure.{MatchOffset, Info, Local, Branch, GotoWide, TableSwitch, LookupSwitch}
+use Rattle.class_model.specs.InstructionStructure.{MatchOffset, Info, Local, Branch, GotoWide, TableSwitch}
+use Rattle.class_model.specs.InstructionStructure.{LookupSwitch}
 use Rattle.class_model.specs.InstructionMeaning.{op_of}
-use Rattle.class_model.specs.ReadingCode.{Read, instruction, left_out, lookup_key, match_offsets, one_byte, two_bytes, member, class_operand, is_member_opcode, is_class_opcode}
+use Rattle.class_model.specs.ReadingCode.{Read, instruction, left_out, lookup_key, match_offsets, one_byte, two_bytes}
+use Rattle.class_model.specs.ReadingCode.{member, class_operand, is_member_opcode, is_class_opcode}
 use Rattle.jv_ops.specs.declared.fault.Wrong.{Wrong}
 use Rattle.jv_ops.specs.declared.fault.Wrong.TheVariants as wrong
 use Rattle.jv_ops.specs.declared.unaimed.Match.{Match}

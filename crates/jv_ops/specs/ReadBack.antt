@@ -9,5 +9,7 @@ use Rattle.jv_ops.specs.Decoded.{code_decoded}
 
 -- the canonical bytes of a code are decoded as its instructions, which begin at all of their places but the last
 abbrev pub CanonicalIsDecoded : Type 0
-CanonicalIsDecoded = (entries : List Entry) (pool : List PoolConstant) (ins : List Ins) → IsWritableCode entries pool ins
-    → code_decoded entries (code_bytes pool (places pool ins) ins) ≡ Ok (record { ops = map (λ (i : Ins). i.op) ins; starts = take (length ins) (places pool ins) })
+CanonicalIsDecoded = (entries : List Entry) (pool : List PoolConstant) (ins : List Ins)
+    → IsWritableCode entries pool ins
+    → code_decoded entries (code_bytes pool (places pool ins) ins)
+    ≡ Ok (record { ops = map (λ (i : Ins). i.op) ins; starts = take (length ins) (places pool ins) })

@@ -1,5 +1,6 @@
 -- The targets of instructions, as their numbers (JVMS 4.9.1).
-use Rattle.std.specs.Prelude.{ℕ, ℤ, pos, negsuc, List, [], ◌∷◌, map, slice_get, nat_eq, if◌then◌else◌, Option, Some, None, Result, Ok, Err}
+use Rattle.std.specs.Prelude.{ℕ, ℤ, pos, negsuc, List, [], ◌∷◌, map, slice_get, nat_eq, if◌then◌else◌, Option, Some}
+use Rattle.std.specs.Prelude.{None, Result, Ok, Err}
 use Rattle.std.specs.Int.{w32, cast_signed}
 use Rattle.jv_base.specs.Outcome.{◌>>=◌}
 use Rattle.format_reading.specs.declared.fault.FormatKind.{FormatKind}

@@ -1,5 +1,6 @@
 // One instruction, read from left to right (JVMS 6.5).
-ghost use Rattle.std.specs.Prelude.{◌≡◌, ◌≤◌, ◌+◌, ◌≤ℤ◌, ℕ, List, IfOk, Err, None, option_map, option_and_then, option_copied, slice_get};
+ghost use Rattle.std.specs.Prelude.{◌≡◌, ◌≤◌, ◌+◌, ◌≤ℤ◌, ℕ, List, IfOk, Err, None, option_map, option_and_then};
+ghost use Rattle.std.specs.Prelude.{option_copied, slice_get};
 ghost use Rattle.jv_base.specs.declared.outcome.Or.TheVariants.{Fault};
 ghost use Rattle.class_model.specs.declared.pool.Entry.{Entry};
 ghost use Rattle.jv_ops.specs.declared.fault.Wrong.TheVariants as wrong;
@@ -7,8 +8,12 @@ ghost use Rattle.std.specs.Int.{w32, cast_signed};
 ghost use Rattle.format_reading.specs.Reader.{onwards, lead, item, u1, many, u4};
 ghost use Rattle.class_model.specs.InstructionStructure.{Bipush, Sipush, Local, WideLocal, Branch, pad_length};
 ghost use Rattle.class_model.specs.Instructions.{is_left_out_load};
-ghost use Rattle.class_model.specs.InstructionMeaning.{loaded, loaded_wide, member_op, class_op, method_named, of_type, can_be_operand};
-ghost use Rattle.class_model.specs.ReadingCode.{is_left_out_at, ldc, ldc_wide, one_byte, two_bytes, iinc, wide_iinc, widened, goto_wide, member, class_operand, is_count, invoke_interface, array_type_read, multi_new_array, table_length, table_switch, ascends, lookup_switch, begun};
+ghost use Rattle.class_model.specs.InstructionMeaning.{loaded, loaded_wide, member_op, class_op, method_named, of_type};
+ghost use Rattle.class_model.specs.InstructionMeaning.{can_be_operand};
+ghost use Rattle.class_model.specs.ReadingCode.{is_left_out_at, ldc, ldc_wide, one_byte, two_bytes, iinc, wide_iinc};
+ghost use Rattle.class_model.specs.ReadingCode.{widened, goto_wide, member, class_operand, is_count, invoke_interface};
+ghost use Rattle.class_model.specs.ReadingCode.{array_type_read, multi_new_array, table_length, table_switch, ascends};
+ghost use Rattle.class_model.specs.ReadingCode.{lookup_switch, begun};
 ghost use Rattle.jv_ops.specs.Fault.{MovesOr, told};
 ghost use Rattle.jv_ops.specs.Meaning.{meant, whole_op, match_read, matches_from, matches_behind, begun_by_table};
 

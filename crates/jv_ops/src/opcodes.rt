@@ -1,6 +1,10 @@
 // Which instruction each opcode stands for (JVMS 6.5 and 7), by families.
 ghost use Rattle.std.specs.Prelude.{◌≡◌, option_map, is_some, ◌+◌};
-ghost use Rattle.class_model.specs.Opcodes.{kind_of, elem_of, cond_of, constant_op, slot_op, stack_op, arithmetic_op, bits_op, conversion_op, ending_op, plain_op, local_op, branch_op, field_op, method_op, takes_interface_method, type_op, array_type_of, is_left_out_array_type, is_left_out_local, is_left_out_number, is_left_out_opcode};
+ghost use Rattle.class_model.specs.Opcodes.{kind_of, elem_of, cond_of, constant_op, slot_op, stack_op, arithmetic_op};
+ghost use Rattle.class_model.specs.Opcodes.{bits_op, conversion_op, ending_op, plain_op, local_op, branch_op, field_op};
+ghost use Rattle.class_model.specs.Opcodes.{method_op, takes_interface_method, type_op, array_type_of};
+ghost use Rattle.class_model.specs.Opcodes.{is_left_out_array_type, is_left_out_local, is_left_out_number};
+ghost use Rattle.class_model.specs.Opcodes.{is_left_out_opcode};
 ghost use Rattle.class_model.specs.declared.op.Op.TheVariants as op;
 
 use class_model::{ArithOp, Cond, ConvOp, Elem, Kind, LogicOp, MemberRef, Num, Op, ShiftOp};

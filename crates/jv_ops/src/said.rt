@@ -2,7 +2,8 @@
 ghost use Rattle.std.specs.Prelude.{◌≡◌, ◌≤◌, IfOk, option_copied};
 ghost use Rattle.class_model.specs.Pool.{units_at};
 ghost use Rattle.class_model.specs.declared.constant.PoolConstant.TheVariants as constant;
-ghost use Rattle.jv_ops.specs.Constants.{nothing, of_text, of_texts, member_at, fieldref_of, methodref_of, interface_methodref_of, second_of, said_at};
+ghost use Rattle.jv_ops.specs.Constants.{nothing, of_text, of_texts, member_at, fieldref_of, methodref_of};
+ghost use Rattle.jv_ops.specs.Constants.{interface_methodref_of, second_of, said_at};
 
 use crate::lookups::{class_units_at, name_and_type_at, units_at};
 use class_model::{Entry, Pool, PoolConstant};

@@ -1,7 +1,8 @@
 // How many bytes instructions take, and so where each begins (JVMS 4.9.1).
 ghost use Rattle.class_model.specs.declared.constant.PoolConstant.{PoolConstant};
 ghost use Rattle.class_model.specs.declared.op.Kind.{Kind};
-ghost use Rattle.std.specs.Prelude.{◌≡◌, ℕ, List, ◌+◌, ◌^◌, ◌<◌, ◌≤◌, ◌∷◌, ◌++◌, [], ℤ, pos, ◌≤ℤ◌, IsTrue, length, IfOk, OnOk};
+ghost use Rattle.std.specs.Prelude.{◌≡◌, ℕ, List, ◌+◌, ◌^◌, ◌<◌, ◌≤◌, ◌∷◌, ◌++◌, [], ℤ, pos, ◌≤ℤ◌, IsTrue, length};
+ghost use Rattle.std.specs.Prelude.{IfOk, OnOk};
 ghost use Rattle.std.specs.Int.{w16};
 ghost use Rattle.std.specs.Int.RustNames.{FitsSigned};
 ghost use Rattle.jv_base.specs.Outcome.{IsDue};

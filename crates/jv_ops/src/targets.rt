@@ -6,7 +6,8 @@ ghost use Rattle.jv_base.specs.Outcome.{IsDue};
 ghost use Rattle.class_model.specs.InstructionMeaning.{aim_at, aimed, branch};
 ghost use Rattle.class_model.specs.Instructions.{branch_target};
 ghost use Rattle.class_model.specs.Opcodes.{branch_op};
-ghost use Rattle.jv_ops.specs.Targets.{starts_of, found, noted, aim_in, collected, case_aimed, table_aimed, lookup_aimed, op_aimed, placed_aimed};
+ghost use Rattle.jv_ops.specs.Targets.{starts_of, found, noted, aim_in, collected, case_aimed, table_aimed};
+ghost use Rattle.jv_ops.specs.Targets.{lookup_aimed, op_aimed, placed_aimed};
 
 use crate::fault::CodeFault;
 use crate::opcodes::branch_op;

@@ -1,5 +1,6 @@
 // The bytes of instructions (JVMS 6.5).
-ghost use Rattle.std.specs.Prelude.{◌≡◌, ℕ, ◌+◌, ◌^◌, ◌<◌, ◌∷◌, ◌++◌, [], ℤ, pos, negsuc, ◌-ℤ◌, ◌+ℤ◌, ◌<ℤ◌, true, false, length, map, replicate, slice_index, All, IfOk, OnOk, unwrap_or};
+ghost use Rattle.std.specs.Prelude.{◌≡◌, ℕ, ◌+◌, ◌^◌, ◌<◌, ◌∷◌, ◌++◌, [], ℤ, pos, negsuc, ◌-ℤ◌, ◌+ℤ◌, ◌<ℤ◌, true};
+ghost use Rattle.std.specs.Prelude.{false, length, map, replicate, slice_index, All, IfOk, OnOk, unwrap_or};
 ghost use Rattle.std.specs.Int.{w16, w32, to_be_bytes, cast_unsigned};
 ghost use Rattle.std.specs.List.{flat_map};
 ghost use Rattle.class_model.specs.Between.{int_between};
@@ -14,9 +15,7 @@ ghost use Rattle.class_model.specs.WriteLimits.{branch_to};
 ghost use Rattle.jv_ops.specs.Coded.{HasIndex, HasIndices, IsNear, load_info, match_of};
 
 use crate::sizes::{is_lconst, is_short, padding};
-use class_model::{
-    ArithOp, Case, Cond, ConvOp, Elem, Kind, LogicOp, MemberRef, Num, Op, ShiftOp,
-};
+use class_model::{ArithOp, Case, Cond, ConvOp, Elem, Kind, LogicOp, MemberRef, Num, Op, ShiftOp};
 use constant_table::{ConstantTable, put, put_u4};
 use jv_base::{Base, FieldType, M, Name, Units};
 use known_pool::count_of;

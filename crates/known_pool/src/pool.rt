@@ -2,7 +2,8 @@
 ghost use Rattle.std.specs.Prelude.{◌≡◌, IfOk, option_and_then, option_copied, slice_get, is_some};
 ghost use Rattle.class_model.specs.Pool.{units_at};
 ghost use Rattle.class_model.specs.ConstantPool.{string_units_at};
-ghost use Rattle.class_model.specs.Lookups.{text_there, type_at, class_at, value_of, fieldref_at, methodref_at, interface_methodref_at};
+ghost use Rattle.class_model.specs.Lookups.{text_there, type_at, class_at, value_of, fieldref_at, methodref_at};
+ghost use Rattle.class_model.specs.Lookups.{interface_methodref_at};
 ghost use Rattle.known_pool.specs.Members.{member_in};
 
 use crate::members::{KnownMember, members_of};

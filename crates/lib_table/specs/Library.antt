@@ -195,7 +195,8 @@ library =
     ∷ class (codes "java/lang/IllegalArgumentException") Open (Some runtime_exception) [] three_constructors
     ∷ class (codes "java/lang/IllegalStateException") Open (Some runtime_exception) [] three_constructors
     ∷ class (codes "java/lang/UnsupportedOperationException") Open (Some runtime_exception) [] three_constructors
-    ∷ class (codes "java/lang/NumberFormatException") Open (Some (codes "java/lang/IllegalArgumentException")) [] two_constructors
+    ∷ class (codes "java/lang/NumberFormatException") Open
+    (Some (codes "java/lang/IllegalArgumentException")) [] two_constructors
     ∷ class linkage_error Open (Some error) [] []
     ∷ class (codes "java/lang/NoClassDefFoundError") Open (Some linkage_error) [] []
     ∷ class (codes "java/lang/ExceptionInInitializerError") Open (Some linkage_error) [] []

@@ -31,11 +31,19 @@ is_member name descriptor m = is_text m.name name && is_text m.descriptor descri
 
 -- what a call tells of a member with its number
 abbrev pub member_told : ℕ × LibraryMember → LibMember
-member_told (at, m) = record { role = m.role; is_method = m.is_method; is_static = m.is_static; is_init = is_text m.name (codes "<init>"); at = at }
+member_told (at, m) = record {
+  role = m.role;
+  is_method = m.is_method;
+  is_static = m.is_static;
+  is_init = is_text m.name
+      (codes "<init>");
+  at = at;
+}
 
 -- the member with this name and this descriptor (JVMS 4.5, 4.6)
 abbrev pub member_named : List LibraryMember → List ℕ → List ℕ → Option LibMember
-member_named ms name descriptor = option_map member_told (find (λ p. is_member name descriptor p.1) (enumerate_from 0 ms))
+member_named ms name descriptor = option_map member_told
+    (find (λ p. is_member name descriptor p.1) (enumerate_from 0 ms))
 
 -- the methods, constructors among them, in their order
 abbrev pub methods_told : List LibraryMember → List LibMember

@@ -5,7 +5,8 @@ ghost use Rattle.std.specs.List.{list_any};
 ghost use Rattle.std.specs.Option.{option_and_then, option_map};
 ghost use Rattle.jv_base.specs.Names.{is_text};
 ghost use Rattle.jv_base.specs.Types.{method_text};
-ghost use Rattle.lib_table.specs.Lookups.{are_same_methods, class_at, is_method, is_named, member_named, member_told, methods_told};
+ghost use Rattle.lib_table.specs.Lookups.{are_same_methods, class_at, is_method, is_named, member_named, member_told};
+ghost use Rattle.lib_table.specs.Lookups.{methods_told};
 ghost use Rattle.lib_table.specs.Rows.{told_member};
 
 use crate::LibId;

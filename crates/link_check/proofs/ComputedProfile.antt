@@ -7,7 +7,12 @@ use Rattle.jv_base.specs.Walk.{walk}
 use Rattle.lib_table.specs.Library.{library}
 use Rattle.class_pool.specs.Walk.{upwards, walked}
 use Rattle.link_check.specs.Profile.{least}
-use Rattle.link_check.specs.ProfileRows.{ResolvedFieldRows, ResolvedMethodRows, LibraryMethodRows, ResolvedArrayRows, SupertypeRows, TypeRows, OperandRows, HandlerRows, FieldRows, CallRows, LibraryCallRows, AccessRows, SpecialRows, InitRows, NewRows, ArrayCallRows, FinalRows, OverridingRows, OverridingThroughRows, LibraryOverridingRows, SuperinterfaceRows, ImplementingRows, InterfaceBodyRows, FlagRows, NotedRows, FloatRows, SeveralRows}
+use Rattle.link_check.specs.ProfileRows.{ResolvedFieldRows, ResolvedMethodRows, LibraryMethodRows, ResolvedArrayRows}
+use Rattle.link_check.specs.ProfileRows.{SupertypeRows, TypeRows, OperandRows, HandlerRows, FieldRows, CallRows}
+use Rattle.link_check.specs.ProfileRows.{LibraryCallRows, AccessRows, SpecialRows, InitRows, NewRows, ArrayCallRows}
+use Rattle.link_check.specs.ProfileRows.{FinalRows, OverridingRows, OverridingThroughRows, LibraryOverridingRows}
+use Rattle.link_check.specs.ProfileRows.{SuperinterfaceRows, ImplementingRows, InterfaceBodyRows, FlagRows, NotedRows}
+use Rattle.link_check.specs.ProfileRows.{FloatRows, SeveralRows}
 
 pub resolved_fields : ResolvedFieldRows
 unfolding library upwards walked field_text base_text method_text result_text grown read_field read_method walk

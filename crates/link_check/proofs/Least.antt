@@ -1,12 +1,15 @@
 -- Of several kinds the first one in their order.
-use Rattle.std.proofs.Common.{◌≡◌, ℕ, suc, ◌+◌, ◌<◌, ◌≤◌, ◌||◌, ◌&&◌, Bool, true, false, cond, eqb, ltb, leb, List, [], ◌∷◌, ◌++◌, length, get_or, take, Option, Some, None, refl, sym, ap, ◌∙◌, arith}
+use Rattle.std.proofs.Common.{◌≡◌, ℕ, suc, ◌+◌, ◌<◌, ◌≤◌, ◌||◌, ◌&&◌, Bool, true, false, cond, eqb, ltb, leb, List, []}
+use Rattle.std.proofs.Common.{◌∷◌, ◌++◌, length, get_or, take, Option, Some, None, refl, sym, ap, ◌∙◌, arith}
 use Rattle.std.specs.List.{find, flat_map, list_any}
 use Rattle.std.proofs.lemmas.Bool.{and_parts, cond-true, cond-false, cond_both, le-ltb, leb-true, lt-ltb}
 use Rattle.std.proofs.lemmas.List.{take_more, append-nil}
 use Rattle.std.proofs.lemmas.List.Concat.{flat_map-append}
 use Rattle.std.proofs.lemmas.List.Folds.{list_any-append}
 use Rattle.link_check.specs.declared.fault.ProfileKind.{ProfileKind}
-use Rattle.link_check.specs.declared.fault.ProfileKind.TheVariants.{LeftOutFlag, LeftOutConstant, LeftOutOpcode, LeftOutType, Unresolved, Inaccessible, WrongKind, LeftOutMember}
+use Rattle.link_check.specs.declared.fault.ProfileKind.TheVariants.{LeftOutFlag, LeftOutConstant, LeftOutOpcode}
+use Rattle.link_check.specs.declared.fault.ProfileKind.TheVariants.{LeftOutType, Unresolved, Inaccessible, WrongKind}
+use Rattle.link_check.specs.declared.fault.ProfileKind.TheVariants.{LeftOutMember}
 use Rattle.link_check.specs.Profile.{all_kinds, least, rank_of, unless}
 
 -- a kind stands in the list
@@ -28,11 +31,13 @@ abbrev From : ℕ → Option ProfileKind → Type 0
 From n None = Unit {0}
 From n (Some k) = n ≤ rank_of k
 
-from_cond : (t : Bool) (n : ℕ) (k : ProfileKind) (o : Option ProfileKind) → n ≤ rank_of k → From n o → From n (cond t (Some k) o)
+from_cond : (t : Bool) (n : ℕ) (k : ProfileKind) (o : Option ProfileKind) → n ≤ rank_of k → From n o
+    → From n (cond t (Some k) o)
 from_cond true n k o here later = here
 from_cond false n k o here later = later
 
-found_from : (test : ProfileKind → Bool) (m n : ℕ) (ks : List ProfileKind) → m ≤ n → ascend n ks ≡ true → From m (find test ks)
+found_from : (test : ProfileKind → Bool) (m n : ℕ) (ks : List ProfileKind) → m ≤ n → ascend n ks ≡ true
+    → From m (find test ks)
 found_from test m n [] low up = tt
 found_from test m n (k ∷ ks) low up =
     let parts = and_parts (leb n (rank_of k)) (ascend (suc (rank_of k)) ks) up in
@@ -40,24 +45,29 @@ found_from test m n (k ∷ ks) low up =
     from_cond (test k) m k (find test ks) (omega arith) (found_from test m (suc (rank_of k)) ks (omega arith) parts.1)
 
 same_two : (k : ProfileKind) → Some k ≡ lesser (Some k) (Some k)
-same_two k = cond_both (ltb (rank_of k) (rank_of k)) (Some k) (Some k) (λ (o : Option ProfileKind). Some k ≡ o) (λ _. refl) (λ _. refl)
+same_two k = cond_both (ltb (rank_of k) (rank_of k)) (Some k) (Some k) (λ (o : Option ProfileKind). Some k ≡ o)
+    (λ _. refl) (λ _. refl)
 
 first_lesser : (k : ProfileKind) (o : Option ProfileKind) → From (suc (rank_of k)) o → Some k ≡ lesser (Some k) o
 first_lesser k None above = refl
-first_lesser k (Some j) above = sym (cond-false (ltb (rank_of j) (rank_of k)) (Some j) (Some k) (le-ltb (rank_of j) (rank_of k) (omega arith)))
+first_lesser k (Some j) above = sym
+    (cond-false (ltb (rank_of j) (rank_of k)) (Some j) (Some k) (le-ltb (rank_of j) (rank_of k) (omega arith)))
 
 second_lesser : (k : ProfileKind) (o : Option ProfileKind) → From (suc (rank_of k)) o → Some k ≡ lesser o (Some k)
 second_lesser k None above = refl
-second_lesser k (Some j) above = sym (cond-true (ltb (rank_of k) (rank_of j)) (Some k) (Some j) (lt-ltb (rank_of k) (rank_of j) (omega arith)))
+second_lesser k (Some j) above = sym
+    (cond-true (ltb (rank_of k) (rank_of j)) (Some k) (Some j) (lt-ltb (rank_of k) (rank_of j) (omega arith)))
 
-one_more : (k : ProfileKind) (x y : Bool) (a b c : Option ProfileKind) → From (suc (rank_of k)) a → From (suc (rank_of k)) b → c ≡ lesser a b
+one_more : (k : ProfileKind) (x y : Bool) (a b c : Option ProfileKind) → From (suc (rank_of k)) a
+    → From (suc (rank_of k)) b → c ≡ lesser a b
     → cond (x || y) (Some k) c ≡ lesser (cond x (Some k) a) (cond y (Some k) b)
 one_more k true true a b c above-a above-b is = same_two k
 one_more k true false a b c above-a above-b is = first_lesser k b above-b
 one_more k false true a b c above-a above-b is = second_lesser k a above-a
 one_more k false false a b c above-a above-b is = is
 
-found_or : (p q : ProfileKind → Bool) (n : ℕ) (ks : List ProfileKind) → ascend n ks ≡ true → find (λ k. p k || q k) ks ≡ lesser (find p ks) (find q ks)
+found_or : (p q : ProfileKind → Bool) (n : ℕ) (ks : List ProfileKind) → ascend n ks ≡ true
+    → find (λ k. p k || q k) ks ≡ lesser (find p ks) (find q ks)
 found_or p q n [] up = refl
 found_or p q n (k ∷ ks) up =
     let parts = and_parts (leb n (rank_of k)) (ascend (suc (rank_of k)) ks) up in
@@ -94,13 +104,16 @@ least_one WrongKind = refl
 least_one LeftOutMember = refl
 
 -- what the kinds of one more element add
-pub least_more : {X : Type 0} (f : X → List ProfileKind) (xs : List X) (i : ℕ) (x : X) (kind one new : Option ProfileKind) → i < length xs → x ≡ get_or xs i x
+pub least_more : {X : Type 0} (f : X → List ProfileKind) (xs : List X) (i : ℕ) (x : X)
+    (kind one new : Option ProfileKind) → i < length xs → x ≡ get_or xs i x
     → kind ≡ least (flat_map f (take i xs)) → one ≡ least (f x)
-    → ((a b : List ProfileKind) → kind ≡ least a → one ≡ least b → new ≡ least (a ++ b)) → new ≡ least (flat_map f (take (i + 1) xs))
+    → ((a b : List ProfileKind) → kind ≡ least a → one ≡ least b → new ≡ least (a ++ b))
+    → new ≡ least (flat_map f (take (i + 1) xs))
 least_more {X} f xs i x kind one new within is so_far here joined =
     joined (flat_map f (take i xs)) (f x) so_far here
     ∙ ap least (sym (
-    ap (flat_map f) (take_more xs i x within ∙ ap (λ (y : X). take i xs ++ y ∷ []) (sym is)) ∙ flat_map-append f (take i xs) (x ∷ [])
+    ap (flat_map f) (take_more xs i x within ∙ ap (λ (y : X). take i xs ++ y ∷ []) (sym is))
+    ∙ flat_map-append f (take i xs) (x ∷ [])
     ∙ ap (λ (ks : List ProfileKind). flat_map f (take i xs) ++ ks) (append-nil (f x))
     ))
 
@@ -117,28 +130,38 @@ pub unless_fails : (holds : Bool) (k : ProfileKind) → holds ≡ false → Some
 unless_fails holds k h = is_one k ∙ ap (λ (t : Bool). least (unless t k)) (sym h)
 
 -- where there is no kind in the first list
-pub lesser_none : (a b : List ProfileKind) (other : Option ProfileKind) → None ≡ least a → other ≡ least b → other ≡ least (a ++ b)
+pub lesser_none : (a b : List ProfileKind) (other : Option ProfileKind) → None ≡ least a → other ≡ least b
+    → other ≡ least (a ++ b)
 lesser_none a b other p q = q ∙ ap (λ (o : Option ProfileKind). lesser o (least b)) p ∙ sym (least_append a b)
 
-pub lesser_other : (a b : List ProfileKind) (one : ProfileKind) → Some one ≡ least a → None ≡ least b → Some one ≡ least (a ++ b)
+pub lesser_other : (a b : List ProfileKind) (one : ProfileKind) → Some one ≡ least a → None ≡ least b
+    → Some one ≡ least (a ++ b)
 lesser_other a b one p q =
-    ap (λ (o : Option ProfileKind). lesser o None) p ∙ ap (λ (o : Option ProfileKind). lesser (least a) o) q ∙ sym (least_append a b)
+    ap (λ (o : Option ProfileKind). lesser o None) p ∙ ap (λ (o : Option ProfileKind). lesser (least a) o) q
+    ∙ sym (least_append a b)
 
-both_kinds : (a b : List ProfileKind) (one other : ProfileKind) → Some one ≡ least a → Some other ≡ least b → lesser (Some one) (Some other) ≡ least (a ++ b)
+both_kinds : (a b : List ProfileKind) (one other : ProfileKind) → Some one ≡ least a → Some other ≡ least b
+    → lesser (Some one) (Some other) ≡ least (a ++ b)
 both_kinds a b one other p q =
-    ap (λ (o : Option ProfileKind). lesser o (Some other)) p ∙ ap (λ (o : Option ProfileKind). lesser (least a) o) q ∙ sym (least_append a b)
+    ap (λ (o : Option ProfileKind). lesser o (Some other)) p ∙ ap (λ (o : Option ProfileKind). lesser (least a) o) q
+    ∙ sym (least_append a b)
 
-pub lesser_second : (a b : List ProfileKind) (one other : ProfileKind) → rank_of other < rank_of one → Some one ≡ least a → Some other ≡ least b → Some other ≡ least (a ++ b)
+pub lesser_second : (a b : List ProfileKind) (one other : ProfileKind) → rank_of other < rank_of one
+    → Some one ≡ least a → Some other ≡ least b → Some other ≡ least (a ++ b)
 lesser_second a b one other below p q =
-    sym (cond-true (ltb (rank_of other) (rank_of one)) (Some other) (Some one) (lt-ltb (rank_of other) (rank_of one) below)) ∙ both_kinds a b one other p q
+    sym (cond-true (ltb (rank_of other) (rank_of one)) (Some other) (Some one)
+    (lt-ltb (rank_of other) (rank_of one) below)) ∙ both_kinds a b one other p q
 
-pub lesser_first : (a b : List ProfileKind) (one other : ProfileKind) → rank_of one ≤ rank_of other → Some one ≡ least a → Some other ≡ least b → Some one ≡ least (a ++ b)
+pub lesser_first : (a b : List ProfileKind) (one other : ProfileKind) → rank_of one ≤ rank_of other → Some one ≡ least a
+    → Some other ≡ least b → Some one ≡ least (a ++ b)
 lesser_first a b one other below p q =
-    sym (cond-false (ltb (rank_of other) (rank_of one)) (Some other) (Some one) (le-ltb (rank_of other) (rank_of one) below)) ∙ both_kinds a b one other p q
+    sym (cond-false (ltb (rank_of other) (rank_of one)) (Some other) (Some one)
+    (le-ltb (rank_of other) (rank_of one) below)) ∙ both_kinds a b one other p q
 
 -- ---- where there is no kind
 
-not_found : {A : Type 0} (test : A → Bool) (x : A) (xs : List A) → find test (x ∷ xs) ≡ None → (test x ≡ false) × (find test xs ≡ None)
+not_found : {A : Type 0} (test : A → Bool) (x : A) (xs : List A) → find test (x ∷ xs) ≡ None
+    → (test x ≡ false) × (find test xs ≡ None)
 not_found test x xs none = by (test x) refl none where
   by : (t : Bool) → test x ≡ t → cond t (Some x) (find test xs) ≡ None → (test x ≡ false) × (find test xs ≡ None)
   by true is none = absurd cc
@@ -169,28 +192,36 @@ kinds_2 = LeftOutOpcode ∷ kinds_3
 abbrev kinds_1 : List ProfileKind
 kinds_1 = LeftOutConstant ∷ kinds_2
 
-none_0 : (test : ProfileKind → Bool) → find test all_kinds ≡ None → (test LeftOutFlag ≡ false) × (find test kinds_1 ≡ None)
+none_0 : (test : ProfileKind → Bool) → find test all_kinds ≡ None
+    → (test LeftOutFlag ≡ false) × (find test kinds_1 ≡ None)
 none_0 test none = not_found test LeftOutFlag kinds_1 none
 
-none_1 : (test : ProfileKind → Bool) → find test all_kinds ≡ None → (test LeftOutConstant ≡ false) × (find test kinds_2 ≡ None)
+none_1 : (test : ProfileKind → Bool) → find test all_kinds ≡ None
+    → (test LeftOutConstant ≡ false) × (find test kinds_2 ≡ None)
 none_1 test none = not_found test LeftOutConstant kinds_2 (none_0 test none).1
 
-none_2 : (test : ProfileKind → Bool) → find test all_kinds ≡ None → (test LeftOutOpcode ≡ false) × (find test kinds_3 ≡ None)
+none_2 : (test : ProfileKind → Bool) → find test all_kinds ≡ None
+    → (test LeftOutOpcode ≡ false) × (find test kinds_3 ≡ None)
 none_2 test none = not_found test LeftOutOpcode kinds_3 (none_1 test none).1
 
-none_3 : (test : ProfileKind → Bool) → find test all_kinds ≡ None → (test LeftOutType ≡ false) × (find test kinds_4 ≡ None)
+none_3 : (test : ProfileKind → Bool) → find test all_kinds ≡ None
+    → (test LeftOutType ≡ false) × (find test kinds_4 ≡ None)
 none_3 test none = not_found test LeftOutType kinds_4 (none_2 test none).1
 
-none_4 : (test : ProfileKind → Bool) → find test all_kinds ≡ None → (test Unresolved ≡ false) × (find test kinds_5 ≡ None)
+none_4 : (test : ProfileKind → Bool) → find test all_kinds ≡ None
+    → (test Unresolved ≡ false) × (find test kinds_5 ≡ None)
 none_4 test none = not_found test Unresolved kinds_5 (none_3 test none).1
 
-none_5 : (test : ProfileKind → Bool) → find test all_kinds ≡ None → (test Inaccessible ≡ false) × (find test kinds_6 ≡ None)
+none_5 : (test : ProfileKind → Bool) → find test all_kinds ≡ None
+    → (test Inaccessible ≡ false) × (find test kinds_6 ≡ None)
 none_5 test none = not_found test Inaccessible kinds_6 (none_4 test none).1
 
-none_6 : (test : ProfileKind → Bool) → find test all_kinds ≡ None → (test WrongKind ≡ false) × (find test kinds_7 ≡ None)
+none_6 : (test : ProfileKind → Bool) → find test all_kinds ≡ None
+    → (test WrongKind ≡ false) × (find test kinds_7 ≡ None)
 none_6 test none = not_found test WrongKind kinds_7 (none_5 test none).1
 
-none_7 : (test : ProfileKind → Bool) → find test all_kinds ≡ None → (test LeftOutMember ≡ false) × (find test kinds_8 ≡ None)
+none_7 : (test : ProfileKind → Bool) → find test all_kinds ≡ None
+    → (test LeftOutMember ≡ false) × (find test kinds_8 ≡ None)
 none_7 test none = not_found test LeftOutMember kinds_8 (none_6 test none).1
 
 none_stands : (test : ProfileKind → Bool) (k : ProfileKind) → find test all_kinds ≡ None → test k ≡ false

@@ -1,7 +1,7 @@
 mod FaultPlace
 mod First
 mod Inheriting
-mod Least
+pub mod Least
 mod Likes
 mod Methods
 mod Once

@@ -1,5 +1,7 @@
--- What is known of a class from the classes above it, found once for each class (only the proof of check_links needs it).
-use Rattle.std.specs.Prelude.{◌≡◌, ◌<◌, IfSome, ℕ, Bool, true, false, List, [], length, Option, Some, None, slice_get, slice_index_or}
+-- What is known of a class from the classes above it, found once for each class (only the proof of check_links needs
+-- it).
+use Rattle.std.specs.Prelude.{◌≡◌, ◌<◌, IfSome, ℕ, Bool, true, false, List, [], length, Option, Some, None, slice_get}
+use Rattle.std.specs.Prelude.{slice_index_or}
 use Rattle.std.specs.List.{flat_map, list_any}
 use Rattle.std.specs.Option.{option_map_or}
 use Rattle.class_model.specs.Flags.{acc_final, has}
@@ -23,7 +25,8 @@ IsPlain classes x = (n : ℕ) × (c : Class) × (x ≡ Prog n) × (slice_get cla
 -- of what neither the class with this number nor a plain one has any, the superclasses from this one upwards have all
 pub record IsStart (classes : List Class) (n : ℕ) (start : Option ClassId) : Type 0 where
   pub there : IfSome start (IsClass classes)
-  pub same : (kinds : ClassId → List ProfileKind) → kinds (Prog n) ≡ [] → ((x : ClassId) → IsPlain classes x → kinds x ≡ [])
+  pub same : (kinds : ClassId → List ProfileKind) → kinds (Prog n) ≡ []
+      → ((x : ClassId) → IsPlain classes x → kinds x ≡ [])
       → flat_map kinds (superclasses_from classes (Prog n)) ≡ flat_map kinds (superclasses_up classes start)
 
 -- what is wrong with the methods that run in a class where those of an interface are called

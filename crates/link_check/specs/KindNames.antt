@@ -1,7 +1,9 @@
 -- The names of the rules for classes (the project's own: what the command says).
 use Rattle.std.specs.Prelude.{ℕ, List, codes}
 use Rattle.link_check.specs.declared.fault.ProfileKind.{ProfileKind}
-use Rattle.link_check.specs.declared.fault.ProfileKind.TheVariants.{LeftOutFlag, LeftOutConstant, LeftOutOpcode, LeftOutType, Unresolved, Inaccessible, WrongKind, LeftOutMember}
+use Rattle.link_check.specs.declared.fault.ProfileKind.TheVariants.{LeftOutFlag, LeftOutConstant, LeftOutOpcode}
+use Rattle.link_check.specs.declared.fault.ProfileKind.TheVariants.{LeftOutType, Unresolved, Inaccessible, WrongKind}
+use Rattle.link_check.specs.declared.fault.ProfileKind.TheVariants.{LeftOutMember}
 
 -- the word for a kind of fault
 abbrev pub profile_name : ProfileKind → List ℕ

@@ -11,7 +11,8 @@ use Rattle.class_pool.specs.declared.id.ClassId.{ClassId}
 use Rattle.class_pool.specs.declared.id.MemberAt.{MemberAt}
 use Rattle.class_pool.specs.Found.{role_at}
 use Rattle.class_pool.specs.Hierarchy.{class_named}
-use Rattle.class_pool.specs.Resolution.{field_found, is_class_accessible, is_interface_in, is_member_accessible, method_found}
+use Rattle.class_pool.specs.Resolution.{field_found, is_class_accessible, is_interface_in, is_member_accessible}
+use Rattle.class_pool.specs.Resolution.{method_found}
 use Rattle.link_check.specs.declared.fault.LinkKind.{LinkKind}
 use Rattle.link_check.specs.declared.fault.LinkKind.TheVariants.{Unresolved, Inaccessible, WrongKind, LeftOutMember}
 
@@ -37,7 +38,8 @@ module _ (classes : List Class) (from : ClassId) where
   -- a member of an array is never taken; the class of its elements has to be there and accessible
   -- (the project's own: no member of an array is taken yet)
   abbrev pub of_array : Bool → Base → Result MemberAt LinkKind
-  of_array right (base.Class name) = through (class_named classes name) (λ c. if right then Err LeftOutMember else Err WrongKind)
+  of_array right (base.Class name) = through (class_named classes name)
+      (λ c. if right then Err LeftOutMember else Err WrongKind)
   of_array right _ = if right then Err LeftOutMember else Err WrongKind
 
   -- what a class finds, by its name; no other type has members (JVMS 5.4.3.2, 5.4.3.3)
@@ -51,11 +53,13 @@ module _ (classes : List Class) (from : ClassId) where
       if r.class.dims == 0 then of_class r.class.base (λ c. linked c true (field_found classes c (r.name, r.ty)))
       else of_array true r.class.base
 
-  -- the method of a reference, one too that a program may not name; a class has to be named as one, and an interface as one (JVMS 5.4.3.3, 5.4.3.4)
+  -- the method of a reference, one too that a program may not name; a class has to be named as one, and an interface as
+  -- one (JVMS 5.4.3.3, 5.4.3.4)
   abbrev pub linked_method : MemberRef → Result MemberAt LinkKind
   linked_method r =
       if r.class.dims == 0
-      then of_class r.class.base (λ c. linked c (beq (is_interface_in classes c) r.of_interface) (method_found classes c (r.name, r.ty)))
+      then of_class r.class.base
+      (λ c. linked c (beq (is_interface_in classes c) r.of_interface) (method_found classes c (r.name, r.ty)))
       else of_array (not r.of_interface) r.class.base
 
   -- a member that a program may name (the project's own: what of the library may be used)

@@ -30,4 +30,5 @@ module _ (classes : List Class) (above : MemberAt) where
 
   -- a method is the one above or overrides it by itself; where one does so openly, any that may override does
   abbrev pub overrides_where : Bool → MemberAt → Bool
-  overrides_where opened m = same_member m above || (may_override classes m && (opened || may_be_overridden classes m.class above))
+  overrides_where opened m = same_member m above
+      || (may_override classes m && (opened || may_be_overridden classes m.class above))

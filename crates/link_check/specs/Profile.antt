@@ -1,6 +1,8 @@
--- The rules for classes that are taken, beside those of the format: what is left out, and what references and overriding have to meet
+-- The rules for classes that are taken, beside those of the format: what is left out, and what references and
+-- overriding have to meet
 -- (JVMS 4.10, 5.4.3 to 5.4.5, 6.5).
-use Rattle.std.specs.Prelude.{◌≡◌, ◌+◌, ◌<◌, IfSome, ℕ, Bool, true, false, not, ◌&&◌, ◌||◌, ◌==◌, List, [], ◌∷◌, ◌++◌, length, map, codes, Option, Some, None, Result, Ok, Err, slice_get, if◌then◌else◌}
+use Rattle.std.specs.Prelude.{◌≡◌, ◌+◌, ◌<◌, IfSome, ℕ, Bool, true, false, not, ◌&&◌, ◌||◌, ◌==◌, List, [], ◌∷◌, ◌++◌}
+use Rattle.std.specs.Prelude.{length, map, codes, Option, Some, None, Result, Ok, Err, slice_get, if◌then◌else◌}
 use Rattle.std.specs.Bool.{beq}
 use Rattle.std.specs.List.{cons_option, enumerate_from, filter, filter_map, find, flat_map, list_any}
 use Rattle.std.specs.Option.{option_map, option_map_or}
@@ -31,7 +33,8 @@ use Rattle.lib_table.specs.declared.member.Role.TheVariants.{NoOverride}
 use Rattle.class_pool.specs.declared.id.ClassId.{ClassId}
 use Rattle.class_pool.specs.declared.id.ClassId.TheVariants.{Prog, Lib}
 use Rattle.class_pool.specs.declared.id.MemberAt.{MemberAt}
-use Rattle.class_pool.specs.Found.{declared_by, is_final_member, is_instance_method, is_static_member, named_at, role_at, rows_in}
+use Rattle.class_pool.specs.Found.{declared_by, is_final_member, is_instance_method, is_static_member, named_at}
+use Rattle.class_pool.specs.Found.{role_at, rows_in}
 use Rattle.class_pool.specs.Hierarchy.{class_named}
 use Rattle.class_pool.specs.Resolution.{first, is_class_accessible, is_class_below, is_interface_in}
 use Rattle.class_pool.specs.Selection.{overrides, selected}
@@ -41,7 +44,9 @@ use Rattle.link_check.specs.declared.fault.LinkKind.{LinkKind}
 use Rattle.link_check.specs.declared.fault.LinkKind.TheVariants as link
 use Rattle.link_check.specs.declared.fault.ProfileFault.{ProfileFault}
 use Rattle.link_check.specs.declared.fault.ProfileKind.{ProfileKind}
-use Rattle.link_check.specs.declared.fault.ProfileKind.TheVariants.{LeftOutFlag, LeftOutConstant, LeftOutOpcode, LeftOutType, Unresolved, Inaccessible, WrongKind, LeftOutMember}
+use Rattle.link_check.specs.declared.fault.ProfileKind.TheVariants.{LeftOutFlag, LeftOutConstant, LeftOutOpcode}
+use Rattle.link_check.specs.declared.fault.ProfileKind.TheVariants.{LeftOutType, Unresolved, Inaccessible, WrongKind}
+use Rattle.link_check.specs.declared.fault.ProfileKind.TheVariants.{LeftOutMember}
 
 -- ---- kinds (the project's own: which rule is told first)
 
@@ -123,7 +128,8 @@ may_be_overridden_role _ = true
 -- a method of an interface has no body, but that which initialises it
 -- (the project's own: methods of interfaces are abstract so far)
 abbrev pub body_kinds : Class → Method → List ProfileKind
-body_kinds c m = unless (not (is_interface c.flags.0) || has acc_abstract m.flags.0 || is_text m.name (codes "<clinit>")) LeftOutMember
+body_kinds c m = unless (not (is_interface c.flags.0) || has acc_abstract m.flags.0
+    || is_text m.name (codes "<clinit>")) LeftOutMember
 
 module _ (classes : List Class) where
   -- static where it has to be, and not where it may not be (JVMS 6.5, IncompatibleClassChangeError)
@@ -151,7 +157,8 @@ module _ (classes : List Class) where
   abbrev pub overridden_kinds : MemberAt → MemberAt → List ProfileKind
   overridden_kinds m above =
       if not (same_class m.class above.class) && overrides classes m above
-      then unless (not (is_final_member classes above)) WrongKind ++ unless (may_be_overridden_role (role_at above)) LeftOutMember
+      then unless (not (is_final_member classes above)) WrongKind ++ unless
+      (may_be_overridden_role (role_at above)) LeftOutMember
       else []
 
   -- the instance methods of a program interface (JVMS 4.6)
@@ -205,7 +212,8 @@ module _ (classes : List Class) (number : ℕ) where
 
   -- a final field is written in its own class alone, by a method of this name (JVMS 6.5.putfield, 6.5.putstatic)
   abbrev pub written_kinds : List ℕ → List ℕ → MemberAt → List ProfileKind
-  written_kinds writer method m = unless (not (is_final_member classes m) || (same_class m.class from && is_text method writer)) WrongKind
+  written_kinds writer method m = unless
+      (not (is_final_member classes m) || (same_class m.class from && is_text method writer)) WrongKind
 
   -- where it is written (JVMS 6.5.putfield, 6.5.putstatic; that none of the library's is written is the project's own)
   abbrev pub changed_kinds : List ℕ → Bool → Bool → MemberAt → List ProfileKind
@@ -221,7 +229,8 @@ module _ (classes : List Class) (number : ℕ) where
 
   -- of a reference to a field, as an instruction of the method of this name uses it (JVMS 5.4.3.2, 6.5)
   abbrev pub field_kinds : List ℕ → Bool → Bool → MemberRef → List ProfileKind
-  field_kinds method static written r = field_text_kinds (read_field r.ty) ++ member_kinds (linked_field classes from r) (used_kinds method static written)
+  field_kinds method static written r = field_text_kinds (read_field r.ty) ++ member_kinds (linked_field classes from r)
+      (used_kinds method static written)
 
   -- how a method is called (JVMS 2.9, 4.9.1, 5.4.3.3)
   abbrev pub call_kinds : Bool → MemberRef → List ProfileKind
@@ -239,7 +248,8 @@ module _ (classes : List Class) (number : ℕ) where
 
   -- no method of an array is called by invokespecial (JVMS 4.9.2)
   abbrev pub special_class_kinds : MemberRef → List ProfileKind
-  special_class_kinds r = option_map_or (λ named. if is_init r.name then init_kinds named r else super_kinds named) (class_of classes r) (WrongKind ∷ [])
+  special_class_kinds r = option_map_or (λ named. if is_init r.name then init_kinds named r else super_kinds named)
+      (class_of classes r) (WrongKind ∷ [])
 
   -- of a reference to a method, as invokespecial calls it (JVMS 6.5.invokespecial)
   abbrev pub special_kinds : MemberRef → List ProfileKind
@@ -283,20 +293,23 @@ module _ (classes : List Class) (number : ℕ) where
 
   -- of a code: its instructions, handlers and frames (JVMS 4.7.3, 4.7.4)
   abbrev pub code_kinds : List ℕ → Code → List ProfileKind
-  code_kinds method code = flat_map (λ i. op_kinds method i.op) code.ins ++ flat_map handler_kinds code.handlers ++ flat_map frame_kinds code.frames
+  code_kinds method code = flat_map
+      (λ i. op_kinds method i.op) code.ins ++ flat_map handler_kinds code.handlers ++ flat_map frame_kinds code.frames
 
   -- ---- overriding
 
   -- of the method with this number among the class's members (JVMS 4.10, 5.4.5)
   abbrev pub overriding_kinds : MemberAt → List ProfileKind
-  overriding_kinds m = flat_map (overridden_kinds classes m) (declared_by classes (named_at classes m) (superclasses_from classes from))
+  overriding_kinds m = flat_map (overridden_kinds classes m)
+      (declared_by classes (named_at classes m) (superclasses_from classes from))
 
   -- ---- the places
 
   -- the methods of a class are the ones that run where its superinterfaces' are called
   -- (JVMS 6.5.invokeinterface; which of the library's may run is the project's own)
   abbrev pub selected_kinds : MemberAt → List ProfileKind
-  selected_kinds m = option_map_or (λ one. unless (is_callable_role (role_at one)) LeftOutMember) (selected classes from m) []
+  selected_kinds m = option_map_or (λ one. unless (is_callable_role (role_at one)) LeftOutMember)
+      (selected classes from m) []
 
   -- of the methods of all superinterfaces, where the class isn't abstract
   -- (JVMS 6.5.invokeinterface; which of the library's may run is the project's own)
@@ -321,14 +334,16 @@ module _ (classes : List Class) (number : ℕ) where
 
   -- of the method with this number among the class's members (JVMS 4.6)
   abbrev pub kinds_of_method : Class → ℕ → Method → List ProfileKind
-  kinds_of_method c n m = declaration_kinds c n m ++ body_kinds c m ++ overriding_kinds (record { class = from; index = n })
+  kinds_of_method c n m = declaration_kinds c n m ++ body_kinds c m ++ overriding_kinds
+      (record { class = from; index = n })
       ++ option_map_or (code_kinds m.name) m.code []
 
   -- the faults of a class in the order of its places (the project's own: one fault for each place)
   abbrev pub faults_of : Class → List ProfileFault
   faults_of c = cons_option (fault_at number None (kinds_of_class c))
       (filter_map (λ p. fault_at number (Some p.0) (kinds_of_field c p.0 p.1)) (enumerate_from 0 c.fields)
-      ++ filter_map (λ p. fault_at number (Some p.0) (kinds_of_method c p.0 p.1)) (enumerate_from (length c.fields) c.methods))
+      ++ filter_map (λ p. fault_at number (Some p.0) (kinds_of_method c p.0 p.1))
+      (enumerate_from (length c.fields) c.methods))
 
 -- the first fault of a set (the project's own: the first fault counts)
 abbrev pub links_checked : List Class → Result (Unit {0}) ProfileFault
@@ -340,4 +355,5 @@ links_checked classes = ended (first (flat_map (λ p. faults_of classes p.0 p.1)
 -- the class of a fault is one of the set, and the member one of the class
 -- (the project's own: a place is told by numbers)
 abbrev pub IsPlace : List Class → ProfileFault → Type 0
-IsPlace classes f = (c : Class) × (slice_get classes f.class ≡ Some c) × IfSome f.member (λ n. n < length c.fields + length c.methods)
+IsPlace classes f = (c : Class) × (slice_get classes f.class ≡ Some c)
+    × IfSome f.member (λ n. n < length c.fields + length c.methods)

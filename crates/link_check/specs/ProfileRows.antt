@@ -28,7 +28,9 @@ use Rattle.link_check.specs.declared.fault.LinkKind.{LinkKind}
 use Rattle.link_check.specs.declared.fault.LinkKind.TheVariants as link
 use Rattle.link_check.specs.declared.fault.ProfileFault.{ProfileFault}
 use Rattle.link_check.specs.declared.fault.ProfileKind.{ProfileKind}
-use Rattle.link_check.specs.declared.fault.ProfileKind.TheVariants.{LeftOutFlag, LeftOutConstant, LeftOutOpcode, LeftOutType, Unresolved, Inaccessible, WrongKind, LeftOutMember}
+use Rattle.link_check.specs.declared.fault.ProfileKind.TheVariants.{LeftOutFlag, LeftOutConstant, LeftOutOpcode}
+use Rattle.link_check.specs.declared.fault.ProfileKind.TheVariants.{LeftOutType, Unresolved, Inaccessible, WrongKind}
+use Rattle.link_check.specs.declared.fault.ProfileKind.TheVariants.{LeftOutMember}
 
 -- ---- types and references
 
@@ -145,7 +147,8 @@ main op = plain_class 0x0020 (codes "p/Main") object [] [] (running 0x0000 (code
 abbrev pub main_below : List ℕ → Op → Class
 main_below above op = plain_class 0x0020 (codes "p/Main") above [] [] (running 0x0000 (codes "run") (op ∷ []) ∷ [])
 
--- public class q.Open { public static int count; public int size; int inner; public void m() public static void s() void own() }
+-- public class q.Open { public static int count; public int size; int inner; public void m() public static void s()
+-- void own() }
 abbrev pub class_open : Class
 class_open = plain_class 0x0021 (codes "q/Open") object []
     (int_field 0x0009 (codes "count") ∷ int_field 0x0001 (codes "size") ∷ int_field 0x0000 (codes "inner") ∷ [])
@@ -187,7 +190,8 @@ field_of r = resolved_field the_set (Prog 0) r
 abbrev pub method_of : MemberRef → Result MemberAt LinkKind
 method_of r = resolved_method the_set (Prog 0) r
 
--- a field of a class, one of its package, and one that isn't there; a class that isn't there, and one of its package; the library's
+-- a field of a class, one of its package, and one that isn't there; a class that isn't there, and one of its package;
+-- the library's
 abbrev pub ResolvedFieldRows : Type 0
 ResolvedFieldRows =
     (field_of (of_class (codes "q/Open") (codes "size") (codes "I")) ≡ Ok (member (Prog 1) 1))
@@ -197,7 +201,8 @@ ResolvedFieldRows =
     × (field_of (of_class (codes "q/Hidden") (codes "x") (codes "I")) ≡ Err link.Inaccessible)
     × (field_of system_out ≡ Ok (member (Lib 8) 0))
 
--- a method of a class and of an interface, each named as the other too; what isn't there or isn't accessible is told first
+-- a method of a class and of an interface, each named as the other too; what isn't there or isn't accessible is told
+-- first
 abbrev pub ResolvedMethodRows : Type 0
 ResolvedMethodRows =
     (method_of (of_class (codes "q/Open") (codes "m") no_result) ≡ Ok (member (Prog 1) 3))
@@ -211,7 +216,8 @@ ResolvedMethodRows =
 abbrev pub LibraryMethodRows : Type 0
 LibraryMethodRows =
     (method_of equals ≡ Ok (member (Lib 0) 1))
-    × (method_of (of_interface (codes "q/Able") (codes "equals") (codes "(Ljava/lang/Object;)Z")) ≡ Ok (member (Lib 0) 1))
+    × (method_of (of_interface (codes "q/Able") (codes "equals") (codes "(Ljava/lang/Object;)Z"))
+    ≡ Ok (member (Lib 0) 1))
     × (method_of (of_class (codes "q/Open") (codes "hashCode") (codes "()I")) ≡ Err link.LeftOutMember)
     × (method_of (of_class (codes "q/Open") (codes "finalize") no_result) ≡ Err link.LeftOutMember)
     × (method_of (of_class (codes "q/Able") (codes "hashCode") (codes "()I")) ≡ Err link.WrongKind)
@@ -235,10 +241,12 @@ below above interface = plain_class 0x0020 (codes "p/Below") above (interface �
 -- a superclass of another package that isn't public, a public one, and one of the own package; a superinterface so
 abbrev pub SupertypeRows : Type 0
 SupertypeRows =
-    (links_checked (below (codes "q/Hidden") (codes "java/lang/Cloneable") ∷ class_hidden ∷ []) ≡ in_class 0 Inaccessible)
+    (links_checked (below (codes "q/Hidden") (codes "java/lang/Cloneable") ∷ class_hidden ∷ [])
+    ≡ in_class 0 Inaccessible)
     × (links_checked (below (codes "q/Open") (codes "java/lang/Cloneable") ∷ class_open ∷ []) ≡ taken)
     × (links_checked (plain_class 0x0020 (codes "q/Below") (codes "q/Hidden") [] [] [] ∷ class_hidden ∷ []) ≡ taken)
-    × (links_checked (below object (codes "q/I") ∷ plain_class 0x0600 (codes "q/I") object [] [] [] ∷ []) ≡ in_class 0 Inaccessible)
+    × (links_checked (below object (codes "q/I") ∷ plain_class 0x0600 (codes "q/I") object [] [] [] ∷ [])
+    ≡ in_class 0 Inaccessible)
     × (links_checked (below object (codes "q/I") ∷ plain_class 0x0601 (codes "q/I") object [] [] [] ∷ []) ≡ taken)
 
 -- class p.Typed { int x; .. y; .. m(..) throws .. }
@@ -251,12 +259,16 @@ typed field parameter ret thrown = plain_class 0x0020 (codes "p/Typed") object [
 abbrev pub TypeRows : Type 0
 TypeRows =
     (links_checked (typed open_type open_type (Some open_type) (codes "q/Open") ∷ class_open ∷ []) ≡ taken)
-    × (links_checked (typed hidden_type open_type None (codes "q/Open") ∷ class_open ∷ class_hidden ∷ []) ≡ in_member 0 1 Inaccessible)
-    × (links_checked (typed (array_type absent_class) open_type None (codes "q/Open") ∷ class_open ∷ []) ≡ in_member 0 1 Unresolved)
+    × (links_checked (typed hidden_type open_type None (codes "q/Open") ∷ class_open ∷ class_hidden ∷ [])
+    ≡ in_member 0 1 Inaccessible)
+    × (links_checked (typed (array_type absent_class) open_type None (codes "q/Open") ∷ class_open ∷ [])
+    ≡ in_member 0 1 Unresolved)
     × (links_checked (typed open_type absent_type None (codes "q/Open") ∷ class_open ∷ []) ≡ in_member 0 2 Unresolved)
-    × (links_checked (typed open_type open_type (Some (array_type hidden_class)) (codes "q/Open") ∷ class_open ∷ class_hidden ∷ [])
+    × (links_checked (typed open_type open_type (Some (array_type hidden_class))
+    (codes "q/Open") ∷ class_open ∷ class_hidden ∷ [])
     ≡ in_member 0 2 Inaccessible)
-    × (links_checked (typed open_type open_type None (codes "q/Hidden") ∷ class_open ∷ class_hidden ∷ []) ≡ in_member 0 2 Inaccessible)
+    × (links_checked (typed open_type open_type None (codes "q/Hidden") ∷ class_open ∷ class_hidden ∷ [])
+    ≡ in_member 0 2 Inaccessible)
 
 -- in class operands, and in the descriptor of a reference
 abbrev pub OperandRows : Type 0
@@ -266,7 +278,8 @@ OperandRows =
     × (links_checked (main (op.InstanceOf (array_type hidden_class)) ∷ class_hidden ∷ []) ≡ in_run Inaccessible)
     × (links_checked (main (op.ANewArray hidden_type) ∷ class_hidden ∷ []) ≡ in_run Inaccessible)
     × (links_checked (main (op.MultiNewArray (array_type absent_class) 1) ∷ []) ≡ in_run Unresolved)
-    × (links_checked (main (op.InvokeVirtual (of_class object (codes "getClass") (codes "()Ljava/lang/Class;"))) ∷ []) ≡ in_run Unresolved)
+    × (links_checked (main (op.InvokeVirtual (of_class object (codes "getClass") (codes "()Ljava/lang/Class;"))) ∷ [])
+    ≡ in_run Unresolved)
 
 -- class p.Main { void run() }, whose code has a handler and a frame
 abbrev pub main_with : Option (List ℕ) → List VType → List VType → Class
@@ -278,11 +291,13 @@ main_with caught locals stack = plain_class 0x0020 (codes "p/Main") object [] []
 -- in handlers and frames
 abbrev pub HandlerRows : Type 0
 HandlerRows =
-    (links_checked (main_with (Some (codes "java/lang/Throwable")) (vtype.Object open_type ∷ []) [] ∷ class_open ∷ []) ≡ taken)
+    (links_checked (main_with (Some (codes "java/lang/Throwable")) (vtype.Object open_type ∷ []) [] ∷ class_open ∷ [])
+    ≡ taken)
     × (links_checked (main_with None (vtype.Top ∷ vtype.Uninit 0 ∷ []) (vtype.Null ∷ []) ∷ []) ≡ taken)
     × (links_checked (main_with (Some (codes "java/lang/Absent")) [] [] ∷ []) ≡ in_run Unresolved)
     × (links_checked (main_with (Some (codes "q/Hidden")) [] [] ∷ class_hidden ∷ []) ≡ in_run Inaccessible)
-    × (links_checked (main_with None (vtype.Int ∷ vtype.Object (array_type hidden_class) ∷ []) [] ∷ class_hidden ∷ []) ≡ in_run Inaccessible)
+    × (links_checked (main_with None (vtype.Int ∷ vtype.Object (array_type hidden_class) ∷ []) [] ∷ class_hidden ∷ [])
+    ≡ in_run Inaccessible)
     × (links_checked (main_with None [] (vtype.Object absent_type ∷ []) ∷ []) ≡ in_run Unresolved)
 
 -- ---- members that are named
@@ -290,10 +305,14 @@ HandlerRows =
 -- static fields and others, each by the instructions of both; of the library's none is written
 abbrev pub FieldRows : Type 0
 FieldRows =
-    (links_checked (main (op.GetStatic (of_class (codes "q/Open") (codes "count") (codes "I"))) ∷ class_open ∷ []) ≡ taken)
-    × (links_checked (main (op.GetField (of_class (codes "q/Open") (codes "count") (codes "I"))) ∷ class_open ∷ []) ≡ in_run WrongKind)
-    × (links_checked (main (op.PutField (of_class (codes "q/Open") (codes "size") (codes "I"))) ∷ class_open ∷ []) ≡ taken)
-    × (links_checked (main (op.PutStatic (of_class (codes "q/Open") (codes "size") (codes "I"))) ∷ class_open ∷ []) ≡ in_run WrongKind)
+    (links_checked (main (op.GetStatic (of_class (codes "q/Open") (codes "count") (codes "I"))) ∷ class_open ∷ [])
+    ≡ taken)
+    × (links_checked (main (op.GetField (of_class (codes "q/Open") (codes "count") (codes "I"))) ∷ class_open ∷ [])
+    ≡ in_run WrongKind)
+    × (links_checked (main (op.PutField (of_class (codes "q/Open") (codes "size") (codes "I"))) ∷ class_open ∷ [])
+    ≡ taken)
+    × (links_checked (main (op.PutStatic (of_class (codes "q/Open") (codes "size") (codes "I"))) ∷ class_open ∷ [])
+    ≡ in_run WrongKind)
     × (links_checked (main (op.GetStatic system_out) ∷ []) ≡ taken)
     × (links_checked (main (op.PutStatic system_out) ∷ []) ≡ in_run LeftOutMember)
 
@@ -305,11 +324,16 @@ class_begun = plain_class 0x0021 (codes "q/Begun") object [] [] (plain_method 0x
 abbrev pub CallRows : Type 0
 CallRows =
     (links_checked (main (op.InvokeStatic (of_class (codes "q/Open") (codes "s") no_result)) ∷ class_open ∷ []) ≡ taken)
-    × (links_checked (main (op.InvokeVirtual (of_class (codes "q/Open") (codes "s") no_result)) ∷ class_open ∷ []) ≡ in_run WrongKind)
-    × (links_checked (main (op.InvokeVirtual (of_class (codes "q/Open") (codes "m") no_result)) ∷ class_open ∷ []) ≡ taken)
-    × (links_checked (main (op.InvokeStatic (of_class (codes "q/Open") (codes "m") no_result)) ∷ class_open ∷ []) ≡ in_run WrongKind)
-    × (links_checked (main (op.InvokeInterface (of_interface (codes "q/Able") (codes "a") no_result)) ∷ interface_able ∷ []) ≡ taken)
-    × (links_checked (main (op.InvokeStatic (of_class (codes "q/Begun") (codes "<clinit>") no_result)) ∷ class_begun ∷ []) ≡ in_run WrongKind)
+    × (links_checked (main (op.InvokeVirtual (of_class (codes "q/Open") (codes "s") no_result)) ∷ class_open ∷ [])
+    ≡ in_run WrongKind)
+    × (links_checked (main (op.InvokeVirtual (of_class (codes "q/Open") (codes "m") no_result)) ∷ class_open ∷ [])
+    ≡ taken)
+    × (links_checked (main (op.InvokeStatic (of_class (codes "q/Open") (codes "m") no_result)) ∷ class_open ∷ [])
+    ≡ in_run WrongKind)
+    × (links_checked (main (op.InvokeInterface (of_interface (codes "q/Able")
+    (codes "a") no_result)) ∷ interface_able ∷ []) ≡ taken)
+    × (links_checked (main (op.InvokeStatic (of_class (codes "q/Begun")
+    (codes "<clinit>") no_result)) ∷ class_begun ∷ []) ≡ in_run WrongKind)
 
 -- a library method that a program may not name, by the instruction of its kind and by another one; one that it may
 abbrev pub LibraryCallRows : Type 0
@@ -317,10 +341,13 @@ LibraryCallRows =
     (links_checked (main (op.InvokeVirtual hash_code) ∷ []) ≡ in_run LeftOutMember)
     × (links_checked (main (op.InvokeStatic hash_code) ∷ []) ≡ in_run WrongKind)
     × (links_checked (main (op.InvokeVirtual equals) ∷ []) ≡ taken)
-    × (links_checked (main (op.InvokeSpecial (of_class object (codes "finalize") no_result)) ∷ []) ≡ in_run LeftOutMember)
-    × (links_checked (main (op.InvokeInterface (of_interface (codes "q/Able") (codes "hashCode") (codes "()I"))) ∷ interface_able ∷ [])
+    × (links_checked (main (op.InvokeSpecial (of_class object (codes "finalize") no_result)) ∷ [])
     ≡ in_run LeftOutMember)
-    × (links_checked (main (op.InvokeStatic (of_interface (codes "q/Able") (codes "hashCode") (codes "()I"))) ∷ interface_able ∷ [])
+    × (links_checked (main (op.InvokeInterface (of_interface (codes "q/Able") (codes "hashCode")
+    (codes "()I"))) ∷ interface_able ∷ [])
+    ≡ in_run LeftOutMember)
+    × (links_checked (main (op.InvokeStatic (of_interface (codes "q/Able") (codes "hashCode")
+    (codes "()I"))) ∷ interface_able ∷ [])
     ≡ in_run WrongKind)
 
 -- class q.Main { void run() }, whose code has this instruction
@@ -329,51 +356,71 @@ main_beside op = plain_class 0x0020 (codes "q/Main") object [] [] (running 0x000
 
 -- public class q.Guarded { protected void g() private void h() }
 abbrev pub class_guarded : Class
-class_guarded = plain_class 0x0021 (codes "q/Guarded") object [] [] (plain_method 0x0004 (codes "g") ∷ plain_method 0x0002 (codes "h") ∷ [])
+class_guarded = plain_class 0x0021 (codes "q/Guarded") object [] []
+    (plain_method 0x0004 (codes "g") ∷ plain_method 0x0002 (codes "h") ∷ [])
 
--- a method of the package from there and from another one, a protected one from a subclass and from another class, and a private one
+-- a method of the package from there and from another one, a protected one from a subclass and from another class, and
+-- a private one
 abbrev pub AccessRows : Type 0
 AccessRows =
-    (links_checked (main_beside (op.InvokeVirtual (of_class (codes "q/Open") (codes "own") no_result)) ∷ class_open ∷ []) ≡ taken)
-    × (links_checked (main (op.InvokeVirtual (of_class (codes "q/Open") (codes "own") no_result)) ∷ class_open ∷ []) ≡ in_run Inaccessible)
-    × (links_checked (main_below (codes "q/Guarded") (op.InvokeVirtual (of_class (codes "p/Main") (codes "g") no_result)) ∷ class_guarded ∷ [])
+    (links_checked (main_beside (op.InvokeVirtual (of_class (codes "q/Open")
+    (codes "own") no_result)) ∷ class_open ∷ []) ≡ taken)
+    × (links_checked (main (op.InvokeVirtual (of_class (codes "q/Open") (codes "own") no_result)) ∷ class_open ∷ [])
+    ≡ in_run Inaccessible)
+    × (links_checked (main_below (codes "q/Guarded") (op.InvokeVirtual
+    (of_class (codes "p/Main") (codes "g") no_result)) ∷ class_guarded ∷ [])
     ≡ taken)
-    × (links_checked (main (op.InvokeVirtual (of_class (codes "q/Guarded") (codes "g") no_result)) ∷ class_guarded ∷ []) ≡ in_run Inaccessible)
-    × (links_checked (main_beside (op.InvokeVirtual (of_class (codes "q/Guarded") (codes "h") no_result)) ∷ class_guarded ∷ [])
+    × (links_checked (main (op.InvokeVirtual (of_class (codes "q/Guarded") (codes "g") no_result)) ∷ class_guarded ∷ [])
+    ≡ in_run Inaccessible)
+    × (links_checked (main_beside (op.InvokeVirtual (of_class (codes "q/Guarded")
+    (codes "h") no_result)) ∷ class_guarded ∷ [])
     ≡ in_run Inaccessible)
 
 -- public class q.Above { public q.Above() public void m() }
 abbrev pub class_above : Class
-class_above = plain_class 0x0021 (codes "q/Above") object [] [] (plain_method 0x0001 init ∷ plain_method 0x0001 (codes "m") ∷ [])
+class_above = plain_class 0x0021 (codes "q/Above") object [] []
+    (plain_method 0x0001 init ∷ plain_method 0x0001 (codes "m") ∷ [])
 
 -- by invokespecial in the own class and a superclass, and not in another class or an interface
 abbrev pub SpecialRows : Type 0
 SpecialRows =
     (links_checked (main (op.InvokeSpecial (of_class (codes "p/Main") (codes "run") no_result)) ∷ []) ≡ taken)
-    × (links_checked (main_below (codes "q/Above") (op.InvokeSpecial (of_class (codes "q/Above") (codes "m") no_result)) ∷ class_above ∷ [])
+    × (links_checked (main_below (codes "q/Above") (op.InvokeSpecial
+    (of_class (codes "q/Above") (codes "m") no_result)) ∷ class_above ∷ [])
     ≡ taken)
     × (links_checked (main_below (codes "q/Above") (op.InvokeSpecial equals) ∷ class_above ∷ []) ≡ taken)
-    × (links_checked (main (op.InvokeSpecial (of_class (codes "q/Open") (codes "m") no_result)) ∷ class_open ∷ []) ≡ in_run WrongKind)
-    × (links_checked (main (op.InvokeSpecial (of_interface (codes "q/Able") (codes "a") no_result)) ∷ interface_able ∷ []) ≡ in_run WrongKind)
-    × (links_checked (main (op.InvokeSpecial (of_class (codes "q/Open") (codes "s") no_result)) ∷ class_open ∷ []) ≡ in_run WrongKind)
+    × (links_checked (main (op.InvokeSpecial (of_class (codes "q/Open") (codes "m") no_result)) ∷ class_open ∷ [])
+    ≡ in_run WrongKind)
+    × (links_checked (main (op.InvokeSpecial (of_interface (codes "q/Able")
+    (codes "a") no_result)) ∷ interface_able ∷ []) ≡ in_run WrongKind)
+    × (links_checked (main (op.InvokeSpecial (of_class (codes "q/Open") (codes "s") no_result)) ∷ class_open ∷ [])
+    ≡ in_run WrongKind)
 
--- an instance initialisation method of the class that is named, by invokespecial alone, and none that is found in a superclass of that
+-- an instance initialisation method of the class that is named, by invokespecial alone, and none that is found in a
+-- superclass of that
 abbrev pub InitRows : Type 0
 InitRows =
     (links_checked (main (op.InvokeSpecial (of_class (codes "q/Above") init no_result)) ∷ class_above ∷ []) ≡ taken)
-    × (links_checked (main (op.InvokeSpecial (of_class (codes "q/Open") init no_result)) ∷ class_open ∷ []) ≡ in_run WrongKind)
-    × (links_checked (main (op.InvokeVirtual (of_class (codes "q/Above") init no_result)) ∷ class_above ∷ []) ≡ in_run WrongKind)
-    × (links_checked (main (op.InvokeStatic (of_class (codes "q/Above") init no_result)) ∷ class_above ∷ []) ≡ in_run WrongKind)
-    × (links_checked (main (op.InvokeInterface (of_interface (codes "q/Able") init no_result)) ∷ interface_able ∷ []) ≡ in_run WrongKind)
-    × (links_checked (main (op.InvokeSpecial (of_class (codes "java/lang/LinkageError") init no_result)) ∷ []) ≡ in_run WrongKind)
-    × (links_checked (main (op.InvokeSpecial (of_interface (codes "q/Able") init no_result)) ∷ interface_able ∷ []) ≡ in_run WrongKind)
+    × (links_checked (main (op.InvokeSpecial (of_class (codes "q/Open") init no_result)) ∷ class_open ∷ [])
+    ≡ in_run WrongKind)
+    × (links_checked (main (op.InvokeVirtual (of_class (codes "q/Above") init no_result)) ∷ class_above ∷ [])
+    ≡ in_run WrongKind)
+    × (links_checked (main (op.InvokeStatic (of_class (codes "q/Above") init no_result)) ∷ class_above ∷ [])
+    ≡ in_run WrongKind)
+    × (links_checked (main (op.InvokeInterface (of_interface (codes "q/Able") init no_result)) ∷ interface_able ∷ [])
+    ≡ in_run WrongKind)
+    × (links_checked (main (op.InvokeSpecial (of_class (codes "java/lang/LinkageError") init no_result)) ∷ [])
+    ≡ in_run WrongKind)
+    × (links_checked (main (op.InvokeSpecial (of_interface (codes "q/Able") init no_result)) ∷ interface_able ∷ [])
+    ≡ in_run WrongKind)
 
 -- a class of the program and one of the library, and what no object is made of
 abbrev pub NewRows : Type 0
 NewRows =
     (links_checked (main (op.New (codes "q/Open")) ∷ class_open ∷ []) ≡ taken)
     × (links_checked (main (op.New (codes "java/lang/Exception")) ∷ []) ≡ taken)
-    × (links_checked (main (op.New (codes "q/Partly")) ∷ plain_class 0x0421 (codes "q/Partly") object [] [] [] ∷ []) ≡ in_run WrongKind)
+    × (links_checked (main (op.New (codes "q/Partly")) ∷ plain_class 0x0421 (codes "q/Partly") object [] [] [] ∷ [])
+    ≡ in_run WrongKind)
     × (links_checked (main (op.New (codes "q/Able")) ∷ interface_able ∷ []) ≡ in_run WrongKind)
     × (links_checked (main (op.New (codes "java/lang/Runnable")) ∷ []) ≡ in_run WrongKind)
     × (links_checked (main (op.New (codes "q/Absent")) ∷ []) ≡ in_run Unresolved)
@@ -385,15 +432,18 @@ ArrayCallRows =
     (links_checked (main (op.InvokeVirtual (clone_of base.Int false)) ∷ []) ≡ in_run LeftOutMember)
     × (links_checked (main (op.InvokeInterface (clone_of base.Int true)) ∷ []) ≡ in_run WrongKind)
     × (links_checked (main (op.InvokeSpecial (clone_of base.Int false)) ∷ []) ≡ in_run WrongKind)
-    × (links_checked (main (op.InvokeSpecial (record (clone_of base.Int false) { name = init; ty = no_result })) ∷ []) ≡ in_run WrongKind)
+    × (links_checked (main (op.InvokeSpecial (record (clone_of base.Int false) { name = init; ty = no_result })) ∷ [])
+    ≡ in_run WrongKind)
 
 -- ---- fields that are final
 
--- class p.Final { final int x; static final int y; public p.Final() void m() static void <clinit>() }, whose methods have these instructions
+-- class p.Final { final int x; static final int y; public p.Final() void m() static void <clinit>() }, whose methods
+-- have these instructions
 abbrev pub class_final : List Op → List Op → List Op → Class
 class_final in_init in_method in_clinit = plain_class 0x0020 (codes "p/Final") object []
     (int_field 0x0010 (codes "x") ∷ int_field 0x0018 (codes "y") ∷ [])
-    (running 0x0001 init in_init ∷ running 0x0000 (codes "m") in_method ∷ running 0x0008 (codes "<clinit>") in_clinit ∷ [])
+    (running 0x0001 init in_init ∷ running 0x0000 (codes "m") in_method ∷ running 0x0008
+    (codes "<clinit>") in_clinit ∷ [])
 
 abbrev pub put_x : Op
 put_x = op.PutField (of_class (codes "p/Final") (codes "x") (codes "I"))
@@ -420,7 +470,8 @@ FinalRows =
 
 -- class p.Under extends q.Over { .. void m() }, and public class q.Over { .. void m() }
 abbrev pub overriding : ℕ → ℕ → List Class
-overriding flags above = plain_class 0x0020 (codes "p/Under") (codes "q/Over") [] [] (plain_method flags (codes "m") ∷ [])
+overriding flags above = plain_class 0x0020 (codes "p/Under") (codes "q/Over") [] []
+    (plain_method flags (codes "m") ∷ [])
     ∷ plain_class 0x0021 (codes "q/Over") object [] [] (plain_method above (codes "m") ∷ []) ∷ []
 
 -- a public and a protected final method, one that isn't final, one of the package, a private one and a static one
@@ -434,9 +485,11 @@ OverridingRows =
     × (links_checked (overriding 0x0001 0x0019) ≡ taken)
     × (links_checked (overriding 0x0009 0x0011) ≡ taken)
 
--- class p.Under extends q.Mid { public void m() }, public class q.Mid extends q.Over { .. }, and public class q.Over { final void m() }
+-- class p.Under extends q.Mid { public void m() }, public class q.Mid extends q.Over { .. }, and public class q.Over {
+-- final void m() }
 abbrev pub overriding_through : List Method → List Class
-overriding_through between = plain_class 0x0020 (codes "p/Under") (codes "q/Mid") [] [] (plain_method 0x0001 (codes "m") ∷ [])
+overriding_through between = plain_class 0x0020 (codes "p/Under") (codes "q/Mid") [] []
+    (plain_method 0x0001 (codes "m") ∷ [])
     ∷ plain_class 0x0021 (codes "q/Mid") (codes "q/Over") [] [] between
     ∷ plain_class 0x0021 (codes "q/Over") object [] [] (plain_method 0x0010 (codes "m") ∷ []) ∷ []
 
@@ -456,7 +509,8 @@ LibraryOverridingRows =
     (links_checked (named 0x0004 (codes "finalize") ∷ []) ≡ in_run LeftOutMember)
     × (links_checked (named 0x0001 (codes "notify") ∷ []) ≡ taken)
     × (links_checked (named 0x0008 (codes "finalize") ∷ []) ≡ taken)
-    × (links_checked (plain_class 0x0600 (codes "p/I") object [] [] (plain_method 0x0401 (codes "finalize") ∷ []) ∷ []) ≡ taken)
+    × (links_checked (plain_class 0x0600 (codes "p/I") object [] [] (plain_method 0x0401 (codes "finalize") ∷ []) ∷ [])
+    ≡ taken)
 
 -- ---- superinterfaces
 
@@ -467,20 +521,24 @@ naming name = plain_class 0x0600 (codes "p/I") object [] [] (plain_method 0x0401
 -- interface p.I { boolean equals(Object); }
 abbrev pub naming_equals : Class
 naming_equals = plain_class 0x0600 (codes "p/I") object [] []
-    (made_method 0x0401 (codes "equals") (class_type object ∷ []) (Some (record { dims = 0; base = base.Boolean })) [] None ∷ [])
+    (made_method 0x0401 (codes "equals") (class_type object ∷ [])
+    (Some (record { dims = 0; base = base.Boolean })) [] None ∷ [])
 
 -- class p.C extends .. implements p.I
 abbrev pub implementing : ℕ → List ℕ → List Method → Class
 implementing flags above methods = plain_class flags (codes "p/C") above (codes "p/I" ∷ []) [] methods
 
--- an interface's method that runs one of the library that a program may not name, one of the class, a private one too, one of the library
+-- an interface's method that runs one of the library that a program may not name, one of the class, a private one too,
+-- one of the library
 -- that a program may name, and none
 abbrev pub SuperinterfaceRows : Type 0
 SuperinterfaceRows =
     (links_checked (implementing 0x0020 object [] ∷ naming (codes "notify") ∷ []) ≡ in_class 0 LeftOutMember)
     × (links_checked (implementing 0x0020 object [] ∷ naming (codes "finalize") ∷ []) ≡ in_class 0 LeftOutMember)
-    × (links_checked (implementing 0x0020 object (plain_method 0x0001 (codes "notify") ∷ []) ∷ naming (codes "notify") ∷ []) ≡ taken)
-    × (links_checked (implementing 0x0020 object (plain_method 0x0002 (codes "notify") ∷ []) ∷ naming (codes "notify") ∷ []) ≡ taken)
+    × (links_checked (implementing 0x0020 object (plain_method 0x0001 (codes "notify") ∷ []) ∷ naming
+    (codes "notify") ∷ []) ≡ taken)
+    × (links_checked (implementing 0x0020 object (plain_method 0x0002 (codes "notify") ∷ []) ∷ naming
+    (codes "notify") ∷ []) ≡ taken)
     × (links_checked (implementing 0x0020 object [] ∷ naming_equals ∷ []) ≡ taken)
     × (links_checked (implementing 0x0020 object [] ∷ naming (codes "m") ∷ []) ≡ taken)
 
@@ -488,8 +546,10 @@ SuperinterfaceRows =
 abbrev pub ImplementingRows : Type 0
 ImplementingRows =
     (links_checked (implementing 0x0420 object [] ∷ naming (codes "notify") ∷ []) ≡ taken)
-    × (links_checked (plain_class 0x0600 (codes "p/J") object (codes "p/I" ∷ []) [] [] ∷ naming (codes "notify") ∷ []) ≡ taken)
-    × (links_checked (plain_class 0x0020 (codes "p/D") (codes "p/C") [] [] [] ∷ implementing 0x0420 object [] ∷ naming (codes "notify") ∷ [])
+    × (links_checked (plain_class 0x0600 (codes "p/J") object (codes "p/I" ∷ []) [] [] ∷ naming (codes "notify") ∷ [])
+    ≡ taken)
+    × (links_checked (plain_class 0x0020 (codes "p/D") (codes "p/C") [] [] [] ∷ implementing 0x0420 object [] ∷ naming
+    (codes "notify") ∷ [])
     ≡ in_class 0 LeftOutMember)
     × (links_checked (plain_class 0x0020 (codes "p/E") object (codes "java/lang/CharSequence" ∷ []) [] [] ∷ []) ≡ taken)
 
@@ -513,7 +573,8 @@ abbrev pub FlagRows : Type 0
 FlagRows =
     (links_checked (plain_class 0x2600 (codes "p/A") object [] [] [] ∷ []) ≡ in_class 0 LeftOutFlag)
     × (links_checked (plain_class 0x4020 (codes "p/E") object [] [] [] ∷ []) ≡ in_class 0 LeftOutFlag)
-    × (links_checked (plain_class 0x0020 (codes "p/N") object [] [] (plain_method 0x0100 (codes "n") ∷ []) ∷ []) ≡ in_run LeftOutFlag)
+    × (links_checked (plain_class 0x0020 (codes "p/N") object [] [] (plain_method 0x0100 (codes "n") ∷ []) ∷ [])
+    ≡ in_run LeftOutFlag)
     × (links_checked (plain_class 0x0020 (codes "p/F") object [] (int_field 0x4019 (codes "f") ∷ []) [] ∷ []) ≡ taken)
 
 -- as the reader noted it, at the class, a field or a method
@@ -530,10 +591,14 @@ NotedRows =
 abbrev pub FloatRows : Type 0
 FloatRows =
     (links_checked (typed float open_type None (codes "q/Open") ∷ class_open ∷ []) ≡ in_member 0 1 LeftOutType)
-    × (links_checked (typed open_type (array_type base.Double) None (codes "q/Open") ∷ class_open ∷ []) ≡ in_member 0 2 LeftOutType)
-    × (links_checked (typed open_type open_type (Some float) (codes "q/Open") ∷ class_open ∷ []) ≡ in_member 0 2 LeftOutType)
-    × (links_checked (main (op.GetStatic (of_class (codes "q/Open") (codes "count") (codes "F"))) ∷ class_open ∷ []) ≡ in_run LeftOutType)
-    × (links_checked (main (op.InvokeStatic (of_class (codes "q/Open") (codes "s") (codes "([D)V"))) ∷ class_open ∷ []) ≡ in_run LeftOutType)
+    × (links_checked (typed open_type (array_type base.Double) None (codes "q/Open") ∷ class_open ∷ [])
+    ≡ in_member 0 2 LeftOutType)
+    × (links_checked (typed open_type open_type (Some float) (codes "q/Open") ∷ class_open ∷ [])
+    ≡ in_member 0 2 LeftOutType)
+    × (links_checked (main (op.GetStatic (of_class (codes "q/Open") (codes "count") (codes "F"))) ∷ class_open ∷ [])
+    ≡ in_run LeftOutType)
+    × (links_checked (main (op.InvokeStatic (of_class (codes "q/Open") (codes "s") (codes "([D)V"))) ∷ class_open ∷ [])
+    ≡ in_run LeftOutType)
     × (links_checked (main (op.CheckCast (array_type base.Float)) ∷ []) ≡ in_run LeftOutType)
     × (links_checked (main_with None (vtype.Object (array_type base.Double) ∷ []) [] ∷ []) ≡ in_run LeftOutType)
     × (links_checked (main (op.CheckCast (array_type base.Long)) ∷ []) ≡ taken)
@@ -542,7 +607,8 @@ FloatRows =
 
 -- class p.Two { void m() void n() }, whose methods have these instructions
 abbrev pub two : List Op → List Op → Class
-two ms ns = plain_class 0x0020 (codes "p/Two") object [] [] (running 0x0000 (codes "m") ms ∷ running 0x0000 (codes "n") ns ∷ [])
+two ms ns = plain_class 0x0020 (codes "p/Two") object [] []
+    (running 0x0000 (codes "m") ms ∷ running 0x0000 (codes "n") ns ∷ [])
 
 abbrev pub wrong_kind : Op
 wrong_kind = op.New (codes "java/lang/Runnable")
@@ -553,13 +619,15 @@ unresolved = op.New (codes "q/Absent")
 abbrev pub left_out_member : Op
 left_out_member = op.PutStatic system_out
 
--- at one place the first kind counts, whichever instruction comes first; an earlier member comes before a later one, and an earlier class
+-- at one place the first kind counts, whichever instruction comes first; an earlier member comes before a later one,
+-- and an earlier class
 abbrev pub SeveralRows : Type 0
 SeveralRows =
     (links_checked (two (left_out_member ∷ wrong_kind ∷ unresolved ∷ []) [] ∷ []) ≡ in_member 0 0 Unresolved)
     × (links_checked (two (left_out_member ∷ wrong_kind ∷ []) [] ∷ []) ≡ in_member 0 0 WrongKind)
     × (links_checked (two (left_out_member ∷ []) (unresolved ∷ []) ∷ []) ≡ in_member 0 0 LeftOutMember)
     × (links_checked (two [] (unresolved ∷ op.CheckCast (array_type base.Float) ∷ []) ∷ []) ≡ in_member 0 1 LeftOutType)
-    × (links_checked (class_open ∷ two [] (wrong_kind ∷ []) ∷ noted None left.Flag class_hidden ∷ []) ≡ in_member 1 1 WrongKind)
+    × (links_checked (class_open ∷ two [] (wrong_kind ∷ []) ∷ noted None left.Flag class_hidden ∷ [])
+    ≡ in_member 1 1 WrongKind)
     × (links_checked (noted (Some 1) left.Opcode (two (wrong_kind ∷ []) []) ∷ []) ≡ in_member 0 0 WrongKind)
     × (links_checked [] ≡ taken)

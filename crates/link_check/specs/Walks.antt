@@ -47,4 +47,5 @@ candidates classes ms = filter (is_candidate classes ms) ms
 -- the class of a name, where it is there and accessible
 abbrev pub class_linked : List Class → ClassId → List ℕ → Result ClassId LinkKind
 class_linked classes from name =
-    option_map_or (λ c. if is_class_accessible classes from c then Ok c else Err Inaccessible) (class_named classes name) (Err Unresolved)
+    option_map_or (λ c. if is_class_accessible classes from c then Ok c else Err Inaccessible)
+    (class_named classes name) (Err Unresolved)

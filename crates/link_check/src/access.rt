@@ -2,7 +2,8 @@
 ghost use Rattle.std.specs.Prelude.{◌≡◌};
 ghost use Rattle.class_pool.specs.Found.{IsMember};
 ghost use Rattle.class_pool.specs.Hierarchy.{IsClass};
-ghost use Rattle.class_pool.specs.Resolution.{is_class_accessible, is_class_below, is_member_accessible, is_protected_accessible};
+ghost use Rattle.class_pool.specs.Resolution.{is_class_accessible, is_class_below, is_member_accessible};
+ghost use Rattle.class_pool.specs.Resolution.{is_protected_accessible};
 
 use crate::supertypes::Superclasses;
 use class_pool::{ClassId, ClassSet, MemberAt};
@@ -55,7 +56,8 @@ pub(crate) fn is_member_accessible(
         || (set.is_protected_member(*m) && is_protected_accessible(set, from, &named, m))
 }
 
-/// Whether a protected member is accessible to a class, by the rule for classes of other packages: to a subclass, and where it isn't
+/// Whether a protected member is accessible to a class, by the rule for classes of other packages: to a subclass, and
+/// where it isn't
 /// static through a class that stands below or above that subclass.
 fn is_protected_accessible(set: &ClassSet, from: &ClassId, named: &ClassId, m: &MemberAt) -> bool
     requires from { IsClass set.now from.now }

@@ -8,7 +8,9 @@ ghost use Rattle.class_pool.specs.Hierarchy.{IsClass, class_named};
 ghost use Rattle.class_pool.specs.Resolution.{is_interface_in};
 ghost use Rattle.class_pool.specs.declared.id.ClassId.TheVariants.{Prog};
 ghost use Rattle.link_check.specs.Links.{linked_method};
-ghost use Rattle.link_check.specs.Profile.{call_kinds, class_of, init_kinds, is_abstract_class, least, made_kinds, member_kinds, new_kinds, no_init_kinds, special_class_kinds, special_kinds, static_kinds, super_kinds};
+ghost use Rattle.link_check.specs.Profile.{call_kinds, class_of, init_kinds, is_abstract_class, least, made_kinds};
+ghost use Rattle.link_check.specs.Profile.{member_kinds, new_kinds, no_init_kinds, special_class_kinds, special_kinds};
+ghost use Rattle.link_check.specs.Profile.{static_kinds, super_kinds};
 
 use crate::ProfileKind;
 use crate::access::is_class_below;

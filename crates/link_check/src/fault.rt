@@ -30,9 +30,11 @@ pub enum ProfileKind {
     Unresolved,
     /// One that is named may not be (JVMS 5.4.4).
     Inaccessible,
-    /// One that is named is of another kind than its use wants, or a method overrides a final one (JVMS 4.10, 5.4.3, 6.5).
+    /// One that is named is of another kind than its use wants, or a method overrides a final one (JVMS 4.10, 5.4.3,
+    /// 6.5).
     WrongKind,
-    /// One that is named, overridden or run through an interface is a member of the library that a program may not use so, or a
+    /// One that is named, overridden or run through an interface is a member of the library that a program may not use
+    /// so, or a
     /// method of an interface has a body.
     LeftOutMember,
 }
@@ -55,7 +57,8 @@ impl ProfileKind {
     }
 }
 
-/// The first place of a set that breaks a rule: class after class in order, in a class first itself, then its fields, then its
+/// The first place of a set that breaks a rule: class after class in order, in a class first itself, then its fields,
+/// then its
 /// methods.
 #[derive(Clone, Copy, Debug, PartialEq, Eq)]
 pub struct ProfileFault {

@@ -7,7 +7,8 @@ ghost use Rattle.class_pool.specs.Found.{IsMember, is_final_member};
 ghost use Rattle.class_pool.specs.Walk.{same_class};
 ghost use Rattle.class_pool.specs.declared.id.ClassId.TheVariants.{Prog};
 ghost use Rattle.link_check.specs.Links.{linked_field};
-ghost use Rattle.link_check.specs.Profile.{changed_kinds, field_kinds, is_of_library, least, member_kinds, unless, used_kinds, written_kinds};
+ghost use Rattle.link_check.specs.Profile.{changed_kinds, field_kinds, is_of_library, least, member_kinds, unless};
+ghost use Rattle.link_check.specs.Profile.{used_kinds, written_kinds};
 ghost use Rattle.link_check.specs.declared.fault.ProfileKind.TheVariants.{LeftOutMember};
 
 use crate::ProfileKind;

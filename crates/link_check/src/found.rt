@@ -3,7 +3,8 @@ ghost use Rattle.std.specs.Prelude.{◌≡◌, IfSome, codes};
 ghost use Rattle.std.specs.List.{All};
 ghost use Rattle.class_pool.specs.Found.{IsMember};
 ghost use Rattle.class_pool.specs.Hierarchy.{IsClass, class_named};
-ghost use Rattle.class_pool.specs.Resolution.{class_method_found, field_found, first_declared, interface_method_found, method_found, object_method};
+ghost use Rattle.class_pool.specs.Resolution.{class_method_found, field_found, first_declared, interface_method_found};
+ghost use Rattle.class_pool.specs.Resolution.{method_found, object_method};
 ghost use Rattle.class_pool.specs.Walk.{superclasses_from};
 
 use crate::superinterface_methods::superinterface_method;
@@ -92,7 +93,8 @@ fn nearest_declared(set: &ClassSet, class: ClassId, name: &Name, ty: &Text) -> O
     None
 }
 
-/// A method of the interface, else a public one of Object that isn't static, else one of the superinterfaces (JVMS 5.4.3.4).
+/// A method of the interface, else a public one of Object that isn't static, else one of the superinterfaces (JVMS
+/// 5.4.3.4).
 fn interface_method_found(
     set: &ClassSet,
     class: &ClassId,

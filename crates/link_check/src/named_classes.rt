@@ -4,7 +4,8 @@
 ghost use Rattle.std.specs.Prelude.{◌≡◌, ◌<◌, IfOk, length};
 ghost use Rattle.std.specs.List.{flat_map};
 ghost use Rattle.jv_base.specs.Descriptors.{read_field, read_method};
-ghost use Rattle.link_check.specs.Profile.{base_kinds, field_text_kinds, least, method_text_kinds, method_type_kinds, name_kinds, type_kinds};
+ghost use Rattle.link_check.specs.Profile.{base_kinds, field_text_kinds, least, method_text_kinds, method_type_kinds};
+ghost use Rattle.link_check.specs.Profile.{name_kinds, type_kinds};
 
 use crate::ProfileKind;
 use crate::access::is_class_accessible;
@@ -86,7 +87,8 @@ pub(crate) fn method_type_kind(set: &ClassSet, number: u32, ty: &MethodType) -> 
 /// No descriptor of this length is read; a class file has room for 65,535 bytes (JVMS 4.4.7).
 const TOO_LONG: usize = 4_294_967_295;
 
-/// What is wrong with the type of a field's descriptor (JVMS 4.3.2). One that is too long is answered as want of memory.
+/// What is wrong with the type of a field's descriptor (JVMS 4.3.2). One that is too long is answered as want of
+/// memory.
 pub(crate) fn field_text_kind(
     alloc: Global,
     set: &ClassSet,

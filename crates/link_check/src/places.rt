@@ -9,7 +9,8 @@ ghost use Rattle.class_model.specs.Flags.{acc_abstract, has, is_interface, is_le
 ghost use Rattle.class_pool.specs.Found.{IsMember, row_at};
 ghost use Rattle.class_pool.specs.declared.id.ClassId.TheVariants.{Prog};
 ghost use Rattle.link_check.specs.Inherited.{AreKnown};
-ghost use Rattle.link_check.specs.Profile.{body_kinds, code_kinds, declaration_kinds, kinds_of_class, kinds_of_field, kinds_of_method, least, left_out_at, name_kinds, same_place};
+ghost use Rattle.link_check.specs.Profile.{body_kinds, code_kinds, declaration_kinds, kinds_of_class, kinds_of_field};
+ghost use Rattle.link_check.specs.Profile.{kinds_of_method, least, left_out_at, name_kinds, same_place};
 
 use crate::ProfileKind;
 use crate::implemented::implementing_kind;

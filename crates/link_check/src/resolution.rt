@@ -5,7 +5,8 @@ ghost use Rattle.class_pool.specs.Hierarchy.{IsClass};
 ghost use Rattle.class_pool.specs.Resolution.{is_interface_in};
 ghost use Rattle.std.specs.Bool.{beq};
 ghost use Rattle.class_pool.specs.declared.id.ClassId.TheVariants.{Prog};
-ghost use Rattle.link_check.specs.Links.{is_callable_role, linked, linked_field, linked_method, of_array, resolved_field, resolved_method};
+ghost use Rattle.link_check.specs.Links.{is_callable_role, linked, linked_field, linked_method, of_array};
+ghost use Rattle.link_check.specs.Links.{resolved_field, resolved_method};
 ghost use Rattle.link_check.specs.Walks.{class_linked};
 ghost use Rattle.link_check.specs.declared.fault.LinkKind.TheVariants.{LeftOutMember};
 

@@ -90,7 +90,8 @@ fn is_opened(set: &ClassSet, class: &ClassId, m: &MemberAt) -> bool
     !set.is_public_member(*m) && !set.is_protected_member(*m) && has_open_override(set, class, m)
 }
 
-/// The first method from a class upwards that is this one or overrides it by itself; any that may override, where a method
+/// The first method from a class upwards that is this one or overrides it by itself; any that may override, where a
+/// method
 /// between them opens it to all packages.
 fn nearest(set: &ClassSet, class: &ClassId, m: &MemberAt, opened: bool) -> Option<MemberAt>
     requires class { IsClass set.now class.now }
@@ -109,7 +110,8 @@ fn nearest(set: &ClassSet, class: &ClassId, m: &MemberAt, opened: bool) -> Optio
     None
 }
 
-/// Whether a method is the one above or overrides it by itself; where that is opened to all packages, whether it may override.
+/// Whether a method is the one above or overrides it by itself; where that is opened to all packages, whether it may
+/// override.
 fn overrides_where(set: &ClassSet, m: &MemberAt, above: &MemberAt, opened: bool) -> bool
     requires one { IsMember set.now m.now }
     requires other { IsMember set.now above.now }

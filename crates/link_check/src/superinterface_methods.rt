@@ -4,7 +4,8 @@ ghost use Rattle.std.specs.Iterator.{YieldsFirst};
 ghost use Rattle.std.specs.List.{All, list_all};
 ghost use Rattle.class_pool.specs.Found.{IsMember, same_member};
 ghost use Rattle.class_pool.specs.Hierarchy.{IsClass};
-ghost use Rattle.class_pool.specs.Resolution.{chosen, first, is_maximally_specific, is_open, is_subinterface, maximally_specific, superinterface_methods};
+ghost use Rattle.class_pool.specs.Resolution.{chosen, first, is_maximally_specific, is_open, is_subinterface};
+ghost use Rattle.class_pool.specs.Resolution.{maximally_specific, superinterface_methods};
 ghost use Rattle.link_check.specs.Walks.{candidates, is_candidate, methods_met, open_methods};
 
 use crate::member_uses::is_same;
@@ -13,7 +14,8 @@ use class_pool::{ClassId, ClassSet, MemberAt};
 use jv_base::{Name, Text};
 use std::marker::Model;
 
-/// The method of the superinterfaces of a class that has a name and a descriptor: the only one that is maximally specific and not
+/// The method of the superinterfaces of a class that has a name and a descriptor: the only one that is maximally
+/// specific and not
 /// abstract, else the first one that is met.
 pub(crate) fn superinterface_method(
     set: &ClassSet,
@@ -79,7 +81,8 @@ fn is_only_candidate(
     true
 }
 
-/// Whether a method of a superinterface isn't abstract and is maximally specific. Most are abstract, so that the others need no look.
+/// Whether a method of a superinterface isn't abstract and is maximally specific. Most are abstract, so that the others
+/// need no look.
 fn is_candidate(set: &ClassSet, class: &ClassId, name: &Name, ty: &Text, m: &MemberAt) -> bool
     requires class { IsClass set.now class.now }
     requires there { IsMember set.now m.now }

@@ -74,7 +74,8 @@ impl<'a> Iterator for Superclasses<'a> {
     }
 }
 
-/// The superinterfaces of a class: those that it has itself, then those of its superclass, and so on. Of one class each comes once.
+/// The superinterfaces of a class: those that it has itself, then those of its superclass, and so on. Of one class each
+/// comes once.
 #[derive(Drop)]
 pub(crate) struct Superinterfaces<'a> {
     set: &'a ClassSet,

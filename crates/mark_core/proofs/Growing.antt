@@ -32,9 +32,11 @@ done_grows old new pair grows done one two =
     inl
     (grows.fresh pair.one one)
 
-pub derived_due : (sys : System) (pair : Pair) → Contains sys.pairs pair → IsMarked sys pair.one → IsMarked sys pair.two → IsMarked sys pair.derived
+pub derived_due : (sys : System) (pair : Pair) → Contains sys.pairs pair → IsMarked sys pair.one → IsMarked sys pair.two
+    → IsMarked sys pair.derived
 derived_due sys pair listed one two set closed =
-    All-contains (λ p. IsTrue (set p.one) → IsTrue (set p.two) → IsTrue (set p.derived)) sys.pairs pair closed.pairs listed (one set closed) (two set closed)
+    All-contains (λ p. IsTrue (set p.one) → IsTrue (set p.two)
+    → IsTrue (set p.derived)) sys.pairs pair closed.pairs listed (one set closed) (two set closed)
 
 pub needs_due : (sys : System) (x : ℕ) → IsMarked sys x → All (IsMarked sys) (needs_of sys x)
 needs_due sys x due k d lt set closed = closed.needs x (due set closed) k d lt

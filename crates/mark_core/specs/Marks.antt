@@ -21,7 +21,8 @@ IsMarked sys x = (set : ℕ → Bool) → Closed sys set → IsTrue (set x)
 abbrev pub set_of : List Bool → ℕ → Bool
 set_of marks x = slice_index_or marks x false
 
--- the list tells the least closed set: there is a value for each item, the set is closed, and it lies in each closed set
+-- the list tells the least closed set: there is a value for each item, the set is closed, and it lies in each closed
+-- set
 pub record Marks (sys : System) (marks : List Bool) : Type 0 where
   pub count : length marks ≡ sys.n
   pub closed : Closed sys (set_of marks)

@@ -1,5 +1,6 @@
 -- The places at which items stand in the pairs, and an index of them (only the proof of plain_marks needs it).
-use Rattle.std.specs.Prelude.{◌≡◌, ◌∷◌, ◌++◌, ℕ, ◌+◌, ◌*◌, ◌/◌, ◌%◌, ◌<◌, [], nat_eq, if◌then◌else◌, length, slice_index_or, slice_set}
+use Rattle.std.specs.Prelude.{◌≡◌, ◌∷◌, ◌++◌, ℕ, ◌+◌, ◌*◌, ◌/◌, ◌%◌, ◌<◌, [], nat_eq, if◌then◌else◌, length}
+use Rattle.std.specs.Prelude.{slice_index_or, slice_set}
 use Rattle.mark_core.specs.declared.system.System.{System}
 use Rattle.mark_core.specs.declared.system.Pair.{Pair}
 use Rattle.mark_core.specs.declared.pair_index.PairIndex.{PairIndex}

@@ -13,8 +13,10 @@ IsRanked needs ranks = (n : ℕ) → n < length needs
 
 -- what each item before one needs has a lower rank
 abbrev pub IsRankedBefore : ℕ → List (List ℕ) → List ℕ → Type 0
-IsRankedBefore first needs ranks = (n : ℕ) → n < first → All (λ m. rank_of ranks m < rank_of ranks n) (slice_index_or needs n [])
+IsRankedBefore first needs ranks = (n : ℕ) → n < first
+    → All (λ m. rank_of ranks m < rank_of ranks n) (slice_index_or needs n [])
 
 -- nothing that an item needs has a higher rank
 abbrev pub NoneRises : List (List ℕ) → List ℕ → Type 0
-NoneRises needs ranks = (n : ℕ) → n < length needs → All (λ m. rank_of ranks m ≤ rank_of ranks n) (slice_index_or needs n [])
+NoneRises needs ranks = (n : ℕ) → n < length needs
+    → All (λ m. rank_of ranks m ≤ rank_of ranks n) (slice_index_or needs n [])

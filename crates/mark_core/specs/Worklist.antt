@@ -34,7 +34,8 @@ pub record Grows (old new : Worklist) : Type 0 where
 
 -- where both items of the pair are marked, one of them waits or the consequence is marked
 abbrev pub IsDone : Worklist → Pair → Type 0
-IsDone work pair = Has work pair.one → Has work pair.two → Waits work pair.one ⊎ (Waits work pair.two ⊎ Has work pair.derived)
+IsDone work pair = Has work pair.one → Has work pair.two
+    → Waits work pair.one ⊎ (Waits work pair.two ⊎ Has work pair.derived)
 
 -- each pair that has the item is done
 abbrev pub AllPairsDone : System → Worklist → ℕ → Type 0

@@ -1,4 +1,5 @@
-//! Which items have to be kept: a system of requirements, and its least closed set; and ranks of items by what they need.
+//! Which items have to be kept: a system of requirements, and its least closed set; and ranks of items by what they
+//! need.
 #![tactic(auto)]
 
 mod components;

@@ -120,11 +120,7 @@ fn note_unranked(unranked: &mut Unranked, number: usize, needs: usize) -> M<()> 
     Ok(())
 }
 
-fn ranks_by_counting(
-    alloc: Global,
-    needing: &Needing,
-    unranked: &mut Unranked,
-) -> M<Vec<usize>> {
+fn ranks_by_counting(alloc: Global, needing: &Needing, unranked: &mut Unranked) -> M<Vec<usize>> {
     let mut ranks = vec![in alloc; 0usize; needing.first.len()]?;
     for rank in 0..needing.first.len() {
         if let Some(item) = unranked.ready.pop() {

@@ -18,7 +18,8 @@ without_lines code = record code { ins = map without_line code.ins }
 abbrev pub field_without_optional : Field → Field
 field_without_optional field = record field { synthetic = false; deprecated = false }
 
--- a method without Exceptions, Synthetic and Deprecated, and its code without lines (JVMS 4.7.5, 4.7.8, 4.7.12 and 4.7.15)
+-- a method without Exceptions, Synthetic and Deprecated, and its code without lines (JVMS 4.7.5, 4.7.8, 4.7.12 and
+-- 4.7.15)
 abbrev pub method_without_optional : Method → Method
 method_without_optional m = record m { code = option_map without_lines m.code; throws = []; synthetic = false; deprecated = false }
 

@@ -1,6 +1,7 @@
 // Classes without the attributes that are kept only where they are named.
 ghost use Rattle.std.specs.Prelude.{◌≡◌, map};
-ghost use Rattle.member_shrink.specs.Attributes.{without_line, without_lines, field_without_optional, method_without_optional, without_optional};
+ghost use Rattle.member_shrink.specs.Attributes.{without_line, without_lines, field_without_optional};
+ghost use Rattle.member_shrink.specs.Attributes.{method_without_optional, without_optional};
 
 use class_model::{Class, Code, Field, Ins, Method};
 use jv_base::Items;

@@ -1,4 +1,5 @@
--- Classes and members in texts: names with dots (JLS 13.1), types as Java source spells them, members as a mapping file has them
+-- Classes and members in texts: names with dots (JLS 13.1), types as Java source spells them, members as a mapping file
+-- has them
 -- (ProGuard manual, ReTrace, the mapping file).
 use Rattle.std.specs.Prelude.{ℕ, List, ◌++◌, Option, Some, None, codes, map}
 use Rattle.std.specs.List.{join_by}
@@ -24,7 +25,8 @@ result_text (Some ty) = external_text ty
 -- the result's type, a name, and the parameters' types in parentheses, a comma between two
 -- (ProGuard manual, ReTrace, the mapping file)
 abbrev pub method_text : Method → List ℕ
-method_text m = result_text m.ty.ret ++ codes " " ++ m.name ++ codes "(" ++ join_by external_text (codes ",") m.ty.args ++ codes ")"
+method_text m = result_text m.ty.ret ++ codes " " ++ m.name ++ codes "(" ++ join_by external_text
+    (codes ",") m.ty.args ++ codes ")"
 
 -- the members of a class in the order of their numbers: fields first, then methods
 -- (the project's own: a member is told by its number)

@@ -1,4 +1,5 @@
-//! How classes and their members are spelled in texts for people: with external names, and types as Java source has them.
+//! How classes and their members are spelled in texts for people: with external names, and types as Java source has
+//! them.
 #![tactic(auto)]
 
 mod kinds;

@@ -1,5 +1,7 @@
 -- The items of classes and members by their numbers.
-use Rattle.std.proofs.Common.{◌≡◌, ℕ, ◌+◌, ◌<◌, ◌≤◌, ◌⊎◌, inl, inr, Bool, true, false, List, [], ◌∷◌, ◌++◌, length, get_or, map, take, slice_get, Option, Some, None, All, refl, sym, ap, subst, ◌∙◌, arith, length-append}
+use Rattle.std.proofs.Common.{◌≡◌, ℕ, ◌+◌, ◌<◌, ◌≤◌, ◌⊎◌, inl, inr, Bool, true, false, List, [], ◌∷◌, ◌++◌, length}
+use Rattle.std.proofs.Common.{get_or, map, take, slice_get, Option, Some, None, All, refl, sym, ap, subst, ◌∙◌, arith}
+use Rattle.std.proofs.Common.{length-append}
 use Rattle.std.specs.Option.{option_map_or}
 use Rattle.std.specs.List.{enumerate_from, flat_map}
 use Rattle.std.proofs.Math.Seq.{get_or-append_seam}
@@ -18,25 +20,26 @@ use Rattle.class_pool.specs.declared.id.MemberAt.{MemberAt}
 use Rattle.class_pool.specs.Items.{class_item, item_in, item_of}
 use Rattle.require_sys.specs.EarlySystem.{are_kept_anyway, class_needs, places_of_true}
 use Rattle.require_sys.specs.Starts.{AreStarts}
+use Rattle.class_pool.proofs.ToldMembers.{rows_counted}
 
 -- one more element
-pub take_at : {X : Type 0} (xs : List X) (i : ℕ) (x : X) → slice_get xs i ≡ Some x → take (i + 1) xs ≡ take i xs ++ x ∷ []
-take_at xs i x is = take_more xs i x (slice_get_within xs i x is) ∙ ap (λ y. take i xs ++ y ∷ []) (get_or_from_slice_get xs i x x is)
+pub take_at : {X : Type 0} (xs : List X) (i : ℕ) (x : X) → slice_get xs i ≡ Some x
+    → take (i + 1) xs ≡ take i xs ++ x ∷ []
+take_at xs i x is = take_more xs i x (slice_get_within xs i x is)
+    ∙ ap (λ y. take i xs ++ y ∷ []) (get_or_from_slice_get xs i x x is)
 
 -- the item of the next class
-pub class_item-next : (classes : List Class) (n : ℕ) (c : Class) → slice_get classes n ≡ Some c → class_item classes (n + 1) ≡ class_item classes n + items_of c
+pub class_item-next : (classes : List Class) (n : ℕ) (c : Class) → slice_get classes n ≡ Some c
+    → class_item classes (n + 1) ≡ class_item classes n + items_of c
 class_item-next classes n c is = ap item_count (take_at classes n c is) ∙ sum_by_push items_of (take n classes) c
 
 -- no class stands behind the last item
 pub class_item-le : (classes : List Class) (n : ℕ) → class_item classes n ≤ item_count classes
 class_item-le classes n = sum_by-take-le items_of classes n
 
-rows_counted : (c : Class) → length (map field_row c.fields ++ map method_row c.methods) ≡ length c.fields + length c.methods
-rows_counted c = length-append (map field_row c.fields) (map method_row c.methods) ∙ ap (λ n. n + length (map method_row c.methods)) (length-map c.fields field_row)
-    ∙ ap (λ n. length c.fields + n) (length-map c.methods method_row)
-
 below_in : (classes : List Class) (n index : ℕ) (c : Option Class) → slice_get classes n ≡ c
-    → index < length (option_map_or (λ (d : Class). map field_row d.fields ++ map method_row d.methods) c []) → class_item classes n + 1 + index < item_count classes
+    → index < length (option_map_or (λ (d : Class). map field_row d.fields ++ map method_row d.methods) c [])
+    → class_item classes n + 1 + index < item_count classes
 below_in classes n index None is lt = absurd (omega arith)
 below_in classes n index (Some c) is lt =
     let next = class_item-next classes n c is in
@@ -45,21 +48,25 @@ below_in classes n index (Some c) is lt =
     omega (arith, next, most, rows, lt)
 
 -- the item of a member is one of the set's
-pub member_below : (classes : List Class) (n index : ℕ) → index < length (rows_in classes (Prog n)) → class_item classes n + 1 + index < item_count classes
+pub member_below : (classes : List Class) (n index : ℕ) → index < length (rows_in classes (Prog n))
+    → class_item classes n + 1 + index < item_count classes
 member_below classes n index lt = below_in classes n index (slice_get classes n) refl lt
 
 -- the table has the item of a class
-table_is : (classes : List Class) (starts : List ℕ) (n x : ℕ) → AreStarts classes starts → n < length classes → slice_get starts n ≡ Some x → x ≡ class_item classes n
+table_is : (classes : List Class) (starts : List ℕ) (n x : ℕ) → AreStarts classes starts → n < length classes
+    → slice_get starts n ≡ Some x → x ≡ class_item classes n
 table_is classes starts n x are within at =
     let most : n ≤ length classes = omega arith in
     sym (get_or_from_slice_get starts n x 0 at) ∙ are.each n most
 
 -- so the item of a member is found
-pub item_sum : (classes : List Class) (starts : List ℕ) (m : MemberAt) (n x : ℕ) → AreStarts classes starts → IsMember classes m → m.class ≡ Prog n → slice_get starts n ≡ Some x
+pub item_sum : (classes : List Class) (starts : List ℕ) (m : MemberAt) (n x : ℕ) → AreStarts classes starts
+    → IsMember classes m → m.class ≡ Prog n → slice_get starts n ≡ Some x
     → (x + 1 + m.index < item_count classes) × (Some (x + 1 + m.index) ≡ item_of classes m)
 item_sum classes starts m n x are there is at =
     let within : n < length classes = subst (λ (id : ClassId). IsClass classes id) is there.0 in
-    let row : m.index < length (rows_in classes (Prog n)) = subst (λ (id : ClassId). m.index < length (rows_in classes id)) is there.1 in
+    let row : m.index < length (rows_in classes (Prog n)) = subst
+    (λ (id : ClassId). m.index < length (rows_in classes id)) is there.1 in
     let first : x ≡ class_item classes n = table_is classes starts n x are within at in (
       subst (λ k. k + 1 + m.index < item_count classes) (sym first) (member_below classes n m.index row),
       ap (λ k. Some (k + 1 + m.index)) first ∙ sym (ap (λ (id : ClassId). item_in classes id m.index) is),
@@ -67,27 +74,32 @@ item_sum classes starts m n x are there is at =
 
 -- ---- the table of the items
 
-more_at : (classes : List Class) (n v : ℕ) (old : List ℕ) → length old ≡ n + 1 → ((k : ℕ) → k ≤ n → get_or old k 0 ≡ class_item classes k) → v ≡ class_item classes (n + 1)
+more_at : (classes : List Class) (n v : ℕ) (old : List ℕ) → length old ≡ n + 1
+    → ((k : ℕ) → k ≤ n → get_or old k 0 ≡ class_item classes k) → v ≡ class_item classes (n + 1)
     → (k : ℕ) → k ≤ n + 1 → (k < length old) ⊎ (length old ≤ k) → get_or (old ++ v ∷ []) k 0 ≡ class_item classes k
-more_at classes n v old count each is k most (inl before) = get_or_append_left old (v ∷ []) 0 k before ∙ each k (omega arith)
+more_at classes n v old count each is k most (inl before) = get_or_append_left old (v ∷ []) 0 k before
+    ∙ each k (omega arith)
 more_at classes n v old count each is k most (inr behind) =
     let last : k ≡ length old = omega arith in
     let next : n + 1 ≡ k = omega arith in
     ap (λ j. get_or (old ++ v ∷ []) j 0) last ∙ get_or-append_seam old v [] 0 ∙ is ∙ ap (class_item classes) next
 
 -- one more class
-pub table_more : (classes : List Class) (n v : ℕ) (old new : List ℕ) → length old ≡ n + 1 → ((k : ℕ) → k ≤ n → get_or old k 0 ≡ class_item classes k) → v ≡ class_item classes (n + 1)
+pub table_more : (classes : List Class) (n v : ℕ) (old new : List ℕ) → length old ≡ n + 1
+    → ((k : ℕ) → k ≤ n → get_or old k 0 ≡ class_item classes k) → v ≡ class_item classes (n + 1)
     → new ≡ old ++ v ∷ [] → (length new ≡ n + 1 + 1) × ((k : ℕ) → k ≤ n + 1 → get_or new k 0 ≡ class_item classes k)
 table_more classes n v old new count each is grown = (
   omega (arith, ap length grown, length-append old (v ∷ []), count),
-  λ k most. ap (λ (t : List ℕ). get_or t k 0) grown ∙ more_at classes n v old count each is k most (cases_lt k (length old)),
+  λ k most. ap (λ (t : List ℕ). get_or t k 0) grown
+      ∙ more_at classes n v old count each is k most (cases_lt k (length old)),
 )
 
 -- ---- seeds
 
 pub places_below : (m n : ℕ) (bs : List Bool) → n + length bs ≤ m → All (λ x. x < m) (places_of_true n bs)
 places_below m n [] most = All-nil (λ x. x < m)
-places_below m n (true ∷ bs) most = All-cons (λ x. x < m) n (places_of_true (n + 1) bs) (omega arith) (places_below m (n + 1) bs (omega arith))
+places_below m n (true ∷ bs) most = All-cons (λ x. x < m) n (places_of_true (n + 1) bs) (omega arith)
+    (places_below m (n + 1) bs (omega arith))
 places_below m n (false ∷ bs) most = places_below m (n + 1) bs (omega arith)
 
 kept_counted : (c : Class) → length (are_kept_anyway c) ≡ items_of c
@@ -108,7 +120,8 @@ length-kept (c ∷ cs) =
 needs_counted : (classes : List Class) (n : ℕ) (c : Class) → length (class_needs classes (n, c)) ≡ items_of c
 needs_counted classes n c = simp (length-append, length-replicate, length-map)
 
-needs_from : (classes : List Class) (n : ℕ) (cs : List Class) → length (flat_map (class_needs classes) (enumerate_from n cs)) ≡ item_count cs
+needs_from : (classes : List Class) (n : ℕ) (cs : List Class)
+    → length (flat_map (class_needs classes) (enumerate_from n cs)) ≡ item_count cs
 needs_from classes n [] = refl
 needs_from classes n (c ∷ cs) =
     let rest = needs_from classes (n + 1) cs in
@@ -117,5 +130,6 @@ needs_from classes n (c ∷ cs) =
     ∙ ap (λ k. items_of c + k) rest ∙ sym (sum_by-cons items_of c cs)
 
 -- there is a list for each item
-pub length-needs : (classes : List Class) → length (flat_map (class_needs classes) (enumerate_from 0 classes)) ≡ item_count classes
+pub length-needs : (classes : List Class)
+    → length (flat_map (class_needs classes) (enumerate_from 0 classes)) ≡ item_count classes
 length-needs classes = needs_from classes 0 classes

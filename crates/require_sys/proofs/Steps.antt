@@ -1,5 +1,6 @@
 -- Steps of loops.
-use Rattle.std.proofs.Common.{◌≡◌, ℕ, ◌+◌, ◌<◌, Bool, true, false, cond, List, [], ◌∷◌, ◌++◌, length, get_or, map, take, slice_get, Option, Some, None, refl, sym, ap, ◌∙◌, arith, append_assoc, append-nil}
+use Rattle.std.proofs.Common.{◌≡◌, ℕ, ◌+◌, ◌<◌, Bool, true, false, cond, List, [], ◌∷◌, ◌++◌, length, get_or, map, take}
+use Rattle.std.proofs.Common.{slice_get, Option, Some, None, refl, sym, ap, ◌∙◌, arith, append_assoc, append-nil}
 use Rattle.std.specs.List.{cons_option, enumerate_from, filter_map, flat_map}
 use Rattle.std.proofs.lemmas.List.{map_push, take_more, length-take}
 use Rattle.std.proofs.lemmas.List.Concat.{flat_map-append}
@@ -16,11 +17,13 @@ none_of : {Y : Type 0} (r : Option Y) → r ≡ None → cons_option r [] ≡ []
 none_of None e = refl
 none_of (Some z) e = absurd cc
 
-more_of : {X : Type 0} (xs : List X) (i : ℕ) (x : X) → i < length xs → x ≡ get_or xs i x → take (i + 1) xs ≡ take i xs ++ x ∷ []
+more_of : {X : Type 0} (xs : List X) (i : ℕ) (x : X) → i < length xs → x ≡ get_or xs i x
+    → take (i + 1) xs ≡ take i xs ++ x ∷ []
 more_of xs i x lt at = take_more xs i x lt ∙ ap (λ w. take i xs ++ w ∷ []) (sym at)
 
 -- an element that gives one
-pub given : {X Y : Type 0} (h : X → Option Y) (xs : List X) (i : ℕ) (x : X) (old ys zs : List Y) (y : Y) → i < length xs → x ≡ get_or xs i x → ys ≡ old ++ filter_map h (take i xs)
+pub given : {X Y : Type 0} (h : X → Option Y) (xs : List X) (i : ℕ) (x : X) (old ys zs : List Y) (y : Y) → i < length xs
+    → x ≡ get_or xs i x → ys ≡ old ++ filter_map h (take i xs)
     → h x ≡ Some y → zs ≡ ys ++ y ∷ [] → zs ≡ old ++ filter_map h (take (i + 1) xs)
 given h xs i x old ys zs y lt at is found grown =
     grown ∙ ap (λ t. t ++ y ∷ []) is ∙ append_assoc old (filter_map h (take i xs)) (y ∷ [])
@@ -29,7 +32,8 @@ given h xs i x old ys zs y lt at is found grown =
     ∙ ap (λ t. old ++ filter_map h t) (sym (more_of xs i x lt at))
 
 -- an element that gives none
-pub not_given : {X Y : Type 0} (h : X → Option Y) (xs : List X) (i : ℕ) (x : X) (old ys zs : List Y) → i < length xs → x ≡ get_or xs i x → ys ≡ old ++ filter_map h (take i xs)
+pub not_given : {X Y : Type 0} (h : X → Option Y) (xs : List X) (i : ℕ) (x : X) (old ys zs : List Y) → i < length xs
+    → x ≡ get_or xs i x → ys ≡ old ++ filter_map h (take i xs)
     → h x ≡ None → zs ≡ ys → zs ≡ old ++ filter_map h (take (i + 1) xs)
 not_given h xs i x old ys zs lt at is found same =
     same ∙ is ∙ ap (λ t. old ++ t) (sym (append-nil (filter_map h (take i xs))))
@@ -38,7 +42,8 @@ not_given h xs i x old ys zs lt at is found same =
     ∙ ap (λ t. old ++ filter_map h t) (sym (more_of xs i x lt at))
 
 -- what one more element is mapped to
-pub mapped : {X Y : Type 0} (f : X → Y) (xs : List X) (i : ℕ) (x : X) (y : Y) (old ys zs : List Y) → i < length xs → x ≡ get_or xs i x → ys ≡ old ++ map f (take i xs)
+pub mapped : {X Y : Type 0} (f : X → Y) (xs : List X) (i : ℕ) (x : X) (y : Y) (old ys zs : List Y) → i < length xs
+    → x ≡ get_or xs i x → ys ≡ old ++ map f (take i xs)
     → y ≡ f x → zs ≡ ys ++ y ∷ [] → zs ≡ old ++ map f (take (i + 1) xs)
 mapped f xs i x y old ys zs lt at is same grown =
     grown ∙ ap (λ t. t ++ y ∷ []) is ∙ append_assoc old (map f (take i xs)) (y ∷ [])
@@ -47,19 +52,25 @@ mapped f xs i x y old ys zs lt at is same grown =
     ∙ ap (λ t. old ++ map f t) (sym (more_of xs i x lt at))
 
 -- what the next element of a numbered list gives
-enumerate_from-append : {X : Type 0} (n : ℕ) (xs ys : List X) → enumerate_from n (xs ++ ys) ≡ enumerate_from n xs ++ enumerate_from (n + length xs) ys
-enumerate_from-append {X} n [] ys = let same : n ≡ n + length {A = X} [] = omega arith in ap (λ k. enumerate_from k ys) same
+enumerate_from-append : {X : Type 0} (n : ℕ) (xs ys : List X)
+    → enumerate_from n (xs ++ ys) ≡ enumerate_from n xs ++ enumerate_from (n + length xs) ys
+enumerate_from-append {X} n [] ys = let same : n
+    ≡ n + length {A = X} [] = omega arith in ap (λ k. enumerate_from k ys) same
 enumerate_from-append n (x ∷ xs) ys =
     let next : n + 1 + length xs ≡ n + length (x ∷ xs) = omega arith in
-    ap (λ t. (n, x) ∷ t) (enumerate_from-append (n + 1) xs ys) ∙ ap (λ k. (n, x) ∷ (enumerate_from (n + 1) xs ++ enumerate_from k ys)) next
+    ap (λ t. (n, x) ∷ t) (enumerate_from-append (n + 1) xs ys)
+    ∙ ap (λ k. (n, x) ∷ (enumerate_from (n + 1) xs ++ enumerate_from k ys)) next
 
-numbered_more : {X : Type 0} (xs : List X) (i : ℕ) (x : X) → slice_get xs i ≡ Some x → enumerate_from 0 (take (i + 1) xs) ≡ enumerate_from 0 (take i xs) ++ (i, x) ∷ []
+numbered_more : {X : Type 0} (xs : List X) (i : ℕ) (x : X) → slice_get xs i ≡ Some x
+    → enumerate_from 0 (take (i + 1) xs) ≡ enumerate_from 0 (take i xs) ++ (i, x) ∷ []
 numbered_more xs i x is =
     let within = slice_get_within xs i x is in
     let so_far : 0 + length (take i xs) ≡ i = omega (arith, length-take i xs, within) in
-    ap (enumerate_from 0) (take_at xs i x is) ∙ enumerate_from-append 0 (take i xs) (x ∷ []) ∙ ap (λ k. enumerate_from 0 (take i xs) ++ (k, x) ∷ []) so_far
+    ap (enumerate_from 0) (take_at xs i x is) ∙ enumerate_from-append 0 (take i xs) (x ∷ [])
+    ∙ ap (λ k. enumerate_from 0 (take i xs) ++ (k, x) ∷ []) so_far
 
-pub numbered_given : {X Y : Type 0} (f : ℕ × X → List Y) (xs : List X) (i : ℕ) (x : X) (ys zs : List Y) → slice_get xs i ≡ Some x → ys ≡ flat_map f (enumerate_from 0 (take i xs))
+pub numbered_given : {X Y : Type 0} (f : ℕ × X → List Y) (xs : List X) (i : ℕ) (x : X) (ys zs : List Y)
+    → slice_get xs i ≡ Some x → ys ≡ flat_map f (enumerate_from 0 (take i xs))
     → zs ≡ ys ++ f (i, x) → zs ≡ flat_map f (enumerate_from 0 (take (i + 1) xs))
 numbered_given f xs i x ys zs at is grown =
     grown ∙ ap (λ t. t ++ f (i, x)) is
@@ -68,7 +79,8 @@ numbered_given f xs i x ys zs at is grown =
     ∙ ap (flat_map f) (sym (numbered_more xs i x at))
 
 -- one more truth value
-pub places_push : (n : ℕ) (bs : List Bool) (b : Bool) → places_of_true n (bs ++ b ∷ []) ≡ places_of_true n bs ++ cond b ((n + length bs) ∷ []) []
+pub places_push : (n : ℕ) (bs : List Bool) (b : Bool)
+    → places_of_true n (bs ++ b ∷ []) ≡ places_of_true n bs ++ cond b ((n + length bs) ∷ []) []
 places_push n [] true = let same : n ≡ n + length {A = Bool} [] = omega arith in ap (λ k. k ∷ []) same
 places_push n [] false = refl
 places_push n (true ∷ bs) b =
@@ -79,7 +91,8 @@ places_push n (false ∷ bs) b =
     places_push (n + 1) bs b ∙ ap (λ k. places_of_true (n + 1) bs ++ cond b (k ∷ []) []) next
 
 -- one more piece
-pub piece_given : {X Y : Type 0} (f : X → List Y) (xs : List X) (i : ℕ) (x : X) (ys zs : List Y) → slice_get xs i ≡ Some x → ys ≡ flat_map f (take i xs)
+pub piece_given : {X Y : Type 0} (f : X → List Y) (xs : List X) (i : ℕ) (x : X) (ys zs : List Y)
+    → slice_get xs i ≡ Some x → ys ≡ flat_map f (take i xs)
     → zs ≡ ys ++ f x → zs ≡ flat_map f (take (i + 1) xs)
 piece_given f xs i x ys zs at is grown =
     grown ∙ ap (λ t. t ++ f x) is
@@ -87,7 +100,8 @@ piece_given f xs i x ys zs at is grown =
     ∙ sym (flat_map-append f (take i xs) (x ∷ []))
     ∙ ap (flat_map f) (sym (take_at xs i x at))
 
-pub place_given : (bs : List Bool) (i : ℕ) (b : Bool) (places grown : List ℕ) → i < length bs → get_or bs i false ≡ b → places ≡ places_of_true 0 (take i bs)
+pub place_given : (bs : List Bool) (i : ℕ) (b : Bool) (places grown : List ℕ) → i < length bs → get_or bs i false ≡ b
+    → places ≡ places_of_true 0 (take i bs)
     → grown ≡ places ++ cond b (i ∷ []) [] → grown ≡ places_of_true 0 (take (i + 1) bs)
 place_given bs i b places grown lt at is more =
     let so_far : 0 + length (take i bs) ≡ i = omega (arith, length-take i bs, lt) in

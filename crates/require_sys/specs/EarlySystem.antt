@@ -1,7 +1,9 @@
--- What has to be kept where only static methods are removed, as a system of requirements on the items of a set of classes: everything but
+-- What has to be kept where only static methods are removed, as a system of requirements on the items of a set of
+-- classes: everything but
 -- the static methods is kept in any case, and a static method where it is asked for or where a method that is kept
 -- calls it (the project's own: only static methods are removed so far).
-use Rattle.std.specs.Prelude.{ℕ, ◌+◌, Bool, true, not, ◌||◌, List, [], ◌∷◌, ◌++◌, length, map, replicate, Option, Some, None, Result, Ok, Err, if◌then◌else◌}
+use Rattle.std.specs.Prelude.{ℕ, ◌+◌, Bool, true, not, ◌||◌, List, [], ◌∷◌, ◌++◌, length, map, replicate, Option, Some}
+use Rattle.std.specs.Prelude.{None, Result, Ok, Err, if◌then◌else◌}
 use Rattle.std.specs.List.{enumerate_from, filter_map, flat_map}
 use Rattle.std.specs.Option.{option_and_then}
 use Rattle.mark_core.specs.declared.system.System.{System}
@@ -24,7 +26,8 @@ use Rattle.require_sys.specs.declared.asked.AskedMethod.{AskedMethod}
 
 -- ---- seeds
 
--- a method that is kept in any case: each but the static ones, and of these a class initialisation method (JVMS 2.9, 4.6)
+-- a method that is kept in any case: each but the static ones, and of these a class initialisation method (JVMS 2.9,
+-- 4.6)
 abbrev pub is_kept_anyway : Method → Bool
 is_kept_anyway m = not (is_static m.flags.0) || is_clinit m.name
 
@@ -40,7 +43,8 @@ places_of_true n (b ∷ bs) = if b then n ∷ places_of_true (n + 1) bs else pla
 -- the item of the method that is asked for, where its class declares it
 abbrev pub asked_item : List Class → AskedMethod → Option ℕ
 asked_item classes a =
-    option_and_then (item_of classes) (option_and_then (declared_in classes (a.name, a.descriptor)) (class_named classes a.class))
+    option_and_then (item_of classes)
+    (option_and_then (declared_in classes (a.name, a.descriptor)) (class_named classes a.class))
 
 -- what is kept in any case, and the methods that are asked for
 -- (the project's own: only static methods are removed so far)

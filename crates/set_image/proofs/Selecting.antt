@@ -26,20 +26,14 @@ use Rattle.set_image.specs.Image.{Image, IsProperSet, SelectedKept}
 use Rattle.set_image.proofs.MappedLists.{any_append, any_moved, find_moved, first_map, moved_gone, moved_kept}
 use Rattle.set_image.proofs.Walks.{superclasses_kept, superclasses_moved}
 use Rattle.set_image.proofs.Finding.{FoundKept, declared_moved, members_moved}
+use Rattle.std.proofs.lemmas.Bool.{and_parts}
+use Rattle.std.proofs.Math.Bool.{or-true}
 
 -- ---- tools
 
 library_count : length library ≡ 32
 unfolding library
 library_count = refl
-
-both : (x y : Bool) → (x && y) ≡ true → (x ≡ true) × (y ≡ true)
-both true y h = (refl, h)
-both false y h = absurd cc
-
-or_true : (x : Bool) → (x || true) ≡ true
-or_true true = refl
-or_true false = refl
 
 -- ---- which methods override one
 
@@ -85,7 +79,7 @@ module _ (a : List Class) (m : MemberAt) where
           → MayBeOverridden
       by true same o t e true q h r =
           let is = member_is z m same in (
-            ap (is_instance_method a) (sym is) ∙ (both (is_instance_method a z) _ q).0,
+            ap (is_instance_method a) (sym is) ∙ (and_parts (is_instance_method a z) _ q).0,
             ap (is_private_member a) (sym is) ∙ p.apart c z q,
           )
       by true same o t e false q h r =
@@ -105,7 +99,7 @@ module _ (a : List Class) (m : MemberAt) where
           (cons_option (option_map (λ k. record { class = c; index = k }) o) (declared_by a n cs)) ≡ true
           → (list_any (λ z. same_member z m) (declared_by a n cs) ≡ true → list_any (same_class m.class) cs ≡ true)
           → (same_class m.class c || list_any (same_class m.class) cs) ≡ true
-      by None h r = ap (λ (t : Bool). same_class m.class c || t) (r h) ∙ or_true (same_class m.class c)
+      by None h r = ap (λ (t : Bool). same_class m.class c || t) (r h) ∙ or-true (same_class m.class c)
       by (Some k) h r = one (same_member (record { class = c; index = k }) m) refl h
         where
           one : (s : Bool) → same_member (record { class = c; index = k }) m ≡ s
@@ -116,7 +110,7 @@ module _ (a : List Class) (m : MemberAt) where
               ap (λ (z : MemberAt). z.class) (member_is (record { class = c; index = k }) m e) in
               ap (λ (d : ClassId). same_class m.class d || list_any (same_class m.class) cs) is
               ∙ ap (λ (t : Bool). t || list_any (same_class m.class) cs) (same_itself m.class)
-          one false e h = ap (λ (t : Bool). same_class m.class c || t) (r h) ∙ or_true (same_class m.class c)
+          one false e h = ap (λ (t : Bool). same_class m.class c || t) (r h) ∙ or-true (same_class m.class c)
 
 module _ (a b : List Class) (i : Image a b) where
   abbrev pub AllMembersKept : List MemberAt → Type 0
@@ -234,7 +228,7 @@ module _ (a b : List Class) (i : Image a b) where
                   let among = declared_among a m (named_at a m) cs above in
                   let in_line : list_any (same_class m.class) (superclasses_from a x) ≡ true =
                   ap (list_any (same_class m.class)) line ∙ ap (λ (u : Bool). same_class m.class x || u) among
-                  ∙ or_true (same_class m.class x) in
+                  ∙ or-true (same_class m.class x) in
                   let below =
                   any_append (same_class m.class) (superclasses_from a x) (superinterfaces a x) in_line in
                   let nearest : is_nearest a m z (overriding a m (found cs)) ≡ true =
@@ -400,9 +394,9 @@ module _ (a b : List Class) (i : Image a b) where
               found e,
             )
         by false e found =
-            let both = class_selected x m x-in h class k e in (
-              ap (there x m) (test ∙ e) ∙ both.0 ∙ ap (λ t. option_map i.moved_member (here x m t)) (sym e),
-              subst (λ (t : Bool). FoundKept a b i (here x m t)) (sym e) both.1,
+            let and_parts = class_selected x m x-in h class k e in (
+              ap (there x m) (test ∙ e) ∙ and_parts.0 ∙ ap (λ t. option_map i.moved_member (here x m t)) (sym e),
+              subst (λ (t : Bool). FoundKept a b i (here x m t)) (sym e) and_parts.1,
             )
 
   -- ---- invokespecial (JVMS 6.5.invokespecial)

@@ -1,5 +1,6 @@
 -- A set of files has no more items than bytes, and its classes keep the order of the paths.
-use Rattle.std.proofs.Common.{◌≡◌, ℕ, suc, ◌+◌, ◌<◌, ◌≤◌, Bool, List, [], ◌∷◌, ◌++◌, length, map, get_or, Option, is_lt, nat_cmp}
+use Rattle.std.proofs.Common.{◌≡◌, ℕ, suc, ◌+◌, ◌<◌, ◌≤◌, Bool, List, [], ◌∷◌, ◌++◌, length, map, get_or, Option, is_lt}
+use Rattle.std.proofs.Common.{nat_cmp}
 use Rattle.std.proofs.Common.{refl, sym, ap, subst, ◌∙◌, arith}
 use Rattle.std.specs.Cmp.Lexicographic.{slice_cmp}
 use Rattle.std.specs.Int.{w16, to_be_bytes}
@@ -27,7 +28,8 @@ use Rattle.set_read.specs.Accepted.{AreRead}
 -- ---- items
 
 -- elements that have each a byte
-one_each : {X : Type 0} (f : X → List ℕ) → ((x : X) → 1 ≤ length (f x)) → (xs : List X) → length xs ≤ length (flat_map f xs)
+one_each : {X : Type 0} (f : X → List ℕ) → ((x : X) → 1 ≤ length (f x)) → (xs : List X)
+    → length xs ≤ length (flat_map f xs)
 one_each f each [] = omega arith
 one_each f each (x ∷ xs) = omega (arith, each x, one_each f each xs, length-append (f x) (flat_map f xs))
 
@@ -37,7 +39,8 @@ item_bytes raw =
     let attributes : List ℕ = to_be_bytes w16 (length raw.attributes) ++ flat_map attribute_info raw.attributes in
     let methods : List ℕ = flat_map member_info raw.methods ++ attributes in
     let fields : List ℕ = flat_map member_info raw.fields ++ (to_be_bytes w16 (length raw.methods) ++ methods) in
-    let interfaces : List ℕ = flat_map (to_be_bytes w16) raw.interfaces ++ (to_be_bytes w16 (length raw.fields) ++ fields) in
+    let interfaces : List ℕ = flat_map (to_be_bytes w16) raw.interfaces ++
+    (to_be_bytes w16 (length raw.fields) ++ fields) in
     let counted : List ℕ = to_be_bytes w16 (length raw.interfaces) ++ interfaces in
     let named : List ℕ = to_be_bytes w16 raw.this_class ++ (to_be_bytes w16 raw.super_class ++ counted) in
     let one : (m : MemberInfo) → 1 ≤ length (member_info m) = λ m. omega arith in
@@ -61,7 +64,8 @@ as_long R [] (y ∷ ys) h = absurd h
 as_long R (x ∷ xs) [] h = absurd h
 
 -- there are as many methods as structures, and as many kinds
-pub as_many : (pool : List Entry) (in_interface : Bool) (class : List ℕ) (raws : List MemberInfo) (methods : List Method)
+pub as_many : (pool : List Entry) (in_interface : Bool) (class : List ℕ) (raws : List MemberInfo)
+    (methods : List Method)
     (kinds : List (Option LeftKind)) → AreMethods pool in_interface class raws methods kinds
     → (length raws ≡ length methods) × (length raws ≡ length kinds)
 as_many pool in_interface class [] [] [] h = (refl, refl)
@@ -79,7 +83,8 @@ spelled_items bytes c h =
     let raw = h.0 in
     let class = h.3 in
     let fields = as_long (IsField h.2 (is_interface raw.access_flags)) raw.fields c.fields class.fields in
-    let methods = as_many h.2 (is_interface raw.access_flags) c.name raw.methods c.methods class.left_out_kinds class.methods in
+    let methods = as_many h.2
+    (is_interface raw.access_flags) c.name raw.methods c.methods class.left_out_kinds class.methods in
     let whole : length bytes ≡ length (class_file raw) = ap length h.1 in
     omega (arith, fields, methods.0, whole, item_bytes raw)
 
@@ -89,7 +94,8 @@ read_items [] [] h = omega arith
 read_items (f ∷ files) (n ∷ named) h =
     let bytes : FileAt → ℕ = λ g. length g.bytes in
     let classes = classes_of named in
-    let items : item_count (n.class ∷ classes) ≡ items_of n.class + item_count classes = sum_by-cons items_of n.class classes in
+    let items : item_count (n.class ∷ classes)
+    ≡ items_of n.class + item_count classes = sum_by-cons items_of n.class classes in
     let all : sum_by bytes (f ∷ files) ≡ length f.bytes + sum_by bytes files = sum_by-cons bytes f files in
     let one : items_of n.class ≤ length f.bytes = spelled_items f.bytes n.class h.0.1 in
     let others : item_count classes ≤ sum_by bytes files = read_items files named h.1 in
@@ -116,9 +122,11 @@ pub ascending_kept : (files : List FileAt) (named : List NamedClass) → AreRead
     → IsAscending (map (λ (f : FileAt). f.path) files) → Ascends named
 ascending_kept files named read ascending i j d low high =
     let path : NamedClass → List ℕ = λ n. n.path in
-    let sorted : IsStrictlySortedBy (slice_cmp nat_cmp) (map path named) = subst IsAscending (same_paths files named read) ascending in
+    let sorted : IsStrictlySortedBy (slice_cmp nat_cmp) (map path named) = subst IsAscending
+    (same_paths files named read) ascending in
     let within : j < length (map path named) = omega (arith, high, length-map named path) in
-    let first : get_or (map path named) i d.path ≡ (get_or named i d).path = get_or-map path named i d d.path (omega (arith, low, high)) in
+    let first : get_or (map path named) i d.path
+    ≡ (get_or named i d).path = get_or-map path named i d d.path (omega (arith, low, high)) in
     let second : get_or (map path named) j d.path ≡ (get_or named j d).path = get_or-map path named j d d.path high in
     let less = Less-from_sorted (slice_cmp nat_cmp) (map path named) i j d.path sorted low within in
     ap is_lt ((λ k. slice_cmp nat_cmp (sym first k) (sym second k)) ∙ less)

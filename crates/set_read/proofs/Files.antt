@@ -1,5 +1,6 @@
 -- Files that are read one after the other.
-use Rattle.std.proofs.Common.{append_assoc, ◌≡◌, ℕ, ◌+◌, ◌<◌, List, [], ◌∷◌, ◌++◌, length, Err, refl, sym, subst, ap, ◌∙◌, arith}
+use Rattle.std.proofs.Common.{append_assoc, ◌≡◌, ℕ, ◌+◌, ◌<◌, List, [], ◌∷◌, ◌++◌, length, Err, refl, sym, subst, ap}
+use Rattle.std.proofs.Common.{◌∙◌, arith}
 use Rattle.std.specs.List.{AllByRecursion, AllZip, sum_by}
 use Rattle.std.proofs.lemmas.List.{append-nil}
 use Rattle.std.proofs.lemmas.List.Sums.{sum_by-append, sum_by-cons}
@@ -20,7 +21,8 @@ pub record ReadSoFar (files rest : List FileAt) (named : List NamedClass) : Type
   pub split : files ≡ before ++ rest
   pub read : AreRead before named
 
-zip_push : {A B : Type 0} (R : A → B → Type 0) (xs : List A) (ys : List B) (x : A) (y : B) → AllZip R xs ys → R x y → AllZip R (xs ++ x ∷ []) (ys ++ y ∷ [])
+zip_push : {A B : Type 0} (R : A → B → Type 0) (xs : List A) (ys : List B) (x : A) (y : B) → AllZip R xs ys → R x y
+    → AllZip R (xs ++ x ∷ []) (ys ++ y ∷ [])
 zip_push R [] [] x y h r = (r, tt)
 zip_push R [] (b ∷ ys) x y h r = absurd h
 zip_push R (a ∷ xs) [] x y h r = absurd h
@@ -50,7 +52,8 @@ ends files named so = subst (λ (fs : List FileAt). AreRead fs named) (sym (so.s
 
 -- the next one is no class file
 stops : (files rest : List FileAt) (named : List NamedClass) (file : FileAt) (path : List ℕ) (fault : FormatFault)
-    → ReadSoFar files (file ∷ rest) named → class_read file.bytes ≡ Err fault → path ≡ file.path → IsUnread files path fault
+    → ReadSoFar files (file ∷ rest) named → class_read file.bytes ≡ Err fault → path ≡ file.path
+    → IsUnread files path fault
 stops files rest named file path fault so unread at = record {
   before = so.before;
   file = file;
@@ -69,10 +72,12 @@ stops_at files rest named file or.OutOfMemory so h = tt
 
 -- the next one is no longer than all
 pub is_short : (files rest : List FileAt) (named : List NamedClass) (file : FileAt) (limit : ℕ)
-    → ReadSoFar files (file ∷ rest) named → sum_by (λ (f : FileAt). length f.bytes) files < limit → length file.bytes < limit
+    → ReadSoFar files (file ∷ rest) named → sum_by (λ (f : FileAt). length f.bytes) files < limit
+    → length file.bytes < limit
 is_short files rest named file limit so short =
     let bytes : FileAt → ℕ = λ f. length f.bytes in
     let whole : sum_by bytes files ≡ sum_by bytes (so.before ++ file ∷ rest) = ap (sum_by bytes) so.split in
-    let parts : sum_by bytes (so.before ++ file ∷ rest) ≡ sum_by bytes so.before + sum_by bytes (file ∷ rest) = sum_by-append bytes so.before (file ∷ rest) in
+    let parts : sum_by bytes (so.before ++ file ∷ rest)
+    ≡ sum_by bytes so.before + sum_by bytes (file ∷ rest) = sum_by-append bytes so.before (file ∷ rest) in
     let last : sum_by bytes (file ∷ rest) ≡ bytes file + sum_by bytes rest = sum_by-cons bytes file rest in
     omega (arith, short, whole, parts, last)

@@ -18,7 +18,8 @@ use Rattle.class_read.proofs.ClassLaw.{class_read-only, one_class}
 use Rattle.link_check.specs.Profile.{links_checked}
 use Rattle.link_check.specs.declared.fault.ProfileFault.{ProfileFault}
 use Rattle.report_text.specs.Spelled.{class_text, member_texts}
-use Rattle.set_read.specs.Accepted.{AreRead, BreaksRule, IsClassFile, IsUnread, NamesMember, NamesPlace, Spells, named_pool_fault}
+use Rattle.set_read.specs.Accepted.{AreRead, BreaksRule, IsClassFile, IsUnread, NamesMember, NamesPlace, Spells}
+use Rattle.set_read.specs.Accepted.{named_pool_fault}
 use Rattle.set_read.specs.OneSet.{IsOneFault, IsOneSet, NotBoth}
 use Rattle.set_read.specs.declared.fault.RuleFault.{RuleFault}
 use Rattle.set_read.specs.declared.fault.SetFault.{SetFault}
@@ -32,7 +33,7 @@ same_fault r x y h k = cc
 no_fault : {V X : Type 0} (r : Result V X) (v : V) (x : X) → r ≡ Ok v → r ≡ Err x → ⊥
 no_fault r v x h k = absurd cc
 
-same_some : {X : Type 0} (o : Option X) (x y : X) → o ≡ Some x → o ≡ Some y → x ≡ y
+pub same_some : {X : Type 0} (o : Option X) (x y : X) → o ≡ Some x → o ≡ Some y → x ≡ y
 same_some o x y h k = cc
 
 -- ---- the classes of files
@@ -44,9 +45,11 @@ same_class f one other h k =
     λ i. record { path = path i; class = class i }
 
 -- files spell one list of classes at most
-same_classes : (files : List FileAt) (one other : List NamedClass) → AreRead files one → AreRead files other → one ≡ other
+same_classes : (files : List FileAt) (one other : List NamedClass) → AreRead files one → AreRead files other
+    → one ≡ other
 same_classes [] [] [] h k = refl
-same_classes (f ∷ files) (n ∷ one) (m ∷ other) h k = λ i. same_class f n m h.0 k.0 i ∷ same_classes files one other h.1 k.1 i
+same_classes (f ∷ files) (n ∷ one)
+    (m ∷ other) h k = λ i. same_class f n m h.0 k.0 i ∷ same_classes files one other h.1 k.1 i
 same_classes [] (n ∷ one) other h k = absurd h
 same_classes [] [] (m ∷ other) h k = absurd k
 same_classes (f ∷ files) [] other h k = absurd h
@@ -66,7 +69,8 @@ tails x y xs ys h = cc
 
 -- the first element that isn't of a kind is one
 first_one : {X : Type 0} (P : X → Type 0) (before : List X) (x : X) (after others : List X) (y : X) (rest : List X)
-    → before ++ x ∷ after ≡ others ++ y ∷ rest → AllByRecursion P before → AllByRecursion P others → (P x → ⊥) → (P y → ⊥) → x ≡ y
+    → before ++ x ∷ after ≡ others ++ y ∷ rest → AllByRecursion P before → AllByRecursion P others → (P x → ⊥)
+    → (P y → ⊥) → x ≡ y
 first_one P [] x after [] y rest e h k no_x no_y = heads x y after rest e
 first_one P (b ∷ before) x after [] y rest e h k no_x no_y = absurd (no_y (subst P (heads b y _ rest e) h.0))
 first_one P [] x after (o ∷ others) y rest e h k no_x no_y = absurd (no_x (subst P (sym (heads x o after _ e)) k.0))
@@ -86,11 +90,13 @@ same_unread files path other fault second h k =
     let file = same_file files path other fault second h k in
     let paths : path ≡ other = h.named ∙ (ap (λ (f : FileAt). f.path) file ∙ sym k.named) in
     let faults : fault ≡ second =
-    same_fault (class_read k.file.bytes) fault second (ap (λ (f : FileAt). class_read f.bytes) (sym file) ∙ h.unread) k.unread in
+    same_fault (class_read k.file.bytes) fault second
+    (ap (λ (f : FileAt). class_read f.bytes) (sym file) ∙ h.unread) k.unread in
     λ i. Format (paths i) (faults i)
 
 -- files of which each spells a class
-one_spelled : (before : List FileAt) (f : FileAt) (after : List FileAt) (named : List NamedClass) → AreRead (before ++ f ∷ after) named
+one_spelled : (before : List FileAt) (f : FileAt) (after : List FileAt) (named : List NamedClass)
+    → AreRead (before ++ f ∷ after) named
     → IsClassFile f
 one_spelled [] f after (n ∷ named) h = (n.class, h.0.1)
 one_spelled (b ∷ before) f after (n ∷ named) h = one_spelled before f after named h.1
@@ -108,10 +114,12 @@ not_unread files named path fault read h =
 abbrev fault_of_cycle : Class → PoolFault
 fault_of_cycle c = record { class = c.name; kind = Cycle }
 
-same_cycle : (classes : List Class) (fault other : PoolFault) → IsFirstCycle classes fault → IsFirstCycle classes other → fault ≡ other
+same_cycle : (classes : List Class) (fault other : PoolFault) → IsFirstCycle classes fault → IsFirstCycle classes other
+    → fault ≡ other
 same_cycle classes fault other (n, c, at, is, cyclic, least) (m, d, there, named, again, first) =
     let number : n ≡ m = ⊎_elim (λ (low : n < m). absurd (first n low cyclic))
-    (λ high. ⊎_elim (λ (low : m < n). absurd (least m low again)) (λ also. omega (arith, high, also)) (cases_lt m n)) (cases_lt n m) in
+    (λ high. ⊎_elim (λ (low : m < n). absurd (least m low again)) (λ also. omega (arith, high, also)) (cases_lt m n))
+    (cases_lt n m) in
     let class : c ≡ d = same_some (slice_get classes m) c d (ap (slice_get classes) (sym number) ∙ at) there in
     is ∙ (ap fault_of_cycle class ∙ sym named)
 
@@ -131,7 +139,8 @@ same_pool_fault named fault other (inr e) (inr d) = same_cycle (classes_of named
 
 -- ---- the rules for the classes of a set
 
-same_member : (c : Class) (number : Option ℕ) (one other : Option (List ℕ)) → NamesMember c number one → NamesMember c number other
+same_member : (c : Class) (number : Option ℕ) (one other : Option (List ℕ)) → NamesMember c number one
+    → NamesMember c number other
     → one ≡ other
 same_member c None None None h k = refl
 same_member c (Some n) (Some one) (Some other) h k = ap Some (same_some (slice_get (member_texts c) n) one other h k)
@@ -152,8 +161,10 @@ same_place classes fault one other h k =
     λ i. record { class = name i; member = member i; kind = kind i }
 
 -- the classes break one rule first
-same_rule : (named : List NamedClass) (one other : RuleFault) → BreaksRule named one → BreaksRule named other → one ≡ other
-same_rule named one other (inl h) (inl k) = h.2 ∙ (ap named_pool_fault (same_pool_fault named h.0 k.0 h.1 k.1) ∙ sym k.2)
+same_rule : (named : List NamedClass) (one other : RuleFault) → BreaksRule named one → BreaksRule named other
+    → one ≡ other
+same_rule named one other (inl h) (inl k) = h.2
+    ∙ (ap named_pool_fault (same_pool_fault named h.0 k.0 h.1 k.1) ∙ sym k.2)
 same_rule named one other (inl h) (inr k) = absurd (no_pool_fault named h.0 k.1.0 k.1.1 h.1)
 same_rule named one other (inr h) (inl k) = absurd (no_pool_fault named k.0 h.1.0 h.1.1 k.1)
 same_rule named one other (inr h) (inr k) =
@@ -183,5 +194,6 @@ pub not_both : NotBoth
 not_both files classes (Format path fault) h k = not_unread files h.named path fault h.read k
 not_both files classes (Rule told) h k =
     let named : k.0 ≡ h.named = same_classes files k.0 h.named k.1 h.read in
-    rule_broken h.named told h.first (subst NoCycle h.are h.acyclic) (subst (λ (cs : List Class). links_checked cs ≡ Ok tt) h.are h.linked)
+    rule_broken h.named told h.first (subst NoCycle h.are h.acyclic)
+    (subst (λ (cs : List Class). links_checked cs ≡ Ok tt) h.are h.linked)
     (subst (λ (n : List NamedClass). BreaksRule n told) named k.2)

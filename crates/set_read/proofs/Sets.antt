@@ -16,7 +16,8 @@ use Rattle.set_read.specs.declared.fault.SetFault.TheVariants.{Format, Rule}
 use Rattle.set_read.proofs.Writable.{accepted_are_writable}
 
 -- the set of the classes of files is the set of the files
-pub judged : (files : List FileAt) (named : List NamedClass) (result : Result (List Class) (Or SetFault)) → AreRead files named → Judges result named → Reads result files
+pub judged : (files : List FileAt) (named : List NamedClass) (result : Result (List Class) (Or SetFault))
+    → AreRead files named → Judges result named → Reads result files
 judged files named (Ok classes) read judges = record {
   named = named;
   read = read;
@@ -29,6 +30,7 @@ judged files named (Err (or.Fault (Format path fault))) read judges = absurd jud
 judged files named (Err (or.Fault (Rule told))) read judges = (named, read, judges)
 judged files named (Err or.OutOfMemory) read judges = tt
 
-pub writable : (files : List FileAt) (result : Result (List Class) (Or SetFault)) → Reads result files → IfOk result (AllByRecursion IsWritable)
+pub writable : (files : List FileAt) (result : Result (List Class) (Or SetFault)) → Reads result files
+    → IfOk result (AllByRecursion IsWritable)
 writable files (Ok classes) h = accepted_are_writable files classes h
 writable files (Err why) h = tt

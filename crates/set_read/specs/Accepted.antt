@@ -50,7 +50,8 @@ pub record IsUnread (files : List FileAt) (path : List ℕ) (fault : FormatFault
 
 -- ---- sets
 
--- the classes of the files: together they are a set (JVMS 4.1, 5.3.5), and it breaks no rule (JVMS 4.10, 5.4.3 to 5.4.5)
+-- the classes of the files: together they are a set (JVMS 4.1, 5.3.5), and it breaks no rule (JVMS 4.10, 5.4.3 to
+-- 5.4.5)
 pub record IsAccepted (files : List FileAt) (classes : List Class) : Type 0 where
   pub named : List NamedClass
   pub read : AreRead files named
@@ -88,7 +89,8 @@ pub record NamesPlace (classes : List Class) (fault : ProfileFault) (told : Rule
 abbrev pub BreaksRule : List NamedClass → RuleFault → Type 0
 BreaksRule named told =
     ((fault : PoolFault) × Builds (Err (or.Fault fault)) named × (told ≡ named_pool_fault fault))
-    ⊎ ((fault : ProfileFault) × Builds (Ok (classes_of named)) named × (links_checked (classes_of named) ≡ Err fault) × NamesPlace (classes_of named) fault told)
+    ⊎ ((fault : ProfileFault) × Builds (Ok (classes_of named)) named × (links_checked (classes_of named) ≡ Err fault)
+    × NamesPlace (classes_of named) fault told)
 
 -- why files aren't taken
 abbrev pub IsFault : List FileAt → SetFault → Type 0

@@ -8,7 +8,8 @@ use Rattle.set_read.specs.declared.fault.SetFault.{SetFault}
 
 -- two sets that the same files are taken as are the same
 abbrev pub IsOneSet : Type 0
-IsOneSet = (files : List FileAt) (classes other : List Class) → IsAccepted files classes → IsAccepted files other → classes ≡ other
+IsOneSet = (files : List FileAt) (classes other : List Class) → IsAccepted files classes → IsAccepted files other
+    → classes ≡ other
 
 -- two faults of the same files are the same
 abbrev pub IsOneFault : Type 0
@@ -16,4 +17,5 @@ IsOneFault = (files : List FileAt) (fault other : SetFault) → IsFault files fa
 
 -- files that are taken as a set have no fault
 abbrev pub NotBoth : Type 0
-NotBoth = (files : List FileAt) (classes : List Class) (fault : SetFault) → IsAccepted files classes → IsFault files fault → ⊥
+NotBoth = (files : List FileAt) (classes : List Class) (fault : SetFault) → IsAccepted files classes
+    → IsFault files fault → ⊥

@@ -18,7 +18,8 @@ use link_check::check_links;
 use std::alloc::Global;
 use tree_io::FileAt;
 
-/// The set of classes that files spell, where they are class files and the set is taken (JVMS 4, 5.3.5, 5.4.3 to 5.4.5):
+/// The set of classes that files spell, where they are class files and the set is taken (JVMS 4, 5.3.5, 5.4.3 to
+/// 5.4.5):
 /// names follow paths, supertypes are there and of their kinds, nothing is left out, and references and overriding are
 /// as they have to be. The paths of the files ascend, and the files have together fewer than 2^32 - 1 bytes. Each class
 /// can be written.

@@ -11,7 +11,8 @@ use Rattle.member_shrink.specs.Shrunk.{is_marked, chosen, with_marked_members, s
 
 -- ---- members
 
-one_chosen : {A : Type 0} (marked : Bool) (x : ℕ × A) (rest : List (ℕ × A)) (bound : ℕ) → length (map (λ (e : ℕ × A). e.1) rest) ≤ bound
+one_chosen : {A : Type 0} (marked : Bool) (x : ℕ × A) (rest : List (ℕ × A)) (bound : ℕ)
+    → length (map (λ (e : ℕ × A). e.1) rest) ≤ bound
     → length (map (λ (e : ℕ × A). e.1) (cond marked (x ∷ rest) rest)) ≤ 1 + bound
 one_chosen true x rest bound h = omega (arith, h)
 one_chosen false x rest bound h = omega (arith, h)
@@ -31,13 +32,16 @@ members_few marks item c =
 
 -- ---- classes
 
-module _ (passes : ℕ × Class → Bool) (f : ℕ × Class → Class) (each : (e : ℕ × Class) → items_of (f e) ≤ items_of e.1) where
+module _ (passes : ℕ × Class → Bool) (f : ℕ × Class → Class)
+    (each : (e : ℕ × Class) → items_of (f e) ≤ items_of e.1) where
   one_picked : (passed : Bool) (e : ℕ × Class) (rest : List (ℕ × Class)) (bound : ℕ) → item_count (map f rest) ≤ bound
       → item_count (map f (cond passed (e ∷ rest) rest)) ≤ items_of e.1 + bound
-  one_picked true e rest bound h = let sum = sum_by-cons items_of (f e) (map f rest) in let few = each e in omega (arith, sum, few, h)
+  one_picked true e rest bound h = let sum = sum_by-cons items_of (f e) (map f rest) in let few = each e in omega
+      (arith, sum, few, h)
   one_picked false e rest bound h = omega (arith, h)
 
-  picked_few : (first : ℕ) (xs : List Class) → item_count (map f (filter passes (enumerate_from first xs))) ≤ item_count xs
+  picked_few : (first : ℕ) (xs : List Class)
+      → item_count (map f (filter passes (enumerate_from first xs))) ≤ item_count xs
   picked_few first [] = omega arith
   picked_few first (x ∷ xs) =
       let rest = filter passes (enumerate_from (first + 1) xs) in
@@ -67,5 +71,7 @@ same_count (c ∷ classes) =
     let rest = same_count classes in
     omega (arith, before, after, this, rest)
 
-pub kept_few : (classes : List Class) (marks : List Bool) → item_count (map without_optional (shrunk classes marks)) ≤ item_count classes
-kept_few classes marks = let same = same_count (shrunk classes marks) in let few = shrunk_few classes marks in omega (arith, same, few)
+pub kept_few : (classes : List Class) (marks : List Bool)
+    → item_count (map without_optional (shrunk classes marks)) ≤ item_count classes
+kept_few classes marks = let same = same_count (shrunk classes marks) in let few = shrunk_few classes marks in omega
+    (arith, same, few)

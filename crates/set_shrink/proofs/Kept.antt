@@ -7,7 +7,8 @@ use Rattle.member_shrink.specs.Attributes.{without_optional}
 use Rattle.member_shrink.specs.Shrunk.{shrunk}
 use Rattle.set_shrink.proofs.Writable.{shrunk_writable, without_optional_writable}
 
-all_writable : (classes : List Class) → AllByRecursion IsWritable classes → AllByRecursion IsWritable (map without_optional classes)
+all_writable : (classes : List Class) → AllByRecursion IsWritable classes
+    → AllByRecursion IsWritable (map without_optional classes)
 all_writable [] h = tt
 all_writable (c ∷ classes) h = (without_optional_writable c h.0, all_writable classes h.1)
 

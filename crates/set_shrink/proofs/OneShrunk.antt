@@ -32,7 +32,8 @@ marked_in sys one other x h k has = h.least x has (set_of other) k.closed
 same_marks : (sys : System) (one other : List Bool) → Marks sys one → Marks sys other → one ≡ other
 same_marks sys one other h k =
     ext_get_or false one other (h.count ∙ sym k.count)
-    (λ x low. same_truth (set_of one x) (set_of other x) (marked_in sys one other x h k) (marked_in sys other one x k h))
+    (λ x low. same_truth (set_of one x) (set_of other x) (marked_in sys one other x h k)
+    (marked_in sys other one x k h))
 
 same_kept : (classes : List Class) (asked : List AskedMethod) (one other : List Class) → IsKept classes asked one
     → IsKept classes asked other → one ≡ other
@@ -42,10 +43,12 @@ same_kept classes asked one other h k =
 
 -- ---- files
 
-same_bytes : (written : Result (List ℕ) WriteLimit) (one other : List ℕ) → written ≡ Ok one → written ≡ Ok other → one ≡ other
+same_bytes : (written : Result (List ℕ) WriteLimit) (one other : List ℕ) → written ≡ Ok one → written ≡ Ok other
+    → one ≡ other
 same_bytes written one other h k = cc
 
-same_file : (directory : List ℕ) (c : Class) (one other : FileAt) → IsFileOf directory c one → IsFileOf directory c other → one ≡ other
+same_file : (directory : List ℕ) (c : Class) (one other : FileAt) → IsFileOf directory c one
+    → IsFileOf directory c other → one ≡ other
 same_file directory c one other h k =
     let path : one.path ≡ other.path = h.0 ∙ sym k.0 in
     let bytes : one.bytes ≡ other.bytes = same_bytes (class_written c) one.bytes other.bytes h.1 k.1 in
@@ -86,7 +89,8 @@ none_passed : (directory : List ℕ) (classes : List Class) (files : List FileAt
     → first_limit classes ≡ None
 none_passed directory [] [] h = refl
 none_passed directory (c ∷ classes) (f ∷ files) h =
-    ap (λ (r : Result (List ℕ) WriteLimit). or_later r (first_limit classes)) h.0.1 ∙ none_passed directory classes files h.1
+    ap (λ (r : Result (List ℕ) WriteLimit). or_later r (first_limit classes)) h.0.1
+    ∙ none_passed directory classes files h.1
 none_passed directory [] (f ∷ files) h = absurd h
 none_passed directory (c ∷ classes) [] h = absurd h
 
@@ -111,9 +115,11 @@ one_shrunk classes asked directory one other h k =
 pub one_limit : IsOneLimit
 one_limit classes asked limit other h k =
     let kept : k.0 ≡ h.0 = same_kept classes asked k.0 h.0 k.1 h.1 in
-    same_some (first_limit h.0) limit other (limit_passed h.0 limit h.2) (ap first_limit (sym kept) ∙ limit_passed k.0 other k.2)
+    same_some (first_limit h.0) limit other (limit_passed h.0 limit h.2)
+    (ap first_limit (sym kept) ∙ limit_passed k.0 other k.2)
 
 pub not_both_shrunk : NotBothShrunk
 not_both_shrunk classes asked directory set limit h k =
     let kept : h.kept ≡ k.0 = same_kept classes asked h.kept k.0 h.are_kept k.1 in
-    not_some (first_limit h.kept) limit (none_passed directory h.kept set.files h.files) (ap first_limit kept ∙ limit_passed k.0 limit k.2)
+    not_some (first_limit h.kept) limit (none_passed directory h.kept set.files h.files)
+    (ap first_limit kept ∙ limit_passed k.0 limit k.2)

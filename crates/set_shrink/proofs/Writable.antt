@@ -1,5 +1,6 @@
 -- What is left of classes that can be written can be written too.
-use Rattle.std.proofs.Common.{◌≡◌, ℕ, ◌+◌, ◌<◌, Bool, List, [], ◌∷◌, length, map, Option, Some, None, refl, sym, ap, subst, ◌∙◌}
+use Rattle.std.proofs.Common.{◌≡◌, ℕ, ◌+◌, ◌<◌, Bool, List, [], ◌∷◌, length, map, Option, Some, None, refl, sym, ap}
+use Rattle.std.proofs.Common.{subst, ◌∙◌}
 use Rattle.std.specs.Option.{IfSome, is_some, option_map}
 use Rattle.std.specs.List.{AllByRecursion, AllPairs, slice_get}
 use Rattle.std.proofs.lemmas.List.{length-map}
@@ -16,7 +17,8 @@ use Rattle.class_model.specs.declared.class.Method.{Method}
 use Rattle.class_model.specs.declared.class.Class.{Class}
 use Rattle.class_model.specs.Flags.{is_interface}
 use Rattle.class_model.specs.Members.{FieldsDiffer, MethodsDiffer}
-use Rattle.class_model.specs.WellFormed.{IsGoodOp, IsGoodHandler, IsGoodType, IsGoodFrame, IsGoodCode, IsGoodField, IsGoodMethod, LinesGoOn, HasFewWords}
+use Rattle.class_model.specs.WellFormed.{IsGoodOp, IsGoodHandler, IsGoodType, IsGoodFrame, IsGoodCode, IsGoodField}
+use Rattle.class_model.specs.WellFormed.{IsGoodMethod, LinesGoOn, HasFewWords}
 use Rattle.class_write.specs.ClassValues.{IsInsValue, IsCodeValue, IsFieldValue, IsMethodValue}
 use Rattle.class_write.specs.SpellingLaws.{IsWritable}
 use Rattle.class_pool.specs.Items.{class_item}
@@ -34,13 +36,17 @@ MethodCounts m = IfSome m.code CodeCounts
 
 -- ---- some members
 
-all_chosen : {A : Type 0} (P : A → Type 0) (marks : List Bool) (first : ℕ) (xs : List A) → AllByRecursion P xs → AllByRecursion P (chosen marks first xs)
-all_chosen {A} P marks first xs h = all_picked P P (λ (e : ℕ × A). is_marked marks e.0) (λ (e : ℕ × A). e.1) (λ e p. p) first xs h
+all_chosen : {A : Type 0} (P : A → Type 0) (marks : List Bool) (first : ℕ) (xs : List A) → AllByRecursion P xs
+    → AllByRecursion P (chosen marks first xs)
+all_chosen {A} P marks first xs h = all_picked P P (λ (e : ℕ × A). is_marked marks e.0) (λ (e : ℕ × A). e.1)
+    (λ e p. p) first xs h
 
-pairs_chosen : {A : Type 0} (R : A → A → Type 0) (marks : List Bool) (first : ℕ) (xs : List A) → AllPairs R xs → AllPairs R (chosen marks first xs)
+pairs_chosen : {A : Type 0} (R : A → A → Type 0) (marks : List Bool) (first : ℕ) (xs : List A) → AllPairs R xs
+    → AllPairs R (chosen marks first xs)
 pairs_chosen {A} R marks first xs h = pairs_picked R (λ (e : ℕ × A). is_marked marks e.0) first xs h
 
-members_writable : (marks : List Bool) (item : ℕ) (c : Class) → IsWritable c → IsWritable (with_marked_members marks item c)
+members_writable : (marks : List Bool) (item : ℕ) (c : Class) → IsWritable c
+    → IsWritable (with_marked_members marks item c)
 members_writable marks item c w =
     let formed = w.well_formed in
     let field = item + 1 in
@@ -79,16 +85,24 @@ shrunk_writable classes marks h =
 same_count : (code : Code) → length code.ins ≡ length (map without_line code.ins)
 same_count code = sym (length-map code.ins without_line)
 
-new_stays : (k : ℕ) (code : Code) → ((at : Ins) × (name : List ℕ) × (slice_get code.ins k ≡ Some at) × (at.op ≡ op.New name))
+new_stays : (k : ℕ) (code : Code)
+    → ((at : Ins) × (name : List ℕ) × (slice_get code.ins k ≡ Some at) × (at.op ≡ op.New name))
     → (at : Ins) × (name : List ℕ) × (slice_get (map without_line code.ins) k ≡ Some at) × (at.op ≡ op.New name)
-new_stays k code h = (without_line h.0, h.1, slice_get-map without_line code.ins k ∙ ap (option_map without_line) h.2, h.3)
+new_stays k code h = (
+  without_line h.0,
+  h.1,
+  slice_get-map without_line code.ins k
+      ∙ ap (option_map without_line) h.2,
+  h.3,
+)
 
 type_stays : (code : Code) (t : VType) → IsGoodType code.ins t → IsGoodType (map without_line code.ins) t
 type_stays code (vtype.Object ty) h = h
 type_stays code (vtype.Uninit k) h = new_stays k code h
 type_stays code _ h = tt
 
-types_stay : (code : Code) (ts : List VType) → AllByRecursion (IsGoodType code.ins) ts → AllByRecursion (IsGoodType (map without_line code.ins)) ts
+types_stay : (code : Code) (ts : List VType) → AllByRecursion (IsGoodType code.ins) ts
+    → AllByRecursion (IsGoodType (map without_line code.ins)) ts
 types_stay code [] h = tt
 types_stay code (t ∷ ts) h = (type_stays code t h.0, types_stay code ts h.1)
 
@@ -102,7 +116,8 @@ frame_stays code f g = record {
   stack_fits = g.stack_fits;
 }
 
-frames_stay : (code : Code) (fs : List FrameAt) → AllByRecursion (IsGoodFrame code) fs → AllByRecursion (IsGoodFrame (without_lines code)) fs
+frames_stay : (code : Code) (fs : List FrameAt) → AllByRecursion (IsGoodFrame code) fs
+    → AllByRecursion (IsGoodFrame (without_lines code)) fs
 frames_stay code [] h = tt
 frames_stay code (f ∷ fs) h = (frame_stays code f h.0, frames_stay code fs h.1)
 
@@ -114,7 +129,8 @@ code_good : (code : Code) → IsGoodCode code → IsGoodCode (without_lines code
 code_good code g = record {
   some = subst (λ (n : ℕ). 0 < n) (same_count code) g.some;
   instructions =
-      all_mapped (λ (i : Ins). IsGoodOp (length code.ins) i.op) (λ (i : Ins). IsGoodOp (length (map without_line code.ins)) i.op) without_line
+      all_mapped (λ (i : Ins). IsGoodOp (length code.ins) i.op)
+      (λ (i : Ins). IsGoodOp (length (map without_line code.ins)) i.op) without_line
       (λ i h. subst (λ (n : ℕ). IsGoodOp n i.op) (same_count code) h) code.ins g.instructions;
   lines = pairs_mapped LinesGoOn without_line code.ins (no_lines code.ins);
   handlers = subst (λ (n : ℕ). AllByRecursion (IsGoodHandler n) code.handlers) (same_count code) g.handlers;
@@ -126,23 +142,27 @@ code_value : (code : Code) → IsCodeValue code → IsCodeValue (without_lines c
 code_value code v = record {
   max_stack = v.max_stack;
   max_locals = v.max_locals;
-  ins = all_mapped IsInsValue IsInsValue without_line (λ i h. record { op = h.op; pushed = h.pushed; line = tt }) code.ins v.ins;
+  ins = all_mapped IsInsValue IsInsValue without_line
+      (λ i h. record { op = h.op; pushed = h.pushed; line = tt }) code.ins v.ins;
   frames = v.frames;
 }
 
 code_counts : (code : Code) → CodeCounts code → CodeCounts (without_lines code)
-code_counts code h = all_mapped (λ (i : Ins). HasFewWords i.op) (λ (i : Ins). HasFewWords i.op) without_line (λ i few. few) code.ins h
+code_counts code h = all_mapped (λ (i : Ins). HasFewWords i.op) (λ (i : Ins). HasFewWords i.op) without_line
+    (λ i few. few) code.ins h
 
 -- ---- no optional attributes
 
-field_good : (in_interface : Bool) (field : Field) → IsGoodField in_interface field → IsGoodField in_interface (field_without_optional field)
+field_good : (in_interface : Bool) (field : Field) → IsGoodField in_interface field
+    → IsGoodField in_interface (field_without_optional field)
 field_good in_interface field g = record { meant = g.meant; flags = g.flags; name = g.name; typed = g.typed; constant = g.constant }
 
 body_stays : (o : Option Code) → is_some (option_map without_lines o) ≡ is_some o
 body_stays None = refl
 body_stays (Some code) = refl
 
-method_good : (in_interface : Bool) (m : Method) → IsGoodMethod in_interface m → IsGoodMethod in_interface (method_without_optional m)
+method_good : (in_interface : Bool) (m : Method) → IsGoodMethod in_interface m
+    → IsGoodMethod in_interface (method_without_optional m)
 method_good in_interface m g = record {
   meant = g.meant;
   flags = g.flags;
@@ -173,19 +193,23 @@ without_optional_writable c w =
         super_name = formed.super_name;
         interfaces = formed.interfaces;
         fields =
-            all_mapped (IsGoodField (is_interface c.flags.0)) (IsGoodField (is_interface c.flags.0)) field_without_optional
+            all_mapped (IsGoodField (is_interface c.flags.0))
+            (IsGoodField (is_interface c.flags.0)) field_without_optional
             (field_good (is_interface c.flags.0)) c.fields formed.fields;
         fields_differ = pairs_mapped FieldsDiffer field_without_optional c.fields formed.fields_differ;
         methods =
-            all_mapped (IsGoodMethod (is_interface c.flags.0)) (IsGoodMethod (is_interface c.flags.0)) method_without_optional
+            all_mapped (IsGoodMethod (is_interface c.flags.0))
+            (IsGoodMethod (is_interface c.flags.0)) method_without_optional
             (method_good (is_interface c.flags.0)) c.methods formed.methods;
         methods_differ = pairs_mapped MethodsDiffer method_without_optional c.methods formed.methods_differ;
         source = tt;
       };
       counts =
-          all_mapped MethodCounts MethodCounts method_without_optional (λ m h. some_mapped CodeCounts CodeCounts without_lines code_counts m.code h) c.methods w.counts;
+          all_mapped MethodCounts MethodCounts method_without_optional
+          (λ m h. some_mapped CodeCounts CodeCounts without_lines code_counts m.code h) c.methods w.counts;
       value = record {
-        fields = all_mapped IsFieldValue IsFieldValue field_without_optional (λ field v. record { ty = v.ty; constant = v.constant }) c.fields w.value.fields;
+        fields = all_mapped IsFieldValue IsFieldValue field_without_optional
+            (λ field v. record { ty = v.ty; constant = v.constant }) c.fields w.value.fields;
         methods = all_mapped IsMethodValue IsMethodValue method_without_optional method_value c.methods w.value.methods;
       };
     }

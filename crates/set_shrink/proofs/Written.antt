@@ -13,24 +13,29 @@ use Rattle.set_shrink.specs.ShrunkSet.{AreFilesOf, IsFileOf, Fits, PassLimit}
 use Rattle.set_shrink.specs.Steps.{Writes, WritesOne}
 
 -- a class that has a file fits
-files_fit : (directory : List ℕ) (classes : List Class) (files : List FileAt) → AreFilesOf directory classes files → AllByRecursion Fits classes
+files_fit : (directory : List ℕ) (classes : List Class) (files : List FileAt) → AreFilesOf directory classes files
+    → AllByRecursion Fits classes
 files_fit directory [] files h = tt
 files_fit directory (c ∷ classes) [] h = absurd h
 files_fit directory (c ∷ classes) (f ∷ files) h = ((f.bytes, h.0.1), files_fit directory classes files h.1)
 
 -- these are the files of the classes before the rest
-pub record AreWritten (classes : List Class) (directory : List ℕ) (files : List FileAt) (rest : List Class) : Type 0 where
+pub record AreWritten (classes : List Class) (directory : List ℕ) (files : List FileAt)
+    (rest : List Class) : Type 0 where
   pub gone : List Class
   pub split : gone ++ rest ≡ classes
   pub are : AreFilesOf directory gone files
   pub writable : AllByRecursion IsWritable rest
 
-pub none_written : (classes : List Class) (directory : List ℕ) → AllByRecursion IsWritable classes → AreWritten classes directory [] classes
+pub none_written : (classes : List Class) (directory : List ℕ) → AllByRecursion IsWritable classes
+    → AreWritten classes directory [] classes
 none_written classes directory h = record { gone = []; split = refl; are = tt; writable = h }
 
 -- one class more was written
-pub more_written : (classes : List Class) (directory : List ℕ) (files : List FileAt) (c : Class) (rest : List Class) (f : FileAt)
-    → AreWritten classes directory files (c ∷ rest) → IsFileOf directory c f → AreWritten classes directory (files ++ f ∷ []) rest
+pub more_written : (classes : List Class) (directory : List ℕ) (files : List FileAt) (c : Class) (rest : List Class)
+    (f : FileAt)
+    → AreWritten classes directory files (c ∷ rest) → IsFileOf directory c f
+    → AreWritten classes directory (files ++ f ∷ []) rest
 more_written classes directory files c rest f w is = record {
   gone = w.gone ++ c ∷ [];
   split = append_assoc w.gone (c ∷ []) rest ∙ w.split;
@@ -39,7 +44,8 @@ more_written classes directory files c rest f w is = record {
 }
 
 -- the next class passes a limit
-limit_passed : (classes : List Class) (directory : List ℕ) (files : List FileAt) (c : Class) (rest : List Class) (limit : WriteLimit)
+limit_passed : (classes : List Class) (directory : List ℕ) (files : List FileAt) (c : Class) (rest : List Class)
+    (limit : WriteLimit)
     → AreWritten classes directory files (c ∷ rest) → class_written c ≡ Err limit → PassLimit classes limit
 limit_passed classes directory files c rest limit w passes = record {
   before = w.gone;
@@ -51,7 +57,8 @@ limit_passed classes directory files c rest limit w passes = record {
 }
 
 -- the next class isn't written
-pub stops : (classes : List Class) (directory : List ℕ) (files : List FileAt) (c : Class) (rest : List Class) (e : Or WriteLimit)
+pub stops : (classes : List Class) (directory : List ℕ) (files : List FileAt) (c : Class) (rest : List Class)
+    (e : Or WriteLimit)
     → AreWritten classes directory files (c ∷ rest) → WritesOne (Err e) c directory → Writes (Err e) classes directory
 stops classes directory files c rest (Fault limit) w passes = limit_passed classes directory files c rest limit w passes
 stops classes directory files c rest OutOfMemory w passes = tt

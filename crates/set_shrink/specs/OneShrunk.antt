@@ -7,7 +7,8 @@ use Rattle.require_sys.specs.declared.asked.AskedMethod.{AskedMethod}
 use Rattle.set_shrink.specs.ShrunkSet.{IsShrunk, PassesLimit}
 use Rattle.set_shrink.specs.declared.shrunk.ShrunkSet.{ShrunkSet}
 
--- two sets of files with their counts, written of the same set for the same methods below the same directory, are the same
+-- two sets of files with their counts, written of the same set for the same methods below the same directory, are the
+-- same
 abbrev pub IsOneShrunk : Type 0
 IsOneShrunk = (classes : List Class) (asked : List AskedMethod) (directory : List ℕ) (one other : ShrunkSet)
     → IsShrunk classes asked directory one → IsShrunk classes asked directory other → one ≡ other
@@ -19,5 +20,6 @@ IsOneLimit = (classes : List Class) (asked : List AskedMethod) (limit other : Wr
 
 -- what is written passes no limit
 abbrev pub NotBothShrunk : Type 0
-NotBothShrunk = (classes : List Class) (asked : List AskedMethod) (directory : List ℕ) (set : ShrunkSet) (limit : WriteLimit)
+NotBothShrunk = (classes : List Class) (asked : List AskedMethod) (directory : List ℕ) (set : ShrunkSet)
+    (limit : WriteLimit)
     → IsShrunk classes asked directory set → PassesLimit classes asked limit → ⊥

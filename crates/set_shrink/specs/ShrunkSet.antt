@@ -63,7 +63,8 @@ counts_of classes = record {
 -- ---- the whole (the project's own: what the command promises)
 
 -- the files of what is kept, and the counts of all and of what is kept
-pub record IsShrunk (classes : List Class) (asked : List AskedMethod) (directory : List ℕ) (set : ShrunkSet) : Type 0 where
+pub record IsShrunk (classes : List Class) (asked : List AskedMethod) (directory : List ℕ)
+    (set : ShrunkSet) : Type 0 where
   pub kept : List Class
   pub are_kept : IsKept classes asked kept
   pub files : AreFilesOf directory kept set.files

@@ -8,7 +8,8 @@ use Rattle.member_shrink.specs.Attributes.{without_optional}
 
 -- where each class can be written, so can each that is left, whatever is marked
 abbrev pub ShrunkAreWritable : Type 0
-ShrunkAreWritable = (classes : List Class) (marks : List Bool) → AllByRecursion IsWritable classes → AllByRecursion IsWritable (shrunk classes marks)
+ShrunkAreWritable = (classes : List Class) (marks : List Bool) → AllByRecursion IsWritable classes
+    → AllByRecursion IsWritable (shrunk classes marks)
 
 -- a class that can be written can be written without its optional attributes
 abbrev pub WithoutOptionalIsWritable : Type 0

@@ -12,4 +12,5 @@ abbrev pub IsJudged : List NamedClass → Judgement → Type 0
 IsJudged files Taken = Builds (Ok (classes_of files)) files × (links_checked (classes_of files) ≡ Ok tt)
 IsJudged files NotListed = Unit {0}
 IsJudged files (NoSet fault) = Builds (Err (Fault fault)) files
-IsJudged files (Breaks class fault) = Builds (Ok (classes_of files)) files × (links_checked (classes_of files) ≡ Err fault)
+IsJudged files (Breaks class fault) = Builds (Ok (classes_of files)) files
+    × (links_checked (classes_of files) ≡ Err fault)

@@ -1,5 +1,6 @@
 -- What a run that ended has answered.
-use Rattle.std.proofs.Common.{◌≡◌, ◌<◌, ℕ, List, [], ◌++◌, length, Option, Some, None, Result, Err, refl, ap, ◌∙◌, inl, inr, arith}
+use Rattle.std.proofs.Common.{◌≡◌, ◌<◌, ℕ, List, [], ◌++◌, length, Option, Some, None, Result, Err, refl, ap, ◌∙◌, inl}
+use Rattle.std.proofs.Common.{inr, arith}
 use Rattle.std.specs.Prelude.{IsErrOf}
 use Rattle.std.proofs.lemmas.List.{append-nil}
 use Rattle.std.proofs.lemmas.List.Elements.{filter-append}
@@ -20,8 +21,10 @@ use Rattle.shrink_core.specs.Steps.{Says, SaysLine, SaysSummary}
 use Rattle.shrink_core.proofs.Found.{no_plan, nothing_done}
 
 -- a run that wrote its files
-pub finished : (plan : Plan) (named : CommandFiles) (status : ℕ) (x y : Option Files) (f f2 : ℕ) (a b : List Event) (old new : Output)
-    → Made a b x y (Writes plan named) → SaysSummary plan.summary status old new → (status ≡ 7 → Rose old.faults new.faults)
+pub finished : (plan : Plan) (named : CommandFiles) (status : ℕ) (x y : Option Files) (f f2 : ℕ) (a b : List Event)
+    (old new : Output)
+    → Made a b x y (Writes plan named) → SaysSummary plan.summary status old new
+    → (status ≡ 7 → Rose old.faults new.faults)
     → Ended (Some named) status (outside x f a old) (outside y f2 b new)
 finished plan named status x y f f2 a b old new left (inl said) rose =
     (done plan, record { answered = said.0; blamed = tt; left = left; said = said.1 })
@@ -33,11 +36,14 @@ finished plan named status x y f f2 a b old new left (inr (inr said)) rose =
 -- where there is no memory for the line of a refusal, the files are as they were all the same
 unsaid : (refusal : Refusal) (named : CommandFiles) (x y : Option Files) (a b : List Event)
     → Made a b x y (StopsSo (Refused refusal) named) → Made a b x y (StopsSo OutOfMemory named)
-unsaid refusal named x y a b left = made_so (StopsSo (Refused refusal) named) (StopsSo OutOfMemory named) a b x y (λ calls p. inl p.unwritten) left
+unsaid refusal named x y a b left = made_so (StopsSo (Refused refusal) named) (StopsSo OutOfMemory named) a b x y
+    (λ calls p. inl p.unwritten) left
 
 -- a run that stopped before
-pub ended_before : (stop : Stop) (named : CommandFiles) (status : ℕ) (x y : Option Files) (f f2 : ℕ) (a b : List Event) (old new : Output)
-    → (IsErrOf (no_plan stop) Device → Rose f f2) → Made a b x y (StopsSo stop named) → Says named.config stop status old new
+pub ended_before : (stop : Stop) (named : CommandFiles) (status : ℕ) (x y : Option Files) (f f2 : ℕ) (a b : List Event)
+    (old new : Output)
+    → (IsErrOf (no_plan stop) Device → Rose f f2) → Made a b x y (StopsSo stop named)
+    → Says named.config stop status old new
     → Ended (Some named) status (outside x f a old) (outside y f2 b new)
 ended_before (Refused refusal) named status x y f f2 a b old new rose left (inl said) =
     (stopped (Refused refusal), record { answered = said.0; blamed = tt; left = left; said = said.1 })
@@ -49,7 +55,8 @@ ended_before OutOfMemory named status x y f f2 a b old new rose left said =
     (stopped OutOfMemory, record { answered = said.0; blamed = tt; left = left; said = said.1 })
 
 -- a run without memory for its words
-pub ended_at_once : (named : Option CommandFiles) (status : ℕ) (x : Option Files) (f f2 : ℕ) (a : List Event) (old new : Output) (some : CommandFiles)
+pub ended_at_once : (named : Option CommandFiles) (status : ℕ) (x : Option Files) (f f2 : ℕ) (a : List Event)
+    (old new : Output) (some : CommandFiles)
     → named ≡ Some some → SaysLine some.config OutOfMemory status old new
     → Ended named status (outside x f a old) (outside x f2 a new)
 ended_at_once None status x f f2 a old new some is said = absurd cc
@@ -61,19 +68,26 @@ ended_at_once (Some named) status x f f2 a old new some is said =
 -- calls for which memory was never wanting don't raise the count
 same_count : (a b calls : List Event) → b ≡ a ++ calls → without_memory calls ≡ [] → memory_faults b ≡ memory_faults a
 same_count a b calls is none =
-    ap memory_faults is ∙ ap length (filter-append wants_memory a calls ∙ ap (λ (l : List Event). without_memory a ++ l) none ∙ append-nil (without_memory a))
+    ap memory_faults is ∙ ap length (filter-append wants_memory a calls
+    ∙ ap (λ (l : List Event). without_memory a ++ l) none ∙ append-nil (without_memory a))
 
 -- where the count rose, the answer says so
-lacked : (ending : Ending) (named : CommandFiles) (status : ℕ) (a b calls : List Event) → b ≡ a ++ calls → LeavesSo ending named calls
+lacked : (ending : Ending) (named : CommandFiles) (status : ℕ) (a b calls : List Event) → b ≡ a ++ calls
+    → LeavesSo ending named calls
     → status ≡ status_of ending → memory_faults a < memory_faults b → status ≡ 10
-lacked (done plan) named status a b calls is left answered rose = absurd omega (arith, rose, same_count a b calls is left.did.had_memory)
-lacked (summary_failed plan) named status a b calls is left answered rose = absurd omega (arith, rose, same_count a b calls is left.did.had_memory)
+lacked (done plan) named status a b calls is left answered rose = absurd omega
+    (arith, rose, same_count a b calls is left.did.had_memory)
+lacked (summary_failed plan) named status a b calls is left answered rose = absurd omega
+    (arith, rose, same_count a b calls is left.did.had_memory)
 lacked (summary_without_memory plan) named status a b calls is left answered rose = answered
-lacked (stopped (Refused refusal)) named status a b calls is left answered rose = absurd omega (arith, rose, same_count a b calls is left.did.had_memory)
-lacked (stopped Device) named status a b calls is left answered rose = absurd omega (arith, rose, same_count a b calls is left.0)
+lacked (stopped (Refused refusal)) named status a b calls is left answered rose = absurd omega
+    (arith, rose, same_count a b calls is left.did.had_memory)
+lacked (stopped Device) named status a b calls is left answered rose = absurd omega
+    (arith, rose, same_count a b calls is left.0)
 lacked (stopped OutOfMemory) named status a b calls is left answered rose = answered
 
-pub answers_memory : (named : CommandFiles) (status : ℕ) (before after : Outside) → Ended (Some named) status before after
+pub answers_memory : (named : CommandFiles) (status : ℕ) (before after : Outside)
+    → Ended (Some named) status before after
     → memory_faults before.calls < memory_faults after.calls → status ≡ 10
 answers_memory named status before after ended rose =
     lacked ended.0 named status before.calls after.calls ended.1.left.0 ended.1.left.1 ended.1.left.3 ended.1.answered rose

@@ -1,5 +1,6 @@
 -- What files hold that the calls of a tree fit, step by step.
-use Rattle.std.proofs.Common.{◌≡◌, ℕ, Bool, true, false, cond, nat_lt, List, [], ◌∷◌, ◌++◌, length, Option, Some, None, Result, Ok, Err, refl, subst, ◌∙◌, inl, inr, ap}
+use Rattle.std.proofs.Common.{◌≡◌, ℕ, Bool, true, false, cond, nat_lt, List, [], ◌∷◌, ◌++◌, length, Option, Some, None}
+use Rattle.std.proofs.Common.{Result, Ok, Err, refl, subst, ◌∙◌, inl, inr, ap}
 use Rattle.tree_io.specs.Below.{paths_below}
 use Rattle.std.specs.FinMap.{keys}
 use Rattle.tree_io.specs.Event.{files_to_write, without_memory}
@@ -9,7 +10,8 @@ use Rattle.tree_io.specs.declared.event.Event.{Event}
 use Rattle.tree_io.specs.declared.file_at.FileAt.{FileAt}
 use Rattle.tree_io.specs.declared.faults.WriteFault.TheVariants as written
 use Rattle.tree_io.specs.declared.faults.WriteFault.{WriteFault}
-use Rattle.tree_io.proofs.Runs.{did_both, made_both, made_none, made_sees, made_so, nothing_both, run_parts, sees_so, unchanged, wrote_both}
+use Rattle.tree_io.proofs.Runs.{did_both, made_both, made_none, made_sees, made_so, nothing_both, run_parts, sees_so}
+use Rattle.tree_io.proofs.Runs.{unchanged, wrote_both}
 use Rattle.class_files.specs.Input.{FindsDue, class_paths, files_in, input_due, total}
 use Rattle.class_files.specs.Input as input
 use Rattle.class_files.specs.Output as output
@@ -21,24 +23,29 @@ use Rattle.shrink_core.specs.declared.config.Config.{Config}
 use Rattle.shrink_core.specs.declared.words.CommandFiles.{CommandFiles}
 use Rattle.shrink_core.specs.declared.shrink.Plan.{Plan}
 use Rattle.shrink_core.specs.declared.refusal.Refusal.{Refusal}
-use Rattle.shrink_core.specs.declared.refusal.Refusal.TheVariants.{NoConfig, NotBuilt, NotEmpty, Gone, Format, Profile, Limit}
+use Rattle.shrink_core.specs.declared.refusal.Refusal.TheVariants.{NoConfig, NotBuilt, NotEmpty, Gone, Format, Profile}
+use Rattle.shrink_core.specs.declared.refusal.Refusal.TheVariants.{Limit}
 use Rattle.shrink_core.specs.declared.refusal.Stop.{Stop}
 use Rattle.shrink_core.specs.declared.refusal.Stop.TheVariants.{Refused, Device, OutOfMemory}
-use Rattle.shrink_core.specs.Due.{HasBytes, HasConfig, HasSet, IsDue, IsEmpty, IsPlan, IsResult, IsRefused, RefusesConfig, RefusesInput, RefusesOutput, RefusesPlan}
+use Rattle.shrink_core.specs.Due.{HasBytes, HasConfig, HasSet, IsDue, IsEmpty, IsPlan, IsResult, IsRefused}
+use Rattle.shrink_core.specs.Due.{RefusesConfig, RefusesInput, RefusesOutput, RefusesPlan}
 use Rattle.shrink_core.specs.Due.{by_config, by_output, by_input, by_plan}
 use Rattle.shrink_core.specs.Steps.{ConfigOf, Finds, ReadsSet, Shrinks, StopsAs, input_stop, missed, missed_by}
 
 -- where a step was refused, what follows it is refused so
-carried : (stop : Stop) (Refuses After : Refusal → Type 0) → ((refusal : Refusal) → Refuses refusal → After refusal) → StopsAs stop Refuses → StopsAs stop After
+carried : (stop : Stop) (Refuses After : Refusal → Type 0) → ((refusal : Refusal) → Refuses refusal → After refusal)
+    → StopsAs stop Refuses → StopsAs stop After
 carried (Refused refusal) Refuses After so found = so refusal found
 carried Device Refuses After so found = tt
 carried OutOfMemory Refuses After so found = tt
 
 -- where memory is wanting no more is said than that nothing was written
-pub lacks : (P : Files → Type 0) (a b : List Event) (x y : Option Files) → Made a b x y (Sees (Some []) P) → Made a b x y (λ calls. files_to_write calls ≡ [])
+pub lacks : (P : Files → Type 0) (a b : List Event) (x y : Option Files) → Made a b x y (Sees (Some []) P)
+    → Made a b x y (λ calls. files_to_write calls ≡ [])
 lacks P a b x y p = made_so (Sees (Some []) P) (λ calls. files_to_write calls ≡ []) a b x y (λ calls q. q.0.wrote) p
 
-weaken : (absent : Option (List (List ℕ))) (P Q : Files → Type 0) (a b : List Event) (x y : Option Files) → ((files : Files) → P files → Q files)
+weaken : (absent : Option (List (List ℕ))) (P Q : Files → Type 0) (a b : List Event) (x y : Option Files)
+    → ((files : Files) → P files → Q files)
     → Made a b x y (Sees absent P) → Made a b x y (Sees absent Q)
 weaken absent P Q a b x y so p = made_so (Sees absent P) (Sees absent Q) a b x y (sees_so absent P Q so) p
 
@@ -49,9 +56,11 @@ pub config_seen : (path bytes : List ℕ) (r : Result Config Stop) (a b : List E
     → Made a b x y (Sees (Some []) (λ files. HasBytes files path bytes)) → ConfigOf r bytes
     → Made a b x y (Sees (missed path r) (λ files. Finds r (HasConfig files path) (RefusesConfig files path)))
 config_seen path bytes (Ok config) a b x y there is =
-    weaken (Some []) (λ files. HasBytes files path bytes) (λ files. HasConfig files path config) a b x y (λ files has. (bytes, has, is)) there
+    weaken (Some []) (λ files. HasBytes files path bytes) (λ files. HasConfig files path config) a b x y
+    (λ files has. (bytes, has, is)) there
 config_seen path bytes (Err (Refused NotBuilt)) a b x y there is =
-    weaken (Some []) (λ files. HasBytes files path bytes) (λ files. RefusesConfig files path NotBuilt) a b x y (λ files has. (bytes, has, is)) there
+    weaken (Some []) (λ files. HasBytes files path bytes) (λ files. RefusesConfig files path NotBuilt) a b x y
+    (λ files has. (bytes, has, is)) there
 config_seen path bytes (Err (Refused NoConfig)) a b x y there is = absurd is
 config_seen path bytes (Err (Refused (NotEmpty directory))) a b x y there is = absurd is
 config_seen path bytes (Err (Refused (Gone at))) a b x y there is = absurd is
@@ -64,7 +73,9 @@ config_seen path bytes (Err OutOfMemory) a b x y there is = lacks (λ files. Has
 -- ---- the set
 
 absent_by : (many more long : Bool) (inputs : List FileAt) (path : List ℕ)
-    → (let R : Result (List FileAt) InputFault = cond many (Err fault.TooManyFiles) (cond more (Err fault.TooManyClasses) (cond long (Err fault.TooLong) (Ok inputs))) in R) ≡ Err (fault.Absent path) → ⊥
+    → (let R : Result (List FileAt) InputFault = cond many (Err fault.TooManyFiles)
+    (cond more (Err fault.TooManyClasses) (cond long (Err fault.TooLong) (Ok inputs))) in R)
+    ≡ Err (fault.Absent path) → ⊥
 absent_by true more long inputs path h = absurd cc
 absent_by false true long inputs path h = absurd cc
 absent_by false false true inputs path h = absurd cc
@@ -73,8 +84,10 @@ absent_by false false false inputs path h = absurd cc
 -- files that fit don't lack one that they list
 absent_not_due : (files : Files) (directory path : List ℕ) → input_due files directory ≡ Err (fault.Absent path) → ⊥
 absent_not_due files directory path h =
-    absent_by (nat_lt 65536 (length (paths_below directory (keys files)))) (nat_lt 20000 (length (class_paths files directory)))
-    (nat_lt 67108864 (total (files_in files directory (class_paths files directory)))) (files_in files directory (class_paths files directory)) path h
+    absent_by (nat_lt 65536 (length (paths_below directory (keys files))))
+    (nat_lt 20000 (length (class_paths files directory)))
+    (nat_lt 67108864 (total (files_in files directory (class_paths files directory))))
+    (files_in files directory (class_paths files directory)) path h
 
 abbrev pub no_files : InputFault → Result (List FileAt) InputFault
 no_files fault = Err fault
@@ -84,33 +97,42 @@ no_set fault = Err (input_stop fault)
 
 -- why a command stops where class files aren't given
 pub stop_seen : (config directory : List ℕ) (fault : InputFault) (a b : List Event) (x y : Option Files)
-    → Made a b x y (Sees (input.missed (no_files fault)) (λ files. FindsDue (no_files fault) (input_due files directory)))
-    → Made a b x y (Sees (missed config (no_set fault)) (λ files. Finds (no_set fault) (HasSet files directory) (RefusesInput files directory)))
+    → Made a b x y (Sees (input.missed (no_files fault)) (λ files. FindsDue (no_files fault)
+    (input_due files directory)))
+    → Made a b x y (Sees (missed config (no_set fault)) (λ files. Finds (no_set fault) (HasSet files directory)
+    (RefusesInput files directory)))
 stop_seen config directory fault.TooManyFiles a b x y p = p
 stop_seen config directory fault.TooManyClasses a b x y p = p
 stop_seen config directory fault.TooLong a b x y p = p
 stop_seen config directory (fault.Absent path) a b x y p =
-    weaken (Some (path ∷ [])) (λ files. input_due files directory ≡ Err (fault.Absent path)) (λ files. ⊥) a b x y (λ files. absent_not_due files directory path) p
+    weaken (Some (path ∷ [])) (λ files. input_due files directory ≡ Err (fault.Absent path)) (λ files. ⊥) a b x y
+    (λ files. absent_not_due files directory path) p
 stop_seen config directory fault.Failed a b x y p = p
 stop_seen config directory fault.OutOfMemory a b x y p = p
 
 -- the set of class files that were found
-pub set_seen : (config directory : List ℕ) (inputs : List FileAt) (r : Result (List Class) Stop) (a b : List Event) (x y : Option Files)
+pub set_seen : (config directory : List ℕ) (inputs : List FileAt) (r : Result (List Class) Stop) (a b : List Event)
+    (x y : Option Files)
     → Made a b x y (Sees (Some []) (λ files. input_due files directory ≡ Ok inputs)) → ReadsSet r directory inputs
     → Made a b x y (Sees (missed config r) (λ files. Finds r (HasSet files directory) (RefusesInput files directory)))
 set_seen config directory inputs (Ok classes) a b x y p is =
-    weaken (Some []) (λ files. input_due files directory ≡ Ok inputs) (λ files. HasSet files directory classes) a b x y (λ files has. (inputs, has, is)) p
+    weaken (Some []) (λ files. input_due files directory ≡ Ok inputs) (λ files. HasSet files directory classes) a b x y
+    (λ files has. (inputs, has, is)) p
 set_seen config directory inputs (Err (Refused (Format at fault))) a b x y p is =
-    weaken (Some []) (λ files. input_due files directory ≡ Ok inputs) (λ files. RefusesInput files directory (Format at fault)) a b x y (λ files has. (inputs, has, is.0, is.1, is.2)) p
+    weaken (Some []) (λ files. input_due files directory ≡ Ok inputs)
+    (λ files. RefusesInput files directory (Format at fault)) a b x y
+    (λ files has. (inputs, has, is.0, is.1, is.2)) p
 set_seen config directory inputs (Err (Refused (Profile fault))) a b x y p is =
-    weaken (Some []) (λ files. input_due files directory ≡ Ok inputs) (λ files. RefusesInput files directory (Profile fault)) a b x y (λ files has. (inputs, has, is)) p
+    weaken (Some []) (λ files. input_due files directory ≡ Ok inputs)
+    (λ files. RefusesInput files directory (Profile fault)) a b x y (λ files has. (inputs, has, is)) p
 set_seen config directory inputs (Err (Refused NoConfig)) a b x y p is = absurd is
 set_seen config directory inputs (Err (Refused NotBuilt)) a b x y p is = absurd is
 set_seen config directory inputs (Err (Refused (NotEmpty at))) a b x y p is = absurd is
 set_seen config directory inputs (Err (Refused (Gone at))) a b x y p is = absurd is
 set_seen config directory inputs (Err (Refused (Limit quantity))) a b x y p is = absurd is
 set_seen config directory inputs (Err Device) a b x y p is = absurd is
-set_seen config directory inputs (Err OutOfMemory) a b x y p is = lacks (λ files. input_due files directory ≡ Ok inputs) a b x y p
+set_seen config directory inputs (Err OutOfMemory) a b x y p is = lacks
+    (λ files. input_due files directory ≡ Ok inputs) a b x y p
 
 -- ---- the plan
 
@@ -134,39 +156,52 @@ pub refused_by_config : (named : CommandFiles) (stop : Stop) (a b : List Event) 
     → Made a b x y (Sees (missed_by named.config stop) (λ files. StopsAs stop (RefusesConfig files named.config)))
     → Made a b x y (Sees (missed_by named.config stop) (Planned (no_plan stop) named))
 refused_by_config named stop a b x y p =
-    weaken (missed_by named.config stop) (λ files. StopsAs stop (RefusesConfig files named.config)) (Planned (no_plan stop) named) a b x y
+    weaken (missed_by named.config stop) (λ files. StopsAs stop (RefusesConfig files named.config))
+    (Planned (no_plan stop) named) a b x y
     (λ files. carried stop (RefusesConfig files named.config) (IsRefused files named) (λ refusal r. by_config r)) p
 
-pub refused_by_output : (named : CommandFiles) (config : Config) (stop : Stop) (a b c : List Event) (x y z : Option Files)
+pub refused_by_output : (named : CommandFiles) (config : Config) (stop : Stop) (a b c : List Event)
+    (x y z : Option Files)
     → Made a b x y (Sees (Some []) (Configured named config))
     → Made b c y z (Sees (missed_by named.config stop) (λ files. StopsAs stop (RefusesOutput files config.output)))
     → Made a c x z (Sees (missed_by named.config stop) (Planned (no_plan stop) named))
 refused_by_output named config stop a b c x y z has p =
-    made_sees (missed_by named.config stop) (Configured named config) (λ files. StopsAs stop (RefusesOutput files config.output)) (Planned (no_plan stop) named) a b c x y z
-    (λ files there. carried stop (RefusesOutput files config.output) (IsRefused files named) (λ refusal r. by_output config there r)) has p
+    made_sees (missed_by named.config stop) (Configured named config)
+    (λ files. StopsAs stop (RefusesOutput files config.output)) (Planned (no_plan stop) named) a b c x y z
+    (λ files there. carried stop (RefusesOutput files config.output) (IsRefused files named)
+    (λ refusal r. by_output config there r)) has p
 
 pub emptied : (named : CommandFiles) (config : Config) (a b c : List Event) (x y z : Option Files)
-    → Made a b x y (Sees (Some []) (Configured named config)) → Made b c y z (Sees (Some []) (λ files. IsEmpty files config.output))
+    → Made a b x y (Sees (Some []) (Configured named config))
+    → Made b c y z (Sees (Some []) (λ files. IsEmpty files config.output))
     → Made a c x z (Sees (Some []) (Emptied named config))
 emptied named config a b c x y z has p =
-    made_sees (Some []) (Configured named config) (λ files. IsEmpty files config.output) (Emptied named config) a b c x y z (λ files there empty. (there, empty)) has p
+    made_sees (Some []) (Configured named config) (λ files. IsEmpty files config.output)
+    (Emptied named config) a b c x y z (λ files there empty. (there, empty)) has p
 
-pub refused_by_input : (named : CommandFiles) (config : Config) (stop : Stop) (a b c : List Event) (x y z : Option Files)
+pub refused_by_input : (named : CommandFiles) (config : Config) (stop : Stop) (a b c : List Event)
+    (x y z : Option Files)
     → Made a b x y (Sees (Some []) (Emptied named config))
     → Made b c y z (Sees (missed_by named.config stop) (λ files. StopsAs stop (RefusesInput files config.input)))
     → Made a c x z (Sees (missed_by named.config stop) (Planned (no_plan stop) named))
 refused_by_input named config stop a b c x y z has p =
-    made_sees (missed_by named.config stop) (Emptied named config) (λ files. StopsAs stop (RefusesInput files config.input)) (Planned (no_plan stop) named) a b c x y z
-    (λ files there. carried stop (RefusesInput files config.input) (IsRefused files named) (λ refusal r. by_input config there.0 there.1 r)) has p
+    made_sees (missed_by named.config stop) (Emptied named config)
+    (λ files. StopsAs stop (RefusesInput files config.input)) (Planned (no_plan stop) named) a b c x y z
+    (λ files there. carried stop (RefusesInput files config.input) (IsRefused files named)
+    (λ refusal r. by_input config there.0 there.1 r)) has p
 
 pub taken : (named : CommandFiles) (config : Config) (classes : List Class) (a b c : List Event) (x y z : Option Files)
-    → Made a b x y (Sees (Some []) (Emptied named config)) → Made b c y z (Sees (Some []) (λ files. HasSet files config.input classes))
+    → Made a b x y (Sees (Some []) (Emptied named config))
+    → Made b c y z (Sees (Some []) (λ files. HasSet files config.input classes))
     → Made a c x z (Sees (Some []) (Taken named config classes))
 taken named config classes a b c x y z has p =
-    made_sees (Some []) (Emptied named config) (λ files. HasSet files config.input classes) (Taken named config classes) a b c x y z (λ files there set. (there, set)) has p
+    made_sees (Some []) (Emptied named config) (λ files. HasSet files config.input classes)
+    (Taken named config classes) a b c x y z (λ files there set. (there, set)) has p
 
-pub planned : (named : CommandFiles) (config : Config) (classes : List Class) (r : Result Plan Stop) (a b : List Event) (x y : Option Files)
-    → Made a b x y (Sees (Some []) (Taken named config classes)) → Finds r (IsPlan config classes) (RefusesPlan config classes)
+pub planned : (named : CommandFiles) (config : Config) (classes : List Class) (r : Result Plan Stop) (a b : List Event)
+    (x y : Option Files)
+    → Made a b x y (Sees (Some []) (Taken named config classes))
+    → Finds r (IsPlan config classes) (RefusesPlan config classes)
     → Made a b x y (Sees (missed named.config r) (Planned r named))
 planned named config classes (Ok plan) a b x y has is =
     weaken (Some []) (Taken named config classes) (Planned (Ok plan) named) a b x y
@@ -187,21 +222,26 @@ planned named config classes (Err OutOfMemory) a b x y has is = lacks (Taken nam
 -- ---- the writing
 
 -- no plan was made
-pub stopped_before : (named : CommandFiles) (stop : Stop) (calls : List Event) → Sees (missed_by named.config stop) (Planned (no_plan stop) named) calls → StopsSo stop named calls
+pub stopped_before : (named : CommandFiles) (stop : Stop) (calls : List Event)
+    → Sees (missed_by named.config stop) (Planned (no_plan stop) named) calls → StopsSo stop named calls
 stopped_before named (Refused refusal) calls p = record {
   did = p.0;
   due = p.1;
   unwritten = record { wrote = p.0.wrote; same = λ old new. unchanged calls old new p.0.wrote };
 }
-stopped_before named Device calls p = (p.0.had_memory, inl (record { wrote = p.0.wrote; same = λ old new. unchanged calls old new p.0.wrote }))
+stopped_before named Device calls p =
+    (p.0.had_memory, inl (record { wrote = p.0.wrote; same = λ old new. unchanged calls old new p.0.wrote }))
 stopped_before named OutOfMemory calls p = inl (record { wrote = p; same = λ old new. unchanged calls old new p })
 
 pub stopped_seen : (named : CommandFiles) (stop : Stop) (a b : List Event) (x y : Option Files)
-    → Made a b x y (Sees (missed_by named.config stop) (Planned (no_plan stop) named)) → Made a b x y (StopsSo stop named)
-stopped_seen named stop a b x y p = made_so (Sees (missed_by named.config stop) (Planned (no_plan stop) named)) (StopsSo stop named) a b x y (stopped_before named stop) p
+    → Made a b x y (Sees (missed_by named.config stop) (Planned (no_plan stop) named))
+    → Made a b x y (StopsSo stop named)
+stopped_seen named stop a b x y p = made_so (Sees (missed_by named.config stop) (Planned (no_plan stop) named))
+    (StopsSo stop named) a b x y (stopped_before named stop) p
 
 -- what is due of the files that were found is due before they are written
-due_before : (named : CommandFiles) (plan : Plan) (es fs : List Event) → Sees (Some []) (λ files. IsResult files named plan) es
+due_before : (named : CommandFiles) (plan : Plan) (es fs : List Event)
+    → Sees (Some []) (λ files. IsResult files named plan) es
     → (old new : Files) → Run (es ++ fs) old new → IsDue old named (Ok plan)
 due_before named plan es fs p old new run = let parts = run_parts es fs old new run in p.1 old parts.0 parts.1
 
@@ -209,13 +249,15 @@ written_after : (es fs : List Event) → files_to_write es ≡ [] → files_to_w
 written_after es fs none = wrote_both es fs ∙ ap (λ (l : List FileAt). l ++ files_to_write fs) none
 
 -- what calls leave that follow others which wrote nothing
-left_after : (es fs : List Event) (Left : Files → Files → Type 0) → files_to_write es ≡ [] → ((old new : Files) → Run fs old new → Left old new)
+left_after : (es fs : List Event) (Left : Files → Files → Type 0) → files_to_write es ≡ []
+    → ((old new : Files) → Run fs old new → Left old new)
     → (old new : Files) → Run (es ++ fs) old new → Left old new
 left_after es fs Left none left old new run =
     let parts = run_parts es fs old new run in
     subst (λ (m : Files). Left m new) (unchanged es old parts.0 none parts.1) (left parts.0 new parts.2)
 
-wrote_all : (named : CommandFiles) (plan : Plan) (es fs : List Event) → Sees (Some []) (λ files. IsResult files named plan) es
+wrote_all : (named : CommandFiles) (plan : Plan) (es fs : List Event)
+    → Sees (Some []) (λ files. IsResult files named plan) es
     → output.Writes (Ok tt) plan.files fs → Writes plan named (es ++ fs)
 wrote_all named plan es fs p q = record {
   did = did_both es fs p.0 q.0;
@@ -227,7 +269,8 @@ abbrev pub stop_of : WriteFault → Stop
 stop_of written.Failed = Device
 stop_of written.OutOfMemory = OutOfMemory
 
-wrote_until : (named : CommandFiles) (plan : Plan) (fault : WriteFault) (es fs : List Event) → Sees (Some []) (λ files. IsResult files named plan) es
+wrote_until : (named : CommandFiles) (plan : Plan) (fault : WriteFault) (es fs : List Event)
+    → Sees (Some []) (λ files. IsResult files named plan) es
     → output.Writes (Err fault) plan.files fs → StopsSo (stop_of fault) named (es ++ fs)
 wrote_until named plan written.Failed es fs p q = (
   (did_both es fs p.0 q.3).had_memory,
@@ -250,17 +293,23 @@ wrote_until named plan written.OutOfMemory es fs p q = inr (record {
 })
 
 pub all_written : (named : CommandFiles) (plan : Plan) (a b c : List Event) (x y z : Option Files)
-    → Made a b x y (Sees (Some []) (λ files. IsResult files named plan)) → Made b c y z (output.Writes (Ok tt) plan.files)
+    → Made a b x y (Sees (Some []) (λ files. IsResult files named plan))
+    → Made b c y z (output.Writes (Ok tt) plan.files)
     → Made a c x z (Writes plan named)
 all_written named plan a b c x y z p q =
-    made_both (Sees (Some []) (λ files. IsResult files named plan)) (output.Writes (Ok tt) plan.files) (Writes plan named) a b c x y z (wrote_all named plan) p q
+    made_both (Sees (Some []) (λ files. IsResult files named plan)) (output.Writes (Ok tt) plan.files)
+    (Writes plan named) a b c x y z (wrote_all named plan) p q
 
-pub writing_stopped : (named : CommandFiles) (plan : Plan) (fault : WriteFault) (a b c : List Event) (x y z : Option Files)
-    → Made a b x y (Sees (Some []) (λ files. IsResult files named plan)) → Made b c y z (output.Writes (Err fault) plan.files)
+pub writing_stopped : (named : CommandFiles) (plan : Plan) (fault : WriteFault) (a b c : List Event)
+    (x y z : Option Files)
+    → Made a b x y (Sees (Some []) (λ files. IsResult files named plan))
+    → Made b c y z (output.Writes (Err fault) plan.files)
     → Made a c x z (StopsSo (stop_of fault) named)
 writing_stopped named plan fault a b c x y z p q =
-    made_both (Sees (Some []) (λ files. IsResult files named plan)) (output.Writes (Err fault) plan.files) (StopsSo (stop_of fault) named) a b c x y z (wrote_until named plan fault) p q
+    made_both (Sees (Some []) (λ files. IsResult files named plan)) (output.Writes (Err fault) plan.files)
+    (StopsSo (stop_of fault) named) a b c x y z (wrote_until named plan fault) p q
 
 -- no call was made, as memory was wanting
 pub nothing_done : (named : CommandFiles) (a : List Event) (x : Option Files) → Made a a x x (StopsSo OutOfMemory named)
-nothing_done named a x = made_none (StopsSo OutOfMemory named) a x (inl (record { wrote = refl; same = λ old new run. run }))
+nothing_done named a x = made_none (StopsSo OutOfMemory named) a x
+    (inl (record { wrote = refl; same = λ old new run. run }))

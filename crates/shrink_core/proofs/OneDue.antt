@@ -13,7 +13,7 @@ use Rattle.class_model.specs.declared.limit.WriteLimit.{WriteLimit}
 use Rattle.set_read.specs.Accepted.{IsAccepted, IsFault}
 use Rattle.set_read.specs.declared.fault.SetFault.{SetFault}
 use Rattle.set_read.specs.declared.fault.SetFault.TheVariants as set
-use Rattle.set_read.proofs.OneSet.{not_both, one_fault, one_set}
+use Rattle.set_read.proofs.OneSet.{not_both, one_fault, one_set, same_some}
 use Rattle.set_shrink.specs.ShrunkSet.{PassesLimit}
 use Rattle.set_shrink.specs.declared.shrunk.ShrunkSet.{ShrunkSet}
 use Rattle.set_shrink.proofs.OneShrunk.{not_both_shrunk, one_limit, one_shrunk}
@@ -30,7 +30,8 @@ use Rattle.shrink_core.specs.declared.shrink.Plan.{Plan}
 use Rattle.shrink_core.specs.declared.quantity.Quantity.{Quantity}
 use Rattle.shrink_core.specs.declared.quantity.Quantity.TheVariants as quantity
 use Rattle.shrink_core.specs.declared.refusal.Refusal.{Refusal}
-use Rattle.shrink_core.specs.declared.refusal.Refusal.TheVariants.{NoConfig, NotBuilt, NotEmpty, Gone, Format, Profile, Limit}
+use Rattle.shrink_core.specs.declared.refusal.Refusal.TheVariants.{NoConfig, NotBuilt, NotEmpty, Gone, Format, Profile}
+use Rattle.shrink_core.specs.declared.refusal.Refusal.TheVariants.{Limit}
 use Rattle.shrink_core.proofs.OneConfig.{one_config}
 
 -- ---- one at most
@@ -49,7 +50,8 @@ no_err x y h = absurd cc
 
 -- a step is refused, or another one follows it
 abbrev Then : {A B : Type 0} → (Result A Refusal → Type 0) → (A → Result B Refusal → Type 0) → Result B Refusal → Type 0
-Then {A} First Next z = ((refusal : Refusal) × First (Err refusal) × (z ≡ Err refusal)) ⊎ ((x : A) × First (Ok x) × Next x z)
+Then {A} First Next z = ((refusal : Refusal) × First (Err refusal) × (z ≡ Err refusal))
+    ⊎ ((x : A) × First (Ok x) × Next x z)
 
 then_one : {A B : Type 0} (First : Result A Refusal → Type 0) (Next : A → Result B Refusal → Type 0) → IsOne First
     → ((x : A) → IsOne (Next x)) → IsOne (Then First Next)
@@ -67,9 +69,6 @@ abbrev Configures : Files → List ℕ → Result Config Refusal → Type 0
 Configures files path (Ok config) = HasConfig files path config
 Configures files path (Err refusal) = RefusesConfig files path refusal
 
-same_some : {X : Type 0} (o : Option X) (x y : X) → o ≡ Some x → o ≡ Some y → x ≡ y
-same_some o x y h k = cc
-
 not_none : {X : Type 0} (o : Option X) (x : X) → o ≡ Some x → o ≡ None → ⊥
 not_none o x h k = absurd cc
 
@@ -84,7 +83,8 @@ config_refused files path NoConfig h = ap config_refusal (sym h)
 config_refused files path (Limit quantity.Config) h =
     ap (λ (b : Bool). cond b (Limit quantity.Config) NotBuilt) (sym (lt-ltb _ _ h.2)) ∙ ap config_refusal (sym h.1)
 config_refused files path NotBuilt h =
-    ap (λ (b : Bool). cond b (Limit quantity.Config) NotBuilt) (sym (le-ltb _ _ h.1.short)) ∙ ap config_refusal (sym h.1.there)
+    ap (λ (b : Bool). cond b (Limit quantity.Config) NotBuilt) (sym (le-ltb _ _ h.1.short))
+    ∙ ap config_refusal (sym h.1.there)
 config_refused files path (NotEmpty directory) h = absurd h
 config_refused files path (Gone at) h = absurd h
 config_refused files path (Format at fault) h = absurd h
@@ -99,7 +99,8 @@ config_refused files path (Limit quantity.Table) h = absurd h
 config_refused files path (Limit quantity.Branch) h = absurd h
 config_refused files path (Limit quantity.Attribute) h = absurd h
 
-same_text : (files : Files) (path one other : List ℕ) → HasBytes files path one → get files path ≡ Some other → one ≡ other
+same_text : (files : Files) (path one other : List ℕ) → HasBytes files path one → get files path ≡ Some other
+    → one ≡ other
 same_text files path one other h there = same_some (get files path) one other h.there there
 
 config_not_refused : (files : Files) (path : List ℕ) (config : Config) (refusal : Refusal) → HasConfig files path config
@@ -202,7 +203,8 @@ same_input : (files : Files) (directory : List ℕ) (one other : List FileAt) �
     → HasInput files directory other → one ≡ other
 same_input files directory one other h k = same_ok one other (sym h ∙ k)
 
-set_not_refused : (files : Files) (directory : List ℕ) (classes : List Class) (refusal : Refusal) → HasSet files directory classes
+set_not_refused : (files : Files) (directory : List ℕ) (classes : List Class) (refusal : Refusal)
+    → HasSet files directory classes
     → InputRefused files directory refusal → ⊥
 set_not_refused files directory classes refusal h (inl k) = no_err h.0 k.0 (sym h.1 ∙ k.1)
 set_not_refused files directory classes refusal h (inr k) =
@@ -216,7 +218,8 @@ one_refused files directory refusal other (inl h) (inr k) = absurd (no_err k.0 h
 one_refused files directory refusal other (inr h) (inl k) = absurd (no_err h.0 k.0 (sym h.1 ∙ k.1))
 one_refused files directory refusal other (inr h) (inr k) =
     let inputs : h.0 ≡ k.0 = same_input files directory h.0 k.0 h.1 k.1 in
-    h.4 ∙ (ap (set_refusal directory) (one_fault k.0 h.2 k.2 (subst (λ (fs : List FileAt). IsFault fs h.2) inputs h.3) k.3) ∙ sym k.4)
+    h.4 ∙ (ap (set_refusal directory)
+    (one_fault k.0 h.2 k.2 (subst (λ (fs : List FileAt). IsFault fs h.2) inputs h.3) k.3) ∙ sym k.4)
 
 one_taken : (files : Files) (directory : List ℕ) → IsOne (Takes files directory)
 one_taken files directory (Ok classes) (Ok other) h k =
@@ -227,7 +230,8 @@ one_taken files directory (Ok classes) (Err refusal) h k =
 one_taken files directory (Err refusal) (Ok classes) h k =
     absurd (set_not_refused files directory classes refusal k (input_refused files directory refusal h))
 one_taken files directory (Err refusal) (Err other) h k =
-    ap Err (one_refused files directory refusal other (input_refused files directory refusal h) (input_refused files directory other k))
+    ap Err (one_refused files directory refusal other (input_refused files directory refusal h)
+    (input_refused files directory other k))
 
 -- ---- the plan
 
@@ -245,7 +249,8 @@ plan_refused config classes (Gone at) h = absurd h
 plan_refused config classes (Format at fault) h = absurd h
 plan_refused config classes (Profile fault) h = absurd h
 
-plan_not_refused : (config : Config) (classes : List Class) (plan : Plan) (refusal : Refusal) → IsPlan config classes plan
+plan_not_refused : (config : Config) (classes : List Class) (plan : Plan) (refusal : Refusal)
+    → IsPlan config classes plan
     → RefusesPlan config classes refusal → ⊥
 plan_not_refused config classes plan refusal h k =
     let passed = plan_refused config classes refusal k in
@@ -255,7 +260,8 @@ one_planned : (config : Config) (classes : List Class) → IsOne (Plans config c
 one_planned config classes (Ok plan) (Ok other) h k =
     let shrunk = one_shrunk classes (asked_by config) config.output h.shrunk k.shrunk h.is_shrunk k.is_shrunk in
     let files : plan.files ≡ other.files = h.files ∙ (ap (λ (s : ShrunkSet). s.files) shrunk ∙ sym k.files) in
-    let summary : plan.summary ≡ other.summary = h.summary ∙ (ap (λ (s : ShrunkSet). summary_text s.read s.kept) shrunk ∙ sym k.summary) in
+    let summary : plan.summary ≡ other.summary = h.summary
+    ∙ (ap (λ (s : ShrunkSet). summary_text s.read s.kept) shrunk ∙ sym k.summary) in
     λ i. Ok (record { files = files i; summary = summary i })
 one_planned config classes (Ok plan) (Err refusal) h k = absurd (plan_not_refused config classes plan refusal h k)
 one_planned config classes (Err refusal) (Ok plan) h k = absurd (plan_not_refused config classes plan refusal k h)
@@ -272,11 +278,14 @@ abbrev Follows : Files → CommandFiles → Result Plan Refusal → Type 0
 Follows files named = Then (Configures files named.config)
     (λ config. Then (Empties files config.output) (λ _. Then (Takes files config.input) (Plans config)))
 
-due_follows : (files : Files) (named : CommandFiles) (due : Result Plan Refusal) → IsDue files named due → Follows files named due
-due_follows files named (Ok plan) h = inr (h.config, h.configured, inr (tt, h.empty, inr (h.classes, h.taken, h.planned)))
+due_follows : (files : Files) (named : CommandFiles) (due : Result Plan Refusal) → IsDue files named due
+    → Follows files named due
+due_follows files named (Ok plan) h = inr
+    (h.config, h.configured, inr (tt, h.empty, inr (h.classes, h.taken, h.planned)))
 due_follows files named (Err refusal) (by_config refused) = inl (refusal, refused, refl)
 due_follows files named (Err refusal) (by_output config has refused) = inr (config, has, inl (refusal, refused, refl))
-due_follows files named (Err refusal) (by_input config has empty refused) = inr (config, has, inr (tt, empty, inl (refusal, refused, refl)))
+due_follows files named (Err refusal) (by_input config has empty refused) = inr
+    (config, has, inr (tt, empty, inl (refusal, refused, refl)))
 due_follows files named (Err refusal) (by_plan config classes has empty taken refused) =
     inr (config, has, inr (tt, empty, inr (classes, taken, refused)))
 

@@ -1,4 +1,5 @@
--- How a run ends: its status, what the tree was asked and what becomes of the files, what is said (the project's own: the command's answers
+-- How a run ends: its status, what the tree was asked and what becomes of the files, what is said (the project's own:
+-- the command's answers
 -- are no part of a standard).
 use Rattle.std.specs.Prelude.{◌≡◌, ◌⊎◌, ◌≤◌, ℕ, List, [], ◌∷◌, ◌++◌, take, Option, Some, None, Result, Ok, Err, codes}
 use Rattle.tree_io.specs.Count.{Rose}
@@ -17,7 +18,8 @@ use Rattle.shrink_core.specs.Refusal as refusal
 use Rattle.shrink_core.specs.declared.shrink.Plan.{Plan}
 use Rattle.shrink_core.specs.declared.words.CommandFiles.{CommandFiles}
 use Rattle.shrink_core.specs.declared.refusal.Refusal.{Refusal}
-use Rattle.shrink_core.specs.declared.refusal.Refusal.TheVariants.{NoConfig, NotBuilt, NotEmpty, Gone, Format, Profile, Limit}
+use Rattle.shrink_core.specs.declared.refusal.Refusal.TheVariants.{NoConfig, NotBuilt, NotEmpty, Gone, Format, Profile}
+use Rattle.shrink_core.specs.declared.refusal.Refusal.TheVariants.{Limit}
 use Rattle.shrink_core.specs.declared.refusal.Stop.{Stop}
 use Rattle.shrink_core.specs.declared.refusal.Stop.TheVariants.{Refused, Device, OutOfMemory}
 
@@ -30,7 +32,8 @@ pub record Output : Type 0 where
 abbrev pub output : Option (List ℕ) → ℕ → List Event → Output
 output text faults calls = record { text = text; faults = faults; calls = calls }
 
--- what a run meets outside: told files, how often the tree's device has failed, every call of the tree with its answer, and the sink
+-- what a run meets outside: told files, how often the tree's device has failed, every call of the tree with its answer,
+-- and the sink
 pub record Outside : Type 0 where
   pub files : Option Files
   pub file_faults : ℕ
@@ -40,7 +43,8 @@ pub record Outside : Type 0 where
 abbrev pub outside : Option Files → ℕ → List Event → Output → Outside
 outside files file_faults calls out = record { files = files; file_faults = file_faults; calls = calls; out = out }
 
--- the plan was done; or the command stopped before; or its files were written, and the summary's device failed or memory was wanting for it
+-- the plan was done; or the command stopped before; or its files were written, and the summary's device failed or
+-- memory was wanting for it
 pub data Ending : Type 0 where
   done : Plan → Ending
   stopped : Stop → Ending
@@ -81,22 +85,26 @@ pub record Unwritten (calls : List Event) : Type 0 where
   pub wrote : files_to_write calls ≡ []
   pub same : (old new : Files) → Run calls old new → new ≡ old
 
--- the calls were to write the files of a plan and nothing else, in their order, and found each file that they read; of any files that they
+-- the calls were to write the files of a plan and nothing else, in their order, and found each file that they read; of
+-- any files that they
 -- fit the plan is the one that is due, and its files were put
 pub record Writes (plan : Plan) (named : CommandFiles) (calls : List Event) : Type 0 where
   pub did : Did plan.files [] calls
   pub due : (old new : Files) → Run calls old new → IsDue old named (Ok plan)
   pub put : (old new : Files) → Run calls old new → new ≡ put_all old plan.files
 
--- the calls wrote nothing, and found no file to read just where the refusal says so; of any files that they fit it is the one that is due
+-- the calls wrote nothing, and found no file to read just where the refusal says so; of any files that they fit it is
+-- the one that is due
 pub record Refuses (refusal : Refusal) (named : CommandFiles) (calls : List Event) : Type 0 where
   pub did : Did [] (absent_by named.config refusal) calls
   pub due : (old new : Files) → Run calls old new → IsDue old named (Err refusal)
   pub unwritten : Unwritten calls
 
--- the calls were to write a front of the files of a plan, in their order, up to this one; of any files that they fit the plan is the one
+-- the calls were to write a front of the files of a plan, in their order, up to this one; of any files that they fit
+-- the plan is the one
 -- that is due, and so they were left
-pub record WritesUntil (named : CommandFiles) (calls : List Event) (Left : List FileAt → ℕ → FileAt → Files → Files → Type 0) : Type 0 where
+pub record WritesUntil (named : CommandFiles) (calls : List Event)
+    (Left : List FileAt → ℕ → FileAt → Files → Files → Type 0) : Type 0 where
   pub plan : Plan
   pub number : ℕ
   pub next : FileAt
@@ -108,7 +116,8 @@ pub record WritesUntil (named : CommandFiles) (calls : List Event) (Left : List 
 abbrev pub StopsBefore : List FileAt → ℕ → FileAt → Files → Files → Type 0
 StopsBefore files n next old new = new ≡ put_all old (take n files)
 
--- a refusal; or the device failed, before the first file was written or at one of them; or memory was wanting, before it or at one of them
+-- a refusal; or the device failed, before the first file was written or at one of them; or memory was wanting, before
+-- it or at one of them
 abbrev pub StopsSo : Stop → CommandFiles → List Event → Type 0
 StopsSo (Refused refusal) named calls = Refuses refusal named calls
 StopsSo Device named calls = (without_memory calls ≡ []) × (Unwritten calls ⊎ WritesUntil named calls StopsWithin)
@@ -124,9 +133,11 @@ LeavesSo (summary_without_memory plan) named calls = Writes plan named calls
 
 -- a text was handed to the sink, which gave this answer
 abbrev pub Hands : List ℕ → Result (Unit {0}) PutFault → Output → Output → Type 0
-Hands text answer old new = (new.calls ≡ old.calls ++ Put text answer ∷ []) × Takes answer text old.text new.text old.faults new.faults
+Hands text answer old new = (new.calls ≡ old.calls ++ Put text answer ∷ [])
+    × Takes answer text old.text new.text old.faults new.faults
 
--- the text was handed to the sink, once: it took all; or a front, where its count of faults rose; or nothing, where memory was wanting
+-- the text was handed to the sink, once: it took all; or a front, where its count of faults rose; or nothing, where
+-- memory was wanting
 abbrev pub Puts : List ℕ → Output → Output → Type 0
 Puts text old new = (answer : Result (Unit {0}) PutFault) × Hands text answer old new
 
@@ -151,7 +162,8 @@ SaidSo (summary_without_memory plan) config old new = LacksSo plan.summary old n
 
 -- ---- the whole
 
--- a command has this ending: its status, the device that is blamed, what the tree was asked and what became of files that fit its answers,
+-- a command has this ending: its status, the device that is blamed, what the tree was asked and what became of files
+-- that fit its answers,
 -- what was said
 pub record Ends (ending : Ending) (named : CommandFiles) (status : ℕ) (before after : Outside) : Type 0 where
   pub answered : status ≡ status_of ending

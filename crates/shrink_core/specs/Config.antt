@@ -1,6 +1,8 @@
--- The configs that are taken so far: four lines that name where classes are read and written, where the mapping goes, and the
+-- The configs that are taken so far: four lines that name where classes are read and written, where the mapping goes,
+-- and the
 -- methods of Main that are kept (`-injars`, `-outjars`, `-printmapping` and `-keep` of the ProGuard manual, "Usage").
-use Rattle.std.specs.Prelude.{◌≡◌, ◌≢◌, ℕ, zero, suc, ◌<◌, Bool, not, ◌&&◌, ◌==◌, List, [], ◌∷◌, ◌++◌, length, Some, IsTrue, codes}
+use Rattle.std.specs.Prelude.{◌≡◌, ◌≢◌, ℕ, zero, suc, ◌<◌, Bool, not, ◌&&◌, ◌==◌, List, [], ◌∷◌, ◌++◌, length, Some}
+use Rattle.std.specs.Prelude.{IsTrue, codes}
 use Rattle.std.specs.List.{AllByRecursion, list_all}
 use Rattle.std.specs.Str.{IsUtf8}
 use Rattle.jv_base.specs.Names.{is_member_name}
@@ -70,7 +72,9 @@ pub record AreKept (text : List ℕ) (methods : List KeptMethod) : Type 0 where
 -- the four lines, by what stands behind each option
 abbrev pub lines_text : List ℕ → List ℕ → List ℕ → List ℕ → List ℕ
 lines_text input output mapping methods =
-    line (codes "-injars ") input (line (codes "-outjars ") output (line (codes "-printmapping ") mapping (line (codes "-keep class Main {") methods [])))
+    line (codes "-injars ") input
+    (line (codes "-outjars ") output
+    (line (codes "-printmapping ") mapping (line (codes "-keep class Main {") methods [])))
 
 -- the text, in UTF-8, is that of a config
 pub record IsConfig (text : List ℕ) (config : Config) : Type 0 where

@@ -72,20 +72,23 @@ pub record IsResult (files : Files) (named : CommandFiles) (plan : Plan) : Type 
 
 -- ---- refusals, each where what was looked at before is right
 
--- the input directory has too many files, too many class files, or too many bytes of these; no other quantity is counted there
+-- the input directory has too many files, too many class files, or too many bytes of these; no other quantity is
+-- counted there
 abbrev pub PassesInput : Files → List ℕ → Quantity → Type 0
 PassesInput files directory quantity.Files = input_due files directory ≡ Err TooManyFiles
 PassesInput files directory quantity.Classes = input_due files directory ≡ Err TooManyClasses
 PassesInput files directory quantity.Input = input_due files directory ≡ Err TooLong
 PassesInput files directory _ = ⊥
 
--- the files below the input directory aren't taken as a set: they pass a limit, one is no class file, or a class breaks a rule. A file
+-- the files below the input directory aren't taken as a set: they pass a limit, one is no class file, or a class breaks
+-- a rule. A file
 -- that was listed is always there, so none is Gone
 abbrev pub RefusesInput : Files → List ℕ → Refusal → Type 0
 RefusesInput files directory (Limit quantity) = PassesInput files directory quantity
 RefusesInput files directory (Format path fault) = (inputs : List FileAt) × HasInput files directory inputs
     × (below : List ℕ) × (path ≡ path_in directory below) × IsFault inputs (set.Format below fault)
-RefusesInput files directory (Profile fault) = (inputs : List FileAt) × HasInput files directory inputs × IsFault inputs (set.Rule fault)
+RefusesInput files directory (Profile fault) = (inputs : List FileAt) × HasInput files directory inputs
+    × IsFault inputs (set.Rule fault)
 RefusesInput files directory _ = ⊥
 
 -- a class that is to be written passes a limit of the format
@@ -97,8 +100,10 @@ RefusesPlan config classes _ = ⊥
 -- the config isn't there, is too long, or is none
 abbrev pub RefusesConfig : Files → List ℕ → Refusal → Type 0
 RefusesConfig files path NoConfig = get files path ≡ None
-RefusesConfig files path (Limit quantity.Config) = (bytes : List ℕ) × (get files path ≡ Some bytes) × (67108864 < length bytes)
-RefusesConfig files path NotBuilt = (bytes : List ℕ) × HasBytes files path bytes × ((config : Config) → IsConfig bytes config → ⊥)
+RefusesConfig files path (Limit quantity.Config) = (bytes : List ℕ) × (get files path ≡ Some bytes)
+    × (67108864 < length bytes)
+RefusesConfig files path NotBuilt = (bytes : List ℕ) × HasBytes files path bytes
+    × ((config : Config) → IsConfig bytes config → ⊥)
 RefusesConfig files path _ = ⊥
 
 -- a file lies below the output directory

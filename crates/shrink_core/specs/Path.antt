@@ -1,11 +1,13 @@
 -- Paths: an optional `/`, and then segments joined by `/` (the project's own: one form of each path).
-use Rattle.std.specs.Prelude.{◌≡◌, ℕ, ◌+◌, take, drop, Bool, not, ◌&&◌, ◌==◌, List, [], ◌∷◌, length, Option, Some, None, if◌then◌else◌, codes}
+use Rattle.std.specs.Prelude.{◌≡◌, ℕ, ◌+◌, take, drop, Bool, not, ◌&&◌, ◌==◌, List, [], ◌∷◌, length, Option, Some, None}
+use Rattle.std.specs.Prelude.{if◌then◌else◌, codes}
 use Rattle.std.specs.List.{list_all, slice_split}
 use Rattle.jv_base.specs.Names.{is_text}
 
 -- no segment is empty, `.` or `..`
 abbrev pub is_segment : List ℕ → Bool
-is_segment segment = not (length segment == 0) && not (is_text segment (codes ".")) && not (is_text segment (codes ".."))
+is_segment segment = not (length segment == 0) && not (is_text segment (codes "."))
+    && not (is_text segment (codes ".."))
 
 -- the byte is a `/`
 abbrev pub is_slash : ℕ → Bool

@@ -8,9 +8,11 @@ use Rattle.report_text.specs.Kinds.{format_name}
 use Rattle.set_read.specs.Accepted.{rule_name}
 use Rattle.set_read.specs.declared.fault.RuleFault.{RuleFault}
 use Rattle.shrink_core.specs.declared.quantity.Quantity.{Quantity}
-use Rattle.shrink_core.specs.declared.quantity.Quantity.TheVariants.{Config, Files, Classes, Input, Pool, Utf8, Code, Table, Branch, Attribute}
+use Rattle.shrink_core.specs.declared.quantity.Quantity.TheVariants.{Config, Files, Classes, Input, Pool, Utf8, Code}
+use Rattle.shrink_core.specs.declared.quantity.Quantity.TheVariants.{Table, Branch, Attribute}
 use Rattle.shrink_core.specs.declared.refusal.Refusal.{Refusal}
-use Rattle.shrink_core.specs.declared.refusal.Refusal.TheVariants.{NoConfig, NotBuilt, NotEmpty, Gone, Format, Profile, Limit}
+use Rattle.shrink_core.specs.declared.refusal.Refusal.TheVariants.{NoConfig, NotBuilt, NotEmpty, Gone, Format, Profile}
+use Rattle.shrink_core.specs.declared.refusal.Refusal.TheVariants.{Limit}
 use Rattle.shrink_core.specs.declared.refusal.Stop.{Stop}
 use Rattle.shrink_core.specs.declared.refusal.Stop.TheVariants.{Refused, Device, OutOfMemory}
 
@@ -56,7 +58,8 @@ quantity_of (limit.AttributeTooLong length) = Attribute
 -- a file that is no class file
 abbrev pub format_line : List ℕ → FormatFault → List ℕ
 format_line path fault =
-    codes "error 4 format " ++ (path ++ (codes " " ++ (decimal fault.offset ++ (codes " " ++ (format_name fault.kind ++ codes "\n")))))
+    codes "error 4 format " ++
+    (path ++ (codes " " ++ (decimal fault.offset ++ (codes " " ++ (format_name fault.kind ++ codes "\n")))))
 
 -- the text of a member, `-` where there is none
 abbrev pub member_word : Option (List ℕ) → List ℕ
@@ -66,7 +69,9 @@ member_word (Some member) = member
 -- a class that breaks a rule
 abbrev pub profile_line : RuleFault → List ℕ
 profile_line fault =
-    codes "error 5 profile " ++ (fault.class ++ (codes " " ++ (member_word fault.member ++ (codes " " ++ (rule_name fault.kind ++ codes "\n")))))
+    codes "error 5 profile " ++
+    (fault.class ++ (codes " " ++ (member_word fault.member ++
+    (codes " " ++ (rule_name fault.kind ++ codes "\n")))))
 
 -- a quantity that passes its limit
 abbrev pub limit_line : Quantity → List ℕ

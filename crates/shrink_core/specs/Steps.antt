@@ -31,7 +31,8 @@ abbrev pub Finds : {A : Type 0} → Result A Stop → (A → Type 0) → (Refusa
 Finds (Ok x) Is IsRefused = Is x
 Finds (Err stop) Is IsRefused = StopsAs stop IsRefused
 
--- the paths at which no file was found to read, where the config stands at this path; where memory was wanting they aren't told
+-- the paths at which no file was found to read, where the config stands at this path; where memory was wanting they
+-- aren't told
 abbrev pub missed_by : List ℕ → Stop → Option (List (List ℕ))
 missed_by config (Refused refusal) = Some (absent_by config refusal)
 missed_by config Device = Some []
@@ -83,7 +84,8 @@ SaysLine config stop status old new = (status ≡ status_of stop) × Puts (line_
 
 -- memory may be wanting for the line of a refusal
 abbrev pub Says : List ℕ → Stop → ℕ → Output → Output → Type 0
-Says config (Refused refusal) status old new = SaysLine config (Refused refusal) status old new ⊎ SaysLine config OutOfMemory status old new
+Says config (Refused refusal) status old new = SaysLine config (Refused refusal) status old new
+    ⊎ SaysLine config OutOfMemory status old new
 Says config Device status old new = SaysLine config Device status old new
 Says config OutOfMemory status old new = SaysLine config OutOfMemory status old new
 

@@ -1,9 +1,11 @@
 // The config: where classes are read and written, and which methods are kept.
-ghost use Rattle.std.specs.Prelude.{◌≡◌, ◌≢◌, ◌↔◌, ℕ, ◌<◌, List, ◌∷◌, ◌++◌, Some, IsTrue, codes, IfOk, IfSome, IfNone, length};
+ghost use Rattle.std.specs.Prelude.{◌≡◌, ◌≢◌, ◌↔◌, ℕ, ◌<◌, List, ◌∷◌, ◌++◌, Some, IsTrue, codes, IfOk, IfSome, IfNone};
+ghost use Rattle.std.specs.Prelude.{length};
 ghost use Rattle.std.specs.List.{AllByRecursion, list_all};
 ghost use Rattle.std.specs.Str.{IsUtf8};
 ghost use Rattle.shrink_core.specs.Path.{directory_in, is_path};
-ghost use Rattle.shrink_core.specs.Config.{Lacks, line, is_no_blank, ints_text, AreKept, NamesDirectory, NamesFile, IsConfig};
+ghost use Rattle.shrink_core.specs.Config.{Lacks, line, is_no_blank, ints_text, AreKept, NamesDirectory, NamesFile};
+ghost use Rattle.shrink_core.specs.Config.{IsConfig};
 ghost use Rattle.shrink_core.specs.OneConfig.{IsOneConfig};
 ghost use Rattle.shrink_core.specs.ConfigParts.{BeginsSo, HasLines};
 

@@ -7,7 +7,8 @@ ghost use Rattle.tree_io.specs.Runs.{Made, Sees};
 ghost use Rattle.class_files.specs.Input.{path_in, total};
 ghost use Rattle.class_write.specs.SpellingLaws.{IsWritable};
 ghost use Rattle.shrink_core.specs.Config.{IsConfig};
-ghost use Rattle.shrink_core.specs.Due.{HasBytes, HasConfig, HasSet, IsEmpty, RefusesConfig, RefusesInput, RefusesOutput};
+ghost use Rattle.shrink_core.specs.Due.{HasBytes, HasConfig, HasSet, IsEmpty, RefusesConfig, RefusesInput};
+ghost use Rattle.shrink_core.specs.Due.{RefusesOutput};
 ghost use Rattle.shrink_core.specs.Steps.{ConfigOf, Finds, ReadsSet, input_stop, missed};
 
 use crate::config::{Config, read_config};

@@ -20,8 +20,10 @@ pub read_tells : (answer : Result (List ℕ) ReadFault) (path : List ℕ) (max :
     → Reads answer (due_read (get old path) max) → Tells (Some old) (Some new) (Read path max answer ∷ [])
 read_tells answer path max old new same h = (old, ap Some same, (old, (refl, h), refl))
 
-pub wrote_tells : (answer : Result (Unit {0}) WriteFault) (path bytes : List ℕ) (old : Files) (calls : CallCounts) (new : Files) (after : CallCounts)
+pub wrote_tells : (answer : Result (Unit {0}) WriteFault) (path bytes : List ℕ) (old : Files) (calls : CallCounts)
+    (new : Files) (after : CallCounts)
     → Writes answer path bytes old calls new after → Tells (Some old) (Some new) (Wrote path bytes answer ∷ [])
 wrote_tells (Ok _) path bytes old calls new after h = (new, refl, (new, h.1, refl))
-wrote_tells (Err written.Failed) path bytes old calls new after h = (new, refl, (new, inr (first_half bytes, h.1), refl))
+wrote_tells (Err written.Failed) path bytes old calls new after h =
+    (new, refl, (new, inr (first_half bytes, h.1), refl))
 wrote_tells (Err written.OutOfMemory) path bytes old calls new after h = (new, refl, (new, h.0, refl))

@@ -1,5 +1,6 @@
 -- Files that fit the calls of a log.
-use Rattle.std.proofs.Common.{◌≡◌, ℕ, List, [], ◌∷◌, ◌++◌, Option, Some, None, Result, Ok, Err, refl, sym, ap, subst, ◌∙◌, inl, inr}
+use Rattle.std.proofs.Common.{◌≡◌, ℕ, List, [], ◌∷◌, ◌++◌, Option, Some, None, Result, Ok, Err, refl, sym, ap, subst}
+use Rattle.std.proofs.Common.{◌∙◌, inl, inr}
 use Rattle.std.specs.Prelude.{IfSome}
 use Rattle.std.specs.FinMap.{get, insert}
 use Rattle.std.proofs.lemmas.List.{append_assoc, append-nil}
@@ -15,7 +16,8 @@ use Rattle.tree_io.specs.declared.file_at.FileAt.{FileAt}
 -- ---- calls after calls
 
 -- a run of two logs is a run of the first and one of the second
-pub run_parts : (es fs : List Event) (old new : Files) → Run (es ++ fs) old new → (mid : Files) × Run es old mid × Run fs mid new
+pub run_parts : (es fs : List Event) (old new : Files) → Run (es ++ fs) old new
+    → (mid : Files) × Run es old mid × Run fs mid new
 run_parts [] fs old new r = (old, refl, r)
 run_parts (e ∷ es) fs old new r =
     let rest = run_parts es fs r.0 new r.2 in
@@ -32,7 +34,8 @@ tells_both (Some x) b c es fs p q =
     (r.0, r.1, run_both es fs x p.0 r.0 p.2 r.2)
 
 -- what was made by one step and then by another
-pub made_both : (P Q S : List Event → Type 0) (a b c : List Event) (x y z : Option Files) → ((es fs : List Event) → P es → Q fs → S (es ++ fs))
+pub made_both : (P Q S : List Event → Type 0) (a b c : List Event) (x y z : Option Files)
+    → ((es fs : List Event) → P es → Q fs → S (es ++ fs))
     → Made a b x y P → Made b c y z Q → Made a c x z S
 made_both P Q S a b c x y z both p q = (
   p.0 ++ q.0,
@@ -41,7 +44,8 @@ made_both P Q S a b c x y z both p q = (
   both p.0 q.0 p.3 q.3,
 )
 
-pub made_so : (P Q : List Event → Type 0) (a b : List Event) (x y : Option Files) → ((es : List Event) → P es → Q es) → Made a b x y P → Made a b x y Q
+pub made_so : (P Q : List Event → Type 0) (a b : List Event) (x y : Option Files) → ((es : List Event) → P es → Q es)
+    → Made a b x y P → Made a b x y Q
 made_so P Q a b x y so p = (p.0, p.1, p.2, so p.0 p.3)
 
 pub tells_none : (x : Option Files) → Tells x x []
@@ -69,19 +73,24 @@ unchanged (Read path max answer ∷ es) old new none r = unchanged es r.0 new no
 unchanged (Wrote path bytes answer ∷ es) old new none r = absurd cc
 unchanged (Put bytes answer ∷ es) old new none r = unchanged es r.0 new none r.2 ∙ r.1
 
-pub did_both : {before files : List FileAt} {absent : List (List ℕ)} (es fs : List Event) → Did before [] es → Did files absent fs
+pub did_both : {before files : List FileAt} {absent : List (List ℕ)} (es fs : List Event) → Did before [] es
+    → Did files absent fs
     → Did (before ++ files) absent (es ++ fs)
 did_both {before} es fs p q = record {
-  wrote = wrote_both es fs ∙ ap (λ (l : List FileAt). l ++ files_to_write fs) p.wrote ∙ ap (λ (l : List FileAt). before ++ l) q.wrote;
+  wrote = wrote_both es fs ∙ ap (λ (l : List FileAt). l ++ files_to_write fs) p.wrote
+      ∙ ap (λ (l : List FileAt). before ++ l) q.wrote;
   missed = filter_map-append absent_of es fs ∙ ap (λ (l : List (List ℕ)). l ++ absent_paths fs) p.missed ∙ q.missed;
-  had_memory = filter-append wants_memory es fs ∙ ap (λ (l : List Event). l ++ without_memory fs) p.had_memory ∙ q.had_memory;
+  had_memory = filter-append wants_memory es fs ∙ ap (λ (l : List Event). l ++ without_memory fs) p.had_memory
+      ∙ q.had_memory;
 }
 
-pub nothing_both : (es fs : List Event) → files_to_write es ≡ [] → files_to_write fs ≡ [] → files_to_write (es ++ fs) ≡ []
+pub nothing_both : (es fs : List Event) → files_to_write es ≡ [] → files_to_write fs ≡ []
+    → files_to_write (es ++ fs) ≡ []
 nothing_both es fs p q = wrote_both es fs ∙ ap (λ (l : List FileAt). l ++ files_to_write fs) p ∙ q
 
 -- what is seen by one step and then by another
-pub sees_both : (absent : Option (List (List ℕ))) (P Q R : Files → Type 0) → ((files : Files) → P files → Q files → R files) → (es fs : List Event)
+pub sees_both : (absent : Option (List (List ℕ))) (P Q R : Files → Type 0)
+    → ((files : Files) → P files → Q files → R files) → (es fs : List Event)
     → Sees (Some []) P es → Sees absent Q fs → Sees absent R (es ++ fs)
 sees_both None P Q R so es fs p q = nothing_both es fs p.0.wrote q
 sees_both (Some absent) P Q R so es fs p q = (
@@ -92,12 +101,14 @@ sees_both (Some absent) P Q R so es fs p q = (
       so old (p.1 old parts.0 parts.1) (subst Q same (q.1 parts.0 new parts.2)),
 )
 
-pub sees_so : (absent : Option (List (List ℕ))) (P Q : Files → Type 0) → ((files : Files) → P files → Q files) → (es : List Event) → Sees absent P es → Sees absent Q es
+pub sees_so : (absent : Option (List (List ℕ))) (P Q : Files → Type 0) → ((files : Files) → P files → Q files)
+    → (es : List Event) → Sees absent P es → Sees absent Q es
 sees_so None P Q so es p = p
 sees_so (Some absent) P Q so es p = (p.0, λ old new run. so old (p.1 old new run))
 
 -- two steps of which the first found what it looked for
 pub made_sees : (absent : Option (List (List ℕ))) (P Q R : Files → Type 0) (a b c : List Event) (x y z : Option Files)
-    → ((files : Files) → P files → Q files → R files) → Made a b x y (Sees (Some []) P) → Made b c y z (Sees absent Q) → Made a c x z (Sees absent R)
+    → ((files : Files) → P files → Q files → R files) → Made a b x y (Sees (Some []) P) → Made b c y z (Sees absent Q)
+    → Made a c x z (Sees absent R)
 made_sees absent P Q R a b c x y z so p q =
     made_both (Sees (Some []) P) (Sees absent Q) (Sees absent R) a b c x y z (sees_both absent P Q R so) p q

@@ -19,7 +19,8 @@ pub record MemoryFiles : Type 0 where
 -- they are stored as a tuple
 abbrev pub memory_files_code : Coded MemoryFiles
 memory_files_code =
-    code_by (Files × (CallCounts × List Event)) (coded× files_code (coded× counts_code (coded_list event.the_row.coded)))
+    code_by (Files × (CallCounts × List Event))
+    (coded× files_code (coded× counts_code (coded_list event.the_row.coded)))
     (λ m. (m.files, (m.counts, m.log))) (λ p. record { files = p.0; counts = p.1.0; log = p.1.1 }) (λ _. refl)
 
 -- text in memory, and the calls that were made
@@ -30,7 +31,8 @@ pub record MemoryText : Type 0 where
 
 abbrev pub memory_text_code : Coded MemoryText
 memory_text_code =
-    code_by (List ℕ × (CallCounts × List Event)) (coded× (coded_list coded_ℕ) (coded× counts_code (coded_list event.the_row.coded)))
+    code_by (List ℕ × (CallCounts × List Event))
+    (coded× (coded_list coded_ℕ) (coded× counts_code (coded_list event.the_row.coded)))
     (λ m. (m.text, (m.counts, m.log))) (λ p. record { text = p.0; counts = p.1.0; log = p.1.1 }) (λ _. refl)
 
 -- the files that a map's entries tell

@@ -1,4 +1,5 @@
--- Files that fit the calls of a log (the project's own: what the system's files hold can't be said, but what they have answered can).
+-- Files that fit the calls of a log (the project's own: what the system's files hold can't be said, but what they have
+-- answered can).
 use Rattle.std.specs.Prelude.{◌≡◌, ◌⊎◌, ℕ, List, [], ◌∷◌, ◌++◌, length, Option, Some, None, Ok, Err, IfSome}
 use Rattle.std.specs.FinMap.{get, insert}
 use Rattle.tree_io.specs.Event.{files_to_write, absent_paths, without_memory}
@@ -41,7 +42,8 @@ pub record Did (files : List FileAt) (absent : List (List ℕ)) (calls : List Ev
   pub missed : absent_paths calls ≡ absent
   pub had_memory : without_memory calls ≡ []
 
--- calls that wrote nothing and found no file at these paths alone, and what holds of all files that they fit; where memory was wanting
+-- calls that wrote nothing and found no file at these paths alone, and what holds of all files that they fit; where
+-- memory was wanting
 -- for an answer no more is said than that nothing was written
 abbrev pub Sees : Option (List (List ℕ)) → (Files → Type 0) → List Event → Type 0
 Sees None Holds calls = files_to_write calls ≡ []

@@ -8,4 +8,5 @@ use Rattle.class_files.proofs.input.class_paths.Goals as goal
 
 pub returns-clause-ascending : goal.returns-clause-ascending
 returns-clause-ascending g c =
-    subst IsAscending (sym c.in_ok-paths-in-Ok.ensures) (IsStrictlySortedBy-filter (slice_cmp nat_cmp) is_class_path c.in-Ok.paths c.in-Ok.ensures.ascending)
+    subst IsAscending (sym c.in_ok-paths-in-Ok.ensures)
+    (IsStrictlySortedBy-filter (slice_cmp nat_cmp) is_class_path c.in-Ok.paths c.in-Ok.ensures.ascending)

@@ -1,4 +1,5 @@
-use Rattle.std.proofs.Common.{rules, ℕ, ◌≡◌, ◌≤◌, ◌+◌, ◌-◌, ◌++◌, ◌∷◌, [], List, length, map, Ok, Err, Some, refl, sym, subst, ap, ◌∙◌, arith}
+use Rattle.std.proofs.Common.{rules, ℕ, ◌≡◌, ◌≤◌, ◌+◌, ◌-◌, ◌++◌, ◌∷◌, [], List, length, map, Ok, Err, Some, refl, sym}
+use Rattle.std.proofs.Common.{subst, ap, ◌∙◌, arith}
 use Rattle.std.proofs.lemmas.List.{append-nil}
 use Rattle.std.proofs.lemmas.Result.{err_from_is_err_and}
 use Rattle.std.specs.Vec.Iter.{into_iter_items}
@@ -13,7 +14,8 @@ use Rattle.class_files.proofs.input.read_each.Goals as goal
 
 -- what is known of the files when a path is read
 abbrev Read : Files → List ℕ → List (List ℕ) → List FileAt → List (List ℕ) → Type 0
-Read fs directory all files rest = AreThere fs directory all → (files ++ files_in fs directory rest ≡ files_in fs directory all) × AreThere fs directory rest
+Read fs directory all files rest = AreThere fs directory all
+    → (files ++ files_in fs directory rest ≡ files_in fs directory all) × AreThere fs directory rest
 
 pub loop-path-init : goal.loop-path-init
 loop-path-init g c = record {
@@ -49,15 +51,19 @@ loop-path-preserved g c =
           ∙ more_bytes files file c.loop-path.room 67108864 inv.room fits;
       paths =
           ap (λ (fs : List FileAt). map (λ (f : FileAt). f.path) fs ++ rest) put
-          ∙ more_paths files file path rest c.args.paths (ap (λ (t : List (List _)). map (λ (f : FileAt). f.path) files ++ t) (sym first) ∙ inv.paths) c.in_ok-file.ensures.path;
+          ∙ more_paths files file path rest c.args.paths
+          (ap (λ (t : List (List _)). map (λ (f : FileAt). f.path) files ++ t) (sym first)
+          ∙ inv.paths) c.in_ok-file.ensures.path;
       seen =
           made_sees (Some []) (λ fs. Read fs dir c.args.paths files (into_iter_items c.loop-path.path-iterator))
           (λ fs. IsThere fs dir path → file_due fs dir path c.loop-path.room ≡ Ok file)
           (λ fs. Read fs dir c.args.paths c.push.new.self rest)
           _ _ _ _ _ _
           (λ fs before due there.
-          let known = subst (λ (t : List (List _)). (files ++ files_in fs dir t ≡ files_in fs dir c.args.paths) × AreThere fs dir t) first (before there) in
-          subst (λ (t : List FileAt). (t ++ files_in fs dir rest ≡ files_in fs dir c.args.paths) × AreThere fs dir rest) (sym put)
+          let known = subst (λ (t : List (List _)). (files ++ files_in fs dir t ≡ files_in fs dir c.args.paths)
+          × AreThere fs dir t) first (before there) in
+          subst (λ (t : List FileAt). (t ++ files_in fs dir rest ≡ files_in fs dir c.args.paths) × AreThere fs dir rest)
+          (sym put)
           (more_told fs dir files file path rest c.args.paths c.loop-path.room known (due known.1.0)))
           inv.seen c.in_ok-file.ensures.seen;
     }
@@ -73,12 +79,14 @@ returns-in_err-file-clause-seen g c =
     let first : into_iter_items c.loop-path.path-iterator ≡ path ∷ rest = c.in-Some.ensures.steps.0 in
     let fault = c.in_err-file.field-0.0 in
     rw (p.1, p.2)
-    (made_sees (missed (no_files fault)) (λ fs. Read fs dir c.args.paths files (into_iter_items c.loop-path.path-iterator))
+    (made_sees (missed (no_files fault))
+    (λ fs. Read fs dir c.args.paths files (into_iter_items c.loop-path.path-iterator))
     (λ fs. IsThere fs dir path → FindsDue (no_file fault) (file_due fs dir path c.loop-path.room))
     (λ fs. AreThere fs dir c.args.paths → FindsDue (no_files fault) (limited (files_in fs dir c.args.paths)))
     _ _ _ _ _ _
     (λ fs before found there.
-    let known = subst (λ (t : List (List _)). (files ++ files_in fs dir t ≡ files_in fs dir c.args.paths) × AreThere fs dir t) first (before there) in
+    let known = subst (λ (t : List (List _)). (files ++ files_in fs dir t ≡ files_in fs dir c.args.paths)
+    × AreThere fs dir t) first (before there) in
     fails_so fs dir files path rest c.args.paths c.loop-path.room fault inv.room known.0 (found known.1.0))
     inv.seen c.in_err-file.ensures.seen)
 
@@ -89,6 +97,7 @@ returns-in_err-push-clause-seen g c =
     let files : List FileAt = c.loop-path.files in
     rw (p.1, p.2)
     (made_both (Sees (Some []) (λ fs. Read fs dir c.args.paths files (into_iter_items c.loop-path.path-iterator)))
-    (Sees (Some []) (λ fs. IsThere fs dir c.in-Some.path → file_due fs dir c.in-Some.path c.loop-path.room ≡ Ok c.in_ok-file.file))
+    (Sees (Some []) (λ fs. IsThere fs dir c.in-Some.path → file_due fs dir c.in-Some.path c.loop-path.room
+    ≡ Ok c.in_ok-file.file))
     (λ es. files_to_write es ≡ []) _ _ _ _ _ _ (λ es fs p q. nothing_both es fs p.0.wrote q.0.wrote)
     c.loop-path.invariant.seen c.in_ok-file.ensures.seen)

@@ -10,7 +10,12 @@ use Rattle.class_files.proofs.output.write_files.Goals as goal
 pub loop-file-init : goal.loop-file-init
 loop-file-init g c = record {
   later = omega arith;
-  written = ([], sym (append-nil _), tells_none _, (record { wrote = refl; missed = refl; had_memory = refl }, λ old new run. run));
+  written = (
+    [],
+    sym (append-nil _),
+    tells_none _,
+    (record { wrote = refl; missed = refl; had_memory = refl }, λ old new run. run),
+  );
 }
 
 pub loop-file-preserved : goal.loop-file-preserved
@@ -24,8 +29,10 @@ loop-file-preserved g c = record {
       let calls = λ (bytes : List _). Wrote f.path bytes (Ok tt) ∷ [] in
       put_more c.args.files.now c.loop-file.file-index f _ _ _ _ _ _ lt is c.loop-file.invariant.written (
         calls f.bytes,
-        subst (λ (b : List _). g.T.Tree.log c.write.new.self ≡ g.T.Tree.log c.loop-file.tree ++ calls b) c.as_slice.ensures c.in_ok-write.ensures.log,
-        subst (λ (b : List _). Tells (g.T.Tree.files c.loop-file.tree) (g.T.Tree.files c.write.new.self) (calls b)) c.as_slice.ensures c.in_ok-write.ensures.fits,
+        subst (λ (b : List _). g.T.Tree.log c.write.new.self
+            ≡ g.T.Tree.log c.loop-file.tree ++ calls b) c.as_slice.ensures c.in_ok-write.ensures.log,
+        subst (λ (b : List _). Tells (g.T.Tree.files c.loop-file.tree) (g.T.Tree.files c.write.new.self)
+            (calls b)) c.as_slice.ensures c.in_ok-write.ensures.fits,
         refl,
       );
 }
@@ -40,9 +47,12 @@ returns-in_err-write-clause-written g c =
     let fault = c.in_err-write.field-0.0 in
     let calls = λ (bytes : List _). Wrote f.path bytes (Err fault) ∷ [] in
     rw (p.1, p.2)
-    (put_stops c.args.files.now c.loop-file.file-index f fault _ _ _ _ _ _ (there c.args.files.now c.loop-file.file-index f lt is) c.loop-file.invariant.written (
+    (put_stops c.args.files.now c.loop-file.file-index f fault _ _ _ _ _ _
+    (there c.args.files.now c.loop-file.file-index f lt is) c.loop-file.invariant.written (
       calls f.bytes,
-      subst (λ (b : List _). g.T.Tree.log c.write.new.self ≡ g.T.Tree.log c.loop-file.tree ++ calls b) c.as_slice.ensures c.in_err-write.ensures.log,
-      subst (λ (b : List _). Tells (g.T.Tree.files c.loop-file.tree) (g.T.Tree.files c.write.new.self) (calls b)) c.as_slice.ensures c.in_err-write.ensures.fits,
+      subst (λ (b : List _). g.T.Tree.log c.write.new.self
+          ≡ g.T.Tree.log c.loop-file.tree ++ calls b) c.as_slice.ensures c.in_err-write.ensures.log,
+      subst (λ (b : List _). Tells (g.T.Tree.files c.loop-file.tree) (g.T.Tree.files c.write.new.self)
+          (calls b)) c.as_slice.ensures c.in_err-write.ensures.fits,
       refl,
     ))

@@ -11,10 +11,13 @@ use Rattle.class_pool.proofs.building.members_of.Goals as goal
 pub loop-number-preserved : goal.loop-number-preserved
 loop-number-preserved c =
     let x = c.class.result.now in
-    let at : x ≡ get_or c.args.classes.now c.loop-number.number x = sym (get_or_from_slice_get c.args.classes.now c.loop-number.number x x c.class.ensures.is) in
-    let within : c.loop-number.number < length c.args.classes.now = omega (arith, c.loop-number-test.true, c.len-number-end.ensures) in
+    let at : x ≡ get_or c.args.classes.now c.loop-number.number x = sym
+    (get_or_from_slice_get c.args.classes.now c.loop-number.number x x c.class.ensures.is) in
+    let within : c.loop-number.number < length c.args.classes.now = omega
+    (arith, c.loop-number-test.true, c.len-number-end.ensures) in
     let put : c.push.new.self ≡ c.loop-number.members ++ c.in_ok-of.field-0 ∷ [] = search rules in
-    subst (λ (members : List MemberIndex). AllZip IsIndexOf (take (c.loop-number.number + 1) c.args.classes.now) members) (sym put)
+    subst (λ (members : List MemberIndex). AllZip IsIndexOf
+    (take (c.loop-number.number + 1) c.args.classes.now) members) (sym put)
     (index_more c.args.classes.now c.loop-number.members c.loop-number.number x c.in_ok-of.field-0 c.loop-number.invariant within at c.in_ok-of.ensures)
 
 pub index-texts-requires : goal.index-texts-requires

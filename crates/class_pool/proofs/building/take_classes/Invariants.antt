@@ -5,4 +5,5 @@ use Rattle.class_pool.proofs.building.take_classes.Given as goal
 
 abbrev pub invariant-loop-file : goal.invariant-loop-file
 invariant-loop-file l =
-    (l.classes ++ classes_of (into_iter_items l.file-iterator) ≡ classes_of l.fn.files) × (into_iter_len l.file-iterator ≡ length (into_iter_items l.file-iterator))
+    (l.classes ++ classes_of (into_iter_items l.file-iterator) ≡ classes_of l.fn.files)
+    × (into_iter_len l.file-iterator ≡ length (into_iter_items l.file-iterator))

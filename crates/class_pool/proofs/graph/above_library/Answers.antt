@@ -1,5 +1,6 @@
 use Rattle.std.proofs.Common.{◌∙◌, arith, rules}
-use Rattle.class_pool.proofs.Graphing.{few_interfaces, interface_below, interface_put, interface_there, interfaces_all, super_there}
+use Rattle.class_pool.proofs.Graphing.{few_interfaces, interface_below, interface_put, interface_there, interfaces_all}
+use Rattle.class_pool.proofs.Graphing.{super_there}
 use Rattle.class_pool.proofs.graph.above_library.Goals as goal
 
 pub overflow_add-k : goal.overflow_add-k
@@ -22,7 +23,8 @@ loop-interface-preserved c =
     )
 
 pub returns : goal.returns
-returns c = interfaces_all c.args.id c.loop-interface.k c.loop-interface.numbers (search rules) c.loop-interface.invariant.0
+returns c = interfaces_all c.args.id c.loop-interface.k c.loop-interface.numbers
+    (search rules) c.loop-interface.invariant.0
 
 pub library_number-requires : goal.library_number-requires
 library_number-requires c = record {

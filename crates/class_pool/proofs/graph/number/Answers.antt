@@ -10,4 +10,5 @@ overflow_add-result c =
     grind (arith, count, long, c.len.ensures)
 
 pub returns-in-Prog : goal.returns-in-Prog
-returns-in-Prog c = ap (λ k. k + c.in-Prog.number) (c.len.ensures ∙ library_length c.args.library.now c.requires.library) ∙ ap number (sym c.in-Prog.is)
+returns-in-Prog c = ap (λ k. k + c.in-Prog.number)
+    (c.len.ensures ∙ library_length c.args.library.now c.requires.library) ∙ ap number (sym c.in-Prog.is)

@@ -11,13 +11,18 @@ returns-in_err-position c =
     c.from_residual.ensures
     ∙ number_like c.args.class.now c.args.library c.args.at None c.requires.there c.requires.method
     (sym c.in_err-position.was ∙ c.position_in.ensures
-    ∙ ap (λ (ms : List Method). position (λ m. table.is_method m.name (method_text m.ty) (slice_get (table.class_at c.args.library).members c.args.at)) ms)
+    ∙ ap (λ (ms : List Method). position
+    (λ m. table.is_method m.name (method_text m.ty)
+    (slice_get (table.class_at c.args.library).members c.args.at)) ms)
     c.as_slice.ensures)
 
 pub returns : goal.returns
 returns c =
     ap (λ (n : ℕ). Some (n + c.in_ok-position.position)) c.len.ensures
-    ∙ number_like c.args.class.now c.args.library c.args.at (Some c.in_ok-position.position) c.requires.there c.requires.method
+    ∙ number_like c.args.class.now c.args.library c.args.at
+    (Some c.in_ok-position.position) c.requires.there c.requires.method
     (sym c.in_ok-position.was ∙ c.position_in.ensures
-    ∙ ap (λ (ms : List Method). position (λ m. table.is_method m.name (method_text m.ty) (slice_get (table.class_at c.args.library).members c.args.at)) ms)
+    ∙ ap (λ (ms : List Method). position
+    (λ m. table.is_method m.name (method_text m.ty)
+    (slice_get (table.class_at c.args.library).members c.args.at)) ms)
     c.as_slice.ensures)

@@ -10,6 +10,8 @@ returns c =
     let front : take (c.loop-end.end - 1) name ≡ package_of name =
     elim c.loop-end-test.branch [
       | then-loop-end-test+else-bytes-end-ne47 w ↦ behind_separator name c.loop-end.end c.loop-end.invariant w.loop-end-test.true w.if-bytes-end-ne47.false
-      | else-loop-end-test w ↦ without_separator name c.loop-end.end c.loop-end.invariant (omega (arith, w.loop-end-test.false))
+      | else-loop-end-test w ↦ without_separator name c.loop-end.end c.loop-end.invariant
+          (omega (arith, w.loop-end-test.false))
     ] in
-    ap (λ (n : ℕ). take n name) c.saturating_sub.ensures ∙ front ∙ ap (λ (text : List ℕ). package_of text) c.as_bytes-bytes.ensures.value
+    ap (λ (n : ℕ). take n name) c.saturating_sub.ensures ∙ front
+    ∙ ap (λ (text : List ℕ). package_of text) c.as_bytes-bytes.ensures.value

@@ -9,5 +9,6 @@ abbrev pub invariant-loop-place : goal.invariant-loop-place
 invariant-loop-place l = record {
   filling : IsFilling l.classes l.filling;
   keeps : Keeps l.fn.filling.filled.items l.filling.filled.items;
-  more : (a : ClassId) → IsClass l.classes a → number a < l.place → AreFilled l.fn.filling.filled.items (interfaces l.classes a) → is_filled l.filling.filled.items a ≡ true;
+  more : (a : ClassId) → IsClass l.classes a → number a < l.place
+      → AreFilled l.fn.filling.filled.items (interfaces l.classes a) → is_filled l.filling.filled.items a ≡ true;
 }

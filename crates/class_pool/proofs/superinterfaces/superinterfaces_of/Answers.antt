@@ -18,8 +18,10 @@ pub fill_in_order-requires-clause-filling : goal.fill_in_order-requires-clause-f
 fill_in_order-requires-clause-filling c =
     let long = library_length c.args.library.now c.requires.library in
     let few : length c.args.classes.now ≤ 4294967295 = omega (arith, c.len-2.ensures) in
-    let total : c.len.result + c.len-2.result ≡ length library + length c.args.classes.now = omega (arith, long, c.len.ensures, c.len-2.ensures) in
-    filling_none c.args.classes.now c.in_ok-filling.filling (c.len.result + c.len-2.result) few total c.in_ok-filling.ensures.lists.0 c.in_ok-filling.ensures.lists.1
+    let total : c.len.result + c.len-2.result
+    ≡ length library + length c.args.classes.now = omega (arith, long, c.len.ensures, c.len-2.ensures) in
+    filling_none c.args.classes.now c.in_ok-filling.filling
+    (c.len.result + c.len-2.result) few total c.in_ok-filling.ensures.lists.0 c.in_ok-filling.ensures.lists.1
     c.in_ok-filling.ensures.filled.0 c.in_ok-filling.ensures.filled.1 c.in_ok-filling.ensures.met
 
 pub fill_each-requires-clause-steps : goal.fill_each-requires-clause-steps
@@ -29,7 +31,9 @@ pub loop-preserved : goal.loop-preserved
 loop-preserved c = record {
   filling = c.in_ok-fill_each.ensures.filling;
   low = λ r a a-in low.
-      c.in_ok-fill_each.ensures.more a a-in (filled_below c.args.classes.now r c.loop.filling.filled.items c.loop.counter a (c.loop.invariant.low r) a-in low);
+      c.in_ok-fill_each.ensures.more a a-in
+      (filled_below c.args.classes.now r c.loop.filling.filled.items c.loop.counter a
+      (c.loop.invariant.low r) a-in low);
 }
 
 pub returns : goal.returns
@@ -39,4 +43,5 @@ returns c =
     (own_of c.args.classes.now c.loop.filling c.loop.invariant.filling
     (λ a a-in.
     let most = c.requires.ranks.most a a-in in
-    c.loop.invariant.low c.requires.ranks a a-in (omega (arith, long, most, c.len.ensures, c.len-2.ensures, c.loop-test.false))))
+    c.loop.invariant.low c.requires.ranks a a-in
+    (omega (arith, long, most, c.len.ensures, c.len-2.ensures, c.loop-test.false))))

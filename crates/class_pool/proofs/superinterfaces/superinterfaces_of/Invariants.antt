@@ -8,5 +8,6 @@ use Rattle.class_pool.proofs.superinterfaces.superinterfaces_of.Given as goal
 abbrev pub invariant-loop : goal.invariant-loop
 invariant-loop l = record {
   filling : IsFilling l.classes l.filling;
-  low : (r : HasRanks l.classes) (a : ClassId) → IsClass l.classes a → r.rank a < l.counter → is_filled l.filling.filled.items a ≡ true;
+  low : (r : HasRanks l.classes) (a : ClassId) → IsClass l.classes a → r.rank a < l.counter
+      → is_filled l.filling.filled.items a ≡ true;
 }

@@ -7,5 +7,6 @@ use Rattle.class_pool.proofs.superinterfaces.walk.Given as goal
 abbrev pub invariant-loop-id : goal.invariant-loop-id
 invariant-loop-id l = record {
   count : l.met.count ≡ l.fn.met.count;
-  ids : l.met.ids ≡ l.fn.met.ids ++ each_once l.fn.met.ids (flat_map (λ i. i ∷ list_at l.lists i) (take l.id-index l.interfaces));
+  ids : l.met.ids ≡ l.fn.met.ids ++ each_once l.fn.met.ids (flat_map (λ i. i ∷ list_at l.lists i)
+      (take l.id-index l.interfaces));
 }

@@ -8,5 +8,6 @@ abbrev pub invariant-loop-number : goal.invariant-loop-number
 invariant-loop-number l = record {
   long : length l.ids ≡ l.number + 1;
   there : IsClass l.classes (get_or l.ids l.number l.fn.id);
-  ids : l.ids ++ option_map_or (upwards (l.steps - l.number) l.classes) (superclass l.classes (get_or l.ids l.number l.fn.id)) [] ≡ upwards (l.steps + 1) l.classes l.fn.id;
+  ids : l.ids ++ option_map_or (upwards (l.steps - l.number) l.classes)
+      (superclass l.classes (get_or l.ids l.number l.fn.id)) [] ≡ upwards (l.steps + 1) l.classes l.fn.id;
 }

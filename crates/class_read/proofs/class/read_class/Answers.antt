@@ -10,7 +10,8 @@ returns c =
     let bytes = c.args.bytes.now in
     let due = c.read_whole.ensures in
     record {
-      found = due_found (File bytes) c.read_whole.result (class_read bytes) (λ class h. class_read-found bytes class (λ i. omega (arith, c.type_inv.bytes i)) h) due;
+      found = due_found (File bytes) c.read_whole.result (class_read bytes)
+          (λ class h. class_read-found bytes class (λ i. omega (arith, c.type_inv.bytes i)) h) due;
       only = λ class h. due_only c.read_whole.result (class_read bytes) class (class_read-only bytes class h) due;
       exact = due;
     }

@@ -14,4 +14,5 @@ returns c =
     let at = c.args.attribute in
     let p = c.args.cursor.now in
     subst (λ (due : Result (Body × Place) FormatFault). ReadsOr c.code_in_parts.result c.code_in_parts.new.cursor due)
-    (ap (λ (first : List VType). code_in_parts pool first at p) c.in_ok-first.ensures.locals ∙ sym (parts_are pool _ at p)) c.code_in_parts.ensures
+    (ap (λ (first : List VType). code_in_parts pool first at p) c.in_ok-first.ensures.locals
+    ∙ sym (parts_are pool _ at p)) c.code_in_parts.ensures

@@ -9,13 +9,15 @@ returns-in_err-named_right c =
     let pool = c.args.pool.now in
     let offsets = c.args.offsets.now in
     let p = err_from_is_err_and c.from_residual.result c.from_residual.ensures.1 in
-    rw (p.1, p.2) (ends pool c.loop-index.index offsets c.in_err-named_right.field-0.0 (faults_in pool pool offsets) (sym c.in_err-named_right.ensures) c.loop-index.invariant)
+    rw (p.1, p.2) (ends pool c.loop-index.index offsets c.in_err-named_right.field-0.0 (faults_in pool pool offsets)
+    (sym c.in_err-named_right.ensures) c.loop-index.invariant)
 
 pub loop-index-preserved : goal.loop-index-preserved
 loop-index-preserved c =
     let pool = c.args.pool.now in
     let offsets = c.args.offsets.now in
-    goes_on pool c.loop-index.index offsets (faults_in pool pool offsets) (sym c.in_ok-named_right.ensures) c.loop-index.invariant
+    goes_on pool c.loop-index.index offsets (faults_in pool pool offsets)
+    (sym c.in_ok-named_right.ensures) c.loop-index.invariant
 
 pub returns : goal.returns
 returns c =

@@ -19,7 +19,8 @@ returns-in_err-all_named_right c =
     let read = ap (λ (n : ℕ). slots n false c.u2.new.self) (sym c.saturating_sub.ensures) ∙ c.in_ok-slots.ensures in
     let pool = c.in_ok-pool.ensures ∙ c.in_ok-entries.ensures in
     let offsets = c.in_ok-offsets.ensures ∙ ap offsets_of c.as_slice.ensures in
-    rw (p.1, p.2) (pool_is c.args.cursor.now c.u2.new.self c.slots.new.cursor c.in_ok-count.count xs (Err f) count read (told_is xs c.in_ok-pool.pool c.in_ok-offsets.offsets (Err f) pool offsets c.in_err-all_named_right.ensures))
+    rw (p.1, p.2) (pool_is c.args.cursor.now c.u2.new.self c.slots.new.cursor c.in_ok-count.count xs (Err f) count read
+    (told_is xs c.in_ok-pool.pool c.in_ok-offsets.offsets (Err f) pool offsets c.in_err-all_named_right.ensures))
 
 pub returns : goal.returns
 unfolding u2
@@ -29,5 +30,7 @@ returns c =
     let read = ap (λ (n : ℕ). slots n false c.u2.new.self) (sym c.saturating_sub.ensures) ∙ c.in_ok-slots.ensures in
     let pool = c.in_ok-pool.ensures ∙ c.in_ok-entries.ensures in
     let offsets = c.in_ok-offsets.ensures ∙ ap offsets_of c.as_slice.ensures in
-    pool_is c.args.cursor.now c.u2.new.self c.slots.new.cursor c.in_ok-count.count xs (Ok tt) count read (told_is xs c.in_ok-pool.pool c.in_ok-offsets.offsets (Ok tt) pool offsets c.in_ok-all_named_right.ensures)
-    ∙ ap (λ (es : List Entry). let R : Result (List Entry × Place) FormatFault = Ok (es, c.slots.new.cursor) in R) (sym pool)
+    pool_is c.args.cursor.now c.u2.new.self c.slots.new.cursor c.in_ok-count.count xs (Ok tt) count read
+    (told_is xs c.in_ok-pool.pool c.in_ok-offsets.offsets (Ok tt) pool offsets c.in_ok-all_named_right.ensures)
+    ∙ ap (λ (es : List Entry). let R : Result (List Entry × Place) FormatFault = Ok (es, c.slots.new.cursor) in R)
+    (sym pool)

@@ -9,7 +9,8 @@ pub returns-in_err-handler : goal.returns-in_err-handler
 returns-in_err-handler c =
     let p = err_from_is_err_and c.from_residual-in_err-handler.result c.from_residual-in_err-handler.ensures.1 in
     let r = read_handler c.args.pool.now c.args.starts.now c.args.end in
-    rw (p.1, p.2) (ends r c.in_err-handler.field-0.0 c.read_handler.new.cursor c.read_handler.new.cursor c.loop.handlers c.args.rows c.loop.counter c.loop.cursor (many c.args.rows r c.args.cursor.now) c.loop-test.true c.in_err-handler.ensures c.loop.invariant)
+    rw (p.1, p.2)
+    (ends r c.in_err-handler.field-0.0 c.read_handler.new.cursor c.read_handler.new.cursor c.loop.handlers c.args.rows c.loop.counter c.loop.cursor (many c.args.rows r c.args.cursor.now) c.loop-test.true c.in_err-handler.ensures c.loop.invariant)
 
 pub loop-preserved : goal.loop-preserved
 loop-preserved c =
@@ -20,4 +21,5 @@ loop-preserved c =
 pub returns : goal.returns
 returns c =
     let r = read_handler c.args.pool.now c.args.starts.now c.args.end in
-    is_done r c.loop.handlers c.args.rows c.loop.counter c.loop.cursor (many c.args.rows r c.args.cursor.now) c.loop-test.false c.loop.invariant
+    is_done r c.loop.handlers c.args.rows c.loop.counter c.loop.cursor
+    (many c.args.rows r c.args.cursor.now) c.loop-test.false c.loop.invariant

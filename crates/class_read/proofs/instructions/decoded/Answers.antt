@@ -11,9 +11,13 @@ pub or_left_out-requires : goal.or_left_out-requires
 or_left_out-requires c =
     let pool = c.pool.result.now.entries in
     let bytes = c.args.code.now in
-    let due : code_decoded pool bytes ≡ Err c.in-Err-Fault.wrong = subst (λ (e : Or CodeFault). FaultIs {V = Decoded} e (code_decoded pool bytes)) c.in-Err-Fault.field-0-is c.in-Err-Fault.ensures.exact in
+    let due : code_decoded pool bytes
+    ≡ Err c.in-Err-Fault.wrong = subst
+    (λ (e : Or CodeFault). FaultIs {V = Decoded} e
+    (code_decoded pool bytes)) c.in-Err-Fault.field-0-is c.in-Err-Fault.ensures.exact in
     let within = fault_within pool bytes c.in-Err-Fault.wrong (λ i. omega (arith, c.type_inv.code i)) due in
     omega (arith, within, c.requires.end)
 
 pub returns-in-Ok-clause-count : goal.returns-in-Ok-clause-count
-returns-in-Ok-clause-count c = count_within c.pool.result.now.entries c.args.code.now c.in-Ok.decoded (λ i. omega (arith, c.type_inv.code i)) c.in-Ok.ensures.exact
+returns-in-Ok-clause-count c = count_within c.pool.result.now.entries c.args.code.now c.in-Ok.decoded
+    (λ i. omega (arith, c.type_inv.code i)) c.in-Ok.ensures.exact

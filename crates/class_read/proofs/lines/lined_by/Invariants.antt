@@ -6,5 +6,6 @@ use Rattle.class_read.specs.Lines.{lined_by}
 use Rattle.class_read.proofs.lines.lined_by.Given as goal
 
 abbrev pub invariant-loop-op : goal.invariant-loop-op
-invariant-loop-op l = (l.ins ++ lined_by (found l.lines) (iter_rest l.starts) (into_iter_items l.op-iterator) ≡ lined_by (found l.lines) l.fn.starts l.fn.ops)
+invariant-loop-op l = (l.ins ++ lined_by (found l.lines) (iter_rest l.starts) (into_iter_items l.op-iterator)
+    ≡ lined_by (found l.lines) l.fn.starts l.fn.ops)
     × (into_iter_len l.op-iterator ≡ length (into_iter_items l.op-iterator))

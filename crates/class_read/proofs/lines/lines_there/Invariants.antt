@@ -6,4 +6,5 @@ use Rattle.class_read.proofs.lines.lines_there.Given as goal
 
 abbrev pub invariant-loop-row : goal.invariant-loop-row
 invariant-loop-row l = (length l.lines.items ≡ l.count)
-    × ((offset : ℕ) → offset < l.count → fold (last_there offset) (found l.lines.items offset) (drop l.row-index l.rows) ≡ line_there l.rows offset)
+    × ((offset : ℕ) → offset < l.count
+    → fold (last_there offset) (found l.lines.items offset) (drop l.row-index l.rows) ≡ line_there l.rows offset)

@@ -10,16 +10,19 @@ returns-in_err-seen c =
     let p = err_from_is_err_and c.from_residual.result c.from_residual.ensures.1 in
     let pool = c.args.pool.now in
     let known = known_of pool c.args.class.now c.args.head.now in
-    rw (p.1, p.2) (ends pool known c.in_err-seen.field-0.0 c.attribute.new.cursor c.attribute.new.cursor c.args.count c.loop.counter c.loop.seen c.loop.cursor (attributes c.args.count pool known no_method_attribute c.args.cursor.now) c.loop-test.true c.in_err-seen.ensures c.loop.invariant)
+    rw (p.1, p.2)
+    (ends pool known c.in_err-seen.field-0.0 c.attribute.new.cursor c.attribute.new.cursor c.args.count c.loop.counter c.loop.seen c.loop.cursor (attributes c.args.count pool known no_method_attribute c.args.cursor.now) c.loop-test.true c.in_err-seen.ensures c.loop.invariant)
 
 pub loop-preserved : goal.loop-preserved
 loop-preserved c =
     let pool = c.args.pool.now in
     let known = known_of pool c.args.class.now c.args.head.now in
-    goes_on pool known c.args.count c.loop.counter c.loop.seen c.in_ok-seen.seen c.loop.cursor c.attribute.new.cursor (attributes c.args.count pool known no_method_attribute c.args.cursor.now) c.loop-test.true c.in_ok-seen.ensures c.loop.invariant
+    goes_on pool known c.args.count c.loop.counter c.loop.seen c.in_ok-seen.seen c.loop.cursor c.attribute.new.cursor
+    (attributes c.args.count pool known no_method_attribute c.args.cursor.now) c.loop-test.true c.in_ok-seen.ensures c.loop.invariant
 
 pub returns : goal.returns
 returns c =
     let pool = c.args.pool.now in
     let known = known_of pool c.args.class.now c.args.head.now in
-    is_done pool known c.args.count c.loop.counter c.loop.seen c.loop.cursor (attributes c.args.count pool known no_method_attribute c.args.cursor.now) c.loop-test.false c.loop.invariant
+    is_done pool known c.args.count c.loop.counter c.loop.seen c.loop.cursor
+    (attributes c.args.count pool known no_method_attribute c.args.cursor.now) c.loop-test.false c.loop.invariant

@@ -5,4 +5,6 @@ use Rattle.class_model.specs.CanonicalClass.{handler_raw}
 use Rattle.class_write.proofs.code.put_handlers.Given as goal
 
 abbrev pub invariant-loop-handler : goal.invariant-loop-handler
-invariant-loop-handler l = l.out.items ≡ l.initial.out.items ++ flat_map exception_info (map (handler_raw l.pool l.places) (take l.handler-index l.handlers))
+invariant-loop-handler l = l.out.items
+    ≡ l.initial.out.items ++ flat_map exception_info
+    (map (handler_raw l.pool l.places) (take l.handler-index l.handlers))

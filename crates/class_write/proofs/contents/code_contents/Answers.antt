@@ -14,14 +14,16 @@ pub line_table-requires-clause-places : goal.line_table-requires-clause-places
 line_table-requires-clause-places c =
     let pool = c.args.pool.now in
     let ins = c.args.code.now.ins in
-    subst (λ (ps : List ℕ). All (λ place. place < 2 ^ 16) ps) (sym (c.as_slice.ensures ∙ ap (λ (p : PlacedCode). p.places) c.requires.placed))
+    subst (λ (ps : List ℕ). All (λ place. place < 2 ^ 16) ps)
+    (sym (c.as_slice.ensures ∙ ap (λ (p : PlacedCode). p.places) c.requires.placed))
     (places_short pool (2 ^ 16) (places pool ins) ins c.requires.code.code_length)
 
 pub write_frames_with-requires-clause-starts : goal.write_frames_with-requires-clause-starts
 write_frames_with-requires-clause-starts c =
     let pool = c.args.pool.now in
     let ins = c.args.code.now.ins in
-    subst (λ (ps : List ℕ). All (λ place. place < 2 ^ 16) ps) (sym (ap (λ (p : PlacedCode). p.places) c.requires.placed))
+    subst (λ (ps : List ℕ). All (λ place. place < 2 ^ 16) ps)
+    (sym (ap (λ (p : PlacedCode). p.places) c.requires.placed))
     (places_short pool (2 ^ 16) (places pool ins) ins c.requires.code.code_length)
 
 pub contents_length-length-requires-clause-lines : goal.contents_length-length-requires-clause-lines
@@ -39,12 +41,16 @@ returns-then-length-gt4294967295-clause-due c =
     let lines_are : c.in_ok-lines.lines.items ≡ lines_info pool first code =
     c.in_ok-lines.ensures.table ∙ (λ i. line_table pool (line_rows None (there i) (c.as_slice-2.ensures i))) in
     let frames_are : c.into_vec-frames.result.items ≡ frames_info pool first code =
-    c.into_vec-frames.ensures ∙ (c.in_ok-write_frames_with.ensures.canonical ∙ ap (λ (ps : List ℕ). stack_map_table (rows pool ps first None code.frames)) places_are) in
+    c.into_vec-frames.ensures
+    ∙ (c.in_ok-write_frames_with.ensures.canonical
+    ∙ ap (λ (ps : List ℕ). stack_map_table (rows pool ps first None code.frames)) places_are) in
     let lines_length : c.len-2.result ≡ length c.in_ok-lines.lines.items = search rules in
     let frames_length : c.len-3.result ≡ length c.into_vec-frames.result.items = search rules in
     let long : length (code_contents pool first code) ≡ c.contents_length-length.result =
-    length_is pool first code c.len.result c.len-2.result c.len-3.result (c.len.ensures ∙ ap (λ (p : PlacedCode). length p.bytes) c.requires.placed)
-    (lines_length ∙ ap length lines_are) (frames_length ∙ ap length frames_are) ∙ sym c.contents_length-length.ensures in
+    length_is pool first code c.len.result c.len-2.result c.len-3.result
+    (c.len.ensures ∙ ap (λ (p : PlacedCode). length p.bytes) c.requires.placed)
+    (lines_length ∙ ap length lines_are) (frames_length ∙ ap length frames_are)
+    ∙ sym c.contents_length-length.ensures in
     due_long pool first code c.contents_length-length.result long c.if-length-gt4294967295.true
 
 pub returns-clause-due : goal.returns-clause-due
@@ -57,12 +63,16 @@ returns-clause-due c =
     let lines_are : c.in_ok-lines.lines.items ≡ lines_info pool first code =
     c.in_ok-lines.ensures.table ∙ (λ i. line_table pool (line_rows None (there i) (c.as_slice-2.ensures i))) in
     let frames_are : c.into_vec-frames.result.items ≡ frames_info pool first code =
-    c.into_vec-frames.ensures ∙ (c.in_ok-write_frames_with.ensures.canonical ∙ ap (λ (ps : List ℕ). stack_map_table (rows pool ps first None code.frames)) places_are) in
+    c.into_vec-frames.ensures
+    ∙ (c.in_ok-write_frames_with.ensures.canonical
+    ∙ ap (λ (ps : List ℕ). stack_map_table (rows pool ps first None code.frames)) places_are) in
     let lines_length : c.len-2.result ≡ length c.in_ok-lines.lines.items = search rules in
     let frames_length : c.len-3.result ≡ length c.into_vec-frames.result.items = search rules in
     let long : length (code_contents pool first code) ≡ c.contents_length-length.result =
-    length_is pool first code c.len.result c.len-2.result c.len-3.result (c.len.ensures ∙ ap (λ (p : PlacedCode). length p.bytes) c.requires.placed)
-    (lines_length ∙ ap length lines_are) (frames_length ∙ ap length frames_are) ∙ sym c.contents_length-length.ensures in
+    length_is pool first code c.len.result c.len-2.result c.len-3.result
+    (c.len.ensures ∙ ap (λ (p : PlacedCode). length p.bytes) c.requires.placed)
+    (lines_length ∙ ap length lines_are) (frames_length ∙ ap length frames_are)
+    ∙ sym c.contents_length-length.ensures in
     let items_are : c.put_items.new.out.items ≡ [] ++ items_text pool code =
     c.in_ok-put_items.ensures ∙ ap (λ (xs : List ℕ). xs ++ items_text pool code) c.new-info.ensures.items in
     let whole : c.put_tables.new.out.items ≡ code_contents pool first code =
@@ -80,12 +90,16 @@ returns-clause-short c =
     let lines_are : c.in_ok-lines.lines.items ≡ lines_info pool first code =
     c.in_ok-lines.ensures.table ∙ (λ i. line_table pool (line_rows None (there i) (c.as_slice-2.ensures i))) in
     let frames_are : c.into_vec-frames.result.items ≡ frames_info pool first code =
-    c.into_vec-frames.ensures ∙ (c.in_ok-write_frames_with.ensures.canonical ∙ ap (λ (ps : List ℕ). stack_map_table (rows pool ps first None code.frames)) places_are) in
+    c.into_vec-frames.ensures
+    ∙ (c.in_ok-write_frames_with.ensures.canonical
+    ∙ ap (λ (ps : List ℕ). stack_map_table (rows pool ps first None code.frames)) places_are) in
     let lines_length : c.len-2.result ≡ length c.in_ok-lines.lines.items = search rules in
     let frames_length : c.len-3.result ≡ length c.into_vec-frames.result.items = search rules in
     let long : length (code_contents pool first code) ≡ c.contents_length-length.result =
-    length_is pool first code c.len.result c.len-2.result c.len-3.result (c.len.ensures ∙ ap (λ (p : PlacedCode). length p.bytes) c.requires.placed)
-    (lines_length ∙ ap length lines_are) (frames_length ∙ ap length frames_are) ∙ sym c.contents_length-length.ensures in
+    length_is pool first code c.len.result c.len-2.result c.len-3.result
+    (c.len.ensures ∙ ap (λ (p : PlacedCode). length p.bytes) c.requires.placed)
+    (lines_length ∙ ap length lines_are) (frames_length ∙ ap length frames_are)
+    ∙ sym c.contents_length-length.ensures in
     let items_are : c.put_items.new.out.items ≡ [] ++ items_text pool code =
     c.in_ok-put_items.ensures ∙ ap (λ (xs : List ℕ). xs ++ items_text pool code) c.new-info.ensures.items in
     let whole : c.put_tables.new.out.items ≡ code_contents pool first code =

@@ -9,5 +9,6 @@ pub put_handlers-requires-clause-places : goal.put_handlers-requires-clause-plac
 put_handlers-requires-clause-places c =
     let pool = c.args.pool.now in
     let ins = c.args.code.now.ins in
-    subst (λ (ps : List ℕ). All (λ place. place < 2 ^ 16) ps) (sym (c.as_slice-2.ensures ∙ ap (λ (p : PlacedCode). p.places) c.requires.placed))
+    subst (λ (ps : List ℕ). All (λ place. place < 2 ^ 16) ps)
+    (sym (c.as_slice-2.ensures ∙ ap (λ (p : PlacedCode). p.places) c.requires.placed))
     (places_short pool (2 ^ 16) (places pool ins) ins c.requires.code.code_length)

@@ -7,5 +7,6 @@ use Rattle.class_write.proofs.methods.put_methods.Given as goal
 
 abbrev pub invariant-loop-number : goal.invariant-loop-number
 invariant-loop-number l =
-    (l.out.items ≡ l.initial.out.items ++ flat_map member_info (map (method_raw l.pool l.class) (take l.number l.methods)))
+    (l.out.items ≡ l.initial.out.items ++ flat_map member_info
+    (map (method_raw l.pool l.class) (take l.number l.methods)))
     × (first_of (body_fits l.pool l.class) (drop l.number l.methods) ≡ first_of (body_fits l.pool l.class) l.methods)

@@ -4,4 +4,5 @@ use Rattle.constant_table.proofs.Told.{index_told}
 use Rattle.constant_table.proofs.finding.index_of_key.Goals as goal
 
 pub returns : goal.returns
-returns c = λ k e. c.index_of.ensures ∙ ap (index_in c.args.keys.now) e ∙ index_told c.args.texts.now c.args.keys.now k c.requires
+returns c = λ k e. c.index_of.ensures ∙ ap (index_in c.args.keys.now) e
+    ∙ index_told c.args.texts.now c.args.keys.now k c.requires

@@ -8,5 +8,6 @@ use Rattle.constant_table.proofs.items.put_all.Given as goal
 
 abbrev pub invariant-loop-key : goal.invariant-loop-key
 invariant-loop-key l =
-    (l.out.items ≡ l.initial.out.items ++ flat_map cp_info (flat_map (λ key. info_of (constants_of l.texts l.keys) (constant_of l.texts key)) (take l.key-index l.keys)))
+    (l.out.items ≡ l.initial.out.items ++ flat_map cp_info (flat_map
+    (λ key. info_of (constants_of l.texts l.keys) (constant_of l.texts key)) (take l.key-index l.keys)))
     × (first_of text_fits (map (constant_of l.texts) (drop l.key-index l.keys)) ≡ Ok tt)

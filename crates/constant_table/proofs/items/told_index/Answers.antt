@@ -12,7 +12,9 @@ overflow_cast-result c =
     let texts = c.args.texts.now in
     let k = constant_of texts c.args.key in
     let cs = constants_of texts c.args.keys.now in
-    let e : c.index_of_key.result ≡ index_of cs k = c.index_of_key.ensures k (sym (key_there texts c.args.key c.requires.keys.distinct c.requires.key)) in
+    let e : c.index_of_key.result
+    ≡ index_of cs k = c.index_of_key.ensures k
+    (sym (key_there texts c.args.key c.requires.keys.distinct c.requires.key)) in
     let within : position_or_len (same k) cs ≤ length cs = prefix_len-le-length _ cs in
     let count : length cs ≡ length c.args.keys.now = length-map c.args.keys.now (constant_of texts) in
     rw e (omega (arith, within, count, c.requires.count))
@@ -20,4 +22,5 @@ overflow_cast-result c =
 pub returns : goal.returns
 returns c =
     let texts = c.args.texts.now in
-    c.index_of_key.ensures (constant_of texts c.args.key) (sym (key_there texts c.args.key c.requires.keys.distinct c.requires.key))
+    c.index_of_key.ensures (constant_of texts c.args.key)
+    (sym (key_there texts c.args.key c.requires.keys.distinct c.requires.key))

@@ -6,7 +6,8 @@ use Rattle.constant_table.proofs.keys.add_key.Goals as goal
 
 pub returns-in-Some-clause-keys : goal.returns-in-Some-clause-keys
 returns-in-Some-clause-keys c =
-    put_again c.args.keys.now.items c.args.indices.now.entries c.args.key c.requires c.in-Some.field-0 (sym c.in-Some.is ∙ c.index_kept.ensures)
+    put_again c.args.keys.now.items c.args.indices.now.entries c.args.key c.requires c.in-Some.field-0
+    (sym c.in-Some.is ∙ c.index_kept.ensures)
 
 pub returns-in-None-clause-keys : goal.returns-in-None-clause-keys
 returns-in-None-clause-keys c =

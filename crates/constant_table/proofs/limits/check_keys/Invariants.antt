@@ -5,4 +5,5 @@ use Rattle.constant_table.proofs.limits.check_keys.Given as goal
 
 abbrev pub invariant-loop-key : goal.invariant-loop-key
 invariant-loop-key l =
-    first_of text_fits (map (constant_of l.texts) (drop l.key-index l.keys)) ≡ first_of text_fits (map (constant_of l.texts) l.keys)
+    first_of text_fits (map (constant_of l.texts) (drop l.key-index l.keys))
+    ≡ first_of text_fits (map (constant_of l.texts) l.keys)

@@ -15,5 +15,7 @@ returns-clause-put c =
     let class = units_of (canonical.type_name c.args.field.now.class) in
     let name = units_of c.args.field.now.name in
     let descriptor = units_of c.args.field.now.ty in
-    on_put c.args.texts.now texts c.args.keys.now c.put_member.new.keys c.put_member.result (part_keys m ++ field_key m ∷ []) _ c.keep_member.ensures.grows c.requires
-    (member_told texts m class name descriptor t (field_key m) (constant.Fieldref class name descriptor) (field_told texts m class name descriptor t)) c.put_member.ensures.put
+    on_put c.args.texts.now texts c.args.keys.now c.put_member.new.keys c.put_member.result
+    (part_keys m ++ field_key m ∷ []) _ c.keep_member.ensures.grows c.requires
+    (member_told texts m class name descriptor t (field_key m) (constant.Fieldref class name descriptor)
+    (field_told texts m class name descriptor t)) c.put_member.ensures.put

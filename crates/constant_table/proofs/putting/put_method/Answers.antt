@@ -15,5 +15,8 @@ returns-clause-put c =
     let class = units_of (canonical.type_name c.args.method.now.class) in
     let name = units_of c.args.method.now.name in
     let descriptor = units_of c.args.method.now.ty in
-    on_put c.args.texts.now texts c.args.keys.now c.put_member.new.keys c.put_member.result (part_keys m ++ c.method_key.result ∷ []) _ c.keep_member.ensures.grows c.requires
-    (member_told texts m class name descriptor t (c.method_key.result) (canonical.methodref c.args.method.now) (ap (constant_of texts) c.method_key.ensures ∙ method_told texts m class name descriptor t c.args.method.now.of_interface)) c.put_member.ensures.put
+    on_put c.args.texts.now texts c.args.keys.now c.put_member.new.keys c.put_member.result
+    (part_keys m ++ c.method_key.result ∷ []) _ c.keep_member.ensures.grows c.requires
+    (member_told texts m class name descriptor t (c.method_key.result) (canonical.methodref c.args.method.now)
+    (ap (constant_of texts) c.method_key.ensures
+    ∙ method_told texts m class name descriptor t c.args.method.now.of_interface)) c.put_member.ensures.put

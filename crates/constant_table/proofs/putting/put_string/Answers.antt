@@ -8,5 +8,6 @@ pub returns-clause-put : goal.returns-clause-put
 returns-clause-put c =
     let h = c.in_ok-number.ensures.text in
     let n = c.in_ok-number.number in
-    on_put c.args.texts.now c.keep_units.new.self c.args.keys.now c.put_keys.new.keys c.put_keys.result (key.Utf8 n ∷ key.Str n ∷ []) _ c.keep_units.ensures.grows c.requires
+    on_put c.args.texts.now c.keep_units.new.self c.args.keys.now c.put_keys.new.keys c.put_keys.result
+    (key.Utf8 n ∷ key.Str n ∷ []) _ c.keep_units.ensures.grows c.requires
     (λ i. constant.Utf8 (h.is i) ∷ constant.Str (h.is i) ∷ []) c.put_keys.ensures.put

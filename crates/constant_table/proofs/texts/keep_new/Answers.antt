@@ -11,7 +11,8 @@ returns-in_err-number-clause-numbers c = numbers_grown c.args.texts.now.keys c.p
 
 pub returns-in_err-put_number-clause-numbers : goal.returns-in_err-put_number-clause-numbers
 returns-in_err-put_number-clause-numbers c =
-    subst (λ (es : List (List ℕ × ℕ)). AreNumbers c.put_unit.new.texts.keys es) (sym c.in_err-put_number.ensures.unchanged)
+    subst (λ (es : List (List ℕ × ℕ)). AreNumbers c.put_unit.new.texts.keys es)
+    (sym c.in_err-put_number.ensures.unchanged)
     (numbers_grown c.args.texts.now.keys c.put_unit.new.texts.keys c.args.numbers.now.entries c.put_unit.ensures.grows c.requires)
 
 pub returns-clause-numbers : goal.returns-clause-numbers
@@ -23,5 +24,7 @@ returns-clause-numbers c =
     let e : c.in_ok-name.name ≡ c.args.text.now = search rules in
     number_put texts old c.put_number.new.numbers.entries c.args.text.now c.in_ok-number.number
     (numbers_grown c.args.texts.now.keys texts old c.put_unit.ensures.grows c.requires) h
-    (subst (λ (n : List ℕ). (t : List ℕ) → lookup (same_text t) c.put_number.new.numbers.entries ≡ cond (same_text n t) (Some c.in_ok-number.number) (lookup (same_text t) old)) e
+    (subst (λ (n : List ℕ). (t : List ℕ)
+    → lookup (same_text t) c.put_number.new.numbers.entries
+    ≡ cond (same_text n t) (Some c.in_ok-number.number) (lookup (same_text t) old)) e
     c.in_ok-put_number.ensures.kept)

@@ -4,14 +4,17 @@ use Rattle.format_reading.specs.Reader.{many}
 use Rattle.format_reading.proofs.Many.{is_done}
 use Rattle.class_model.specs.ReadingFrames.{read_type}
 use Rattle.frame_types.specs.Rows.{info_of}
-use Rattle.frame_types.proofs.Rows.{goes_on_as, faults}
+use Rattle.frame_types.proofs.Rows.{goes_on_as}
 use Rattle.frame_types.proofs.reading.type_infos.Goals as goal
+use Rattle.jv_ops.proofs.Loops.{many_fault}
 
 pub returns-in_err-next : goal.returns-in_err-next
 returns-in_err-next c =
     let p = err_from_is_err_and c.from_residual-in_err-next.result c.from_residual-in_err-next.ensures.1 in
     let total = many c.args.count read_type c.args.cursor.now in
-    rw (p.1, p.2) (faults read_type (map info_of c.loop.infos) c.args.count c.loop.counter c.loop.cursor c.in_err-next.field-0.0 total
+    rw (p.1, p.2)
+    (many_fault read_type
+    (map info_of c.loop.infos) c.args.count c.loop.counter c.loop.cursor c.in_err-next.field-0.0 total
     c.loop-test.true c.loop.invariant c.in_err-next.ensures)
 
 pub loop-preserved : goal.loop-preserved

@@ -5,4 +5,5 @@ use Rattle.frame_types.specs.Rows.{info_of}
 use Rattle.frame_types.proofs.reading.type_infos.Given as goal
 
 abbrev pub invariant-loop : goal.invariant-loop
-invariant-loop l = behind (map info_of l.infos) (many (l.count - l.counter) read_type l.cursor) ≡ many l.count read_type l.fn.cursor
+invariant-loop l = behind (map info_of l.infos) (many (l.count - l.counter) read_type l.cursor)
+    ≡ many l.count read_type l.fn.cursor

@@ -1,13 +1,14 @@
 use Rattle.std.proofs.Common.{◌≡◌, ◌+◌, ◌++◌, ◌∷◌, [], length, None, ap, ◌∙◌, arith}
 use Rattle.std.proofs.lemmas.List.{length_push}
 use Rattle.frame_types.specs.Numbers.{found}
-use Rattle.frame_types.proofs.Numbers.{found_push}
 use Rattle.frame_types.proofs.starts.grow.Goals as goal
+use Rattle.jv_ops.proofs.Numbers.{found_push}
 
 pub loop-preserved : goal.loop-preserved
 loop-preserved c =
     let e : c.push.new.self.items ≡ c.loop.table.items ++ None ∷ [] = c.in_ok-push.ensures.items in
-    let n : length c.push.new.self.items ≡ length c.loop.table.items + 1 = ap length e ∙ length_push c.loop.table.items None in
+    let n : length c.push.new.self.items ≡ length c.loop.table.items + 1 = ap length e
+    ∙ length_push c.loop.table.items None in
     let counted = c.loop.invariant.1 in
     let below = c.loop-test.true in (
       λ offset. ap (λ table. found table offset) e ∙ found_push c.loop.table.items offset

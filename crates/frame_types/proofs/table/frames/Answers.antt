@@ -24,10 +24,12 @@ loop-preserved c =
     let more = rows_go_on c.args.pool.now c.args.starts.now c.args.ops.now c.args.max_stack c.args.max_locals c.loop.names_float
     c.loop.frames c.args.count c.loop.counter (before_of c.loop.before) c.loop.cursor c.frame.new.cursor row total
     c.loop-test.true c.in_ok-floats.ensures c.loop.invariant in
-    let either : c.if-names_float.names_float ≡ (c.loop.names_float || c.in_ok-floats.floats) = elim c.if-names_float.branch [
+    let either : c.if-names_float.names_float
+    ≡ (c.loop.names_float || c.in_ok-floats.floats) = elim c.if-names_float.branch [
       | then-names_float w ↦ w.names_float-is ∙ w.if-names_float.true
           ∙ sym (ap (λ (b : Bool). b || c.in_ok-floats.floats) w.if-names_float.true)
-      | else-names_float w ↦ w.names_float-is ∙ sym (ap (λ (b : Bool). b || c.in_ok-floats.floats) w.if-names_float.false)
+      | else-names_float w ↦ w.names_float-is
+          ∙ sym (ap (λ (b : Bool). b || c.in_ok-floats.floats) w.if-names_float.false)
     ] in
     rw (e, either) more
 

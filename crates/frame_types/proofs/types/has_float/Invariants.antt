@@ -5,4 +5,5 @@ use Rattle.frame_types.specs.Rows.{info_of}
 use Rattle.frame_types.proofs.types.has_float.Given as goal
 
 abbrev pub invariant-loop-info : goal.invariant-loop-info
-invariant-loop-info l = list_any is_float_info (map info_of (drop l.info-index l.infos)) ≡ list_any is_float_info (map info_of l.infos)
+invariant-loop-info l = list_any is_float_info (map info_of (drop l.info-index l.infos))
+    ≡ list_any is_float_info (map info_of l.infos)

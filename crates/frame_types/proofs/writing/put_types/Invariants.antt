@@ -6,4 +6,5 @@ use Rattle.frame_types.proofs.writing.put_types.Given as goal
 
 abbrev pub invariant-loop-ty : goal.invariant-loop-ty
 invariant-loop-ty l =
-    l.out.items ≡ l.initial.out.items ++ flat_map verification_type_info (map (type_info l.constants l.starts) (take l.ty-index l.types))
+    l.out.items ≡ l.initial.out.items ++ flat_map verification_type_info
+    (map (type_info l.constants l.starts) (take l.ty-index l.types))

@@ -7,5 +7,6 @@ use Rattle.jv_base.proofs.descriptors.field_read.Given as goal
 abbrev pub invariant-loop-at : goal.invariant-loop-at
 invariant-loop-at l = record {
   placed : IsFieldPlaced l.text l.at l.read;
-  same : walk field_byte field_end (field_at l.text l.at l.read) l.at (drop l.at l.text) ≡ walk field_byte field_end (field_begun (brackets 0)) 0 l.text;
+  same : walk field_byte field_end (field_at l.text l.at l.read) l.at (drop l.at l.text)
+      ≡ walk field_byte field_end (field_begun (brackets 0)) 0 l.text;
 }

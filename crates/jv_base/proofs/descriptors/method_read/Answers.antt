@@ -1,4 +1,5 @@
-use Rattle.std.proofs.Common.{◌≡◌, Option, refl, ℕ, ◌+◌, ◌<◌, ◌≤◌, List, length, get_or, Some, None, ap, sym, ◌∙◌, arith}
+use Rattle.std.proofs.Common.{◌≡◌, Option, refl, ℕ, ◌+◌, ◌<◌, ◌≤◌, List, length, get_or, Some, None, ap, sym, ◌∙◌}
+use Rattle.std.proofs.Common.{arith}
 use Rattle.jv_base.specs.DescriptorPlaces.{method_next_at, method_read_at, part_at}
 use Rattle.jv_base.specs.declared.types.FieldType.{FieldType}
 use Rattle.jv_base.specs.declared.descriptors.MethodPart.{MethodPart}
@@ -9,7 +10,8 @@ use Rattle.jv_base.proofs.Walking.{goes_on, stops, is_done}
 use Rattle.jv_base.proofs.descriptors.method_read.Goals as goal
 
 -- only behind the result there is an end
-not_behind : (text : List ℕ) (at : ℕ) (args : List FieldType) (part : MethodPart) → ((ret : Option FieldType) → part ≡ Behind ret → ⊥) → part_end args (part_at text at part) ≡ None
+not_behind : (text : List ℕ) (at : ℕ) (args : List FieldType) (part : MethodPart)
+    → ((ret : Option FieldType) → part ≡ Behind ret → ⊥) → part_end args (part_at text at part) ≡ None
 not_behind text at args Before other = refl
 not_behind text at args (Parameter begun) other = refl
 not_behind text at args (Returned begun) other = refl
@@ -29,10 +31,14 @@ returns-in_default c =
     let size = c.as_bytes-byte-items.ensures.len in
     let test = c.loop-at-test.true in
     let within : at < length text = omega arith in
-    let same : get_or text at 0 ≡ get_or c.as_bytes-byte-items.result.now at 0 = ap (λ (xs : List ℕ). get_or xs at 0) (sym c.as_bytes-byte-items.ensures.value) in
+    let same : get_or text at 0
+    ≡ get_or c.as_bytes-byte-items.result.now at 0 = ap (λ (xs : List ℕ). get_or xs at 0)
+    (sym c.as_bytes-byte-items.ensures.value) in
     let s = method_read_at text at c.loop-at.read in
-    let none : method_byte s (get_or text at 0) ≡ None = ap (method_byte s) same ∙ sym c.in_ok-next.ensures.read ∙ ap (method_next_at text (at + 1)) c.in_default.is in
-    rw c.bad_descriptor.ensures (ap bad_descriptor (stops method_byte method_end text at s _ within none c.loop-at.invariant.same))
+    let none : method_byte s (get_or text at 0) ≡ None = ap (method_byte s) same ∙ sym c.in_ok-next.ensures.read
+    ∙ ap (method_next_at text (at + 1)) c.in_default.is in
+    rw c.bad_descriptor.ensures
+    (ap bad_descriptor (stops method_byte method_end text at s _ within none c.loop-at.invariant.same))
 
 pub loop-at-preserved : goal.loop-at-preserved
 loop-at-preserved c =
@@ -41,10 +47,13 @@ loop-at-preserved c =
     let size = c.as_bytes-byte-items.ensures.len in
     let test = c.loop-at-test.true in
     let within : at < length text = omega arith in
-    let same : get_or text at 0 ≡ get_or c.as_bytes-byte-items.result.now at 0 = ap (λ (xs : List ℕ). get_or xs at 0) (sym c.as_bytes-byte-items.ensures.value) in
+    let same : get_or text at 0
+    ≡ get_or c.as_bytes-byte-items.result.now at 0 = ap (λ (xs : List ℕ). get_or xs at 0)
+    (sym c.as_bytes-byte-items.ensures.value) in
     let s = method_read_at text at c.loop-at.read in
     let t = method_read_at text (at + 1) c.in-Some.next in
-    let some : method_byte s (get_or text at 0) ≡ Some t = ap (method_byte s) same ∙ sym c.in_ok-next.ensures.read ∙ ap (method_next_at text (at + 1)) c.in-Some.is in
+    let some : method_byte s (get_or text at 0) ≡ Some t = ap (method_byte s) same ∙ sym c.in_ok-next.ensures.read
+    ∙ ap (method_next_at text (at + 1)) c.in-Some.is in
     let placed = rw c.in-Some.is at c.in_ok-next.ensures.placed in
     record { placed = placed; same = goes_on method_byte method_end text at s t _ within some c.loop-at.invariant.same }
 
@@ -59,8 +68,10 @@ returns-in-Behind c =
     let counted = c.loop-at.auto.at-end in
     let most : at ≤ length text = omega arith in
     let s = method_read_at text at c.loop-at.read in
-    let end : method_end s ≡ Some _ = ap (λ p. part_end c.loop-at.read.parameters.types (part_at text at p)) c.in-Behind.is in
-    ap bad_descriptor (is_done method_byte method_end text at s _ most least c.loop-at.invariant.same ∙ ap (or_fault (length text)) end)
+    let end : method_end s ≡ Some _ = ap (λ p. part_end c.loop-at.read.parameters.types
+    (part_at text at p)) c.in-Behind.is in
+    ap bad_descriptor (is_done method_byte method_end text at s _ most least c.loop-at.invariant.same
+    ∙ ap (or_fault (length text)) end)
 
 pub returns-in_default-part : goal.returns-in_default-part
 unfolding read_method
@@ -73,5 +84,8 @@ returns-in_default-part c =
     let counted = c.loop-at.auto.at-end in
     let most : at ≤ length text = omega arith in
     let s = method_read_at text at c.loop-at.read in
-    let end : method_end s ≡ None = not_behind text at c.loop-at.read.parameters.types c.loop-at.read.part c.in_default-part.not-Behind in
-    rw c.bad_descriptor-in_default-part.ensures (ap bad_descriptor (is_done method_byte method_end text at s _ most least c.loop-at.invariant.same ∙ ap (or_fault (length text)) end))
+    let end : method_end s
+    ≡ None = not_behind text at c.loop-at.read.parameters.types c.loop-at.read.part c.in_default-part.not-Behind in
+    rw c.bad_descriptor-in_default-part.ensures
+    (ap bad_descriptor (is_done method_byte method_end text at s _ most least c.loop-at.invariant.same
+    ∙ ap (or_fault (length text)) end))

@@ -10,7 +10,8 @@ unfolding external_text
 returns-clause-written c =
     let ty = c.args.ty.now in
     let word = c.in_ok-push_word.ensures ∙ ap (λ (t : List ℕ). t ++ word_text ty.base) c.new-text.ensures.bytes in
-    c.in_ok-from_string.ensures ∙ c.in_ok-push_dimensions.ensures ∙ ap (λ (t : List ℕ). t ++ repeat ty.dims (codes "[]")) word
+    c.in_ok-from_string.ensures ∙ c.in_ok-push_dimensions.ensures
+    ∙ ap (λ (t : List ℕ). t ++ repeat ty.dims (codes "[]")) word
 
 pub returns-clause-read_back : goal.returns-clause-read_back
 returns-clause-read_back c = λ is. read_external-only _ c.args.ty.now (is, sym (returns-clause-written c))

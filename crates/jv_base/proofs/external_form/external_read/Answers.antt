@@ -13,10 +13,14 @@ returns-in_default c =
     let size = c.as_bytes-byte-items.ensures.len in
     let test = c.loop-at-test.true in
     let within : at < length text = omega arith in
-    let same : get_or text at 0 ≡ get_or c.as_bytes-byte-items.result.now at 0 = ap (λ (xs : List ℕ). get_or xs at 0) (sym c.as_bytes-byte-items.ensures.value) in
+    let same : get_or text at 0
+    ≡ get_or c.as_bytes-byte-items.result.now at 0 = ap (λ (xs : List ℕ). get_or xs at 0)
+    (sym c.as_bytes-byte-items.ensures.value) in
     let s = external_at text at c.loop-at.read in
-    let none : external_byte s (get_or text at 0) ≡ None = ap (external_byte s) same ∙ sym c.in_ok-next.ensures.read ∙ ap (external_next_at text (at + 1)) c.in_default.is in
-    rw c.bad_descriptor.ensures (ap bad_descriptor (stops external_byte external_end text at s _ within none c.loop-at.invariant.same))
+    let none : external_byte s (get_or text at 0) ≡ None = ap (external_byte s) same ∙ sym c.in_ok-next.ensures.read
+    ∙ ap (external_next_at text (at + 1)) c.in_default.is in
+    rw c.bad_descriptor.ensures
+    (ap bad_descriptor (stops external_byte external_end text at s _ within none c.loop-at.invariant.same))
 
 pub loop-at-preserved : goal.loop-at-preserved
 loop-at-preserved c =
@@ -25,10 +29,13 @@ loop-at-preserved c =
     let size = c.as_bytes-byte-items.ensures.len in
     let test = c.loop-at-test.true in
     let within : at < length text = omega arith in
-    let same : get_or text at 0 ≡ get_or c.as_bytes-byte-items.result.now at 0 = ap (λ (xs : List ℕ). get_or xs at 0) (sym c.as_bytes-byte-items.ensures.value) in
+    let same : get_or text at 0
+    ≡ get_or c.as_bytes-byte-items.result.now at 0 = ap (λ (xs : List ℕ). get_or xs at 0)
+    (sym c.as_bytes-byte-items.ensures.value) in
     let s = external_at text at c.loop-at.read in
     let t = external_at text (at + 1) c.in-Some.next in
-    let some : external_byte s (get_or text at 0) ≡ Some t = ap (external_byte s) same ∙ sym c.in_ok-next.ensures.read ∙ ap (external_next_at text (at + 1)) c.in-Some.is in
+    let some : external_byte s (get_or text at 0) ≡ Some t = ap (external_byte s) same ∙ sym c.in_ok-next.ensures.read
+    ∙ ap (external_next_at text (at + 1)) c.in-Some.is in
     let room = rw c.in-Some.is at c.in_ok-next.ensures.room in
     record { room = room; same = goes_on external_byte external_end text at s t _ within some c.loop-at.invariant.same }
 
@@ -44,8 +51,11 @@ returns-in_default-2 c =
     let most : at ≤ length text = omega arith in
     let here : at ≡ length text = omega arith in
     let s = external_at text at c.loop-at.read in
-    let end : external_end s ≡ None = ap (λ (n : ℕ). external_end (external_at text n c.loop-at.read)) here ∙ sym c.in_ok-ty.ensures ∙ c.in_default-2.is in
-    rw c.bad_descriptor-in_default-2.ensures (ap bad_descriptor (is_done external_byte external_end text at s _ most least c.loop-at.invariant.same ∙ ap (or_fault (length text)) end))
+    let end : external_end s ≡ None = ap (λ (n : ℕ). external_end (external_at text n c.loop-at.read)) here
+    ∙ sym c.in_ok-ty.ensures ∙ c.in_default-2.is in
+    rw c.bad_descriptor-in_default-2.ensures
+    (ap bad_descriptor (is_done external_byte external_end text at s _ most least c.loop-at.invariant.same
+    ∙ ap (or_fault (length text)) end))
 
 pub returns : goal.returns
 unfolding read_external
@@ -59,5 +69,8 @@ returns c =
     let most : at ≤ length text = omega arith in
     let here : at ≡ length text = omega arith in
     let s = external_at text at c.loop-at.read in
-    let end : external_end s ≡ Some c.in-Some-2.ty = ap (λ (n : ℕ). external_end (external_at text n c.loop-at.read)) here ∙ sym c.in_ok-ty.ensures ∙ c.in-Some-2.is in
-    ap bad_descriptor (is_done external_byte external_end text at s _ most least c.loop-at.invariant.same ∙ ap (or_fault (length text)) end)
+    let end : external_end s
+    ≡ Some c.in-Some-2.ty = ap (λ (n : ℕ). external_end (external_at text n c.loop-at.read)) here
+    ∙ sym c.in_ok-ty.ensures ∙ c.in-Some-2.is in
+    ap bad_descriptor (is_done external_byte external_end text at s _ most least c.loop-at.invariant.same
+    ∙ ap (or_fault (length text)) end)

@@ -6,5 +6,6 @@ use Rattle.jv_base.proofs.external_form.external_read.Given as goal
 abbrev pub invariant-loop-at : goal.invariant-loop-at
 invariant-loop-at l = record {
   room : HasRoom l.read;
-  same : walk external_byte external_end (external_at l.text l.at l.read) l.at (drop l.at l.text) ≡ walk external_byte external_end (word [] false) 0 l.text;
+  same : walk external_byte external_end (external_at l.text l.at l.read) l.at (drop l.at l.text)
+      ≡ walk external_byte external_end (word [] false) 0 l.text;
 }

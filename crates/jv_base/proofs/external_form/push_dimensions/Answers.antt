@@ -8,4 +8,6 @@ pub loop-preserved : goal.loop-preserved
 loop-preserved c =
     let before = string_bytes c.args.text.now in
     let n = c.loop.counter in
-    c.in_ok-push_str.ensures.bytes ∙ ap (λ (t : List ℕ). t ++ codes "[]") c.loop.invariant ∙ append_assoc before (repeat n (codes "[]")) (codes "[]") ∙ ap (λ (t : List ℕ). before ++ t) (repeat_push n (codes "[]"))
+    c.in_ok-push_str.ensures.bytes ∙ ap (λ (t : List ℕ). t ++ codes "[]") c.loop.invariant
+    ∙ append_assoc before (repeat n (codes "[]")) (codes "[]")
+    ∙ ap (λ (t : List ℕ). before ++ t) (repeat_push n (codes "[]"))

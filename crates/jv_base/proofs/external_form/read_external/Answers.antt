@@ -3,10 +3,13 @@ use Rattle.jv_base.proofs.Due.{due_found, due_only, due_fault}
 use Rattle.jv_base.proofs.external_form.read_external.Goals as goal
 
 pub returns-clause-found : goal.returns-clause-found
-returns-clause-found c = let due = rw c.as_str.ensures at c.external_read.ensures in due_found _ _ _ (read_external-found c.args.text.now) due
+returns-clause-found c = let due = rw c.as_str.ensures at c.external_read.ensures in due_found _ _ _
+    (read_external-found c.args.text.now) due
 
 pub returns-clause-only : goal.returns-clause-only
-returns-clause-only c = λ ty h. let due = rw c.as_str.ensures at c.external_read.ensures in due_only _ _ ty (read_external-only c.args.text.now ty h) due
+returns-clause-only c = λ ty h. let due = rw c.as_str.ensures at c.external_read.ensures in due_only _ _ ty
+    (read_external-only c.args.text.now ty h) due
 
 pub returns-clause-longest : goal.returns-clause-longest
-returns-clause-longest c = let due = rw c.as_str.ensures at c.external_read.ensures in due_fault _ _ _ (read_external-longest c.args.text.now) due
+returns-clause-longest c = let due = rw c.as_str.ensures at c.external_read.ensures in due_fault _ _ _
+    (read_external-longest c.args.text.now) due

@@ -10,5 +10,7 @@ loop-c-preserved c =
     let from = c.args.from in
     let to = c.args.to in
     let rest = chars_rest c.next.new.self in
-    ap (λ (t : List ℕ). t ++ map (swapped from to) rest) (c.in_ok-push.ensures.bytes ∙ ap (λ (n : ℕ). string_bytes c.loop-c.made ++ encode_utf8 n) c.swapped.ensures)
-    ∙ swapped_on from to c.in-Some.c (string_bytes c.loop-c.made) (chars_rest c.loop-c.c-iterator) rest _ c.requires.from c.requires.to c.in-Some.ensures.steps.0 c.loop-c.invariant
+    ap (λ (t : List ℕ). t ++ map (swapped from to) rest)
+    (c.in_ok-push.ensures.bytes ∙ ap (λ (n : ℕ). string_bytes c.loop-c.made ++ encode_utf8 n) c.swapped.ensures)
+    ∙ swapped_on from to c.in-Some.c (string_bytes c.loop-c.made)
+    (chars_rest c.loop-c.c-iterator) rest _ c.requires.from c.requires.to c.in-Some.ensures.steps.0 c.loop-c.invariant

@@ -4,4 +4,5 @@ use Rattle.jv_base.specs.External.{swapped}
 use Rattle.jv_base.proofs.external_form.with_swapped.Given as goal
 
 abbrev pub invariant-loop-c : goal.invariant-loop-c
-invariant-loop-c l = string_bytes l.made ++ map (swapped l.from l.to) (chars_rest l.c-iterator) ≡ map (swapped l.from l.to) l.text
+invariant-loop-c l = string_bytes l.made ++ map (swapped l.from l.to) (chars_rest l.c-iterator)
+    ≡ map (swapped l.from l.to) l.text

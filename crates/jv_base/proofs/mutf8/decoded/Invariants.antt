@@ -6,5 +6,6 @@ use Rattle.jv_base.proofs.mutf8.decoded.Given as goal
 abbrev pub invariant-loop-at : goal.invariant-loop-at
 invariant-loop-at l = record {
   bits : HasBits l.awaited;
-  same : decode_from (record { units = l.units; awaited = l.awaited }) l.at (drop l.at l.bytes) ≡ decode_from (record { units = []; awaited = Lead }) 0 l.bytes;
+  same : decode_from (record { units = l.units; awaited = l.awaited }) l.at (drop l.at l.bytes)
+      ≡ decode_from (record { units = []; awaited = Lead }) 0 l.bytes;
 }

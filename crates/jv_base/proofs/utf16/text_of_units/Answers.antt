@@ -8,7 +8,8 @@ pub returns-in_ok-from_string-in-Ok-clause-found : goal.returns-in_ok-from_strin
 returns-in_ok-from_string-in-Ok-clause-found c =
     let made = rw c.in-Ok.is at c.in_ok-text.ensures.ok in
     let P : List ℕ → Type 0 = λ (t : List ℕ). IsTextOf t c.args.units.now in
-    subst P (sym c.in_ok-from_string-in-Ok.ensures) (IsTextOf-made _ c.args.units.now (IsUtf8-string_bytes c.in-Ok.text) made)
+    subst P (sym c.in_ok-from_string-in-Ok.ensures)
+    (IsTextOf-made _ c.args.units.now (IsUtf8-string_bytes c.in-Ok.text) made)
 
 pub returns-in_ok-from_string-in-Ok-clause-only : goal.returns-in_ok-from_string-in-Ok-clause-only
 returns-in_ok-from_string-in-Ok-clause-only c = λ t h.

@@ -17,5 +17,6 @@ loop-index-preserved c =
 pub returns : goal.returns
 returns c =
     let pool = c.args.pool.now.entries in
-    let e : c.loop-index.index - 1 ≡ length pool - 1 = omega (arith, c.loop-index.invariant.1, c.loop-index-test.false, c.len-index-end.ensures) in
+    let e : c.loop-index.index - 1
+    ≡ length pool - 1 = omega (arith, c.loop-index.invariant.1, c.loop-index-test.false, c.len-index-end.ensures) in
     c.loop-index.invariant.0 ∙ ap (first_constants pool) e

@@ -12,10 +12,14 @@ pub returns : goal.returns
 returns c =
     let pool = c.args.pool.now in
     let bytes = c.args.bytes.now in
-    let due : IsDue c.decoded_in_steps.result (code_decoded pool bytes) = subst (λ (due : Result Decoded CodeFault). IsDue c.decoded_in_steps.result due) (decoded_is pool bytes (λ i. omega (arith, c.type_inv.bytes i))) c.decoded_in_steps.ensures in
+    let due : IsDue c.decoded_in_steps.result (code_decoded pool bytes) = subst
+    (λ (due : Result Decoded CodeFault). IsDue c.decoded_in_steps.result due)
+    (decoded_is pool bytes (λ i. omega (arith, c.type_inv.bytes i))) c.decoded_in_steps.ensures in
     record {
-      found = λ units. due_found (IsDecoded pool bytes) c.decoded_in_steps.result (code_decoded pool bytes) (λ d h. decoded_found pool bytes d (λ i. omega (arith, c.type_inv.bytes i)) units h) due;
+      found = λ units. due_found (IsDecoded pool bytes) c.decoded_in_steps.result (code_decoded pool bytes)
+          (λ d h. decoded_found pool bytes d (λ i. omega (arith, c.type_inv.bytes i)) units h) due;
       only = λ d h. due_only c.decoded_in_steps.result (code_decoded pool bytes) d (decoded_only pool bytes d h) due;
-      left_out = λ units. due_fault (ToldLeftOut pool bytes) c.decoded_in_steps.result (code_decoded pool bytes) (λ f h. decoded_left pool bytes f (λ i. omega (arith, c.type_inv.bytes i)) units h) due;
+      left_out = λ units. due_fault (ToldLeftOut pool bytes) c.decoded_in_steps.result (code_decoded pool bytes)
+          (λ f h. decoded_left pool bytes f (λ i. omega (arith, c.type_inv.bytes i)) units h) due;
       exact = due;
     }

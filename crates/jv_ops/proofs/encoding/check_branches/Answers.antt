@@ -13,4 +13,5 @@ returns-in_err-check_branch c =
     let p = err_from_is_err_and c.from_residual.result c.from_residual.ensures.1 in
     let limit = c.in_err-check_branch.field-0.0 in
     rw (p.1, p.2) (sym (branch_fault all ins n _ (branches_fit all 0 ins) limit c.loop-number-test.true
-    (subst (λ (i : Ins). branch_fits all n (branch_to i.op) ≡ Err limit) c.index-ins-number.is (sym c.in_err-check_branch.ensures)) c.loop-number.invariant))
+    (subst (λ (i : Ins). branch_fits all n (branch_to i.op) ≡ Err limit) c.index-ins-number.is
+    (sym c.in_err-check_branch.ensures)) c.loop-number.invariant))

@@ -11,7 +11,8 @@ put_op-requires-clause-places c =
     let pool = c.args.table.now in
     let ins = c.args.ins.now in
     subst (λ (all : List ℕ). All (λ place. place < 2 ^ 16) all) (sym c.requires.places)
-    (All-from_recursion (λ place. place < 2 ^ 16) (places pool ins) (places_short pool (2 ^ 16) c.args.places.now ins c.requires.length))
+    (All-from_recursion (λ place. place < 2 ^ 16) (places pool ins)
+    (places_short pool (2 ^ 16) c.args.places.now ins c.requires.length))
 
 pub loop-instruction-preserved : goal.loop-instruction-preserved
 loop-instruction-preserved c =

@@ -6,6 +6,7 @@ use Rattle.jv_ops.proofs.encoding.code_bytes.Given as goal
 
 abbrev pub invariant-loop-instruction : goal.invariant-loop-instruction
 invariant-loop-instruction l =
-    (l.bytes.items ++ bytes_from l.table l.places (length l.bytes.items) (drop l.instruction-index l.ins) ≡ code_bytes l.table l.places l.ins)
+    (l.bytes.items ++ bytes_from l.table l.places (length l.bytes.items) (drop l.instruction-index l.ins)
+    ≡ code_bytes l.table l.places l.ins)
     × (drop l.instruction-index l.places ≡ places_from l.table (length l.bytes.items) (drop l.instruction-index l.ins))
     × (branches_fit l.places l.instruction-index (drop l.instruction-index l.ins) ≡ Ok tt)

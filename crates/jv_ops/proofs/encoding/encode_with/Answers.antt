@@ -10,7 +10,8 @@ check_branches-requires-clause-places c =
     let pool = c.args.table.now in
     let ins = c.args.ins.now in
     let all = c.in_ok-places.places in
-    let h : placed pool ins ≡ Ok all = subst (λ (is : List Ins). placed pool is ≡ Ok all) c.as_slice.ensures c.in_ok-places.ensures in
+    let h : placed pool ins ≡ Ok all = subst (λ (is : List Ins). placed pool is
+    ≡ Ok all) c.as_slice.ensures c.in_ok-places.ensures in
     let is = placed_is pool ins all h in
     rw (c.as_slice-3.ensures, c.as_slice-2.ensures) (omega (arith, ap length is.0, places_count pool ins))
 
@@ -19,7 +20,8 @@ check_branches-requires-clause-good c =
     let pool = c.args.table.now in
     let ins = c.args.ins.now in
     let all = c.in_ok-places.places in
-    let h : placed pool ins ≡ Ok all = subst (λ (is : List Ins). placed pool is ≡ Ok all) c.as_slice.ensures c.in_ok-places.ensures in
+    let h : placed pool ins ≡ Ok all = subst (λ (is : List Ins). placed pool is
+    ≡ Ok all) c.as_slice.ensures c.in_ok-places.ensures in
     let is = placed_is pool ins all h in
     let le : length ins ≤ length all = omega (arith, ap length is.0, places_count pool ins) in
     rw (c.as_slice-3.ensures, c.as_slice-2.ensures) (all_good (length ins) (length all) le ins c.requires.good)
@@ -29,7 +31,8 @@ code_bytes-requires-clause-good c =
     let pool = c.args.table.now in
     let ins = c.args.ins.now in
     let all = c.in_ok-places.places in
-    let h : placed pool ins ≡ Ok all = subst (λ (is : List Ins). placed pool is ≡ Ok all) c.as_slice.ensures c.in_ok-places.ensures in
+    let h : placed pool ins ≡ Ok all = subst (λ (is : List Ins). placed pool is
+    ≡ Ok all) c.as_slice.ensures c.in_ok-places.ensures in
     let is = placed_is pool ins all h in
     let le : length ins ≤ length all = omega (arith, ap length is.0, places_count pool ins) in
     rw (c.as_slice-5.ensures, c.as_slice-4.ensures) (all_good (length ins) (length all) le ins c.requires.good)
@@ -39,7 +42,8 @@ code_bytes-requires-clause-places c =
     let pool = c.args.table.now in
     let ins = c.args.ins.now in
     let all = c.in_ok-places.places in
-    let h : placed pool ins ≡ Ok all = subst (λ (is : List Ins). placed pool is ≡ Ok all) c.as_slice.ensures c.in_ok-places.ensures in
+    let h : placed pool ins ≡ Ok all = subst (λ (is : List Ins). placed pool is
+    ≡ Ok all) c.as_slice.ensures c.in_ok-places.ensures in
     let is = placed_is pool ins all h in
     rw (c.as_slice-4.ensures, c.as_slice-5.ensures) is.0
 
@@ -48,6 +52,7 @@ code_bytes-requires-clause-length c =
     let pool = c.args.table.now in
     let ins = c.args.ins.now in
     let all = c.in_ok-places.places in
-    let h : placed pool ins ≡ Ok all = subst (λ (is : List Ins). placed pool is ≡ Ok all) c.as_slice.ensures c.in_ok-places.ensures in
+    let h : placed pool ins ≡ Ok all = subst (λ (is : List Ins). placed pool is
+    ≡ Ok all) c.as_slice.ensures c.in_ok-places.ensures in
     let is = placed_is pool ins all h in
     rw (c.as_slice-4.ensures, c.as_slice-5.ensures) is.1

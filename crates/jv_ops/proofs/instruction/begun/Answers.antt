@@ -26,7 +26,9 @@ returns-in-19 c = λ offset.
     let low : 19 ≤ code = search rules in
     let high : code ≤ 20 = search rules in
     let is : (eqb code 0x13 || eqb code 0x14) ≡ true = is_19_or_20 code low high in
-    subst (λ (r : Result (Reader Read) FormatKind). MovesOr c.ldc_wide.result c.ldc_wide.new.cursor (meant pool (onwards offset r c.args.cursor.now))) (sym (begun_load pool c.args.at code plain bipush sipush ldc is)) c.ldc_wide.ensures
+    subst (λ (r : Result (Reader Read) FormatKind). MovesOr c.ldc_wide.result c.ldc_wide.new.cursor
+    (meant pool (onwards offset r c.args.cursor.now)))
+    (sym (begun_load pool c.args.at code plain bipush sipush ldc is)) c.ldc_wide.ensures
 
 pub returns-in_default-opcode : goal.returns-in_default-opcode
 returns-in_default-opcode c = λ offset.
@@ -48,4 +50,6 @@ returns-in_default-opcode c = λ offset.
       multianewarray = search rules;
       invokedynamic = search rules;
     } in
-    subst (λ (r : Result (Reader Read) FormatKind). MovesOr c.begun_by_table.result c.begun_by_table.new.cursor (meant pool (onwards offset r c.args.cursor.now))) (sym (begun_other pool c.args.at c.args.opcode o)) (c.begun_by_table.ensures offset)
+    subst (λ (r : Result (Reader Read) FormatKind). MovesOr c.begun_by_table.result c.begun_by_table.new.cursor
+    (meant pool (onwards offset r c.args.cursor.now))) (sym (begun_other pool c.args.at c.args.opcode o))
+    (c.begun_by_table.ensures offset)

@@ -11,10 +11,13 @@ pub returns-then-is_local : goal.returns-then-is_local
 returns-then-is_local c = λ at.
     let pool = c.args.pool.now in
     let is = table_local pool c.args.opcode (sym c.is_local.ensures ∙ c.if-is_local.true) in
-    subst (λ (o : Result (Reader Read) FormatKind). MovesOr c.local.result c.local.new.cursor (meant pool (onwards at o c.args.cursor.now))) (sym is) (c.local.ensures pool)
+    subst (λ (o : Result (Reader Read) FormatKind). MovesOr c.local.result c.local.new.cursor
+    (meant pool (onwards at o c.args.cursor.now))) (sym is) (c.local.ensures pool)
 
 pub returns-then-is_branch : goal.returns-then-is_branch
 returns-then-is_branch c = λ at.
     let pool = c.args.pool.now in
-    let is = table_branch pool c.args.opcode (sym c.is_local.ensures ∙ c.if-is_local.false) (sym c.is_branch.ensures ∙ c.if-is_branch.true) in
-    subst (λ (o : Result (Reader Read) FormatKind). MovesOr c.branch-opcode.result c.branch-opcode.new.cursor (meant pool (onwards at o c.args.cursor.now))) (sym is) (c.branch-opcode.ensures pool)
+    let is = table_branch pool c.args.opcode (sym c.is_local.ensures ∙ c.if-is_local.false)
+    (sym c.is_branch.ensures ∙ c.if-is_branch.true) in
+    subst (λ (o : Result (Reader Read) FormatKind). MovesOr c.branch-opcode.result c.branch-opcode.new.cursor
+    (meant pool (onwards at o c.args.cursor.now))) (sym is) (c.branch-opcode.ensures pool)

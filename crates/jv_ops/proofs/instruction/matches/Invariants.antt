@@ -4,4 +4,5 @@ use Rattle.jv_ops.specs.Meaning.{matches_from}
 use Rattle.jv_ops.proofs.instruction.matches.Given as goal
 
 abbrev pub invariant-loop : goal.invariant-loop
-invariant-loop l = behind l.matches (matches_from (l.count - l.counter) l.previous l.cursor) ≡ matches_from l.count None l.fn.cursor
+invariant-loop l = behind l.matches (matches_from (l.count - l.counter) l.previous l.cursor)
+    ≡ matches_from l.count None l.fn.cursor

@@ -16,8 +16,10 @@ returns-in_err-next c =
 pub loop-preserved : goal.loop-preserved
 loop-preserved c =
     let e : c.push.new.self ≡ c.loop.offsets ++ c.in_ok-next.next ∷ [] = c.in_ok-push.ensures in
-    rw e (goes_on u4 c.loop.offsets c.args.count c.loop.counter c.loop.cursor c.offset.new.cursor c.in_ok-next.next (many c.args.count u4 c.args.cursor.now) c.loop-test.true
+    rw e (goes_on u4 c.loop.offsets c.args.count c.loop.counter c.loop.cursor c.offset.new.cursor c.in_ok-next.next
+    (many c.args.count u4 c.args.cursor.now) c.loop-test.true
     (told_ok (u4 c.loop.cursor) (c.in_ok-next.next, c.offset.new.cursor) c.in_ok-next.ensures) c.loop.invariant)
 
 pub returns : goal.returns
-returns c = ap told (is_done u4 c.loop.offsets c.args.count c.loop.counter c.loop.cursor (many c.args.count u4 c.args.cursor.now) c.loop-test.false c.loop.invariant)
+returns c = ap told (is_done u4 c.loop.offsets c.args.count c.loop.counter c.loop.cursor
+    (many c.args.count u4 c.args.cursor.now) c.loop-test.false c.loop.invariant)

@@ -10,5 +10,7 @@ use Rattle.jv_ops.proofs.instruction.widened.Goals as goal
 pub returns-in_default-2 : goal.returns-in_default-2
 returns-in_default-2 c = λ pool at.
     let other : eqb c.args.opcode 0x84 ≡ false = search rules in
-    let is = widened_local c.args.opcode other (sym c.is_left_out_local.ensures ∙ c.if-is_left_out_local.false) (sym c.is_local.ensures ∙ c.if-is_local.true) in
-    subst (λ (o : Result (Reader Read) FormatKind). MovesOr c.wide_local.result c.wide_local.new.cursor (meant pool (onwards at o c.args.cursor.now))) (sym is) (c.wide_local.ensures pool)
+    let is = widened_local c.args.opcode other (sym c.is_left_out_local.ensures ∙ c.if-is_left_out_local.false)
+    (sym c.is_local.ensures ∙ c.if-is_local.true) in
+    subst (λ (o : Result (Reader Read) FormatKind). MovesOr c.wide_local.result c.wide_local.new.cursor
+    (meant pool (onwards at o c.args.cursor.now))) (sym is) (c.wide_local.ensures pool)

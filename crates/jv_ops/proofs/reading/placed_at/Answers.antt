@@ -28,5 +28,7 @@ returns-in-Err-Fault c =
     let opcode : u1 c.args.cursor.now ≡ Ok (c.in-Ok.opcode, c.u1.new.self) = ap or_cut c.in-Ok.ensures in
     let read = meant c.args.pool.now (onwards at (begun c.args.pool.now at c.in-Ok.opcode) c.u1.new.self) in
     behind_opcode c.args.pool.now c.args.cursor.now c.u1.new.self at c.in-Ok.opcode c.place-at.ensures opcode
-    ∙ ap (at_offset at) (wrong_is c.in-Err-Fault.field-0 c.in-Err-Fault.wrong c.begun.new.cursor read c.in-Err-Fault.field-0-is (c.in-Err-Fault.ensures at))
+    ∙ ap (at_offset at)
+    (wrong_is c.in-Err-Fault.field-0 c.in-Err-Fault.wrong c.begun.new.cursor read c.in-Err-Fault.field-0-is
+    (c.in-Err-Fault.ensures at))
     ∙ ap (λ f. Err f) (sym c.code_fault.ensures)

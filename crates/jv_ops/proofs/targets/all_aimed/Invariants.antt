@@ -5,4 +5,6 @@ use Rattle.jv_ops.proofs.Collecting.{onto}
 use Rattle.jv_ops.proofs.targets.all_aimed.Given as goal
 
 abbrev pub invariant-loop-next : goal.invariant-loop-next
-invariant-loop-next l = (onto l.ops (collected (placed_aimed (aim_in l.table)) (into_iter_items l.next-iterator)) ≡ collected (placed_aimed (aim_in l.table)) l.fn.placed) × (into_iter_len l.next-iterator ≡ length (into_iter_items l.next-iterator))
+invariant-loop-next l = (onto l.ops (collected (placed_aimed (aim_in l.table)) (into_iter_items l.next-iterator))
+    ≡ collected (placed_aimed (aim_in l.table)) l.fn.placed)
+    × (into_iter_len l.next-iterator ≡ length (into_iter_items l.next-iterator))

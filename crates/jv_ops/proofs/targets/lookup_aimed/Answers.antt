@@ -10,9 +10,15 @@ pub returns-in_err-cases : goal.returns-in_err-cases
 returns-in_err-cases c =
     let f = aimed (aim_in c.args.table.now) c.args.at in
     let p = err_from_is_err_and c.from_residual.result c.from_residual.ensures.1 in
-    rw (p.1, p.2) (second_fault (f c.args.default) (λ other. collected (case_aimed (aim_in c.args.table.now) c.args.at) c.args.matches.now) (λ other cases. Ok (op.LookupSwitch other cases)) c.in-Ok.to c.in_err-cases.field-0.0 (sym c.in-Ok.ensures) c.in_err-cases.ensures)
+    rw (p.1, p.2) (second_fault (f c.args.default) (λ other. collected
+    (case_aimed (aim_in c.args.table.now) c.args.at) c.args.matches.now)
+    (λ other cases. Ok (op.LookupSwitch other cases)) c.in-Ok.to c.in_err-cases.field-0.0
+    (sym c.in-Ok.ensures) c.in_err-cases.ensures)
 
 pub returns : goal.returns
 returns c =
     let f = aimed (aim_in c.args.table.now) c.args.at in
-    second_step (f c.args.default) (λ other. collected (case_aimed (aim_in c.args.table.now) c.args.at) c.args.matches.now) (λ other cases. Ok (op.LookupSwitch other cases)) c.in-Ok.to c.in_ok-cases.cases (sym c.in-Ok.ensures) c.in_ok-cases.ensures
+    second_step (f c.args.default)
+    (λ other. collected (case_aimed (aim_in c.args.table.now) c.args.at) c.args.matches.now)
+    (λ other cases. Ok (op.LookupSwitch other cases)) c.in-Ok.to c.in_ok-cases.cases
+    (sym c.in-Ok.ensures) c.in_ok-cases.ensures

@@ -5,4 +5,6 @@ use Rattle.jv_ops.proofs.Numbers.{number_from}
 use Rattle.jv_ops.proofs.targets.numbers_of.Given as goal
 
 abbrev pub invariant-loop-number : goal.invariant-loop-number
-invariant-loop-number l = (offset : ℕ) → or_else (found l.table.items offset) (number_from offset l.number (drop l.number l.placed)) ≡ number_from offset 0 l.placed
+invariant-loop-number l = (offset : ℕ)
+    → or_else (found l.table.items offset) (number_from offset l.number (drop l.number l.placed))
+    ≡ number_from offset 0 l.placed

@@ -5,4 +5,5 @@ use Rattle.jv_ops.proofs.Collecting.{onto}
 use Rattle.jv_ops.proofs.targets.targets.Given as goal
 
 abbrev pub invariant-loop-offset : goal.invariant-loop-offset
-invariant-loop-offset l = onto l.targets (collected (aimed (aim_in l.table) l.at) (drop l.offset-index l.offsets)) ≡ collected (aimed (aim_in l.table) l.at) l.offsets
+invariant-loop-offset l = onto l.targets (collected (aimed (aim_in l.table) l.at) (drop l.offset-index l.offsets))
+    ≡ collected (aimed (aim_in l.table) l.at) l.offsets

@@ -6,4 +6,6 @@ use Rattle.jv_ops.specs.Coded.{match_of}
 use Rattle.jv_ops.proofs.writing.put_matches.Given as goal
 
 abbrev pub invariant-loop-case : goal.invariant-loop-case
-invariant-loop-case l = l.out.items ≡ l.initial.out.items ++ flat_map match_offset (map (match_of (slice_index l.places) l.at) (take l.case-index l.cases))
+invariant-loop-case l = l.out.items
+    ≡ l.initial.out.items ++ flat_map match_offset
+    (map (match_of (slice_index l.places) l.at) (take l.case-index l.cases))

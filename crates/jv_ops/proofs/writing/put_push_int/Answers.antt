@@ -10,6 +10,7 @@ pub put_load-requires : goal.put_load-requires
 put_load-requires c =
     let n = c.args.number in
     let e : to_z w32 (of_z w32 n) ≡ n = to_z-of_z w32 n c.ranges.number in
-    let h : is_short n ≡ false = subst (λ z. is_short z ≡ false) e (sym c.is_short.ensures.value ∙ c.if-is_short.false) in
+    let h : is_short n ≡ false = subst (λ z. is_short z ≡ false) e
+    (sym c.is_short.ensures.value ∙ c.if-is_short.false) in
     let r : index_of c.args.table.now (Integer n) < 2 ^ 16 = c.requires h in
     rw c.int_index.ensures (subst (λ z. index_of c.args.table.now (Integer z) < 2 ^ 16) (sym e) r)

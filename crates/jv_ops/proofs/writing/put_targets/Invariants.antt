@@ -6,4 +6,6 @@ use Rattle.class_model.specs.CanonicalCode.{far}
 use Rattle.jv_ops.proofs.writing.put_targets.Given as goal
 
 abbrev pub invariant-loop-to : goal.invariant-loop-to
-invariant-loop-to l = l.out.items ≡ l.initial.out.items ++ flat_map (to_be_bytes w32) (map (far [] (slice_index l.places) l.at) (take l.to-index l.cases))
+invariant-loop-to l = l.out.items
+    ≡ l.initial.out.items ++ flat_map (to_be_bytes w32)
+    (map (far [] (slice_index l.places) l.at) (take l.to-index l.cases))

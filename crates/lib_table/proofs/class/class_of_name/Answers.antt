@@ -7,12 +7,16 @@ pub overflow_cast-result : goal.overflow_cast-result
 overflow_cast-result c =
     let below : c.in_ok-number.number < 32 =
     subst (λ n. c.in_ok-number.number < n) count
-    (class_below c.args.name.now c.in_ok-number.number (class_found c.classes.result.now c.args.name.now c.classes.ensures ∙ sym c.row_of_name.ensures ∙ c.in_ok-number.was)) in
+    (class_below c.args.name.now c.in_ok-number.number
+    (class_found c.classes.result.now c.args.name.now c.classes.ensures ∙ sym c.row_of_name.ensures
+    ∙ c.in_ok-number.was)) in
     omega (arith, below)
 
 pub returns-in_err-number : goal.returns-in_err-number
 returns-in_err-number c =
-    c.from_residual.ensures ∙ sym (class_found c.classes.result.now c.args.name.now c.classes.ensures ∙ sym c.row_of_name.ensures ∙ c.in_err-number.was)
+    c.from_residual.ensures ∙ sym (class_found c.classes.result.now c.args.name.now c.classes.ensures
+    ∙ sym c.row_of_name.ensures ∙ c.in_err-number.was)
 
 pub returns : goal.returns
-returns c = sym (class_found c.classes.result.now c.args.name.now c.classes.ensures ∙ sym c.row_of_name.ensures ∙ c.in_ok-number.was)
+returns c = sym (class_found c.classes.result.now c.args.name.now c.classes.ensures ∙ sym c.row_of_name.ensures
+    ∙ c.in_ok-number.was)

@@ -9,11 +9,17 @@ pub returns-in_err-rest : goal.returns-in_err-rest
 returns-in_err-rest c =
     ap option_copied c.from_residual.ensures
     ∙ sym (sym c.loop-ty.invariant
-    ∙ ap (λ (t : List ℕ). behind t c.loop-ty.rest.now) (fields_are c.args.types.now c.loop-ty.ty-index c.ty-item.result c.loop-ty-test.true c.ty-item.is)
-    ∙ behind_stuck (field_text c.ty-item.result) (flat_map field_text (drop (c.loop-ty.ty-index + 1) c.args.types.now)) c.loop-ty.rest.now (sym c.in_err-rest.ensures))
+    ∙ ap (λ (t : List ℕ). behind t c.loop-ty.rest.now)
+    (fields_are c.args.types.now c.loop-ty.ty-index c.ty-item.result c.loop-ty-test.true c.ty-item.is)
+    ∙ behind_stuck (field_text c.ty-item.result)
+    (flat_map field_text (drop (c.loop-ty.ty-index + 1) c.args.types.now)) c.loop-ty.rest.now
+    (sym c.in_err-rest.ensures))
 
 pub loop-ty-preserved : goal.loop-ty-preserved
 loop-ty-preserved c =
-    sym (ap (λ (t : List ℕ). behind t c.loop-ty.rest.now) (fields_are c.args.types.now c.loop-ty.ty-index c.ty-item.result c.loop-ty-test.true c.ty-item.is)
-    ∙ behind_then (field_text c.ty-item.result) (flat_map field_text (drop (c.loop-ty.ty-index + 1) c.args.types.now)) c.loop-ty.rest.now c.in_ok-rest.rest.now (sym c.in_ok-rest.ensures))
+    sym (ap (λ (t : List ℕ). behind t c.loop-ty.rest.now)
+    (fields_are c.args.types.now c.loop-ty.ty-index c.ty-item.result c.loop-ty-test.true c.ty-item.is)
+    ∙ behind_then (field_text c.ty-item.result)
+    (flat_map field_text (drop (c.loop-ty.ty-index + 1) c.args.types.now)) c.loop-ty.rest.now c.in_ok-rest.rest.now
+    (sym c.in_ok-rest.ensures))
     ∙ c.loop-ty.invariant

@@ -5,4 +5,5 @@ use Rattle.lib_table.specs.Stripping.{behind}
 use Rattle.lib_table.proofs.descriptor.behind_fields.Given as goal
 
 abbrev pub invariant-loop-ty : goal.invariant-loop-ty
-invariant-loop-ty l = behind (flat_map field_text (drop l.ty-index l.types)) l.rest ≡ behind (flat_map field_text l.types) l.fn.text
+invariant-loop-ty l = behind (flat_map field_text (drop l.ty-index l.types)) l.rest
+    ≡ behind (flat_map field_text l.types) l.fn.text

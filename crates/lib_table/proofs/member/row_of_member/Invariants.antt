@@ -8,4 +8,5 @@ abbrev pub invariant-loop-member : goal.invariant-loop-member
 invariant-loop-member l =
     (l.at ≡ l.member-index)
     × (find (λ p. is_member l.name l.descriptor p.1) (enumerate_from 0 (map told_member l.members))
-    ≡ find (λ p. is_member l.name l.descriptor p.1) (enumerate_from l.member-index (map told_member (drop l.member-index l.members))))
+    ≡ find (λ p. is_member l.name l.descriptor p.1)
+    (enumerate_from l.member-index (map told_member (drop l.member-index l.members))))

@@ -14,4 +14,7 @@ returns-then-before-eq0 c =
 pub returns : goal.returns
 returns c =
     sym (method_is (map told_member c.args.members.now) c.args.k
-    ∙ ap (option_map member_told) (c.loop-member.invariant.1 ∙ no_method c.args.members.now c.loop-member.member-index c.loop-member.before (omega (arith, c.loop-member-test.false))))
+    ∙ ap (option_map member_told)
+    (c.loop-member.invariant.1
+    ∙ no_method c.args.members.now c.loop-member.member-index c.loop-member.before
+    (omega (arith, c.loop-member-test.false))))

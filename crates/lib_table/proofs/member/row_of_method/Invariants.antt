@@ -7,4 +7,5 @@ abbrev pub invariant-loop-member : goal.invariant-loop-member
 invariant-loop-member l =
     (l.at ≡ l.member-index)
     × (slice_get (filter (λ p. p.1.is_method) (enumerate_from 0 (map told_member l.members))) l.k
-    ≡ slice_get (filter (λ p. p.1.is_method) (enumerate_from l.member-index (map told_member (drop l.member-index l.members)))) l.before)
+    ≡ slice_get (filter (λ p. p.1.is_method) (enumerate_from l.member-index
+    (map told_member (drop l.member-index l.members)))) l.before)

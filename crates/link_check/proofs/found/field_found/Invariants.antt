@@ -7,6 +7,7 @@ use Rattle.link_check.proofs.found.field_found.Given as goal
 
 abbrev pub invariant-loop-class : goal.invariant-loop-class
 invariant-loop-class l = record {
-  same : first_declared l.set (l.name, l.ty) (flat_map (λ d. d ∷ own_superinterfaces l.set d) l.class-iterator) ≡ field_found l.set l.fn.class (l.name, l.ty);
+  same : first_declared l.set (l.name, l.ty) (flat_map (λ d. d ∷ own_superinterfaces l.set d) l.class-iterator)
+      ≡ field_found l.set l.fn.class (l.name, l.ty);
   there : All (IsClass l.set) l.class-iterator;
 }

@@ -7,6 +7,7 @@ use Rattle.link_check.proofs.found.nearest_declared.Given as goal
 
 abbrev pub invariant-loop-class : goal.invariant-loop-class
 invariant-loop-class l = record {
-  same : first_declared l.set (l.name, l.ty) l.class-iterator ≡ first_declared l.set (l.name, l.ty) (superclasses_from l.set l.fn.class);
+  same : first_declared l.set (l.name, l.ty) l.class-iterator
+      ≡ first_declared l.set (l.name, l.ty) (superclasses_from l.set l.fn.class);
   there : All (IsClass l.set) l.class-iterator;
 }

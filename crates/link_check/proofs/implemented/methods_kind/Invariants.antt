@@ -7,4 +7,5 @@ use Rattle.link_check.proofs.implemented.methods_kind.Given as goal
 
 abbrev pub invariant-loop-index : goal.invariant-loop-index
 invariant-loop-index l =
-    l.kind ≡ least (flat_map (λ m. cond (is_instance_method l.set m) (selected_kinds l.set l.number m) []) (take l.index (members_of l.set l.interface)))
+    l.kind ≡ least (flat_map (λ m. cond (is_instance_method l.set m) (selected_kinds l.set l.number m) [])
+    (take l.index (members_of l.set l.interface)))

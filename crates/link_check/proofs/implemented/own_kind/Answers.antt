@@ -9,6 +9,7 @@ use Rattle.link_check.proofs.implemented.own_kind.Goals as goal
 
 pub returns : goal.returns
 returns c =
-    let f : ClassId → List ProfileKind = λ i. flat_map (selected_kinds c.args.set.now c.args.number) (methods_of c.args.set.now i) in
+    let f : ClassId → List ProfileKind = λ i. flat_map (selected_kinds c.args.set.now c.args.number)
+    (methods_of c.args.set.now i) in
     c.interfaces_kind.ensures ∙ ap (λ (is : List ClassId). least (flat_map f is)) c.own_superinterfaces.ensures.are
     ∙ least_once f (own_superinterfaces c.args.set.now c.args.class.now)

@@ -9,5 +9,6 @@ use Rattle.link_check.proofs.implemented.superinterfaces_kind.Given as goal
 abbrev pub invariant-loop-class : goal.invariant-loop-class
 invariant-loop-class l = record {
   there : All (IsClass l.set) l.class-iterator;
-  gathered : Gathered (λ d. flat_map (running_kinds_of l.set l.number) (own_superinterfaces l.set d)) (superclasses_up l.set l.fn.class) l.class-iterator l.kind;
+  gathered : Gathered (λ d. flat_map (running_kinds_of l.set l.number) (own_superinterfaces l.set d))
+      (superclasses_up l.set l.fn.class) l.class-iterator l.kind;
 }

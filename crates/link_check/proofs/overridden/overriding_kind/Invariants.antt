@@ -9,5 +9,6 @@ use Rattle.link_check.proofs.overridden.overriding_kind.Given as goal
 abbrev pub invariant-loop-class : goal.invariant-loop-class
 invariant-loop-class l = record {
   there : All (IsClass l.set) l.class-iterator;
-  gathered : Gathered (overridden_in l.set l.m) (superclasses_up l.set (start_at l.known l.number)) l.class-iterator l.kind;
+  gathered : Gathered (overridden_in l.set l.m)
+      (superclasses_up l.set (start_at l.known l.number)) l.class-iterator l.kind;
 }

@@ -8,5 +8,6 @@ use Rattle.link_check.proofs.overriding.has_open_override.Given as goal
 abbrev pub invariant-loop-class : goal.invariant-loop-class
 invariant-loop-class l = record {
   there : All (IsClass l.set) l.class-iterator;
-  found : opened_in l.set l.above l.opened l.class-iterator ≡ has_open_override l.set l.above (alike_from l.set l.above l.fn.class);
+  found : opened_in l.set l.above l.opened l.class-iterator
+      ≡ has_open_override l.set l.above (alike_from l.set l.above l.fn.class);
 }

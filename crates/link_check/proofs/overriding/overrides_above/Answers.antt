@@ -29,30 +29,40 @@ at_none false false xa op other may = refl
 pub returns-then-is_same : goal.returns-then-is_same
 returns-then-is_same c =
     c.is_same.ensures
-    ∙ at_same _ (may_override c.args.set.now c.args.m.now) (may_be_overridden c.args.set.now c.args.m.now.class c.args.above.now)
-    (has_open_override c.args.set.now c.args.above.now (alike_from c.args.set.now c.args.above.now c.args.m.now.class)) (sym c.is_same.ensures ∙ c.if-is_same.true)
+    ∙ at_same _ (may_override c.args.set.now c.args.m.now)
+    (may_be_overridden c.args.set.now c.args.m.now.class c.args.above.now)
+    (has_open_override c.args.set.now c.args.above.now (alike_from c.args.set.now c.args.above.now c.args.m.now.class))
+    (sym c.is_same.ensures ∙ c.if-is_same.true)
     ∙ sym (overridden_below c.args.set.now c.args.above.now c.args.m.now c.requires.own c.requires.alike c.requires.below)
 
 pub returns-then-may_be_overridden : goal.returns-then-may_be_overridden
 returns-then-may_be_overridden c =
     c.may_be_overridden.ensures
-    ∙ at_may_be (same_member c.args.m.now c.args.above.now) (may_override c.args.set.now c.args.m.now) (may_be_overridden c.args.set.now c.args.m.now.class c.args.above.now)
-    (has_open_override c.args.set.now c.args.above.now (alike_from c.args.set.now c.args.above.now c.args.m.now.class)) (sym c.is_same.ensures ∙ c.if-is_same.false)
-    (sym c.may_override.ensures ∙ c.if-may_override.true) (sym c.may_be_overridden.ensures ∙ c.if-may_be_overridden.true)
+    ∙ at_may_be (same_member c.args.m.now c.args.above.now) (may_override c.args.set.now c.args.m.now)
+    (may_be_overridden c.args.set.now c.args.m.now.class c.args.above.now)
+    (has_open_override c.args.set.now c.args.above.now (alike_from c.args.set.now c.args.above.now c.args.m.now.class))
+    (sym c.is_same.ensures ∙ c.if-is_same.false)
+    (sym c.may_override.ensures ∙ c.if-may_override.true)
+    (sym c.may_be_overridden.ensures ∙ c.if-may_be_overridden.true)
     ∙ sym (overridden_below c.args.set.now c.args.above.now c.args.m.now c.requires.own c.requires.alike c.requires.below)
 
 pub returns-else-may_be_overridden : goal.returns-else-may_be_overridden
 returns-else-may_be_overridden c =
     c.has_open_override.ensures
-    ∙ at_open (same_member c.args.m.now c.args.above.now) (may_override c.args.set.now c.args.m.now) (may_be_overridden c.args.set.now c.args.m.now.class c.args.above.now)
-    (has_open_override c.args.set.now c.args.above.now (alike_from c.args.set.now c.args.above.now c.args.m.now.class)) (sym c.is_same.ensures ∙ c.if-is_same.false)
-    (sym c.may_override.ensures ∙ c.if-may_override.true) (sym c.may_be_overridden.ensures ∙ c.if-may_be_overridden.false)
+    ∙ at_open (same_member c.args.m.now c.args.above.now) (may_override c.args.set.now c.args.m.now)
+    (may_be_overridden c.args.set.now c.args.m.now.class c.args.above.now)
+    (has_open_override c.args.set.now c.args.above.now (alike_from c.args.set.now c.args.above.now c.args.m.now.class))
+    (sym c.is_same.ensures ∙ c.if-is_same.false)
+    (sym c.may_override.ensures ∙ c.if-may_override.true)
+    (sym c.may_be_overridden.ensures ∙ c.if-may_be_overridden.false)
     ∙ sym (overridden_below c.args.set.now c.args.above.now c.args.m.now c.requires.own c.requires.alike c.requires.below)
 
 pub returns-else-may_override : goal.returns-else-may_override
 returns-else-may_override c =
     c.may_override.ensures
-    ∙ at_none (same_member c.args.m.now c.args.above.now) (may_override c.args.set.now c.args.m.now) (may_be_overridden c.args.set.now c.args.m.now.class c.args.above.now)
-    (has_open_override c.args.set.now c.args.above.now (alike_from c.args.set.now c.args.above.now c.args.m.now.class)) (sym c.is_same.ensures ∙ c.if-is_same.false)
+    ∙ at_none (same_member c.args.m.now c.args.above.now) (may_override c.args.set.now c.args.m.now)
+    (may_be_overridden c.args.set.now c.args.m.now.class c.args.above.now)
+    (has_open_override c.args.set.now c.args.above.now (alike_from c.args.set.now c.args.above.now c.args.m.now.class))
+    (sym c.is_same.ensures ∙ c.if-is_same.false)
     (sym c.may_override.ensures ∙ c.if-may_override.false)
     ∙ sym (overridden_below c.args.set.now c.args.above.now c.args.m.now c.requires.own c.requires.alike c.requires.below)

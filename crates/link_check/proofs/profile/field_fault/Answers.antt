@@ -7,7 +7,8 @@ use Rattle.link_check.proofs.profile.field_fault.Goals as goal
 
 pub returns-in-Some : goal.returns-in-Some
 returns-in-Some c =
-    let h : ℕ × Field → Option ProfileFault = λ p. fault_at c.args.number (Some p.0) (kinds_of_field c.args.set.now c.args.number c.args.class.now p.0 p.1) in
+    let h : ℕ × Field → Option ProfileFault = λ p. fault_at c.args.number (Some p.0)
+    (kinds_of_field c.args.set.now c.args.number c.args.class.now p.0 p.1) in
     let i : ℕ = c.loop-index.index in
     let f : Field = c.index-field.result.now in
     let within : i < length c.args.class.now.fields = omega (arith, c.loop-index-test.true, c.len-index-end.ensures) in
@@ -15,15 +16,18 @@ returns-in-Some c =
     sym (
     c.loop-index.invariant
     ∙ first_here h 0 c.args.class.now.fields i i f fault (omega arith) within c.index-field.ensures
-    (fault_is c.args.number (Some i) (kinds_of_field c.args.set.now c.args.number c.args.class.now i f) c.kind_of_field.result c.in-Some.kind c.kind_of_field.ensures c.in-Some.is)
+    (fault_is c.args.number (Some i)
+    (kinds_of_field c.args.set.now c.args.number c.args.class.now i f) c.kind_of_field.result c.in-Some.kind c.kind_of_field.ensures c.in-Some.is)
     )
 
 pub loop-index-preserved : goal.loop-index-preserved
 loop-index-preserved c =
-    let h : ℕ × Field → Option ProfileFault = λ p. fault_at c.args.number (Some p.0) (kinds_of_field c.args.set.now c.args.number c.args.class.now p.0 p.1) in
+    let h : ℕ × Field → Option ProfileFault = λ p. fault_at c.args.number (Some p.0)
+    (kinds_of_field c.args.set.now c.args.number c.args.class.now p.0 p.1) in
     let i : ℕ = c.loop-index.index in
     let f : Field = c.index-field.result.now in
     let within : i < length c.args.class.now.fields = omega (arith, c.loop-index-test.true, c.len-index-end.ensures) in
     c.loop-index.invariant
     ∙ first_next h 0 c.args.class.now.fields i i f (omega arith) within c.index-field.ensures
-    (fault_none c.args.number (Some i) (kinds_of_field c.args.set.now c.args.number c.args.class.now i f) c.kind_of_field.result c.kind_of_field.ensures c.in_default.is)
+    (fault_none c.args.number (Some i)
+    (kinds_of_field c.args.set.now c.args.number c.args.class.now i f) c.kind_of_field.result c.kind_of_field.ensures c.in_default.is)

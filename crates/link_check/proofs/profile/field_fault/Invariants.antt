@@ -7,5 +7,6 @@ use Rattle.link_check.proofs.profile.field_fault.Given as goal
 
 abbrev pub invariant-loop-index : goal.invariant-loop-index
 invariant-loop-index l =
-    let fault : ℕ × Field → Option ProfileFault = λ p. fault_at l.number (Some p.0) (kinds_of_field l.set l.number l.class p.0 p.1) in
+    let fault : ℕ × Field → Option ProfileFault = λ p. fault_at l.number (Some p.0)
+    (kinds_of_field l.set l.number l.class p.0 p.1) in
     first_from fault 0 l.class.fields 0 ≡ first_from fault 0 l.class.fields l.index

@@ -7,4 +7,5 @@ use Rattle.link_check.proofs.profile.first_fault.Given as goal
 
 abbrev pub invariant-loop-number : goal.invariant-loop-number
 invariant-loop-number l =
-    first (flat_map (λ p. faults_of l.set p.0 p.1) (enumerate_from 0 l.set)) ≡ first_from (λ p. first (faults_of l.set p.0 p.1)) 0 l.set l.number
+    first (flat_map (λ p. faults_of l.set p.0 p.1) (enumerate_from 0 l.set))
+    ≡ first_from (λ p. first (faults_of l.set p.0 p.1)) 0 l.set l.number

@@ -9,5 +9,7 @@ use Rattle.link_check.proofs.profile.method_fault.Given as goal
 
 abbrev pub invariant-loop-at : goal.invariant-loop-at
 invariant-loop-at l =
-    let fault : ℕ × Method → Option ProfileFault = λ p. fault_at l.number (Some p.0) (kinds_of_method l.set l.number l.class p.0 p.1) in
-    first (filter_map fault (enumerate_from (length l.class.fields) l.class.methods)) ≡ first_from fault (length l.class.fields) l.class.methods l.at
+    let fault : ℕ × Method → Option ProfileFault = λ p. fault_at l.number (Some p.0)
+    (kinds_of_method l.set l.number l.class p.0 p.1) in
+    first (filter_map fault (enumerate_from (length l.class.fields) l.class.methods))
+    ≡ first_from fault (length l.class.fields) l.class.methods l.at

@@ -8,5 +8,6 @@ use Rattle.link_check.proofs.selection.first_instance.Given as goal
 abbrev pub invariant-loop-class : goal.invariant-loop-class
 invariant-loop-class l = record {
   there : All (IsClass l.set) l.class-iterator;
-  found : find (is_instance_method l.set) (declared_by l.set (named_at l.set l.m) l.class-iterator) ≡ first_instance l.set l.fn.class (named_at l.set l.m);
+  found : find (is_instance_method l.set) (declared_by l.set (named_at l.set l.m) l.class-iterator)
+      ≡ first_instance l.set l.fn.class (named_at l.set l.m);
 }

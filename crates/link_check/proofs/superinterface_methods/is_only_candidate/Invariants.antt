@@ -7,7 +7,8 @@ use Rattle.link_check.proofs.superinterface_methods.is_only_candidate.Given as g
 
 abbrev pub invariant-loop-m : goal.invariant-loop-m
 invariant-loop-m l = record {
-  same : list_all (same_member l.one) (filter (is_candidate l.set (superinterface_methods l.set l.class (l.name, l.ty))) l.m-iterator)
+  same : list_all (same_member l.one)
+      (filter (is_candidate l.set (superinterface_methods l.set l.class (l.name, l.ty))) l.m-iterator)
       ≡ list_all (same_member l.one) (candidates l.set (superinterface_methods l.set l.class (l.name, l.ty)));
   there : All (IsMember l.set) l.m-iterator;
 }

@@ -6,5 +6,6 @@ use Rattle.link_check.proofs.superinterface_methods.is_subinterface.Goals as goa
 
 pub loop-interface-init : goal.loop-interface-init
 loop-interface-init c =
-    ap (list_any (same_class c.args.above.now)) (c.into_iter-interface-iterator.ensures.into_iter_gives ∙ c.of-interface-items.ensures.are)
+    ap (list_any (same_class c.args.above.now))
+    (c.into_iter-interface-iterator.ensures.into_iter_gives ∙ c.of-interface-items.ensures.are)
     ∙ subinterface_met c.args.set.now c.args.below c.args.above.now

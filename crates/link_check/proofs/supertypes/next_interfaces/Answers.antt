@@ -13,5 +13,6 @@ loop-class-preserved c = record {
   left = c.loop-class.invariant.left
       ∙ class_skipped c.args.set.now c.loop-class.classes c.next.new.self c.own_superinterfaces-own.result.now c.in-Some.class c.in-Some.ensures.steps
       c.own_superinterfaces-own.ensures.are (sym c.is_empty-in-Some.ensures ∙ c.if-not-is_empty-2.false);
-  there = All-rest (IsClass c.args.set.now) c.in-Some.class c.next.new.self c.loop-class.classes c.in-Some.ensures.steps c.loop-class.invariant.there;
+  there = All-rest
+      (IsClass c.args.set.now) c.in-Some.class c.next.new.self c.loop-class.classes c.in-Some.ensures.steps c.loop-class.invariant.there;
 }

@@ -7,7 +7,8 @@ use Rattle.mark_core.proofs.Growing.{grows_trans}
 use Rattle.mark_core.proofs.plain.mark_all.Goals as goal
 
 pub mark-requires-clause-due : goal.mark-requires-clause-due
-mark-requires-clause-due c = All-get_or (IsMarked c.args.sys.now) c.args.items.now c.loop-item.item-index 0 c.loop-item-test.true c.requires.due
+mark-requires-clause-due c = All-get_or
+    (IsMarked c.args.sys.now) c.args.items.now c.loop-item.item-index 0 c.loop-item-test.true c.requires.due
 
 pub loop-item-preserved : goal.loop-item-preserved
 loop-item-preserved c =
@@ -15,10 +16,13 @@ loop-item-preserved c =
       c.in_ok-mark.ensures.sound,
       grows_trans c.args.work.now c.loop-item.work c.mark.new.work c.loop-item.invariant.1 grows,
       All-more (Has c.mark.new.work) c.args.items.now c.loop-item.item-index 0 c.loop-item-test.true
-          (All-weaker (Has c.loop-item.work) (Has c.mark.new.work) grows.keeps (take c.loop-item.item-index c.args.items.now) c.loop-item.invariant.2)
+          (All-weaker (Has c.loop-item.work) (Has c.mark.new.work) grows.keeps
+          (take c.loop-item.item-index c.args.items.now) c.loop-item.invariant.2)
           c.in_ok-mark.ensures.has,
     )
 
 pub returns-clause-has : goal.returns-clause-has
 returns-clause-has c =
-    subst (All (Has c.loop-item.work)) (take_all c.loop-item.item-index c.args.items.now (omega (arith, c.loop-item-test.false))) c.loop-item.invariant.2
+    subst (All (Has c.loop-item.work))
+    (take_all c.loop-item.item-index c.args.items.now
+    (omega (arith, c.loop-item-test.false))) c.loop-item.invariant.2

@@ -8,5 +8,10 @@ mark-requires-clause-due c =
     let sound = c.requires.sound in
     let marks = c.args.work.now.marks.items in
     derived_due c.args.sys.now c.args.pair c.requires.listed
-    (sound.due c.args.pair.one (read_true marks c.args.pair.one _ (subst (λ k. c.args.pair.one < k) (sym sound.count) c.requires.below.0) c.index.ensures c.if-index.true))
-    (sound.due c.args.pair.two (read_true marks c.args.pair.two _ (subst (λ k. c.args.pair.two < k) (sym sound.count) c.requires.below.1) c.index-then-index.ensures c.if-index-2.true))
+    (sound.due c.args.pair.one
+    (read_true marks c.args.pair.one _
+    (subst (λ k. c.args.pair.one < k) (sym sound.count) c.requires.below.0) c.index.ensures c.if-index.true))
+    (sound.due c.args.pair.two
+    (read_true marks c.args.pair.two _
+    (subst (λ k. c.args.pair.two < k)
+    (sym sound.count) c.requires.below.1) c.index-then-index.ensures c.if-index-2.true))

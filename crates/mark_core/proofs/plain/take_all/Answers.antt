@@ -8,11 +8,14 @@ use Rattle.mark_core.proofs.plain.take_all.Goals as goal
 pub take-requires-clause-due : goal.take-requires-clause-due
 take-requires-clause-due c =
     let sound = c.loop-item.invariant.sound in
-    sound.due c.in-Some.item (All-contains (Has c.loop-item.work) c.loop-item.work.waiting.items c.in-Some.item sound.marked
-    (subst (λ l. Contains l c.in-Some.item) (sym c.in-Some.ensures.items) (Contains-push c.pop.new.self.items c.in-Some.item)))
+    sound.due c.in-Some.item
+    (All-contains (Has c.loop-item.work) c.loop-item.work.waiting.items c.in-Some.item sound.marked
+    (subst (λ l. Contains l c.in-Some.item) (sym c.in-Some.ensures.items)
+    (Contains-push c.pop.new.self.items c.in-Some.item)))
 
 pub loop-item-preserved : goal.loop-item-preserved
 loop-item-preserved c =
-    open_after c.args.sys.now c.loop-item.work (record { marks = c.loop-item.work.marks; waiting = c.pop.new.self }) c.take.new.work c.in-Some.item
+    open_after c.args.sys.now c.loop-item.work
+    (record { marks = c.loop-item.work.marks; waiting = c.pop.new.self }) c.take.new.work c.in-Some.item
     c.loop-item.invariant refl c.in-Some.ensures.items
     c.in_ok-take.ensures.sound c.in_ok-take.ensures.grows c.in_ok-take.ensures.needs c.in_ok-take.ensures.pairs

@@ -5,4 +5,5 @@ use Rattle.jv_base.specs.External.{external_text}
 use Rattle.report_text.proofs.spelled.push_types.Given as goal
 
 abbrev pub invariant-loop-ty : goal.invariant-loop-ty
-invariant-loop-ty l = string_bytes l.text ≡ string_bytes l.initial.text ++ flat_map (λ ty. codes "," ++ external_text ty) (take l.ty-index l.rest)
+invariant-loop-ty l = string_bytes l.text
+    ≡ string_bytes l.initial.text ++ flat_map (λ ty. codes "," ++ external_text ty) (take l.ty-index l.rest)

@@ -17,7 +17,9 @@ loop-instruction-preserved c =
     elim c.match-called_item.branch [
       | in-Some+in_ok-push w ↦ record {
         are = given h c.args.ins.now i x [] c.loop-instruction.items c.match-called_item.items w.in-Some.item lt c.instruction-item.is c.loop-instruction.invariant.are (sym c.called_item.ensures.is ∙ w.in-Some.is) (w.items-is ∙ w.in_ok-push.ensures);
-        below = All-same (λ y. y < count) _ _ (w.items-is ∙ w.in_ok-push.ensures) (All-push (λ y. y < count) c.loop-instruction.items w.in-Some.item c.loop-instruction.invariant.below (subst (λ r. IfSome r (λ y. y < count)) w.in-Some.is c.called_item.ensures.below));
+        below = All-same (λ y. y < count) _ _ (w.items-is ∙ w.in_ok-push.ensures)
+            (All-push (λ y. y < count) c.loop-instruction.items w.in-Some.item c.loop-instruction.invariant.below
+            (subst (λ r. IfSome r (λ y. y < count)) w.in-Some.is c.called_item.ensures.below));
       }
       | in_default w ↦ record {
         are = not_given h c.args.ins.now i x [] c.loop-instruction.items c.match-called_item.items lt c.instruction-item.is c.loop-instruction.invariant.are (sym c.called_item.ensures.is ∙ w.in_default.is) w.items-is;

@@ -8,6 +8,7 @@ use Rattle.require_sys.proofs.needs.called_items.Given as goal
 
 abbrev pub invariant-loop-instruction : goal.invariant-loop-instruction
 invariant-loop-instruction l = record {
-  are : l.items ≡ filter_map (λ (i : Ins). called_item l.numbered.set.now l.number i.op) (take l.instruction-index l.ins);
+  are : l.items ≡ filter_map (λ (i : Ins). called_item l.numbered.set.now l.number i.op)
+      (take l.instruction-index l.ins);
   below : AreBelow (item_count l.numbered.set.now) l.items;
 }

@@ -12,8 +12,11 @@ overflow_add-next-in-loop-number-2 c =
 pub loop-number-preserved : goal.loop-number-preserved
 loop-number-preserved c =
     let next = class_item-next c.args.set.now c.loop-number.number c.class-class.result.now c.class-class.ensures.is in
-    let sum : c.loop-number.next + (1 + (c.len.result + c.len-in-loop-number.result)) ≡ class_item c.args.set.now (c.loop-number.number + 1) =
+    let sum : c.loop-number.next + (1 + (c.len.result + c.len-in-loop-number.result))
+    ≡ class_item c.args.set.now (c.loop-number.number + 1) =
     omega (arith, next, c.loop-number.invariant.next, c.len.ensures, c.len-in-loop-number.ensures) in
-    let grown : c.push-in-loop-number.new.self ≡ c.loop-number.starts ++ (c.loop-number.next + (1 + (c.len.result + c.len-in-loop-number.result))) ∷ [] = search rules in
+    let grown : c.push-in-loop-number.new.self
+    ≡ c.loop-number.starts ++
+    (c.loop-number.next + (1 + (c.len.result + c.len-in-loop-number.result))) ∷ [] = search rules in
     let more = table_more c.args.set.now c.loop-number.number _ c.loop-number.starts c.push-in-loop-number.new.self c.loop-number.invariant.count c.loop-number.invariant.each sum grown in
     record { next = sum; count = more.0; each = more.1 }

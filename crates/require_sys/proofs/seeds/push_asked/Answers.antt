@@ -17,7 +17,9 @@ loop-method-preserved c =
     elim c.match-asked_item.branch [
       | in-Some+in_ok-push w ↦ record {
         pushed = given h c.args.asked.now i m c.args.items.now c.loop-method.items c.match-asked_item.items w.in-Some.item lt c.method-item.is c.loop-method.invariant.pushed (sym c.asked_item.ensures.is ∙ w.in-Some.is) (w.items-is ∙ w.in_ok-push.ensures);
-        below = All-same (λ x. x < count) _ _ (w.items-is ∙ w.in_ok-push.ensures) (All-push (λ x. x < count) c.loop-method.items w.in-Some.item c.loop-method.invariant.below (subst (λ r. IfSome r (λ x. x < count)) w.in-Some.is c.asked_item.ensures.below));
+        below = All-same (λ x. x < count) _ _ (w.items-is ∙ w.in_ok-push.ensures)
+            (All-push (λ x. x < count) c.loop-method.items w.in-Some.item c.loop-method.invariant.below
+            (subst (λ r. IfSome r (λ x. x < count)) w.in-Some.is c.asked_item.ensures.below));
       }
       | in_default w ↦ record {
         pushed = not_given h c.args.asked.now i m c.args.items.now c.loop-method.items c.match-asked_item.items lt c.method-item.is c.loop-method.invariant.pushed (sym c.asked_item.ensures.is ∙ w.in_default.is) w.items-is;

@@ -17,4 +17,6 @@ push_asked-requires c =
     let count : ℕ = item_count c.args.numbered.now.set.now in
     let counted = length-kept c.args.numbered.now.set.now in
     let most : 0 + length (flat_map are_kept_anyway c.args.numbered.now.set.now) ≤ count = omega (arith, counted) in
-    All-same (λ x. x < count) _ _ (c.in_ok-seeds.ensures ∙ ap (places_of_true 0) (c.as_slice.ensures ∙ c.in_ok-kept.ensures)) (places_below count 0 (flat_map are_kept_anyway c.args.numbered.now.set.now) most)
+    All-same (λ x. x < count) _ _
+    (c.in_ok-seeds.ensures ∙ ap (places_of_true 0) (c.as_slice.ensures ∙ c.in_ok-kept.ensures))
+    (places_below count 0 (flat_map are_kept_anyway c.args.numbered.now.set.now) most)

@@ -9,7 +9,8 @@ use Rattle.set_read.proofs.reading.read_files.Goals as goal
 
 pub loop-file-init : goal.loop-file-init
 loop-file-init c =
-    let all : into_iter_items c.into_iter-file-iterator.result ≡ c.args.files = c.into_iter-file-iterator.ensures.into_iter_gives.0 ∙ c.into_vec-file-items.ensures in
+    let all : into_iter_items c.into_iter-file-iterator.result
+    ≡ c.args.files = c.into_iter-file-iterator.ensures.into_iter_gives.0 ∙ c.into_vec-file-items.ensures in
     record {
       read = rw (all, c.new-classes.ensures) (starts c.args.files);
       counted = search rules;
@@ -28,7 +29,10 @@ returns-in_err-class c =
     let so : ReadSoFar c.args.files (c.in-Some.file ∷ rest) c.loop-file.classes =
     subst (λ (left : List FileAt). ReadSoFar c.args.files left c.loop-file.classes) c.in-Some.ensures.steps.0 c.loop-file.invariant.read in
     let p = err_from_is_err_and c.from_residual.result c.from_residual.ensures.1 in
-    record { exact = rw (p.1, p.2) (stops_at c.args.files rest c.loop-file.classes c.in-Some.file c.in_err-class.field-0.0 so c.in_err-class.ensures.exact) }
+    record {
+      exact = rw (p.1, p.2)
+          (stops_at c.args.files rest c.loop-file.classes c.in-Some.file c.in_err-class.field-0.0 so c.in_err-class.ensures.exact);
+    }
 
 pub loop-file-preserved : goal.loop-file-preserved
 loop-file-preserved c =
@@ -48,4 +52,7 @@ pub returns : goal.returns
 returns c =
     let left : List FileAt = into_iter_items c.loop-file.file-iterator in
     let none : left ≡ [] = nil_from_length left (sym c.loop-file.invariant.counted ∙ c.in-None.ensures.steps.0) in
-    record { exact = ends c.args.files c.loop-file.classes (subst (λ (fs : List FileAt). ReadSoFar c.args.files fs c.loop-file.classes) none c.loop-file.invariant.read) }
+    record {
+      exact = ends c.args.files c.loop-file.classes
+          (subst (λ (fs : List FileAt). ReadSoFar c.args.files fs c.loop-file.classes) none c.loop-file.invariant.read);
+    }

@@ -8,5 +8,6 @@ pub returns-clause-ascending : goal.returns-clause-ascending
 unfolding IsStrictlySortedBy
 returns-clause-ascending c =
     let file : FileAt = c.in_ok-file.field-0 in
-    let put : c.push.new.self ≡ file ∷ [] = c.in_ok-push.ensures ∙ ap (λ (fs : List FileAt). fs ++ file ∷ []) c.new-files.ensures in
+    let put : c.push.new.self ≡ file ∷ [] = c.in_ok-push.ensures
+    ∙ ap (λ (fs : List FileAt). fs ++ file ∷ []) c.new-files.ensures in
     subst (λ (fs : List FileAt). IsAscending (map (λ (f : FileAt). f.path) fs)) (sym put) (tt, tt)

@@ -21,6 +21,7 @@ pub files_of-requires : goal.files_of-requires
 files_of-requires c = record {
   writable =
       let classes : List Class = c.into_classes-classes.result in
-      let writable : AllByRecursion IsWritable classes = subst (AllByRecursion IsWritable) (sym c.into_classes-classes.ensures) c.requires.writable in
+      let writable : AllByRecursion IsWritable classes = subst (AllByRecursion IsWritable)
+      (sym c.into_classes-classes.ensures) c.requires.writable in
       subst (AllByRecursion IsWritable) (sym c.in_ok-kept.ensures) (kept_writable classes c.in_ok-marks.marks writable);
 }

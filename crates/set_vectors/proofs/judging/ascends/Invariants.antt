@@ -7,4 +7,5 @@ use Rattle.set_vectors.proofs.judging.ascends.Given as goal
 
 abbrev pub invariant-loop-number : goal.invariant-loop-number
 invariant-loop-number l =
-    (i j : ℕ) (d : NamedClass) → i < j → j < l.number → is_lt (slice_cmp nat_cmp (slice_index_or l.files i d).path (slice_index_or l.files j d).path) ≡ true
+    (i j : ℕ) (d : NamedClass) → i < j → j < l.number
+    → is_lt (slice_cmp nat_cmp (slice_index_or l.files i d).path (slice_index_or l.files j d).path) ≡ true

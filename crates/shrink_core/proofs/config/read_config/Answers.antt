@@ -6,4 +6,6 @@ use Rattle.shrink_core.proofs.config.read_config.Goals as goal
 
 pub returns-in-Ok-clause-none : goal.returns-in-Ok-clause-none
 returns-in-Ok-clause-none c =
-    subst (λ (text : List ℕ). IfOk c.config_of.result (λ config. IfNone config ((other : Config) → IsConfig text other → ⊥))) c.in-Ok.ensures.cases.0 c.config_of.ensures.none
+    subst (λ (text : List ℕ). IfOk c.config_of.result
+    (λ config. IfNone config ((other : Config) → IsConfig text other
+    → ⊥))) c.in-Ok.ensures.cases.0 c.config_of.ensures.none

@@ -12,5 +12,6 @@ returns-in_err-bytes-clause-seen g c =
 pub returns-clause-seen : goal.returns-clause-seen
 returns-clause-seen g c =
     let answer = c.config_in.result in
-    let is : ConfigOf answer c.in_ok-bytes.bytes = subst (λ (t : List _). ConfigOf answer t) c.as_slice.ensures c.config_in.ensures in
+    let is : ConfigOf answer c.in_ok-bytes.bytes = subst
+    (λ (t : List _). ConfigOf answer t) c.as_slice.ensures c.config_in.ensures in
     config_seen c.args.path.now c.in_ok-bytes.bytes answer _ _ _ _ c.in_ok-bytes.ensures.seen is

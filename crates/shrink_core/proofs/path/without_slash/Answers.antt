@@ -11,4 +11,6 @@ returns-in-Some c =
     sym (ap without_slash is ∙ without_slash-append c.in-Some.front.now)
 
 pub returns-in-None : goal.returns-in-None
-returns-in-None c = sym (without_slash_same c.args.text.now (strip_suffix_char 47 c.args.text.now None c.in-None.ensures.cases (omega arith)))
+returns-in-None c = sym
+    (without_slash_same c.args.text.now
+    (strip_suffix_char 47 c.args.text.now None c.in-None.ensures.cases (omega arith)))

@@ -29,6 +29,7 @@ returns-clause-seen g c =
     let config = c.in_ok-config.config in
     let set = c.in_ok-set.set in
     planned named config set c.plan_of.result _ _ _ _
-    (taken named config set _ _ _ _ _ _ (emptied named config _ _ _ _ _ _ c.in_ok-config.ensures.seen (c.in_ok-check_empty.ensures.seen named.config))
+    (taken named config set _ _ _ _ _ _
+    (emptied named config _ _ _ _ _ _ c.in_ok-config.ensures.seen (c.in_ok-check_empty.ensures.seen named.config))
     (c.in_ok-set.ensures.seen named.config))
     c.plan_of.ensures.planned

@@ -14,8 +14,10 @@ returns-in-Ok-clause-ended g c =
 
 pub returns-in-Err-Failed-clause-ended : goal.returns-in-Err-Failed-clause-ended
 returns-in-Err-Failed-clause-ended g c =
-    writing_stopped c.args.named.now c.in_ok-plan.plan written.Failed _ _ _ _ _ _ c.in_ok-plan.ensures.seen (rw c.in-Err-Failed.field-0-is at c.in-Err-Failed.ensures.written)
+    writing_stopped c.args.named.now c.in_ok-plan.plan written.Failed _ _ _ _ _ _ c.in_ok-plan.ensures.seen
+    (rw c.in-Err-Failed.field-0-is at c.in-Err-Failed.ensures.written)
 
 pub returns-clause-ended : goal.returns-clause-ended
 returns-clause-ended g c =
-    writing_stopped c.args.named.now c.in_ok-plan.plan written.OutOfMemory _ _ _ _ _ _ c.in_ok-plan.ensures.seen (rw c.in-Err-OutOfMemory.field-0-is at c.in-Err-OutOfMemory.ensures.written)
+    writing_stopped c.args.named.now c.in_ok-plan.plan written.OutOfMemory _ _ _ _ _ _ c.in_ok-plan.ensures.seen
+    (rw c.in-Err-OutOfMemory.field-0-is at c.in-Err-OutOfMemory.ensures.written)

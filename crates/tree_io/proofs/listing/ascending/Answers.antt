@@ -4,4 +4,5 @@ use Rattle.std.proofs.lemmas.List.Kept.{IsStrictlySortedBy-dedup}
 use Rattle.tree_io.proofs.listing.ascending.Goals as goal
 
 pub returns : goal.returns
-returns c = rw (dedup_is _ _ _ c.dedup.ensures.filtered) (IsStrictlySortedBy-dedup nat_list_cmp_total texts_ties _ c.in_ok-sort.ensures.sorted)
+returns c = rw (dedup_is _ _ _ c.dedup.ensures.filtered)
+    (IsStrictlySortedBy-dedup nat_list_cmp_total texts_ties _ c.in_ok-sort.ensures.sorted)

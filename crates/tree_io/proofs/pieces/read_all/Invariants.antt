@@ -3,4 +3,5 @@ use Rattle.std.specs.Io.KnownBytes.{Consumes}
 use Rattle.tree_io.proofs.pieces.read_all.Given as goal
 
 abbrev pub invariant-loop : goal.invariant-loop
-invariant-loop g l = (vec_len l.bytes ≤ l.max) × Consumes (g.F.Read.remaining l.fn.file) (g.F.Read.remaining l.file) l.bytes.items
+invariant-loop g l = (vec_len l.bytes ≤ l.max)
+    × Consumes (g.F.Read.remaining l.fn.file) (g.F.Read.remaining l.file) l.bytes.items

@@ -3,7 +3,8 @@ use Rattle.std.specs.Io.KnownBytes.{Appends}
 use Rattle.tree_io.proofs.pieces.write_all.Given as goal
 
 abbrev pub invariant-loop-rest : goal.invariant-loop-rest
-invariant-loop-rest g l = (done : List ℕ) × (l.fn.bytes ≡ done ++ l.rest) × Appends (g.F.Write.contents l.fn.file) (g.F.Write.contents l.file) done
+invariant-loop-rest g l = (done : List ℕ) × (l.fn.bytes ≡ done ++ l.rest)
+    × Appends (g.F.Write.contents l.fn.file) (g.F.Write.contents l.file) done
 
 abbrev pub decreases-loop-rest : goal.decreases-loop-rest
 decreases-loop-rest g l = length l.rest

@@ -8,7 +8,8 @@ use Rattle.class_pool.proofs.met.Met.meet_all.Goals as goal
 pub loop-id-init : goal.loop-id-init
 loop-id-init c = record {
   count = refl;
-  ids = sym (ap (λ (t : List ClassId). c.args.self.now.ids ++ t) (once_none c.args.self.now.ids) ∙ append-nil c.args.self.now.ids);
+  ids = sym (ap (λ (t : List ClassId). c.args.self.now.ids ++ t) (once_none c.args.self.now.ids)
+      ∙ append-nil c.args.self.now.ids);
 }
 
 pub loop-id-preserved : goal.loop-id-preserved

@@ -5,5 +5,6 @@ use Rattle.class_pool.proofs.set.ClassSet.declared_in.Goals as goal
 pub returns-clause-there : goal.returns-clause-there
 returns-clause-there c = (
   c.requires.there,
-  declared_below c.args.self.now c.args.id c.args.name.now c.args.ty.now c.in_ok-index.index (sym c.declares.ensures ∙ c.in_ok-index.was),
+  declared_below c.args.self.now c.args.id c.args.name.now c.args.ty.now c.in_ok-index.index
+      (sym c.declares.ensures ∙ c.in_ok-index.was),
 )

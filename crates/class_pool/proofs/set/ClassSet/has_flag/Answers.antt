@@ -4,4 +4,5 @@ use Rattle.class_pool.proofs.ToldMembers.{told_flag}
 use Rattle.class_pool.proofs.set.ClassSet.has_flag.Goals as goal
 
 pub returns : goal.returns
-returns c = c.contains.ensures tt ∙ told_flag c.args.flag.0 (row_at c.args.self.now c.args.m) c.told.result c.told.ensures
+returns c = c.contains.ensures tt
+    ∙ told_flag c.args.flag.0 (row_at c.args.self.now c.args.m) c.told.result c.told.ensures

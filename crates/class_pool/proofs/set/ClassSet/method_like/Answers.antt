@@ -6,6 +6,7 @@ use Rattle.class_pool.proofs.set.ClassSet.method_like.Goals as goal
 pub returns-clause-there : goal.returns-clause-there
 returns-clause-there c = (
   c.requires.class,
-  declared_below c.args.self.now c.args.id (named_at c.args.self.now c.args.m).0 (named_at c.args.self.now c.args.m).1 c.in_ok-index.index
+  declared_below c.args.self.now c.args.id (named_at c.args.self.now c.args.m).0
+      (named_at c.args.self.now c.args.m).1 c.in_ok-index.index
       (sym c.number_like.ensures ∙ c.in_ok-index.was),
 )

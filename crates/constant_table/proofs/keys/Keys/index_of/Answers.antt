@@ -8,11 +8,13 @@ pub returns-in-Some : goal.returns-in-Some
 returns-in-Some c =
     let k = c.args.key in
     subst (λ (ks : List Key). c.in-Some.index ≡ index_in ks k) c.self.view_is
-    (found_at c.self.inside.keys.items c.self.inside.indices.entries k c.self.invariant c.in-Some.index (sym c.in-Some.is ∙ c.index_kept.ensures))
+    (found_at c.self.inside.keys.items c.self.inside.indices.entries k c.self.invariant c.in-Some.index
+    (sym c.in-Some.is ∙ c.index_kept.ensures))
 
 pub returns-in-None : goal.returns-in-None
 returns-in-None c =
     let k = c.args.key in
     let e : c.len.result ≡ length c.self.inside.keys.items = search rules in
     subst (λ (ks : List Key). c.len.result + 1 ≡ index_in ks k) c.self.view_is
-    (missing_at c.self.inside.keys.items c.self.inside.indices.entries k c.self.invariant c.len.result (sym c.in-None.is ∙ c.index_kept.ensures) e)
+    (missing_at c.self.inside.keys.items c.self.inside.indices.entries k c.self.invariant c.len.result
+    (sym c.in-None.is ∙ c.index_kept.ensures) e)

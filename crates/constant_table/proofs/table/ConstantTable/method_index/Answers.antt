@@ -12,4 +12,7 @@ pub returns : goal.returns
 returns c =
     let k : PoolConstant = canonical.methodref c.args.method.now in
     subst (λ (ks : List PoolConstant). c.index_of_key.result ≡ canonical.index_of ks k) c.self.view_is
-    (c.index_of_key.ensures k (c.method_key-key.ensures ∙ ap (λ (m : MemberNumbers). method_key m c.args.method.now.of_interface) c.in_ok-m.ensures ∙ method_key_is c.self.inside.texts c.args.method.now))
+    (c.index_of_key.ensures k
+    (c.method_key-key.ensures
+    ∙ ap (λ (m : MemberNumbers). method_key m c.args.method.now.of_interface) c.in_ok-m.ensures
+    ∙ method_key_is c.self.inside.texts c.args.method.now))

@@ -12,5 +12,8 @@ use Rattle.constant_table.proofs.table.ConstantTable.put.Goals as goal
 pub returns : goal.returns
 returns c =
     let old = c.args.out.now.items in
-    subst (λ (ks : List PoolConstant). OnOk c.put_all.result (c.put_all.new.out.items ≡ old ++ (to_be_bytes w16 (length ks + 1) ++ flat_map cp_info (infos_of ks)))) c.self.view_is
-    (IfOk-equal c.put_all.result _ _ _ c.put_all.ensures (ap (λ t. old ++ t) (pool_told c.self.inside.texts c.self.inside.keys)))
+    subst (λ (ks : List PoolConstant). OnOk c.put_all.result
+    (c.put_all.new.out.items
+    ≡ old ++ (to_be_bytes w16 (length ks + 1) ++ flat_map cp_info (infos_of ks)))) c.self.view_is
+    (IfOk-equal c.put_all.result _ _ _ c.put_all.ensures
+    (ap (λ t. old ++ t) (pool_told c.self.inside.texts c.self.inside.keys)))

@@ -8,4 +8,5 @@ use Rattle.link_check.proofs.superinterface_methods.SuperinterfaceMethods.of.Goa
 pub returns-clause-there : goal.returns-clause-there
 returns-clause-there c =
     All-same (IsMember c.args.set.now) _ (methods_met c.args.set.now c.args.class (c.args.name.now, c.args.ty.now))
-    (ap (open_methods c.args.set.now (c.args.name.now, c.args.ty.now)) c.of.ensures.are) (methods_there c.args.set.now c.args.class (c.args.name.now, c.args.ty.now))
+    (ap (open_methods c.args.set.now (c.args.name.now, c.args.ty.now)) c.of.ensures.are)
+    (methods_there c.args.set.now c.args.class (c.args.name.now, c.args.ty.now))
