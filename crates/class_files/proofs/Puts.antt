@@ -6,14 +6,14 @@ use Rattle.std.proofs.lemmas.List.{take_more}
 use Rattle.std.proofs.lemmas.Option.{slice_get-get_or}
 use Rattle.std.specs.FinMap.{insert}
 use Rattle.tree_io.specs.Files.{Files}
-use Rattle.tree_io.specs.Runs.{Did, Made, Run, Tells}
+use Rattle.tree_io.specs.Runs.{Made}
 use Rattle.tree_io.specs.declared.event.Event.{Event}
 use Rattle.tree_io.specs.declared.event.Event.TheVariants.{Wrote}
 use Rattle.tree_io.specs.declared.faults.WriteFault.{WriteFault}
 use Rattle.tree_io.specs.declared.faults.WriteFault.TheVariants.{Failed, OutOfMemory}
 use Rattle.tree_io.specs.declared.file_at.FileAt.{FileAt}
 use Rattle.tree_io.proofs.Runs.{did_both, made_both, one_step, run_parts, wrote_both}
-use Rattle.class_files.specs.Output.{put_all, StopsAt, StopsWithin, Writes}
+use Rattle.class_files.specs.Output.{put_all, Writes}
 
 put_all-push : (told : Files) (fs : List FileAt) (f : FileAt)
     → put_all told (fs ++ f ∷ []) ≡ insert (put_all told fs) f.path f.bytes

@@ -1,15 +1,13 @@
 -- The paths that are told, and files that are read one after the other.
 use Rattle.std.proofs.Common.{◌≡◌, ◌≤◌, ℕ, ◌+◌, ◌-◌, Bool, true, false, cond, List, [], ◌∷◌, ◌++◌, ◌||◌, length, map}
-use Rattle.std.proofs.Common.{take, drop, Option, Some, None, Result, Ok, Err, refl, sym, ap, ◌∙◌, subst, arith}
-use Rattle.std.specs.Prelude.{IsSome, nat_eq, nat_lt, is_some}
+use Rattle.std.proofs.Common.{Option, Some, None, Result, Ok, Err, refl, sym, ap, ◌∙◌, subst, arith}
+use Rattle.std.specs.Prelude.{IsSome, nat_lt, is_some}
 use Rattle.std.specs.FinMap.{get, keys, contains_key-keys}
 use Rattle.std.specs.Ordering.{eq_by_cmp, nat_cmp}
 use Rattle.std.specs.Cmp.Lexicographic.{nat_list_cmp_total, slice_cmp}
 use Rattle.std.proofs.lemmas.Cmp.{eq_by_cmp_equiv}
-use Rattle.std.specs.List.{AllByRecursion, cons_option, filter, filter_map, list_any, starts_with}
-use Rattle.std.proofs.lemmas.List.{map-append, take-append-drop}
-use Rattle.std.proofs.lemmas.Slice.Eq.{slice_eq-Decides}
-use Rattle.std.specs.Cmp.{unsigned_Decides}
+use Rattle.std.specs.List.{AllByRecursion, cons_option, filter, filter_map, list_any}
+use Rattle.std.proofs.lemmas.List.{map-append}
 use Rattle.std.proofs.lemmas.List.Sums.{sum_by-append}
 use Rattle.std.proofs.lemmas.Bool.{lt-ltb, ltb-true}
 use Rattle.tree_io.specs.Below.{front_of, paths_below, rest_after}
@@ -18,7 +16,7 @@ use Rattle.tree_io.specs.declared.file_at.FileAt.{FileAt}
 use Rattle.class_files.specs.declared.input.InputFault.{InputFault}
 use Rattle.class_files.specs.declared.input.InputFault.TheVariants.{Absent, Failed, OutOfMemory, TooLong}
 use Rattle.class_files.specs.declared.input.InputFault.TheVariants.{TooManyClasses, TooManyFiles}
-use Rattle.class_files.specs.Input.{AreThere, FindsDue, IsThere, class_paths, file_due, file_in, files_in, input_due}
+use Rattle.class_files.specs.Input.{AreThere, FindsDue, class_paths, file_due, file_in, files_in, input_due}
 use Rattle.class_files.specs.Input.{is_class_path, limited, path_in, paths_due, total}
 use Rattle.tree_io.proofs.Below.{behind}
 

@@ -1,7 +1,7 @@
 -- Switches are read back.
 use Rattle.std.proofs.Common.{◌≡◌, ℕ, suc, ◌+◌, ◌-◌, ◌^◌, ◌<◌, true, List, [], ◌∷◌, length, map, replicate, Some, None}
 use Rattle.std.proofs.Common.{Result, Ok, ℤ, pos, negsuc, ◌+ℤ◌, ◌-ℤ◌, ◌<ℤ◌, ◌≤ℤ◌, refl, sym, ap, ◌∙◌, arith, SFits}
-use Rattle.std.specs.Prelude.{int_lt, int_le, AllPairs}
+use Rattle.std.specs.Prelude.{AllPairs}
 use Rattle.std.specs.Int.{w32, cast_unsigned, cast_signed}
 use Rattle.std.specs.List.{AllByRecursion}
 use Rattle.std.proofs.lemmas.Int.{to_z-of_z, ints}

@@ -1,20 +1,18 @@
 -- What an index of the pool leads to is found exactly where it is there: types, classes and references (JVMS 4.4.1,
 -- 4.4.2).
-use Rattle.std.proofs.Common.{◌≡◌, inl, inr, ℕ, suc, ◌-◌, ◌^◌, ◌<◌, Bool, true, false, cond, not, ◌&&◌, eqb, List, ◌++◌}
-use Rattle.std.proofs.Common.{Option, Some, None, Result, Ok, Err, refl, sym, ap, subst, ◌∙◌, arith}
-use Rattle.std.specs.Prelude.{slice_get, option_and_then, option_map, replicate}
-use Rattle.std.proofs.lemmas.Bool.{eqb-false, ne_eqb}
+use Rattle.std.proofs.Common.{◌≡◌, inl, inr, ℕ, ◌^◌, ◌<◌, Bool, true, false, cond, eqb, List}
+use Rattle.std.proofs.Common.{Option, Some, None, Ok, refl, sym, ap, subst, ◌∙◌, arith}
+use Rattle.std.specs.Prelude.{slice_get, option_and_then, option_map}
+use Rattle.std.proofs.lemmas.Bool.{eqb-false}
 use Rattle.jv_base.specs.Outcome.{◌>>=◌}
 use Rattle.jv_base.specs.Mutf8.{IsUnits}
-use Rattle.jv_base.specs.Names.{is_class_name, is_name_byte, parts_whole, is_primitive_or_void}
-use Rattle.jv_base.specs.Types.{field_text, base_text, IsFieldType, method_text, IsMethodType}
+use Rattle.jv_base.specs.Names.{is_class_name}
+use Rattle.jv_base.specs.Types.{field_text, IsFieldType, method_text, IsMethodType}
 use Rattle.jv_base.specs.Descriptors.{read_field, read_method}
 use Rattle.jv_base.specs.declared.types.FieldType.{FieldType}
 use Rattle.jv_base.specs.declared.types.MethodType.{MethodType}
-use Rattle.jv_base.proofs.FieldLaw.{read_field-found, read_field-only}
+use Rattle.jv_base.proofs.FieldLaw.{read_field-found}
 use Rattle.jv_base.proofs.MethodLaw.{read_method-found, read_method-only}
-use Rattle.jv_base.proofs.Naming.{class_name_is}
-use Rattle.format_reading.specs.declared.fault.FormatKind.{FormatKind}
 use Rattle.format_reading.specs.declared.fault.FormatKind.TheVariants as bad
 use Rattle.class_model.specs.declared.pool.Entry.{Entry}
 use Rattle.class_model.specs.declared.op.MemberRef.{MemberRef}
@@ -23,7 +21,7 @@ use Rattle.class_model.specs.ConstantPool.{name_and_type_at, class_type, IsNameO
 use Rattle.class_model.specs.Lookups.{due, test, value_of, text_of, field_type_of, method_type_of, only_array}
 use Rattle.class_model.specs.Lookups.{named_type, class_at, type_at, text_there, reference, reference_of, reference_at}
 use Rattle.class_model.proofs.TextLaw.{text_found}
-use Rattle.class_model.proofs.BackEntries.{text_back, not_class, array_back}
+use Rattle.class_model.proofs.BackEntries.{text_back, array_back}
 use Rattle.class_model.proofs.NameLaw.{HaveUnits, then_ok, due_is, test_is, value_is, both_there}
 
 -- ---- steps

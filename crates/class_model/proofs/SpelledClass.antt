@@ -1,6 +1,6 @@
 -- The bytes of the class with a field and a method spell it.
 use Rattle.std.proofs.Common.{◌≡◌, ℕ, ◌<◌, Bool, true, false, List, [], ◌∷◌, refl, arith, inl, zero, suc}
-use Rattle.std.specs.Prelude.{pos, codes, None, AllPairs, length, ◌&&◌, nat_lt}
+use Rattle.std.specs.Prelude.{pos, codes, None, AllPairs, length, nat_lt}
 use Rattle.std.specs.List.{list_all}
 use Rattle.std.specs.Str.{chars}
 use Rattle.std.proofs.lemmas.Bool.{ltb-true, and_parts}

@@ -1,5 +1,5 @@
 -- Texts and their UTF-16 units.
-use Rattle.std.proofs.Common.{◌≡◌, ℕ, ◌+◌, ◌-◌, ◌/◌, ◌%◌, ◌<◌, ◌≤◌, Bool, true, false, ◌&&◌, not, List, [], ◌∷◌, ◌++◌}
+use Rattle.std.proofs.Common.{◌≡◌, ℕ, ◌+◌, ◌-◌, ◌/◌, ◌%◌, ◌<◌, ◌≤◌, true, false, not, List, [], ◌∷◌, ◌++◌}
 use Rattle.std.proofs.Common.{map, length, get_or, Option, Some, ◌⊎◌, inl, inr, refl, sym, ap, ap₂, ◌∙◌, append_assoc}
 use Rattle.std.proofs.Common.{arith, IsUtf8}
 use Rattle.std.specs.Char.Escape.{encode_utf16}

@@ -1,8 +1,6 @@
 -- Files that fit the calls of a log.
-use Rattle.std.proofs.Common.{◌≡◌, ℕ, List, [], ◌∷◌, ◌++◌, Option, Some, None, Result, Ok, Err, refl, sym, ap, subst}
-use Rattle.std.proofs.Common.{◌∙◌, inl, inr}
-use Rattle.std.specs.Prelude.{IfSome}
-use Rattle.std.specs.FinMap.{get, insert}
+use Rattle.std.proofs.Common.{◌≡◌, ℕ, List, [], ◌∷◌, ◌++◌, Option, Some, None, refl, sym, ap, subst}
+use Rattle.std.proofs.Common.{◌∙◌}
 use Rattle.std.proofs.lemmas.List.{append_assoc, append-nil}
 use Rattle.std.proofs.lemmas.List.Elements.{filter-append, filter_map-append}
 use Rattle.tree_io.specs.Event.{absent_of, absent_paths, file_of, files_to_write, wants_memory, without_memory}
@@ -10,7 +8,6 @@ use Rattle.tree_io.specs.Files.{Files}
 use Rattle.tree_io.specs.Runs.{Did, Made, Run, Sees, Step, Tells}
 use Rattle.tree_io.specs.declared.event.Event.{Event}
 use Rattle.tree_io.specs.declared.event.Event.TheVariants.{Listed, Read, Wrote, Put}
-use Rattle.tree_io.specs.declared.faults.WriteFault.TheVariants as written
 use Rattle.tree_io.specs.declared.file_at.FileAt.{FileAt}
 
 -- ---- calls after calls
