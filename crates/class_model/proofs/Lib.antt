@@ -38,7 +38,7 @@ pub mod FreshLaw
 pub mod FieldInfoLaw
 pub mod MethodAttributeLaw
 pub mod MethodInfoLaw
-pub mod ClassFileLaw
+pub mod GoodPool
 pub mod OperandLaw
 pub mod SwitchLaw
 pub mod MeaningLaw
@@ -53,4 +53,3 @@ pub mod BackPool
 mod BackExample
 pub mod BackConstants
 pub mod BackPaired
-pub mod BackGrown

@@ -17,18 +17,6 @@ use Rattle.class_model.specs.ConstantPool.{string_units_at}
 
 -- ---- names of attributes
 
--- the attributes of a class that count (JVMS 4.7, table 4.7-C); all others are dropped
-abbrev pub class_attributes : List (List ℕ)
-class_attributes = codes "SourceFile" ∷ codes "Synthetic" ∷ codes "Deprecated" ∷ []
-
--- those of a field that count (JVMS 4.7.2, 4.7.8, 4.7.15)
-abbrev pub field_attributes : List (List ℕ)
-field_attributes = codes "ConstantValue" ∷ codes "Synthetic" ∷ codes "Deprecated" ∷ []
-
--- those of a method that count (JVMS 4.7.3, 4.7.5, 4.7.8, 4.7.15)
-abbrev pub method_attributes : List (List ℕ)
-method_attributes = codes "Code" ∷ codes "Exceptions" ∷ codes "Synthetic" ∷ codes "Deprecated" ∷ []
-
 -- the units are those of a name, whose characters are ASCII (JVMS 4.7)
 abbrev pub is_named : Option (List ℕ) → List ℕ → Bool
 is_named (Some units) name = pointwise nat_eq units name

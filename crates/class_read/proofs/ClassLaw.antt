@@ -38,7 +38,7 @@ use Rattle.class_model.proofs.NameLaw.{HaveUnits}
 use Rattle.class_model.proofs.LookupLaw.{class_found, class_only}
 use Rattle.class_model.proofs.PoolLaw.{pool_bytes, pool_exact}
 use Rattle.class_model.proofs.ConstantLaw.{AllNameRight}
-use Rattle.class_model.proofs.ClassFileLaw.{pool_units, pool_names}
+use Rattle.class_model.proofs.GoodPool.{pool_units, pool_names}
 use Rattle.class_model.proofs.ClassAttributeLaw.{AreClassAttributes, class_attributes_exact}
 use Rattle.class_model.proofs.FieldInfoLaw.{index_then, table, passed_is, fields_exact}
 use Rattle.class_model.proofs.MethodAttributeLaw.{counted_classes_exact}

@@ -33,7 +33,7 @@ use Rattle.class_model.specs.ClassFile.{IsClass}
 use Rattle.class_model.specs.WellFormed.{IsClassName, HasFewWords, IsGoodCode, FitsField, IsGoodField, IsGoodMethod}
 use Rattle.class_model.proofs.NameLaw.{HaveUnits, both_there}
 use Rattle.class_model.proofs.ConstantLaw.{AllNameRight}
-use Rattle.class_model.proofs.ClassFileLaw.{pool_units, pool_names}
+use Rattle.class_model.proofs.GoodPool.{pool_units, pool_names}
 use Rattle.class_write.specs.ClassValues.{IsCodeValue, IsFieldConstant, IsFieldValue, IsMethodValue}
 use Rattle.class_write.specs.SpellingLaws.{IsWritable, SpelledIsWritable}
 use Rattle.class_write.proofs.SpelledLists.{all_map}

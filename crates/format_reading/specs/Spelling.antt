@@ -2,10 +2,6 @@
 -- (the project's own: each structure of JVMS 4 is told so).
 use Rattle.std.specs.Prelude.{◌≡◌, ℕ, ◌+◌, List, [], ◌∷◌, length}
 
--- which structures, beginning at an offset, stand for which values
-abbrev pub Meaning : Type 0 → Type 0 → Type 1
-Meaning R A = ℕ → R → A → Type 0
-
 -- the text, which begins at an offset, is the spelling of a structure that stands for the value
 abbrev pub Spells : {R A : Type 0} → (R → List ℕ) → (ℕ → R → A → Type 0) → ℕ → List ℕ → A → Type 0
 Spells spelled stands at text x = (raw : _) × (text ≡ spelled raw) × stands at raw x
