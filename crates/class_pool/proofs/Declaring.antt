@@ -29,7 +29,7 @@ use Rattle.class_pool.specs.Hierarchy.{IsClass, class_named, or_found, superclas
 use Rattle.class_pool.specs.Members.{declared_at, is_field, is_method, member_named, or_method}
 use Rattle.class_pool.proofs.Naming.{number_below}
 use Rattle.std.proofs.lemmas.Bool.{and_parts}
-use Rattle.class_pool.proofs.ToldMembers.{position_below, or_below, class_below, declared_below}
+use Rattle.class_pool.proofs.ToldMembers.{position_below, or_below, declared_below}
 
 placed : {X : Type 0} (p : X → Bool) (xs : List X) (n : ℕ) → position p xs ≡ Some n
     → (x : X) × (slice_get xs n ≡ Some x) × (p x ≡ true)

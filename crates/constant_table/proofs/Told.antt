@@ -6,7 +6,7 @@ use Rattle.std.specs.List.{position_or_len, list_any, IsDistinct, AllByRecursion
 use Rattle.std.proofs.lemmas.List.{get_or_append_left, length-append}
 use Rattle.std.proofs.lemmas.List.Sums.{passes_at_first}
 use Rattle.std.proofs.lemmas.Bool.Decides.{same_from_decides}
-use Rattle.indexmap.specs.IndexSet.{insert_key, insert_all}
+use Rattle.indexmap.specs.IndexSet.{insert_key}
 use Rattle.jv_base.proofs.Equality.{text_Decides}
 use Rattle.class_model.specs.declared.constant.PoolConstant.{PoolConstant}
 use Rattle.class_model.specs.declared.constant.PoolConstant.TheVariants.{Utf8, Integer, Long, SecondOfLong, Class, Str}

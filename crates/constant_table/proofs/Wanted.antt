@@ -1,5 +1,5 @@
 -- Constants put behind texts that were put there for them.
-use Rattle.std.proofs.Common.{◌≡◌, ℕ, ◌<◌, Bool, true, false, cond, List, [], ◌∷◌, ◌++◌, map, length, Result, Ok, Err}
+use Rattle.std.proofs.Common.{◌≡◌, ℕ, Bool, true, false, cond, List, [], ◌∷◌, ◌++◌, map, length, Result, Ok, Err}
 use Rattle.std.proofs.Common.{refl, sym, ap, ◌∙◌, ◌+◌}
 use Rattle.std.specs.Prelude.{OnOk}
 use Rattle.indexmap.specs.IndexSet.{insert_all}
@@ -14,9 +14,9 @@ use Rattle.std.proofs.lemmas.List.{length-map}
 use Rattle.constant_table.specs.declared.key.Key.{Key}
 use Rattle.constant_table.specs.declared.finding.MemberNumbers.{MemberNumbers}
 use Rattle.constant_table.specs.Keys.{constant_of, constants_of, AreKeysOf, IsKeyIn}
-use Rattle.constant_table.specs.Texts.{HasText, Grows}
+use Rattle.constant_table.specs.Texts.{Grows}
 use Rattle.constant_table.specs.Members.{TellsTexts, field_key, method_key, part_keys}
-use Rattle.constant_table.proofs.Told.{told_grown, text_grown}
+use Rattle.constant_table.proofs.Told.{told_grown}
 
 -- what is put in by keys of more texts is what is wanted
 pub on_put : {E : Type 0} (old new : List (List ℕ)) (keys after : List Key) (r : Result (Unit {0}) E) (ks : List Key)

@@ -1,7 +1,5 @@
-use Rattle.std.proofs.Common.{◌≡◌, ◌∷◌, [], ◌++◌, List, ap, cond, ◌∙◌}
+use Rattle.std.proofs.Common.{◌∷◌, [], ◌++◌, cond, ◌∙◌}
 use Rattle.std.specs.Prelude.{is_ok}
-use Rattle.class_model.specs.declared.constant.PoolConstant.{PoolConstant}
-use Rattle.constant_table.specs.Keys.{constants_of}
 use Rattle.constant_table.proofs.Told.{told_grown, within_grown}
 use Rattle.constant_table.proofs.putting.put_constant.Goals as goal
 

@@ -1,10 +1,9 @@
-use Rattle.std.proofs.Common.{[], ◌∷◌, ◌++◌, ap, ◌∙◌}
+use Rattle.std.proofs.Common.{[], ◌∷◌, ◌++◌}
 use Rattle.jv_base.specs.Utf16.{units_of}
 use Rattle.class_model.specs.declared.constant.PoolConstant.TheVariants as constant
 use Rattle.class_model.specs.CanonicalPool as canonical
-use Rattle.constant_table.specs.Keys.{constant_of}
 use Rattle.constant_table.specs.Members.{part_keys, field_key}
-use Rattle.constant_table.proofs.Wanted.{on_put, member_told, field_told, method_told}
+use Rattle.constant_table.proofs.Wanted.{on_put, member_told, field_told}
 use Rattle.constant_table.proofs.putting.put_field.Goals as goal
 
 pub returns-clause-put : goal.returns-clause-put

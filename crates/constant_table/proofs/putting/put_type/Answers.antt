@@ -1,4 +1,4 @@
-use Rattle.std.proofs.Common.{[], ◌∷◌, ◌++◌, ap, ◌∙◌}
+use Rattle.std.proofs.Common.{[], ◌∷◌}
 use Rattle.class_model.specs.declared.constant.PoolConstant.TheVariants as constant
 use Rattle.constant_table.specs.declared.key.Key.TheVariants as key
 use Rattle.constant_table.proofs.Wanted.{on_put}

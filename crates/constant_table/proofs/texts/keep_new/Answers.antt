@@ -1,4 +1,4 @@
-use Rattle.std.proofs.Common.{rules, ◌≡◌, ℕ, List, Some, cond, sym, subst, ◌∙◌}
+use Rattle.std.proofs.Common.{rules, ◌≡◌, ℕ, List, Some, cond, sym, subst}
 use Rattle.std.specs.Map.{lookup}
 use Rattle.jv_base.specs.Utf16.{units_of}
 use Rattle.class_model.specs.CanonicalPool.{same_text}

@@ -1,10 +1,7 @@
-use Rattle.std.proofs.Common.{◌≡◌, List, rules, ap, subst, ◌∙◌}
-use Rattle.constant_table.specs.declared.finding.MemberNumbers.{MemberNumbers}
-use Rattle.constant_table.specs.Members.{field_key, method_key}
+use Rattle.std.proofs.Common.{◌≡◌, List, ap, subst}
+use Rattle.constant_table.specs.Members.{field_key}
 use Rattle.class_model.specs.declared.constant.PoolConstant.{PoolConstant}
-use Rattle.class_model.specs.declared.constant.PoolConstant.TheVariants as constant
 use Rattle.class_model.specs.CanonicalPool as canonical
-use Rattle.constant_table.specs.declared.key.Key.TheVariants as key
 use Rattle.constant_table.proofs.table.ConstantTable.field_index.Goals as goal
 
 pub returns : goal.returns

@@ -1,6 +1,5 @@
-use Rattle.std.proofs.Common.{◌≡◌, List, rules, ap, subst, ◌∙◌}
+use Rattle.std.proofs.Common.{◌≡◌, List, ap, subst}
 use Rattle.class_model.specs.declared.constant.PoolConstant.{PoolConstant}
-use Rattle.class_model.specs.declared.constant.PoolConstant.TheVariants as constant
 use Rattle.class_model.specs.CanonicalPool as canonical
 use Rattle.constant_table.specs.declared.key.Key.TheVariants as key
 use Rattle.constant_table.proofs.table.ConstantTable.type_index.Goals as goal
