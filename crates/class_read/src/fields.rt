@@ -12,13 +12,13 @@ ghost use Rattle.class_read.specs.Fields.{field_attribute, field_contents};
 
 use crate::attributes::{check_end, check_once, constant_value, read_units};
 use crate::flags::{field_access, is_static, read_field_flags};
-use crate::members::{read_field_type, read_name};
+use crate::members::{copied_field, read_field_type, read_name};
 use crate::names::is_named;
 use crate::signatures::{Signature, Signatures};
 use class_model::{Constant, Field};
 use format_reading::{FormatFault, of_part};
 use jv_base::{Cursor, FieldType, Items, M, Name, Or, Units};
-use known_pool::{KnownPool, TextRule};
+use known_pool::{DescribedField, KnownPool, TextRule};
 use std::alloc::Global;
 use std::marker::Model;
 
@@ -94,29 +94,30 @@ fn field_info(
     let flags = read_field_flags(in_interface, cursor)?;
     let name = read_name(pool, TextRule::MemberName, cursor)?;
     let described = read_field_type(pool, cursor)?;
-    let signature = (name.text().clone()?, described.text().clone()?);
+    let (ty, text) = copied_field(described)?;
+    let signature = (name.text().clone()?, text);
     before.check_fresh(at, &signature)?;
-    let seen = counted(pool, flags, described.ty(), cursor)?;
-    let field = field_of(flags, name.text(), described.ty(), seen)?;
-    Ok((field, signature))
+    let seen = attributes_seen(pool, flags, described, cursor)?;
+    let name = name.text().clone()?;
+    Ok((field_of(flags, name, ty, seen), signature))
 }
 
-fn field_of(flags: u16, name: &Name, ty: &FieldType, seen: SeenOfField) -> M<Field>
-    ensures { IfOk result (λ field. field ≡ field_of flags name.now ty.now seen) }
+fn field_of(flags: u16, name: Name, ty: FieldType, seen: SeenOfField) -> Field
+    ensures { result ≡ field_of flags name ty seen }
 {
     let SeenOfField {
         constant,
         synthetic,
         deprecated,
     } = seen;
-    Ok(Field {
+    Field {
         flags: field_access(flags),
-        name: name.clone()?,
-        ty: ty.clone()?,
+        name,
+        ty,
         constant: constant_of(constant),
         synthetic,
         deprecated,
-    })
+    }
 }
 
 fn constant_of(constant: Option<Option<Constant>>) -> Option<Constant>
@@ -126,6 +127,19 @@ fn constant_of(constant: Option<Option<Constant>>) -> Option<Constant>
 }
 
 // ---- attributes
+
+// What is seen of the attributes of a field of this type.
+fn attributes_seen(
+    pool: &KnownPool,
+    flags: u16,
+    described: &DescribedField,
+    cursor: &mut Cursor,
+) -> Result<SeenOfField, Or<FormatFault>>
+    ensures { ReadsOr result cursor.new
+        (counted_attributes pool.now (known_of_field pool.now (is_static flags) described.now) no_field_attribute cursor.old) }
+{
+    counted(pool, flags, described.ty(), cursor)
+}
 
 fn counted(
     pool: &KnownPool,

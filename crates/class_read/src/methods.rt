@@ -19,7 +19,7 @@ use crate::attributes::{check_end, check_once, exceptions, read_units};
 use crate::code::read_code;
 use crate::faults::fault;
 use crate::flags::{has_body, is_native, method_access, read_method_flags};
-use crate::members::{read_method_type, read_name};
+use crate::members::{copied_method, read_method_type, read_name};
 use crate::names::is_named;
 use crate::signatures::{Signature, Signatures};
 use class_model::{Code, LeftKind, Method};
@@ -148,9 +148,9 @@ fn method_head(
     let known = read_name(pool, TextRule::MethodName, cursor)?;
     let name = known.text().clone()?;
     let described = read_method_type(pool, in_interface, flags, &name, cursor)?;
-    let signature = (name.clone()?, described.text().clone()?);
+    let (ty, text) = copied_method(described)?;
+    let signature = (name.clone()?, text);
     before.check_fresh(at, &signature)?;
-    let ty = described.ty().clone()?;
     Ok((MethodHead { flags, name, ty }, signature))
 }
 

@@ -1,5 +1,5 @@
 -- The index of a constant is at most the one behind the last.
-use Rattle.std.proofs.Common.{ℕ, List, ◌≤◌, ◌+◌, length, arith}
+use Rattle.std.proofs.Common.{List, ◌≤◌, ◌+◌, length, arith}
 use Rattle.std.specs.List.{position_or_len}
 use Rattle.std.proofs.lemmas.List.Sums.{prefix_len-le-length}
 use Rattle.class_model.specs.declared.class.Constant.{Constant}

@@ -9,7 +9,7 @@ use Rattle.class_read.proofs.instructions.decoded.Goals as goal
 
 pub or_left_out-requires : goal.or_left_out-requires
 or_left_out-requires c =
-    let pool = c.pool.result.now.entries in
+    let pool = c.args.pool.now in
     let bytes = c.args.code.now in
     let due : code_decoded pool bytes
     ≡ Err c.in-Err-Fault.wrong = subst
@@ -19,5 +19,5 @@ or_left_out-requires c =
     omega (arith, within, c.requires.end)
 
 pub returns-in-Ok-clause-count : goal.returns-in-Ok-clause-count
-returns-in-Ok-clause-count c = count_within c.pool.result.now.entries c.args.code.now c.in-Ok.decoded
+returns-in-Ok-clause-count c = count_within c.args.pool.now c.args.code.now c.in-Ok.decoded
     (λ i. omega (arith, c.type_inv.code i)) c.in-Ok.ensures.exact

@@ -1,0 +1,5 @@
+use Rattle.std.proofs.Common.{sym}
+use Rattle.class_read.proofs.fields.attributes_seen.Goals as goal
+
+pub returns : goal.returns
+returns c = rw (sym c.ty.ensures) c.counted.ensures
