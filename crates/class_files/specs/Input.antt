@@ -59,8 +59,7 @@ abbrev pub AreThere : Files → List ℕ → List (List ℕ) → Type 0
 AreThere files directory paths = AllByRecursion (IsThere files directory) paths
 
 -- the paths at which a reading found no file; where memory was wanting none is told (the project's own: a file that was
--- listed may be gone
--- when it is read)
+-- listed may be gone when it is read)
 abbrev pub missed : {A : Type 0} → Result A InputFault → Option (List (List ℕ))
 missed (Ok x) = Some []
 missed (Err (Absent path)) = Some (path ∷ [])

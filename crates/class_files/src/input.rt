@@ -65,8 +65,7 @@ impl From<OutOfMemory> for InputFault {
 /// of these. No file changes.
 ///
 /// What is found is what is due of all files that the tree's calls fit. A class file that was listed and isn't there
-/// when
-/// it is read is named.
+/// when it is read is named.
 pub fn read_files<T: Tree>(
     alloc: Global,
     directory: &Text,

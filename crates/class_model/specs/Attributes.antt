@@ -83,8 +83,7 @@ IsIntLike ty = IsPlain base.Int ty ⊎ IsPlain base.Short ty ⊎ IsPlain base.Ch
     ⊎ IsPlain base.Boolean ty
 
 -- the constant that a field of a type has by an entry of the pool; a float or a double is left out, and then there is
--- none
--- (JVMS 4.7.2)
+-- none (JVMS 4.7.2)
 abbrev pub IsConstantOf : List Entry → ℕ → FieldType → Option Constant → Type 0
 IsConstantOf pool index ty (Some (constant.Int n)) = IsIntLike ty × (slice_get pool index ≡ Some (entry.Integer n))
 IsConstantOf pool index ty (Some (constant.Long n)) = IsPlain base.Long ty

@@ -61,8 +61,7 @@ left_out_of_members n (Some kind ∷ kinds) = Some (record { member = Some n; ki
 left_out_of_members n (None ∷ kinds) = left_out_of_members (n + 1) kinds
 
 -- what is left out of the class itself comes first, and then by members, of which each leaves out at most one kind; the
--- methods
--- are numbered behind the fields
+-- methods are numbered behind the fields
 abbrev pub first_left_out : Option LeftKind → ℕ → List (Option LeftKind) → Option LeftOut
 first_left_out (Some kind) fields kinds = Some (record { member = None; kind = kind })
 first_left_out None fields kinds = left_out_of_members fields kinds

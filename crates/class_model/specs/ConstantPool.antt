@@ -64,8 +64,7 @@ abbrev pub cp_info : CpInfo → List ℕ
 cp_info constant = tag_of constant ∷ contents_of constant
 
 -- how many bytes stand behind the tag of a constant that is left out: Float, Double, MethodHandle, MethodType and
--- InvokeDynamic
--- (JVMS 4.4.4, 4.4.5, 4.4.8 to 4.4.10)
+-- InvokeDynamic (JVMS 4.4.4, 4.4.5, 4.4.8 to 4.4.10)
 abbrev pub left_out_length : ℕ → Option ℕ
 left_out_length tag =
     if tag == 4 then Some 4

@@ -156,8 +156,7 @@ abbrev pub is_clinit : List ℕ → Bool
 is_clinit name = is_text name (codes "<clinit>")
 
 -- an instance initialisation method stands in no interface and is neither static, final, synchronized, native nor
--- abstract,
--- and a class initialisation method is static (JVMS 2.9, 4.6)
+-- abstract, and a class initialisation method is static (JVMS 2.9, 4.6)
 abbrev pub are_initial_flags : Bool → ℕ → List ℕ → Bool
 are_initial_flags in_interface flags name =
     (not (is_init name) || (not in_interface && not (has_some

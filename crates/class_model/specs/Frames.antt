@@ -129,8 +129,7 @@ abbrev pub this_type : List ℕ → List ℕ → VType
 this_type class name = if is_text name (codes "<init>") then vtype.UninitThis else vtype.Object (class_type class)
 
 -- the locals of the initial frame: `this` where the method isn't static, and the parameters (JVMS 4.10.1.6); the Tops
--- of float
--- and double parameters count, also at the end, and chop and append begin from them
+-- of float and double parameters count, also at the end, and chop and append begin from them
 abbrev pub initial_locals : List ℕ → Bool → List ℕ → MethodType → List VType
 initial_locals class is_static name ty = (if is_static then [] else this_type class name ∷ []) ++ map vtype_of ty.args
 

@@ -104,8 +104,7 @@ abbrev pub with_bytes : ℕ → List ℕ → List ℕ
 with_bytes n others = take n bytes_of_a ++ (others ++ drop (n + length others) bytes_of_a)
 
 -- the magic; minor_version and major_version; a tag; a byte 0 in a text; a Class entry that names a Class entry; a name
--- with a dot; an
--- interface that isn't abstract; a this_class that names a text
+-- with a dot; an interface that isn't abstract; a this_class that names a text
 abbrev pub HeadFaults : Type 0
 HeadFaults =
     (class_read (with_bytes 0 (0xCB ∷ [])) ≡ refused 0 bad.BadMagic)
@@ -121,10 +120,8 @@ HeadFaults =
 -- ---- a class with a method
 
 -- class T up to its interfaces; its pool has 1 "T", 2 Class 1, 3 "java/lang/Object", 4 Class 3, 5 "f", 6 "(I)I", 7
--- "Code",
--- 8 "StackMapTable", 9 a long, 11 "ConstantValue", 12 "J", 13 the int 7, 14 "LineNumberTable", 15 "<init>", 16 "()V";
--- fields_count
--- is at 148
+-- "Code", 8 "StackMapTable", 9 a long, 11 "ConstantValue", 12 "J", 13 the int 7, 14 "LineNumberTable", 15 "<init>", 16
+-- "()V"; fields_count is at 148
 abbrev pub head_of_t : List ℕ
 head_of_t =
     (hex (codes "CAFEBABE000000340011010001540700010100106A6176612F6C616E672F4F626A656374070003010001660100042849")
@@ -137,19 +134,15 @@ abbrev pub with_members : List ℕ → List ℕ → List ℕ
 with_members fields methods = head_of_t ++ (fields ++ (methods ++ hex (codes "0000")))
 
 -- the class with the method public static int f(int) alone, which begins at 152 and whose attribute Code begins at 160,
--- with these
--- contents; its instructions begin at 174
+-- with these contents; its instructions begin at 174
 abbrev pub with_code : List ℕ → List ℕ
 with_code contents = with_members (hex (codes "0000"))
     (hex (codes "000100090005000600010007") ++ (to_be_bytes w32 (length contents) ++ contents))
 
 -- a code of length 0; a code that ends inside an instruction; jsr; wide before nop; ldc of a long; keys of lookupswitch
--- that
--- do not ascend; a branch into an instruction; an empty range; a frame_type without a form; a frame inside an
--- instruction; a
--- local too many; two locals gone of one; a frame that runs past its attribute; two StackMapTables; a byte behind the
--- contents
--- of Code; Code without its attributes_count
+-- that do not ascend; a branch into an instruction; an empty range; a frame_type without a form; a frame inside an
+-- instruction; a local too many; two locals gone of one; a frame that runs past its attribute; two StackMapTables; a
+-- byte behind the contents of Code; Code without its attributes_count
 abbrev pub CodeFaults : Type 0
 CodeFaults =
     (class_read (with_code (hex (codes "000200010000000000000000"))) ≡ refused 170 bad.BadCode)
@@ -197,10 +190,8 @@ CodeLeftOut =
     ≡ leaves_out left.FloatType)
 
 -- two methods of one name and descriptor; a method both public and private; a method without Code; a field descriptor
--- on a
--- method; a name with an opening parenthesis; a name index that leads to a class; an int for a field of type long; a
--- static
--- instance initialisation method; one that gives an int; an abstract method with a Code
+-- on a method; a name with an opening parenthesis; a name index that leads to a class; an int for a field of type long;
+-- a static instance initialisation method; one that gives an int; an abstract method with a Code
 abbrev pub MemberFaults : Type 0
 MemberFaults =
     (class_read
@@ -236,11 +227,9 @@ MemberFaults =
     ≡ refused 160 bad.BadAttribute)
 
 -- a long at the last index, whose value is not read; a reference to a field whose NameAndType, behind it, has a text
--- that is no
--- descriptor; a reference to a field with the name of an instance initialisation method; a text that is none, behind a
--- class
--- that names nothing: the bytes come first; an unpaired surrogate in the name of a class; a class that names its own
--- entry
+-- that is no descriptor; a reference to a field with the name of an instance initialisation method; a text that is
+-- none, behind a class that names nothing: the bytes come first; an unpaired surrogate in the name of a class; a class
+-- that names its own entry
 abbrev pub PoolFaults : Type 0
 PoolFaults =
     (class_read (hex (codes "CAFEBABE00000034000205")) ≡ refused 10 bad.BadTag)

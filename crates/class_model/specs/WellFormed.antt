@@ -1,6 +1,5 @@
 -- Which classes are well formed: those of which nothing is left out and that meet the rules of the format, told of
--- instruction
--- numbers in place of offsets and without the limits on counts (JVMS 4.1 to 4.9).
+-- instruction numbers in place of offsets and without the limits on counts (JVMS 4.1 to 4.9).
 use Rattle.std.specs.Prelude.{◌≡◌, ◌⊎◌, ℕ, ◌+◌, ◌^◌, ◌<◌, ◌≤◌, ℤ, pos, ◌+ℤ◌, ◌<ℤ◌, Bool, true, false, not, List, length}
 use Rattle.std.specs.Prelude.{slice_get, Some, None, IfSome, IsTrue, IsSome, AllPairs, IsUtf8, is_some, codes}
 use Rattle.std.specs.List.{AllByRecursion}

@@ -11,8 +11,7 @@ use Rattle.class_model.specs.Says.{AreSaid}
 use Rattle.class_model.specs.WriteLimits.{branches_fit}
 
 -- those of a well-formed code that keeps the limits of a code (JVMS 4.9.1, 4.11); the entries say each constant at its
--- index in
--- the pool, and may say others beside
+-- index in the pool, and may say others beside
 pub record IsWritableCode (entries : List Entry) (pool : List PoolConstant) (ins : List Ins) : Type 0 where
   pub good : AllByRecursion (λ (i : Ins). IsGoodOp (length ins) i.op) ins
   pub few_words : AllByRecursion (λ (i : Ins). HasFewWords i.op) ins

@@ -1,12 +1,11 @@
 -- A member that a class declares with a name and a descriptor is there, and has them; and a class that is named is
 -- there.
-use Rattle.std.proofs.Common.{◌≡◌, ℕ, zero, suc, ◌+◌, ◌<◌, ◌&&◌, Bool, true, false, cond, List, [], ◌∷◌, ◌++◌, length}
+use Rattle.std.proofs.Common.{◌≡◌, ℕ, zero, suc, ◌+◌, ◌<◌, Bool, true, false, cond, List, [], ◌∷◌, ◌++◌, length}
 use Rattle.std.proofs.Common.{map, get_or, slice_get, Option, Some, None, refl, sym, ap, ◌∙◌, arith, ◌⊎◌, ⊎_elim, inl}
 use Rattle.std.proofs.Common.{inr}
 use Rattle.std.specs.Prelude.{IfSome, if◌then◌else◌}
 use Rattle.std.specs.List.{All, cons_option, enumerate_from, find, position}
 use Rattle.std.specs.Option.{option_and_then, option_map, option_map_or}
-use Rattle.std.proofs.lemmas.List.{length-append, length-map}
 use Rattle.std.proofs.lemmas.List.Elements.{All-cons, All-head, All-nil, All-tail}
 use Rattle.std.proofs.lemmas.List.Quantifiers.{position-Some}
 use Rattle.std.proofs.lemmas.Option.{same_Some, slice_get-get_or, slice_get-map}
@@ -29,7 +28,7 @@ use Rattle.class_pool.specs.Hierarchy.{IsClass, class_named, or_found, superclas
 use Rattle.class_pool.specs.Members.{declared_at, is_field, is_method, member_named, or_method}
 use Rattle.class_pool.proofs.Naming.{number_below}
 use Rattle.std.proofs.lemmas.Bool.{and_parts}
-use Rattle.class_pool.proofs.ToldMembers.{position_below, or_below, declared_below}
+use Rattle.class_pool.proofs.ToldMembers.{declared_below}
 
 placed : {X : Type 0} (p : X → Bool) (xs : List X) (n : ℕ) → position p xs ≡ Some n
     → (x : X) × (slice_get xs n ≡ Some x) × (p x ≡ true)

@@ -1,7 +1,6 @@
 -- A set of program classes, as the list of them in its order, and above it the library: which class a name names, and
--- which classes
--- are the direct supertypes of one (JVMS 4.1). A program class is told by its number in the set, a library class by
--- that in the table.
+-- which classes are the direct supertypes of one (JVMS 4.1). A program class is told by its number in the set, a
+-- library class by that in the table.
 use Rattle.std.specs.Prelude.{◌<◌, ℕ, Bool, true, false, List, [], length, Option, Some, None, slice_get, if◌then◌else◌}
 use Rattle.std.specs.List.{position, filter_map}
 use Rattle.std.specs.Option.{option_map, option_and_then, option_map_or}

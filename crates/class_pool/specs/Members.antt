@@ -1,6 +1,5 @@
 -- The members that a class declares (JVMS 4.5, 4.6): of a program class its fields and then its methods, of a library
--- class those of
--- the table.
+-- class those of the table.
 use Rattle.std.specs.Prelude.{ℕ, ◌+◌, Bool, ◌&&◌, List, length, Option, Some, None, slice_get}
 use Rattle.std.specs.List.{position}
 use Rattle.std.specs.Option.{option_map, option_and_then}

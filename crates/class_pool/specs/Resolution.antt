@@ -109,8 +109,7 @@ module _ (classes : List Class) where
   is_class_below a b = list_any (same_class b) (superclasses_from classes a)
 
   -- a protected member is accessible in its class and the subclasses of it; one that isn't static where the class that
-  -- the reference names is the one that names it, a
-  -- subclass or a superclass of that (JVMS 5.4.4)
+  -- the reference names is the one that names it, a subclass or a superclass of that (JVMS 5.4.4)
   abbrev pub is_protected_accessible : ClassId → ClassId → MemberAt → Bool
   is_protected_accessible from named m = is_class_below from m.class
       && (is_static_member classes m || is_class_below named from || is_class_below from named)

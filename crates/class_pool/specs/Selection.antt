@@ -55,17 +55,16 @@ module _ (classes : List Class) where
   first_instance c named = find (is_instance_method classes) (declared_by classes named (superclasses_from classes c))
 
   -- where a method of a class was resolved the first one from the receiver's class upwards that overrides it or is it
-  -- (JVMS 6.5.invokevirtual); where one of an
-  -- interface was, whatever kind of reference named it, the first instance method, a private one too, which is our own
-  -- choice (JVMS 6.5.invokeinterface)
+  -- (JVMS 6.5.invokevirtual); where one of an interface was, whatever kind of reference named it, the first instance
+  -- method, a private one too, which is our own choice (JVMS 6.5.invokeinterface)
   abbrev pub selected : ClassId → MemberAt → Option MemberAt
   selected c m =
       if is_interface_in classes m.class then first_instance c (named_at classes m)
       else first (overriding_from c m)
 
   -- where invokespecial in a class named another one: the resolved instance initialisation method, else the first
-  -- instance method from the direct superclass upwards, from the class
-  -- itself where that was named (JVMS 6.5.invokespecial)
+  -- instance method from the direct superclass upwards, from the class itself where that was named (JVMS
+  -- 6.5.invokespecial)
   abbrev pub selected_special : ClassId → ClassId → MemberAt → Option MemberAt
   selected_special from named m =
       if is_init (named_at classes m).0 then Some m

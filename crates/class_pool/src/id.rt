@@ -13,8 +13,7 @@ pub enum ClassId {
 }
 
 /// A member of a class, by its number there: of a program class its fields are numbered first and then its methods, of
-/// a
-/// library class the members as they stand in the table.
+/// a library class the members as they stand in the table.
 #[derive(Clone, Copy)]
 pub struct MemberAt {
     pub class: ClassId,

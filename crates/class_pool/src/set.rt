@@ -141,8 +141,7 @@ impl ClassSet {
     }
 
     /// The superinterfaces that a class has itself: the direct ones in their order, each followed by its own, each
-    /// once,
-    /// where it is met first. It takes no memory.
+    /// once, where it is met first. It takes no memory.
     pub fn own_superinterfaces(&self, id: ClassId) -> &[ClassId]
         requires there { IsClass self.now id }
         ensures are { result.now ≡ each_once [] (own_superinterfaces self.now id) }
@@ -177,10 +176,8 @@ impl ClassSet {
         supers_of(alloc, &self.classes, &self.library, superinterfaces, id)
     }
 
-    /// The number of the member that the class declares with a name and a descriptor (JVMS 4.3). A program class has
-    /// its
-    /// fields and then its methods. No call takes memory, and of a program class only the members of that name are
-    /// looked at.
+    /// The number of the member that the class declares with a name and a descriptor (JVMS 4.3). A program class has its
+    /// fields and then its methods; its members are searched in the order of names and descriptors. It takes no memory.
     pub fn declares(&self, id: ClassId, name: &Name, ty: &Text) -> Option<u32>
         requires { IsClass self.now id }
         ensures { result ≡ declared_at self.now id name.now ty.now }

@@ -14,8 +14,7 @@ use Rattle.class_read.specs.declared.instructions.Instructions.{Instructions}
 use Rattle.class_read.specs.declared.instructions.Instructions.TheVariants.{All, LeftOut}
 
 -- what was read of a code that begins at an offset: the instructions with their starts, where each target is one of
--- them, or
--- the kind of the first that is left out
+-- them, or the kind of the first that is left out
 abbrev pub instructions_of : List Entry → ℕ → CodeRead → Reader Instructions
 instructions_of pool from (instructions infos) = do
   ops ← told (ops_of pool from infos)

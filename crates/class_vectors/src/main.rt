@@ -1,12 +1,9 @@
 //! Class files in hex, one on each line of standard input: says of each what reading it gives.
 //!
 //! The line of an answer is `ok` and the canonical spelling of the class in hex, or `limit LIMIT` where that passes a
-//! limit
-//! of the format, or `left-out MEMBER KIND` with the number of the member, fields first and then methods, and `-` for
-//! the
-//! class itself, or `fault OFFSET KIND`. The first line that is no hex is told with its number on standard error, and
-//! the
-//! status is 1. It is 7 where a device failed, and 10 where memory was wanting.
+//! limit of the format, or `left-out MEMBER KIND` with the number of the member, fields first and then methods, and `-`
+//! for the class itself, or `fault OFFSET KIND`. The first line that is no hex is told with its number on standard
+//! error, and the status is 1. It is 7 where a device failed, and 10 where memory was wanting.
 #![tactic(auto)]
 
 mod answer;

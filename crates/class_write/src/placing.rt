@@ -51,8 +51,7 @@ fn place_body(
 }
 
 /// The codes of these methods, or the limit that the first of them passes: that of its length, or that of its first
-/// branch that
-/// is too far.
+/// branch that is too far.
 pub fn place_bodies(
     alloc: Global,
     pool: &ConstantTable,

@@ -344,8 +344,7 @@ fn add_all(alloc: Global, pool: &mut ConstantTable, class: &Class) -> M<()>
 }
 
 /// The constants that a class needs, each once, where the file needs it first. That of index i stands at place i - 1;
-/// those
-/// that instructions push have the lowest indices.
+/// those that instructions push have the lowest indices.
 pub fn pool_of(alloc: Global, class: &Class) -> M<ConstantTable>
     ensures { IfOk result (λ pool. pool ≡ canonical.pool_of class.now) }
 {

@@ -17,20 +17,15 @@ use std::alloc::Global;
 /// passes.
 ///
 /// The constants stand in the pool in the order in which the file names them, each once and behind its parts; those
-/// that
-/// instructions push come first, so that ldc reaches them. Attributes stand in a fixed order, and an empty one isn't
-/// written;
-/// instructions and frames take their shortest form (JVMS 4.4, 4.7, 6.5).
+/// that instructions push come first, so that ldc reaches them. Attributes stand in a fixed order, and an empty one
+/// isn't written; instructions and frames take their shortest form (JVMS 4.4, 4.7, 6.5).
 ///
 /// The limits count in this order: the constant_pool_count, the texts of the pool, the length of each code and its
-/// branches,
-/// the counts of the tables of the class and its methods, and the attribute_length of each Code (JVMS 4.11). A class
-/// that
-/// passes one of them is no fault of the caller: `WriteLimit` says which, and by how much.
+/// branches, the counts of the tables of the class and its methods, and the attribute_length of each Code (JVMS 4.11).
+/// A class that passes one of them is no fault of the caller: `WriteLimit` says which, and by how much.
 ///
 /// The class is well formed: nothing is left out of it, and its names, types, flags, targets and frames are those of a
-/// class
-/// file. The arguments of the method that an InvokeInterface names take at most 254 words.
+/// class file. The arguments of the method that an InvokeInterface names take at most 254 words.
 pub fn write_class(alloc: Global, class: &Class) -> Result<Bytes, Or<WriteLimit>>
     requires well_formed { IsWellFormed class.now }
     requires words { CountsFit class.now }

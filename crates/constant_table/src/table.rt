@@ -28,8 +28,7 @@ use std::alloc::Global;
 use std::marker::Model;
 
 /// The constants of a pool in the order of their indices, the first at index 1. Contracts see the list of them. Each
-/// text
-/// is stored once, and the index of a constant is found without going through the others.
+/// text is stored once, and the index of a constant is found without going through the others.
 #[derive(Drop)]
 pub struct ConstantTable {
     texts: Texts,

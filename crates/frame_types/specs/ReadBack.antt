@@ -16,8 +16,7 @@ use Rattle.class_model.specs.ReadingFrames.{is_new}
 use Rattle.frame_types.specs.Table.{frames_of}
 
 -- a code whose instructions begin at these offsets, with the entries of the pool that is read and the constants of the
--- one that
--- was written
+-- one that was written
 module _ (entries : List Entry) (constants : List PoolConstant) (starts : List ℕ) (ops : List Op) where
   -- no instruction before the one of this number begins where it does, and its offset fits two bytes
   pub record HasPlace (n : ℕ) : Type 0 where

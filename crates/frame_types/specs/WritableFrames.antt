@@ -28,8 +28,7 @@ TypesAreSaid entries constants frame = AllByRecursion (IsSaid entries constants)
     × AllByRecursion (IsSaid entries constants) frame.frame.stack
 
 -- the frames of a well-formed code whose instructions begin at these offsets; the entries of the pool say the classes
--- of their
--- types at the indices of their constants, and may say others beside (JVMS 4.7.3, 4.7.4)
+-- of their types at the indices of their constants, and may say others beside (JVMS 4.7.3, 4.7.4)
 pub record AreWritableFrames (entries : List Entry) (constants : List PoolConstant) (starts : List ℕ)
     (code : Code) : Type 0 where
   pub begin : length starts ≡ length code.ins

@@ -287,8 +287,7 @@ fn put_rows(
 }
 
 /// The canonical contents of the StackMapTable with these frames (JVMS 4.7.4): each row in the first form that fits.
-/// The
-/// instructions of their code begin at `starts`, and `first` is the frame before the first instruction.
+/// The instructions of their code begin at `starts`, and `first` is the frame before the first instruction.
 pub fn write_frames_with(
     alloc: Global,
     frames: &Items<FrameAt>,

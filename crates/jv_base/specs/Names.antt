@@ -1,7 +1,6 @@
 -- Names in internal form (JVMS 4.2), seen as their bytes in UTF-8. Of the names that the standard allows only those are
--- taken
--- whose characters are the ones below; the standard forbids no more than `.`, `;`, `[`, `/` and, in method names, `<`
--- and `>`.
+-- taken whose characters are the ones below; the standard forbids no more than `.`, `;`, `[`, `/` and, in method names,
+-- `<` and `>`.
 use Rattle.std.specs.Prelude.{ℕ, Bool, true, false, not, ◌&&◌, ◌||◌, List, [], ◌∷◌, length, nat_le, nat_eq, ◌==◌, codes}
 use Rattle.std.specs.Prelude.{Option, Some, None, if◌then◌else◌}
 use Rattle.std.specs.Char.{is_ascii_alphanumeric}
@@ -13,9 +12,8 @@ abbrev pub is_text : List ℕ → List ℕ → Bool
 is_text text other = pointwise nat_eq text other
 
 -- an ASCII letter or digit, `_`, `$`, `-`, or a byte of a character from U+0080 on. In UTF-8 such a character has no
--- byte
--- below 128, and every other one is a single byte, so testing the bytes is testing the characters
--- (the project's own: fewer characters than JVMS 4.2.2 takes)
+-- byte below 128, and every other one is a single byte, so testing the bytes is testing the characters (the project's
+-- own: fewer characters than JVMS 4.2.2 takes)
 unfoldable pub is_name_byte : ℕ → Bool
 is_name_byte b = nat_le 128 b || is_ascii_alphanumeric b || b == 95 || b == 36 || b == 45
 

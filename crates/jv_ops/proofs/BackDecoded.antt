@@ -1,5 +1,5 @@
 -- The canonical bytes of the instructions of a well-formed code are decoded as them.
-use Rattle.std.proofs.Common.{◌≡◌, ℕ, List, map, Result, Ok, ap, ◌∙◌}
+use Rattle.std.proofs.Common.{ℕ, List, map, Result, Ok, ap, ◌∙◌}
 use Rattle.class_model.proofs.BackCode.{op_in, infos}
 use Rattle.class_model.proofs.BackRead.{code_back, meant_back, starts_back}
 use Rattle.jv_ops.specs.declared.decoding.Decoded.{Decoded}

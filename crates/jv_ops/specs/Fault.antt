@@ -26,8 +26,7 @@ code_fault offset wrong.Cut = code.Cut offset
 code_fault offset (wrong.LeftOut opcode) = code.LeftOutOpcode offset opcode
 
 -- what came is what is due, and the place is the one behind it; want of memory is free, and nothing is said of the
--- place
--- after a fault (only the proof of decode_code needs it)
+-- place after a fault (only the proof of decode_code needs it)
 abbrev pub MovesOr : {T X : Type 0} → Result T (Or X) → Place → Result (T × Place) X → Type 0
 MovesOr (Ok x) new due = due ≡ Ok (x, new)
 MovesOr (Err (Fault f)) new due = due ≡ Err f

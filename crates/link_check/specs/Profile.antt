@@ -1,6 +1,5 @@
 -- The rules for classes that are taken, beside those of the format: what is left out, and what references and
--- overriding have to meet
--- (JVMS 4.10, 5.4.3 to 5.4.5, 6.5).
+-- overriding have to meet (JVMS 4.10, 5.4.3 to 5.4.5, 6.5).
 use Rattle.std.specs.Prelude.{◌≡◌, ◌+◌, ◌<◌, IfSome, ℕ, Bool, true, false, not, ◌&&◌, ◌||◌, ◌==◌, List, [], ◌∷◌, ◌++◌}
 use Rattle.std.specs.Prelude.{length, map, codes, Option, Some, None, Result, Ok, Err, slice_get, if◌then◌else◌}
 use Rattle.std.specs.Bool.{beq}

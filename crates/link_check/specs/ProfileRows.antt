@@ -529,8 +529,7 @@ abbrev pub implementing : ℕ → List ℕ → List Method → Class
 implementing flags above methods = plain_class flags (codes "p/C") above (codes "p/I" ∷ []) [] methods
 
 -- an interface's method that runs one of the library that a program may not name, one of the class, a private one too,
--- one of the library
--- that a program may name, and none
+-- one of the library that a program may name, and none
 abbrev pub SuperinterfaceRows : Type 0
 SuperinterfaceRows =
     (links_checked (implementing 0x0020 object [] ∷ naming (codes "notify") ∷ []) ≡ in_class 0 LeftOutMember)

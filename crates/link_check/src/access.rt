@@ -57,8 +57,7 @@ pub(crate) fn is_member_accessible(
 }
 
 /// Whether a protected member is accessible to a class, by the rule for classes of other packages: to a subclass, and
-/// where it isn't
-/// static through a class that stands below or above that subclass.
+/// where it isn't static through a class that stands below or above that subclass.
 fn is_protected_accessible(set: &ClassSet, from: &ClassId, named: &ClassId, m: &MemberAt) -> bool
     requires from { IsClass set.now from.now }
     requires named { IsClass set.now named.now }

@@ -34,8 +34,7 @@ pub enum ProfileKind {
     /// 6.5).
     WrongKind,
     /// One that is named, overridden or run through an interface is a member of the library that a program may not use
-    /// so, or a
-    /// method of an interface has a body.
+    /// so, or a method of an interface has a body.
     LeftOutMember,
 }
 
@@ -58,8 +57,7 @@ impl ProfileKind {
 }
 
 /// The first place of a set that breaks a rule: class after class in order, in a class first itself, then its fields,
-/// then its
-/// methods.
+/// then its methods.
 #[derive(Clone, Copy, Debug, PartialEq, Eq)]
 pub struct ProfileFault {
     /// The number of the class.

@@ -1,8 +1,7 @@
 // What the classes of a set have from the classes above them, found once for each class.
 //
 // A class is looked at when its superclass is known. In which order that comes is not proved: what isn't known is
-// looked for
-// in all superclasses, and only speed rests on it.
+// looked for in all superclasses, and only speed rests on it.
 ghost use Rattle.std.specs.Prelude.{◌≡◌, ◌<◌, IfOk, IfSome, IsTrue, None, Some, false, length, slice_index_or};
 ghost use Rattle.class_pool.specs.declared.id.ClassId.TheVariants.{Prog};
 ghost use Rattle.std.specs.List.{All};
@@ -21,8 +20,7 @@ use std::alloc::Global;
 #[derive(Clone, Copy)]
 pub(crate) struct Known {
     /// Of its superclasses the nearest one that may have a method that none may override: it has a final method, or is
-    /// of the
-    /// library.
+    /// of the library.
     pub start: Option<ClassId>,
     /// None of its methods is final.
     pub plain: bool,

@@ -22,8 +22,7 @@ use class_pool::{ClassId, ClassSet, MemberAt};
 use lib_table::Role;
 
 /// What is wrong with the methods that a method of the class with a number overrides. Superclasses are looked at from
-/// the
-/// nearest one that may have a method that none may override.
+/// the nearest one that may have a method that none may override.
 pub(crate) fn overriding_kind(
     set: &ClassSet,
     known: &[Option<Known>],

@@ -13,8 +13,7 @@ use crate::supertypes::Superclasses;
 use class_pool::{ClassId, ClassSet, MemberAt};
 
 /// Whether a method overrides one that its class or a superclass declares with its name and descriptor, or is it. Other
-/// classes
-/// are looked at only where it may override some method, but not this one by itself.
+/// classes are looked at only where it may override some method, but not this one by itself.
 pub(crate) fn overrides_above(set: &ClassSet, m: &MemberAt, above: &MemberAt) -> bool
     requires one { IsMember set.now m.now }
     requires other { IsMember set.now above.now }

@@ -17,13 +17,10 @@ use jv_base::{M, Or};
 use std::alloc::Global;
 
 /// Tests the rules that the classes of a set have to meet beside those of the format: nothing is left out, and
-/// references,
-/// overriding and what runs for the methods of interfaces are as they have to be (JVMS 4.10, 5.4.3 to 5.4.5, 6.5). The
-/// error
-/// is the first place that breaks a rule, class after class in order, in each the class itself, its fields and then its
-/// methods; of several kinds there the first one in the order of `ProfileKind`. A descriptor that a reference names and
-/// that
-/// is longer than any class file has room for is answered as want of memory.
+/// references, overriding and what runs for the methods of interfaces are as they have to be (JVMS 4.10, 5.4.3 to
+/// 5.4.5, 6.5). The error is the first place that breaks a rule, class after class in order, in each the class itself,
+/// its fields and then its methods; of several kinds there the first one in the order of `ProfileKind`. A descriptor
+/// that a reference names and that is longer than any class file has room for is answered as want of memory.
 pub fn check_links(alloc: Global, set: &ClassSet) -> Result<(), Or<ProfileFault>>
     ensures due { IsDue result (links_checked set.now) }
     ensures place { IfFault result (IsPlace set.now) }

@@ -91,8 +91,7 @@ fn is_opened(set: &ClassSet, class: &ClassId, m: &MemberAt) -> bool
 }
 
 /// The first method from a class upwards that is this one or overrides it by itself; any that may override, where a
-/// method
-/// between them opens it to all packages.
+/// method between them opens it to all packages.
 fn nearest(set: &ClassSet, class: &ClassId, m: &MemberAt, opened: bool) -> Option<MemberAt>
     requires class { IsClass set.now class.now }
     requires there { IsMember set.now m.now }

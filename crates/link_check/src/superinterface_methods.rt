@@ -15,8 +15,7 @@ use jv_base::{Name, Text};
 use std::marker::Model;
 
 /// The method of the superinterfaces of a class that has a name and a descriptor: the only one that is maximally
-/// specific and not
-/// abstract, else the first one that is met.
+/// specific and not abstract, else the first one that is met.
 pub(crate) fn superinterface_method(
     set: &ClassSet,
     class: &ClassId,

@@ -1,6 +1,5 @@
 -- Classes and members in texts: names with dots (JLS 13.1), types as Java source spells them, members as a mapping file
--- has them
--- (ProGuard manual, ReTrace, the mapping file).
+-- has them (ProGuard manual, ReTrace, the mapping file).
 use Rattle.std.specs.Prelude.{ℕ, List, ◌++◌, Option, Some, None, codes, map}
 use Rattle.std.specs.List.{join_by}
 use Rattle.jv_base.specs.External.{dotted, external_text}

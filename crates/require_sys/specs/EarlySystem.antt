@@ -1,7 +1,6 @@
 -- What has to be kept where only static methods are removed, as a system of requirements on the items of a set of
--- classes: everything but
--- the static methods is kept in any case, and a static method where it is asked for or where a method that is kept
--- calls it (the project's own: only static methods are removed so far).
+-- classes: everything but the static methods is kept in any case, and a static method where it is asked for or where a
+-- method that is kept calls it (the project's own: only static methods are removed so far).
 use Rattle.std.specs.Prelude.{ℕ, ◌+◌, Bool, true, not, ◌||◌, List, [], ◌∷◌, ◌++◌, length, map, replicate, Option, Some}
 use Rattle.std.specs.Prelude.{None, Result, Ok, Err, if◌then◌else◌}
 use Rattle.std.specs.List.{enumerate_from, filter_map, flat_map}

@@ -1,6 +1,5 @@
 -- What stays the same in an image, as statements on all sets and images (the project's own). Of `i`, an image of the
--- set
--- `a` in the set `b`, each speaks of what is kept.
+-- set `a` in the set `b`, each speaks of what is kept.
 use Rattle.std.specs.Prelude.{◌≡◌, true, false, List, Some, IfSome}
 use Rattle.std.specs.Option.{option_map}
 use Rattle.class_model.specs.declared.class.Class.{Class}

@@ -11,8 +11,7 @@ pub fn one_shrunk_set()
 {}
 
 /// Where each class of a list can be written, so can each class that is left with its marked members, whatever is
-/// marked
-/// (JVMS 4.1).
+/// marked (JVMS 4.1).
 pub fn shrunk_can_be_written()
     ensures { ShrunkAreWritable }
 {}

@@ -2,12 +2,10 @@
 //! breaks.
 //!
 //! A line is words `PATH=HEX` with blanks between them, their paths ascending. The line of an answer is `ok`, or `pool
-//! CLASS KIND`
-//! where the files are no set, or `profile CLASS MEMBER KIND` with the number of the member, fields first and then
-//! methods,
-//! and `-` for the class itself. A line that begins with `#` is put out as it is. The first line that is no such list
-//! is told with
-//! its number on standard error, and the status is 1. It is 7 where a device failed, and 10 where memory was wanting.
+//! CLASS KIND` where the files are no set, or `profile CLASS MEMBER KIND` with the number of the member, fields first
+//! and then methods, and `-` for the class itself. A line that begins with `#` is put out as it is. The first line that
+//! is no such list is told with its number on standard error, and the status is 1. It is 7 where a device failed, and
+//! 10 where memory was wanting.
 #![tactic(auto)]
 
 mod files;

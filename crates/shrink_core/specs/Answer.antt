@@ -1,6 +1,5 @@
 -- How a run ends: its status, what the tree was asked and what becomes of the files, what is said (the project's own:
--- the command's answers
--- are no part of a standard).
+-- the command's answers are no part of a standard).
 use Rattle.std.specs.Prelude.{◌≡◌, ◌⊎◌, ◌≤◌, ℕ, List, [], ◌∷◌, ◌++◌, take, Option, Some, None, Result, Ok, Err, codes}
 use Rattle.tree_io.specs.Count.{Rose}
 use Rattle.tree_io.specs.Event.{files_to_write, without_memory}
@@ -86,8 +85,7 @@ pub record Unwritten (calls : List Event) : Type 0 where
   pub same : (old new : Files) → Run calls old new → new ≡ old
 
 -- the calls were to write the files of a plan and nothing else, in their order, and found each file that they read; of
--- any files that they
--- fit the plan is the one that is due, and its files were put
+-- any files that they fit the plan is the one that is due, and its files were put
 pub record Writes (plan : Plan) (named : CommandFiles) (calls : List Event) : Type 0 where
   pub did : Did plan.files [] calls
   pub due : (old new : Files) → Run calls old new → IsDue old named (Ok plan)
@@ -101,8 +99,7 @@ pub record Refuses (refusal : Refusal) (named : CommandFiles) (calls : List Even
   pub unwritten : Unwritten calls
 
 -- the calls were to write a front of the files of a plan, in their order, up to this one; of any files that they fit
--- the plan is the one
--- that is due, and so they were left
+-- the plan is the one that is due, and so they were left
 pub record WritesUntil (named : CommandFiles) (calls : List Event)
     (Left : List FileAt → ℕ → FileAt → Files → Files → Type 0) : Type 0 where
   pub plan : Plan
@@ -163,8 +160,7 @@ SaidSo (summary_without_memory plan) config old new = LacksSo plan.summary old n
 -- ---- the whole
 
 -- a command has this ending: its status, the device that is blamed, what the tree was asked and what became of files
--- that fit its answers,
--- what was said
+-- that fit its answers, what was said
 pub record Ends (ending : Ending) (named : CommandFiles) (status : ℕ) (before after : Outside) : Type 0 where
   pub answered : status ≡ status_of ending
   pub blamed : Blames ending before after

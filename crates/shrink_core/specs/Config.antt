@@ -1,6 +1,6 @@
 -- The configs that are taken so far: four lines that name where classes are read and written, where the mapping goes,
--- and the
--- methods of Main that are kept (`-injars`, `-outjars`, `-printmapping` and `-keep` of the ProGuard manual, "Usage").
+-- and the methods of Main that are kept (`-injars`, `-outjars`, `-printmapping` and `-keep` of the ProGuard manual,
+-- "Usage").
 use Rattle.std.specs.Prelude.{◌≡◌, ◌≢◌, ℕ, zero, suc, ◌<◌, Bool, not, ◌&&◌, ◌==◌, List, [], ◌∷◌, ◌++◌, length, Some}
 use Rattle.std.specs.Prelude.{IsTrue, codes}
 use Rattle.std.specs.List.{AllByRecursion, list_all}

@@ -81,8 +81,7 @@ PassesInput files directory quantity.Input = input_due files directory ≡ Err T
 PassesInput files directory _ = ⊥
 
 -- the files below the input directory aren't taken as a set: they pass a limit, one is no class file, or a class breaks
--- a rule. A file
--- that was listed is always there, so none is Gone
+-- a rule. A file that was listed is always there, so none is Gone
 abbrev pub RefusesInput : Files → List ℕ → Refusal → Type 0
 RefusesInput files directory (Limit quantity) = PassesInput files directory quantity
 RefusesInput files directory (Format path fault) = (inputs : List FileAt) × HasInput files directory inputs

@@ -8,8 +8,7 @@ abbrev pub count_line : List ℕ → ℕ → ℕ → List ℕ
 count_line word read kept = word ++ (codes " " ++ (decimal read ++ (codes " " ++ (decimal kept ++ codes "\n"))))
 
 -- a line each for classes, fields and methods, and for how many methods were edited and how many were left as they were
--- because
--- their edited code would not be taken; so far no method is edited
+-- because their edited code would not be taken; so far no method is edited
 abbrev pub summary_text : Counts → Counts → List ℕ
 summary_text read kept =
     count_line (codes "classes") read.classes kept.classes

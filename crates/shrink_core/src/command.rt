@@ -113,10 +113,8 @@ fn run_on<T: Tree, S: Sink>(alloc: Global, named: &CommandFiles, tree: &mut T, o
 /// IN, OUT and MAP are paths without blanks; one `/` at the end of a directory is dropped. The keep line has one method
 /// or more, each behind a blank, with `int` any number of times. Nothing is written to MAP yet. All classes and fields
 /// are kept, and all methods but static ones; of these class initialisation methods, the methods of `Main` that the
-/// keep
-/// line names, and all that kept methods call; a method that `Main` lacks asks for nothing. Each class is written in
-/// its
-/// canonical spelling, with the attributes ConstantValue, Code and StackMapTable and no others.
+/// keep line names, and all that kept methods call; a method that `Main` lacks asks for nothing. Each class is written
+/// in its canonical spelling, with the attributes ConstantValue, Code and StackMapTable and no others.
 ///
 /// | Status | Comes | Text |
 /// |---|---|---|
@@ -133,16 +131,13 @@ fn run_on<T: Tree, S: Sink>(alloc: Global, named: &CommandFiles, tree: &mut T, o
 /// | 10 | where memory is wanting | `error 10 memory` |
 ///
 /// The config is looked at first, then OUT, then IN: the number of its files, of its class files, and of their bytes;
-/// then
-/// each class file by itself, in the order of their paths, and then all as a set; last what is to be written. CLASS is
-/// a
-/// name with dots, MEMBER as `int x` or `int f(int)`, and `-` where the class itself is at fault. Limits: `config` and
-/// `input` (the class files together) 67,108,864 bytes, `files` 65,536 and `classes` 20,000 below IN, and what a class
-/// file has room for (`pool`, `utf8`, `code`, `table`, `branch`, `attribute`).
+/// then each class file by itself, in the order of their paths, and then all as a set; last what is to be written.
+/// CLASS is a name with dots, MEMBER as `int x` or `int f(int)`, and `-` where the class itself is at fault. Limits:
+/// `config` and `input` (the class files together) 67,108,864 bytes, `files` 65,536 and `classes` 20,000 below IN, and
+/// what a class file has room for (`pool`, `utf8`, `code`, `table`, `branch`, `attribute`).
 ///
 /// After 1 to 6 and 8 no file has changed. After 7 and 10 the first of the files to be written may stand, in the order
-/// of
-/// their paths; after 7 the next path may hold any bytes.
+/// of their paths; after 7 the next path may hold any bytes.
 ///
 /// The summary is five lines: `classes`, `fields` and `methods`, each with how many were read and how many are kept,
 /// `edited 0` and `fallback 0`.
@@ -164,8 +159,7 @@ pub fn run<Rt: Threads + Sync, T: Tree, S: Sink, G: Gate>(
     ensures memory { memory_faults (T.log tree.old) < memory_faults (T.log tree.new) → result ≡ 10 }
 
     // The run has an ending, which tells its status, which device is blamed, what the tree was asked, what became of
-    // all files
-    // that its answers fit, told ones among them, and what was said.
+    // all files that its answers fit, told ones among them, and what was said.
     ensures ended { Ended (files_in words.now) result
         (outside (T.files tree.old) (T.faults tree.old) (T.log tree.old) (output (S.written out.old) (S.faults out.old) (S.log out.old)))
         (outside (T.files tree.new) (T.faults tree.new) (T.log tree.new) (output (S.written out.new) (S.faults out.new) (S.log out.new))) }

@@ -43,8 +43,7 @@ pub record Did (files : List FileAt) (absent : List (List ℕ)) (calls : List Ev
   pub had_memory : without_memory calls ≡ []
 
 -- calls that wrote nothing and found no file at these paths alone, and what holds of all files that they fit; where
--- memory was wanting
--- for an answer no more is said than that nothing was written
+-- memory was wanting for an answer no more is said than that nothing was written
 abbrev pub Sees : Option (List (List ℕ)) → (Files → Type 0) → List Event → Type 0
 Sees None Holds calls = files_to_write calls ≡ []
 Sees (Some absent) Holds calls = Did [] absent calls × ((files left : Files) → Run calls files left → Holds files)
