@@ -1,12 +1,11 @@
 -- Which rules an instruction of a code can break.
-use Rattle.std.proofs.Common.{◌≡◌, ℕ, zero, suc, ◌+◌, ◌-◌, ◌≤◌, Bool, true, false, cond, ltb, eqb, ◌||◌, List, [], ◌∷◌}
+use Rattle.std.proofs.Common.{◌≡◌, ℕ, zero, suc, ◌-◌, ◌≤◌, Bool, true, false, cond, ltb, eqb, ◌||◌, List, [], ◌∷◌}
 use Rattle.std.proofs.Common.{length, Option, Some, None, Result, Ok, Err, refl, sym, ap, subst, ◌∙◌, arith}
-use Rattle.std.specs.Prelude.{is_some, nat_le, nat_lt, int_le, ◌^◌, slice_get, slice_range}
+use Rattle.std.specs.Prelude.{is_some, nat_le, nat_lt, int_le, ◌^◌, slice_get}
 use Rattle.std.specs.Int.{Width, w8, w16, w32, byte_len, cast_signed}
-use Rattle.std.proofs.lemmas.Bool.{le-ltb}
 use Rattle.std.proofs.lemmas.Bool.Decides.{nat_tests}
 use Rattle.jv_base.specs.declared.cursor.End.{End}
-use Rattle.jv_base.specs.Place.{Place, number_at, after}
+use Rattle.jv_base.specs.Place.{Place, number_at}
 use Rattle.format_reading.specs.declared.fault.FormatFault.{FormatFault}
 use Rattle.format_reading.specs.declared.fault.FormatKind.{FormatKind}
 use Rattle.format_reading.specs.declared.fault.FormatKind.TheVariants as bad

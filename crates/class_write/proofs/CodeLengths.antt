@@ -4,7 +4,6 @@ use Rattle.std.proofs.Common.{List, [], ◌∷◌, ◌++◌, length, map, Option
 use Rattle.std.proofs.Common.{append_assoc, arith}
 use Rattle.std.specs.Prelude.{All, slice_index, nat_eq, nat_lt}
 use Rattle.std.proofs.lemmas.Bool.{lt-ltb, le-ltb}
-use Rattle.std.proofs.lemmas.List.Sums.{sum_by-append}
 use Rattle.jv_base.specs.Outcome.{◌>>=◌}
 use Rattle.class_model.specs.declared.limit.WriteLimit.{WriteLimit}
 use Rattle.class_model.specs.declared.limit.WriteLimit.TheVariants.{AttributeTooLong}
@@ -16,12 +15,11 @@ use Rattle.std.proofs.lemmas.List.Elements.{All-from_recursion}
 use Rattle.class_model.specs.declared.code.Code.{Code}
 use Rattle.class_model.specs.declared.code.Ins.{Ins}
 use Rattle.class_model.specs.declared.frame.VType.{VType}
-use Rattle.class_model.specs.declared.frame.VType.TheVariants as vtype
 use Rattle.class_model.specs.declared.frame.FrameAt.{FrameAt}
 use Rattle.class_model.specs.WellFormed.{IsGoodFrame}
 use Rattle.class_model.specs.declared.constant.PoolConstant.{PoolConstant}
 use Rattle.class_model.specs.Structure.{AttributeInfo, attribute_info, ExceptionInfo, exception_info}
-use Rattle.class_model.specs.Frames.{stack_map_table, words_of_type, words_of_types}
+use Rattle.class_model.specs.Frames.{stack_map_table}
 use Rattle.frame_types.specs.Writing.{HasShortLists}
 use Rattle.class_model.specs.LineNumbers.{LineNumber, line_number}
 use Rattle.class_model.specs.CanonicalFrames.{rows}
@@ -31,7 +29,7 @@ use Rattle.class_model.specs.CanonicalClass.{handler_raw, code_attributes, code_
 use Rattle.class_write.specs.Writing.{attribute_length, items_text, contents_due}
 use Rattle.class_write.proofs.Counted.{rows_length}
 use Rattle.class_write.proofs.SpelledLines.{lines_counted}
-use Rattle.frame_types.proofs.BackGood.{some_words, fewer_than_words}
+use Rattle.frame_types.proofs.BackGood.{fewer_than_words}
 
 -- ---- lines
 

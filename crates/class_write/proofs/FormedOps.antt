@@ -1,6 +1,6 @@
 -- Instructions that bytes stand for are those of a well-formed code (JVMS 4.9.1, 6.5).
 use Rattle.std.proofs.Common.{◌≡◌, ◌⊎◌, inl, inr, ℕ, zero, suc, ◌+◌, ◌-◌, ◌^◌, ◌<◌, ◌≤◌, Bool, true, false, cond, eqb}
-use Rattle.std.proofs.Common.{leb, ltb, List, [], ◌∷◌, length, get_or, Option, Some, None, ℤ, pos, negsuc, ◌+ℤ◌, ◌-ℤ◌}
+use Rattle.std.proofs.Common.{ltb, List, [], ◌∷◌, length, get_or, Option, Some, None, ℤ, pos, negsuc, ◌+ℤ◌, ◌-ℤ◌}
 use Rattle.std.proofs.Common.{◌<ℤ◌, ◌≤ℤ◌, slice_get, refl, sym, ap, subst, ◌∙◌, arith, SFits}
 use Rattle.std.specs.Prelude.{IfSome, option_and_then, option_map}
 use Rattle.std.specs.Int.{w8, w16, w32, cast_signed}
@@ -9,7 +9,6 @@ use Rattle.std.specs.List.{AllByRecursion, AllZip, list_all, range_with_len}
 use Rattle.std.proofs.Math.Facts.{sfits_to_z, sfits_widen}
 use Rattle.std.proofs.lemmas.Int.{ints}
 use Rattle.std.proofs.lemmas.Bool.{and_parts, eqb-true, ltb-true, cases_lt}
-use Rattle.std.proofs.lemmas.Bool.Decides.{nat_tests}
 use Rattle.std.proofs.lemmas.Option.{slice_get_within}
 use Rattle.std.proofs.lemmas.List.FromFn.{get_or-range_with_len}
 use Rattle.jv_base.specs.Types.{argument_words, IsMethodType, method_text}
@@ -26,7 +25,7 @@ use Rattle.class_model.specs.declared.op.Op.TheVariants as op
 use Rattle.class_model.specs.Between.{int_between, between}
 use Rattle.class_model.specs.ConstantPool.{string_index_in}
 use Rattle.class_model.specs.Pool.{units_at}
-use Rattle.class_model.specs.Opcodes.{kind_of, cond_of, ending_op, plain_op, local_op, branch_op, field_op, method_op}
+use Rattle.class_model.specs.Opcodes.{kind_of, cond_of, plain_op, local_op, branch_op, field_op, method_op}
 use Rattle.class_model.specs.Opcodes.{takes_interface_method, type_op, array_type_of}
 use Rattle.class_model.specs.InstructionStructure.{MatchOffset, Info, Plain, Bipush, Sipush, Ldc, LdcWide, Local}
 use Rattle.class_model.specs.InstructionStructure.{WideLocal, Iinc, WideIinc, Branch, GotoWide, TableSwitch}
@@ -43,7 +42,7 @@ use Rattle.class_model.proofs.BackNumbers.{short_fits}
 use Rattle.class_write.specs.ClassValues.{IsPushValue, IsFieldTypeValue}
 use Rattle.class_write.proofs.FormedPool.{EntryFits, class_formed, type_formed, field_formed, method_formed}
 use Rattle.class_write.proofs.FormedPool.{interface_formed}
-use Rattle.class_model.proofs.InstructionOnly.{above, none_ends, none_alone}
+use Rattle.class_model.proofs.InstructionOnly.{none_alone}
 use Rattle.class_model.proofs.PoolLaw.{all_at}
 
 -- the instruction of a code of n is well formed, and its numbers and texts are in range

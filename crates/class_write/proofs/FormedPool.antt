@@ -1,5 +1,5 @@
 -- What the entries of a constant pool name is well formed (JVMS 4.4).
-use Rattle.std.proofs.Common.{◌≡◌, inl, inr, ℕ, zero, suc, Bool, List, [], ◌∷◌, Option, Some, slice_get, sym, ap, subst}
+use Rattle.std.proofs.Common.{◌≡◌, inl, inr, ℕ, Bool, List, [], ◌∷◌, Option, Some, slice_get, sym, ap, subst}
 use Rattle.std.proofs.Common.{◌∙◌, arith}
 use Rattle.std.specs.Prelude.{IsUtf8, IsTrue}
 use Rattle.std.specs.Int.{w32, w64}

@@ -1,11 +1,9 @@
 -- The canonical pool of a well-formed class is a constant pool (JVMS 4.4).
 use Rattle.std.proofs.Common.{◌≡◌, ℕ, zero, suc, ◌+◌, ◌^◌, ◌<◌, Bool, true, false, cond, List, [], ◌∷◌, ◌++◌, length}
-use Rattle.std.proofs.Common.{drop, Option, Some, None, Result, Ok, Err, ℤ, refl, ltb}
+use Rattle.std.proofs.Common.{drop, Option, Some, None, Result, Ok, ℤ, refl}
 use Rattle.std.specs.Prelude.{IsUtf8, IfSome, codes}
 use Rattle.std.specs.List.{AllByRecursion, flat_map}
-use Rattle.std.proofs.lemmas.Bool.{ltb-true}
 use Rattle.jv_base.specs.Mutf8.{mutf8, IsUnits}
-use Rattle.jv_base.specs.Outcome.{◌>>=◌}
 use Rattle.jv_base.specs.Types.{field_text, method_text}
 use Rattle.class_model.specs.declared.constant.PoolConstant.{PoolConstant}
 use Rattle.class_model.specs.declared.constant.PoolConstant.TheVariants.{Utf8, Integer, Long, SecondOfLong}
@@ -40,7 +38,7 @@ use Rattle.class_model.specs.PoolEntries.{entries_of, Has, ConstantFits, begun_b
 use Rattle.class_model.specs.ConstantPool.{IsPool}
 use Rattle.class_model.specs.WellFormed.{IsClassName, IsGoodOp, IsGoodHandler, IsGoodType, IsGoodFrame, IsGoodCode}
 use Rattle.class_model.specs.WellFormed.{FitsField, IsGoodField, IsGoodMethod, IsWellFormed}
-use Rattle.class_model.specs.WriteLimits.{fits_u2, first_of, text_fits}
+use Rattle.class_model.specs.WriteLimits.{first_of, text_fits}
 use Rattle.class_model.proofs.BackPool.{filled_has}
 use Rattle.class_model.proofs.BackPaired.{filled_paired}
 use Rattle.class_write.specs.ClassValues.{IsInsValue, IsVTypeValue, IsFrameValue, IsCodeValue, IsFieldConstant}

@@ -7,7 +7,6 @@ use Rattle.std.specs.Cmp.Lexicographic.{pointwise}
 use Rattle.std.proofs.lemmas.Bool.{and_parts, eqb-true, leb-true, le-leb}
 use Rattle.std.proofs.lemmas.List.{length-map, length-drop, take-append-drop}
 use Rattle.std.proofs.lemmas.Option.{slice_get_within}
-use Rattle.std.proofs.lemmas.List.Sums.{sum_by-append}
 use Rattle.jv_base.specs.Utf16.{units_of}
 use Rattle.jv_base.specs.Names.{is_text}
 use Rattle.jv_base.specs.Types.{field_text, IsFieldType, IsMethodType}
@@ -28,8 +27,8 @@ use Rattle.class_model.specs.Between.{between}
 use Rattle.class_model.specs.InstructionStructure.{starts_of}
 use Rattle.class_model.specs.ConstantPool.{class_type}
 use Rattle.class_model.specs.Frames.{VerificationTypeInfo, StackMapFrame, SameFrame, SameFrameExtended}
-use Rattle.class_model.specs.Frames.{SameLocalsOneStackItem, SameLocalsOneStackItemExtended, words_of_type}
-use Rattle.class_model.specs.Frames.{words_of_types, base_vtype, vtype_of, this_type, initial_locals, offset_behind}
+use Rattle.class_model.specs.Frames.{SameLocalsOneStackItem, SameLocalsOneStackItemExtended}
+use Rattle.class_model.specs.Frames.{base_vtype, vtype_of, this_type, initial_locals, offset_behind}
 use Rattle.class_model.specs.Frames.{IsVType, AreVTypes, IsFrame, IsFrameAt, AreFrames}
 use Rattle.class_model.specs.CanonicalPool.{type_name}
 use Rattle.class_model.specs.CanonicalCode.{places}
@@ -46,7 +45,7 @@ use Rattle.class_write.proofs.SpelledPool.{IsTypeNamed, type_there}
 use Rattle.class_write.proofs.SpelledWanted.{HasAll}
 use Rattle.class_write.proofs.SpelledConstants.{types_of_form}
 use Rattle.class_write.proofs.SpelledInstructions.{IsWritten, begins_at, place_low, ascends}
-use Rattle.frame_types.proofs.BackGood.{some_words, fewer_than_words}
+use Rattle.frame_types.proofs.BackGood.{fewer_than_words}
 
 -- ---- types that are the same
 

@@ -1,6 +1,5 @@
 -- What is written of a class spells it and is read as it (JVMS 4.1).
 use Rattle.std.proofs.Common.{◌≡◌, ℕ, List, Result, Ok, Err, refl, sym, subst, ◌∙◌}
-use Rattle.format_reading.specs.declared.fault.FormatFault.{FormatFault}
 use Rattle.class_model.specs.declared.class.Class.{Class}
 use Rattle.class_model.specs.declared.limit.WriteLimit.{WriteLimit}
 use Rattle.class_model.specs.ClassFile.{File}

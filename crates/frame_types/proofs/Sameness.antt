@@ -1,5 +1,5 @@
 -- Types that the test of the canonical spelling takes for one are one.
-use Rattle.std.proofs.Common.{◌≡◌, Bool, true, false, ◌&&◌, List, [], ◌∷◌, refl, ap, ◌∙◌}
+use Rattle.std.proofs.Common.{◌≡◌, true, List, [], ◌∷◌, refl, ap, ◌∙◌}
 use Rattle.std.proofs.lemmas.Bool.{eqb-true, and_parts}
 use Rattle.std.specs.Cmp.Lexicographic.{pointwise}
 use Rattle.jv_base.specs.Types.{field_text}

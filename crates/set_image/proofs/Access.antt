@@ -1,5 +1,5 @@
 -- Access and overriding in an image.
-use Rattle.std.proofs.Common.{◌≡◌, Bool, true, false, cond, ◌&&◌, ◌||◌, List, map, ap, ◌∙◌}
+use Rattle.std.proofs.Common.{◌≡◌, Bool, true, false, cond, ◌&&◌, ◌||◌, List, ap, ◌∙◌}
 use Rattle.std.specs.List.{list_any}
 use Rattle.class_model.specs.Flags.{acc_private, acc_protected, acc_public, acc_static}
 use Rattle.class_model.specs.declared.class.Class.{Class}
