@@ -4,10 +4,9 @@ use Rattle.std.proofs.Common.{◌≡◌, ◌∙◌, ◌&&◌, ◌||◌, not, Boo
 use Rattle.std.proofs.Common.{is_some, refl, sym, ap}
 use Rattle.std.specs.List.{cons_option, filter, filter_map, find, flat_map, list_all, list_any}
 use Rattle.std.specs.Option.{option_and_then, option_map_or, option_or}
-use Rattle.std.proofs.lemmas.Bool.{eq-eqb, eqb-true, or_parts}
+use Rattle.std.proofs.lemmas.Bool.{or_parts}
 use Rattle.std.proofs.lemmas.List.Folds.{find-append}
 use Rattle.class_pool.specs.declared.id.ClassId.{ClassId}
-use Rattle.class_pool.specs.declared.id.ClassId.TheVariants.{Prog, Lib}
 use Rattle.class_pool.specs.Resolution.{first}
 use Rattle.class_pool.specs.Walk.{each_once, same_class}
 use Rattle.class_pool.proofs.EachOnce.{same_is}

@@ -3,7 +3,7 @@ use Rattle.std.proofs.Common.{◌≡◌, ℕ, zero, suc, ◌<◌, ◌≤◌, ◌
 use Rattle.std.proofs.Common.{◌++◌, length, map, get_or, set, Option, Some, None, IfSome, refl, sym, ap, ◌∙◌, subst}
 use Rattle.std.proofs.Common.{arith, get_or-set_same, get_or-set_other, length-set, is_some}
 use Rattle.std.specs.Prelude.{if◌then◌else◌, slice_get, slice_index_or}
-use Rattle.std.specs.List.{cons_option, filter_map, find, flat_map, list_any}
+use Rattle.std.specs.List.{cons_option, find, flat_map, list_any}
 use Rattle.std.specs.Option.{option_map_or}
 use Rattle.std.proofs.lemmas.List.{append-nil}
 use Rattle.std.proofs.lemmas.List.Concat.{flat_map-append}
@@ -14,15 +14,15 @@ use Rattle.class_model.specs.declared.class.Field.{Field}
 use Rattle.class_model.specs.declared.class.Method.{Method}
 use Rattle.lib_table.proofs.Computed.{count}
 use Rattle.class_pool.specs.declared.id.ClassId.{ClassId}
-use Rattle.class_pool.specs.declared.id.ClassId.TheVariants.{Prog, Lib}
+use Rattle.class_pool.specs.declared.id.ClassId.TheVariants.{Prog}
 use Rattle.class_pool.specs.declared.id.MemberAt.{MemberAt}
 use Rattle.class_pool.specs.Found.{MemberRow, declared_by, declared_in, field_row, is_final_member, is_instance_method}
 use Rattle.class_pool.specs.Found.{method_row, named_at, role_at, row_at, rows_in}
 use Rattle.class_pool.specs.Hierarchy.{IsClass, superclass}
 use Rattle.class_pool.specs.Lists.{HasRanks}
 use Rattle.class_pool.specs.Resolution.{first, is_interface_in}
-use Rattle.class_pool.specs.Selection.{first_instance, may_be_overridden, may_override, overrides, overriding}
-use Rattle.class_pool.specs.Selection.{overriding_from, selected}
+use Rattle.class_pool.specs.Selection.{first_instance, overrides, overriding}
+use Rattle.class_pool.specs.Selection.{overriding_from}
 use Rattle.class_pool.specs.Walk.{own_superinterfaces, same_class, superclasses_from, superinterfaces}
 use Rattle.class_pool.proofs.Walking.{superclasses_next}
 use Rattle.link_check.specs.declared.fault.ProfileKind.{ProfileKind}
@@ -35,7 +35,7 @@ use Rattle.link_check.specs.Profile.{least, may_be_overridden_role, methods_of, 
 use Rattle.link_check.specs.Profile.{selected_kinds, unless}
 use Rattle.link_check.specs.Walks.{superclasses_up}
 use Rattle.class_pool.proofs.Declaring.{superclass_there}
-use Rattle.link_check.proofs.Least.{is_none, least_empty}
+use Rattle.link_check.proofs.Least.{least_empty}
 use Rattle.link_check.proofs.Likes.{like_is_method}
 use Rattle.link_check.proofs.Methods.{rows_are}
 use Rattle.link_check.proofs.OverridingLaws.{class_Decides, declared_class}

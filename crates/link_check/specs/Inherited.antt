@@ -1,6 +1,6 @@
 -- What is known of a class from the classes above it, found once for each class (only the proof of check_links needs
 -- it).
-use Rattle.std.specs.Prelude.{◌≡◌, ◌<◌, IfSome, ℕ, Bool, true, false, List, [], length, Option, Some, None, slice_get}
+use Rattle.std.specs.Prelude.{◌≡◌, IfSome, ℕ, Bool, true, false, List, [], length, Option, Some, None, slice_get}
 use Rattle.std.specs.Prelude.{slice_index_or}
 use Rattle.std.specs.List.{flat_map, list_any}
 use Rattle.std.specs.Option.{option_map_or}

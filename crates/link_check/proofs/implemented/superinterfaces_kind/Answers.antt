@@ -1,4 +1,4 @@
-use Rattle.std.proofs.Common.{List, [], ◌∙◌, ap, sym}
+use Rattle.std.proofs.Common.{List, ◌∙◌, ap, sym}
 use Rattle.std.specs.List.{flat_map}
 use Rattle.std.proofs.lemmas.List.Elements.{All-rest}
 use Rattle.class_pool.specs.declared.id.ClassId.{ClassId}
@@ -8,7 +8,7 @@ use Rattle.link_check.specs.declared.fault.ProfileKind.{ProfileKind}
 use Rattle.link_check.specs.Inherited.{running_kinds_of}
 use Rattle.link_check.specs.Profile.{least}
 use Rattle.link_check.specs.Walks.{superclasses_up}
-use Rattle.link_check.proofs.Walks.{flat_flat, gathered_all, gathered_more, gathered_none}
+use Rattle.link_check.proofs.Walks.{flat_flat, gathered_all, gathered_more}
 use Rattle.link_check.proofs.implemented.superinterfaces_kind.Goals as goal
 
 pub loop-class-preserved : goal.loop-class-preserved
