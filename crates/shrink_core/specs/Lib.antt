@@ -10,3 +10,5 @@ pub mod Due
 pub mod Answer
 pub mod Steps
 pub mod OneDue
+pub mod SomeMarks
+pub mod SomeDue

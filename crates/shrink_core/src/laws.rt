@@ -1,8 +1,21 @@
-// What holds of what is due.
+// What holds of what is due, and of what is kept.
 ghost use Rattle.shrink_core.specs.OneDue.{IsOneDue};
+ghost use Rattle.shrink_core.specs.SomeDue.{IsSomeDue};
+ghost use Rattle.shrink_core.specs.SomeMarks.{AreSomeMarks};
 
 /// Of the same files one thing at most is due for a command: one plan, or one refusal. So what is written and said
 /// doesn't depend on how it was found.
 pub fn one_due()
     ensures { IsOneDue }
+{}
+
+/// Of files that hold bytes something is due for each command: a plan, or a refusal. So, with `one_due`, exactly one thing
+/// is.
+pub fn some_due()
+    ensures { IsSomeDue }
+{}
+
+/// Each valid system has a least closed set. So the definition of what is kept of a set always names something.
+pub fn some_marks()
+    ensures { AreSomeMarks }
 {}

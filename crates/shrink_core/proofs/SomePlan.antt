@@ -1,0 +1,84 @@
+-- What a config keeps of a set can be written, or a first limit is passed.
+use Rattle.std.proofs.Common.{◌≡◌, ◌⊎◌, inl, inr, ℕ, Bool, List, [], ◌∷◌, map, Result, Ok, Err, refl, ap}
+use Rattle.tree_io.specs.declared.file_at.FileAt.{FileAt}
+use Rattle.mark_core.specs.Marks.{Marks}
+use Rattle.class_model.specs.WriteLimits.{class_written}
+use Rattle.class_model.specs.declared.class.Class.{Class}
+use Rattle.class_model.specs.declared.limit.WriteLimit.{WriteLimit}
+use Rattle.member_shrink.specs.Attributes.{without_optional}
+use Rattle.member_shrink.specs.Shrunk.{shrunk}
+use Rattle.require_sys.specs.EarlySystem.{system_of}
+use Rattle.set_shrink.specs.ShrunkSet.{AreFilesOf, IsKept, PassLimit, counts_of, path_of}
+use Rattle.shrink_core.specs.Due.{IsPlan, RefusesPlan, asked_by}
+use Rattle.shrink_core.specs.Refusal.{quantity_of}
+use Rattle.shrink_core.specs.Summary.{summary_text}
+use Rattle.shrink_core.specs.declared.config.Config.{Config}
+use Rattle.shrink_core.specs.declared.refusal.Refusal.{Refusal}
+use Rattle.shrink_core.specs.declared.refusal.Refusal.TheVariants.{Limit}
+use Rattle.shrink_core.specs.declared.shrink.Plan.{Plan}
+use Rattle.shrink_core.proofs.SomeMarks.{some_marks}
+use Rattle.shrink_core.proofs.SomeSystem.{system_valid}
+
+-- classes have files, or a first one passes a limit
+abbrev Writes : List ℕ → List Class → Type 0
+Writes directory classes = ((files : List FileAt) × AreFilesOf directory classes files)
+    ⊎ ((limit : WriteLimit) × PassLimit classes limit)
+
+write_more : (directory : List ℕ) (c : Class) (classes : List Class) (bytes : List ℕ) → class_written c ≡ Ok bytes
+    → Writes directory classes
+    → Writes directory (c ∷ classes)
+write_more directory c classes bytes e (inl (files, are)) = inl
+    (record { path = path_of directory c; bytes = bytes } ∷ files, ((refl, e), are))
+write_more directory c classes bytes e (inr (limit, pass)) = inr (
+  limit,
+  record {
+    before = c ∷ pass.before;
+    class = pass.class;
+    after = pass.after;
+    split = ap (λ (cs : List Class). c ∷ cs) pass.split;
+    fit = ((bytes, e), pass.fit);
+    passes = pass.passes;
+  },
+)
+
+write_first : (directory : List ℕ) (c : Class) (classes : List Class) (r : Result (List ℕ) WriteLimit)
+    → class_written c ≡ r
+    → Writes directory classes → Writes directory (c ∷ classes)
+write_first directory c classes (Ok bytes) e rest = write_more directory c classes bytes e rest
+write_first directory c classes (Err limit) e rest = inr (
+  limit,
+  record {
+    before = [];
+    class = c;
+    after = classes;
+    split = refl;
+    fit = tt;
+    passes = e;
+  },
+)
+
+write_or : (directory : List ℕ) (classes : List Class) → Writes directory classes
+write_or directory [] = inl ([], tt)
+write_or directory (c ∷ classes) = write_first directory c classes (class_written c) refl (write_or directory classes)
+
+plan_of : (config : Config) (classes kept : List Class) → IsKept classes (asked_by config) kept
+    → Writes config.output kept
+    → ((plan : Plan) × IsPlan config classes plan) ⊎ ((refusal : Refusal) × RefusesPlan config classes refusal)
+plan_of config classes kept are (inl (files, written)) = inl (
+  record { files = files; summary = summary_text (counts_of classes) (counts_of kept) },
+  record {
+    shrunk = record { files = files; read = counts_of classes; kept = counts_of kept };
+    is_shrunk = record { kept = kept; are_kept = are; files = written; read = refl; left = refl };
+    files = refl;
+    summary = refl;
+  },
+)
+plan_of config classes kept are (inr (limit, pass)) = inr (Limit (quantity_of limit), (limit, (kept, are, pass), refl))
+
+pub plan_or : (config : Config) (classes : List Class)
+    → ((plan : Plan) × IsPlan config classes plan) ⊎ ((refusal : Refusal) × RefusesPlan config classes refusal)
+plan_or config classes =
+    let marks : (m : List Bool) × Marks (system_of classes (asked_by config)) m =
+    some_marks (system_of classes (asked_by config)) (system_valid classes (asked_by config)) in
+    let kept : List Class = map without_optional (shrunk classes marks.0) in
+    plan_of config classes kept (record { marks = marks.0; least = marks.1; left = refl }) (write_or config.output kept)
