@@ -2,8 +2,7 @@
 use Rattle.std.proofs.Common.{◌≡◌, ⊎_elim, ℕ, ◌+◌, ◌<◌, ◌≤◌, Bool, true, false, cond, not, eqb, List, [], ◌∷◌, ◌++◌}
 use Rattle.std.proofs.Common.{length}
 use Rattle.std.proofs.Common.{Option, Some, None, Ok, refl, sym, ap, subst, ◌∙◌, arith}
-use Rattle.std.specs.List.{AllByRecursion, cons_option, enumerate_from, filter_map, find, flat_map, list_any}
-use Rattle.std.specs.Option.{option_map}
+use Rattle.std.specs.List.{AllByRecursion, enumerate_from, filter_map, find, flat_map, list_any}
 use Rattle.std.proofs.lemmas.Bool.{cases_lt, eq-eqb}
 use Rattle.tree_io.specs.declared.file_at.FileAt.{FileAt}
 use Rattle.class_model.specs.declared.class.Class.{Class}
@@ -19,7 +18,7 @@ use Rattle.class_write.specs.SpellingLaws.{IsWritable}
 use Rattle.class_write.proofs.FormedFile.{spelled_writable}
 use Rattle.link_check.specs.Profile.{all_kinds, declaration_kinds, fault_at, faults_of, kinds_of_class, kinds_of_field}
 use Rattle.link_check.specs.Profile.{kinds_of_method}
-use Rattle.link_check.specs.Profile.{least, left_out_at, links_checked, of_left, rank_of, unless}
+use Rattle.link_check.specs.Profile.{left_out_at, links_checked, of_left, rank_of, unless}
 use Rattle.link_check.specs.declared.fault.ProfileFault.{ProfileFault}
 use Rattle.link_check.specs.declared.fault.ProfileKind.{ProfileKind}
 use Rattle.link_check.specs.declared.fault.ProfileKind.TheVariants.{LeftOutFlag, LeftOutConstant, LeftOutOpcode}
@@ -27,7 +26,7 @@ use Rattle.link_check.specs.declared.fault.ProfileKind.TheVariants.{LeftOutType}
 use Rattle.link_check.specs.declared.fault.ProfileKind.TheVariants.{Unresolved, Inaccessible, WrongKind, LeftOutMember}
 use Rattle.set_read.specs.Accepted.{AreRead, IsAccepted}
 use Rattle.set_read.proofs.Few.{as_long, as_many}
-use Rattle.link_check.proofs.Taken.{option_parts, mapped_none, no_kind}
+use Rattle.link_check.proofs.Taken.{option_parts, no_kind}
 
 -- ---- lists
 
