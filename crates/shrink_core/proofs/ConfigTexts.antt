@@ -1,5 +1,5 @@
 -- The text of a config stands for one config alone.
-use Rattle.std.proofs.Common.{◌≡◌, ◌≢◌, ◌↔◌, ℕ, zero, suc, ◌+◌, ◌<◌, Bool, true, false, not, ◌&&◌, eqb, eq-eqb, List}
+use Rattle.std.proofs.Common.{◌≡◌, ◌≢◌, ◌↔◌, ℕ, zero, suc, ◌+◌, ◌<◌, Bool, true, false, not, eqb, eq-eqb, List}
 use Rattle.std.proofs.Common.{[], ◌∷◌, ◌++◌, length, get_or, IsTrue, Option, Some, None, Bor, refl, sym, ap, subst, ◌∙◌}
 use Rattle.std.proofs.Common.{arith, codes}
 use Rattle.std.specs.List.{AllByRecursion, list_all}

@@ -1,16 +1,16 @@
 -- What files hold that the calls of a tree fit, step by step.
-use Rattle.std.proofs.Common.{◌≡◌, ℕ, Bool, true, false, cond, nat_lt, List, [], ◌∷◌, ◌++◌, length, Option, Some, None}
+use Rattle.std.proofs.Common.{◌≡◌, ℕ, Bool, true, false, cond, nat_lt, List, [], ◌∷◌, ◌++◌, length, Option, Some}
 use Rattle.std.proofs.Common.{Result, Ok, Err, refl, subst, ◌∙◌, inl, inr, ap}
 use Rattle.tree_io.specs.Below.{paths_below}
 use Rattle.std.specs.FinMap.{keys}
-use Rattle.tree_io.specs.Event.{files_to_write, without_memory}
+use Rattle.tree_io.specs.Event.{files_to_write}
 use Rattle.tree_io.specs.Files.{Files}
-use Rattle.tree_io.specs.Runs.{Did, Made, Run, Sees}
+use Rattle.tree_io.specs.Runs.{Made, Run, Sees}
 use Rattle.tree_io.specs.declared.event.Event.{Event}
 use Rattle.tree_io.specs.declared.file_at.FileAt.{FileAt}
 use Rattle.tree_io.specs.declared.faults.WriteFault.TheVariants as written
 use Rattle.tree_io.specs.declared.faults.WriteFault.{WriteFault}
-use Rattle.tree_io.proofs.Runs.{did_both, made_both, made_none, made_sees, made_so, nothing_both, run_parts, sees_so}
+use Rattle.tree_io.proofs.Runs.{did_both, made_both, made_none, made_sees, made_so, run_parts, sees_so}
 use Rattle.tree_io.proofs.Runs.{unchanged, wrote_both}
 use Rattle.class_files.specs.Input.{FindsDue, class_paths, files_in, input_due, total}
 use Rattle.class_files.specs.Input as input
@@ -18,7 +18,7 @@ use Rattle.class_files.specs.Output as output
 use Rattle.class_files.specs.declared.input.InputFault.{InputFault}
 use Rattle.class_files.specs.declared.input.InputFault.TheVariants as fault
 use Rattle.class_model.specs.declared.class.Class.{Class}
-use Rattle.shrink_core.specs.Answer.{Refuses, StopsSo, Unwritten, Writes, WritesUntil, StopsBefore}
+use Rattle.shrink_core.specs.Answer.{Refuses, StopsSo, Writes, StopsBefore}
 use Rattle.shrink_core.specs.declared.config.Config.{Config}
 use Rattle.shrink_core.specs.declared.words.CommandFiles.{CommandFiles}
 use Rattle.shrink_core.specs.declared.shrink.Plan.{Plan}
@@ -30,7 +30,7 @@ use Rattle.shrink_core.specs.declared.refusal.Stop.TheVariants.{Refused, Device,
 use Rattle.shrink_core.specs.Due.{HasBytes, HasConfig, HasSet, IsDue, IsEmpty, IsPlan, IsResult, IsRefused}
 use Rattle.shrink_core.specs.Due.{RefusesConfig, RefusesInput, RefusesOutput, RefusesPlan}
 use Rattle.shrink_core.specs.Due.{by_config, by_output, by_input, by_plan}
-use Rattle.shrink_core.specs.Steps.{ConfigOf, Finds, ReadsSet, Shrinks, StopsAs, input_stop, missed, missed_by}
+use Rattle.shrink_core.specs.Steps.{ConfigOf, Finds, ReadsSet, StopsAs, input_stop, missed, missed_by}
 
 -- where a step was refused, what follows it is refused so
 carried : (stop : Stop) (Refuses After : Refusal → Type 0) → ((refusal : Refusal) → Refuses refusal → After refusal)

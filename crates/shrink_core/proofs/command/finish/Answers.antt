@@ -1,7 +1,7 @@
 use Rattle.std.proofs.Common.{List, Err, subst, inl, inr}
 use Rattle.tree_io.specs.declared.faults.PutFault.{PutFault}
 use Rattle.tree_io.specs.declared.faults.PutFault.TheVariants as sink
-use Rattle.shrink_core.specs.Answer.{Hands, Output, output}
+use Rattle.shrink_core.specs.Answer.{Hands, output}
 use Rattle.shrink_core.proofs.command.finish.Goals as goal
 
 pub returns-in-Err-Failed-clause-said : goal.returns-in-Err-Failed-clause-said
