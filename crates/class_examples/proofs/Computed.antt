@@ -14,7 +14,7 @@ use Rattle.jv_base.specs.Types.{base_text, field_text, result_text, method_text,
 use Rattle.jv_base.specs.Decoding.{byte_taken, read_mutf8}
 use Rattle.jv_base.specs.Descriptors.{grown, read_field, read_method}
 use Rattle.std.specs.Char.Utf16.{utf16_chars}
-use Rattle.format_reading.specs.Reader.{u1, u2, u4, bytes, lead, bind, give, here, told, settle, part, many}
+use Rattle.format_reading.specs.Reader.{u1, u2, u4, bytes, lead, bind, give, here, of_result, settle, part, many}
 use Rattle.class_model.specs.Lookups.{text_of, names_right, class_at, optional_class_at, type_at, fieldref_at}
 use Rattle.class_model.specs.Lookups.{methodref_at, interface_methodref_at}
 use Rattle.class_model.specs.ReadingPool.{read_pool, slots, slot, read_entry, all_name_right}
@@ -33,93 +33,93 @@ use Rattle.class_examples.specs.Compiled.{IsBadOperand, IsBadTarget, IsBadHandle
 use Rattle.class_examples.specs.Compiled.{LeavesFlag, LeavesConstant, LeavesOpcode, LeavesFloatType, IsRespelled}
 
 pub cut : IsCut
-unfolding lib.Utf8.encode part_after is_primitive_or_void is_name_byte is_member_name is_method_name is_class_name walk base_text field_text result_text method_text words_of argument_words byte_taken read_mutf8 grown read_field read_method utf16_chars u1 u2 u4 bytes lead bind give here told settle part many text_of names_right class_at optional_class_at type_at fieldref_at methodref_at interface_methodref_at read_pool slots slot read_entry all_name_right op_of match_offsets read_instruction until_end ops_from read_type read_row read_frame read_frames_behind read_frames attributes exceptions line_number_table read_handlers read_code field_type_at method_type_at read_field_info read_fields read_method_info read_methods read_head read_all_fields read_all_methods read_interfaces read_class_file class_read
+unfolding lib.Utf8.encode part_after is_primitive_or_void is_name_byte is_member_name is_method_name is_class_name walk base_text field_text result_text method_text words_of argument_words byte_taken read_mutf8 grown read_field read_method utf16_chars u1 u2 u4 bytes lead bind give here of_result settle part many text_of names_right class_at optional_class_at type_at fieldref_at methodref_at interface_methodref_at read_pool slots slot read_entry all_name_right op_of match_offsets read_instruction until_end ops_from read_type read_row read_frame read_frames_behind read_frames attributes exceptions line_number_table read_handlers read_code field_type_at method_type_at read_field_info read_fields read_method_info read_methods read_head read_all_fields read_all_methods read_interfaces read_class_file class_read
 cut = refl
 
 pub bad_magic : IsBadMagic
-unfolding lib.Utf8.encode part_after is_primitive_or_void is_name_byte is_member_name is_method_name is_class_name walk base_text field_text result_text method_text words_of argument_words byte_taken read_mutf8 grown read_field read_method utf16_chars u1 u2 u4 bytes lead bind give here told settle part many text_of names_right class_at optional_class_at type_at fieldref_at methodref_at interface_methodref_at read_pool slots slot read_entry all_name_right op_of match_offsets read_instruction until_end ops_from read_type read_row read_frame read_frames_behind read_frames attributes exceptions line_number_table read_handlers read_code field_type_at method_type_at read_field_info read_fields read_method_info read_methods read_head read_all_fields read_all_methods read_interfaces read_class_file class_read
+unfolding lib.Utf8.encode part_after is_primitive_or_void is_name_byte is_member_name is_method_name is_class_name walk base_text field_text result_text method_text words_of argument_words byte_taken read_mutf8 grown read_field read_method utf16_chars u1 u2 u4 bytes lead bind give here of_result settle part many text_of names_right class_at optional_class_at type_at fieldref_at methodref_at interface_methodref_at read_pool slots slot read_entry all_name_right op_of match_offsets read_instruction until_end ops_from read_type read_row read_frame read_frames_behind read_frames attributes exceptions line_number_table read_handlers read_code field_type_at method_type_at read_field_info read_fields read_method_info read_methods read_head read_all_fields read_all_methods read_interfaces read_class_file class_read
 bad_magic = refl
 
 pub bad_version : IsBadVersion
-unfolding lib.Utf8.encode part_after is_primitive_or_void is_name_byte is_member_name is_method_name is_class_name walk base_text field_text result_text method_text words_of argument_words byte_taken read_mutf8 grown read_field read_method utf16_chars u1 u2 u4 bytes lead bind give here told settle part many text_of names_right class_at optional_class_at type_at fieldref_at methodref_at interface_methodref_at read_pool slots slot read_entry all_name_right op_of match_offsets read_instruction until_end ops_from read_type read_row read_frame read_frames_behind read_frames attributes exceptions line_number_table read_handlers read_code field_type_at method_type_at read_field_info read_fields read_method_info read_methods read_head read_all_fields read_all_methods read_interfaces read_class_file class_read
+unfolding lib.Utf8.encode part_after is_primitive_or_void is_name_byte is_member_name is_method_name is_class_name walk base_text field_text result_text method_text words_of argument_words byte_taken read_mutf8 grown read_field read_method utf16_chars u1 u2 u4 bytes lead bind give here of_result settle part many text_of names_right class_at optional_class_at type_at fieldref_at methodref_at interface_methodref_at read_pool slots slot read_entry all_name_right op_of match_offsets read_instruction until_end ops_from read_type read_row read_frame read_frames_behind read_frames attributes exceptions line_number_table read_handlers read_code field_type_at method_type_at read_field_info read_fields read_method_info read_methods read_head read_all_fields read_all_methods read_interfaces read_class_file class_read
 bad_version = refl
 
 pub bad_tag : IsBadTag
-unfolding lib.Utf8.encode part_after is_primitive_or_void is_name_byte is_member_name is_method_name is_class_name walk base_text field_text result_text method_text words_of argument_words byte_taken read_mutf8 grown read_field read_method utf16_chars u1 u2 u4 bytes lead bind give here told settle part many text_of names_right class_at optional_class_at type_at fieldref_at methodref_at interface_methodref_at read_pool slots slot read_entry all_name_right op_of match_offsets read_instruction until_end ops_from read_type read_row read_frame read_frames_behind read_frames attributes exceptions line_number_table read_handlers read_code field_type_at method_type_at read_field_info read_fields read_method_info read_methods read_head read_all_fields read_all_methods read_interfaces read_class_file class_read
+unfolding lib.Utf8.encode part_after is_primitive_or_void is_name_byte is_member_name is_method_name is_class_name walk base_text field_text result_text method_text words_of argument_words byte_taken read_mutf8 grown read_field read_method utf16_chars u1 u2 u4 bytes lead bind give here of_result settle part many text_of names_right class_at optional_class_at type_at fieldref_at methodref_at interface_methodref_at read_pool slots slot read_entry all_name_right op_of match_offsets read_instruction until_end ops_from read_type read_row read_frame read_frames_behind read_frames attributes exceptions line_number_table read_handlers read_code field_type_at method_type_at read_field_info read_fields read_method_info read_methods read_head read_all_fields read_all_methods read_interfaces read_class_file class_read
 bad_tag = refl
 
 pub bad_utf8 : IsBadUtf8
-unfolding lib.Utf8.encode part_after is_primitive_or_void is_name_byte is_member_name is_method_name is_class_name walk base_text field_text result_text method_text words_of argument_words byte_taken read_mutf8 grown read_field read_method utf16_chars u1 u2 u4 bytes lead bind give here told settle part many text_of names_right class_at optional_class_at type_at fieldref_at methodref_at interface_methodref_at read_pool slots slot read_entry all_name_right op_of match_offsets read_instruction until_end ops_from read_type read_row read_frame read_frames_behind read_frames attributes exceptions line_number_table read_handlers read_code field_type_at method_type_at read_field_info read_fields read_method_info read_methods read_head read_all_fields read_all_methods read_interfaces read_class_file class_read
+unfolding lib.Utf8.encode part_after is_primitive_or_void is_name_byte is_member_name is_method_name is_class_name walk base_text field_text result_text method_text words_of argument_words byte_taken read_mutf8 grown read_field read_method utf16_chars u1 u2 u4 bytes lead bind give here of_result settle part many text_of names_right class_at optional_class_at type_at fieldref_at methodref_at interface_methodref_at read_pool slots slot read_entry all_name_right op_of match_offsets read_instruction until_end ops_from read_type read_row read_frame read_frames_behind read_frames attributes exceptions line_number_table read_handlers read_code field_type_at method_type_at read_field_info read_fields read_method_info read_methods read_head read_all_fields read_all_methods read_interfaces read_class_file class_read
 bad_utf8 = refl
 
 pub bad_index : IsBadIndex
-unfolding lib.Utf8.encode part_after is_primitive_or_void is_name_byte is_member_name is_method_name is_class_name walk base_text field_text result_text method_text words_of argument_words byte_taken read_mutf8 grown read_field read_method utf16_chars u1 u2 u4 bytes lead bind give here told settle part many text_of names_right class_at optional_class_at type_at fieldref_at methodref_at interface_methodref_at read_pool slots slot read_entry all_name_right op_of match_offsets read_instruction until_end ops_from read_type read_row read_frame read_frames_behind read_frames attributes exceptions line_number_table read_handlers read_code field_type_at method_type_at read_field_info read_fields read_method_info read_methods read_head read_all_fields read_all_methods read_interfaces read_class_file class_read
+unfolding lib.Utf8.encode part_after is_primitive_or_void is_name_byte is_member_name is_method_name is_class_name walk base_text field_text result_text method_text words_of argument_words byte_taken read_mutf8 grown read_field read_method utf16_chars u1 u2 u4 bytes lead bind give here of_result settle part many text_of names_right class_at optional_class_at type_at fieldref_at methodref_at interface_methodref_at read_pool slots slot read_entry all_name_right op_of match_offsets read_instruction until_end ops_from read_type read_row read_frame read_frames_behind read_frames attributes exceptions line_number_table read_handlers read_code field_type_at method_type_at read_field_info read_fields read_method_info read_methods read_head read_all_fields read_all_methods read_interfaces read_class_file class_read
 bad_index = refl
 
 pub bad_name : IsBadName
-unfolding lib.Utf8.encode part_after is_primitive_or_void is_name_byte is_member_name is_method_name is_class_name walk base_text field_text result_text method_text words_of argument_words byte_taken read_mutf8 grown read_field read_method utf16_chars u1 u2 u4 bytes lead bind give here told settle part many text_of names_right class_at optional_class_at type_at fieldref_at methodref_at interface_methodref_at read_pool slots slot read_entry all_name_right op_of match_offsets read_instruction until_end ops_from read_type read_row read_frame read_frames_behind read_frames attributes exceptions line_number_table read_handlers read_code field_type_at method_type_at read_field_info read_fields read_method_info read_methods read_head read_all_fields read_all_methods read_interfaces read_class_file class_read
+unfolding lib.Utf8.encode part_after is_primitive_or_void is_name_byte is_member_name is_method_name is_class_name walk base_text field_text result_text method_text words_of argument_words byte_taken read_mutf8 grown read_field read_method utf16_chars u1 u2 u4 bytes lead bind give here of_result settle part many text_of names_right class_at optional_class_at type_at fieldref_at methodref_at interface_methodref_at read_pool slots slot read_entry all_name_right op_of match_offsets read_instruction until_end ops_from read_type read_row read_frame read_frames_behind read_frames attributes exceptions line_number_table read_handlers read_code field_type_at method_type_at read_field_info read_fields read_method_info read_methods read_head read_all_fields read_all_methods read_interfaces read_class_file class_read
 bad_name = refl
 
 pub bad_descriptor : IsBadDescriptor
-unfolding lib.Utf8.encode part_after is_primitive_or_void is_name_byte is_member_name is_method_name is_class_name walk base_text field_text result_text method_text words_of argument_words byte_taken read_mutf8 grown read_field read_method utf16_chars u1 u2 u4 bytes lead bind give here told settle part many text_of names_right class_at optional_class_at type_at fieldref_at methodref_at interface_methodref_at read_pool slots slot read_entry all_name_right op_of match_offsets read_instruction until_end ops_from read_type read_row read_frame read_frames_behind read_frames attributes exceptions line_number_table read_handlers read_code field_type_at method_type_at read_field_info read_fields read_method_info read_methods read_head read_all_fields read_all_methods read_interfaces read_class_file class_read
+unfolding lib.Utf8.encode part_after is_primitive_or_void is_name_byte is_member_name is_method_name is_class_name walk base_text field_text result_text method_text words_of argument_words byte_taken read_mutf8 grown read_field read_method utf16_chars u1 u2 u4 bytes lead bind give here of_result settle part many text_of names_right class_at optional_class_at type_at fieldref_at methodref_at interface_methodref_at read_pool slots slot read_entry all_name_right op_of match_offsets read_instruction until_end ops_from read_type read_row read_frame read_frames_behind read_frames attributes exceptions line_number_table read_handlers read_code field_type_at method_type_at read_field_info read_fields read_method_info read_methods read_head read_all_fields read_all_methods read_interfaces read_class_file class_read
 bad_descriptor = refl
 
 pub bad_flags : IsBadFlags
-unfolding lib.Utf8.encode part_after is_primitive_or_void is_name_byte is_member_name is_method_name is_class_name walk base_text field_text result_text method_text words_of argument_words byte_taken read_mutf8 grown read_field read_method utf16_chars u1 u2 u4 bytes lead bind give here told settle part many text_of names_right class_at optional_class_at type_at fieldref_at methodref_at interface_methodref_at read_pool slots slot read_entry all_name_right op_of match_offsets read_instruction until_end ops_from read_type read_row read_frame read_frames_behind read_frames attributes exceptions line_number_table read_handlers read_code field_type_at method_type_at read_field_info read_fields read_method_info read_methods read_head read_all_fields read_all_methods read_interfaces read_class_file class_read
+unfolding lib.Utf8.encode part_after is_primitive_or_void is_name_byte is_member_name is_method_name is_class_name walk base_text field_text result_text method_text words_of argument_words byte_taken read_mutf8 grown read_field read_method utf16_chars u1 u2 u4 bytes lead bind give here of_result settle part many text_of names_right class_at optional_class_at type_at fieldref_at methodref_at interface_methodref_at read_pool slots slot read_entry all_name_right op_of match_offsets read_instruction until_end ops_from read_type read_row read_frame read_frames_behind read_frames attributes exceptions line_number_table read_handlers read_code field_type_at method_type_at read_field_info read_fields read_method_info read_methods read_head read_all_fields read_all_methods read_interfaces read_class_file class_read
 bad_flags = refl
 
 pub bad_attribute : IsBadAttribute
-unfolding lib.Utf8.encode part_after is_primitive_or_void is_name_byte is_member_name is_method_name is_class_name walk base_text field_text result_text method_text words_of argument_words byte_taken read_mutf8 grown read_field read_method utf16_chars u1 u2 u4 bytes lead bind give here told settle part many text_of names_right class_at optional_class_at type_at fieldref_at methodref_at interface_methodref_at read_pool slots slot read_entry all_name_right op_of match_offsets read_instruction until_end ops_from read_type read_row read_frame read_frames_behind read_frames attributes exceptions line_number_table read_handlers read_code field_type_at method_type_at read_field_info read_fields read_method_info read_methods read_head read_all_fields read_all_methods read_interfaces read_class_file class_read
+unfolding lib.Utf8.encode part_after is_primitive_or_void is_name_byte is_member_name is_method_name is_class_name walk base_text field_text result_text method_text words_of argument_words byte_taken read_mutf8 grown read_field read_method utf16_chars u1 u2 u4 bytes lead bind give here of_result settle part many text_of names_right class_at optional_class_at type_at fieldref_at methodref_at interface_methodref_at read_pool slots slot read_entry all_name_right op_of match_offsets read_instruction until_end ops_from read_type read_row read_frame read_frames_behind read_frames attributes exceptions line_number_table read_handlers read_code field_type_at method_type_at read_field_info read_fields read_method_info read_methods read_head read_all_fields read_all_methods read_interfaces read_class_file class_read
 bad_attribute = refl
 
 pub bad_code : IsBadCode
-unfolding lib.Utf8.encode part_after is_primitive_or_void is_name_byte is_member_name is_method_name is_class_name walk base_text field_text result_text method_text words_of argument_words byte_taken read_mutf8 grown read_field read_method utf16_chars u1 u2 u4 bytes lead bind give here told settle part many text_of names_right class_at optional_class_at type_at fieldref_at methodref_at interface_methodref_at read_pool slots slot read_entry all_name_right op_of match_offsets read_instruction until_end ops_from read_type read_row read_frame read_frames_behind read_frames attributes exceptions line_number_table read_handlers read_code field_type_at method_type_at read_field_info read_fields read_method_info read_methods read_head read_all_fields read_all_methods read_interfaces read_class_file class_read
+unfolding lib.Utf8.encode part_after is_primitive_or_void is_name_byte is_member_name is_method_name is_class_name walk base_text field_text result_text method_text words_of argument_words byte_taken read_mutf8 grown read_field read_method utf16_chars u1 u2 u4 bytes lead bind give here of_result settle part many text_of names_right class_at optional_class_at type_at fieldref_at methodref_at interface_methodref_at read_pool slots slot read_entry all_name_right op_of match_offsets read_instruction until_end ops_from read_type read_row read_frame read_frames_behind read_frames attributes exceptions line_number_table read_handlers read_code field_type_at method_type_at read_field_info read_fields read_method_info read_methods read_head read_all_fields read_all_methods read_interfaces read_class_file class_read
 bad_code = refl
 
 pub bad_opcode : IsBadOpcode
-unfolding lib.Utf8.encode part_after is_primitive_or_void is_name_byte is_member_name is_method_name is_class_name walk base_text field_text result_text method_text words_of argument_words byte_taken read_mutf8 grown read_field read_method utf16_chars u1 u2 u4 bytes lead bind give here told settle part many text_of names_right class_at optional_class_at type_at fieldref_at methodref_at interface_methodref_at read_pool slots slot read_entry all_name_right op_of match_offsets read_instruction until_end ops_from read_type read_row read_frame read_frames_behind read_frames attributes exceptions line_number_table read_handlers read_code field_type_at method_type_at read_field_info read_fields read_method_info read_methods read_head read_all_fields read_all_methods read_interfaces read_class_file class_read
+unfolding lib.Utf8.encode part_after is_primitive_or_void is_name_byte is_member_name is_method_name is_class_name walk base_text field_text result_text method_text words_of argument_words byte_taken read_mutf8 grown read_field read_method utf16_chars u1 u2 u4 bytes lead bind give here of_result settle part many text_of names_right class_at optional_class_at type_at fieldref_at methodref_at interface_methodref_at read_pool slots slot read_entry all_name_right op_of match_offsets read_instruction until_end ops_from read_type read_row read_frame read_frames_behind read_frames attributes exceptions line_number_table read_handlers read_code field_type_at method_type_at read_field_info read_fields read_method_info read_methods read_head read_all_fields read_all_methods read_interfaces read_class_file class_read
 bad_opcode = refl
 
 pub bad_operand : IsBadOperand
-unfolding lib.Utf8.encode part_after is_primitive_or_void is_name_byte is_member_name is_method_name is_class_name walk base_text field_text result_text method_text words_of argument_words byte_taken read_mutf8 grown read_field read_method utf16_chars u1 u2 u4 bytes lead bind give here told settle part many text_of names_right class_at optional_class_at type_at fieldref_at methodref_at interface_methodref_at read_pool slots slot read_entry all_name_right op_of match_offsets read_instruction until_end ops_from read_type read_row read_frame read_frames_behind read_frames attributes exceptions line_number_table read_handlers read_code field_type_at method_type_at read_field_info read_fields read_method_info read_methods read_head read_all_fields read_all_methods read_interfaces read_class_file class_read
+unfolding lib.Utf8.encode part_after is_primitive_or_void is_name_byte is_member_name is_method_name is_class_name walk base_text field_text result_text method_text words_of argument_words byte_taken read_mutf8 grown read_field read_method utf16_chars u1 u2 u4 bytes lead bind give here of_result settle part many text_of names_right class_at optional_class_at type_at fieldref_at methodref_at interface_methodref_at read_pool slots slot read_entry all_name_right op_of match_offsets read_instruction until_end ops_from read_type read_row read_frame read_frames_behind read_frames attributes exceptions line_number_table read_handlers read_code field_type_at method_type_at read_field_info read_fields read_method_info read_methods read_head read_all_fields read_all_methods read_interfaces read_class_file class_read
 bad_operand = refl
 
 pub bad_target : IsBadTarget
-unfolding lib.Utf8.encode part_after is_primitive_or_void is_name_byte is_member_name is_method_name is_class_name walk base_text field_text result_text method_text words_of argument_words byte_taken read_mutf8 grown read_field read_method utf16_chars u1 u2 u4 bytes lead bind give here told settle part many text_of names_right class_at optional_class_at type_at fieldref_at methodref_at interface_methodref_at read_pool slots slot read_entry all_name_right op_of match_offsets read_instruction until_end ops_from read_type read_row read_frame read_frames_behind read_frames attributes exceptions line_number_table read_handlers read_code field_type_at method_type_at read_field_info read_fields read_method_info read_methods read_head read_all_fields read_all_methods read_interfaces read_class_file class_read
+unfolding lib.Utf8.encode part_after is_primitive_or_void is_name_byte is_member_name is_method_name is_class_name walk base_text field_text result_text method_text words_of argument_words byte_taken read_mutf8 grown read_field read_method utf16_chars u1 u2 u4 bytes lead bind give here of_result settle part many text_of names_right class_at optional_class_at type_at fieldref_at methodref_at interface_methodref_at read_pool slots slot read_entry all_name_right op_of match_offsets read_instruction until_end ops_from read_type read_row read_frame read_frames_behind read_frames attributes exceptions line_number_table read_handlers read_code field_type_at method_type_at read_field_info read_fields read_method_info read_methods read_head read_all_fields read_all_methods read_interfaces read_class_file class_read
 bad_target = refl
 
 pub bad_handler : IsBadHandler
-unfolding lib.Utf8.encode part_after is_primitive_or_void is_name_byte is_member_name is_method_name is_class_name walk base_text field_text result_text method_text words_of argument_words byte_taken read_mutf8 grown read_field read_method utf16_chars u1 u2 u4 bytes lead bind give here told settle part many text_of names_right class_at optional_class_at type_at fieldref_at methodref_at interface_methodref_at read_pool slots slot read_entry all_name_right op_of match_offsets read_instruction until_end ops_from read_type read_row read_frame read_frames_behind read_frames attributes exceptions line_number_table read_handlers read_code field_type_at method_type_at read_field_info read_fields read_method_info read_methods read_head read_all_fields read_all_methods read_interfaces read_class_file class_read
+unfolding lib.Utf8.encode part_after is_primitive_or_void is_name_byte is_member_name is_method_name is_class_name walk base_text field_text result_text method_text words_of argument_words byte_taken read_mutf8 grown read_field read_method utf16_chars u1 u2 u4 bytes lead bind give here of_result settle part many text_of names_right class_at optional_class_at type_at fieldref_at methodref_at interface_methodref_at read_pool slots slot read_entry all_name_right op_of match_offsets read_instruction until_end ops_from read_type read_row read_frame read_frames_behind read_frames attributes exceptions line_number_table read_handlers read_code field_type_at method_type_at read_field_info read_fields read_method_info read_methods read_head read_all_fields read_all_methods read_interfaces read_class_file class_read
 bad_handler = refl
 
 pub bad_frame : IsBadFrame
-unfolding lib.Utf8.encode part_after is_primitive_or_void is_name_byte is_member_name is_method_name is_class_name walk base_text field_text result_text method_text words_of argument_words byte_taken read_mutf8 grown read_field read_method utf16_chars u1 u2 u4 bytes lead bind give here told settle part many text_of names_right class_at optional_class_at type_at fieldref_at methodref_at interface_methodref_at read_pool slots slot read_entry all_name_right op_of match_offsets read_instruction until_end ops_from read_type read_row read_frame read_frames_behind read_frames attributes exceptions line_number_table read_handlers read_code field_type_at method_type_at read_field_info read_fields read_method_info read_methods read_head read_all_fields read_all_methods read_interfaces read_class_file class_read
+unfolding lib.Utf8.encode part_after is_primitive_or_void is_name_byte is_member_name is_method_name is_class_name walk base_text field_text result_text method_text words_of argument_words byte_taken read_mutf8 grown read_field read_method utf16_chars u1 u2 u4 bytes lead bind give here of_result settle part many text_of names_right class_at optional_class_at type_at fieldref_at methodref_at interface_methodref_at read_pool slots slot read_entry all_name_right op_of match_offsets read_instruction until_end ops_from read_type read_row read_frame read_frames_behind read_frames attributes exceptions line_number_table read_handlers read_code field_type_at method_type_at read_field_info read_fields read_method_info read_methods read_head read_all_fields read_all_methods read_interfaces read_class_file class_read
 bad_frame = refl
 
 pub repeated : IsRepeated
-unfolding lib.Utf8.encode part_after is_primitive_or_void is_name_byte is_member_name is_method_name is_class_name walk base_text field_text result_text method_text words_of argument_words byte_taken read_mutf8 grown read_field read_method utf16_chars u1 u2 u4 bytes lead bind give here told settle part many text_of names_right class_at optional_class_at type_at fieldref_at methodref_at interface_methodref_at read_pool slots slot read_entry all_name_right op_of match_offsets read_instruction until_end ops_from read_type read_row read_frame read_frames_behind read_frames attributes exceptions line_number_table read_handlers read_code field_type_at method_type_at read_field_info read_fields read_method_info read_methods read_head read_all_fields read_all_methods read_interfaces read_class_file class_read
+unfolding lib.Utf8.encode part_after is_primitive_or_void is_name_byte is_member_name is_method_name is_class_name walk base_text field_text result_text method_text words_of argument_words byte_taken read_mutf8 grown read_field read_method utf16_chars u1 u2 u4 bytes lead bind give here of_result settle part many text_of names_right class_at optional_class_at type_at fieldref_at methodref_at interface_methodref_at read_pool slots slot read_entry all_name_right op_of match_offsets read_instruction until_end ops_from read_type read_row read_frame read_frames_behind read_frames attributes exceptions line_number_table read_handlers read_code field_type_at method_type_at read_field_info read_fields read_method_info read_methods read_head read_all_fields read_all_methods read_interfaces read_class_file class_read
 repeated = refl
 
 pub trailing : IsTrailing
-unfolding lib.Utf8.encode part_after is_primitive_or_void is_name_byte is_member_name is_method_name is_class_name walk base_text field_text result_text method_text words_of argument_words byte_taken read_mutf8 grown read_field read_method utf16_chars u1 u2 u4 bytes lead bind give here told settle part many text_of names_right class_at optional_class_at type_at fieldref_at methodref_at interface_methodref_at read_pool slots slot read_entry all_name_right op_of match_offsets read_instruction until_end ops_from read_type read_row read_frame read_frames_behind read_frames attributes exceptions line_number_table read_handlers read_code field_type_at method_type_at read_field_info read_fields read_method_info read_methods read_head read_all_fields read_all_methods read_interfaces read_class_file class_read
+unfolding lib.Utf8.encode part_after is_primitive_or_void is_name_byte is_member_name is_method_name is_class_name walk base_text field_text result_text method_text words_of argument_words byte_taken read_mutf8 grown read_field read_method utf16_chars u1 u2 u4 bytes lead bind give here of_result settle part many text_of names_right class_at optional_class_at type_at fieldref_at methodref_at interface_methodref_at read_pool slots slot read_entry all_name_right op_of match_offsets read_instruction until_end ops_from read_type read_row read_frame read_frames_behind read_frames attributes exceptions line_number_table read_handlers read_code field_type_at method_type_at read_field_info read_fields read_method_info read_methods read_head read_all_fields read_all_methods read_interfaces read_class_file class_read
 trailing = refl
 
 pub left_out_flag : LeavesFlag
-unfolding lib.Utf8.encode part_after is_primitive_or_void is_name_byte is_member_name is_method_name is_class_name walk base_text field_text result_text method_text words_of argument_words byte_taken read_mutf8 grown read_field read_method utf16_chars u1 u2 u4 bytes lead bind give here told settle part many text_of names_right class_at optional_class_at type_at fieldref_at methodref_at interface_methodref_at read_pool slots slot read_entry all_name_right op_of match_offsets read_instruction until_end ops_from read_type read_row read_frame read_frames_behind read_frames attributes exceptions line_number_table read_handlers read_code field_type_at method_type_at read_field_info read_fields read_method_info read_methods read_head read_all_fields read_all_methods read_interfaces read_class_file class_read
+unfolding lib.Utf8.encode part_after is_primitive_or_void is_name_byte is_member_name is_method_name is_class_name walk base_text field_text result_text method_text words_of argument_words byte_taken read_mutf8 grown read_field read_method utf16_chars u1 u2 u4 bytes lead bind give here of_result settle part many text_of names_right class_at optional_class_at type_at fieldref_at methodref_at interface_methodref_at read_pool slots slot read_entry all_name_right op_of match_offsets read_instruction until_end ops_from read_type read_row read_frame read_frames_behind read_frames attributes exceptions line_number_table read_handlers read_code field_type_at method_type_at read_field_info read_fields read_method_info read_methods read_head read_all_fields read_all_methods read_interfaces read_class_file class_read
 left_out_flag = refl
 
 pub left_out_constant : LeavesConstant
-unfolding lib.Utf8.encode part_after is_primitive_or_void is_name_byte is_member_name is_method_name is_class_name walk base_text field_text result_text method_text words_of argument_words byte_taken read_mutf8 grown read_field read_method utf16_chars u1 u2 u4 bytes lead bind give here told settle part many text_of names_right class_at optional_class_at type_at fieldref_at methodref_at interface_methodref_at read_pool slots slot read_entry all_name_right op_of match_offsets read_instruction until_end ops_from read_type read_row read_frame read_frames_behind read_frames attributes exceptions line_number_table read_handlers read_code field_type_at method_type_at read_field_info read_fields read_method_info read_methods read_head read_all_fields read_all_methods read_interfaces read_class_file class_read
+unfolding lib.Utf8.encode part_after is_primitive_or_void is_name_byte is_member_name is_method_name is_class_name walk base_text field_text result_text method_text words_of argument_words byte_taken read_mutf8 grown read_field read_method utf16_chars u1 u2 u4 bytes lead bind give here of_result settle part many text_of names_right class_at optional_class_at type_at fieldref_at methodref_at interface_methodref_at read_pool slots slot read_entry all_name_right op_of match_offsets read_instruction until_end ops_from read_type read_row read_frame read_frames_behind read_frames attributes exceptions line_number_table read_handlers read_code field_type_at method_type_at read_field_info read_fields read_method_info read_methods read_head read_all_fields read_all_methods read_interfaces read_class_file class_read
 left_out_constant = refl
 
 pub left_out_opcode : LeavesOpcode
-unfolding lib.Utf8.encode part_after is_primitive_or_void is_name_byte is_member_name is_method_name is_class_name walk base_text field_text result_text method_text words_of argument_words byte_taken read_mutf8 grown read_field read_method utf16_chars u1 u2 u4 bytes lead bind give here told settle part many text_of names_right class_at optional_class_at type_at fieldref_at methodref_at interface_methodref_at read_pool slots slot read_entry all_name_right op_of match_offsets read_instruction until_end ops_from read_type read_row read_frame read_frames_behind read_frames attributes exceptions line_number_table read_handlers read_code field_type_at method_type_at read_field_info read_fields read_method_info read_methods read_head read_all_fields read_all_methods read_interfaces read_class_file class_read
+unfolding lib.Utf8.encode part_after is_primitive_or_void is_name_byte is_member_name is_method_name is_class_name walk base_text field_text result_text method_text words_of argument_words byte_taken read_mutf8 grown read_field read_method utf16_chars u1 u2 u4 bytes lead bind give here of_result settle part many text_of names_right class_at optional_class_at type_at fieldref_at methodref_at interface_methodref_at read_pool slots slot read_entry all_name_right op_of match_offsets read_instruction until_end ops_from read_type read_row read_frame read_frames_behind read_frames attributes exceptions line_number_table read_handlers read_code field_type_at method_type_at read_field_info read_fields read_method_info read_methods read_head read_all_fields read_all_methods read_interfaces read_class_file class_read
 left_out_opcode = refl
 
 pub left_out_float_type : LeavesFloatType
-unfolding lib.Utf8.encode part_after is_primitive_or_void is_name_byte is_member_name is_method_name is_class_name walk base_text field_text result_text method_text words_of argument_words byte_taken read_mutf8 grown read_field read_method utf16_chars u1 u2 u4 bytes lead bind give here told settle part many text_of names_right class_at optional_class_at type_at fieldref_at methodref_at interface_methodref_at read_pool slots slot read_entry all_name_right op_of match_offsets read_instruction until_end ops_from read_type read_row read_frame read_frames_behind read_frames attributes exceptions line_number_table read_handlers read_code field_type_at method_type_at read_field_info read_fields read_method_info read_methods read_head read_all_fields read_all_methods read_interfaces read_class_file class_read
+unfolding lib.Utf8.encode part_after is_primitive_or_void is_name_byte is_member_name is_method_name is_class_name walk base_text field_text result_text method_text words_of argument_words byte_taken read_mutf8 grown read_field read_method utf16_chars u1 u2 u4 bytes lead bind give here of_result settle part many text_of names_right class_at optional_class_at type_at fieldref_at methodref_at interface_methodref_at read_pool slots slot read_entry all_name_right op_of match_offsets read_instruction until_end ops_from read_type read_row read_frame read_frames_behind read_frames attributes exceptions line_number_table read_handlers read_code field_type_at method_type_at read_field_info read_fields read_method_info read_methods read_head read_all_fields read_all_methods read_interfaces read_class_file class_read
 left_out_float_type = refl
 
 pub respelled : IsRespelled
-unfolding lib.Utf8.encode part_after is_primitive_or_void is_name_byte is_member_name is_method_name is_class_name walk base_text field_text result_text method_text words_of argument_words byte_taken read_mutf8 grown read_field read_method utf16_chars u1 u2 u4 bytes lead bind give here told settle part many text_of names_right class_at optional_class_at type_at fieldref_at methodref_at interface_methodref_at read_pool slots slot read_entry all_name_right op_of match_offsets read_instruction until_end ops_from read_type read_row read_frame read_frames_behind read_frames attributes exceptions line_number_table read_handlers read_code field_type_at method_type_at read_field_info read_fields read_method_info read_methods read_head read_all_fields read_all_methods read_interfaces read_class_file class_read unit_bytes mutf8 units_of chars filled places code_bytes pool_of layout limits class_written
+unfolding lib.Utf8.encode part_after is_primitive_or_void is_name_byte is_member_name is_method_name is_class_name walk base_text field_text result_text method_text words_of argument_words byte_taken read_mutf8 grown read_field read_method utf16_chars u1 u2 u4 bytes lead bind give here of_result settle part many text_of names_right class_at optional_class_at type_at fieldref_at methodref_at interface_methodref_at read_pool slots slot read_entry all_name_right op_of match_offsets read_instruction until_end ops_from read_type read_row read_frame read_frames_behind read_frames attributes exceptions line_number_table read_handlers read_code field_type_at method_type_at read_field_info read_fields read_method_info read_methods read_head read_all_fields read_all_methods read_interfaces read_class_file class_read unit_bytes mutf8 units_of chars filled places code_bytes pool_of layout limits class_written
 respelled = refl

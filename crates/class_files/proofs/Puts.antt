@@ -6,7 +6,7 @@ use Rattle.std.proofs.lemmas.List.{take_more}
 use Rattle.std.proofs.lemmas.Option.{slice_get-get_or}
 use Rattle.std.specs.FinMap.{insert}
 use Rattle.tree_io.specs.Files.{Files}
-use Rattle.tree_io.specs.Runs.{Made}
+use Rattle.tree_io.specs.Runs.{AddsCalls}
 use Rattle.tree_io.specs.declared.event.Event.{Event}
 use Rattle.tree_io.specs.declared.event.Event.TheVariants.{Wrote}
 use Rattle.tree_io.specs.declared.faults.WriteFault.{WriteFault}
@@ -85,8 +85,8 @@ stops_at files n f OutOfMemory es fs next p is =
 -- one more file of a list
 pub put_more : (files : List FileAt) (i : ℕ) (f : FileAt) (a b c : List Event) (x y z : Option Files) → i < length files
     → f ≡ get_or files i f
-    → Made a b x y (Writes (Ok tt) (take i files)) → Made b c y z (IsFor f)
-    → Made a c x z (Writes (Ok tt) (take (i + 1) files))
+    → AddsCalls a b x y (Writes (Ok tt) (take i files)) → AddsCalls b c y z (IsFor f)
+    → AddsCalls a c x z (Writes (Ok tt) (take (i + 1) files))
 put_more files i f a b c x y z within is p q =
     made_both (Writes (Ok tt) (take i files)) (IsFor f) (Writes (Ok tt) (take (i + 1) files)) a b c x y z
     (λ es fs written for.
@@ -96,8 +96,8 @@ put_more files i f a b c x y z within is p q =
 
 pub put_stops : (files : List FileAt) (i : ℕ) (f : FileAt) (fault : WriteFault) (a b c : List Event)
     (x y z : Option Files) → slice_get files i ≡ Some f
-    → Made a b x y (Writes (Ok tt) (take i files)) → Made b c y z (FailsFor fault f)
-    → Made a c x z (Writes (Err fault) files)
+    → AddsCalls a b x y (Writes (Ok tt) (take i files)) → AddsCalls b c y z (FailsFor fault f)
+    → AddsCalls a c x z (Writes (Err fault) files)
 put_stops files i f fault a b c x y z next p q =
     made_both (Writes (Ok tt) (take i files)) (FailsFor fault f) (Writes (Err fault) files) a b c x y z
     (λ es fs. stops_at files i f fault es fs next) p q

@@ -16,8 +16,10 @@ use Rattle.tree_io.specs.declared.file_at.FileAt.{FileAt}
 use Rattle.class_files.specs.declared.input.InputFault.{InputFault}
 use Rattle.class_files.specs.declared.input.InputFault.TheVariants.{Absent, Failed, OutOfMemory, TooLong}
 use Rattle.class_files.specs.declared.input.InputFault.TheVariants.{TooManyClasses, TooManyFiles}
-use Rattle.class_files.specs.Input.{AreThere, FindsDue, class_paths, file_due, file_in, files_in, input_due}
-use Rattle.class_files.specs.Input.{is_class_path, limited, path_in, paths_due, total}
+use Rattle.class_files.specs.Input.{AreThere, FindsDue, class_paths, file_in, files_in, input_due}
+use Rattle.class_files.specs.bodies.Input.{file_due}
+use Rattle.class_files.specs.Input.{is_class_path, limited, path_in, total}
+use Rattle.class_files.specs.bodies.Input.{paths_due}
 use Rattle.tree_io.proofs.Below.{behind}
 
 or_true : (a : Bool) {b : Bool} → b ≡ true → a || b ≡ true

@@ -78,17 +78,3 @@ FindsDue (Err TooManyFiles) due = due ≡ Err TooManyFiles
 FindsDue (Err TooManyClasses) due = due ≡ Err TooManyClasses
 FindsDue (Err TooLong) due = due ≡ Err TooLong
 FindsDue (Err (Absent path)) due = due ≡ Err (Absent path)
-
--- ---- the steps (only the proof of read_files needs it)
-
--- the paths of the class files, or the first limit on numbers that they pass
-abbrev pub paths_due : Files → List ℕ → Result (List (List ℕ)) InputFault
-paths_due files directory =
-    if nat_lt 65536 (length (paths_below directory (keys files))) then Err TooManyFiles
-    else if nat_lt 20000 (length (class_paths files directory)) then Err TooManyClasses
-    else Ok (class_paths files directory)
-
--- a told file of at most max bytes
-abbrev pub file_due : Files → List ℕ → List ℕ → ℕ → Result FileAt InputFault
-file_due files directory path max =
-    if nat_lt max (length (file_in files directory path).bytes) then Err TooLong else Ok (file_in files directory path)

@@ -3,9 +3,11 @@ ghost use Rattle.std.specs.Prelude.{◌≡◌, ◌≤◌, ◌++◌, ◌-◌, IfO
 ghost use Rattle.std.specs.List.{filter};
 ghost use Rattle.tree_io.specs.Below.{IsAscending};
 ghost use Rattle.tree_io.specs.Count.{Rose};
-ghost use Rattle.tree_io.specs.Runs.{Made, Sees};
-ghost use Rattle.class_files.specs.Input.{FindsDue, IsThere, AreThere, file_due, files_in, input_due, is_class_path};
-ghost use Rattle.class_files.specs.Input.{limited, missed, path_in, paths_due, total};
+ghost use Rattle.tree_io.specs.Runs.{AddsCalls, Sees};
+ghost use Rattle.class_files.specs.Input.{FindsDue, IsThere, AreThere, files_in, input_due, is_class_path};
+ghost use Rattle.class_files.specs.bodies.Input.{file_due};
+ghost use Rattle.class_files.specs.Input.{limited, missed, path_in, total};
+ghost use Rattle.class_files.specs.bodies.Input.{paths_due};
 ghost use Rattle.class_files.specs.declared.input.InputFault.TheVariants as fault;
 
 use jv_base::{Items, M, OutOfMemory, Text};
@@ -76,7 +78,7 @@ pub fn read_files<T: Tree>(
     ensures device { IsErrOf result InputFault.Failed → Rose (T.faults tree.old) (T.faults tree.new) }
     ensures short { IfOk result (λ files. total files ≤ 67108864) }
     ensures ascending { IfOk result (λ files. IsAscending (map (λ f. f.path) files)) }
-    ensures seen { Made (T.log tree.old) (T.log tree.new) (T.files tree.old) (T.files tree.new)
+    ensures seen { AddsCalls (T.log tree.old) (T.log tree.new) (T.files tree.old) (T.files tree.new)
         (Sees (missed result) (λ fs. FindsDue result (input_due fs directory.now))) }
 {
     let paths = class_paths(alloc, directory, tree)?;
@@ -93,7 +95,7 @@ fn class_paths<T: Tree>(
     ensures later { T.faults tree.old ≤ T.faults tree.new }
     ensures device { IsErrOf result InputFault.Failed → Rose (T.faults tree.old) (T.faults tree.new) }
     ensures ascending { IfOk result IsAscending }
-    ensures seen { Made (T.log tree.old) (T.log tree.new) (T.files tree.old) (T.files tree.new)
+    ensures seen { AddsCalls (T.log tree.old) (T.log tree.new) (T.files tree.old) (T.files tree.new)
         (Sees (missed result) (λ fs. FindsDue result (paths_due fs directory.now))) }
 {
     let paths = match tree.list(alloc, directory, MAX_FILES) {
@@ -132,8 +134,9 @@ fn read_each<T: Tree>(
     ensures device { IsErrOf result InputFault.Failed → Rose (T.faults tree.old) (T.faults tree.new) }
     ensures short { IfOk result (λ files. total files ≤ 67108864) }
     ensures paths { IfOk result (λ files. map (λ f. f.path) files ≡ paths) }
-    ensures seen { Made (T.log tree.old) (T.log tree.new) (T.files tree.old) (T.files tree.new)
-        (Sees (missed result) (λ fs. AreThere fs directory.now paths → FindsDue result (limited (files_in fs directory.now paths)))) }
+    ensures seen { AddsCalls (T.log tree.old) (T.log tree.new) (T.files tree.old) (T.files tree.new)
+        (Sees (missed result) (λ fs. AreThere fs directory.now paths
+        → FindsDue result (limited (files_in fs directory.now paths)))) }
 {
     let mut files = Items::new(alloc);
     let mut room = MAX_INPUT;
@@ -157,8 +160,9 @@ fn read_file<T: Tree>(
     ensures device { IsErrOf result InputFault.Failed → Rose (T.faults tree.old) (T.faults tree.new) }
     ensures short { IfOk result (λ file. length file.bytes ≤ max) }
     ensures path { IfOk result (λ file. file.path ≡ path) }
-    ensures seen { Made (T.log tree.old) (T.log tree.new) (T.files tree.old) (T.files tree.new)
-        (Sees (missed result) (λ fs. IsThere fs directory.now path → FindsDue result (file_due fs directory.now path max))) }
+    ensures seen { AddsCalls (T.log tree.old) (T.log tree.new) (T.files tree.old) (T.files tree.new)
+        (Sees (missed result) (λ fs. IsThere fs directory.now path
+        → FindsDue result (file_due fs directory.now path max))) }
 {
     let full = path_in(alloc, directory, &path)?;
     match tree.read(alloc, &full, max) {

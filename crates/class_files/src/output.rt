@@ -1,7 +1,7 @@
 // Files that are written one after the other.
 ghost use Rattle.std.specs.Prelude.{◌≤◌, IsErrOf};
 ghost use Rattle.tree_io.specs.Count.{Rose};
-ghost use Rattle.tree_io.specs.Runs.{Made};
+ghost use Rattle.tree_io.specs.Runs.{AddsCalls};
 ghost use Rattle.class_files.specs.Output.{Writes};
 
 use jv_base::Items;
@@ -21,7 +21,8 @@ pub fn write_files<T: Tree>(
 ) -> Result<(), WriteFault>
     ensures later { T.faults tree.old ≤ T.faults tree.new }
     ensures failed { IsErrOf result WriteFault.Failed → Rose (T.faults tree.old) (T.faults tree.new) }
-    ensures written { Made (T.log tree.old) (T.log tree.new) (T.files tree.old) (T.files tree.new) (Writes result files.now) }
+    ensures written { AddsCalls (T.log tree.old) (T.log tree.new) (T.files tree.old) (T.files tree.new)
+        (Writes result files.now) }
 {
     for file in files.as_slice() {
         tree.write(alloc, &file.path, file.bytes.as_slice())?;

@@ -6,7 +6,7 @@ use Rattle.std.specs.List.{flat_map}
 use Rattle.std.proofs.lemmas.List.{append-nil}
 use Rattle.std.proofs.lemmas.List.Concat.{flat_map-cons}
 use Rattle.format_reading.specs.declared.fault.FormatKind.TheVariants as bad
-use Rattle.format_reading.specs.Reader.{Reader, u2, u4, item, bind, give}
+use Rattle.format_reading.specs.Reader.{FormatReader, u2, u4, item, bind, give}
 use Rattle.format_reading.specs.Spelling.{Spells}
 use Rattle.format_reading.proofs.Exact.{Exact, as_raw, bind_exact, item_exact, give_exact, here_exact, settle_exact}
 use Rattle.format_reading.proofs.Exact.{part_exact, bytes_exact, u2_exact, u4_exact, nothing}
@@ -21,14 +21,14 @@ abbrev pub text : List ℕ → List ℕ
 text t = t
 
 -- a reader of texts that a relation tells, told as the reader of those texts
-pub as_text : {A : Type 0} {r : Reader A} {g : ℕ → List ℕ → A → Type 0} → Exact r g → Exact r (Spells text g)
+pub as_text : {A : Type 0} {r : FormatReader A} {g : ℕ → List ℕ → A → Type 0} → Exact r g → Exact r (Spells text g)
 as_text {g = g} e = record {
   found = λ p x q fits h. let f = e.found p x q fits h in (f.0, (f.0, refl, f.1), f.2);
   only = λ p t x q h k. e.only p t x q (subst (λ (u : List ℕ). g p.at u x) (sym h.1) h.2) k;
 }
 
 -- the same fact of each text and value, told otherwise
-pub as_told : {A : Type 0} {r : Reader A} {g : ℕ → List ℕ → A → Type 0} (h : ℕ → List ℕ → A → Type 0)
+pub as_told : {A : Type 0} {r : FormatReader A} {g : ℕ → List ℕ → A → Type 0} (h : ℕ → List ℕ → A → Type 0)
     → ((at : ℕ) (t : List ℕ) (x : A) → g at t x → h at t x) → ((at : ℕ) (t : List ℕ) (x : A) → h at t x → g at t x)
     → Exact r (Spells text g) → Exact r (Spells text h)
 as_told h there back e = as_raw text h (λ t. t) (λ t. t) (λ at t x k. (refl, there at t x k))
@@ -39,7 +39,7 @@ abbrev pub Does : Type 0 → Type 1
 Does S = ℕ → List ℕ → ℕ → S → List ℕ → S → Type 0
 
 -- of what is known the contents are read exactly so, and what isn't changes nothing
-abbrev pub Knows : {S : Type 0} → Option (Reader S) → ℕ → S → (List ℕ → S → Type 0) → Type 0
+abbrev pub Knows : {S : Type 0} → Option (FormatReader S) → ℕ → S → (List ℕ → S → Type 0) → Type 0
 Knows (Some r) n seen does = Exact r (Spells text (λ _ info out. does info out))
 Knows None n seen does = (info : List ℕ) (out : _) → (does info out → out ≡ seen) × (out ≡ seen → does info out)
 
@@ -56,7 +56,7 @@ Steps pool does at (a ∷ others) seen out = (now : _) × Step pool does at a se
     × Steps pool does (at + length (attribute_info a)) others now out
 
 -- contents of a length
-contents_exact : {S : Type 0} (at n : ℕ) (seen : S) (o : Option (Reader S)) (does : List ℕ → S → Type 0)
+contents_exact : {S : Type 0} (at n : ℕ) (seen : S) (o : Option (FormatReader S)) (does : List ℕ → S → Type 0)
     → Knows o n seen does → Exact (contents at n seen o) (Spells text (λ _ info out. (length info ≡ n) × does info out))
 contents_exact at n seen (Some r) does k = part_exact at n k
 contents_exact at n seen None does k = as_raw text _ (λ w. w.0) (λ info. (info, tt))
@@ -65,7 +65,7 @@ contents_exact at n seen None does k = as_raw text _ (λ w. w.0) (λ info. (info
     (bind_exact (λ skipped. give seen) nothing (λ _ _ u out. out ≡ seen) (bytes_exact n) (λ _. give_exact seen))
 
 -- an attribute is read exactly where it is spelled
-module _ {S : Type 0} (pool : List Entry) (known : ℕ → List ℕ → ℕ → S → Option (Reader S)) (does : Does S)
+module _ {S : Type 0} (pool : List Entry) (known : ℕ → List ℕ → ℕ → S → Option (FormatReader S)) (does : Does S)
     (knows : (at : ℕ) (name : List ℕ) (n : ℕ) (seen : S)
     → Knows (known at name n seen) n seen (does at name n seen)) where
   -- its length and its contents
@@ -191,7 +191,7 @@ module _ {S : Type 0} (pool : List Entry) (known : ℕ → List ℕ → ℕ → 
       (λ n at all out. (length all ≡ n) × Steps pool does at all seen out) u2_exact (λ n. attributes_exact n seen))
 
 -- an attribute that may stand once
-pub once_exact : {S : Type 0} {r : Reader S} {does : List ℕ → S → Type 0} (at : ℕ) (had : Bool)
+pub once_exact : {S : Type 0} {r : FormatReader S} {does : List ℕ → S → Type 0} (at : ℕ) (had : Bool)
     → Exact r (Spells text (λ _ info out. does info out))
     → Exact (once at had r) (Spells text (λ _ info out. (had ≡ false) × does info out))
 once_exact {r = r} {does = does} at had e = as_raw text _ (λ w. w.1) (λ info. (tt, info))

@@ -12,7 +12,7 @@ use Rattle.class_model.specs.declared.constant.PoolConstant.TheVariants.{NameAnd
 use Rattle.class_model.specs.declared.constant.PoolConstant.TheVariants.{InterfaceMethodref}
 use Rattle.class_model.specs.ConstantPool.{IsConstant, long_of, places_of, numbered}
 use Rattle.class_model.specs.CanonicalPool.{info_of, infos_of}
-use Rattle.class_model.specs.PoolEntries.{entry_of, entries_of, ConstantFits, ArePaired}
+use Rattle.class_model.specs.bodies.PoolEntries.{entry_of, entries_of, ConstantFits, ArePaired}
 use Rattle.class_model.proofs.BackNumbers.{word_below}
 use Rattle.class_model.proofs.BackPool.{index_fits}
 

@@ -6,7 +6,7 @@ use Rattle.class_model.specs.declared.code.Ins.{Ins}
 use Rattle.class_model.specs.declared.op.Op.{Op}
 use Rattle.class_model.specs.declared.op.Op.TheVariants as op
 use Rattle.class_model.specs.CanonicalCode.{places, code_bytes}
-use Rattle.class_model.specs.PoolEntries.{entries_of}
+use Rattle.class_model.specs.bodies.PoolEntries.{entries_of}
 use Rattle.class_model.specs.WritableCode.{IsWritableCode}
 
 abbrev without_line : Op → Ins

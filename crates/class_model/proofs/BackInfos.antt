@@ -10,7 +10,7 @@ use Rattle.jv_base.specs.declared.types.FieldType.{FieldType}
 use Rattle.jv_base.specs.declared.types.Base.{Base}
 use Rattle.format_reading.specs.declared.fault.FormatKind.{FormatKind}
 use Rattle.format_reading.specs.declared.fault.FormatKind.TheVariants as bad
-use Rattle.format_reading.specs.Reader.{Reader, u1, u2, u4, bytes, lead, bind, item, many}
+use Rattle.format_reading.specs.Reader.{FormatReader, u1, u2, u4, bytes, lead, bind, item, many}
 use Rattle.class_model.specs.declared.pool.Entry.{Entry}
 use Rattle.class_model.specs.declared.op.MemberRef.{MemberRef}
 use Rattle.class_model.specs.declared.op.Op.{Op}
@@ -39,7 +39,7 @@ IsRead pool at info = Gets (lead u1 (begun pool at)) (info_bytes info) (instruct
 
 module _ (pool : List Entry) (at : ℕ) where
   -- what follows an opcode
-  behind : (opcode : ℕ) (r : Reader Read) (rest : List ℕ) (y : Read) → opcode < 256 → begun pool at opcode ≡ Ok r
+  behind : (opcode : ℕ) (r : FormatReader Read) (rest : List ℕ) (y : Read) → opcode < 256 → begun pool at opcode ≡ Ok r
       → Gets r rest y → Gets (lead u1 (begun pool at)) (opcode ∷ rest) y
   behind opcode r rest y lt e g = gets_lead u1 (begun pool at) (opcode ∷ []) rest opcode r y (gets_u1 opcode lt) e g
 

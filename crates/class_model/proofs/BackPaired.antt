@@ -9,7 +9,7 @@ use Rattle.class_model.specs.declared.constant.PoolConstant.TheVariants.{Utf8, I
 use Rattle.class_model.specs.declared.constant.PoolConstant.TheVariants.{NameAndType, Fieldref, Methodref}
 use Rattle.class_model.specs.declared.constant.PoolConstant.TheVariants.{InterfaceMethodref}
 use Rattle.class_model.specs.CanonicalPool.{same, filled}
-use Rattle.class_model.specs.PoolEntries.{Has, begun_by, IsFirst, ArePaired}
+use Rattle.class_model.specs.bodies.PoolEntries.{Has, begun_by, IsFirst, ArePaired}
 
 -- ---- one more constant
 

@@ -18,7 +18,7 @@ use Rattle.class_model.specs.CanonicalPool.{same, index_of, filled, class_consta
 use Rattle.class_model.specs.CanonicalPool.{with_parts, type_name, fieldref, methodref}
 use Rattle.class_model.specs.CanonicalCode.{op_constants, is_short, is_lconst}
 use Rattle.class_model.specs.Says.{IsSaid, AreSaid}
-use Rattle.class_model.specs.PoolEntries.{entry_of, entries_of, Has}
+use Rattle.class_model.specs.bodies.PoolEntries.{entry_of, entries_of, Has}
 use Rattle.class_model.proofs.BackSame.{same_is, same_self}
 
 -- ---- where a constant is

@@ -45,11 +45,11 @@ moved_by p q text t = ap (λ (z : Place). z.at) t.moved
 pub moved_none : (p q : Place) → Takes p [] q → p ≡ q
 moved_none p q t = (λ i. record { bytes = p.bytes; at = (let e : p.at ≡ p.at + 0 = omega arith in e) i }) ∙ sym t.moved
 
-here_is : (p : Place) → here p ≡ Ok (p.at, p)
+pub here_is : {X : Type 0} (p : Place) → here {X = X} p ≡ Ok (p.at, p)
 unfolding here
 here_is p = refl
 
-pub give_is : {A : Type 0} (x : A) (p : Place) → give x p ≡ Ok (x, p)
+pub give_is : {A X : Type 0} (x : A) (p : Place) → give {X = X} x p ≡ Ok (x, p)
 unfolding give
 give_is x p = refl
 

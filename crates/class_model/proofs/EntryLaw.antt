@@ -10,7 +10,7 @@ use Rattle.jv_base.specs.declared.mutf8.BadUtf8.{BadUtf8}
 use Rattle.jv_base.proofs.Coding.{read_mutf8-found, read_mutf8-only}
 use Rattle.format_reading.specs.declared.fault.FormatKind.{FormatKind}
 use Rattle.format_reading.specs.declared.fault.FormatKind.TheVariants as bad
-use Rattle.format_reading.specs.Reader.{Reader, u2, u4, bytes, item, bind, give}
+use Rattle.format_reading.specs.Reader.{FormatReader, u2, u4, bytes, item, bind, give}
 use Rattle.format_reading.specs.Spelling.{Spells}
 use Rattle.format_reading.proofs.Exact.{Exact, Leads, as_raw, lead_exact, item_exact, bind_exact, map_exact, leads_if}
 use Rattle.format_reading.proofs.Exact.{u1_exact, u2_exact, u4_exact, bytes_exact}
@@ -98,7 +98,7 @@ of_tag tag c e h = subst (λ (k : ℕ). OfTag k c e) h.0 (by_its_tag c e h.1)
 -- ---- what each tag leads to
 
 -- a reader that takes the constants of a tag
-abbrev Takes : ℕ → Reader Entry → Type 0
+abbrev Takes : ℕ → FormatReader Entry → Type 0
 Takes tag r = Exact r (Spells contents_of (λ _ c e. Behind tag c e))
 
 -- the first index of a constant
@@ -329,7 +329,7 @@ room_is room tag c e h = ap (λ (b : Bool). room || not b)
 abbrev RoomBehind : Bool → ℕ → ℕ → CpInfo → Entry → Type 0
 RoomBehind room tag at c e = Behind tag c e × HasRoom room e
 
-with_room : (room : Bool) (tag : ℕ) (r : Reader Entry) → has_no_room room tag ≡ false → Takes tag r
+with_room : (room : Bool) (tag : ℕ) (r : FormatReader Entry) → has_no_room room tag ≡ false → Takes tag r
     → Exact r (Spells contents_of (RoomBehind room tag))
 with_room room tag r free e = as_raw contents_of _ (λ c. c) (λ c. c)
     (λ at c y h. (refl, (h, room_is room tag c y h ∙ ap not free)))
@@ -337,7 +337,7 @@ with_room room tag r free e = as_raw contents_of _ (λ c. c) (λ c. c)
     e
 
 -- a tag that leads to a reader of its constants
-leads_to : (room : Bool) (tag : ℕ) (rest : Result (Reader Entry) FormatKind) (k : ℕ) (r : Reader Entry)
+leads_to : (room : Bool) (tag : ℕ) (rest : Result (FormatReader Entry) FormatKind) (k : ℕ) (r : FormatReader Entry)
     → has_no_room room tag ≡ false → Takes k r
     → (eqb tag k ≡ false → Leads rest (Spells contents_of (RoomBehind room tag)))
     → Leads (cond (eqb tag k) (Ok r) rest) (Spells contents_of (RoomBehind room tag))

@@ -11,7 +11,7 @@ use Rattle.jv_base.specs.Descriptors.{read_field}
 use Rattle.jv_base.proofs.FieldLaw.{read_field-found, read_field-only}
 use Rattle.format_reading.specs.declared.fault.FormatKind.{FormatKind}
 use Rattle.format_reading.specs.declared.fault.FormatKind.TheVariants as bad
-use Rattle.format_reading.specs.Reader.{Reader, u2, item, bind, give}
+use Rattle.format_reading.specs.Reader.{FormatReader, u2, item, bind, give}
 use Rattle.format_reading.specs.Spelling.{Spells}
 use Rattle.format_reading.proofs.Exact.{Exact, as_raw, bind_exact, item_exact, map_exact, give_exact, here_exact}
 use Rattle.format_reading.proofs.Exact.{settle_exact, u2_exact}
@@ -19,7 +19,7 @@ use Rattle.class_model.specs.declared.pool.Entry.{Entry}
 use Rattle.class_model.specs.declared.class.Field.{Field}
 use Rattle.class_model.specs.Pool.{units_at, IsText}
 use Rattle.class_model.specs.Structure.{AttributeInfo, attribute_info, MemberInfo, member_info}
-use Rattle.class_model.specs.Flags.{field_mask, meant, is_static, are_field_flags, flags_of}
+use Rattle.class_model.specs.Flags.{field_mask, defined_flags, is_static, are_field_flags, flags_of}
 use Rattle.class_model.specs.Members.{IsField, FieldsDiffer}
 use Rattle.class_model.specs.Lookups.{due, test, text_at, good_text_at, field_type_of, value_of}
 use Rattle.class_model.specs.MemberTypes.{field_type_at}
@@ -36,7 +36,7 @@ use Rattle.class_model.proofs.FreshLaw.{IsNew, AreNew, field_signature, fields_a
 -- ---- parts of a member
 
 -- an index whose meaning is found, and then more
-pub index_then : {A B S : Type 0} (g : ℕ → Result A FormatKind) (f : A → Reader B) (t : S → List ℕ)
+pub index_then : {A B S : Type 0} (g : ℕ → Result A FormatKind) (f : A → FormatReader B) (t : S → List ℕ)
     (n : A → ℕ → S → B → Type 0) → ((x : A) → Exact (f x) (Spells t (n x)))
     → Exact (bind (item u2 g) f)
     (Spells (λ (v : ℕ × S). to_be_bytes w16 v.0 ++ t v.1)
@@ -178,7 +178,12 @@ module _ (pool : List Entry) (in_interface : Bool) (before : List Signature) (un
       let t = field_type_found pool v.1.1.0 ty units typed in
       let as_static = subst (λ (k : ℕ). AreFieldAttributes pool (is_static k) ty v.1.1.1 seen) (sym p.1) all in
       let made-is : IsField pool in_interface (raw_of (tt, v)) (field_of flags name ty seen) = record {
-        flags = record { fit = flags-fit; are = ap (λ (k : ℕ). flags_of (meant field_mask k)) (sym p.1); good = p.0 };
+        flags = record {
+          fit = flags-fit;
+          are = ap (λ (k : ℕ). flags_of (defined_flags field_mask k))
+              (sym p.1);
+          good = p.0;
+        };
         name = (name-fits, n.0);
         named_right = n.1;
         descriptor = (type-fits, t.0);
@@ -215,7 +220,8 @@ module _ (pool : List Entry) (in_interface : Bool) (before : List Signature) (un
       let c = constants_only pool (is_static raw.access_flags) y.0.ty _ y.0.constant is.constant in
       let seen : FieldSeen = record { constant = c.0; synthetic = y.0.synthetic; deprecated = y.0.deprecated } in
       let all : AreFieldAttributes pool
-      (is_static raw.access_flags) y.0.ty raw.attributes seen = record { attributes = is.attributes; constant = c.1; synthetic = is.synthetic; deprecated = is.deprecated } in
+      (is_static raw.access_flags) y.0.ty raw.attributes seen = record
+      { attributes = is.attributes; constant = c.1; synthetic = is.synthetic; deprecated = is.deprecated } in
       let whole : y ≡ made raw.access_flags y.0.name y.0.ty seen = λ i. (
         record {
           flags = is.flags.are i;

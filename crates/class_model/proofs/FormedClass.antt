@@ -6,7 +6,7 @@ use Rattle.jv_base.specs.Types.{words_of, argument_words}
 use Rattle.class_model.specs.declared.code.Ins.{Ins}
 use Rattle.class_model.specs.Members.{FieldsDiffer, MethodsDiffer}
 use Rattle.class_model.specs.WellFormed.{IsGoodField, IsGoodMethod, IsGoodCode, LinesGoOn, Ascend}
-use Rattle.class_model.specs.Rows.{field_of_t, method_of_t, code_of_t, frame_of_t, TIsWellFormed}
+use Rattle.class_model.specs.rows.Rows.{field_of_t, method_of_t, code_of_t, frame_of_t, TIsWellFormed}
 
 abbrev object : List ℕ
 object = codes "java/lang/Object"

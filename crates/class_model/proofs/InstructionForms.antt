@@ -3,7 +3,7 @@ use Rattle.std.proofs.Common.{◌≡◌, ℕ, zero, suc, ◌<◌, Bool, true, fa
 use Rattle.std.proofs.Common.{refl, ap, ◌∙◌, arith}
 use Rattle.std.proofs.lemmas.Bool.{eqb-true, eqb-false, and_parts}
 use Rattle.std.specs.Prelude.{is_some}
-use Rattle.format_reading.specs.Reader.{Reader, u1, lead, item, give}
+use Rattle.format_reading.specs.Reader.{FormatReader, u1, lead, item, give}
 use Rattle.format_reading.specs.declared.fault.FormatKind.{FormatKind}
 use Rattle.format_reading.specs.declared.fault.FormatKind.TheVariants as bad
 use Rattle.class_model.specs.declared.pool.Entry.{Entry}
@@ -86,7 +86,7 @@ form_of c =
     (cond (eqb c 0xC5) OfArrays (cond (eqb c 0xBA || is_left_out_opcode c) OfNone NoForm)))))))))))))))))
 
 -- what an opcode of a form begins
-unfoldable pub begun_by : List Entry → ℕ → ℕ → Form → Result (Reader Read) FormatKind
+unfoldable pub begun_by : List Entry → ℕ → ℕ → Form → Result (FormatReader Read) FormatKind
 begun_by pool at c Alone = Ok (whole (Plain c))
 begun_by pool at c OfByte = Ok (one_byte (λ byte. Bipush byte))
 begun_by pool at c OfShort = Ok (two_bytes (λ short. Sipush short))
@@ -111,7 +111,7 @@ begun_by pool at c NoForm = Err bad.BadOpcode
 pub begun_is : (pool : List Entry) (at c : ℕ) → begun pool at c ≡ begun_by pool at c (form_of c)
 unfolding form_of begun_by
 begun_is pool at c =
-    let f : Form → Result (Reader Read) FormatKind = begun_by pool at c in
+    let f : Form → Result (FormatReader Read) FormatKind = begun_by pool at c in
     through f (is_some (plain_op c)) Alone _ _
     (through f (eqb c 0x10) OfByte _ _ (through f (eqb c 0x11) OfShort _ _ (through f (eqb c 0x12) OfLoad _ _
     (through f (eqb c 0x13 || eqb c 0x14) OfWideLoad _ _
@@ -181,7 +181,7 @@ wide_form_of c = cond (eqb c 0x84) WideOfIinc
     (cond (is_left_out_local c) WideOfNone (cond (is_some (local_op c)) WideOfLocal NoWideForm))
 
 -- what an opcode of a form begins behind wide
-unfoldable pub widened_by : ℕ → WideForm → Result (Reader Read) FormatKind
+unfoldable pub widened_by : ℕ → WideForm → Result (FormatReader Read) FormatKind
 widened_by c WideOfIinc = Ok wide_iinc
 widened_by c WideOfNone = Ok (give (left_out 0xC4))
 widened_by c WideOfLocal = Ok (two_bytes (λ index. WideLocal c index))
@@ -191,7 +191,7 @@ widened_by c NoWideForm = Err bad.BadOpcode
 pub widened_is : (c : ℕ) → widened c ≡ widened_by c (wide_form_of c)
 unfolding wide_form_of widened_by
 widened_is c =
-    let f : WideForm → Result (Reader Read) FormatKind = widened_by c in
+    let f : WideForm → Result (FormatReader Read) FormatKind = widened_by c in
     through f (eqb c 0x84) WideOfIinc _ _
     (through f (is_left_out_local c) WideOfNone _ _
     (through f (is_some (local_op c)) WideOfLocal NoWideForm _ refl))

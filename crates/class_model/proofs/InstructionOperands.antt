@@ -7,7 +7,7 @@ use Rattle.std.proofs.lemmas.Bool.{ltb-true, lt-ltb, eqb-true}
 use Rattle.std.proofs.lemmas.List.{nil_from_length}
 use Rattle.std.specs.Int.{w8, w16, w32, to_be_bytes, cast_signed}
 use Rattle.std.specs.List.{flat_map, AllByRecursion}
-use Rattle.format_reading.specs.Reader.{Reader, u1, u2, u4, lead, item, bind, give, many}
+use Rattle.format_reading.specs.Reader.{FormatReader, u1, u2, u4, lead, item, bind, give, many}
 use Rattle.format_reading.specs.Spelling.{Spells, AllStand, ManyStand}
 use Rattle.format_reading.specs.declared.fault.FormatKind.{FormatKind}
 use Rattle.format_reading.specs.declared.fault.FormatKind.TheVariants as bad
@@ -55,8 +55,8 @@ is_accepted false y kind h = absurd cc
 -- ---- the operands of each form
 
 -- an operand below a limit, and what is made of it
-abbrev pub Made : (ℕ → Info) → ℕ → ℕ → ℕ → Read → Type 0
-Made make limit at raw y = (x : ℕ) × Below limit at raw x × (y ≡ instruction (make x))
+abbrev pub MakesOp : (ℕ → Info) → ℕ → ℕ → ℕ → Read → Type 0
+MakesOp make limit at raw y = (x : ℕ) × Below limit at raw x × (y ≡ instruction (make x))
 
 -- an operand below a limit, and what it means
 abbrev pub MeantBy : (ℕ → Result Read FormatKind) → ℕ → ℕ → ℕ → Read → Type 0
@@ -131,25 +131,25 @@ abbrev pub WideOperands : ℕ → WideForm → ℕ → List ℕ → Read → Typ
 WideOperands c WideOfIinc = Spells (λ (w : ℕ × ℕ). to_be_bytes w16 w.0 ++ to_be_bytes w16 w.1)
     (IsSummed (λ index const. WideIinc index const) (2 ^ 16))
 WideOperands c WideOfNone = Spells nothing (λ at u y. y ≡ left_out 0xC4)
-WideOperands c WideOfLocal = Spells (to_be_bytes w16) (Made (λ index. WideLocal c index) (2 ^ 16))
+WideOperands c WideOfLocal = Spells (to_be_bytes w16) (MakesOp (λ index. WideLocal c index) (2 ^ 16))
 WideOperands c NoWideForm = λ at t y. ⊥
 
 -- what stands behind an opcode
 abbrev pub Operands : List Entry → ℕ → ℕ → Form → ℕ → List ℕ → Read → Type 0
 Operands pool at c Alone = Spells nothing (λ o u y. y ≡ instruction (Plain c))
-Operands pool at c OfByte = Spells (to_be_bytes w8) (Made (λ byte. Bipush byte) 256)
-Operands pool at c OfShort = Spells (to_be_bytes w16) (Made (λ short. Sipush short) (2 ^ 16))
+Operands pool at c OfByte = Spells (to_be_bytes w8) (MakesOp (λ byte. Bipush byte) 256)
+Operands pool at c OfShort = Spells (to_be_bytes w16) (MakesOp (λ short. Sipush short) (2 ^ 16))
 Operands pool at c OfLoad = Spells (to_be_bytes w8)
     (MeantBy (λ index. load_read pool 0x12 index (loaded pool index) (Ldc index)) 256)
 Operands pool at c OfWideLoad = Spells (to_be_bytes w16)
     (MeantBy (λ index. load_read pool c index (loaded_wide c pool index) (LdcWide c index)) (2 ^ 16))
-Operands pool at c OfLocal = Spells (to_be_bytes w8) (Made (λ index. Local c index) 256)
+Operands pool at c OfLocal = Spells (to_be_bytes w8) (MakesOp (λ index. Local c index) 256)
 Operands pool at c OfIinc = Spells (λ (w : ℕ × ℕ). to_be_bytes w8 w.0 ++ to_be_bytes w8 w.1)
     (IsSummed (λ index const. Iinc index const) 256)
 Operands pool at c OfWide = Spells (λ (w : ℕ × List ℕ). to_be_bytes w8 w.0 ++ w.1)
     (Both (to_be_bytes w8) (Below 256) (λ d. WideOperands d (wide_form_of d)))
-Operands pool at c OfBranch = Spells (to_be_bytes w16) (Made (λ offset. Branch c offset) (2 ^ 16))
-Operands pool at c OfWideGoto = Spells (to_be_bytes w32) (Made (λ offset. GotoWide offset) (2 ^ 32))
+Operands pool at c OfBranch = Spells (to_be_bytes w16) (MakesOp (λ offset. Branch c offset) (2 ^ 16))
+Operands pool at c OfWideGoto = Spells (to_be_bytes w32) (MakesOp (λ offset. GotoWide offset) (2 ^ 32))
 Operands pool at c OfTable = Spells table_bytes (IsTableParts at)
 Operands pool at c OfLookup = Spells lookup_bytes (IsLookupParts at)
 Operands pool at c OfMember = Spells (to_be_bytes w16)
@@ -167,13 +167,13 @@ Operands pool at c NoForm = λ o t y. ⊥
 -- ---- each of them is read
 
 -- a text as its own spelling
-pub as_text : {A : Type 0} {r : Reader A} {g : ℕ → List ℕ → A → Type 0} → Exact r g → Exact r (Spells (λ t. t) g)
+pub as_text : {A : Type 0} {r : FormatReader A} {g : ℕ → List ℕ → A → Type 0} → Exact r g → Exact r (Spells (λ t. t) g)
 as_text {g = g} e = record {
   found = λ p x q fits h. let o = e.found p x q fits h in (o.0, (o.0, refl, o.1), o.2);
   only = λ p text x q h k. e.only p text x q (subst (λ (t : List ℕ). g p.at t x) (sym h.1) h.2) k;
 }
 
-pub leads_text : {A : Type 0} (o : Result (Reader A) FormatKind) (g : ℕ → List ℕ → A → Type 0) → Leads o g
+pub leads_text : {A : Type 0} (o : Result (FormatReader A) FormatKind) (g : ℕ → List ℕ → A → Type 0) → Leads o g
     → Leads o (Spells (λ t. t) g)
 leads_text (Ok r) g l = as_text {g = g} l
 leads_text (Err k) g l = λ at t y h. l at t y (subst (λ (u : List ℕ). g at u y) (sym h.1) h.2)
@@ -192,7 +192,7 @@ iinc_exact = as_raw _ (IsSummed (λ index const. Iinc index const) 256) (λ w. w
     ))
     (λ at w y h. (refl, (w.0, (h.0, refl), (w.1, (h.1, refl), h.2))))
     (bind_exact (λ index. bind u1 (λ const. whole (Iinc index const))) (to_be_bytes w8)
-    (λ x. Made (λ n. Iinc x n) 256) u1_exact
+    (λ x. MakesOp (λ n. Iinc x n) 256) u1_exact
     (λ index. map_exact (λ const. instruction (Iinc index const)) u1_exact))
 
 wide_iinc_exact : Exact wide_iinc
@@ -210,7 +210,7 @@ wide_iinc_exact = as_raw _ (IsSummed (λ index const. WideIinc index const) (2 ^
     ))
     (λ at w y h. (refl, (w.0, (h.0, refl), (w.1, (h.1, refl), h.2))))
     (bind_exact (λ index. bind u2 (λ const. whole (WideIinc index const))) (to_be_bytes w16)
-    (λ x. Made (λ n. WideIinc x n) (2 ^ 16)) u2_exact
+    (λ x. MakesOp (λ n. WideIinc x n) (2 ^ 16)) u2_exact
     (λ index. map_exact (λ const. instruction (WideIinc index const)) u2_exact))
 
 wide_operands_exact : (c : ℕ) (f : WideForm) → Leads (widened_by c f) (WideOperands c f)
@@ -221,7 +221,7 @@ wide_operands_exact c WideOfLocal = map_exact (λ index. instruction (WideLocal 
 wide_operands_exact c NoWideForm = λ at t y h. h
 
 widened_leads : (c : ℕ) → Leads (widened c) (WideOperands c (wide_form_of c))
-widened_leads c = subst (λ (r : Result (Reader Read) FormatKind). Leads r (WideOperands c (wide_form_of c)))
+widened_leads c = subst (λ (r : Result (FormatReader Read) FormatKind). Leads r (WideOperands c (wide_form_of c)))
     (sym (widened_is c)) (wide_operands_exact c (wide_form_of c))
 
 -- numbers below a limit, each read as it is
@@ -277,18 +277,32 @@ table_there : (at o : ℕ) (w : TableParts) (y : Read) (pad : List ℕ) (default
     → y ≡ instruction (TableSwitch pad default low high offsets)
     → IsTable at w.0 w.1.0 w.1.1.0 w.1.1.1.0 w.1.1.1.1
     × (y ≡ instruction (TableSwitch w.0 w.1.0 w.1.1.0 w.1.1.1.0 w.1.1.1.1))
-table_there at o w y pad default low x high offsets padded pad-is default-fits default-is low-fits low-is high-fits x-is high-is counted stand y-is =
+table_there at o w y pad default low x high offsets padded pad-is default-fits default-is low-fits low-is high-fits
+    x-is high-is counted stand y-is =
     let range = accepted (int_le (cast_signed w32 low) (cast_signed w32 x)) x high bad.BadOperand high-is in
     let same = same_numbers (2 ^ 32) o w.1.1.1.1 offsets stand in
     let r0 = range.0 in
     let r1 = range.1 in
-    let s0 = same.0 in
-    (record { padded = padded; default_fits = default-fits; low_fits = low-fits; high_fits = high-fits; range = cc; counted = cc; offsets_fit = same.1 }, cc)
+    let s0 = same.0 in (
+      record {
+        padded = padded;
+        default_fits = default-fits;
+        low_fits = low-fits;
+        high_fits = high-fits;
+        range = cc;
+        counted = cc;
+        offsets_fit = same.1;
+      },
+      cc,
+    )
 
 table_exact : (at : ℕ) → Exact (table_switch at) (Spells table_bytes (IsTableParts at))
 table_exact at = as_raw table_bytes (IsTableParts at) (λ w. w) (λ w. w)
-    (λ o w y h.
-    (refl, table_there at _ w y h.0 h.2.0 h.2.2.0 h.2.2.2.1.0 h.2.2.2.0 h.2.2.2.2.0 h.1.0 h.1.1 h.2.1.0 h.2.1.1 h.2.2.1.0 h.2.2.1.1 h.2.2.2.1.1.0 h.2.2.2.1.1.1 h.2.2.2.1.2 h.2.2.2.2.1.0 h.2.2.2.2.1.1 h.2.2.2.2.2))
+    (λ o w y h. (
+      refl,
+      table_there at _ w y h.0 h.2.0 h.2.2.0 h.2.2.2.1.0 h.2.2.2.0 h.2.2.2.2.0 h.1.0 h.1.1 h.2.1.0 h.2.1.1
+          h.2.2.1.0 h.2.2.1.1 h.2.2.2.1.1.0 h.2.2.2.1.1.1 h.2.2.2.1.2 h.2.2.2.2.1.0 h.2.2.2.2.1.1 h.2.2.2.2.2,
+    ))
     (λ o w y h. (
       refl,
       (
@@ -406,7 +420,8 @@ pairs_exact (suc n) previous = as_raw {S = List MatchOffset} (flat_map match_off
     (ArePairs (suc n) previous) pairs_to pairs_from
     (λ o w y h. (
       sym (append_assoc (to_be_bytes w32 w.0) (to_be_bytes w32 w.1.0) (flat_map match_offset w.1.1)),
-      pairs_there n previous w y h.1.0 h.0 h.2.0 h.2.2.0 h.1.1.0 h.1.1.1 h.1.2 h.2.1.0 h.2.1.1 h.2.2.1.0 h.2.2.1.1 h.2.2.1.2 h.2.2.2,
+      pairs_there n previous w y h.1.0 h.0 h.2.0 h.2.2.0 h.1.1.0 h.1.1.1 h.1.2 h.2.1.0 h.2.1.1 h.2.2.1.0 h.2.2.1.1
+          h.2.2.1.2 h.2.2.2,
     ))
     (λ o v y h. pairs_back n previous o v y h)
     (bind_exact (λ key. bind u4 (λ offset. bind (match_offsets n (Some key))
@@ -448,7 +463,8 @@ lookup_there : (at : ℕ) (w : LookupRead) (y : Read) (pad : List ℕ) (default 
 lookup_there at w y pad default x n xs padded pad-is default-fits default-is x-is n-is counted ascending xs-is y-is =
     let k = accepted (nat_lt x (2 ^ 31)) x n bad.BadOperand n-is in
     let count : w.1.1.0 ≡ length w.1.1.1 = sym x-is ∙ k.1 ∙ sym counted in
-    let small : length w.1.1.1 < 2 ^ 31 = ltb-true _ _ (ap (λ (a : ℕ). nat_lt a (2 ^ 31)) (sym (x-is ∙ count)) ∙ k.0) in (
+    let small : length w.1.1.1 < 2 ^ 31 = ltb-true _ _
+    (ap (λ (a : ℕ). nat_lt a (2 ^ 31)) (sym (x-is ∙ count)) ∙ k.0) in (
       ap (λ (a : ℕ). w.0 ++ (to_be_bytes w32 w.1.0 ++ (to_be_bytes w32 a ++ flat_map match_offset w.1.1.1))) count,
       (record { padded = padded; default_fits = default-fits; count_fits = small; ascending = ascending }, cc),
     )
@@ -456,7 +472,8 @@ lookup_there at w y pad default x n xs padded pad-is default-fits default-is x-i
 lookup_exact : (at : ℕ) → Exact (lookup_switch at) (Spells lookup_bytes (IsLookupParts at))
 lookup_exact at = as_raw lookup_bytes (IsLookupParts at) (λ w. (w.0, (w.1.0, w.1.1.1)))
     (λ v. (v.0, (v.1.0, (length v.1.1, v.1.1))))
-    (λ o w y h. lookup_there at w y h.0 h.2.0 h.2.2.1.0 h.2.2.0 h.2.2.2.0 h.1.0 h.1.1 h.2.1.0 h.2.1.1 h.2.2.1.1.1 h.2.2.1.2 h.2.2.2.1.0 h.2.2.2.1.1 h.2.2.2.1.2 h.2.2.2.2)
+    (λ o w y h. lookup_there at w y h.0 h.2.0 h.2.2.1.0 h.2.2.0 h.2.2.2.0 h.1.0 h.1.1 h.2.1.0 h.2.1.1 h.2.2.1.1.1
+    h.2.2.1.2 h.2.2.2.1.0 h.2.2.2.1.1 h.2.2.2.1.2 h.2.2.2.2)
     (λ o v y h. (
       refl,
       (
@@ -531,7 +548,8 @@ interface_there pool w y x index z count v last index-fits x-is index-is count-f
 interface_exact : (pool : List Entry) → Exact (invoke_interface pool) (Operands pool 0 0 OfInterface)
 interface_exact pool = as_raw (λ (w : ℕ × ℕ). to_be_bytes w16 w.0 ++ (to_be_bytes w8 w.1 ++ to_be_bytes w8 0)) _
     (λ w. (w.0, w.1.0)) (λ v. (v.0, (v.1, 0)))
-    (λ o w y h. let k = interface_there pool w y h.1.0 h.0 h.2.1.0 h.2.0 h.2.2.1.0 h.2.2.0 h.1.1.0 h.1.1.1 h.1.2 h.2.1.1.0 h.2.1.1.1 h.2.1.2 h.2.2.1.1.1 h.2.2.1.2 h.2.2.2 in
+    (λ o w y h. let k = interface_there pool w y h.1.0 h.0 h.2.1.0 h.2.0 h.2.2.1.0 h.2.2.0 h.1.1.0 h.1.1.1 h.1.2
+    h.2.1.1.0 h.2.1.1.1 h.2.1.2 h.2.2.1.1.1 h.2.2.1.2 h.2.2.2 in
     (ap (λ (a : ℕ). to_be_bytes w16 w.0 ++ (to_be_bytes w8 w.1.0 ++ to_be_bytes w8 a)) k.0, (k.1, k.2)))
     (λ o v y h. (
       refl,
@@ -634,5 +652,5 @@ pub opcode_exact : (pool : List Entry) (at : ℕ)
     → Exact (lead u1 (begun pool at)) (Spells opcode_bytes (Both (to_be_bytes w8) (Below 256) (BehindOpcode pool at)))
 opcode_exact pool at = lead_exact (begun pool at) (λ t. t) (BehindOpcode pool at) u1_exact
     (λ c. leads_text (begun pool at c) (BehindOpcode pool at c)
-    (subst (λ (r : Result (Reader Read) FormatKind). Leads r (BehindOpcode pool at c)) (sym (begun_is pool at c))
+    (subst (λ (r : Result (FormatReader Read) FormatKind). Leads r (BehindOpcode pool at c)) (sym (begun_is pool at c))
     (operands_exact pool at c (form_of c))))

@@ -53,3 +53,7 @@ pub mod BackPool
 mod BackExample
 pub mod BackConstants
 pub mod BackPaired
+pub mod TypesAbove
+pub mod Tops
+mod RowsHeld
+mod Built

@@ -21,7 +21,8 @@ use Rattle.class_model.specs.InstructionStructure.{WideLocal, Iinc, WideIinc, Br
 use Rattle.class_model.specs.InstructionStructure.{LookupSwitch, MemberOperand, InvokeInterface, ClassOperand, NewArray}
 use Rattle.class_model.specs.InstructionStructure.{MultiNewArray}
 use Rattle.class_model.specs.Instructions.{branch_target, IsTableSwitch, IsLookupSwitch, IsOp}
-use Rattle.class_model.specs.InstructionMeaning.{made, loaded, loaded_wide, member_op, class_op, aimed, all_aimed}
+use Rattle.class_model.specs.InstructionMeaning.{op_of_operand, loaded, loaded_wide, member_op, class_op, aimed}
+use Rattle.class_model.specs.InstructionMeaning.{all_aimed}
 use Rattle.class_model.specs.InstructionMeaning.{cases_aimed, count_of, op_of}
 use Rattle.class_model.specs.ReadingCode.{is_count, count_at, are_dimensions}
 use Rattle.class_model.proofs.NameLaw.{HaveUnits, then_ok, due_is}
@@ -209,7 +210,7 @@ op_found Leads aim pool at (WideLocal c index) o fit leads r h =
 op_found Leads aim pool at (Iinc index const) o fit leads r h = (r.0, r.1, sym (given_is _ o h))
 op_found Leads aim pool at (WideIinc index const) o fit leads r h = (r.0, r.1, sym (given_is _ o h))
 op_found Leads aim pool at (Branch c branch) o fit leads r h =
-    let t = then_ok (aim (branch_target at (cast_signed w16 branch))) (λ to. made (branch_op c) to) o h in (
+    let t = then_ok (aim (branch_target at (cast_signed w16 branch))) (λ to. op_of_operand (branch_op c) to) o h in (
       r.0,
       t.0,
       leads (branch_target at (cast_signed w16 branch)) t.0 t.1,
@@ -217,7 +218,7 @@ op_found Leads aim pool at (Branch c branch) o fit leads r h =
           (option_map (λ make. make t.0) (branch_op c)) o t.2,
     )
 op_found Leads aim pool at (GotoWide branch) o fit leads r h =
-    let t = then_ok (aim (branch_target at (cast_signed w32 branch))) (λ to. made (Some op.Goto) to) o h in
+    let t = then_ok (aim (branch_target at (cast_signed w32 branch))) (λ to. op_of_operand (Some op.Goto) to) o h in
     (t.0, (r, leads (branch_target at (cast_signed w32 branch)) t.0 t.1), sym (given_is (op.Goto t.0) o t.2))
 op_found Leads aim pool at (TableSwitch pad default low high offsets) o fit leads r h =
     let t = then_ok (aimed aim at default)
@@ -280,4 +281,11 @@ op_found Leads aim pool at (MultiNewArray index dimensions) o fit leads r h =
     let m = mapped (λ ty. op.MultiNewArray ty dimensions) (type_at pool index) o
     (due_is bad.BadOperand (option_map (λ ty. op.MultiNewArray ty dimensions) (type_at pool index)) o h) in
     let d = dimensions_found m.0 dimensions (ap (λ ty. are_dimensions ty dimensions) (sym m.1) ∙ r.made) in
-    record { index_fits = r.index_fits; ty = m.0; typed = type_found pool index m.0 fit m.1; least = d.0; most = d.1; is = sym m.2 }
+    record {
+      index_fits = r.index_fits;
+      ty = m.0;
+      typed = type_found pool index m.0 fit m.1;
+      least = d.0;
+      most = d.1;
+      is = sym m.2;
+    }

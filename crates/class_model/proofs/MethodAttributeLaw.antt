@@ -5,7 +5,7 @@ use Rattle.std.specs.Int.{w16, to_be_bytes}
 use Rattle.std.specs.List.{AllByRecursion, AllZip, flat_map}
 use Rattle.jv_base.specs.Names.{is_text}
 use Rattle.format_reading.specs.declared.fault.FormatKind.TheVariants as bad
-use Rattle.format_reading.specs.Reader.{Reader, u2, item, bind, many}
+use Rattle.format_reading.specs.Reader.{FormatReader, u2, item, bind, many}
 use Rattle.format_reading.specs.Spelling.{Spells, AllStand}
 use Rattle.format_reading.proofs.Exact.{Exact, as_raw, bind_exact, item_exact, map_exact, many_exact, settle_exact}
 use Rattle.format_reading.proofs.Exact.{u2_exact}
@@ -264,7 +264,8 @@ Seen pool wanted B all seen out = Chain (OneCode wanted B) seen.body (named pool
 method_steps : (pool : List Entry) (wanted : Bool) (B : List ℕ → Body → Type 0) (at : ℕ) (all : List AttributeInfo)
     (seen out : MethodSeen) → AllByRecursion (IsAttribute pool) all → Seen pool wanted B all seen out
     → Steps pool (MethodDoes pool wanted B) at all seen out
-method_steps pool wanted B at [] seen out each h = λ i. record { body = h.0 i; throws = h.1 i; synthetic = h.2 i; deprecated = h.3 i }
+method_steps pool wanted B at [] seen out each h = λ i. record
+    { body = h.0 i; throws = h.1 i; synthetic = h.2 i; deprecated = h.3 i }
 method_steps pool wanted B at (a ∷ rest) seen out each h =
     by (is_text units (codes "Code")) (is_text units (codes "Exceptions")) (is_text units (codes "Synthetic"))
     (is_text units (codes "Deprecated")) refl refl refl refl
@@ -372,7 +373,7 @@ method_steps pool wanted B at (a ∷ rest) seen out each h =
 -- ---- what is known
 
 -- a Code where there may be one
-code_known : (wanted : Bool) (B : List ℕ → Body → Type 0) (at : ℕ) (code : Reader Body) (seen : MethodSeen)
+code_known : (wanted : Bool) (B : List ℕ → Body → Type 0) (at : ℕ) (code : FormatReader Body) (seen : MethodSeen)
     → Exact code (Spells text (λ _ info body. B info body))
     → Exact (one_code at wanted code seen)
     (Spells text (λ _ info out. (wanted ≡ true) × ((is_there seen.body ≡ false)
@@ -392,7 +393,7 @@ code_known wanted B at code seen e = as_raw text _ (λ w. w.1) (λ info. (tt, in
     by true u h = refl
     by false u h = absurd cc
 
-method_knows : (pool : List Entry) (wanted : Bool) (B : List ℕ → Body → Type 0) (code : ℕ → Reader Body)
+method_knows : (pool : List Entry) (wanted : Bool) (B : List ℕ → Body → Type 0) (code : ℕ → FormatReader Body)
     → HaveUnits pool → ((at : ℕ) → Exact (code at) (Spells text (λ _ info body. B info body)))
     → (at : ℕ) (name : List ℕ) (n : ℕ) (seen : MethodSeen)
     → Knows (known_of_method pool wanted code at name n seen) n seen (MethodDoes pool wanted B at name n seen)
@@ -411,7 +412,8 @@ method_knows pool wanted B code units exact at name n seen =
     (λ info out. ((λ e. e), (λ e. e))))))
 
 -- the attributes of a method, behind their count, are read exactly where they are spelled, where its code is
-pub method_attributes_exact : (pool : List Entry) (wanted : Bool) (B : List ℕ → Body → Type 0) (code : ℕ → Reader Body)
+pub method_attributes_exact : (pool : List Entry) (wanted : Bool) (B : List ℕ → Body → Type 0)
+    (code : ℕ → FormatReader Body)
     → HaveUnits pool → ((at : ℕ) → Exact (code at) (Spells text (λ _ info body. B info body)))
     → Exact (counted_attributes pool (known_of_method pool wanted code) no_method_attribute)
     (Spells (λ all. to_be_bytes w16 (length all) ++ flat_map attribute_info all)

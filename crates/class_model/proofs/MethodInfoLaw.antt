@@ -11,7 +11,7 @@ use Rattle.jv_base.specs.Types.{method_text, IsMethodType}
 use Rattle.jv_base.specs.declared.types.MethodType.{MethodType}
 use Rattle.format_reading.specs.declared.fault.FormatKind.{FormatKind}
 use Rattle.format_reading.specs.declared.fault.FormatKind.TheVariants as bad
-use Rattle.format_reading.specs.Reader.{Reader, u2, item, bind, give, settle}
+use Rattle.format_reading.specs.Reader.{FormatReader, u2, item, bind, give, settle}
 use Rattle.format_reading.specs.Spelling.{Spells}
 use Rattle.format_reading.proofs.Exact.{Exact, as_raw, bind_exact, map_exact, give_exact, here_exact, settle_exact}
 use Rattle.format_reading.proofs.Exact.{nothing}
@@ -22,7 +22,8 @@ use Rattle.class_model.specs.declared.class.Method.{Method}
 use Rattle.class_model.specs.declared.class.LeftKind.{LeftKind}
 use Rattle.class_model.specs.Pool.{units_at, IsText}
 use Rattle.class_model.specs.Structure.{AttributeInfo, MemberInfo, member_info}
-use Rattle.class_model.specs.Flags.{method_mask, meant, is_static, has_body, are_method_flags, are_initial_flags}
+use Rattle.class_model.specs.Flags.{method_mask, defined_flags, is_static, has_body, are_method_flags}
+use Rattle.class_model.specs.Flags.{are_initial_flags}
 use Rattle.class_model.specs.Flags.{flags_of}
 use Rattle.class_model.specs.Frames.{initial_locals}
 use Rattle.class_model.specs.CodeAttribute.{IsBody}
@@ -160,7 +161,7 @@ module _ (pool : List Entry) (in_interface : Bool) (class : List ℕ) (units : H
       × ((seen : MethodSeen) × AreMethodAttributes pool (has_body flags) (Bodies pool (first_of flags name ty)) all seen
       × BehindSeen flags name ty seen y)
 
-  abbrev reads_seen : ℕ → ℕ → List ℕ → MethodType → MethodSeen → Reader MethodRead
+  abbrev reads_seen : ℕ → ℕ → List ℕ → MethodType → MethodSeen → FormatReader MethodRead
   reads_seen at flags name ty seen = bind
       (settle at (test bad.BadAttribute (not (has_body flags) || is_there seen.body)))
       (λ whole. give (made flags name ty seen))
@@ -173,7 +174,7 @@ module _ (pool : List Entry) (in_interface : Bool) (class : List ℕ) (units : H
       (map_exact (λ whole. made flags name ty seen)
       (settle_exact at (test bad.BadAttribute (not (has_body flags) || is_there seen.body))))
 
-  abbrev reads_attributes : ℕ → ℕ → List ℕ → MethodType → Reader MethodRead
+  abbrev reads_attributes : ℕ → ℕ → List ℕ → MethodType → FormatReader MethodRead
   reads_attributes at flags name ty = bind
       (counted_attributes pool
       (known_of_method pool (has_body flags) (read_code pool (first_of flags name ty))) no_method_attribute)
@@ -191,7 +192,7 @@ module _ (pool : List Entry) (in_interface : Bool) (class : List ℕ) (units : H
       (read_code pool (first_of flags name ty)) units (codes_exact (first_of flags name ty)))
       (λ seen. behind_seen at flags name ty seen))
 
-  abbrev reads_type : ℕ → List Signature → ℕ → List ℕ → MethodType → Reader MethodRead
+  abbrev reads_type : ℕ → List Signature → ℕ → List ℕ → MethodType → FormatReader MethodRead
   reads_type at before flags name ty = bind (fresh at before (name, method_text ty))
       (λ alone. reads_attributes at flags name ty)
 
@@ -271,7 +272,12 @@ module _ (pool : List Entry) (in_interface : Bool) (class : List ℕ) (units : H
       let code = code_found pool (first_of flags name ty) flags (has_body flags) _ seen.body all.body b.1.2.0 in
       let made-is : IsMethod pool in_interface class (raw_of v) (method_of flags name ty seen)
       (body_of flags seen.body).1 = record {
-        flags = record { fit = h.0; are = ap (λ (k : ℕ). flags_of (meant method_mask k)) (sym p.1); good = p.0 };
+        flags = record {
+          fit = h.0;
+          are = ap (λ (k : ℕ). flags_of (defined_flags method_mask k))
+              (sym p.1);
+          good = p.0;
+        };
         name = (f.0, n.0);
         named_right = n.1;
         descriptor = (t.0, d.0);
@@ -305,10 +311,22 @@ module _ (pool : List Entry) (in_interface : Bool) (class : List ℕ) (units : H
       let c = code_only pool (first_of raw.access_flags y.0.name y.0.ty) raw.access_flags
       (has_body raw.access_flags) _ y.0.code y.2 is.code in
       let t = thrown _ y.0.throws is.throws in
-      let seen : MethodSeen = record { body = c.0; throws = t.0; synthetic = y.0.synthetic; deprecated = y.0.deprecated } in
+      let seen : MethodSeen = record {
+        body = c.0;
+        throws = t.0;
+        synthetic = y.0.synthetic;
+        deprecated = y.0.deprecated;
+      } in
       let all : AreMethodAttributes pool (has_body raw.access_flags)
       (Bodies pool (first_of raw.access_flags y.0.name y.0.ty)) raw.attributes seen =
-      record { attributes = is.attributes; body = c.1; throws = t.1; synthetic = is.synthetic; deprecated = is.deprecated } in
+      record {
+        attributes = is.attributes;
+        body = c.1;
+        throws = t.1;
+        synthetic = is.synthetic;
+        deprecated =
+            is.deprecated;
+      } in
       let whole : y ≡ made raw.access_flags y.0.name y.0.ty seen = λ i. (
         record {
           flags = is.flags.are i;
@@ -337,7 +355,8 @@ module _ (pool : List Entry) (in_interface : Bool) (class : List ℕ) (units : H
                 is.descriptor.0,
                 (
                   y.0.ty,
-                  method_type_only pool in_interface raw.access_flags y.0.name raw.descriptor_index y.0.ty is.descriptor.1 is.typed is.room_for_this is.initial_flags is.initial_type,
+                  method_type_only pool in_interface raw.access_flags y.0.name raw.descriptor_index y.0.ty
+                      is.descriptor.1 is.typed is.room_for_this is.initial_flags is.initial_type,
                   (subst (λ (s : Signature). IsNew before s) sig new, (seen, all, (c.2, whole))),
                 ),
               ),

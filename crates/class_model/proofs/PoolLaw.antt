@@ -7,9 +7,9 @@ use Rattle.std.specs.List.{AllByRecursion, AllZip, flat_map}
 use Rattle.std.proofs.lemmas.List.{append-nil, length-map}
 use Rattle.jv_base.specs.Mutf8.{IsUnits}
 use Rattle.format_reading.specs.declared.fault.FormatKind.{FormatKind}
-use Rattle.format_reading.specs.Reader.{bind, give, told}
+use Rattle.format_reading.specs.Reader.{bind, give, of_result}
 use Rattle.format_reading.specs.Spelling.{Spells}
-use Rattle.format_reading.proofs.Exact.{Exact, as_raw, bind_exact, map_exact, told_exact, u2_exact, nothing}
+use Rattle.format_reading.proofs.Exact.{Exact, as_raw, bind_exact, map_exact, of_result_exact, u2_exact, nothing}
 use Rattle.class_model.specs.declared.pool.Entry.{Entry}
 use Rattle.class_model.specs.declared.pool.Entry.TheVariants as entry
 use Rattle.class_model.specs.Pool.{units_in}
@@ -221,13 +221,14 @@ pool_exact = as_raw pool_bytes _ (λ w. (w.0, w.1.0)) (λ w. (w.0, (w.1, tt)))
         ),
       ),
     ))
-    (bind_exact (λ count. bind (slots (count - 1) false) (λ xs. bind (told (all_name_right (entries_of xs) xs))
+    (bind_exact (λ count. bind (slots (count - 1) false) (λ xs. bind (of_result (all_name_right (entries_of xs) xs))
     (λ named. give (entries_of xs))))
     (λ (v : List CpInfo × Unit {0}). flat_map cp_info v.0 ++ nothing v.1)
     (λ count at v pool. (xs : List Slot) × Others false (count - 1) at v.0 xs
     × ((u : Unit {0}) × (all_name_right (entries_of xs) xs ≡ Ok u) × (pool ≡ entries_of xs)))
     u2_exact
-    (λ count. bind_exact (λ xs. bind (told (all_name_right (entries_of xs) xs)) (λ named. give (entries_of xs))) nothing
+    (λ count. bind_exact (λ xs. bind (of_result (all_name_right (entries_of xs) xs))
+    (λ named. give (entries_of xs))) nothing
     (λ xs at u pool. (v : Unit {0}) × (all_name_right (entries_of xs) xs ≡ Ok v) × (pool ≡ entries_of xs))
     (slots_exact (count - 1) false (λ e. absurd cc))
-    (λ xs. map_exact (λ named. entries_of xs) (told_exact (all_name_right (entries_of xs) xs)))))
+    (λ xs. map_exact (λ named. entries_of xs) (of_result_exact (all_name_right (entries_of xs) xs)))))

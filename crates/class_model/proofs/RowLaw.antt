@@ -6,7 +6,7 @@ use Rattle.std.specs.List.{AllByRecursion, flat_map}
 use Rattle.std.proofs.lemmas.Bool.{eqb-true, eqb-false, leb-true, leb-false, le-leb, lt-leb, ne_eqb}
 use Rattle.jv_base.specs.Place.{Place}
 use Rattle.format_reading.specs.declared.fault.FormatFault.{FormatFault}
-use Rattle.format_reading.specs.Reader.{Reader, u1, u2, lead, bind, give, many}
+use Rattle.format_reading.specs.Reader.{FormatReader, u1, u2, lead, bind, give, many}
 use Rattle.format_reading.specs.Spelling.{Spells, AllStand}
 use Rattle.format_reading.proofs.Exact.{Exact, Leads, as_raw, lead_exact, lead_exact_of, bind_exact, map_exact}
 use Rattle.format_reading.proofs.Exact.{give_exact, many_exact, leads_if, u1_exact, u2_exact}
@@ -208,7 +208,8 @@ behind_type
 behind_type (ChopFrame frame_type offset_delta) = to_be_bytes w16 offset_delta
 behind_type (SameFrameExtended offset_delta) = to_be_bytes w16 offset_delta
 behind_type
-    (AppendFrame frame_type offset_delta locals) = to_be_bytes w16 offset_delta ++ flat_map verification_type_info locals
+    (AppendFrame frame_type offset_delta locals) = to_be_bytes w16 offset_delta
+    ++ flat_map verification_type_info locals
 behind_type (FullFrame offset_delta locals stack) = to_be_bytes w16 offset_delta ++
     (counted_types locals ++ counted_types stack)
 
@@ -297,7 +298,7 @@ stack_of (FullFrame delta locals stack) = stack
 stack_of _ = []
 
 -- a reader of the rows of a frame_type
-abbrev Reads : ℕ → Reader StackMapFrame → Type 0
+abbrev Reads : ℕ → FormatReader StackMapFrame → Type 0
 Reads t r = Exact r (Spells behind_type (λ _ row y. OfType t row y))
 
 same_reads : (t : ℕ) → leb t 63 ≡ true → Reads t (give (SameFrame t))
@@ -334,7 +335,7 @@ one_item_reads t a b = as_raw behind_type _ (λ info. SameLocalsOneStackItem t i
 abbrev WithDelta : {S B : Type 0} → (ℕ → S → B → Type 0) → ℕ × S → B → Type 0
 WithDelta n v y = (v.0 < 2 ^ 16) × n v.0 v.1 y
 
-delta_then : {S B : Type 0} (f : ℕ → Reader B) (t : S → List ℕ) (n : ℕ → S → B → Type 0)
+delta_then : {S B : Type 0} (f : ℕ → FormatReader B) (t : S → List ℕ) (n : ℕ → S → B → Type 0)
     → ((delta : ℕ) → Exact (f delta) (Spells t (λ _ w y. n delta w y)))
     → Exact (bind u2 f) (Spells (λ (v : ℕ × S). to_be_bytes w16 v.0 ++ t v.1) (λ _ v y. WithDelta n v y))
 delta_then f t n e = as_raw _ _ (λ v. v) (λ v. v)

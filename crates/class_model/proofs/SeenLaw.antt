@@ -2,7 +2,7 @@
 use Rattle.std.proofs.Common.{◌≡◌, ℕ, ◌+◌, Bool, true, false, cond, List, [], ◌∷◌, length, Option, Some, None, refl}
 use Rattle.std.proofs.Common.{sym, ap, subst, ◌∙◌}
 use Rattle.std.specs.List.{AllByRecursion}
-use Rattle.format_reading.specs.Reader.{Reader, give}
+use Rattle.format_reading.specs.Reader.{FormatReader, give}
 use Rattle.format_reading.specs.Spelling.{Spells}
 use Rattle.format_reading.proofs.Exact.{Exact, as_raw, give_exact}
 use Rattle.jv_base.specs.Names.{is_text}
@@ -121,14 +121,14 @@ not_there None h = refl
 -- ---- what is known
 
 -- of what a test chooses between, each is known
-pub knows_if : {S : Type 0} (b : Bool) (one other : Option (Reader S)) (n : ℕ) (seen : S) (D E : List ℕ → S → Type 0)
-    → Knows one n seen D → Knows other n seen E
+pub knows_if : {S : Type 0} (b : Bool) (one other : Option (FormatReader S)) (n : ℕ) (seen : S)
+    (D E : List ℕ → S → Type 0) → Knows one n seen D → Knows other n seen E
     → Knows (cond b one other) n seen (λ info out. cond b (D info out) (E info out))
 knows_if true one other n seen D E d e = d
 knows_if false one other n seen D E d e = e
 
 -- an attribute without contents that sets what was seen
-pub give_text : {S : Type 0} (x : S) → Exact (give x) (Spells text (λ _ info out. (info ≡ []) × (out ≡ x)))
+pub give_text : {S X : Type 0} (x : S) → Exact (give {X = X} x) (Spells text (λ _ info out. (info ≡ []) × (out ≡ x)))
 give_text x = as_raw text _ (λ u. []) (λ info. tt)
     (λ at u out h. (refl, (refl, h)))
     (λ at info out h. (h.0, h.1))

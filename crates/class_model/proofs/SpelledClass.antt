@@ -20,7 +20,7 @@ use Rattle.class_model.specs.Frames.{SameFrame}
 use Rattle.class_model.specs.CodeAttribute.{IsCode}
 use Rattle.class_model.specs.Members.{IsField, IsMethod, FieldsDiffer, MethodsDiffer}
 use Rattle.class_model.specs.ClassFile.{ClassFile, IsClass}
-use Rattle.class_model.specs.Rows.{hex, field_of_t, method_of_t, code_of_t, class_t, TIsSpelled}
+use Rattle.class_model.specs.rows.Rows.{hex, field_of_t, method_of_t, code_of_t, class_t, TIsSpelled}
 
 -- ---- the structure
 
@@ -201,8 +201,10 @@ field_is = record {
   typed = record { dimensions = omega arith; named = tt };
   attributes = record {
     count_fits = omega arith;
-    each =
-        (record { index_fits = omega arith; name = codes "ConstantValue"; named = refl; length_fits = omega arith }, tt);
+    each = (
+      record { index_fits = omega arith; name = codes "ConstantValue"; named = refl; length_fits = omega arith },
+      tt,
+    );
   };
   constant = (9, omega arith, refl, ((refl, refl), refl));
   synthetic = refl;
@@ -218,7 +220,14 @@ lines = record { start_pc = 0; line_number = 7 } ∷ []
 code_is : IsCode pool (vtype.Int ∷ []) code_raw code_of_t None
 unfolding is_primitive_or_void is_name_byte is_member_name is_class_name
 code_is = record {
-  sizes = record { max_stack_fits = omega arith; max_locals_fits = omega arith; length_from = omega arith; length_to = omega arith; handlers_fit = omega arith };
+  sizes = record {
+    max_stack_fits = omega arith;
+    max_locals_fits = omega arith;
+    length_from = omega arith;
+    length_to =
+        omega arith;
+    handlers_fit = omega arith;
+  };
   max_stack = refl;
   max_locals = refl;
   infos = infos;

@@ -11,7 +11,7 @@ use Rattle.class_model.specs.Pool.{IsText, units_at}
 use Rattle.class_model.specs.ConstantPool.{Utf8Info, ClassInfo, IsPool}
 use Rattle.class_model.specs.ClassFile.{ClassFile, IsClass}
 use Rattle.class_model.specs.Members.{FieldsDiffer, MethodsDiffer}
-use Rattle.class_model.specs.Rows.{class_a, IsSpelled}
+use Rattle.class_model.specs.rows.Rows.{class_a, IsSpelled}
 
 abbrev a_name : List ℕ
 a_name = codes "A"

@@ -6,7 +6,7 @@ use Rattle.std.specs.List.{flat_map}
 use Rattle.std.proofs.lemmas.Bool.Decides.{nat_tests}
 use Rattle.std.proofs.lemmas.List.{append-nil, length-append, nil_from_length, drop_all}
 use Rattle.jv_base.specs.Place.{Place, start, after}
-use Rattle.format_reading.specs.Reader.{Reader, bind, give, here, bytes}
+use Rattle.format_reading.specs.Reader.{FormatReader, bind, give, here, bytes}
 use Rattle.format_reading.specs.Spelling.{Spells}
 use Rattle.format_reading.specs.declared.fault.FormatFault.{FormatFault}
 use Rattle.format_reading.proofs.Exact.{Exact, Takes, IsBytes, Both, left, as_raw, bind_exact, map_exact, give_exact}
@@ -24,7 +24,7 @@ use Rattle.class_model.proofs.InstructionOnly.{read_exact}
 -- ---- one instruction behind the other
 
 -- a text that is its own spelling
-plain_text : {A : Type 0} {r : Reader A} (g : ℕ → List ℕ → A → Type 0) → Exact r (Spells (λ t. t) g) → Exact r g
+plain_text : {A : Type 0} {r : FormatReader A} (g : ℕ → List ℕ → A → Type 0) → Exact r (Spells (λ t. t) g) → Exact r g
 plain_text g e = record {
   found = λ p x q fits h. let o = e.found p x q fits h in
       (o.0, subst (λ (t : List ℕ). g p.at t x) (sym o.1.1) o.1.2, o.2);
@@ -36,7 +36,7 @@ abbrev pub GoesOn : (ℕ → List ℕ → CodeRead → Type 0) → ℕ → ℕ �
 GoesOn others offset end (instruction info) at text x = (z : CodeRead) × others at text z × (x ≡ in_front info z)
 GoesOn others offset end (left_out c) at text x = (length text ≡ end - at) × (x ≡ has_left_out offset c)
 
-goes_exact : (r : Reader CodeRead) (others : ℕ → List ℕ → CodeRead → Type 0) → Exact r others
+goes_exact : (r : FormatReader CodeRead) (others : ℕ → List ℕ → CodeRead → Type 0) → Exact r others
     → (offset end : ℕ) (y : Read) → Exact (goes_on r offset end y) (GoesOn others offset end y)
 goes_exact r others e offset end (instruction info) = plain_text (GoesOn others offset end (instruction info))
     (map_exact (in_front info) (as_text {g = others} e))
@@ -59,7 +59,8 @@ IsUntil zero pool from end at text x = (text ≡ []) × (x ≡ instructions [])
 IsUntil (suc n) pool from end at text x = ((nat_le end at ≡ true) × (text ≡ []) × (x ≡ instructions []))
     ⊎ ((nat_le end at ≡ false) × OneMore pool from end (at - from) (IsUntil n pool from end) at text x)
 
-more_exact : (pool : List Entry) (from end offset : ℕ) (r : Reader CodeRead) (others : ℕ → List ℕ → CodeRead → Type 0)
+more_exact : (pool : List Entry) (from end offset : ℕ) (r : FormatReader CodeRead)
+    (others : ℕ → List ℕ → CodeRead → Type 0)
     → Exact r others → Exact (bind (read_instruction pool from) (goes_on r offset end))
     (OneMore pool from end offset others)
 more_exact pool from end offset r others e = bind_exact (goes_on r offset end) (λ t. t) (GoesOn others offset end)
@@ -74,7 +75,7 @@ pub until_is : (n : ℕ) (pool : List Entry) (from end : ℕ) (p : Place)
 unfolding until_end bind here
 until_is n pool from end p = refl
 
-chosen : {A : Type 0} (b c : Bool) (r s : Reader A) (p : Place) → b ≡ c → cond b r s p ≡ cond c r s p
+chosen : {A : Type 0} (b c : Bool) (r s : FormatReader A) (p : Place) → b ≡ c → cond b r s p ≡ cond c r s p
 chosen b c r s p e = ap (λ (d : Bool). cond d r s p) e
 
 -- one more instruction at most
@@ -85,10 +86,10 @@ until_more n pool from end e = record {
   only = λ p text x q h k. until_is n pool from end p ∙ back p text x q k h;
 }
   where
-    first : Reader CodeRead
+    first : FormatReader CodeRead
     first = give (instructions [])
 
-    more : ℕ → Reader CodeRead
+    more : ℕ → FormatReader CodeRead
     more offset = bind (read_instruction pool from) (goes_on (until_end n pool from end) offset end)
 
     exact : (offset : ℕ) → Exact (more offset) (OneMore pool from end offset (IsUntil n pool from end))
@@ -188,7 +189,17 @@ left_found : (pool : List Entry) (from end at : ℕ) (first others : List ℕ) (
     → IsCodeFrom pool (at - from) (first ++ others) x × (at + length (first ++ others) ≡ end)
 left_found pool from end at first others x c left within is bytes left-is long x-is =
     let code : IsLeftFrom pool (at - from) (first ++ others)
-    (at - from) c = record { infos = []; right = tt; left = left; is_left = left-is; opcode_is = is; offset_is = omega arith; rest = others; is = ap (λ (t : List ℕ). t ++ others) bytes } in (
+    (at - from) c = record {
+      infos = [];
+      right = tt;
+      left = left;
+      is_left = left-is;
+      opcode_is = is;
+      offset_is = omega
+          arith;
+      rest = others;
+      is = ap (λ (t : List ℕ). t ++ others) bytes;
+    } in (
       subst (λ (r : CodeRead). IsCodeFrom pool (at - from) (first ++ others) r) (sym x-is) code,
       omega
           (arith, within, long, length-append first others),
@@ -282,7 +293,8 @@ left_only : (n : ℕ) (pool : List Entry) (from end offset opcode : ℕ) (left :
     → text ≡ flat_map info_bytes infos ++ (left_bytes left ++ rest) → AreRight pool (at - from) infos
     → offset ≡ (at - from) + length (flat_map info_bytes infos)
     → IsUntil n pool from end at text (has_left_out offset opcode)
-left_only zero pool from end offset opcode left rest infos at text is-left opcode-is low whole enough is right offset-is =
+left_only zero pool from end offset opcode left rest infos at text is-left opcode-is low whole enough is right
+    offset-is =
     absurd (omega (
       arith,
       enough,
@@ -341,7 +353,8 @@ pub until_only : (n : ℕ) (pool : List Entry) (from end at : ℕ) (text : List 
 until_only n pool from end at text
     (instructions infos) low whole enough h = instructions_only n pool from end infos at text low whole enough h.0 h.1
 until_only n pool from end at text
-    (has_left_out offset opcode) low whole enough h = left_only n pool from end offset opcode h.left h.rest h.infos at text h.is_left h.opcode_is low whole enough h.is h.right h.offset_is
+    (has_left_out offset opcode) low whole enough h = left_only n pool from end offset opcode h.left h.rest h.infos at
+    text h.is_left h.opcode_is low whole enough h.is h.right h.offset_is
 
 -- ---- a whole code
 

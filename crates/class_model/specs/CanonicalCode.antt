@@ -38,6 +38,13 @@ use Rattle.class_model.specs.declared.constant.PoolConstant.{PoolConstant}
 use Rattle.class_model.specs.declared.constant.PoolConstant.TheVariants.{Integer, Long, Str}
 use Rattle.class_model.specs.CanonicalPool.{class_constant, class_constants, string_constants, long_constants}
 use Rattle.class_model.specs.CanonicalPool.{type_name, fieldref, methodref, with_parts, index_of}
+use Rattle.class_model.specs.OpcodeNames.{NOP, ACONST_NULL, LCONST_0, LDC_W, LDC2_W, ILOAD, ILOAD_0, IALOAD, ISTORE}
+use Rattle.class_model.specs.OpcodeNames.{ISTORE_0, IASTORE, POP, POP2, DUP, DUP_X1, DUP_X2, DUP2, DUP2_X1, DUP2_X2}
+use Rattle.class_model.specs.OpcodeNames.{SWAP, IADD, ISUB, IMUL, IDIV, IREM, INEG, ISHL, ISHR, IUSHR, IAND, IOR}
+use Rattle.class_model.specs.OpcodeNames.{IXOR, I2L, L2I, I2B, I2C, I2S, LCMP, IFEQ, IF_ICMPEQ, IF_ACMPEQ, IF_ACMPNE}
+use Rattle.class_model.specs.OpcodeNames.{GOTO, IRETURN, RETURN, GETSTATIC, PUTSTATIC, GETFIELD, PUTFIELD}
+use Rattle.class_model.specs.OpcodeNames.{INVOKEVIRTUAL, INVOKESPECIAL, INVOKESTATIC, NEW, ANEWARRAY, ARRAYLENGTH}
+use Rattle.class_model.specs.OpcodeNames.{ATHROW, CHECKCAST, INSTANCEOF, IFNULL, IFNONNULL}
 
 -- ---- the order in which the standard goes through types and comparisons
 
@@ -74,36 +81,36 @@ cond_number cond.Le = 5
 
 -- of add, sub, mul, div and rem there is one for each of int, long, float and double (JVMS 6.5, 7)
 abbrev pub arith_opcode : ArithOp → ℕ
-arith_opcode arith.Add = 0x60
-arith_opcode arith.Sub = 0x64
-arith_opcode arith.Mul = 0x68
-arith_opcode arith.Div = 0x6C
-arith_opcode arith.Rem = 0x70
+arith_opcode arith.Add = IADD
+arith_opcode arith.Sub = ISUB
+arith_opcode arith.Mul = IMUL
+arith_opcode arith.Div = IDIV
+arith_opcode arith.Rem = IREM
 
 -- the opcode for an int, directly before the one for a long
 abbrev pub shift_opcode : ShiftOp → ℕ
-shift_opcode shift.Shl = 0x78
-shift_opcode shift.Shr = 0x7A
-shift_opcode shift.Ushr = 0x7C
+shift_opcode shift.Shl = ISHL
+shift_opcode shift.Shr = ISHR
+shift_opcode shift.Ushr = IUSHR
 
 -- the opcode for an int, directly before the one for a long
 abbrev pub logic_opcode : LogicOp → ℕ
-logic_opcode logic.And = 0x7E
-logic_opcode logic.Or = 0x80
-logic_opcode logic.Xor = 0x82
+logic_opcode logic.And = IAND
+logic_opcode logic.Or = IOR
+logic_opcode logic.Xor = IXOR
 
 -- the conversions in which no float and no double takes part (JVMS 6.5, 7)
 abbrev pub conv_opcode : ConvOp → ℕ
-conv_opcode conv.I2l = 0x85
-conv_opcode conv.L2i = 0x88
-conv_opcode conv.I2b = 0x91
-conv_opcode conv.I2c = 0x92
-conv_opcode conv.I2s = 0x93
+conv_opcode conv.I2l = I2L
+conv_opcode conv.L2i = L2I
+conv_opcode conv.I2b = I2B
+conv_opcode conv.I2c = I2C
+conv_opcode conv.I2s = I2S
 
 -- ireturn, lreturn, areturn, and return where there is no value (JVMS 6.5, 7)
 abbrev pub return_opcode : Option Kind → ℕ
-return_opcode (Some k) = 0xAC + kind_number k
-return_opcode None = 0xB1
+return_opcode (Some k) = IRETURN + kind_number k
+return_opcode None = RETURN
 
 -- the operand of newarray (JVMS 6.5, table 6.5.newarray-A)
 abbrev pub array_type_code : Base → ℕ
@@ -123,7 +130,7 @@ is_short n = int_between (negsuc 32767) (pos 32767) n
 
 -- ldc, whose index is a byte, or ldc_w (JVMS 6.5.ldc, 6.5.ldc_w)
 abbrev pub load_constant : List PoolConstant → PoolConstant → Info
-load_constant pool k = if nat_le (index_of pool k) 255 then Ldc (index_of pool k) else LdcWide 0x13 (index_of pool k)
+load_constant pool k = if nat_le (index_of pool k) 255 then Ldc (index_of pool k) else LdcWide LDC_W (index_of pool k)
 
 -- iconst_<i> from -1 to 5, bipush from -128 to 127, sipush from -32768 to 32767, else a constant
 -- (JVMS 6.5; that the shortest is taken is the project's own)
@@ -140,7 +147,8 @@ is_lconst n = int_between (pos 0) (pos 1) n
 
 -- lconst_0 and lconst_1, else ldc2_w of a constant (JVMS 6.5; that the shortest is taken is the project's own)
 abbrev pub push_long : List PoolConstant → ℤ → Info
-push_long pool n = if is_lconst n then Plain (0x09 + cast_unsigned w8 n) else LdcWide 0x14 (index_of pool (Long n))
+push_long pool n = if is_lconst n then Plain (LCONST_0 + cast_unsigned w8 n) else LdcWide LDC2_W
+    (index_of pool (Long n))
 
 -- ---- slots
 
@@ -185,57 +193,57 @@ module _ (pool : List PoolConstant) (place : ℕ → ℕ) (at : ℕ) where
 
   -- the instruction with its operands as they are written (JVMS 6.5)
   abbrev pub op_info : Op → Info
-  op_info op.Nop = Plain 0x00
-  op_info op.PushNull = Plain 0x01
+  op_info op.Nop = Plain NOP
+  op_info op.PushNull = Plain ACONST_NULL
   op_info (op.PushInt n) = push_int pool n
   op_info (op.PushLong n) = push_long pool n
   op_info (op.PushText units) = load_constant pool (Str units)
-  op_info (op.Load k slot) = slot_info 0x15 0x1A k slot
-  op_info (op.Store k slot) = slot_info 0x36 0x3B k slot
+  op_info (op.Load k slot) = slot_info ILOAD ILOAD_0 k slot
+  op_info (op.Store k slot) = slot_info ISTORE ISTORE_0 k slot
   op_info (op.Inc slot delta) = inc_info slot delta
-  op_info (op.ALoad e) = Plain (0x2E + elem_number e)
-  op_info (op.AStore e) = Plain (0x4F + elem_number e)
-  op_info op.Pop = Plain 0x57
-  op_info op.Pop2 = Plain 0x58
-  op_info op.Dup = Plain 0x59
-  op_info op.DupX1 = Plain 0x5A
-  op_info op.DupX2 = Plain 0x5B
-  op_info op.Dup2 = Plain 0x5C
-  op_info op.Dup2X1 = Plain 0x5D
-  op_info op.Dup2X2 = Plain 0x5E
-  op_info op.Swap = Plain 0x5F
+  op_info (op.ALoad e) = Plain (IALOAD + elem_number e)
+  op_info (op.AStore e) = Plain (IASTORE + elem_number e)
+  op_info op.Pop = Plain POP
+  op_info op.Pop2 = Plain POP2
+  op_info op.Dup = Plain DUP
+  op_info op.DupX1 = Plain DUP_X1
+  op_info op.DupX2 = Plain DUP_X2
+  op_info op.Dup2 = Plain DUP2
+  op_info op.Dup2X1 = Plain DUP2_X1
+  op_info op.Dup2X2 = Plain DUP2_X2
+  op_info op.Swap = Plain SWAP
   op_info (op.Arith a n) = Plain (arith_opcode a + num_number n)
-  op_info (op.Neg n) = Plain (0x74 + num_number n)
+  op_info (op.Neg n) = Plain (INEG + num_number n)
   op_info (op.Shift s n) = Plain (shift_opcode s + num_number n)
   op_info (op.Logic l n) = Plain (logic_opcode l + num_number n)
   op_info (op.Conv c) = Plain (conv_opcode c)
-  op_info op.LCmp = Plain 0x94
-  op_info (op.IfZero c to) = Branch (0x99 + cond_number c) (near to)
-  op_info (op.IfCmp c to) = Branch (0x9F + cond_number c) (near to)
-  op_info (op.IfRef eq to) = Branch (if eq then 0xA5 else 0xA6) (near to)
-  op_info (op.IfNull null to) = Branch (if null then 0xC6 else 0xC7) (near to)
-  op_info (op.Goto to) = Branch 0xA7 (near to)
+  op_info op.LCmp = Plain LCMP
+  op_info (op.IfZero c to) = Branch (IFEQ + cond_number c) (near to)
+  op_info (op.IfCmp c to) = Branch (IF_ICMPEQ + cond_number c) (near to)
+  op_info (op.IfRef eq to) = Branch (if eq then IF_ACMPEQ else IF_ACMPNE) (near to)
+  op_info (op.IfNull null to) = Branch (if null then IFNULL else IFNONNULL) (near to)
+  op_info (op.Goto to) = Branch GOTO (near to)
   op_info (op.TableSwitch low other cases) = TableSwitch padding (far other) (cast_unsigned w32 low)
       (cast_unsigned w32 (low +ℤ pos (length cases) -ℤ pos 1)) (map far cases)
   op_info (op.LookupSwitch other cases) = LookupSwitch padding (far other)
       (map (λ (c : Case). record { key = cast_unsigned w32 c.key; offset = far c.to }) cases)
   op_info (op.Return k) = Plain (return_opcode k)
-  op_info (op.GetStatic reference) = MemberOperand 0xB2 (index_of pool (fieldref reference))
-  op_info (op.PutStatic reference) = MemberOperand 0xB3 (index_of pool (fieldref reference))
-  op_info (op.GetField reference) = MemberOperand 0xB4 (index_of pool (fieldref reference))
-  op_info (op.PutField reference) = MemberOperand 0xB5 (index_of pool (fieldref reference))
-  op_info (op.InvokeVirtual reference) = MemberOperand 0xB6 (index_of pool (methodref reference))
-  op_info (op.InvokeSpecial reference) = MemberOperand 0xB7 (index_of pool (methodref reference))
-  op_info (op.InvokeStatic reference) = MemberOperand 0xB8 (index_of pool (methodref reference))
+  op_info (op.GetStatic reference) = MemberOperand GETSTATIC (index_of pool (fieldref reference))
+  op_info (op.PutStatic reference) = MemberOperand PUTSTATIC (index_of pool (fieldref reference))
+  op_info (op.GetField reference) = MemberOperand GETFIELD (index_of pool (fieldref reference))
+  op_info (op.PutField reference) = MemberOperand PUTFIELD (index_of pool (fieldref reference))
+  op_info (op.InvokeVirtual reference) = MemberOperand INVOKEVIRTUAL (index_of pool (methodref reference))
+  op_info (op.InvokeSpecial reference) = MemberOperand INVOKESPECIAL (index_of pool (methodref reference))
+  op_info (op.InvokeStatic reference) = MemberOperand INVOKESTATIC (index_of pool (methodref reference))
   op_info (op.InvokeInterface reference) = InvokeInterface (index_of pool (methodref reference))
       (unwrap_or (count_of reference) 0)
-  op_info (op.New name) = ClassOperand 0xBB (index_of pool (class_constant name))
+  op_info (op.New name) = ClassOperand NEW (index_of pool (class_constant name))
   op_info (op.NewArray b) = NewArray (array_type_code b)
-  op_info (op.ANewArray ty) = ClassOperand 0xBD (class_index ty)
-  op_info op.ArrayLength = Plain 0xBE
-  op_info op.Throw = Plain 0xBF
-  op_info (op.CheckCast ty) = ClassOperand 0xC0 (class_index ty)
-  op_info (op.InstanceOf ty) = ClassOperand 0xC1 (class_index ty)
+  op_info (op.ANewArray ty) = ClassOperand ANEWARRAY (class_index ty)
+  op_info op.ArrayLength = Plain ARRAYLENGTH
+  op_info op.Throw = Plain ATHROW
+  op_info (op.CheckCast ty) = ClassOperand CHECKCAST (class_index ty)
+  op_info (op.InstanceOf ty) = ClassOperand INSTANCEOF (class_index ty)
   op_info (op.MultiNewArray ty dimensions) = MultiNewArray (class_index ty) dimensions
 
 -- how many bytes an instruction at an offset takes, which its targets don't change (JVMS 4.7.3, 6.5)

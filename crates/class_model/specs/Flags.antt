@@ -89,20 +89,23 @@ has_some wanted flags = not (bit_and flags wanted == 0)
 
 -- those that mean something on a class (JVMS 4.1, table 4.1-A)
 abbrev pub class_mask : ℕ
-class_mask = acc_public + acc_final + acc_super + acc_interface + acc_abstract + acc_synthetic + acc_annotation + acc_enum
+class_mask = acc_public + acc_final + acc_super + acc_interface + acc_abstract + acc_synthetic + acc_annotation +
+    acc_enum
 
 -- those that mean something on a field (JVMS 4.5, table 4.5-A)
 abbrev pub field_mask : ℕ
-field_mask = acc_public + acc_private + acc_protected + acc_static + acc_final + acc_volatile + acc_transient + acc_synthetic + acc_enum
+field_mask = acc_public + acc_private + acc_protected + acc_static + acc_final + acc_volatile + acc_transient +
+    acc_synthetic + acc_enum
 
 -- those that mean something on a method (JVMS 4.6, table 4.6-A)
 abbrev pub method_mask : ℕ
-method_mask = acc_public + acc_private + acc_protected + acc_static + acc_final + acc_synchronized + acc_bridge + acc_varargs
+method_mask = acc_public + acc_private + acc_protected + acc_static + acc_final + acc_synchronized + acc_bridge +
+    acc_varargs
     + acc_native + acc_abstract + acc_strict + acc_synthetic
 
 -- the flags that mean something in their place; the others are dropped (JVMS 4.1, 4.5, 4.6)
-abbrev pub meant : ℕ → ℕ → ℕ
-meant mask flags = bit_and flags mask
+abbrev pub defined_flags : ℕ → ℕ → ℕ
+defined_flags mask flags = bit_and flags mask
 
 -- which of public, private and protected are set (JVMS 4.5, 4.6)
 abbrev pub access_of : ℕ → ℕ

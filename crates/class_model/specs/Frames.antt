@@ -1,6 +1,6 @@
 -- The attribute StackMapTable (JVMS 4.7.4, 4.10.1.2, 4.10.1.6).
-use Rattle.std.specs.Prelude.{◌≡◌, ℕ, ◌+◌, ◌-◌, ◌^◌, ◌<◌, ◌≤◌, Bool, false, List, [], ◌∷◌, ◌++◌, length, take, map}
-use Rattle.std.specs.Prelude.{slice_get, sum_by, Option, Some, None, IsTrue, ◌==◌, ◌||◌, if◌then◌else◌, codes}
+use Rattle.std.specs.Prelude.{◌≡◌, ℕ, ◌+◌, ◌-◌, ◌^◌, ◌<◌, ◌≤◌, Bool, true, false, List, [], ◌∷◌, ◌++◌, length, take}
+use Rattle.std.specs.Prelude.{map, slice_get, sum_by, Option, Some, None, IsTrue, ◌==◌, ◌||◌, if◌then◌else◌, codes}
 use Rattle.std.specs.Int.{w16, to_be_bytes}
 use Rattle.std.specs.List.{AllZip, flat_map, list_any}
 use Rattle.jv_base.specs.Names.{is_text}
@@ -101,6 +101,11 @@ words_of_type _ = 1
 -- how much of max_locals or max_stack the types take (JVMS 4.7.3)
 abbrev pub words_of_types : List VType → ℕ
 words_of_types types = sum_by words_of_type types
+
+-- the type is Top
+abbrev pub is_top : VType → Bool
+is_top vtype.Top = true
+is_top _ = false
 
 -- a Top before others stays, one at the end is cut (the project's own: locals of frames end in no Top)
 abbrev pub before_cut : VType → List VType → List VType

@@ -24,6 +24,7 @@ use Rattle.class_model.specs.InstructionStructure.{MultiNewArray}
 use Rattle.class_model.specs.Instructions.{branch_target}
 use Rattle.class_model.specs.Lookups.{due, class_at, value_of, type_at, fieldref_at, methodref_at}
 use Rattle.class_model.specs.Lookups.{interface_methodref_at, method_type_of}
+use Rattle.class_model.specs.OpcodeNames.{LDC_W, NEW, ANEWARRAY}
 
 -- ---- operands
 
@@ -33,8 +34,8 @@ or_else (Some x) other = Some x
 or_else None other = other
 
 -- what an opcode makes of its operand (the project's own: which fault is due)
-abbrev pub made : {A : Type 0} → Option (A → Op) → A → Result Op FormatKind
-made table operand = due bad.BadOperand (option_map (λ make. make operand) table)
+abbrev pub op_of_operand : {A : Type 0} → Option (A → Op) → A → Result Op FormatKind
+op_of_operand table operand = due bad.BadOperand (option_map (λ make. make operand) table)
 
 -- an int (JVMS 6.5.ldc)
 abbrev pub int_in : Option Entry → Option Op
@@ -53,7 +54,7 @@ long_in _ = None
 
 -- what ldc_w or ldc2_w loads (JVMS 6.5.ldc_w, 6.5.ldc2_w)
 abbrev pub loaded_wide : ℕ → List Entry → ℕ → Option Op
-loaded_wide opcode pool index = if opcode == 0x13 then loaded pool index else long_in (slice_get pool index)
+loaded_wide opcode pool index = if opcode == LDC_W then loaded pool index else long_in (slice_get pool index)
 
 -- the reference that an instruction on a method names (JVMS 4.9.1)
 abbrev pub method_named : ℕ → List Entry → ℕ → Option MemberRef
@@ -74,7 +75,7 @@ member_op opcode pool index = member_made (field_op opcode) (method_op opcode) o
 
 -- the elements of a new array have at most 254 dimensions (JVMS 4.9.1, anewarray)
 abbrev pub can_be_operand : ℕ → FieldType → Bool
-can_be_operand opcode ty = if opcode == 0xBD then nat_le ty.dims 254 else true
+can_be_operand opcode ty = if opcode == ANEWARRAY then nat_le ty.dims 254 else true
 
 -- anewarray, checkcast or instanceof of a type (JVMS 4.9.1)
 abbrev pub of_type : ℕ → FieldType → Option Op
@@ -83,7 +84,7 @@ of_type opcode ty = if can_be_operand opcode ty then option_map (λ make. make t
 -- new, anewarray, checkcast and instanceof (JVMS 4.9.1)
 abbrev pub class_op : ℕ → List Entry → ℕ → Option Op
 class_op opcode pool index =
-    if opcode == 0xBB then option_map (λ name. op.New name) (value_of (class_at pool index))
+    if opcode == NEW then option_map (λ name. op.New name) (value_of (class_at pool index))
     else option_and_then (of_type opcode) (type_at pool index)
 
 -- the count of invokeinterface (JVMS 6.5.invokeinterface)
@@ -135,7 +136,7 @@ module _ (aim : ℤ → Result ℕ FormatKind) (at : ℕ) where
   abbrev pub branch : Option (ℕ → Op) → ℤ → Result Op FormatKind
   branch table offset = do
     to ← aim (branch_target at offset)
-    made table to
+    op_of_operand table to
 
 -- ---- instructions
 
@@ -147,8 +148,8 @@ op_of aim pool at (Bipush byte) = Ok (op.PushInt (cast_signed w8 byte))
 op_of aim pool at (Sipush short) = Ok (op.PushInt (cast_signed w16 short))
 op_of aim pool at (Ldc index) = due bad.BadOperand (loaded pool index)
 op_of aim pool at (LdcWide opcode index) = due bad.BadOperand (loaded_wide opcode pool index)
-op_of aim pool at (Local opcode index) = made (local_op opcode) index
-op_of aim pool at (WideLocal opcode index) = made (local_op opcode) index
+op_of aim pool at (Local opcode index) = op_of_operand (local_op opcode) index
+op_of aim pool at (WideLocal opcode index) = op_of_operand (local_op opcode) index
 op_of aim pool at (Iinc index const) = Ok (op.Inc index (cast_signed w8 const))
 op_of aim pool at (WideIinc index const) = Ok (op.Inc index (cast_signed w16 const))
 op_of aim pool at (Branch opcode offset) = branch aim at (branch_op opcode) (cast_signed w16 offset)

@@ -2,6 +2,8 @@
 use Rattle.std.specs.Prelude.{ℕ, ◌+◌, ◌-◌, ◌%◌, List, [], ◌∷◌, ◌++◌, length}
 use Rattle.std.specs.Int.{w16, w32, to_be_bytes}
 use Rattle.std.specs.List.{flat_map}
+use Rattle.class_model.specs.OpcodeNames.{BIPUSH, SIPUSH, LDC, IINC, TABLESWITCH, LOOKUPSWITCH, INVOKEINTERFACE}
+use Rattle.class_model.specs.OpcodeNames.{NEWARRAY, WIDE, MULTIANEWARRAY, GOTO_W}
 
 -- a match and its offset, in lookupswitch (JVMS 6.5.lookupswitch)
 pub record MatchOffset : Type 0 where
@@ -36,25 +38,25 @@ match_offset pair = to_be_bytes w32 pair.key ++ to_be_bytes w32 pair.offset
 -- the bytes of an instruction (JVMS 6.5)
 abbrev pub info_bytes : Info → List ℕ
 info_bytes (Plain opcode) = opcode ∷ []
-info_bytes (Bipush byte) = 0x10 ∷ byte ∷ []
-info_bytes (Sipush short) = 0x11 ∷ to_be_bytes w16 short
-info_bytes (Ldc index) = 0x12 ∷ index ∷ []
+info_bytes (Bipush byte) = BIPUSH ∷ byte ∷ []
+info_bytes (Sipush short) = SIPUSH ∷ to_be_bytes w16 short
+info_bytes (Ldc index) = LDC ∷ index ∷ []
 info_bytes (LdcWide opcode index) = opcode ∷ to_be_bytes w16 index
 info_bytes (Local opcode index) = opcode ∷ index ∷ []
-info_bytes (WideLocal opcode index) = 0xC4 ∷ opcode ∷ to_be_bytes w16 index
-info_bytes (Iinc index const) = 0x84 ∷ index ∷ const ∷ []
-info_bytes (WideIinc index const) = 0xC4 ∷ 0x84 ∷ (to_be_bytes w16 index ++ to_be_bytes w16 const)
+info_bytes (WideLocal opcode index) = WIDE ∷ opcode ∷ to_be_bytes w16 index
+info_bytes (Iinc index const) = IINC ∷ index ∷ const ∷ []
+info_bytes (WideIinc index const) = WIDE ∷ IINC ∷ (to_be_bytes w16 index ++ to_be_bytes w16 const)
 info_bytes (Branch opcode branch) = opcode ∷ to_be_bytes w16 branch
-info_bytes (GotoWide branch) = 0xC8 ∷ to_be_bytes w32 branch
-info_bytes (TableSwitch pad default low high offsets) = 0xAA ∷ (pad ++ (to_be_bytes w32 default
+info_bytes (GotoWide branch) = GOTO_W ∷ to_be_bytes w32 branch
+info_bytes (TableSwitch pad default low high offsets) = TABLESWITCH ∷ (pad ++ (to_be_bytes w32 default
     ++ (to_be_bytes w32 low ++ (to_be_bytes w32 high ++ flat_map (to_be_bytes w32) offsets))))
-info_bytes (LookupSwitch pad default pairs) = 0xAB ∷ (pad ++ (to_be_bytes w32 default
+info_bytes (LookupSwitch pad default pairs) = LOOKUPSWITCH ∷ (pad ++ (to_be_bytes w32 default
     ++ (to_be_bytes w32 (length pairs) ++ flat_map match_offset pairs)))
 info_bytes (MemberOperand opcode index) = opcode ∷ to_be_bytes w16 index
-info_bytes (InvokeInterface index count) = 0xB9 ∷ (to_be_bytes w16 index ++ count ∷ 0 ∷ [])
+info_bytes (InvokeInterface index count) = INVOKEINTERFACE ∷ (to_be_bytes w16 index ++ count ∷ 0 ∷ [])
 info_bytes (ClassOperand opcode index) = opcode ∷ to_be_bytes w16 index
-info_bytes (NewArray atype) = 0xBC ∷ atype ∷ []
-info_bytes (MultiNewArray index dimensions) = 0xC5 ∷ (to_be_bytes w16 index ++ dimensions ∷ [])
+info_bytes (NewArray atype) = NEWARRAY ∷ atype ∷ []
+info_bytes (MultiNewArray index dimensions) = MULTIANEWARRAY ∷ (to_be_bytes w16 index ++ dimensions ∷ [])
 
 -- how many bytes pad a switch at an offset: its default begins at a multiple of four
 -- (JVMS 6.5.tableswitch, 6.5.lookupswitch)

@@ -25,6 +25,7 @@ use Rattle.class_model.specs.InstructionStructure.{MatchOffset, Info, Plain, Bip
 use Rattle.class_model.specs.InstructionStructure.{WideLocal, Iinc, WideIinc, Branch, GotoWide, TableSwitch}
 use Rattle.class_model.specs.InstructionStructure.{LookupSwitch, MemberOperand, InvokeInterface, ClassOperand, NewArray}
 use Rattle.class_model.specs.InstructionStructure.{MultiNewArray, info_bytes, pad_length}
+use Rattle.class_model.specs.OpcodeNames.{LDC, LDC_W, LDC2_W, INVOKEDYNAMIC, NEW, NEWARRAY, ANEWARRAY, WIDE}
 
 -- ---- operands
 
@@ -61,11 +62,11 @@ pub record IsInvokeInterface (pool : List Entry) (index count : ℕ) (o : Op) : 
 
 -- an array has at most 255 dimensions, so the elements of a new one have at most 254 (JVMS 4.9.1, anewarray)
 abbrev pub IsElementOf : ℕ → FieldType → Type 0
-IsElementOf opcode ty = opcode ≡ 0xBD → ty.dims ≤ 254
+IsElementOf opcode ty = opcode ≡ ANEWARRAY → ty.dims ≤ 254
 
 -- new, of a class; anewarray, checkcast and instanceof, of a class or an array type (JVMS 4.9.1, 6.5)
 abbrev pub IsOfType : List Entry → ℕ → ℕ → Op → Type 0
-IsOfType pool opcode index o = ((name : List ℕ) × (opcode ≡ 0xBB) × IsClassAt pool index name × (o ≡ op.New name))
+IsOfType pool opcode index o = ((name : List ℕ) × (opcode ≡ NEW) × IsClassAt pool index name × (o ≡ op.New name))
     ⊎ ((ty : FieldType) × (index < 2 ^ 16) × IsTypeAt pool index ty × IsElementOf opcode ty
     × Makes (type_op opcode) ty o)
 
@@ -130,7 +131,7 @@ IsOp Leads pool at (Bipush byte) o = (byte < 2 ^ 8) × (o ≡ op.PushInt (cast_s
 IsOp Leads pool at (Sipush short) o = (short < 2 ^ 16) × (o ≡ op.PushInt (cast_signed w16 short))
 IsOp Leads pool at (Ldc index) o = (index < 2 ^ 8) × IsLoaded pool index o
 IsOp Leads pool at (LdcWide opcode index) o = (index < 2 ^ 16)
-    × ((opcode ≡ 0x13) × IsLoaded pool index o ⊎ (opcode ≡ 0x14) × IsLoadedLong pool index o)
+    × ((opcode ≡ LDC_W) × IsLoaded pool index o ⊎ (opcode ≡ LDC2_W) × IsLoadedLong pool index o)
 IsOp Leads pool at (Local opcode index) o = (index < 2 ^ 8) × Makes (local_op opcode) index o
 IsOp Leads pool at (WideLocal opcode index) o = (index < 2 ^ 16) × Makes (local_op opcode) index o
 IsOp Leads pool at (Iinc index const) o = (index < 2 ^ 8) × (const < 2 ^ 8) × (o ≡ op.Inc index (cast_signed w8 const))
@@ -167,13 +168,13 @@ IsLeftOutLoad pool index = (e : Entry) × (slice_get pool index ≡ Some e) × I
 abbrev pub IsLeftOut : List Entry → List ℕ → LeftKind → Type 0
 IsLeftOut pool bytes left.Opcode =
     ((opcode : ℕ) × IsTrue (is_left_out_opcode opcode) × (bytes ≡ opcode ∷ []))
-    ⊎ ((opcode : ℕ) × IsTrue (is_left_out_local opcode) × (bytes ≡ 0xC4 ∷ opcode ∷ []))
-    ⊎ ((atype : ℕ) × IsTrue (is_left_out_array_type atype) × (bytes ≡ 0xBC ∷ atype ∷ []))
+    ⊎ ((opcode : ℕ) × IsTrue (is_left_out_local opcode) × (bytes ≡ WIDE ∷ opcode ∷ []))
+    ⊎ ((atype : ℕ) × IsTrue (is_left_out_array_type atype) × (bytes ≡ NEWARRAY ∷ atype ∷ []))
 IsLeftOut pool bytes left.Constant =
-    (bytes ≡ 0xBA ∷ [])
-    ⊎ ((index : ℕ) × (index < 2 ^ 8) × IsLeftOutLoad pool index × (bytes ≡ 0x12 ∷ index ∷ []))
-    ⊎ ((index : ℕ) × (index < 2 ^ 16) × IsLeftOutLoad pool index × (bytes ≡ 0x13 ∷ to_be_bytes w16 index))
-    ⊎ ((index : ℕ) × (index < 2 ^ 16) × IsLeftOutLoad pool index × (bytes ≡ 0x14 ∷ to_be_bytes w16 index))
+    (bytes ≡ INVOKEDYNAMIC ∷ [])
+    ⊎ ((index : ℕ) × (index < 2 ^ 8) × IsLeftOutLoad pool index × (bytes ≡ LDC ∷ index ∷ []))
+    ⊎ ((index : ℕ) × (index < 2 ^ 16) × IsLeftOutLoad pool index × (bytes ≡ LDC_W ∷ to_be_bytes w16 index))
+    ⊎ ((index : ℕ) × (index < 2 ^ 16) × IsLeftOutLoad pool index × (bytes ≡ LDC2_W ∷ to_be_bytes w16 index))
 IsLeftOut pool bytes _ = ⊥
 
 -- an instruction before one that is left out: its targets aren't asked for

@@ -1,6 +1,7 @@
 -- The class file (JVMS 4). docs/CLASS-FILES.md tells where each rule stands.
 --
 pub mod Between
+pub mod OpcodeNames
 pub mod Pool
 pub mod Structure
 -- Which bytes spell a class: each structure as it is written, and what it stands for
@@ -33,10 +34,13 @@ pub mod ReadingClass
 pub mod CanonicalPool
 pub mod CanonicalCode
 pub mod Says
-pub mod PoolEntries
 pub mod CanonicalFrames
 pub mod CanonicalClass
 pub mod WriteLimits
 pub mod WritableCode
+-- The frames of a code by their numbers, and as they are built
+pub mod FrameLists
+-- What only the proofs of bodies need
+pub mod bodies
 -- A few class files
-pub mod Rows
+pub mod rows

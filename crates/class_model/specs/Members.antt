@@ -15,7 +15,8 @@ use Rattle.class_model.specs.declared.class.LeftKind.TheVariants as left
 use Rattle.class_model.specs.Pool.{IsTextAt}
 use Rattle.class_model.specs.Flags.{flags_of}
 use Rattle.class_model.specs.Structure.{AttributeInfo, MemberInfo}
-use Rattle.class_model.specs.Flags.{field_mask, method_mask, meant, is_static, is_native, has_body, are_field_flags}
+use Rattle.class_model.specs.Flags.{field_mask, method_mask, defined_flags, is_static, is_native, has_body}
+use Rattle.class_model.specs.Flags.{are_field_flags}
 use Rattle.class_model.specs.Flags.{are_method_flags, are_initial_flags, is_init, is_clinit}
 use Rattle.class_model.specs.Attributes.{named, AreAttributes, IsMark, AreConstants, AreThrown}
 use Rattle.class_model.specs.Frames.{initial_locals}
@@ -24,7 +25,7 @@ use Rattle.class_model.specs.CodeAttribute.{IsBody}
 -- the flags of a member, where those that mean something pass a test (JVMS 4.5, 4.6)
 pub record AreFlags (mask : ℕ) (passes : ℕ → Bool) (bits : ℕ) (flags : Access) : Type 0 where
   pub fit : bits < 2 ^ 16
-  pub are : flags ≡ flags_of (meant mask bits)
+  pub are : flags ≡ flags_of (defined_flags mask bits)
   pub good : IsTrue (passes bits)
 
 -- the attributes of this name (JVMS 4.7)

@@ -5,7 +5,7 @@ use Rattle.jv_base.specs.Names.{is_text}
 use Rattle.jv_base.specs.declared.types.FieldType.{FieldType}
 use Rattle.jv_base.specs.declared.types.Base.{Base}
 use Rattle.jv_base.specs.declared.types.Base.TheVariants as base
-use Rattle.format_reading.specs.Reader.{Reader, u2, u4, bytes, item, give, here, settle, part, many, ◌>>=◌}
+use Rattle.format_reading.specs.Reader.{FormatReader, u2, u4, bytes, item, give, here, settle, part, many, ◌>>=◌}
 use Rattle.format_reading.specs.declared.fault.FormatKind.{FormatKind}
 use Rattle.format_reading.specs.declared.fault.FormatKind.TheVariants as bad
 use Rattle.class_model.specs.declared.pool.Entry.{Entry}
@@ -20,7 +20,7 @@ use Rattle.class_model.specs.Lookups.{due, test, class_at}
 -- ---- the header
 
 -- the rest of an attribute whose contents have a length: read as a part where it is known, else passed over (JVMS 4.7)
-abbrev pub contents : {S : Type 0} → ℕ → ℕ → S → Option (Reader S) → Reader S
+abbrev pub contents : {S : Type 0} → ℕ → ℕ → S → Option (FormatReader S) → FormatReader S
 contents at n seen (Some r) = part at n r
 contents at n seen None = do
   skipped ← bytes n
@@ -28,7 +28,7 @@ contents at n seen None = do
 
 -- an attribute; known says what to read, by the attribute's offset, its name, its length and what was seen before
 -- (JVMS 4.7)
-abbrev pub attribute : {S : Type 0} → List Entry → (ℕ → List ℕ → ℕ → S → Option (Reader S)) → S → Reader S
+abbrev pub attribute : {S : Type 0} → List Entry → (ℕ → List ℕ → ℕ → S → Option (FormatReader S)) → S → FormatReader S
 attribute pool known seen = do
   at ← here
   name ← item u2 (λ index. due bad.BadIndex (units_at pool index))
@@ -36,20 +36,22 @@ attribute pool known seen = do
   contents at n seen (known at name n seen)
 
 -- n attributes (JVMS 4.7)
-unfoldable pub attributes : {S : Type 0} → ℕ → List Entry → (ℕ → List ℕ → ℕ → S → Option (Reader S)) → S → Reader S
+unfoldable pub attributes : {S : Type 0} → ℕ → List Entry → (ℕ → List ℕ → ℕ → S → Option (FormatReader S)) → S
+    → FormatReader S
 attributes zero pool known seen = give seen
 attributes (suc n) pool known seen = do
   now ← attribute pool known seen
   attributes n pool known now
 
 -- attributes, behind their count (JVMS 4.1, 4.5, 4.6, 4.7.3)
-abbrev pub counted_attributes : {S : Type 0} → List Entry → (ℕ → List ℕ → ℕ → S → Option (Reader S)) → S → Reader S
+abbrev pub counted_attributes : {S : Type 0} → List Entry → (ℕ → List ℕ → ℕ → S → Option (FormatReader S)) → S
+    → FormatReader S
 counted_attributes pool known seen = do
   n ← u2
   attributes n pool known seen
 
 -- an attribute that may stand once in its place (JVMS 4.7.2 to 4.7.5, 4.7.10)
-abbrev pub once : {S : Type 0} → ℕ → Bool → Reader S → Reader S
+abbrev pub once : {S : Type 0} → ℕ → Bool → FormatReader S → FormatReader S
 once at had r = do
   first ← settle at (test bad.Repeated (not had))
   r
@@ -57,24 +59,24 @@ once at had r = do
 -- ---- contents
 
 -- SourceFile (JVMS 4.7.10)
-abbrev pub source_file : List Entry → Reader (List ℕ)
+abbrev pub source_file : List Entry → FormatReader (List ℕ)
 source_file pool = item u2 (λ index. due bad.BadIndex (units_at pool index))
 
 -- Exceptions (JVMS 4.7.5)
-unfoldable pub exceptions : List Entry → Reader (List (List ℕ))
+unfoldable pub exceptions : List Entry → FormatReader (List (List ℕ))
 exceptions pool = do
   n ← u2
   many n (item u2 (class_at pool))
 
 -- a row of LineNumberTable (JVMS 4.7.12)
-abbrev pub read_line : Reader LineNumber
+abbrev pub read_line : FormatReader LineNumber
 read_line = do
   start_pc ← u2
   number ← u2
   give (record { start_pc = start_pc; line_number = number })
 
 -- the contents of a LineNumberTable: rows in any order, behind their count (JVMS 4.7.12)
-unfoldable pub line_number_table : Reader (List LineNumber)
+unfoldable pub line_number_table : FormatReader (List LineNumber)
 line_number_table = do
   n ← u2
   many n read_line
@@ -133,5 +135,5 @@ constant_in pool index ty _ = Err bad.BadIndex
 
 -- the contents of a ConstantValue, for a static field of this type; a constant that does not fit is at fault at its
 -- index (JVMS 4.7.2)
-abbrev pub constant_value : List Entry → FieldType → Reader (Option Constant)
+abbrev pub constant_value : List Entry → FieldType → FormatReader (Option Constant)
 constant_value pool ty = item u2 (λ index. constant_in pool index ty (slice_get pool index))

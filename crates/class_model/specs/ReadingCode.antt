@@ -6,7 +6,7 @@ use Rattle.std.specs.Int.{w32, cast_signed}
 use Rattle.jv_base.specs.Place.{Place, start}
 use Rattle.jv_base.specs.declared.types.FieldType.{FieldType}
 use Rattle.format_reading.specs.Fault.{fault}
-use Rattle.format_reading.specs.Reader.{Reader, u1, u2, u4, bytes, lead, item, give, here, many, ◌>>=◌}
+use Rattle.format_reading.specs.Reader.{FormatReader, u1, u2, u4, bytes, lead, item, give, here, many, ◌>>=◌}
 use Rattle.format_reading.specs.declared.fault.FormatFault.{FormatFault}
 use Rattle.format_reading.specs.declared.fault.FormatKind.{FormatKind}
 use Rattle.format_reading.specs.declared.fault.FormatKind.TheVariants as bad
@@ -24,6 +24,8 @@ use Rattle.class_model.specs.InstructionStructure.{MultiNewArray, info_bytes, pa
 use Rattle.class_model.specs.Instructions.{is_left_out_load}
 use Rattle.class_model.specs.InstructionMeaning.{op_of, aim_at, loaded, loaded_wide, member_op, class_op, count_of}
 use Rattle.class_model.specs.Lookups.{test, type_at, interface_methodref_at}
+use Rattle.class_model.specs.OpcodeNames.{BIPUSH, SIPUSH, LDC, LDC_W, LDC2_W, IINC, TABLESWITCH, LOOKUPSWITCH}
+use Rattle.class_model.specs.OpcodeNames.{INVOKEINTERFACE, INVOKEDYNAMIC, NEW, NEWARRAY, WIDE, MULTIANEWARRAY, GOTO_W}
 
 -- ---- one instruction
 
@@ -35,10 +37,10 @@ pub data Read : Type 0 where
 -- a constant that can't be loaded here, or else an instruction; ldc, ldc_w, ldc2_w and invokedynamic name a constant
 -- (the project's own: which kind is left out)
 abbrev pub left_out_kind : ℕ → LeftKind
-left_out_kind opcode = if between 0x12 0x14 opcode || opcode == 0xBA then left.Constant else left.Opcode
+left_out_kind opcode = if between LDC LDC2_W opcode || opcode == INVOKEDYNAMIC then left.Constant else left.Opcode
 
 -- an instruction that was read as far as this needs nothing more (JVMS 6.5)
-abbrev pub whole : Info → Reader Read
+abbrev pub whole : Info → FormatReader Read
 whole info = give (instruction info)
 
 -- what follows an operand that has a meaning (the project's own: which fault is due)
@@ -58,50 +60,50 @@ load_read pool opcode index meaning info =
     if is_left_out_at (slice_get pool index) then Ok (left_out opcode) else if_meant meaning (instruction info)
 
 -- ldc: one byte of index, of an int or a string (JVMS 6.5)
-abbrev pub ldc : List Entry → Reader Read
-ldc pool = item u1 (λ index. load_read pool 0x12 index (loaded pool index) (Ldc index))
+abbrev pub ldc : List Entry → FormatReader Read
+ldc pool = item u1 (λ index. load_read pool LDC index (loaded pool index) (Ldc index))
 
 -- ldc_w and ldc2_w: two bytes of index; a long is loaded by ldc2_w alone (JVMS 6.5)
-abbrev pub ldc_wide : List Entry → ℕ → Reader Read
+abbrev pub ldc_wide : List Entry → ℕ → FormatReader Read
 ldc_wide pool opcode = item u2
     (λ index. load_read pool opcode index (loaded_wide opcode pool index) (LdcWide opcode index))
 
 -- an instruction whose one operand is a byte: bipush, and those of a slot without wide (JVMS 6.5)
-abbrev pub one_byte : (ℕ → Info) → Reader Read
+abbrev pub one_byte : (ℕ → Info) → FormatReader Read
 one_byte make = do
   operand ← u1
   whole (make operand)
 
 -- an instruction whose one operand has two bytes: sipush, branches, and those of a slot behind wide (JVMS 6.5)
-abbrev pub two_bytes : (ℕ → Info) → Reader Read
+abbrev pub two_bytes : (ℕ → Info) → FormatReader Read
 two_bytes make = do
   operand ← u2
   whole (make operand)
 
 -- iinc: a slot and a summand, of one byte each (JVMS 6.5)
-abbrev pub iinc : Reader Read
+abbrev pub iinc : FormatReader Read
 iinc = do
   index ← u1
   const ← u1
   whole (Iinc index const)
 
 -- iinc behind wide: a slot and a summand, of two bytes each (JVMS 6.5)
-abbrev pub wide_iinc : Reader Read
+abbrev pub wide_iinc : FormatReader Read
 wide_iinc = do
   index ← u2
   const ← u2
   whole (WideIinc index const)
 
 -- what stands behind wide (JVMS 6.5.wide)
-abbrev pub widened : ℕ → Result (Reader Read) FormatKind
+abbrev pub widened : ℕ → Result (FormatReader Read) FormatKind
 widened opcode =
-    if opcode == 0x84 then Ok wide_iinc
-    else if is_left_out_local opcode then Ok (give (left_out 0xC4))
+    if opcode == IINC then Ok wide_iinc
+    else if is_left_out_local opcode then Ok (give (left_out WIDE))
     else if is_some (local_op opcode) then Ok (two_bytes (λ index. WideLocal opcode index))
     else Err bad.BadOpcode
 
 -- goto_w: an offset of four bytes (JVMS 6.5)
-abbrev pub goto_wide : Reader Read
+abbrev pub goto_wide : FormatReader Read
 goto_wide = do
   offset ← u4
   whole (GotoWide offset)
@@ -116,7 +118,7 @@ table_high low high = if int_le (cast_signed w32 low) (cast_signed w32 high) the
 
 -- tableswitch at an offset of the code, which decides how many bytes pad it; what they are is free
 -- (JVMS 6.5.tableswitch)
-abbrev pub table_switch : ℕ → Reader Read
+abbrev pub table_switch : ℕ → FormatReader Read
 table_switch at = do
   pad ← bytes (pad_length at)
   default ← u4
@@ -139,7 +141,7 @@ abbrev pub lookup_key : Option ℕ → ℕ → Result ℕ FormatKind
 lookup_key previous key = if ascends previous key then Ok key else Err bad.BadOperand
 
 -- n pairs of match and offset, behind a key that may have come before (JVMS 6.5.lookupswitch)
-unfoldable pub match_offsets : ℕ → Option ℕ → Reader (List MatchOffset)
+unfoldable pub match_offsets : ℕ → Option ℕ → FormatReader (List MatchOffset)
 match_offsets zero previous = give []
 match_offsets (suc n) previous = do
   key ← item u4 (lookup_key previous)
@@ -149,7 +151,7 @@ match_offsets (suc n) previous = do
 
 -- lookupswitch at an offset of the code, which decides how many bytes pad it; what they are is free
 -- (JVMS 6.5.lookupswitch)
-abbrev pub lookup_switch : ℕ → Reader Read
+abbrev pub lookup_switch : ℕ → FormatReader Read
 lookup_switch at = do
   pad ← bytes (pad_length at)
   default ← u4
@@ -158,12 +160,12 @@ lookup_switch at = do
   whole (LookupSwitch pad default pairs)
 
 -- the index of a field or a method; it has to lead to what the opcode asks for (JVMS 4.9.1)
-abbrev pub member : List Entry → ℕ → Reader Read
+abbrev pub member : List Entry → ℕ → FormatReader Read
 member pool opcode = item u2
     (λ index. if_meant (member_op opcode pool index) (instruction (MemberOperand opcode index)))
 
 -- the index of a class or an array type; for new it has to be a class (JVMS 4.9.1)
-abbrev pub class_operand : List Entry → ℕ → Reader Read
+abbrev pub class_operand : List Entry → ℕ → FormatReader Read
 class_operand pool opcode = item u2
     (λ index. if_meant (class_op opcode pool index) (instruction (ClassOperand opcode index)))
 
@@ -177,7 +179,7 @@ abbrev pub count_at : List Entry → ℕ → Option ℕ
 count_at pool index = option_and_then count_of (interface_methodref_at pool index)
 
 -- invokeinterface: the method of an interface, its count, and a byte that is zero (JVMS 6.5)
-abbrev pub invoke_interface : List Entry → Reader Read
+abbrev pub invoke_interface : List Entry → FormatReader Read
 invoke_interface pool = do
   index ← item u2 (λ index. if_meant (interface_methodref_at pool index) index)
   count ← item u1 (λ n. if is_count (count_at pool index) n then Ok n else Err bad.BadOperand)
@@ -187,7 +189,7 @@ invoke_interface pool = do
 -- the operand of newarray (JVMS 6.5.newarray)
 abbrev pub array_type_read : ℕ → Result Read FormatKind
 array_type_read atype =
-    if is_left_out_array_type atype then Ok (left_out 0xBC) else if_meant (array_type_of atype)
+    if is_left_out_array_type atype then Ok (left_out NEWARRAY) else if_meant (array_type_of atype)
     (instruction (NewArray atype))
 
 -- of the dimensions of its type at least one is made (JVMS 4.9.1, 6.5.multianewarray)
@@ -196,7 +198,7 @@ are_dimensions (Some ty) n = nat_lt 0 n && nat_le n ty.dims
 are_dimensions None n = false
 
 -- multianewarray: an array type, and how many of its dimensions are made (JVMS 4.9.1)
-abbrev pub multi_new_array : List Entry → Reader Read
+abbrev pub multi_new_array : List Entry → FormatReader Read
 multi_new_array pool = do
   index ← item u2 (λ index. if_meant (type_at pool index) index)
   dimensions ← item u1 (λ n. if are_dimensions (type_at pool index) n then Ok n else Err bad.BadOperand)
@@ -208,29 +210,29 @@ is_member_opcode opcode = is_some (field_op opcode) || is_some (method_op opcode
 
 -- an opcode that names a class or an array type, multianewarray aside: new, anewarray, checkcast, instanceof (JVMS 6.5)
 abbrev pub is_class_opcode : ℕ → Bool
-is_class_opcode opcode = opcode == 0xBB || is_some (type_op opcode)
+is_class_opcode opcode = opcode == NEW || is_some (type_op opcode)
 
 -- what an opcode at an offset of the code begins (JVMS 6.5)
-abbrev pub begun : List Entry → ℕ → ℕ → Result (Reader Read) FormatKind
+abbrev pub begun : List Entry → ℕ → ℕ → Result (FormatReader Read) FormatKind
 begun pool at opcode =
     if is_some (plain_op opcode) then Ok (whole (Plain opcode))
-    else if opcode == 0x10 then Ok (one_byte (λ byte. Bipush byte))
-    else if opcode == 0x11 then Ok (two_bytes (λ short. Sipush short))
-    else if opcode == 0x12 then Ok (ldc pool)
-    else if opcode == 0x13 || opcode == 0x14 then Ok (ldc_wide pool opcode)
+    else if opcode == BIPUSH then Ok (one_byte (λ byte. Bipush byte))
+    else if opcode == SIPUSH then Ok (two_bytes (λ short. Sipush short))
+    else if opcode == LDC then Ok (ldc pool)
+    else if opcode == LDC_W || opcode == LDC2_W then Ok (ldc_wide pool opcode)
     else if is_some (local_op opcode) then Ok (one_byte (λ index. Local opcode index))
-    else if opcode == 0x84 then Ok iinc
-    else if opcode == 0xC4 then Ok (lead u1 widened)
+    else if opcode == IINC then Ok iinc
+    else if opcode == WIDE then Ok (lead u1 widened)
     else if is_some (branch_op opcode) then Ok (two_bytes (λ offset. Branch opcode offset))
-    else if opcode == 0xC8 then Ok goto_wide
-    else if opcode == 0xAA then Ok (table_switch at)
-    else if opcode == 0xAB then Ok (lookup_switch at)
+    else if opcode == GOTO_W then Ok goto_wide
+    else if opcode == TABLESWITCH then Ok (table_switch at)
+    else if opcode == LOOKUPSWITCH then Ok (lookup_switch at)
     else if is_member_opcode opcode then Ok (member pool opcode)
-    else if opcode == 0xB9 then Ok (invoke_interface pool)
+    else if opcode == INVOKEINTERFACE then Ok (invoke_interface pool)
     else if is_class_opcode opcode then Ok (class_operand pool opcode)
-    else if opcode == 0xBC then Ok (item u1 array_type_read)
-    else if opcode == 0xC5 then Ok (multi_new_array pool)
-    else if opcode == 0xBA || is_left_out_opcode opcode then Ok (give (left_out opcode))
+    else if opcode == NEWARRAY then Ok (item u1 array_type_read)
+    else if opcode == MULTIANEWARRAY then Ok (multi_new_array pool)
+    else if opcode == INVOKEDYNAMIC || is_left_out_opcode opcode then Ok (give (left_out opcode))
     else Err bad.BadOpcode
 
 -- a code that ends inside an instruction is a fault of its own, not a file that ends too soon (JVMS 4.9.1)
@@ -245,7 +247,7 @@ at_instruction at (Ok x) = Ok x
 at_instruction at (Err f) = Err (fault at (in_code f.kind))
 
 -- an instruction of a code that begins at the offset from (JVMS 6.5)
-unfoldable pub read_instruction : List Entry → ℕ → Reader Read
+unfoldable pub read_instruction : List Entry → ℕ → FormatReader Read
 read_instruction pool from p = at_instruction p.at (lead u1 (begun pool (p.at - from)) p)
 
 -- ---- all of them
@@ -263,7 +265,7 @@ in_front info (has_left_out offset opcode) = has_left_out offset opcode
 
 -- what follows what was read at an offset of the code; behind an instruction that is left out the bytes up to the end
 -- are passed over (JVMS 4.7.3; that the rest is passed over is the project's own)
-abbrev pub goes_on : Reader CodeRead → ℕ → ℕ → Read → Reader CodeRead
+abbrev pub goes_on : FormatReader CodeRead → ℕ → ℕ → Read → FormatReader CodeRead
 goes_on others offset end (instruction info) = do
   behind ← others
   give (in_front info behind)
@@ -274,7 +276,7 @@ goes_on others offset end (left_out opcode) = do
 
 -- the instructions of a code that begins at the offset from and ends at another; n is at least how many bytes are left
 -- (JVMS 4.7.3, 4.9.1)
-unfoldable pub until_end : ℕ → List Entry → ℕ → ℕ → Reader CodeRead
+unfoldable pub until_end : ℕ → List Entry → ℕ → ℕ → FormatReader CodeRead
 until_end zero pool from end = give (instructions [])
 until_end (suc n) pool from end = do
   at ← here

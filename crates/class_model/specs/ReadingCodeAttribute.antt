@@ -2,7 +2,8 @@
 use Rattle.std.specs.Prelude.{ℕ, ◌+◌, ◌*◌, ◌^◌, Bool, true, false, List, [], ◌∷◌, ◌++◌, length, position, nat_eq}
 use Rattle.std.specs.Prelude.{nat_lt, codes, Option, Some, None, Result, Ok, Err, ◌==◌, if◌then◌else◌}
 use Rattle.jv_base.specs.Names.{is_text}
-use Rattle.format_reading.specs.Reader.{Reader, u2, u4, bytes, item, give, here, settle, told, part, many, ◌>>=◌}
+use Rattle.format_reading.specs.Reader.{FormatReader, u2, u4, bytes, item, give, here, settle, of_result, part, many}
+use Rattle.format_reading.specs.Reader.{◌>>=◌}
 use Rattle.format_reading.specs.declared.fault.FormatKind.{FormatKind}
 use Rattle.format_reading.specs.declared.fault.FormatKind.TheVariants as bad
 use Rattle.class_model.specs.declared.pool.Entry.{Entry}
@@ -47,7 +48,7 @@ abbrev pub handler : Places → Option (List ℕ) → Handler
 handler at caught = record { from = at.0; to = at.1; entry = at.2; caught = caught }
 
 -- a row of the exception table: its places first, then what it catches (JVMS 4.7.3)
-abbrev pub read_handler : List Entry → List ℕ → ℕ → Reader Handler
+abbrev pub read_handler : List Entry → List ℕ → ℕ → FormatReader Handler
 read_handler pool starts end = do
   at ← here
   start_pc ← u2
@@ -58,7 +59,7 @@ read_handler pool starts end = do
   give (handler found caught)
 
 -- exception_table_length, and as many rows in the order in which they are searched (JVMS 4.7.3, 2.10)
-unfoldable pub read_handlers : List Entry → List ℕ → ℕ → Reader (List Handler)
+unfoldable pub read_handlers : List Entry → List ℕ → ℕ → FormatReader (List Handler)
 read_handlers pool starts end = do
   n ← u2
   many n (read_handler pool starts end)
@@ -80,19 +81,20 @@ is_there (Some x) = true
 is_there None = false
 
 -- one more LineNumberTable, its rows behind those of the ones before (JVMS 4.7.12)
-abbrev pub lines_seen : CodeSeen → Reader CodeSeen
+abbrev pub lines_seen : CodeSeen → FormatReader CodeSeen
 lines_seen seen = do
   rows ← line_number_table
   give (record seen { lines = seen.lines ++ rows })
 
 -- the StackMapTable, read by the reader given (JVMS 4.7.4)
-abbrev pub frames_seen : Reader (Bool × List FrameAt) → CodeSeen → Reader CodeSeen
+abbrev pub frames_seen : FormatReader (Bool × List FrameAt) → CodeSeen → FormatReader CodeSeen
 frames_seen frames seen = do
   map ← frames
   give (record seen { map = Some map })
 
 -- LineNumberTable as often as it stands, StackMapTable once (JVMS 4.7.4, 4.7.12)
-abbrev pub known_of_code : Reader (Bool × List FrameAt) → ℕ → List ℕ → ℕ → CodeSeen → Option (Reader CodeSeen)
+abbrev pub known_of_code : FormatReader (Bool × List FrameAt) → ℕ → List ℕ → ℕ → CodeSeen
+    → Option (FormatReader CodeSeen)
 known_of_code frames at name n seen =
     if is_text name (codes "LineNumberTable") then Some (lines_seen seen)
     else if is_text name (codes "StackMapTable") then Some (once at (is_there seen.map) (frames_seen frames seen))
@@ -139,7 +141,7 @@ code_of max_stack max_locals infos ops handlers seen = (
 )
 
 -- an attribute that is passed over by its length, its name not looked at (JVMS 4.7)
-abbrev pub skipped_attribute : Reader (Unit {0})
+abbrev pub skipped_attribute : FormatReader (Unit {0})
 skipped_attribute = do
   name_index ← u2
   n ← u4
@@ -148,9 +150,9 @@ skipped_attribute = do
 
 -- what stands behind the instructions: of a code in which one is left out it is passed over
 -- (JVMS 4.7.3; that it may be passed over is the project's own)
-abbrev pub behind_code : List Entry → List VType → ℕ → ℕ → ℕ → ℕ → CodeRead → Reader Body
+abbrev pub behind_code : List Entry → List VType → ℕ → ℕ → ℕ → ℕ → CodeRead → FormatReader Body
 behind_code pool first max_stack max_locals from end (instructions infos) = do
-  ops ← told (ops_of pool from infos)
+  ops ← of_result (ops_of pool from infos)
   handlers ← read_handlers pool (starts_of infos) end
   seen ← counted_attributes pool
       (known_of_code (read_frames pool (starts_of infos) ops max_stack max_locals first)) nothing_seen
@@ -163,7 +165,7 @@ behind_code pool first max_stack max_locals from end (has_left_out offset opcode
   give (None, Some (left_out_kind opcode))
 
 -- the contents of the Code at an offset; first are the locals of the method's initial frame (JVMS 4.7.3)
-unfoldable pub read_code : List Entry → List VType → ℕ → Reader Body
+unfoldable pub read_code : List Entry → List VType → ℕ → FormatReader Body
 read_code pool first attribute = do
   max_stack ← u2
   max_locals ← u2

@@ -4,7 +4,7 @@ use Rattle.std.specs.Prelude.{slice_get, position, nat_eq, nat_le, Option, Some,
 use Rattle.std.specs.Prelude.{Result, Ok, Err, ◌==◌, if◌then◌else◌}
 use Rattle.jv_base.specs.Place.{Place}
 use Rattle.format_reading.specs.Fault.{fault}
-use Rattle.format_reading.specs.Reader.{Reader, u1, u2, lead, item, give, here, settle, many, ◌>>=◌}
+use Rattle.format_reading.specs.Reader.{FormatReader, u1, u2, lead, item, give, here, settle, many, ◌>>=◌}
 use Rattle.format_reading.specs.declared.fault.FormatFault.{FormatFault}
 use Rattle.format_reading.specs.declared.fault.FormatKind.{FormatKind}
 use Rattle.format_reading.specs.declared.fault.FormatKind.TheVariants as bad
@@ -23,19 +23,19 @@ use Rattle.class_model.specs.Lookups.{due, type_at}
 -- ---- rows as they are written
 
 -- behind tag 7: the index of the CONSTANT_Class that names the class or array type (JVMS 4.7.4, Object_variable_info)
-abbrev pub object_info : Reader VerificationTypeInfo
+abbrev pub object_info : FormatReader VerificationTypeInfo
 object_info = do
   cpool_index ← u2
   give (ObjectInfo cpool_index)
 
 -- behind tag 8: the offset of the new that made the object (JVMS 4.7.4, Uninitialized_variable_info)
-abbrev pub uninitialized_info : Reader VerificationTypeInfo
+abbrev pub uninitialized_info : FormatReader VerificationTypeInfo
 uninitialized_info = do
   offset ← u2
   give (UninitializedInfo offset)
 
 -- what the tag of a type begins (JVMS 4.7.4)
-abbrev pub type_begun : ℕ → Result (Reader VerificationTypeInfo) FormatKind
+abbrev pub type_begun : ℕ → Result (FormatReader VerificationTypeInfo) FormatKind
 type_begun tag =
     if tag == 7 then Ok object_info
     else if tag == 8 then Ok uninitialized_info
@@ -43,43 +43,43 @@ type_begun tag =
     else Err bad.BadFrame
 
 -- verification_type_info, where no tag is above 8 (JVMS 4.7.4)
-unfoldable pub read_type : Reader VerificationTypeInfo
+unfoldable pub read_type : FormatReader VerificationTypeInfo
 read_type = lead u1 type_begun
 
 -- same_locals_1_stack_item_frame, 64 to 127: the type on the stack stands right behind the frame_type
-abbrev pub one_item : ℕ → Reader StackMapFrame
+abbrev pub one_item : ℕ → FormatReader StackMapFrame
 one_item frame_type = do
   item ← read_type
   give (SameLocalsOneStackItem frame_type item)
 
 -- same_locals_1_stack_item_frame_extended, 247
-abbrev pub one_item_extended : Reader StackMapFrame
+abbrev pub one_item_extended : FormatReader StackMapFrame
 one_item_extended = do
   offset_delta ← u2
   item ← read_type
   give (SameLocalsOneStackItemExtended offset_delta item)
 
 -- chop_frame, 248 to 250: 251 less the frame_type is how many locals go
-abbrev pub chop : ℕ → Reader StackMapFrame
+abbrev pub chop : ℕ → FormatReader StackMapFrame
 chop frame_type = do
   offset_delta ← u2
   give (ChopFrame frame_type offset_delta)
 
 -- same_frame_extended, 251
-abbrev pub same_extended : Reader StackMapFrame
+abbrev pub same_extended : FormatReader StackMapFrame
 same_extended = do
   offset_delta ← u2
   give (SameFrameExtended offset_delta)
 
 -- append_frame, 252 to 254: the frame_type less 251 is how many locals come
-abbrev pub append : ℕ → Reader StackMapFrame
+abbrev pub append : ℕ → FormatReader StackMapFrame
 append frame_type = do
   offset_delta ← u2
   locals ← many (frame_type - 251) read_type
   give (AppendFrame frame_type offset_delta locals)
 
 -- full_frame, 255: all locals and the whole stack, each behind their count
-abbrev pub full : Reader StackMapFrame
+abbrev pub full : FormatReader StackMapFrame
 full = do
   offset_delta ← u2
   n ← u2
@@ -89,7 +89,7 @@ full = do
   give (FullFrame offset_delta locals stack)
 
 -- what a frame_type begins: 128 to 246 are no forms
-abbrev pub row_begun : ℕ → Result (Reader StackMapFrame) FormatKind
+abbrev pub row_begun : ℕ → Result (FormatReader StackMapFrame) FormatKind
 row_begun frame_type =
     if nat_le frame_type 63 then Ok (give (SameFrame frame_type))
     else if nat_le frame_type 127 then Ok (one_item frame_type)
@@ -106,7 +106,7 @@ at_row at (Ok x) = Ok x
 at_row at (Err f) = Err (fault at f.kind)
 
 -- stack_map_frame; a tag of a type in it that is none is also at fault at the frame_type (JVMS 4.7.4)
-unfoldable pub read_row : Reader StackMapFrame
+unfoldable pub read_row : FormatReader StackMapFrame
 read_row p = at_row p.at (lead u1 row_begun p)
 
 -- ---- what a row stands for
@@ -194,7 +194,7 @@ module _ (pool : List Entry) (starts : List ℕ) (ops : List Op) where
     -- ---- rows
 
     -- a row's frame and the frame before the next row (JVMS 4.7.4)
-    unfoldable pub read_frame : Before → Reader (Bool × FrameAt × Before)
+    unfoldable pub read_frame : Before → FormatReader (Bool × FrameAt × Before)
     read_frame before = do
       at ← here
       row ← read_row
@@ -202,7 +202,7 @@ module _ (pool : List Entry) (starts : List ℕ) (ops : List Op) where
       give (names_float row, frame.0, frame.1)
 
     -- n rows: whether one names a float or a double, and the frames (JVMS 4.7.4)
-    unfoldable pub read_frames_behind : ℕ → Before → Reader (Bool × List FrameAt)
+    unfoldable pub read_frames_behind : ℕ → Before → FormatReader (Bool × List FrameAt)
     read_frames_behind zero before = give (false, [])
     read_frames_behind (suc n) before = do
       first ← read_frame before
@@ -210,7 +210,7 @@ module _ (pool : List Entry) (starts : List ℕ) (ops : List Op) where
       give (first.0 || others.0, first.1 ∷ others.1)
 
     -- the contents of a StackMapTable; first are the locals of the method's initial frame (JVMS 4.7.4)
-    unfoldable pub read_frames : List VType → Reader (Bool × List FrameAt)
+    unfoldable pub read_frames : List VType → FormatReader (Bool × List FrameAt)
     read_frames first = do
       n ← u2
       read_frames_behind n (record { locals = first; offset = None })

@@ -26,7 +26,8 @@ use Rattle.class_model.specs.declared.class.Method.{Method}
 use Rattle.class_model.specs.declared.class.Class.{Class}
 use Rattle.class_model.specs.ConstantPool.{IsFieldText, IsMethodText}
 use Rattle.class_model.specs.Opcodes.{array_type_of}
-use Rattle.class_model.specs.Flags.{class_mask, field_mask, method_mask, meant, is_static, is_native, is_interface}
+use Rattle.class_model.specs.Flags.{class_mask, field_mask, method_mask, defined_flags, is_static, is_native}
+use Rattle.class_model.specs.Flags.{is_interface}
 use Rattle.class_model.specs.Flags.{has_body, is_left_out_class, are_class_flags, are_field_flags, are_method_flags}
 use Rattle.class_model.specs.Flags.{are_initial_flags}
 use Rattle.class_model.specs.Attributes.{IsPlain, IsIntLike}
@@ -49,7 +50,7 @@ IsClassOrArray ty = IsFieldType ty × ((0 < ty.dims) ⊎ ((name : List ℕ) × (
 
 -- all flags mean something (JVMS 4.1, 4.5, 4.6)
 abbrev pub AreMeant : ℕ → ℕ → Type 0
-AreMeant mask flags = meant mask flags ≡ flags
+AreMeant mask flags = defined_flags mask flags ≡ flags
 
 -- ---- instructions
 

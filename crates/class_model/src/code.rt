@@ -1,5 +1,5 @@
 // The code of a method (JVMS 4.7.3).
-use crate::{FrameAt, Op};
+use crate::{Frames, Op};
 use jv_base::{Items, Name};
 
 /// The attribute Code. Its instructions are numbered from 0, and places in it are such numbers.
@@ -13,7 +13,7 @@ pub struct Code {
     /// The exception table: of the handlers that cover an instruction and catch a class the first counts.
     pub handlers: Items<Handler>,
     /// The frames of the attribute StackMapTable, ascending (JVMS 4.7.4).
-    pub frames: Items<FrameAt>,
+    pub frames: Frames,
 }
 
 /// An instruction with its line of the source, as LineNumberTable tells it (JVMS 4.7.12).

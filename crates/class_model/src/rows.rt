@@ -2,10 +2,12 @@
 //
 // Each clause is computed from the definitions. The files are written out in specs/Whole/Rows.antt:
 // their offsets and kinds of fault follow from JVMS 4 and 6.5, and two of them were made by javac.
-ghost use Rattle.class_model.specs.Rows.{IsSpelled, IsRead, IsWritten, IsCutAnywhere, IsTrailed, HeadFaults};
-ghost use Rattle.class_model.specs.Rows.{CodeFaults, CodeLeftOut, MemberFaults, PoolFaults, ClassLeftOut, TIsSpelled};
-ghost use Rattle.class_model.specs.Rows.{TIsRead, CodeLimits, TIsWellFormed, MainIsCanonical, CompiledAreRespelled};
-ghost use Rattle.class_model.specs.Rows.{UnknownOpcodes, PlainIsCanonical, Padding};
+ghost use Rattle.class_model.specs.rows.Rows.{IsSpelled, IsRead, IsWritten, IsCutAnywhere, IsTrailed, HeadFaults};
+ghost use Rattle.class_model.specs.rows.Rows.{CodeFaults, CodeLeftOut, MemberFaults, PoolFaults, ClassLeftOut};
+ghost use Rattle.class_model.specs.rows.Rows.{TIsSpelled};
+ghost use Rattle.class_model.specs.rows.Rows.{TIsRead, CodeLimits, TIsWellFormed, MainIsCanonical};
+ghost use Rattle.class_model.specs.rows.Rows.{CompiledAreRespelled};
+ghost use Rattle.class_model.specs.rows.Rows.{UnknownOpcodes, PlainIsCanonical, Padding};
 
 /// Carries what the definitions give for a few class files. It does nothing.
 pub fn computed_rows()

@@ -15,7 +15,7 @@ use Rattle.lib_table.specs.Lookups as table
 use Rattle.class_pool.specs.declared.id.ClassId.{ClassId}
 use Rattle.class_pool.specs.declared.id.ClassId.TheVariants.{Prog, Lib}
 use Rattle.class_pool.specs.Hierarchy.{class_named, classes_named, or_found}
-use Rattle.class_pool.specs.Numbers.{IsHierarchy, above, number_named, numbers_named}
+use Rattle.class_pool.specs.bodies.Numbers.{IsHierarchy, above, number_named, numbers_named}
 use Rattle.class_pool.specs.Supertypes.{direct}
 use Rattle.class_pool.proofs.Naming.{number_below}
 

@@ -2,10 +2,10 @@
 use Rattle.std.proofs.Common.{refl}
 use Rattle.jv_base.specs.Types.{field_text, method_text, result_text, base_text}
 use Rattle.lib_table.specs.Library.{library}
-use Rattle.class_pool.specs.LinkRows.{SupertypeRows, FieldRows, ClassMethodRows, SuperinterfaceMethodRows}
-use Rattle.class_pool.specs.LinkRows.{InterfaceMethodRows, PackageRows, ClassAccessRows, MemberAccessRows}
-use Rattle.class_pool.specs.LinkRows.{ProtectedRows, OverridingRows, NotOverridingRows, InterfaceSelectionRows}
-use Rattle.class_pool.specs.LinkRows.{SpecialRows}
+use Rattle.class_pool.specs.rows.LinkRows.{SupertypeRows, FieldRows, ClassMethodRows, SuperinterfaceMethodRows}
+use Rattle.class_pool.specs.rows.LinkRows.{InterfaceMethodRows, PackageRows, ClassAccessRows, MemberAccessRows}
+use Rattle.class_pool.specs.rows.LinkRows.{ProtectedRows, OverridingRows, NotOverridingRows, InterfaceSelectionRows}
+use Rattle.class_pool.specs.rows.LinkRows.{SpecialRows}
 use Rattle.class_pool.specs.Walk.{each_once, upwards, walked}
 
 pub supertypes : SupertypeRows

@@ -14,14 +14,15 @@ use Rattle.jv_base.specs.declared.outcome.Or.{Or}
 use Rattle.jv_base.specs.declared.outcome.Or.TheVariants.{Fault, OutOfMemory}
 use Rattle.class_pool.specs.declared.fault.NamedClass.{NamedClass}
 use Rattle.class_pool.specs.declared.fault.PoolFault.{PoolFault}
-use Rattle.class_pool.specs.Faults.{Builds, classes_of, FindsCycle, first_faults, IsFirstCycle, name_faults}
+use Rattle.class_pool.specs.Faults.{Builds, classes_of, first_faults, IsFirstCycle, name_faults}
+use Rattle.class_pool.specs.bodies.Faults.{FindsCycle}
 use Rattle.class_pool.specs.Faults.{super_faults, then_super_faults}
 use Rattle.class_pool.specs.declared.id.ClassId.{ClassId}
 use Rattle.class_pool.specs.declared.id.ClassId.TheVariants.{Prog, Lib}
 use Rattle.mark_core.specs.Ranks.{IsRanked, IsRankedBefore, NoneRises, rank_of}
-use Rattle.class_pool.specs.Cycles.{PassesHierarchy, PassesNames}
-use Rattle.class_pool.specs.Numbers.{IsHierarchy, above}
-use Rattle.class_pool.specs.Lists.{HasRanks}
+use Rattle.class_pool.specs.bodies.Cycles.{PassesHierarchy, PassesNames}
+use Rattle.class_pool.specs.bodies.Numbers.{IsHierarchy, above}
+use Rattle.class_pool.specs.Ranks.{HasRanks}
 use Rattle.class_pool.specs.Supertypes.{IsClosed, IsCyclic, IsProperSub, NoCycle, direct}
 use Rattle.class_pool.proofs.Above.{direct_of, direct_none, down, library_up, lifted, no_needs, up}
 use Rattle.class_pool.proofs.Ranking.{has_ranks, is_lower}

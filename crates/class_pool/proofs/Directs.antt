@@ -15,7 +15,7 @@ use Rattle.lib_table.specs.Lookups as table
 use Rattle.lib_table.proofs.Classes.{class_below}
 use Rattle.class_pool.specs.declared.id.ClassId.{ClassId}
 use Rattle.class_pool.specs.declared.id.ClassId.TheVariants.{Prog, Lib}
-use Rattle.class_pool.specs.Graph.{id_at, number}
+use Rattle.class_pool.specs.bodies.Graph.{id_at, number}
 use Rattle.class_pool.specs.Hierarchy.{IsClass, classes_named, or_found}
 use Rattle.class_pool.specs.Supertypes.{IsProperSub, direct}
 use Rattle.class_pool.proofs.Above.{direct_none, direct_of}

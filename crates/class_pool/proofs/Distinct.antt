@@ -16,7 +16,7 @@ use Rattle.class_model.specs.declared.class.Method.{Method}
 use Rattle.lib_table.specs.Lookups as table
 use Rattle.class_pool.specs.declared.id.ClassId.TheVariants.{Prog, Lib}
 use Rattle.class_pool.specs.Distinct.{MembersDiffer, Once}
-use Rattle.class_pool.specs.Faults.{NamesDiffer}
+use Rattle.class_pool.specs.bodies.Faults.{NamesDiffer}
 use Rattle.class_pool.specs.Hierarchy.{class_named, or_found}
 use Rattle.class_pool.specs.Members.{is_field, is_method}
 use Rattle.class_pool.proofs.LikeMethods.{begins, field_begins}

@@ -10,12 +10,13 @@ use Rattle.std.proofs.lemmas.Map.Text.{is_eq-slice_cmp}
 use Rattle.jv_base.specs.Names.{is_text}
 use Rattle.jv_base.proofs.Equality.{text_Decides}
 use Rattle.class_model.specs.declared.class.Class.{Class}
-use Rattle.lib_table.specs.Stripping.{behind}
+use Rattle.lib_table.specs.bodies.Stripping.{behind}
 use Rattle.lib_table.proofs.Behind.{behind_is, behind_append, behind_whole}
 use Rattle.class_pool.specs.declared.fault.NamedClass.{NamedClass}
 use Rattle.class_pool.specs.declared.fault.PoolFault.{PoolFault}
 use Rattle.class_pool.specs.declared.fault.PoolKind.{PoolKind}
-use Rattle.class_pool.specs.Faults.{Ascends, classes_of, fault_of, first_fault, name_fault, name_faults, NamesDiffer}
+use Rattle.class_pool.specs.Faults.{Ascends, classes_of, fault_of, first_fault, name_fault, name_faults}
+use Rattle.class_pool.specs.bodies.Faults.{NamesDiffer}
 
 whole_of : (o : Option (List ℕ)) (b : List ℕ)
     → option_map_or (λ rest. nat_eq (length rest) 0) (option_and_then (behind b) o) false

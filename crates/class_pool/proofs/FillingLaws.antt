@@ -15,12 +15,13 @@ use Rattle.lib_table.specs.Lookups.{interfaces_of}
 use Rattle.lib_table.proofs.Computed.{count}
 use Rattle.class_pool.specs.declared.id.ClassId.{ClassId}
 use Rattle.class_pool.specs.declared.id.ClassId.TheVariants.{Prog, Lib}
-use Rattle.class_pool.specs.declared.superinterfaces.Filling.{Filling}
-use Rattle.class_pool.specs.Filling.{AreFilled, IsFilling, is_filled}
-use Rattle.class_pool.specs.Graph.{id_at, number}
+use Rattle.class_pool.specs.declared.hierarchy.superinterfaces.Filling.{Filling}
+use Rattle.class_pool.specs.bodies.Filling.{AreFilled, IsFilling, is_filled}
+use Rattle.class_pool.specs.bodies.Graph.{id_at, number}
 use Rattle.class_pool.specs.Hierarchy.{IsClass, class_named, classes_named, interfaces}
-use Rattle.class_pool.specs.Lists.{AreOwn, AreSteps, HasRanks, list_at}
-use Rattle.class_pool.specs.Marked.{Classes, IsBelow}
+use Rattle.class_pool.specs.bodies.Lists.{AreOwn, AreSteps, list_at}
+use Rattle.class_pool.specs.Ranks.{HasRanks}
+use Rattle.class_pool.specs.bodies.Marked.{Classes, IsBelow}
 use Rattle.class_pool.specs.Walk.{each_once, highest, own_superinterfaces, same_class, walked}
 use Rattle.class_pool.proofs.EachOnce.{once_append, once_twice}
 use Rattle.class_pool.proofs.Graphing.{is_there, none_over, some_taken}

@@ -15,7 +15,7 @@ use Rattle.lib_table.specs.Lookups.{class_at, class_named, interfaces_of, super_
 use Rattle.lib_table.proofs.Classes.{class_below, holds_at}
 use Rattle.class_pool.specs.declared.id.ClassId.{ClassId}
 use Rattle.class_pool.specs.declared.id.ClassId.TheVariants.{Prog, Lib}
-use Rattle.class_pool.specs.Graph.{IsThere, above_library, library_ids, number}
+use Rattle.class_pool.specs.bodies.Graph.{IsThere, above_library, library_ids, number}
 use Rattle.class_pool.specs.Hierarchy.{IsClass, classes_named}
 use Rattle.class_pool.specs.Hierarchy as hierarchy
 

@@ -11,6 +11,7 @@ pub mod Graphing
 pub mod Within
 pub mod Directs
 pub mod Listing
+mod LongestName
 pub mod ToldMembers
 pub mod Packages
 pub mod LikeMethods

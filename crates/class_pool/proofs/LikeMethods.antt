@@ -25,7 +25,7 @@ use Rattle.lib_table.specs.declared.member.LibMember.{LibMember}
 use Rattle.lib_table.proofs.Classes.{holds_at}
 use Rattle.class_pool.specs.declared.id.ClassId.{ClassId}
 use Rattle.class_pool.specs.declared.id.ClassId.TheVariants.{Prog, Lib}
-use Rattle.class_pool.specs.Found.{MemberRow, field_row, library_row, method_row, named_at, row_at}
+use Rattle.class_pool.specs.Found.{IsMethod, MemberRow, field_row, library_row, method_row, named_at}
 use Rattle.class_pool.specs.Members.{declared_at, is_field, is_method, member_named, or_method}
 
 pub map_more : {X Y : Type 0} (f : X → Y) (xs : List X) (i : ℕ) (x : X) → i < length xs → x ≡ get_or xs i x
@@ -60,7 +60,7 @@ method_behind (f ∷ fs) ms (suc index) h =
 
 -- what a method of the set is
 pub own_method : (classes : List Class) (n index : ℕ) (c : Class) → slice_get classes n ≡ Some c
-    → IsTrue (option_map_or (λ row. row.is_method) (row_at classes (record { class = Prog n; index = index })) false)
+    → IsMethod classes (record { class = Prog n; index = index })
     → (m : Method) × (length c.fields ≤ index) × (slice_get c.methods (index - length c.fields) ≡ Some m)
     × (named_at classes (record { class = Prog n; index = index }) ≡ (m.name, method_text m.ty))
 own_method classes n index c is h =
@@ -86,14 +86,14 @@ library_in kind (m ∷ ms) zero h = (m, refl, refl, h)
 library_in kind (m ∷ ms) (suc at) h = library_in kind ms at h
 
 pub library_method : (classes : List Class) (id at : ℕ)
-    → IsTrue (option_map_or (λ row. row.is_method) (row_at classes (record { class = Lib id; index = at })) false)
+    → IsMethod classes (record { class = Lib id; index = at })
     → IsTrue (option_map_or (λ m. m.is_method) (slice_get (table.class_at id).members at) false)
 library_method classes id at h =
     let p = library_in (table.class_at id).kind (table.class_at id).members at h in
     ap (λ (o : Option LibraryMember). option_map_or (λ m. m.is_method) o false) p.1 ∙ p.3
 
 pub library_named : (classes : List Class) (c : ClassId) (id at : ℕ)
-    → IsTrue (option_map_or (λ row. row.is_method) (row_at classes (record { class = Lib id; index = at })) false)
+    → IsMethod classes (record { class = Lib id; index = at })
     → option_and_then (λ m. declared_at classes c m.name m.descriptor) (slice_get (table.class_at id).members at)
     ≡ declared_at classes c (named_at classes (record { class = Lib id; index = at })).0
     (named_at classes (record { class = Lib id; index = at })).1

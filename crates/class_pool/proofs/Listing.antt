@@ -4,7 +4,7 @@ use Rattle.std.proofs.lemmas.Bool.{le-ltb, lt-ltb}
 use Rattle.std.proofs.lemmas.Option.{get_or_from_slice_get}
 use Rattle.lib_table.specs.Library.{library}
 use Rattle.class_pool.specs.declared.id.ClassId.TheVariants.{Prog, Lib}
-use Rattle.class_pool.specs.Graph.{id_at, library_ids}
+use Rattle.class_pool.specs.bodies.Graph.{id_at, library_ids}
 use Rattle.class_pool.proofs.Graphing.{library_at, library_length}
 
 pub low_at : (ids : List ℕ) (k x : ℕ) → ids ≡ library_ids → slice_get ids k ≡ Some x → k < length ids → Lib x ≡ id_at k

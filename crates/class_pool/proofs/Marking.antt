@@ -7,8 +7,8 @@ use Rattle.std.proofs.lemmas.List.{append-nil, get_or_default}
 use Rattle.lib_table.specs.Library.{library}
 use Rattle.class_pool.specs.declared.id.ClassId.{ClassId}
 use Rattle.class_pool.specs.declared.id.ClassId.TheVariants.{Prog, Lib}
-use Rattle.class_pool.specs.Graph.{IsThere, id_at, number}
-use Rattle.class_pool.specs.Marked.{IsBelow, IsMarked}
+use Rattle.class_pool.specs.bodies.Graph.{IsThere, id_at, number}
+use Rattle.class_pool.specs.bodies.Marked.{IsBelow, IsMarked}
 use Rattle.class_pool.specs.Walk.{each_once}
 use Rattle.class_pool.proofs.EachOnce.{once_one}
 

@@ -13,9 +13,9 @@ use Rattle.jv_base.specs.Types.{field_text, method_text}
 use Rattle.class_model.specs.declared.class.Class.{Class}
 use Rattle.class_model.specs.declared.class.Field.{Field}
 use Rattle.class_model.specs.declared.class.Method.{Method}
-use Rattle.class_pool.specs.ByName.{IsIndexOf, named_in}
+use Rattle.class_pool.specs.bodies.ByName.{IsIndexOf, named_in}
 use Rattle.class_pool.specs.Members.{is_field, is_method, member_named, or_method}
-use Rattle.class_pool.specs.declared.members.MemberIndex.{MemberIndex}
+use Rattle.class_pool.specs.declared.set.members.MemberIndex.{MemberIndex}
 
 -- ---- the first member of a name and a descriptor
 

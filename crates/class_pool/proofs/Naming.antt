@@ -9,7 +9,7 @@ use Rattle.indexmap.specs.IndexSet.{insert_key}
 use Rattle.jv_base.specs.Names.{is_text}
 use Rattle.jv_base.proofs.Equality.{text_Decides}
 use Rattle.class_model.specs.declared.class.Class.{Class}
-use Rattle.class_pool.specs.Faults.{NamesDiffer}
+use Rattle.class_pool.specs.bodies.Faults.{NamesDiffer}
 use Rattle.lib_table.proofs.Classes.{position_map}
 
 abbrev pub name_of : Class → List ℕ

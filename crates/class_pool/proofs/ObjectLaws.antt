@@ -26,10 +26,10 @@ use Rattle.class_pool.specs.declared.id.ClassId.TheVariants.{Prog, Lib}
 use Rattle.class_pool.specs.Faults.{Builds, classes_of, then_super_faults, is_super_missing, is_super_wrong}
 use Rattle.class_pool.specs.Faults.{is_wrong_interface, is_wrong_superclass, name_fault, name_faults, super_fault}
 use Rattle.class_pool.specs.Faults.{super_faults}
-use Rattle.class_pool.specs.Graph.{library_ids}
+use Rattle.class_pool.specs.bodies.Graph.{library_ids}
 use Rattle.class_pool.specs.Hierarchy.{IsClass, class_named, classes_named, interfaces, is_interface_kind, kind_in}
 use Rattle.class_pool.specs.Hierarchy.{kind_of, or_found, superclass}
-use Rattle.class_pool.specs.Lists.{HasObject}
+use Rattle.class_pool.specs.Ranks.{HasObject}
 use Rattle.class_pool.proofs.FaultLaws.{none_at}
 
 abbrev object_name : List ℕ

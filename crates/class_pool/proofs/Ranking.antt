@@ -13,10 +13,10 @@ use Rattle.lib_table.specs.Lookups as table
 use Rattle.lib_table.proofs.Classes.{holds_at}
 use Rattle.class_pool.specs.declared.id.ClassId.{ClassId}
 use Rattle.class_pool.specs.declared.id.ClassId.TheVariants.{Prog, Lib}
-use Rattle.class_pool.specs.Cycles.{HasTest}
-use Rattle.class_pool.specs.Graph.{above_library, library_ids}
+use Rattle.class_pool.specs.bodies.Cycles.{HasTest}
+use Rattle.class_pool.specs.bodies.Graph.{above_library, library_ids}
 use Rattle.class_pool.specs.Hierarchy.{IsClass}
-use Rattle.class_pool.specs.Lists.{HasRanks}
+use Rattle.class_pool.specs.Ranks.{HasRanks}
 use Rattle.class_pool.specs.Supertypes.{IsProperSub, NoCycle, direct}
 use Rattle.class_pool.proofs.Above.{lifted}
 use Rattle.class_pool.proofs.EachOnce.{bool_cases}

@@ -19,7 +19,7 @@ use Rattle.std.proofs.lemmas.Map.Text.{is_eq-slice_cmp}
 use Rattle.jv_base.specs.Names.{is_text}
 use Rattle.jv_base.proofs.Equality.{text_Decides}
 use Rattle.class_model.specs.declared.class.Class.{Class}
-use Rattle.class_pool.specs.ByName.{HasKeys, IsPlace, Key, is_before, key_cmp, key_of, named_in, number_at}
+use Rattle.class_pool.specs.bodies.ByName.{HasKeys, IsPlace, Key, is_before, key_cmp, key_of, named_in, number_at}
 use Rattle.class_pool.specs.Members.{member_named}
 use Rattle.class_pool.proofs.NamedMembers.{first_below, is_wanted, member_first}
 

@@ -14,12 +14,14 @@ use Rattle.lib_table.specs.Library.{library}
 use Rattle.lib_table.proofs.Computed.{count}
 use Rattle.class_pool.specs.declared.id.ClassId.{ClassId}
 use Rattle.class_pool.specs.Hierarchy.{IsClass, interfaces, superclass}
-use Rattle.class_pool.specs.Lists.{AreOwn, HasObject, HasRanks, list_at}
-use Rattle.class_pool.specs.Supers.{IsSupers, is_self_or_own, is_below}
+use Rattle.class_pool.specs.bodies.Lists.{AreOwn, list_at}
+use Rattle.class_pool.specs.Ranks.{HasObject, HasRanks}
+use Rattle.class_pool.specs.Supers.{IsSupers, is_below}
+use Rattle.class_pool.specs.bodies.Supers.{is_self_or_own}
 use Rattle.class_pool.specs.Supertypes.{IsProperSub, Sub, direct}
 use Rattle.class_pool.specs.Walk.{each_once, highest, own_superinterfaces, same_class, superclasses_from}
 use Rattle.class_pool.specs.Walk.{superinterfaces, supers, upwards, walked}
-use Rattle.class_pool.specs.Marked.{IsBelow}
+use Rattle.class_pool.specs.bodies.Marked.{IsBelow}
 use Rattle.class_pool.proofs.Among.{any_once}
 use Rattle.class_pool.proofs.EachOnce.{bool_cases, same_is, same_itself}
 use Rattle.class_pool.proofs.FillingLaws.{below_all, once_then}

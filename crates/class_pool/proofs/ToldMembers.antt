@@ -13,43 +13,43 @@ use Rattle.lib_table.specs.Lookups.{class_at, is_member, member_told}
 use Rattle.class_pool.specs.declared.id.ClassId.{ClassId}
 use Rattle.class_pool.specs.declared.id.ClassId.TheVariants.{Prog, Lib}
 use Rattle.class_pool.specs.Members.{declared_at, is_field, is_method, member_named, or_method}
-use Rattle.class_pool.specs.declared.found.Told.{Told}
+use Rattle.class_pool.specs.declared.set.found.MemberFacts.{MemberFacts}
 use Rattle.class_pool.specs.Found.{MemberRow, field_row, is_instance_row, library_row, method_row, rows_in}
-use Rattle.class_pool.specs.ToldMembers.{told}
+use Rattle.class_pool.specs.bodies.ToldMembers.{facts_of}
 
-told_is : (o : Option MemberRow) (t : Told) → option_map told o ≡ Some t
-    → (row : MemberRow) × (o ≡ Some row) × (told row ≡ t)
+told_is : (o : Option MemberRow) (t : MemberFacts) → option_map facts_of o ≡ Some t
+    → (row : MemberRow) × (o ≡ Some row) × (facts_of row ≡ t)
 told_is (Some row) t h = (row, refl, cc)
 told_is None t h = absurd cc
 
 -- a flag of the member
-pub told_flag : (wanted : ℕ) (o : Option MemberRow) (t : Told) → option_map told o ≡ Some t
+pub told_flag : (wanted : ℕ) (o : Option MemberRow) (t : MemberFacts) → option_map facts_of o ≡ Some t
     → has wanted t.flags.0 ≡ option_map_or (λ row. has wanted row.flags) o false
 told_flag wanted o t h =
     let p = told_is o t h in
     sym (ap (λ (x : Option MemberRow). option_map_or (λ row. has wanted row.flags) x false) p.1
-    ∙ ap (λ (x : Told). has wanted x.flags.0) p.2)
+    ∙ ap (λ (x : MemberFacts). has wanted x.flags.0) p.2)
 
-pub told_method : (o : Option MemberRow) (t : Told) → option_map told o ≡ Some t
+pub told_method : (o : Option MemberRow) (t : MemberFacts) → option_map facts_of o ≡ Some t
     → t.is_method ≡ option_map_or (λ row. row.is_method) o false
 told_method o t h =
     let p = told_is o t h in
     sym (ap (λ (x : Option MemberRow). option_map_or (λ row. row.is_method) x false) p.1
-    ∙ ap (λ (x : Told). x.is_method) p.2)
+    ∙ ap (λ (x : MemberFacts). x.is_method) p.2)
 
-pub told_init : (o : Option MemberRow) (t : Told) → option_map told o ≡ Some t
+pub told_init : (o : Option MemberRow) (t : MemberFacts) → option_map facts_of o ≡ Some t
     → t.is_init ≡ is_init (option_map_or (λ row. row.named) o ([], [])).0
 told_init o t h =
     let p = told_is o t h in
     sym (ap (λ (x : Option MemberRow). is_init (option_map_or (λ row. row.named) x ([], [])).0) p.1
-    ∙ ap (λ (x : Told). x.is_init) p.2)
+    ∙ ap (λ (x : MemberFacts). x.is_init) p.2)
 
-pub told_instance : (o : Option MemberRow) (t : Told) → option_map told o ≡ Some t
+pub told_instance : (o : Option MemberRow) (t : MemberFacts) → option_map facts_of o ≡ Some t
     → (t.is_method && not (is_static t.flags.0) && not t.is_init) ≡ option_map_or is_instance_row o false
 told_instance o t h =
     let p = told_is o t h in
     sym (ap (λ (x : Option MemberRow). option_map_or is_instance_row x false) p.1
-    ∙ ap (λ (x : Told). x.is_method && not (is_static x.flags.0) && not x.is_init) p.2)
+    ∙ ap (λ (x : MemberFacts). x.is_method && not (is_static x.flags.0) && not x.is_init) p.2)
 
 -- ---- the numbers of members
 

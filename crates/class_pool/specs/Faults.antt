@@ -1,7 +1,7 @@
 -- What makes files no set: three rounds, each over all classes in set order, the first fault counting
 -- (the project's own: which files are taken as a set).
-use Rattle.std.specs.Prelude.{◌≡◌, ◌≢◌, ◌<◌, ◌⊎◌, slice_get, ℕ, nat_eq, Bool, true, false, not, ◌&&◌, ◌||◌}
-use Rattle.std.specs.Prelude.{List, [], ◌∷◌, ◌++◌, length, map, codes, Option, Some, None, Result, Ok, Err}
+use Rattle.std.specs.Prelude.{◌≡◌, ◌<◌, ◌⊎◌, slice_get, ℕ, nat_eq, Bool, true, false, not, ◌&&◌, ◌||◌}
+use Rattle.std.specs.Prelude.{List, [], ◌∷◌, ◌++◌, map, codes, Option, Some, None, Result, Ok, Err}
 use Rattle.std.specs.Prelude.{if◌then◌else◌}
 use Rattle.std.specs.List.{AllPairs, list_any, starts_with}
 use Rattle.std.specs.Option.{is_none, option_map_or}
@@ -92,27 +92,12 @@ then_super_faults files (Ok _) = super_faults (classes_of files)
 abbrev pub first_faults : List NamedClass → Result (Unit {0}) PoolFault
 first_faults files = then_super_faults files (name_faults files)
 
--- no two classes have one name (only the proof of build needs it)
-abbrev pub NamesDiffer : List Class → Type 0
-NamesDiffer classes = AllPairs (λ a b. a.name ≢ b.name) classes
-
--- the first class that is its own proper supertype; there may be none (only the proof of build needs it)
-abbrev pub IsFirstCyclic : List Class → Option ℕ → Type 0
-IsFirstCyclic classes None = NoCycle classes
-IsFirstCyclic classes (Some n) = (n < length classes) × IsCyclic classes n × ((m : ℕ) → m < n → IsCyclic classes m → ⊥)
-
 -- third round: the fault names it (JVMS 5.3.5, ClassCircularityError)
 abbrev pub IsFirstCycle : List Class → PoolFault → Type 0
 IsFirstCycle classes f =
     (n : ℕ) × (c : Class) × (slice_get classes n ≡ Some c) × (f ≡ record { class = c.name; kind = Cycle })
     × IsCyclic classes n
     × ((m : ℕ) → m < n → IsCyclic classes m → ⊥)
-
--- no class is its own proper supertype, or the fault names the first that is (only the proof of build needs it)
-abbrev pub FindsCycle : {T : Type 0} → List Class → Result T (Or PoolFault) → Type 0
-FindsCycle classes (Ok _) = NoCycle classes
-FindsCycle classes (Err (Fault f)) = IsFirstCycle classes f
-FindsCycle classes (Err OutOfMemory) = Unit {0}
 
 -- the classes of the files, where no round has a fault; else the first fault
 abbrev pub Builds : Result (List Class) (Or PoolFault) → List NamedClass → Type 0

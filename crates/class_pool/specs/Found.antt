@@ -1,7 +1,7 @@
 -- Members as they are found, with what links ask of them (JVMS 4.5, 4.6, 4.2.1, 5.3). Of a member that isn't there
 -- nothing that is said matters.
 use Rattle.std.specs.Prelude.{◌<◌, ℕ, ◌+◌, ◌==◌, Bool, true, false, not, ◌&&◌, List, [], ◌++◌, length, map, Option}
-use Rattle.std.specs.Prelude.{slice_get, if◌then◌else◌}
+use Rattle.std.specs.Prelude.{slice_get, if◌then◌else◌, IsTrue}
 use Rattle.std.specs.List.{before_last, filter_map}
 use Rattle.std.specs.Option.{option_map, option_map_or}
 use Rattle.jv_base.specs.Names.{is_text}
@@ -75,6 +75,13 @@ rows_in classes (Lib id) = map (library_row (table.class_at id).kind) (table.cla
 -- what is told of a member, if it is there (JVMS 4.5, 4.6)
 abbrev pub row_at : List Class → MemberAt → Option MemberRow
 row_at classes m = slice_get (rows_in classes m.class) m.index
+
+-- it is a method and not a field (JVMS 4.6)
+abbrev pub is_method_at : List Class → MemberAt → Bool
+is_method_at classes m = option_map_or (λ row. row.is_method) (row_at classes m) false
+
+abbrev pub IsMethod : List Class → MemberAt → Type 0
+IsMethod classes m = IsTrue (is_method_at classes m)
 
 -- the name and the descriptor of a member (JVMS 4.4.6)
 abbrev pub named_at : List Class → MemberAt → NameAndType

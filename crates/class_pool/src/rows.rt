@@ -2,10 +2,10 @@
 //
 // Each clause is computed from the definitions. The classes are written out in specs/LinkRows.antt; what is asked of
 // them follows from JVMS 5.4.3 to 5.4.5. Not all of them could stand in one program.
-ghost use Rattle.class_pool.specs.LinkRows.{ClassAccessRows, ClassMethodRows, FieldRows, InterfaceMethodRows};
-ghost use Rattle.class_pool.specs.LinkRows.{InterfaceSelectionRows, MemberAccessRows, NotOverridingRows};
-ghost use Rattle.class_pool.specs.LinkRows.{OverridingRows, PackageRows, ProtectedRows, SpecialRows};
-ghost use Rattle.class_pool.specs.LinkRows.{SuperinterfaceMethodRows, SupertypeRows};
+ghost use Rattle.class_pool.specs.rows.LinkRows.{ClassAccessRows, ClassMethodRows, FieldRows, InterfaceMethodRows};
+ghost use Rattle.class_pool.specs.rows.LinkRows.{InterfaceSelectionRows, MemberAccessRows, NotOverridingRows};
+ghost use Rattle.class_pool.specs.rows.LinkRows.{OverridingRows, PackageRows, ProtectedRows, SpecialRows};
+ghost use Rattle.class_pool.specs.rows.LinkRows.{SuperinterfaceMethodRows, SupertypeRows};
 
 /// Carries what the definitions give for a few classes. It does nothing.
 pub fn computed_links()

@@ -2,18 +2,28 @@
 ghost use Rattle.std.specs.Prelude.{◌≡◌, ◌+◌, [], ◌<◌, ◌↔◌, IsTrue, codes, length, slice_get, IfOk, IfSome, Some};
 ghost use Rattle.std.specs.List.{All};
 ghost use Rattle.class_pool.specs.Hierarchy.{IsClass, class_named, superclass};
-ghost use Rattle.class_pool.specs.Lists.{HasRanks};
+ghost use Rattle.class_pool.specs.Ranks.{HasRanks};
 ghost use Rattle.class_pool.specs.Members.{declared_at};
-ghost use Rattle.class_pool.specs.Supers.{IsSupers, is_self_or_own};
+ghost use Rattle.class_pool.specs.Supers.{IsSupers};
+ghost use Rattle.class_pool.specs.bodies.Supers.{is_self_or_own};
 ghost use Rattle.class_pool.specs.Supertypes.{NoCycle, Sub};
 ghost use Rattle.class_pool.specs.Walk.{each_once, own_superinterfaces, supers};
 
+pub mod descriptors;
+pub mod found;
+pub mod kind;
+pub mod lookup;
+pub mod members;
+pub mod method_like;
+pub mod order;
+pub mod package;
+
 use crate::ClassId;
-use crate::graph::number;
+use crate::hierarchy::graph::number;
 use crate::id::{has_class, is_same_class};
-use crate::lookup::ClassesByName;
-use crate::members::MemberIndex;
-use crate::supers::supers_of;
+use crate::set::lookup::ClassesByName;
+use crate::set::members::MemberIndex;
+use crate::hierarchy::supers::supers_of;
 use class_model::Class;
 use jv_base::{Items, M, Name, Text};
 use lib_table::{LibId, lib_member, lib_super};
@@ -40,11 +50,12 @@ impl Model for ClassSet {
     ghost use Rattle.std.specs.Prelude.{List, codes, ◌≡◌, map};
     ghost use Rattle.std.specs.List.{AllZip};
     ghost use Rattle.class_model.specs.declared.class.Class.{Class};
-    ghost use Rattle.class_pool.specs.ByName.{IsIndexOf};
-    ghost use Rattle.class_pool.specs.Descriptors.{method_texts};
-    ghost use Rattle.class_pool.specs.Graph.{library_ids};
+    ghost use Rattle.class_pool.specs.bodies.ByName.{IsIndexOf};
+    ghost use Rattle.class_pool.specs.bodies.Descriptors.{method_texts};
+    ghost use Rattle.class_pool.specs.bodies.Graph.{library_ids};
     ghost use Rattle.class_pool.specs.Hierarchy.{class_named, superclass_of};
-    ghost use Rattle.class_pool.specs.Lists.{AreOwn, HasObject, HasRanks};
+    ghost use Rattle.class_pool.specs.bodies.Lists.{AreOwn};
+    ghost use Rattle.class_pool.specs.Ranks.{HasObject, HasRanks};
     ghost use Rattle.class_pool.specs.Supertypes.{NoCycle};
 
     ghost Value = { List Class };
@@ -176,7 +187,8 @@ impl ClassSet {
         supers_of(alloc, &self.classes, &self.library, superinterfaces, id)
     }
 
-    /// The number of the member that the class declares with a name and a descriptor (JVMS 4.3). A program class has its
+    /// The number of the member that the class declares with a name and a descriptor (JVMS 4.3). A program class has
+    /// its
     /// fields and then its methods; its members are searched in the order of names and descriptors. It takes no memory.
     pub fn declares(&self, id: ClassId, name: &Name, ty: &Text) -> Option<u32>
         requires { IsClass self.now id }

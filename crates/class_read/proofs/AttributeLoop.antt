@@ -4,13 +4,13 @@ use Rattle.jv_base.specs.Place.{Place}
 use Rattle.jv_base.specs.declared.outcome.Or.{Or}
 use Rattle.jv_base.specs.declared.outcome.Or.TheVariants.{Fault, OutOfMemory}
 use Rattle.format_reading.specs.declared.fault.FormatFault.{FormatFault}
-use Rattle.format_reading.specs.Reader.{Reader, ReadsOr, bind, give}
+use Rattle.format_reading.specs.Reader.{FormatReader, ReadsOr, bind, give}
 use Rattle.class_model.specs.declared.pool.Entry.{Entry}
 use Rattle.class_model.specs.ReadingAttributes.{attribute, attributes}
 
 -- which attributes are read, and how
 abbrev Known : Type 0 → Type 0
-Known S = ℕ → List ℕ → ℕ → S → Option (Reader S)
+Known S = ℕ → List ℕ → ℕ → S → Option (FormatReader S)
 
 next_is : {S : Type 0} (k : ℕ) (pool : List Entry) (known : Known S) (seen now : S) (p after : Place)
     → attribute pool known seen p ≡ Ok (now, after)

@@ -2,7 +2,7 @@
 use Rattle.std.proofs.Common.{◌≡◌, ℕ, ◌+◌, List, [], ◌∷◌, length, Result, Ok, Err, refl, ap}
 use Rattle.jv_base.specs.Place.{Place}
 use Rattle.format_reading.specs.declared.fault.FormatFault.{FormatFault}
-use Rattle.format_reading.specs.Reader.{bind, give, told}
+use Rattle.format_reading.specs.Reader.{bind, give, of_result}
 use Rattle.class_model.specs.declared.pool.Entry.{Entry}
 use Rattle.class_model.specs.declared.op.Op.{Op}
 use Rattle.class_model.specs.declared.code.Ins.{Ins}
@@ -12,8 +12,8 @@ use Rattle.class_model.specs.InstructionStructure.{Info, info_bytes, starts_from
 use Rattle.class_model.specs.LineNumbers.{LineNumber, line_at}
 use Rattle.class_model.specs.ReadingCode.{instructions, ops_of}
 use Rattle.class_model.specs.ReadingCodeAttribute.{Body, CodeSeen, with_lines, code_of, behind_code, read_handlers}
-use Rattle.class_read.specs.Lines.{lined}
-use Rattle.class_read.specs.CodeAttributes.{code_with, behind_instructions}
+use Rattle.class_read.specs.bodies.Lines.{lined}
+use Rattle.class_read.specs.bodies.CodeAttributes.{code_with, behind_instructions}
 use Rattle.class_read.proofs.CodeParts.{seen_behind}
 
 -- each instruction has its line by where it begins
@@ -57,16 +57,16 @@ module _ (pool : List Entry) (first : List VType) (max_stack max_locals from end
 
   -- the same where the instructions have their targets, or one has none
   told_same : (ops : Result (List Op) FormatFault) (p : Place)
-      → bind (told ops) (λ os. bind (read_handlers pool (starts_of infos) end)
+      → bind (of_result ops) (λ os. bind (read_handlers pool (starts_of infos) end)
       (λ handlers. bind (seen_behind pool first max_stack max_locals end (starts_of infos) os)
       (λ s. give (code_of max_stack max_locals infos os handlers s)))) p
-      ≡ bind (told ops) (λ os. behind_instructions pool first max_stack max_locals end (starts_of infos) os) p
-  unfolding bind told
+      ≡ bind (of_result ops) (λ os. behind_instructions pool first max_stack max_locals end (starts_of infos) os) p
+  unfolding bind of_result
   told_same (Ok os) p = table_same os p _ refl
   told_same (Err f) p = refl
 
   -- what stands behind a code is, after its targets, what stands behind its instructions
   pub behind_code_is : (p : Place) → behind_code pool first max_stack max_locals from end (instructions infos) p
-      ≡ bind (told (ops_of pool from infos))
+      ≡ bind (of_result (ops_of pool from infos))
       (λ ops. behind_instructions pool first max_stack max_locals end (starts_of infos) ops) p
   behind_code_is p = told_same (ops_of pool from infos) p

@@ -7,11 +7,11 @@ use Rattle.std.specs.List.{AllZip, flat_map, list_any}
 use Rattle.std.proofs.lemmas.Bool.{eqb-false, ne_eqb, ltb-true, lt-ltb}
 use Rattle.format_reading.specs.declared.fault.FormatKind.{FormatKind}
 use Rattle.format_reading.specs.declared.fault.FormatKind.TheVariants as bad
-use Rattle.format_reading.specs.Reader.{Reader, u2, u4, bind, give, here, item, part}
+use Rattle.format_reading.specs.Reader.{FormatReader, u2, u4, bind, give, here, item, part}
 use Rattle.format_reading.specs.Spelling.{Spells, AllStand}
 use Rattle.jv_base.specs.Place.{Place, after}
 use Rattle.format_reading.proofs.Exact.{Exact, Takes, Takes-then, Takes-split, fits_on, bind_ok, bind_is, as_raw}
-use Rattle.format_reading.proofs.Exact.{bind_exact, bind_exact_of, map_exact, item_exact, told_exact, u2_exact}
+use Rattle.format_reading.proofs.Exact.{bind_exact, bind_exact_of, map_exact, item_exact, of_result_exact, u2_exact}
 use Rattle.format_reading.proofs.Exact.{u4_exact}
 use Rattle.class_model.specs.declared.pool.Entry.{Entry}
 use Rattle.class_model.specs.declared.op.Op.{Op}
@@ -42,6 +42,7 @@ use Rattle.class_model.proofs.LeftOutLaw.{code_part_exact, in_place_found, in_pl
 use Rattle.class_model.proofs.LeftOutLaw as left_law
 use Rattle.class_model.proofs.UntilLaw.{IsCodeFrom}
 use Rattle.class_model.proofs.MethodInfoLaw.{Bodies}
+use Rattle.class_model.proofs.BackRead.{here_is}
 use Rattle.class_read.proofs.FrameLaw.{AreRows, frames_exact}
 use Rattle.class_read.proofs.StandsLaw.{rows_found, rows_only}
 use Rattle.class_read.proofs.HandlerLaw.{NoneAtZero, table_exact}
@@ -132,7 +133,8 @@ module _ (pool : List Entry) (units : HaveUnits pool) (unnamed : NoneAtZero pool
       (λ handlers. bind (counted_attributes pool (known_of_code
       (read_frames pool (starts_of infos) ops max_stack max_locals first)) nothing_seen)
       (λ seen. give (code_of max_stack max_locals infos ops handlers seen))))
-      tail_bytes (λ ops _ v y. BehindOps max_stack max_locals n infos ops v y) (told_exact (ops_of pool from infos))
+      tail_bytes (λ ops _ v y. BehindOps max_stack max_locals n infos ops v y)
+      (of_result_exact (ops_of pool from infos))
       (λ ops. ops_exact max_stack max_locals n infos ops whole short))
 
   -- what stands behind what was read of the code
@@ -153,7 +155,7 @@ module _ (pool : List Entry) (units : HaveUnits pool) (unnamed : NoneAtZero pool
   -- ---- the code and what stands behind it
 
   -- the reader, from an offset
-  abbrev reads_from : ℕ → ℕ → ℕ → ℕ → ℕ → Reader Body
+  abbrev reads_from : ℕ → ℕ → ℕ → ℕ → ℕ → FormatReader Body
   reads_from attribute max_stack max_locals n from = bind (part attribute n (until_end n pool from (from + n)))
       (λ read. behind_code pool first max_stack max_locals from n read)
 
@@ -161,10 +163,6 @@ module _ (pool : List Entry) (units : HaveUnits pool) (unnamed : NoneAtZero pool
   abbrev CodeAndTables : ℕ → ℕ → ℕ → ℕ → List ℕ × (List ExceptionInfo × List AttributeInfo) → Body → Type 0
   CodeAndTables max_stack max_locals n at v y = (read : CodeRead) × (length v.0 ≡ n) × IsCodeFrom pool 0 v.0 read
       × Behind max_stack max_locals at n read v.1 y
-
-  here_is : (p : Place) → here p ≡ Ok (p.at, p)
-  unfolding here
-  here_is p = refl
 
   code_exact : (attribute max_stack max_locals n : ℕ) → n < 2 ^ 16
       → Exact (bind here (λ from. reads_from attribute max_stack max_locals n from))
@@ -255,7 +253,8 @@ module _ (pool : List Entry) (units : HaveUnits pool) (unnamed : NoneAtZero pool
 
   -- the sizes
   abbrev raw_of : ℕ → ℕ → List ℕ → List ExceptionInfo × List AttributeInfo → CodeInfo
-  raw_of max_stack max_locals code v = record { max_stack = max_stack; max_locals = max_locals; code = code; exception_table = v.0; attributes = v.1 }
+  raw_of max_stack max_locals code v = record
+      { max_stack = max_stack; max_locals = max_locals; code = code; exception_table = v.0; attributes = v.1 }
 
   -- what was read is what the structure stands for
   body_there : (max_stack max_locals n at : ℕ) (code : List ℕ) (v : List ExceptionInfo × List AttributeInfo) (y : Body)
@@ -272,7 +271,14 @@ module _ (pool : List Entry) (units : HaveUnits pool) (unnamed : NoneAtZero pool
       let ins : List Ins = with_lines seen.lines 0 infos ops in
       let f = frames_there max_stack max_locals infos ops ins (named pool (codes "StackMapTable") v.1) seen.map
       (ops_are seen.lines (IsOp (Begins (starts_of infos)) pool) 0 infos ops meant.1) all.map in
-      let made : Code = record { max_stack = max_stack; max_locals = max_locals; ins = ins; handlers = handlers; frames = frames_of seen.map } in
+      let made : Code = record {
+        max_stack = max_stack;
+        max_locals = max_locals;
+        ins = ins;
+        handlers = handlers;
+        frames
+            = frames_of seen.map;
+      } in
       let code-is : IsCode pool first raw made (left_out_of seen.map) = record {
         sizes = record {
           max_stack_fits = fit-stack;
@@ -335,10 +341,17 @@ module _ (pool : List Entry) (units : HaveUnits pool) (unnamed : NoneAtZero pool
       (named pool (codes "StackMapTable") raw.attributes) c.rows code.frames refl c.map c.frames in
       let seen : CodeSeen = record { lines = c.lines; map = f.0 } in
       let all : AreCodeAttributes pool
-      (FramesSay raw.max_stack raw.max_locals c.infos ops) raw.attributes seen = record { attributes = c.attributes; lines = c.line_tables; map = f.1 } in
+      (FramesSay raw.max_stack raw.max_locals c.infos ops) raw.attributes seen = record
+      { attributes = c.attributes; lines = c.line_tables; map = f.1 } in
       let whole : (let b : Body = (Some code, left_out) in b)
       ≡ code_of raw.max_stack raw.max_locals c.infos ops code.handlers seen = λ i. (
-        Some (record { max_stack = c.max_stack i; max_locals = c.max_locals i; ins = l.1 i; handlers = code.handlers; frames = (sym f.2) i }),
+        Some (record {
+          max_stack = c.max_stack i;
+          max_locals = c.max_locals i;
+          ins = l.1 i;
+          handlers = code.handlers;
+          frames = (sym f.2) i;
+        }),
         (c.floats ∙ sym f.3) i,
       ) in (
         raw,
@@ -403,7 +416,7 @@ module _ (pool : List Entry) (units : HaveUnits pool) (unnamed : NoneAtZero pool
       (λ (k : ℕ). to_be_bytes w16 v.0 ++
       (to_be_bytes w16 v.1.0 ++ (to_be_bytes w32 k ++ (v.1.1.1.0 ++ tail_bytes v.1.1.1.1)))) (is ∙ sym len)
 
-  reads_length : ℕ → ℕ → ℕ → Reader Body
+  reads_length : ℕ → ℕ → ℕ → FormatReader Body
   reads_length attribute max_stack max_locals = bind (item u4 code_length)
       (λ n. bind here (λ from. reads_from attribute max_stack max_locals n from))
 

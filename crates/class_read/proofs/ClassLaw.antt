@@ -10,7 +10,7 @@ use Rattle.format_reading.specs.Fault.{fault}
 use Rattle.format_reading.specs.declared.fault.FormatFault.{FormatFault}
 use Rattle.format_reading.specs.declared.fault.FormatKind.{FormatKind}
 use Rattle.format_reading.specs.declared.fault.FormatKind.TheVariants as bad
-use Rattle.format_reading.specs.Reader.{Reader, u2, item, bind, give}
+use Rattle.format_reading.specs.Reader.{FormatReader, u2, item, bind, give}
 use Rattle.format_reading.specs.Spelling.{Spells}
 use Rattle.format_reading.proofs.Exact.{Exact, Takes, IsBytes, left, as_raw, bind_exact, bind_exact_of, item_exact}
 use Rattle.format_reading.proofs.Exact.{map_exact, u2_exact, u4_exact, guard_closed}
@@ -23,7 +23,7 @@ use Rattle.class_model.specs.declared.class.LeftKind.{LeftKind}
 use Rattle.class_model.specs.Pool.{IsClassAt}
 use Rattle.class_model.specs.Structure.{AttributeInfo, MemberInfo, member_info, head}
 use Rattle.class_model.specs.ConstantPool.{CpInfo, places_of, IsPool}
-use Rattle.class_model.specs.Flags.{class_mask, meant, are_class_flags, is_interface, flags_of}
+use Rattle.class_model.specs.Flags.{class_mask, defined_flags, are_class_flags, is_interface, flags_of}
 use Rattle.class_model.specs.Members.{IsField, FieldsDiffer, MethodsDiffer}
 use Rattle.class_model.specs.ClassFile.{ClassFile, class_file, AreMethods, IsClass, File, left_out_of_class}
 use Rattle.class_model.specs.ClassFile.{first_left_out}
@@ -51,7 +51,7 @@ use Rattle.class_model.proofs.FreshLaw.{fields_told, method_signature, methods_a
 -- ---- the head
 
 -- a number that has to stand there
-wanted_exact : {r : Reader ℕ} (s : ℕ → List ℕ) (limit number : ℕ) (kind : FormatKind) → number < limit
+wanted_exact : {r : FormatReader ℕ} (s : ℕ → List ℕ) (limit number : ℕ) (kind : FormatKind) → number < limit
     → Exact r (Spells s (λ _ w x. (w < limit) × (x ≡ w)))
     → Exact (item r (wanted number kind)) (Spells (λ (u : Unit {0}). s number) (λ _ u y. Unit {0}))
 wanted_exact s limit number kind lt e = as_raw (λ (u : Unit {0}). s number) _ (λ w. tt) (λ u. number)
@@ -170,30 +170,30 @@ module _ (pool : List Entry) where
   FromFlags v y = (v.0 < 2 ^ 16) × ((flags : ℕ) × (passing v.0 ≡ Ok flags) × FromName flags v.1 y)
 
   -- their readers
-  abbrev reads_attributes : ℕ → List ℕ → List ℕ → List (List ℕ) → List Field → Methods → Reader Class
+  abbrev reads_attributes : ℕ → List ℕ → List ℕ → List (List ℕ) → List Field → Methods → FormatReader Class
   reads_attributes flags name super_name interfaces fields methods = bind
       (counted_attributes pool (known_of_class pool) no_class_attribute)
       (λ seen. give (class_of flags pool name super_name interfaces fields methods seen))
 
-  abbrev reads_methods : ℕ → List ℕ → List ℕ → List (List ℕ) → List Field → Reader Class
+  abbrev reads_methods : ℕ → List ℕ → List ℕ → List (List ℕ) → List Field → FormatReader Class
   reads_methods flags name super_name interfaces fields = bind (read_all_methods pool flags name)
       (λ methods. reads_attributes flags name super_name interfaces fields methods)
 
-  abbrev reads_fields : ℕ → List ℕ → List ℕ → List (List ℕ) → Reader Class
+  abbrev reads_fields : ℕ → List ℕ → List ℕ → List (List ℕ) → FormatReader Class
   reads_fields flags name super_name interfaces = bind (read_all_fields pool flags)
       (λ fields. reads_methods flags name super_name interfaces fields)
 
-  abbrev reads_interfaces : ℕ → List ℕ → List ℕ → Reader Class
+  abbrev reads_interfaces : ℕ → List ℕ → List ℕ → FormatReader Class
   reads_interfaces flags name super_name = bind (read_interfaces pool)
       (λ interfaces. reads_fields flags name super_name interfaces)
 
-  abbrev reads_super : ℕ → List ℕ → Reader Class
+  abbrev reads_super : ℕ → List ℕ → FormatReader Class
   reads_super flags name = bind (item u2 (class_at pool)) (λ super_name. reads_interfaces flags name super_name)
 
-  abbrev reads_name : ℕ → Reader Class
+  abbrev reads_name : ℕ → FormatReader Class
   reads_name flags = bind (item u2 (class_at pool)) (λ name. reads_super flags name)
 
-  abbrev reads_flags : Reader Class
+  abbrev reads_flags : FormatReader Class
   reads_flags = bind (item u2 passing) (λ flags. reads_name flags)
 
 module _ (pool : List Entry) (units : HaveUnits pool) (right : AllNameRight pool) (unnamed : NoneAtZero pool) where
@@ -343,7 +343,7 @@ there pool w y is h =
     let made : Class = class_of flags pool n.1.0 s.1.0 i.0 f.0 m.0 a.0 in
     let made-is : IsClass (raw_of w) made pool = record {
       constant_pool = is;
-      flags = record { fit = h.0; are = ap (λ (k : ℕ). flags_of (meant class_mask k)) (sym p.1); good = p.0 };
+      flags = record { fit = h.0; are = ap (λ (k : ℕ). flags_of (defined_flags class_mask k)) (sym p.1); good = p.0 };
       name = (n.0, name.0, name.1);
       super_name = (s.0, super_name.0, super_name.1);
       interfaces_count = i.1.0;
@@ -371,7 +371,8 @@ back pool raw y is =
     let seen : ClassSeen = record { source = y.source; synthetic = y.synthetic; deprecated = y.deprecated } in
     let passes : cond (are_class_flags raw.access_flags) (let R : Result ℕ FormatKind = Ok raw.access_flags in R)
     (Err bad.BadFlags) ≡ Ok raw.access_flags = rw is.flags.good refl in
-    let all : AreClassAttributes pool raw.attributes seen = record { attributes = is.attributes; source = is.source; synthetic = is.synthetic; deprecated = is.deprecated } in
+    let all : AreClassAttributes pool raw.attributes seen = record
+    { attributes = is.attributes; source = is.source; synthetic = is.synthetic; deprecated = is.deprecated } in
     let left-is : y.left_out
     ≡ first_left_out (left_out_of_class raw.access_flags pool) (length y.fields) is.left_out_kinds =
     is.left_out ∙ ap (λ (k : ℕ). first_left_out (left_out_of_class raw.access_flags pool) k is.left_out_kinds)
@@ -408,10 +409,20 @@ back pool raw y is =
                   (is.interfaces_count, is.interfaces),
                   (
                     y.fields,
-                    (is.fields_count, is.fields, new_only field_signature FieldsDiffer fields_apart fields_told [] y.fields is.fields_differ (none_before field_signature y.fields)),
+                    (
+                      is.fields_count,
+                      is.fields,
+                      new_only field_signature FieldsDiffer fields_apart fields_told []
+                          y.fields is.fields_differ (none_before field_signature y.fields),
+                    ),
                     (
                       (y.methods, is.left_out_kinds),
-                      (is.methods_count, is.methods, new_only method_signature MethodsDiffer methods_apart methods_told [] y.methods is.methods_differ (none_before method_signature y.methods)),
+                      (
+                        is.methods_count,
+                        is.methods,
+                        new_only method_signature MethodsDiffer methods_apart methods_told
+                            [] y.methods is.methods_differ (none_before method_signature y.methods),
+                      ),
                       (seen, all, whole),
                     ),
                   ),

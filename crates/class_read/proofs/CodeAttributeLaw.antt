@@ -5,7 +5,7 @@ use Rattle.std.specs.Int.{w16, to_be_bytes}
 use Rattle.std.specs.List.{AllByRecursion, flat_map}
 use Rattle.std.proofs.lemmas.List.{append-nil}
 use Rattle.jv_base.specs.Names.{is_text}
-use Rattle.format_reading.specs.Reader.{Reader, u2, bind, give, many}
+use Rattle.format_reading.specs.Reader.{FormatReader, u2, bind, give, many}
 use Rattle.format_reading.specs.Spelling.{Spells, AllStand}
 use Rattle.format_reading.proofs.Exact.{Exact, as_raw, bind_exact, map_exact, many_exact, u2_exact}
 use Rattle.class_model.specs.declared.pool.Entry.{Entry}
@@ -240,7 +240,7 @@ code_steps pool F at (a ∷ rest) seen out each h =
 
 -- ---- what is known
 
-code_knows : (F : List ℕ → Frames → Type 0) (frames : Reader Frames)
+code_knows : (F : List ℕ → Frames → Type 0) (frames : FormatReader Frames)
     → Exact frames (Spells text (λ _ info map. F info map)) → (at : ℕ) (name : List ℕ) (n : ℕ) (seen : CodeSeen)
     → Knows (known_of_code frames at name n seen) n seen (CodeDoes F at name n seen)
 code_knows F frames exact at name n seen =
@@ -257,7 +257,7 @@ code_knows F frames exact at name n seen =
     (λ info out. ((λ e. e), (λ e. e))))
 
 -- the attributes of a code, behind their count
-pub code_attributes_exact : (pool : List Entry) (F : List ℕ → Frames → Type 0) (frames : Reader Frames)
+pub code_attributes_exact : (pool : List Entry) (F : List ℕ → Frames → Type 0) (frames : FormatReader Frames)
     → Exact frames (Spells text (λ _ info map. F info map))
     → Exact (counted_attributes pool (known_of_code frames) nothing_seen)
     (Spells (λ all. to_be_bytes w16 (length all) ++ flat_map attribute_info all)

@@ -4,7 +4,7 @@ use Rattle.jv_base.specs.Place.{Place}
 use Rattle.jv_base.specs.declared.outcome.Or.{Or}
 use Rattle.jv_base.specs.declared.outcome.Or.TheVariants.{Fault, OutOfMemory}
 use Rattle.format_reading.specs.declared.fault.FormatFault.{FormatFault}
-use Rattle.format_reading.specs.Reader.{Reader, ReadsOr, bind, give}
+use Rattle.format_reading.specs.Reader.{FormatReader, ReadsOr, bind, give}
 use Rattle.class_model.specs.declared.pool.Entry.{Entry}
 use Rattle.class_model.specs.declared.op.Op.{Op}
 use Rattle.class_model.specs.declared.code.Handler.{Handler}
@@ -12,11 +12,11 @@ use Rattle.class_model.specs.declared.frame.VType.{VType}
 use Rattle.class_model.specs.ReadingAttributes.{counted_attributes}
 use Rattle.class_model.specs.ReadingFrames.{read_frames}
 use Rattle.class_model.specs.ReadingCodeAttribute.{Body, CodeSeen, nothing_seen, known_of_code, read_handlers}
-use Rattle.class_read.specs.CodeAttributes.{code_with, behind_instructions}
+use Rattle.class_read.specs.bodies.CodeAttributes.{code_with, behind_instructions}
 
 module _ (pool : List Entry) (first : List VType) (max_stack max_locals end : ℕ) (starts : List ℕ) (ops : List Op) where
   -- the attributes
-  abbrev pub seen_behind : Reader CodeSeen
+  abbrev pub seen_behind : FormatReader CodeSeen
   seen_behind = counted_attributes pool
       (known_of_code (read_frames pool starts ops max_stack max_locals first)) nothing_seen
 

@@ -2,7 +2,8 @@
 use Rattle.std.proofs.Common.{◌≡◌, ℕ, zero, suc, ◌+◌, ◌*◌, List, [], ◌∷◌, Some, None, Result, Ok, Err, refl, sym, ◌∙◌}
 use Rattle.jv_base.specs.Place.{Place}
 use Rattle.format_reading.specs.declared.fault.FormatFault.{FormatFault}
-use Rattle.format_reading.specs.Reader.{Reader, u2, u4, item, bytes, bind, give, here, part, told, many, after_read}
+use Rattle.format_reading.specs.Reader.{FormatReader, u2, u4, item, bytes, bind, give, here, part, of_result, many}
+use Rattle.format_reading.specs.Reader.{after_read}
 use Rattle.class_model.specs.declared.pool.Entry.{Entry}
 use Rattle.class_model.specs.declared.frame.VType.{VType}
 use Rattle.class_model.specs.InstructionStructure.{starts_of}
@@ -10,14 +11,14 @@ use Rattle.class_model.specs.ReadingCode.{CodeRead, instructions, has_left_out, 
 use Rattle.class_model.specs.ReadingCodeAttribute.{Body, code_length, skipped_attribute, behind_code, read_code}
 use Rattle.class_read.specs.declared.instructions.Instructions.{Instructions}
 use Rattle.class_read.specs.declared.instructions.Instructions.TheVariants.{All, LeftOut}
-use Rattle.class_read.specs.Instructions.{instructions_of, read_instructions}
-use Rattle.class_read.specs.PassedOver.{attributes_passed, passed_over}
-use Rattle.class_read.specs.Codes.{behind_read, code_in_parts}
+use Rattle.class_read.specs.bodies.Instructions.{instructions_of, read_instructions}
+use Rattle.class_read.specs.bodies.PassedOver.{attributes_passed, passed_over}
+use Rattle.class_read.specs.bodies.Codes.{behind_read, code_in_parts}
 use Rattle.class_read.proofs.BehindCode.{behind_code_is}
 
 -- ---- readers one behind the other
 
-regroup : {A B C : Type 0} (r : Reader A) (f : A → Reader B) (g : B → Reader C) (p : Place)
+regroup : {A B C : Type 0} (r : FormatReader A) (f : A → FormatReader B) (g : B → FormatReader C) (p : Place)
     → bind (bind r f) g p ≡ bind r (λ x. bind (f x) g) p
 unfolding bind
 regroup r f g p = by (r p)
@@ -28,7 +29,8 @@ regroup r f g p = by (r p)
     by (Ok x) = refl
     by (Err e) = refl
 
-alike : {A B : Type 0} (r : Reader A) (f g : A → Reader B) (p : Place) → ((x : A) (q : Place) → f x q ≡ g x q)
+alike : {A B : Type 0} (r : FormatReader A) (f g : A → FormatReader B) (p : Place)
+    → ((x : A) (q : Place) → f x q ≡ g x q)
     → bind r f p ≡ bind r g p
 unfolding bind
 alike r f g p h = by (r p)
@@ -38,7 +40,7 @@ alike r f g p h = by (r p)
     by (Err e) = refl
 
 -- a value for which no byte stands, and then more
-given : {A B : Type 0} (x : A) (f : A → Reader B) (p : Place) → bind (give x) f p ≡ f x p
+given : {A B : Type 0} (x : A) (f : A → FormatReader B) (p : Place) → bind (give x) f p ≡ f x p
 unfolding bind give
 given x f p = refl
 
@@ -79,10 +81,10 @@ module _ (pool : List Entry) (first : List VType) (max_stack max_locals end : �
       ≡ bind (instructions_of pool from read) (behind_read pool first max_stack max_locals end) p
   behind_is from (instructions infos) p =
       behind_code_is pool first max_stack max_locals from end infos p
-      ∙ alike (told (ops_of pool from infos)) _ _ p
+      ∙ alike (of_result (ops_of pool from infos)) _ _ p
       (λ ops q. sym (given (let I : Instructions = All (record { ops = ops; starts = starts_of infos }) in I)
       (behind_read pool first max_stack max_locals end) q))
-      ∙ sym (regroup (told (ops_of pool from infos))
+      ∙ sym (regroup (of_result (ops_of pool from infos))
       (λ ops. give (let I : Instructions = All (record { ops = ops; starts = starts_of infos }) in I))
       (behind_read pool first max_stack max_locals end) p)
   behind_is from (has_left_out offset opcode) p =

@@ -10,7 +10,7 @@ use Rattle.std.proofs.lemmas.List.Concat.{flat_map-cons}
 use Rattle.std.proofs.lemmas.Iterator.Adapters.{position_from-zero}
 use Rattle.jv_base.specs.Outcome.{◌>>=◌}
 use Rattle.format_reading.specs.declared.fault.FormatKind.TheVariants as bad
-use Rattle.format_reading.specs.Reader.{Reader, u2, bind, give, item, settle, many}
+use Rattle.format_reading.specs.Reader.{FormatReader, u2, bind, give, item, settle, many}
 use Rattle.format_reading.specs.Spelling.{Spells, AllStand}
 use Rattle.format_reading.proofs.Exact.{Exact, as_raw, bind_exact, map_exact, here_exact, item_exact, settle_exact}
 use Rattle.format_reading.proofs.Exact.{many_exact, u2_exact}
@@ -178,7 +178,13 @@ module _ (pool : List Entry) (units : HaveUnits pool) (unnamed : NoneAtZero pool
   handler_only : (raw : ExceptionInfo) (y : Handler) → IsHandler pool starts end raw y
       → handler_places starts end raw.start_pc raw.end_pc raw.handler_pc ≡ Some (y.from, y.to, y.entry)
   handler_only raw y h =
-      rw (lt-ltb raw.start_pc raw.end_pc h.range, start_there raw.start_pc y.from h.from, ends_there infos end raw.end_pc y.to whole h.to, start_there raw.handler_pc y.entry h.entry) refl
+      rw (
+        lt-ltb raw.start_pc raw.end_pc h.range,
+        start_there raw.start_pc y.from h.from,
+        ends_there infos end
+            raw.end_pc y.to whole h.to,
+        start_there raw.handler_pc y.entry h.entry,
+      ) refl
 
   -- the numbers of a row
   abbrev Row : Type 0
@@ -201,7 +207,7 @@ module _ (pool : List Entry) (units : HaveUnits pool) (unnamed : NoneAtZero pool
       × ((catch_type < 2 ^ 16)
       × ((caught : Option (List ℕ)) × (optional_class_at pool catch_type ≡ Ok caught) × (y ≡ handler at caught)))
 
-  abbrev reads_caught : ℕ → ℕ → ℕ → ℕ → Reader Handler
+  abbrev reads_caught : ℕ → ℕ → ℕ → ℕ → FormatReader Handler
   reads_caught at start_pc end_pc handler_pc = bind
       (settle at (due bad.BadHandler (handler_places starts end start_pc end_pc handler_pc)))
       (λ found. bind (item u2 (optional_class_at pool)) (λ caught. give (handler found caught)))
@@ -227,7 +233,7 @@ module _ (pool : List Entry) (units : HaveUnits pool) (unnamed : NoneAtZero pool
       (λ found. map_exact (λ caught. handler found caught) (item_exact (optional_class_at pool) u2_exact)))
 
   -- a number of two bytes, and then more
-  number_then : {S B : Type 0} (f : ℕ → Reader B) (t : S → List ℕ) (n : ℕ → S → B → Type 0)
+  number_then : {S B : Type 0} (f : ℕ → FormatReader B) (t : S → List ℕ) (n : ℕ → S → B → Type 0)
       → ((x : ℕ) → Exact (f x) (Spells t (λ _ w y. n x w y)))
       → Exact (bind u2 f) (Spells (λ (v : ℕ × S). to_be_bytes w16 v.0 ++ t v.1) (λ _ v y. (v.0 < 2 ^ 16) × n v.0 v.1 y))
   number_then f t n e = as_raw _ _ (λ v. v) (λ v. v)
@@ -244,7 +250,14 @@ module _ (pool : List Entry) (units : HaveUnits pool) (unnamed : NoneAtZero pool
       let c = n.1.1.1 in
       let p = handler_found starts end w.1.0 w.1.1.0 w.1.1.1.0 c.0 c.1 in
       let is : IsHandler pool starts end (row_of w.1)
-      (handler c.0 c.2.1.0) = record { from = p.1; to = p.2; range = p.0; entry = p.3; caught = optional_found pool w.1.1.1.1 c.2.1.0 units c.2.0 c.2.1.1 } in (
+      (handler c.0 c.2.1.0) = record {
+        from = p.1;
+        to = p.2;
+        range = p.0;
+        entry = p.3;
+        caught = optional_found pool
+            w.1.1.1.1 c.2.1.0 units c.2.0 c.2.1.1;
+      } in (
         refl,
         (
           (n.0, n.1.0, n.1.1.0, c.2.0),

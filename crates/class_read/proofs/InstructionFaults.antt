@@ -9,7 +9,8 @@ use Rattle.jv_base.specs.Place.{Place, number_at}
 use Rattle.format_reading.specs.declared.fault.FormatFault.{FormatFault}
 use Rattle.format_reading.specs.declared.fault.FormatKind.{FormatKind}
 use Rattle.format_reading.specs.declared.fault.FormatKind.TheVariants as bad
-use Rattle.format_reading.specs.Reader.{Reader, or_cut, u1, u2, u4, bytes, lead, bind, give, given, here, item, many}
+use Rattle.format_reading.specs.Reader.{FormatReader, or_cut, u1, u2, u4, bytes, lead, bind, give, given, here, item}
+use Rattle.format_reading.specs.Reader.{many}
 use Rattle.format_reading.specs.Reader.{after_read, onwards}
 use Rattle.format_reading.proofs.Exact.{IsBytes}
 use Rattle.class_model.specs.declared.pool.Entry.{Entry}
@@ -57,7 +58,7 @@ TellsIn P (Err f) = P f
 abbrev OfInstruction : FormatFault → Type 0
 OfInstruction f = IsOfInstruction f.kind
 
-abbrev Tells : {A : Type 0} → Reader A → Type 0
+abbrev Tells : {A : Type 0} → FormatReader A → Type 0
 Tells r = (p : Place) → TellsIn OfInstruction (r p)
 
 number_tells : (w : Width) → Tells (λ p. or_cut (number_at w p))
@@ -92,7 +93,7 @@ unfolding give
 give_tells x p = tt
 
 -- what an item leads to, and what it means
-abbrev LeadTells : {B : Type 0} → Result (Reader B) FormatKind → Type 0
+abbrev LeadTells : {B : Type 0} → Result (FormatReader B) FormatKind → Type 0
 LeadTells (Ok r) = Tells r
 LeadTells (Err k) = IsOfInstruction k
 
@@ -100,22 +101,23 @@ abbrev Means : {A : Type 0} → Result A FormatKind → Type 0
 Means (Ok x) = Unit {0}
 Means (Err k) = IsOfInstruction k
 
-onwards_tells : {B : Type 0} (at : ℕ) (o : Result (Reader B) FormatKind) (p : Place) → LeadTells o
+onwards_tells : {B : Type 0} (at : ℕ) (o : Result (FormatReader B) FormatKind) (p : Place) → LeadTells o
     → TellsIn OfInstruction (onwards at o p)
 onwards_tells at (Ok r) p h = h p
 onwards_tells at (Err k) p h = h
 
-after_tells : {A B : Type 0} (at : ℕ) (f : A → Result (Reader B) FormatKind) (d : Result (A × Place) FormatFault)
+after_tells : {A B : Type 0} (at : ℕ) (f : A → Result (FormatReader B) FormatKind) (d : Result (A × Place) FormatFault)
     → TellsIn OfInstruction d → ((x : A) → LeadTells (f x)) → TellsIn OfInstruction (after_read at f d)
 after_tells at f (Ok x) a h = onwards_tells at (f x.0) x.1 (h x.0)
 after_tells at f (Err e) a h = a
 
-lead_tells : {A B : Type 0} (r : Reader A) (f : A → Result (Reader B) FormatKind) → Tells r
+lead_tells : {A B : Type 0} (r : FormatReader A) (f : A → Result (FormatReader B) FormatKind) → Tells r
     → ((x : A) → LeadTells (f x)) → Tells (lead r f)
 unfolding lead
 lead_tells r f a h p = after_tells p.at f (r p) (a p) h
 
-bind_tells : {A B : Type 0} (r : Reader A) (f : A → Reader B) → Tells r → ((x : A) → Tells (f x)) → Tells (bind r f)
+bind_tells : {A B : Type 0} (r : FormatReader A) (f : A → FormatReader B) → Tells r → ((x : A) → Tells (f x))
+    → Tells (bind r f)
 unfolding bind
 bind_tells r f a h p = after_tells p.at (λ x. Ok (f x)) (r p) (a p) h
 
@@ -123,11 +125,11 @@ given_tells : {A : Type 0} (x : Result A FormatKind) → Means x → LeadTells (
 given_tells (Ok x) h = give_tells x
 given_tells (Err k) h = h
 
-item_tells : {A B : Type 0} (r : Reader A) (f : A → Result B FormatKind) → Tells r → ((x : A) → Means (f x))
+item_tells : {A B : Type 0} (r : FormatReader A) (f : A → Result B FormatKind) → Tells r → ((x : A) → Means (f x))
     → Tells (item r f)
 item_tells r f a h = lead_tells r (λ x. given (f x)) a (λ x. given_tells (f x) (h x))
 
-many_tell : {A : Type 0} (n : ℕ) (r : Reader A) → Tells r → Tells (many n r)
+many_tell : {A : Type 0} (n : ℕ) (r : FormatReader A) → Tells r → Tells (many n r)
 unfolding many
 many_tell zero r a = give_tells []
 many_tell (suc n) r a = bind_tells r _ a
@@ -135,7 +137,7 @@ many_tell (suc n) r a = bind_tells r _ a
 
 -- ---- one instruction
 
-if_lead : {B : Type 0} (b : Bool) (o u : Result (Reader B) FormatKind) → LeadTells o → LeadTells u
+if_lead : {B : Type 0} (b : Bool) (o u : Result (FormatReader B) FormatKind) → LeadTells o → LeadTells u
     → LeadTells (cond b o u)
 if_lead true o u h k = h
 if_lead false o u h k = k
@@ -305,7 +307,7 @@ until_is : (n : ℕ) (pool : List Entry) (end : ℕ) (p : Place)
 unfolding until_end bind here
 until_is n pool end p = refl
 
-chosen_tells : (end : ℕ) (b : Bool) (r s : Reader CodeRead) (p : Place) → TellsIn (IsWithin end) (r p)
+chosen_tells : (end : ℕ) (b : Bool) (r s : FormatReader CodeRead) (p : Place) → TellsIn (IsWithin end) (r p)
     → (b ≡ false → TellsIn (IsWithin end) (s p)) → TellsIn (IsWithin end) (cond b r s p)
 chosen_tells end true r s p h k = h
 chosen_tells end false r s p h k = k refl

@@ -4,13 +4,13 @@ use Rattle.std.proofs.Common.{None, Result, Ok, Err, refl, sym, ap, ◌∙◌, a
 use Rattle.std.specs.Prelude.{slice_get}
 use Rattle.std.proofs.Math.ListN.{drop_of_length-le}
 use Rattle.jv_base.specs.Place.{Place}
-use Rattle.format_reading.specs.Reader.{u2, bind, give, told}
+use Rattle.format_reading.specs.Reader.{u2, bind, give, of_result}
 use Rattle.format_reading.specs.declared.fault.FormatFault.{FormatFault}
 use Rattle.format_reading.specs.declared.fault.FormatKind.{FormatKind}
 use Rattle.class_model.specs.declared.pool.Entry.{Entry}
 use Rattle.class_model.specs.Lookups.{names_right}
 use Rattle.class_model.specs.ReadingPool.{Slot, slots, fault_of, entries_of, all_name_right, read_pool}
-use Rattle.class_read.specs.Entries.{found_at, fault_in, faults_in, offsets_of}
+use Rattle.class_read.specs.bodies.Entries.{found_at, fault_in, faults_in, offsets_of}
 
 -- the first of two faults
 abbrev pub first_of : Result (Unit {0}) FormatFault → Result (Unit {0}) FormatFault → Result (Unit {0}) FormatFault
@@ -99,6 +99,6 @@ judged (Err f) xs p = Err f
 pub pool_is : (p q r : Place) (count : ℕ) (xs : List Slot) (found : Result (Unit {0}) FormatFault)
     → u2 p ≡ Ok (count, q) → slots (count - 1) false q ≡ Ok (xs, r)
     → all_name_right (entries_of xs) xs ≡ found → read_pool p ≡ judged found xs r
-unfolding read_pool bind give told
+unfolding read_pool bind give of_result
 pool_is p q r count xs (Ok x) h k j = rw (h, k, j) refl
 pool_is p q r count xs (Err f) h k j = rw (h, k, j) refl

@@ -5,7 +5,7 @@ use Rattle.jv_base.specs.Names.{is_text}
 use Rattle.jv_base.specs.declared.types.FieldType.{FieldType}
 use Rattle.class_model.specs.declared.pool.Entry.{Entry}
 use Rattle.class_model.specs.ReadingMembers.{FieldSeen, known_of_field}
-use Rattle.class_read.specs.Fields.{field_attribute, field_contents}
+use Rattle.class_read.specs.bodies.Fields.{field_attribute, field_contents}
 
 -- a choice by three tests, and a function of what was chosen
 pub three : {A B : Type 0} (f : A → B) (a b c : Bool) (x y z : A)

@@ -4,7 +4,7 @@ use Rattle.std.specs.Prelude.{codes, option_map}
 use Rattle.jv_base.specs.Names.{is_text}
 use Rattle.class_model.specs.declared.pool.Entry.{Entry}
 use Rattle.class_model.specs.ReadingClass.{ClassSeen, known_of_class}
-use Rattle.class_read.specs.ClassAttributes.{class_attribute, class_contents}
+use Rattle.class_read.specs.bodies.ClassAttributes.{class_attribute, class_contents}
 use Rattle.class_read.proofs.Known.{three}
 
 pub of_class : (pool : List Entry) (at : ℕ) (name : List ℕ) (n : ℕ) (seen : ClassSeen)

@@ -5,7 +5,7 @@ use Rattle.jv_base.specs.Names.{is_text}
 use Rattle.class_model.specs.declared.pool.Entry.{Entry}
 use Rattle.class_model.specs.ReadingMembers.{MethodSeen}
 use Rattle.class_read.specs.declared.methods.MethodHead.{MethodHead}
-use Rattle.class_read.specs.Methods.{known_of, method_attribute, method_contents}
+use Rattle.class_read.specs.bodies.Methods.{known_of, method_attribute, method_contents}
 
 -- a choice by four tests, and a function of what was chosen
 four : {A B : Type 0} (f : A → B) (a b c d : Bool) (x y z w : A)

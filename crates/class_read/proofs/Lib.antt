@@ -1,6 +1,7 @@
 mod Slots
 mod Judging
 mod Newest
+mod SignatureKeys
 mod AttributeLoop
 mod Known
 mod FieldLoop

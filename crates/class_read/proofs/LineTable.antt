@@ -5,11 +5,11 @@ use Rattle.std.specs.Prelude.{fold, option_map}
 use Rattle.std.specs.List.{AllByRecursion}
 use Rattle.std.proofs.lemmas.List.{append-nil}
 use Rattle.std.proofs.lemmas.Bool.{eq-eqb, ne_eqb, le-leb, lt-leb, ltb-true, ltb-false, cases_order}
-use Rattle.frame_types.specs.Numbers.{found, first_of_two}
+use Rattle.frame_types.specs.bodies.Numbers.{found, first_of_two}
 use Rattle.class_model.specs.declared.op.Op.{Op}
 use Rattle.class_model.specs.declared.code.Ins.{Ins}
 use Rattle.class_model.specs.LineNumbers.{LineNumber, is_nearer, nearer, line_at}
-use Rattle.class_read.specs.Lines.{lined_by, lined, last_there, line_there, carried, past, offsets_up_to}
+use Rattle.class_read.specs.bodies.Lines.{lined_by, lined, last_there, line_there, carried, past, offsets_up_to}
 
 -- ---- the line at an offset is that of a row that starts there, or the line at the offset before
 

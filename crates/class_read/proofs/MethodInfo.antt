@@ -9,7 +9,7 @@ use Rattle.jv_base.specs.declared.outcome.Or.TheVariants.{Fault, OutOfMemory}
 use Rattle.format_reading.specs.declared.fault.FormatFault.{FormatFault}
 use Rattle.format_reading.specs.declared.fault.FormatKind.{FormatKind}
 use Rattle.format_reading.specs.declared.fault.FormatKind.TheVariants as bad
-use Rattle.format_reading.specs.Reader.{Reader, ReadsOr, u2, item, after_read, bind, give, here, settle}
+use Rattle.format_reading.specs.Reader.{FormatReader, ReadsOr, u2, item, after_read, bind, give, here, settle}
 use Rattle.class_model.specs.declared.pool.Entry.{Entry}
 use Rattle.class_model.specs.Flags.{has_body, are_method_flags}
 use Rattle.class_model.specs.Lookups.{test, good_text_at}
@@ -18,9 +18,9 @@ use Rattle.class_model.specs.ReadingAttributes.{counted_attributes}
 use Rattle.class_model.specs.ReadingCodeAttribute.{is_there}
 use Rattle.class_model.specs.ReadingMembers.{Signature, MethodSeen, MethodRead, no_method_attribute, body_of, method_of}
 use Rattle.class_model.specs.ReadingMembers.{read_flags, fresh, read_method_info}
-use Rattle.class_read.specs.Entries.{found_at}
+use Rattle.class_read.specs.bodies.Entries.{found_at}
 use Rattle.class_read.specs.declared.methods.MethodHead.{MethodHead}
-use Rattle.class_read.specs.Methods.{known_of, method_head}
+use Rattle.class_read.specs.bodies.Methods.{known_of, method_head}
 
 -- the method of what was read
 abbrev pub member : MethodHead × Signature → MethodSeen → MethodRead
@@ -36,12 +36,12 @@ fault_in f (Ok x) = f
 fault_in f (Err e) = e
 
 -- an offset at which nothing is at fault does not matter
-at_free : {A B : Type 0} (one other : ℕ) (g : A → Reader B) (r : Result (A × Place) FormatFault)
+at_free : {A B : Type 0} (one other : ℕ) (g : A → FormatReader B) (r : Result (A × Place) FormatFault)
     → after_read one (λ y. Ok (g y)) r ≡ after_read other (λ y. Ok (g y)) r
 at_free one other g (Ok x) = refl
 at_free one other g (Err f) = refl
 
-stepped : {A B C : Type 0} (at : ℕ) (f : A → Reader B) (g : B → Reader C) (k : A → Reader C)
+stepped : {A B C : Type 0} (at : ℕ) (f : A → FormatReader B) (g : B → FormatReader C) (k : A → FormatReader C)
     → ((x : A) (q : Place) → k x q ≡ bind (f x) g q) → (r : Result (A × Place) FormatFault)
     → after_read at (λ x. Ok (k x)) r ≡ after_read at (λ y. Ok (g y)) (after_read at (λ x. Ok (f x)) r)
 unfolding bind
@@ -49,38 +49,38 @@ stepped at f g k h (Ok x) = h x.0 x.1 ∙ at_free x.1.at at g (f x.0 x.1)
 stepped at f g k h (Err e) = refl
 
 -- what follows a value follows what ends with it
-step : {A B C : Type 0} (r : Reader A) (f : A → Reader B) (g : B → Reader C) (k : A → Reader C)
+step : {A B C : Type 0} (r : FormatReader A) (f : A → FormatReader B) (g : B → FormatReader C) (k : A → FormatReader C)
     → ((x : A) (q : Place) → k x q ≡ bind (f x) g q) → (p : Place) → bind r k p ≡ bind (bind r f) g p
 unfolding bind
 step r f g k h p = stepped p.at f g k h (r p)
 
-here_first : {A : Type 0} (k : ℕ → Reader A) (p : Place) → bind here k p ≡ k p.at p
+here_first : {A : Type 0} (k : ℕ → FormatReader A) (p : Place) → bind here k p ≡ k p.at p
 unfolding bind here
 here_first k p = refl
 
-given_first : {A B : Type 0} (x : A) (g : A → Reader B) (p : Place) → g x p ≡ bind (give x) g p
+given_first : {A B : Type 0} (x : A) (g : A → FormatReader B) (p : Place) → g x p ≡ bind (give x) g p
 unfolding bind give
 given_first x g p = refl
 
 module _ (pool : List Entry) (in_interface : Bool) (class : List ℕ) (before : List Signature) where
   -- the attributes behind what stands before them
-  abbrev pub behind_head : ℕ → MethodHead × Signature → Reader MethodRead
+  abbrev pub behind_head : ℕ → MethodHead × Signature → FormatReader MethodRead
   behind_head at h = bind (counted_attributes pool (known_of pool class h.0) no_method_attribute)
       (λ seen. bind (settle at (whole h.0 seen)) (λ passed. give (member h seen)))
 
   abbrev head_of : ℕ → List ℕ → MethodType → MethodHead × Signature
   head_of flags name ty = (record { flags = flags; name = name; ty = ty }, (name, method_text ty))
 
-  abbrev from_type : ℕ → ℕ → List ℕ → MethodType → Reader (MethodHead × Signature)
+  abbrev from_type : ℕ → ℕ → List ℕ → MethodType → FormatReader (MethodHead × Signature)
   from_type at flags name ty = bind (fresh at before (name, method_text ty)) (λ alone. give (head_of flags name ty))
 
-  abbrev from_name : ℕ → ℕ → List ℕ → Reader (MethodHead × Signature)
+  abbrev from_name : ℕ → ℕ → List ℕ → FormatReader (MethodHead × Signature)
   from_name at flags name = bind (item u2 (method_type_at pool in_interface flags name)) (from_type at flags name)
 
-  abbrev from_flags : ℕ → ℕ → Reader (MethodHead × Signature)
+  abbrev from_flags : ℕ → ℕ → FormatReader (MethodHead × Signature)
   from_flags at flags = bind (item u2 (good_text_at bad.BadName is_method_name pool)) (from_name at flags)
 
-  abbrev from_start : ℕ → Reader (MethodHead × Signature)
+  abbrev from_start : ℕ → FormatReader (MethodHead × Signature)
   from_start at = bind (read_flags are_method_flags) (from_flags at)
 
   head_is : (p : Place) → method_head pool in_interface before p ≡ from_start p.at p

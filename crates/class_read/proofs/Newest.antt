@@ -3,7 +3,7 @@ use Rattle.std.proofs.Common.{◌≡◌, Bool, ◌||◌, List, [], ◌∷◌, �
 use Rattle.std.specs.List.{list_any}
 use Rattle.std.proofs.lemmas.List.Folds.{list_any-append}
 use Rattle.std.proofs.Math.Bool.{or_comm, or-false}
-use Rattle.class_read.specs.Signatures.{newest_first}
+use Rattle.class_read.specs.bodies.Signatures.{newest_first}
 
 -- the order does not matter for whether one passes a test
 pub any_newest : {A : Type 0} (p : A → Bool) (xs : List A) → list_any p (newest_first xs) ≡ list_any p xs

@@ -16,7 +16,7 @@ use Rattle.format_reading.specs.Fault.{cut, fault, inside_of_kind}
 use Rattle.format_reading.specs.declared.fault.FormatFault.{FormatFault}
 use Rattle.format_reading.specs.declared.fault.FormatKind.{FormatKind}
 use Rattle.format_reading.specs.declared.fault.FormatKind.TheVariants as bad
-use Rattle.format_reading.specs.Reader.{ReadsOr, bind, give, here, told, part, closed, after_read}
+use Rattle.format_reading.specs.Reader.{ReadsOr, bind, give, here, of_result, part, closed, after_read}
 use Rattle.format_reading.proofs.Exact.{IsBytes, left}
 use Rattle.class_model.specs.declared.pool.Entry.{Entry}
 use Rattle.class_model.specs.declared.op.Op.{Op}
@@ -26,7 +26,7 @@ use Rattle.class_model.specs.ReadingCode.{CodeRead, instructions, has_left_out, 
 use Rattle.class_model.specs.ReadingCode.{ops_of}
 use Rattle.class_model.proofs.BackSizes.{info_is_there}
 use Rattle.class_model.proofs.UntilLaw.{IsCodeFrom, until_exact, until_found}
-use Rattle.jv_ops.specs.declared.decoding.Decoded.{Decoded}
+use Rattle.jv_ops.specs.declared.reading.decoding.Decoded.{Decoded}
 use Rattle.jv_ops.specs.declared.fault.CodeFault.{CodeFault}
 use Rattle.jv_ops.specs.declared.fault.CodeFault.TheVariants as code
 use Rattle.jv_ops.specs.declared.fault.Wrong.{Wrong}
@@ -35,7 +35,7 @@ use Rattle.jv_ops.specs.Fault.{code_fault, wrong_of}
 use Rattle.jv_ops.specs.Decoded.{with_starts, as_decoded, code_decoded}
 use Rattle.class_read.specs.declared.instructions.Instructions.{Instructions}
 use Rattle.class_read.specs.declared.instructions.Instructions.TheVariants.{All}
-use Rattle.class_read.specs.Instructions.{instructions_of, read_instructions, or_left_out, in_file, offset_told}
+use Rattle.class_read.specs.bodies.Instructions.{instructions_of, read_instructions, or_left_out, in_file, offset_told}
 use Rattle.class_read.proofs.ShiftedReaders.{behind, read_behind}
 use Rattle.class_read.proofs.ShiftedCode.{until_shifts}
 use Rattle.class_read.proofs.InstructionFaults.{kind_of, TellsIn, IsWithin, code_tells}
@@ -86,9 +86,9 @@ told_of from o _ = refl
 -- the instructions, with the fault of a target
 targets_told : (from : ℕ) (q : Place) (infos : List Info) (r : Result (List Op) FormatFault)
     → after_read q.at (λ ops. Ok (give (let I : Instructions = All
-    (record { ops = ops; starts = starts_of infos }) in I))) (told (target_behind from r) q)
+    (record { ops = ops; starts = starts_of infos }) in I))) (of_result (target_behind from r) q)
     ≡ with_place q (in_file from (with_starts infos r))
-unfolding told give
+unfolding of_result give
 targets_told from q infos (Ok ops) = refl
 targets_told from q infos (Err f) = refl
 
@@ -104,7 +104,7 @@ part_told pool code front from attribute end (Ok (instructions infos, q)) h is e
     let all : eqb (length front + q.at) end.at ≡ true = eq-eqb _ _ (omega (arith, at, e)) in
     rw all (ap (λ (r : Result (List Op) FormatFault). after_read end.at
     (λ ops. Ok (give (let I : Instructions = All (record { ops = ops; starts = starts_of infos }) in I)))
-    (told r end)) (ops_behind pool from infos h.0.1)
+    (of_result r end)) (ops_behind pool from infos h.0.1)
     ∙ targets_told from end infos (ops_of pool 0 infos))
 part_told pool code front from attribute end (Ok (has_left_out offset opcode, q)) h is e =
     let at : q.at ≡ length code = h.1 in

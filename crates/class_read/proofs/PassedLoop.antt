@@ -4,7 +4,7 @@ use Rattle.jv_base.specs.Place.{Place}
 use Rattle.format_reading.specs.declared.fault.FormatFault.{FormatFault}
 use Rattle.format_reading.specs.Reader.{bind, give}
 use Rattle.class_model.specs.ReadingCodeAttribute.{skipped_attribute}
-use Rattle.class_read.specs.PassedOver.{attributes_passed}
+use Rattle.class_read.specs.bodies.PassedOver.{attributes_passed}
 
 -- what is left behind an attribute
 pub goes_on : (count i : ℕ) (p after : Place) (total : Result (Unit {0} × Place) FormatFault) → i < count

@@ -3,7 +3,7 @@ use Rattle.std.proofs.Common.{◌≡◌, ℕ, zero, suc, ◌+◌, ◌-◌, Bool,
 use Rattle.std.proofs.Common.{◌∙◌, arith}
 use Rattle.std.specs.Prelude.{nat_le}
 use Rattle.std.proofs.lemmas.Bool.Decides.{nat_tests}
-use Rattle.format_reading.specs.Reader.{Reader, bytes, bind, give, here}
+use Rattle.format_reading.specs.Reader.{FormatReader, bytes, bind, give, here}
 use Rattle.class_model.specs.declared.pool.Entry.{Entry}
 use Rattle.class_model.specs.ReadingCode.{Read, instruction, left_out, CodeRead, instructions, has_left_out, in_front}
 use Rattle.class_model.specs.ReadingCode.{goes_on, read_instruction, until_end}
@@ -12,13 +12,13 @@ use Rattle.class_read.proofs.ShiftedInstructions.{instruction_shifts}
 use Rattle.class_model.proofs.UntilLaw.{until_is}
 
 module _ (front : List ℕ) (from n end : ℕ) (is : from ≡ length front) (ends : end ≡ from + n) where
-  chosen_shift : {A : Type 0} (b : Bool) (r s t u : Reader A) → Shifts front r t → Shifts front s u
+  chosen_shift : {A : Type 0} (b : Bool) (r s t u : FormatReader A) → Shifts front r t → Shifts front s u
       → Shifts front (cond b r s) (cond b t u)
   chosen_shift true r s t u h k = h
   chosen_shift false r s t u h k = k
 
   -- behind an instruction that is left out the rest is passed over
-  passes_shift : (offset opcode : ℕ) (r s : Reader CodeRead)
+  passes_shift : (offset opcode : ℕ) (r s : FormatReader CodeRead)
       → Shifts front (goes_on r offset n (left_out opcode)) (goes_on s offset end (left_out opcode))
   unfolding bind here
   passes_shift offset opcode r s p =
@@ -27,7 +27,7 @@ module _ (front : List ℕ) (from n end : ℕ) (is : from ≡ length front) (end
       ∙ bind_shifts front (bytes (n - p.at)) (bytes (n - p.at)) _ _ (bytes_shift front (n - p.at))
       (λ skipped. give_shifts front (has_left_out offset opcode)) p
 
-  goes_shift : (offset : ℕ) (r s : Reader CodeRead) (read : Read) → Shifts front r s
+  goes_shift : (offset : ℕ) (r s : FormatReader CodeRead) (read : Read) → Shifts front r s
       → Shifts front (goes_on r offset n read) (goes_on s offset end read)
   goes_shift offset r s (instruction info) h = bind_shifts front r s _ _ h
       (λ others. give_shifts front (in_front info others))
@@ -40,8 +40,8 @@ module _ (front : List ℕ) (from n end : ℕ) (is : from ≡ length front) (end
   until_shifts (suc k) pool p =
       let same : (length front + p.at) - from ≡ p.at - 0 = omega (arith, is) in
       let ended : nat_le end (length front + p.at) ≡ nat_le n p.at = grind (arith, nat_tests) in
-      let one : Reader CodeRead = bind (read_instruction pool 0) (goes_on (until_end k pool 0 n) (p.at - 0) n) in
-      let other : Reader CodeRead = bind (read_instruction pool from)
+      let one : FormatReader CodeRead = bind (read_instruction pool 0) (goes_on (until_end k pool 0 n) (p.at - 0) n) in
+      let other : FormatReader CodeRead = bind (read_instruction pool from)
       (goes_on (until_end k pool from end) (p.at - 0) end) in
       until_is k pool from end (behind front p)
       ∙ ap (λ (o : ℕ). cond (nat_le end (length front + p.at)) (give (instructions []))

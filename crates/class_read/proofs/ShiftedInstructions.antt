@@ -5,7 +5,7 @@ use Rattle.std.specs.Prelude.{is_some}
 use Rattle.jv_base.specs.Place.{Place}
 use Rattle.format_reading.specs.declared.fault.FormatFault.{FormatFault}
 use Rattle.format_reading.specs.declared.fault.FormatKind.{FormatKind}
-use Rattle.format_reading.specs.Reader.{Reader, u1, u2, u4, bytes, lead, item, many}
+use Rattle.format_reading.specs.Reader.{FormatReader, u1, u2, u4, bytes, lead, item, many}
 use Rattle.class_model.specs.declared.pool.Entry.{Entry}
 use Rattle.class_model.specs.InstructionStructure.{Info, pad_length, Bipush, Sipush, Local, WideLocal, Branch}
 use Rattle.class_model.specs.Opcodes.{plain_op, local_op, branch_op, is_left_out_local, is_left_out_opcode}
@@ -19,7 +19,8 @@ use Rattle.class_read.proofs.ShiftedReaders.{many_shift}
 
 module _ (front : List ℕ) where
   -- two ways
-  if_shifts : {B : Type 0} (b : Bool) (o u : Result (Reader B) FormatKind) → LeadShift front o o → LeadShift front u u
+  if_shifts : {B : Type 0} (b : Bool) (o u : Result (FormatReader B) FormatKind) → LeadShift front o o
+      → LeadShift front u u
       → LeadShift front (cond b o u) (cond b o u)
   if_shifts true o u h k = h
   if_shifts false o u h k = k

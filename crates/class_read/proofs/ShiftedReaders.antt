@@ -9,7 +9,7 @@ use Rattle.format_reading.specs.Fault.{cut, fault}
 use Rattle.format_reading.specs.declared.fault.FormatFault.{FormatFault}
 use Rattle.format_reading.specs.declared.fault.FormatKind.{FormatKind}
 use Rattle.format_reading.specs.declared.fault.FormatKind.TheVariants.{Cut}
-use Rattle.format_reading.specs.Reader.{Reader, or_cut, u1, u2, u4, bytes, lead, bind, give, given, item, many}
+use Rattle.format_reading.specs.Reader.{FormatReader, or_cut, u1, u2, u4, bytes, lead, bind, give, given, item, many}
 use Rattle.format_reading.specs.Reader.{after_read, onwards}
 
 -- the same place, behind bytes in front
@@ -26,7 +26,7 @@ read_behind front (Ok x) = Ok (x.0, behind front x.1)
 read_behind front (Err f) = Err (fault_behind front f)
 
 -- a reader of a text, and one that reads the same behind bytes in front of it
-abbrev pub Shifts : {A : Type 0} → List ℕ → Reader A → Reader A → Type 0
+abbrev pub Shifts : {A : Type 0} → List ℕ → FormatReader A → FormatReader A → Type 0
 Shifts front r s = (p : Place) → s (behind front p) ≡ read_behind front (r p)
 
 module _ (front : List ℕ) where
@@ -105,12 +105,12 @@ module _ (front : List ℕ) where
   give_shifts x p = refl
 
   -- what an item leads to
-  abbrev pub LeadShift : {B : Type 0} → Result (Reader B) FormatKind → Result (Reader B) FormatKind → Type 0
+  abbrev pub LeadShift : {B : Type 0} → Result (FormatReader B) FormatKind → Result (FormatReader B) FormatKind → Type 0
   LeadShift (Ok r) (Ok s) = Shifts front r s
   LeadShift (Err k) (Err l) = k ≡ l
   LeadShift _ _ = ⊥
 
-  onwards_shift : {B : Type 0} (at : ℕ) (o u : Result (Reader B) FormatKind) (p : Place) → LeadShift o u
+  onwards_shift : {B : Type 0} (at : ℕ) (o u : Result (FormatReader B) FormatKind) (p : Place) → LeadShift o u
       → onwards (length front + at) u (behind front p) ≡ read_behind front (onwards at o p)
   onwards_shift at (Ok r) (Ok s) p h = h p
   onwards_shift at (Err k) (Err l) p h = ap
@@ -118,20 +118,22 @@ module _ (front : List ℕ) where
   onwards_shift at (Ok r) (Err l) p h = absurd h
   onwards_shift at (Err k) (Ok s) p h = absurd h
 
-  after_shift : {A B : Type 0} (at : ℕ) (f g : A → Result (Reader B) FormatKind) (d : Result (A × Place) FormatFault)
+  after_shift : {A B : Type 0} (at : ℕ) (f g : A → Result (FormatReader B) FormatKind)
+      (d : Result (A × Place) FormatFault)
       → ((x : A) → LeadShift (f x) (g x))
       → after_read (length front + at) g (read_behind front d) ≡ read_behind front (after_read at f d)
   after_shift at f g (Ok x) h = onwards_shift at (f x.0) (g x.0) x.1 (h x.0)
   after_shift at f g (Err e) h = refl
 
   -- an item, and then what it leads to
-  pub lead_shifts : {A B : Type 0} (r s : Reader A) (f g : A → Result (Reader B) FormatKind) → Shifts front r s
+  pub lead_shifts : {A B : Type 0} (r s : FormatReader A) (f g : A → Result (FormatReader B) FormatKind)
+      → Shifts front r s
       → ((x : A) → LeadShift (f x) (g x)) → Shifts front (lead r f) (lead s g)
   unfolding lead
   lead_shifts r s f g a h p = ap (after_read (length front + p.at) g) (a p) ∙ after_shift p.at f g (r p) h
 
   -- an item, and then more
-  pub bind_shifts : {A B : Type 0} (r s : Reader A) (f g : A → Reader B) → Shifts front r s
+  pub bind_shifts : {A B : Type 0} (r s : FormatReader A) (f g : A → FormatReader B) → Shifts front r s
       → ((x : A) → Shifts front (f x) (g x)) → Shifts front (bind r f) (bind s g)
   unfolding bind
   bind_shifts r s f g a h p = ap (after_read (length front + p.at) (λ x. Ok (g x))) (a p)
@@ -142,12 +144,12 @@ module _ (front : List ℕ) where
   given_shift (Ok x) = give_shifts x
   given_shift (Err k) = refl
 
-  pub item_shifts : {A B : Type 0} (r : Reader A) (f : A → Result B FormatKind) → Shifts front r r
+  pub item_shifts : {A B : Type 0} (r : FormatReader A) (f : A → Result B FormatKind) → Shifts front r r
       → Shifts front (item r f) (item r f)
   item_shifts r f a = lead_shifts r r (λ x. given (f x)) (λ x. given (f x)) a (λ x. given_shift (f x))
 
   -- n values
-  pub many_shift : {A : Type 0} (n : ℕ) (r : Reader A) → Shifts front r r → Shifts front (many n r) (many n r)
+  pub many_shift : {A : Type 0} (n : ℕ) (r : FormatReader A) → Shifts front r r → Shifts front (many n r) (many n r)
   unfolding many
   many_shift zero r a = give_shifts []
   many_shift (suc n) r a = bind_shifts r r _ _ a

@@ -20,7 +20,7 @@ use Rattle.class_model.specs.InstructionStructure.{WideLocal, Iinc, WideIinc, Br
 use Rattle.class_model.specs.InstructionStructure.{LookupSwitch, MemberOperand, InvokeInterface, ClassOperand, NewArray}
 use Rattle.class_model.specs.InstructionStructure.{MultiNewArray, info_bytes, starts_of}
 use Rattle.class_model.specs.Instructions.{branch_target}
-use Rattle.class_model.specs.InstructionMeaning.{op_of, loaded, loaded_wide, made, member_op, class_op, aimed}
+use Rattle.class_model.specs.InstructionMeaning.{op_of, loaded, loaded_wide, op_of_operand, member_op, class_op, aimed}
 use Rattle.class_model.specs.InstructionMeaning.{all_aimed, cases_aimed, branch, table_switch, lookup_switch, aim_at}
 use Rattle.class_model.specs.ReadingCode.{op_then, ops_from, ops_of}
 use Rattle.class_model.proofs.InstructionRead.{IsRight}
@@ -42,12 +42,13 @@ there_only : {A : Type 0} (o : Option A) → is_some o ≡ true → OnlyTarget (
 there_only (Some x) h = tt
 there_only None h = absurd cc
 
-made_only : (table : Option (ℕ → Op)) (n : ℕ) → is_some table ≡ true → OnlyTarget (made table n)
+made_only : (table : Option (ℕ → Op)) (n : ℕ) → is_some table ≡ true → OnlyTarget (op_of_operand table n)
 made_only table n h = there_only (option_map (λ make. make n) table) (mapped_there (λ make. make n) table h)
 
 module _ (aim : ℤ → Result ℕ FormatKind) (only : (target : ℤ) → OnlyTarget (aim target)) (at : ℕ) where
   branch_only : (table : Option (ℕ → Op)) (offset : ℤ) → is_some table ≡ true → OnlyTarget (branch aim at table offset)
-  branch_only table offset h = then_only (aim (branch_target at offset)) (made table) (only (branch_target at offset))
+  branch_only table offset h = then_only (aim (branch_target at offset)) (op_of_operand table)
+      (only (branch_target at offset))
       (λ to. made_only table to h)
 
   aimed_only : (offset : ℕ) → OnlyTarget (aimed aim at offset)

@@ -1,6 +1,6 @@
 -- A class file, read part by part (JVMS 4.1).
 use Rattle.std.specs.Prelude.{ℕ, List, Option}
-use Rattle.format_reading.specs.Reader.{Reader, item, give, u2, ◌>>=◌}
+use Rattle.format_reading.specs.Reader.{FormatReader, item, give, u2, ◌>>=◌}
 use Rattle.class_model.specs.declared.class.Class.{Class}
 use Rattle.class_model.specs.declared.class.Field.{Field}
 use Rattle.class_model.specs.declared.class.Method.{Method}
@@ -19,7 +19,7 @@ class_named flags pool names fields methods seen =
     class_of flags pool names.name names.super_name names.interfaces fields methods seen
 
 -- what stands behind the interfaces: fields, methods and attributes (JVMS 4.1)
-unfoldable pub behind_names : List Entry → ℕ → ClassNames → Reader Class
+unfoldable pub behind_names : List Entry → ℕ → ClassNames → FormatReader Class
 behind_names pool flags names = do
   fields ← read_all_fields pool flags
   methods ← read_all_methods pool flags names.name
@@ -27,7 +27,7 @@ behind_names pool flags names = do
   give (class_named flags pool names fields methods seen)
 
 -- what stands behind access_flags (JVMS 4.1)
-unfoldable pub behind_flags : List Entry → ℕ → Reader Class
+unfoldable pub behind_flags : List Entry → ℕ → FormatReader Class
 behind_flags pool flags = do
   name ← item u2 (class_at pool)
   super_name ← item u2 (class_at pool)

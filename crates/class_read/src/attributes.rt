@@ -11,8 +11,8 @@ ghost use Rattle.class_model.specs.ReadingAttributes.{source_file, exceptions, r
 ghost use Rattle.class_model.specs.ReadingAttributes.{is_int_base, is_long_base, is_string_base, is_float_base};
 ghost use Rattle.class_model.specs.ReadingAttributes.{is_double_base, plain, constant_in, constant_value};
 ghost use Rattle.class_model.specs.ReadingClass.{read_interfaces};
-ghost use Rattle.class_read.specs.Entries.{found_at};
-ghost use Rattle.class_read.specs.Seen.{shown};
+ghost use Rattle.class_read.specs.bodies.Entries.{found_at};
+ghost use Rattle.class_read.specs.bodies.Seen.{shown};
 
 use crate::faults::fault;
 use crate::lookups::class_at;
@@ -223,7 +223,8 @@ fn is_double(ty: &FieldType) -> bool
 }
 
 fn text_constant(pool: &KnownPool, index: u16) -> M<Option<Constant>>
-    ensures { IfOk result (λ value. value ≡ option_map (λ units. Constant.Text units) (string_units_at pool.now index)) }
+    ensures { IfOk result (λ value. value ≡ option_map (λ units. Constant.Text units)
+        (string_units_at pool.now index)) }
 {
     match pool.string_units_at(index) {
         Some(units) => Ok(Some(Constant::Text(units.clone()?))),

@@ -5,7 +5,7 @@ ghost use Rattle.std.specs.Prelude.{◌≡◌};
 ghost use Rattle.format_reading.specs.Reader.{ReadsOr};
 ghost use Rattle.class_model.specs.ReadingAttributes.{attribute, attributes, counted_attributes};
 ghost use Rattle.class_model.specs.ReadingClass.{known_of_class, no_class_attribute};
-ghost use Rattle.class_read.specs.ClassAttributes.{class_attribute, class_contents};
+ghost use Rattle.class_read.specs.bodies.ClassAttributes.{class_attribute, class_contents};
 
 use crate::attributes::{check_end, check_once, read_units, source_file};
 use crate::names::is_named;
@@ -45,7 +45,8 @@ pub fn read_class_attributes(
     pool: &KnownPool,
     cursor: &mut Cursor,
 ) -> Result<SeenOfClass, Or<FormatFault>>
-    ensures { ReadsOr result cursor.new (counted_attributes pool.now (known_of_class pool.now) no_class_attribute cursor.old) }
+    ensures { ReadsOr result cursor.new (counted_attributes pool.now
+        (known_of_class pool.now) no_class_attribute cursor.old) }
 {
     let count = cursor.u2()?;
     attributes(alloc, count, pool, cursor)
@@ -58,7 +59,8 @@ fn attributes(
     pool: &KnownPool,
     cursor: &mut Cursor,
 ) -> Result<SeenOfClass, Or<FormatFault>>
-    ensures { ReadsOr result cursor.new (attributes count pool.now (known_of_class pool.now) no_class_attribute cursor.old) }
+    ensures { ReadsOr result cursor.new (attributes count pool.now
+        (known_of_class pool.now) no_class_attribute cursor.old) }
 {
     let mut seen = SeenOfClass {
         source: None,

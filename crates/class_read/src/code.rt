@@ -2,9 +2,9 @@
 ghost use Rattle.std.specs.Prelude.{◌≡◌, ◌<◌, ◌≤◌, ◌^◌, IfOk};
 ghost use Rattle.format_reading.specs.Reader.{Reads, ReadsOr, u4, item};
 ghost use Rattle.class_model.specs.ReadingCodeAttribute.{code_length};
-ghost use Rattle.class_read.specs.Codes.{behind_read, code_in_parts};
-ghost use Rattle.class_read.specs.Instructions.{count_of};
-ghost use Rattle.class_read.specs.Methods.{code_of_method};
+ghost use Rattle.class_read.specs.bodies.Codes.{behind_read, code_in_parts};
+ghost use Rattle.class_read.specs.bodies.Instructions.{count_of};
+ghost use Rattle.class_read.specs.bodies.Methods.{code_of_method};
 
 use crate::code_attributes::behind_instructions;
 use crate::faults::fault;
@@ -34,7 +34,7 @@ pub fn read_code(
     code_in_parts(alloc, pool, &first, attribute, cursor)
 }
 
-#[tactic(auto, unfolding(format_reading::specs::Reader::u2, format_reading::specs::Reader::lead, format_reading::specs::Reader::bind, crate::specs::Codes::code_in_parts))]
+#[tactic(auto, unfolding(format_reading::specs::Reader::u2, format_reading::specs::Reader::lead, format_reading::specs::Reader::bind, crate::specs::bodies::Codes::code_in_parts))]
 fn code_in_parts(
     alloc: Global,
     pool: &KnownPool,

@@ -2,20 +2,19 @@
 #![tactic(auto, unfolding(format_reading::specs::Reader::u1, format_reading::specs::Reader::u2, format_reading::specs::Reader::u4, format_reading::specs::Reader::bytes, format_reading::specs::Reader::lead, format_reading::specs::Reader::bind, format_reading::specs::Reader::give, format_reading::specs::Reader::here, format_reading::specs::Reader::settle, format_reading::specs::Reader::part))]
 
 ghost use Rattle.std.specs.Prelude.{◌≡◌, ◌<◌, ◌++◌, length, option_map, IfOk};
-ghost use Rattle.format_reading.specs.Reader.{ReadsOr};
-ghost use Rattle.frame_types.specs.Rows.{ReadsAsOr};
+ghost use Rattle.format_reading.specs.Reader.{ReadsAsOr, ReadsOr};
 ghost use Rattle.frame_types.specs.Before.{table_of};
 ghost use Rattle.class_model.specs.ReadingAttributes.{attribute, attributes, counted_attributes};
 ghost use Rattle.class_model.specs.ReadingCodeAttribute.{known_of_code, nothing_seen, frames_of, left_out_of};
-ghost use Rattle.class_read.specs.CodeAttributes.{code_attribute, code_contents, frames_by, code_with};
-ghost use Rattle.class_read.specs.CodeAttributes.{behind_instructions};
+ghost use Rattle.class_read.specs.bodies.CodeAttributes.{code_attribute, code_contents, frames_by, code_with};
+ghost use Rattle.class_read.specs.bodies.CodeAttributes.{behind_instructions};
 
 use crate::attributes::{Line, check_end, check_once, line_number_table, read_units};
 use crate::handlers::read_handlers;
 use crate::lines::lined;
 use crate::methods::Body;
 use crate::names::is_named;
-use class_model::{Code, Frame, FrameAt, Handler, LeftKind, Op};
+use class_model::{Code, Frame, Frames, Handler, LeftKind, Op};
 use format_reading::{FormatFault, of_part};
 use frame_types::{StackMapTable, Starts, frames_at};
 use jv_base::{Cursor, Items, M, Or, Units};
@@ -135,7 +134,8 @@ fn attribute(
     seen: SeenOfCode,
     cursor: &mut Cursor,
 ) -> Result<SeenOfCode, Or<FormatFault>>
-    ensures { ReadsOr result cursor.new (attribute frames.now.pool.now (known_of_code (frames_by frames.now)) seen cursor.old) }
+    ensures { ReadsOr result cursor.new (attribute frames.now.pool.now
+        (known_of_code (frames_by frames.now)) seen cursor.old) }
 {
     let at = cursor.place();
     let name = read_units(frames.pool, cursor)?;
@@ -191,13 +191,13 @@ fn counted(
 // ---- all together
 
 // The frames, and what is left out in them. A code without a StackMapTable has none (JVMS 4.7.4).
-fn frames_of(alloc: Global, map: Option<StackMapTable>) -> (Items<FrameAt>, Option<LeftKind>)
+fn frames_of(alloc: Global, map: Option<StackMapTable>) -> (Frames, Option<LeftKind>)
     ensures { result ≡ (frames_of (option_map table_of map), left_out_of (option_map table_of map)) }
 {
     match map {
         Some(map) if map.names_float => (map.frames, Some(LeftKind::FloatType)),
         Some(map) => (map.frames, None),
-        None => (Items::new(alloc), None),
+        None => (Frames::new(alloc), None),
     }
 }
 
@@ -227,7 +227,7 @@ fn code_with(
 
 /// What stands behind the instructions of a code, with these: the exception table and the attributes. The last
 /// instruction ends at `end`, and `first` is the method's initial frame.
-#[tactic(auto, unfolding(format_reading::specs::Reader::bind, format_reading::specs::Reader::give, crate::specs::CodeAttributes::behind_instructions))]
+#[tactic(auto, unfolding(format_reading::specs::Reader::bind, format_reading::specs::Reader::give, crate::specs::bodies::CodeAttributes::behind_instructions))]
 pub(crate) fn behind_instructions(
     alloc: Global,
     pool: &KnownPool,

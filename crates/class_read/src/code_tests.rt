@@ -66,10 +66,7 @@ fn handlers_lines_and_frames_are_read(rt: HostRuntime) -> Result<(), Fail> {
     ))
     );
     assert!(rt;
-        matches!(&body, Ok((Some(code), None)) if matches!(
-        code.frames.as_slice(),
-        [frame] if frame.index == 1
-    ))
+        matches!(&body, Ok((Some(code), None)) if code.frames.len() == 1 && code.frames.index(0) == 1)
     );
     Ok(())
 }

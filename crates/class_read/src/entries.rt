@@ -1,5 +1,5 @@
 // The entries of a constant pool, from their bytes (JVMS 4.4).
-#![tactic(auto, unfolding(format_reading::specs::Reader::u1, format_reading::specs::Reader::u2, format_reading::specs::Reader::u4, format_reading::specs::Reader::bytes, format_reading::specs::Reader::lead, format_reading::specs::Reader::bind, format_reading::specs::Reader::give, format_reading::specs::Reader::here, format_reading::specs::Reader::told, class_model::specs::ReadingPool::read_entry, class_model::specs::ReadingPool::slot, class_model::specs::ReadingPool::read_pool))]
+#![tactic(auto, unfolding(format_reading::specs::Reader::u1, format_reading::specs::Reader::u2, format_reading::specs::Reader::u4, format_reading::specs::Reader::bytes, format_reading::specs::Reader::lead, format_reading::specs::Reader::bind, format_reading::specs::Reader::give, format_reading::specs::Reader::here, format_reading::specs::Reader::of_result, class_model::specs::ReadingPool::read_entry, class_model::specs::ReadingPool::slot, class_model::specs::ReadingPool::read_pool))]
 
 ghost use Rattle.std.specs.Prelude.{◌≡◌, ◌<◌, ◌+◌, ◌*◌, ◌^◌, false, IfOk, length, slice_get};
 ghost use Rattle.jv_base.specs.Outcome.{IsDue};
@@ -7,7 +7,7 @@ ghost use Rattle.format_reading.specs.Reader.{ReadsOr, onwards};
 ghost use Rattle.class_model.specs.ConstantPool.{left_out_length, takes_two};
 ghost use Rattle.class_model.specs.ReadingPool.{utf8, integer, long, has_no_room, read_entry, slot, slots, left_out};
 ghost use Rattle.class_model.specs.ReadingPool.{entries_of, read_pool};
-ghost use Rattle.class_read.specs.Entries.{units_of_bytes, offsets_of, fault_in, faults_in};
+ghost use Rattle.class_read.specs.bodies.Entries.{units_of_bytes, offsets_of, fault_in, faults_in};
 
 use crate::faults::fault;
 use crate::lookups::names_right;

@@ -4,21 +4,22 @@
 ghost use Rattle.std.specs.Prelude.{◌≡◌, [], ◌∷◌, ◌++◌, false, IfOk, OnOk};
 ghost use Rattle.std.specs.List.{list_any};
 ghost use Rattle.format_reading.specs.Reader.{ReadsOr};
+ghost use Rattle.jv_base.specs.Types.{field_text};
 ghost use Rattle.class_model.specs.Flags.{is_static};
 ghost use Rattle.class_model.specs.ReadingAttributes.{attribute, attributes, counted_attributes};
 ghost use Rattle.class_model.specs.ReadingMembers.{known_of_field, no_field_attribute, constant_of, field_of};
 ghost use Rattle.class_model.specs.ReadingMembers.{same_signature, read_field_info, read_fields};
-ghost use Rattle.class_read.specs.Fields.{field_attribute, field_contents};
+ghost use Rattle.class_read.specs.bodies.Fields.{field_attribute, field_contents};
 
 use crate::attributes::{check_end, check_once, constant_value, read_units};
 use crate::flags::{field_access, is_static, read_field_flags};
-use crate::members::{copied_field, read_field_type, read_name};
+use crate::members::{read_field_type, read_name};
 use crate::names::is_named;
-use crate::signatures::{Signature, Signatures};
+use crate::signatures::{Signature, Signatures, signature_of};
 use class_model::{Constant, Field};
 use format_reading::{FormatFault, of_part};
 use jv_base::{Cursor, FieldType, Items, M, Name, Or, Units};
-use known_pool::{DescribedField, KnownPool, TextRule};
+use known_pool::{DescribedField, KnownPool, KnownText, TextRule};
 use std::alloc::Global;
 use std::marker::Model;
 
@@ -94,12 +95,38 @@ fn field_info(
     let flags = read_field_flags(in_interface, cursor)?;
     let name = read_name(pool, TextRule::MemberName, cursor)?;
     let described = read_field_type(pool, cursor)?;
-    let (ty, text) = copied_field(described)?;
-    let signature = (name.text().clone()?, text);
+    let signature = field_signature(name, described)?;
     before.check_fresh(at, &signature)?;
     let seen = attributes_seen(pool, flags, described, cursor)?;
+    let field = whole_field(flags, name, described, seen)?;
+    Ok((field, signature))
+}
+
+fn field_signature(name: &KnownText, described: &DescribedField) -> M<Signature>
+    ensures { IfOk result (λ signature. signature ≡ (name.now, field_text described.now)) }
+{
+    let text = described.text().clone()?;
+    Ok(signature_of(name.text().clone()?, text))
+}
+
+fn whole_field(
+    flags: u16,
+    name: &KnownText,
+    described: &DescribedField,
+    seen: SeenOfField,
+) -> M<Field>
+    ensures { IfOk result (λ field. field ≡ field_of flags name.now described.now seen) }
+{
+    let (name, ty) = copied_field(name, described)?;
+    Ok(field_of(flags, name, ty, seen))
+}
+
+// A copy of a name and a type.
+fn copied_field(name: &KnownText, described: &DescribedField) -> M<(Name, FieldType)>
+    ensures { IfOk result (λ two. two ≡ (name.now, described.now)) }
+{
     let name = name.text().clone()?;
-    Ok((field_of(flags, name, ty, seen), signature))
+    Ok((name, described.ty().clone()?))
 }
 
 fn field_of(flags: u16, name: Name, ty: FieldType, seen: SeenOfField) -> Field
@@ -136,7 +163,8 @@ fn attributes_seen(
     cursor: &mut Cursor,
 ) -> Result<SeenOfField, Or<FormatFault>>
     ensures { ReadsOr result cursor.new
-        (counted_attributes pool.now (known_of_field pool.now (is_static flags) described.now) no_field_attribute cursor.old) }
+        (counted_attributes pool.now (known_of_field pool.now
+        (is_static flags) described.now) no_field_attribute cursor.old) }
 {
     counted(pool, flags, described.ty(), cursor)
 }
@@ -184,7 +212,8 @@ fn attribute(
     seen: SeenOfField,
     cursor: &mut Cursor,
 ) -> Result<SeenOfField, Or<FormatFault>>
-    ensures { ReadsOr result cursor.new (attribute pool.now (known_of_field pool.now (is_static flags) ty.now) seen cursor.old) }
+    ensures { ReadsOr result cursor.new (attribute pool.now
+        (known_of_field pool.now (is_static flags) ty.now) seen cursor.old) }
 {
     let at = cursor.place();
     let name = read_units(pool, cursor)?;

@@ -3,7 +3,8 @@ ghost use Rattle.std.specs.Prelude.{◌≡◌};
 ghost use Rattle.format_reading.specs.Reader.{Reads};
 ghost use Rattle.class_model.specs.Flags.{has, has_some, is_left_out_class, has_one_access, is_interface, is_static};
 ghost use Rattle.class_model.specs.Flags.{is_native, has_body, are_class_flags, are_field_flags, are_method_flags};
-ghost use Rattle.class_model.specs.Flags.{are_initial_flags, flags_of, meant, class_mask, field_mask, method_mask};
+ghost use Rattle.class_model.specs.Flags.{are_initial_flags, flags_of, defined_flags, class_mask, field_mask};
+ghost use Rattle.class_model.specs.Flags.{method_mask};
 ghost use Rattle.class_model.specs.ReadingMembers.{read_flags};
 
 use crate::faults::fault;
@@ -216,21 +217,21 @@ pub fn read_method_flags(cursor: &mut Cursor) -> Result<u16, FormatFault>
 
 /// The flags that mean something on a class.
 pub fn class_access(flags: u16) -> Access
-    ensures { result ≡ flags_of (meant class_mask flags) }
+    ensures { result ≡ flags_of (defined_flags class_mask flags) }
 {
     Access(flags & CLASS_MASK)
 }
 
 /// The flags that mean something on a field.
 pub fn field_access(flags: u16) -> Access
-    ensures { result ≡ flags_of (meant field_mask flags) }
+    ensures { result ≡ flags_of (defined_flags field_mask flags) }
 {
     Access(flags & FIELD_MASK)
 }
 
 /// The flags that mean something on a method.
 pub fn method_access(flags: u16) -> Access
-    ensures { result ≡ flags_of (meant method_mask flags) }
+    ensures { result ≡ flags_of (defined_flags method_mask flags) }
 {
     Access(flags & METHOD_MASK)
 }

@@ -1,7 +1,7 @@
 // The line of each instruction (JVMS 4.7.12).
 ghost use Rattle.std.specs.Prelude.{◌≡◌, ◌<◌, ℕ, length, IfOk, OnOk, None};
-ghost use Rattle.frame_types.specs.Numbers.{found};
-ghost use Rattle.class_read.specs.Lines.{lined_by, lined, last_there, line_there, carried, offsets_up_to};
+ghost use Rattle.frame_types.specs.bodies.Numbers.{found};
+ghost use Rattle.class_read.specs.bodies.Lines.{lined_by, lined, last_there, line_there, carried, offsets_up_to};
 
 use crate::attributes::Line;
 use class_model::{Ins, Op};
@@ -47,7 +47,8 @@ fn note(lines: &mut Vec<Option<u16>>, row: &Line)
 // For each of so many offsets the line of the last row that starts there.
 fn lines_there(alloc: Global, count: usize, rows: &[Line]) -> M<Vec<Option<u16>>>
     ensures long { IfOk result (λ lines. length lines.items ≡ count) }
-    ensures found { IfOk result (λ lines. (offset : ℕ) → offset < count → found lines.items offset ≡ line_there rows.now offset) }
+    ensures found { IfOk result (λ lines. (offset : ℕ) → offset < count → found lines.items offset
+        ≡ line_there rows.now offset) }
 {
     let mut lines = no_lines(alloc, count)?;
     for row in rows {

@@ -3,9 +3,9 @@ ghost use Rattle.std.specs.Prelude.{◌≡◌};
 ghost use Rattle.class_model.specs.Pool.{units_at};
 ghost use Rattle.class_model.specs.Lookups.{test, text_at, good_text_at, class_at, names_right, refers_right};
 ghost use Rattle.class_model.specs.Lookups.{test_of_units};
-ghost use Rattle.class_read.specs.Seen.{shown};
-ghost use Rattle.class_read.specs.Lookups.{referred, type_named_right};
-ghost use Rattle.known_pool.specs.Texts.{obeys};
+ghost use Rattle.class_read.specs.bodies.Seen.{shown};
+ghost use Rattle.class_read.specs.bodies.Lookups.{referred, type_named_right};
+ghost use Rattle.known_pool.specs.bodies.Texts.{obeys};
 
 use class_model::Entry;
 use format_reading::FormatKind;

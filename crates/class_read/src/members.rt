@@ -1,19 +1,19 @@
 // The names and types of members (JVMS 4.5, 4.6).
-ghost use Rattle.std.specs.Prelude.{◌≡◌, ◌≤◌, IfOk};
+ghost use Rattle.std.specs.Prelude.{◌≡◌, ◌≤◌};
 ghost use Rattle.format_reading.specs.declared.fault.FormatKind.TheVariants.{BadName};
 ghost use Rattle.format_reading.specs.Reader.{Reads, u2, item};
 ghost use Rattle.class_model.specs.Lookups.{good_text_at};
 ghost use Rattle.class_model.specs.MemberTypes.{field_type_at, method_type_at};
 ghost use Rattle.class_model.specs.Members.{has_room_for_this, is_initial_type};
-ghost use Rattle.jv_base.specs.Types.{words_of, argument_words, field_text, method_text};
-ghost use Rattle.class_read.specs.Seen.{shown};
-ghost use Rattle.known_pool.specs.Texts.{obeys};
+ghost use Rattle.jv_base.specs.Types.{words_of, argument_words};
+ghost use Rattle.class_read.specs.bodies.Seen.{shown};
+ghost use Rattle.known_pool.specs.bodies.Texts.{obeys};
 
 use crate::faults::fault;
 use crate::flags::{are_initial_flags, is_static};
 use crate::lookups::{good_text_at, test, text_at};
 use format_reading::{FormatFault, FormatKind};
-use jv_base::{Base, Cursor, FieldType, M, MethodType, Name, Text};
+use jv_base::{Base, Cursor, FieldType, MethodType, Name};
 use known_pool::{DescribedField, DescribedMethod, KnownPool, KnownText, TextRule};
 
 /// A name that obeys a rule.
@@ -122,20 +122,6 @@ fn method_type_at<'a>(
     Ok(described)
 }
 
-/// A copy of the type of a field and of its descriptor.
-pub fn copied_field(described: &DescribedField) -> M<(FieldType, Text)>
-    ensures { IfOk result (λ two. two ≡ (described.now, field_text described.now)) }
-{
-    Ok((described.ty().clone()?, described.text().clone()?))
-}
-
-/// A copy of the type of a method and of its descriptor.
-pub fn copied_method(described: &DescribedMethod) -> M<(MethodType, Text)>
-    ensures { IfOk result (λ two. two ≡ (described.now, method_text described.now)) }
-{
-    Ok((described.ty().clone()?, described.text().clone()?))
-}
-
 /// The type of a method with these flags and this name.
 pub fn read_method_type<'a>(
     pool: &'a KnownPool,
@@ -144,7 +130,8 @@ pub fn read_method_type<'a>(
     name: &Name,
     cursor: &mut Cursor,
 ) -> Result<&'a DescribedMethod, FormatFault>
-    ensures { Reads (shown result) cursor.new (item u2 (method_type_at pool.now in_interface flags name.now) cursor.old) }
+    ensures { Reads (shown result) cursor.new
+        (item u2 (method_type_at pool.now in_interface flags name.now) cursor.old) }
 {
     let at = cursor.place();
     let index = cursor.u2()?;

@@ -5,27 +5,29 @@ ghost use Rattle.std.specs.Prelude.{◌≡◌, [], ◌∷◌, ◌++◌, ◌||◌
 ghost use Rattle.std.specs.List.{list_any};
 ghost use Rattle.format_reading.specs.Reader.{ReadsOr, part};
 ghost use Rattle.format_reading.specs.declared.fault.FormatKind.TheVariants.{BadAttribute};
+ghost use Rattle.jv_base.specs.Types.{method_text};
 ghost use Rattle.class_model.specs.Flags.{has_body};
 ghost use Rattle.class_model.specs.Lookups.{test};
 ghost use Rattle.class_model.specs.ReadingAttributes.{attribute, attributes, counted_attributes};
 ghost use Rattle.class_model.specs.ReadingCodeAttribute.{is_there};
 ghost use Rattle.class_model.specs.ReadingMembers.{no_method_attribute, body_of, method_of, same_signature};
 ghost use Rattle.class_model.specs.ReadingMembers.{read_method_info, read_methods};
-ghost use Rattle.class_read.specs.Entries.{found_at};
-ghost use Rattle.class_read.specs.Methods.{code_of_method, known_of, method_head, method_attribute, method_contents};
+ghost use Rattle.class_read.specs.bodies.Entries.{found_at};
+ghost use Rattle.class_read.specs.bodies.Methods.{code_of_method, known_of, method_head, method_attribute};
+ghost use Rattle.class_read.specs.bodies.Methods.{method_contents};
 ghost use Rattle.class_read.specs.declared.methods.MethodAttribute.TheVariants as kinds;
 
 use crate::attributes::{check_end, check_once, exceptions, read_units};
 use crate::code::read_code;
 use crate::faults::fault;
 use crate::flags::{has_body, is_native, method_access, read_method_flags};
-use crate::members::{copied_method, read_method_type, read_name};
+use crate::members::{read_method_type, read_name};
 use crate::names::is_named;
-use crate::signatures::{Signature, Signatures};
+use crate::signatures::{Signature, Signatures, signature_of};
 use class_model::{Code, LeftKind, Method};
 use format_reading::{FormatFault, FormatKind, of_part};
 use jv_base::{Cursor, Items, M, MethodType, Name, Or, Units};
-use known_pool::{KnownPool, TextRule};
+use known_pool::{DescribedMethod, KnownPool, KnownText, TextRule};
 use std::alloc::Global;
 use std::marker::Model;
 
@@ -133,7 +135,7 @@ fn method_info(
 }
 
 // What stands before the attributes of a method behind those of these signatures.
-#[tactic(auto, unfolding(format_reading::specs::Reader::u2, format_reading::specs::Reader::lead, format_reading::specs::Reader::bind, format_reading::specs::Reader::give, format_reading::specs::Reader::here, format_reading::specs::Reader::settle, crate::specs::Methods::method_head))]
+#[tactic(auto, unfolding(format_reading::specs::Reader::u2, format_reading::specs::Reader::lead, format_reading::specs::Reader::bind, format_reading::specs::Reader::give, format_reading::specs::Reader::here, format_reading::specs::Reader::settle, crate::specs::bodies::Methods::method_head))]
 fn method_head(
     pool: &KnownPool,
     in_interface: bool,
@@ -145,13 +147,27 @@ fn method_head(
 {
     let at = cursor.place();
     let flags = read_method_flags(cursor)?;
-    let known = read_name(pool, TextRule::MethodName, cursor)?;
-    let name = known.text().clone()?;
-    let described = read_method_type(pool, in_interface, flags, &name, cursor)?;
-    let (ty, text) = copied_method(described)?;
-    let signature = (name.clone()?, text);
+    let name = read_name(pool, TextRule::MethodName, cursor)?;
+    let described = read_method_type(pool, in_interface, flags, name.text(), cursor)?;
+    let signature = method_signature(name, described)?;
     before.check_fresh(at, &signature)?;
-    Ok((MethodHead { flags, name, ty }, signature))
+    let head = copied_head(flags, name, described)?;
+    Ok((head, signature))
+}
+
+fn method_signature(name: &KnownText, described: &DescribedMethod) -> M<Signature>
+    ensures { IfOk result (λ signature. signature ≡ (name.now, method_text described.now)) }
+{
+    let text = described.text().clone()?;
+    Ok(signature_of(name.text().clone()?, text))
+}
+
+fn copied_head(flags: u16, name: &KnownText, described: &DescribedMethod) -> M<MethodHead>
+    ensures { IfOk result (λ head. head ≡ record { flags = flags; name = name.now; ty = described.now }) }
+{
+    let name = name.text().clone()?;
+    let ty = described.ty().clone()?;
+    Ok(MethodHead { flags, name, ty })
 }
 
 // A method that has to have a Code has one.
@@ -224,7 +240,8 @@ fn attributes(
     head: &MethodHead,
     cursor: &mut Cursor,
 ) -> Result<SeenOfMethod, Or<FormatFault>>
-    ensures { ReadsOr result cursor.new (attributes count pool.now (known_of pool.now class.now head.now) no_method_attribute cursor.old) }
+    ensures { ReadsOr result cursor.new (attributes count pool.now
+        (known_of pool.now class.now head.now) no_method_attribute cursor.old) }
 {
     let mut seen = SeenOfMethod {
         body: None,
@@ -272,7 +289,8 @@ fn known_attribute(
     seen: SeenOfMethod,
     cursor: &mut Cursor,
 ) -> Result<SeenOfMethod, Or<FormatFault>>
-    ensures { ReadsOr result cursor.new (part at length (method_contents pool.now class.now head.now at seen known) cursor.old) }
+    ensures { ReadsOr result cursor.new (part at length
+        (method_contents pool.now class.now head.now at seen known) cursor.old) }
 {
     let mut part = cursor.part(length)?;
     match contents(alloc, pool, class, head, at, known, seen, &mut part) {

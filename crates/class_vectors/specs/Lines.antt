@@ -1,7 +1,5 @@
 -- Lines that are class files in hex (the project's own: how files are given to the program).
-use Rattle.std.specs.Prelude.{ℕ, ◌-◌, List, [], ◌∷◌, drop, length, take, nat_lt, Option, Some, None, Result, Ok, Err}
-use Rattle.std.specs.Prelude.{if◌then◌else◌}
-use Rattle.jv_base.specs.Names.{is_text}
+use Rattle.std.specs.Prelude.{ℕ, List, length, nat_lt, Option, Some, None, Result, Ok, Err, if◌then◌else◌}
 use Rattle.hex.specs.declared.error.FromHexError.{FromHexError}
 use Rattle.hex.specs.Hex.{decode_of}
 
@@ -13,7 +11,3 @@ short (Err e) = None
 -- the bytes that a line is in hex, fewer than 4 GiB
 abbrev pub bytes_of : List ℕ → Option (List ℕ)
 bytes_of line = short (decode_of line)
-
--- a line without its end, if it has one
-abbrev pub without_end : List ℕ → List ℕ
-without_end line = if is_text (drop (length line - 1) line) (10 ∷ []) then take (length line - 1) line else line

@@ -1,82 +1,34 @@
-// Lines of input, each answered.
-ghost use Rattle.std.specs.Prelude.{◌≡◌, IfOk, IsErrOf, None, Some};
-ghost use Rattle.class_vectors.specs.Lines.{bytes_of, without_end};
-ghost use Rattle.class_vectors.specs.declared.lines.Stop.TheVariants.{NoHex};
+// Lines that are class files in hex.
+ghost use Rattle.std.specs.Prelude.{◌≡◌, ◌<◌, IfOk, IfSome, length};
+ghost use Rattle.std.specs.Option.{option_map};
+ghost use Rattle.class_vectors.specs.Lines.{bytes_of};
 
 use crate::answer::answer;
 use hex::FromHexError;
-use jv_base::OutOfMemory;
-use std::alloc::{AllocError, Global};
-use std::io::{BufRead, ErrorKind, Write};
+use jv_base::{M, OutOfMemory, Text};
+use line_answers::Answers;
+use std::alloc::Global;
 
-/// Why not all lines are answered.
-#[derive(Debug, Drop)]
-pub enum Stop {
-    /// The line of this number, from 1, is no class file in hex.
-    NoHex(u64),
-    /// A device failed.
-    Device,
-    OutOfMemory,
-}
+/// Says of a class file in hex what reading it gives.
+pub struct ClassFiles;
 
-impl From<AllocError> for Stop {
-    fn from(_: AllocError) -> Self {
-        Stop::OutOfMemory
-    }
-}
-
-impl From<OutOfMemory> for Stop {
-    fn from(_: OutOfMemory) -> Self {
-        Stop::OutOfMemory
-    }
-}
-
-impl From<std::io::Error> for Stop {
-    fn from(error: std::io::Error) -> Self {
-        match error.kind() {
-            ErrorKind::OutOfMemory => Stop::OutOfMemory,
-            _ => Stop::Device,
+impl Answers for ClassFiles {
+    fn answer(&self, alloc: Global, line: &[u8]) -> M<Option<Text>> {
+        match bytes_of(alloc, line)? {
+            Some(bytes) => Ok(Some(answer(alloc, bytes.as_slice())?)),
+            None => Ok(None),
         }
     }
 }
 
-/// Answers each line of the input, the last one with its end or without it.
-pub fn answer_lines<R: BufRead, W: Write>(
-    alloc: Global,
-    input: &mut R,
-    output: &mut W,
-) -> Result<(), Stop> {
-    let mut line = Vec::new(alloc);
-    for number in 1..u64::MAX {
-        line.clear();
-        if input.read_until(b'\n', &mut line)? == 0 {
-            return Ok(());
-        }
-        let bytes = bytes_of(alloc, number, without_end(line.as_slice()))?;
-        let text = answer(alloc, bytes.as_slice())?;
-        output.write_all(text.as_bytes())?;
-        output.write_all(b"\n")?;
-    }
-    Err(Stop::Device)
-}
-
-fn without_end(line: &[u8]) -> &[u8]
-    ensures { result.now ≡ without_end line.now }
-{
-    match line.strip_suffix(b"\n") {
-        Some(front) => front,
-        None => line,
-    }
-}
-
-// The bytes that the line of a number is in hex. A class file is shorter than 4 GiB.
-fn bytes_of(alloc: Global, number: u64, line: &[u8]) -> Result<Vec<u8>, Stop>
-    ensures bytes { IfOk result (λ bytes. bytes_of line.now ≡ Some bytes.items) }
-    ensures none { IsErrOf result (NoHex number) → bytes_of line.now ≡ None }
+// The bytes that a line is in hex. A class file is shorter than 4 GiB.
+fn bytes_of(alloc: Global, line: &[u8]) -> M<Option<Vec<u8>>>
+    ensures bytes { IfOk result (λ found. option_map (λ bytes. bytes.items) found ≡ bytes_of line.now) }
+    ensures short { IfOk result (λ found. IfSome found (λ bytes. length bytes.items < 4294967295)) }
 {
     match hex::decode(alloc, line) {
-        Ok(bytes) if bytes.len() < u32::MAX as usize => Ok(bytes),
-        Err(FromHexError::OutOfMemory) => Err(Stop::OutOfMemory),
-        _ => Err(Stop::NoHex(number)),
+        Ok(bytes) if bytes.len() < u32::MAX as usize => Ok(Some(bytes)),
+        Err(FromHexError::OutOfMemory) => Err(OutOfMemory),
+        _ => Ok(None),
     }
 }

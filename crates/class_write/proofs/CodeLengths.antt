@@ -26,7 +26,7 @@ use Rattle.class_model.specs.CanonicalFrames.{rows}
 use Rattle.class_model.specs.CanonicalCode.{places, code_bytes}
 use Rattle.class_model.specs.CanonicalClass.{is_some_item, line_row, line_rows_from, line_rows, line_table, attribute}
 use Rattle.class_model.specs.CanonicalClass.{handler_raw, code_attributes, code_contents}
-use Rattle.class_write.specs.Writing.{attribute_length, items_text, contents_due}
+use Rattle.class_write.specs.bodies.Writing.{attribute_length, items_text, contents_due}
 use Rattle.class_write.proofs.Counted.{rows_length}
 use Rattle.class_write.proofs.SpelledLines.{lines_counted}
 use Rattle.frame_types.proofs.BackGood.{fewer_than_words}

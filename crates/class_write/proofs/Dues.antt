@@ -13,9 +13,9 @@ use Rattle.class_model.specs.ClassFile.{class_file}
 use Rattle.class_model.specs.CanonicalClass.{pool_of, class_raw, layout}
 use Rattle.class_model.specs.WriteLimits.{fits_u2, first_of, text_fits, code_fits, tables_fit, body_fits, limits}
 use Rattle.class_model.specs.WriteLimits.{spelled_within, class_written}
-use Rattle.class_write.specs.Placing.{placed_bodies, bodies_due}
+use Rattle.class_write.specs.bodies.Placing.{placed_bodies, bodies_due}
 use Rattle.constant_table.specs.Limits.{pool_fits}
-use Rattle.class_write.specs.Writing.{Puts}
+use Rattle.class_write.specs.bodies.Writing.{Puts}
 
 abbrev Limited : Type 0
 Limited = Result (Unit {0}) WriteLimit

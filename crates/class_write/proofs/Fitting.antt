@@ -18,8 +18,8 @@ use Rattle.class_model.specs.CanonicalClass.{line_rows, first_locals}
 use Rattle.class_model.specs.WellFormed.{IsGoodCode, IsGoodMethod, HasFewWords}
 use Rattle.class_model.specs.WriteLimits.{fits_u2, first_of, text_fits, branches_fit, code_fits, frames_fit}
 use Rattle.class_model.specs.WriteLimits.{body_tables_fit, method_tables_fit, table_fits, tables_fit}
-use Rattle.class_write.specs.Placing.{IsWritable, HasWritable}
-use Rattle.class_write.specs.Writing.{FitsTables, HasFitting}
+use Rattle.class_write.specs.bodies.Placing.{IsWritable, HasWritable}
+use Rattle.class_write.specs.bodies.Writing.{FitsTables, HasFitting}
 use Rattle.constant_table.specs.Limits.{pool_fits}
 
 abbrev Limited : Type 0

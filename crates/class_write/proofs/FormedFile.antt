@@ -19,7 +19,8 @@ use Rattle.class_model.specs.declared.class.Method.{Method}
 use Rattle.class_model.specs.declared.class.Class.{Class}
 use Rattle.class_model.specs.declared.class.LeftKind.{LeftKind}
 use Rattle.class_model.specs.declared.class.LeftKind.TheVariants as left
-use Rattle.class_model.specs.Flags.{class_mask, field_mask, method_mask, meant, is_interface, is_static, is_native}
+use Rattle.class_model.specs.Flags.{class_mask, field_mask, method_mask, defined_flags, is_interface, is_static}
+use Rattle.class_model.specs.Flags.{is_native}
 use Rattle.class_model.specs.Flags.{has_body, is_left_out_class, are_class_flags, are_field_flags, are_method_flags}
 use Rattle.class_model.specs.Flags.{are_initial_flags}
 use Rattle.class_model.specs.Structure.{AttributeInfo, MemberInfo}
@@ -49,12 +50,12 @@ use Rattle.class_model.proofs.PoolLaw.{all_at}
 
 -- what holds of the flags that mean something holds of those that are kept
 kept : (P : ℕ → Type 0) (mask bits : ℕ) (flags : Access) (passes : ℕ → Bool) → AreFlags mask passes bits flags
-    → P (meant mask bits) → P flags.0
+    → P (defined_flags mask bits) → P flags.0
 kept P mask bits flags passes h p = subst P (sym (ap (λ (f : Access). f.0) h.are)) p
 
 -- so does a test
 kept_test : (test : ℕ → Bool) (mask bits : ℕ) (flags : Access) (passes : ℕ → Bool) → AreFlags mask passes bits flags
-    → test (meant mask bits) ≡ test bits → test flags.0 ≡ test bits
+    → test (defined_flags mask bits) ≡ test bits → test flags.0 ≡ test bits
 kept_test test mask bits flags passes h e = ap (λ (f : Access). test f.0) h.are ∙ e
 
 -- ---- nothing is left out
@@ -118,7 +119,7 @@ module _ (pool : List Entry) (units : HaveUnits pool) (fits : AllByRecursion Ent
       let c = both_parts (IsTrue (is_static field.flags.0)) (is_static bits) field field.constant (λ e. static ∙ e)
       (constants_formed (is_static bits) field.ty _ field.constant h.constant) in (
         record {
-          meant = kept (λ n. meant field_mask n ≡ n) field_mask bits field.flags passes h.flags
+          meant = kept (λ n. defined_flags field_mask n ≡ n) field_mask bits field.flags passes h.flags
               (meant_again field_mask bits);
           flags = kept_test passes field_mask bits field.flags passes h.flags (field_meant in_interface bits)
               ∙ h.flags.good;
@@ -207,7 +208,7 @@ module _ (pool : List Entry) (units : HaveUnits pool) (right : AllNameRight pool
       let native = kept_test is_native method_mask bits m.flags are_method_flags h.flags (native_meant bits)
       ∙ not_native bits (has_body bits) refl body.2 in (
         record {
-          meant = kept (λ n. meant method_mask n ≡ n) method_mask bits m.flags are_method_flags h.flags
+          meant = kept (λ n. defined_flags method_mask n ≡ n) method_mask bits m.flags are_method_flags h.flags
               (meant_again method_mask bits);
           flags = kept_test are_method_flags method_mask bits m.flags are_method_flags h.flags (method_meant bits)
               ∙ h.flags.good;
@@ -275,7 +276,7 @@ class_formed_of raw c pool h none =
     record {
       well_formed = record {
         nothing_left_out = none;
-        meant = kept (λ n. meant class_mask n ≡ n) class_mask bits c.flags are_class_flags h.flags
+        meant = kept (λ n. defined_flags class_mask n ≡ n) class_mask bits c.flags are_class_flags h.flags
             (meant_again class_mask bits);
         flags = kept_test are_class_flags class_mask bits c.flags are_class_flags h.flags (class_meant bits)
             ∙ h.flags.good;

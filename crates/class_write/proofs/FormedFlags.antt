@@ -5,12 +5,13 @@ use Rattle.std.proofs.lemmas.Bool.{eqb-true}
 use Rattle.std.proofs.lemmas.Nat.{and_assoc}
 use Rattle.class_model.specs.Flags.{acc_private, acc_public, acc_protected, acc_static, acc_final, acc_synchronized}
 use Rattle.class_model.specs.Flags.{acc_volatile, acc_native, acc_interface, acc_abstract, acc_strict, acc_annotation}
-use Rattle.class_model.specs.Flags.{acc_enum, class_mask, field_mask, method_mask, meant, is_interface, is_static}
+use Rattle.class_model.specs.Flags.{acc_enum, class_mask, field_mask, method_mask, defined_flags, is_interface}
+use Rattle.class_model.specs.Flags.{is_static}
 use Rattle.class_model.specs.Flags.{is_native, has_body, are_class_flags, is_left_out_class, are_field_flags}
 use Rattle.class_model.specs.Flags.{are_method_flags, is_init, is_clinit, are_initial_flags}
 
 -- all of them mean something
-pub meant_again : (mask bits : ℕ) → meant mask (meant mask bits) ≡ meant mask bits
+pub meant_again : (mask bits : ℕ) → defined_flags mask (defined_flags mask bits) ≡ defined_flags mask bits
 meant_again mask bits = and_assoc mask bits mask ∙ ap (bit_and bits) (and_self mask)
 
 -- flags among those that mean something are as before
@@ -19,26 +20,26 @@ part mask bits k e = and_assoc k bits mask ∙ ap (bit_and bits) e
 
 -- ---- of a class
 
-pub interface_meant : (bits : ℕ) → is_interface (meant class_mask bits) ≡ is_interface bits
+pub interface_meant : (bits : ℕ) → is_interface (defined_flags class_mask bits) ≡ is_interface bits
 interface_meant bits = ap (λ (n : ℕ). eqb n acc_interface) (part class_mask bits acc_interface refl)
 
-pub class_meant : (bits : ℕ) → are_class_flags (meant class_mask bits) ≡ are_class_flags bits
+pub class_meant : (bits : ℕ) → are_class_flags (defined_flags class_mask bits) ≡ are_class_flags bits
 class_meant bits =
     let a = part class_mask bits (acc_final + acc_abstract) refl in
     let b = part class_mask bits acc_interface refl in
     let c = part class_mask bits acc_abstract refl in
     λ i. not (eqb (a i) (acc_final + acc_abstract)) && (not (eqb (b i) acc_interface) || eqb (c i) acc_abstract)
 
-pub left_out_meant : (bits : ℕ) → is_left_out_class (meant class_mask bits) ≡ is_left_out_class bits
+pub left_out_meant : (bits : ℕ) → is_left_out_class (defined_flags class_mask bits) ≡ is_left_out_class bits
 left_out_meant bits = ap (λ (n : ℕ). not (eqb n 0)) (part class_mask bits (acc_annotation + acc_enum) refl)
 
 -- ---- of a field
 
-pub field_static_meant : (bits : ℕ) → is_static (meant field_mask bits) ≡ is_static bits
+pub field_static_meant : (bits : ℕ) → is_static (defined_flags field_mask bits) ≡ is_static bits
 field_static_meant bits = ap (λ (n : ℕ). eqb n acc_static) (part field_mask bits acc_static refl)
 
 pub field_meant : (in_interface : Bool) (bits : ℕ)
-    → are_field_flags in_interface (meant field_mask bits) ≡ are_field_flags in_interface bits
+    → are_field_flags in_interface (defined_flags field_mask bits) ≡ are_field_flags in_interface bits
 field_meant in_interface bits =
     let a = part field_mask bits (acc_public + acc_private + acc_protected) refl in
     let b = part field_mask bits (acc_final + acc_volatile) refl in
@@ -48,16 +49,16 @@ field_meant in_interface bits =
 
 -- ---- of a method
 
-pub method_static_meant : (bits : ℕ) → is_static (meant method_mask bits) ≡ is_static bits
+pub method_static_meant : (bits : ℕ) → is_static (defined_flags method_mask bits) ≡ is_static bits
 method_static_meant bits = ap (λ (n : ℕ). eqb n acc_static) (part method_mask bits acc_static refl)
 
-pub native_meant : (bits : ℕ) → is_native (meant method_mask bits) ≡ is_native bits
+pub native_meant : (bits : ℕ) → is_native (defined_flags method_mask bits) ≡ is_native bits
 native_meant bits = ap (λ (n : ℕ). eqb n acc_native) (part method_mask bits acc_native refl)
 
-pub body_meant : (bits : ℕ) → has_body (meant method_mask bits) ≡ has_body bits
+pub body_meant : (bits : ℕ) → has_body (defined_flags method_mask bits) ≡ has_body bits
 body_meant bits = ap (λ (n : ℕ). not (not (eqb n 0))) (part method_mask bits (acc_abstract + acc_native) refl)
 
-pub method_meant : (bits : ℕ) → are_method_flags (meant method_mask bits) ≡ are_method_flags bits
+pub method_meant : (bits : ℕ) → are_method_flags (defined_flags method_mask bits) ≡ are_method_flags bits
 method_meant bits =
     let a = part method_mask bits (acc_public + acc_private + acc_protected) refl in
     let b = part method_mask bits acc_abstract refl in
@@ -66,7 +67,7 @@ method_meant bits =
     λ i. (ltb (a i) 3 || eqb (a i) acc_protected) && (not (eqb (b i) acc_abstract) || not (not (eqb (c i) 0)))
 
 pub initial_meant : (in_interface : Bool) (bits : ℕ) (name : List ℕ)
-    → are_initial_flags in_interface (meant method_mask bits) name ≡ are_initial_flags in_interface bits name
+    → are_initial_flags in_interface (defined_flags method_mask bits) name ≡ are_initial_flags in_interface bits name
 initial_meant in_interface bits name =
     let a = part method_mask bits (acc_static + acc_final + acc_synchronized + acc_native + acc_abstract) refl in
     let b = part method_mask bits acc_static refl in

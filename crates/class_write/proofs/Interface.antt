@@ -4,7 +4,7 @@ use Rattle.std.specs.Prelude.{codes, IsUtf8, AllPairs}
 use Rattle.jv_base.specs.Names.{is_primitive_or_void, is_name_byte, is_member_name, is_class_name}
 use Rattle.class_model.specs.Members.{FieldsDiffer, MethodsDiffer}
 use Rattle.class_model.specs.WellFormed.{IsWellFormed}
-use Rattle.class_write.specs.Example.{interface_a}
+use Rattle.class_write.specs.rows.Example.{interface_a}
 
 a_utf8 : IsUtf8 (codes "A")
 unfolding lib.Utf8.encode

@@ -16,7 +16,7 @@ use Rattle.class_model.specs.Structure.{AttributeInfo}
 use Rattle.class_model.specs.Attributes.{is_named, named, IsAttribute, IsMark}
 use Rattle.class_model.specs.CanonicalClass.{text_index, attribute, attribute_constants, mark_constants}
 use Rattle.class_model.specs.CanonicalClass.{mark_attributes}
-use Rattle.class_model.specs.PoolEntries.{entries_of, Has}
+use Rattle.class_model.specs.bodies.PoolEntries.{entries_of, Has}
 use Rattle.class_model.proofs.BackPool.{index_fits}
 use Rattle.class_write.proofs.SpelledLists.{all_front, all_back, all_both}
 use Rattle.class_write.proofs.SpelledPool.{units_there}

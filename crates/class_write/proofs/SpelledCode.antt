@@ -27,7 +27,7 @@ use Rattle.class_model.specs.CanonicalFrames.{type_info, row, delta_to, rows}
 use Rattle.class_model.specs.CanonicalClass.{attribute, attribute_constants, is_some_item, caught_constants}
 use Rattle.class_model.specs.CanonicalClass.{handler_raw, line_rows, line_table, code_constants, code_raw}
 use Rattle.class_model.specs.CanonicalClass.{code_contents}
-use Rattle.class_model.specs.PoolEntries.{entries_of, Has}
+use Rattle.class_model.specs.bodies.PoolEntries.{entries_of, Has}
 use Rattle.class_model.proofs.BackCode.{infos}
 use Rattle.class_write.specs.ClassValues.{IsInsValue}
 use Rattle.class_write.proofs.SpelledLists.{all_front, all_back, all_map, all_both}

@@ -34,7 +34,7 @@ use Rattle.class_model.specs.CanonicalClass.{code_in, codes_of_methods, class_pu
 use Rattle.class_model.specs.CanonicalClass.{mark_constants, value_constants, constant_value_constants, field_constants}
 use Rattle.class_model.specs.CanonicalClass.{caught_constants, line_rows, code_constants, body_constants, first_locals}
 use Rattle.class_model.specs.CanonicalClass.{method_constants, source_constants, wanted, pool_of}
-use Rattle.class_model.specs.PoolEntries.{entries_of, Has, ConstantFits, begun_by, ArePaired}
+use Rattle.class_model.specs.bodies.PoolEntries.{entries_of, Has, ConstantFits, begun_by, ArePaired}
 use Rattle.class_model.specs.ConstantPool.{IsPool}
 use Rattle.class_model.specs.WellFormed.{IsClassName, IsGoodOp, IsGoodHandler, IsGoodType, IsGoodFrame, IsGoodCode}
 use Rattle.class_model.specs.WellFormed.{FitsField, IsGoodField, IsGoodMethod, IsWellFormed}

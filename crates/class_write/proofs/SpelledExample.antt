@@ -4,7 +4,7 @@ use Rattle.std.specs.Str.{chars}
 use Rattle.jv_base.specs.Mutf8.{unit_bytes, mutf8}
 use Rattle.jv_base.specs.Utf16.{units_of}
 use Rattle.jv_base.specs.Types.{base_text, field_text, result_text, method_text, words_of, argument_words}
-use Rattle.class_model.specs.Rows.{class_t}
+use Rattle.class_model.specs.rows.Rows.{class_t}
 use Rattle.class_model.specs.CanonicalPool.{filled}
 use Rattle.class_model.specs.CanonicalCode.{places, code_bytes}
 use Rattle.class_model.specs.CanonicalClass.{pool_of}

@@ -24,7 +24,7 @@ use Rattle.class_model.specs.CanonicalPool.{text_constants}
 use Rattle.class_model.specs.CanonicalClass.{text_index, u2_of, mark_attributes, mark_constants, value_constants}
 use Rattle.class_model.specs.CanonicalClass.{constant_value_constants, field_constants, value_index}
 use Rattle.class_model.specs.CanonicalClass.{constant_attributes, field_raw}
-use Rattle.class_model.specs.PoolEntries.{entries_of, Has}
+use Rattle.class_model.specs.bodies.PoolEntries.{entries_of, Has}
 use Rattle.class_model.specs.WellFormed.{AreMeant, FitsField, IsGoodField}
 use Rattle.class_model.proofs.BackPool.{at_index, index_fits}
 use Rattle.class_write.specs.ClassValues.{IsFieldValue}

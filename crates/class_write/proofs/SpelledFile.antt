@@ -33,7 +33,7 @@ use Rattle.class_model.specs.CanonicalClass.{class_pushes, mark_constants, mark_
 use Rattle.class_model.specs.CanonicalClass.{body_constants, first_locals, line_rows, code_contents, method_constants}
 use Rattle.class_model.specs.CanonicalClass.{source_constants, pool_of, class_index, u2_of, field_raw, method_raw}
 use Rattle.class_model.specs.CanonicalClass.{source_attributes, class_raw, layout}
-use Rattle.class_model.specs.PoolEntries.{entry_of, entries_of, Has}
+use Rattle.class_model.specs.bodies.PoolEntries.{entry_of, entries_of, Has}
 use Rattle.class_model.specs.WellFormed.{IsClassName, HasFewWords, IsGoodCode, IsGoodField, IsGoodMethod}
 use Rattle.class_model.specs.WriteLimits.{fits_u2, first_of, text_fits, branches_fit, code_fits, table_fits, frames_fit}
 use Rattle.class_model.specs.WriteLimits.{body_tables_fit, method_tables_fit, tables_fit, body_length_fits}
@@ -174,7 +174,8 @@ module _ (pool : List PoolConstant) (right : AllRight pool pool) (count : length
       → AreMethods (entries_of pool) in_interface class (map (method_raw pool class) ms) ms (no_kinds ms)
   methods_are in_interface class [] named good value fits has = tt
   methods_are in_interface class (m ∷ ms) named good value fits has =
-      (one_method in_interface class m named good.0 value.0 fits.0 has.0, methods_are in_interface class ms named good.1 value.1 fits.1 has.1)
+      (one_method in_interface class m named good.0 value.0 fits.0 has.0, methods_are in_interface class ms named
+          good.1 value.1 fits.1 has.1)
 
   fields_are : (in_interface : Bool) (fs : List Field) → AllByRecursion (IsGoodField in_interface) fs
       → AllByRecursion IsFieldValue fs → AllByRecursion (λ f. HasAll pool (field_constants f)) fs
@@ -224,7 +225,8 @@ fits_all : (pool : List PoolConstant) (class : List ℕ) (ms : List Method)
     → AllByRecursion (λ (m : Method). body_fits pool class m ≡ Ok tt) ms → AllByRecursion (MethodFits pool class) ms
 fits_all pool class [] words codes tables bodies = tt
 fits_all pool class (m ∷ ms) words codes tables bodies =
-    (record { words = words.0; code = codes.0; tables = tables.0; body = bodies.0 }, fits_all pool class ms words.1 codes.1 tables.1 bodies.1)
+    (record { words = words.0; code = codes.0; tables = tables.0; body = bodies.0 }, fits_all pool class ms words.1
+        codes.1 tables.1 bodies.1)
 
 class_is : (c : Class) → IsWritable c → limits (pool_of c) c ≡ Ok tt
     → IsClass (class_raw (pool_of c) c) c (entries_of (pool_of c))
@@ -291,7 +293,8 @@ class_is c w h =
       methods_differ = good.methods_differ;
       attributes = record {
         count_fits = omega
-            (arith, length-append xs ys, source_few pool right count c.source, marks_few pool c.synthetic c.deprecated has_marks);
+            (arith, length-append xs ys, source_few pool right count c.source, marks_few pool c.synthetic c.deprecated
+                has_marks);
         each = all_both (IsAttribute entries) xs ys (source_is pool right count c.source has_source)
             (marks_are pool c.synthetic c.deprecated has_marks count);
       };

@@ -35,7 +35,7 @@ use Rattle.class_model.specs.CanonicalCode.{places}
 use Rattle.class_model.specs.CanonicalFrames.{same, same_with_item, chop, append, full, same_type, same_types, is_chop}
 use Rattle.class_model.specs.CanonicalFrames.{is_append, form_of, types_written, type_constants, frame_constants}
 use Rattle.class_model.specs.CanonicalFrames.{type_info, row, delta_to, rows}
-use Rattle.class_model.specs.PoolEntries.{entries_of, Has}
+use Rattle.class_model.specs.bodies.PoolEntries.{entries_of, Has}
 use Rattle.class_model.specs.WellFormed.{IsClassName, IsGoodType, IsGoodFrame, Ascend}
 use Rattle.class_model.proofs.BackPool.{index_fits}
 use Rattle.class_model.proofs.BackCode.{infos}
@@ -158,7 +158,8 @@ module _ (pool : List PoolConstant) (code : Code) (w : IsWritten pool code) wher
   type_stands (vtype.Uninit n) is has =
       let there = is.0.2 in
       let lt : n < length code.ins = slice_get_within code.ins n is.0.0 there in
-      (place_low pool code w n lt, n, begins_at pool code w n lt, record { at = is.0.0; there = there; name = is.0.1; new = is.0.3 }, refl)
+      (place_low pool code w n lt, n, begins_at pool code w n lt, record
+          { at = is.0.0; there = there; name = is.0.1; new = is.0.3 }, refl)
 
   zip_is : (types : List VType) → AllByRecursion Stands types → AllZip Is (map (type_info pool all) types) types
   zip_is [] h = tt
@@ -263,9 +264,12 @@ module _ (pool : List PoolConstant) (code : Code) (w : IsWritten pool code) wher
       (cond c (append (drop (length before) locals)) (full locals []))))) delta locals []
   empty_row before locals delta true b c ea eb ec lt few typed_before typed h = same_by before locals delta
       (leb delta 63) refl lt (same_types_are before locals typed_before typed ea)
-  empty_row before locals delta false true c ea eb ec lt few typed_before typed h = chop_row before locals delta lt eb typed_before typed
-  empty_row before locals delta false false true ea eb ec lt few typed_before typed h = append_row before locals delta lt ec typed_before typed h
-  empty_row before locals delta false false false ea eb ec lt few typed_before typed h = full_row before locals [] delta lt few (omega arith) h
+  empty_row before locals delta false true c ea eb ec lt few typed_before typed h = chop_row before locals delta lt eb
+      typed_before typed
+  empty_row before locals delta false false true ea eb ec lt few typed_before typed h = append_row before locals delta
+      lt ec typed_before typed h
+  empty_row before locals delta false false false ea eb ec lt few typed_before typed h = full_row before locals []
+      delta lt few (omega arith) h
 
   item_by : (before locals : List VType) (item : VType) (delta : ℕ) (a : Bool) → same_types before locals ≡ a
       → delta < 2 ^ 16 → length locals < 2 ^ 16 → AllTyped before → AllTyped locals

@@ -20,7 +20,7 @@ use Rattle.class_model.specs.CodeAttribute.{IsIns, IsHandler}
 use Rattle.class_model.specs.CanonicalPool.{class_constants}
 use Rattle.class_model.specs.CanonicalCode.{op_info, size_of, places_from, places, infos_from, code_bytes, op_constants}
 use Rattle.class_model.specs.CanonicalClass.{class_index, caught_constants, caught_index, handler_raw, line_rows}
-use Rattle.class_model.specs.PoolEntries.{entries_of, Has}
+use Rattle.class_model.specs.bodies.PoolEntries.{entries_of, Has}
 use Rattle.class_model.specs.WellFormed.{IsClassName, HasFewWords, IsGoodHandler, IsGoodCode}
 use Rattle.class_model.specs.OpValues.{IsOpValue}
 use Rattle.class_model.specs.WritableCode.{IsWritableCode}

@@ -24,7 +24,7 @@ use Rattle.class_model.specs.CanonicalClass.{class_index, u2_of, attribute, attr
 use Rattle.class_model.specs.CanonicalClass.{mark_attributes, mark_constants, code_constants, body_constants}
 use Rattle.class_model.specs.CanonicalClass.{first_locals, code_contents, body_attributes, exceptions, method_constants}
 use Rattle.class_model.specs.CanonicalClass.{method_raw}
-use Rattle.class_model.specs.PoolEntries.{entries_of, Has}
+use Rattle.class_model.specs.bodies.PoolEntries.{entries_of, Has}
 use Rattle.class_model.specs.WellFormed.{IsClassName, IsGoodMethod}
 use Rattle.class_write.specs.ClassValues.{IsMethodValue}
 use Rattle.class_write.proofs.SpelledLists.{all_front, all_back, all_both}

@@ -20,7 +20,7 @@ use Rattle.class_model.specs.Pool.{units_in, units_at, name_index_in, class_unit
 use Rattle.class_model.specs.ConstantPool.{IsPool, IsFieldText, IsMethodText, IsTypeAt, IsNameOfType, name_and_type_in}
 use Rattle.class_model.specs.ConstantPool.{IsNameAndTypeAt, RefersRight, NamesRight}
 use Rattle.class_model.specs.CanonicalPool.{type_name, index_of, infos_of}
-use Rattle.class_model.specs.PoolEntries.{entry_of, entries_of, Has, ConstantFits, ArePaired}
+use Rattle.class_model.specs.bodies.PoolEntries.{entry_of, entries_of, Has, ConstantFits, ArePaired}
 use Rattle.class_model.specs.Says.{SaysClass}
 use Rattle.class_model.specs.WellFormed.{IsClassOrArray}
 use Rattle.class_model.specs.OpValues.{IsBaseValue}
@@ -164,7 +164,8 @@ module _ (pool : List PoolConstant) (right : AllByRecursion (IsRight pool) pool)
     class = (h.class_named.ty, type_there class h.class_named h.class_text h.class_there);
     name = h.names.name;
     descriptor = h.names.descriptor;
-    name_and_type = name_and_type_there is_name Describes name descriptor h.names h.name_text h.descriptor_text h.name_and_type;
+    name_and_type = name_and_type_there is_name Describes name descriptor h.names h.name_text h.descriptor_text
+        h.name_and_type;
     named = h.names.named;
     described = h.names.described;
   }
@@ -185,7 +186,8 @@ module _ (pool : List PoolConstant) (right : AllByRecursion (IsRight pool) pool)
   names_by (Str text ∷ ks) h k = ((text, units_there pool text h.0), names_by ks h.1 k.1)
   names_by (NameAndType name descriptor ∷ ks) h k =
       let n = h.0.2 in
-      ((n.name, n.descriptor, text_there pool n.name name n.name_is n.name_utf8 h.0.0, n.named, text_there pool n.descriptor descriptor n.descriptor_is n.descriptor_utf8 h.0.1, n.described), names_by ks h.1 k.1)
+      ((n.name, n.descriptor, text_there pool n.name name n.name_is n.name_utf8 h.0.0, n.named, text_there pool
+          n.descriptor descriptor n.descriptor_is n.descriptor_utf8 h.0.1, n.described), names_by ks h.1 k.1)
   names_by (Fieldref a b c ∷ ks) h k = (refers is_member_name IsFieldText a b c h.0, names_by ks h.1 k.1)
   names_by (Methodref a b c ∷ ks) h k = (refers is_method_name IsMethodText a b c h.0, names_by ks h.1 k.1)
   names_by (InterfaceMethodref a b c ∷ ks) h k = (refers is_method_name IsMethodText a b c h.0, names_by ks h.1 k.1)

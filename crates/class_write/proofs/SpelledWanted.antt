@@ -25,7 +25,7 @@ use Rattle.class_model.specs.ConstantPool.{IsFieldText, IsMethodText, class_type
 use Rattle.class_model.specs.CanonicalPool.{type_name, type_name_of_base, text_constants, class_constants}
 use Rattle.class_model.specs.CanonicalPool.{string_constants, long_constants, with_parts, fieldref, methodref}
 use Rattle.class_model.specs.CanonicalCode.{is_short, is_lconst, pushed_constants, op_constants}
-use Rattle.class_model.specs.PoolEntries.{Has}
+use Rattle.class_model.specs.bodies.PoolEntries.{Has}
 use Rattle.class_model.specs.WellFormed.{IsClassName, IsClassOrArray, IsReference, IsGoodOp}
 use Rattle.class_model.specs.OpValues.{IsBaseValue, IsReferenceValue, IsOpValue}
 use Rattle.class_write.specs.ClassValues.{IsPushValue, IsFieldTypeValue, IsMethodTypeValue}

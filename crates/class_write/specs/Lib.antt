@@ -1,8 +1,4 @@
-pub mod Pushes
 pub mod ClassValues
 pub mod SpellingLaws
-pub mod Placing
-pub mod Writing
-pub mod Limits
-pub mod Files
-pub mod Example
+pub mod bodies
+pub mod rows

@@ -6,7 +6,7 @@ use Rattle.class_model.specs.WellFormed.{IsWellFormed, CountsFit}
 use Rattle.class_model.specs.ReadingClass.{class_read}
 use Rattle.class_model.specs.CanonicalClass.{pool_of, layout}
 use Rattle.class_model.specs.WriteLimits.{limits, class_written}
-use Rattle.class_model.specs.Rows.{class_t}
+use Rattle.class_model.specs.rows.Rows.{class_t}
 use Rattle.class_read.specs.Laws.{AreBytes}
 use Rattle.class_write.specs.ClassValues.{IsClassValue}
 

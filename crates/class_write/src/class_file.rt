@@ -6,9 +6,9 @@ ghost use Rattle.class_model.specs.Structure.{attribute_info, head};
 ghost use Rattle.class_model.specs.ClassFile.{class_file};
 ghost use Rattle.class_model.specs.CanonicalClass.{class_raw};
 ghost use Rattle.class_model.specs.WriteLimits.{first_of, text_fits, body_fits};
-ghost use Rattle.class_write.specs.Files.{names_text, interfaces_text, front_text};
-ghost use Rattle.class_write.specs.Placing.{placed_bodies};
-ghost use Rattle.class_write.specs.Writing.{Puts, HasFitting};
+ghost use Rattle.class_write.specs.bodies.Files.{names_text, interfaces_text, front_text};
+ghost use Rattle.class_write.specs.bodies.Placing.{placed_bodies};
+ghost use Rattle.class_write.specs.bodies.Writing.{Puts, HasFitting};
 
 use crate::attributes::{mark_count, put_class_indices, put_marks, put_source};
 use crate::fields::put_fields;

@@ -10,8 +10,8 @@ ghost use Rattle.class_model.specs.CanonicalClass as canonical;
 ghost use Rattle.class_model.specs.WellFormed.{IsGoodCode};
 ghost use Rattle.class_model.specs.declared.frame.FrameAt.{FrameAt};
 ghost use Rattle.frame_types.specs.Writing.{IsOffset, HasShortLists};
-ghost use Rattle.class_write.specs.Placing.{placed_code};
-ghost use Rattle.class_write.specs.Writing.{attribute_length, FitsTables, items_text, contents_due};
+ghost use Rattle.class_write.specs.bodies.Placing.{placed_code};
+ghost use Rattle.class_write.specs.bodies.Writing.{attribute_length, FitsTables, items_text, contents_due};
 
 use crate::attributes::put_attribute;
 use crate::code::{line_table, put_handlers};
@@ -63,10 +63,13 @@ fn put_tables(
     out: &mut Vec<u8>,
 ) -> M<()>
     requires pool { length pool.now + 1 < 2 ^ 16 }
-    requires lines { canonical.is_some_item (canonical.line_rows None [] code.now.ins) ≡ true → length lines.now < 2 ^ 32 }
+    requires lines { canonical.is_some_item (canonical.line_rows None [] code.now.ins) ≡ true
+        → length lines.now < 2 ^ 32 }
     requires frames { canonical.is_some_item code.now.frames ≡ true → length frames.now < 2 ^ 32 }
-    ensures { let attributes = canonical.attribute pool.now (canonical.is_some_item (canonical.line_rows None [] code.now.ins)) (codes "LineNumberTable") lines.now
-        ++ canonical.attribute pool.now (canonical.is_some_item code.now.frames) (codes "StackMapTable") frames.now in OnOk result
+    ensures { let attributes = canonical.attribute pool.now
+        (canonical.is_some_item (canonical.line_rows None [] code.now.ins)) (codes "LineNumberTable") lines.now
+        ++ canonical.attribute pool.now (canonical.is_some_item code.now.frames)
+            (codes "StackMapTable") frames.now in OnOk result
         (out.new.items ≡ out.old.items ++ (to_be_bytes w16 (length attributes) ++ flat_map attribute_info attributes)) }
 {
     let has_lines = has_rows(code.ins.as_slice());

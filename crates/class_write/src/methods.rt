@@ -5,8 +5,8 @@ ghost use Rattle.std.specs.List.{flat_map};
 ghost use Rattle.class_model.specs.Structure.{attribute_info, member_info};
 ghost use Rattle.class_model.specs.CanonicalClass as canonical;
 ghost use Rattle.class_model.specs.WriteLimits.{first_of, body_length_fits, contents_fit, body_fits};
-ghost use Rattle.class_write.specs.Placing.{placed_code, placed_body, placed_bodies};
-ghost use Rattle.class_write.specs.Writing.{Puts, FitsTables, HasFitting};
+ghost use Rattle.class_write.specs.bodies.Placing.{placed_code, placed_body, placed_bodies};
+ghost use Rattle.class_write.specs.bodies.Writing.{Puts, FitsTables, HasFitting};
 
 use crate::attributes::{mark_count, put_attribute, put_exceptions, put_marks};
 use crate::contents::code_contents;
@@ -55,7 +55,8 @@ fn put_other_attributes(
     requires pool { length pool.now + 1 < 2 ^ 16 }
     requires throws { length method.now.throws < 2 ^ 16 }
     ensures { OnOk result (out.new.items ≡ out.old.items ++ flat_map attribute_info
-        (canonical.attribute pool.now (canonical.is_some_item method.now.throws) (codes "Exceptions") (canonical.exceptions pool.now method.now.throws)
+        (canonical.attribute pool.now (canonical.is_some_item method.now.throws) (codes "Exceptions")
+            (canonical.exceptions pool.now method.now.throws)
         ++ canonical.mark_attributes pool.now method.now.synthetic method.now.deprecated)) }
 {
     put_exceptions(alloc, pool, method.throws.as_slice(), out)?;
@@ -74,8 +75,10 @@ fn put_code(
     requires pool { length pool.now + 1 < 2 ^ 16 }
     requires code { FitsTables pool.now code.now }
     requires placed { placed.now ≡ placed_code pool.now code.now }
-    ensures { let contents = canonical.code_contents pool.now first.now.locals code.now in Puts result out.old.items out.new.items
-        (flat_map attribute_info (canonical.attribute pool.now true (codes "Code") contents)) (body_length_fits (length contents)) }
+    ensures { let contents = canonical.code_contents pool.now first.now.locals code.now in Puts result out.old.items
+        out.new.items
+        (flat_map attribute_info (canonical.attribute pool.now true (codes "Code") contents))
+            (body_length_fits (length contents)) }
 {
     let info = code_contents(alloc, pool, first, code, placed)?;
     put_attribute(alloc, pool, true, "Code", &info, out)?;
@@ -95,7 +98,8 @@ fn put_body(
     requires body { IfSome method.now.code (FitsTables pool.now) }
     requires placed { placed.now ≡ placed_body pool.now method.now.code }
     ensures { Puts result out.old.items out.new.items
-        (flat_map attribute_info (canonical.body_attributes pool.now (canonical.first_locals class.now method.now) method.now.code))
+        (flat_map attribute_info (canonical.body_attributes pool.now
+            (canonical.first_locals class.now method.now) method.now.code))
         (contents_fit pool.now class.now method.now method.now.code) }
 {
     match (&method.code, placed) {
@@ -140,7 +144,8 @@ pub fn put_methods(
     requires pool { length pool.now + 1 < 2 ^ 16 }
     requires methods { All (HasFitting pool.now) methods.now }
     requires placed { placed.now ≡ placed_bodies pool.now methods.now }
-    ensures { Puts result out.old.items out.new.items (flat_map member_info (map (canonical.method_raw pool.now class.now) methods.now))
+    ensures { Puts result out.old.items out.new.items
+        (flat_map member_info (map (canonical.method_raw pool.now class.now) methods.now))
         (first_of (body_fits pool.now class.now) methods.now) }
 {
     for (number, method) in methods.iter().enumerate() {

@@ -1,7 +1,7 @@
 // The codes of a class with the places of their instructions (JVMS 4.7.3).
 ghost use Rattle.std.specs.Prelude.{◌+◌, ◌^◌, ◌<◌, All, IfSome, length};
 ghost use Rattle.jv_base.specs.Outcome.{IsDue};
-ghost use Rattle.class_write.specs.Placing.{code_due, body_due, bodies_due, IsWritable, HasWritable};
+ghost use Rattle.class_write.specs.bodies.Placing.{code_due, body_due, bodies_due, IsWritable, HasWritable};
 
 use class_model::{Code, Method, WriteLimit};
 use constant_table::ConstantTable;

@@ -8,12 +8,14 @@ ghost use Rattle.class_model.specs.CanonicalFrames as written;
 ghost use Rattle.class_model.specs.CanonicalClass as canonical;
 ghost use Rattle.class_model.specs.declared.code.Ins.{Ins};
 ghost use Rattle.class_model.specs.declared.code.Handler.{Handler};
-ghost use Rattle.class_write.specs.Pushes.{pushes_of_body};
+ghost use Rattle.frame_types.specs.Forms.{form_of_row};
+ghost use Rattle.class_write.specs.bodies.Pushes.{pushes_of_body};
 
-use crate::frames::{first_frame, types_written};
+use crate::frames::first_frame;
 use crate::lines::has_rows;
-use class_model::{Class, Code, Constant, Field, FrameAt, Handler, Ins, Method, Op, VType};
+use class_model::{Class, Code, Constant, Field, Frames, Handler, Ins, Method, Op, VType};
 use constant_table::ConstantTable;
+use frame_types::{FrameForm, frame_form};
 use jv_base::{Items, M, Name, Text, Units, field_text, method_text};
 use std::alloc::Global;
 
@@ -54,7 +56,8 @@ fn add_op(alloc: Global, pool: &mut ConstantTable, op: &Op) -> M<()>
 }
 
 fn add_pushes_of_code(alloc: Global, pool: &mut ConstantTable, ins: &[Ins]) -> M<()>
-    ensures { OnOk result (pool.new ≡ insert_all same pool.old (flat_map (λ (i : Ins). code.pushed_constants i.op) ins.now)) }
+    ensures { OnOk result (pool.new ≡ insert_all same pool.old
+        (flat_map (λ (i : Ins). code.pushed_constants i.op) ins.now)) }
 {
     for instruction in ins {
         add_pushed(alloc, pool, &instruction.op)?;
@@ -63,7 +66,8 @@ fn add_pushes_of_code(alloc: Global, pool: &mut ConstantTable, ins: &[Ins]) -> M
 }
 
 fn add_instructions(alloc: Global, pool: &mut ConstantTable, ins: &[Ins]) -> M<()>
-    ensures { OnOk result (pool.new ≡ insert_all same pool.old (flat_map (λ (i : Ins). code.op_constants i.op) ins.now)) }
+    ensures { OnOk result (pool.new ≡ insert_all same pool.old
+        (flat_map (λ (i : Ins). code.op_constants i.op) ins.now)) }
 {
     for instruction in ins {
         add_op(alloc, pool, &instruction.op)?;
@@ -91,16 +95,29 @@ fn add_vtypes(alloc: Global, pool: &mut ConstantTable, types: &[VType]) -> M<()>
     Ok(())
 }
 
+/// The classes that a form names.
+fn add_form(alloc: Global, pool: &mut ConstantTable, form: &FrameForm) -> M<()>
+    ensures { OnOk result (pool.new ≡ insert_all same pool.old
+        (flat_map written.type_constants (written.types_written (form_of_row form.now)))) }
+{
+    match form {
+        FrameForm::Same | FrameForm::Chop(_) => Ok(()),
+        FrameForm::SameWithItem(item) => add_vtype(alloc, pool, item),
+        FrameForm::Append(new) => add_vtypes(alloc, pool, new.as_slice()),
+        FrameForm::Full(frame) => {
+            add_vtypes(alloc, pool, frame.locals.as_slice())?;
+            add_vtypes(alloc, pool, frame.stack.as_slice())
+        }
+    }
+}
+
 /// The classes that frames name where they write them, the first of them behind these locals.
-fn add_frames(alloc: Global, pool: &mut ConstantTable, first: &[VType], frames: &[FrameAt]) -> M<()>
+fn add_frames(alloc: Global, pool: &mut ConstantTable, first: &[VType], frames: &Frames) -> M<()>
     ensures { OnOk result (pool.new ≡ insert_all same pool.old (written.frame_constants first.now frames.now)) }
 {
-    let mut before = first;
-    for next in frames {
-        let (locals, stack) = types_written(alloc, before, &next.frame)?;
-        add_vtypes(alloc, pool, locals)?;
-        add_vtypes(alloc, pool, stack)?;
-        before = next.frame.locals.as_slice();
+    for number in 0..frames.len() {
+        let form = frame_form(alloc, first, frames, number)?;
+        add_form(alloc, pool, &form)?;
     }
     Ok(())
 }
@@ -139,7 +156,8 @@ fn add_caught(alloc: Global, pool: &mut ConstantTable, caught: &Option<Name>) ->
 }
 
 fn add_handlers(alloc: Global, pool: &mut ConstantTable, handlers: &[Handler]) -> M<()>
-    ensures { OnOk result (pool.new ≡ insert_all same pool.old (flat_map (λ (h : Handler). canonical.caught_constants h.caught) handlers.now)) }
+    ensures { OnOk result (pool.new ≡ insert_all same pool.old
+        (flat_map (λ (h : Handler). canonical.caught_constants h.caught) handlers.now)) }
 {
     for handler in handlers {
         add_caught(alloc, pool, &handler.caught)?;
@@ -152,7 +170,7 @@ fn add_stack_map(
     alloc: Global,
     pool: &mut ConstantTable,
     first: &[VType],
-    frames: &[FrameAt],
+    frames: &Frames,
 ) -> M<()>
     ensures { OnOk result (pool.new ≡ insert_all same pool.old (canonical.attribute_constants
         (canonical.is_some_item frames.now) (codes "StackMapTable") (written.frame_constants first.now frames.now))) }
@@ -179,7 +197,7 @@ fn add_code(alloc: Global, pool: &mut ConstantTable, first: &[VType], code: &Cod
     add_instructions(alloc, pool, code.ins.as_slice())?;
     add_handlers(alloc, pool, code.handlers.as_slice())?;
     add_lines(alloc, pool, code.ins.as_slice())?;
-    add_stack_map(alloc, pool, first, code.frames.as_slice())
+    add_stack_map(alloc, pool, first, &code.frames)
 }
 
 /// The name of the attribute Code, and what it names.
@@ -233,7 +251,8 @@ fn add_method(alloc: Global, pool: &mut ConstantTable, class: &Name, method: &Me
 }
 
 fn add_methods(alloc: Global, pool: &mut ConstantTable, class: &Name, methods: &[Method]) -> M<()>
-    ensures { OnOk result (pool.new ≡ insert_all same pool.old (flat_map (canonical.method_constants class.now) methods.now)) }
+    ensures { OnOk result (pool.new ≡ insert_all same pool.old
+        (flat_map (canonical.method_constants class.now) methods.now)) }
 {
     for method in methods {
         add_method(alloc, pool, class, method)?;

@@ -1,11 +1,11 @@
 // What no clause says: that the calls succeed where there is memory. The bytes were spelled by hand after JVMS 4.
 ghost use Rattle.std.specs.Prelude.{◌≡◌, IfOk};
-ghost use Rattle.class_model.specs.Rows as rows;
-ghost use Rattle.class_write.specs.Example.{interface_a};
+ghost use Rattle.class_model.specs.rows.Rows as rows;
+ghost use Rattle.class_write.specs.rows.Example.{interface_a};
 
 use crate::write_class;
 use class_model::{
-    Class, Code, Cond, Constant, Field, Frame, FrameAt, Handler, Ins, Kind, Method, Op,
+    Class, Code, Cond, Constant, Field, Frame, FrameAt, Frames, Handler, Ins, Kind, Method, Op,
     PoolConstant, VType, WriteLimit,
 };
 use constant_table::ConstantTable;
@@ -101,14 +101,16 @@ fn handlers(alloc: Global) -> M<Items<Handler>>
     Ok(Items::from_vec(vec![in alloc; handler]?))
 }
 
-fn frames(alloc: Global) -> M<Items<FrameAt>>
+fn frames(alloc: Global) -> M<Frames>
     ensures { IfOk result (λ frames. frames ≡ rows.code_of_t.frames) }
 {
     let frame = Frame {
         locals: Items::from_vec(vec![in alloc; VType::Int]?),
         stack: Items::new(alloc),
     };
-    Ok(Items::from_vec(vec![in alloc; FrameAt { index: 4, frame }]?))
+    let mut frames = Frames::new(alloc);
+    frames.push(FrameAt { index: 4, frame })?;
+    Ok(frames)
 }
 
 fn field_of_t(alloc: Global) -> M<Field>

@@ -3,7 +3,7 @@ ghost use Rattle.std.specs.Prelude.{◌↔◌, IsTrue};
 ghost use Rattle.jv_base.specs.Outcome.{IsDue};
 ghost use Rattle.class_model.specs.WellFormed.{IsWellFormed, CountsFit};
 ghost use Rattle.class_model.specs.WriteLimits.{class_written};
-ghost use Rattle.class_write.specs.Limits.{AreCounted, IsCounted};
+ghost use Rattle.class_write.specs.bodies.Limits.{AreCounted, IsCounted};
 
 use crate::class_file::put_class_file;
 use crate::limits::check_tables;

@@ -2,6 +2,9 @@ mod Indexed
 mod Alike
 mod SameKey
 mod Kept
+mod Others
+mod Placed
 mod Numbering
+mod Short
 mod Told
 mod Wanted

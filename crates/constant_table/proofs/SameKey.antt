@@ -1,11 +1,14 @@
 -- Keys are the same exactly where they are equal.
-use Rattle.std.proofs.Common.{◌≡◌, ℕ, ◌&&◌, nat_eq, Decides, refl, ap}
-use Rattle.std.specs.Cmp.{IsEquivalence, decided, signed_Decides, unsigned_Decides}
+use Rattle.std.proofs.Common.{◌≡◌, ℕ, ◌&&◌, nat_eq, Decides, refl, ap, sym, ◌∙◌}
+use Rattle.std.specs.Ordering.{is_eq}
+use Rattle.std.specs.Cmp.{signed_Decides, unsigned_Decides}
 use Rattle.jv_base.proofs.Equality.{and_Decides}
 use Rattle.constant_table.specs.declared.key.Key.{Key}
 use Rattle.constant_table.specs.declared.key.Key.TheVariants as key
 use Rattle.constant_table.specs.contracts.key.KeyPartialEq.TheImpl.{eq-value}
-use Rattle.constant_table.specs.Keys.{same_key}
+use Rattle.constant_table.specs.contracts.key.KeyOrd.TheImpl.{cmp-value}
+use Rattle.constant_table.specs.contracts.key.KeyOrd.TheImpl.Laws.{matches_eq-law}
+use Rattle.constant_table.specs.bodies.Keys.{same_key}
 
 compares : (a b : Key) → eq-value.it a b ≡ same_key a b
 compares (key.Utf8 a1) (key.Utf8 b1) = refl
@@ -109,9 +112,9 @@ compares (key.InterfaceMethodref a1 a2 a3) (key.Fieldref b1 b2 b3) = refl
 compares (key.InterfaceMethodref a1 a2 a3) (key.Methodref b1 b2 b3) = refl
 compares (key.InterfaceMethodref a1 a2 a3) (key.InterfaceMethodref b1 b2 b3) = refl
 
--- the derived comparison
-pub derived_is_same : eq-value.it ≡ same_key
-derived_is_same = λ i a b. compares a b i
+-- the derived order takes no two keys for one
+pub order_is_same : (λ (a b : Key). is_eq (cmp-value.it a b)) ≡ same_key
+order_is_same = λ i a b. (sym (matches_eq-law a b) ∙ compares a b) i
 
 two_numbers : (a b c d : ℕ) → Decides (nat_eq a b && nat_eq c d) ((a ≡ b) × (c ≡ d))
 two_numbers a b c d = and_Decides _ _ (unsigned_Decides a b) (unsigned_Decides c d)
@@ -233,6 +236,3 @@ key_Decides (key.InterfaceMethodref a1 a2 a3) (key.InterfaceMethodref b1 b2 b3) 
     and_Decides _ _ (unsigned_Decides a1 b1) (two_numbers a2 b2 a3 b3)
     (λ p q i. key.InterfaceMethodref (p i) (q.0 i) (q.1 i)) (λ e. cc)
     (λ e. let r : (a2 ≡ b2) × (a3 ≡ b3) = (cc, cc) in r)
-
-pub key_laws : IsEquivalence same_key
-key_laws = decided same_key key_Decides

@@ -15,12 +15,13 @@ use Rattle.class_model.specs.declared.constant.PoolConstant.TheVariants.{Interfa
 use Rattle.class_model.specs.CanonicalPool.{same, same_text, index_of, methodref, type_name}
 use Rattle.class_model.specs.declared.op.MemberRef.{MemberRef}
 use Rattle.jv_base.specs.Utf16.{units_of}
-use Rattle.constant_table.specs.Members.{numbers_of, method_key}
+use Rattle.constant_table.specs.bodies.Members.{numbers_of, method_key}
 use Rattle.constant_table.specs.declared.key.Key.{Key}
 use Rattle.constant_table.specs.declared.key.Key.TheVariants as key
-use Rattle.constant_table.specs.Keys.{same_key, index_in, number_of, text_of, constant_of, key_of, IsKeyIn, AreKeysOf}
-use Rattle.constant_table.specs.Keys.{constants_of}
-use Rattle.constant_table.specs.Texts.{HasText, Grows}
+use Rattle.constant_table.specs.bodies.Keys.{same_key, index_in, number_of, text_of, constant_of, key_of, IsKeyIn}
+use Rattle.constant_table.specs.bodies.Keys.{AreKeysOf}
+use Rattle.constant_table.specs.bodies.Keys.{constants_of}
+use Rattle.constant_table.specs.bodies.Texts.{HasText, Grows}
 use Rattle.constant_table.proofs.Alike.{same_Decides}
 use Rattle.constant_table.proofs.SameKey.{key_Decides}
 
@@ -143,7 +144,8 @@ pushed_is texts (x ∷ xs) q = ap (λ (ks : List PoolConstant). constant_of text
 
 pub pushed_within : (texts : List (List ℕ)) (keys : List Key) (q : Key) → AreKeysOf texts keys
     → IsKeyIn (length texts) q → AreKeysOf texts (keys ++ q ∷ [])
-pushed_within texts keys q h k = record { distinct = h.distinct; within = within_push texts h.distinct keys q h.within k }
+pushed_within texts keys q h k = record { distinct = h.distinct; within = within_push texts h.distinct keys q h.within
+    k }
 
 -- one more, unless it is there
 module _ (texts : List (List ℕ)) (keys : List Key) (q : Key) (h : AreKeysOf texts keys)
@@ -246,7 +248,8 @@ module _ (old new : List (List ℕ)) (keys : List Key) (g : Grows old new) (h : 
   within_grown = record {
     distinct = g.distinct h.distinct;
     within = subst
-        (λ (ts : List (List ℕ)). AllByRecursion (IsKeyIn (length ts)) keys) (sym g.is) (all_in old g.more keys h.within);
+        (λ (ts : List (List ℕ)). AllByRecursion (IsKeyIn (length ts)) keys) (sym g.is)
+            (all_in old g.more keys h.within);
   }
 
 -- a text stays that of its number

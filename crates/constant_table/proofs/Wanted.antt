@@ -13,9 +13,9 @@ use Rattle.std.specs.List.{flat_map}
 use Rattle.std.proofs.lemmas.List.{length-map}
 use Rattle.constant_table.specs.declared.key.Key.{Key}
 use Rattle.constant_table.specs.declared.finding.MemberNumbers.{MemberNumbers}
-use Rattle.constant_table.specs.Keys.{constant_of, constants_of, AreKeysOf, IsKeyIn}
-use Rattle.constant_table.specs.Texts.{Grows}
-use Rattle.constant_table.specs.Members.{TellsTexts, field_key, method_key, part_keys}
+use Rattle.constant_table.specs.bodies.Keys.{constant_of, constants_of, AreKeysOf, IsKeyIn}
+use Rattle.constant_table.specs.bodies.Texts.{Grows}
+use Rattle.constant_table.specs.bodies.Members.{TellsTexts, field_key, method_key, part_keys}
 use Rattle.constant_table.proofs.Told.{told_grown}
 
 -- what is put in by keys of more texts is what is wanted

@@ -1,4 +1,2 @@
-pub mod Keys
-pub mod Texts
-pub mod Members
 pub mod Limits
+pub mod bodies

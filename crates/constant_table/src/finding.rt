@@ -3,8 +3,8 @@ ghost use Rattle.std.specs.Prelude.{◌≡◌, ℕ, IfOk};
 ghost use Rattle.jv_base.specs.Utf16.{units_of};
 ghost use Rattle.class_model.specs.declared.constant.PoolConstant.{PoolConstant};
 ghost use Rattle.class_model.specs.CanonicalPool as canonical;
-ghost use Rattle.constant_table.specs.Keys.{AreKeysOf, constants_of, key_of, number_of};
-ghost use Rattle.constant_table.specs.Members.{numbers_of, method_key};
+ghost use Rattle.constant_table.specs.bodies.Keys.{AreKeysOf, constants_of, key_of, number_of};
+ghost use Rattle.constant_table.specs.bodies.Members.{numbers_of, method_key};
 
 use crate::key::Key;
 use crate::keys::Keys;
@@ -24,7 +24,8 @@ pub struct MemberNumbers {
 /// The index of the constant that a key tells.
 pub fn index_of_key(texts: &Texts, keys: &Keys, key: Key) -> usize
     requires { AreKeysOf texts.now keys.now }
-    ensures { (k : PoolConstant) → key ≡ key_of texts.now k → result ≡ canonical.index_of (constants_of texts.now keys.now) k }
+    ensures { (k : PoolConstant) → key ≡ key_of texts.now k → result
+        ≡ canonical.index_of (constants_of texts.now keys.now) k }
 {
     keys.index_of(key)
 }

@@ -6,7 +6,7 @@ ghost use Rattle.class_model.specs.ConstantPool.{cp_info, two_indices};
 ghost use Rattle.class_model.specs.declared.constant.PoolConstant.{PoolConstant};
 ghost use Rattle.class_model.specs.CanonicalPool as canonical;
 ghost use Rattle.class_model.specs.WriteLimits.{first_of, text_fits};
-ghost use Rattle.constant_table.specs.Keys.{AreKeysOf, IsKeyIn, constant_of, constants_of, text_of};
+ghost use Rattle.constant_table.specs.bodies.Keys.{AreKeysOf, IsKeyIn, constant_of, constants_of, text_of};
 
 use crate::bytes::{put, put_u2, put_u4};
 use crate::finding::index_of_key;
@@ -22,7 +22,8 @@ pub fn put_all(alloc: Global, texts: &Texts, keys: &Keys, out: &mut Vec<u8>) -> 
     requires count { length keys.now + 1 < 2 ^ 16 }
     requires texts { first_of text_fits (constants_of texts.now keys.now) ≡ Ok tt }
     ensures { OnOk result (out.new.items ≡ out.old.items ++ (to_be_bytes w16 (length keys.now + 1)
-        ++ flat_map cp_info (flat_map (λ key. canonical.info_of (constants_of texts.now keys.now) (constant_of texts.now key)) keys.now))) }
+        ++ flat_map cp_info (flat_map (λ key. canonical.info_of (constants_of texts.now keys.now)
+            (constant_of texts.now key)) keys.now))) }
 {
     put_u2(out, keys.len() as u16 + 1)?;
     for key in keys.as_slice() {
@@ -99,7 +100,8 @@ fn told_index(texts: &Texts, keys: &Keys, key: Key) -> u16
 fn put_text(alloc: Global, texts: &Texts, number: usize, out: &mut Vec<u8>) -> M<()>
     requires number { number < length texts.now }
     requires text { text_fits (PoolConstant.Utf8 (text_of texts.now number)) ≡ Ok tt }
-    ensures { OnOk result (out.new.items ≡ out.old.items ++ flat_map cp_info (canonical.info_of [] (PoolConstant.Utf8 (text_of texts.now number)))) }
+    ensures { OnOk result (out.new.items ≡ out.old.items
+        ++ flat_map cp_info (canonical.info_of [] (PoolConstant.Utf8 (text_of texts.now number)))) }
 {
     match texts.get(number) {
         Some(units) => put_utf8(alloc, units, out),
@@ -110,7 +112,8 @@ fn put_text(alloc: Global, texts: &Texts, number: usize, out: &mut Vec<u8>) -> M
 /// CONSTANT_Utf8_info (JVMS 4.4.7).
 fn put_utf8(alloc: Global, units: &Units, out: &mut Vec<u8>) -> M<()>
     requires { text_fits (PoolConstant.Utf8 units.now) ≡ Ok tt }
-    ensures { OnOk result (out.new.items ≡ out.old.items ++ flat_map cp_info (canonical.info_of [] (PoolConstant.Utf8 units.now))) }
+    ensures { OnOk result (out.new.items ≡ out.old.items
+        ++ flat_map cp_info (canonical.info_of [] (PoolConstant.Utf8 units.now))) }
 {
     let bytes = mutf8_of_units(alloc, units)?;
     put(out, &[1])?;
@@ -120,7 +123,8 @@ fn put_utf8(alloc: Global, units: &Units, out: &mut Vec<u8>) -> M<()>
 
 /// CONSTANT_Integer_info (JVMS 4.4.4).
 fn put_integer(number: i32, out: &mut Vec<u8>) -> M<()>
-    ensures { OnOk result (out.new.items ≡ out.old.items ++ flat_map cp_info (canonical.info_of [] (PoolConstant.Integer number))) }
+    ensures { OnOk result (out.new.items ≡ out.old.items
+        ++ flat_map cp_info (canonical.info_of [] (PoolConstant.Integer number))) }
 {
     put(out, &[3])?;
     put_u4(out, number.cast_unsigned())
@@ -128,7 +132,8 @@ fn put_integer(number: i32, out: &mut Vec<u8>) -> M<()>
 
 /// CONSTANT_Long_info (JVMS 4.4.5).
 fn put_long(number: i64, out: &mut Vec<u8>) -> M<()>
-    ensures { OnOk result (out.new.items ≡ out.old.items ++ flat_map cp_info (canonical.info_of [] (PoolConstant.Long number))) }
+    ensures { OnOk result (out.new.items ≡ out.old.items
+        ++ flat_map cp_info (canonical.info_of [] (PoolConstant.Long number))) }
 {
     let bits = number.cast_unsigned();
     put(out, &[5])?;

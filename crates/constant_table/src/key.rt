@@ -1,7 +1,7 @@
 // Constants told by the numbers of their texts.
 
 /// A constant (JVMS 4.4), each of its texts told by its number in a list of texts.
-#[derive(Clone, Copy, PartialEq, Eq, Hash)]
+#[derive(Clone, Copy, PartialEq, Eq, PartialOrd, Ord)]
 pub enum Key {
     Utf8(usize),
     Integer(i32),

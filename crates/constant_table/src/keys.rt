@@ -1,12 +1,11 @@
 // Keys of constants in the order of their indices, and the index of each.
-ghost use Rattle.std.specs.Prelude.{◌≡◌, [], ◌∷◌, ◌++◌, None, Some, OnOk, OnErr, is_ok, if◌then◌else◌, length};
-ghost use Rattle.std.specs.Map.{lookup};
+ghost use Rattle.std.specs.Prelude.{◌≡◌, [], ◌∷◌, ◌++◌, None, is_ok, if◌then◌else◌, length};
 ghost use Rattle.indexmap.specs.IndexSet.{insert_key};
-ghost use Rattle.constant_table.specs.declared.key.Key.{Key};
-ghost use Rattle.constant_table.specs.Keys.{same_key, index_in, IsIndexed};
+ghost use Rattle.constant_table.specs.bodies.Keys.{same_key, index_in, IsIndexed};
+ghost use Rattle.constant_table.specs.bodies.Indices.{index_at};
 
+use crate::indices::Indices;
 use crate::key::Key;
-use indexmap::IndexMap;
 use jv_base::{M, OutOfMemory};
 use std::alloc::Global;
 use std::marker::Model;
@@ -16,19 +15,20 @@ use std::marker::Model;
 pub struct Keys {
     keys: Vec<Key>,
     /// The index of the first place of each.
-    indices: IndexMap<Key, usize>,
+    indices: Indices,
 }
 
 impl Model for Keys {
     ghost use Rattle.std.specs.Prelude.{List};
     ghost use Rattle.constant_table.specs.declared.key.Key.{Key};
-    ghost use Rattle.constant_table.specs.Keys.{IsIndexed};
+    ghost use Rattle.constant_table.specs.bodies.Keys.{IsIndexed};
+    ghost use Rattle.constant_table.specs.bodies.Indices.{index_at};
 
     ghost Value = { List Key };
 
     ghost view = { λ t. t.keys.items };
 
-    ghost invariant = { λ t. IsIndexed t.keys.items t.indices.entries };
+    ghost invariant = { λ t. IsIndexed t.keys.items (index_at t.indices) };
 }
 
 impl Keys {
@@ -38,7 +38,7 @@ impl Keys {
     {
         Keys {
             keys: Vec::new(alloc),
-            indices: IndexMap::new(alloc),
+            indices: Indices::new(alloc),
         }
     }
 
@@ -60,7 +60,7 @@ impl Keys {
     pub fn index_of(&self, key: Key) -> usize
         ensures { result ≡ index_in self.now key }
     {
-        match index_kept(&self.indices, key) {
+        match self.indices.get(key) {
             Some(index) => index,
             None => self.keys.len() + 1,
         }
@@ -81,33 +81,16 @@ impl Keys {
     }
 }
 
-// ---- indices
-
-fn index_kept(indices: &IndexMap<Key, usize>, key: Key) -> Option<usize>
-    ensures { result ≡ lookup (same_key key) indices.now.entries }
-{
-    indices.get(&key).copied()
-}
-
-fn put_index(indices: &mut IndexMap<Key, usize>, key: Key, index: usize) -> M<()>
-    ensures kept { OnOk result ((k : Key) → lookup (same_key k) indices.new.entries
-        ≡ (if same_key key k then Some index else lookup (same_key k) indices.old.entries)) }
-    ensures unchanged { OnErr result (indices.new.entries ≡ indices.old.entries) }
-{
-    indices.insert(key, index)?;
-    Ok(())
-}
-
 // A key that is missing, behind the others with its index.
-fn push_new(keys: &mut Vec<Key>, indices: &mut IndexMap<Key, usize>, key: Key) -> M<()>
-    requires indices { IsIndexed keys.old.items indices.old.entries }
-    requires missing { lookup (same_key key) indices.old.entries ≡ None }
+fn push_new(keys: &mut Vec<Key>, indices: &mut Indices, key: Key) -> M<()>
+    requires indices { IsIndexed keys.old.items (index_at indices.old) }
+    requires missing { index_at indices.old key ≡ None }
     ensures keys { keys.new.items ≡ (if is_ok result then keys.old.items ++ key ∷ [] else keys.old.items) }
-    ensures indices { IsIndexed keys.new.items indices.new.entries }
+    ensures indices { IsIndexed keys.new.items (index_at indices.new) }
 {
     keys.push(key)?;
     let index = keys.len();
-    if put_index(indices, key, index).is_err() {
+    if indices.put(key, index).is_err() {
         keys.truncate(index - 1);
         return Err(OutOfMemory);
     }
@@ -115,12 +98,12 @@ fn push_new(keys: &mut Vec<Key>, indices: &mut IndexMap<Key, usize>, key: Key) -
 }
 
 // A key behind the others, and its index unless an earlier one is the same.
-fn push_key(keys: &mut Vec<Key>, indices: &mut IndexMap<Key, usize>, key: Key) -> M<()>
-    requires { IsIndexed keys.old.items indices.old.entries }
+fn push_key(keys: &mut Vec<Key>, indices: &mut Indices, key: Key) -> M<()>
+    requires { IsIndexed keys.old.items (index_at indices.old) }
     ensures keys { keys.new.items ≡ (if is_ok result then keys.old.items ++ key ∷ [] else keys.old.items) }
-    ensures indices { IsIndexed keys.new.items indices.new.entries }
+    ensures indices { IsIndexed keys.new.items (index_at indices.new) }
 {
-    match index_kept(indices, key) {
+    match indices.get(key) {
         Some(_) => {
             keys.push(key)?;
             Ok(())
@@ -129,12 +112,12 @@ fn push_key(keys: &mut Vec<Key>, indices: &mut IndexMap<Key, usize>, key: Key) -
     }
 }
 
-fn add_key(keys: &mut Vec<Key>, indices: &mut IndexMap<Key, usize>, key: Key) -> M<()>
-    requires { IsIndexed keys.old.items indices.old.entries }
+fn add_key(keys: &mut Vec<Key>, indices: &mut Indices, key: Key) -> M<()>
+    requires { IsIndexed keys.old.items (index_at indices.old) }
     ensures keys { keys.new.items ≡ (if is_ok result then insert_key same_key keys.old.items key else keys.old.items) }
-    ensures indices { IsIndexed keys.new.items indices.new.entries }
+    ensures indices { IsIndexed keys.new.items (index_at indices.new) }
 {
-    match index_kept(indices, key) {
+    match indices.get(key) {
         Some(_) => Ok(()),
         None => push_new(keys, indices, key),
     }

@@ -4,7 +4,7 @@ ghost use Rattle.std.specs.List.{AllByRecursion};
 ghost use Rattle.jv_base.specs.Outcome.{IsDue};
 ghost use Rattle.class_model.specs.declared.constant.PoolConstant.{PoolConstant};
 ghost use Rattle.class_model.specs.WriteLimits.{first_of, text_fits};
-ghost use Rattle.constant_table.specs.Keys.{IsKeyIn, constant_of, text_of};
+ghost use Rattle.constant_table.specs.bodies.Keys.{IsKeyIn, constant_of, text_of};
 
 use crate::key::Key;
 use crate::texts::Texts;
@@ -15,6 +15,9 @@ use std::alloc::Global;
 fn check_units(alloc: Global, units: &Units) -> Result<(), Or<WriteLimit>>
     ensures { IsDue result (text_fits (PoolConstant.Utf8 units.now)) }
 {
+    if units.len() <= 21_845 {
+        return Ok(());
+    }
     let length = mutf8_of_units(alloc, units)?.len();
     if length < 65_536 {
         Ok(())

@@ -5,9 +5,9 @@ ghost use Rattle.indexmap.specs.IndexSet.{insert_key, insert_all};
 ghost use Rattle.jv_base.specs.Utf16.{units_of};
 ghost use Rattle.class_model.specs.declared.constant.PoolConstant.{PoolConstant};
 ghost use Rattle.class_model.specs.CanonicalPool as canonical;
-ghost use Rattle.constant_table.specs.Keys.{AreKeysOf, IsKeyIn, constant_of, constants_of};
-ghost use Rattle.constant_table.specs.Texts.{HasText, Grows};
-ghost use Rattle.constant_table.specs.Members.{TellsTexts, Tells, part_keys};
+ghost use Rattle.constant_table.specs.bodies.Keys.{AreKeysOf, IsKeyIn, constant_of, constants_of};
+ghost use Rattle.constant_table.specs.bodies.Texts.{HasText, Grows};
+ghost use Rattle.constant_table.specs.bodies.Members.{TellsTexts, Tells, part_keys};
 
 use crate::finding::{MemberNumbers, method_key};
 use crate::key::Key;
@@ -90,7 +90,8 @@ pub fn put_type(alloc: Global, texts: &mut Texts, keys: &mut Keys, ty: &FieldTyp
     requires { AreKeysOf texts.old keys.old }
     ensures kept { AreKeysOf texts.new keys.new }
     ensures put { OnOk result (constants_of texts.new keys.new
-        ≡ insert_all canonical.same (constants_of texts.old keys.old) (canonical.class_constants (canonical.type_name ty.now))) }
+        ≡ insert_all canonical.same (constants_of texts.old keys.old)
+            (canonical.class_constants (canonical.type_name ty.now))) }
 {
     let number = keep_type(alloc, texts, ty)?;
     put_keys(texts, keys, &[Key::Utf8(number), Key::Class(number)])
@@ -130,7 +131,8 @@ pub fn put_long(texts: &Texts, keys: &mut Keys, number: i64) -> M<()>
 
 fn keep_member(alloc: Global, texts: &mut Texts, member: &MemberRef) -> M<MemberNumbers>
     ensures grows { Grows texts.old texts.new }
-    ensures texts { IfOk result (λ m. TellsTexts texts.new m (units_of (canonical.type_name member.now.class)) (units_of member.now.name) (units_of member.now.ty)) }
+    ensures texts { IfOk result (λ m. TellsTexts texts.new m (units_of (canonical.type_name member.now.class))
+        (units_of member.now.name) (units_of member.now.ty)) }
 {
     let class = keep_type(alloc, texts, &member.class)?;
     let name = texts.keep_text(alloc, &member.name)?;
@@ -149,7 +151,8 @@ fn put_member(texts: &Texts, keys: &mut Keys, m: MemberNumbers, key: Key) -> M<(
     requires key { IsKeyIn (length texts.now) key }
     ensures kept { AreKeysOf texts.now keys.new }
     ensures put { OnOk result (constants_of texts.now keys.new
-        ≡ insert_all canonical.same (constants_of texts.now keys.old) (map (constant_of texts.now) (part_keys m ++ key ∷ []))) }
+        ≡ insert_all canonical.same (constants_of texts.now keys.old)
+            (map (constant_of texts.now) (part_keys m ++ key ∷ []))) }
 {
     let wanted = [
         Key::Utf8(m.class),
@@ -166,7 +169,8 @@ pub fn put_field(alloc: Global, texts: &mut Texts, keys: &mut Keys, field: &Memb
     requires { AreKeysOf texts.old keys.old }
     ensures kept { AreKeysOf texts.new keys.new }
     ensures put { OnOk result (constants_of texts.new keys.new
-        ≡ insert_all canonical.same (constants_of texts.old keys.old) (canonical.with_parts field.now (canonical.fieldref field.now))) }
+        ≡ insert_all canonical.same (constants_of texts.old keys.old)
+            (canonical.with_parts field.now (canonical.fieldref field.now))) }
 {
     let m = keep_member(alloc, texts, field)?;
     put_member(texts, keys, m, Key::Fieldref(m.class, m.name, m.descriptor))
@@ -176,7 +180,8 @@ pub fn put_method(alloc: Global, texts: &mut Texts, keys: &mut Keys, method: &Me
     requires { AreKeysOf texts.old keys.old }
     ensures kept { AreKeysOf texts.new keys.new }
     ensures put { OnOk result (constants_of texts.new keys.new
-        ≡ insert_all canonical.same (constants_of texts.old keys.old) (canonical.with_parts method.now (canonical.methodref method.now))) }
+        ≡ insert_all canonical.same (constants_of texts.old keys.old)
+            (canonical.with_parts method.now (canonical.methodref method.now))) }
 {
     let m = keep_member(alloc, texts, method)?;
     put_member(texts, keys, m, method_key(m, method.of_interface))
@@ -261,7 +266,8 @@ fn push_key(texts: &Texts, keys: &mut Keys, key: Key) -> M<()>
     requires key { IsKeyIn (length texts.now) key }
     ensures kept { AreKeysOf texts.now keys.new }
     ensures put { constants_of texts.now keys.new
-        ≡ (if is_ok result then constants_of texts.now keys.old ++ constant_of texts.now key ∷ [] else constants_of texts.now keys.old) }
+        ≡ (if is_ok result then constants_of texts.now keys.old ++ constant_of texts.now key
+            ∷ [] else constants_of texts.now keys.old) }
 {
     keys.push(key)
 }
@@ -275,7 +281,8 @@ pub fn put_constant(
     requires { AreKeysOf texts.old keys.old }
     ensures kept { AreKeysOf texts.new keys.new }
     ensures put { constants_of texts.new keys.new
-        ≡ (if is_ok result then constants_of texts.old keys.old ++ constant.now ∷ [] else constants_of texts.old keys.old) }
+        ≡ (if is_ok result then constants_of texts.old keys.old ++ constant.now
+            ∷ [] else constants_of texts.old keys.old) }
 {
     match keep_constant(alloc, texts, constant) {
         Ok(key) => push_key(texts, keys, key),

@@ -10,7 +10,7 @@ ghost use Rattle.indexmap.specs.IndexSet.{insert_key, insert_all};
 ghost use Rattle.jv_base.specs.Utf16.{units_of};
 ghost use Rattle.class_model.specs.declared.constant.PoolConstant.{PoolConstant};
 ghost use Rattle.class_model.specs.CanonicalPool as canonical;
-ghost use Rattle.constant_table.specs.Keys.{AreKeysOf, constants_of};
+ghost use Rattle.constant_table.specs.bodies.Keys.{AreKeysOf, constants_of};
 
 use crate::finding::{index_of_key, member_numbers, method_key, type_number};
 use crate::items::put_all;
@@ -38,7 +38,7 @@ pub struct ConstantTable {
 impl Model for ConstantTable {
     ghost use Rattle.std.specs.Prelude.{List};
     ghost use Rattle.class_model.specs.declared.constant.PoolConstant.{PoolConstant};
-    ghost use Rattle.constant_table.specs.Keys.{AreKeysOf, constants_of};
+    ghost use Rattle.constant_table.specs.bodies.Keys.{AreKeysOf, constants_of};
 
     ghost Value = { List PoolConstant };
 
@@ -97,7 +97,8 @@ impl ConstantTable {
 
     /// A class or an array type behind the text of its name (JVMS 4.4.1).
     pub fn add_type(&mut self, alloc: Global, ty: &FieldType) -> M<()>
-        ensures { OnOk result (self.new ≡ insert_all canonical.same self.old (canonical.class_constants (canonical.type_name ty.now))) }
+        ensures { OnOk result (self.new ≡ insert_all canonical.same self.old
+            (canonical.class_constants (canonical.type_name ty.now))) }
     {
         put_type(alloc, &mut self.texts, &mut self.keys, ty)
     }
@@ -125,14 +126,16 @@ impl ConstantTable {
 
     /// A field behind its class and its name and type (JVMS 4.4.2).
     pub fn add_field(&mut self, alloc: Global, field: &MemberRef) -> M<()>
-        ensures { OnOk result (self.new ≡ insert_all canonical.same self.old (canonical.with_parts field.now (canonical.fieldref field.now))) }
+        ensures { OnOk result (self.new ≡ insert_all canonical.same self.old
+            (canonical.with_parts field.now (canonical.fieldref field.now))) }
     {
         put_field(alloc, &mut self.texts, &mut self.keys, field)
     }
 
     /// A method behind its class and its name and type (JVMS 4.4.2).
     pub fn add_method(&mut self, alloc: Global, method: &MemberRef) -> M<()>
-        ensures { OnOk result (self.new ≡ insert_all canonical.same self.old (canonical.with_parts method.now (canonical.methodref method.now))) }
+        ensures { OnOk result (self.new ≡ insert_all canonical.same self.old
+            (canonical.with_parts method.now (canonical.methodref method.now))) }
     {
         put_method(alloc, &mut self.texts, &mut self.keys, method)
     }
@@ -188,7 +191,8 @@ impl ConstantTable {
 
     /// The index of a class or an array type (JVMS 4.4.1).
     pub fn type_index(&self, alloc: Global, ty: &FieldType) -> M<usize>
-        ensures { IfOk result (λ index. index ≡ canonical.index_of self.now (canonical.class_constant (canonical.type_name ty.now))) }
+        ensures { IfOk result (λ index. index ≡ canonical.index_of self.now
+            (canonical.class_constant (canonical.type_name ty.now))) }
     {
         let number = type_number(alloc, &self.texts, ty)?;
         Ok(index_of_key(&self.texts, &self.keys, Key::Class(number)))

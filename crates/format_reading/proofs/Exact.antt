@@ -16,8 +16,9 @@ use Rattle.format_reading.specs.Fault.{fault}
 use Rattle.format_reading.specs.declared.fault.FormatFault.{FormatFault}
 use Rattle.format_reading.specs.declared.fault.FormatKind.{FormatKind}
 use Rattle.format_reading.specs.declared.fault.FormatKind.TheVariants.{BadAttribute}
-use Rattle.format_reading.specs.Reader.{Reader, or_cut, u1, u2, u4, bytes, lead, bind, give, given, item, here, settle}
-use Rattle.format_reading.specs.Reader.{told, part, in_part, closed, many, after_read, onwards}
+use Rattle.format_reading.specs.Reader.{Reader, FormatReader, on_read, bind, give, here, of_result, many}
+use Rattle.format_reading.specs.Reader.{or_cut, u1, u2, u4, bytes, lead, given, item, settle, part, in_part, closed}
+use Rattle.format_reading.specs.Reader.{onwards}
 use Rattle.format_reading.specs.Spelling.{Spells, AllStand, ManyStand}
 
 -- what is left at a place
@@ -35,7 +36,7 @@ pub record Takes (p : Place) (text : List ℕ) (q : Place) : Type 0 where
 
 -- what a reader takes spells its value, and what spells a value is taken: the reader takes exactly the texts of a
 -- relation
-pub record Exact {A : Type 0} (r : Reader A) (g : ℕ → List ℕ → A → Type 0) : Type 0 where
+pub record Exact {A X : Type 0} (r : Reader A X) (g : ℕ → List ℕ → A → Type 0) : Type 0 where
   pub found : (p : Place) (x : A) (q : Place) → IsBytes p.bytes → r p ≡ Ok (x, q)
       → (text : List ℕ) × g p.at text x × Takes p text q
   pub only : (p : Place) (text : List ℕ) (x : A) (q : Place) → g p.at text x → Takes p text q → r p ≡ Ok (x, q)
@@ -81,48 +82,40 @@ fits_on p q x t h = rw (same_bytes p q x t) h
 
 -- ---- an item, and then more
 
--- what an item led to was a reader
-onwards_ok : {B : Type 0} (at : ℕ) (o : Result (Reader B) FormatKind) (q : Place) (y : B × Place)
-    → onwards at o q ≡ Ok y → (s : Reader B) × (o ≡ Ok s) × (s q ≡ Ok y)
-onwards_ok at (Ok s) q y h = (s, refl, h)
-onwards_ok at (Err k) q y h = absurd cc
-
 -- an item that led on was read, and so was what it led to
-lead_ok : {A B : Type 0} (at : ℕ) (f : A → Result (Reader B) FormatKind) (d : Result (A × Place) FormatFault)
-    (y : B × Place) → after_read at f d ≡ Ok y
-    → (x : A) × (q : Place) × (s : Reader B) × (d ≡ Ok (x, q)) × (f x ≡ Ok s) × (s q ≡ Ok y)
-lead_ok at f (Err e) y h = absurd cc
-lead_ok at f (Ok x) y h = let o = onwards_ok at (f x.0) x.1 y h in (x.0, x.1, o.0, refl, o.1, o.2)
+on_read_ok : {A B X : Type 0} (f : A → Reader B X) (d : Result (A × Place) X) (y : B × Place) → on_read f d ≡ Ok y
+    → (x : A) × (q : Place) × (d ≡ Ok (x, q)) × (f x q ≡ Ok y)
+on_read_ok f (Ok x) y h = (x.0, x.1, refl, h)
+on_read_ok f (Err e) y h = absurd cc
 
--- where an item leads: to a reader of the rest, or to a fault, and then no rest fits
-abbrev pub Leads : {B : Type 0} → Result (Reader B) FormatKind → (ℕ → List ℕ → B → Type 0) → Type 0
-Leads (Ok s) g = Exact s g
-Leads (Err k) g = (at : ℕ) (t : List ℕ) (y : _) → g at t y → ⊥
+-- a step that did not fail
+pub bind_ok : {A B X : Type 0} (r : Reader A X) (f : A → Reader B X) (p : Place) (y : B × Place) → bind r f p ≡ Ok y
+    → (x : A) × (q : Place) × (r p ≡ Ok (x, q)) × (f x q ≡ Ok y)
+unfolding bind
+bind_ok r f p y h = on_read_ok f (r p) y h
 
--- what fits the rest is read by the reader that the item leads to
-onwards_only : {B : Type 0} (at : ℕ) (o : Result (Reader B) FormatKind) (g : ℕ → List ℕ → B → Type 0) (p q : Place)
-    (t : List ℕ) (y : B) → Leads o g → g p.at t y → Takes p t q → onwards at o p ≡ Ok (y, q)
-onwards_only at (Ok s) g p q t y l h k = l.only p t y q h k
-onwards_only at (Err e) g p q t y l h k = absurd (l p.at t y h)
+-- what follows an item that was read
+pub bind_is : {A B X : Type 0} (r : Reader A X) (f : A → Reader B X) (p q : Place) (x : A) → r p ≡ Ok (x, q)
+    → bind r f p ≡ f x q
+unfolding bind
+bind_is r f p q x h = rw h refl
 
 -- the spelling of a pair of structures, of which the second depends on what the first stands for
 abbrev pub Both : {A B R S : Type 0} → (R → List ℕ) → (ℕ → R → A → Type 0) → (A → ℕ → S → B → Type 0) → ℕ → R × S → B
     → Type 0
 Both s m n at w y = (x : _) × m at w.0 x × n x (at + length (s w.0)) w.1 y
 
--- the rest may rely on what the first structure stands for
-pub lead_exact_of : {A B R S : Type 0} {r : Reader A} {s : R → List ℕ} {m : ℕ → R → A → Type 0}
-    (f : A → Result (Reader B) FormatKind) (t : S → List ℕ) (n : A → ℕ → S → B → Type 0)
-    → Exact r (Spells s m) → ((at : ℕ) (w : R) (x : A) → m at w x → Leads (f x) (Spells t (n x)))
-    → Exact (lead r f) (Spells (λ (w : R × S). s w.0 ++ t w.1) (Both s m n))
-unfolding lead
-lead_exact_of {r = r} {s = s} {m = m} f t n a b = record {
+-- an item, and then more, which may rely on what the item stands for
+pub bind_exact_of : {A B X R S : Type 0} {r : Reader A X} {s : R → List ℕ} {m : ℕ → R → A → Type 0}
+    (f : A → Reader B X) (t : S → List ℕ) (n : A → ℕ → S → B → Type 0)
+    → Exact r (Spells s m) → ((at : ℕ) (w : R) (x : A) → m at w x → Exact (f x) (Spells t (n x)))
+    → Exact (bind r f) (Spells (λ (w : R × S). s w.0 ++ t w.1) (Both s m n))
+bind_exact_of {r = r} {s = s} {m = m} f t n a b = record {
   found = λ p y q fits h.
-      let o = lead_ok p.at f (r p) (y, q) h in
-      let first = a.found p o.0 o.1 fits o.3 in
-      let then_ : Exact o.2 (Spells t (n o.0)) = subst
-      (λ (v : Result (Reader _) FormatKind). Leads v (Spells t (n o.0))) o.4 (b p.at first.1.0 o.0 first.1.2) in
-      let second = then_.found o.1 y q (fits_on p o.1 first.0 first.2 fits) o.5 in
+      let o = bind_ok r f p (y, q) h in
+      let first = a.found p o.0 o.1 fits o.2 in
+      let then_ : Exact (f o.0) (Spells t (n o.0)) = b p.at first.1.0 o.0 first.1.2 in
+      let second = then_.found o.1 y q (fits_on p o.1 first.0 first.2 fits) o.3 in
       let moved : o.1.at ≡ p.at + length (s first.1.0) = ap (λ (z : Place). z.at) first.2.moved
       ∙ ap (λ (u : List ℕ). p.at + length u) first.1.1 in (
         first.0 ++ second.0,
@@ -138,36 +131,53 @@ lead_exact_of {r = r} {s = s} {m = m} f t n a b = record {
       let parts = Takes-split p q (s w.0) (t w.1) (subst (λ (u : List ℕ). Takes p u q) h.1 k) in
       let mid : Place = after (length (s w.0)) p in
       let one : r p ≡ Ok (h.2.0, mid) = a.only p (s w.0) h.2.0 mid (w.0, refl, h.2.1) parts.0 in
-      let two : onwards p.at (f h.2.0) mid
-      ≡ Ok (y, q) = onwards_only p.at (f h.2.0) (Spells t (n h.2.0)) mid q (t w.1) y (b p.at w.0 h.2.0 h.2.1)
-      (w.1, refl, h.2.2) parts.1 in
-      rw one two;
+      bind_is r f p mid h.2.0 one
+      ∙ (b p.at w.0 h.2.0 h.2.1).only mid (t w.1) y q (w.1, refl, h.2.2) parts.1;
 }
 
--- an item, and then what it leads to
-pub lead_exact : {A B R S : Type 0} {r : Reader A} {s : R → List ℕ} {m : ℕ → R → A → Type 0}
-    (f : A → Result (Reader B) FormatKind) (t : S → List ℕ) (n : A → ℕ → S → B → Type 0)
-    → Exact r (Spells s m) → ((x : A) → Leads (f x) (Spells t (n x)))
-    → Exact (lead r f) (Spells (λ (w : R × S). s w.0 ++ t w.1) (Both s m n))
-lead_exact f t n a b = lead_exact_of f t n a (λ at w x h. b x)
-
--- an item, and then more, which may rely on what the item stands for
-pub bind_exact_of : {A B R S : Type 0} {r : Reader A} {s : R → List ℕ} {m : ℕ → R → A → Type 0} (f : A → Reader B)
-    (t : S → List ℕ) (n : A → ℕ → S → B → Type 0)
-    → Exact r (Spells s m) → ((at : ℕ) (w : R) (x : A) → m at w x → Exact (f x) (Spells t (n x)))
-    → Exact (bind r f) (Spells (λ (w : R × S). s w.0 ++ t w.1) (Both s m n))
-unfolding bind lead
-bind_exact_of f t n a b = lead_exact_of (λ x. Ok (f x)) t n a b
-
 -- an item, and then more
-pub bind_exact : {A B R S : Type 0} {r : Reader A} {s : R → List ℕ} {m : ℕ → R → A → Type 0} (f : A → Reader B)
+pub bind_exact : {A B X R S : Type 0} {r : Reader A X} {s : R → List ℕ} {m : ℕ → R → A → Type 0} (f : A → Reader B X)
     (t : S → List ℕ) (n : A → ℕ → S → B → Type 0)
     → Exact r (Spells s m) → ((x : A) → Exact (f x) (Spells t (n x)))
     → Exact (bind r f) (Spells (λ (w : R × S). s w.0 ++ t w.1) (Both s m n))
 bind_exact f t n a b = bind_exact_of f t n a (λ at w x h. b x)
 
+-- where an item leads: to a reader of the rest, or to a fault, and then no rest fits
+abbrev pub Leads : {B : Type 0} → Result (FormatReader B) FormatKind → (ℕ → List ℕ → B → Type 0) → Type 0
+Leads (Ok s) g = Exact s g
+Leads (Err k) g = (at : ℕ) (t : List ℕ) (y : _) → g at t y → ⊥
+
+-- the reader that an item leads to takes exactly what fits the rest
+onwards_exact : {B : Type 0} (at : ℕ) (o : Result (FormatReader B) FormatKind) (g : ℕ → List ℕ → B → Type 0)
+    → Leads o g → Exact (onwards at o) g
+onwards_exact at (Ok s) g l = record { found = l.found; only = l.only }
+onwards_exact at (Err e) g l = record {
+  found = λ p y q fits h. absurd cc;
+  only = λ p t y q h k. absurd (l p.at t y h);
+}
+
+-- the rest may rely on what the first structure stands for
+pub lead_exact_of : {A B R S : Type 0} {r : FormatReader A} {s : R → List ℕ} {m : ℕ → R → A → Type 0}
+    (f : A → Result (FormatReader B) FormatKind) (t : S → List ℕ) (n : A → ℕ → S → B → Type 0)
+    → Exact r (Spells s m) → ((at : ℕ) (w : R) (x : A) → m at w x → Leads (f x) (Spells t (n x)))
+    → Exact (lead r f) (Spells (λ (w : R × S). s w.0 ++ t w.1) (Both s m n))
+unfolding lead bind
+lead_exact_of {r = r} {s = s} {m = m} f t n a b =
+    let led = λ (offset : ℕ). bind_exact_of {r = r} {s = s} {m = m} (λ x. onwards offset (f x)) t n a
+    (λ at w x h. onwards_exact offset (f x) (Spells t (n x)) (b at w x h)) in record {
+      found = λ p. (led p.at).found p;
+      only = λ p. (led p.at).only p;
+    }
+
+-- an item, and then what it leads to
+pub lead_exact : {A B R S : Type 0} {r : FormatReader A} {s : R → List ℕ} {m : ℕ → R → A → Type 0}
+    (f : A → Result (FormatReader B) FormatKind) (t : S → List ℕ) (n : A → ℕ → S → B → Type 0)
+    → Exact r (Spells s m) → ((x : A) → Leads (f x) (Spells t (n x)))
+    → Exact (lead r f) (Spells (λ (w : R × S). s w.0 ++ t w.1) (Both s m n))
+lead_exact f t n a b = lead_exact_of f t n a (λ at w x h. b x)
+
 -- the same structure, told with names
-pub as_raw : {A R S : Type 0} {r : Reader A} {s : R → List ℕ} {m : ℕ → R → A → Type 0} (t : S → List ℕ)
+pub as_raw : {A X R S : Type 0} {r : Reader A X} {s : R → List ℕ} {m : ℕ → R → A → Type 0} (t : S → List ℕ)
     (n : ℕ → S → A → Type 0) (to : R → S) (from : S → R)
     → ((at : ℕ) (w : R) (x : A) → m at w x → (s w ≡ t (to w)) × n at (to w) x)
     → ((at : ℕ) (v : S) (x : A) → n at v x → (t v ≡ s (from v)) × m at (from v) x) → Exact r (Spells s m)
@@ -202,7 +212,7 @@ bytes_behind a b h = subst (λ (u : List ℕ). IsBytes u) (drop_at a b (length a
     (IsBytes-drop (length a) (a ++ b) h)
 
 -- the same, where what stands for the value may rely on the text being bytes
-pub as_raw_bytes : {A R S : Type 0} {r : Reader A} {s : R → List ℕ} {m : ℕ → R → A → Type 0} (t : S → List ℕ)
+pub as_raw_bytes : {A X R S : Type 0} {r : Reader A X} {s : R → List ℕ} {m : ℕ → R → A → Type 0} (t : S → List ℕ)
     (n : ℕ → S → A → Type 0) (to : R → S) (from : S → R)
     → ((at : ℕ) (w : R) (x : A) → IsBytes (s w) → m at w x → (s w ≡ t (to w)) × n at (to w) x)
     → ((at : ℕ) (v : S) (x : A) → n at v x → (t v ≡ s (from v)) × m at (from v) x) → Exact r (Spells s m)
@@ -221,11 +231,11 @@ abbrev pub nothing : Unit {0} → List ℕ
 nothing u = []
 
 -- a value that was read
-abbrev pub ok_of : {A : Type 0} → A × Place → Result (A × Place) FormatFault
+abbrev pub ok_of : {A X : Type 0} → A × Place → Result (A × Place) X
 ok_of x = Ok x
 
 -- a value that was read is one
-pub ok_is : {A : Type 0} (x y : A × Place) → ok_of x ≡ ok_of y → x ≡ y
+pub ok_is : {A X : Type 0} (x y : A × Place) → ok_of {X = X} x ≡ ok_of y → x ≡ y
 ok_is x y e = cc
 
 -- no byte behind a place is the place
@@ -233,7 +243,7 @@ nothing_taken : (p : Place) → p ≡ after 0 p
 nothing_taken p = place_is p.bytes _ _ (omega arith)
 
 -- a value for which no byte stands
-pub give_exact : {A : Type 0} (x : A) → Exact (give x) (Spells nothing (λ at u y. y ≡ x))
+pub give_exact : {A X : Type 0} (x : A) → Exact (give {X = X} x) (Spells nothing (λ at u y. y ≡ x))
 unfolding give
 give_exact x = record {
   found = λ p y q fits h. let e = ok_is (x, p) (y, q) h in let k : p
@@ -251,7 +261,7 @@ give_exact x = record {
 }
 
 -- the offset
-pub here_exact : Exact here (Spells nothing (λ at u y. y ≡ at))
+pub here_exact : {X : Type 0} → Exact (here {X = X}) (Spells nothing (λ at u y. y ≡ at))
 unfolding here
 here_exact = record {
   found = λ p y q fits h. let e = ok_is (p.at, p) (y, q) h in let k : p
@@ -280,29 +290,29 @@ settle_exact at (Err k) = record {
 }
 
 -- a value that was found, or a fault with its offset
-pub told_exact : {A : Type 0} (o : Result A FormatFault) → Exact (told o) (Spells nothing (λ _ u y. o ≡ Ok y))
-unfolding told give
-told_exact (Ok x) = as_raw nothing _ (λ w. w) (λ w. w) (λ at w y h. (refl, ap (λ v. Ok v) (sym h)))
+pub of_result_exact : {A X : Type 0} (o : Result A X) → Exact (of_result o) (Spells nothing (λ _ u y. o ≡ Ok y))
+unfolding of_result give
+of_result_exact (Ok x) = as_raw nothing _ (λ w. w) (λ w. w) (λ at w y h. (refl, ap (λ v. Ok v) (sym h)))
     (λ at w y h. (refl, sym (let e : x ≡ y = cc in e))) (give_exact x)
-told_exact (Err k) = record {
+of_result_exact (Err k) = record {
   found = λ p y q fits h. absurd cc;
   only = λ p text y q h t. absurd (let e : Err k ≡ Ok y = h.2 in cc);
 }
 
 -- either reader, as a test goes
-pub if_exact : {A : Type 0} {r s : Reader A} {g : ℕ → List ℕ → A → Type 0} (b : Bool) → (b ≡ true → Exact r g)
+pub if_exact : {A X : Type 0} {r s : Reader A X} {g : ℕ → List ℕ → A → Type 0} (b : Bool) → (b ≡ true → Exact r g)
     → (b ≡ false → Exact s g) → Exact (cond b r s) g
 if_exact true a b = a refl
 if_exact false a b = b refl
 
 -- either lead, as a test goes
-pub leads_if : {A : Type 0} (r s : Result (Reader A) FormatKind) (g : ℕ → List ℕ → A → Type 0) (b : Bool)
+pub leads_if : {A : Type 0} (r s : Result (FormatReader A) FormatKind) (g : ℕ → List ℕ → A → Type 0) (b : Bool)
     → (b ≡ true → Leads r g) → (b ≡ false → Leads s g) → Leads (cond b r s) g
 leads_if r s g true a b = a refl
 leads_if r s g false a b = b refl
 
 -- an item, and a value made of it
-pub map_exact : {A B R : Type 0} {r : Reader A} {s : R → List ℕ} {m : ℕ → R → A → Type 0} (f : A → B)
+pub map_exact : {A B X R : Type 0} {r : Reader A X} {s : R → List ℕ} {m : ℕ → R → A → Type 0} (f : A → B)
     → Exact r (Spells s m) → Exact (bind r (λ x. give (f x))) (Spells s (λ at raw y. (x : A) × m at raw x × (y ≡ f x)))
 map_exact {s = s} {m = m} f e = as_raw s _ (λ w. w.0) (λ v. (v, tt))
     (λ at w y h. (append-nil (s w.0), h))
@@ -316,7 +326,8 @@ leads_given (Ok x) = as_raw nothing _ (λ w. w) (λ w. w) (λ at w y h. (refl, a
 leads_given (Err k) = λ at t y h. absurd (let e : Err k ≡ Ok y = h.2 in cc)
 
 -- an item's meaning
-pub item_exact : {A B R : Type 0} {r : Reader A} {s : R → List ℕ} {m : ℕ → R → A → Type 0} (f : A → Result B FormatKind)
+pub item_exact : {A B R : Type 0} {r : FormatReader A} {s : R → List ℕ} {m : ℕ → R → A → Type 0}
+    (f : A → Result B FormatKind)
     → Exact r (Spells s m) → Exact (item r f) (Spells s (λ at raw y. (x : A) × m at raw x × (f x ≡ Ok y)))
 item_exact {s = s} {m = m} f e = as_raw s _ (λ w. w.0) (λ v. (v, tt))
     (λ at w y h. (append-nil (s w.0), h))
@@ -344,7 +355,7 @@ many_cons s m n at (w ∷ ws) [] h = absurd h.1
 many_cons s m n at (w ∷ ws) (y ∷ ys) h = (y, ys, w, ws, refl, refl, h.1.0, (omega (arith, h.0), h.1.1))
 
 -- one structure and n others
-both : {A R : Type 0} {r : Reader A} {s : R → List ℕ} {m : ℕ → R → A → Type 0} (n : ℕ) → Exact r (Spells s m)
+both : {A X R : Type 0} {r : Reader A X} {s : R → List ℕ} {m : ℕ → R → A → Type 0} (n : ℕ) → Exact r (Spells s m)
     → Exact (many n r) (Spells (flat_map s) (ManyStand s m n))
     → Exact (bind r (λ first. bind (many n r) (λ others. give (first ∷ others))))
     (Spells (λ (w : R × List R). s w.0 ++ flat_map s w.1)
@@ -354,7 +365,7 @@ both {r = r} {s = s} {m = m} n e rest = bind_exact (λ first. bind (many n r) (�
     (λ first. map_exact (λ others. first ∷ others) rest)
 
 -- one more structure
-step : {A R : Type 0} {r : Reader A} {s : R → List ℕ} {m : ℕ → R → A → Type 0} (n : ℕ) → Exact r (Spells s m)
+step : {A X R : Type 0} {r : Reader A X} {s : R → List ℕ} {m : ℕ → R → A → Type 0} (n : ℕ) → Exact r (Spells s m)
     → Exact (many n r) (Spells (flat_map s) (ManyStand s m n))
     → Exact (bind r (λ first. bind (many n r) (λ others. give (first ∷ others))))
     (Spells (flat_map s) (ManyStand s m (suc n)))
@@ -379,7 +390,8 @@ step {r = r} {s = s} {m = m} n e rest = record {
 }
 
 -- n structures, one behind the other
-pub many_exact : {A R : Type 0} {r : Reader A} {s : R → List ℕ} {m : ℕ → R → A → Type 0} (n : ℕ) → Exact r (Spells s m)
+pub many_exact : {A X R : Type 0} {r : Reader A X} {s : R → List ℕ} {m : ℕ → R → A → Type 0} (n : ℕ)
+    → Exact r (Spells s m)
     → Exact (many n r) (Spells (flat_map s) (ManyStand s m n))
 unfolding many
 many_exact {s = s} {m = m} zero e = as_raw {S = List _} (flat_map s) (ManyStand s m 0) (λ u. []) (λ v. tt)
@@ -468,11 +480,23 @@ pub record IsWide (w : Width) (limit : ℕ) : Type 0 where
 
 -- numbers of two bytes
 wide16 : IsWide w16 (2 ^ 16)
-wide16 = record { len = λ n. refl; back = λ bytes len fits. be_bytes_2 bytes _ len fits refl; again = λ n lt. from_be_bytes-to_be_bytes_2 n lt; below = λ bytes fits. omega (arith, fits 0, fits 1) }
+wide16 = record {
+  len = λ n. refl;
+  back = λ bytes len fits. be_bytes_2 bytes _ len fits refl;
+  again = λ n lt.
+      from_be_bytes-to_be_bytes_2 n lt;
+  below = λ bytes fits. omega (arith, fits 0, fits 1);
+}
 
 -- numbers of four bytes
 wide32 : IsWide w32 (2 ^ 32)
-wide32 = record { len = λ n. refl; back = λ bytes len fits. be_bytes_4 bytes _ len fits refl; again = λ n lt. from_be_bytes-to_be_bytes_4 n lt; below = λ bytes fits. omega (arith, fits 0, fits 1, fits 2, fits 3) }
+wide32 = record {
+  len = λ n. refl;
+  back = λ bytes len fits. be_bytes_4 bytes _ len fits refl;
+  again = λ n lt.
+      from_be_bytes-to_be_bytes_4 n lt;
+  below = λ bytes fits. omega (arith, fits 0, fits 1, fits 2, fits 3);
+}
 
 -- a byte is the spelling of its number
 one_byte : (bytes : List ℕ) → length bytes ≡ 1 → IsBytes bytes → to_be_bytes w8 (from_be_bytes w8 bytes) ≡ bytes
@@ -495,7 +519,7 @@ abbrev pub Below : ℕ → ℕ → ℕ → ℕ → Type 0
 Below limit at raw x = (raw < limit) × (x ≡ raw)
 
 -- a big-endian number of a width
-abbrev number : Width → Reader ℕ
+abbrev number : Width → FormatReader ℕ
 number w p = or_cut (number_at w p)
 
 -- a number of a width is read exactly where it is spelled
@@ -541,27 +565,6 @@ pub u4_exact : Exact u4 (Spells (to_be_bytes w32) (Below (2 ^ 32)))
 unfolding u4
 u4_exact = number_exact w32 (2 ^ 32) wide32
 
--- a lead is one
-ok_reader : {B : Type 0} (a b : Reader B) → (let R : Result (Reader B) FormatKind = Ok a in R) ≡ Ok b → a ≡ b
-ok_reader a b h = cc
-
--- a step leads where its lead does
-same_step : {A B : Type 0} (f : A → Reader B) (x : A) (s : Reader B) (q : Place) (y : B × Place)
-    → (let R : Result (Reader B) FormatKind = Ok (f x) in R) ≡ Ok s → s q ≡ Ok y → f x q ≡ Ok y
-same_step f x s q y e h = ap (λ (r : Reader _). r q) (ok_reader (f x) s e) ∙ h
-
--- a step that did not fail
-pub bind_ok : {A B : Type 0} (r : Reader A) (f : A → Reader B) (p : Place) (y : B × Place) → bind r f p ≡ Ok y
-    → (x : A) × (q : Place) × (r p ≡ Ok (x, q)) × (f x q ≡ Ok y)
-unfolding bind
-bind_ok r f p y h = let o = lead_ok p.at (λ x. Ok (f x)) (r p) y h in (o.0, o.1, o.3, same_step f o.0 o.2 o.1 y o.4 o.5)
-
--- what follows an item that was read
-pub bind_is : {A B : Type 0} (r : Reader A) (f : A → Reader B) (p q : Place) (x : A) → r p ≡ Ok (x, q)
-    → bind r f p ≡ f x q
-unfolding bind
-bind_is r f p q x h = rw h refl
-
 -- ---- a part of an attribute
 
 -- the bytes before the end of a part
@@ -592,7 +595,8 @@ closed_ok attribute end (Ok x) y h =
 closed_ok attribute end (Err f) y h = absurd cc
 
 -- a part that was read was there
-in_part_ok : {A : Type 0} (attribute : ℕ) (r : Reader A) (taken : Result (Place × Place) FormatFault) (y : A × Place)
+in_part_ok : {A : Type 0} (attribute : ℕ) (r : FormatReader A) (taken : Result (Place × Place) FormatFault)
+    (y : A × Place)
     → in_part attribute r taken ≡ Ok y
     → (places : Place × Place) × (taken ≡ Ok places) × (closed attribute places.1 (r places.0) ≡ Ok y)
 in_part_ok attribute r (Ok places) y h = (places, refl, h)
@@ -620,7 +624,7 @@ takes_part p q text t = record {
 }
 
 -- a part of n bytes is read in place exactly where they spell a structure that stands for the value
-pub part_exact : {A R : Type 0} {r : Reader A} {s : R → List ℕ} {m : ℕ → R → A → Type 0} (attribute n : ℕ)
+pub part_exact : {A R : Type 0} {r : FormatReader A} {s : R → List ℕ} {m : ℕ → R → A → Type 0} (attribute n : ℕ)
     → Exact r (Spells s m)
     → Exact (part attribute n r) (Spells s (λ at raw x. (length (s raw) ≡ n) × m at raw x))
 unfolding part

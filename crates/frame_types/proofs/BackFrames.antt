@@ -33,7 +33,7 @@ use Rattle.frame_types.proofs.Sameness.{same_types_are}
 use Rattle.frame_types.proofs.Counting.{rows_counted}
 use Rattle.frame_types.proofs.BackRows.{row_is_read}
 use Rattle.frame_types.proofs.BackForms.{Stands, same_stands, item_stands, chop_stands, append_stands, full_stands}
-use Rattle.class_model.proofs.BackRead.{give_is}
+use Rattle.class_model.proofs.BackRead.{give_is, here_is}
 
 -- a delta leads back to its offset
 offset_back : (constants : List PoolConstant) (starts : List ℕ) (previous : Option ℕ) (offset : ℕ)
@@ -65,7 +65,8 @@ module _ (entries : List Entry) (constants : List PoolConstant) (starts : List �
       (cond same canonical.same
       (cond chops (canonical.chop (length before - length locals)) (cond appends (canonical.append (drop
       (length before) locals)) (canonical.full locals [])))) locals []
-  empty_by before locals delta true chops appends same c a lt short known = same_stands entries constants starts ops before locals delta
+  empty_by before locals delta true chops appends same c a lt short known = same_stands entries constants starts ops
+      before locals delta
       (same_types_are before locals same) lt
   empty_by before locals delta false true appends s chops a lt short known =
       let parts = and_parts _ _ chops in
@@ -90,7 +91,8 @@ module _ (entries : List Entry) (constants : List PoolConstant) (starts : List �
       (omega (arith, size, least)) (omega
       (arith, size, most)) whole_list lt
       (known_behind (length before) locals known)
-  empty_by before locals delta false false false s c a lt short known = full_stands entries constants starts ops before locals [] delta lt
+  empty_by before locals delta false false false s c a lt short known = full_stands entries constants starts ops before
+      locals [] delta lt
       short (omega arith) known tt
 
   item_by : (before locals : List VType) (delta : ℕ) (item : VType) (same : Bool) → same_types before locals ≡ same
@@ -99,9 +101,11 @@ module _ (entries : List Entry) (constants : List PoolConstant) (starts : List �
       → Stands entries constants starts ops before delta
       (cond same (canonical.same_with_item item) (canonical.full locals
       (item ∷ []))) locals (item ∷ [])
-  item_by before locals delta item true same lt short known known_item = item_stands entries constants starts ops before locals delta item
+  item_by before locals delta item true same lt short known known_item = item_stands entries constants starts ops
+      before locals delta item
       (same_types_are before locals same) lt known_item
-  item_by before locals delta item false same lt short known known_item = full_stands entries constants starts ops before locals
+  item_by before locals delta item false same lt short known known_item = full_stands entries constants starts ops
+      before locals
       (item ∷ []) delta lt short (omega arith) known (known_item, tt)
 
   form_stands : (before locals stack : List VType) (delta : ℕ) → delta < 2 ^ 16 → length locals < 2 ^ 16
@@ -163,10 +167,6 @@ module _ (entries : List Entry) (constants : List PoolConstant) (starts : List �
         ∙ frame_found (offset_behind before.offset delta) delta frame (offset_back constants starts before.offset
         (slice_index starts frame.index) (behind_is before.offset (slice_index starts frame.index) behind)) known
 
-    here_is : (p : Place) → here p ≡ Ok (p.at, p)
-    unfolding here
-    here_is p = refl
-
     settle_is : {A : Type 0} (at : ℕ) (x : A) (p : Place)
         → settle at (let R : Result A FormatKind = Ok x in R) p ≡ Ok (x, p)
     unfolding settle
@@ -181,7 +181,8 @@ module _ (entries : List Entry) (constants : List PoolConstant) (starts : List �
         let offset = slice_index starts frame.index in
         let delta = delta_to constants starts before.offset offset in
         let stands = form_stands before.locals frame.frame.locals frame.frame.stack delta
-        (delta_short constants starts before.offset offset known.place.offset) known.locals_short known.stack_short known.locals
+        (delta_short constants starts before.offset offset known.place.offset) known.locals_short known.stack_short
+            known.locals
         known.stack in
         let r = row_for before frame in
         let found : due bad.BadFrame (row_stands entries starts ops max_stack max_locals before r)

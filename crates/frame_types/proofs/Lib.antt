@@ -6,6 +6,8 @@ mod Descriptors
 mod Counting
 mod Spelled
 mod Sameness
+mod Changes
+pub mod ByNumber
 mod BackRows
 mod BackForms
 mod BackFrames

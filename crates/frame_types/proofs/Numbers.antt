@@ -5,7 +5,7 @@ use Rattle.std.specs.Prelude.{nat_eq, position}
 use Rattle.std.proofs.lemmas.List.{drop_all}
 use Rattle.std.proofs.lemmas.Iterator.Adapters.{position_from-zero}
 use Rattle.std.specs.List.{position_from}
-use Rattle.frame_types.specs.Numbers.{found, noted, first_of_two}
+use Rattle.frame_types.specs.bodies.Numbers.{found, noted, first_of_two}
 
 or_none : (o : Option ℕ) → first_of_two o None ≡ o
 or_none (Some x) = refl

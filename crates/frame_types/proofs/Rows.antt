@@ -3,11 +3,11 @@ use Rattle.std.proofs.Common.{◌≡◌, ℕ, ◌-◌, ◌+◌, ◌<◌, List, [
 use Rattle.std.proofs.lemmas.List.{map-append}
 use Rattle.jv_base.specs.Place.{Place}
 use Rattle.format_reading.specs.declared.fault.FormatFault.{FormatFault}
-use Rattle.format_reading.specs.Reader.{Reader, many, behind}
+use Rattle.format_reading.specs.Reader.{FormatReader, many, behind}
 use Rattle.format_reading.proofs.Many.{goes_on}
 
 -- one more value, seen by view
-pub goes_on_as : {T V : Type 0} (view : T → V) (r : Reader V) (front : List T) (count i : ℕ) (p after : Place)
+pub goes_on_as : {T V : Type 0} (view : T → V) (r : FormatReader V) (front : List T) (count i : ℕ) (p after : Place)
     (next : T) (total : Result
     (List V × Place) FormatFault) → i < count → r p ≡ Ok (view next, after)
     → behind (map view front) (many (count - i) r p) ≡ total

@@ -1,6 +1,7 @@
 -- Types that the test of the canonical spelling takes for one are one.
-use Rattle.std.proofs.Common.{◌≡◌, true, List, [], ◌∷◌, refl, ap, ◌∙◌}
-use Rattle.std.proofs.lemmas.Bool.{eqb-true, and_parts}
+use Rattle.std.proofs.Common.{◌≡◌, true, List, [], ◌∷◌, refl, sym, ap, ◌∙◌}
+use Rattle.std.proofs.lemmas.Bool.{eq-eqb, eqb-true, and_parts}
+use Rattle.std.specs.Bool.{Decides}
 use Rattle.std.specs.Cmp.Lexicographic.{pointwise}
 use Rattle.jv_base.specs.Types.{field_text}
 use Rattle.jv_base.proofs.Equality.{text_Decides}
@@ -28,3 +29,23 @@ same_types_are (x ∷ xs) (y ∷ ys) h =
     let parts = and_parts (same_type x y) (pointwise same_type xs ys) h in
     ap (λ (t : VType). t ∷ xs) (same_type_is x y parts.0)
     ∙ ap (λ (ts : List VType). y ∷ ts) (same_types_are xs ys parts.1)
+
+same_type_refl : (ty : VType) → same_type ty ty ≡ true
+same_type_refl vtype.Top = refl
+same_type_refl vtype.Int = refl
+same_type_refl vtype.Long = refl
+same_type_refl vtype.Null = refl
+same_type_refl vtype.UninitThis = refl
+same_type_refl (vtype.Object class) = (text_Decides (field_text class) (field_text class)).1 refl
+same_type_refl (vtype.Uninit n) = eq-eqb n n refl
+
+same_types_refl : (types : List VType) → same_types types types ≡ true
+same_types_refl [] = refl
+same_types_refl (ty ∷ types) = rw (same_type_refl ty) (same_types_refl types)
+
+-- the test decides whether types are one
+pub same_types_Decides : (one other : List VType) → Decides (same_types one other) (one ≡ other)
+same_types_Decides one other = (
+  same_types_are one other,
+  λ e. ap (λ (types : List VType). same_types one types) (sym e) ∙ same_types_refl one,
+)

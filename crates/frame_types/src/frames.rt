@@ -1,40 +1,24 @@
 // What the rows of a StackMapTable stand for (JVMS 4.7.4).
-ghost use Rattle.std.specs.Prelude.{◌≡◌, [], ◌∷◌, ◌++◌, map, IfOk, option_map};
+ghost use Rattle.std.specs.Prelude.{◌≡◌, List, [], ◌∷◌, ◌++◌, map, IfOk, OnOk, option_map};
 ghost use Rattle.class_model.specs.Frames.{FullFrame, offset_behind, names_float};
 ghost use Rattle.class_model.specs.ReadingFrames.{types_of, written, chopped, written_by, frame_of, row_stands};
-ghost use Rattle.frame_types.specs.Rows.{info_of, row_of};
-ghost use Rattle.frame_types.specs.Before.{written_of, before_of, next_of};
+ghost use Rattle.frame_types.specs.bodies.Rows.{info_of, row_of};
+ghost use Rattle.class_model.specs.declared.frame.VType.{VType};
+ghost use Rattle.frame_types.specs.bodies.Before.{built_of, onto, written_of};
 
 use crate::row::{Row, TypeInfo};
 use crate::starts::Starts;
-use crate::types::{fit, has_float, is_float, types_of, without_tops};
-use class_model::{Frame, FrameAt, Op, VType};
+use crate::types::{fit, has_float, is_float, types_of};
+use class_model::{FrameBuilder, Op, VType};
 use jv_base::{Items, M};
 use known_pool::KnownPool;
 use std::alloc::Global;
 
-/// An offset_delta, and the locals and the stack that a row writes.
+/// An offset_delta and the stack that a row writes.
 #[derive(Drop)]
 pub struct Written {
     pub delta: u16,
-    pub locals: Items<VType>,
     pub stack: Items<VType>,
-}
-
-/// The frame before a row.
-#[derive(Drop)]
-pub struct Before {
-    /// Its locals, the Tops at their end among them.
-    pub locals: Items<VType>,
-    /// Its offset, if it isn't the initial frame.
-    pub offset: Option<u32>,
-}
-
-/// A row's frame, and the same frame as the one before the next row.
-#[derive(Drop)]
-pub struct Next {
-    pub frame: FrameAt,
-    pub before: Before,
 }
 
 /// Whether the row names a float or a double.
@@ -60,34 +44,29 @@ fn with_item(
     starts: &Starts,
     ops: &[Op],
     delta: u16,
-    locals: Items<VType>,
     item: TypeInfo,
 ) -> M<Option<Written>>
-    ensures { IfOk result (λ w. option_map written_of w ≡ option_map (written pool.now starts.now ops.now delta locals)
-        (types_of pool.now starts.now ops.now (info_of item ∷ []))) }
+    ensures { IfOk result (λ w. (locals : List VType) → option_map (written_of locals) w
+        ≡ option_map (written pool.now starts.now ops.now delta locals)
+            (types_of pool.now starts.now ops.now (info_of item ∷ []))) }
 {
     match types_of(alloc, pool, starts, ops, &[item])? {
-        Some(stack) => Ok(Some(Written {
-            delta,
-            locals,
-            stack,
-        })),
+        Some(stack) => Ok(Some(Written { delta, stack })),
         None => Ok(None),
     }
 }
 
-fn chopped(alloc: Global, count: usize, delta: u16, before: Items<VType>) -> Option<Written>
-    ensures { option_map written_of result ≡ chopped [] [] [] count delta before }
+fn chopped(alloc: Global, count: usize, delta: u16, frames: &mut FrameBuilder) -> Option<Written>
+    ensures written { option_map (written_of frames.new.locals) result
+        ≡ chopped [] [] [] count delta frames.old.locals }
+    ensures frames { frames.new.frames ≡ frames.old.frames }
 {
-    if before.len() < count {
+    if frames.len() < count {
         return None;
     }
-    let left = before.len() - count;
-    let mut locals = before.into_vec();
-    locals.truncate(left);
+    frames.chop(count);
     Some(Written {
         delta,
-        locals: Items::from_vec(locals),
         stack: Items::new(alloc),
     })
 }
@@ -98,20 +77,20 @@ fn appended(
     starts: &Starts,
     ops: &[Op],
     delta: u16,
-    before: Items<VType>,
     infos: &[TypeInfo],
+    frames: &mut FrameBuilder,
 ) -> M<Option<Written>>
-    ensures { IfOk result (λ w. option_map written_of w ≡ option_map (λ types. written pool.now starts.now ops.now delta
-        (before ++ types) []) (types_of pool.now starts.now ops.now (map info_of infos.now))) }
+    ensures written { IfOk result (λ w. option_map (written_of frames.new.locals) w
+        ≡ option_map (λ types. written pool.now starts.now ops.now delta (frames.old.locals ++ types) [])
+        (types_of pool.now starts.now ops.now (map info_of infos.now))) }
+    ensures frames { OnOk result (frames.new.frames ≡ frames.old.frames) }
 {
     let Some(types) = types_of(alloc, pool, starts, ops, infos)? else {
         return Ok(None);
     };
-    let mut locals = before.into_vec();
-    locals.append(&mut types.into_vec())?;
+    frames.append(types)?;
     Ok(Some(Written {
         delta,
-        locals: Items::from_vec(locals),
         stack: Items::new(alloc),
     }))
 }
@@ -124,58 +103,59 @@ fn written_whole(
     delta: u16,
     locals: &[TypeInfo],
     stack: &[TypeInfo],
+    frames: &mut FrameBuilder,
 ) -> M<Option<Written>>
-    ensures { IfOk result (λ w. option_map written_of w ≡ written_by pool.now starts.now ops.now [] (FullFrame delta
-        (map info_of locals.now) (map info_of stack.now))) }
+    ensures written { IfOk result (λ w. option_map (written_of frames.new.locals) w
+        ≡ written_by pool.now starts.now ops.now []
+            (FullFrame delta (map info_of locals.now) (map info_of stack.now))) }
+    ensures frames { OnOk result (frames.new.frames ≡ frames.old.frames) }
 {
     let Some(locals) = types_of(alloc, pool, starts, ops, locals)? else {
         return Ok(None);
     };
+    frames.clear();
+    frames.append(locals)?;
     let Some(stack) = types_of(alloc, pool, starts, ops, stack)? else {
         return Ok(None);
     };
-    Ok(Some(Written {
-        delta,
-        locals,
-        stack,
-    }))
+    Ok(Some(Written { delta, stack }))
 }
 
-// What a row behind these locals writes. Only the frame_types of its form stand in it, so no difference is cut off at
-// 0.
+// What a row behind the locals of the last one writes. Only the frame_types of its form stand in it, so no difference
+// is cut off at 0.
 fn written_by(
     alloc: Global,
     pool: &KnownPool,
     starts: &Starts,
     ops: &[Op],
-    before: Items<VType>,
     row: &Row,
+    frames: &mut FrameBuilder,
 ) -> M<Option<Written>>
-    ensures { IfOk result (λ w. option_map written_of w ≡ written_by pool.now starts.now ops.now before (row_of row.now)) }
+    ensures written { IfOk result (λ w. option_map (written_of frames.new.locals) w
+        ≡ written_by pool.now starts.now ops.now frames.old.locals (row_of row.now)) }
+    ensures frames { OnOk result (frames.new.frames ≡ frames.old.frames) }
 {
     match row {
         Row::Same { frame_type } => Ok(Some(Written {
             delta: u16::from(*frame_type),
-            locals: before,
             stack: Items::new(alloc),
         })),
         Row::SameLocalsOneStackItem { frame_type, item } => {
             let delta = u16::from(frame_type.saturating_sub(64));
-            with_item(alloc, pool, starts, ops, delta, before, *item)
+            with_item(alloc, pool, starts, ops, delta, *item)
         }
         Row::SameLocalsOneStackItemExtended { offset_delta, item } => {
-            with_item(alloc, pool, starts, ops, *offset_delta, before, *item)
+            with_item(alloc, pool, starts, ops, *offset_delta, *item)
         }
         Row::Chop {
             frame_type,
             offset_delta,
         } => {
             let count = usize::from(251u8.saturating_sub(*frame_type));
-            Ok(chopped(alloc, count, *offset_delta, before))
+            Ok(chopped(alloc, count, *offset_delta, frames))
         }
         Row::SameExtended { offset_delta } => Ok(Some(Written {
             delta: *offset_delta,
-            locals: before,
             stack: Items::new(alloc),
         })),
         Row::Append {
@@ -188,8 +168,8 @@ fn written_by(
             starts,
             ops,
             *offset_delta,
-            before,
             locals.as_slice(),
+            frames,
         ),
         Row::Full {
             offset_delta,
@@ -203,6 +183,7 @@ fn written_by(
             *offset_delta,
             locals.as_slice(),
             stack.as_slice(),
+            frames,
         ),
     }
 }
@@ -219,38 +200,32 @@ fn offset_behind(previous: Option<u32>, delta: u16) -> u64
     }
 }
 
+// Appends the frame of the locals that were written last, and a stack, if there is room and an instruction begins at
+// the offset, which is given back.
 fn frame_of(
-    alloc: Global,
     starts: &Starts,
     max_stack: u16,
     max_locals: u16,
     offset: u64,
     written: Written,
-) -> M<Option<Next>>
-    ensures { IfOk result (λ next. option_map next_of next
-        ≡ frame_of [] starts.now [] max_stack max_locals offset (written_of written)) }
+    frames: &mut FrameBuilder,
+) -> M<Option<u32>>
+    ensures { IfOk result (λ at. option_map (built_of frames.new) at
+        ≡ onto frames.old.frames (frame_of [] starts.now [] max_stack max_locals offset
+            (written_of frames.old.locals written))) }
 {
-    let Written { locals, stack, .. } = written;
-    if !fit(locals.as_slice(), max_locals) || !fit(stack.as_slice(), max_stack) {
+    if frames.words() > u64::from(max_locals) || !fit(written.stack.as_slice(), max_stack) {
         return Ok(None);
     }
     let Some(index) = starts.number(offset) else {
         return Ok(None);
     };
-    let cut = without_tops(alloc, locals.as_slice())?;
-    Ok(Some(Next {
-        frame: FrameAt {
-            index,
-            frame: Frame { locals: cut, stack },
-        },
-        before: Before {
-            locals,
-            offset: Some(offset as u32),
-        },
-    }))
+    frames.push(index, written.stack)?;
+    Ok(Some(offset as u32))
 }
 
-/// A row's frame, if its types are types, its locals and stack have room, and an instruction begins at its offset.
+/// Appends a row's frame, if its types are types, its locals and stack have room, and an instruction begins at its
+/// offset, which is given back. The row before has the offset `previous`.
 pub fn row_stands(
     alloc: Global,
     pool: &KnownPool,
@@ -258,17 +233,18 @@ pub fn row_stands(
     ops: &[Op],
     max_stack: u16,
     max_locals: u16,
-    before: Before,
+    previous: Option<u32>,
     row: &Row,
-) -> M<Option<Next>>
-    ensures { IfOk result (λ next. option_map next_of next ≡ row_stands pool.now starts.now ops.now max_stack max_locals
-        (before_of before) (row_of row.now)) }
+    frames: &mut FrameBuilder,
+) -> M<Option<u32>>
+    ensures { IfOk result (λ at. option_map (built_of frames.new) at
+        ≡ onto frames.old.frames (row_stands pool.now starts.now ops.now max_stack max_locals
+        (record { locals = frames.old.locals; offset = previous }) (row_of row.now))) }
 {
-    let Before { locals, offset } = before;
-    match written_by(alloc, pool, starts, ops, locals, row)? {
+    match written_by(alloc, pool, starts, ops, row, frames)? {
         Some(written) => {
-            let offset = offset_behind(offset, written.delta);
-            frame_of(alloc, starts, max_stack, max_locals, offset, written)
+            let offset = offset_behind(previous, written.delta);
+            frame_of(starts, max_stack, max_locals, offset, written, frames)
         }
         None => Ok(None),
     }

@@ -6,6 +6,7 @@ mod bytes;
 mod comparing;
 mod constants;
 mod fault;
+mod form;
 mod frames;
 mod reading;
 mod row;
@@ -16,6 +17,7 @@ mod writing;
 
 pub use back::frames_are_read_back;
 pub use fault::FrameFault;
+pub use form::{FrameForm, frame_form};
 pub use starts::Starts;
 pub use table::{StackMapTable, frames_at, read_frames};
 pub use writing::{write_frames, write_frames_with};

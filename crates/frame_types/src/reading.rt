@@ -1,8 +1,8 @@
 // The rows of a StackMapTable, read from left to right (JVMS 4.7.4).
 ghost use Rattle.std.specs.Prelude.{◌≡◌, ◌≤◌, map};
-ghost use Rattle.format_reading.specs.Reader.{onwards, lead, u1, many};
+ghost use Rattle.format_reading.specs.Reader.{ReadsAs, ReadsAsOr, onwards, lead, u1, many};
 ghost use Rattle.class_model.specs.ReadingFrames.{read_type, full, append, row_begun, read_row};
-ghost use Rattle.frame_types.specs.Rows.{info_of, row_of, ReadsAs, ReadsAsOr};
+ghost use Rattle.frame_types.specs.bodies.Rows.{info_of, row_of};
 
 use crate::row::{Row, TypeInfo};
 use format_reading::{FormatFault, FormatKind};

@@ -1,6 +1,6 @@
 // The instructions of a code by their offsets.
 ghost use Rattle.std.specs.Prelude.{◌≡◌, ◌<◌, ◌≤◌, ℕ, OnOk, IfOk, IfSome, length, position, nat_eq};
-ghost use Rattle.frame_types.specs.Numbers.{found, noted};
+ghost use Rattle.frame_types.specs.bodies.Numbers.{found, noted};
 
 use jv_base::M;
 use std::alloc::Global;
@@ -16,7 +16,7 @@ pub struct Starts<'a> {
 
 impl<'a> Model for Starts<'a> {
     ghost use Rattle.std.specs.Prelude.{◌≡◌, ◌≤◌, ℕ, List, length, position, nat_eq};
-    ghost use Rattle.frame_types.specs.Numbers.{found};
+    ghost use Rattle.frame_types.specs.bodies.Numbers.{found};
 
     ghost Value = { List ℕ };
 
@@ -76,7 +76,8 @@ fn note(table: &mut Vec<Option<u32>>, start: u32, number: u32) -> M<()>
 
 fn numbers_of(alloc: Global, starts: &[u32]) -> M<Vec<Option<u32>>>
     requires { length starts.now < 4294967295 }
-    ensures found { IfOk result (λ table. (offset : ℕ) → found table.items offset ≡ position (nat_eq offset) starts.now) }
+    ensures found { IfOk result (λ table. (offset : ℕ) → found table.items offset
+        ≡ position (nat_eq offset) starts.now) }
     ensures short { IfOk result (λ table. length table.items ≤ 4294967296) }
 {
     let mut table = Vec::new(alloc);

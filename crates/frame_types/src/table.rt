@@ -1,17 +1,18 @@
 // The contents of a StackMapTable, read from left to right (JVMS 4.7.4).
-ghost use Rattle.std.specs.Prelude.{◌≡◌, ◌<◌, length, None};
+ghost use Rattle.std.specs.Prelude.{◌≡◌, ◌<◌, [], length, None};
 ghost use Rattle.jv_base.specs.Outcome.{IsDue};
+ghost use Rattle.format_reading.specs.Reader.{ReadsAsOr};
 ghost use Rattle.class_model.specs.ReadingFrames.{read_frame, read_frames_behind, read_frames};
-ghost use Rattle.frame_types.specs.Rows.{ReadsAsOr};
-ghost use Rattle.frame_types.specs.Before.{row_read, table_of, before_of};
+ghost use Rattle.frame_types.specs.Before.{table_of};
+ghost use Rattle.frame_types.specs.bodies.Before.{read_onto, row_read};
 ghost use Rattle.frame_types.specs.Table.{frames_of, frame_fault};
 
 use crate::fault::FrameFault;
-use crate::frames::{Before, Next, names_float, row_stands};
+use crate::frames::{names_float, row_stands};
 use crate::reading::row;
 use crate::starts::Starts;
 use crate::types::copies;
-use class_model::{Frame, FrameAt, Op, VType};
+use class_model::{Frame, FrameBuilder, Frames, Op};
 use format_reading::{FormatFault, FormatKind};
 use jv_base::{Cursor, Items, Or};
 use known_pool::KnownPool;
@@ -21,12 +22,13 @@ use std::alloc::Global;
 #[derive(Drop)]
 pub struct StackMapTable {
     /// Ascending, as their rows stand.
-    pub frames: Items<FrameAt>,
+    pub frames: Frames,
     /// Whether a row names a float or a double, which are left out and stand as Top in the frames.
     pub names_float: bool,
 }
 
-// A row with whether it names a float or a double, behind the frame of the row before.
+// Appends a row's frame, and gives back whether the row names a float or a double, and its offset. The row before has
+// the offset `previous`.
 #[tactic(auto, unfolding(format_reading::specs::Reader::lead, format_reading::specs::Reader::bind, format_reading::specs::Reader::give, format_reading::specs::Reader::here, format_reading::specs::Reader::settle, class_model::specs::ReadingFrames::read_frame))]
 fn frame(
     alloc: Global,
@@ -35,19 +37,21 @@ fn frame(
     ops: &[Op],
     max_stack: u16,
     max_locals: u16,
-    before: Before,
+    previous: Option<u32>,
     cursor: &mut Cursor,
-) -> Result<(bool, Next), Or<FormatFault>>
-    ensures { ReadsAsOr row_read result cursor.new (read_frame pool.now starts.now ops.now max_stack max_locals
-        (before_of before) cursor.old) }
+    frames: &mut FrameBuilder,
+) -> Result<(bool, u32), Or<FormatFault>>
+    ensures { ReadsAsOr (row_read frames.new) result cursor.new
+        (read_onto frames.old.frames (read_frame pool.now starts.now
+        ops.now max_stack max_locals (record { locals = frames.old.locals; offset = previous }) cursor.old)) }
 {
     let offset = cursor.place();
     let row = row(alloc, cursor)?;
     let floats = names_float(&row);
     match row_stands(
-        alloc, pool, starts, ops, max_stack, max_locals, before, &row,
+        alloc, pool, starts, ops, max_stack, max_locals, previous, &row, frames,
     )? {
-        Some(next) => Ok((floats, next)),
+        Some(at) => Ok((floats, at)),
         None => Err(Or::Fault(FormatFault {
             offset,
             kind: FormatKind::BadFrame,
@@ -55,7 +59,7 @@ fn frame(
     }
 }
 
-// So many rows, the first of them behind these locals.
+// So many rows behind the locals of a builder without frames, and whether one of them names a float or a double.
 fn frames(
     alloc: Global,
     pool: &KnownPool,
@@ -64,30 +68,24 @@ fn frames(
     max_stack: u16,
     max_locals: u16,
     count: u16,
-    first: Items<VType>,
     cursor: &mut Cursor,
-) -> Result<StackMapTable, Or<FormatFault>>
-    ensures { ReadsAsOr table_of result cursor.new (read_frames_behind pool.now starts.now ops.now max_stack max_locals count
-        (record { locals = first; offset = None }) cursor.old) }
+    frames: &mut FrameBuilder,
+) -> Result<bool, Or<FormatFault>>
+    requires { frames.old.frames ≡ [] }
+    ensures { ReadsAsOr (λ floats. (floats, frames.new.frames)) result cursor.new
+        (read_frames_behind pool.now starts.now ops.now
+        max_stack max_locals count (record { locals = frames.old.locals; offset = None }) cursor.old) }
 {
-    let mut before = Before {
-        locals: first,
-        offset: None,
-    };
+    let mut previous = None;
     let mut names_float = false;
-    let mut frames = Items::with_capacity(alloc, usize::from(count))?;
     for _ in 0..count {
-        let (floats, next) = frame(
-            alloc, pool, starts, ops, max_stack, max_locals, before, cursor,
+        let (floats, at) = frame(
+            alloc, pool, starts, ops, max_stack, max_locals, previous, cursor, frames,
         )?;
         names_float = names_float || floats;
-        frames.push(next.frame)?;
-        before = next.before;
+        previous = Some(at);
     }
-    Ok(StackMapTable {
-        frames,
-        names_float,
-    })
+    Ok(names_float)
 }
 
 /// The frames that stand at a cursor: the contents of the StackMapTable of a code with these instructions, which begin
@@ -110,8 +108,9 @@ pub fn frames_at(
         (read_frames pool.now starts.now ops.now max_stack max_locals first.now.locals cursor.old) }
 {
     let count = cursor.u2()?;
-    let locals = copies(alloc, first.locals.as_slice())?;
-    frames(
+    let mut built = FrameBuilder::new(alloc);
+    built.append(copies(alloc, first.locals.as_slice())?)?;
+    let names_float = frames(
         alloc,
         pool,
         starts,
@@ -119,9 +118,13 @@ pub fn frames_at(
         max_stack,
         max_locals,
         count,
-        locals,
         cursor,
-    )
+        &mut built,
+    )?;
+    Ok(StackMapTable {
+        frames: built.into_frames(),
+        names_float,
+    })
 }
 
 fn frame_fault(fault: FormatFault) -> FrameFault
@@ -150,7 +153,8 @@ pub fn read_frames(
 ) -> Result<StackMapTable, Or<FrameFault>>
     requires bytes { length bytes.now < 4294967295 }
     requires starts { length starts.now < 4294967295 }
-    ensures exact { IsDue result (frames_of pool.now starts.now ops.now max_stack max_locals first.now.locals bytes.now) }
+    ensures exact { IsDue result
+        (frames_of pool.now starts.now ops.now max_stack max_locals first.now.locals bytes.now) }
 {
     let starts = Starts::new(alloc, starts.as_slice())?;
     let mut cursor = Cursor::new(bytes);

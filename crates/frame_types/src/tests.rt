@@ -3,7 +3,7 @@ ghost use Rattle.class_model.specs.declared.frame.FrameAt.{FrameAt};
 ghost use Rattle.frame_types.specs.Writing.{IsOffset, HasShortLists};
 
 use super::*;
-use class_model::{Entry, Frame, FrameAt, Op, VType};
+use class_model::{Entry, Frame, FrameAt, Frames, Op, VType};
 use constant_table::ConstantTable;
 use jv_base::{Base, FieldType, Items, M, Or, Shared, Text, units_of_text};
 use jv_ops::constants_in;
@@ -98,14 +98,22 @@ fn are_types(found: &[VType], tags: &[u64]) -> bool {
 }
 
 /// Whether a frame stands at an instruction and has types of these tags.
-fn is_frame(found: &[FrameAt], at: usize, index: u32, locals: &[u64], stack: &[u64]) -> bool {
-    match found.get(at) {
-        Some(next) => {
-            next.index == index
-                && are_types(next.frame.locals.as_slice(), locals)
-                && are_types(next.frame.stack.as_slice(), stack)
+fn is_frame(
+    alloc: Global,
+    found: &Frames,
+    at: usize,
+    index: u32,
+    locals: &[u64],
+    stack: &[u64],
+) -> bool {
+    if at >= found.len() || found.index(at) != index {
+        return false;
+    }
+    match found.frame(alloc, at) {
+        Ok(frame) => {
+            are_types(frame.locals.as_slice(), locals) && are_types(frame.stack.as_slice(), stack)
         }
-        None => false,
+        Err(_) => false,
     }
 }
 
@@ -122,18 +130,18 @@ fn deltas_and_items(rt: HostRuntime) -> Result<(), Fail> {
     // The frame_types 63, 0, 251, 127 and 247: each delta but the first is one less than the distance.
     let bytes = [0, 5, 63, 0, 251, 0, 63, 127, 4, 247, 0, 64, 7, 0, 2];
     let table = read(alloc, &bytes, 2, 1)?;
-    let frames = table.frames.as_slice();
+    let frames = &table.frames;
     assert!(rt; frames.len() == 5 && !table.names_float);
-    assert!(rt; is_frame(frames, 0, 2, &[1], &[]));
-    assert!(rt; is_frame(frames, 1, 3, &[1], &[]));
-    assert!(rt; is_frame(frames, 2, 4, &[1], &[]));
-    assert!(rt; is_frame(frames, 3, 5, &[1], &[4]));
-    assert!(rt; is_frame(frames, 4, 6, &[1], &[7]));
+    assert!(rt; is_frame(alloc, frames, 0, 2, &[1], &[]));
+    assert!(rt; is_frame(alloc, frames, 1, 3, &[1], &[]));
+    assert!(rt; is_frame(alloc, frames, 2, 4, &[1], &[]));
+    assert!(rt; is_frame(alloc, frames, 3, 5, &[1], &[4]));
+    assert!(rt; is_frame(alloc, frames, 4, 6, &[1], &[7]));
     assert!(rt; fails(alloc, &bytes, 1, 1, FrameFault::BadFrame(7)));
     assert!(rt; fails(alloc, &bytes, 2, 0, FrameFault::BadFrame(2)));
     let double = read(alloc, &[0, 1, 64, 3], 1, 1)?;
     assert!(rt; double.names_float);
-    assert!(rt; is_frame(double.frames.as_slice(), 0, 0, &[1], &[0]));
+    assert!(rt; is_frame(alloc, &double.frames, 0, 0, &[1], &[0]));
     Ok(())
 }
 
@@ -146,14 +154,14 @@ fn locals_come_and_go(rt: HostRuntime) -> Result<(), Fail> {
         1, 0, 0, 2, 4, 5, 63,
     ];
     let table = read(alloc, &bytes, 3, 6)?;
-    let frames = table.frames.as_slice();
+    let frames = &table.frames;
     assert!(rt; frames.len() == 6);
-    assert!(rt; is_frame(frames, 0, 0, &[1, 4], &[]));
-    assert!(rt; is_frame(frames, 1, 1, &[1, 4, 5, 6, 8], &[]));
-    assert!(rt; is_frame(frames, 2, 2, &[1, 4], &[]));
-    assert!(rt; is_frame(frames, 3, 3, &[1], &[]));
-    assert!(rt; is_frame(frames, 4, 4, &[0, 1], &[4, 5]));
-    assert!(rt; is_frame(frames, 5, 5, &[0, 1], &[]));
+    assert!(rt; is_frame(alloc, frames, 0, 0, &[1, 4], &[]));
+    assert!(rt; is_frame(alloc, frames, 1, 1, &[1, 4, 5, 6, 8], &[]));
+    assert!(rt; is_frame(alloc, frames, 2, 2, &[1, 4], &[]));
+    assert!(rt; is_frame(alloc, frames, 3, 3, &[1], &[]));
+    assert!(rt; is_frame(alloc, frames, 4, 4, &[0, 1], &[4, 5]));
+    assert!(rt; is_frame(alloc, frames, 5, 5, &[0, 1], &[]));
     assert!(rt; fails(alloc, &bytes, 2, 6, FrameFault::BadFrame(20)));
     assert!(rt; fails(alloc, &bytes, 3, 5, FrameFault::BadFrame(6)));
     Ok(())
@@ -191,19 +199,24 @@ fn are_offsets(starts: &[u32]) -> bool
     starts.iter().all(|start| *start < 65_536)
 }
 
-fn are_short(frames: &[FrameAt]) -> bool
+fn are_short(frames: &Frames) -> bool
     ensures { IsTrue result → All (λ (f : FrameAt). HasShortLists f.frame) frames.now }
 {
-    frames.iter().all(|next| next.frame.locals.len() < 65_536 && next.frame.stack.len() < 65_536)
+    for number in 0..frames.len() {
+        if frames.locals_len(number) >= 65_536 || frames.stack_len(number) >= 65_536 {
+            return false;
+        }
+    }
+    true
 }
 
-fn write(alloc: Global, frames: &Items<FrameAt>, first: &Frame) -> Result<Items<u8>, Fail> {
+fn write(alloc: Global, frames: &Frames, first: &Frame) -> Result<Items<u8>, Fail> {
     let starts = starts(alloc)?;
     let known = pool(alloc)?;
     if constants_in(alloc, known.pool())?.len() >= 65_535
         || frames.len() >= 65_536
         || !are_offsets(starts.as_slice())
-        || !are_short(frames.as_slice())
+        || !are_short(frames)
     {
         return Ok(Items::new(alloc));
     }
@@ -212,7 +225,7 @@ fn write(alloc: Global, frames: &Items<FrameAt>, first: &Frame) -> Result<Items<
 
 fn push_frame(
     alloc: Global,
-    frames: &mut Items<FrameAt>,
+    frames: &mut Frames,
     index: u32,
     locals: Items<VType>,
     item: Option<VType>,
@@ -240,7 +253,7 @@ fn int_and(alloc: Global, others: Vec<VType>) -> M<Items<VType>> {
 #[test]
 fn rows_are_written(rt: HostRuntime) -> Result<(), Fail> {
     let alloc = rt.alloc();
-    let mut frames = Items::new(alloc);
+    let mut frames = Frames::new(alloc);
     let long_and_a = Vec::from_array(alloc, [VType::Long, VType::Object(class_a(alloc)?)])?;
     push_frame(alloc, &mut frames, 0, int_and(alloc, long_and_a)?, None)?;
     let long = Vec::from_array(alloc, [VType::Long])?;
@@ -263,9 +276,9 @@ fn rows_are_written(rt: HostRuntime) -> Result<(), Fail> {
     ];
     assert!(rt; written.as_slice() == bytes.as_slice());
     let table = read(alloc, written.as_slice(), 1, 4)?;
-    let found = table.frames.as_slice();
+    let found = &table.frames;
     assert!(rt; found.len() == 5);
-    assert!(rt; is_frame(found, 2, 3, &[1, 4], &[8]));
-    assert!(rt; is_frame(found, 4, 6, &[], &[5]));
+    assert!(rt; is_frame(alloc, found, 2, 3, &[1, 4], &[8]));
+    assert!(rt; is_frame(alloc, found, 4, 6, &[], &[5]));
     Ok(())
 }

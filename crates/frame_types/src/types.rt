@@ -1,10 +1,9 @@
 // The types that a row writes, and the room that types take (JVMS 4.7.4).
-ghost use Rattle.std.specs.Prelude.{◌≡◌, ◌≤◌, [], map, take, length, nat_eq, nat_le, position, IfOk, option_and_then};
+ghost use Rattle.std.specs.Prelude.{◌≡◌, [], map, nat_eq, nat_le, position, IfOk, option_and_then};
 ghost use Rattle.std.specs.List.{list_any};
-ghost use Rattle.class_model.specs.Frames.{tagged_type, is_float_info, words_of_type, words_of_types, cut_tops};
+ghost use Rattle.class_model.specs.Frames.{tagged_type, is_float_info, words_of_types};
 ghost use Rattle.class_model.specs.ReadingFrames.{only_new, type_of, types_of};
-ghost use Rattle.frame_types.specs.Rows.{info_of};
-ghost use Rattle.frame_types.specs.Before.{is_top};
+ghost use Rattle.frame_types.specs.bodies.Rows.{info_of};
 
 use crate::row::TypeInfo;
 use crate::starts::Starts;
@@ -110,23 +109,13 @@ pub fn has_float(infos: &[TypeInfo]) -> bool
 
 // ---- room
 
-/// The words that a type takes.
-pub fn words_of(ty: &VType) -> u16
-    ensures { result ≡ words_of_type ty.now }
-{
-    match ty {
-        VType::Long => 2,
-        _ => 1,
-    }
-}
-
 /// Whether the types take at most so many words.
 pub fn fit(types: &[VType], words: u16) -> bool
     ensures { result ≡ nat_le (words_of_types types.now) words }
 {
     let mut left = words;
     for ty in types {
-        let taken = words_of(ty);
+        let taken = ty.words();
         if left < taken {
             return false;
         }
@@ -137,54 +126,13 @@ pub fn fit(types: &[VType], words: u16) -> bool
 
 // ---- copies
 
-fn copy_of(ty: &VType) -> M<VType>
-    ensures { IfOk result (λ copy. copy ≡ ty.now) }
-{
-    match ty {
-        VType::Top => Ok(VType::Top),
-        VType::Int => Ok(VType::Int),
-        VType::Long => Ok(VType::Long),
-        VType::Null => Ok(VType::Null),
-        VType::UninitThis => Ok(VType::UninitThis),
-        VType::Object(class) => Ok(VType::Object(class.clone()?)),
-        VType::Uninit(number) => Ok(VType::Uninit(*number)),
-    }
-}
-
 /// The same types.
 pub fn copies(alloc: Global, types: &[VType]) -> M<Items<VType>>
     ensures { IfOk result (λ copies. copies ≡ types.now) }
 {
     let mut copies = Items::with_capacity(alloc, types.len())?;
     for ty in types {
-        copies.push(copy_of(ty)?)?;
+        copies.push(ty.clone()?)?;
     }
     Ok(copies)
-}
-
-fn is_top(ty: &VType) -> bool
-    ensures { result ≡ is_top ty.now }
-{
-    matches!(ty, VType::Top)
-}
-
-// How many types there are up to the last that isn't Top.
-fn length_without_tops(types: &[VType]) -> usize
-    ensures within { result ≤ length types.now }
-    ensures cut { take result types.now ≡ cut_tops types.now }
-{
-    let mut length = 0;
-    for (index, ty) in types.iter().enumerate() {
-        if !is_top(ty) {
-            length = index + 1;
-        }
-    }
-    length
-}
-
-/// The same types without the Tops at their end.
-pub fn without_tops(alloc: Global, types: &[VType]) -> M<Items<VType>>
-    ensures { IfOk result (λ cut. cut ≡ cut_tops types.now) }
-{
-    copies(alloc, &types[..length_without_tops(types)])
 }

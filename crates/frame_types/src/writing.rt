@@ -8,11 +8,12 @@ ghost use Rattle.class_model.specs.CanonicalFrames as canonical;
 ghost use Rattle.class_model.specs.declared.frame.FrameAt.{FrameAt};
 ghost use Rattle.jv_ops.specs.Constants.{constants_in};
 ghost use Rattle.frame_types.specs.Writing.{IsOffset, HasShortLists};
+ghost use Rattle.frame_types.specs.Forms.{form_of_row, IsShortForm};
 
 use crate::bytes::{put, put_u2};
-use crate::comparing::same_types;
 use crate::constants::class_index;
-use class_model::{Frame, FrameAt, Pool, VType};
+use crate::form::{FrameForm, frame_form};
+use class_model::{Frame, Frames, Pool, VType};
 use constant_table::ConstantTable;
 use jv_base::{Bytes, Items, M};
 use jv_ops::constants_in;
@@ -40,7 +41,8 @@ fn put_type(
 ) -> M<()>
     requires constants { length constants.now + 1 < 2 ^ 16 }
     requires starts { All IsOffset starts.now }
-    ensures { OnOk result (out.new.items ≡ out.old.items ++ verification_type_info (canonical.type_info constants.now starts.now ty.now)) }
+    ensures { OnOk result (out.new.items ≡ out.old.items ++ verification_type_info
+        (canonical.type_info constants.now starts.now ty.now)) }
 {
     match ty {
         VType::Top => put(out, &[0]),
@@ -87,7 +89,8 @@ fn put_counted_types(
     requires constants { length constants.now + 1 < 2 ^ 16 }
     requires starts { All IsOffset starts.now }
     requires count { length types.now < 2 ^ 16 }
-    ensures { OnOk result (out.new.items ≡ out.old.items ++ counted_types (map (canonical.type_info constants.now starts.now) types.now)) }
+    ensures { OnOk result (out.new.items ≡ out.old.items ++ counted_types (map (canonical.type_info constants.now
+        starts.now) types.now)) }
 {
     put_u2(out, types.len() as u16)?;
     put_types(alloc, constants, starts, types, out)
@@ -96,7 +99,8 @@ fn put_counted_types(
 // ---- forms
 
 fn put_same(delta: u16, out: &mut Vec<u8>) -> M<()>
-    ensures { OnOk result (out.new.items ≡ out.old.items ++ stack_map_frame (canonical.row [] [] delta canonical.same)) }
+    ensures { OnOk result (out.new.items ≡ out.old.items ++ stack_map_frame (canonical.row [] [] delta canonical.same))
+        }
 {
     if delta < 64 {
         return put(out, &[delta as u8]);
@@ -115,7 +119,8 @@ fn put_same_with_item(
 ) -> M<()>
     requires constants { length constants.now + 1 < 2 ^ 16 }
     requires starts { All IsOffset starts.now }
-    ensures { OnOk result (out.new.items ≡ out.old.items ++ stack_map_frame (canonical.row constants.now starts.now delta
+    ensures { OnOk result (out.new.items ≡ out.old.items ++ stack_map_frame (canonical.row constants.now starts.now
+        delta
         (canonical.same_with_item item.now))) }
 {
     if delta <= 63 {
@@ -129,7 +134,8 @@ fn put_same_with_item(
 
 fn put_chop(delta: u16, gone: usize, out: &mut Vec<u8>) -> M<()>
     requires { gone ≤ 3 }
-    ensures { OnOk result (out.new.items ≡ out.old.items ++ stack_map_frame (canonical.row [] [] delta (canonical.chop gone))) }
+    ensures { OnOk result (out.new.items ≡ out.old.items ++ stack_map_frame (canonical.row [] [] delta
+        (canonical.chop gone))) }
 {
     put(out, &[251 - gone as u8])?;
     put_u2(out, delta)
@@ -146,7 +152,8 @@ fn put_append(
     requires constants { length constants.now + 1 < 2 ^ 16 }
     requires starts { All IsOffset starts.now }
     requires count { length types.now ≤ 3 }
-    ensures { OnOk result (out.new.items ≡ out.old.items ++ stack_map_frame (canonical.row constants.now starts.now delta
+    ensures { OnOk result (out.new.items ≡ out.old.items ++ stack_map_frame (canonical.row constants.now starts.now
+        delta
         (canonical.append types.now))) }
 {
     put(out, &[251 + types.len() as u8])?;
@@ -165,7 +172,8 @@ fn put_full(
     requires constants { length constants.now + 1 < 2 ^ 16 }
     requires starts { All IsOffset starts.now }
     requires frame { HasShortLists frame.now }
-    ensures { OnOk result (out.new.items ≡ out.old.items ++ stack_map_frame (canonical.row constants.now starts.now delta
+    ensures { OnOk result (out.new.items ≡ out.old.items ++ stack_map_frame (canonical.row constants.now starts.now
+        delta
         (canonical.full frame.now.locals frame.now.stack))) }
 {
     put(out, &[255])?;
@@ -174,78 +182,30 @@ fn put_full(
     put_counted_types(alloc, constants, starts, frame.stack.as_slice(), out)
 }
 
-fn is_chop(before: &[VType], locals: &[VType]) -> bool
-    ensures { result ≡ canonical.is_chop before.now locals.now }
-{
-    let gone = before.len().saturating_sub(locals.len());
-    1 <= gone && gone <= 3 && same_types(locals, &before[..locals.len()])
-}
-
-fn is_append(before: &[VType], locals: &[VType]) -> bool
-    ensures { result ≡ canonical.is_append before.now locals.now }
-{
-    let new = locals.len().saturating_sub(before.len());
-    1 <= new && new <= 3 && same_types(before, &locals[..before.len()])
-}
-
-// A frame with an empty stack behind these locals.
-fn put_without_items(
-    alloc: Global,
-    constants: &ConstantTable,
-    starts: &[u32],
-    before: &[VType],
-    delta: u16,
-    frame: &Frame,
-    out: &mut Vec<u8>,
-) -> M<()>
-    requires constants { length constants.now + 1 < 2 ^ 16 }
-    requires starts { All IsOffset starts.now }
-    requires frame { HasShortLists frame.now }
-    requires empty { frame.now.stack ≡ [] }
-    ensures { OnOk result (out.new.items ≡ out.old.items ++ stack_map_frame (canonical.row constants.now starts.now delta
-        (canonical.form_of before.now frame.now.locals []))) }
-{
-    let locals = frame.locals.as_slice();
-    if same_types(before, locals) {
-        put_same(delta, out)
-    } else if is_chop(before, locals) {
-        put_chop(delta, before.len() - locals.len(), out)
-    } else if is_append(before, locals) {
-        put_append(
-            alloc,
-            constants,
-            starts,
-            delta,
-            &locals[before.len()..],
-            out,
-        )
-    } else {
-        put_full(alloc, constants, starts, delta, frame, out)
-    }
-}
-
-// The first form that fits, behind these locals.
+// The row of a form.
 fn put_row(
     alloc: Global,
     constants: &ConstantTable,
     starts: &[u32],
-    before: &[VType],
     delta: u16,
-    frame: &Frame,
+    form: &FrameForm,
     out: &mut Vec<u8>,
 ) -> M<()>
     requires constants { length constants.now + 1 < 2 ^ 16 }
     requires starts { All IsOffset starts.now }
-    requires frame { HasShortLists frame.now }
-    ensures { OnOk result (out.new.items ≡ out.old.items ++ stack_map_frame (canonical.row constants.now starts.now delta
-        (canonical.form_of before.now frame.now.locals frame.now.stack))) }
+    requires form { IsShortForm (form_of_row form.now) }
+    ensures { OnOk result (out.new.items ≡ out.old.items ++ stack_map_frame (canonical.row constants.now starts.now
+        delta
+        (form_of_row form.now))) }
 {
-    match frame.stack.as_slice() {
-        [] => put_without_items(alloc, constants, starts, before, delta, frame, out),
-        [item] if same_types(before, frame.locals.as_slice()) => {
+    match form {
+        FrameForm::Same => put_same(delta, out),
+        FrameForm::SameWithItem(item) => {
             put_same_with_item(alloc, constants, starts, delta, item, out)
         }
-        _ => put_full(alloc, constants, starts, delta, frame, out),
+        FrameForm::Chop(gone) => put_chop(delta, *gone, out),
+        FrameForm::Append(new) => put_append(alloc, constants, starts, delta, new.as_slice(), out),
+        FrameForm::Full(frame) => put_full(alloc, constants, starts, delta, frame, out),
     }
 }
 
@@ -265,7 +225,7 @@ fn put_rows(
     constants: &ConstantTable,
     starts: &[u32],
     first: &[VType],
-    frames: &[FrameAt],
+    frames: &Frames,
     out: &mut Vec<u8>,
 ) -> M<()>
     requires constants { length constants.now + 1 < 2 ^ 16 }
@@ -274,13 +234,12 @@ fn put_rows(
     ensures { OnOk result (out.new.items ≡ out.old.items ++ flat_map stack_map_frame
         (canonical.rows constants.now starts.now first.now None frames.now)) }
 {
-    let mut before = first;
     let mut previous = None;
-    for next in frames {
-        let offset = start_of(starts, next.index);
+    for number in 0..frames.len() {
+        let offset = start_of(starts, frames.index(number));
         let delta = delta_to(previous, offset);
-        put_row(alloc, constants, starts, before, delta, &next.frame, out)?;
-        before = next.frame.locals.as_slice();
+        let form = frame_form(alloc, first, frames, number)?;
+        put_row(alloc, constants, starts, delta, &form, out)?;
         previous = Some(offset);
     }
     Ok(())
@@ -290,7 +249,7 @@ fn put_rows(
 /// The instructions of their code begin at `starts`, and `first` is the frame before the first instruction.
 pub fn write_frames_with(
     alloc: Global,
-    frames: &Items<FrameAt>,
+    frames: &Frames,
     first: &Frame,
     starts: &Items<u32>,
     constants: &ConstantTable,
@@ -309,7 +268,7 @@ pub fn write_frames_with(
         constants,
         starts.as_slice(),
         first.locals.as_slice(),
-        frames.as_slice(),
+        frames,
         &mut out,
     )?;
     Ok(Items::from_vec(out))
@@ -318,7 +277,7 @@ pub fn write_frames_with(
 /// The same, where the constants are those of a pool.
 pub fn write_frames(
     alloc: Global,
-    frames: &Items<FrameAt>,
+    frames: &Frames,
     first: &Frame,
     starts: &Items<u32>,
     pool: &Pool,

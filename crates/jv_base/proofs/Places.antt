@@ -5,7 +5,7 @@ use Rattle.std.specs.Prelude.{slice_range}
 use Rattle.std.specs.Str.{IsCharBoundary}
 use Rattle.std.proofs.lemmas.List.{take_more, get_or-drop, length-drop}
 use Rattle.std.proofs.lemmas.Str.{IsCharBoundary-after_ascii}
-use Rattle.jv_base.specs.DescriptorPlaces.{grown_at, IsGrownPlaced, more_of}
+use Rattle.jv_base.specs.bodies.DescriptorPlaces.{grown_at, IsGrownPlaced, more_of}
 use Rattle.jv_base.specs.Descriptors.{grown, name, name_on}
 use Rattle.jv_base.specs.Names.{part_after}
 

@@ -1,5 +1,5 @@
 -- Reading Modified UTF-8 from left to right (JVMS 4.4.7).
-use Rattle.std.specs.Prelude.{◌≡◌, ℕ, ◌+◌, ◌-◌, ◌*◌, ◌<◌, ◌&&◌, Bool, List, [], ◌∷◌, ◌++◌, nat_le, ◌==◌, Option, Some}
+use Rattle.std.specs.Prelude.{◌≡◌, ℕ, ◌+◌, ◌-◌, ◌*◌, ◌&&◌, Bool, List, [], ◌∷◌, ◌++◌, nat_le, ◌==◌, Option, Some}
 use Rattle.std.specs.Prelude.{None, Result, Ok, Err, if◌then◌else◌}
 use Rattle.jv_base.specs.Mutf8.{mutf8, IsUnits}
 use Rattle.jv_base.specs.Walk.{walk}
@@ -37,19 +37,6 @@ byte_taken Zero b = if b == 0x80 then Some (Whole 0) else None
 byte_taken (Middle bits) b =
     if is_from_to (if bits == 0 then 0xA0 else 0x80) 0xBF b then Some (Part (Last (with_six bits b))) else None
 byte_taken (Last bits) b = if is_from_to 0x80 0xBF b then Some (Whole (with_six bits b)) else None
-
--- so many bits can stand before the awaited byte (only the proof of units_of_mutf8 needs it)
-abbrev pub HasBits : Awaited → Type 0
-HasBits Lead = Unit {0}
-HasBits Zero = Unit {0}
-HasBits (Middle bits) = bits < 16
-HasBits (Last bits) = bits < 1024
-
--- the same of a byte that was taken (only the proof of units_of_mutf8 needs it)
-abbrev pub TakesBits : Option Taken → Type 0
-TakesBits (Some (Part next)) = HasBits next
-TakesBits (Some (Whole unit)) = unit < 65536
-TakesBits None = Unit {0}
 
 -- the units so far, and what the next byte has to be
 pub record Decoded : Type 0 where

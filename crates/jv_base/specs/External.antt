@@ -1,5 +1,5 @@
 -- Types as Java source spells them (JLS 4.2, 4.3, 10.1, with classes by their binary names, JLS 13.1).
-use Rattle.std.specs.Prelude.{◌≡◌, ℕ, ◌+◌, ◌<◌, ◌≤◌, ◌&&◌, Bool, false, List, [], ◌∷◌, ◌++◌, map, take, nat_lt, ◌==◌}
+use Rattle.std.specs.Prelude.{◌≡◌, ℕ, ◌+◌, ◌&&◌, Bool, false, List, [], ◌∷◌, ◌++◌, map, nat_lt, ◌==◌}
 use Rattle.std.specs.Prelude.{Option, Some, None, Result, codes, if◌then◌else◌}
 use Rattle.std.specs.List.{repeat}
 use Rattle.jv_base.specs.Descriptors.{typed, bad_descriptor}
@@ -7,8 +7,6 @@ use Rattle.jv_base.specs.Names.{is_class_name, is_text, part_after}
 use Rattle.jv_base.specs.Types.{IsFieldType}
 use Rattle.jv_base.specs.Walk.{walk}
 use Rattle.jv_base.specs.declared.descriptors.BadDescriptor.{BadDescriptor}
-use Rattle.jv_base.specs.declared.external_form.ExternalRead as kept
-use Rattle.jv_base.specs.declared.external_form.ExternalRead.TheVariants as read
 use Rattle.jv_base.specs.declared.types.Base.{Base}
 use Rattle.jv_base.specs.declared.types.Base.TheVariants.{Boolean, Byte, Char, Short, Int, Long, Float, Double, Class}
 use Rattle.jv_base.specs.declared.types.FieldType.{FieldType}
@@ -110,32 +108,3 @@ external_end (closed dims base) = Some (typed dims base)
 -- the type that the text spells, or how long its longest prefix is that is a prefix of a spelling
 unfoldable pub read_external : List ℕ → Result FieldType BadDescriptor
 read_external text = bad_descriptor (walk external_byte external_end (word [] false) 0 text)
-
--- ---- What the reader keeps (only the proof of read_external needs it)
-
--- what the reader keeps before a place
-abbrev pub external_at : List ℕ → ℕ → kept.ExternalRead → External
-external_at text at (read.Word in_part) = word (slashed (take at text)) in_part
-external_at text at (read.Opened dims base) = opened dims base
-external_at text at (read.Closed dims base) = closed dims base
-
--- the same behind one more byte, if it can stand there (only the proof of read_external needs it)
-abbrev pub external_next_at : List ℕ → ℕ → Option kept.ExternalRead → Option External
-external_next_at text at (Some r) = Some (external_at text at r)
-external_next_at text at None = None
-
--- one more dimension fits
-abbrev pub HasRoom : kept.ExternalRead → Type 0
-HasRoom (read.Word in_part) = Unit {0}
-HasRoom (read.Opened dims base) = dims < 255
-HasRoom (read.Closed dims base) = dims ≤ 255
-
--- the same behind one more byte (only the proof of read_external needs it)
-abbrev pub NextHasRoom : Option kept.ExternalRead → Type 0
-NextHasRoom (Some r) = HasRoom r
-NextHasRoom None = Unit {0}
-
--- a word, which goes on (only the proof of read_external needs it)
-abbrev pub word_read : Option Bool → Option kept.ExternalRead
-word_read (Some in_part) = Some (read.Word in_part)
-word_read None = None

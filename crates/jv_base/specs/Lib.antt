@@ -1,5 +1,4 @@
 pub mod Decoding
-pub mod DescriptorPlaces
 pub mod Descriptors
 pub mod External
 pub mod Longest
@@ -10,3 +9,5 @@ pub mod Place
 pub mod Types
 pub mod Utf16
 pub mod Walk
+pub mod bodies
+pub mod Tail

@@ -4,10 +4,11 @@ ghost use Rattle.std.specs.Prelude.{replicate};
 ghost use Rattle.std.specs.Prelude.{IfOk, OnOk, Ok, Some, None, ◌++◌, if◌then◌else◌, string_bytes};
 ghost use Rattle.std.specs.List.{flat_map};
 ghost use Rattle.std.specs.Str.{IsCharBoundary};
-ghost use Rattle.jv_base.specs.DescriptorPlaces.{AreCounted, begun_at, class_whole, field_at, field_of, field_read_at};
-ghost use Rattle.jv_base.specs.DescriptorPlaces.{grown_at, IsFieldPlaced, IsFieldReadPlaced, IsGrownPlaced};
-ghost use Rattle.jv_base.specs.DescriptorPlaces.{IsMethodNextPlaced, IsMethodPlaced, IsPlaced, method_next_at};
-ghost use Rattle.jv_base.specs.DescriptorPlaces.{method_read_at, more_of};
+ghost use Rattle.jv_base.specs.bodies.DescriptorPlaces.{AreCounted, begun_at, class_whole, field_at, field_of};
+ghost use Rattle.jv_base.specs.bodies.DescriptorPlaces.{field_read_at};
+ghost use Rattle.jv_base.specs.bodies.DescriptorPlaces.{grown_at, IsFieldPlaced, IsFieldReadPlaced, IsGrownPlaced};
+ghost use Rattle.jv_base.specs.bodies.DescriptorPlaces.{IsMethodNextPlaced, IsMethodPlaced, IsPlaced, method_next_at};
+ghost use Rattle.jv_base.specs.bodies.DescriptorPlaces.{method_read_at, more_of};
 ghost use Rattle.jv_base.specs.Descriptors.{before, brackets, field_byte, grown, is_fresh, letter_base, method_byte};
 ghost use Rattle.jv_base.specs.Descriptors.{parameter_byte, parameter_on, read_field, read_method, returned_byte};
 ghost use Rattle.jv_base.specs.Descriptors.{returned_on, SpellsField, SpellsMethod, whole};
@@ -275,7 +276,8 @@ fn class_between(alloc: Global, text: &str, from: usize, to: usize) -> M<Option<
     requires order { from ≤ to }
     requires begins { IsCharBoundary text.now from }
     requires ends { IsCharBoundary text.now to }
-    ensures { IfOk result (λ name. name ≡ (if is_class_name (slice_range text.now from to) then Some (slice_range text.now from to) else None)) }
+    ensures { IfOk result (λ name. name ≡ (if is_class_name (slice_range text.now from to) then Some
+        (slice_range text.now from to) else None)) }
 {
     let name = &text[from..to];
     if is_class_name(name) {
@@ -295,7 +297,8 @@ fn field_step(
     requires within { at < length text.now }
     requires byte { slice_index text.now at ≡ byte }
     requires placed { IsFieldPlaced text.now at read }
-    ensures read { IfOk result (λ next. field_read_at text.now (at + 1) next ≡ field_byte (field_at text.now at read) byte) }
+    ensures read { IfOk result (λ next. field_read_at text.now (at + 1) next
+        ≡ field_byte (field_at text.now at read) byte) }
     ensures placed { IfOk result (IsFieldReadPlaced text.now (at + 1)) }
 {
     match read {
@@ -352,7 +355,8 @@ fn method_step(
     requires within { at < length text.now }
     requires byte { slice_index text.now at ≡ byte }
     requires placed { IsMethodPlaced text.now at read }
-    ensures read { IfOk result (λ next. method_next_at text.now (at + 1) next ≡ method_byte (method_read_at text.now at read) byte) }
+    ensures read { IfOk result (λ next. method_next_at text.now (at + 1) next
+        ≡ method_byte (method_read_at text.now at read) byte) }
     ensures placed { IfOk result (IsMethodNextPlaced text.now (at + 1)) }
 {
     let MethodRead { parameters, part } = read;
@@ -395,7 +399,8 @@ fn parameter_step(
     requires byte { slice_index text.now at ≡ byte }
     requires counted { AreCounted parameters }
     requires placed { IsPlaced text.now at begun }
-    ensures read { IfOk result (λ next. method_next_at text.now (at + 1) next ≡ parameter_byte parameters.types (begun_at text.now at begun) byte) }
+    ensures read { IfOk result (λ next. method_next_at text.now (at + 1) next
+        ≡ parameter_byte parameters.types (begun_at text.now at begun) byte) }
     ensures placed { IfOk result (IsMethodNextPlaced text.now (at + 1)) }
 {
     let fresh = is_fresh(begun);
@@ -411,8 +416,10 @@ fn parameter_step(
 
 fn parameter_grown(parameters: Parameters, grown: Option<Grown>) -> M<Option<MethodRead>>
     requires { AreCounted parameters }
-    ensures read { IfOk result (λ next. (text : List ℕ) (at : ℕ) → method_next_at text at next ≡ parameter_on parameters.types (grown_at text at grown)) }
-    ensures placed { IfOk result (λ next. (text : List ℕ) (at : ℕ) → IsGrownPlaced text at grown → IsMethodNextPlaced text at next) }
+    ensures read { IfOk result (λ next. (text : List ℕ) (at : ℕ) → method_next_at text at next
+        ≡ parameter_on parameters.types (grown_at text at grown)) }
+    ensures placed { IfOk result (λ next. (text : List ℕ) (at : ℕ) → IsGrownPlaced text at grown
+        → IsMethodNextPlaced text at next) }
 {
     let Some(grown) = grown else {
         return Ok(None);
@@ -426,7 +433,8 @@ fn parameter_grown(parameters: Parameters, grown: Option<Grown>) -> M<Option<Met
 #[tactic(auto, using(crate::proofs::Words::words_more))]
 fn with_parameter(parameters: Parameters, ty: FieldType) -> M<Option<MethodRead>>
     requires { AreCounted parameters }
-    ensures read { IfOk result (λ next. (text : List ℕ) (at : ℕ) → method_next_at text at next ≡ parameter_on parameters.types (Some (whole ty))) }
+    ensures read { IfOk result (λ next. (text : List ℕ) (at : ℕ) → method_next_at text at next
+        ≡ parameter_on parameters.types (Some (whole ty))) }
     ensures placed { IfOk result (λ next. (text : List ℕ) (at : ℕ) → IsMethodNextPlaced text at next) }
 {
     let Parameters { mut types, words } = parameters;
@@ -465,7 +473,8 @@ fn returned_step(
     requires byte { slice_index text.now at ≡ byte }
     requires counted { AreCounted parameters }
     requires placed { IsPlaced text.now at begun }
-    ensures read { IfOk result (λ next. method_next_at text.now (at + 1) next ≡ returned_byte parameters.types (begun_at text.now at begun) byte) }
+    ensures read { IfOk result (λ next. method_next_at text.now (at + 1) next
+        ≡ returned_byte parameters.types (begun_at text.now at begun) byte) }
     ensures placed { IfOk result (IsMethodNextPlaced text.now (at + 1)) }
 {
     if is_fresh(begun) && byte == b'V' {
@@ -477,7 +486,8 @@ fn returned_step(
 
 fn returned_grown(parameters: Parameters, grown: Option<Grown>) -> Option<MethodRead>
     requires { AreCounted parameters }
-    ensures read { (text : List ℕ) (at : ℕ) → method_next_at text at result ≡ returned_on parameters.types (grown_at text at grown) }
+    ensures read { (text : List ℕ) (at : ℕ) → method_next_at text at result
+        ≡ returned_on parameters.types (grown_at text at grown) }
     ensures placed { (text : List ℕ) (at : ℕ) → IsGrownPlaced text at grown → IsMethodNextPlaced text at result }
 {
     match grown? {

@@ -3,9 +3,12 @@ ghost use Rattle.std.specs.Prelude.{◌≡◌, ℕ, ◌+◌, ◌<◌, ◌++◌, 
 ghost use Rattle.std.specs.Prelude.{string_bytes, codes};
 ghost use Rattle.std.specs.List.{repeat};
 ghost use Rattle.std.specs.Str.{IsCharBoundary};
-ghost use Rattle.jv_base.specs.External.{external_at, external_byte, external_end, external_next_at, external_text};
-ghost use Rattle.jv_base.specs.External.{HasRoom, keyword_base, NextHasRoom, read_external, slashed, SpellsExternal};
-ghost use Rattle.jv_base.specs.External.{swapped, word_base, word_byte, word_opened, word_read, word_text, word_whole};
+ghost use Rattle.jv_base.specs.External.{external_byte, external_end, external_text};
+ghost use Rattle.jv_base.specs.bodies.External.{external_at, external_next_at};
+ghost use Rattle.jv_base.specs.External.{keyword_base, read_external, slashed, SpellsExternal};
+ghost use Rattle.jv_base.specs.bodies.External.{HasRoom, NextHasRoom};
+ghost use Rattle.jv_base.specs.External.{swapped, word_base, word_byte, word_opened, word_text, word_whole};
+ghost use Rattle.jv_base.specs.bodies.External.{word_read};
 ghost use Rattle.jv_base.specs.Longest.{IfFault, IsLongest};
 ghost use Rattle.jv_base.specs.Outcome.{IsDue};
 ghost use Rattle.jv_base.specs.Types.{IsFieldType};
@@ -112,7 +115,8 @@ fn external_step(
     requires within { at < length text.now }
     requires byte { slice_index text.now at ≡ byte }
     requires room { HasRoom read }
-    ensures read { IfOk result (λ next. external_next_at text.now (at + 1) next ≡ external_byte (external_at text.now at read) byte) }
+    ensures read { IfOk result (λ next. external_next_at text.now (at + 1) next
+        ≡ external_byte (external_at text.now at read) byte) }
     ensures room { IfOk result NextHasRoom }
 {
     match read {
@@ -138,7 +142,8 @@ fn word_step(
 ) -> M<Option<ExternalRead>>
     requires within { at < length text.now }
     requires byte { slice_index text.now at ≡ byte }
-    ensures read { IfOk result (λ next. external_next_at text.now (at + 1) next ≡ word_byte (slashed (take at text.now)) in_part byte) }
+    ensures read { IfOk result (λ next. external_next_at text.now (at + 1) next
+        ≡ word_byte (slashed (take at text.now)) in_part byte) }
     ensures room { IfOk result NextHasRoom }
 {
     match byte {

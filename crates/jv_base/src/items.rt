@@ -1,12 +1,14 @@
 // A list in a public record.
 ghost use Rattle.std.specs.Prelude.{◌≡◌, ℕ, ◌<◌, [], ◌∷◌, ◌++◌, length, slice_get, option_copied};
 ghost use Rattle.std.specs.Prelude.{IfOk, if◌then◌else◌, is_ok, ◌==◌, Some};
-ghost use Rattle.std.specs.Cmp.Lexicographic.{pointwise, lists_per, lists_equiv};
+ghost use Rattle.std.specs.Cmp.Lexicographic.{pointwise, lists_per, lists_equiv, slice_cmp, slice_partial_cmp};
+ghost use Rattle.std.specs.Cmp.Lexicographic.{lists_agrees, lists_po, lists_ties, lists_total};
 ghost use Rattle.std.specs.List.{AllZip};
 ghost use Rattle.std.specs.Slice.Iter.{iter_rest};
 ghost use Rattle.std.specs.Hash as fed;
 
 use std::alloc::{AllocError, AllocFailed, Global};
+use std::cmp::Ordering;
 use std::hash::{Hash, Hasher};
 use std::marker::Model;
 use std::ops::Index;
@@ -132,6 +134,30 @@ impl<T: PartialEq> PartialEq for Items<T> {
 
 impl<T: Eq> Eq for Items<T> {
     ghost laws = { lists_equiv T.Eq.laws };
+}
+
+impl<T: PartialOrd> PartialOrd for Items<T> {
+    ghost partial_cmp = { slice_partial_cmp T.partial_cmp };
+
+    ghost laws = { lists_po T.PartialOrd.laws };
+
+    fn partial_cmp(&self, other: &Items<T>) -> Option<Ordering> {
+        self.items.partial_cmp(&other.items)
+    }
+}
+
+impl<T: Ord> Ord for Items<T> {
+    ghost cmp = { slice_cmp T.cmp };
+
+    ghost total = { lists_total T.total };
+
+    ghost matches_partial_cmp = { lists_agrees T.matches_partial_cmp };
+
+    ghost matches_eq = { lists_ties T.cmp T.matches_eq };
+
+    fn cmp(&self, other: &Items<T>) -> Ordering {
+        self.items.cmp(&other.items)
+    }
 }
 
 impl<T: Clone> Clone for Items<T> {

@@ -1,6 +1,7 @@
 // Modified UTF-8 (JVMS 4.4.7).
 ghost use Rattle.std.specs.Prelude.{◌≡◌, ℕ, ◌+◌, ◌%◌, ◌<◌, ◌++◌, List, length, IfOk, OnOk, Ok, Some};
-ghost use Rattle.jv_base.specs.Decoding.{SpellsUnits, HasBits, TakesBits, byte_taken, decoded_on, is_from_to};
+ghost use Rattle.jv_base.specs.Decoding.{SpellsUnits, byte_taken, decoded_on, is_from_to};
+ghost use Rattle.jv_base.specs.bodies.Decoding.{HasBits, TakesBits};
 ghost use Rattle.jv_base.specs.Decoding.{lead_byte, read_mutf8};
 ghost use Rattle.jv_base.specs.Longest.{IfFault, IsLongest};
 ghost use Rattle.jv_base.specs.Mutf8.{mutf8, unit_bytes};
@@ -123,7 +124,8 @@ fn decoded(alloc: Global, bytes: &[u8]) -> Result<Units, Or<BadUtf8>>
 /// Appends a unit that is whole.
 fn keep(units: &mut Units, taken: Taken) -> M<Awaited>
     requires { TakesBits (Some taken) }
-    ensures kept { IfOk result (λ next. decoded_on units.old (Some taken) ≡ Some (record { units = units.new; awaited = next })) }
+    ensures kept { IfOk result (λ next. decoded_on units.old (Some taken)
+        ≡ Some (record { units = units.new; awaited = next })) }
     ensures bits { IfOk result HasBits }
 {
     match taken {

@@ -7,6 +7,8 @@ ghost use Rattle.std.specs.Hash as fed;
 ghost use Rattle.std.specs.Cmp.Rules.{hashing};
 ghost use Rattle.std.proofs.Common.{rules};
 ghost use Rattle.std.specs.Ordering.{nat_cmp};
+ghost use Rattle.std.specs.List.{fold};
+ghost use Rattle.jv_base.specs.Tail.{tail, with_byte};
 
 use crate::Shared;
 use std::alloc::{AllocError, Global};
@@ -68,12 +70,32 @@ impl Text {
         self.text.len()
     }
 
+    /// Its last eight bytes as one number, or all where it has fewer. Most texts are told apart by it at little cost.
+    pub fn tail(&self) -> u64
+        ensures { result ≡ tail self.now }
+    {
+        let bytes = self.as_bytes();
+        let start = bytes.len().saturating_sub(8);
+        number_of(&bytes[start..])
+    }
+
     /// Whether it has no byte.
     pub fn is_empty(&self) -> bool
         ensures { result ≡ (length self.now == 0) }
     {
         self.text.is_empty()
     }
+}
+
+// Bytes as one number, the first of them highest.
+fn number_of(bytes: &[u8]) -> u64
+    ensures { result ≡ fold with_byte 0 bytes.now }
+{
+    let mut number = 0u64;
+    for byte in bytes {
+        number = number.wrapping_mul(256).wrapping_add(u64::from(*byte));
+    }
+    number
 }
 
 impl PartialEq for Text {

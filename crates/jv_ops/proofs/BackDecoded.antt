@@ -2,7 +2,7 @@
 use Rattle.std.proofs.Common.{ℕ, List, map, Result, Ok, ap, ◌∙◌}
 use Rattle.class_model.proofs.BackCode.{op_in, infos}
 use Rattle.class_model.proofs.BackRead.{code_back, meant_back, starts_back}
-use Rattle.jv_ops.specs.declared.decoding.Decoded.{Decoded}
+use Rattle.jv_ops.specs.declared.reading.decoding.Decoded.{Decoded}
 use Rattle.jv_ops.specs.declared.fault.CodeFault.{CodeFault}
 use Rattle.jv_ops.specs.Decoded.{with_starts, as_decoded, code_decoded}
 use Rattle.jv_ops.specs.ReadBack.{CanonicalIsDecoded}

@@ -7,7 +7,7 @@ use Rattle.class_model.specs.Opcodes.{plain_op, local_op, branch_op, is_left_out
 use Rattle.class_model.specs.InstructionStructure.{Local, WideLocal, Branch}
 use Rattle.class_model.specs.ReadingCode.{one_byte, two_bytes, ldc_wide, widened, begun, is_member_opcode}
 use Rattle.class_model.specs.ReadingCode.{is_class_opcode}
-use Rattle.jv_ops.specs.Meaning.{begun_by_table}
+use Rattle.jv_ops.specs.bodies.Meaning.{begun_by_table}
 use Rattle.class_model.proofs.BackInfos.{if_yes}
 
 if_no : {A : Type 0} (b : Bool) (x y z : A) → b ≡ false → y ≡ z → cond b x y ≡ z

@@ -10,7 +10,7 @@ use Rattle.jv_base.specs.Descriptors.{grown, read_field, read_method}
 use Rattle.class_model.specs.CanonicalCode.{places, code_bytes}
 use Rattle.jv_ops.specs.Coded.{placed, coded}
 use Rattle.jv_ops.specs.Constants.{said_at, first_constants}
-use Rattle.jv_ops.specs.Examples.{AreOnMembers, AreOnTypes, AreNewArrays}
+use Rattle.jv_ops.specs.rows.Examples.{AreOnMembers, AreOnTypes, AreNewArrays}
 
 pub on_members : AreOnMembers
 unfolding lib.Utf8.encode chars utf16_chars units_of part_after is_primitive_or_void is_name_byte is_class_name walk base_text field_text result_text method_text words_of argument_words grown read_field read_method places code_bytes placed coded said_at first_constants

@@ -6,36 +6,39 @@ use Rattle.jv_base.specs.Place.{Place}
 use Rattle.jv_base.specs.declared.outcome.Or.{Or}
 use Rattle.jv_base.specs.declared.outcome.Or.TheVariants.{Fault, OutOfMemory}
 use Rattle.format_reading.specs.declared.fault.FormatFault.{FormatFault}
-use Rattle.format_reading.specs.Reader.{Reader, u4, bytes, item, lead, after_read, bind, give, many, behind}
+use Rattle.format_reading.specs.Reader.{ReadsOr, FormatReader, u4, bytes, item, lead, after_read, bind, give, many}
+use Rattle.format_reading.specs.Reader.{behind}
 use Rattle.format_reading.proofs.Exact.{bind_is}
 use Rattle.class_model.specs.declared.pool.Entry.{Entry}
 use Rattle.class_model.specs.InstructionStructure.{MatchOffset, LookupSwitch, pad_length}
 use Rattle.class_model.specs.ReadingCode.{instruction, lookup_key, lookup_count, lookup_switch, match_offsets}
 use Rattle.jv_ops.specs.declared.fault.Wrong.{Wrong}
-use Rattle.jv_ops.specs.declared.unaimed.Match.{Match}
-use Rattle.jv_ops.specs.declared.unaimed.Unaimed.{Unaimed}
-use Rattle.jv_ops.specs.declared.unaimed.Unaimed.TheVariants as unaimed
-use Rattle.jv_ops.specs.Fault.{MovesOr, told, wrong_of}
-use Rattle.jv_ops.specs.Meaning.{match_of, match_read, matches_from, matches_behind, meant}
+use Rattle.jv_ops.specs.declared.reading.unaimed.Match.{Match}
+use Rattle.jv_ops.specs.declared.reading.unaimed.Unaimed.{Unaimed}
+use Rattle.jv_ops.specs.declared.reading.unaimed.Unaimed.TheVariants as unaimed
+use Rattle.jv_ops.specs.Fault.{wrong_of}
+use Rattle.jv_ops.specs.bodies.Fault.{with_wrong}
+use Rattle.jv_ops.specs.Meaning.{match_of, meaning_of_read}
+use Rattle.jv_ops.specs.bodies.Meaning.{match_read, matches_from, matches_behind}
 
 -- what was read was no fault
-pub told_ok : {A : Type 0} (r : Result A FormatFault) (x : A) → told r ≡ Ok x → r ≡ Ok x
+pub told_ok : {A : Type 0} (r : Result A FormatFault) (x : A) → with_wrong r ≡ Ok x → r ≡ Ok x
 told_ok (Ok y) x h = let e : y ≡ x = cc in ap (λ (v : _). let R : Result _ FormatFault = Ok v in R) e
 told_ok (Err f) x h = absurd cc
 
 -- where a part's fault is that of the whole, it comes for the whole
 pub stops : {A B : Type 0} (part : Result (A × Place) FormatFault) (total : Result (B × Place) FormatFault)
     (e : Or Wrong) (new q : Place)
-    → ((f : FormatFault) → part ≡ Err f → total ≡ Err f) → MovesOr {T = A} (Err e) new (told part)
-    → MovesOr {T = B} (Err e) q (told total)
+    → ((f : FormatFault) → part ≡ Err f → total ≡ Err f) → ReadsOr {T = A} (Err e) new (with_wrong part)
+    → ReadsOr {T = B} (Err e) q (with_wrong total)
 stops part total OutOfMemory new q same h = tt
 stops (Ok x) total (Fault w) new q same h = absurd cc
 stops (Err f) total (Fault w) new q same h =
     let e : wrong_of f.kind ≡ w = cc in
-    ap told (same f refl) ∙ ap (λ (v : Wrong). let R : Result (_ × Place) Wrong = Err v in R) e
+    ap with_wrong (same f refl) ∙ ap (λ (v : Wrong). let R : Result (_ × Place) Wrong = Err v in R) e
 
 -- a fault of one of many is that of all
-pub many_fault : {A : Type 0} (r : Reader A) (front : List A) (count i : ℕ) (p : Place) (f : FormatFault)
+pub many_fault : {A : Type 0} (r : FormatReader A) (front : List A) (count i : ℕ) (p : Place) (f : FormatFault)
     (total : Result (List A × Place) FormatFault) → i < count
     → behind front (many (count - i) r p) ≡ total → r p ≡ Err f → total ≡ Err f
 unfolding many bind
@@ -136,8 +139,8 @@ matches_are zero previous p = refl
 matches_are (suc n) previous p = behind_key n p.at p.at p.at (item u4 (lookup_key previous) p) (matches_are n)
 
 lookup_done_of : (pool : List Entry) (pad : List ℕ) (default at : ℕ) (r : Result (List MatchOffset × Place) FormatFault)
-    (q : Place) (ms : List Match) → told (mapped r) ≡ Ok (ms, q)
-    → meant pool (after_read at (λ pairs. Ok (give (instruction (LookupSwitch pad default pairs)))) r)
+    (q : Place) (ms : List Match) → with_wrong (mapped r) ≡ Ok (ms, q)
+    → meaning_of_read pool (after_read at (λ pairs. Ok (give (instruction (LookupSwitch pad default pairs)))) r)
     ≡ Ok (unaimed.LookupSwitch default ms, q)
 unfolding give
 lookup_done_of pool pad default at (Ok x) q ms h =
@@ -148,9 +151,9 @@ lookup_done_of pool pad default at (Err f) q ms h = absurd cc
 
 lookup_stops_of : (pool : List Entry) (pad : List ℕ) (default at : ℕ)
     (r : Result (List MatchOffset × Place) FormatFault) (e : Or Wrong) (new q : Place)
-    → MovesOr {T = List Match} (Err e) new (told (mapped r))
-    → MovesOr {T = Unaimed} (Err e) q
-    (meant pool (after_read at (λ pairs. Ok (give (instruction (LookupSwitch pad default pairs)))) r))
+    → ReadsOr {T = List Match} (Err e) new (with_wrong (mapped r))
+    → ReadsOr {T = Unaimed} (Err e) q
+    (meaning_of_read pool (after_read at (λ pairs. Ok (give (instruction (LookupSwitch pad default pairs)))) r))
 lookup_stops_of pool pad default at r OutOfMemory new q h = tt
 lookup_stops_of pool pad default at (Ok x) (Fault w) new q h = absurd cc
 lookup_stops_of pool pad default at (Err f) (Fault w) new q h =
@@ -159,19 +162,19 @@ lookup_stops_of pool pad default at (Err f) (Fault w) new q h =
 
 -- a lookupswitch whose pairs were read
 pub lookup_done : (pool : List Entry) (pad : List ℕ) (default n : ℕ) (p q : Place) (ms : List Match)
-    → told (matches_from n None p) ≡ Ok (ms, q)
-    → meant pool (matches_behind pad default n p) ≡ Ok (unaimed.LookupSwitch default ms, q)
+    → with_wrong (matches_from n None p) ≡ Ok (ms, q)
+    → meaning_of_read pool (matches_behind pad default n p) ≡ Ok (unaimed.LookupSwitch default ms, q)
 unfolding bind give
 lookup_done pool pad default n p q ms h = lookup_done_of pool pad default p.at (match_offsets n None p) q ms
-    (sym (ap told (matches_are n None p)) ∙ h)
+    (sym (ap with_wrong (matches_are n None p)) ∙ h)
 
 -- or not
 pub lookup_stops : (pool : List Entry) (pad : List ℕ) (default n : ℕ) (p : Place) (e : Or Wrong) (new q : Place)
-    → MovesOr {T = List Match} (Err e) new (told (matches_from n None p))
-    → MovesOr {T = Unaimed} (Err e) q (meant pool (matches_behind pad default n p))
+    → ReadsOr {T = List Match} (Err e) new (with_wrong (matches_from n None p))
+    → ReadsOr {T = Unaimed} (Err e) q (meaning_of_read pool (matches_behind pad default n p))
 unfolding bind give
 lookup_stops pool pad default n p e new q h = lookup_stops_of pool pad default p.at (match_offsets n None p) e new q
-    (subst (λ r. MovesOr {T = List Match} (Err e) new (told r)) (matches_are n None p) h)
+    (subst (λ r. ReadsOr {T = List Match} (Err e) new (with_wrong r)) (matches_are n None p) h)
 
 item_is : (n : ℕ) (p q : Place) → u4 p ≡ Ok (n, q) → lookup_count n ≡ Ok n → item u4 lookup_count p ≡ Ok (n, q)
 unfolding lead give

@@ -10,8 +10,9 @@ use Rattle.std.proofs.lemmas.Bool.{eqb-true, eq-eqb}
 use Rattle.std.proofs.lemmas.List.{drop_all}
 use Rattle.std.proofs.lemmas.Iterator.Adapters.{position_from-zero}
 use Rattle.std.specs.List.{position_from}
-use Rattle.jv_ops.specs.declared.unaimed.Placed.{Placed}
-use Rattle.jv_ops.specs.Targets.{found, noted, aim_in, starts_of}
+use Rattle.jv_ops.specs.declared.reading.unaimed.Placed.{Placed}
+use Rattle.jv_ops.specs.Targets.{starts_of}
+use Rattle.jv_ops.specs.bodies.Targets.{found, noted, aim_in}
 
 -- an offset without a number is none
 pub found_push : (table : List (Option ℕ)) (offset : ℕ) → found (table ++ None ∷ []) offset ≡ found table offset

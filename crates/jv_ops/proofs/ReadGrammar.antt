@@ -11,7 +11,7 @@ use Rattle.class_model.specs.ReadingCode.{CodeRead, instructions, has_left_out, 
 use Rattle.class_model.proofs.NameLaw.{HaveUnits}
 use Rattle.class_model.proofs.CodeLaw.{code_found, code_only}
 use Rattle.class_model.proofs.LeftOutLaw.{left_code_found}
-use Rattle.jv_ops.specs.declared.decoding.Decoded.{Decoded}
+use Rattle.jv_ops.specs.declared.reading.decoding.Decoded.{Decoded}
 use Rattle.jv_ops.specs.declared.fault.CodeFault.{CodeFault}
 use Rattle.jv_ops.specs.declared.fault.CodeFault.TheVariants as code
 use Rattle.jv_ops.specs.Fault.{code_fault, wrong_of}

@@ -23,10 +23,10 @@ use Rattle.class_model.proofs.InstructionRead.{IsRight, read_found}
 use Rattle.class_model.proofs.UntilLaw.{kept_is}
 use Rattle.jv_ops.specs.declared.fault.CodeFault.{CodeFault}
 use Rattle.jv_ops.specs.declared.fault.CodeFault.TheVariants as code
-use Rattle.jv_ops.specs.declared.unaimed.Placed.{Placed}
-use Rattle.jv_ops.specs.declared.unaimed.Unaimed.{Unaimed}
+use Rattle.jv_ops.specs.declared.reading.unaimed.Placed.{Placed}
+use Rattle.jv_ops.specs.declared.reading.unaimed.Unaimed.{Unaimed}
 use Rattle.jv_ops.specs.Fault.{code_fault, wrong_of}
-use Rattle.jv_ops.specs.Meaning.{meant}
+use Rattle.jv_ops.specs.Meaning.{meaning_of_read}
 use Rattle.jv_ops.specs.Decoding.{at_offset, placed_at, placed_to_end, after_first, in_front as before_list}
 use Rattle.jv_ops.specs.Targets.{with_first, collected, placed_aimed, op_aimed, or_bad_target, starts_of}
 use Rattle.jv_ops.proofs.ReadMeant.{right_meant}
@@ -172,7 +172,7 @@ until_is n pool whole p lt = let inside : nat_le (length whole) p.at
 
 placed_is : (n : ℕ) (pool : List Entry) (whole : List ℕ) (p : Place) → IsPlace whole p → p.at < length whole
     → placed_to_end (suc n) pool p
-    ≡ after_first (at_offset p.at (meant pool (read_instruction pool 0 p))) (placed_to_end n pool)
+    ≡ after_first (at_offset p.at (meaning_of_read pool (read_instruction pool 0 p))) (placed_to_end n pool)
 unfolding placed_to_end placed_at
 placed_is n pool whole p is lt =
     let apart : p.at ≡ length p.bytes → ⊥ = λ e. omega (arith, e, lt, ap length is.bytes) in
@@ -186,7 +186,7 @@ step : (n : ℕ) (pool : List Entry) (whole : List ℕ) (p : Place) (r : Result 
     → ((q : Place) → IsPlace whole q → length whole - q.at ≤ n
     → Agrees pool q.at (until_end n pool 0 (length whole) q) (placed_to_end n pool q))
     → Agrees pool p.at (after_read p.at (λ x. Ok (goes_on (until_end n pool 0 (length whole)) (p.at - 0)
-    (length whole) x)) r) (after_first (at_offset p.at (meant pool r)) (placed_to_end n pool))
+    (length whole) x)) r) (after_first (at_offset p.at (meaning_of_read pool r)) (placed_to_end n pool))
 unfolding bind here give
 step n pool whole p (Err f) fits is lt enough e others = ap
     (λ (o : ℕ). let R : Result (List Placed) CodeFault = Err (code_fault o (wrong_of f.kind)) in R)

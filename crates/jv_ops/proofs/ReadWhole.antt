@@ -10,9 +10,9 @@ use Rattle.class_model.specs.InstructionStructure.{Info, starts_of as begun_at}
 use Rattle.class_model.specs.InstructionMeaning.{aim_at}
 use Rattle.class_model.specs.ReadingCode.{CodeRead, instructions, has_left_out, without_place, until_end, code_read}
 use Rattle.class_model.specs.ReadingCode.{ops_of}
-use Rattle.jv_ops.specs.declared.decoding.Decoded.{Decoded}
+use Rattle.jv_ops.specs.declared.reading.decoding.Decoded.{Decoded}
 use Rattle.jv_ops.specs.declared.fault.CodeFault.{CodeFault}
-use Rattle.jv_ops.specs.declared.unaimed.Placed.{Placed}
+use Rattle.jv_ops.specs.declared.reading.unaimed.Placed.{Placed}
 use Rattle.jv_ops.specs.Decoding.{placed_to_end}
 use Rattle.jv_ops.specs.Targets.{collected, placed_aimed}
 use Rattle.jv_ops.specs.Decoded.{all_decoded, decoded, with_starts, as_decoded, code_decoded}

@@ -6,10 +6,10 @@ use Rattle.jv_base.specs.Place.{Place}
 use Rattle.jv_base.specs.Outcome.{FaultIs}
 use Rattle.jv_base.specs.declared.outcome.Or.{Or}
 use Rattle.jv_base.specs.declared.outcome.Or.TheVariants.{Fault, OutOfMemory}
+use Rattle.format_reading.specs.Reader.{ReadsOr}
 use Rattle.class_model.specs.declared.pool.Entry.{Entry}
 use Rattle.jv_ops.specs.declared.fault.CodeFault.{CodeFault}
-use Rattle.jv_ops.specs.declared.unaimed.Placed.{Placed}
-use Rattle.jv_ops.specs.Fault.{MovesOr}
+use Rattle.jv_ops.specs.declared.reading.unaimed.Placed.{Placed}
 use Rattle.jv_ops.specs.Decoding.{placed_at, placed_to_end, in_front}
 
 pub in_front_of : {A : Type 0} (front : List A) (n : A) (read : Result (List A) CodeFault)
@@ -33,7 +33,7 @@ goes_on front count i pool p after n total lt inside h so_far =
 
 pub ends : (e : Or CodeFault) (new : Place) (front : List Placed) (count i : ℕ) (pool : List Entry) (p : Place)
     (total : Result (List Placed) CodeFault) → i < count → is_end p ≡ false
-    → MovesOr {T = Placed} (Err e) new (placed_at pool p)
+    → ReadsOr {T = Placed} (Err e) new (placed_at pool p)
     → in_front front (placed_to_end (count - i) pool p) ≡ total → FaultIs e total
 unfolding placed_to_end
 ends OutOfMemory new front count i pool p total lt inside h so_far = tt

@@ -1,8 +1,6 @@
 -- A code in its canonical spelling, or the limit that it passes (JVMS 4.7.3, 4.9.1).
-use Rattle.std.specs.Prelude.{◌≡◌, ℕ, ◌^◌, ◌<◌, ℤ, pos, negsuc, true, false, List, [], length, take, nat_le}
+use Rattle.std.specs.Prelude.{◌≡◌, ℕ, ◌^◌, ◌<◌, ℤ, pos, negsuc, true, false, List, length, take, nat_le}
 use Rattle.std.specs.Prelude.{if◌then◌else◌, Option, Some, None, Result, Ok}
-use Rattle.std.specs.Int.{w32, cast_unsigned}
-use Rattle.jv_base.specs.Outcome.{◌>>=◌}
 use Rattle.class_model.specs.declared.limit.WriteLimit.{WriteLimit}
 use Rattle.class_model.specs.declared.limit.WriteLimit.TheVariants.{CodeTooLong}
 use Rattle.class_model.specs.declared.op.Op.{Op}
@@ -11,12 +9,12 @@ use Rattle.class_model.specs.declared.code.Ins.{Ins}
 use Rattle.class_model.specs.declared.constant.PoolConstant.{PoolConstant}
 use Rattle.class_model.specs.declared.constant.PoolConstant.TheVariants.{Integer, Long, Str}
 use Rattle.class_model.specs.CanonicalPool.{class_constant, type_name, fieldref, methodref, index_of}
-use Rattle.class_model.specs.CanonicalCode.{is_short, is_lconst, far, places, code_bytes}
+use Rattle.class_model.specs.CanonicalCode.{is_short, is_lconst, places, code_bytes}
 use Rattle.class_model.specs.Between.{int_between}
-use Rattle.class_model.specs.InstructionStructure.{Info, Ldc, LdcWide, MatchOffset}
-use Rattle.class_model.specs.declared.op.Case.{Case}
+use Rattle.class_model.specs.InstructionStructure.{Info, Ldc, LdcWide}
 use Rattle.class_model.specs.WriteLimits.{fits_u2, branches_fit}
-use Rattle.jv_ops.specs.declared.encoding.Coded.{Coded}
+use Rattle.jv_ops.specs.declared.writing.encoding.Coded.{Coded}
+use Rattle.jv_base.specs.Outcome.{◌>>=◌}
 
 -- the places of the instructions of a code that isn't too long, and behind them its length (JVMS 4.7.3)
 unfoldable pub placed : List PoolConstant → List Ins → Result (List ℕ) WriteLimit
@@ -64,7 +62,3 @@ HasIndices pool _ = Unit {0}
 abbrev pub IsNear : (ℕ → ℤ) → Option ℕ → Type 0
 IsNear distance (Some to) = int_between (negsuc 32767) (pos 32767) (distance to) ≡ true
 IsNear distance None = Unit {0}
-
--- a case of a lookupswitch as it is written (only the proof of encode_with needs it)
-abbrev pub match_of : (ℕ → ℕ) → ℕ → Case → MatchOffset
-match_of place at c = record { key = cast_unsigned w32 c.key; offset = far [] place at c.to }

@@ -8,7 +8,7 @@ use Rattle.class_model.specs.declared.pool.Entry.{Entry}
 use Rattle.class_model.specs.declared.pool.Entry.TheVariants as entry
 use Rattle.class_model.specs.Pool.{units_at, class_units_at}
 use Rattle.class_model.specs.ConstantPool.{name_and_type_at}
-use Rattle.jv_ops.specs.declared.said.Member.{Member}
+use Rattle.jv_ops.specs.declared.writing.said.Member.{Member}
 
 -- an entry that says nothing here is told as the second index of a Long, which no instruction names
 -- (the project's own: each index has a constant)

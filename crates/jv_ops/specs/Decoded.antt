@@ -13,10 +13,10 @@ use Rattle.class_model.specs.InstructionMeaning.{aim_at}
 use Rattle.class_model.specs.InstructionStructure.{Info, info_bytes, starts_of}
 use Rattle.class_model.specs.Instructions.{IsOp, Begins, IsLeftOutCode}
 use Rattle.class_model.specs.ReadingCode.{CodeRead, instructions, has_left_out, left_out_kind, code_read, ops_of}
-use Rattle.jv_ops.specs.declared.decoding.Decoded.{Decoded}
+use Rattle.jv_ops.specs.declared.reading.decoding.Decoded.{Decoded}
 use Rattle.jv_ops.specs.declared.fault.CodeFault.{CodeFault}
 use Rattle.jv_ops.specs.declared.fault.CodeFault.TheVariants as code
-use Rattle.jv_ops.specs.declared.unaimed.Placed.{Placed}
+use Rattle.jv_ops.specs.declared.reading.unaimed.Placed.{Placed}
 use Rattle.jv_ops.specs.Decoding.{placed_to_end}
 use Rattle.jv_ops.specs.Fault.{code_fault, wrong_of}
 use Rattle.jv_ops.specs.Targets.{collected, placed_aimed, starts_of as starts_placed}

@@ -5,10 +5,10 @@ use Rattle.class_model.specs.declared.pool.Entry.{Entry}
 use Rattle.class_model.specs.ReadingCode.{read_instruction}
 use Rattle.jv_ops.specs.declared.fault.CodeFault.{CodeFault}
 use Rattle.jv_ops.specs.declared.fault.Wrong.{Wrong}
-use Rattle.jv_ops.specs.declared.unaimed.Placed.{Placed}
-use Rattle.jv_ops.specs.declared.unaimed.Unaimed.{Unaimed}
+use Rattle.jv_ops.specs.declared.reading.unaimed.Placed.{Placed}
+use Rattle.jv_ops.specs.declared.reading.unaimed.Unaimed.{Unaimed}
 use Rattle.jv_ops.specs.Fault.{code_fault}
-use Rattle.jv_ops.specs.Meaning.{meant}
+use Rattle.jv_ops.specs.Meaning.{meaning_of_read}
 
 -- ---- one instruction
 
@@ -19,7 +19,7 @@ at_offset at (Err w) = Err (code_fault at w)
 
 -- the instruction that begins at a place of a code (JVMS 6.5)
 unfoldable pub placed_at : List Entry → Place → Result (Placed × Place) CodeFault
-placed_at pool p = at_offset p.at (meant pool (read_instruction pool 0 p))
+placed_at pool p = at_offset p.at (meaning_of_read pool (read_instruction pool 0 p))
 
 -- ---- all of them
 

@@ -6,4 +6,5 @@ pub mod Decoded
 pub mod ReadBack
 pub mod Constants
 pub mod Coded
-pub mod Examples
+pub mod rows
+pub mod bodies

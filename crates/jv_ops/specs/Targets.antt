@@ -1,42 +1,22 @@
 -- The targets of instructions, as their numbers (JVMS 4.9.1).
-use Rattle.std.specs.Prelude.{ℕ, ℤ, pos, negsuc, List, [], ◌∷◌, map, slice_get, nat_eq, if◌then◌else◌, Option, Some}
-use Rattle.std.specs.Prelude.{None, Result, Ok, Err}
+use Rattle.std.specs.Prelude.{ℕ, ℤ, List, [], ◌∷◌, map}
+use Rattle.std.specs.Prelude.{Result, Ok, Err}
 use Rattle.std.specs.Int.{w32, cast_signed}
-use Rattle.jv_base.specs.Outcome.{◌>>=◌}
 use Rattle.format_reading.specs.declared.fault.FormatKind.{FormatKind}
-use Rattle.format_reading.specs.declared.fault.FormatKind.TheVariants as bad
 use Rattle.class_model.specs.declared.op.Case.{Case}
 use Rattle.class_model.specs.declared.op.Op.{Op}
 use Rattle.class_model.specs.declared.op.Op.TheVariants as op
-use Rattle.class_model.specs.Lookups.{due}
 use Rattle.class_model.specs.Opcodes.{branch_op}
-use Rattle.class_model.specs.InstructionMeaning.{branch, aimed, or_else}
+use Rattle.class_model.specs.InstructionMeaning.{branch, aimed}
 use Rattle.jv_ops.specs.declared.fault.CodeFault.{CodeFault}
 use Rattle.jv_ops.specs.declared.fault.CodeFault.TheVariants as code
-use Rattle.jv_ops.specs.declared.unaimed.Match.{Match}
-use Rattle.jv_ops.specs.declared.unaimed.Placed.{Placed}
-use Rattle.jv_ops.specs.declared.unaimed.Unaimed.{Unaimed}
-use Rattle.jv_ops.specs.declared.unaimed.Unaimed.TheVariants as unaimed
+use Rattle.jv_ops.specs.declared.reading.unaimed.Match.{Match}
+use Rattle.jv_ops.specs.declared.reading.unaimed.Placed.{Placed}
+use Rattle.jv_ops.specs.declared.reading.unaimed.Unaimed.{Unaimed}
+use Rattle.jv_ops.specs.declared.reading.unaimed.Unaimed.TheVariants as unaimed
+use Rattle.jv_base.specs.Outcome.{◌>>=◌}
 
 -- ---- the number of the instruction at each offset
-
--- an entry that may be missing, of a table that may end before (only the proof of decode_code needs it)
-abbrev pub if_there : Option (Option ℕ) → Option ℕ
-if_there (Some x) = x
-if_there None = None
-
--- what a table of the offsets has (only the proof of decode_code needs it)
-abbrev pub found : List (Option ℕ) → ℕ → Option ℕ
-found table offset = if_there (slice_get table offset)
-
--- the same with one more start, of which only the first counts (only the proof of decode_code needs it)
-abbrev pub noted : Option ℕ → ℕ → ℕ → ℕ → Option ℕ
-noted before start number offset = or_else before (if nat_eq offset start then Some number else None)
-
--- the number of the instruction at a target (only the proof of decode_code needs it)
-abbrev pub aim_in : List (Option ℕ) → ℤ → Result ℕ FormatKind
-aim_in table (pos offset) = due bad.BadTarget (found table offset)
-aim_in table (negsuc n) = Err bad.BadTarget
 
 -- where instructions begin (JVMS 4.7.3)
 abbrev pub starts_of : List Placed → List ℕ

@@ -1,7 +1,7 @@
 // What the definitions of the canonical spelling give for a few codes.
 //
 // Each clause is computed from the definitions. The codes are written out in specs/Examples.antt.
-ghost use Rattle.jv_ops.specs.Examples.{AreOnMembers, AreOnTypes, AreNewArrays};
+ghost use Rattle.jv_ops.specs.rows.Examples.{AreOnMembers, AreOnTypes, AreNewArrays};
 
 /// Carries what the definitions give for a few codes. It does nothing.
 pub fn computed_codes()

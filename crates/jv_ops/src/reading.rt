@@ -1,18 +1,25 @@
 // The instructions of a code, read from left to right (JVMS 4.9.1).
 ghost use Rattle.std.specs.Prelude.{◌≡◌, ◌≤◌, length, IfOk};
 ghost use Rattle.jv_base.specs.Outcome.{IsDue};
-ghost use Rattle.jv_ops.specs.Fault.{MovesOr};
+ghost use Rattle.format_reading.specs.Reader.{ReadsOr};
 ghost use Rattle.jv_ops.specs.Decoding.{placed_at, placed_to_end};
 
+pub mod decoding;
+pub mod instruction;
+pub mod lookups;
+pub mod opcodes;
+pub mod targets;
+pub mod unaimed;
+
 use crate::fault::{CodeFault, code_fault};
-use crate::instruction::begun;
-use crate::unaimed::Placed;
+use crate::reading::instruction::begun;
+use crate::reading::unaimed::Placed;
 use jv_base::{Cursor, Items, Or};
 use known_pool::KnownPool;
 use std::alloc::Global;
 
 fn placed_at(alloc: Global, pool: &KnownPool, cursor: &mut Cursor) -> Result<Placed, Or<CodeFault>>
-    ensures { MovesOr result cursor.new (placed_at pool.now cursor.old) }
+    ensures { ReadsOr result cursor.new (placed_at pool.now cursor.old) }
 {
     let at = cursor.place();
     let Ok(opcode) = cursor.u1() else {

@@ -12,9 +12,24 @@ ghost use Rattle.class_model.specs.CanonicalPool as pools;
 ghost use Rattle.class_model.specs.CanonicalCode as canonical;
 ghost use Rattle.class_model.specs.WellFormed.{IsGoodOp, HasFewWords};
 ghost use Rattle.class_model.specs.WriteLimits.{branch_to};
-ghost use Rattle.jv_ops.specs.Coded.{HasIndex, HasIndices, IsNear, load_info, match_of};
+ghost use Rattle.jv_ops.specs.Coded.{HasIndex, HasIndices, IsNear, load_info};
+ghost use Rattle.jv_ops.specs.bodies.Coded.{match_of};
 
-use crate::sizes::{is_lconst, is_short, padding};
+pub mod constants;
+pub mod encoding;
+pub mod said;
+pub mod sizes;
+
+use crate::writing::sizes::{is_lconst, is_short, padding};
+use class_model::opcode::{
+    NOP, ACONST_NULL, LCONST_0, BIPUSH, SIPUSH, LDC, LDC_W, LDC2_W, ILOAD, ILOAD_0, IALOAD,
+    ISTORE, ISTORE_0, IASTORE, POP, POP2, DUP, DUP_X1, DUP_X2, DUP2, DUP2_X1, DUP2_X2, SWAP,
+    IADD, ISUB, IMUL, IDIV, IREM, INEG, ISHL, ISHR, IUSHR, IAND, IOR, IXOR, IINC, I2L, L2I, I2B,
+    I2C, I2S, LCMP, IFEQ, IF_ICMPEQ, IF_ACMPEQ, IF_ACMPNE, GOTO, TABLESWITCH, LOOKUPSWITCH,
+    IRETURN, RETURN, GETSTATIC, PUTSTATIC, GETFIELD, PUTFIELD, INVOKEVIRTUAL, INVOKESPECIAL,
+    INVOKESTATIC, INVOKEINTERFACE, NEW, NEWARRAY, ANEWARRAY, ARRAYLENGTH, ATHROW, CHECKCAST,
+    INSTANCEOF, WIDE, MULTIANEWARRAY, IFNULL, IFNONNULL,
+};
 use class_model::{ArithOp, Case, Cond, ConvOp, Elem, Kind, LogicOp, MemberRef, Num, Op, ShiftOp};
 use constant_table::{ConstantTable, put, put_u4};
 use jv_base::{Base, FieldType, M, Name, Units};
@@ -78,11 +93,11 @@ fn arith_opcode(arith: ArithOp) -> u8
     ensures most { result < 128 }
 {
     match arith {
-        ArithOp::Add => 0x60,
-        ArithOp::Sub => 0x64,
-        ArithOp::Mul => 0x68,
-        ArithOp::Div => 0x6C,
-        ArithOp::Rem => 0x70,
+        ArithOp::Add => IADD,
+        ArithOp::Sub => ISUB,
+        ArithOp::Mul => IMUL,
+        ArithOp::Div => IDIV,
+        ArithOp::Rem => IREM,
     }
 }
 
@@ -91,9 +106,9 @@ fn shift_opcode(shift: ShiftOp) -> u8
     ensures most { result < 128 }
 {
     match shift {
-        ShiftOp::Shl => 0x78,
-        ShiftOp::Shr => 0x7A,
-        ShiftOp::Ushr => 0x7C,
+        ShiftOp::Shl => ISHL,
+        ShiftOp::Shr => ISHR,
+        ShiftOp::Ushr => IUSHR,
     }
 }
 
@@ -102,9 +117,9 @@ fn logic_opcode(logic: LogicOp) -> u8
     ensures most { result < 254 }
 {
     match logic {
-        LogicOp::And => 0x7E,
-        LogicOp::Or => 0x80,
-        LogicOp::Xor => 0x82,
+        LogicOp::And => IAND,
+        LogicOp::Or => IOR,
+        LogicOp::Xor => IXOR,
     }
 }
 
@@ -112,11 +127,11 @@ fn conv_opcode(conv: ConvOp) -> u8
     ensures { result ≡ canonical.conv_opcode conv }
 {
     match conv {
-        ConvOp::I2l => 0x85,
-        ConvOp::L2i => 0x88,
-        ConvOp::I2b => 0x91,
-        ConvOp::I2c => 0x92,
-        ConvOp::I2s => 0x93,
+        ConvOp::I2l => I2L,
+        ConvOp::L2i => L2I,
+        ConvOp::I2b => I2B,
+        ConvOp::I2c => I2C,
+        ConvOp::I2s => I2S,
     }
 }
 
@@ -124,8 +139,8 @@ fn return_opcode(kind: Option<Kind>) -> u8
     ensures { result ≡ canonical.return_opcode kind }
 {
     match kind {
-        Some(kind) => 0xAC + kind_number(kind),
-        None => 0xB1,
+        Some(kind) => IRETURN + kind_number(kind),
+        None => RETURN,
     }
 }
 
@@ -170,9 +185,9 @@ fn put_load(index: usize, out: &mut Vec<u8>) -> M<()>
     ensures { OnOk result (out.new.items ≡ out.old.items ++ info_bytes (load_info index)) }
 {
     if index <= 255 {
-        put(out, &[0x12, index as u8])
+        put(out, &[LDC, index as u8])
     } else {
-        put_with_u2(out, 0x13, index as u16)
+        put_with_u2(out, LDC_W, index as u16)
     }
 }
 
@@ -183,9 +198,9 @@ fn put_push_int(table: &ConstantTable, number: i32, out: &mut Vec<u8>) -> M<()>
     if -1 <= number && number <= 5 {
         put(out, &[(number + 3) as u8])
     } else if -128 <= number && number <= 127 {
-        put(out, &[0x10, (number as i8).cast_unsigned()])
+        put(out, &[BIPUSH, (number as i8).cast_unsigned()])
     } else if is_short(number) {
-        put_with_u2(out, 0x11, (number as i16).cast_unsigned())
+        put_with_u2(out, SIPUSH, (number as i16).cast_unsigned())
     } else {
         put_load(table.int_index(number), out)
     }
@@ -196,15 +211,16 @@ fn put_push_long(table: &ConstantTable, number: i64, out: &mut Vec<u8>) -> M<()>
     ensures { OnOk result (out.new.items ≡ out.old.items ++ info_bytes (canonical.push_long table.now number)) }
 {
     if is_lconst(number) {
-        put(out, &[0x09 + number as u8])
+        put(out, &[LCONST_0 + number as u8])
     } else {
-        put_index(0x14, table.long_index(number), out)
+        put_index(LDC2_W, table.long_index(number), out)
     }
 }
 
 fn put_push_text(table: &ConstantTable, text: &Units, out: &mut Vec<u8>) -> M<()>
     requires { HasIndex table.now (PoolConstant.Str text.now) }
-    ensures { OnOk result (out.new.items ≡ out.old.items ++ info_bytes (canonical.load_constant table.now (PoolConstant.Str text.now))) }
+    ensures { OnOk result (out.new.items ≡ out.old.items
+        ++ info_bytes (canonical.load_constant table.now (PoolConstant.Str text.now))) }
 {
     put_load(table.string_index(text), out)
 }
@@ -224,7 +240,7 @@ fn put_slot(opcode: u8, first: u8, kind: Kind, slot: u16, out: &mut Vec<u8>) -> 
     } else if slot < 256 {
         put(out, &[opcode + kind, slot as u8])
     } else {
-        put(out, &[0xC4])?;
+        put(out, &[WIDE])?;
         put_with_u2(out, opcode + kind, slot)
     }
 }
@@ -233,10 +249,10 @@ fn put_increment(slot: u16, delta: i16, out: &mut Vec<u8>) -> M<()>
     ensures { OnOk result (out.new.items ≡ out.old.items ++ info_bytes (canonical.inc_info slot delta)) }
 {
     if slot < 256 && -128 <= delta && delta <= 127 {
-        put(out, &[0x84, slot as u8, (delta as i8).cast_unsigned()])
+        put(out, &[IINC, slot as u8, (delta as i8).cast_unsigned()])
     } else {
-        put(out, &[0xC4])?;
-        put_with_u2(out, 0x84, slot)?;
+        put(out, &[WIDE])?;
+        put_with_u2(out, IINC, slot)?;
         put(out, &delta.cast_unsigned().to_be_bytes())
     }
 }
@@ -253,8 +269,10 @@ pub fn distance(places: &[u32], at: u32, to: u32) -> i64
 
 fn put_branch(places: &[u32], at: u32, opcode: u8, to: u32, out: &mut Vec<u8>) -> M<()>
     requires target { to < length places.now }
-    requires near { int_between (negsuc 32767) (pos 32767) (canonical.distance [] (slice_index places.now) at to) ≡ true }
-    ensures { OnOk result (out.new.items ≡ out.old.items ++ opcode ∷ to_be_bytes w16 (cast_unsigned w16 (canonical.distance [] (slice_index places.now) at to))) }
+    requires near { int_between (negsuc 32767) (pos 32767) (canonical.distance [] (slice_index places.now) at to)
+        ≡ true }
+    ensures { OnOk result (out.new.items ≡ out.old.items ++ opcode
+        ∷ to_be_bytes w16 (cast_unsigned w16 (canonical.distance [] (slice_index places.now) at to))) }
 {
     let near = distance(places, at, to) as i16;
     put_with_u2(out, opcode, near.cast_unsigned())
@@ -265,7 +283,8 @@ fn put_far(places: &[u32], at: u32, to: u32, out: &mut Vec<u8>) -> M<()>
     requires target { to < length places.now }
     requires at { at < 2 ^ 16 }
     requires places { All (λ place. place < 2 ^ 16) places.now }
-    ensures { OnOk result (out.new.items ≡ out.old.items ++ to_be_bytes w32 (canonical.far [] (slice_index places.now) at to)) }
+    ensures { OnOk result (out.new.items ≡ out.old.items
+        ++ to_be_bytes w32 (canonical.far [] (slice_index places.now) at to)) }
 {
     let far = distance(places, at, to) as i32;
     put_u4(out, far.cast_unsigned())
@@ -278,7 +297,8 @@ fn put_switch(opcode: u8, places: &[u32], at: u32, other: u32, out: &mut Vec<u8>
     requires target { other < length places.now }
     requires at { at < 2 ^ 16 }
     requires places { All (λ place. place < 2 ^ 16) places.now }
-    ensures { OnOk result (out.new.items ≡ out.old.items ++ opcode ∷ (replicate (pad_length at) 0 ++ to_be_bytes w32 (canonical.far [] (slice_index places.now) at other))) }
+    ensures { OnOk result (out.new.items ≡ out.old.items ++ opcode
+        ∷ (replicate (pad_length at) 0 ++ to_be_bytes w32 (canonical.far [] (slice_index places.now) at other))) }
 {
     put(out, &[opcode])?;
     for _ in 0..padding(u64::from(at)) {
@@ -291,7 +311,8 @@ fn put_targets(places: &[u32], at: u32, cases: &[u32], out: &mut Vec<u8>) -> M<(
     requires targets { All (λ to. to < length places.now) cases.now }
     requires at { at < 2 ^ 16 }
     requires places { All (λ place. place < 2 ^ 16) places.now }
-    ensures { OnOk result (out.new.items ≡ out.old.items ++ flat_map (to_be_bytes w32) (map (canonical.far [] (slice_index places.now) at) cases.now)) }
+    ensures { OnOk result (out.new.items ≡ out.old.items
+        ++ flat_map (to_be_bytes w32) (map (canonical.far [] (slice_index places.now) at) cases.now)) }
 {
     for to in cases {
         put_far(places, at, *to, out)?;
@@ -313,7 +334,8 @@ fn put_matches(places: &[u32], at: u32, cases: &[Case], out: &mut Vec<u8>) -> M<
     requires targets { All (λ (case : Case). case.to < length places.now) cases.now }
     requires at { at < 2 ^ 16 }
     requires places { All (λ place. place < 2 ^ 16) places.now }
-    ensures { OnOk result (out.new.items ≡ out.old.items ++ flat_map match_offset (map (match_of (slice_index places.now) at) cases.now)) }
+    ensures { OnOk result (out.new.items ≡ out.old.items
+        ++ flat_map match_offset (map (match_of (slice_index places.now) at) cases.now)) }
 {
     for case in cases {
         put_match(places, at, *case, out)?;
@@ -335,7 +357,9 @@ fn high_key(low: i32, count: usize) -> u32
 fn put_keys(low: i32, count: usize, out: &mut Vec<u8>) -> M<()>
     requires least { 0 < count }
     requires most { (low +ℤ pos count) <ℤ pos (2 ^ 31 + 1) }
-    ensures { OnOk result (out.new.items ≡ out.old.items ++ (to_be_bytes w32 (cast_unsigned w32 low) ++ to_be_bytes w32 (cast_unsigned w32 (low +ℤ pos count -ℤ pos 1)))) }
+    ensures { OnOk result (out.new.items ≡ out.old.items
+        ++ (to_be_bytes w32 (cast_unsigned w32 low)
+            ++ to_be_bytes w32 (cast_unsigned w32 (low +ℤ pos count -ℤ pos 1)))) }
 {
     put_u4(out, low.cast_unsigned())?;
     put_u4(out, high_key(low, count))
@@ -355,9 +379,10 @@ fn put_table_switch(
     requires most { (low +ℤ pos (length cases.now)) <ℤ pos (2 ^ 31 + 1) }
     requires at { at < 2 ^ 16 }
     requires places { All (λ place. place < 2 ^ 16) places.now }
-    ensures { OnOk result (out.new.items ≡ out.old.items ++ info_bytes (canonical.op_info [] (slice_index places.now) at (Op.TableSwitch low other cases.now))) }
+    ensures { OnOk result (out.new.items ≡ out.old.items
+        ++ info_bytes (canonical.op_info [] (slice_index places.now) at (Op.TableSwitch low other cases.now))) }
 {
-    put_switch(0xAA, places, at, other, out)?;
+    put_switch(TABLESWITCH, places, at, other, out)?;
     put_keys(low, cases.len(), out)?;
     put_targets(places, at, cases, out)
 }
@@ -374,9 +399,10 @@ fn put_lookup_switch(
     requires count { length cases.now < 2 ^ 32 }
     requires at { at < 2 ^ 16 }
     requires places { All (λ place. place < 2 ^ 16) places.now }
-    ensures { OnOk result (out.new.items ≡ out.old.items ++ info_bytes (canonical.op_info [] (slice_index places.now) at (Op.LookupSwitch other cases.now))) }
+    ensures { OnOk result (out.new.items ≡ out.old.items
+        ++ info_bytes (canonical.op_info [] (slice_index places.now) at (Op.LookupSwitch other cases.now))) }
 {
-    put_switch(0xAB, places, at, other, out)?;
+    put_switch(LOOKUPSWITCH, places, at, other, out)?;
     put_u4(out, cases.len() as u32)?;
     put_matches(places, at, cases, out)
 }
@@ -391,7 +417,8 @@ fn put_field(
     out: &mut Vec<u8>,
 ) -> M<()>
     requires { HasIndex table.now (pools.fieldref field.now) }
-    ensures { OnOk result (out.new.items ≡ out.old.items ++ opcode ∷ to_be_bytes w16 (pools.index_of table.now (pools.fieldref field.now))) }
+    ensures { OnOk result (out.new.items ≡ out.old.items ++ opcode
+        ∷ to_be_bytes w16 (pools.index_of table.now (pools.fieldref field.now))) }
 {
     let index = table.field_index(alloc, field)?;
     put_with_u2(out, opcode, index as u16)
@@ -405,7 +432,8 @@ fn put_method(
     out: &mut Vec<u8>,
 ) -> M<()>
     requires { HasIndex table.now (pools.methodref method.now) }
-    ensures { OnOk result (out.new.items ≡ out.old.items ++ opcode ∷ to_be_bytes w16 (pools.index_of table.now (pools.methodref method.now))) }
+    ensures { OnOk result (out.new.items ≡ out.old.items ++ opcode
+        ∷ to_be_bytes w16 (pools.index_of table.now (pools.methodref method.now))) }
 {
     let index = table.method_index(alloc, method)?;
     put_with_u2(out, opcode, index as u16)
@@ -419,7 +447,8 @@ fn put_type(
     out: &mut Vec<u8>,
 ) -> M<()>
     requires { HasIndex table.now (pools.class_constant (pools.type_name ty.now)) }
-    ensures { OnOk result (out.new.items ≡ out.old.items ++ opcode ∷ to_be_bytes w16 (pools.index_of table.now (pools.class_constant (pools.type_name ty.now)))) }
+    ensures { OnOk result (out.new.items ≡ out.old.items ++ opcode
+        ∷ to_be_bytes w16 (pools.index_of table.now (pools.class_constant (pools.type_name ty.now)))) }
 {
     let index = table.type_index(alloc, ty)?;
     put_with_u2(out, opcode, index as u16)
@@ -427,10 +456,11 @@ fn put_type(
 
 fn put_new(alloc: Global, table: &ConstantTable, name: &Name, out: &mut Vec<u8>) -> M<()>
     requires { HasIndex table.now (pools.class_constant name.now) }
-    ensures { OnOk result (out.new.items ≡ out.old.items ++ 0xBB ∷ to_be_bytes w16 (pools.index_of table.now (pools.class_constant name.now))) }
+    ensures { OnOk result (out.new.items ≡ out.old.items ++ 0xBB
+        ∷ to_be_bytes w16 (pools.index_of table.now (pools.class_constant name.now))) }
 {
     let index = table.class_index(alloc, name)?;
-    put_with_u2(out, 0xBB, index as u16)
+    put_with_u2(out, NEW, index as u16)
 }
 
 // The argument words with the object's.
@@ -452,10 +482,12 @@ fn put_invoke_interface(
 ) -> M<()>
     requires index { HasIndex table.now (pools.methodref method.now) }
     requires words { HasFewWords (Op.InvokeInterface method.now) }
-    ensures { OnOk result (out.new.items ≡ out.old.items ++ 0xB9 ∷ (to_be_bytes w16 (pools.index_of table.now (pools.methodref method.now)) ++ unwrap_or (count_of method.now) 0 ∷ 0 ∷ [])) }
+    ensures { OnOk result (out.new.items ≡ out.old.items ++ 0xB9
+        ∷ (to_be_bytes w16 (pools.index_of table.now (pools.methodref method.now)) ++ unwrap_or (count_of method.now) 0
+            ∷ 0 ∷ [])) }
 {
     let count = count_byte(alloc, method)?;
-    put_method(alloc, table, 0xB9, method, out)?;
+    put_method(alloc, table, INVOKEINTERFACE, method, out)?;
     put(out, &[count, 0])
 }
 
@@ -467,9 +499,11 @@ fn put_multi_new_array(
     out: &mut Vec<u8>,
 ) -> M<()>
     requires { HasIndex table.now (pools.class_constant (pools.type_name ty.now)) }
-    ensures { OnOk result (out.new.items ≡ out.old.items ++ 0xC5 ∷ (to_be_bytes w16 (pools.index_of table.now (pools.class_constant (pools.type_name ty.now))) ++ dimensions ∷ [])) }
+    ensures { OnOk result (out.new.items ≡ out.old.items ++ 0xC5
+        ∷ (to_be_bytes w16 (pools.index_of table.now (pools.class_constant (pools.type_name ty.now))) ++ dimensions
+            ∷ [])) }
 {
-    put_type(alloc, table, 0xC5, ty, out)?;
+    put_type(alloc, table, MULTIANEWARRAY, ty, out)?;
     put(out, &[dimensions])
 }
 
@@ -492,45 +526,46 @@ pub fn put_op(
     requires at { at < 2 ^ 16 }
     requires places { All (λ place. place < 2 ^ 16) places.now }
     requires size { length (info_bytes (canonical.op_info table.now (slice_index places.now) at op.now)) < 2 ^ 16 }
-    ensures { OnOk result (out.new.items ≡ out.old.items ++ info_bytes (canonical.op_info table.now (slice_index places.now) at op.now)) }
+    ensures { OnOk result (out.new.items ≡ out.old.items
+        ++ info_bytes (canonical.op_info table.now (slice_index places.now) at op.now)) }
 {
     match op {
-        Op::Nop => put(out, &[0x00]),
-        Op::PushNull => put(out, &[0x01]),
+        Op::Nop => put(out, &[NOP]),
+        Op::PushNull => put(out, &[ACONST_NULL]),
         Op::PushInt(number) => put_push_int(table, *number, out),
         Op::PushLong(number) => put_push_long(table, *number, out),
         Op::PushText(text) => put_push_text(table, text, out),
-        Op::Load(kind, slot) => put_slot(0x15, 0x1A, *kind, *slot, out),
-        Op::Store(kind, slot) => put_slot(0x36, 0x3B, *kind, *slot, out),
+        Op::Load(kind, slot) => put_slot(ILOAD, ILOAD_0, *kind, *slot, out),
+        Op::Store(kind, slot) => put_slot(ISTORE, ISTORE_0, *kind, *slot, out),
         Op::Inc(slot, delta) => put_increment(*slot, *delta, out),
-        Op::ALoad(elem) => put(out, &[0x2E + elem_number(*elem)]),
-        Op::AStore(elem) => put(out, &[0x4F + elem_number(*elem)]),
-        Op::Pop => put(out, &[0x57]),
-        Op::Pop2 => put(out, &[0x58]),
-        Op::Dup => put(out, &[0x59]),
-        Op::DupX1 => put(out, &[0x5A]),
-        Op::DupX2 => put(out, &[0x5B]),
-        Op::Dup2 => put(out, &[0x5C]),
-        Op::Dup2X1 => put(out, &[0x5D]),
-        Op::Dup2X2 => put(out, &[0x5E]),
-        Op::Swap => put(out, &[0x5F]),
+        Op::ALoad(elem) => put(out, &[IALOAD + elem_number(*elem)]),
+        Op::AStore(elem) => put(out, &[IASTORE + elem_number(*elem)]),
+        Op::Pop => put(out, &[POP]),
+        Op::Pop2 => put(out, &[POP2]),
+        Op::Dup => put(out, &[DUP]),
+        Op::DupX1 => put(out, &[DUP_X1]),
+        Op::DupX2 => put(out, &[DUP_X2]),
+        Op::Dup2 => put(out, &[DUP2]),
+        Op::Dup2X1 => put(out, &[DUP2_X1]),
+        Op::Dup2X2 => put(out, &[DUP2_X2]),
+        Op::Swap => put(out, &[SWAP]),
         Op::Arith(arith, num) => put(out, &[arith_opcode(*arith) + num_number(*num)]),
-        Op::Neg(num) => put(out, &[0x74 + num_number(*num)]),
+        Op::Neg(num) => put(out, &[INEG + num_number(*num)]),
         Op::Shift(shift, num) => put(out, &[shift_opcode(*shift) + num_number(*num)]),
         Op::Logic(logic, num) => put(out, &[logic_opcode(*logic) + num_number(*num)]),
         Op::Conv(conv) => put(out, &[conv_opcode(*conv)]),
-        Op::LCmp => put(out, &[0x94]),
-        Op::IfZero(cond, to) => put_branch(places, at, 0x99 + cond_number(*cond), *to, out),
-        Op::IfCmp(cond, to) => put_branch(places, at, 0x9F + cond_number(*cond), *to, out),
-        Op::IfRef { eq, to } => put_branch(places, at, if *eq { 0xA5 } else { 0xA6 }, *to, out),
+        Op::LCmp => put(out, &[LCMP]),
+        Op::IfZero(cond, to) => put_branch(places, at, IFEQ + cond_number(*cond), *to, out),
+        Op::IfCmp(cond, to) => put_branch(places, at, IF_ICMPEQ + cond_number(*cond), *to, out),
+        Op::IfRef { eq, to } => put_branch(places, at, if *eq { IF_ACMPEQ } else { IF_ACMPNE }, *to, out),
         Op::IfNull { null, to } => put_branch(
             places,
             at,
-            if *null { 0xC6 } else { 0xC7 },
+            if *null { IFNULL } else { IFNONNULL },
             *to,
             out,
         ),
-        Op::Goto(to) => put_branch(places, at, 0xA7, *to, out),
+        Op::Goto(to) => put_branch(places, at, GOTO, *to, out),
         Op::TableSwitch { low, other, cases } => {
             put_table_switch(places, at, *low, *other, cases.as_slice(), out)
         }
@@ -538,21 +573,21 @@ pub fn put_op(
             put_lookup_switch(places, at, *other, cases.as_slice(), out)
         }
         Op::Return(kind) => put(out, &[return_opcode(*kind)]),
-        Op::GetStatic(field) => put_field(alloc, table, 0xB2, field, out),
-        Op::PutStatic(field) => put_field(alloc, table, 0xB3, field, out),
-        Op::GetField(field) => put_field(alloc, table, 0xB4, field, out),
-        Op::PutField(field) => put_field(alloc, table, 0xB5, field, out),
-        Op::InvokeVirtual(method) => put_method(alloc, table, 0xB6, method, out),
-        Op::InvokeSpecial(method) => put_method(alloc, table, 0xB7, method, out),
-        Op::InvokeStatic(method) => put_method(alloc, table, 0xB8, method, out),
+        Op::GetStatic(field) => put_field(alloc, table, GETSTATIC, field, out),
+        Op::PutStatic(field) => put_field(alloc, table, PUTSTATIC, field, out),
+        Op::GetField(field) => put_field(alloc, table, GETFIELD, field, out),
+        Op::PutField(field) => put_field(alloc, table, PUTFIELD, field, out),
+        Op::InvokeVirtual(method) => put_method(alloc, table, INVOKEVIRTUAL, method, out),
+        Op::InvokeSpecial(method) => put_method(alloc, table, INVOKESPECIAL, method, out),
+        Op::InvokeStatic(method) => put_method(alloc, table, INVOKESTATIC, method, out),
         Op::InvokeInterface(method) => put_invoke_interface(alloc, table, method, out),
         Op::New(name) => put_new(alloc, table, name, out),
-        Op::NewArray(base) => put(out, &[0xBC, array_type_code(base)]),
-        Op::ANewArray(ty) => put_type(alloc, table, 0xBD, ty, out),
-        Op::ArrayLength => put(out, &[0xBE]),
-        Op::Throw => put(out, &[0xBF]),
-        Op::CheckCast(ty) => put_type(alloc, table, 0xC0, ty, out),
-        Op::InstanceOf(ty) => put_type(alloc, table, 0xC1, ty, out),
+        Op::NewArray(base) => put(out, &[NEWARRAY, array_type_code(base)]),
+        Op::ANewArray(ty) => put_type(alloc, table, ANEWARRAY, ty, out),
+        Op::ArrayLength => put(out, &[ARRAYLENGTH]),
+        Op::Throw => put(out, &[ATHROW]),
+        Op::CheckCast(ty) => put_type(alloc, table, CHECKCAST, ty, out),
+        Op::InstanceOf(ty) => put_type(alloc, table, INSTANCEOF, ty, out),
         Op::MultiNewArray(ty, dimensions) => {
             put_multi_new_array(alloc, table, ty, *dimensions, out)
         }

@@ -3,7 +3,7 @@ ghost use Rattle.std.specs.Prelude.{◌≡◌, IfOk, map, option_and_then, optio
 ghost use Rattle.class_model.specs.Pool.{units_at, class_units_at};
 ghost use Rattle.class_model.specs.ConstantPool.{string_units_at, name_and_type_at};
 ghost use Rattle.class_model.specs.Lookups.{text_of, text_there, type_at, class_at, value_of};
-ghost use Rattle.known_pool.specs.Texts.{text_in};
+ghost use Rattle.known_pool.specs.bodies.Texts.{text_in};
 
 use crate::texts::{KnownText, known_text, text_of};
 use class_model::{Entry, Pool};
@@ -22,7 +22,7 @@ pub struct TextPool {
 impl Model for TextPool {
     ghost use Rattle.std.specs.Prelude.{List, map, ◌≡◌};
     ghost use Rattle.class_model.specs.declared.pool.Entry.{Entry};
-    ghost use Rattle.known_pool.specs.Texts.{text_in};
+    ghost use Rattle.known_pool.specs.bodies.Texts.{text_in};
 
     ghost Value = { List Entry };
 

@@ -2,7 +2,7 @@
 ghost use Rattle.std.specs.Prelude.{◌≡◌, IfOk, is_some, option_copied};
 ghost use Rattle.jv_base.specs.Names.{is_class_name, is_member_name, is_method_name};
 ghost use Rattle.class_model.specs.Lookups.{text_of, field_type_of, method_type_of, named_type};
-ghost use Rattle.known_pool.specs.Texts.{obeys};
+ghost use Rattle.known_pool.specs.bodies.Texts.{obeys};
 
 use crate::described::{DescribedField, DescribedMethod, described_field, described_method};
 use jv_base::{

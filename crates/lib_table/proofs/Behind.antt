@@ -9,7 +9,7 @@ use Rattle.jv_base.specs.Types.{field_text}
 use Rattle.std.specs.Cmp.Lexicographic.{pointwise}
 use Rattle.std.specs.Option.{option_and_then, option_map_or}
 use Rattle.jv_base.specs.Names.{is_text}
-use Rattle.lib_table.specs.Stripping.{behind}
+use Rattle.lib_table.specs.bodies.Stripping.{behind}
 
 one_more : {X : Type 0} (b p : Bool) (o : Option X) (x : X) → o ≡ cond p (Some x) None
     → cond b o None ≡ cond (b && p) (Some x) None

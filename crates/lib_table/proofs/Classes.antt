@@ -17,7 +17,7 @@ use Rattle.lib_table.specs.Library.{LibraryClass, LibraryMember, class, library}
 use Rattle.lib_table.specs.declared.class.LibKind.TheVariants.{Open}
 use Rattle.jv_base.specs.Names.{is_text}
 use Rattle.lib_table.specs.Lookups.{is_named, methods_told, member_told, class_at, class_named, interfaces_of}
-use Rattle.lib_table.specs.Rows.{told_class, told_member}
+use Rattle.lib_table.specs.bodies.Rows.{told_class, told_member}
 use Rattle.lib_table.proofs.Computed.{interfaces_there, few_members}
 use Rattle.std.proofs.lemmas.Bool.{and_parts}
 

@@ -1,4 +1,3 @@
 pub mod Library
-pub mod Rows
 pub mod Lookups
-pub mod Stripping
+pub mod bodies

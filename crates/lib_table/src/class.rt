@@ -4,7 +4,7 @@ ghost use Rattle.std.specs.List.{position};
 ghost use Rattle.jv_base.specs.Names.{is_text};
 ghost use Rattle.lib_table.specs.Library.{library};
 ghost use Rattle.lib_table.specs.Lookups.{class_at, class_named, interfaces_of, super_of};
-ghost use Rattle.lib_table.specs.Rows.{told_class};
+ghost use Rattle.lib_table.specs.bodies.Rows.{told_class};
 
 use crate::table::{ClassRow, classes};
 use jv_base::Name;

@@ -3,7 +3,7 @@ ghost use Rattle.std.specs.Prelude.{◌≡◌, ◌++◌, codes, option_copied, r
 ghost use Rattle.std.specs.List.{flat_map};
 ghost use Rattle.jv_base.specs.Names.{is_text};
 ghost use Rattle.jv_base.specs.Types.{base_text, field_text, method_text, result_text};
-ghost use Rattle.lib_table.specs.Stripping.{behind};
+ghost use Rattle.lib_table.specs.bodies.Stripping.{behind};
 
 use jv_base::{Base, FieldType, MethodType, Text};
 

@@ -7,7 +7,7 @@ ghost use Rattle.jv_base.specs.Names.{is_text};
 ghost use Rattle.jv_base.specs.Types.{method_text};
 ghost use Rattle.lib_table.specs.Lookups.{are_same_methods, class_at, is_method, is_named, member_named, member_told};
 ghost use Rattle.lib_table.specs.Lookups.{methods_told};
-ghost use Rattle.lib_table.specs.Rows.{told_member};
+ghost use Rattle.lib_table.specs.bodies.Rows.{told_member};
 
 use crate::LibId;
 use crate::class::row;
@@ -57,7 +57,8 @@ pub fn lib_member_at(id: LibId, at: u32) -> Option<LibMember>
 /// The member of a class with the name and the descriptor of another class's member, which is told
 /// by its number.
 pub fn lib_like(id: LibId, other: LibId, at: u32) -> Option<LibMember>
-    ensures { result ≡ option_and_then (λ m. member_named (class_at id).members m.name m.descriptor) (slice_get (class_at other).members at) }
+    ensures { result ≡ option_and_then (λ m. member_named (class_at id).members m.name m.descriptor)
+        (slice_get (class_at other).members at) }
 {
     let member = row(other).members.get(at as usize)?;
     row_of_member(row(id).members, member.name, member.descriptor)
@@ -108,7 +109,8 @@ pub fn lib_named(name: &Name, method: bool) -> bool
 }
 
 fn some_has_named(rows: &[ClassRow], name: &str, method: bool) -> bool
-    ensures { result ≡ list_any (λ row. list_any (λ m. beq m.is_method method && is_text m.name.now name.now) row.members.now) rows.now }
+    ensures { result ≡ list_any (λ row. list_any
+        (λ m. beq m.is_method method && is_text m.name.now name.now) row.members.now) rows.now }
 {
     rows.iter().any(|row| has_named(row.members, name, method))
 }

@@ -1,7 +1,7 @@
 // The classes of the library, row by row (JVMS 4.1, 4.5 and 4.6).
 ghost use Rattle.std.specs.Prelude.{◌≡◌, map};
 ghost use Rattle.lib_table.specs.Library.{library};
-ghost use Rattle.lib_table.specs.Rows.{told_class};
+ghost use Rattle.lib_table.specs.bodies.Rows.{told_class};
 
 use crate::{LibKind, Role};
 

@@ -13,7 +13,8 @@ use Rattle.class_pool.specs.Found.{IsMember, NameAndType, declared_by, is_abstra
 use Rattle.class_pool.specs.Resolution.{first, is_maximally_specific, is_open, is_subinterface, maximally_specific}
 use Rattle.class_pool.specs.Resolution.{only_one, superinterface_methods}
 use Rattle.class_pool.specs.Walk.{own_superinterfaces, same_class, superclasses_from, superinterfaces}
-use Rattle.link_check.specs.Walks.{candidates, each_superinterface, is_candidate, methods_met, superinterfaces_met}
+use Rattle.link_check.specs.bodies.Walks.{candidates, each_superinterface, is_candidate, methods_met}
+use Rattle.link_check.specs.bodies.Walks.{superinterfaces_met}
 use Rattle.link_check.proofs.Alike.{Alike, alike_any, alike_all, alike_filter, alike_filter_map, alike_first}
 use Rattle.link_check.proofs.Alike.{alike_flat_map, alike_once}
 use Rattle.class_pool.proofs.Declaring.{all_declared}

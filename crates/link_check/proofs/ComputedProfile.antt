@@ -7,12 +7,15 @@ use Rattle.jv_base.specs.Walk.{walk}
 use Rattle.lib_table.specs.Library.{library}
 use Rattle.class_pool.specs.Walk.{upwards, walked}
 use Rattle.link_check.specs.Profile.{least}
-use Rattle.link_check.specs.ProfileRows.{ResolvedFieldRows, ResolvedMethodRows, LibraryMethodRows, ResolvedArrayRows}
-use Rattle.link_check.specs.ProfileRows.{SupertypeRows, TypeRows, OperandRows, HandlerRows, FieldRows, CallRows}
-use Rattle.link_check.specs.ProfileRows.{LibraryCallRows, AccessRows, SpecialRows, InitRows, NewRows, ArrayCallRows}
-use Rattle.link_check.specs.ProfileRows.{FinalRows, OverridingRows, OverridingThroughRows, LibraryOverridingRows}
-use Rattle.link_check.specs.ProfileRows.{SuperinterfaceRows, ImplementingRows, InterfaceBodyRows, FlagRows, NotedRows}
-use Rattle.link_check.specs.ProfileRows.{FloatRows, SeveralRows}
+use Rattle.link_check.specs.rows.ProfileRows.{ResolvedFieldRows, ResolvedMethodRows, LibraryMethodRows}
+use Rattle.link_check.specs.rows.ProfileRows.{ResolvedArrayRows}
+use Rattle.link_check.specs.rows.ProfileRows.{SupertypeRows, TypeRows, OperandRows, HandlerRows, FieldRows, CallRows}
+use Rattle.link_check.specs.rows.ProfileRows.{LibraryCallRows, AccessRows, SpecialRows, InitRows, NewRows}
+use Rattle.link_check.specs.rows.ProfileRows.{ArrayCallRows}
+use Rattle.link_check.specs.rows.ProfileRows.{FinalRows, OverridingRows, OverridingThroughRows, LibraryOverridingRows}
+use Rattle.link_check.specs.rows.ProfileRows.{SuperinterfaceRows, ImplementingRows, InterfaceBodyRows, FlagRows}
+use Rattle.link_check.specs.rows.ProfileRows.{NotedRows}
+use Rattle.link_check.specs.rows.ProfileRows.{FloatRows, SeveralRows}
 
 pub resolved_fields : ResolvedFieldRows
 unfolding library upwards walked field_text base_text method_text result_text grown read_field read_method walk

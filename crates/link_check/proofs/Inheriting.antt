@@ -16,10 +16,11 @@ use Rattle.lib_table.proofs.Computed.{count}
 use Rattle.class_pool.specs.declared.id.ClassId.{ClassId}
 use Rattle.class_pool.specs.declared.id.ClassId.TheVariants.{Prog}
 use Rattle.class_pool.specs.declared.id.MemberAt.{MemberAt}
-use Rattle.class_pool.specs.Found.{MemberRow, declared_by, declared_in, field_row, is_final_member, is_instance_method}
+use Rattle.class_pool.specs.Found.{is_method_at, MemberRow, declared_by, declared_in, field_row, is_final_member}
+use Rattle.class_pool.specs.Found.{is_instance_method}
 use Rattle.class_pool.specs.Found.{method_row, named_at, role_at, row_at, rows_in}
 use Rattle.class_pool.specs.Hierarchy.{IsClass, superclass}
-use Rattle.class_pool.specs.Lists.{HasRanks}
+use Rattle.class_pool.specs.Ranks.{HasRanks}
 use Rattle.class_pool.specs.Resolution.{first, is_interface_in}
 use Rattle.class_pool.specs.Selection.{first_instance, overrides, overriding}
 use Rattle.class_pool.specs.Selection.{overriding_from}
@@ -27,13 +28,14 @@ use Rattle.class_pool.specs.Walk.{own_superinterfaces, same_class, superclasses_
 use Rattle.class_pool.proofs.Walking.{superclasses_next}
 use Rattle.link_check.specs.declared.fault.ProfileKind.{ProfileKind}
 use Rattle.link_check.specs.declared.fault.ProfileKind.TheVariants.{LeftOutMember, WrongKind}
-use Rattle.link_check.specs.declared.inherited.Known.{Known}
-use Rattle.link_check.specs.Inherited.{AreKnown, Fits, IsKnown, IsPlain, IsStart, has_final_method, running_kinds}
-use Rattle.link_check.specs.Inherited.{running_kinds_of, start_at}
+use Rattle.link_check.specs.declared.overriding.inherited.Known.{Known}
+use Rattle.link_check.specs.bodies.Inherited.{AreKnown, Fits, IsKnown, IsPlain, IsStart, has_final_method}
+use Rattle.link_check.specs.bodies.Inherited.{running_kinds}
+use Rattle.link_check.specs.bodies.Inherited.{running_kinds_of, start_at}
 use Rattle.link_check.specs.Links.{is_callable_role}
 use Rattle.link_check.specs.Profile.{least, may_be_overridden_role, methods_of, overridden_kinds, overriding_kinds}
 use Rattle.link_check.specs.Profile.{selected_kinds, unless}
-use Rattle.link_check.specs.Walks.{superclasses_up}
+use Rattle.link_check.specs.bodies.Walks.{superclasses_up}
 use Rattle.class_pool.proofs.Declaring.{superclass_there}
 use Rattle.link_check.proofs.Least.{least_empty}
 use Rattle.link_check.proofs.Likes.{like_is_method}
@@ -208,7 +210,7 @@ row_none (row ∷ rows) (suc i) is none = row_none rows i is (or_none (row.is_me
 
 final_none : (classes : List Class) (n : ℕ) (c : Class) (y : MemberAt) → slice_get classes n ≡ Some c
     → has_final_method c ≡ false → y.class ≡ Prog n
-    → option_map_or (λ row. row.is_method) (row_at classes y) false ≡ true → is_final_member classes y ≡ false
+    → is_method_at classes y ≡ true → is_final_member classes y ≡ false
 final_none classes n c y is none at method =
     let rows : List MemberRow = map field_row c.fields ++ map method_row c.methods in
     let e : row_at classes y ≡ slice_get rows y.index = ap (λ d. slice_get (rows_in classes d) y.index) at
@@ -232,7 +234,7 @@ none_if false xs none = refl
 
 plain_declared : (classes : List Class) (m : MemberAt) (n : ℕ) (c : Class) (o : Option MemberAt)
     → slice_get classes n ≡ Some c → has_final_method c ≡ false
-    → option_map_or (λ row. row.is_method) (row_at classes m) false ≡ true
+    → is_method_at classes m ≡ true
     → declared_in classes (named_at classes m) (Prog n) ≡ o
     → option_map_or (overridden_kinds classes m) o [] ≡ []
 plain_declared classes m n c None at none method is = refl
@@ -245,7 +247,7 @@ plain_declared classes m n c (Some y) at none method is =
     ∙ open_own y n class)
 
 plain_none : (classes : List Class) (m : MemberAt) (x : ClassId)
-    → option_map_or (λ row. row.is_method) (row_at classes m) false ≡ true → IsPlain classes x
+    → is_method_at classes m ≡ true → IsPlain classes x
     → overridden_in classes m x ≡ []
 plain_none classes m x method plain =
     ap (overridden_in classes m) plain.2
@@ -255,7 +257,7 @@ plain_none classes m x method plain =
 -- what a method overrides from where it begins to look is all that it overrides
 pub overridden_from : (classes : List Class) (m : MemberAt) (n : ℕ) (start : Option ClassId) → IsStart classes n start
     → m.class ≡ Prog n
-    → option_map_or (λ row. row.is_method) (row_at classes m) false ≡ true
+    → is_method_at classes m ≡ true
     → flat_map (overridden_in classes m) (superclasses_up classes start) ≡ overriding_kinds classes n m
 overridden_from classes m n start st own method =
     sym (flat_filter (overridden_kinds classes m) (declared_in classes (named_at classes m))

@@ -12,7 +12,7 @@ use Rattle.class_pool.specs.declared.id.ClassId.{ClassId}
 use Rattle.class_pool.specs.declared.id.ClassId.TheVariants.{Prog, Lib}
 use Rattle.class_pool.specs.Hierarchy.{IsClass, class_named, classes_named, interfaces}
 use Rattle.class_pool.specs.Walk.{each_once, own_superinterfaces, same_class, walked}
-use Rattle.link_check.specs.Walks.{each_superinterface, superinterfaces_of}
+use Rattle.link_check.specs.bodies.Walks.{each_superinterface, superinterfaces_of}
 use Rattle.class_pool.proofs.Declaring.{named_there}
 
 with_one : {X : Type 0} (P : X → Type 0) (o : Option X) (xs : List X) → IfSome o P → All P xs → All P (cons_option o xs)

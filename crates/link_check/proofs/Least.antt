@@ -117,6 +117,20 @@ least_more {X} f xs i x kind one new within is so_far here joined =
     ∙ ap (λ (ks : List ProfileKind). flat_map f (take i xs) ++ ks) (append-nil (f x))
     ))
 
+either_twice : (p t d s n m : Bool) → ((p || ((t || d) || s)) || (n || m)) ≡ ((p || ((t || d) || s)) || ((t || n) || m))
+either_twice true t d s n m = refl
+either_twice false true d s n m = refl
+either_twice false false d s n m = refl
+
+-- kinds that stand in the lists before add nothing
+pub least_again : (p t d s n m : List ProfileKind)
+    → least ((p ++ ((t ++ d) ++ s)) ++ (n ++ m)) ≡ least ((p ++ ((t ++ d) ++ s)) ++ ((t ++ n) ++ m))
+least_again p t d s n m = least_stands _ _ (λ k.
+    let any : List ProfileKind → Bool = λ kinds. stands kinds k in
+    let joined : (a b : List ProfileKind) → stands (a ++ b) k ≡ (stands a k || stands b k)
+    = λ a b. list_any-append (λ (other : ProfileKind). eqb (rank_of k) (rank_of other)) a b in
+    simp joined (either_twice (any p) (any t) (any d) (any s) (any n) (any m)))
+
 pub is_none : None ≡ least []
 is_none = sym least_none
 

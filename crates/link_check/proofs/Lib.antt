@@ -1,5 +1,6 @@
 mod FaultPlace
 mod First
+mod Frames
 mod Inheriting
 pub mod Least
 mod Likes

@@ -29,7 +29,8 @@ use Rattle.lib_table.proofs.Classes.{holds_at}
 use Rattle.class_pool.specs.declared.id.ClassId.{ClassId}
 use Rattle.class_pool.specs.declared.id.ClassId.TheVariants.{Prog, Lib}
 use Rattle.class_pool.specs.declared.id.MemberAt.{MemberAt}
-use Rattle.class_pool.specs.Found.{MemberRow, declared_in, field_row, library_row, method_row, named_at, row_at}
+use Rattle.class_pool.specs.Found.{is_method_at, MemberRow, declared_in, field_row, library_row, method_row, named_at}
+use Rattle.class_pool.specs.Found.{row_at}
 use Rattle.class_pool.specs.Found.{rows_in}
 use Rattle.class_pool.specs.Members.{declared_at, is_field, is_method, member_named, or_method}
 use Rattle.link_check.proofs.Methods.{at_method}
@@ -139,7 +140,7 @@ row_opens None agree h = absurd cc
 
 -- the descriptor of a method
 pub method_opens : (classes : List Class) (m : MemberAt)
-    → option_map_or (λ row. row.is_method) (row_at classes m) false ≡ true → opens (named_at classes m).1 ≡ true
+    → is_method_at classes m ≡ true → opens (named_at classes m).1 ≡ true
 method_opens classes m h = row_opens (row_at classes m)
     (λ row at. all_at agrees (rows_in classes m.class) m.index row (rows_agree classes m.class) at) h
 
@@ -169,10 +170,10 @@ class_declares : (classes : List Class) (n : ℕ) (c : Class) (name descriptor :
     → slice_get classes n ≡ Some c → opens descriptor ≡ true
     → position (is_field name descriptor) c.fields ≡ o → position (is_method name descriptor) c.methods ≡ p
     → option_map (λ (i : ℕ). length c.fields + i) p ≡ Some i → o ≡ None
-    → option_map_or (λ row. row.is_method) (row_at classes (record { class = Prog n; index = i })) false ≡ true
+    → is_method_at classes (record { class = Prog n; index = i }) ≡ true
 class_declares classes n c name descriptor o None i is begins fields methods at none = absurd cc
 class_declares classes n c name descriptor o (Some k) i is begins fields methods at none =
-    subst (λ (j : ℕ). option_map_or (λ row. row.is_method) (row_at classes (record { class = Prog n; index = j })) false
+    subst (λ (j : ℕ). is_method_at classes (record { class = Prog n; index = j })
     ≡ true) (same_Some (length c.fields + k) i at)
     (method_within classes n c name descriptor c.methods k refl is methods)
 
@@ -184,7 +185,7 @@ no_such_field classes n c name descriptor (Some k) begins at = absurd (no_field 
 of_class : (classes : List Class) (n : ℕ) (o : Option Class) (name descriptor : List ℕ) (i : ℕ)
     → slice_get classes n ≡ o → opens descriptor ≡ true
     → option_and_then (λ c. member_named c name descriptor) o ≡ Some i
-    → option_map_or (λ row. row.is_method) (row_at classes (record { class = Prog n; index = i })) false ≡ true
+    → is_method_at classes (record { class = Prog n; index = i }) ≡ true
 of_class classes n None name descriptor i is begins at = absurd cc
 of_class classes n (Some c) name descriptor i is begins at =
     let none : position (is_field name descriptor) c.fields
@@ -231,7 +232,7 @@ found_member name descriptor kind (m ∷ ms) n i begins all at =
 
 of_library : (classes : List Class) (id : ℕ) (name descriptor : List ℕ) (i : ℕ) → opens descriptor ≡ true
     → declared_at classes (Lib id) name descriptor ≡ Some i
-    → option_map_or (λ row. row.is_method) (row_at classes (record { class = Lib id; index = i })) false ≡ true
+    → is_method_at classes (record { class = Lib id; index = i }) ≡ true
 unfolding Found
 of_library classes id name descriptor i begins at =
     let f : Found (class_at id).kind (class_at id).members 0 i = found_member name descriptor (class_at id).kind
@@ -243,7 +244,7 @@ of_library classes id name descriptor i begins at =
 
 declares_method : (classes : List Class) (c : ClassId) (name descriptor : List ℕ) (i : ℕ) → opens descriptor ≡ true
     → declared_at classes c name descriptor ≡ Some i
-    → option_map_or (λ row. row.is_method) (row_at classes (record { class = c; index = i })) false ≡ true
+    → is_method_at classes (record { class = c; index = i }) ≡ true
 declares_method classes (Prog n) name descriptor i begins at = of_class classes n
     (slice_get classes n) name descriptor i refl begins at
 declares_method classes (Lib id) name descriptor i begins at = of_library classes id name descriptor i begins at
@@ -252,17 +253,17 @@ by_number : (classes : List Class) (c : ClassId) (o : Option ℕ) (a : MemberAt)
     → option_map (λ n. record { class = c; index = n }) o ≡ Some a
     → ((n : ℕ) → o ≡ Some n → option_map_or (λ row. row.is_method)
     (row_at classes (record { class = c; index = n })) false ≡ true)
-    → option_map_or (λ row. row.is_method) (row_at classes a) false ≡ true
+    → is_method_at classes a ≡ true
 by_number classes c (Some n) a at here =
-    subst (λ (b : MemberAt). option_map_or (λ row. row.is_method) (row_at classes b) false ≡ true)
+    subst (λ (b : MemberAt). is_method_at classes b ≡ true)
     (same_Some (record { class = c; index = n }) a at) (here n refl)
 by_number classes c None a at here = absurd cc
 
 -- what a class declares with the name and the descriptor of a method is a method
 pub like_is_method : (classes : List Class) (m a : MemberAt) (c : ClassId)
-    → option_map_or (λ row. row.is_method) (row_at classes m) false ≡ true
+    → is_method_at classes m ≡ true
     → declared_in classes (named_at classes m) c ≡ Some a
-    → option_map_or (λ row. row.is_method) (row_at classes a) false ≡ true
+    → is_method_at classes a ≡ true
 like_is_method classes m a c method at =
     by_number classes c (declared_at classes c (named_at classes m).0 (named_at classes m).1) a at
     (λ n here. declares_method classes c (named_at classes m).0 (named_at classes m).1 n

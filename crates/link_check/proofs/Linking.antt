@@ -14,7 +14,7 @@ use Rattle.class_pool.specs.Resolution.{is_class_accessible, is_interface_in, me
 use Rattle.link_check.specs.declared.fault.LinkKind.{LinkKind}
 use Rattle.link_check.specs.declared.fault.LinkKind.TheVariants.{Unresolved, Inaccessible}
 use Rattle.link_check.specs.Links.{linked, linked_method, of_array, of_class, through}
-use Rattle.link_check.specs.Walks.{class_linked}
+use Rattle.link_check.specs.bodies.Walks.{class_linked}
 
 accessible_found : (b : Bool) (d c : ClassId) (f : ClassId → Result MemberAt LinkKind)
     → ◌≡◌ {A = Result ClassId LinkKind} (cond b (Ok d) (Err Inaccessible)) (Ok c)

@@ -11,7 +11,8 @@ use Rattle.class_model.specs.declared.class.Class.{Class}
 use Rattle.class_model.specs.declared.class.Method.{Method}
 use Rattle.class_pool.specs.declared.id.ClassId.TheVariants.{Prog}
 use Rattle.class_pool.specs.declared.id.MemberAt.{MemberAt}
-use Rattle.class_pool.specs.Found.{MemberRow, field_row, is_instance_method, is_instance_row, method_row, row_at}
+use Rattle.class_pool.specs.Found.{is_method_at, MemberRow, field_row, is_instance_method, is_instance_row, method_row}
+use Rattle.class_pool.specs.Found.{row_at}
 use Rattle.class_pool.specs.Found.{rows_in}
 
 -- an instance method is a method
@@ -25,7 +26,7 @@ instance_row None h = h
 instance_row (Some row) h = first_true row.is_method _ _ h
 
 pub instance_is_method : (classes : List Class) (m : MemberAt) → is_instance_method classes m ≡ true
-    → option_map_or (λ row. row.is_method) (row_at classes m) false ≡ true
+    → is_method_at classes m ≡ true
 instance_is_method classes m h = instance_row (row_at classes m) h
 
 -- ---- the members of a program class

@@ -19,7 +19,8 @@ use Rattle.class_pool.specs.Members.{declared_at}
 use Rattle.class_pool.specs.Resolution.{first, is_class_below, is_interface_in}
 use Rattle.class_pool.specs.Selection.{may_be_overridden, may_override, overrides, overriding, with_nearest}
 use Rattle.class_pool.specs.Walk.{highest, same_class, superclasses_from, upwards}
-use Rattle.link_check.specs.Overriding.{alike_from, has_open_override, is_among, overrides_openly, overrides_where}
+use Rattle.link_check.specs.bodies.Overriding.{alike_from, has_open_override, is_among, overrides_openly}
+use Rattle.link_check.specs.bodies.Overriding.{overrides_where}
 use Rattle.class_pool.proofs.Declaring.{declared_named}
 use Rattle.link_check.proofs.Climbing.{upwards_step}
 use Rattle.std.proofs.lemmas.Option.{same_Some}

@@ -12,7 +12,7 @@ use Rattle.class_pool.specs.declared.id.MemberAt.{MemberAt}
 use Rattle.class_pool.specs.Found.{NameAndType, declared_by, declared_in}
 use Rattle.class_pool.specs.Resolution.{first, first_declared, is_open}
 use Rattle.class_pool.specs.Walk.{own_superinterfaces}
-use Rattle.link_check.specs.Walks.{each_superinterface, open_methods, superinterfaces_of}
+use Rattle.link_check.specs.bodies.Walks.{each_superinterface, open_methods, superinterfaces_of}
 use Rattle.link_check.proofs.Alike.{alike_filter_map, alike_first, alike_once}
 use Rattle.link_check.proofs.First.{first_append}
 

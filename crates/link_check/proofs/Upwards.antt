@@ -6,7 +6,7 @@ use Rattle.class_model.specs.declared.class.Class.{Class}
 use Rattle.class_pool.specs.declared.id.ClassId.{ClassId}
 use Rattle.class_pool.specs.declared.id.MemberAt.{MemberAt}
 use Rattle.class_pool.specs.Found.{NameAndType, declared_by, declared_in, named_at, same_member}
-use Rattle.link_check.specs.Overriding.{has_open_override, is_among, overrides_openly}
+use Rattle.link_check.specs.bodies.Overriding.{has_open_override, is_among, overrides_openly}
 
 -- ---- the first method on the way that passes a test
 

@@ -1,15 +1,19 @@
 // Which methods a method overrides (JVMS 5.4.5).
 ghost use Rattle.std.specs.Prelude.{◌≡◌, ◌↔◌, IsTrue, Some, false};
-ghost use Rattle.std.specs.Option.{option_map_or};
-ghost use Rattle.class_pool.specs.Found.{IsMember, declared_in, named_at, row_at};
+
+ghost use Rattle.class_pool.specs.Found.{IsMethod, IsMember, declared_in, named_at};
 ghost use Rattle.class_pool.specs.Hierarchy.{IsClass};
 ghost use Rattle.class_pool.specs.Resolution.{is_class_below};
 ghost use Rattle.class_pool.specs.Selection.{may_be_overridden, may_override, overrides};
-ghost use Rattle.link_check.specs.Overriding.{alike_from, has_open_override, is_among, overrides_openly};
+ghost use Rattle.link_check.specs.bodies.Overriding.{alike_from, has_open_override, is_among, overrides_openly};
 
-use crate::access::is_class_below;
-use crate::member_uses::is_same;
-use crate::supertypes::Superclasses;
+pub mod implemented;
+pub mod inherited;
+pub mod overridden;
+
+use crate::references::access::is_class_below;
+use crate::rules::member_uses::is_same;
+use crate::references::supertypes::Superclasses;
 use class_pool::{ClassId, ClassSet, MemberAt};
 
 /// Whether a method overrides one that its class or a superclass declares with its name and descriptor, or is it. Other
@@ -17,7 +21,7 @@ use class_pool::{ClassId, ClassSet, MemberAt};
 pub(crate) fn overrides_above(set: &ClassSet, m: &MemberAt, above: &MemberAt) -> bool
     requires one { IsMember set.now m.now }
     requires other { IsMember set.now above.now }
-    requires method { IsTrue (option_map_or (λ row. row.is_method) (row_at set.now above.now) false) }
+    requires method { IsMethod set.now above.now }
     requires own { declared_in set.now (named_at set.now m.now) m.now.class ≡ Some m.now }
     requires alike { declared_in set.now (named_at set.now m.now) above.now.class ≡ Some above.now }
     requires below { IsTrue (is_class_below set.now m.now.class above.now.class) }
@@ -32,7 +36,7 @@ pub(crate) fn overrides_above(set: &ClassSet, m: &MemberAt, above: &MemberAt) ->
 pub(crate) fn is_declared_from(set: &ClassSet, class: &ClassId, above: &MemberAt) -> bool
     requires class { IsClass set.now class.now }
     requires there { IsMember set.now above.now }
-    requires method { IsTrue (option_map_or (λ row. row.is_method) (row_at set.now above.now) false) }
+    requires method { IsMethod set.now above.now }
     ensures { result ≡ is_among above.now (alike_from set.now above.now class.now) }
 {
     is_first_like(set, above, above) && is_class_below(set, *class, above.class)
@@ -42,7 +46,7 @@ pub(crate) fn is_declared_from(set: &ClassSet, class: &ClassId, above: &MemberAt
 pub(crate) fn is_first_like(set: &ClassSet, m: &MemberAt, other: &MemberAt) -> bool
     requires one { IsMember set.now m.now }
     requires other { IsMember set.now other.now }
-    requires method { IsTrue (option_map_or (λ row. row.is_method) (row_at set.now other.now) false) }
+    requires method { IsMethod set.now other.now }
     ensures { IsTrue result ↔ (declared_in set.now (named_at set.now other.now) m.now.class ≡ Some m.now) }
 {
     match set.method_like(m.class, *other) {
@@ -86,7 +90,7 @@ fn overrides_openly(set: &ClassSet, m: &MemberAt, above: &MemberAt) -> bool
 pub(crate) fn has_open_override(set: &ClassSet, class: &ClassId, above: &MemberAt) -> bool
     requires class { IsClass set.now class.now }
     requires there { IsMember set.now above.now }
-    requires method { IsTrue (option_map_or (λ row. row.is_method) (row_at set.now above.now) false) }
+    requires method { IsMethod set.now above.now }
     ensures { result ≡ has_open_override set.now above.now (alike_from set.now above.now class.now) }
 {
     let mut opened = false;

@@ -2,12 +2,15 @@
 //
 // Each clause is computed from the definitions. The classes are written out in specs/ProfileRows.antt; what is told of
 // them follows from JVMS 4.10, 5.4.3 to 5.4.5 and 6.5. Not all of them could stand in one program.
-ghost use Rattle.link_check.specs.ProfileRows.{AccessRows, ArrayCallRows, CallRows, FieldRows, FinalRows, FlagRows};
-ghost use Rattle.link_check.specs.ProfileRows.{FloatRows, HandlerRows, ImplementingRows, InitRows, InterfaceBodyRows};
-ghost use Rattle.link_check.specs.ProfileRows.{LibraryCallRows, LibraryMethodRows, LibraryOverridingRows, NewRows};
-ghost use Rattle.link_check.specs.ProfileRows.{NotedRows, OperandRows, OverridingRows, OverridingThroughRows};
-ghost use Rattle.link_check.specs.ProfileRows.{ResolvedArrayRows, ResolvedFieldRows, ResolvedMethodRows, SeveralRows};
-ghost use Rattle.link_check.specs.ProfileRows.{SpecialRows, SuperinterfaceRows, SupertypeRows, TypeRows};
+ghost use Rattle.link_check.specs.rows.ProfileRows.{AccessRows, ArrayCallRows, CallRows, FieldRows, FinalRows};
+ghost use Rattle.link_check.specs.rows.ProfileRows.{FlagRows};
+ghost use Rattle.link_check.specs.rows.ProfileRows.{FloatRows, HandlerRows, ImplementingRows, InitRows};
+ghost use Rattle.link_check.specs.rows.ProfileRows.{InterfaceBodyRows};
+ghost use Rattle.link_check.specs.rows.ProfileRows.{LibraryCallRows, LibraryMethodRows, LibraryOverridingRows, NewRows};
+ghost use Rattle.link_check.specs.rows.ProfileRows.{NotedRows, OperandRows, OverridingRows, OverridingThroughRows};
+ghost use Rattle.link_check.specs.rows.ProfileRows.{ResolvedArrayRows, ResolvedFieldRows, ResolvedMethodRows};
+ghost use Rattle.link_check.specs.rows.ProfileRows.{SeveralRows};
+ghost use Rattle.link_check.specs.rows.ProfileRows.{SpecialRows, SuperinterfaceRows, SupertypeRows, TypeRows};
 
 /// Carries what the rules give for a few small sets of classes. It does nothing.
 pub fn computed_profile()

@@ -6,7 +6,7 @@ use Rattle.mark_core.specs.declared.system.System.{System}
 use Rattle.mark_core.specs.declared.system.Pair.{Pair}
 use Rattle.mark_core.specs.declared.plain.Worklist.{Worklist}
 use Rattle.mark_core.specs.Marks.{IsMarked, needs_of}
-use Rattle.mark_core.specs.Worklist.{Grows, IsDone}
+use Rattle.mark_core.specs.bodies.Worklist.{Grows, IsDone}
 
 pub grows_refl : (work : Worklist) → Grows work work
 grows_refl work = record { keeps = λ x has. has; waits = λ x w. w; fresh = λ x has. inl has; left = refl }

@@ -5,7 +5,7 @@ use Rattle.std.proofs.lemmas.Bool.{cases_eq}
 use Rattle.std.proofs.lemmas.List.{length_push, get_or_push, get_or_append_left}
 use Rattle.mark_core.specs.declared.system.System.{System}
 use Rattle.mark_core.specs.declared.pair_index.PairIndex.{PairIndex}
-use Rattle.mark_core.specs.PairIndex.{pair_at, item_at, front_of, link_of, IsIndexOf, LinksNext}
+use Rattle.mark_core.specs.bodies.PairIndex.{pair_at, item_at, front_of, link_of, IsIndexOf, LinksNext}
 
 pub first_place : (sys : System) (k : ℕ) → item_at sys (2 * k) ≡ (pair_at sys k).one
 first_place sys k =

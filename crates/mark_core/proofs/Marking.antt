@@ -8,7 +8,7 @@ use Rattle.std.proofs.lemmas.List.Sums.{sum_by-set}
 use Rattle.mark_core.specs.declared.system.System.{System}
 use Rattle.mark_core.specs.declared.plain.Worklist.{Worklist}
 use Rattle.mark_core.specs.Marks.{IsMarked, set_of}
-use Rattle.mark_core.specs.Worklist.{Has, Waits, IsSound, Grows}
+use Rattle.mark_core.specs.bodies.Worklist.{Has, Waits, IsSound, Grows}
 use Rattle.mark_core.proofs.Sets.{set_has, set_keeps, set_fresh}
 
 module _ (sys : System) (old new : Worklist) (x : ℕ) (sound : IsSound sys old) (lt : x < sys.n)

@@ -7,7 +7,7 @@ use Rattle.mark_core.specs.declared.system.System.{System}
 use Rattle.mark_core.specs.declared.system.Pair.{Pair}
 use Rattle.mark_core.specs.declared.plain.Worklist.{Worklist}
 use Rattle.mark_core.specs.Marks.{Marks, needs_of, set_of}
-use Rattle.mark_core.specs.Worklist.{Has, Waits, IsSound, Grows, IsDone, AllPairsDone, IsOpen}
+use Rattle.mark_core.specs.bodies.Worklist.{Has, Waits, IsSound, Grows, IsDone, AllPairsDone, IsOpen}
 
 -- x was popped from old, which left mid, and what it requires was marked, which gave new
 pub open_after : (sys : System) (old mid new : Worklist) (x : ℕ) → IsOpen sys old → mid.marks.items ≡ old.marks.items

@@ -6,8 +6,8 @@ use Rattle.mark_core.specs.declared.system.System.{System}
 use Rattle.mark_core.specs.declared.system.Pair.{Pair}
 use Rattle.mark_core.specs.declared.pair_index.PairIndex.{PairIndex}
 use Rattle.mark_core.specs.declared.plain.Worklist.{Worklist}
-use Rattle.mark_core.specs.PairIndex.{pair_at, item_at, front_of, link_of, IsIndexOf}
-use Rattle.mark_core.specs.Worklist.{Grows, IsDone, AllPairsDone}
+use Rattle.mark_core.specs.bodies.PairIndex.{pair_at, item_at, front_of, link_of, IsIndexOf}
+use Rattle.mark_core.specs.bodies.Worklist.{Grows, IsDone, AllPairsDone}
 use Rattle.mark_core.proofs.Growing.{done_grows}
 use Rattle.mark_core.proofs.Linking.{first_place, second_place}
 

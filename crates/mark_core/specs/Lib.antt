@@ -1,5 +1,4 @@
 pub mod Valid
 pub mod Marks
-pub mod PairIndex
-pub mod Worklist
 pub mod Ranks
+pub mod bodies

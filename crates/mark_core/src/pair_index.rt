@@ -2,7 +2,7 @@
 //!
 //! Pair `k` has the places `2 * k` for its item `one` and `2 * k + 1` for its item `two`.
 ghost use Rattle.std.specs.Prelude.{◌<◌, IfOk, OnOk, length};
-ghost use Rattle.mark_core.specs.PairIndex.{IsIndex, LinksNext};
+ghost use Rattle.mark_core.specs.bodies.PairIndex.{IsIndex, LinksNext};
 ghost use Rattle.mark_core.specs.Valid.{Valid};
 
 use crate::system::System;

@@ -3,9 +3,9 @@
 ghost use Rattle.std.specs.Prelude.{◌≡◌, ◌<◌, IfOk, OnOk, length};
 ghost use Rattle.std.specs.List.{All, Contains};
 ghost use Rattle.mark_core.specs.Marks.{IsMarked, Marks, needs_of};
-ghost use Rattle.mark_core.specs.PairIndex.{IsIndex};
+ghost use Rattle.mark_core.specs.bodies.PairIndex.{IsIndex};
 ghost use Rattle.mark_core.specs.Valid.{PairBelow, Valid};
-ghost use Rattle.mark_core.specs.Worklist.{AllPairsDone, Grows, Has, IsDone, IsOpen, IsSound};
+ghost use Rattle.mark_core.specs.bodies.Worklist.{AllPairsDone, Grows, Has, IsDone, IsOpen, IsSound};
 
 use crate::pair_index::{PairIndex, index_of};
 use crate::system::{Pair, System};

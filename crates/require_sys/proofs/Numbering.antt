@@ -19,7 +19,7 @@ use Rattle.class_pool.specs.declared.id.ClassId.TheVariants.{Prog}
 use Rattle.class_pool.specs.declared.id.MemberAt.{MemberAt}
 use Rattle.class_pool.specs.Items.{class_item, item_in, item_of}
 use Rattle.require_sys.specs.EarlySystem.{are_kept_anyway, class_needs, places_of_true}
-use Rattle.require_sys.specs.Starts.{AreStarts}
+use Rattle.require_sys.specs.bodies.Starts.{AreStarts}
 use Rattle.class_pool.proofs.ToldMembers.{rows_counted}
 
 -- one more element

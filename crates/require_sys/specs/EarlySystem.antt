@@ -50,26 +50,35 @@ asked_item classes a =
 abbrev pub seeds_of : List Class → List AskedMethod → List ℕ
 seeds_of classes asked = places_of_true 0 (flat_map are_kept_anyway classes) ++ filter_map (asked_item classes) asked
 
--- ---- needs
+-- ---- what is wanted
 
--- the item of a static method of the program that a reference means
-abbrev pub static_item : List Class → Result MemberAt LinkKind → Option ℕ
-static_item classes (Ok m) = if is_static_member classes m then item_of classes m else None
-static_item classes (Err kind) = None
+-- the static method that a reference means, where it means one
+abbrev pub static_method : List Class → Result MemberAt LinkKind → Option MemberAt
+static_method classes (Ok m) = if is_static_member classes m then Some m else None
+static_method classes (Err kind) = None
 
--- the item of the static method that an instruction in the class with this number calls (JVMS 6.5, invokestatic)
-unfoldable pub called_item : List Class → ℕ → Op → Option ℕ
-called_item classes n (op.InvokeStatic r) = static_item classes (resolved_method classes (Prog n) r)
-called_item classes n _ = None
+-- the static method that an instruction in the class with this number calls (JVMS 6.5, invokestatic)
+unfoldable pub called_method : List Class → ℕ → Op → Option MemberAt
+called_method classes n (op.InvokeStatic r) = static_method classes (resolved_method classes (Prog n) r)
+called_method classes n _ = None
 
 -- the instructions of a code, where there is one (JVMS 4.7.3)
 abbrev pub instructions_of : Option Code → List Ins
 instructions_of None = []
 instructions_of (Some code) = code.ins
 
--- a method needs the static methods that it calls
+-- a method wants the static methods that it calls
+abbrev pub method_wants : List Class → ℕ → Method → List MemberAt
+method_wants classes n m = filter_map (λ (i : Ins). called_method classes n i.op) (instructions_of m.code)
+
+-- ---- needs
+
+-- the items of what is wanted; what is of the library is no item, and is there in any case
+abbrev pub numbers : List Class → List MemberAt → List ℕ
+numbers classes wants = filter_map (item_of classes) wants
+
 abbrev pub method_needs : List Class → ℕ → Method → List ℕ
-method_needs classes n m = filter_map (λ (i : Ins). called_item classes n i.op) (instructions_of m.code)
+method_needs classes n m = numbers classes (method_wants classes n m)
 
 -- what each item of a class needs; the class and its fields need nothing
 abbrev pub class_needs : List Class → ℕ × Class → List (List ℕ)

@@ -1,2 +1,3 @@
 pub mod EarlySystem
-pub mod Starts
+pub mod Called
+pub mod bodies

@@ -3,8 +3,11 @@ ghost use Rattle.std.specs.Prelude.{◌≡◌, ◌<◌, ◌++◌, [], IfOk, IfSo
 ghost use Rattle.std.specs.List.{All, filter_map};
 ghost use Rattle.class_pool.specs.Count.{item_count};
 ghost use Rattle.class_pool.specs.Found.{IsMember};
-ghost use Rattle.require_sys.specs.EarlySystem.{called_item, class_needs, method_needs, needs_of, static_item};
-ghost use Rattle.require_sys.specs.Starts.{AreBelow};
+ghost use Rattle.std.specs.Option.{option_and_then};
+ghost use Rattle.class_pool.specs.Items.{item_of};
+ghost use Rattle.require_sys.specs.EarlySystem.{class_needs, method_needs, needs_of, static_method};
+ghost use Rattle.require_sys.specs.Called.{called_item};
+ghost use Rattle.require_sys.specs.bodies.Starts.{AreBelow};
 
 use crate::numbered::Numbered;
 use class_model::{Class, Ins, Method, Op};
@@ -85,7 +88,7 @@ fn called_items(alloc: Global, numbered: &Numbered, number: u32, ins: &[Ins]) ->
     Ok(items)
 }
 
-#[tactic(auto, unfolding(crate::specs::EarlySystem::called_item))]
+#[tactic(auto, unfolding(crate::specs::EarlySystem::called_method))]
 fn called_item(numbered: &Numbered, number: u32, op: &Op) -> Option<u32>
     requires { number < length numbered.now.set.now }
     ensures is { result ≡ called_item numbered.now.set.now number op.now }
@@ -103,7 +106,7 @@ fn called_item(numbered: &Numbered, number: u32, op: &Op) -> Option<u32>
 /// The item of what was resolved, if it is a static method of the program.
 fn static_item(numbered: &Numbered, resolved: Result<MemberAt, LinkKind>) -> Option<u32>
     requires { IfOk resolved (IsMember numbered.now.set.now) }
-    ensures is { result ≡ static_item numbered.now.set.now resolved }
+    ensures is { result ≡ option_and_then (item_of numbered.now.set.now) (static_method numbered.now.set.now resolved) }
     ensures below { IfSome result (λ x. x < item_count numbered.now.set.now) }
 {
     match &resolved {

@@ -3,7 +3,7 @@ ghost use Rattle.std.specs.Prelude.{◌≡◌, ◌<◌, IfOk, IfSome};
 ghost use Rattle.class_pool.specs.Count.{item_count};
 ghost use Rattle.class_pool.specs.Found.{IsMember};
 ghost use Rattle.class_pool.specs.Items.{item_of};
-ghost use Rattle.require_sys.specs.Starts.{AreStarts};
+ghost use Rattle.require_sys.specs.bodies.Starts.{AreStarts};
 
 use class_pool::{ClassId, ClassSet, MemberAt};
 use jv_base::{Items, M};

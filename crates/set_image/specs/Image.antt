@@ -11,7 +11,7 @@ use Rattle.class_pool.specs.declared.id.MemberAt.{MemberAt}
 use Rattle.class_pool.specs.Found.{NameAndType, declared_in, has_flag, is_abstract_member, is_instance_method}
 use Rattle.class_pool.specs.Found.{is_private_member, named_at, same_member, same_package}
 use Rattle.class_pool.specs.Hierarchy.{IsClass, class_named, interfaces, superclass}
-use Rattle.class_pool.specs.Lists.{HasRanks}
+use Rattle.class_pool.specs.Ranks.{HasRanks}
 use Rattle.class_pool.specs.Resolution.{is_interface_in, is_public_class, superinterface_methods}
 use Rattle.class_pool.specs.Selection.{may_be_overridden, selected}
 use Rattle.class_pool.specs.Supers.{is_below}

@@ -11,7 +11,7 @@ use Rattle.format_reading.specs.declared.fault.FormatFault.{FormatFault}
 use Rattle.class_model.specs.ReadingClass.{class_read}
 use Rattle.class_pool.specs.declared.fault.NamedClass.{NamedClass}
 use Rattle.set_read.specs.Accepted.{AreRead, IsClassFile, IsUnread, Spells}
-use Rattle.set_read.specs.Steps.{ReadsClass, ReadsFiles}
+use Rattle.set_read.specs.bodies.Steps.{ReadsClass, ReadsFiles}
 use Rattle.set_read.specs.declared.fault.SetFault.{SetFault}
 use Rattle.set_read.specs.declared.fault.SetFault.TheVariants.{Format, Rule}
 

@@ -1,5 +1,5 @@
 -- The same files are never taken as two sets, nor refused for two faults, nor both.
-use Rattle.std.proofs.Common.{◌≡◌, ⊎_elim, inl, inr, ℕ, ◌<◌, List, [], ◌∷◌, ◌++◌, slice_get}
+use Rattle.std.proofs.Common.{◌≡◌, ⊎_elim, inl, inr, ℕ, ◌+◌, ◌<◌, List, [], ◌∷◌, ◌++◌, length, slice_get}
 use Rattle.std.proofs.Common.{Option, Some, None, Result, Ok, Err, refl, sym, ap, subst, ◌∙◌, arith}
 use Rattle.std.specs.List.{AllByRecursion}
 use Rattle.std.proofs.lemmas.Bool.{cases_lt}
@@ -18,8 +18,11 @@ use Rattle.class_read.proofs.ClassLaw.{class_read-only, one_class}
 use Rattle.link_check.specs.Profile.{links_checked}
 use Rattle.link_check.specs.declared.fault.ProfileFault.{ProfileFault}
 use Rattle.report_text.specs.Spelled.{class_text, member_texts}
-use Rattle.set_read.specs.Accepted.{AreRead, BreaksRule, IsClassFile, IsUnread, NamesMember, NamesPlace, Spells}
-use Rattle.set_read.specs.Accepted.{named_pool_fault}
+use Rattle.type_verifier.proofs.SetLaw.{typed_set}
+use Rattle.type_verifier.specs.Verified.{AreTyped, set_verified}
+use Rattle.type_verifier.specs.declared.fault.TypeFault.{TypeFault}
+use Rattle.set_read.specs.Accepted.{AreRead, BreaksClassRule, BreaksRule, IsClassFile, IsUnread, NamesMember, NamesMethod}
+use Rattle.set_read.specs.Accepted.{NamesPlace, Spells, named_pool_fault}
 use Rattle.set_read.specs.OneSet.{IsOneFault, IsOneSet, NotBoth}
 use Rattle.set_read.specs.declared.fault.RuleFault.{RuleFault}
 use Rattle.set_read.specs.declared.fault.SetFault.{SetFault}
@@ -160,17 +163,37 @@ same_place classes fault one other h k =
     let kind : one.kind ≡ other.kind = h.kind ∙ sym k.kind in
     λ i. record { class = name i; member = member i; kind = kind i }
 
+same_method : (classes : List Class) (fault : TypeFault) (one other : RuleFault) → NamesMethod classes fault one
+    → NamesMethod classes fault other → one ≡ other
+same_method classes fault one other h k =
+    let class : h.class ≡ k.class = same_some (slice_get classes fault.class) h.class k.class h.there k.there in
+    let name : one.class ≡ other.class = h.name ∙ (ap class_text class ∙ sym k.name) in
+    let member : one.member ≡ other.member =
+    same_member k.class (Some (length k.class.fields + fault.method)) one.member other.member
+    (subst (λ (c : Class). NamesMember c (Some (length c.fields + fault.method)) one.member) class h.member) k.member in
+    let kind : one.kind ≡ other.kind = h.kind ∙ sym k.kind in
+    λ i. record { class = name i; member = member i; kind = kind i }
+
+-- a set breaks one rule for its classes first
+same_class_rule : (classes : List Class) (one other : RuleFault) → BreaksClassRule classes one
+    → BreaksClassRule classes other → one ≡ other
+same_class_rule classes one other (inl h) (inl k) =
+    let fault : h.0 ≡ k.0 = same_fault (links_checked classes) h.0 k.0 h.1 k.1 in
+    same_place classes k.0 one other (subst (λ (f : ProfileFault). NamesPlace classes f one) fault h.2) k.2
+same_class_rule classes one other (inl h) (inr k) = absurd (no_fault (links_checked classes) tt h.0 k.1 h.1)
+same_class_rule classes one other (inr h) (inl k) = absurd (no_fault (links_checked classes) tt k.0 h.1 k.1)
+same_class_rule classes one other (inr h) (inr k) =
+    let fault : h.0 ≡ k.0 = same_fault (set_verified classes) h.0 k.0 h.2 k.2 in
+    same_method classes k.0 one other (subst (λ (f : TypeFault). NamesMethod classes f one) fault h.3) k.3
+
 -- the classes break one rule first
 same_rule : (named : List NamedClass) (one other : RuleFault) → BreaksRule named one → BreaksRule named other
     → one ≡ other
 same_rule named one other (inl h) (inl k) = h.2
     ∙ (ap named_pool_fault (same_pool_fault named h.0 k.0 h.1 k.1) ∙ sym k.2)
-same_rule named one other (inl h) (inr k) = absurd (no_pool_fault named h.0 k.1.0 k.1.1 h.1)
-same_rule named one other (inr h) (inl k) = absurd (no_pool_fault named k.0 h.1.0 h.1.1 k.1)
-same_rule named one other (inr h) (inr k) =
-    let classes = classes_of named in
-    let fault : h.0 ≡ k.0 = same_fault (links_checked classes) h.0 k.0 h.2 k.2 in
-    same_place classes k.0 one other (subst (λ (f : ProfileFault). NamesPlace classes f one) fault h.3) k.3
+same_rule named one other (inl h) (inr k) = absurd (no_pool_fault named h.0 k.0.0 k.0.1 h.1)
+same_rule named one other (inr h) (inl k) = absurd (no_pool_fault named k.0 h.0.0 h.0.1 k.1)
+same_rule named one other (inr h) (inr k) = same_class_rule (classes_of named) one other h.1 k.1
 
 -- ---- the laws
 
@@ -185,15 +208,20 @@ one_fault files (Rule told) (Rule other) h k =
     let named : h.0 ≡ k.0 = same_classes files h.0 k.0 h.1 k.1 in
     ap Rule (same_rule k.0 told other (subst (λ (n : List NamedClass). BreaksRule n told) named h.2) k.2)
 
+class_rule_broken : (classes : List Class) (told : RuleFault) → links_checked classes ≡ Ok tt → AreTyped classes
+    → BreaksClassRule classes told → ⊥
+class_rule_broken classes told linked typed (inl h) = no_fault (links_checked classes) tt h.0 linked h.1
+class_rule_broken classes told linked typed (inr h) = no_fault (set_verified classes) tt h.0 (typed_set classes typed) h.2
+
 rule_broken : (named : List NamedClass) (told : RuleFault) → first_faults named ≡ Ok tt → NoCycle (classes_of named)
-    → links_checked (classes_of named) ≡ Ok tt → BreaksRule named told → ⊥
-rule_broken named told first acyclic linked (inl h) = no_pool_fault named h.0 first acyclic h.1
-rule_broken named told first acyclic linked (inr h) = no_fault (links_checked (classes_of named)) tt h.0 linked h.2
+    → links_checked (classes_of named) ≡ Ok tt → AreTyped (classes_of named) → BreaksRule named told → ⊥
+rule_broken named told first acyclic linked typed (inl h) = no_pool_fault named h.0 first acyclic h.1
+rule_broken named told first acyclic linked typed (inr h) = class_rule_broken (classes_of named) told linked typed h.1
 
 pub not_both : NotBoth
 not_both files classes (Format path fault) h k = not_unread files h.named path fault h.read k
 not_both files classes (Rule told) h k =
     let named : k.0 ≡ h.named = same_classes files k.0 h.named k.1 h.read in
     rule_broken h.named told h.first (subst NoCycle h.are h.acyclic)
-    (subst (λ (cs : List Class). links_checked cs ≡ Ok tt) h.are h.linked)
+    (subst (λ (cs : List Class). links_checked cs ≡ Ok tt) h.are h.linked) (subst AreTyped h.are h.typed)
     (subst (λ (n : List NamedClass). BreaksRule n told) named k.2)

@@ -10,7 +10,7 @@ use Rattle.class_write.specs.SpellingLaws.{IsWritable}
 use Rattle.class_pool.specs.Supertypes.{NoCycle}
 use Rattle.class_pool.specs.declared.fault.NamedClass.{NamedClass}
 use Rattle.set_read.specs.Accepted.{AreRead, Reads}
-use Rattle.set_read.specs.Steps.{Judges}
+use Rattle.set_read.specs.bodies.Steps.{Judges}
 use Rattle.set_read.specs.declared.fault.SetFault.{SetFault}
 use Rattle.set_read.specs.declared.fault.SetFault.TheVariants.{Format, Rule}
 use Rattle.set_read.proofs.Writable.{accepted_are_writable}
@@ -24,7 +24,8 @@ judged files named (Ok classes) read judges = record {
   are = judges.0.2;
   first = judges.0.0;
   acyclic = subst NoCycle (sym judges.0.2) judges.0.1;
-  linked = judges.1;
+  linked = judges.1.0;
+  typed = judges.1.1;
 }
 judged files named (Err (or.Fault (Format path fault))) read judges = absurd judges
 judged files named (Err (or.Fault (Rule told))) read judges = (named, read, judges)

@@ -1,5 +1,5 @@
 -- Which class files are taken as a set, and why others aren't (the project's own: which files the command takes).
-use Rattle.std.specs.Prelude.{◌≡◌, ◌⊎◌, ℕ, List, ◌∷◌, ◌++◌, slice_get, Option, Some, None, Result, Ok, Err}
+use Rattle.std.specs.Prelude.{◌≡◌, ◌⊎◌, ℕ, List, ◌∷◌, ◌++◌, slice_get, Option, Some, None, Result, Ok, Err, ◌+◌, length, codes}
 use Rattle.std.specs.List.{AllByRecursion, AllZip}
 use Rattle.jv_base.specs.External.{dotted}
 use Rattle.jv_base.specs.declared.outcome.Or.{Or}
@@ -18,6 +18,9 @@ use Rattle.link_check.specs.KindNames.{profile_name}
 use Rattle.link_check.specs.Profile.{links_checked}
 use Rattle.link_check.specs.declared.fault.ProfileFault.{ProfileFault}
 use Rattle.report_text.specs.Spelled.{class_text, member_texts}
+use Rattle.type_verifier.specs.KindNames.{type_name}
+use Rattle.type_verifier.specs.Verified.{AreTyped, set_verified}
+use Rattle.type_verifier.specs.declared.fault.TypeFault.{TypeFault}
 use Rattle.set_read.specs.declared.fault.RuleFault.{RuleFault}
 use Rattle.set_read.specs.declared.fault.RuleKind.{RuleKind}
 use Rattle.set_read.specs.declared.fault.RuleKind.TheVariants as rule
@@ -50,8 +53,8 @@ pub record IsUnread (files : List FileAt) (path : List ℕ) (fault : FormatFault
 
 -- ---- sets
 
--- the classes of the files: together they are a set (JVMS 4.1, 5.3.5), and it breaks no rule (JVMS 4.10, 5.4.3 to
--- 5.4.5)
+-- the classes of the files: together they are a set (JVMS 4.1, 5.3.5), it breaks no rule (JVMS 4.10, 5.4.3 to 5.4.5),
+-- and each method is typed (JVMS 4.10.1)
 pub record IsAccepted (files : List FileAt) (classes : List Class) : Type 0 where
   pub named : List NamedClass
   pub read : AreRead files named
@@ -59,6 +62,7 @@ pub record IsAccepted (files : List FileAt) (classes : List Class) : Type 0 wher
   pub first : first_faults named ≡ Ok tt
   pub acyclic : NoCycle classes
   pub linked : links_checked classes ≡ Ok tt
+  pub typed : AreTyped classes
 
 -- ---- why others aren't taken
 
@@ -66,6 +70,7 @@ pub record IsAccepted (files : List FileAt) (classes : List Class) : Type 0 wher
 abbrev pub rule_name : RuleKind → List ℕ
 rule_name (rule.Pool kind) = pool_name kind
 rule_name (rule.Profile kind) = profile_name kind
+rule_name (rule.Type kind) = codes "Type " ++ type_name kind
 
 -- classes that are no set: the class at fault, with its external name
 abbrev pub named_pool_fault : PoolFault → RuleFault
@@ -85,12 +90,26 @@ pub record NamesPlace (classes : List Class) (fault : ProfileFault) (told : Rule
   pub member : NamesMember class fault.member told.member
   pub kind : told.kind ≡ rule.Profile fault.kind
 
+-- a code that isn't typed: the class and the method, by their texts (methods are numbered behind the fields)
+pub record NamesMethod (classes : List Class) (fault : TypeFault) (told : RuleFault) : Type 0 where
+  pub class : Class
+  pub there : slice_get classes fault.class ≡ Some class
+  pub name : told.class ≡ class_text class
+  pub member : NamesMember class (Some (length class.fields + fault.method)) told.member
+  pub kind : told.kind ≡ rule.Type fault.kind
+
+-- the rule that a class of a set breaks: one for classes and references, or, where none is broken, a code isn't typed
+abbrev pub BreaksClassRule : List Class → RuleFault → Type 0
+BreaksClassRule classes told =
+    ((fault : ProfileFault) × (links_checked classes ≡ Err fault) × NamesPlace classes fault told)
+    ⊎ ((fault : TypeFault) × (links_checked classes ≡ Ok tt) × (set_verified classes ≡ Err fault)
+    × NamesMethod classes fault told)
+
 -- the rule that classes break: one of sets, or, where they are a set, one of those for its classes
 abbrev pub BreaksRule : List NamedClass → RuleFault → Type 0
 BreaksRule named told =
     ((fault : PoolFault) × Builds (Err (or.Fault fault)) named × (told ≡ named_pool_fault fault))
-    ⊎ ((fault : ProfileFault) × Builds (Ok (classes_of named)) named × (links_checked (classes_of named) ≡ Err fault)
-    × NamesPlace (classes_of named) fault told)
+    ⊎ (Builds (Ok (classes_of named)) named × BreaksClassRule (classes_of named) told)
 
 -- why files aren't taken
 abbrev pub IsFault : List FileAt → SetFault → Type 0

@@ -1,3 +1,3 @@
 pub mod Accepted
-pub mod Steps
 pub mod OneSet
+pub mod bodies

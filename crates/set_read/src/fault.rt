@@ -1,11 +1,13 @@
 // Why class files aren't taken.
-ghost use Rattle.std.specs.Prelude.{◌≡◌};
+ghost use Rattle.std.specs.Prelude.{◌≡◌, ◌++◌, codes};
 ghost use Rattle.set_read.specs.Accepted.{rule_name};
+ghost use Rattle.type_verifier.specs.KindNames.{type_name};
 
 use class_pool::PoolKind;
 use format_reading::FormatFault;
 use jv_base::Text;
 use link_check::ProfileKind;
+use type_verifier::TypeKind;
 
 /// Why files aren't taken as a set of classes.
 #[derive(Drop)]
@@ -33,6 +35,8 @@ pub enum RuleKind {
     Pool(PoolKind),
     /// One for the classes of a set.
     Profile(ProfileKind),
+    /// A code isn't typed.
+    Type(TypeKind),
 }
 
 impl RuleKind {
@@ -43,6 +47,23 @@ impl RuleKind {
         match self {
             RuleKind::Pool(kind) => kind.name(),
             RuleKind::Profile(kind) => kind.name(),
+            RuleKind::Type(kind) => type_rule_name(kind),
         }
+    }
+}
+
+fn type_rule_name(kind: TypeKind) -> &'static str
+    ensures { result.now ≡ codes "Type " ++ type_name kind }
+{
+    match kind {
+        TypeKind::NoFrame => "Type NoFrame",
+        TypeKind::Mismatch => "Type Mismatch",
+        TypeKind::Depth => "Type Depth",
+        TypeKind::Local => "Type Local",
+        TypeKind::Operand => "Type Operand",
+        TypeKind::Protected => "Type Protected",
+        TypeKind::Uninit => "Type Uninit",
+        TypeKind::Handler => "Type Handler",
+        TypeKind::FallsOff => "Type FallsOff",
     }
 }

@@ -10,7 +10,7 @@ use Rattle.class_model.specs.declared.class.Class.{Class}
 use Rattle.class_model.specs.declared.limit.WriteLimit.{WriteLimit}
 use Rattle.class_write.specs.SpellingLaws.{IsWritable}
 use Rattle.set_shrink.specs.ShrunkSet.{AreFilesOf, IsFileOf, Fits, PassLimit}
-use Rattle.set_shrink.specs.Steps.{Writes, WritesOne}
+use Rattle.set_shrink.specs.bodies.Steps.{Writes, WritesOne}
 
 -- a class that has a file fits
 files_fit : (directory : List ℕ) (classes : List Class) (files : List FileAt) → AreFilesOf directory classes files

@@ -1,4 +1,4 @@
 pub mod ShrunkSet
-pub mod Steps
 pub mod OneShrunk
 pub mod Writable
+pub mod bodies

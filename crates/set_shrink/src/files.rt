@@ -4,7 +4,7 @@ ghost use Rattle.std.specs.List.{AllByRecursion};
 ghost use Rattle.jv_base.specs.Outcome.{IsDue};
 ghost use Rattle.class_write.specs.SpellingLaws.{IsWritable};
 ghost use Rattle.set_shrink.specs.ShrunkSet.{path_of};
-ghost use Rattle.set_shrink.specs.Steps.{Writes, WritesOne};
+ghost use Rattle.set_shrink.specs.bodies.Steps.{Writes, WritesOne};
 
 use class_model::{Class, WriteLimit};
 use class_write::write_class;

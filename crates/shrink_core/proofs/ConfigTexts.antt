@@ -12,7 +12,7 @@ use Rattle.shrink_core.specs.declared.config.KeptMethod.{KeptMethod}
 use Rattle.shrink_core.specs.declared.config.Config.{Config}
 use Rattle.shrink_core.specs.Config.{line, Lacks, NamesDirectory, NamesFile, more_ints, ints_text, method_text}
 use Rattle.shrink_core.specs.Config.{methods_text, IsNamed, AreKept, lines_text, IsConfig}
-use Rattle.shrink_core.specs.ConfigParts.{BeginsSo, HasLines}
+use Rattle.shrink_core.specs.bodies.ConfigParts.{BeginsSo, HasLines}
 
 -- ---- texts
 
@@ -463,7 +463,8 @@ pub config_found : (text i o m k : List ℕ) → HasLines text i o m k → (inpu
     → input2 ≡ input → (output output2 : List ℕ) → NamesDirectory o output → output2 ≡ output
     → NamesFile m → (mapping : List ℕ) → mapping ≡ m → (methods : List KeptMethod) → AreKept k methods → IsUtf8 text
     → IsConfig text (record { input = input2; output = output2; mapping = mapping; methods = methods })
-config_found text i o m k lines input input2 reads is1 output output2 writes is2 file mapping is3 methods keeps encoded = record {
+config_found text i o m k lines input input2 reads is1 output output2 writes is2 file mapping is3 methods keeps encoded
+    = record {
   input = i;
   output = o;
   methods = k;

@@ -7,7 +7,7 @@ use Rattle.std.proofs.lemmas.List.Elements.{filter-append}
 use Rattle.tree_io.specs.Count.{Rose}
 use Rattle.tree_io.specs.Event.{wants_memory, without_memory}
 use Rattle.tree_io.specs.Files.{Files}
-use Rattle.tree_io.specs.Runs.{Made, memory_faults}
+use Rattle.tree_io.specs.Runs.{AddsCalls, memory_faults}
 use Rattle.tree_io.specs.declared.event.Event.{Event}
 use Rattle.tree_io.proofs.Runs.{made_so}
 use Rattle.shrink_core.specs.declared.shrink.Plan.{Plan}
@@ -17,13 +17,13 @@ use Rattle.shrink_core.specs.declared.refusal.Stop.{Stop}
 use Rattle.shrink_core.specs.declared.refusal.Stop.TheVariants.{Refused, Device, OutOfMemory}
 use Rattle.shrink_core.specs.Answer.{Ended, Ending, LeavesSo, Outside, Output, StopsSo, Writes}
 use Rattle.shrink_core.specs.Answer.{done, outside, status_of, stopped, summary_failed, summary_without_memory}
-use Rattle.shrink_core.specs.Steps.{Says, SaysLine, SaysSummary}
+use Rattle.shrink_core.specs.bodies.Steps.{Says, SaysLine, SaysSummary}
 use Rattle.shrink_core.proofs.Found.{no_plan, nothing_done}
 
 -- a run that wrote its files
 pub finished : (plan : Plan) (named : CommandFiles) (status : ℕ) (x y : Option Files) (f f2 : ℕ) (a b : List Event)
     (old new : Output)
-    → Made a b x y (Writes plan named) → SaysSummary plan.summary status old new
+    → AddsCalls a b x y (Writes plan named) → SaysSummary plan.summary status old new
     → (status ≡ 7 → Rose old.faults new.faults)
     → Ended (Some named) status (outside x f a old) (outside y f2 b new)
 finished plan named status x y f f2 a b old new left (inl said) rose =
@@ -35,20 +35,21 @@ finished plan named status x y f f2 a b old new left (inr (inr said)) rose =
 
 -- where there is no memory for the line of a refusal, the files are as they were all the same
 unsaid : (refusal : Refusal) (named : CommandFiles) (x y : Option Files) (a b : List Event)
-    → Made a b x y (StopsSo (Refused refusal) named) → Made a b x y (StopsSo OutOfMemory named)
+    → AddsCalls a b x y (StopsSo (Refused refusal) named) → AddsCalls a b x y (StopsSo OutOfMemory named)
 unsaid refusal named x y a b left = made_so (StopsSo (Refused refusal) named) (StopsSo OutOfMemory named) a b x y
     (λ calls p. inl p.unwritten) left
 
 -- a run that stopped before
 pub ended_before : (stop : Stop) (named : CommandFiles) (status : ℕ) (x y : Option Files) (f f2 : ℕ) (a b : List Event)
     (old new : Output)
-    → (IsErrOf (no_plan stop) Device → Rose f f2) → Made a b x y (StopsSo stop named)
+    → (IsErrOf (no_plan stop) Device → Rose f f2) → AddsCalls a b x y (StopsSo stop named)
     → Says named.config stop status old new
     → Ended (Some named) status (outside x f a old) (outside y f2 b new)
 ended_before (Refused refusal) named status x y f f2 a b old new rose left (inl said) =
     (stopped (Refused refusal), record { answered = said.0; blamed = tt; left = left; said = said.1 })
 ended_before (Refused refusal) named status x y f f2 a b old new rose left (inr said) =
-    (stopped OutOfMemory, record { answered = said.0; blamed = tt; left = unsaid refusal named x y a b left; said = said.1 })
+    (stopped OutOfMemory, record { answered = said.0; blamed = tt; left = unsaid refusal named x y a b left; said =
+        said.1 })
 ended_before Device named status x y f f2 a b old new rose left said =
     (stopped Device, record { answered = said.0; blamed = rose refl; left = left; said = said.1 })
 ended_before OutOfMemory named status x y f f2 a b old new rose left said =
@@ -90,4 +91,5 @@ pub answers_memory : (named : CommandFiles) (status : ℕ) (before after : Outsi
     → Ended (Some named) status before after
     → memory_faults before.calls < memory_faults after.calls → status ≡ 10
 answers_memory named status before after ended rose =
-    lacked ended.0 named status before.calls after.calls ended.1.left.0 ended.1.left.1 ended.1.left.3 ended.1.answered rose
+    lacked ended.0 named status before.calls after.calls ended.1.left.0 ended.1.left.1 ended.1.left.3 ended.1.answered
+        rose

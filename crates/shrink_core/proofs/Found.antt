@@ -5,7 +5,7 @@ use Rattle.tree_io.specs.Below.{paths_below}
 use Rattle.std.specs.FinMap.{keys}
 use Rattle.tree_io.specs.Event.{files_to_write}
 use Rattle.tree_io.specs.Files.{Files}
-use Rattle.tree_io.specs.Runs.{Made, Run, Sees}
+use Rattle.tree_io.specs.Runs.{AddsCalls, Run, Sees}
 use Rattle.tree_io.specs.declared.event.Event.{Event}
 use Rattle.tree_io.specs.declared.file_at.FileAt.{FileAt}
 use Rattle.tree_io.specs.declared.faults.WriteFault.TheVariants as written
@@ -30,7 +30,7 @@ use Rattle.shrink_core.specs.declared.refusal.Stop.TheVariants.{Refused, Device,
 use Rattle.shrink_core.specs.Due.{HasBytes, HasConfig, HasSet, IsDue, IsEmpty, IsPlan, IsResult, IsRefused}
 use Rattle.shrink_core.specs.Due.{RefusesConfig, RefusesInput, RefusesOutput, RefusesPlan}
 use Rattle.shrink_core.specs.Due.{by_config, by_output, by_input, by_plan}
-use Rattle.shrink_core.specs.Steps.{ConfigOf, Finds, ReadsSet, StopsAs, input_stop, missed, missed_by}
+use Rattle.shrink_core.specs.bodies.Steps.{ConfigOf, Finds, ReadsSet, StopsAs, input_stop, missed, missed_by}
 
 -- where a step was refused, what follows it is refused so
 carried : (stop : Stop) (Refuses After : Refusal → Type 0) → ((refusal : Refusal) → Refuses refusal → After refusal)
@@ -40,21 +40,21 @@ carried Device Refuses After so found = tt
 carried OutOfMemory Refuses After so found = tt
 
 -- where memory is wanting no more is said than that nothing was written
-pub lacks : (P : Files → Type 0) (a b : List Event) (x y : Option Files) → Made a b x y (Sees (Some []) P)
-    → Made a b x y (λ calls. files_to_write calls ≡ [])
+pub lacks : (P : Files → Type 0) (a b : List Event) (x y : Option Files) → AddsCalls a b x y (Sees (Some []) P)
+    → AddsCalls a b x y (λ calls. files_to_write calls ≡ [])
 lacks P a b x y p = made_so (Sees (Some []) P) (λ calls. files_to_write calls ≡ []) a b x y (λ calls q. q.0.wrote) p
 
 weaken : (absent : Option (List (List ℕ))) (P Q : Files → Type 0) (a b : List Event) (x y : Option Files)
     → ((files : Files) → P files → Q files)
-    → Made a b x y (Sees absent P) → Made a b x y (Sees absent Q)
+    → AddsCalls a b x y (Sees absent P) → AddsCalls a b x y (Sees absent Q)
 weaken absent P Q a b x y so p = made_so (Sees absent P) (Sees absent Q) a b x y (sees_so absent P Q so) p
 
 -- ---- the config
 
 -- what the bytes of a file are is what stands there
 pub config_seen : (path bytes : List ℕ) (r : Result Config Stop) (a b : List Event) (x y : Option Files)
-    → Made a b x y (Sees (Some []) (λ files. HasBytes files path bytes)) → ConfigOf r bytes
-    → Made a b x y (Sees (missed path r) (λ files. Finds r (HasConfig files path) (RefusesConfig files path)))
+    → AddsCalls a b x y (Sees (Some []) (λ files. HasBytes files path bytes)) → ConfigOf r bytes
+    → AddsCalls a b x y (Sees (missed path r) (λ files. Finds r (HasConfig files path) (RefusesConfig files path)))
 config_seen path bytes (Ok config) a b x y there is =
     weaken (Some []) (λ files. HasBytes files path bytes) (λ files. HasConfig files path config) a b x y
     (λ files has. (bytes, has, is)) there
@@ -97,9 +97,9 @@ no_set fault = Err (input_stop fault)
 
 -- why a command stops where class files aren't given
 pub stop_seen : (config directory : List ℕ) (fault : InputFault) (a b : List Event) (x y : Option Files)
-    → Made a b x y (Sees (input.missed (no_files fault)) (λ files. FindsDue (no_files fault)
+    → AddsCalls a b x y (Sees (input.missed (no_files fault)) (λ files. FindsDue (no_files fault)
     (input_due files directory)))
-    → Made a b x y (Sees (missed config (no_set fault)) (λ files. Finds (no_set fault) (HasSet files directory)
+    → AddsCalls a b x y (Sees (missed config (no_set fault)) (λ files. Finds (no_set fault) (HasSet files directory)
     (RefusesInput files directory)))
 stop_seen config directory fault.TooManyFiles a b x y p = p
 stop_seen config directory fault.TooManyClasses a b x y p = p
@@ -113,8 +113,9 @@ stop_seen config directory fault.OutOfMemory a b x y p = p
 -- the set of class files that were found
 pub set_seen : (config directory : List ℕ) (inputs : List FileAt) (r : Result (List Class) Stop) (a b : List Event)
     (x y : Option Files)
-    → Made a b x y (Sees (Some []) (λ files. input_due files directory ≡ Ok inputs)) → ReadsSet r directory inputs
-    → Made a b x y (Sees (missed config r) (λ files. Finds r (HasSet files directory) (RefusesInput files directory)))
+    → AddsCalls a b x y (Sees (Some []) (λ files. input_due files directory ≡ Ok inputs)) → ReadsSet r directory inputs
+    → AddsCalls a b x y (Sees (missed config r)
+        (λ files. Finds r (HasSet files directory) (RefusesInput files directory)))
 set_seen config directory inputs (Ok classes) a b x y p is =
     weaken (Some []) (λ files. input_due files directory ≡ Ok inputs) (λ files. HasSet files directory classes) a b x y
     (λ files has. (inputs, has, is)) p
@@ -153,8 +154,8 @@ abbrev pub Planned : Result Plan Stop → CommandFiles → Files → Type 0
 Planned r named files = Finds r (IsResult files named) (IsRefused files named)
 
 pub refused_by_config : (named : CommandFiles) (stop : Stop) (a b : List Event) (x y : Option Files)
-    → Made a b x y (Sees (missed_by named.config stop) (λ files. StopsAs stop (RefusesConfig files named.config)))
-    → Made a b x y (Sees (missed_by named.config stop) (Planned (no_plan stop) named))
+    → AddsCalls a b x y (Sees (missed_by named.config stop) (λ files. StopsAs stop (RefusesConfig files named.config)))
+    → AddsCalls a b x y (Sees (missed_by named.config stop) (Planned (no_plan stop) named))
 refused_by_config named stop a b x y p =
     weaken (missed_by named.config stop) (λ files. StopsAs stop (RefusesConfig files named.config))
     (Planned (no_plan stop) named) a b x y
@@ -162,9 +163,9 @@ refused_by_config named stop a b x y p =
 
 pub refused_by_output : (named : CommandFiles) (config : Config) (stop : Stop) (a b c : List Event)
     (x y z : Option Files)
-    → Made a b x y (Sees (Some []) (Configured named config))
-    → Made b c y z (Sees (missed_by named.config stop) (λ files. StopsAs stop (RefusesOutput files config.output)))
-    → Made a c x z (Sees (missed_by named.config stop) (Planned (no_plan stop) named))
+    → AddsCalls a b x y (Sees (Some []) (Configured named config))
+    → AddsCalls b c y z (Sees (missed_by named.config stop) (λ files. StopsAs stop (RefusesOutput files config.output)))
+    → AddsCalls a c x z (Sees (missed_by named.config stop) (Planned (no_plan stop) named))
 refused_by_output named config stop a b c x y z has p =
     made_sees (missed_by named.config stop) (Configured named config)
     (λ files. StopsAs stop (RefusesOutput files config.output)) (Planned (no_plan stop) named) a b c x y z
@@ -172,18 +173,18 @@ refused_by_output named config stop a b c x y z has p =
     (λ refusal r. by_output config there r)) has p
 
 pub emptied : (named : CommandFiles) (config : Config) (a b c : List Event) (x y z : Option Files)
-    → Made a b x y (Sees (Some []) (Configured named config))
-    → Made b c y z (Sees (Some []) (λ files. IsEmpty files config.output))
-    → Made a c x z (Sees (Some []) (Emptied named config))
+    → AddsCalls a b x y (Sees (Some []) (Configured named config))
+    → AddsCalls b c y z (Sees (Some []) (λ files. IsEmpty files config.output))
+    → AddsCalls a c x z (Sees (Some []) (Emptied named config))
 emptied named config a b c x y z has p =
     made_sees (Some []) (Configured named config) (λ files. IsEmpty files config.output)
     (Emptied named config) a b c x y z (λ files there empty. (there, empty)) has p
 
 pub refused_by_input : (named : CommandFiles) (config : Config) (stop : Stop) (a b c : List Event)
     (x y z : Option Files)
-    → Made a b x y (Sees (Some []) (Emptied named config))
-    → Made b c y z (Sees (missed_by named.config stop) (λ files. StopsAs stop (RefusesInput files config.input)))
-    → Made a c x z (Sees (missed_by named.config stop) (Planned (no_plan stop) named))
+    → AddsCalls a b x y (Sees (Some []) (Emptied named config))
+    → AddsCalls b c y z (Sees (missed_by named.config stop) (λ files. StopsAs stop (RefusesInput files config.input)))
+    → AddsCalls a c x z (Sees (missed_by named.config stop) (Planned (no_plan stop) named))
 refused_by_input named config stop a b c x y z has p =
     made_sees (missed_by named.config stop) (Emptied named config)
     (λ files. StopsAs stop (RefusesInput files config.input)) (Planned (no_plan stop) named) a b c x y z
@@ -191,21 +192,22 @@ refused_by_input named config stop a b c x y z has p =
     (λ refusal r. by_input config there.0 there.1 r)) has p
 
 pub taken : (named : CommandFiles) (config : Config) (classes : List Class) (a b c : List Event) (x y z : Option Files)
-    → Made a b x y (Sees (Some []) (Emptied named config))
-    → Made b c y z (Sees (Some []) (λ files. HasSet files config.input classes))
-    → Made a c x z (Sees (Some []) (Taken named config classes))
+    → AddsCalls a b x y (Sees (Some []) (Emptied named config))
+    → AddsCalls b c y z (Sees (Some []) (λ files. HasSet files config.input classes))
+    → AddsCalls a c x z (Sees (Some []) (Taken named config classes))
 taken named config classes a b c x y z has p =
     made_sees (Some []) (Emptied named config) (λ files. HasSet files config.input classes)
     (Taken named config classes) a b c x y z (λ files there set. (there, set)) has p
 
 pub planned : (named : CommandFiles) (config : Config) (classes : List Class) (r : Result Plan Stop) (a b : List Event)
     (x y : Option Files)
-    → Made a b x y (Sees (Some []) (Taken named config classes))
+    → AddsCalls a b x y (Sees (Some []) (Taken named config classes))
     → Finds r (IsPlan config classes) (RefusesPlan config classes)
-    → Made a b x y (Sees (missed named.config r) (Planned r named))
+    → AddsCalls a b x y (Sees (missed named.config r) (Planned r named))
 planned named config classes (Ok plan) a b x y has is =
     weaken (Some []) (Taken named config classes) (Planned (Ok plan) named) a b x y
-    (λ files there. record { config = config; classes = classes; configured = there.0.0; empty = there.0.1; taken = there.1; planned = is }) has
+    (λ files there. record { config = config; classes = classes; configured = there.0.0; empty = there.0.1; taken =
+        there.1; planned = is }) has
 planned named config classes (Err (Refused (Limit quantity))) a b x y has is =
     weaken (Some []) (Taken named config classes) (Planned (no_plan (Refused (Limit quantity))) named) a b x y
     (λ files there. by_plan config classes there.0.0 there.0.1 there.1 is) has
@@ -234,8 +236,8 @@ stopped_before named Device calls p =
 stopped_before named OutOfMemory calls p = inl (record { wrote = p; same = λ old new. unchanged calls old new p })
 
 pub stopped_seen : (named : CommandFiles) (stop : Stop) (a b : List Event) (x y : Option Files)
-    → Made a b x y (Sees (missed_by named.config stop) (Planned (no_plan stop) named))
-    → Made a b x y (StopsSo stop named)
+    → AddsCalls a b x y (Sees (missed_by named.config stop) (Planned (no_plan stop) named))
+    → AddsCalls a b x y (StopsSo stop named)
 stopped_seen named stop a b x y p = made_so (Sees (missed_by named.config stop) (Planned (no_plan stop) named))
     (StopsSo stop named) a b x y (stopped_before named stop) p
 
@@ -293,23 +295,24 @@ wrote_until named plan written.OutOfMemory es fs p q = inr (record {
 })
 
 pub all_written : (named : CommandFiles) (plan : Plan) (a b c : List Event) (x y z : Option Files)
-    → Made a b x y (Sees (Some []) (λ files. IsResult files named plan))
-    → Made b c y z (output.Writes (Ok tt) plan.files)
-    → Made a c x z (Writes plan named)
+    → AddsCalls a b x y (Sees (Some []) (λ files. IsResult files named plan))
+    → AddsCalls b c y z (output.Writes (Ok tt) plan.files)
+    → AddsCalls a c x z (Writes plan named)
 all_written named plan a b c x y z p q =
     made_both (Sees (Some []) (λ files. IsResult files named plan)) (output.Writes (Ok tt) plan.files)
     (Writes plan named) a b c x y z (wrote_all named plan) p q
 
 pub writing_stopped : (named : CommandFiles) (plan : Plan) (fault : WriteFault) (a b c : List Event)
     (x y z : Option Files)
-    → Made a b x y (Sees (Some []) (λ files. IsResult files named plan))
-    → Made b c y z (output.Writes (Err fault) plan.files)
-    → Made a c x z (StopsSo (stop_of fault) named)
+    → AddsCalls a b x y (Sees (Some []) (λ files. IsResult files named plan))
+    → AddsCalls b c y z (output.Writes (Err fault) plan.files)
+    → AddsCalls a c x z (StopsSo (stop_of fault) named)
 writing_stopped named plan fault a b c x y z p q =
     made_both (Sees (Some []) (λ files. IsResult files named plan)) (output.Writes (Err fault) plan.files)
     (StopsSo (stop_of fault) named) a b c x y z (wrote_until named plan fault) p q
 
 -- no call was made, as memory was wanting
-pub nothing_done : (named : CommandFiles) (a : List Event) (x : Option Files) → Made a a x x (StopsSo OutOfMemory named)
+pub nothing_done : (named : CommandFiles) (a : List Event) (x : Option Files)
+    → AddsCalls a a x x (StopsSo OutOfMemory named)
 nothing_done named a x = made_none (StopsSo OutOfMemory named) a x
     (inl (record { wrote = refl; same = λ old new run. run }))

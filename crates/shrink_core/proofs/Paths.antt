@@ -5,7 +5,8 @@ use Rattle.std.specs.Prelude.{position, IfSome, IfNone}
 use Rattle.std.specs.List.{list_all, slice_split, onto_first, position_or_len}
 use Rattle.std.proofs.lemmas.Bool.{eqb-true, ltb-true, ltb-false}
 use Rattle.std.proofs.lemmas.List.Splits.{slice_split_first}
-use Rattle.shrink_core.specs.Path.{is_slash, is_segment, EndsFirst, are_segments, without_slash}
+use Rattle.shrink_core.specs.Path.{is_slash, is_segment, are_segments, without_slash}
+use Rattle.shrink_core.specs.bodies.Path.{EndsFirst}
 
 pub without_slash-append : (x : List ℕ) → without_slash (x ++ 47 ∷ []) ≡ x
 unfolding without_slash

@@ -12,7 +12,7 @@ use Rattle.shrink_core.specs.Path.{directory_in, is_path}
 use Rattle.shrink_core.specs.Config.{AreKept, IsConfig, IsNamed, Lacks, NamesDirectory, NamesFile, ints_text}
 use Rattle.shrink_core.specs.Config.{is_no_blank}
 use Rattle.shrink_core.specs.Config.{line, method_text, methods_text, more_ints}
-use Rattle.shrink_core.specs.ConfigParts.{BeginsSo, HasLines}
+use Rattle.shrink_core.specs.bodies.ConfigParts.{BeginsSo, HasLines}
 use Rattle.shrink_core.specs.declared.config.Config.{Config}
 use Rattle.shrink_core.specs.declared.config.KeptMethod.{KeptMethod}
 use Rattle.shrink_core.proofs.ConfigTexts.{cancel, value_none, no_output, no_mapping, no_keep, no_end, whole}

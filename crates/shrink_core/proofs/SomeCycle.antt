@@ -10,7 +10,7 @@ use Rattle.mark_core.specs.Marks.{Marks, set_of}
 use Rattle.mark_core.specs.declared.system.System.{System}
 use Rattle.class_model.specs.declared.class.Class.{Class}
 use Rattle.class_pool.specs.Faults.{IsFirstCycle}
-use Rattle.class_pool.specs.Numbers.{IsHierarchy, above}
+use Rattle.class_pool.specs.bodies.Numbers.{IsHierarchy, above}
 use Rattle.class_pool.specs.Supertypes.{IsCyclic, NoCycle}
 use Rattle.class_pool.specs.declared.fault.PoolFault.{PoolFault}
 use Rattle.class_pool.specs.declared.fault.PoolKind.TheVariants.{Cycle}

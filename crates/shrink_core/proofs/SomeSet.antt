@@ -4,7 +4,7 @@ use Rattle.std.proofs.Common.{Option, Some, None, Result, Ok, Err, refl, ap, ari
 use Rattle.std.specs.Prelude.{IfSome}
 use Rattle.std.specs.List.{AllByRecursion}
 use Rattle.std.proofs.lemmas.List.{length-map}
-use Rattle.std.proofs.lemmas.Option.{slice_get_cases}
+use Rattle.std.proofs.lemmas.Option.{slice_get_cases, slice_get_within}
 use Rattle.tree_io.specs.declared.file_at.FileAt.{FileAt}
 use Rattle.format_reading.specs.declared.fault.FormatFault.{FormatFault}
 use Rattle.class_model.specs.ClassFile.{File}
@@ -19,8 +19,12 @@ use Rattle.class_read.proofs.ClassLaw.{class_read-found}
 use Rattle.link_check.specs.Profile.{IsPlace, links_checked}
 use Rattle.link_check.specs.declared.fault.ProfileFault.{ProfileFault}
 use Rattle.report_text.specs.Spelled.{class_text, field_text, member_texts, method_text}
-use Rattle.set_read.specs.Accepted.{AreRead, BreaksRule, IsAccepted, IsFault, IsUnread, NamesMember, NamesPlace}
-use Rattle.set_read.specs.Accepted.{named_pool_fault}
+use Rattle.set_read.specs.Accepted.{AreRead, BreaksRule, IsAccepted, IsFault, IsUnread, NamesMember, NamesMethod}
+use Rattle.set_read.specs.Accepted.{NamesPlace, named_pool_fault}
+use Rattle.type_verifier.proofs.SetLaw.{fault_place, set_typed}
+use Rattle.type_verifier.specs.Verified as verified
+use Rattle.type_verifier.specs.Verified.{AreTyped, set_verified}
+use Rattle.type_verifier.specs.declared.fault.TypeFault.{TypeFault}
 use Rattle.set_read.specs.declared.fault.RuleFault.{RuleFault}
 use Rattle.set_read.specs.declared.fault.RuleKind.TheVariants as rule
 use Rattle.set_read.specs.declared.fault.SetFault.{SetFault}
@@ -96,17 +100,36 @@ place_named classes fault (c, is, within) =
       record { class = c; there = is; name = refl; member = member.1; kind = refl },
     )
 
+method_named : (classes : List Class) (fault : TypeFault) → verified.IsPlace classes fault
+    → (told : RuleFault) × NamesMethod classes fault told
+method_named classes fault (c, is, m, at) =
+    let low = slice_get_within c.methods fault.method m at in
+    let member = member_or c (Some (length c.fields + fault.method)) (omega (arith, low)) in (
+      record { class = class_text c; member = member.0; kind = rule.Type fault.kind },
+      record { class = c; there = is; name = refl; member = member.1; kind = refl },
+    )
+
 -- classes break no rule, or a first one
 abbrev Judged : List NamedClass → Type 0
-Judged named = ((first_faults named ≡ Ok tt) × NoCycle (classes_of named) × (links_checked (classes_of named) ≡ Ok tt))
+Judged named = ((first_faults named ≡ Ok tt) × NoCycle (classes_of named) × (links_checked (classes_of named) ≡ Ok tt)
+    × AreTyped (classes_of named))
     ⊎ ((told : RuleFault) × BreaksRule named told)
+
+judged_codes : (named : List NamedClass) → first_faults named ≡ Ok tt → NoCycle (classes_of named)
+    → links_checked (classes_of named) ≡ Ok tt → (r : Result (Unit {0}) TypeFault) → set_verified (classes_of named) ≡ r
+    → Judged named
+judged_codes named first acyclic linked (Ok _) e = inl (first, acyclic, linked, set_typed (classes_of named) e)
+judged_codes named first acyclic linked (Err fault) e =
+    let place = method_named (classes_of named) fault (fault_place (classes_of named) fault e) in
+    inr (place.0, inr ((first, acyclic, refl), inr (fault, linked, e, place.1)))
 
 judged_links : (named : List NamedClass) → first_faults named ≡ Ok tt → NoCycle (classes_of named)
     → (r : Result (Unit {0}) ProfileFault) → links_checked (classes_of named) ≡ r → Judged named
-judged_links named first acyclic (Ok _) e = inl (first, acyclic, e)
+judged_links named first acyclic (Ok _) e =
+    judged_codes named first acyclic e (set_verified (classes_of named)) refl
 judged_links named first acyclic (Err fault) e =
     let place = place_named (classes_of named) fault (place_of (classes_of named) fault e) in
-    inr (place.0, inr (fault, (first, acyclic, refl), e, place.1))
+    inr (place.0, inr ((first, acyclic, refl), inl (fault, e, place.1)))
 
 judged_cycles : (named : List NamedClass) → first_faults named ≡ Ok tt
     → NoCycle (classes_of named) ⊎ ((f : PoolFault) × IsFirstCycle (classes_of named) f) → Judged named
@@ -121,7 +144,7 @@ judged_first named (Err f) e = inr (named_pool_fault f, inl (f, inl e, refl))
 
 set_judged : (files : List FileAt) (named : List NamedClass) → AreRead files named → Judged named
     → ((classes : List Class) × IsAccepted files classes) ⊎ ((fault : SetFault) × IsFault files fault)
-set_judged files named read (inl (first, acyclic, linked)) = inl (
+set_judged files named read (inl (first, acyclic, linked, typed)) = inl (
   classes_of named,
   record {
     named = named;
@@ -130,6 +153,7 @@ set_judged files named read (inl (first, acyclic, linked)) = inl (
     first = first;
     acyclic = acyclic;
     linked = linked;
+    typed = typed;
   },
 )
 set_judged files named read (inr (told, broken)) = inr (Rule told, (named, read, broken))

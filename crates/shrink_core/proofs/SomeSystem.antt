@@ -1,7 +1,7 @@
 -- The system of a set of classes is valid.
 use Rattle.std.proofs.Common.{◌≡◌, ⊎_elim, ℕ, ◌+◌, ◌<◌, Bool, true, false, cond, List, [], ◌∷◌}
 use Rattle.std.proofs.Common.{length, get_or, map, replicate}
-use Rattle.std.proofs.Common.{Option, Some, None, Result, Ok, Err, refl, sym, ap, ◌∙◌, arith}
+use Rattle.std.proofs.Common.{Option, Some, None, Result, Ok, Err, refl, sym, ap, subst, ◌∙◌, arith}
 use Rattle.std.specs.Prelude.{IfSome}
 use Rattle.std.specs.List.{All, enumerate_from, filter_map, flat_map}
 use Rattle.std.specs.Option.{option_and_then, option_map_or}
@@ -24,10 +24,11 @@ use Rattle.class_pool.specs.declared.id.MemberAt.{MemberAt}
 use Rattle.class_pool.proofs.Declaring.{declared_there, named_there}
 use Rattle.link_check.specs.Links.{resolved_method}
 use Rattle.link_check.specs.declared.fault.LinkKind.{LinkKind}
-use Rattle.require_sys.specs.EarlySystem.{are_kept_anyway, asked_item, called_item, class_needs, instructions_of}
-use Rattle.require_sys.specs.EarlySystem.{method_needs}
-use Rattle.require_sys.specs.EarlySystem.{places_of_true, seeds_of, static_item, system_of}
-use Rattle.require_sys.specs.Starts.{AreBelow}
+use Rattle.require_sys.specs.Called.{called_item}
+use Rattle.require_sys.specs.EarlySystem.{are_kept_anyway, asked_item, called_method, class_needs, instructions_of}
+use Rattle.require_sys.specs.EarlySystem.{method_needs, places_of_true, seeds_of, static_method, system_of}
+use Rattle.require_sys.proofs.Called.{items_called}
+use Rattle.require_sys.specs.bodies.Starts.{AreBelow}
 use Rattle.require_sys.specs.declared.asked.AskedMethod.{AskedMethod}
 use Rattle.require_sys.proofs.Numbering.{length-kept, length-needs, member_below, places_below}
 use Rattle.shrink_core.proofs.Listed.{given}
@@ -79,23 +80,25 @@ flag_there classes m is =
     (slice_get_cases (rows_in classes m.class) m.index).1
 
 static_by : (classes : List Class) (m : MemberAt) (b : Bool) → is_static_member classes m ≡ b
-    → IsItem classes (cond b (item_of classes m) None)
+    → IsItem classes (option_and_then (item_of classes) (cond b (Some m) None))
 static_by classes m true is = item_below classes m.class m.index (flag_there classes m is)
 static_by classes m false is = tt
 
-static_below : (classes : List Class) (r : Result MemberAt LinkKind) → IsItem classes (static_item classes r)
+static_below : (classes : List Class) (r : Result MemberAt LinkKind)
+    → IsItem classes (option_and_then (item_of classes) (static_method classes r))
 static_below classes (Ok m) = static_by classes m (is_static_member classes m) refl
 static_below classes (Err kind) = tt
 
 called_below : (classes : List Class) (n : ℕ) (o : Op) → IsItem classes (called_item classes n o)
-unfolding called_item
+unfolding called_method
 called_below classes n (op.InvokeStatic r) = static_below classes (resolved_method classes (Prog n) r)
 called_below classes n _ = tt
 
 method_below : (classes : List Class) (n : ℕ) (m : Method) → AreBelow (item_count classes) (method_needs classes n m)
 method_below classes n m =
-    given (λ x. x < item_count classes) (λ (i : Ins). called_item classes n i.op) (instructions_of m.code)
-    (λ i. called_below classes n i.op)
+    subst (AreBelow (item_count classes)) (items_called classes n (instructions_of m.code))
+    (given (λ x. x < item_count classes) (λ (i : Ins). called_item classes n i.op) (instructions_of m.code)
+    (λ i. called_below classes n i.op))
 
 methods_below : (classes : List Class) (n : ℕ) (ms : List Method)
     → All (AreBelow (item_count classes)) (map (method_needs classes n) ms)

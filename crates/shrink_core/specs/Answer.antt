@@ -4,7 +4,7 @@ use Rattle.std.specs.Prelude.{◌≡◌, ◌⊎◌, ◌≤◌, ℕ, List, [], �
 use Rattle.tree_io.specs.Count.{Rose}
 use Rattle.tree_io.specs.Event.{files_to_write, without_memory}
 use Rattle.tree_io.specs.Files.{Files}
-use Rattle.tree_io.specs.Runs.{Did, Made, Run}
+use Rattle.tree_io.specs.Runs.{Did, AddsCalls, Run}
 use Rattle.tree_io.specs.Sink.{Takes}
 use Rattle.tree_io.specs.declared.event.Event.{Event}
 use Rattle.tree_io.specs.declared.event.Event.TheVariants.{Put}
@@ -164,7 +164,7 @@ SaidSo (summary_without_memory plan) config old new = LacksSo plan.summary old n
 pub record Ends (ending : Ending) (named : CommandFiles) (status : ℕ) (before after : Outside) : Type 0 where
   pub answered : status ≡ status_of ending
   pub blamed : Blames ending before after
-  pub left : Made before.calls after.calls before.files after.files (LeavesSo ending named)
+  pub left : AddsCalls before.calls after.calls before.files after.files (LeavesSo ending named)
   pub said : SaidSo ending named.config before.out after.out
 
 -- words that aren't those of a command are refused as such, and the tree isn't asked

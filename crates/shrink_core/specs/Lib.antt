@@ -2,13 +2,13 @@ pub mod Path
 pub mod Words
 pub mod Config
 pub mod OneConfig
-pub mod ConfigParts
 pub mod Asked
 pub mod Summary
 pub mod Refusal
 pub mod Due
 pub mod Answer
-pub mod Steps
 pub mod OneDue
 pub mod SomeMarks
 pub mod SomeDue
+pub mod LeftFiles
+pub mod bodies

@@ -1,5 +1,5 @@
 -- Paths: an optional `/`, and then segments joined by `/` (the project's own: one form of each path).
-use Rattle.std.specs.Prelude.{◌≡◌, ℕ, ◌+◌, take, drop, Bool, not, ◌&&◌, ◌==◌, List, [], ◌∷◌, length, Option, Some, None}
+use Rattle.std.specs.Prelude.{ℕ, Bool, not, ◌&&◌, ◌==◌, List, [], ◌∷◌, length, Option, Some, None}
 use Rattle.std.specs.Prelude.{if◌then◌else◌, codes}
 use Rattle.std.specs.List.{list_all, slice_split}
 use Rattle.jv_base.specs.Names.{is_text}
@@ -16,10 +16,6 @@ is_slash b = b == 47
 -- segments joined by `/`
 unfoldable pub are_segments : List ℕ → Bool
 are_segments text = list_all is_segment (slice_split is_slash text)
-
--- the first of several segments ends there (only the proof of is_path needs it)
-abbrev pub EndsFirst : List ℕ → ℕ → Type 0
-EndsFirst text at = are_segments text ≡ (is_segment (take at text) && are_segments (drop (at + 1) text))
 
 -- a text without the `/` at its front
 abbrev pub without_root : List ℕ → List ℕ

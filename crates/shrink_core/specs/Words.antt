@@ -1,5 +1,5 @@
 -- The words of a command line (the project's own: how the command is called).
-use Rattle.std.specs.Prelude.{◌≡◌, ℕ, List, [], ◌∷◌, Option, Some, None, if◌then◌else◌, codes}
+use Rattle.std.specs.Prelude.{ℕ, List, [], ◌∷◌, Option, Some, None, if◌then◌else◌, codes}
 use Rattle.jv_base.specs.Names.{is_text}
 use Rattle.shrink_core.specs.Path.{file_in}
 use Rattle.shrink_core.specs.declared.words.CommandFiles.{CommandFiles}
@@ -14,11 +14,3 @@ abbrev pub files_in : List (List ℕ) → Option CommandFiles
 files_in (command ∷ config ∷ witness ∷ []) =
     if is_text command (codes "shrink") then both_named (file_in config) (file_in witness) else None
 files_in _ = None
-
--- the words are those of the command (only the proof of run needs it)
-abbrev pub AreTaken : List (List ℕ) → Type 0
-AreTaken words = (named : CommandFiles) × (files_in words ≡ Some named)
-
--- the words are those of the command, with these files (only the proof of run needs it)
-abbrev pub Names : List (List ℕ) → List ℕ → List ℕ → Type 0
-Names words config witness = files_in words ≡ Some (record { config = config; witness = witness })

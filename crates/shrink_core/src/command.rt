@@ -4,7 +4,7 @@ ghost use Rattle.tree_io.specs.Count.{Rose};
 ghost use Rattle.tree_io.specs.Runs.{memory_faults};
 ghost use Rattle.shrink_core.specs.Words.{files_in};
 ghost use Rattle.shrink_core.specs.Answer.{Ended, Puts, outside, output};
-ghost use Rattle.shrink_core.specs.Steps.{Says, SaysLine, SaysSummary};
+ghost use Rattle.shrink_core.specs.bodies.Steps.{Says, SaysLine, SaysSummary};
 ghost use Rattle.shrink_core.specs.declared.refusal.Stop.TheVariants.{Device as failed_device};
 ghost use Rattle.shrink_core.specs.declared.refusal.Stop.TheVariants.{OutOfMemory as no_memory, Refused};
 
@@ -20,7 +20,8 @@ use tree_io::{Gate, PutFault, Sink, Tree};
 fn end<S: Sink>(status: u8, line: &[u8], out: &mut S) -> u8
     ensures status { result ≡ status }
     ensures text { Puts line.now
-        (output (S.written out.old) (S.faults out.old) (S.log out.old)) (output (S.written out.new) (S.faults out.new) (S.log out.new)) }
+        (output (S.written out.old) (S.faults out.old) (S.log out.old))
+            (output (S.written out.new) (S.faults out.new) (S.log out.new)) }
     ensures later { S.faults out.old ≤ S.faults out.new }
 {
     let _ = out.put(line);
@@ -30,7 +31,8 @@ fn end<S: Sink>(status: u8, line: &[u8], out: &mut S) -> u8
 // Says that a device failed.
 fn say_device<S: Sink>(out: &mut S) -> u8
     ensures line { SaysLine [] failed_device result
-        (output (S.written out.old) (S.faults out.old) (S.log out.old)) (output (S.written out.new) (S.faults out.new) (S.log out.new)) }
+        (output (S.written out.old) (S.faults out.old) (S.log out.old))
+            (output (S.written out.new) (S.faults out.new) (S.log out.new)) }
     ensures later { S.faults out.old ≤ S.faults out.new }
 {
     end(7, b"error 7 device\n", out)
@@ -39,7 +41,8 @@ fn say_device<S: Sink>(out: &mut S) -> u8
 // Says that memory is wanting.
 fn say_no_memory<S: Sink>(out: &mut S) -> u8
     ensures { SaysLine [] no_memory result
-        (output (S.written out.old) (S.faults out.old) (S.log out.old)) (output (S.written out.new) (S.faults out.new) (S.log out.new)) }
+        (output (S.written out.old) (S.faults out.old) (S.log out.old))
+            (output (S.written out.new) (S.faults out.new) (S.log out.new)) }
 {
     end(10, b"error 10 memory\n", out)
 }
@@ -47,7 +50,8 @@ fn say_no_memory<S: Sink>(out: &mut S) -> u8
 // Says why a command is refused, whose config is at a path, and answers the status.
 fn say_refusal<S: Sink>(alloc: Global, config: &Text, refusal: &Refusal, out: &mut S) -> u8
     ensures { Says config.now (Refused refusal.now) result
-        (output (S.written out.old) (S.faults out.old) (S.log out.old)) (output (S.written out.new) (S.faults out.new) (S.log out.new)) }
+        (output (S.written out.old) (S.faults out.old) (S.log out.old))
+            (output (S.written out.new) (S.faults out.new) (S.log out.new)) }
 {
     match refusal_line(alloc, config, refusal) {
         Ok(line) => end(refusal_status(refusal), line.as_bytes(), out),
@@ -58,7 +62,8 @@ fn say_refusal<S: Sink>(alloc: Global, config: &Text, refusal: &Refusal, out: &m
 // Says why a command ends without its result, and answers the status.
 fn say<S: Sink>(alloc: Global, config: &Text, stop: &Stop, out: &mut S) -> u8
     ensures { Says config.now stop.now result
-        (output (S.written out.old) (S.faults out.old) (S.log out.old)) (output (S.written out.new) (S.faults out.new) (S.log out.new)) }
+        (output (S.written out.old) (S.faults out.old) (S.log out.old))
+            (output (S.written out.new) (S.faults out.new) (S.log out.new)) }
 {
     match stop {
         Stop::Refused(refusal) => say_refusal(alloc, config, refusal, out),
@@ -71,7 +76,8 @@ fn say<S: Sink>(alloc: Global, config: &Text, stop: &Stop, out: &mut S) -> u8
 fn finish<S: Sink>(summary: &Text, out: &mut S) -> u8
     ensures device { result ≡ 7 → Rose (S.faults out.old) (S.faults out.new) }
     ensures said { SaysSummary summary.now result
-        (output (S.written out.old) (S.faults out.old) (S.log out.old)) (output (S.written out.new) (S.faults out.new) (S.log out.new)) }
+        (output (S.written out.old) (S.faults out.old) (S.log out.old))
+            (output (S.written out.new) (S.faults out.new) (S.log out.new)) }
 {
     match out.put(summary.as_bytes()) {
         Ok(()) => 0,
@@ -84,10 +90,13 @@ fn finish<S: Sink>(summary: &Text, out: &mut S) -> u8
 fn run_on<T: Tree, S: Sink>(alloc: Global, named: &CommandFiles, tree: &mut T, out: &mut S) -> u8
     ensures words { result ≢ 1 }
     ensures memory { memory_faults (T.log tree.old) < memory_faults (T.log tree.new) → result ≡ 10 }
-    ensures device { result ≡ 7 → Rose (T.faults tree.old) (T.faults tree.new) ⊎ Rose (S.faults out.old) (S.faults out.new) }
+    ensures device { result ≡ 7 → Rose (T.faults tree.old) (T.faults tree.new)
+        ⊎ Rose (S.faults out.old) (S.faults out.new) }
     ensures ended { Ended (Some named.now) result
-        (outside (T.files tree.old) (T.faults tree.old) (T.log tree.old) (output (S.written out.old) (S.faults out.old) (S.log out.old)))
-        (outside (T.files tree.new) (T.faults tree.new) (T.log tree.new) (output (S.written out.new) (S.faults out.new) (S.log out.new))) }
+        (outside (T.files tree.old) (T.faults tree.old) (T.log tree.old)
+            (output (S.written out.old) (S.faults out.old) (S.log out.old)))
+        (outside (T.files tree.new) (T.faults tree.new) (T.log tree.new)
+            (output (S.written out.new) (S.faults out.new) (S.log out.new))) }
 {
     match shrink(alloc, named, tree) {
         Ok(plan) => finish(&plan.summary, out),
@@ -123,7 +132,7 @@ fn run_on<T: Tree, S: Sink>(alloc: Global, named: &CommandFiles, tree: &mut T, o
 /// | 2 | where no file stands at CONFIG, or a class file that was listed isn't there any more | `error 2 absent PATH` |
 /// | 3 | where the config is another one | `error 3 rules 0 NotBuilt` |
 /// | 4 | where a file below IN that ends in `.class` is no class file | `error 4 format PATH OFFSET KIND` |
-/// | 5 | where these are no set of classes, or one of them breaks a rule | `error 5 profile CLASS MEMBER KIND` |
+/// | 5 | where these are no set, a rule is broken, or a code isn't typed | `error 5 profile CLASS MEMBER KIND` |
 /// | 6 | where a quantity passes its limit | `error 6 limit QUANTITY LIMIT` |
 /// | 7 | only where a count of faults rose: the tree's, or, once the files were written, the sink's | `error 7 device`
 /// |
@@ -132,7 +141,8 @@ fn run_on<T: Tree, S: Sink>(alloc: Global, named: &CommandFiles, tree: &mut T, o
 ///
 /// The config is looked at first, then OUT, then IN: the number of its files, of its class files, and of their bytes;
 /// then each class file by itself, in the order of their paths, and then all as a set; last what is to be written.
-/// CLASS is a name with dots, MEMBER as `int x` or `int f(int)`, and `-` where the class itself is at fault. Limits:
+/// CLASS is a name with dots, MEMBER as `int x` or `int f(int)`, and `-` where the class itself is at fault; of a code that
+/// isn't typed KIND is two words, as `Type Local`. Limits:
 /// `config` and `input` (the class files together) 67,108,864 bytes, `files` 65,536 and `classes` 20,000 below IN, and
 /// what a class file has room for (`pool`, `utf8`, `code`, `table`, `branch`, `attribute`).
 ///
@@ -153,7 +163,8 @@ pub fn run<Rt: Threads + Sync, T: Tree, S: Sink, G: Gate>(
     ensures words { (result ≡ 1) ↔ (files_in words.now ≡ None) }
 
     // A device is blamed only where its count rose.
-    ensures device { result ≡ 7 → Rose (T.faults tree.old) (T.faults tree.new) ⊎ Rose (S.faults out.old) (S.faults out.new) }
+    ensures device { result ≡ 7 → Rose (T.faults tree.old) (T.faults tree.new)
+        ⊎ Rose (S.faults out.old) (S.faults out.new) }
 
     // Where memory was wanting for a call of the tree, the status says so.
     ensures memory { memory_faults (T.log tree.old) < memory_faults (T.log tree.new) → result ≡ 10 }
@@ -161,8 +172,10 @@ pub fn run<Rt: Threads + Sync, T: Tree, S: Sink, G: Gate>(
     // The run has an ending, which tells its status, which device is blamed, what the tree was asked, what became of
     // all files that its answers fit, told ones among them, and what was said.
     ensures ended { Ended (files_in words.now) result
-        (outside (T.files tree.old) (T.faults tree.old) (T.log tree.old) (output (S.written out.old) (S.faults out.old) (S.log out.old)))
-        (outside (T.files tree.new) (T.faults tree.new) (T.log tree.new) (output (S.written out.new) (S.faults out.new) (S.log out.new))) }
+        (outside (T.files tree.old) (T.faults tree.old) (T.log tree.old)
+            (output (S.written out.old) (S.faults out.old) (S.log out.old)))
+        (outside (T.files tree.new) (T.faults tree.new) (T.log tree.new)
+            (output (S.written out.new) (S.faults out.new) (S.log out.new))) }
 {
     match read_words(alloc, words) {
         Ok(Some(named)) => run_on(alloc, &named, tree, out),

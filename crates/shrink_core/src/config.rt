@@ -7,7 +7,7 @@ ghost use Rattle.shrink_core.specs.Path.{directory_in, is_path};
 ghost use Rattle.shrink_core.specs.Config.{Lacks, line, is_no_blank, ints_text, AreKept, NamesDirectory, NamesFile};
 ghost use Rattle.shrink_core.specs.Config.{IsConfig};
 ghost use Rattle.shrink_core.specs.OneConfig.{IsOneConfig};
-ghost use Rattle.shrink_core.specs.ConfigParts.{BeginsSo, HasLines};
+ghost use Rattle.shrink_core.specs.bodies.ConfigParts.{BeginsSo, HasLines};
 
 use crate::path::{directory_in, is_path};
 use jv_base::{Items, M, Name, Text, is_member_name};
@@ -73,8 +73,10 @@ struct Lines<'a> {
 }
 
 fn lines_of(text: &str) -> Option<Lines<'_>>
-    ensures found { IfSome result (λ lines. HasLines text.now lines.input.now lines.output.now lines.mapping.now lines.methods.now) }
-    ensures none { IfNone result ((input output mapping methods : List ℕ) → HasLines text.now input output mapping methods → ⊥) }
+    ensures found { IfSome result
+        (λ lines. HasLines text.now lines.input.now lines.output.now lines.mapping.now lines.methods.now) }
+    ensures none { IfNone result ((input output mapping methods : List ℕ)
+        → HasLines text.now input output mapping methods → ⊥) }
 {
     let (input, rest) = value_of(text, "-injars ")?;
     let (output, rest) = value_of(rest, "-outjars ")?;

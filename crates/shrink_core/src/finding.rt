@@ -3,13 +3,13 @@ ghost use Rattle.std.specs.Prelude.{◌≡◌, ◌≤◌, ℕ, List, IfOk, IsErr
 ghost use Rattle.std.specs.List.{AllByRecursion};
 ghost use Rattle.tree_io.specs.Below.{IsAscending};
 ghost use Rattle.tree_io.specs.Count.{Rose};
-ghost use Rattle.tree_io.specs.Runs.{Made, Sees};
+ghost use Rattle.tree_io.specs.Runs.{AddsCalls, Sees};
 ghost use Rattle.class_files.specs.Input.{path_in, total};
 ghost use Rattle.class_write.specs.SpellingLaws.{IsWritable};
 ghost use Rattle.shrink_core.specs.Config.{IsConfig};
 ghost use Rattle.shrink_core.specs.Due.{HasBytes, HasConfig, HasSet, IsEmpty, RefusesConfig, RefusesInput};
 ghost use Rattle.shrink_core.specs.Due.{RefusesOutput};
-ghost use Rattle.shrink_core.specs.Steps.{ConfigOf, Finds, ReadsSet, input_stop, missed};
+ghost use Rattle.shrink_core.specs.bodies.Steps.{ConfigOf, Finds, ReadsSet, input_stop, missed};
 
 use crate::config::{Config, read_config};
 use crate::quantity::Quantity;
@@ -31,7 +31,7 @@ pub fn find_config<T: Tree>(alloc: Global, path: &Text, tree: &mut T) -> Result<
     ensures files { T.files tree.new ≡ T.files tree.old }
     ensures later { T.faults tree.old ≤ T.faults tree.new }
     ensures device { IsErrOf result Stop.Device → Rose (T.faults tree.old) (T.faults tree.new) }
-    ensures seen { Made (T.log tree.old) (T.log tree.new) (T.files tree.old) (T.files tree.new)
+    ensures seen { AddsCalls (T.log tree.old) (T.log tree.new) (T.files tree.old) (T.files tree.new)
         (Sees (missed path.now result) (λ fs. Finds result (HasConfig fs path.now) (RefusesConfig fs path.now))) }
 {
     let bytes = config_bytes(alloc, path, tree)?;
@@ -43,7 +43,7 @@ fn config_bytes<T: Tree>(alloc: Global, path: &Text, tree: &mut T) -> Result<Byt
     ensures files { T.files tree.new ≡ T.files tree.old }
     ensures later { T.faults tree.old ≤ T.faults tree.new }
     ensures device { IsErrOf result Stop.Device → Rose (T.faults tree.old) (T.faults tree.new) }
-    ensures seen { Made (T.log tree.old) (T.log tree.new) (T.files tree.old) (T.files tree.new)
+    ensures seen { AddsCalls (T.log tree.old) (T.log tree.new) (T.files tree.old) (T.files tree.new)
         (Sees (missed path.now result) (λ fs. Finds result (HasBytes fs path.now) (RefusesConfig fs path.now))) }
 {
     match tree.read(alloc, path, MAX_CONFIG) {
@@ -72,8 +72,9 @@ pub fn check_empty<T: Tree>(alloc: Global, directory: &Text, tree: &mut T) -> Re
     ensures files { T.files tree.new ≡ T.files tree.old }
     ensures later { T.faults tree.old ≤ T.faults tree.new }
     ensures device { IsErrOf result Stop.Device → Rose (T.faults tree.old) (T.faults tree.new) }
-    ensures seen { (config : List ℕ) → Made (T.log tree.old) (T.log tree.new) (T.files tree.old) (T.files tree.new)
-        (Sees (missed config result) (λ fs. Finds result (λ _. IsEmpty fs directory.now) (RefusesOutput fs directory.now))) }
+    ensures seen { (config : List ℕ) → AddsCalls (T.log tree.old) (T.log tree.new) (T.files tree.old) (T.files tree.new)
+        (Sees (missed config result) (λ fs. Finds result (λ _. IsEmpty fs directory.now)
+            (RefusesOutput fs directory.now))) }
 {
     match tree.list(alloc, directory, 0) {
         Ok(_) => Ok(()),
@@ -91,7 +92,7 @@ pub fn find_set<T: Tree>(alloc: Global, directory: &Text, tree: &mut T) -> Resul
     ensures later { T.faults tree.old ≤ T.faults tree.new }
     ensures device { IsErrOf result Stop.Device → Rose (T.faults tree.old) (T.faults tree.new) }
     ensures writable { IfOk result (AllByRecursion IsWritable) }
-    ensures seen { (config : List ℕ) → Made (T.log tree.old) (T.log tree.new) (T.files tree.old) (T.files tree.new)
+    ensures seen { (config : List ℕ) → AddsCalls (T.log tree.old) (T.log tree.new) (T.files tree.old) (T.files tree.new)
         (Sees (missed config result) (λ fs. Finds result (HasSet fs directory.now) (RefusesInput fs directory.now))) }
 {
     match read_files(alloc, directory, tree) {

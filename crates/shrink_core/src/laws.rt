@@ -1,4 +1,5 @@
 // What holds of what is due, and of what is kept.
+ghost use Rattle.shrink_core.specs.LeftFiles.{LeavesTold};
 ghost use Rattle.shrink_core.specs.OneDue.{IsOneDue};
 ghost use Rattle.shrink_core.specs.SomeDue.{IsSomeDue};
 ghost use Rattle.shrink_core.specs.SomeMarks.{AreSomeMarks};
@@ -9,7 +10,8 @@ pub fn one_due()
     ensures { IsOneDue }
 {}
 
-/// Of files that hold bytes something is due for each command: a plan, or a refusal. So, with `one_due`, exactly one thing
+/// Of files that hold bytes something is due for each command: a plan, or a refusal. So, with `one_due`, exactly one
+/// thing
 /// is.
 pub fn some_due()
     ensures { IsSomeDue }
@@ -18,4 +20,12 @@ pub fn some_due()
 /// Each valid system has a least closed set. So the definition of what is kept of a set always names something.
 pub fn some_marks()
     ensures { AreSomeMarks }
+{}
+
+/// Where a tree tells its files, what `run` says of its calls settles them: after status 0 they are the old ones with
+/// the
+/// plan that is due put, after a refusal that is due they are as they were, after 10 they are as they were or hold the
+/// first files of the plan that is due, and after 7 the same, while the path of the next file may hold any bytes.
+pub fn told_files_are_left_as_due()
+    ensures { LeavesTold }
 {}

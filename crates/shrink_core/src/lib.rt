@@ -15,7 +15,7 @@ mod words;
 
 pub use command::run;
 pub use config::one_config;
-pub use laws::{one_due, some_due, some_marks};
+pub use laws::{one_due, some_due, some_marks, told_files_are_left_as_due};
 
 #[cfg(test)]
 mod tests;

@@ -1,7 +1,8 @@
 // Paths and directories.
 ghost use Rattle.std.specs.Prelude.{◌≡◌, ◌<◌, IfSome, IfNone, length, position};
 ghost use Rattle.std.specs.Option.{option_copied};
-ghost use Rattle.shrink_core.specs.Path.{EndsFirst, is_slash, is_segment, are_segments, without_root, is_path};
+ghost use Rattle.shrink_core.specs.Path.{is_slash, is_segment, are_segments, without_root, is_path};
+ghost use Rattle.shrink_core.specs.bodies.Path.{EndsFirst};
 ghost use Rattle.shrink_core.specs.Path.{without_slash, directory_in, file_in};
 
 fn is_segment(segment: &[u8]) -> bool

@@ -2,10 +2,10 @@
 ghost use Rattle.std.specs.Prelude.{◌≡◌, ◌≤◌, IsErrOf};
 ghost use Rattle.std.specs.List.{AllByRecursion};
 ghost use Rattle.tree_io.specs.Count.{Rose};
-ghost use Rattle.tree_io.specs.Runs.{Made, Sees};
+ghost use Rattle.tree_io.specs.Runs.{AddsCalls, Sees};
 ghost use Rattle.class_write.specs.SpellingLaws.{IsWritable};
 ghost use Rattle.shrink_core.specs.Due.{IsPlan, IsRefused, IsResult, RefusesPlan};
-ghost use Rattle.shrink_core.specs.Steps.{Finds, Shrinks, missed};
+ghost use Rattle.shrink_core.specs.bodies.Steps.{Finds, Shrinks, missed};
 
 use crate::asked::asked_methods;
 use crate::config::Config;
@@ -33,7 +33,8 @@ pub struct Plan {
 pub fn shrink<T: Tree>(alloc: Global, named: &CommandFiles, tree: &mut T) -> Result<Plan, Stop>
     ensures later { T.faults tree.old ≤ T.faults tree.new }
     ensures device { IsErrOf result Stop.Device → Rose (T.faults tree.old) (T.faults tree.new) }
-    ensures ended { Made (T.log tree.old) (T.log tree.new) (T.files tree.old) (T.files tree.new) (Shrinks result named.now) }
+    ensures ended { AddsCalls (T.log tree.old) (T.log tree.new) (T.files tree.old) (T.files tree.new)
+        (Shrinks result named.now) }
 {
     let plan = due_plan(alloc, named, tree)?;
     match write_files(alloc, &plan.files, tree) {
@@ -48,7 +49,7 @@ fn due_plan<T: Tree>(alloc: Global, named: &CommandFiles, tree: &mut T) -> Resul
     ensures files { T.files tree.new ≡ T.files tree.old }
     ensures later { T.faults tree.old ≤ T.faults tree.new }
     ensures device { IsErrOf result Stop.Device → Rose (T.faults tree.old) (T.faults tree.new) }
-    ensures seen { Made (T.log tree.old) (T.log tree.new) (T.files tree.old) (T.files tree.new)
+    ensures seen { AddsCalls (T.log tree.old) (T.log tree.new) (T.files tree.old) (T.files tree.new)
         (Sees (missed named.now.config result) (λ fs. Finds result (IsResult fs named.now) (IsRefused fs named.now))) }
 {
     let config = find_config(alloc, &named.config, tree)?;

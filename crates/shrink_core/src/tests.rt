@@ -115,13 +115,25 @@ const MAIN_SUM_OTHERWISE: &[u8] = b"\xCA\xFE\xBA\xBE\0\0\0\x34\0\x0C\
 \0\x01\0\x0A\0\0\0\x02\0\x0B";
 
 // `Main` with `static int f(int)` alone, up to its code's first instruction, a goto_w over 32,765 bytes behind it.
-const FAR_FRONT: &[u8] = b"\xCA\xFE\xBA\xBE\0\0\0\x34\0\x08\
+const FAR_FRONT: &[u8] = b"\xCA\xFE\xBA\xBE\0\0\0\x34\0\x09\
 \x01\0\x04Main\x07\0\x01\x01\0\x10java/lang/Object\x07\0\x03\x01\0\x01f\x01\0\x04(I)I\x01\0\x04Code\
+\x01\0\x0DStackMapTable\
 \0\x21\0\x02\0\x04\0\0\0\0\0\x01\
-\0\x09\0\x05\0\x06\0\x01\0\x07\0\0\x80\x10\0\x01\0\x01\0\0\x80\x04\xC8\0\0\x80\x02";
+\0\x09\0\x05\0\x06\0\x01\0\x07\0\0\x80\x1C\0\x01\0\x01\0\0\x80\x04\xC8\0\0\x80\x02";
 
-// The rest of it from the target on.
-const FAR_REST: &[u8] = b"\x03\xAC\0\0\0\0\0\0";
+// The rest of it from the target on, with frames behind the goto_w and at the target.
+const FAR_REST: &[u8] = b"\x03\xAC\0\0\0\x01\0\x08\0\0\0\x06\0\x02\x05\xFB\x7F\xFC\0\0";
+
+// `static int w()` of `demo.W`, which returns a local that is not set.
+const DEMO_W: &[u8] = b"\xCA\xFE\xBA\xBE\0\0\x004\0\x08\x01\0\x06demo/W\x07\0\x01\x01\0\x10java/lang/Object\x07\0\
+\x03\x01\0\x01w\x01\0\x03()I\x01\0\x04Code\0!\0\x02\0\x04\0\0\0\0\0\x01\0\x09\0\x05\0\x06\0\
+\x01\0\x07\0\0\0\x0E\0\x01\0\x01\0\0\0\x02\x1A\xAC\0\0\0\0\0\0";
+
+// `static void h()` of `demo.T`, without a frame behind a goto.
+const DEMO_T_GOTO: &[u8] = b"\xCA\xFE\xBA\xBE\0\0\x004\0\x09\x01\0\x06demo/T\x07\0\x01\x01\0\x10java/lang/Object\x07\0\
+\x03\x01\0\x01h\x01\0\x03()V\x01\0\x04Code\x01\0\x0DStackMapTable\0!\0\x02\0\x04\0\0\0\0\0\
+\x01\0\x09\0\x05\0\x06\0\x01\0\x07\0\0\0\x1A\0\0\0\0\0\0\0\x05\xA7\0\x04\0\xB1\0\0\0\x01\0\
+\x08\0\0\0\x03\0\x01\x04\0\0";
 
 // No class file.
 const MAGIC: &[u8] = b"\xCA\xFE\xBA\xBE";
@@ -422,6 +434,17 @@ const REFUSED: &[(&[Row<'static>], u8, &str)] = &[
         ],
         5,
         "error 5 profile demo.T int m(int,java.lang.String[]) Unresolved\n",
+    ),
+    // codes that aren't typed, behind all references
+    (
+        &[(CONFIG, KEEP_F), ("in/demo/W.class", DEMO_W)],
+        5,
+        "error 5 profile demo.W int w() Type Local\n",
+    ),
+    (
+        &[(CONFIG, KEEP_F), ("in/demo/T.class", DEMO_T_GOTO)],
+        5,
+        "error 5 profile demo.T void h() Type NoFrame\n",
     ),
 ];
 

@@ -1,6 +1,7 @@
 // The words of a command line.
 ghost use Rattle.std.specs.Prelude.{◌≡◌, IfOk, IfSome, IfNone, OnErr};
-ghost use Rattle.shrink_core.specs.Words.{files_in, Names, AreTaken};
+ghost use Rattle.shrink_core.specs.Words.{files_in};
+ghost use Rattle.shrink_core.specs.bodies.Words.{Names, AreTaken};
 
 use crate::path::file_in;
 use jv_base::{Items, M, Text};

@@ -5,7 +5,7 @@ use Rattle.std.proofs.lemmas.List.{append_assoc, append-nil}
 use Rattle.std.proofs.lemmas.List.Elements.{filter-append, filter_map-append}
 use Rattle.tree_io.specs.Event.{absent_of, absent_paths, file_of, files_to_write, wants_memory, without_memory}
 use Rattle.tree_io.specs.Files.{Files}
-use Rattle.tree_io.specs.Runs.{Did, Made, Run, Sees, Step, Tells}
+use Rattle.tree_io.specs.Runs.{Did, AddsCalls, Run, Sees, Step, Tells}
 use Rattle.tree_io.specs.declared.event.Event.{Event}
 use Rattle.tree_io.specs.declared.event.Event.TheVariants.{Listed, Read, Wrote, Put}
 use Rattle.tree_io.specs.declared.file_at.FileAt.{FileAt}
@@ -33,7 +33,7 @@ tells_both (Some x) b c es fs p q =
 -- what was made by one step and then by another
 pub made_both : (P Q S : List Event → Type 0) (a b c : List Event) (x y z : Option Files)
     → ((es fs : List Event) → P es → Q fs → S (es ++ fs))
-    → Made a b x y P → Made b c y z Q → Made a c x z S
+    → AddsCalls a b x y P → AddsCalls b c y z Q → AddsCalls a c x z S
 made_both P Q S a b c x y z both p q = (
   p.0 ++ q.0,
   q.1 ∙ ap (λ (l : List Event). l ++ q.0) p.1 ∙ append_assoc a p.0 q.0,
@@ -42,7 +42,7 @@ made_both P Q S a b c x y z both p q = (
 )
 
 pub made_so : (P Q : List Event → Type 0) (a b : List Event) (x y : Option Files) → ((es : List Event) → P es → Q es)
-    → Made a b x y P → Made a b x y Q
+    → AddsCalls a b x y P → AddsCalls a b x y Q
 made_so P Q a b x y so p = (p.0, p.1, p.2, so p.0 p.3)
 
 pub tells_none : (x : Option Files) → Tells x x []
@@ -50,7 +50,7 @@ tells_none None = tt
 tells_none (Some files) = (files, refl, refl)
 
 -- no call was made
-pub made_none : (P : List Event → Type 0) (a : List Event) (x : Option Files) → P [] → Made a a x x P
+pub made_none : (P : List Event → Type 0) (a : List Event) (x : Option Files) → P [] → AddsCalls a a x x P
 made_none P a x p = ([], sym (append-nil a), tells_none x, p)
 
 -- one call alone
@@ -105,7 +105,8 @@ sees_so (Some absent) P Q so es p = (p.0, λ old new run. so old (p.1 old new ru
 
 -- two steps of which the first found what it looked for
 pub made_sees : (absent : Option (List (List ℕ))) (P Q R : Files → Type 0) (a b c : List Event) (x y z : Option Files)
-    → ((files : Files) → P files → Q files → R files) → Made a b x y (Sees (Some []) P) → Made b c y z (Sees absent Q)
-    → Made a c x z (Sees absent R)
+    → ((files : Files) → P files → Q files → R files) → AddsCalls a b x y (Sees (Some []) P)
+    → AddsCalls b c y z (Sees absent Q)
+    → AddsCalls a c x z (Sees absent R)
 made_sees absent P Q R a b c x y z so p q =
     made_both (Sees (Some []) P) (Sees absent Q) (Sees absent R) a b c x y z (sees_both absent P Q R so) p q

@@ -36,8 +36,8 @@ memory_text_code =
     (λ m. (m.text, (m.counts, m.log))) (λ p. record { text = p.0; counts = p.1.0; log = p.1.1 }) (λ _. refl)
 
 -- the files that a map's entries tell
-abbrev pub told : List (List ℕ × List ℕ) → Files
-told entries = from_entries entries
+abbrev pub files_of_entries : List (List ℕ × List ℕ) → Files
+files_of_entries entries = from_entries entries
 
 -- files put one after the other over others
 abbrev pub overlaid : Files → List FileAt → Files

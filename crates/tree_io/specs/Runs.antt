@@ -29,8 +29,9 @@ abbrev pub Tells : Option Files → Option Files → List Event → Type 0
 Tells old new calls = IfSome old (λ files. (left : Files) × (new ≡ Some left) × Run calls files left)
 
 -- calls were added to a log, told files fit them, and this holds of them
-abbrev pub Made : List Event → List Event → Option Files → Option Files → (List Event → Type 0) → Type 0
-Made log log2 told told2 Holds = (calls : List Event) × (log2 ≡ log ++ calls) × Tells told told2 calls × Holds calls
+abbrev pub AddsCalls : List Event → List Event → Option Files → Option Files → (List Event → Type 0) → Type 0
+AddsCalls log log2 told told2 Holds = (calls : List Event) × (log2 ≡ log ++ calls) × Tells told told2 calls
+    × Holds calls
 
 -- how often memory was wanting for a call
 abbrev pub memory_faults : List Event → ℕ

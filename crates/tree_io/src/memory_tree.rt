@@ -8,7 +8,7 @@ ghost use Rattle.tree_io.specs.Below.{front_of, rest_after, paths_below, IsAscen
 ghost use Rattle.tree_io.specs.Calls.{called, fails_next};
 ghost use Rattle.tree_io.specs.Runs.{Tells};
 ghost use Rattle.tree_io.specs.Tree.{due_list, due_read, Lists, Reads};
-ghost use Rattle.tree_io.specs.Memory.{told, overlaid, tree_of, Writes};
+ghost use Rattle.tree_io.specs.Memory.{files_of_entries, overlaid, tree_of, Writes};
 
 use crate::calls::Calls;
 use crate::event::Note;
@@ -33,13 +33,13 @@ pub struct MemoryTree {
 }
 
 impl Model for MemoryTree {
-    ghost use Rattle.tree_io.specs.Memory.{MemoryFiles, memory_files_code, told};
+    ghost use Rattle.tree_io.specs.Memory.{MemoryFiles, memory_files_code, files_of_entries};
 
     ghost Value = { MemoryFiles };
 
     ghost coded = { memory_files_code };
 
-    ghost view = { λ t. record { files = told t.files.entries; counts = t.calls; log = t.log.events } };
+    ghost view = { λ t. record { files = files_of_entries t.files.entries; counts = t.calls; log = t.log.events } };
 }
 
 impl MemoryTree {
@@ -76,7 +76,7 @@ fn copy_of(alloc: Global, bytes: &[u8]) -> Result<Bytes, AllocError>
 
 // The files of a list, put one after the other.
 fn overlaid(alloc: Global, files: Items<FileAt>) -> Result<BTreeMap<Text, Bytes>, AllocError>
-    ensures { IfOk result (λ kept. told kept.entries ≡ overlaid map.empty files) }
+    ensures { IfOk result (λ kept. files_of_entries kept.entries ≡ overlaid map.empty files) }
 {
     let mut kept = BTreeMap::new(alloc);
     for file in files.into_vec() {
@@ -87,15 +87,16 @@ fn overlaid(alloc: Global, files: Items<FileAt>) -> Result<BTreeMap<Text, Bytes>
 
 // The bytes at a path.
 fn at_path<'a>(files: &'a BTreeMap<Text, Bytes>, path: &Text) -> Option<&'a Bytes>
-    ensures { option_copied result ≡ map.get (told files.now.entries) path.now }
+    ensures { option_copied result ≡ map.get (files_of_entries files.now.entries) path.now }
 {
     files.get(path)
 }
 
 // Puts bytes at a path, in place of any before.
 fn put(files: &mut BTreeMap<Text, Bytes>, path: Text, bytes: Bytes) -> Result<(), AllocError>
-    ensures ok { OnOk result (told files.new.entries ≡ map.insert (told files.old.entries) path bytes) }
-    ensures err { OnErr result (told files.new.entries ≡ told files.old.entries) }
+    ensures ok { OnOk result (files_of_entries files.new.entries
+        ≡ map.insert (files_of_entries files.old.entries) path bytes) }
+    ensures err { OnErr result (files_of_entries files.new.entries ≡ files_of_entries files.old.entries) }
 {
     files.insert(path, bytes)?;
     Ok(())
@@ -108,8 +109,9 @@ fn put_copy(
     path: &Text,
     bytes: &[u8],
 ) -> Result<(), AllocError>
-    ensures ok { OnOk result (told files.new.entries ≡ map.insert (told files.old.entries) path.now bytes.now) }
-    ensures err { OnErr result (told files.new.entries ≡ told files.old.entries) }
+    ensures ok { OnOk result (files_of_entries files.new.entries
+        ≡ map.insert (files_of_entries files.old.entries) path.now bytes.now) }
+    ensures err { OnErr result (files_of_entries files.new.entries ≡ files_of_entries files.old.entries) }
 {
     put(files, path.clone()?, copy_of(alloc, bytes)?)
 }
@@ -135,7 +137,8 @@ fn paths_below(
     files: &BTreeMap<Text, Bytes>,
     dir: &Text,
 ) -> Result<Vec<Text>, AllocError>
-    ensures all { IfOk result (λ paths. paths.items ≡ paths_below dir.now (map.keys (told files.now.entries))) }
+    ensures all { IfOk result (λ paths. paths.items
+        ≡ paths_below dir.now (map.keys (files_of_entries files.now.entries))) }
     ensures ascending { IfOk result (λ paths. IsAscending paths.items) }
 {
     let front = front_of(alloc, dir)?;
@@ -158,7 +161,7 @@ fn listed(
 ) -> Result<Items<Text>, ListFault>
     ensures named { IsErrOf result ListFault.Failed ↔ IsTrue (fails_next calls.old) }
     ensures after { calls.new ≡ called calls.old }
-    ensures told { Lists result (due_list (told files.now.entries) dir.now max) }
+    ensures files_of_entries { Lists result (due_list (files_of_entries files.now.entries) dir.now max) }
     ensures count { IfOk result (λ paths. length paths ≤ max) }
     ensures ascending { IfOk result (λ paths. IsAscending paths) }
 {
@@ -183,7 +186,7 @@ fn found(
 ) -> Result<Bytes, ReadFault>
     ensures named { IsErrOf result ReadFault.Failed ↔ IsTrue (fails_next calls.old) }
     ensures after { calls.new ≡ called calls.old }
-    ensures told { Reads result (due_read (map.get (told files.now.entries) path.now) max) }
+    ensures files_of_entries { Reads result (due_read (map.get (files_of_entries files.now.entries) path.now) max) }
     ensures length { IfOk result (λ bytes. length bytes ≤ max) }
 {
     if calls.begin() {
@@ -207,7 +210,8 @@ fn put_or_fail(
     path: &Text,
     bytes: &[u8],
 ) -> Result<(), WriteFault>
-    ensures cases { Writes result path.now bytes.now (told files.old.entries) calls.old (told files.new.entries) calls.new }
+    ensures cases { Writes result path.now bytes.now (files_of_entries files.old.entries) calls.old
+        (files_of_entries files.new.entries) calls.new }
 {
     let fails = calls.begin();
     let kept = if fails {
@@ -232,9 +236,13 @@ impl Tree for MemoryTree {
 
     fn list(&mut self, alloc: Global, dir: &Text, max: u32) -> Result<Items<Text>, ListFault>
         ensures named { IsErrOf result ListFault.Failed ↔ IsTrue (fails_next self.old.counts) }
-        ensures after { self.new ≡ record self.old { counts = called self.old.counts; log = self.old.log ++ Listed dir.now max result ∷ [] } }
+        ensures after { self.new ≡ record self.old {
+          counts = called self.old.counts;
+          log = self.old.log
+              ++ Listed dir.now max result ∷ [];
+        } }
         ensures fits { Tells (Some self.old.files) (Some self.new.files) (Listed dir.now max result ∷ []) }
-        ensures told { Lists result (due_list self.old.files dir.now max) }
+        ensures files_of_entries { Lists result (due_list self.old.files dir.now max) }
         ensures count { IfOk result (λ paths. length paths ≤ max) }
         ensures ascending { IfOk result (λ paths. IsAscending paths) }
     {
@@ -245,9 +253,13 @@ impl Tree for MemoryTree {
 
     fn read(&mut self, alloc: Global, path: &Text, max: u64) -> Result<Bytes, ReadFault>
         ensures named { IsErrOf result ReadFault.Failed ↔ IsTrue (fails_next self.old.counts) }
-        ensures after { self.new ≡ record self.old { counts = called self.old.counts; log = self.old.log ++ Read path.now max result ∷ [] } }
+        ensures after { self.new ≡ record self.old {
+          counts = called self.old.counts;
+          log = self.old.log
+              ++ Read path.now max result ∷ [];
+        } }
         ensures fits { Tells (Some self.old.files) (Some self.new.files) (Read path.now max result ∷ []) }
-        ensures told { Reads result (due_read (map.get self.old.files path.now) max) }
+        ensures files_of_entries { Reads result (due_read (map.get self.old.files path.now) max) }
         ensures length { IfOk result (λ bytes. length bytes ≤ max) }
     {
         let answer = found(alloc, &self.files, &mut self.calls, path, max);

@@ -8,7 +8,8 @@ use Rattle.tree_io.specs.Files.{Files}
 use Rattle.tree_io.specs.Runs.{Sees}
 use Rattle.tree_io.specs.declared.file_at.FileAt.{FileAt}
 use Rattle.tree_io.proofs.Runs.{made_both, made_sees, nothing_both, tells_none}
-use Rattle.class_files.specs.Input.{AreThere, FindsDue, IsThere, file_due, files_in, limited, missed, total}
+use Rattle.class_files.specs.Input.{AreThere, FindsDue, IsThere, files_in, limited, missed, total}
+use Rattle.class_files.specs.bodies.Input.{file_due}
 use Rattle.class_files.proofs.Totals.{fails_so, more_bytes, more_paths, more_told, no_file, no_files}
 use Rattle.class_files.proofs.input.read_each.Goals as goal
 

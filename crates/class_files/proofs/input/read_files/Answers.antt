@@ -1,5 +1,6 @@
 use Rattle.std.proofs.Common.{◌≡◌, Ok, subst, sym}
-use Rattle.class_files.specs.Input.{AreThere, FindsDue, files_in, input_due, limited, missed, paths_due}
+use Rattle.class_files.specs.Input.{AreThere, FindsDue, files_in, input_due, limited, missed}
+use Rattle.class_files.specs.bodies.Input.{paths_due}
 use Rattle.tree_io.proofs.Runs.{made_sees}
 use Rattle.class_files.proofs.Totals.{found_there, input_is}
 use Rattle.class_files.proofs.input.read_files.Goals as goal

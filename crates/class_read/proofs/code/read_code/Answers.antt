@@ -4,7 +4,7 @@ use Rattle.format_reading.specs.Reader.{ReadsOr}
 use Rattle.format_reading.specs.declared.fault.FormatFault.{FormatFault}
 use Rattle.class_model.specs.declared.frame.VType.{VType}
 use Rattle.class_model.specs.ReadingCodeAttribute.{Body}
-use Rattle.class_read.specs.Codes.{code_in_parts}
+use Rattle.class_read.specs.bodies.Codes.{code_in_parts}
 use Rattle.class_read.proofs.CodeSteps.{parts_are}
 use Rattle.class_read.proofs.code.read_code.Goals as goal
 

@@ -1,7 +1,7 @@
 use Rattle.std.proofs.lemmas.Result.{err_from_is_err_and}
 use Rattle.class_model.specs.ReadingAttributes.{attributes}
 use Rattle.class_model.specs.ReadingCodeAttribute.{known_of_code, nothing_seen}
-use Rattle.class_read.specs.CodeAttributes.{frames_by}
+use Rattle.class_read.specs.bodies.CodeAttributes.{frames_by}
 use Rattle.class_read.proofs.AttributeLoop.{goes_on, ends, is_done}
 use Rattle.class_read.proofs.code_attributes.attributes.Goals as goal
 
@@ -11,14 +11,18 @@ returns-in_err-seen c =
     let pool = c.args.frames.now.pool.now in
     let known = known_of_code (frames_by c.args.frames.now) in
     rw (p.1, p.2)
-    (ends pool known c.in_err-seen.field-0.0 c.attribute.new.cursor c.attribute.new.cursor c.args.count c.loop.counter c.loop.seen c.loop.cursor (attributes c.args.count pool known nothing_seen c.args.cursor.now) c.loop-test.true c.in_err-seen.ensures c.loop.invariant)
+    (ends pool known c.in_err-seen.field-0.0 c.attribute.new.cursor c.attribute.new.cursor c.args.count c.loop.counter
+    c.loop.seen c.loop.cursor
+    (attributes c.args.count pool known nothing_seen c.args.cursor.now) c.loop-test.true c.in_err-seen.ensures
+    c.loop.invariant)
 
 pub loop-preserved : goal.loop-preserved
 loop-preserved c =
     let pool = c.args.frames.now.pool.now in
     let known = known_of_code (frames_by c.args.frames.now) in
     goes_on pool known c.args.count c.loop.counter c.loop.seen c.in_ok-seen.seen c.loop.cursor c.attribute.new.cursor
-    (attributes c.args.count pool known nothing_seen c.args.cursor.now) c.loop-test.true c.in_ok-seen.ensures c.loop.invariant
+    (attributes c.args.count pool known nothing_seen c.args.cursor.now) c.loop-test.true c.in_ok-seen.ensures
+    c.loop.invariant
 
 pub returns : goal.returns
 returns c =

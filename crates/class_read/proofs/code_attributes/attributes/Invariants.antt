@@ -1,7 +1,7 @@
 use Rattle.std.proofs.Common.{◌≡◌, ◌-◌}
 use Rattle.class_model.specs.ReadingAttributes.{attributes}
 use Rattle.class_model.specs.ReadingCodeAttribute.{known_of_code, nothing_seen}
-use Rattle.class_read.specs.CodeAttributes.{frames_by}
+use Rattle.class_read.specs.bodies.CodeAttributes.{frames_by}
 use Rattle.class_read.proofs.code_attributes.attributes.Given as goal
 
 abbrev pub invariant-loop : goal.invariant-loop

@@ -1,6 +1,6 @@
 use Rattle.std.proofs.Common.{sym, arith}
 use Rattle.std.proofs.lemmas.Result.{err_from_is_err_and}
-use Rattle.class_read.specs.Entries.{faults_in}
+use Rattle.class_read.specs.bodies.Entries.{faults_in}
 use Rattle.class_read.proofs.Judging.{goes_on, ends, is_done}
 use Rattle.class_read.proofs.entries.all_named_right.Goals as goal
 

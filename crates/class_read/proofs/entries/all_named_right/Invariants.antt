@@ -1,5 +1,5 @@
 use Rattle.std.proofs.Common.{◌≡◌, drop}
-use Rattle.class_read.specs.Entries.{faults_in}
+use Rattle.class_read.specs.bodies.Entries.{faults_in}
 use Rattle.class_read.proofs.entries.all_named_right.Given as goal
 
 abbrev pub invariant-loop-index : goal.invariant-loop-index

@@ -5,14 +5,15 @@ use Rattle.jv_base.specs.Place.{Place}
 use Rattle.format_reading.specs.declared.fault.FormatFault.{FormatFault}
 use Rattle.class_model.specs.declared.pool.Entry.{Entry}
 use Rattle.class_model.specs.ReadingPool.{slots}
-use Rattle.class_read.specs.Entries.{offsets_of}
+use Rattle.class_read.specs.bodies.Entries.{offsets_of}
 use Rattle.class_read.proofs.Judging.{pool_is, told_is}
 use Rattle.class_read.proofs.entries.read_pool.Goals as goal
 
 pub returns-in_err-all_named_right : goal.returns-in_err-all_named_right
 unfolding u2
 returns-in_err-all_named_right c =
-    let p = err_from_is_err_and c.from_residual-in_err-all_named_right.result c.from_residual-in_err-all_named_right.ensures.1 in
+    let p = err_from_is_err_and c.from_residual-in_err-all_named_right.result
+    c.from_residual-in_err-all_named_right.ensures.1 in
     let xs = c.in_ok-slots.slots in
     let f = c.in_err-all_named_right.field-0.0 in
     let count = ap or_cut c.in_ok-count.ensures in

@@ -1,5 +1,5 @@
 use Rattle.std.proofs.Common.{◌≡◌, ◌++◌, drop, None}
-use Rattle.class_read.specs.Lines.{carried}
+use Rattle.class_read.specs.bodies.Lines.{carried}
 use Rattle.class_read.proofs.lines.carried.Given as goal
 
 abbrev pub invariant-loop-next : goal.invariant-loop-next

@@ -1,8 +1,8 @@
 use Rattle.std.proofs.Common.{◌≡◌, ◌++◌, length}
 use Rattle.std.specs.Slice.Iter.{iter_rest}
 use Rattle.std.specs.Vec.Iter.{into_iter_items, into_iter_len}
-use Rattle.frame_types.specs.Numbers.{found}
-use Rattle.class_read.specs.Lines.{lined_by}
+use Rattle.frame_types.specs.bodies.Numbers.{found}
+use Rattle.class_read.specs.bodies.Lines.{lined_by}
 use Rattle.class_read.proofs.lines.lined_by.Given as goal
 
 abbrev pub invariant-loop-op : goal.invariant-loop-op

@@ -1,7 +1,7 @@
 use Rattle.std.proofs.Common.{◌≡◌, ◌<◌, ℕ, drop, length}
 use Rattle.std.specs.Prelude.{fold}
-use Rattle.frame_types.specs.Numbers.{found}
-use Rattle.class_read.specs.Lines.{last_there, line_there}
+use Rattle.frame_types.specs.bodies.Numbers.{found}
+use Rattle.class_read.specs.bodies.Lines.{last_there, line_there}
 use Rattle.class_read.proofs.lines.lines_there.Given as goal
 
 abbrev pub invariant-loop-row : goal.invariant-loop-row

@@ -1,6 +1,6 @@
 use Rattle.std.proofs.Common.{◌≡◌, drop}
 use Rattle.std.specs.Prelude.{fold}
-use Rattle.class_read.specs.Lines.{past, offsets_up_to}
+use Rattle.class_read.specs.bodies.Lines.{past, offsets_up_to}
 use Rattle.class_read.proofs.lines.offsets_up_to.Given as goal
 
 abbrev pub invariant-loop-start : goal.invariant-loop-start

@@ -1,7 +1,7 @@
 use Rattle.std.proofs.lemmas.Result.{err_from_is_err_and}
 use Rattle.class_model.specs.ReadingAttributes.{attributes}
 use Rattle.class_model.specs.ReadingMembers.{no_method_attribute}
-use Rattle.class_read.specs.Methods.{known_of}
+use Rattle.class_read.specs.bodies.Methods.{known_of}
 use Rattle.class_read.proofs.AttributeLoop.{goes_on, ends, is_done}
 use Rattle.class_read.proofs.methods.attributes.Goals as goal
 
@@ -11,14 +11,18 @@ returns-in_err-seen c =
     let pool = c.args.pool.now in
     let known = known_of pool c.args.class.now c.args.head.now in
     rw (p.1, p.2)
-    (ends pool known c.in_err-seen.field-0.0 c.attribute.new.cursor c.attribute.new.cursor c.args.count c.loop.counter c.loop.seen c.loop.cursor (attributes c.args.count pool known no_method_attribute c.args.cursor.now) c.loop-test.true c.in_err-seen.ensures c.loop.invariant)
+    (ends pool known c.in_err-seen.field-0.0 c.attribute.new.cursor c.attribute.new.cursor c.args.count c.loop.counter
+    c.loop.seen c.loop.cursor
+    (attributes c.args.count pool known no_method_attribute c.args.cursor.now) c.loop-test.true
+    c.in_err-seen.ensures c.loop.invariant)
 
 pub loop-preserved : goal.loop-preserved
 loop-preserved c =
     let pool = c.args.pool.now in
     let known = known_of pool c.args.class.now c.args.head.now in
     goes_on pool known c.args.count c.loop.counter c.loop.seen c.in_ok-seen.seen c.loop.cursor c.attribute.new.cursor
-    (attributes c.args.count pool known no_method_attribute c.args.cursor.now) c.loop-test.true c.in_ok-seen.ensures c.loop.invariant
+    (attributes c.args.count pool known no_method_attribute c.args.cursor.now) c.loop-test.true c.in_ok-seen.ensures
+    c.loop.invariant
 
 pub returns : goal.returns
 returns c =

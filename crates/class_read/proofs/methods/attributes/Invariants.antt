@@ -1,7 +1,7 @@
 use Rattle.std.proofs.Common.{◌≡◌, ◌-◌}
 use Rattle.class_model.specs.ReadingAttributes.{attributes}
 use Rattle.class_model.specs.ReadingMembers.{no_method_attribute}
-use Rattle.class_read.specs.Methods.{known_of}
+use Rattle.class_read.specs.bodies.Methods.{known_of}
 use Rattle.class_read.proofs.methods.attributes.Given as goal
 
 abbrev pub invariant-loop : goal.invariant-loop

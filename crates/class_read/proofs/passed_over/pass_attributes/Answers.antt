@@ -1,5 +1,5 @@
 use Rattle.std.proofs.lemmas.Result.{err_from_is_err_and}
-use Rattle.class_read.specs.PassedOver.{attributes_passed}
+use Rattle.class_read.specs.bodies.PassedOver.{attributes_passed}
 use Rattle.class_read.proofs.PassedLoop.{goes_on, ends, is_done}
 use Rattle.class_read.proofs.passed_over.pass_attributes.Goals as goal
 
@@ -7,7 +7,8 @@ pub returns-in_err-skip_attribute : goal.returns-in_err-skip_attribute
 returns-in_err-skip_attribute c =
     let p = err_from_is_err_and c.from_residual.result c.from_residual.ensures.1 in
     rw (p.1, p.2) (ends c.args.count c.loop.counter c.loop.cursor c.in_err-skip_attribute.field-0.0
-    (attributes_passed c.args.count c.args.cursor.now) c.loop-test.true c.in_err-skip_attribute.ensures c.loop.invariant)
+    (attributes_passed c.args.count c.args.cursor.now) c.loop-test.true c.in_err-skip_attribute.ensures
+        c.loop.invariant)
 
 pub loop-preserved : goal.loop-preserved
 loop-preserved c = goes_on c.args.count c.loop.counter c.loop.cursor c.skip_attribute.new.cursor

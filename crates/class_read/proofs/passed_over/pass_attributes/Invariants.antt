@@ -1,5 +1,5 @@
 use Rattle.std.proofs.Common.{◌≡◌, ◌-◌}
-use Rattle.class_read.specs.PassedOver.{attributes_passed}
+use Rattle.class_read.specs.bodies.PassedOver.{attributes_passed}
 use Rattle.class_read.proofs.passed_over.pass_attributes.Given as goal
 
 abbrev pub invariant-loop : goal.invariant-loop

@@ -6,7 +6,7 @@ use Rattle.class_write.proofs.PlacedCodes.{places_short}
 use Rattle.class_model.specs.CanonicalClass.{code_contents, line_rows, line_table}
 use Rattle.class_model.specs.Frames.{stack_map_table}
 use Rattle.class_model.specs.CanonicalFrames.{rows}
-use Rattle.class_write.specs.Writing.{items_text}
+use Rattle.class_write.specs.bodies.Writing.{items_text}
 use Rattle.class_write.proofs.CodeLengths.{lines_info, frames_info, length_is, due_long, due_short, written_is}
 use Rattle.class_write.proofs.contents.code_contents.Goals as goal
 
@@ -76,9 +76,11 @@ returns-clause-due c =
     let items_are : c.put_items.new.out.items ≡ [] ++ items_text pool code =
     c.in_ok-put_items.ensures ∙ ap (λ (xs : List ℕ). xs ++ items_text pool code) c.new-info.ensures.items in
     let whole : c.put_tables.new.out.items ≡ code_contents pool first code =
-    written_is pool first code c.put_items.new.out.items c.put_tables.new.out.items c.deref.result.now c.deref-2.result.now items_are
+    written_is pool first code c.put_items.new.out.items c.put_tables.new.out.items c.deref.result.now
+        c.deref-2.result.now items_are
     (c.deref.ensures.value ∙ lines_are) (c.deref-2.ensures.value ∙ frames_are) c.in_ok-put_tables.ensures in
-    due_short pool first code c.contents_length-length.result c.put_tables.new.out.items long c.if-length-gt4294967295.false whole
+    due_short pool first code c.contents_length-length.result c.put_tables.new.out.items long
+        c.if-length-gt4294967295.false whole
 
 pub returns-clause-short : goal.returns-clause-short
 returns-clause-short c =
@@ -103,6 +105,7 @@ returns-clause-short c =
     let items_are : c.put_items.new.out.items ≡ [] ++ items_text pool code =
     c.in_ok-put_items.ensures ∙ ap (λ (xs : List ℕ). xs ++ items_text pool code) c.new-info.ensures.items in
     let whole : c.put_tables.new.out.items ≡ code_contents pool first code =
-    written_is pool first code c.put_items.new.out.items c.put_tables.new.out.items c.deref.result.now c.deref-2.result.now items_are
+    written_is pool first code c.put_items.new.out.items c.put_tables.new.out.items c.deref.result.now
+        c.deref-2.result.now items_are
     (c.deref.ensures.value ∙ lines_are) (c.deref-2.ensures.value ∙ frames_are) c.in_ok-put_tables.ensures in
     omega (arith, ap length whole, long, c.if-length-gt4294967295.false)

@@ -1,7 +1,7 @@
 use Rattle.std.proofs.Common.{◌≡◌, drop, take}
 use Rattle.class_model.specs.declared.class.Method.{Method}
 use Rattle.class_model.specs.WriteLimits.{first_of, code_fits}
-use Rattle.class_write.specs.Placing.{placed_bodies}
+use Rattle.class_write.specs.bodies.Placing.{placed_bodies}
 use Rattle.class_write.proofs.placing.place_bodies.Given as goal
 
 abbrev pub invariant-loop-method : goal.invariant-loop-method

@@ -1,6 +1,6 @@
 use Rattle.std.proofs.Common.{ℕ, List, [], ◌∷◌, ◌++◌, length, ap, ◌∙◌, arith}
 use Rattle.std.proofs.lemmas.Result.{err_from_is_err_and}
-use Rattle.jv_ops.specs.declared.encoding.Coded.{Coded}
+use Rattle.jv_ops.specs.declared.writing.encoding.Coded.{Coded}
 use Rattle.class_write.proofs.PlacedCodes.{all_have_indices, coded_is, placed_is, fault_due}
 use Rattle.class_write.proofs.placing.place_code.Goals as goal
 
@@ -19,6 +19,7 @@ overflow_cast-len c =
 
 pub returns : goal.returns
 returns c =
-    placed_is c.args.pool.now c.args.code.now c.in_ok-coded.coded c.len.result c.from_vec.result c.in_ok-coded.ensures.exact c.len.ensures
+    placed_is c.args.pool.now c.args.code.now c.in_ok-coded.coded c.len.result c.from_vec.result
+        c.in_ok-coded.ensures.exact c.len.ensures
     (c.from_vec.ensures ∙ (c.in_ok-push.ensures.items ∙ ap (λ
     (xs : List ℕ). xs ++ c.len.result ∷ []) c.into_vec-places.ensures))

@@ -1,9 +1,10 @@
-use Rattle.std.proofs.Common.{◌≡◌, drop}
+use Rattle.std.proofs.Common.{◌≡◌}
 use Rattle.indexmap.specs.IndexSet.{insert_all}
 use Rattle.class_model.specs.CanonicalPool.{same}
 use Rattle.class_model.specs.CanonicalFrames.{frame_constants}
+use Rattle.frame_types.proofs.ByNumber.{constants_from}
 use Rattle.class_write.proofs.pool.add_frames.Given as goal
 
-abbrev pub invariant-loop-next : goal.invariant-loop-next
-invariant-loop-next l = insert_all same l.pool (frame_constants l.before (drop l.next-index l.frames))
+abbrev pub invariant-loop-number : goal.invariant-loop-number
+invariant-loop-number l = insert_all same l.pool (constants_from l.first l.frames l.number)
     ≡ insert_all same l.initial.pool (frame_constants l.first l.frames)

@@ -8,10 +8,10 @@ use Rattle.class_model.specs.Flags.{is_interface}
 use Rattle.class_model.specs.ClassFile.{class_file}
 use Rattle.class_model.specs.CanonicalClass.{class_raw}
 use Rattle.class_model.specs.WriteLimits.{first_of, code_fits, tables_fit}
-use Rattle.class_write.specs.Placing.{placed_bodies, bodies_due}
-use Rattle.class_write.specs.Limits.{IsCounted}
+use Rattle.class_write.specs.bodies.Placing.{placed_bodies, bodies_due}
+use Rattle.class_write.specs.bodies.Limits.{IsCounted}
 use Rattle.constant_table.specs.Limits.{pool_fits}
-use Rattle.class_write.specs.Writing.{HasFitting}
+use Rattle.class_write.specs.bodies.Writing.{HasFitting}
 use Rattle.class_write.proofs.Dues.{bound_ok, pool_fault_due, codes_fault_due, tables_fault, bodies_fault_due}
 use Rattle.class_write.proofs.Dues.{bytes_due}
 use Rattle.class_write.proofs.Fitting.{fitting, tables_ok, writables}
@@ -22,7 +22,8 @@ returns-in_err-check_limits c =
     let class = c.args.class.now in
     let pool = c.in_ok-pool.pool in
     let is = c.in_ok-pool.ensures in
-    let p = err_from_is_err_and c.from_residual-in_err-check_limits.result c.from_residual-in_err-check_limits.ensures.1 in
+    let p = err_from_is_err_and c.from_residual-in_err-check_limits.result
+        c.from_residual-in_err-check_limits.ensures.1 in
     record {
       exact = rw (p.1, p.2)
           (pool_fault_due class pool is c.in_err-check_limits.field-0.0 c.in_err-check_limits.ensures);
@@ -81,7 +82,8 @@ returns-in_err-put_class_file c =
     let coded = (bound_ok (placed_bodies pool class.methods) (first_of
     (λ (m : Method). code_fits pool m.code) class.methods) c.in_ok-placed.placed due).0 in
     let tables : tables_fit class ≡ Ok tt = sym c.in_default.ensures in
-    let p = err_from_is_err_and c.from_residual-in_err-put_class_file.result c.from_residual-in_err-put_class_file.ensures.1 in
+    let p = err_from_is_err_and c.from_residual-in_err-put_class_file.result
+        c.from_residual-in_err-put_class_file.ensures.1 in
     record {
       exact = rw (p.1, p.2) (bodies_fault_due class pool is fits coded tables c.in_err-put_class_file.field-0.0
           c.new-out.result.items c.put_class_file.new.out.items

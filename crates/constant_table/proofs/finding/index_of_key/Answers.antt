@@ -1,5 +1,5 @@
 use Rattle.std.proofs.Common.{ap, ◌∙◌}
-use Rattle.constant_table.specs.Keys.{index_in}
+use Rattle.constant_table.specs.bodies.Keys.{index_in}
 use Rattle.constant_table.proofs.Told.{index_told}
 use Rattle.constant_table.proofs.finding.index_of_key.Goals as goal
 

@@ -3,7 +3,7 @@ use Rattle.std.specs.List.{flat_map}
 use Rattle.class_model.specs.ConstantPool.{cp_info}
 use Rattle.class_model.specs.CanonicalPool.{info_of}
 use Rattle.class_model.specs.WriteLimits.{first_of, text_fits}
-use Rattle.constant_table.specs.Keys.{constant_of, constants_of}
+use Rattle.constant_table.specs.bodies.Keys.{constant_of, constants_of}
 use Rattle.constant_table.proofs.items.put_all.Given as goal
 
 abbrev pub invariant-loop-key : goal.invariant-loop-key

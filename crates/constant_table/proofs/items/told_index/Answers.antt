@@ -3,7 +3,7 @@ use Rattle.std.specs.List.{position_or_len}
 use Rattle.std.proofs.lemmas.List.{length-map}
 use Rattle.std.proofs.lemmas.List.Sums.{prefix_len-le-length}
 use Rattle.class_model.specs.CanonicalPool.{same, index_of}
-use Rattle.constant_table.specs.Keys.{constant_of, constants_of}
+use Rattle.constant_table.specs.bodies.Keys.{constant_of, constants_of}
 use Rattle.constant_table.proofs.Told.{key_there}
 use Rattle.constant_table.proofs.items.told_index.Goals as goal
 

@@ -2,7 +2,7 @@ use Rattle.std.proofs.Common.{[], ◌∷◌, ◌++◌}
 use Rattle.jv_base.specs.Utf16.{units_of}
 use Rattle.class_model.specs.declared.constant.PoolConstant.TheVariants as constant
 use Rattle.class_model.specs.CanonicalPool as canonical
-use Rattle.constant_table.specs.Members.{part_keys, field_key}
+use Rattle.constant_table.specs.bodies.Members.{part_keys, field_key}
 use Rattle.constant_table.proofs.Wanted.{on_put, member_told, field_told}
 use Rattle.constant_table.proofs.putting.put_field.Goals as goal
 

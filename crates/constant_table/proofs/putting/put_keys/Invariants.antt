@@ -1,7 +1,7 @@
 use Rattle.std.proofs.Common.{◌≡◌, map, drop}
 use Rattle.indexmap.specs.IndexSet.{insert_all}
 use Rattle.class_model.specs.CanonicalPool.{same}
-use Rattle.constant_table.specs.Keys.{AreKeysOf, constant_of, constants_of}
+use Rattle.constant_table.specs.bodies.Keys.{AreKeysOf, constant_of, constants_of}
 use Rattle.constant_table.proofs.putting.put_keys.Given as goal
 
 abbrev pub invariant-loop-key : goal.invariant-loop-key

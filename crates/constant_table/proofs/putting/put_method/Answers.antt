@@ -1,8 +1,8 @@
 use Rattle.std.proofs.Common.{[], ◌∷◌, ◌++◌, ap, ◌∙◌}
 use Rattle.jv_base.specs.Utf16.{units_of}
 use Rattle.class_model.specs.CanonicalPool as canonical
-use Rattle.constant_table.specs.Keys.{constant_of}
-use Rattle.constant_table.specs.Members.{part_keys}
+use Rattle.constant_table.specs.bodies.Keys.{constant_of}
+use Rattle.constant_table.specs.bodies.Members.{part_keys}
 use Rattle.constant_table.proofs.Wanted.{on_put, member_told, method_told}
 use Rattle.constant_table.proofs.putting.put_method.Goals as goal
 

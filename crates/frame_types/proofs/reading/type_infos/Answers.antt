@@ -3,7 +3,7 @@ use Rattle.std.proofs.lemmas.Result.{err_from_is_err_and}
 use Rattle.format_reading.specs.Reader.{many}
 use Rattle.format_reading.proofs.Many.{is_done}
 use Rattle.class_model.specs.ReadingFrames.{read_type}
-use Rattle.frame_types.specs.Rows.{info_of}
+use Rattle.frame_types.specs.bodies.Rows.{info_of}
 use Rattle.frame_types.proofs.Rows.{goes_on_as}
 use Rattle.frame_types.proofs.reading.type_infos.Goals as goal
 use Rattle.jv_ops.proofs.Loops.{many_fault}
@@ -20,7 +20,8 @@ returns-in_err-next c =
 pub loop-preserved : goal.loop-preserved
 loop-preserved c =
     let e : c.push.new.self ≡ c.loop.infos ++ c.in_ok-next.next ∷ [] = c.in_ok-push.ensures in
-    rw e (goes_on_as info_of read_type c.loop.infos c.args.count c.loop.counter c.loop.cursor c.type_info.new.cursor c.in_ok-next.next
+    rw e (goes_on_as info_of read_type c.loop.infos c.args.count c.loop.counter c.loop.cursor c.type_info.new.cursor
+        c.in_ok-next.next
     (many c.args.count read_type c.args.cursor.now) c.loop-test.true c.in_ok-next.ensures c.loop.invariant)
 
 pub returns : goal.returns

@@ -1,7 +1,7 @@
 use Rattle.std.proofs.Common.{◌≡◌, ◌-◌, map}
 use Rattle.format_reading.specs.Reader.{many, behind}
 use Rattle.class_model.specs.ReadingFrames.{read_type}
-use Rattle.frame_types.specs.Rows.{info_of}
+use Rattle.frame_types.specs.bodies.Rows.{info_of}
 use Rattle.frame_types.proofs.reading.type_infos.Given as goal
 
 abbrev pub invariant-loop : goal.invariant-loop

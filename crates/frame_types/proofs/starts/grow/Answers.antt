@@ -1,6 +1,6 @@
 use Rattle.std.proofs.Common.{◌≡◌, ◌+◌, ◌++◌, ◌∷◌, [], length, None, ap, ◌∙◌, arith}
 use Rattle.std.proofs.lemmas.List.{length_push}
-use Rattle.frame_types.specs.Numbers.{found}
+use Rattle.frame_types.specs.bodies.Numbers.{found}
 use Rattle.frame_types.proofs.starts.grow.Goals as goal
 use Rattle.jv_ops.proofs.Numbers.{found_push}
 

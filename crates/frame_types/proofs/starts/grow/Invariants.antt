@@ -1,5 +1,5 @@
 use Rattle.std.proofs.Common.{◌≡◌, ◌≤◌, ℕ, length}
-use Rattle.frame_types.specs.Numbers.{found}
+use Rattle.frame_types.specs.bodies.Numbers.{found}
 use Rattle.frame_types.proofs.starts.grow.Given as goal
 
 abbrev pub invariant-loop : goal.invariant-loop

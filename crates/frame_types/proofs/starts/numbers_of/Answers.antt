@@ -1,6 +1,6 @@
 use Rattle.std.specs.Prelude.{nat_eq}
 use Rattle.std.specs.List.{position_from}
-use Rattle.frame_types.specs.Numbers.{found}
+use Rattle.frame_types.specs.bodies.Numbers.{found}
 use Rattle.frame_types.proofs.Numbers.{goes_on, is_done}
 use Rattle.frame_types.proofs.starts.numbers_of.Goals as goal
 
@@ -14,5 +14,6 @@ loop-number-preserved c = (
 )
 
 pub returns-clause-found : goal.returns-clause-found
-returns-clause-found c = is_done c.loop-number.table.items c.loop-number.number c.args.starts.now c.loop-number-test.false
+returns-clause-found c = is_done c.loop-number.table.items c.loop-number.number c.args.starts.now
+    c.loop-number-test.false
     c.loop-number.invariant.0

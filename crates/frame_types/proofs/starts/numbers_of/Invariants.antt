@@ -1,7 +1,7 @@
 use Rattle.std.proofs.Common.{◌≡◌, ◌≤◌, ℕ, drop, length}
 use Rattle.std.specs.Prelude.{nat_eq}
 use Rattle.std.specs.List.{position_from}
-use Rattle.frame_types.specs.Numbers.{found, first_of_two}
+use Rattle.frame_types.specs.bodies.Numbers.{found, first_of_two}
 use Rattle.frame_types.proofs.starts.numbers_of.Given as goal
 
 abbrev pub invariant-loop-number : goal.invariant-loop-number

@@ -1,7 +1,7 @@
 use Rattle.std.proofs.Common.{◌≡◌, map, drop}
 use Rattle.std.specs.List.{list_any}
 use Rattle.class_model.specs.Frames.{is_float_info}
-use Rattle.frame_types.specs.Rows.{info_of}
+use Rattle.frame_types.specs.bodies.Rows.{info_of}
 use Rattle.frame_types.proofs.types.has_float.Given as goal
 
 abbrev pub invariant-loop-info : goal.invariant-loop-info

@@ -1,6 +1,6 @@
 use Rattle.std.proofs.Common.{◌≡◌, map}
 use Rattle.class_model.specs.ReadingFrames.{types_of}
-use Rattle.frame_types.specs.Rows.{info_of}
+use Rattle.frame_types.specs.bodies.Rows.{info_of}
 use Rattle.frame_types.proofs.Loops.{onto, types_from}
 use Rattle.frame_types.proofs.types.types_of.Given as goal
 

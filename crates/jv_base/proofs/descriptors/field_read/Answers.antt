@@ -1,5 +1,5 @@
 use Rattle.std.proofs.Common.{◌≡◌, ℕ, ◌+◌, ◌<◌, ◌≤◌, List, length, get_or, Some, None, ap, sym, ◌∙◌, arith}
-use Rattle.jv_base.specs.DescriptorPlaces.{field_at, field_read_at}
+use Rattle.jv_base.specs.bodies.DescriptorPlaces.{field_at, field_read_at}
 use Rattle.jv_base.specs.Descriptors.{bad_descriptor, field_byte, field_end, read_field}
 use Rattle.jv_base.specs.Walk.{or_fault}
 use Rattle.jv_base.proofs.Walking.{goes_on, stops, is_done}

@@ -1,5 +1,5 @@
 use Rattle.std.proofs.Common.{◌≡◌, drop}
-use Rattle.jv_base.specs.DescriptorPlaces.{field_at, IsFieldPlaced}
+use Rattle.jv_base.specs.bodies.DescriptorPlaces.{field_at, IsFieldPlaced}
 use Rattle.jv_base.specs.Descriptors.{brackets, field_begun, field_byte, field_end}
 use Rattle.jv_base.specs.Walk.{walk}
 use Rattle.jv_base.proofs.descriptors.field_read.Given as goal

@@ -1,6 +1,6 @@
 use Rattle.std.proofs.Common.{◌+◌, ap, sym, ◌∙◌}
 use Rattle.std.specs.Prelude.{slice_range}
-use Rattle.jv_base.specs.DescriptorPlaces.{begun_at, grown_at, more_of}
+use Rattle.jv_base.specs.bodies.DescriptorPlaces.{begun_at, grown_at, more_of}
 use Rattle.jv_base.specs.Descriptors.{grown}
 use Rattle.jv_base.specs.Names.{part_after}
 use Rattle.jv_base.proofs.Places.{name_byte, name_goes_on}

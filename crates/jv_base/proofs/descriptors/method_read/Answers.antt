@@ -1,6 +1,6 @@
 use Rattle.std.proofs.Common.{◌≡◌, Option, refl, ℕ, ◌+◌, ◌<◌, ◌≤◌, List, length, get_or, Some, None, ap, sym, ◌∙◌}
 use Rattle.std.proofs.Common.{arith}
-use Rattle.jv_base.specs.DescriptorPlaces.{method_next_at, method_read_at, part_at}
+use Rattle.jv_base.specs.bodies.DescriptorPlaces.{method_next_at, method_read_at, part_at}
 use Rattle.jv_base.specs.declared.types.FieldType.{FieldType}
 use Rattle.jv_base.specs.declared.descriptors.MethodPart.{MethodPart}
 use Rattle.jv_base.specs.declared.descriptors.MethodPart.TheVariants.{Before, Parameter, Returned, Behind}

@@ -1,5 +1,5 @@
 use Rattle.std.proofs.Common.{◌≡◌, drop, []}
-use Rattle.jv_base.specs.DescriptorPlaces.{IsMethodPlaced, method_read_at}
+use Rattle.jv_base.specs.bodies.DescriptorPlaces.{IsMethodPlaced, method_read_at}
 use Rattle.jv_base.specs.Descriptors.{before, method_byte, method_end}
 use Rattle.jv_base.specs.Walk.{walk}
 use Rattle.jv_base.proofs.descriptors.method_read.Given as goal

@@ -1,6 +1,7 @@
 use Rattle.std.proofs.Common.{◌≡◌, ℕ, ◌+◌, ◌<◌, ◌≤◌, List, length, get_or, Some, None, ap, sym, ◌∙◌, arith}
 use Rattle.jv_base.specs.Descriptors.{bad_descriptor}
-use Rattle.jv_base.specs.External.{external_at, external_byte, external_end, external_next_at, read_external}
+use Rattle.jv_base.specs.External.{external_byte, external_end, read_external}
+use Rattle.jv_base.specs.bodies.External.{external_at, external_next_at}
 use Rattle.jv_base.specs.Walk.{or_fault}
 use Rattle.jv_base.proofs.Walking.{goes_on, stops, is_done}
 use Rattle.jv_base.proofs.external_form.external_read.Goals as goal

@@ -1,5 +1,6 @@
 use Rattle.std.proofs.Common.{◌≡◌, drop, [], false}
-use Rattle.jv_base.specs.External.{external_at, external_byte, external_end, HasRoom, word}
+use Rattle.jv_base.specs.External.{external_byte, external_end, word}
+use Rattle.jv_base.specs.bodies.External.{external_at, HasRoom}
 use Rattle.jv_base.specs.Walk.{walk}
 use Rattle.jv_base.proofs.external_form.external_read.Given as goal
 

@@ -1,5 +1,6 @@
 use Rattle.std.proofs.Common.{◌≡◌, drop, []}
-use Rattle.jv_base.specs.Decoding.{decode_from, HasBits}
+use Rattle.jv_base.specs.Decoding.{decode_from}
+use Rattle.jv_base.specs.bodies.Decoding.{HasBits}
 use Rattle.jv_base.specs.declared.mutf8.Awaited.TheVariants.{Lead}
 use Rattle.jv_base.proofs.mutf8.decoded.Given as goal
 

@@ -2,7 +2,7 @@ use Rattle.std.proofs.Common.{◌≡◌, Ok, Err, sym, ap, ◌∙◌}
 use Rattle.format_reading.specs.Fault.{cut}
 use Rattle.format_reading.specs.Reader.{u1, or_cut, onwards}
 use Rattle.class_model.specs.ReadingCode.{begun}
-use Rattle.jv_ops.specs.Meaning.{meant}
+use Rattle.jv_ops.specs.Meaning.{meaning_of_read}
 use Rattle.jv_ops.specs.Decoding.{at_offset}
 use Rattle.jv_ops.proofs.Placed.{behind_opcode, without_opcode, wrong_is}
 use Rattle.jv_ops.proofs.reading.placed_at.Goals as goal
@@ -26,7 +26,7 @@ unfolding u1
 returns-in-Err-Fault c =
     let at = c.place-at.result in
     let opcode : u1 c.args.cursor.now ≡ Ok (c.in-Ok.opcode, c.u1.new.self) = ap or_cut c.in-Ok.ensures in
-    let read = meant c.args.pool.now (onwards at (begun c.args.pool.now at c.in-Ok.opcode) c.u1.new.self) in
+    let read = meaning_of_read c.args.pool.now (onwards at (begun c.args.pool.now at c.in-Ok.opcode) c.u1.new.self) in
     behind_opcode c.args.pool.now c.args.cursor.now c.u1.new.self at c.in-Ok.opcode c.place-at.ensures opcode
     ∙ ap (at_offset at)
     (wrong_is c.in-Err-Fault.field-0 c.in-Err-Fault.wrong c.begun.new.cursor read c.in-Err-Fault.field-0-is

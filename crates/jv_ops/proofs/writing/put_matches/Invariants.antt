@@ -2,7 +2,7 @@ use Rattle.std.proofs.Common.{◌≡◌, ◌++◌, map, take}
 use Rattle.std.specs.Prelude.{slice_index}
 use Rattle.std.specs.List.{flat_map}
 use Rattle.class_model.specs.InstructionStructure.{match_offset}
-use Rattle.jv_ops.specs.Coded.{match_of}
+use Rattle.jv_ops.specs.bodies.Coded.{match_of}
 use Rattle.jv_ops.proofs.writing.put_matches.Given as goal
 
 abbrev pub invariant-loop-case : goal.invariant-loop-case

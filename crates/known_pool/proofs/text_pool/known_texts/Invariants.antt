@@ -1,5 +1,5 @@
 use Rattle.std.proofs.Common.{◌≡◌, ◌++◌, drop, map}
-use Rattle.known_pool.specs.Texts.{text_in}
+use Rattle.known_pool.specs.bodies.Texts.{text_in}
 use Rattle.known_pool.proofs.text_pool.known_texts.Given as goal
 
 abbrev pub invariant-loop-entry : goal.invariant-loop-entry

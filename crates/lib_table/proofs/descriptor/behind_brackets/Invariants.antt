@@ -1,5 +1,5 @@
 use Rattle.std.proofs.Common.{◌≡◌, ◌-◌, replicate}
-use Rattle.lib_table.specs.Stripping.{behind}
+use Rattle.lib_table.specs.bodies.Stripping.{behind}
 use Rattle.lib_table.proofs.descriptor.behind_brackets.Given as goal
 
 abbrev pub invariant-loop : goal.invariant-loop

@@ -1,5 +1,5 @@
 use Rattle.std.proofs.Common.{◌∙◌, sym, ap, drop, List, ℕ, ◌+◌, option_copied}
-use Rattle.lib_table.specs.Stripping.{behind}
+use Rattle.lib_table.specs.bodies.Stripping.{behind}
 use Rattle.std.specs.List.{flat_map}
 use Rattle.jv_base.specs.Types.{field_text}
 use Rattle.lib_table.proofs.Behind.{behind_then, behind_stuck, fields_are}

@@ -1,7 +1,7 @@
 use Rattle.std.proofs.Common.{◌≡◌, drop}
 use Rattle.std.specs.List.{flat_map}
 use Rattle.jv_base.specs.Types.{field_text}
-use Rattle.lib_table.specs.Stripping.{behind}
+use Rattle.lib_table.specs.bodies.Stripping.{behind}
 use Rattle.lib_table.proofs.descriptor.behind_fields.Given as goal
 
 abbrev pub invariant-loop-ty : goal.invariant-loop-ty

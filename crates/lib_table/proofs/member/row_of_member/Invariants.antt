@@ -1,7 +1,7 @@
 use Rattle.std.proofs.Common.{◌≡◌, drop, map}
 use Rattle.std.specs.List.{find, enumerate_from}
 use Rattle.lib_table.specs.Lookups.{is_member}
-use Rattle.lib_table.specs.Rows.{told_member}
+use Rattle.lib_table.specs.bodies.Rows.{told_member}
 use Rattle.lib_table.proofs.member.row_of_member.Given as goal
 
 abbrev pub invariant-loop-member : goal.invariant-loop-member

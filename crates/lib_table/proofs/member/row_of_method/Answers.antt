@@ -1,7 +1,7 @@
 use Rattle.std.proofs.Common.{◌∙◌, sym, ap, map, arith}
 use Rattle.std.specs.Option.{option_map}
 use Rattle.lib_table.specs.Lookups.{member_told}
-use Rattle.lib_table.specs.Rows.{told_member}
+use Rattle.lib_table.specs.bodies.Rows.{told_member}
 use Rattle.lib_table.proofs.Classes.{method_is, method_found, no_method}
 use Rattle.lib_table.proofs.member.row_of_method.Goals as goal
 

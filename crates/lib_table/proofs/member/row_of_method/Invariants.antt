@@ -1,6 +1,6 @@
 use Rattle.std.proofs.Common.{◌≡◌, drop, map, slice_get}
 use Rattle.std.specs.List.{filter, enumerate_from}
-use Rattle.lib_table.specs.Rows.{told_member}
+use Rattle.lib_table.specs.bodies.Rows.{told_member}
 use Rattle.lib_table.proofs.member.row_of_method.Given as goal
 
 abbrev pub invariant-loop-member : goal.invariant-loop-member

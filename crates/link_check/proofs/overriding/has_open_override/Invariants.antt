@@ -1,7 +1,7 @@
 use Rattle.std.proofs.Common.{◌≡◌}
 use Rattle.std.specs.List.{All}
 use Rattle.class_pool.specs.Hierarchy.{IsClass}
-use Rattle.link_check.specs.Overriding.{alike_from, has_open_override}
+use Rattle.link_check.specs.bodies.Overriding.{alike_from, has_open_override}
 use Rattle.link_check.proofs.Upwards.{opened_in}
 use Rattle.link_check.proofs.overriding.has_open_override.Given as goal
 

@@ -1,7 +1,7 @@
 use Rattle.std.proofs.Common.{◌≡◌, Bool, true, false, ◌||◌, ◌&&◌, refl, sym, ◌∙◌}
 use Rattle.class_pool.specs.Found.{same_member}
 use Rattle.class_pool.specs.Selection.{may_be_overridden, may_override}
-use Rattle.link_check.specs.Overriding.{alike_from, has_open_override}
+use Rattle.link_check.specs.bodies.Overriding.{alike_from, has_open_override}
 use Rattle.link_check.proofs.OverridingLaws.{overridden_below}
 use Rattle.link_check.proofs.overriding.overrides_above.Goals as goal
 
@@ -33,7 +33,8 @@ returns-then-is_same c =
     (may_be_overridden c.args.set.now c.args.m.now.class c.args.above.now)
     (has_open_override c.args.set.now c.args.above.now (alike_from c.args.set.now c.args.above.now c.args.m.now.class))
     (sym c.is_same.ensures ∙ c.if-is_same.true)
-    ∙ sym (overridden_below c.args.set.now c.args.above.now c.args.m.now c.requires.own c.requires.alike c.requires.below)
+    ∙ sym (overridden_below c.args.set.now c.args.above.now c.args.m.now c.requires.own c.requires.alike
+        c.requires.below)
 
 pub returns-then-may_be_overridden : goal.returns-then-may_be_overridden
 returns-then-may_be_overridden c =
@@ -44,7 +45,8 @@ returns-then-may_be_overridden c =
     (sym c.is_same.ensures ∙ c.if-is_same.false)
     (sym c.may_override.ensures ∙ c.if-may_override.true)
     (sym c.may_be_overridden.ensures ∙ c.if-may_be_overridden.true)
-    ∙ sym (overridden_below c.args.set.now c.args.above.now c.args.m.now c.requires.own c.requires.alike c.requires.below)
+    ∙ sym (overridden_below c.args.set.now c.args.above.now c.args.m.now c.requires.own c.requires.alike
+        c.requires.below)
 
 pub returns-else-may_be_overridden : goal.returns-else-may_be_overridden
 returns-else-may_be_overridden c =
@@ -55,7 +57,8 @@ returns-else-may_be_overridden c =
     (sym c.is_same.ensures ∙ c.if-is_same.false)
     (sym c.may_override.ensures ∙ c.if-may_override.true)
     (sym c.may_be_overridden.ensures ∙ c.if-may_be_overridden.false)
-    ∙ sym (overridden_below c.args.set.now c.args.above.now c.args.m.now c.requires.own c.requires.alike c.requires.below)
+    ∙ sym (overridden_below c.args.set.now c.args.above.now c.args.m.now c.requires.own c.requires.alike
+        c.requires.below)
 
 pub returns-else-may_override : goal.returns-else-may_override
 returns-else-may_override c =
@@ -65,4 +68,5 @@ returns-else-may_override c =
     (has_open_override c.args.set.now c.args.above.now (alike_from c.args.set.now c.args.above.now c.args.m.now.class))
     (sym c.is_same.ensures ∙ c.if-is_same.false)
     (sym c.may_override.ensures ∙ c.if-may_override.false)
-    ∙ sym (overridden_below c.args.set.now c.args.above.now c.args.m.now c.requires.own c.requires.alike c.requires.below)
+    ∙ sym (overridden_below c.args.set.now c.args.above.now c.args.m.now c.requires.own c.requires.alike
+        c.requires.below)

@@ -1,6 +1,6 @@
 use Rattle.std.proofs.Common.{◌≡◌, ℕ, ◌+◌, ◌*◌, ◌<◌, List, length, get_or, subst, ap, arith}
 use Rattle.mark_core.specs.declared.system.Pair.{Pair}
-use Rattle.mark_core.specs.PairIndex.{pair_at, IsIndexOf, LinksNext}
+use Rattle.mark_core.specs.bodies.PairIndex.{pair_at, IsIndexOf, LinksNext}
 use Rattle.mark_core.specs.Valid.{PairBelow}
 use Rattle.mark_core.proofs.Linking.{first_place, second_place, index_after}
 use Rattle.mark_core.proofs.pair_index.index_of.Goals as goal

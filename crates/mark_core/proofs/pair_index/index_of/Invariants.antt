@@ -1,5 +1,5 @@
 use Rattle.std.proofs.Common.{◌*◌}
-use Rattle.mark_core.specs.PairIndex.{IsIndexOf}
+use Rattle.mark_core.specs.bodies.PairIndex.{IsIndexOf}
 use Rattle.mark_core.proofs.pair_index.index_of.Given as goal
 
 abbrev pub invariant-loop-pair : goal.invariant-loop-pair

@@ -2,7 +2,7 @@ use Rattle.std.proofs.Common.{take_all, subst, take, arith}
 use Rattle.std.specs.List.{All}
 use Rattle.std.proofs.lemmas.List.Elements.{All-weaker, All-more, All-get_or}
 use Rattle.mark_core.specs.Marks.{IsMarked}
-use Rattle.mark_core.specs.Worklist.{Has}
+use Rattle.mark_core.specs.bodies.Worklist.{Has}
 use Rattle.mark_core.proofs.Growing.{grows_trans}
 use Rattle.mark_core.proofs.plain.mark_all.Goals as goal
 

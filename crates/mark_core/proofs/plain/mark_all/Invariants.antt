@@ -1,6 +1,6 @@
 use Rattle.std.proofs.Common.{take}
 use Rattle.std.specs.List.{All}
-use Rattle.mark_core.specs.Worklist.{Has, IsSound, Grows}
+use Rattle.mark_core.specs.bodies.Worklist.{Has, IsSound, Grows}
 use Rattle.mark_core.proofs.plain.mark_all.Given as goal
 
 abbrev pub invariant-loop-item : goal.invariant-loop-item

@@ -1,9 +1,9 @@
 use Rattle.std.proofs.Common.{◌≡◌, ℕ, ◌+◌, ◌-◌, ◌*◌, ◌/◌, ◌<◌, length, subst, sym, ◌∙◌, arith}
 use Rattle.std.proofs.lemmas.List.{get_or_default}
 use Rattle.std.proofs.lemmas.Option.{get_or_from_slice_get}
-use Rattle.mark_core.specs.PairIndex.{pair_at, front_of, link_of}
+use Rattle.mark_core.specs.bodies.PairIndex.{pair_at, front_of, link_of}
 use Rattle.mark_core.specs.Valid.{PairBelow}
-use Rattle.mark_core.specs.Worklist.{IsDone}
+use Rattle.mark_core.specs.bodies.Worklist.{IsDone}
 use Rattle.mark_core.proofs.Growing.{grows_refl, grows_trans}
 use Rattle.mark_core.proofs.Walking.{IsWalked, walk_first, walk_inside, walk_on, walk_smaller, walk_last}
 use Rattle.mark_core.proofs.plain.mark_pairs.Goals as goal
@@ -26,13 +26,15 @@ mark_pair-requires-clause-below c =
     let k : ℕ = (c.loop-front.front - 1) / 2 in
     subst (PairBelow c.args.sys.now.n) (get_or_from_slice_get pairs k _ c.index.result.now c.index.ensures)
     (c.requires.valid.3 k c.index.result.now
-    (walk_inside c.args.sys.now c.loop-front.work c.args.item c.loop-front.front c.loop-front.invariant.2 c.loop-front-test.true))
+    (walk_inside c.args.sys.now c.loop-front.work c.args.item c.loop-front.front c.loop-front.invariant.2
+    c.loop-front-test.true))
 
 pub mark_pair-requires-clause-listed : goal.mark_pair-requires-clause-listed
 mark_pair-requires-clause-listed c =
     let k : ℕ = (c.loop-front.front - 1) / 2 in (
       k,
-      walk_inside c.args.sys.now c.loop-front.work c.args.item c.loop-front.front c.loop-front.invariant.2 c.loop-front-test.true,
+      walk_inside c.args.sys.now c.loop-front.work c.args.item c.loop-front.front c.loop-front.invariant.2
+          c.loop-front-test.true,
       get_or_from_slice_get c.args.sys.now.pairs k _ c.index.result.now c.index.ensures,
     )
 
@@ -67,8 +69,10 @@ loop-front-preserved c =
       c.in_ok-mark_pair.ensures.sound,
       grows_trans c.args.work.now c.loop-front.work c.mark_pair.new.work c.loop-front.invariant.1 grows,
       subst (IsWalked c.args.sys.now c.mark_pair.new.work c.args.item) (sym read)
-          (walk_on c.args.sys.now c.args.index.now c.loop-front.work c.mark_pair.new.work c.args.item c.loop-front.front place c.requires.index c.loop-front.invariant.2 is grows done),
+          (walk_on c.args.sys.now c.args.index.now c.loop-front.work c.mark_pair.new.work c.args.item
+          c.loop-front.front place c.requires.index c.loop-front.invariant.2 is grows done),
     )
 
 pub returns-clause-done : goal.returns-clause-done
-returns-clause-done c = walk_last c.args.sys.now c.loop-front.work c.args.item c.loop-front.front c.loop-front.invariant.2 c.loop-front-test.false
+returns-clause-done c = walk_last c.args.sys.now c.loop-front.work c.args.item c.loop-front.front
+    c.loop-front.invariant.2 c.loop-front-test.false

@@ -1,4 +1,4 @@
-use Rattle.mark_core.specs.Worklist.{IsSound, Grows}
+use Rattle.mark_core.specs.bodies.Worklist.{IsSound, Grows}
 use Rattle.mark_core.proofs.Walking.{IsWalked}
 use Rattle.mark_core.proofs.plain.mark_pairs.Given as goal
 

@@ -3,7 +3,7 @@ use Rattle.std.specs.List.{All}
 use Rattle.std.proofs.lemmas.Option.{get_or_from_slice_get}
 use Rattle.std.proofs.lemmas.List.Elements.{All-weaker}
 use Rattle.mark_core.specs.Marks.{IsMarked, needs_of}
-use Rattle.mark_core.specs.Worklist.{Has}
+use Rattle.mark_core.specs.bodies.Worklist.{Has}
 use Rattle.mark_core.proofs.Growing.{needs_due}
 use Rattle.mark_core.proofs.plain.take.Goals as goal
 
@@ -20,4 +20,5 @@ returns-clause-needs c =
     ∙ sym (get_or_from_slice_get c.args.sys.now.needs c.args.item _ [] c.index.ensures) in
     subst (All (Has c.mark_pairs.new.work)) read
     (All-weaker (Has c.mark_all.new.work)
-    (Has c.mark_pairs.new.work) c.in_ok-mark_pairs.ensures.grows.keeps c.as_slice.result.now c.in_ok-mark_all.ensures.has)
+    (Has c.mark_pairs.new.work) c.in_ok-mark_pairs.ensures.grows.keeps c.as_slice.result.now
+    c.in_ok-mark_all.ensures.has)

@@ -1,7 +1,7 @@
 use Rattle.std.proofs.Common.{refl, subst, sym}
 use Rattle.std.specs.List.{Contains}
 use Rattle.std.proofs.lemmas.List.Elements.{All-contains, Contains-push}
-use Rattle.mark_core.specs.Worklist.{Has}
+use Rattle.mark_core.specs.bodies.Worklist.{Has}
 use Rattle.mark_core.proofs.Opening.{open_after}
 use Rattle.mark_core.proofs.plain.take_all.Goals as goal
 

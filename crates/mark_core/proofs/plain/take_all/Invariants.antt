@@ -1,4 +1,4 @@
-use Rattle.mark_core.specs.Worklist.{IsOpen, left}
+use Rattle.mark_core.specs.bodies.Worklist.{IsOpen, left}
 use Rattle.mark_core.proofs.plain.take_all.Given as goal
 
 abbrev pub invariant-loop-item : goal.invariant-loop-item

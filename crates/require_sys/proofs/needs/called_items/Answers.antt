@@ -2,7 +2,7 @@ use Rattle.std.proofs.Common.{ℕ, ◌<◌, Option, IfSome, [], length, sym, sub
 use Rattle.std.proofs.lemmas.List.Elements.{All-push, All-same}
 use Rattle.class_model.specs.declared.code.Ins.{Ins}
 use Rattle.class_pool.specs.Count.{item_count}
-use Rattle.require_sys.specs.EarlySystem.{called_item}
+use Rattle.require_sys.specs.Called.{called_item}
 use Rattle.require_sys.proofs.Steps.{given, not_given}
 use Rattle.require_sys.proofs.needs.called_items.Goals as goal
 use Rattle.require_sys.proofs.needs.called_items.Goals.{in-Some+in_ok-push, in_default}

@@ -2,8 +2,8 @@ use Rattle.std.proofs.Common.{◌≡◌, take}
 use Rattle.std.specs.List.{filter_map}
 use Rattle.class_model.specs.declared.code.Ins.{Ins}
 use Rattle.class_pool.specs.Count.{item_count}
-use Rattle.require_sys.specs.EarlySystem.{called_item}
-use Rattle.require_sys.specs.Starts.{AreBelow}
+use Rattle.require_sys.specs.Called.{called_item}
+use Rattle.require_sys.specs.bodies.Starts.{AreBelow}
 use Rattle.require_sys.proofs.needs.called_items.Given as goal
 
 abbrev pub invariant-loop-instruction : goal.invariant-loop-instruction

@@ -2,7 +2,7 @@ use Rattle.std.proofs.Common.{◌≡◌, take, All}
 use Rattle.std.specs.List.{enumerate_from, flat_map}
 use Rattle.class_pool.specs.Count.{item_count}
 use Rattle.require_sys.specs.EarlySystem.{class_needs}
-use Rattle.require_sys.specs.Starts.{AreBelow}
+use Rattle.require_sys.specs.bodies.Starts.{AreBelow}
 use Rattle.require_sys.proofs.needs.needs_of.Given as goal
 
 abbrev pub invariant-loop-number : goal.invariant-loop-number

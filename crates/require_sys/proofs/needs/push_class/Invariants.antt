@@ -1,7 +1,7 @@
 use Rattle.std.proofs.Common.{◌≡◌, ◌++◌, map, take, All}
 use Rattle.class_pool.specs.Count.{item_count}
 use Rattle.require_sys.specs.EarlySystem.{method_needs}
-use Rattle.require_sys.specs.Starts.{AreBelow}
+use Rattle.require_sys.specs.bodies.Starts.{AreBelow}
 use Rattle.require_sys.proofs.needs.push_class.Given as goal
 
 abbrev pub invariant-loop-method : goal.invariant-loop-method

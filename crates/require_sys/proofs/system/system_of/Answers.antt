@@ -1,7 +1,7 @@
 use Rattle.std.proofs.Common.{◌<◌, All, length, sym, ap, subst, ◌∙◌}
 use Rattle.std.proofs.lemmas.List.Elements.{All-nil, All-same}
 use Rattle.mark_core.specs.Valid.{PairBelow}
-use Rattle.require_sys.specs.Starts.{AreBelow}
+use Rattle.require_sys.specs.bodies.Starts.{AreBelow}
 use Rattle.require_sys.proofs.Numbering.{length-needs}
 use Rattle.require_sys.proofs.system.system_of.Goals as goal
 

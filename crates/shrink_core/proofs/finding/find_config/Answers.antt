@@ -1,6 +1,6 @@
 use Rattle.std.proofs.Common.{List, subst}
 use Rattle.std.proofs.lemmas.Result.{err_from_is_err_and}
-use Rattle.shrink_core.specs.Steps.{ConfigOf}
+use Rattle.shrink_core.specs.bodies.Steps.{ConfigOf}
 use Rattle.shrink_core.proofs.Found.{config_seen}
 use Rattle.shrink_core.proofs.finding.find_config.Goals as goal
 

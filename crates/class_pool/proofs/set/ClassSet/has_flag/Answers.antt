@@ -5,4 +5,4 @@ use Rattle.class_pool.proofs.set.ClassSet.has_flag.Goals as goal
 
 pub returns : goal.returns
 returns c = c.contains.ensures tt
-    ∙ told_flag c.args.flag.0 (row_at c.args.self.now c.args.m) c.told.result c.told.ensures
+    ∙ told_flag c.args.flag.0 (row_at c.args.self.now c.args.m) c.facts_of.result c.facts_of.ensures

@@ -1,5 +1,5 @@
 use Rattle.std.proofs.Common.{subst}
-use Rattle.class_pool.specs.Lists.{HasRanks}
+use Rattle.class_pool.specs.Ranks.{HasRanks}
 use Rattle.class_pool.proofs.set.ClassSet.has_ranks.Goals as goal
 
 pub returns : goal.returns

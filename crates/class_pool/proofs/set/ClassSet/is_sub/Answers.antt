@@ -5,8 +5,8 @@ use Rattle.std.specs.Option.{IfSome, option_map_or}
 use Rattle.lib_table.proofs.Computed.{count}
 use Rattle.class_pool.specs.declared.id.ClassId.{ClassId}
 use Rattle.class_pool.specs.Hierarchy.{IsClass, superclass}
-use Rattle.class_pool.specs.Lists.{HasObject, HasRanks}
-use Rattle.class_pool.specs.Supers.{is_self_or_own}
+use Rattle.class_pool.specs.Ranks.{HasObject, HasRanks}
+use Rattle.class_pool.specs.bodies.Supers.{is_self_or_own}
 use Rattle.class_pool.specs.Walk.{upwards}
 use Rattle.class_pool.proofs.Declaring.{superclass_there}
 use Rattle.class_pool.proofs.Graphing.{library_length}

@@ -2,7 +2,7 @@ use Rattle.std.proofs.Common.{◌≡◌, ◌+◌, ◌-◌, []}
 use Rattle.std.specs.List.{list_any}
 use Rattle.std.specs.Option.{IfSome, option_map_or}
 use Rattle.class_pool.specs.Hierarchy.{IsClass}
-use Rattle.class_pool.specs.Supers.{is_self_or_own}
+use Rattle.class_pool.specs.bodies.Supers.{is_self_or_own}
 use Rattle.class_pool.specs.Walk.{upwards}
 use Rattle.class_pool.proofs.set.ClassSet.is_sub.Given as goal
 

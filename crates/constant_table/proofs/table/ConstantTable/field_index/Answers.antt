@@ -1,5 +1,5 @@
 use Rattle.std.proofs.Common.{◌≡◌, List, ap, subst}
-use Rattle.constant_table.specs.Members.{field_key}
+use Rattle.constant_table.specs.bodies.Members.{field_key}
 use Rattle.class_model.specs.declared.constant.PoolConstant.{PoolConstant}
 use Rattle.class_model.specs.CanonicalPool as canonical
 use Rattle.constant_table.proofs.table.ConstantTable.field_index.Goals as goal

@@ -1,6 +1,6 @@
 use Rattle.std.proofs.Common.{◌≡◌, List, ap, subst, ◌∙◌}
 use Rattle.constant_table.specs.declared.finding.MemberNumbers.{MemberNumbers}
-use Rattle.constant_table.specs.Members.{method_key}
+use Rattle.constant_table.specs.bodies.Members.{method_key}
 use Rattle.constant_table.proofs.Told.{method_key_is}
 use Rattle.class_model.specs.declared.constant.PoolConstant.{PoolConstant}
 use Rattle.class_model.specs.CanonicalPool as canonical

@@ -1,6 +1,0 @@
-use Rattle.std.proofs.Common.{sym, subst}
-use Rattle.class_pool.specs.Faults.{NamesDiffer}
-use Rattle.class_pool.proofs.building.classes_by_name.Goals as goal
-
-pub of-requires-clause-differ : goal.of-requires-clause-differ
-of-requires-clause-differ c = subst NamesDiffer (sym c.in_ok-classes.ensures) c.requires.differ

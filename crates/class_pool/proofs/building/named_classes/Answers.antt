@@ -1,5 +1,0 @@
-use Rattle.class_pool.proofs.FaultLaws.{names_differ}
-use Rattle.class_pool.proofs.building.named_classes.Goals as goal
-
-pub classes_by_name-requires-clause-differ : goal.classes_by_name-requires-clause-differ
-classes_by_name-requires-clause-differ c = names_differ c.args.files c.requires.ascend c.in_ok-check_names.ensures

@@ -1,9 +1,0 @@
-use Rattle.std.proofs.Common.{◌<◌, ℕ}
-use Rattle.class_pool.specs.Cycles.{HasTest}
-use Rattle.class_pool.specs.Numbers.{IsHierarchy}
-use Rattle.class_pool.specs.Supertypes.{IsCyclic}
-use Rattle.class_pool.proofs.cycles.first_of_each.Given as goal
-
-abbrev pub invariant-loop-number : goal.invariant-loop-number
-invariant-loop-number l = IsHierarchy l.set l.hierarchy
-    × ((n : ℕ) → n < l.number → IsCyclic l.set n → ⊥) × ((n : ℕ) → n < l.number → HasTest l.set n)

@@ -1,4 +1,0 @@
-use Rattle.class_pool.proofs.cycles.is_ranked.Goals as goal
-
-pub returns : goal.returns
-returns c = λ is. (c.as_slice.result.now, c.are_ranked.ensures is)

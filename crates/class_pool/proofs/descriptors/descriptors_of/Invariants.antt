@@ -1,6 +1,0 @@
-use Rattle.std.proofs.Common.{◌≡◌, map, take}
-use Rattle.class_pool.specs.Descriptors.{method_texts}
-use Rattle.class_pool.proofs.descriptors.descriptors_of.Given as goal
-
-abbrev pub invariant-loop-number : goal.invariant-loop-number
-invariant-loop-number l = l.texts ≡ map method_texts (take l.number l.classes)

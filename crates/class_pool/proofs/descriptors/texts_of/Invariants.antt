@@ -1,6 +1,0 @@
-use Rattle.std.proofs.Common.{◌≡◌, map, take}
-use Rattle.class_pool.specs.Descriptors.{text_of}
-use Rattle.class_pool.proofs.descriptors.texts_of.Given as goal
-
-abbrev pub invariant-loop-method : goal.invariant-loop-method
-invariant-loop-method l = l.texts ≡ map text_of (take l.method-index l.class.methods)

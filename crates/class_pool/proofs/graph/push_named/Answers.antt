@@ -1,5 +1,0 @@
-use Rattle.class_pool.proofs.Graphing.{is_there}
-use Rattle.class_pool.proofs.graph.push_named.Goals as goal
-
-pub number-requires-clause-there : goal.number-requires-clause-there
-number-requires-clause-there c = is_there c.args.classes.now c.in-Some.id c.in-Some.ensures.there

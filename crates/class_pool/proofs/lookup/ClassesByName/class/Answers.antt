@@ -1,8 +1,0 @@
-use Rattle.std.proofs.Common.{arith}
-use Rattle.class_pool.proofs.Counting.{members_counted}
-use Rattle.class_pool.proofs.lookup.ClassesByName.class.Goals as goal
-
-pub returns-clause-few : goal.returns-clause-few
-returns-clause-few c =
-    let few = members_counted c.self.inside.classes c.args.id c.index.result.now c.index.ensures in
-    omega (arith, few, c.self.invariant.1)

@@ -1,9 +1,0 @@
-use Rattle.std.proofs.Common.{◌≡◌, length, take}
-use Rattle.class_pool.specs.Marked.{IsLeft}
-use Rattle.class_pool.proofs.met.unmark.Given as goal
-
-abbrev pub invariant-loop-id : goal.invariant-loop-id
-invariant-loop-id l = record {
-  lengths : length l.marks.items ≡ length l.fn.marks.items;
-  left : IsLeft l.fn.marks.items (take l.id-index l.ids) l.marks.items;
-}

@@ -1,0 +1,13 @@
+-- Definitions that the proofs of bodies alone need.
+pub mod Numbers
+pub mod ByName
+pub mod ToldMembers
+pub mod Descriptors
+pub mod Graph
+pub mod Marked
+pub mod Lists
+pub mod Filling
+pub mod Tables
+pub mod Cycles
+pub mod Faults
+pub mod Supers

@@ -1,0 +1,99 @@
+// Lists of supertypes.
+ghost use Rattle.std.specs.Prelude.{◌≡◌, ◌+◌, ◌++◌, ◌<◌, IfOk, OnOk, length};
+ghost use Rattle.std.specs.List.{All, flat_map};
+ghost use Rattle.lib_table.specs.Library.{library as library_rows};
+ghost use Rattle.class_pool.specs.bodies.Graph.{id_at, library_ids};
+ghost use Rattle.class_pool.specs.Hierarchy.{IsClass};
+ghost use Rattle.class_pool.specs.bodies.Lists.{AreOwn, list_at};
+ghost use Rattle.class_pool.specs.Ranks.{HasObject, HasRanks};
+ghost use Rattle.class_pool.specs.bodies.Marked.{IsBelow};
+ghost use Rattle.class_pool.specs.Supers.{IsSupers};
+ghost use Rattle.class_pool.specs.Walk.{each_once, supers, upwards};
+
+use crate::ClassId;
+use crate::hierarchy::graph::number;
+use crate::set::lookup::ClassesByName;
+use crate::hierarchy::met::Met;
+use jv_base::{Items, M};
+use lib_table::LibId;
+use std::alloc::Global;
+
+/// The supertypes of a class without the class itself: its superclasses upwards, then the superinterfaces that each of
+/// these classes has itself, each once, where it is met first.
+pub(crate) fn supers_of(
+    alloc: Global,
+    classes: &ClassesByName,
+    library: &Items<LibId>,
+    superinterfaces: &Items<Items<ClassId>>,
+    id: ClassId,
+) -> M<Items<ClassId>>
+    requires library { library.now ≡ library_ids }
+    requires ranks { HasRanks classes.now }
+    requires object { HasObject classes.now }
+    requires own { AreOwn classes.now superinterfaces.now }
+    requires there { IsClass classes.now id }
+    ensures order { IfOk result (λ ids. ids ≡ supers classes.now id) }
+    ensures are { IfOk result (IsSupers classes.now id) }
+{
+    let count = library.len() + classes.len() as usize;
+    let chain = superclasses_of(alloc, classes, count, &id)?;
+    let mut met = Met::new(alloc, count)?;
+    met.meet_all(library, chain.as_slice())?;
+    meet_lists(library, superinterfaces, &mut met, chain.as_slice())?;
+    let mut ids = met.take(alloc, library).into_vec();
+    ids.remove(0);
+    Ok(Items::from_vec(ids))
+}
+
+/// A class and its superclasses, the nearest first, up to so many steps.
+fn superclasses_of(
+    alloc: Global,
+    classes: &ClassesByName,
+    steps: usize,
+    id: &ClassId,
+) -> M<Items<ClassId>>
+    requires { IsClass classes.now id.now }
+    ensures { IfOk result (λ ids. ids ≡ upwards (steps + 1) classes.now id.now) }
+{
+    let mut ids = Items::new(alloc);
+    ids.push(*id)?;
+    for number in 0..steps {
+        match classes.super_of(ids[number]) {
+            Some(above) => ids.push(above)?,
+            None => return Ok(ids),
+        }
+    }
+    Ok(ids)
+}
+
+/// Meets those of the list of each of these classes.
+fn meet_lists(
+    library: &Items<LibId>,
+    lists: &Items<Items<ClassId>>,
+    met: &mut Met,
+    ids: &[ClassId],
+) -> M<()>
+    requires library { library.now ≡ library_ids }
+    requires count { length lists.now ≡ met.old.count }
+    requires lists { All (All (IsBelow met.old.count)) lists.now }
+    requires below { All (IsBelow met.old.count) ids.now }
+    ensures { OnOk result (met.new.ids ≡ met.old.ids ++ each_once met.old.ids (flat_map (list_at lists.now) ids.now)) }
+{
+    for id in ids {
+        met.meet_all(library, lists[number(library, *id)].as_slice())?;
+    }
+    Ok(())
+}
+
+/// The class of a number.
+pub(crate) fn id_at(library: &Items<LibId>, number: usize) -> ClassId
+    requires library { library.now ≡ library_ids }
+    requires there { number < length library_rows + 4294967295 }
+    ensures { result ≡ id_at number }
+{
+    if number < library.len() {
+        ClassId::Lib(library[number])
+    } else {
+        ClassId::Prog((number - library.len()) as u32)
+    }
+}

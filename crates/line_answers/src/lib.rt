@@ -1,0 +1,14 @@
+//! A program that answers each line of standard input by a line of standard output.
+//!
+//! A line that begins with `#` is put out as it is. The first line that has another form than the program takes is told
+//! with its number on standard error, and the status is 1. It is 7 where a device failed, and 10 where memory was
+//! wanting. Nothing is proved of the loop: the stored runs of the programs show it.
+#![tactic(auto)]
+
+mod lines;
+mod program;
+#[cfg(test)]
+mod tests;
+
+pub use lines::{Answers, Stop, answer_lines};
+pub use program::answer_standard_input;

@@ -1,7 +1,0 @@
-use Rattle.std.proofs.Common.{◌∙◌, sym}
-use Rattle.link_check.proofs.Methods.{instance_is_method}
-use Rattle.link_check.proofs.implemented.member_kind.Goals as goal
-
-pub selected_kind-requires-clause-method : goal.selected_kind-requires-clause-method
-selected_kind-requires-clause-method c = instance_is_method c.args.set.now c.args.m.now
-    (sym c.is_instance_method.ensures ∙ c.if-is_instance_method.true)

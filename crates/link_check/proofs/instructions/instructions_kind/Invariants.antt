@@ -1,8 +1,0 @@
-use Rattle.std.proofs.Common.{◌≡◌, take}
-use Rattle.std.specs.List.{flat_map}
-use Rattle.link_check.specs.Profile.{least, op_kinds}
-use Rattle.link_check.proofs.instructions.instructions_kind.Given as goal
-
-abbrev pub invariant-loop-instruction : goal.invariant-loop-instruction
-invariant-loop-instruction l = l.kind
-    ≡ least (flat_map (λ i. op_kinds l.set l.number l.method i.op) (take l.instruction-index l.instructions))

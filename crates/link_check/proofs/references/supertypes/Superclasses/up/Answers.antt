@@ -1,0 +1,6 @@
+use Rattle.link_check.proofs.Climbing.{up_there, upwards_there}
+use Rattle.link_check.proofs.references.supertypes.Superclasses.up.Goals as goal
+
+pub returns-clause-there : goal.returns-clause-there
+returns-clause-there c = up_there 8589934592 c.args.set.now
+    (upwards_there 8589934592 c.args.set.now) c.args.next c.requires

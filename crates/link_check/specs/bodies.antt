@@ -1,0 +1,4 @@
+-- Definitions that the proofs of bodies alone need.
+pub mod Inherited
+pub mod Overriding
+pub mod Walks

@@ -1,0 +1,7 @@
+// What references mean, and which method a call runs.
+pub mod access;
+pub mod found;
+pub mod resolution;
+pub mod selection;
+pub mod superinterface_methods;
+pub mod supertypes;

@@ -1,0 +1,54 @@
+-- Going over the instructions.
+use Rattle.std.proofs.Common.{◌≡◌, ◌≤◌, ◌<◌, ℕ, ◌+◌, ◌-◌, Bool, true, false, List, [], ◌∷◌, length, get_or, drop, Option, Some, None, Result, Ok, Err}
+use Rattle.std.proofs.Common.{sym, ap, ◌∙◌}
+use Rattle.std.proofs.lemmas.List.{drop_all}
+use Rattle.jv_base.specs.Outcome.{FaultIs}
+use Rattle.jv_base.specs.declared.outcome.Or.{Or}
+use Rattle.jv_base.specs.declared.outcome.Or.TheVariants as or
+use Rattle.class_model.specs.declared.code.Ins.{Ins}
+use Rattle.type_verifier.specs.declared.fault.TypeFault.{TypeFault}
+use Rattle.type_verifier.specs.declared.fault.TypeKind.{TypeKind}
+use Rattle.type_verifier.specs.declared.frame.TypeFrame.{TypeFrame}
+use Rattle.type_verifier.specs.bodies.Changes.{GoesOn, flow}
+use Rattle.type_verifier.specs.Environment.{Environment}
+use Rattle.type_verifier.specs.Walk.{at_instruction, ended, fault_at, gone_on, walked}
+use Rattle.type_verifier.proofs.Lists.{rest_is}
+
+abbrev Answer : Type 0
+Answer = Result (Unit {0}) TypeFault
+
+module _ (env : Environment) where
+  next_is : (ins : List Ins) (at : ℕ) (i : Ins) (before : Option TypeFrame) → at < length ins → i ≡ get_or ins at i
+      → walked env at before (drop at ins)
+      ≡ gone_on env at (at_instruction env at i.op before) (λ next. walked env (at + 1) next (drop (at + 1) ins))
+  unfolding walked
+  next_is ins at i before lt is = ap (walked env at before) (rest_is ins at i lt is)
+
+  pub walk_more : (ins : List Ins) (at : ℕ) (i : Ins) (before next : Option TypeFrame) (total : Answer) → at < length ins
+      → i ≡ get_or ins at i → at_instruction env at i.op before ≡ Ok next
+      → walked env at before (drop at ins) ≡ total → walked env (at + 1) next (drop (at + 1) ins) ≡ total
+  walk_more ins at i before next total lt is h so_far =
+      sym (next_is ins at i before lt is
+      ∙ ap (λ (r : Result (Option TypeFrame) TypeKind). gone_on env at r
+      (λ n. walked env (at + 1) n (drop (at + 1) ins))) h) ∙ so_far
+
+  pub walk_stops : (ins : List Ins) (at : ℕ) (i : Ins) (before : Option TypeFrame) (kind : TypeKind) (total : Answer)
+      → at < length ins → i ≡ get_or ins at i → at_instruction env at i.op before ≡ Err kind
+      → walked env at before (drop at ins) ≡ total → total ≡ Err (fault_at env at kind)
+  walk_stops ins at i before kind total lt is h so_far =
+      sym so_far ∙ next_is ins at i before lt is
+      ∙ ap (λ (r : Result (Option TypeFrame) TypeKind). gone_on env at r
+      (λ n. walked env (at + 1) n (drop (at + 1) ins))) h
+
+  pub walk_fails : (ins : List Ins) (at : ℕ) (i : Ins) (before : Option TypeFrame) (new : TypeFrame) (e : Or TypeFault)
+      (total : Answer) → at < length ins → i ≡ get_or ins at i → GoesOn env at (Err e) new i.op before
+      → walked env at before (drop at ins) ≡ total → FaultIs e total
+  walk_fails ins at i before new (or.Fault fault) total lt is h so_far =
+      walk_stops ins at i before h.0 total lt is h.2 so_far
+      ∙ ap (λ (f : TypeFault). let R : Answer = Err f in R) (sym h.1)
+  walk_fails ins at i before new or.OutOfMemory total lt is h so_far = tt
+
+  pub walk_ends : (ins : List Ins) (at : ℕ) (before : Option TypeFrame) (total : Answer) → length ins ≤ at
+      → walked env at before (drop at ins) ≡ total → total ≡ ended env at before
+  unfolding walked
+  walk_ends ins at before total le so_far = sym so_far ∙ ap (walked env at before) (drop_all at ins le)

@@ -1,0 +1,11 @@
+pub mod Assignable
+pub mod Frames
+pub mod Environment
+pub mod Members
+pub mod Rules
+pub mod Effects
+pub mod Walk
+pub mod Typed
+pub mod Verified
+pub mod KindNames
+pub mod bodies

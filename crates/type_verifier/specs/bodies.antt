@@ -1,0 +1,9 @@
+-- Definitions that the proofs of bodies alone need.
+pub mod Changes
+pub mod Halves
+pub mod Known
+pub mod Marking
+pub mod Marks
+pub mod Places
+pub mod Pops
+pub mod Seen

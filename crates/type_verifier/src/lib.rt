@@ -1,0 +1,33 @@
+//! The type checker of codes (JVMS 4.10.1).
+#![tactic(auto)]
+
+mod arrays;
+mod assignability;
+mod calls;
+mod descriptors;
+mod environment;
+mod fault;
+mod fields;
+mod frame;
+mod framing;
+mod guards;
+mod instructions;
+mod known;
+mod laws;
+mod locals;
+mod objects;
+mod operands;
+mod places;
+mod receivers;
+mod room;
+mod stack;
+mod types;
+mod variables;
+mod verify;
+mod walk;
+mod words;
+
+pub use assignability::assignable;
+pub use fault::{TypeFault, TypeKind};
+pub use laws::codes_are_typed_or_at_fault;
+pub use verify::{verify_code, verify_method, verify_set};

@@ -1,0 +1,139 @@
+// What is declared at the instructions of a code, and which of them are entered (JVMS 4.10.1.5).
+ghost use Rattle.std.specs.Prelude.{◌≡◌, ◌<◌, nat_eq, false, IfOk, None, length, slice_index_or};
+ghost use Rattle.type_verifier.specs.Environment.{targets};
+ghost use Rattle.type_verifier.specs.bodies.Places.{ArePlaces};
+ghost use Rattle.type_verifier.specs.bodies.Marking.{is_among, is_begun, is_case, is_target};
+ghost use Rattle.type_verifier.specs.bodies.Marks.{AreNumbers, IsEntered, Marks};
+
+use class_model::{Case, Code, Frames, Handler, Ins, Op};
+use jv_base::M;
+use std::alloc::Global;
+
+/// For each instruction of a code the number of the frame that is declared there, and whether it is a target or begins a
+/// handler.
+#[derive(Drop)]
+pub(crate) struct Places {
+    frames: Vec<Option<usize>>,
+    entered: Vec<bool>,
+}
+
+pub(crate) fn places_of(alloc: Global, code: &Code) -> M<Places>
+    ensures { IfOk result (ArePlaces code.now) }
+{
+    let frames = frame_numbers(alloc, &code.frames, code.ins.len())?;
+    let entered = entered_of(alloc, code)?;
+    Ok(Places { frames, entered })
+}
+
+// ---- frames
+
+/// For each instruction the number of the first frame that is declared there.
+fn frame_numbers(alloc: Global, frames: &Frames, count: usize) -> M<Vec<Option<usize>>>
+    ensures { IfOk result (λ numbers. AreNumbers frames.now count numbers.items) }
+{
+    let mut numbers = vec![in alloc; None; count]?;
+    let mut number = frames.len();
+    while number > 0 {
+        number -= 1;
+        let at = frames.index(number) as usize;
+        if at < count {
+            numbers[at] = Some(number);
+        }
+    }
+    Ok(numbers)
+}
+
+// ---- instructions that are entered
+
+fn entered_of(alloc: Global, code: &Code) -> M<Vec<bool>>
+    ensures { IfOk result (λ entered. IsEntered code.now entered.items) }
+{
+    let mut entered = vec![in alloc; false; code.ins.len()]?;
+    mark_instructions(entered.as_mut_slice(), code.ins.as_slice());
+    mark_handlers(entered.as_mut_slice(), code.handlers.as_slice());
+    Ok(entered)
+}
+
+/// Marks the targets of instructions.
+fn mark_instructions(entered: &mut [bool], ins: &[Ins])
+    ensures { Marks entered.old entered.new (is_target ins.now) }
+{
+    for i in ins {
+        mark_targets(entered, &i.op);
+    }
+}
+
+/// Marks where handlers begin.
+fn mark_handlers(entered: &mut [bool], handlers: &[Handler])
+    ensures { Marks entered.old entered.new (is_begun handlers.now) }
+{
+    for handler in handlers {
+        mark(entered, handler.entry);
+    }
+}
+
+fn mark_targets(entered: &mut [bool], op: &Op)
+    ensures { Marks entered.old entered.new (is_among (targets op.now)) }
+{
+    match op {
+        Op::IfZero(_, to)
+        | Op::IfCmp(_, to)
+        | Op::IfRef { to, .. }
+        | Op::IfNull { to, .. }
+        | Op::Goto(to) => mark_all(entered, &[*to]),
+        Op::TableSwitch { other, cases, .. } => {
+            mark(entered, *other);
+            mark_all(entered, cases.as_slice());
+        }
+        Op::LookupSwitch { other, cases } => {
+            mark(entered, *other);
+            mark_cases(entered, cases.as_slice());
+        }
+        _ => {}
+    }
+}
+
+fn mark_all(entered: &mut [bool], places: &[u32])
+    ensures { Marks entered.old entered.new (is_among places.now) }
+{
+    for to in places {
+        mark(entered, *to);
+    }
+}
+
+fn mark_cases(entered: &mut [bool], cases: &[Case])
+    ensures { Marks entered.old entered.new (is_case cases.now) }
+{
+    for case in cases {
+        mark(entered, case.to);
+    }
+}
+
+fn mark(entered: &mut [bool], to: u32)
+    ensures { Marks entered.old entered.new (λ at. nat_eq at to) }
+{
+    let to = to as usize;
+    if to < entered.len() {
+        entered[to] = true;
+    }
+}
+
+// ---- what the table has
+
+impl Places {
+    /// The number of the frame that is declared at an instruction.
+    pub(crate) fn frame_number(&self, at: usize) -> Option<usize>
+        requires { at < length self.now.frames.items }
+        ensures { result ≡ slice_index_or self.now.frames.items at None }
+    {
+        self.frames[at]
+    }
+
+    /// Whether an instruction is a target or begins a handler.
+    pub(crate) fn is_entered(&self, at: usize) -> bool
+        requires { at < length self.now.entered.items }
+        ensures { result ≡ slice_index_or self.now.entered.items at false }
+    {
+        self.entered[at]
+    }
+}

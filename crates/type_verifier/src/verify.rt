@@ -1,0 +1,166 @@
+// Which codes, methods and sets are typed (JVMS 4.10.1).
+ghost use Rattle.std.specs.Prelude.{◌≡◌, ◌<◌, Ok, Some, IfOk, length, slice_get};
+ghost use Rattle.std.specs.List.{enumerate_from, filter_map, flat_map};
+ghost use Rattle.jv_base.specs.Longest.{IfFault};
+ghost use Rattle.jv_base.specs.Outcome.{IsDue};
+ghost use Rattle.class_model.specs.declared.class.Class.{Class};
+ghost use Rattle.class_pool.specs.Resolution.{first};
+ghost use Rattle.type_verifier.specs.Verified.{AreTyped, IsPlace, IsTypedCode, JudgesCode, code_verified, fault_of, faults_of};
+ghost use Rattle.type_verifier.specs.Verified.{environment, method_checked, method_verified, set_verified};
+ghost use Rattle.type_verifier.specs.Walk.{code_checked};
+
+use crate::TypeFault;
+use crate::environment::Env;
+use crate::known::Known;
+use crate::walk::check_code;
+use class_model::{Class, Code, Method};
+use class_pool::ClassSet;
+use jv_base::{M, Or, OutOfMemory};
+use std::alloc::Global;
+
+/// Checks a code as that of a method, by the numbers of the class and of the method there: the answer is that for the
+/// set in which the method has this code. The error is the first fault.
+pub fn verify_code(
+    alloc: Global,
+    set: &ClassSet,
+    class: u32,
+    method: u32,
+    code: &Code,
+) -> Result<(), Or<TypeFault>>
+    requires class { class < length set.now }
+    requires method { (c : Class) → slice_get set.now class ≡ Some c → method < length c.methods }
+    ensures exact { IsDue result (code_verified set.now class method code.now) }
+    ensures judged { JudgesCode result set.now class method code.now }
+    ensures typed { IsTypedCode set.now class method code.now → IsDue result (Ok tt) }
+{
+    let known = Known::new(alloc)?;
+    let of = set.class(class);
+    check_one(alloc, set, class, of, method, &of.methods[method as usize], code, &known)
+}
+
+/// Checks the code of a method, by the numbers of the class and of the method there; one without a code is taken. The
+/// error is the first fault.
+pub fn verify_method(
+    alloc: Global,
+    set: &ClassSet,
+    class: u32,
+    method: u32,
+) -> Result<(), Or<TypeFault>>
+    requires class { class < length set.now }
+    requires method { (c : Class) → slice_get set.now class ≡ Some c → method < length c.methods }
+    ensures exact { IsDue result (method_verified set.now class method) }
+{
+    let known = Known::new(alloc)?;
+    let of = set.class(class);
+    check_method(alloc, set, class, of, method, &of.methods[method as usize], &known)
+}
+
+/// Checks the codes of all methods. The error is the first fault, class after class in order, method after method.
+pub fn verify_set(alloc: Global, set: &ClassSet) -> Result<(), Or<TypeFault>>
+    ensures exact { IsDue result (set_verified set.now) }
+    ensures typed { IfOk result (λ _. AreTyped set.now) }
+    ensures only { AreTyped set.now → IsDue result (Ok tt) }
+    ensures place { IfFault result (IsPlace set.now) }
+{
+    match first_fault(alloc, set)? {
+        Some(fault) => Err(Or::Fault(fault)),
+        None => Ok(()),
+    }
+}
+
+fn first_fault(alloc: Global, set: &ClassSet) -> M<Option<TypeFault>>
+    ensures { IfOk result (λ fault. fault ≡ first (flat_map (λ p. faults_of set.now p.0 p.1) (enumerate_from 0 set.now))) }
+{
+    let known = Known::new(alloc)?;
+    for number in 0..set.len() {
+        let fault = class_fault(alloc, set, number, set.class(number), &known)?;
+        if fault.is_some() {
+            return Ok(fault);
+        }
+    }
+    Ok(None)
+}
+
+/// The first fault of the methods of a class.
+fn class_fault(
+    alloc: Global,
+    set: &ClassSet,
+    own: u32,
+    class: &Class,
+    known: &Known,
+) -> M<Option<TypeFault>>
+    requires there { own < length set.now }
+    requires few { length class.now.methods < 4294967295 }
+    ensures { IfOk result (λ fault. fault ≡ first (faults_of set.now own class.now)) }
+{
+    for number in 0..class.methods.len() as u32 {
+        let method = &class.methods[number as usize];
+        let fault = method_fault(alloc, set, own, class, number, method, known)?;
+        if fault.is_some() {
+            return Ok(fault);
+        }
+    }
+    Ok(None)
+}
+
+fn method_fault(
+    alloc: Global,
+    set: &ClassSet,
+    own: u32,
+    class: &Class,
+    number: u32,
+    method: &Method,
+    known: &Known,
+) -> M<Option<TypeFault>>
+    requires there { own < length set.now }
+    ensures { IfOk result (λ fault. fault ≡ fault_of (method_checked set.now own class.now number method.now)) }
+{
+    match check_method(alloc, set, own, class, number, method, known) {
+        Ok(()) => Ok(None),
+        Err(Or::Fault(fault)) => Ok(Some(fault)),
+        Err(Or::OutOfMemory) => Err(OutOfMemory),
+    }
+}
+
+fn check_method(
+    alloc: Global,
+    set: &ClassSet,
+    own: u32,
+    class: &Class,
+    number: u32,
+    method: &Method,
+    known: &Known,
+) -> Result<(), Or<TypeFault>>
+    requires there { own < length set.now }
+    ensures { IsDue result (method_checked set.now own class.now number method.now) }
+{
+    match &method.code {
+        Some(code) => check_one(alloc, set, own, class, number, method, code, known),
+        None => Ok(()),
+    }
+}
+
+fn check_one(
+    alloc: Global,
+    set: &ClassSet,
+    own: u32,
+    class: &Class,
+    number: u32,
+    method: &Method,
+    code: &Code,
+    known: &Known,
+) -> Result<(), Or<TypeFault>>
+    requires there { own < length set.now }
+    ensures { IsDue result (code_checked (environment set.now own class.now number method.now code.now)) }
+{
+    let env = Env {
+        set,
+        own,
+        class,
+        number,
+        method,
+        code,
+        known,
+    };
+    check_code(alloc, &env)
+}
