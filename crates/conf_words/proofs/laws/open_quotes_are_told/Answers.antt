@@ -1,0 +1,5 @@
+use Rattle.conf_words.proofs.Parsed.{open_law}
+use Rattle.conf_words.proofs.laws.open_quotes_are_told.Goals as goal
+
+pub returns : goal.returns
+returns c = open_law

@@ -1,0 +1,5 @@
+use Rattle.keep_match.proofs.Scanning.{same_from_section}
+use Rattle.keep_match.proofs.scan.is_cut.Goals as goal
+
+pub loop-rest-init : goal.loop-rest-init
+loop-rest-init c = same_from_section _ _ _ _ c.in-Some.ensures

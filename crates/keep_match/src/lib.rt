@@ -1,0 +1,20 @@
+//! What the rules of a config match in a set of classes: wildcards, class and member specifications, and what is kept.
+#![tactic(auto)]
+
+mod class_spec;
+mod filter;
+mod flag_word;
+mod member_spec;
+mod named;
+mod piece;
+mod rows;
+mod scan;
+mod seeds;
+mod type_pattern;
+mod wildcard;
+
+pub use class_spec::class_matches;
+pub use filter::accepts_attribute;
+pub use member_spec::member_matches;
+pub use seeds::seeds_of;
+pub use wildcard::wild;

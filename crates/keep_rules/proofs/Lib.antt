@@ -1,0 +1,10 @@
+pub mod Spelling
+pub mod Steps
+pub mod Shorter
+pub mod MemberSteps
+pub mod Loops
+pub mod OptionSteps
+pub mod Exact
+pub mod Spelled
+pub mod Sayings
+pub mod Gathering

@@ -1,0 +1,79 @@
+// Texts in a line: a byte from 21 to 7E other than `\` stands for itself, and a backslash begins an escape.
+use jv_base::M;
+use std::alloc::{AllocError, Global};
+
+/// The bytes that a text of a line stands for, where it is well formed.
+pub fn unescaped(alloc: Global, text: &[u8]) -> M<Option<Vec<u8>>> {
+    let mut bytes = Vec::new(alloc);
+    let mut rest = text;
+    for _ in 0..text.len() {
+        match rest {
+            [] => break,
+            [b'\\', behind @ ..] => {
+                let Some((byte, others)) = escape_in(behind) else {
+                    return Ok(None);
+                };
+                if let Some(byte) = byte {
+                    bytes.push(byte)?;
+                }
+                rest = others;
+            }
+            [byte, behind @ ..] => {
+                bytes.push(*byte)?;
+                rest = behind;
+            }
+        }
+    }
+    Ok(Some(bytes))
+}
+
+// The byte that an escape stands for behind its backslash, if it stands for one, and what stands behind it.
+fn escape_in(text: &[u8]) -> Option<(Option<u8>, &[u8])> {
+    match text {
+        [b'n', rest @ ..] => Some((Some(b'\n'), rest)),
+        [b'r', rest @ ..] => Some((Some(b'\r'), rest)),
+        [b't', rest @ ..] => Some((Some(b'\t'), rest)),
+        [b'f', rest @ ..] => Some((Some(12), rest)),
+        [b's', rest @ ..] => Some((Some(b' '), rest)),
+        [b'\\', rest @ ..] => Some((Some(b'\\'), rest)),
+        [b'e', rest @ ..] => Some((None, rest)),
+        [b'x', high, low, rest @ ..] => Some((Some(hex_byte(*high, *low)?), rest)),
+        _ => None,
+    }
+}
+
+fn hex_byte(high: u8, low: u8) -> Option<u8> {
+    let high = (high as char).to_digit(16)?;
+    let low = (low as char).to_digit(16)?;
+    u8::try_from(high * 16 + low).ok()
+}
+
+const DIGITS: &[u8; 16] = b"0123456789abcdef";
+
+/// Appends a text as a line has it, each comma as an escape too.
+pub fn push_escaped(line: &mut String, text: &str) -> Result<(), AllocError> {
+    if text.is_empty() || text.as_bytes().first() == Some(&b'#') {
+        line.push_str("\\e")?;
+    }
+    for byte in text.as_bytes() {
+        push_byte(line, *byte)?;
+    }
+    Ok(())
+}
+
+fn push_byte(line: &mut String, byte: u8) -> Result<(), AllocError> {
+    match byte {
+        b'\n' => line.push_str("\\n"),
+        b'\r' => line.push_str("\\r"),
+        b'\t' => line.push_str("\\t"),
+        12 => line.push_str("\\f"),
+        b' ' => line.push_str("\\s"),
+        b'\\' => line.push_str("\\\\"),
+        0x21..=0x7E if byte != b',' => line.push(byte as char),
+        _ => {
+            line.push_str("\\x")?;
+            line.push(DIGITS[(byte / 16) as usize] as char)?;
+            line.push(DIGITS[(byte % 16) as usize] as char)
+        }
+    }
+}

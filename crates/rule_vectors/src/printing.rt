@@ -1,0 +1,148 @@
+// Rules and faults in words.
+use crate::escapes::push_escaped;
+use jv_base::{Items, Text};
+use keep_rules::{ClassSpec, Filter, Keep, KeepKind, MemberSpec, RuleFault, RuleKind, Rules};
+use std::alloc::{AllocError, Global};
+
+/// `rules LINE KIND`, with the option of the kind.
+pub fn fault_text(alloc: Global, fault: &RuleFault) -> Result<String, AllocError> {
+    let line = fault.line;
+    let mut text = format!(in alloc; "rules {line} ")?;
+    text.push_str(kind_name(&fault.kind))?;
+    if let Some(option) = option_of(&fault.kind) {
+        text.push_str(" ")?;
+        push_escaped(&mut text, option.as_str())?;
+    }
+    Ok(text)
+}
+
+fn kind_name(kind: &RuleKind) -> &'static str {
+    match kind {
+        RuleKind::UnknownOption => "UnknownOption",
+        RuleKind::BadClassSpec => "BadClassSpec",
+        RuleKind::BadMemberSpec => "BadMemberSpec",
+        RuleKind::BadValue(_) => "BadValue",
+        RuleKind::MissingName => "MissingName",
+        RuleKind::MissingOption(_) => "MissingOption",
+        RuleKind::Repeated(_) => "Repeated",
+        RuleKind::SamePath => "SamePath",
+        RuleKind::LeftOut(_) => "LeftOut",
+        RuleKind::NothingKept => "NothingKept",
+        RuleKind::NotUtf8 => "NotUtf8",
+        RuleKind::QuoteOpen => "QuoteOpen",
+    }
+}
+
+fn option_of(kind: &RuleKind) -> Option<&Text> {
+    match kind {
+        RuleKind::BadValue(option) => Some(option),
+        RuleKind::MissingOption(option) => Some(option),
+        RuleKind::Repeated(option) => Some(option),
+        RuleKind::LeftOut(option) => Some(option),
+        _ => None,
+    }
+}
+
+/// `ok`, and each part of the rules as `NAME=VALUE`.
+pub fn rules_text(alloc: Global, rules: &Rules) -> Result<String, AllocError> {
+    let mut text = String::from_str(alloc, "ok")?;
+    push_text(&mut text, " in=", &rules.in_dir)?;
+    push_text(&mut text, " out=", &rules.out_dir)?;
+    push_text(&mut text, " mapping=", &rules.mapping)?;
+    push_any(&mut text, " seeds=", &rules.seeds)?;
+    push_any(&mut text, " usage=", &rules.usage)?;
+    push_yes(&mut text, " shrink=", rules.shrink)?;
+    push_yes(&mut text, " optimise=", rules.optimise)?;
+    push_yes(&mut text, " obfuscate=", rules.obfuscate)?;
+    push_filters(&mut text, " attrs=", &rules.attrs)?;
+    push_any(&mut text, " source=", &rules.source_name)?;
+    for keep in rules.keeps.as_slice() {
+        push_keep(&mut text, keep)?;
+    }
+    Ok(text)
+}
+
+fn push_keep(text: &mut String, keep: &Keep) -> Result<(), AllocError> {
+    text.push_str(" keep=")?;
+    text.push_str(keep_name(keep.kind))?;
+    push_yes(text, " descriptors=", keep.descriptor_classes)?;
+    push_yes(text, " shrinking=", keep.allow_shrinking)?;
+    push_yes(text, " obfuscation=", keep.allow_obfuscation)?;
+    push_spec(text, &keep.spec)
+}
+
+fn keep_name(kind: KeepKind) -> &'static str {
+    match kind {
+        KeepKind::Keep => "Keep",
+        KeepKind::Members => "Members",
+        KeepKind::WithMembers => "WithMembers",
+    }
+}
+
+fn push_spec(text: &mut String, spec: &ClassSpec) -> Result<(), AllocError> {
+    push_filters(text, " flags=", &spec.flags)?;
+    push_text(text, " kind=", &spec.kind)?;
+    push_filters(text, " names=", &spec.names)?;
+    push_any(text, " above=", &spec.above)?;
+    for member in spec.members.as_slice() {
+        push_member(text, member)?;
+    }
+    Ok(())
+}
+
+fn push_member(text: &mut String, member: &MemberSpec) -> Result<(), AllocError> {
+    push_text(text, " member=", &member.name)?;
+    push_filters(text, " flags=", &member.flags)?;
+    push_any(text, " type=", &member.ty)?;
+    text.push_str(" args=")?;
+    match &member.args {
+        Some(types) => push_types(text, types),
+        None => text.push_str("-"),
+    }
+}
+
+fn push_text(text: &mut String, name: &str, value: &Text) -> Result<(), AllocError> {
+    text.push_str(name)?;
+    push_escaped(text, value.as_str())
+}
+
+fn push_any(text: &mut String, name: &str, value: &Option<Text>) -> Result<(), AllocError> {
+    match value {
+        Some(value) => push_text(text, name, value),
+        None => {
+            text.push_str(name)?;
+            text.push_str("-")
+        }
+    }
+}
+
+fn push_yes(text: &mut String, name: &str, value: bool) -> Result<(), AllocError> {
+    text.push_str(name)?;
+    text.push_str(if value { "yes" } else { "no" })
+}
+
+fn push_filters(text: &mut String, name: &str, filters: &Items<Filter>) -> Result<(), AllocError> {
+    text.push_str(name)?;
+    text.push_str("[")?;
+    for (at, filter) in filters.as_slice().iter().enumerate() {
+        if at > 0 {
+            text.push_str(",")?;
+        }
+        if filter.negated {
+            text.push_str("!")?;
+        }
+        push_escaped(text, filter.pattern.as_str())?;
+    }
+    text.push_str("]")
+}
+
+fn push_types(text: &mut String, types: &Items<Text>) -> Result<(), AllocError> {
+    text.push_str("[")?;
+    for (at, ty) in types.as_slice().iter().enumerate() {
+        if at > 0 {
+            text.push_str(",")?;
+        }
+        push_escaped(text, ty.as_str())?;
+    }
+    text.push_str("]")
+}
