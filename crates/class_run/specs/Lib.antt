@@ -1,0 +1,3 @@
+pub mod Started
+pub mod Ended
+pub mod Examples

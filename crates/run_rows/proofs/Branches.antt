@@ -1,0 +1,34 @@
+-- Rows of runs: comparisons and branches, computed.
+use Rattle.std.proofs.Common.{refl}
+use Rattle.std.specs.Fmt.{digits}
+use Rattle.std.specs.Int.{int_wrap}
+use Rattle.jv_base.specs.Descriptors.{grown, read_field, read_method}
+use Rattle.jv_base.specs.Names.{is_class_name, is_member_name, is_name_byte, is_primitive_or_void, part_after}
+use Rattle.jv_base.specs.Types.{argument_words, base_text, field_text, method_text, result_text, words_of}
+use Rattle.jv_base.specs.Walk.{walk}
+use Rattle.lib_table.specs.Library.{library}
+use Rattle.class_pool.specs.Walk.{upwards, walked}
+use Rattle.run_rows.specs.Branches.{Row46, Row54, Row58, Row59, BranchesRows}
+
+row46 : Row46
+unfolding library upwards walked field_text base_text method_text result_text grown read_field read_method walk
+    is_class_name is_member_name is_primitive_or_void is_name_byte part_after words_of argument_words digits int_wrap
+row46 = refl
+
+row54 : Row54
+unfolding library upwards walked field_text base_text method_text result_text grown read_field read_method walk
+    is_class_name is_member_name is_primitive_or_void is_name_byte part_after words_of argument_words digits int_wrap
+row54 = refl
+
+row58 : Row58
+unfolding library upwards walked field_text base_text method_text result_text grown read_field read_method walk
+    is_class_name is_member_name is_primitive_or_void is_name_byte part_after words_of argument_words digits int_wrap
+row58 = refl
+
+row59 : Row59
+unfolding library upwards walked field_text base_text method_text result_text grown read_field read_method walk
+    is_class_name is_member_name is_primitive_or_void is_name_byte part_after words_of argument_words digits int_wrap
+row59 = refl
+
+pub computed : BranchesRows
+computed = (row46, row54, row58, row59)

@@ -1,0 +1,15 @@
+mod Arithmetic
+mod Branches
+mod Switches
+mod Stack
+mod Arrays
+mod NestedArrays
+mod NullReceivers
+mod Handlers
+mod Uncaught
+mod Initialisation
+mod FailedInitialisation
+mod Calls
+mod Strings
+mod Builders
+mod Printing

@@ -1,0 +1,34 @@
+-- Rows of runs: stack, computed.
+use Rattle.std.proofs.Common.{refl}
+use Rattle.std.specs.Fmt.{digits}
+use Rattle.std.specs.Int.{int_wrap}
+use Rattle.jv_base.specs.Descriptors.{grown, read_field, read_method}
+use Rattle.jv_base.specs.Names.{is_class_name, is_member_name, is_name_byte, is_primitive_or_void, part_after}
+use Rattle.jv_base.specs.Types.{argument_words, base_text, field_text, method_text, result_text, words_of}
+use Rattle.jv_base.specs.Walk.{walk}
+use Rattle.lib_table.specs.Library.{library}
+use Rattle.class_pool.specs.Walk.{upwards, walked}
+use Rattle.run_rows.specs.Stack.{Row88, Row93, Row97, Row104, StackRows}
+
+row88 : Row88
+unfolding library upwards walked field_text base_text method_text result_text grown read_field read_method walk
+    is_class_name is_member_name is_primitive_or_void is_name_byte part_after words_of argument_words digits int_wrap
+row88 = refl
+
+row93 : Row93
+unfolding library upwards walked field_text base_text method_text result_text grown read_field read_method walk
+    is_class_name is_member_name is_primitive_or_void is_name_byte part_after words_of argument_words digits int_wrap
+row93 = refl
+
+row97 : Row97
+unfolding library upwards walked field_text base_text method_text result_text grown read_field read_method walk
+    is_class_name is_member_name is_primitive_or_void is_name_byte part_after words_of argument_words digits int_wrap
+row97 = refl
+
+row104 : Row104
+unfolding library upwards walked field_text base_text method_text result_text grown read_field read_method walk
+    is_class_name is_member_name is_primitive_or_void is_name_byte part_after words_of argument_words digits int_wrap
+row104 = refl
+
+pub computed : StackRows
+computed = (row88, row93, row97, row104)

@@ -1,0 +1,29 @@
+-- Rows of runs: uncaught, computed.
+use Rattle.std.proofs.Common.{refl}
+use Rattle.std.specs.Fmt.{digits}
+use Rattle.std.specs.Int.{int_wrap}
+use Rattle.jv_base.specs.Descriptors.{grown, read_field, read_method}
+use Rattle.jv_base.specs.Names.{is_class_name, is_member_name, is_name_byte, is_primitive_or_void, part_after}
+use Rattle.jv_base.specs.Types.{argument_words, base_text, field_text, method_text, result_text, words_of}
+use Rattle.jv_base.specs.Walk.{walk}
+use Rattle.lib_table.specs.Library.{library}
+use Rattle.class_pool.specs.Walk.{upwards, walked}
+use Rattle.run_rows.specs.Uncaught.{Row224, Row236, Row237, UncaughtRows}
+
+row224 : Row224
+unfolding library upwards walked field_text base_text method_text result_text grown read_field read_method walk
+    is_class_name is_member_name is_primitive_or_void is_name_byte part_after words_of argument_words digits int_wrap
+row224 = refl
+
+row236 : Row236
+unfolding library upwards walked field_text base_text method_text result_text grown read_field read_method walk
+    is_class_name is_member_name is_primitive_or_void is_name_byte part_after words_of argument_words digits int_wrap
+row236 = refl
+
+row237 : Row237
+unfolding library upwards walked field_text base_text method_text result_text grown read_field read_method walk
+    is_class_name is_member_name is_primitive_or_void is_name_byte part_after words_of argument_words digits int_wrap
+row237 = refl
+
+pub computed : UncaughtRows
+computed = (row224, row236, row237)

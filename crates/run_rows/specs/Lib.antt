@@ -1,0 +1,16 @@
+pub mod Rows
+pub mod Arithmetic
+pub mod Branches
+pub mod Switches
+pub mod Stack
+pub mod Arrays
+pub mod NestedArrays
+pub mod NullReceivers
+pub mod Handlers
+pub mod Uncaught
+pub mod Initialisation
+pub mod FailedInitialisation
+pub mod Calls
+pub mod Strings
+pub mod Builders
+pub mod Printing

@@ -1,0 +1,4 @@
+//! Rows of runs, computed from the definitions of the machine.
+#![tactic(auto)]
+
+pub mod rows;

@@ -1,0 +1,2 @@
+pub mod ImageNames
+pub mod ImageView
