@@ -1,0 +1,6 @@
+//! How the passes edit the code of a method: acts, by pass and step.
+#![tactic(auto)]
+
+mod act;
+
+pub use act::{Act, MethodEdits, Pass, PassEdits, is_pass, pass_of, pass_of_step};

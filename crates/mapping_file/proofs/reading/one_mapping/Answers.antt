@@ -1,0 +1,5 @@
+use Rattle.mapping_file.proofs.MapLaw.{one_reading}
+use Rattle.mapping_file.proofs.reading.one_mapping.Goals as goal
+
+pub returns : goal.returns
+returns c = one_reading

@@ -1,0 +1,8 @@
+use Rattle.std.proofs.Common.{◌≡◌, [], ◌∷◌, ◌++◌, take}
+use Rattle.std.specs.List.{flat_map}
+use Rattle.mapping_file.specs.MapLines.{field_line_text}
+use Rattle.mapping_file.proofs.writing.push_field_lines.Given as goal
+
+abbrev pub invariant-loop-field : goal.invariant-loop-field
+invariant-loop-field l = l.out.items
+    ≡ l.initial.out.items ++ flat_map (λ f. field_line_text f ++ 10 ∷ []) (take l.field-index l.fields)

@@ -1,0 +1,5 @@
+pub mod LineReading
+pub mod MapLines
+pub mod MapReading
+pub mod Mappings
+pub mod NameTable

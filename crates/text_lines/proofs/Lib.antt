@@ -1,0 +1,10 @@
+pub mod Parts
+pub mod ReadLines
+pub mod Spelling
+pub mod Taking
+pub mod Words
+pub mod Written
+pub mod Arguments
+pub mod FirstLine
+pub mod Keeping
+pub mod Numerals

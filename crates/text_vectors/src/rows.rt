@@ -1,0 +1,49 @@
+// The lines of the run.
+ghost use Rattle.std.specs.Prelude.{◌<◌, IfOk, IfSome, length};
+
+use crate::answer::{mapping_answer, witness_answer};
+use crate::escapes::{escaped, unescaped};
+use jv_base::{M, Text};
+use line_answers::Answers;
+use std::alloc::Global;
+
+/// The answers to mappings and witnesses.
+pub(crate) struct Rows;
+
+impl Answers for Rows {
+    fn answer(&self, alloc: Global, line: &[u8]) -> M<Option<Text>> {
+        if let Some(text) = line.strip_prefix(b"mapping ") {
+            return mapping_row(alloc, text);
+        }
+        match line.strip_prefix(b"witness ") {
+            Some(text) => witness_row(alloc, text),
+            None => Ok(None),
+        }
+    }
+}
+
+fn mapping_row(alloc: Global, text: &[u8]) -> M<Option<Text>> {
+    let Some(bytes) = bytes_of(alloc, text)? else {
+        return Ok(None);
+    };
+    let answer = mapping_answer(alloc, bytes.as_slice())?;
+    Ok(Some(escaped(alloc, answer.as_slice())?))
+}
+
+fn witness_row(alloc: Global, text: &[u8]) -> M<Option<Text>> {
+    let Some(bytes) = bytes_of(alloc, text)? else {
+        return Ok(None);
+    };
+    let answer = witness_answer(alloc, bytes.as_slice())?;
+    Ok(Some(escaped(alloc, answer.as_slice())?))
+}
+
+// The bytes that a text spells, fewer than 4 GiB of them.
+fn bytes_of(alloc: Global, text: &[u8]) -> M<Option<Vec<u8>>>
+    ensures { IfOk result (λ bytes. IfSome bytes (λ b. length b.items < 4294967295)) }
+{
+    match unescaped(alloc, text)? {
+        Some(bytes) if bytes.len() < u32::MAX as usize => Ok(Some(bytes)),
+        _ => Ok(None),
+    }
+}

@@ -1,0 +1,5 @@
+use Rattle.witness_file.proofs.WitnessLaw.{one_reading}
+use Rattle.witness_file.proofs.reading.one_witness.Goals as goal
+
+pub returns : goal.returns
+returns c = one_reading

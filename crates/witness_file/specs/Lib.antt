@@ -1,0 +1,5 @@
+pub mod LineReading
+pub mod MethodTable
+pub mod WitnessLines
+pub mod WitnessReading
+pub mod Witnesses

@@ -1,0 +1,14 @@
+//! Witnesses, which tell how each method was edited: read and written.
+#![tactic(auto)]
+
+mod acts;
+mod line;
+mod methods;
+mod reading;
+mod steps;
+mod witness;
+mod writing;
+
+pub use reading::{one_witness, read_witness};
+pub use witness::{MethodWitness, WitFault, WitKind, Witness};
+pub use writing::write_witness;
