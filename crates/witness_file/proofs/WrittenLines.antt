@@ -75,8 +75,10 @@ member_lacks : (byte : ℕ) (ty : MethodType) (name : List ℕ) → byte < 32 �
     → Lacks byte name → Lacks byte (method_text ty name)
 member_lacks byte ty name small none t n =
     spaced byte (result_text ty.ret) _ small (word_lacks byte (result_text ty.ret) none (result_word ty.ret (returned_is ty.ret t.returned)).0)
-    (lacks_append byte name _ n ((λ e. omega (arith, small, e)),
-    lacks_append byte (arguments_text ty.args) (codes ")") (arguments_lack_byte byte ty.args none (λ e. omega (arith, small, e)) t.arguments) ((λ e. omega (arith, small, e)), tt)))
+    (lacks_append byte name _ n (
+      (λ e. omega (arith, small, e)),
+      lacks_append byte (arguments_text ty.args) (codes ")") (arguments_lack_byte byte ty.args none (λ e. omega (arith, small, e)) t.arguments) ((λ e. omega (arith, small, e)), tt),
+    ))
 
 line_lacks : (byte : ℕ) (l : WitnessLine) → byte < 32 → is_word_byte byte ≡ false → IsLine l → Lacks byte (line_text l)
 unfolding line_text
@@ -161,7 +163,7 @@ own_text (line.Act (act.Skip m)) = refl
 line_written : (l : WitnessLine) → IsLine l → IsTextLine l → IsWritten SpellsLine line_text l
 line_written l h t = record { plain = line_plain l h; utf8 = line_utf8 l h t; says = line_says_something l; spelled = (h, own_text l) }
 
-lines_written : (ls : List WitnessLine) → AllByRecursion IsLine ls → AllByRecursion IsTextLine ls → AllByRecursion (IsWritten SpellsLine line_text) ls
+pub lines_written : (ls : List WitnessLine) → AllByRecursion IsLine ls → AllByRecursion IsTextLine ls → AllByRecursion (IsWritten SpellsLine line_text) ls
 lines_written [] h t = tt
 lines_written (l ∷ ls) h t = (line_written l h.0 t.0, lines_written ls h.1 t.1)
 
