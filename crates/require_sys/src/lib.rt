@@ -1,11 +1,9 @@
 //! What of a set of classes has to be kept, as a system of requirements on its items.
 #![tactic(auto)]
 
-mod asked;
 mod needs;
 mod numbered;
 mod seeds;
 mod system;
 
-pub use asked::AskedMethod;
 pub use system::system_of;

@@ -21,7 +21,7 @@ fn end<S: Sink>(status: u8, line: &[u8], out: &mut S) -> u8
     ensures status { result ≡ status }
     ensures text { Puts line.now
         (output (S.written out.old) (S.faults out.old) (S.log out.old))
-            (output (S.written out.new) (S.faults out.new) (S.log out.new)) }
+        (output (S.written out.new) (S.faults out.new) (S.log out.new)) }
     ensures later { S.faults out.old ≤ S.faults out.new }
 {
     let _ = out.put(line);
@@ -32,7 +32,7 @@ fn end<S: Sink>(status: u8, line: &[u8], out: &mut S) -> u8
 fn say_device<S: Sink>(out: &mut S) -> u8
     ensures line { SaysLine [] failed_device result
         (output (S.written out.old) (S.faults out.old) (S.log out.old))
-            (output (S.written out.new) (S.faults out.new) (S.log out.new)) }
+        (output (S.written out.new) (S.faults out.new) (S.log out.new)) }
     ensures later { S.faults out.old ≤ S.faults out.new }
 {
     end(7, b"error 7 device\n", out)
@@ -42,7 +42,7 @@ fn say_device<S: Sink>(out: &mut S) -> u8
 fn say_no_memory<S: Sink>(out: &mut S) -> u8
     ensures { SaysLine [] no_memory result
         (output (S.written out.old) (S.faults out.old) (S.log out.old))
-            (output (S.written out.new) (S.faults out.new) (S.log out.new)) }
+        (output (S.written out.new) (S.faults out.new) (S.log out.new)) }
 {
     end(10, b"error 10 memory\n", out)
 }
@@ -51,7 +51,7 @@ fn say_no_memory<S: Sink>(out: &mut S) -> u8
 fn say_refusal<S: Sink>(alloc: Global, config: &Text, refusal: &Refusal, out: &mut S) -> u8
     ensures { Says config.now (Refused refusal.now) result
         (output (S.written out.old) (S.faults out.old) (S.log out.old))
-            (output (S.written out.new) (S.faults out.new) (S.log out.new)) }
+        (output (S.written out.new) (S.faults out.new) (S.log out.new)) }
 {
     match refusal_line(alloc, config, refusal) {
         Ok(line) => end(refusal_status(refusal), line.as_bytes(), out),
@@ -63,7 +63,7 @@ fn say_refusal<S: Sink>(alloc: Global, config: &Text, refusal: &Refusal, out: &m
 fn say<S: Sink>(alloc: Global, config: &Text, stop: &Stop, out: &mut S) -> u8
     ensures { Says config.now stop.now result
         (output (S.written out.old) (S.faults out.old) (S.log out.old))
-            (output (S.written out.new) (S.faults out.new) (S.log out.new)) }
+        (output (S.written out.new) (S.faults out.new) (S.log out.new)) }
 {
     match stop {
         Stop::Refused(refusal) => say_refusal(alloc, config, refusal, out),
@@ -77,7 +77,7 @@ fn finish<S: Sink>(summary: &Text, out: &mut S) -> u8
     ensures device { result ≡ 7 → Rose (S.faults out.old) (S.faults out.new) }
     ensures said { SaysSummary summary.now result
         (output (S.written out.old) (S.faults out.old) (S.log out.old))
-            (output (S.written out.new) (S.faults out.new) (S.log out.new)) }
+        (output (S.written out.new) (S.faults out.new) (S.log out.new)) }
 {
     match out.put(summary.as_bytes()) {
         Ok(()) => 0,
@@ -94,9 +94,9 @@ fn run_on<T: Tree, S: Sink>(alloc: Global, named: &CommandFiles, tree: &mut T, o
         ⊎ Rose (S.faults out.old) (S.faults out.new) }
     ensures ended { Ended (Some named.now) result
         (outside (T.files tree.old) (T.faults tree.old) (T.log tree.old)
-            (output (S.written out.old) (S.faults out.old) (S.log out.old)))
+        (output (S.written out.old) (S.faults out.old) (S.log out.old)))
         (outside (T.files tree.new) (T.faults tree.new) (T.log tree.new)
-            (output (S.written out.new) (S.faults out.new) (S.log out.new))) }
+        (output (S.written out.new) (S.faults out.new) (S.log out.new))) }
 {
     match shrink(alloc, named, tree) {
         Ok(plan) => finish(&plan.summary, out),
@@ -106,31 +106,26 @@ fn run_on<T: Tree, S: Sink>(alloc: Global, named: &CommandFiles, tree: &mut T, o
 
 /// Runs a command and answers the status with which the program ends.
 ///
-/// `shrink CONFIG OUTWIT` reads the config and the class files of the directory that it names, keeps what the config
-/// asks for, and writes the classes that are left to another directory. CONFIG and OUTWIT are paths: an optional `/`,
+/// `shrink CONFIG OUTWIT` reads the config and the class files of the directory that it names, keeps what its rules
+/// keep, and writes the classes that are left to another directory. CONFIG and OUTWIT are paths: an optional `/`,
 /// and then segments joined by `/`, none of them empty, `.` or `..`. Nothing is written to OUTWIT yet.
 ///
-/// A config is four lines, each with its end:
+/// A config has options as ProGuard has them (`read_rules` of `keep_rules`): `-injars IN`, `-outjars OUT` and
+/// `-printmapping MAP`, which have to be there, and others. IN, OUT and MAP are paths; one `/` at the end of a directory
+/// is dropped. Nothing is written to MAP yet, nor to the files of `-printseeds` and `-printusage`, and nothing is
+/// optimised or renamed.
 ///
-/// ```text
-/// -injars IN
-/// -outjars OUT
-/// -printmapping MAP
-/// -keep class Main { static int NAME(int,int); }
-/// ```
-///
-/// IN, OUT and MAP are paths without blanks; one `/` at the end of a directory is dropped. The keep line has one method
-/// or more, each behind a blank, with `int` any number of times. Nothing is written to MAP yet. All classes and fields
-/// are kept, and all methods but static ones; of these class initialisation methods, the methods of `Main` that the
-/// keep line names, and all that kept methods call; a method that `Main` lacks asks for nothing. Each class is written
-/// in its canonical spelling, with the attributes ConstantValue, Code and StackMapTable and no others.
+/// All classes and fields are kept, and all methods but static ones; of these class initialisation methods, the methods
+/// that a keep rule keeps, and all that kept methods call; under `-dontshrink` all. Each class is written in its
+/// canonical spelling, with the attributes ConstantValue, Code and StackMapTable, and of SourceFile, Exceptions,
+/// LineNumberTable, Synthetic and Deprecated those that `-keepattributes` keeps, or all under `-dontobfuscate`.
 ///
 /// | Status | Comes | Text |
 /// |---|---|---|
 /// | 0 | where the files were written | the summary |
 /// | 1 | exactly where the words aren't those | `error 1 words` |
 /// | 2 | where no file stands at CONFIG, or a class file that was listed isn't there any more | `error 2 absent PATH` |
-/// | 3 | where the config is another one | `error 3 rules 0 NotBuilt` |
+/// | 3 | where the config breaks its grammar, or the set has no class to keep | `error 3 rules LINE KIND` |
 /// | 4 | where a file below IN that ends in `.class` is no class file | `error 4 format PATH OFFSET KIND` |
 /// | 5 | where these are no set, a rule is broken, or a code isn't typed | `error 5 profile CLASS MEMBER KIND` |
 /// | 6 | where a quantity passes its limit | `error 6 limit QUANTITY LIMIT` |
@@ -140,7 +135,9 @@ fn run_on<T: Tree, S: Sink>(alloc: Global, named: &CommandFiles, tree: &mut T, o
 /// | 10 | where memory is wanting | `error 10 memory` |
 ///
 /// The config is looked at first, then OUT, then IN: the number of its files, of its class files, and of their bytes;
-/// then each class file by itself, in the order of their paths, and then all as a set; last what is to be written.
+/// then each class file by itself, in the order of their paths, and then all as a set; then whether anything is kept;
+/// last what is to be written. LINE counts from 1, and is 0 where the config as a whole is at fault; KIND has its option
+/// behind it.
 /// CLASS is a name with dots, MEMBER as `int x` or `int f(int)`, and `-` where the class itself is at fault; of a code that
 /// isn't typed KIND is two words, as `Type Local`. Limits:
 /// `config` and `input` (the class files together) 67,108,864 bytes, `files` 65,536 and `classes` 20,000 below IN, and
@@ -173,9 +170,9 @@ pub fn run<Rt: Threads + Sync, T: Tree, S: Sink, G: Gate>(
     // all files that its answers fit, told ones among them, and what was said.
     ensures ended { Ended (files_in words.now) result
         (outside (T.files tree.old) (T.faults tree.old) (T.log tree.old)
-            (output (S.written out.old) (S.faults out.old) (S.log out.old)))
+        (output (S.written out.old) (S.faults out.old) (S.log out.old)))
         (outside (T.files tree.new) (T.faults tree.new) (T.log tree.new)
-            (output (S.written out.new) (S.faults out.new) (S.log out.new))) }
+        (output (S.written out.new) (S.faults out.new) (S.log out.new))) }
 {
     match read_words(alloc, words) {
         Ok(Some(named)) => run_on(alloc, &named, tree, out),
