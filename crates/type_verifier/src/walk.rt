@@ -145,11 +145,7 @@ fn goes_elsewhere(op: &Op) -> bool
 {
     matches!(
         op,
-        Op::Goto(_)
-            | Op::TableSwitch { .. }
-            | Op::LookupSwitch { .. }
-            | Op::Return(_)
-            | Op::Throw
+        Op::Goto(_) | Op::TableSwitch { .. } | Op::LookupSwitch { .. } | Op::Return(_) | Op::Throw
     )
 }
 
@@ -217,13 +213,7 @@ fn declared_frame(alloc: Global, code: &Code, number: usize) -> M<Option<TypeFra
 // ---- frames that flow to other instructions
 
 /// Whether a frame fits at each target of an instruction.
-fn fits_targets(
-    alloc: Global,
-    env: &Env,
-    places: &Places,
-    frame: &TypeFrame,
-    op: &Op,
-) -> M<bool>
+fn fits_targets(alloc: Global, env: &Env, places: &Places, frame: &TypeFrame, op: &Op) -> M<bool>
     requires places { ArePlaces env.now.code.now places.now }
     ensures { IfOk result (λ fits. fits ≡ fits_targets (seen env.now) op.now frame.now) }
 {
@@ -234,11 +224,15 @@ fn fits_targets(
         | Op::IfNull { to, .. }
         | Op::Goto(to) => fits_at(alloc, env, places, frame, *to),
         Op::TableSwitch { other, cases, .. } => {
-            Ok(fits_at(alloc, env, places, frame, *other)?
-                && fits_all(alloc, env, places, frame, cases.as_slice())?)
+            Ok(
+                fits_at(alloc, env, places, frame, *other)?
+                    && fits_all(alloc, env, places, frame, cases.as_slice())?,
+            )
         }
-        Op::LookupSwitch { other, cases } => Ok(fits_at(alloc, env, places, frame, *other)?
-            && fits_cases(alloc, env, places, frame, cases.as_slice())?),
+        Op::LookupSwitch { other, cases } => Ok(
+            fits_at(alloc, env, places, frame, *other)?
+                && fits_cases(alloc, env, places, frame, cases.as_slice())?,
+        ),
         _ => Ok(true),
     }
 }
@@ -280,13 +274,7 @@ fn fits_cases(
 }
 
 /// Whether there is an instruction with a number, and a frame fits there.
-fn fits_at(
-    alloc: Global,
-    env: &Env,
-    places: &Places,
-    frame: &TypeFrame,
-    to: u32,
-) -> M<bool>
+fn fits_at(alloc: Global, env: &Env, places: &Places, frame: &TypeFrame, to: u32) -> M<bool>
     requires places { ArePlaces env.now.code.now places.now }
     ensures { IfOk result (λ fits. fits ≡ fits_at (seen env.now) frame.now to) }
 {
