@@ -13,8 +13,8 @@ loop-class-init c =
     rw c.new-files.ensures (rw all (none_written (map (filtered c.args.filter.now) c.args.classes) c.args.directory.now
     c.requires.writable))
 
-pub file_of-file-requires : goal.file_of-file-requires
-file_of-file-requires c = record {
+pub file_of-requires : goal.file_of-requires
+file_of-requires c = record {
   writable =
       let keep : List Class → List Class = map (filtered c.args.filter.now) in
       let before = subst (λ (t : List Class). AreWritten (keep c.args.classes) c.args.directory.now c.loop-class.files
