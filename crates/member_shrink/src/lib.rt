@@ -1,8 +1,6 @@
-//! Classes without the members that aren't kept and without optional attributes.
+//! Classes without the members that aren't kept.
 #![tactic(auto)]
 
-mod attributes;
 mod removal;
 
-pub use attributes::without_optional;
 pub use removal::shrunk;

@@ -18,7 +18,8 @@ use Rattle.class_pool.specs.declared.id.ClassId.{ClassId}
 use Rattle.class_pool.specs.declared.id.ClassId.TheVariants.{Prog}
 use Rattle.class_pool.specs.declared.id.MemberAt.{MemberAt}
 use Rattle.class_pool.specs.Items.{class_item, item_in, item_of}
-use Rattle.require_sys.specs.EarlySystem.{are_kept_anyway, class_needs, places_of_true}
+use Rattle.keep_match.specs.Seeds.{places_of_true}
+use Rattle.require_sys.specs.EarlySystem.{are_kept_anyway, class_needs}
 use Rattle.require_sys.specs.bodies.Starts.{AreStarts}
 use Rattle.class_pool.proofs.ToldMembers.{rows_counted}
 
@@ -102,18 +103,19 @@ places_below m n (true ∷ bs) most = All-cons (λ x. x < m) n (places_of_true (
     (places_below m (n + 1) bs (omega arith))
 places_below m n (false ∷ bs) most = places_below m (n + 1) bs (omega arith)
 
-kept_counted : (c : Class) → length (are_kept_anyway c) ≡ items_of c
-kept_counted c = simp (length-append, length-replicate, length-map)
+kept_counted : (shrinks : Bool) (c : Class) → length (are_kept_anyway shrinks c) ≡ items_of c
+kept_counted shrinks c = simp (length-append, length-replicate, length-map)
 
 -- there is a truth value for each item
-pub length-kept : (classes : List Class) → length (flat_map are_kept_anyway classes) ≡ item_count classes
-length-kept [] = refl
-length-kept (c ∷ cs) =
-    let here = kept_counted c in
-    let rest = length-kept cs in
-    let both = length-append (are_kept_anyway c) (flat_map are_kept_anyway cs) in
+pub length-kept : (shrinks : Bool) (classes : List Class)
+    → length (flat_map (are_kept_anyway shrinks) classes) ≡ item_count classes
+length-kept shrinks [] = refl
+length-kept shrinks (c ∷ cs) =
+    let here = kept_counted shrinks c in
+    let rest = length-kept shrinks cs in
+    let both = length-append (are_kept_anyway shrinks c) (flat_map (are_kept_anyway shrinks) cs) in
     let all = sum_by-cons items_of c cs in
-    both ∙ ap (λ n. n + length (flat_map are_kept_anyway cs)) here ∙ ap (λ n. items_of c + n) rest ∙ sym all
+    both ∙ ap (λ n. n + length (flat_map (are_kept_anyway shrinks) cs)) here ∙ ap (λ n. items_of c + n) rest ∙ sym all
 
 -- ---- needs
 

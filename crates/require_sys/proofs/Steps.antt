@@ -6,7 +6,7 @@ use Rattle.std.proofs.lemmas.List.{map_push, take_more, length-take}
 use Rattle.std.proofs.lemmas.List.Concat.{flat_map-append}
 use Rattle.std.proofs.lemmas.List.Elements.{filter_map-append}
 use Rattle.std.proofs.lemmas.Option.{slice_get_within}
-use Rattle.require_sys.specs.EarlySystem.{places_of_true}
+use Rattle.keep_match.specs.Seeds.{places_of_true}
 use Rattle.require_sys.proofs.Numbering.{take_at}
 
 one_of : {Y : Type 0} (y : Y) (r : Option Y) → r ≡ Some y → cons_option r [] ≡ y ∷ []

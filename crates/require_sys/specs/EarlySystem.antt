@@ -1,7 +1,7 @@
 -- What has to be kept where only static methods are removed, as a system of requirements on the items of a set of
--- classes: everything but the static methods is kept in any case, and a static method where it is asked for or where a
+-- classes: everything but the static methods is kept in any case, and a static method where a rule keeps it or where a
 -- method that is kept calls it (the project's own: only static methods are removed so far).
-use Rattle.std.specs.Prelude.{ℕ, ◌+◌, Bool, true, not, ◌||◌, List, [], ◌∷◌, ◌++◌, length, map, replicate, Option, Some}
+use Rattle.std.specs.Prelude.{ℕ, ◌+◌, Bool, true, not, ◌||◌, List, [], ◌++◌, length, map, replicate, Option, Some}
 use Rattle.std.specs.Prelude.{None, Result, Ok, Err, if◌then◌else◌}
 use Rattle.std.specs.List.{enumerate_from, filter_map, flat_map}
 use Rattle.std.specs.Option.{option_and_then}
@@ -14,41 +14,32 @@ use Rattle.class_model.specs.declared.code.Ins.{Ins}
 use Rattle.class_model.specs.declared.op.Op.{Op}
 use Rattle.class_model.specs.declared.op.Op.TheVariants as op
 use Rattle.class_pool.specs.Count.{item_count}
-use Rattle.class_pool.specs.Found.{declared_in, is_static_member}
-use Rattle.class_pool.specs.Hierarchy.{class_named}
+use Rattle.class_pool.specs.Found.{is_static_member}
 use Rattle.class_pool.specs.Items.{item_of}
 use Rattle.class_pool.specs.declared.id.ClassId.TheVariants.{Prog}
 use Rattle.class_pool.specs.declared.id.MemberAt.{MemberAt}
 use Rattle.link_check.specs.Links.{resolved_method}
 use Rattle.link_check.specs.declared.fault.LinkKind.{LinkKind}
-use Rattle.require_sys.specs.declared.asked.AskedMethod.{AskedMethod}
+use Rattle.keep_rules.specs.declared.rules.Rules.{Rules}
+use Rattle.keep_match.specs.Seeds.{places_of_true}
+use Rattle.keep_match.specs.Seeds as matched
 
 -- ---- seeds
 
--- a method that is kept in any case: each but the static ones, and of these a class initialisation method (JVMS 2.9,
--- 4.6)
-abbrev pub is_kept_anyway : Method → Bool
-is_kept_anyway m = not (is_static m.flags.0) || is_clinit m.name
+-- a method that is kept in any case: each where nothing is removed; else each but the static ones, and of these a class
+-- initialisation method (ProGuard manual, "-dontshrink"; JVMS 2.9, 4.6)
+abbrev pub is_kept_anyway : Bool → Method → Bool
+is_kept_anyway shrinks m = not shrinks || not (is_static m.flags.0) || is_clinit m.name
 
 -- for each item of a class whether it is kept in any case, as the class and its fields are
-abbrev pub are_kept_anyway : Class → List Bool
-are_kept_anyway c = replicate (1 + length c.fields) true ++ map is_kept_anyway c.methods
+abbrev pub are_kept_anyway : Bool → Class → List Bool
+are_kept_anyway shrinks c = replicate (1 + length c.fields) true ++ map (is_kept_anyway shrinks) c.methods
 
--- the places of a list that have true, counted from n
-abbrev pub places_of_true : ℕ → List Bool → List ℕ
-places_of_true n [] = []
-places_of_true n (b ∷ bs) = if b then n ∷ places_of_true (n + 1) bs else places_of_true (n + 1) bs
-
--- the item of the method that is asked for, where its class declares it
-abbrev pub asked_item : List Class → AskedMethod → Option ℕ
-asked_item classes a =
-    option_and_then (item_of classes)
-    (option_and_then (declared_in classes (a.name, a.descriptor)) (class_named classes a.class))
-
--- what is kept in any case, and the methods that are asked for
--- (the project's own: only static methods are removed so far)
-abbrev pub seeds_of : List Class → List AskedMethod → List ℕ
-seeds_of classes asked = places_of_true 0 (flat_map are_kept_anyway classes) ++ filter_map (asked_item classes) asked
+-- what is kept in any case, and what a rule keeps (ProGuard manual, "Keep Options"; that all but static methods is kept
+-- in any case is the project's own)
+abbrev pub seeds_of : List Class → Rules → List ℕ
+seeds_of classes rules = places_of_true 0 (flat_map (are_kept_anyway rules.shrink) classes)
+    ++ matched.seeds_of rules classes
 
 -- ---- what is wanted
 
@@ -90,11 +81,11 @@ needs_of classes = flat_map (class_needs classes) (enumerate_from 0 classes)
 
 -- ---- the system
 
--- the system of a set and the methods that are asked for (the project's own: only static methods are removed so far)
-abbrev pub system_of : List Class → List AskedMethod → System
-system_of classes asked = record {
+-- the system of a set and of rules (the project's own: only static methods are removed so far)
+abbrev pub system_of : List Class → Rules → System
+system_of classes rules = record {
   n = item_count classes;
-  seeds = seeds_of classes asked;
+  seeds = seeds_of classes rules;
   needs = needs_of classes;
   pairs = [];
 }

@@ -1,10 +1,8 @@
 -- What is kept has no more items than there were.
-use Rattle.std.proofs.Common.{◌≡◌, ℕ, ◌+◌, ◌≤◌, Bool, true, false, cond, List, [], ◌∷◌, length, map, refl, arith}
+use Rattle.std.proofs.Common.{◌≡◌, ℕ, ◌+◌, ◌≤◌, Bool, true, false, cond, List, [], ◌∷◌, length, map, arith}
 use Rattle.std.specs.List.{filter, enumerate_from}
-use Rattle.std.proofs.lemmas.List.{length-map}
 use Rattle.std.proofs.lemmas.List.Sums.{sum_by-cons}
 use Rattle.class_model.specs.declared.class.Class.{Class}
-use Rattle.member_shrink.specs.Attributes.{without_optional, field_without_optional, method_without_optional}
 use Rattle.class_pool.specs.Count.{item_count, items_of}
 use Rattle.class_pool.specs.Items.{class_item}
 use Rattle.member_shrink.specs.Shrunk.{is_marked, chosen, with_marked_members, shrunk}
@@ -49,29 +47,9 @@ module _ (passes : ℕ × Class → Bool) (f : ℕ × Class → Class)
       let sum = sum_by-cons items_of x xs in
       omega (arith, h, sum)
 
-shrunk_few : (classes : List Class) (marks : List Bool) → item_count (shrunk classes marks) ≤ item_count classes
+pub shrunk_few : (classes : List Class) (marks : List Bool) → item_count (shrunk classes marks) ≤ item_count classes
 shrunk_few classes marks =
     picked_few
     (λ (e : ℕ × Class). is_marked marks (class_item classes e.0))
     (λ (e : ℕ × Class). with_marked_members marks (class_item classes e.0) e.1)
     (λ e. members_few marks (class_item classes e.0) e.1) 0 classes
-
-same_items : (c : Class) → items_of (without_optional c) ≡ items_of c
-same_items c =
-    let fields = length-map c.fields field_without_optional in
-    let methods = length-map c.methods method_without_optional in
-    omega (arith, fields, methods)
-
-same_count : (classes : List Class) → item_count (map without_optional classes) ≡ item_count classes
-same_count [] = refl
-same_count (c ∷ classes) =
-    let before = sum_by-cons items_of c classes in
-    let after = sum_by-cons items_of (without_optional c) (map without_optional classes) in
-    let this = same_items c in
-    let rest = same_count classes in
-    omega (arith, before, after, this, rest)
-
-pub kept_few : (classes : List Class) (marks : List Bool)
-    → item_count (map without_optional (shrunk classes marks)) ≤ item_count classes
-kept_few classes marks = let same = same_count (shrunk classes marks) in let few = shrunk_few classes marks in omega
-    (arith, same, few)

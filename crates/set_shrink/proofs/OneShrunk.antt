@@ -1,5 +1,5 @@
 -- Of the same set, for what is asked, one thing at most is written, or one limit passed, and never both.
-use Rattle.std.proofs.Common.{◌≡◌, ℕ, Bool, true, false, IsTrue, List, [], ◌∷◌, ◌++◌, map}
+use Rattle.std.proofs.Common.{◌≡◌, ℕ, Bool, true, false, IsTrue, List, [], ◌∷◌, ◌++◌}
 use Rattle.std.proofs.Common.{Option, Some, None, Result, Ok, Err, refl, sym, ap, subst, ◌∙◌}
 use Rattle.std.specs.List.{AllByRecursion}
 use Rattle.std.proofs.lemmas.List.{ext_get_or}
@@ -9,12 +9,11 @@ use Rattle.mark_core.specs.declared.system.System.{System}
 use Rattle.class_model.specs.WriteLimits.{class_written}
 use Rattle.class_model.specs.declared.class.Class.{Class}
 use Rattle.class_model.specs.declared.limit.WriteLimit.{WriteLimit}
-use Rattle.member_shrink.specs.Attributes.{without_optional}
 use Rattle.member_shrink.specs.Shrunk.{shrunk}
 use Rattle.require_sys.specs.EarlySystem.{system_of}
-use Rattle.require_sys.specs.declared.asked.AskedMethod.{AskedMethod}
+use Rattle.keep_rules.specs.declared.rules.Rules.{Rules}
 use Rattle.set_shrink.specs.OneShrunk.{IsOneLimit, IsOneShrunk, NotBothShrunk}
-use Rattle.set_shrink.specs.ShrunkSet.{AreFilesOf, Fits, IsFileOf, IsKept, PassLimit, counts_of}
+use Rattle.set_shrink.specs.ShrunkSet.{AreFilesOf, Fits, IsFileOf, IsKept, PassLimit, counts_of, with_attributes}
 
 -- ---- what is kept
 
@@ -35,11 +34,11 @@ same_marks sys one other h k =
     (λ x low. same_truth (set_of one x) (set_of other x) (marked_in sys one other x h k)
     (marked_in sys other one x k h))
 
-same_kept : (classes : List Class) (asked : List AskedMethod) (one other : List Class) → IsKept classes asked one
-    → IsKept classes asked other → one ≡ other
-same_kept classes asked one other h k =
-    let marks = same_marks (system_of classes asked) h.marks k.marks h.least k.least in
-    h.left ∙ (ap (λ (ms : List Bool). map without_optional (shrunk classes ms)) marks ∙ sym k.left)
+same_kept : (classes : List Class) (rules : Rules) (one other : List Class) → IsKept classes rules one
+    → IsKept classes rules other → one ≡ other
+same_kept classes rules one other h k =
+    let marks = same_marks (system_of classes rules) h.marks k.marks h.least k.least in
+    h.left ∙ (ap (shrunk classes) marks ∙ sym k.left)
 
 -- ---- files
 
@@ -103,23 +102,26 @@ not_some o limit h k = absurd cc
 -- ---- the laws
 
 pub one_shrunk : IsOneShrunk
-one_shrunk classes asked directory one other h k =
-    let kept : h.kept ≡ k.kept = same_kept classes asked h.kept k.kept h.are_kept k.are_kept in
+one_shrunk classes rules one other h k =
+    let kept : h.kept ≡ k.kept = same_kept classes rules h.kept k.kept h.are_kept k.are_kept in
     let files : one.files ≡ other.files =
-    same_files directory k.kept one.files other.files
-    (subst (λ (cs : List Class). AreFilesOf directory cs one.files) kept h.files) k.files in
+    same_files rules.out_dir (with_attributes rules k.kept) one.files other.files
+    (subst (λ (cs : List Class). AreFilesOf rules.out_dir (with_attributes rules cs) one.files) kept h.files) k.files in
     let read : one.read ≡ other.read = h.read ∙ sym k.read in
     let left : one.kept ≡ other.kept = h.left ∙ (ap counts_of kept ∙ sym k.left) in
     λ i. record { files = files i; read = read i; kept = left i }
 
 pub one_limit : IsOneLimit
-one_limit classes asked limit other h k =
-    let kept : k.0 ≡ h.0 = same_kept classes asked k.0 h.0 k.1 h.1 in
-    same_some (first_limit h.0) limit other (limit_passed h.0 limit h.2)
-    (ap first_limit (sym kept) ∙ limit_passed k.0 other k.2)
+one_limit classes rules limit other h k =
+    let kept : k.0 ≡ h.0 = same_kept classes rules k.0 h.0 k.1 h.1 in
+    let written : List Class → Option WriteLimit = λ cs. first_limit (with_attributes rules cs) in
+    same_some (written h.0) limit other (limit_passed (with_attributes rules h.0) limit h.2)
+    (ap written (sym kept) ∙ limit_passed (with_attributes rules k.0) other k.2)
 
 pub not_both_shrunk : NotBothShrunk
-not_both_shrunk classes asked directory set limit h k =
-    let kept : h.kept ≡ k.0 = same_kept classes asked h.kept k.0 h.are_kept k.1 in
-    not_some (first_limit h.kept) limit (none_passed directory h.kept set.files h.files)
-    (ap first_limit kept ∙ limit_passed k.0 limit k.2)
+not_both_shrunk classes rules set limit h k =
+    let kept : h.kept ≡ k.0 = same_kept classes rules h.kept k.0 h.are_kept k.1 in
+    let written : List Class → Option WriteLimit = λ cs. first_limit (with_attributes rules cs) in
+    not_some (written h.kept) limit
+    (none_passed rules.out_dir (with_attributes rules h.kept) set.files h.files)
+    (ap written kept ∙ limit_passed (with_attributes rules k.0) limit k.2)

@@ -1,8 +1,9 @@
 -- What is left of classes that can be written can be written too.
-use Rattle.std.proofs.Common.{◌≡◌, ℕ, ◌+◌, ◌<◌, Bool, List, [], ◌∷◌, length, map, Option, Some, None, refl, sym, ap}
-use Rattle.std.proofs.Common.{subst, ◌∙◌}
+use Rattle.std.proofs.Common.{◌≡◌, ℕ, ◌+◌, ◌<◌, Bool, true, false, cond, List, [], ◌∷◌, length, map, Option, Some, None}
+use Rattle.std.proofs.Common.{refl, sym, ap, subst, ◌∙◌}
 use Rattle.std.specs.Option.{IfSome, is_some, option_map}
 use Rattle.std.specs.List.{AllByRecursion, AllPairs, slice_get}
+use Rattle.std.specs.Str.{IsUtf8}
 use Rattle.std.proofs.lemmas.List.{length-map}
 use Rattle.std.proofs.lemmas.Bool.{false≢true}
 use Rattle.std.proofs.lemmas.Option.{slice_get-map}
@@ -18,13 +19,18 @@ use Rattle.class_model.specs.declared.class.Class.{Class}
 use Rattle.class_model.specs.Flags.{is_interface}
 use Rattle.class_model.specs.Members.{FieldsDiffer, MethodsDiffer}
 use Rattle.class_model.specs.WellFormed.{IsGoodOp, IsGoodHandler, IsGoodType, IsGoodFrame, IsGoodCode, IsGoodField}
-use Rattle.class_model.specs.WellFormed.{IsGoodMethod, LinesGoOn, HasFewWords}
+use Rattle.class_model.specs.WellFormed.{IsClassName, IsGoodMethod, LinesGoOn, HasFewWords}
 use Rattle.class_write.specs.ClassValues.{IsInsValue, IsCodeValue, IsFieldValue, IsMethodValue}
 use Rattle.class_write.specs.SpellingLaws.{IsWritable}
+use Rattle.class_write.proofs.SpelledWanted.{units_are}
+use Rattle.jv_base.specs.Mutf8.{IsUnits}
+use Rattle.jv_base.specs.Utf16.{units_of}
 use Rattle.class_pool.specs.Items.{class_item}
 use Rattle.member_shrink.specs.Shrunk.{is_marked, chosen, with_marked_members}
-use Rattle.member_shrink.specs.Attributes.{without_line, without_lines, field_without_optional, method_without_optional}
-use Rattle.set_shrink.specs.Writable.{ShrunkAreWritable, WithoutOptionalIsWritable}
+use Rattle.attribute_filter.specs.Filtered.{code_kept, field_filtered, filtered, method_filtered, source_kept}
+use Rattle.attribute_filter.specs.Filtered.{source_named, throws_kept, without_line, without_lines}
+use Rattle.attribute_filter.specs.declared.filter.AttributeFilter.{AttributeFilter}
+use Rattle.set_shrink.specs.Writable.{FilteredIsWritable, ShrunkAreWritable}
 use Rattle.member_shrink.proofs.Picked.{all_mapped, some_mapped, all_picked, pairs_mapped, pairs_picked}
 
 -- the counts of a method's code fit
@@ -151,19 +157,31 @@ code_counts : (code : Code) → CodeCounts code → CodeCounts (without_lines co
 code_counts code h = all_mapped (λ (i : Ins). HasFewWords i.op) (λ (i : Ins). HasFewWords i.op) without_line
     (λ i few. few) code.ins h
 
--- ---- no optional attributes
+-- ---- the optional attributes that are kept
 
-field_good : (in_interface : Bool) (field : Field) → IsGoodField in_interface field
-    → IsGoodField in_interface (field_without_optional field)
-field_good in_interface field g = record { meant = g.meant; flags = g.flags; name = g.name; typed = g.typed; constant = g.constant }
+-- what holds of a code holds of it with its lines where these are kept
+code_holds : (P : Code → Type 0) → ((code : Code) → P code → P (without_lines code)) → (lines : Bool) (o : Option Code)
+    → IfSome o P → IfSome (cond lines o (option_map without_lines o)) P
+code_holds P without true o h = h
+code_holds P without false o h = some_mapped P P without_lines without o h
 
-body_stays : (o : Option Code) → is_some (option_map without_lines o) ≡ is_some o
-body_stays None = refl
-body_stays (Some code) = refl
+body_by : (lines : Bool) (o : Option Code) → is_some (cond lines o (option_map without_lines o)) ≡ is_some o
+body_by true o = refl
+body_by false None = refl
+body_by false (Some code) = refl
 
-method_good : (in_interface : Bool) (m : Method) → IsGoodMethod in_interface m
-    → IsGoodMethod in_interface (method_without_optional m)
-method_good in_interface m g = record {
+throws_by : (kept : Bool) (throws : List (List ℕ)) → AllByRecursion IsClassName throws
+    → AllByRecursion IsClassName (cond kept throws [])
+throws_by true throws h = h
+throws_by false throws h = tt
+
+field_good : (filter : AttributeFilter) (in_interface : Bool) (field : Field) → IsGoodField in_interface field
+    → IsGoodField in_interface (field_filtered filter field)
+field_good filter in_interface field g = record { meant = g.meant; flags = g.flags; name = g.name; typed = g.typed; constant = g.constant }
+
+method_good : (filter : AttributeFilter) (in_interface : Bool) (m : Method) → IsGoodMethod in_interface m
+    → IsGoodMethod in_interface (method_filtered filter m)
+method_good filter in_interface m g = record {
   meant = g.meant;
   flags = g.flags;
   not_native = g.not_native;
@@ -172,16 +190,29 @@ method_good in_interface m g = record {
   room_for_this = g.room_for_this;
   initial_flags = g.initial_flags;
   initial_type = g.initial_type;
-  body = body_stays m.code ∙ g.body;
-  code = some_mapped IsGoodCode IsGoodCode without_lines code_good m.code g.code;
-  throws = tt;
+  body = body_by filter.line_numbers m.code ∙ g.body;
+  code = code_holds IsGoodCode code_good filter.line_numbers m.code g.code;
+  throws = throws_by filter.exceptions m.throws g.throws;
 }
 
-method_value : (m : Method) → IsMethodValue m → IsMethodValue (method_without_optional m)
-method_value m v = record { ty = v.ty; code = some_mapped IsCodeValue IsCodeValue without_lines code_value m.code v.code }
+method_value : (filter : AttributeFilter) (m : Method) → IsMethodValue m → IsMethodValue (method_filtered filter m)
+method_value filter m v =
+    record { ty = v.ty; code = code_holds IsCodeValue code_value filter.line_numbers m.code v.code }
 
-pub without_optional_writable : WithoutOptionalIsWritable
-without_optional_writable c w =
+units_named : (filter : AttributeFilter) → IfSome filter.source_name IsUtf8 → (own : List ℕ) → IsUnits own
+    → (name : Option (List ℕ)) → filter.source_name ≡ name → IsUnits (source_named filter own)
+units_named filter utf8 own units (Some name) is =
+    rw is (units_are name (subst (λ (o : Option (List ℕ)). IfSome o IsUtf8) is utf8))
+units_named filter utf8 own units None is = rw is units
+
+source_by : (filter : AttributeFilter) → IfSome filter.source_name IsUtf8 → (kept : Bool) (o : Option (List ℕ))
+    → IfSome o IsUnits → IfSome (cond kept (option_map (source_named filter) o) None) IsUnits
+source_by filter utf8 true (Some own) h = units_named filter utf8 own h filter.source_name refl
+source_by filter utf8 true None h = tt
+source_by filter utf8 false o h = tt
+
+pub filtered_writable : FilteredIsWritable
+filtered_writable filter c utf8 w =
     let formed = w.well_formed in
     record {
       well_formed = record {
@@ -194,22 +225,23 @@ without_optional_writable c w =
         interfaces = formed.interfaces;
         fields =
             all_mapped (IsGoodField (is_interface c.flags.0))
-            (IsGoodField (is_interface c.flags.0)) field_without_optional
-            (field_good (is_interface c.flags.0)) c.fields formed.fields;
-        fields_differ = pairs_mapped FieldsDiffer field_without_optional c.fields formed.fields_differ;
+            (IsGoodField (is_interface c.flags.0)) (field_filtered filter)
+            (field_good filter (is_interface c.flags.0)) c.fields formed.fields;
+        fields_differ = pairs_mapped FieldsDiffer (field_filtered filter) c.fields formed.fields_differ;
         methods =
             all_mapped (IsGoodMethod (is_interface c.flags.0))
-            (IsGoodMethod (is_interface c.flags.0)) method_without_optional
-            (method_good (is_interface c.flags.0)) c.methods formed.methods;
-        methods_differ = pairs_mapped MethodsDiffer method_without_optional c.methods formed.methods_differ;
-        source = tt;
+            (IsGoodMethod (is_interface c.flags.0)) (method_filtered filter)
+            (method_good filter (is_interface c.flags.0)) c.methods formed.methods;
+        methods_differ = pairs_mapped MethodsDiffer (method_filtered filter) c.methods formed.methods_differ;
+        source = source_by filter utf8 filter.source_file c.source formed.source;
       };
       counts =
-          all_mapped MethodCounts MethodCounts method_without_optional
-          (λ m h. some_mapped CodeCounts CodeCounts without_lines code_counts m.code h) c.methods w.counts;
+          all_mapped MethodCounts MethodCounts (method_filtered filter)
+          (λ m h. code_holds CodeCounts code_counts filter.line_numbers m.code h) c.methods w.counts;
       value = record {
-        fields = all_mapped IsFieldValue IsFieldValue field_without_optional
+        fields = all_mapped IsFieldValue IsFieldValue (field_filtered filter)
             (λ field v. record { ty = v.ty; constant = v.constant }) c.fields w.value.fields;
-        methods = all_mapped IsMethodValue IsMethodValue method_without_optional method_value c.methods w.value.methods;
+        methods = all_mapped IsMethodValue IsMethodValue (method_filtered filter) (method_value filter) c.methods
+            w.value.methods;
       };
     }

@@ -8,20 +8,25 @@ use Rattle.mark_core.specs.Marks.{Marks}
 use Rattle.class_model.specs.WriteLimits.{class_written}
 use Rattle.class_model.specs.declared.class.Class.{Class}
 use Rattle.class_model.specs.declared.limit.WriteLimit.{WriteLimit}
-use Rattle.member_shrink.specs.Attributes.{without_optional}
+use Rattle.keep_rules.specs.declared.rules.Rules.{Rules}
 use Rattle.member_shrink.specs.Shrunk.{shrunk}
+use Rattle.attribute_filter.specs.Filtered.{filtered}
+use Rattle.attribute_filter.specs.KeptAttributes.{filter_of}
 use Rattle.require_sys.specs.EarlySystem.{system_of}
-use Rattle.require_sys.specs.declared.asked.AskedMethod.{AskedMethod}
 use Rattle.set_shrink.specs.declared.counts.Counts.{Counts}
 use Rattle.set_shrink.specs.declared.shrunk.ShrunkSet.{ShrunkSet}
 
 -- ---- what is kept
 
--- the classes of the least closed set of the system, with their members of that set, without optional attributes
-pub record IsKept (classes : List Class) (asked : List AskedMethod) (kept : List Class) : Type 0 where
+-- the classes of the least closed set of the system, with their members of that set
+pub record IsKept (classes : List Class) (rules : Rules) (kept : List Class) : Type 0 where
   pub marks : List Bool
-  pub least : Marks (system_of classes asked) marks
-  pub left : kept ≡ map without_optional (shrunk classes marks)
+  pub least : Marks (system_of classes rules) marks
+  pub left : kept ≡ shrunk classes marks
+
+-- each class with those optional attributes that the rules keep (ProGuard manual, "-keepattributes")
+abbrev pub with_attributes : Rules → List Class → List Class
+with_attributes rules classes = map (filtered (filter_of rules)) classes
 
 -- ---- files
 
@@ -62,21 +67,21 @@ counts_of classes = record {
 
 -- ---- the whole (the project's own: what the command promises)
 
--- the files of what is kept, and the counts of all and of what is kept
-pub record IsShrunk (classes : List Class) (asked : List AskedMethod) (directory : List ℕ)
-    (set : ShrunkSet) : Type 0 where
+-- the files of what is kept, below the output directory, and the counts of all and of what is kept
+pub record IsShrunk (classes : List Class) (rules : Rules) (set : ShrunkSet) : Type 0 where
   pub kept : List Class
-  pub are_kept : IsKept classes asked kept
-  pub files : AreFilesOf directory kept set.files
+  pub are_kept : IsKept classes rules kept
+  pub files : AreFilesOf rules.out_dir (with_attributes rules kept) set.files
   pub read : set.read ≡ counts_of classes
   pub left : set.kept ≡ counts_of kept
 
 -- a class that is kept passes a limit
-abbrev pub PassesLimit : List Class → List AskedMethod → WriteLimit → Type 0
-PassesLimit classes asked limit = (kept : List Class) × IsKept classes asked kept × PassLimit kept limit
+abbrev pub PassesLimit : List Class → Rules → WriteLimit → Type 0
+PassesLimit classes rules limit = (kept : List Class) × IsKept classes rules kept
+    × PassLimit (with_attributes rules kept) limit
 
 -- what is written of a set, or the first limit that it passes; want of memory is free
-abbrev pub Shrinks : Result ShrunkSet (Or WriteLimit) → List Class → List AskedMethod → List ℕ → Type 0
-Shrinks (Ok set) classes asked directory = IsShrunk classes asked directory set
-Shrinks (Err (Fault limit)) classes asked directory = PassesLimit classes asked limit
-Shrinks (Err OutOfMemory) classes asked directory = Unit {0}
+abbrev pub Shrinks : Result ShrunkSet (Or WriteLimit) → List Class → Rules → Type 0
+Shrinks (Ok set) classes rules = IsShrunk classes rules set
+Shrinks (Err (Fault limit)) classes rules = PassesLimit classes rules limit
+Shrinks (Err OutOfMemory) classes rules = Unit {0}

@@ -1,9 +1,9 @@
 // What holds of what is written of a set.
 ghost use Rattle.set_shrink.specs.OneShrunk.{IsOneLimit, IsOneShrunk, NotBothShrunk};
-ghost use Rattle.set_shrink.specs.Writable.{ShrunkAreWritable, WithoutOptionalIsWritable};
+ghost use Rattle.set_shrink.specs.Writable.{FilteredIsWritable, ShrunkAreWritable};
 
-/// Of the same set, for the same methods and directory, one thing at most is written: the same files with the same
-/// counts, or else one limit of the format is passed first, and never both.
+/// Of the same set, for the same rules, one thing at most is written: the same files with the same counts, or else one
+/// limit of the format is passed first, and never both.
 pub fn one_shrunk_set()
     ensures set { IsOneShrunk }
     ensures limit { IsOneLimit }
@@ -16,7 +16,7 @@ pub fn shrunk_can_be_written()
     ensures { ShrunkAreWritable }
 {}
 
-/// A class that can be written can be written without its optional attributes (JVMS 4.1).
-pub fn classes_without_optional_can_be_written()
-    ensures { WithoutOptionalIsWritable }
+/// A class that can be written can be written with those optional attributes alone that are kept (JVMS 4.1).
+pub fn filtered_can_be_written()
+    ensures { FilteredIsWritable }
 {}

@@ -7,8 +7,5 @@ mod laws;
 mod shrunk;
 
 pub use counts::Counts;
-pub use laws::{classes_without_optional_can_be_written, one_shrunk_set, shrunk_can_be_written};
+pub use laws::{filtered_can_be_written, one_shrunk_set, shrunk_can_be_written};
 pub use shrunk::{ShrunkSet, shrink_set};
-
-#[cfg(test)]
-mod tests;

@@ -1,20 +1,20 @@
 // A set without what isn't kept.
-ghost use Rattle.std.specs.Prelude.{◌≡◌, IfOk, length, map};
+ghost use Rattle.std.specs.Prelude.{◌≡◌};
 ghost use Rattle.std.specs.List.{AllByRecursion};
-ghost use Rattle.class_pool.specs.Count.{item_count};
+ghost use Rattle.mark_core.specs.Valid.{Valid};
 ghost use Rattle.class_write.specs.SpellingLaws.{IsWritable};
-ghost use Rattle.member_shrink.specs.Attributes.{without_optional};
-ghost use Rattle.member_shrink.specs.Shrunk.{shrunk};
+ghost use Rattle.require_sys.specs.EarlySystem.{system_of};
 ghost use Rattle.set_shrink.specs.ShrunkSet.{Shrinks};
 
 use crate::counts::{Counts, counts_of};
 use crate::files::files_of;
-use class_model::{Class, WriteLimit};
+use attribute_filter::attribute_filter;
+use class_model::WriteLimit;
 use class_pool::ClassSet;
-use jv_base::{Items, M, Or, Text};
-use mark_core::plain_marks;
-use member_shrink::{shrunk, without_optional};
-use require_sys::{AskedMethod, system_of};
+use jv_base::{Items, Or};
+use keep_rules::Rules;
+use mark_core::{System, plain_marks};
+use member_shrink::shrunk;
 use std::alloc::Global;
 use tree_io::FileAt;
 
@@ -29,42 +29,32 @@ pub struct ShrunkSet {
     pub kept: Counts,
 }
 
-/// The files of a set without the members that aren't kept, below a directory: each kept class with its kept members
-/// and without optional attributes, in its canonical spelling (JVMS 4). What is kept is the least that is asked for,
-/// where all but static methods is kept in any case. Each class of the set can be written. The error is the first limit
-/// of the format that a kept class passes (JVMS 4.11).
+/// The files of a set without the members that aren't kept, below the output directory of the rules: each kept class
+/// with its kept members and those optional attributes that the rules keep, in its canonical spelling (JVMS 4). What is
+/// kept is the least that the system of the set and the rules asks for. Each class of the set can be written. The error
+/// is the first limit of the format that a kept class passes (JVMS 4.11).
 pub fn shrink_set(
     alloc: Global,
     set: ClassSet,
-    asked: &Items<AskedMethod>,
-    directory: &Text,
+    sys: &System,
+    rules: &Rules,
 ) -> Result<ShrunkSet, Or<WriteLimit>>
     requires writable { AllByRecursion IsWritable set }
-    ensures exact { Shrinks result set asked.now directory.now }
+    requires system { sys.now ≡ system_of set rules.now }
+    requires valid { Valid sys.now }
+    ensures exact { Shrinks result set rules.now }
 {
     set.few_items();
-    let sys = system_of(alloc, &set, asked)?;
-    let marks = plain_marks(alloc, &sys)?;
+    let marks = plain_marks(alloc, sys)?;
+    let filter = attribute_filter(alloc, rules)?;
     let classes = set.into_classes();
     let read = counts_of(classes.as_slice());
-    let kept = kept_classes(alloc, classes, &marks)?;
+    let kept = shrunk(alloc, classes, &marks)?;
     let counts = counts_of(kept.as_slice());
-    let files = files_of(alloc, kept, directory)?;
+    let files = files_of(alloc, kept, &filter, &rules.out_dir)?;
     Ok(ShrunkSet {
         files,
         read,
         kept: counts,
     })
-}
-
-/// The classes that are kept, with their kept members and without optional attributes.
-fn kept_classes(alloc: Global, classes: Items<Class>, marks: &Items<bool>) -> M<Items<Class>>
-    requires { length marks.now ≡ item_count classes }
-    ensures { IfOk result (λ kept. kept ≡ map without_optional (shrunk classes marks.now)) }
-{
-    let mut kept = Items::new(alloc);
-    for class in shrunk(alloc, classes, marks)?.into_vec() {
-        kept.push(without_optional(alloc, class))?;
-    }
-    Ok(kept)
 }

@@ -16,17 +16,15 @@ directory OUT without the methods that aren't kept, each in its canonical spelli
 how many classes, fields and methods there were and how many are kept. Nothing is written to
 OUTWIT yet.
 
-CONFIG is four lines:
-  -injars IN
-  -outjars OUT
-  -printmapping MAP
-  -keep class Main { static int NAME(int,int); }
-The last one names one method or more, each behind a blank, with int any number of times. OUT must
-have no file. Nothing is written to MAP yet.
+CONFIG has ProGuard's options, among them
+  -injars IN  -outjars OUT  -printmapping MAP
+  -keepclasseswithmembers class * { public static void main(java.lang.String[]); }
+  -keepattributes SourceFile,LineNumberTable
+of which the first three have to be there. docs/MANUAL.md has them all. OUT must have no file.
+Nothing is written to MAP yet, and nothing is optimised or renamed.
 
 All classes and fields are kept, and all methods but static ones. Of these class initialisation
-methods are kept, those of Main that CONFIG names, and all that kept methods call; so main goes,
-unless kept code calls it. All attributes but ConstantValue, Code and StackMapTable are left out.
+methods are kept, those that a rule of CONFIG keeps, and all that kept methods call.
 
 Class files are the files whose names end in .class. Each lies at the path of its class, as
 IN/demo/X.class for demo.X. Classes, fields and methods that they name are their own or those of

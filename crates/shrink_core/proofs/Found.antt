@@ -19,11 +19,12 @@ use Rattle.class_files.specs.declared.input.InputFault.{InputFault}
 use Rattle.class_files.specs.declared.input.InputFault.TheVariants as fault
 use Rattle.class_model.specs.declared.class.Class.{Class}
 use Rattle.shrink_core.specs.Answer.{Refuses, StopsSo, Writes, StopsBefore}
-use Rattle.shrink_core.specs.declared.config.Config.{Config}
+use Rattle.keep_rules.specs.declared.rules.Rules.{Rules}
+use Rattle.shrink_core.proofs.OneConfig.{config_found}
 use Rattle.shrink_core.specs.declared.words.CommandFiles.{CommandFiles}
 use Rattle.shrink_core.specs.declared.shrink.Plan.{Plan}
 use Rattle.shrink_core.specs.declared.refusal.Refusal.{Refusal}
-use Rattle.shrink_core.specs.declared.refusal.Refusal.TheVariants.{NoConfig, NotBuilt, NotEmpty, Gone, Format, Profile}
+use Rattle.shrink_core.specs.declared.refusal.Refusal.TheVariants.{NoConfig, BadRules, NotEmpty, Gone, Format, Profile}
 use Rattle.shrink_core.specs.declared.refusal.Refusal.TheVariants.{Limit}
 use Rattle.shrink_core.specs.declared.refusal.Stop.{Stop}
 use Rattle.shrink_core.specs.declared.refusal.Stop.TheVariants.{Refused, Device, OutOfMemory}
@@ -52,23 +53,25 @@ weaken absent P Q a b x y so p = made_so (Sees absent P) (Sees absent Q) a b x y
 -- ---- the config
 
 -- what the bytes of a file are is what stands there
-pub config_seen : (path bytes : List ℕ) (r : Result Config Stop) (a b : List Event) (x y : Option Files)
-    → AddsCalls a b x y (Sees (Some []) (λ files. HasBytes files path bytes)) → ConfigOf r bytes
-    → AddsCalls a b x y (Sees (missed path r) (λ files. Finds r (HasConfig files path) (RefusesConfig files path)))
-config_seen path bytes (Ok config) a b x y there is =
-    weaken (Some []) (λ files. HasBytes files path bytes) (λ files. HasConfig files path config) a b x y
-    (λ files has. (bytes, has, is)) there
-config_seen path bytes (Err (Refused NotBuilt)) a b x y there is =
-    weaken (Some []) (λ files. HasBytes files path bytes) (λ files. RefusesConfig files path NotBuilt) a b x y
-    (λ files has. (bytes, has, is)) there
-config_seen path bytes (Err (Refused NoConfig)) a b x y there is = absurd is
-config_seen path bytes (Err (Refused (NotEmpty directory))) a b x y there is = absurd is
-config_seen path bytes (Err (Refused (Gone at))) a b x y there is = absurd is
-config_seen path bytes (Err (Refused (Format at fault))) a b x y there is = absurd is
-config_seen path bytes (Err (Refused (Profile fault))) a b x y there is = absurd is
-config_seen path bytes (Err (Refused (Limit quantity))) a b x y there is = absurd is
-config_seen path bytes (Err Device) a b x y there is = absurd is
-config_seen path bytes (Err OutOfMemory) a b x y there is = lacks (λ files. HasBytes files path bytes) a b x y there
+pub config_seen : (named : CommandFiles) (bytes : List ℕ) (r : Result Rules Stop) (a b : List Event) (x y : Option Files)
+    → AddsCalls a b x y (Sees (Some []) (λ files. HasBytes files named.config bytes)) → ConfigOf r bytes named.witness
+    → AddsCalls a b x y (Sees (missed named.config r)
+    (λ files. Finds r (HasConfig files named) (RefusesConfig files named)))
+config_seen named bytes (Ok rules) a b x y there is =
+    weaken (Some []) (λ files. HasBytes files named.config bytes) (λ files. HasConfig files named rules) a b x y
+    (λ files has. (bytes, has, config_found bytes named.witness rules is)) there
+config_seen named bytes (Err (Refused (BadRules fault))) a b x y there is =
+    weaken (Some []) (λ files. HasBytes files named.config bytes) (λ files. RefusesConfig files named (BadRules fault))
+    a b x y (λ files has. (bytes, has, is)) there
+config_seen named bytes (Err (Refused NoConfig)) a b x y there is = absurd is
+config_seen named bytes (Err (Refused (NotEmpty directory))) a b x y there is = absurd is
+config_seen named bytes (Err (Refused (Gone at))) a b x y there is = absurd is
+config_seen named bytes (Err (Refused (Format at fault))) a b x y there is = absurd is
+config_seen named bytes (Err (Refused (Profile fault))) a b x y there is = absurd is
+config_seen named bytes (Err (Refused (Limit quantity))) a b x y there is = absurd is
+config_seen named bytes (Err Device) a b x y there is = absurd is
+config_seen named bytes (Err OutOfMemory) a b x y there is =
+    lacks (λ files. HasBytes files named.config bytes) a b x y there
 
 -- ---- the set
 
@@ -127,7 +130,7 @@ set_seen config directory inputs (Err (Refused (Profile fault))) a b x y p is =
     weaken (Some []) (λ files. input_due files directory ≡ Ok inputs)
     (λ files. RefusesInput files directory (Profile fault)) a b x y (λ files has. (inputs, has, is)) p
 set_seen config directory inputs (Err (Refused NoConfig)) a b x y p is = absurd is
-set_seen config directory inputs (Err (Refused NotBuilt)) a b x y p is = absurd is
+set_seen config directory inputs (Err (Refused (BadRules at))) a b x y p is = absurd is
 set_seen config directory inputs (Err (Refused (NotEmpty at))) a b x y p is = absurd is
 set_seen config directory inputs (Err (Refused (Gone at))) a b x y p is = absurd is
 set_seen config directory inputs (Err (Refused (Limit quantity))) a b x y p is = absurd is
@@ -137,15 +140,15 @@ set_seen config directory inputs (Err OutOfMemory) a b x y p is = lacks
 
 -- ---- the plan
 
--- the config that is there, an empty output directory, and the set
-abbrev pub Configured : CommandFiles → Config → Files → Type 0
-Configured named config files = HasConfig files named.config config
+-- the rules that are there, an empty output directory, and the set
+abbrev pub Configured : CommandFiles → Rules → Files → Type 0
+Configured named rules files = HasConfig files named rules
 
-abbrev pub Emptied : CommandFiles → Config → Files → Type 0
-Emptied named config files = HasConfig files named.config config × IsEmpty files config.output
+abbrev pub Emptied : CommandFiles → Rules → Files → Type 0
+Emptied named rules files = HasConfig files named rules × IsEmpty files rules.out_dir
 
-abbrev pub Taken : CommandFiles → Config → List Class → Files → Type 0
-Taken named config classes files = Emptied named config files × HasSet files config.input classes
+abbrev pub Taken : CommandFiles → Rules → List Class → Files → Type 0
+Taken named rules classes files = Emptied named rules files × HasSet files rules.in_dir classes
 
 abbrev pub no_plan : Stop → Result Plan Stop
 no_plan stop = Err stop
@@ -154,60 +157,60 @@ abbrev pub Planned : Result Plan Stop → CommandFiles → Files → Type 0
 Planned r named files = Finds r (IsResult files named) (IsRefused files named)
 
 pub refused_by_config : (named : CommandFiles) (stop : Stop) (a b : List Event) (x y : Option Files)
-    → AddsCalls a b x y (Sees (missed_by named.config stop) (λ files. StopsAs stop (RefusesConfig files named.config)))
+    → AddsCalls a b x y (Sees (missed_by named.config stop) (λ files. StopsAs stop (RefusesConfig files named)))
     → AddsCalls a b x y (Sees (missed_by named.config stop) (Planned (no_plan stop) named))
 refused_by_config named stop a b x y p =
-    weaken (missed_by named.config stop) (λ files. StopsAs stop (RefusesConfig files named.config))
+    weaken (missed_by named.config stop) (λ files. StopsAs stop (RefusesConfig files named))
     (Planned (no_plan stop) named) a b x y
-    (λ files. carried stop (RefusesConfig files named.config) (IsRefused files named) (λ refusal r. by_config r)) p
+    (λ files. carried stop (RefusesConfig files named) (IsRefused files named) (λ refusal r. by_config r)) p
 
-pub refused_by_output : (named : CommandFiles) (config : Config) (stop : Stop) (a b c : List Event)
+pub refused_by_output : (named : CommandFiles) (rules : Rules) (stop : Stop) (a b c : List Event)
     (x y z : Option Files)
-    → AddsCalls a b x y (Sees (Some []) (Configured named config))
-    → AddsCalls b c y z (Sees (missed_by named.config stop) (λ files. StopsAs stop (RefusesOutput files config.output)))
+    → AddsCalls a b x y (Sees (Some []) (Configured named rules))
+    → AddsCalls b c y z (Sees (missed_by named.config stop) (λ files. StopsAs stop (RefusesOutput files rules.out_dir)))
     → AddsCalls a c x z (Sees (missed_by named.config stop) (Planned (no_plan stop) named))
-refused_by_output named config stop a b c x y z has p =
-    made_sees (missed_by named.config stop) (Configured named config)
-    (λ files. StopsAs stop (RefusesOutput files config.output)) (Planned (no_plan stop) named) a b c x y z
-    (λ files there. carried stop (RefusesOutput files config.output) (IsRefused files named)
-    (λ refusal r. by_output config there r)) has p
+refused_by_output named rules stop a b c x y z has p =
+    made_sees (missed_by named.config stop) (Configured named rules)
+    (λ files. StopsAs stop (RefusesOutput files rules.out_dir)) (Planned (no_plan stop) named) a b c x y z
+    (λ files there. carried stop (RefusesOutput files rules.out_dir) (IsRefused files named)
+    (λ refusal r. by_output rules there r)) has p
 
-pub emptied : (named : CommandFiles) (config : Config) (a b c : List Event) (x y z : Option Files)
-    → AddsCalls a b x y (Sees (Some []) (Configured named config))
-    → AddsCalls b c y z (Sees (Some []) (λ files. IsEmpty files config.output))
-    → AddsCalls a c x z (Sees (Some []) (Emptied named config))
-emptied named config a b c x y z has p =
-    made_sees (Some []) (Configured named config) (λ files. IsEmpty files config.output)
-    (Emptied named config) a b c x y z (λ files there empty. (there, empty)) has p
+pub emptied : (named : CommandFiles) (rules : Rules) (a b c : List Event) (x y z : Option Files)
+    → AddsCalls a b x y (Sees (Some []) (Configured named rules))
+    → AddsCalls b c y z (Sees (Some []) (λ files. IsEmpty files rules.out_dir))
+    → AddsCalls a c x z (Sees (Some []) (Emptied named rules))
+emptied named rules a b c x y z has p =
+    made_sees (Some []) (Configured named rules) (λ files. IsEmpty files rules.out_dir)
+    (Emptied named rules) a b c x y z (λ files there empty. (there, empty)) has p
 
-pub refused_by_input : (named : CommandFiles) (config : Config) (stop : Stop) (a b c : List Event)
+pub refused_by_input : (named : CommandFiles) (rules : Rules) (stop : Stop) (a b c : List Event)
     (x y z : Option Files)
-    → AddsCalls a b x y (Sees (Some []) (Emptied named config))
-    → AddsCalls b c y z (Sees (missed_by named.config stop) (λ files. StopsAs stop (RefusesInput files config.input)))
+    → AddsCalls a b x y (Sees (Some []) (Emptied named rules))
+    → AddsCalls b c y z (Sees (missed_by named.config stop) (λ files. StopsAs stop (RefusesInput files rules.in_dir)))
     → AddsCalls a c x z (Sees (missed_by named.config stop) (Planned (no_plan stop) named))
-refused_by_input named config stop a b c x y z has p =
-    made_sees (missed_by named.config stop) (Emptied named config)
-    (λ files. StopsAs stop (RefusesInput files config.input)) (Planned (no_plan stop) named) a b c x y z
-    (λ files there. carried stop (RefusesInput files config.input) (IsRefused files named)
-    (λ refusal r. by_input config there.0 there.1 r)) has p
+refused_by_input named rules stop a b c x y z has p =
+    made_sees (missed_by named.config stop) (Emptied named rules)
+    (λ files. StopsAs stop (RefusesInput files rules.in_dir)) (Planned (no_plan stop) named) a b c x y z
+    (λ files there. carried stop (RefusesInput files rules.in_dir) (IsRefused files named)
+    (λ refusal r. by_input rules there.0 there.1 r)) has p
 
-pub taken : (named : CommandFiles) (config : Config) (classes : List Class) (a b c : List Event) (x y z : Option Files)
-    → AddsCalls a b x y (Sees (Some []) (Emptied named config))
-    → AddsCalls b c y z (Sees (Some []) (λ files. HasSet files config.input classes))
-    → AddsCalls a c x z (Sees (Some []) (Taken named config classes))
-taken named config classes a b c x y z has p =
-    made_sees (Some []) (Emptied named config) (λ files. HasSet files config.input classes)
-    (Taken named config classes) a b c x y z (λ files there set. (there, set)) has p
+pub taken : (named : CommandFiles) (rules : Rules) (classes : List Class) (a b c : List Event) (x y z : Option Files)
+    → AddsCalls a b x y (Sees (Some []) (Emptied named rules))
+    → AddsCalls b c y z (Sees (Some []) (λ files. HasSet files rules.in_dir classes))
+    → AddsCalls a c x z (Sees (Some []) (Taken named rules classes))
+taken named rules classes a b c x y z has p =
+    made_sees (Some []) (Emptied named rules) (λ files. HasSet files rules.in_dir classes)
+    (Taken named rules classes) a b c x y z (λ files there set. (there, set)) has p
 
-pub planned : (named : CommandFiles) (config : Config) (classes : List Class) (r : Result Plan Stop) (a b : List Event)
+pub planned : (named : CommandFiles) (rules : Rules) (classes : List Class) (r : Result Plan Stop) (a b : List Event)
     (x y : Option Files)
-    → AddsCalls a b x y (Sees (Some []) (Taken named config classes))
-    → Finds r (IsPlan config classes) (RefusesPlan config classes)
+    → AddsCalls a b x y (Sees (Some []) (Taken named rules classes))
+    → Finds r (IsPlan rules classes) (RefusesPlan rules classes)
     → AddsCalls a b x y (Sees (missed named.config r) (Planned r named))
-planned named config classes (Ok plan) a b x y has is =
-    weaken (Some []) (Taken named config classes) (Planned (Ok plan) named) a b x y
+planned named rules classes (Ok plan) a b x y has is =
+    weaken (Some []) (Taken named rules classes) (Planned (Ok plan) named) a b x y
     (λ files there. record {
-      config = config;
+      rules = rules;
       classes = classes;
       configured = there.0.0;
       empty = there.0.1;
@@ -215,18 +218,20 @@ planned named config classes (Ok plan) a b x y has is =
           there.1;
       planned = is;
     }) has
-planned named config classes (Err (Refused (Limit quantity))) a b x y has is =
-    weaken (Some []) (Taken named config classes) (Planned (no_plan (Refused (Limit quantity))) named) a b x y
-    (λ files there. by_plan config classes there.0.0 there.0.1 there.1 is) has
-planned named config classes (Err (Refused NoConfig)) a b x y has is = absurd is
-planned named config classes (Err (Refused NotBuilt)) a b x y has is = absurd is
-planned named config classes (Err (Refused (NotEmpty at))) a b x y has is = absurd is
-planned named config classes (Err (Refused (Gone at))) a b x y has is = absurd is
-planned named config classes (Err (Refused (Format at fault))) a b x y has is = absurd is
-planned named config classes (Err (Refused (Profile fault))) a b x y has is = absurd is
-planned named config classes (Err Device) a b x y has is =
-    weaken (Some []) (Taken named config classes) (Planned (no_plan Device) named) a b x y (λ files there. tt) has
-planned named config classes (Err OutOfMemory) a b x y has is = lacks (Taken named config classes) a b x y has
+planned named rules classes (Err (Refused (Limit quantity))) a b x y has is =
+    weaken (Some []) (Taken named rules classes) (Planned (no_plan (Refused (Limit quantity))) named) a b x y
+    (λ files there. by_plan rules classes there.0.0 there.0.1 there.1 is) has
+planned named rules classes (Err (Refused NoConfig)) a b x y has is = absurd is
+planned named rules classes (Err (Refused (BadRules fault))) a b x y has is =
+    weaken (Some []) (Taken named rules classes) (Planned (no_plan (Refused (BadRules fault))) named) a b x y
+    (λ files there. by_plan rules classes there.0.0 there.0.1 there.1 is) has
+planned named rules classes (Err (Refused (NotEmpty at))) a b x y has is = absurd is
+planned named rules classes (Err (Refused (Gone at))) a b x y has is = absurd is
+planned named rules classes (Err (Refused (Format at fault))) a b x y has is = absurd is
+planned named rules classes (Err (Refused (Profile fault))) a b x y has is = absurd is
+planned named rules classes (Err Device) a b x y has is =
+    weaken (Some []) (Taken named rules classes) (Planned (no_plan Device) named) a b x y (λ files there. tt) has
+planned named rules classes (Err OutOfMemory) a b x y has is = lacks (Taken named rules classes) a b x y has
 
 -- ---- the writing
 

@@ -1,33 +1,62 @@
--- A text is one config at most.
-use Rattle.std.proofs.Common.{◌≡◌, ℕ, List, [], ◌∷◌, ◌++◌, Option, Some, refl, sym, ap, ◌∙◌, append-nil, codes}
-use Rattle.shrink_core.specs.declared.config.KeptMethod.{KeptMethod}
-use Rattle.shrink_core.specs.Path.{directory_in}
-use Rattle.shrink_core.specs.Config.{methods_text, AreKept}
-use Rattle.shrink_core.specs.OneConfig.{IsOneConfig}
-use Rattle.shrink_core.proofs.ConfigTexts.{methods_follow, end_is_no_method, lines_once, lines_of_config}
+-- What is read of a config is what its text stands for, and a text is one config at most.
+use Rattle.std.proofs.Common.{◌≡◌, ℕ, Bool, true, false, cond, List, Result, Ok, Err, refl, ap, ◌∙◌}
+use Rattle.std.specs.Str.{IsUtf8, is_utf8}
+use Rattle.std.specs.Str.Lossy.{utf8_valid_len}
+use Rattle.std.proofs.lemmas.Str.{IsUtf8-from_is_utf8, is_utf8-from_IsUtf8}
+use Rattle.conf_words.specs.Reading.{words_at, words_of_bytes}
+use Rattle.conf_words.specs.declared.splitting.Word.{Word}
+use Rattle.conf_words.specs.declared.splitting.WordFault.{WordFault}
+use Rattle.conf_words.specs.declared.splitting.WordFault.TheVariants.{NotUtf8}
+use Rattle.conf_words.proofs.Parsed.{words_law}
+use Rattle.keep_rules.specs.declared.fault.RuleFault.{RuleFault}
+use Rattle.keep_rules.specs.declared.rules.Rules.{Rules}
+use Rattle.keep_rules.proofs.Gathering.{law}
+use Rattle.shrink_core.specs.Config.{IsConfig, config_read, rules_of}
+use Rattle.shrink_core.specs.OneConfig.{IsOneConfig, ReadsItsConfig}
 
-one_directory : (word word2 directory directory2 : List ℕ) → word ≡ word2 → directory_in word ≡ Some directory
-    → directory_in word2 ≡ Some directory2 → directory ≡ directory2
-one_directory word word2 directory directory2 same is is2 =
-    let both : (let O : Option (List ℕ) = Some directory in O) ≡ Some directory2 = sym is ∙ ap directory_in same
-    ∙ is2 in
-    cc
+-- ---- what is read is so
 
-nothing : (more : List KeptMethod) → codes " }" ≡ methods_text more (codes " }") → more ≡ []
-nothing [] e = refl
-nothing (m ∷ more) e = absurd (end_is_no_method m (methods_text more (codes " }")) (sym e))
+found_in : (bytes witness : List ℕ) (rules : Rules) → IsUtf8 bytes → (r : Result (List Word) WordFault)
+    → words_at 0 1 bytes ≡ r → rules_of r witness ≡ Ok rules → IsConfig bytes witness rules
+found_in bytes witness rules utf8 (Ok words) split read = record {
+  words = words;
+  encoded = utf8;
+  split = (words_law bytes words).0 split;
+  stand = (law words witness rules).0 read;
+}
+found_in bytes witness rules utf8 (Err fault) split read = absurd cc
 
-kept_once : (text text2 : List ℕ) (methods methods2 : List KeptMethod) → text ≡ text2 → AreKept text methods
-    → AreKept text2 methods2 → methods ≡ methods2
-kept_once text text2 methods methods2 same h h2 =
-    let f = methods_follow methods methods2 (codes " }") h.named h2.named (sym h.spelled ∙ same ∙ h2.spelled) in
-    sym (f.3 ∙ ap (λ (more : List KeptMethod). methods ++ more) (nothing f.0 f.1) ∙ append-nil methods)
+found_by : (bytes witness : List ℕ) (rules : Rules) → (b : Bool) → is_utf8 bytes ≡ b
+    → rules_of (cond b (words_at 0 1 bytes) (Err (NotUtf8 (utf8_valid_len bytes)))) witness ≡ Ok rules
+    → IsConfig bytes witness rules
+found_by bytes witness rules true utf8 read =
+    found_in bytes witness rules (IsUtf8-from_is_utf8 bytes utf8) (words_at 0 1 bytes) refl read
+found_by bytes witness rules false utf8 read = absurd cc
+
+pub config_found : (bytes witness : List ℕ) (rules : Rules) → config_read bytes witness ≡ Ok rules
+    → IsConfig bytes witness rules
+config_found bytes witness rules read = found_by bytes witness rules (is_utf8 bytes) refl read
+
+-- ---- what is so is read
+
+words_read : (bytes : List ℕ) (words : List Word) → IsUtf8 bytes → words_at 0 1 bytes ≡ Ok words
+    → words_of_bytes bytes ≡ Ok words
+words_read bytes words utf8 split = rw (is_utf8-from_IsUtf8 bytes utf8) split
+
+pub config_only : (bytes witness : List ℕ) (rules : Rules) → IsConfig bytes witness rules
+    → config_read bytes witness ≡ Ok rules
+config_only bytes witness rules is =
+    ap (λ (r : Result (List Word) WordFault). rules_of r witness)
+    (words_read bytes is.words is.encoded ((words_law bytes is.words).1 is.split))
+    ∙ (law is.words witness rules).1 is.stand
+
+pub reads : ReadsItsConfig
+reads bytes witness rules = (config_found bytes witness rules, config_only bytes witness rules)
+
+same_rules : (r : Result Rules RuleFault) (rules other : Rules) → r ≡ Ok rules → r ≡ Ok other → rules ≡ other
+same_rules r rules other h k = cc
 
 pub one_config : IsOneConfig
-one_config text config other h h2 =
-    let once = lines_once text h.input h.output config.mapping h.methods h2.input h2.output other.mapping h2.methods
-    (lines_of_config text config h) (lines_of_config text other h2) in
-    let input = one_directory h.input h2.input config.input other.input once.0 h.reads_from.1 h2.reads_from.1 in
-    let output = one_directory h.output h2.output config.output other.output once.1 h.writes_to.1 h2.writes_to.1 in
-    let methods = kept_once h.methods h2.methods config.methods other.methods once.3 h.keeps h2.keeps in
-    λ i. record { input = input i; output = output i; mapping = once.2 i; methods = methods i }
+one_config bytes witness rules other h k =
+    same_rules (config_read bytes witness) rules other (config_only bytes witness rules h)
+    (config_only bytes witness other k)

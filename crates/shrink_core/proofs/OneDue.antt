@@ -1,5 +1,5 @@
 -- One thing at most is due of told files: one plan, or one refusal.
-use Rattle.std.proofs.Common.{◌≡◌, ◌⊎◌, inl, inr, ℕ, Bool, cond, nat_lt, List, length}
+use Rattle.std.proofs.Common.{◌≡◌, ◌⊎◌, inl, inr, ℕ, ◌<◌, Bool, true, false, cond, nat_lt, List, length}
 use Rattle.std.proofs.Common.{Option, Some, None, Result, Ok, Err, refl, sym, ap, subst, ◌∙◌, arith}
 use Rattle.std.specs.FinMap.{get}
 use Rattle.std.proofs.lemmas.Bool.{lt-ltb, le-ltb}
@@ -17,22 +17,24 @@ use Rattle.set_read.proofs.OneSet.{not_both, one_fault, one_set, same_some}
 use Rattle.set_shrink.specs.ShrunkSet.{PassesLimit}
 use Rattle.set_shrink.specs.declared.shrunk.ShrunkSet.{ShrunkSet}
 use Rattle.set_shrink.proofs.OneShrunk.{not_both_shrunk, one_limit, one_shrunk}
-use Rattle.shrink_core.specs.Config.{IsConfig}
+use Rattle.keep_rules.specs.declared.fault.RuleFault.{RuleFault}
+use Rattle.keep_rules.specs.declared.rules.Rules.{Rules}
+use Rattle.shrink_core.specs.Config.{IsConfig, config_read}
 use Rattle.shrink_core.specs.Due.{HasBytes, HasConfig, HasInput, HasSet, IsDue, IsEmpty, IsPlan}
-use Rattle.shrink_core.specs.Due.{asked_by, by_config, by_input, by_output, by_plan}
+use Rattle.shrink_core.specs.Due.{by_config, by_input, by_output, by_plan, keeps_nothing}
 use Rattle.shrink_core.specs.Due.{RefusesConfig, RefusesInput, RefusesOutput, RefusesPlan}
 use Rattle.shrink_core.specs.OneDue.{IsOneDue}
 use Rattle.shrink_core.specs.Refusal.{quantity_of}
+use Rattle.shrink_core.specs.RuleText.{nothing_kept}
 use Rattle.shrink_core.specs.Summary.{summary_text}
-use Rattle.shrink_core.specs.declared.config.Config.{Config}
 use Rattle.shrink_core.specs.declared.words.CommandFiles.{CommandFiles}
 use Rattle.shrink_core.specs.declared.shrink.Plan.{Plan}
 use Rattle.shrink_core.specs.declared.quantity.Quantity.{Quantity}
 use Rattle.shrink_core.specs.declared.quantity.Quantity.TheVariants as quantity
 use Rattle.shrink_core.specs.declared.refusal.Refusal.{Refusal}
-use Rattle.shrink_core.specs.declared.refusal.Refusal.TheVariants.{NoConfig, NotBuilt, NotEmpty, Gone, Format, Profile}
+use Rattle.shrink_core.specs.declared.refusal.Refusal.TheVariants.{NoConfig, BadRules, NotEmpty, Gone, Format, Profile}
 use Rattle.shrink_core.specs.declared.refusal.Refusal.TheVariants.{Limit}
-use Rattle.shrink_core.proofs.OneConfig.{one_config}
+use Rattle.shrink_core.proofs.OneConfig.{config_only, one_config}
 
 -- ---- one at most
 
@@ -65,73 +67,96 @@ then_one {A} First Next first next one other (inr h) (inr k) =
 
 -- ---- the config
 
-abbrev Configures : Files → List ℕ → Result Config Refusal → Type 0
-Configures files path (Ok config) = HasConfig files path config
-Configures files path (Err refusal) = RefusesConfig files path refusal
+abbrev Configures : Files → CommandFiles → Result Rules Refusal → Type 0
+Configures files named (Ok rules) = HasConfig files named rules
+Configures files named (Err refusal) = RefusesConfig files named refusal
 
 not_none : {X : Type 0} (o : Option X) (x : X) → o ≡ Some x → o ≡ None → ⊥
 not_none o x h k = absurd cc
 
--- how what stands there is refused as a config
-abbrev config_refusal : Option (List ℕ) → Refusal
-config_refusal None = NoConfig
-config_refusal (Some bytes) = cond (nat_lt 67108864 (length bytes)) (Limit quantity.Config) NotBuilt
+-- how bytes are refused as a config; those that aren't don't count
+abbrev bytes_refusal : Result Rules RuleFault → Refusal
+bytes_refusal (Ok rules) = NoConfig
+bytes_refusal (Err fault) = BadRules fault
 
-config_refused : (files : Files) (path : List ℕ) (refusal : Refusal) → RefusesConfig files path refusal
-    → refusal ≡ config_refusal (get files path)
-config_refused files path NoConfig h = ap config_refusal (sym h)
-config_refused files path (Limit quantity.Config) h =
-    ap (λ (b : Bool). cond b (Limit quantity.Config) NotBuilt) (sym (lt-ltb _ _ h.2)) ∙ ap config_refusal (sym h.1)
-config_refused files path NotBuilt h =
-    ap (λ (b : Bool). cond b (Limit quantity.Config) NotBuilt) (sym (le-ltb _ _ h.1.short))
-    ∙ ap config_refusal (sym h.1.there)
-config_refused files path (NotEmpty directory) h = absurd h
-config_refused files path (Gone at) h = absurd h
-config_refused files path (Format at fault) h = absurd h
-config_refused files path (Profile fault) h = absurd h
-config_refused files path (Limit quantity.Files) h = absurd h
-config_refused files path (Limit quantity.Classes) h = absurd h
-config_refused files path (Limit quantity.Input) h = absurd h
-config_refused files path (Limit quantity.Pool) h = absurd h
-config_refused files path (Limit quantity.Utf8) h = absurd h
-config_refused files path (Limit quantity.Code) h = absurd h
-config_refused files path (Limit quantity.Table) h = absurd h
-config_refused files path (Limit quantity.Branch) h = absurd h
-config_refused files path (Limit quantity.Attribute) h = absurd h
+-- how what stands there is refused as a config
+abbrev config_refusal : List ℕ → Option (List ℕ) → Refusal
+config_refusal witness None = NoConfig
+config_refusal witness (Some bytes) =
+    cond (nat_lt 67108864 (length bytes)) (Limit quantity.Config) (bytes_refusal (config_read bytes witness))
+
+long_refused : (files : Files) (named : CommandFiles) (bytes : List ℕ) → get files named.config ≡ Some bytes
+    → 67108864 < length bytes → Limit quantity.Config ≡ config_refusal named.witness (get files named.config)
+long_refused files named bytes there long =
+    ap (λ (b : Bool). cond b (Limit quantity.Config) (bytes_refusal (config_read bytes named.witness)))
+    (sym (lt-ltb _ _ long))
+    ∙ ap (config_refusal named.witness) (sym there)
+
+bad_refused : (files : Files) (named : CommandFiles) (bytes : List ℕ) (fault : RuleFault)
+    → HasBytes files named.config bytes → config_read bytes named.witness ≡ Err fault
+    → BadRules fault ≡ config_refusal named.witness (get files named.config)
+bad_refused files named bytes fault has read =
+    ap bytes_refusal (sym read)
+    ∙ ap (λ (b : Bool). cond b (Limit quantity.Config) (bytes_refusal (config_read bytes named.witness)))
+    (sym (le-ltb _ _ has.short))
+    ∙ ap (config_refusal named.witness) (sym has.there)
+
+config_refused : (files : Files) (named : CommandFiles) (refusal : Refusal) → RefusesConfig files named refusal
+    → refusal ≡ config_refusal named.witness (get files named.config)
+config_refused files named NoConfig h = ap (config_refusal named.witness) (sym h)
+config_refused files named (Limit quantity.Config) h = long_refused files named h.0 h.1 h.2
+config_refused files named (BadRules fault) h = bad_refused files named h.0 fault h.1 h.2
+config_refused files named (NotEmpty directory) h = absurd h
+config_refused files named (Gone at) h = absurd h
+config_refused files named (Format at fault) h = absurd h
+config_refused files named (Profile fault) h = absurd h
+config_refused files named (Limit quantity.Files) h = absurd h
+config_refused files named (Limit quantity.Classes) h = absurd h
+config_refused files named (Limit quantity.Input) h = absurd h
+config_refused files named (Limit quantity.Pool) h = absurd h
+config_refused files named (Limit quantity.Utf8) h = absurd h
+config_refused files named (Limit quantity.Code) h = absurd h
+config_refused files named (Limit quantity.Table) h = absurd h
+config_refused files named (Limit quantity.Branch) h = absurd h
+config_refused files named (Limit quantity.Attribute) h = absurd h
 
 same_text : (files : Files) (path one other : List ℕ) → HasBytes files path one → get files path ≡ Some other
     → one ≡ other
 same_text files path one other h there = same_some (get files path) one other h.there there
 
-config_not_refused : (files : Files) (path : List ℕ) (config : Config) (refusal : Refusal) → HasConfig files path config
-    → RefusesConfig files path refusal → ⊥
-config_not_refused files path config NoConfig h k = not_none (get files path) h.0 h.1.there k
-config_not_refused files path config (Limit quantity.Config) h k =
-    absurd omega (arith, h.1.short, k.2, ap length (same_text files path h.0 k.0 h.1 k.1))
-config_not_refused files path config NotBuilt h k =
-    k.2 config (subst (λ (bytes : List ℕ). IsConfig bytes config) (same_text files path h.0 k.0 h.1 k.1.there) h.2)
-config_not_refused files path config (NotEmpty directory) h k = k
-config_not_refused files path config (Gone at) h k = k
-config_not_refused files path config (Format at fault) h k = k
-config_not_refused files path config (Profile fault) h k = k
-config_not_refused files path config (Limit quantity.Files) h k = k
-config_not_refused files path config (Limit quantity.Classes) h k = k
-config_not_refused files path config (Limit quantity.Input) h k = k
-config_not_refused files path config (Limit quantity.Pool) h k = k
-config_not_refused files path config (Limit quantity.Utf8) h k = k
-config_not_refused files path config (Limit quantity.Code) h k = k
-config_not_refused files path config (Limit quantity.Table) h k = k
-config_not_refused files path config (Limit quantity.Branch) h k = k
-config_not_refused files path config (Limit quantity.Attribute) h k = k
+config_not_refused : (files : Files) (named : CommandFiles) (rules : Rules) (refusal : Refusal)
+    → HasConfig files named rules → RefusesConfig files named refusal → ⊥
+config_not_refused files named rules NoConfig h k = not_none (get files named.config) h.0 h.1.there k
+config_not_refused files named rules (Limit quantity.Config) h k =
+    absurd omega (arith, h.1.short, k.2, ap length (same_text files named.config h.0 k.0 h.1 k.1))
+config_not_refused files named rules (BadRules fault) h k =
+    let bytes : h.0 ≡ k.0 = same_text files named.config h.0 k.0 h.1 k.1.there in
+    let is : IsConfig k.0 named.witness rules =
+    subst (λ (text : List ℕ). IsConfig text named.witness rules) bytes h.2 in
+    no_err rules fault (sym (config_only k.0 named.witness rules is) ∙ k.2)
+config_not_refused files named rules (NotEmpty directory) h k = k
+config_not_refused files named rules (Gone at) h k = k
+config_not_refused files named rules (Format at fault) h k = k
+config_not_refused files named rules (Profile fault) h k = k
+config_not_refused files named rules (Limit quantity.Files) h k = k
+config_not_refused files named rules (Limit quantity.Classes) h k = k
+config_not_refused files named rules (Limit quantity.Input) h k = k
+config_not_refused files named rules (Limit quantity.Pool) h k = k
+config_not_refused files named rules (Limit quantity.Utf8) h k = k
+config_not_refused files named rules (Limit quantity.Code) h k = k
+config_not_refused files named rules (Limit quantity.Table) h k = k
+config_not_refused files named rules (Limit quantity.Branch) h k = k
+config_not_refused files named rules (Limit quantity.Attribute) h k = k
 
-one_configured : (files : Files) (path : List ℕ) → IsOne (Configures files path)
-one_configured files path (Ok config) (Ok other) h k =
-    let bytes : h.0 ≡ k.0 = same_text files path h.0 k.0 h.1 k.1.there in
-    ap Ok (one_config k.0 config other (subst (λ (text : List ℕ). IsConfig text config) bytes h.2) k.2)
-one_configured files path (Ok config) (Err refusal) h k = absurd (config_not_refused files path config refusal h k)
-one_configured files path (Err refusal) (Ok config) h k = absurd (config_not_refused files path config refusal k h)
-one_configured files path (Err refusal) (Err other) h k =
-    ap Err (config_refused files path refusal h ∙ sym (config_refused files path other k))
+one_configured : (files : Files) (named : CommandFiles) → IsOne (Configures files named)
+one_configured files named (Ok rules) (Ok other) h k =
+    let bytes : h.0 ≡ k.0 = same_text files named.config h.0 k.0 h.1 k.1.there in
+    ap Ok (one_config k.0 named.witness rules other
+    (subst (λ (text : List ℕ). IsConfig text named.witness rules) bytes h.2) k.2)
+one_configured files named (Ok rules) (Err refusal) h k = absurd (config_not_refused files named rules refusal h k)
+one_configured files named (Err refusal) (Ok rules) h k = absurd (config_not_refused files named rules refusal k h)
+one_configured files named (Err refusal) (Err other) h k =
+    ap Err (config_refused files named refusal h ∙ sym (config_refused files named other k))
 
 -- ---- the output directory
 
@@ -143,7 +168,7 @@ output_refused : (files : Files) (directory : List ℕ) (refusal : Refusal) → 
     → (refusal ≡ NotEmpty directory) × (IsEmpty files directory → ⊥)
 output_refused files directory (NotEmpty named) h = (ap NotEmpty h.0, h.1)
 output_refused files directory NoConfig h = absurd h
-output_refused files directory NotBuilt h = absurd h
+output_refused files directory (BadRules fault) h = absurd h
 output_refused files directory (Gone at) h = absurd h
 output_refused files directory (Format at fault) h = absurd h
 output_refused files directory (Profile fault) h = absurd h
@@ -195,7 +220,7 @@ input_refused files directory (Limit quantity.Table) h = absurd h
 input_refused files directory (Limit quantity.Branch) h = absurd h
 input_refused files directory (Limit quantity.Attribute) h = absurd h
 input_refused files directory NoConfig h = absurd h
-input_refused files directory NotBuilt h = absurd h
+input_refused files directory (BadRules fault) h = absurd h
 input_refused files directory (NotEmpty named) h = absurd h
 input_refused files directory (Gone at) h = absurd h
 
@@ -235,63 +260,81 @@ one_taken files directory (Err refusal) (Err other) h k =
 
 -- ---- the plan
 
-abbrev Plans : Config → List Class → Result Plan Refusal → Type 0
-Plans config classes (Ok plan) = IsPlan config classes plan
-Plans config classes (Err refusal) = RefusesPlan config classes refusal
+abbrev Plans : Rules → List Class → Result Plan Refusal → Type 0
+Plans rules classes (Ok plan) = IsPlan rules classes plan
+Plans rules classes (Err refusal) = RefusesPlan rules classes refusal
 
-plan_refused : (config : Config) (classes : List Class) (refusal : Refusal) → RefusesPlan config classes refusal
-    → (limit : WriteLimit) × PassesLimit classes (asked_by config) limit × (refusal ≡ Limit (quantity_of limit))
-plan_refused config classes (Limit quantity) h = (h.0, h.1, ap Limit h.2)
-plan_refused config classes NoConfig h = absurd h
-plan_refused config classes NotBuilt h = absurd h
-plan_refused config classes (NotEmpty named) h = absurd h
-plan_refused config classes (Gone at) h = absurd h
-plan_refused config classes (Format at fault) h = absurd h
-plan_refused config classes (Profile fault) h = absurd h
+not_both_ways : (b : Bool) → b ≡ true → b ≡ false → ⊥
+not_both_ways b h k = absurd cc
 
-plan_not_refused : (config : Config) (classes : List Class) (plan : Plan) (refusal : Refusal)
-    → IsPlan config classes plan
-    → RefusesPlan config classes refusal → ⊥
-plan_not_refused config classes plan refusal h k =
-    let passed = plan_refused config classes refusal k in
-    not_both_shrunk classes (asked_by config) config.output h.shrunk passed.0 h.is_shrunk passed.1
+-- nothing is kept, or a limit is passed
+abbrev PlanRefused : Rules → List Class → Refusal → Type 0
+PlanRefused rules classes refusal =
+    ((keeps_nothing rules classes ≡ true) × (refusal ≡ BadRules nothing_kept))
+    ⊎ ((keeps_nothing rules classes ≡ false) × (limit : WriteLimit) × PassesLimit classes rules limit
+    × (refusal ≡ Limit (quantity_of limit)))
 
-one_planned : (config : Config) (classes : List Class) → IsOne (Plans config classes)
-one_planned config classes (Ok plan) (Ok other) h k =
-    let shrunk = one_shrunk classes (asked_by config) config.output h.shrunk k.shrunk h.is_shrunk k.is_shrunk in
+plan_refused : (rules : Rules) (classes : List Class) (refusal : Refusal) → RefusesPlan rules classes refusal
+    → PlanRefused rules classes refusal
+plan_refused rules classes (BadRules fault) h = inl (h.0, ap BadRules h.1)
+plan_refused rules classes (Limit quantity) h = inr (h.0, h.1, h.2, ap Limit h.3)
+plan_refused rules classes NoConfig h = absurd h
+plan_refused rules classes (NotEmpty named) h = absurd h
+plan_refused rules classes (Gone at) h = absurd h
+plan_refused rules classes (Format at fault) h = absurd h
+plan_refused rules classes (Profile fault) h = absurd h
+
+plan_not_refused : (rules : Rules) (classes : List Class) (plan : Plan) (refusal : Refusal)
+    → IsPlan rules classes plan → PlanRefused rules classes refusal → ⊥
+plan_not_refused rules classes plan refusal h (inl k) = not_both_ways (keeps_nothing rules classes) k.0 h.some
+plan_not_refused rules classes plan refusal h (inr k) = not_both_shrunk classes rules h.shrunk k.1 h.is_shrunk k.2
+
+one_refused_plan : (rules : Rules) (classes : List Class) → IsOne (PlanRefused rules classes)
+one_refused_plan rules classes refusal other (inl h) (inl k) = h.1 ∙ sym k.1
+one_refused_plan rules classes refusal other (inl h) (inr k) =
+    absurd (not_both_ways (keeps_nothing rules classes) h.0 k.0)
+one_refused_plan rules classes refusal other (inr h) (inl k) =
+    absurd (not_both_ways (keeps_nothing rules classes) k.0 h.0)
+one_refused_plan rules classes refusal other (inr h) (inr k) =
+    let limit : h.1 ≡ k.1 = one_limit classes rules h.1 k.1 h.2 k.2 in
+    h.3 ∙ (ap (λ (l : WriteLimit). Limit (quantity_of l)) limit ∙ sym k.3)
+
+one_planned : (rules : Rules) (classes : List Class) → IsOne (Plans rules classes)
+one_planned rules classes (Ok plan) (Ok other) h k =
+    let shrunk = one_shrunk classes rules h.shrunk k.shrunk h.is_shrunk k.is_shrunk in
     let files : plan.files ≡ other.files = h.files ∙ (ap (λ (s : ShrunkSet). s.files) shrunk ∙ sym k.files) in
     let summary : plan.summary ≡ other.summary = h.summary
     ∙ (ap (λ (s : ShrunkSet). summary_text s.read s.kept) shrunk ∙ sym k.summary) in
     λ i. Ok (record { files = files i; summary = summary i })
-one_planned config classes (Ok plan) (Err refusal) h k = absurd (plan_not_refused config classes plan refusal h k)
-one_planned config classes (Err refusal) (Ok plan) h k = absurd (plan_not_refused config classes plan refusal k h)
-one_planned config classes (Err refusal) (Err other) h k =
-    let first = plan_refused config classes refusal h in
-    let second = plan_refused config classes other k in
-    let limit : first.0 ≡ second.0 = one_limit classes (asked_by config) first.0 second.0 first.1 second.1 in
-    ap Err (first.2 ∙ (ap (λ (l : WriteLimit). Limit (quantity_of l)) limit ∙ sym second.2))
+one_planned rules classes (Ok plan) (Err refusal) h k =
+    absurd (plan_not_refused rules classes plan refusal h (plan_refused rules classes refusal k))
+one_planned rules classes (Err refusal) (Ok plan) h k =
+    absurd (plan_not_refused rules classes plan refusal k (plan_refused rules classes refusal h))
+one_planned rules classes (Err refusal) (Err other) h k =
+    ap Err (one_refused_plan rules classes refusal other (plan_refused rules classes refusal h)
+    (plan_refused rules classes other k))
 
 -- ---- the law
 
 -- one step follows the other: the config, the output directory, the set, the plan
 abbrev Follows : Files → CommandFiles → Result Plan Refusal → Type 0
-Follows files named = Then (Configures files named.config)
-    (λ config. Then (Empties files config.output) (λ _. Then (Takes files config.input) (Plans config)))
+Follows files named = Then (Configures files named)
+    (λ rules. Then (Empties files rules.out_dir) (λ _. Then (Takes files rules.in_dir) (Plans rules)))
 
 due_follows : (files : Files) (named : CommandFiles) (due : Result Plan Refusal) → IsDue files named due
     → Follows files named due
 due_follows files named (Ok plan) h = inr
-    (h.config, h.configured, inr (tt, h.empty, inr (h.classes, h.taken, h.planned)))
+    (h.rules, h.configured, inr (tt, h.empty, inr (h.classes, h.taken, h.planned)))
 due_follows files named (Err refusal) (by_config refused) = inl (refusal, refused, refl)
-due_follows files named (Err refusal) (by_output config has refused) = inr (config, has, inl (refusal, refused, refl))
-due_follows files named (Err refusal) (by_input config has empty refused) = inr
-    (config, has, inr (tt, empty, inl (refusal, refused, refl)))
-due_follows files named (Err refusal) (by_plan config classes has empty taken refused) =
-    inr (config, has, inr (tt, empty, inr (classes, taken, refused)))
+due_follows files named (Err refusal) (by_output rules has refused) = inr (rules, has, inl (refusal, refused, refl))
+due_follows files named (Err refusal) (by_input rules has empty refused) = inr
+    (rules, has, inr (tt, empty, inl (refusal, refused, refl)))
+due_follows files named (Err refusal) (by_plan rules classes has empty taken refused) =
+    inr (rules, has, inr (tt, empty, inr (classes, taken, refused)))
 
 pub one_due : IsOneDue
 one_due files named one other h k =
-    then_one (Configures files named.config) _ (one_configured files named.config)
-    (λ config. then_one (Empties files config.output) _ (one_emptied files config.output)
-    (λ _. then_one (Takes files config.input) (Plans config) (one_taken files config.input) (one_planned config)))
+    then_one (Configures files named) _ (one_configured files named)
+    (λ rules. then_one (Empties files rules.out_dir) _ (one_emptied files rules.out_dir)
+    (λ _. then_one (Takes files rules.in_dir) (Plans rules) (one_taken files rules.in_dir) (one_planned rules)))
     one other (due_follows files named one h) (due_follows files named other k)

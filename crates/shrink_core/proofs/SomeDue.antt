@@ -16,43 +16,46 @@ use Rattle.class_read.specs.Laws.{AreBytes}
 use Rattle.set_read.specs.Accepted.{IsAccepted, IsFault}
 use Rattle.set_read.specs.declared.fault.SetFault.{SetFault}
 use Rattle.set_read.specs.declared.fault.SetFault.TheVariants as set
-use Rattle.shrink_core.specs.Config.{IsConfig}
+use Rattle.keep_rules.specs.declared.fault.RuleFault.{RuleFault}
+use Rattle.keep_rules.specs.declared.rules.Rules.{Rules}
+use Rattle.shrink_core.specs.Config.{config_read}
 use Rattle.shrink_core.specs.Due.{HasConfig, HasSet, IsDue, IsEmpty, IsPlan, RefusesConfig, RefusesInput, RefusesPlan}
 use Rattle.shrink_core.specs.Due.{by_config, by_input, by_output, by_plan}
 use Rattle.shrink_core.specs.SomeDue.{HoldBytes, IsSomeDue}
-use Rattle.shrink_core.specs.declared.config.Config.{Config}
 use Rattle.shrink_core.specs.declared.quantity.Quantity.TheVariants as quantity
 use Rattle.shrink_core.specs.declared.refusal.Refusal.{Refusal}
-use Rattle.shrink_core.specs.declared.refusal.Refusal.TheVariants.{Format, Limit, NoConfig, NotBuilt, NotEmpty, Profile}
+use Rattle.shrink_core.specs.declared.refusal.Refusal.TheVariants.{BadRules, Format, Limit, NoConfig, NotEmpty, Profile}
 use Rattle.shrink_core.specs.declared.shrink.Plan.{Plan}
 use Rattle.shrink_core.specs.declared.words.CommandFiles.{CommandFiles}
-use Rattle.shrink_core.proofs.SomeConfig.{config_or}
+use Rattle.shrink_core.proofs.OneConfig.{config_found}
 use Rattle.shrink_core.proofs.SomePlan.{plan_or}
 use Rattle.shrink_core.proofs.SomeSet.{set_or}
 
 -- ---- the config
 
-abbrev Configured : Files → List ℕ → Type 0
-Configured files path = ((config : Config) × HasConfig files path config)
-    ⊎ ((refusal : Refusal) × RefusesConfig files path refusal)
+abbrev Configured : Files → CommandFiles → Type 0
+Configured files named = ((rules : Rules) × HasConfig files named rules)
+    ⊎ ((refusal : Refusal) × RefusesConfig files named refusal)
 
-short_config : (files : Files) (path bytes : List ℕ) → get files path ≡ Some bytes → length bytes ≤ 67108864
-    → ((config : Config) × IsConfig bytes config) ⊎ ((config : Config) → IsConfig bytes config → ⊥)
-    → Configured files path
-short_config files path bytes there short (inl (config, is)) = inl
-    (config, (bytes, record { there = there; short = short }, is))
-short_config files path bytes there short (inr none) = inr
-    (NotBuilt, (bytes, record { there = there; short = short }, none))
+short_config : (files : Files) (named : CommandFiles) (bytes : List ℕ) → get files named.config ≡ Some bytes
+    → length bytes ≤ 67108864 → (read : Result Rules RuleFault) → config_read bytes named.witness ≡ read
+    → Configured files named
+short_config files named bytes there short (Ok rules) read = inl
+    (rules, (bytes, record { there = there; short = short }, config_found bytes named.witness rules read))
+short_config files named bytes there short (Err fault) read = inr
+    (BadRules fault, (bytes, record { there = there; short = short }, read))
 
-told_config : (files : Files) (path bytes : List ℕ) → get files path ≡ Some bytes
+told_config : (files : Files) (named : CommandFiles) (bytes : List ℕ) → get files named.config ≡ Some bytes
     → (67108864 < length bytes) ⊎ (length bytes ≤ 67108864)
-    → Configured files path
-told_config files path bytes there (inl long) = inr (Limit quantity.Config, (bytes, there, long))
-told_config files path bytes there (inr short) = short_config files path bytes there short (config_or bytes)
+    → Configured files named
+told_config files named bytes there (inl long) = inr (Limit quantity.Config, (bytes, there, long))
+told_config files named bytes there (inr short) =
+    short_config files named bytes there short (config_read bytes named.witness) refl
 
-config_at : (files : Files) (path : List ℕ) (o : Option (List ℕ)) → get files path ≡ o → Configured files path
-config_at files path None absent = inr (NoConfig, absent)
-config_at files path (Some bytes) there = told_config files path bytes there (cases_lt 67108864 (length bytes))
+config_at : (files : Files) (named : CommandFiles) (o : Option (List ℕ)) → get files named.config ≡ o
+    → Configured files named
+config_at files named None absent = inr (NoConfig, absent)
+config_at files named (Some bytes) there = told_config files named bytes there (cases_lt 67108864 (length bytes))
 
 -- ---- the output directory
 
@@ -141,15 +144,15 @@ taken_at files directory hold false few =
 abbrev Answered : Files → CommandFiles → Type 0
 Answered files named = (due : Result Plan Refusal) × IsDue files named due
 
-after_set : (files : Files) (named : CommandFiles) (config : Config) (classes : List Class)
-    → HasConfig files named.config config
-    → IsEmpty files config.output → HasSet files config.input classes
-    → ((plan : Plan) × IsPlan config classes plan) ⊎ ((refusal : Refusal) × RefusesPlan config classes refusal)
+after_set : (files : Files) (named : CommandFiles) (rules : Rules) (classes : List Class)
+    → HasConfig files named rules
+    → IsEmpty files rules.out_dir → HasSet files rules.in_dir classes
+    → ((plan : Plan) × IsPlan rules classes plan) ⊎ ((refusal : Refusal) × RefusesPlan rules classes refusal)
     → Answered files named
-after_set files named config classes has empty taken (inl (plan, planned)) = (
+after_set files named rules classes has empty taken (inl (plan, planned)) = (
   Ok plan,
   record {
-    config = config;
+    rules = rules;
     classes = classes;
     configured = has;
     empty = empty;
@@ -157,31 +160,31 @@ after_set files named config classes has empty taken (inl (plan, planned)) = (
     planned = planned;
   },
 )
-after_set files named config classes has empty taken (inr (refusal, refused)) =
-    (Err refusal, by_plan config classes has empty taken refused)
+after_set files named rules classes has empty taken (inr (refusal, refused)) =
+    (Err refusal, by_plan rules classes has empty taken refused)
 
-after_output : (files : Files) (named : CommandFiles) (config : Config) → HasConfig files named.config config
-    → IsEmpty files config.output
-    → Taken files config.input → Answered files named
-after_output files named config has empty (inl (classes, taken)) = after_set files named config classes has empty taken
-    (plan_or config classes)
-after_output files named config has empty (inr (refusal, refused)) = (Err refusal, by_input config has empty refused)
+after_output : (files : Files) (named : CommandFiles) (rules : Rules) → HasConfig files named rules
+    → IsEmpty files rules.out_dir
+    → Taken files rules.in_dir → Answered files named
+after_output files named rules has empty (inl (classes, taken)) = after_set files named rules classes has empty taken
+    (plan_or rules classes)
+after_output files named rules has empty (inr (refusal, refused)) = (Err refusal, by_input rules has empty refused)
 
-after_config : (files : Files) (named : CommandFiles) (config : Config) → HoldBytes files
-    → HasConfig files named.config config
-    → IsEmpty files config.output ⊎ (IsEmpty files config.output → ⊥) → Answered files named
-after_config files named config hold has (inl empty) =
-    after_output files named config has empty
-    (taken_at files config.input hold (nat_lt 65536 (length (paths_below config.input (keys files)))) refl)
-after_config files named config hold has (inr other) =
-    (Err (NotEmpty config.output), by_output config has (refl, other))
+after_config : (files : Files) (named : CommandFiles) (rules : Rules) → HoldBytes files
+    → HasConfig files named rules
+    → IsEmpty files rules.out_dir ⊎ (IsEmpty files rules.out_dir → ⊥) → Answered files named
+after_config files named rules hold has (inl empty) =
+    after_output files named rules has empty
+    (taken_at files rules.in_dir hold (nat_lt 65536 (length (paths_below rules.in_dir (keys files)))) refl)
+after_config files named rules hold has (inr other) =
+    (Err (NotEmpty rules.out_dir), by_output rules has (refl, other))
 
-answered : (files : Files) (named : CommandFiles) → HoldBytes files → Configured files named.config
+answered : (files : Files) (named : CommandFiles) → HoldBytes files → Configured files named
     → Answered files named
-answered files named hold (inl (config, has)) =
-    after_config files named config hold has
-    (empty_by files config.output (paths_below config.output (keys files)) refl)
+answered files named hold (inl (rules, has)) =
+    after_config files named rules hold has
+    (empty_by files rules.out_dir (paths_below rules.out_dir (keys files)) refl)
 answered files named hold (inr (refusal, refused)) = (Err refusal, by_config refused)
 
 pub some_due : IsSomeDue
-some_due files named hold = answered files named hold (config_at files named.config (get files named.config) refl)
+some_due files named hold = answered files named hold (config_at files named (get files named.config) refl)

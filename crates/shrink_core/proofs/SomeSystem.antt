@@ -1,11 +1,12 @@
 -- The system of a set of classes is valid.
 use Rattle.std.proofs.Common.{◌≡◌, ⊎_elim, ℕ, ◌+◌, ◌<◌, Bool, true, false, cond, List, [], ◌∷◌}
-use Rattle.std.proofs.Common.{length, get_or, map, replicate}
+use Rattle.std.proofs.Common.{length, get_or, map, replicate, length-append}
 use Rattle.std.proofs.Common.{Option, Some, None, Result, Ok, Err, refl, sym, ap, subst, ◌∙◌, arith}
 use Rattle.std.specs.Prelude.{IfSome}
 use Rattle.std.specs.List.{All, enumerate_from, filter_map, flat_map}
 use Rattle.std.specs.Option.{option_and_then, option_map_or}
 use Rattle.std.proofs.lemmas.List.Elements.{All-append, All-map, All-nil, All-replicate}
+use Rattle.std.proofs.lemmas.List.Sums.{sum_by-cons}
 use Rattle.std.proofs.lemmas.Option.{slice_get_cases}
 use Rattle.mark_core.specs.Valid.{PairBelow, Valid}
 use Rattle.class_model.specs.Flags.{acc_static, has}
@@ -14,22 +15,24 @@ use Rattle.class_model.specs.declared.class.Method.{Method}
 use Rattle.class_model.specs.declared.code.Ins.{Ins}
 use Rattle.class_model.specs.declared.op.Op.{Op}
 use Rattle.class_model.specs.declared.op.Op.TheVariants as op
-use Rattle.class_pool.specs.Count.{item_count}
-use Rattle.class_pool.specs.Found.{IsMember, MemberRow, NameAndType, declared_in, is_static_member, rows_in}
-use Rattle.class_pool.specs.Hierarchy.{IsClass, class_named}
+use Rattle.class_pool.specs.Count.{item_count, items_of}
+use Rattle.class_pool.specs.Found.{MemberRow, is_static_member, rows_in}
 use Rattle.class_pool.specs.Items.{item_in, item_of}
 use Rattle.class_pool.specs.declared.id.ClassId.{ClassId}
 use Rattle.class_pool.specs.declared.id.ClassId.TheVariants.{Lib, Prog}
 use Rattle.class_pool.specs.declared.id.MemberAt.{MemberAt}
-use Rattle.class_pool.proofs.Declaring.{declared_there, named_there}
 use Rattle.link_check.specs.Links.{resolved_method}
 use Rattle.link_check.specs.declared.fault.LinkKind.{LinkKind}
 use Rattle.require_sys.specs.Called.{called_item}
-use Rattle.require_sys.specs.EarlySystem.{are_kept_anyway, asked_item, called_method, class_needs, instructions_of}
-use Rattle.require_sys.specs.EarlySystem.{method_needs, places_of_true, seeds_of, static_method, system_of}
+use Rattle.keep_rules.specs.declared.rules.Keep.{Keep}
+use Rattle.keep_rules.specs.declared.rules.Rules.{Rules}
+use Rattle.keep_match.specs.Seeds.{are_kept, places_of_true}
+use Rattle.keep_match.specs.Seeds as matched
+use Rattle.keep_match.proofs.RowLaw.{kept_width}
+use Rattle.require_sys.specs.EarlySystem.{are_kept_anyway, called_method, class_needs, instructions_of}
+use Rattle.require_sys.specs.EarlySystem.{method_needs, seeds_of, static_method, system_of}
 use Rattle.require_sys.proofs.Called.{items_called}
 use Rattle.require_sys.specs.bodies.Starts.{AreBelow}
-use Rattle.require_sys.specs.declared.asked.AskedMethod.{AskedMethod}
 use Rattle.require_sys.proofs.Numbering.{length-kept, length-needs, member_below, places_below}
 use Rattle.shrink_core.proofs.Listed.{given}
 
@@ -45,28 +48,25 @@ item_below classes (Lib id) index lt = tt
 
 -- ---- seeds
 
-member_asked : (classes : List Class) (o : Option MemberAt) → IfSome o (IsMember classes)
-    → IsItem classes (option_and_then (item_of classes) o)
-member_asked classes (Some m) there = item_below classes m.class m.index there.1
-member_asked classes None there = tt
+-- there is a truth value for each item
+kept_counted : (keeps : List Keep) (all : List Class) (k : ℕ) (classes : List Class)
+    → length (flat_map (are_kept keeps all) (enumerate_from k classes)) ≡ item_count classes
+kept_counted keeps all k [] = refl
+kept_counted keeps all k (c ∷ classes) =
+    let both = length-append (are_kept keeps all (k, c)) (flat_map (are_kept keeps all) (enumerate_from (k + 1) classes)) in
+    let this = kept_width keeps all k c in
+    let rest = kept_counted keeps all (k + 1) classes in
+    let sum = sum_by-cons items_of c classes in
+    omega (arith, both, this, rest, sum)
 
-class_asked : (classes : List Class) (named : NameAndType) (o : Option ClassId) → IfSome o (IsClass classes)
-    → IsItem classes (option_and_then (item_of classes) (option_and_then (declared_in classes named) o))
-class_asked classes named (Some c) there = member_asked classes (declared_in classes named c)
-    (declared_there classes named c there)
-class_asked classes named None there = tt
-
-asked_below : (classes : List Class) (a : AskedMethod) → IsItem classes (asked_item classes a)
-asked_below classes a = class_asked classes (a.name, a.descriptor) (class_named classes a.class)
-    (named_there classes a.class)
-
-seeds_below : (classes : List Class) (asked : List AskedMethod) → AreBelow (item_count classes) (seeds_of classes asked)
-seeds_below classes asked =
-    let kept = length-kept classes in
-    All-append (λ x. x < item_count classes) (places_of_true 0 (flat_map are_kept_anyway classes))
-    (filter_map (asked_item classes) asked)
-    (places_below (item_count classes) 0 (flat_map are_kept_anyway classes) (omega (arith, kept)))
-    (given (λ x. x < item_count classes) (asked_item classes) asked (asked_below classes))
+seeds_below : (classes : List Class) (rules : Rules) → AreBelow (item_count classes) (seeds_of classes rules)
+seeds_below classes rules =
+    let kept = length-kept rules.shrink classes in
+    All-append (λ x. x < item_count classes) (places_of_true 0 (flat_map (are_kept_anyway rules.shrink) classes))
+    (matched.seeds_of rules classes)
+    (places_below (item_count classes) 0 (flat_map (are_kept_anyway rules.shrink) classes) (omega (arith, kept)))
+    (places_below (item_count classes) 0 (flat_map (are_kept rules.keeps classes) (enumerate_from 0 classes))
+    (omega (arith, kept_counted rules.keeps classes 0 classes)))
 
 -- ---- needs
 
@@ -123,10 +123,10 @@ needs_from classes n (c ∷ cs) =
 
 -- ---- the system
 
-pub system_valid : (classes : List Class) (asked : List AskedMethod) → Valid (system_of classes asked)
-system_valid classes asked = (
+pub system_valid : (classes : List Class) (rules : Rules) → Valid (system_of classes rules)
+system_valid classes rules = (
   length-needs classes,
-  seeds_below classes asked,
+  seeds_below classes rules,
   needs_from classes 0 classes,
   All-nil
       (PairBelow (item_count classes)),

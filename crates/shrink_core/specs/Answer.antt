@@ -17,7 +17,7 @@ use Rattle.shrink_core.specs.Refusal as refusal
 use Rattle.shrink_core.specs.declared.shrink.Plan.{Plan}
 use Rattle.shrink_core.specs.declared.words.CommandFiles.{CommandFiles}
 use Rattle.shrink_core.specs.declared.refusal.Refusal.{Refusal}
-use Rattle.shrink_core.specs.declared.refusal.Refusal.TheVariants.{NoConfig, NotBuilt, NotEmpty, Gone, Format, Profile}
+use Rattle.shrink_core.specs.declared.refusal.Refusal.TheVariants.{NoConfig, BadRules, NotEmpty, Gone, Format, Profile}
 use Rattle.shrink_core.specs.declared.refusal.Refusal.TheVariants.{Limit}
 use Rattle.shrink_core.specs.declared.refusal.Stop.{Stop}
 use Rattle.shrink_core.specs.declared.refusal.Stop.TheVariants.{Refused, Device, OutOfMemory}
@@ -73,7 +73,7 @@ Blames (summary_without_memory plan) before after = Unit {0}
 abbrev pub absent_by : List ℕ → Refusal → List (List ℕ)
 absent_by config NoConfig = config ∷ []
 absent_by config (Gone path) = path ∷ []
-absent_by config NotBuilt = []
+absent_by config (BadRules fault) = []
 absent_by config (NotEmpty directory) = []
 absent_by config (Format path fault) = []
 absent_by config (Profile fault) = []

@@ -1,5 +1,5 @@
 -- What a command is to do on told files (the project's own: what the command promises).
-use Rattle.std.specs.Prelude.{◌≡◌, ◌≤◌, ◌<◌, ℕ, List, [], length, map, Some, None, Result, Ok, Err}
+use Rattle.std.specs.Prelude.{◌≡◌, ◌≤◌, ◌<◌, ℕ, Bool, true, false, ◌&&◌, ◌==◌, List, [], length, Some, None, Result, Ok, Err}
 use Rattle.std.specs.FinMap.{get, keys}
 use Rattle.tree_io.specs.Below.{paths_below}
 use Rattle.tree_io.specs.Files.{Files}
@@ -8,22 +8,22 @@ use Rattle.class_files.specs.Input.{input_due, path_in}
 use Rattle.class_files.specs.declared.input.InputFault.TheVariants.{TooManyFiles, TooManyClasses, TooLong}
 use Rattle.class_model.specs.declared.class.Class.{Class}
 use Rattle.class_model.specs.declared.limit.WriteLimit.{WriteLimit}
-use Rattle.require_sys.specs.declared.asked.AskedMethod.{AskedMethod}
+use Rattle.keep_rules.specs.declared.rules.Rules.{Rules}
+use Rattle.require_sys.specs.EarlySystem.{system_of}
 use Rattle.set_read.specs.Accepted.{IsAccepted, IsFault}
 use Rattle.set_read.specs.declared.fault.SetFault.TheVariants as set
 use Rattle.set_shrink.specs.ShrunkSet.{IsShrunk, PassesLimit}
 use Rattle.set_shrink.specs.declared.shrunk.ShrunkSet.{ShrunkSet}
-use Rattle.shrink_core.specs.Asked.{asked_method}
-use Rattle.shrink_core.specs.Config.{IsConfig}
+use Rattle.shrink_core.specs.Config.{IsConfig, config_read}
 use Rattle.shrink_core.specs.Refusal.{quantity_of}
+use Rattle.shrink_core.specs.RuleText.{nothing_kept}
 use Rattle.shrink_core.specs.Summary.{summary_text}
-use Rattle.shrink_core.specs.declared.config.Config.{Config}
 use Rattle.shrink_core.specs.declared.words.CommandFiles.{CommandFiles}
 use Rattle.shrink_core.specs.declared.shrink.Plan.{Plan}
 use Rattle.shrink_core.specs.declared.quantity.Quantity.{Quantity}
 use Rattle.shrink_core.specs.declared.quantity.Quantity.TheVariants as quantity
 use Rattle.shrink_core.specs.declared.refusal.Refusal.{Refusal}
-use Rattle.shrink_core.specs.declared.refusal.Refusal.TheVariants.{NoConfig, NotBuilt, NotEmpty, Format, Profile, Limit}
+use Rattle.shrink_core.specs.declared.refusal.Refusal.TheVariants.{NoConfig, BadRules, NotEmpty, Format, Profile, Limit}
 
 -- ---- what stands in told files
 
@@ -32,9 +32,9 @@ pub record HasBytes (files : Files) (path bytes : List ℕ) : Type 0 where
   pub there : get files path ≡ Some bytes
   pub short : length bytes ≤ 67108864
 
--- a told file of at most 64 MiB is this config
-abbrev pub HasConfig : Files → List ℕ → Config → Type 0
-HasConfig files path config = (bytes : List ℕ) × HasBytes files path bytes × IsConfig bytes config
+-- the told file that a command names as its config, of at most 64 MiB, is one of these rules
+abbrev pub HasConfig : Files → CommandFiles → Rules → Type 0
+HasConfig files named rules = (bytes : List ℕ) × HasBytes files named.config bytes × IsConfig bytes named.witness rules
 
 -- no told file lies below the directory
 abbrev pub IsEmpty : Files → List ℕ → Type 0
@@ -50,25 +50,26 @@ HasSet files directory classes = (inputs : List FileAt) × HasInput files direct
 
 -- ---- the result
 
--- the methods that a config keeps
-abbrev pub asked_by : Config → List AskedMethod
-asked_by config = map asked_method config.methods
+-- nothing is kept of classes, though what isn't kept goes: the system has no seeds
+abbrev pub keeps_nothing : Rules → List Class → Bool
+keeps_nothing rules classes = rules.shrink && (length (system_of classes rules).seeds == 0)
 
--- the files of what the config keeps of the classes, and the summary
-pub record IsPlan (config : Config) (classes : List Class) (plan : Plan) : Type 0 where
+-- the files of what the rules keep of the classes, which is something, and the summary
+pub record IsPlan (rules : Rules) (classes : List Class) (plan : Plan) : Type 0 where
+  pub some : keeps_nothing rules classes ≡ false
   pub shrunk : ShrunkSet
-  pub is_shrunk : IsShrunk classes (asked_by config) config.output shrunk
+  pub is_shrunk : IsShrunk classes rules shrunk
   pub files : plan.files ≡ shrunk.files
   pub summary : plan.summary ≡ summary_text shrunk.read shrunk.kept
 
--- the config, the empty directory and the set that lead to a plan
+-- the rules, the empty directory and the set that lead to a plan
 pub record IsResult (files : Files) (named : CommandFiles) (plan : Plan) : Type 0 where
-  pub config : Config
+  pub rules : Rules
   pub classes : List Class
-  pub configured : HasConfig files named.config config
-  pub empty : IsEmpty files config.output
-  pub taken : HasSet files config.input classes
-  pub planned : IsPlan config classes plan
+  pub configured : HasConfig files named rules
+  pub empty : IsEmpty files rules.out_dir
+  pub taken : HasSet files rules.in_dir classes
+  pub planned : IsPlan rules classes plan
 
 -- ---- refusals, each where what was looked at before is right
 
@@ -90,20 +91,21 @@ RefusesInput files directory (Profile fault) = (inputs : List FileAt) × HasInpu
     × IsFault inputs (set.Rule fault)
 RefusesInput files directory _ = ⊥
 
--- a class that is to be written passes a limit of the format
-abbrev pub RefusesPlan : Config → List Class → Refusal → Type 0
-RefusesPlan config classes (Limit quantity) =
-    (limit : WriteLimit) × PassesLimit classes (asked_by config) limit × (quantity ≡ quantity_of limit)
-RefusesPlan config classes _ = ⊥
+-- nothing is kept; or a class that is to be written passes a limit of the format
+abbrev pub RefusesPlan : Rules → List Class → Refusal → Type 0
+RefusesPlan rules classes (BadRules fault) = (keeps_nothing rules classes ≡ true) × (fault ≡ nothing_kept)
+RefusesPlan rules classes (Limit quantity) = (keeps_nothing rules classes ≡ false)
+    × (limit : WriteLimit) × PassesLimit classes rules limit × (quantity ≡ quantity_of limit)
+RefusesPlan rules classes _ = ⊥
 
--- the config isn't there, is too long, or is none
-abbrev pub RefusesConfig : Files → List ℕ → Refusal → Type 0
-RefusesConfig files path NoConfig = get files path ≡ None
-RefusesConfig files path (Limit quantity.Config) = (bytes : List ℕ) × (get files path ≡ Some bytes)
+-- the config isn't there, is too long, or has a first fault
+abbrev pub RefusesConfig : Files → CommandFiles → Refusal → Type 0
+RefusesConfig files named NoConfig = get files named.config ≡ None
+RefusesConfig files named (Limit quantity.Config) = (bytes : List ℕ) × (get files named.config ≡ Some bytes)
     × (67108864 < length bytes)
-RefusesConfig files path NotBuilt = (bytes : List ℕ) × HasBytes files path bytes
-    × ((config : Config) → IsConfig bytes config → ⊥)
-RefusesConfig files path _ = ⊥
+RefusesConfig files named (BadRules fault) = (bytes : List ℕ) × HasBytes files named.config bytes
+    × (config_read bytes named.witness ≡ Err fault)
+RefusesConfig files named _ = ⊥
 
 -- a file lies below the output directory
 abbrev pub RefusesOutput : Files → List ℕ → Refusal → Type 0
@@ -112,14 +114,14 @@ RefusesOutput files directory _ = ⊥
 
 -- the config is refused; or the output directory is; or the input directory is; or what is to be written is
 pub data IsRefused (files : Files) (named : CommandFiles) (refusal : Refusal) : Type 0 where
-  by_config : RefusesConfig files named.config refusal → IsRefused files named refusal
-  by_output : (config : Config) → HasConfig files named.config config → RefusesOutput files config.output refusal
+  by_config : RefusesConfig files named refusal → IsRefused files named refusal
+  by_output : (rules : Rules) → HasConfig files named rules → RefusesOutput files rules.out_dir refusal
       → IsRefused files named refusal
-  by_input : (config : Config) → HasConfig files named.config config → IsEmpty files config.output
-      → RefusesInput files config.input refusal → IsRefused files named refusal
-  by_plan : (config : Config) (classes : List Class) → HasConfig files named.config config → IsEmpty files config.output
-      → HasSet files config.input classes
-      → RefusesPlan config classes refusal → IsRefused files named refusal
+  by_input : (rules : Rules) → HasConfig files named rules → IsEmpty files rules.out_dir
+      → RefusesInput files rules.in_dir refusal → IsRefused files named refusal
+  by_plan : (rules : Rules) (classes : List Class) → HasConfig files named rules → IsEmpty files rules.out_dir
+      → HasSet files rules.in_dir classes
+      → RefusesPlan rules classes refusal → IsRefused files named refusal
 
 -- what `shrink CONFIG OUTWIT` is to write and to say, or why it is refused
 abbrev pub IsDue : Files → CommandFiles → Result Plan Refusal → Type 0

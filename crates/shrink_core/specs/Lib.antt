@@ -1,9 +1,8 @@
-pub mod Path
 pub mod Words
 pub mod Config
 pub mod OneConfig
-pub mod Asked
 pub mod Summary
+pub mod RuleText
 pub mod Refusal
 pub mod Due
 pub mod Answer

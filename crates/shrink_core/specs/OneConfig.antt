@@ -1,8 +1,15 @@
--- A text is one config at most (the project's own: a text is read in one way).
-use Rattle.std.specs.Prelude.{◌≡◌, ℕ, List}
-use Rattle.shrink_core.specs.Config.{IsConfig}
-use Rattle.shrink_core.specs.declared.config.Config.{Config}
+-- What is read of a config is what its text stands for, and a text is one config at most (the project's own: laws of the
+-- definitions).
+use Rattle.std.specs.Prelude.{◌≡◌, ◌↔◌, ℕ, List, Ok}
+use Rattle.keep_rules.specs.declared.rules.Rules.{Rules}
+use Rattle.shrink_core.specs.Config.{IsConfig, config_read}
 
--- two configs that a text is are the same
+-- rules are read exactly where the bytes are such a config
+abbrev pub ReadsItsConfig : Type 0
+ReadsItsConfig = (bytes witness : List ℕ) (rules : Rules)
+    → (config_read bytes witness ≡ Ok rules) ↔ IsConfig bytes witness rules
+
+-- two configs that bytes are, are the same
 abbrev pub IsOneConfig : Type 0
-IsOneConfig = (text : List ℕ) (config other : Config) → IsConfig text config → IsConfig text other → config ≡ other
+IsOneConfig = (bytes witness : List ℕ) (rules other : Rules) → IsConfig bytes witness rules
+    → IsConfig bytes witness other → rules ≡ other

@@ -7,11 +7,12 @@ use Rattle.class_model.specs.declared.limit.WriteLimit.TheVariants as limit
 use Rattle.report_text.specs.Kinds.{format_name}
 use Rattle.set_read.specs.Accepted.{rule_name}
 use Rattle.set_read.specs.declared.fault.RuleFault.{RuleFault}
+use Rattle.shrink_core.specs.RuleText.{rules_line}
 use Rattle.shrink_core.specs.declared.quantity.Quantity.{Quantity}
 use Rattle.shrink_core.specs.declared.quantity.Quantity.TheVariants.{Config, Files, Classes, Input, Pool, Utf8, Code}
 use Rattle.shrink_core.specs.declared.quantity.Quantity.TheVariants.{Table, Branch, Attribute}
 use Rattle.shrink_core.specs.declared.refusal.Refusal.{Refusal}
-use Rattle.shrink_core.specs.declared.refusal.Refusal.TheVariants.{NoConfig, NotBuilt, NotEmpty, Gone, Format, Profile}
+use Rattle.shrink_core.specs.declared.refusal.Refusal.TheVariants.{NoConfig, BadRules, NotEmpty, Gone, Format, Profile}
 use Rattle.shrink_core.specs.declared.refusal.Refusal.TheVariants.{Limit}
 use Rattle.shrink_core.specs.declared.refusal.Stop.{Stop}
 use Rattle.shrink_core.specs.declared.refusal.Stop.TheVariants.{Refused, Device, OutOfMemory}
@@ -80,7 +81,7 @@ limit_line q = codes "error 6 limit " ++ (quantity_name q ++ (codes " " ++ (deci
 -- the line of a refusal, where the config stands at this path
 abbrev pub refusal_line : List ℕ → Refusal → List ℕ
 refusal_line config NoConfig = codes "error 2 absent " ++ (config ++ codes "\n")
-refusal_line config NotBuilt = codes "error 3 rules 0 NotBuilt\n"
+refusal_line config (BadRules fault) = rules_line fault
 refusal_line config (NotEmpty directory) = codes "error 8 not-empty " ++ (directory ++ codes "\n")
 refusal_line config (Gone path) = codes "error 2 absent " ++ (path ++ codes "\n")
 refusal_line config (Format path fault) = format_line path fault
@@ -98,7 +99,7 @@ line_of config OutOfMemory = codes "error 10 memory\n"
 -- the status of a refusal
 abbrev pub refusal_status : Refusal → ℕ
 refusal_status NoConfig = 2
-refusal_status NotBuilt = 3
+refusal_status (BadRules fault) = 3
 refusal_status (NotEmpty directory) = 8
 refusal_status (Gone path) = 2
 refusal_status (Format path fault) = 4

@@ -1,7 +1,7 @@
 -- The words of a command line (the project's own: how the command is called).
 use Rattle.std.specs.Prelude.{ℕ, List, [], ◌∷◌, Option, Some, None, if◌then◌else◌, codes}
 use Rattle.jv_base.specs.Names.{is_text}
-use Rattle.shrink_core.specs.Path.{file_in}
+use Rattle.path_text.specs.Path.{file_in}
 use Rattle.shrink_core.specs.declared.words.CommandFiles.{CommandFiles}
 
 -- both files, if both words are paths

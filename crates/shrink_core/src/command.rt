@@ -106,31 +106,26 @@ fn run_on<T: Tree, S: Sink>(alloc: Global, named: &CommandFiles, tree: &mut T, o
 
 /// Runs a command and answers the status with which the program ends.
 ///
-/// `shrink CONFIG OUTWIT` reads the config and the class files of the directory that it names, keeps what the config
-/// asks for, and writes the classes that are left to another directory. CONFIG and OUTWIT are paths: an optional `/`,
+/// `shrink CONFIG OUTWIT` reads the config and the class files of the directory that it names, keeps what its rules
+/// keep, and writes the classes that are left to another directory. CONFIG and OUTWIT are paths: an optional `/`,
 /// and then segments joined by `/`, none of them empty, `.` or `..`. Nothing is written to OUTWIT yet.
 ///
-/// A config is four lines, each with its end:
+/// A config has options as ProGuard has them (`read_rules` of `keep_rules`): `-injars IN`, `-outjars OUT` and
+/// `-printmapping MAP`, which have to be there, and others. IN, OUT and MAP are paths; one `/` at the end of a directory
+/// is dropped. Nothing is written to MAP yet, nor to the files of `-printseeds` and `-printusage`, and nothing is
+/// optimised or renamed.
 ///
-/// ```text
-/// -injars IN
-/// -outjars OUT
-/// -printmapping MAP
-/// -keep class Main { static int NAME(int,int); }
-/// ```
-///
-/// IN, OUT and MAP are paths without blanks; one `/` at the end of a directory is dropped. The keep line has one method
-/// or more, each behind a blank, with `int` any number of times. Nothing is written to MAP yet. All classes and fields
-/// are kept, and all methods but static ones; of these class initialisation methods, the methods of `Main` that the
-/// keep line names, and all that kept methods call; a method that `Main` lacks asks for nothing. Each class is written
-/// in its canonical spelling, with the attributes ConstantValue, Code and StackMapTable and no others.
+/// All classes and fields are kept, and all methods but static ones; of these class initialisation methods, the methods
+/// that a keep rule keeps, and all that kept methods call; under `-dontshrink` all. Each class is written in its
+/// canonical spelling, with the attributes ConstantValue, Code and StackMapTable, and of SourceFile, Exceptions,
+/// LineNumberTable, Synthetic and Deprecated those that `-keepattributes` keeps, or all under `-dontobfuscate`.
 ///
 /// | Status | Comes | Text |
 /// |---|---|---|
 /// | 0 | where the files were written | the summary |
 /// | 1 | exactly where the words aren't those | `error 1 words` |
 /// | 2 | where no file stands at CONFIG, or a class file that was listed isn't there any more | `error 2 absent PATH` |
-/// | 3 | where the config is another one | `error 3 rules 0 NotBuilt` |
+/// | 3 | where the config breaks its grammar, or the set has no class to keep | `error 3 rules LINE KIND` |
 /// | 4 | where a file below IN that ends in `.class` is no class file | `error 4 format PATH OFFSET KIND` |
 /// | 5 | where these are no set, a rule is broken, or a code isn't typed | `error 5 profile CLASS MEMBER KIND` |
 /// | 6 | where a quantity passes its limit | `error 6 limit QUANTITY LIMIT` |
@@ -140,7 +135,9 @@ fn run_on<T: Tree, S: Sink>(alloc: Global, named: &CommandFiles, tree: &mut T, o
 /// | 10 | where memory is wanting | `error 10 memory` |
 ///
 /// The config is looked at first, then OUT, then IN: the number of its files, of its class files, and of their bytes;
-/// then each class file by itself, in the order of their paths, and then all as a set; last what is to be written.
+/// then each class file by itself, in the order of their paths, and then all as a set; then whether anything is kept;
+/// last what is to be written. LINE counts from 1, and is 0 where the config as a whole is at fault; KIND has its option
+/// behind it.
 /// CLASS is a name with dots, MEMBER as `int x` or `int f(int)`, and `-` where the class itself is at fault; of a code that
 /// isn't typed KIND is two words, as `Type Local`. Limits:
 /// `config` and `input` (the class files together) 67,108,864 bytes, `files` 65,536 and `classes` 20,000 below IN, and

@@ -1,22 +1,23 @@
 // What a command finds in a tree of files.
-ghost use Rattle.std.specs.Prelude.{◌≡◌, ◌≤◌, ℕ, List, IfOk, IsErrOf, map};
+ghost use Rattle.std.specs.Prelude.{◌≡◌, ◌≤◌, ◌<◌, ℕ, List, IfOk, IsErrOf, length, map};
 ghost use Rattle.std.specs.List.{AllByRecursion};
 ghost use Rattle.tree_io.specs.Below.{IsAscending};
 ghost use Rattle.tree_io.specs.Count.{Rose};
 ghost use Rattle.tree_io.specs.Runs.{AddsCalls, Sees};
 ghost use Rattle.class_files.specs.Input.{path_in, total};
 ghost use Rattle.class_write.specs.SpellingLaws.{IsWritable};
-ghost use Rattle.shrink_core.specs.Config.{IsConfig};
 ghost use Rattle.shrink_core.specs.Due.{HasBytes, HasConfig, HasSet, IsEmpty, RefusesConfig, RefusesInput};
 ghost use Rattle.shrink_core.specs.Due.{RefusesOutput};
 ghost use Rattle.shrink_core.specs.bodies.Steps.{ConfigOf, Finds, ReadsSet, input_stop, missed};
 
-use crate::config::{Config, read_config};
+use crate::config::read_config;
 use crate::quantity::Quantity;
 use crate::refusal::{Refusal, Stop};
+use crate::words::CommandFiles;
 use class_files::{InputFault, read_files};
 use class_pool::ClassSet;
 use jv_base::{Bytes, Items, M, Or, Text};
+use keep_rules::Rules;
 use set_read::{SetFault, read_set};
 use std::alloc::Global;
 use tree_io::{FileAt, ListFault, ReadFault, Tree};
@@ -26,27 +27,33 @@ const MAX_CONFIG: u64 = 67_108_864;
 
 // ---- the config
 
-/// The config at a path.
-pub fn find_config<T: Tree>(alloc: Global, path: &Text, tree: &mut T) -> Result<Config, Stop>
+/// The rules of the config that a command names.
+pub fn find_config<T: Tree>(
+    alloc: Global,
+    named: &CommandFiles,
+    tree: &mut T,
+) -> Result<Rules, Stop>
     ensures files { T.files tree.new ≡ T.files tree.old }
     ensures later { T.faults tree.old ≤ T.faults tree.new }
     ensures device { IsErrOf result Stop.Device → Rose (T.faults tree.old) (T.faults tree.new) }
     ensures seen { AddsCalls (T.log tree.old) (T.log tree.new) (T.files tree.old) (T.files tree.new)
-        (Sees (missed path.now result) (λ fs. Finds result (HasConfig fs path.now) (RefusesConfig fs path.now))) }
+        (Sees (missed named.now.config result) (λ fs. Finds result (HasConfig fs named.now) (RefusesConfig fs named.now))) }
 {
-    let bytes = config_bytes(alloc, path, tree)?;
-    config_in(alloc, bytes.as_slice())
+    let bytes = config_bytes(alloc, named, tree)?;
+    config_in(alloc, bytes.as_slice(), &named.witness)
 }
 
-/// The bytes of the config at a path.
-fn config_bytes<T: Tree>(alloc: Global, path: &Text, tree: &mut T) -> Result<Bytes, Stop>
+/// The bytes of the config that a command names.
+fn config_bytes<T: Tree>(alloc: Global, named: &CommandFiles, tree: &mut T) -> Result<Bytes, Stop>
     ensures files { T.files tree.new ≡ T.files tree.old }
     ensures later { T.faults tree.old ≤ T.faults tree.new }
     ensures device { IsErrOf result Stop.Device → Rose (T.faults tree.old) (T.faults tree.new) }
+    ensures short { IfOk result (λ bytes. length bytes ≤ 67108864) }
     ensures seen { AddsCalls (T.log tree.old) (T.log tree.new) (T.files tree.old) (T.files tree.new)
-        (Sees (missed path.now result) (λ fs. Finds result (HasBytes fs path.now) (RefusesConfig fs path.now))) }
+        (Sees (missed named.now.config result)
+        (λ fs. Finds result (HasBytes fs named.now.config) (RefusesConfig fs named.now))) }
 {
-    match tree.read(alloc, path, MAX_CONFIG) {
+    match tree.read(alloc, &named.config, MAX_CONFIG) {
         Ok(bytes) => Ok(bytes),
         Err(ReadFault::Absent) => Err(Stop::Refused(Refusal::NoConfig)),
         Err(ReadFault::TooLong) => Err(Stop::Refused(Refusal::Limit(Quantity::Config))),
@@ -55,13 +62,15 @@ fn config_bytes<T: Tree>(alloc: Global, path: &Text, tree: &mut T) -> Result<Byt
     }
 }
 
-/// The config that bytes are.
-fn config_in(alloc: Global, bytes: &[u8]) -> Result<Config, Stop>
-    ensures { ConfigOf result bytes.now }
+/// The rules that bytes give, where the witness goes to this file.
+fn config_in(alloc: Global, bytes: &[u8], witness: &Text) -> Result<Rules, Stop>
+    requires { length bytes.now < 4294967295 }
+    ensures { ConfigOf result bytes.now witness.now }
 {
-    match read_config(alloc, bytes)? {
-        Some(config) => Ok(config),
-        None => Err(Stop::Refused(Refusal::NotBuilt)),
+    match read_config(alloc, bytes, witness) {
+        Ok(rules) => Ok(rules),
+        Err(Or::Fault(fault)) => Err(Stop::Refused(Refusal::BadRules(fault))),
+        Err(Or::OutOfMemory) => Err(Stop::OutOfMemory),
     }
 }
 

@@ -1,8 +1,19 @@
 // What holds of what is due, and of what is kept.
 ghost use Rattle.shrink_core.specs.LeftFiles.{LeavesTold};
+ghost use Rattle.shrink_core.specs.OneConfig.{IsOneConfig, ReadsItsConfig};
 ghost use Rattle.shrink_core.specs.OneDue.{IsOneDue};
 ghost use Rattle.shrink_core.specs.SomeDue.{IsSomeDue};
 ghost use Rattle.shrink_core.specs.SomeMarks.{AreSomeMarks};
+
+/// A config's rules are read exactly where its bytes have words that stand for them.
+pub fn configs_are_read()
+    ensures { ReadsItsConfig }
+{}
+
+/// A text is one config at most.
+pub fn one_config()
+    ensures { IsOneConfig }
+{}
 
 /// Of the same files one thing at most is due for a command: one plan, or one refusal. So what is written and said
 /// doesn't depend on how it was found.

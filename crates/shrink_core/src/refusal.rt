@@ -4,6 +4,7 @@ ghost use Rattle.shrink_core.specs.Refusal.{limit_line, format_line, profile_lin
 ghost use Rattle.shrink_core.specs.declared.refusal.Stop.TheVariants.{OutOfMemory as no_memory};
 
 use crate::quantity::Quantity;
+use crate::rule_text::rules_line;
 use format_reading::FormatFault;
 use jv_base::{M, OutOfMemory, Text};
 use report_text::format_name;
@@ -15,8 +16,8 @@ use std::alloc::{AllocError, Global};
 pub enum Refusal {
     /// No file stands at the path of the config.
     NoConfig,
-    /// The config is none that is built so far.
-    NotBuilt,
+    /// The config breaks its grammar, or nothing is kept.
+    BadRules(keep_rules::RuleFault),
     /// A file stands below this directory, to which classes are to be written.
     NotEmpty(Text),
     /// The class file at this path was listed, and isn't there any more.
@@ -60,7 +61,7 @@ pub fn refusal_status(refusal: &Refusal) -> u8
 {
     match refusal {
         Refusal::NoConfig | Refusal::Gone(_) => 2,
-        Refusal::NotBuilt => 3,
+        Refusal::BadRules(_) => 3,
         Refusal::Format(..) => 4,
         Refusal::Profile(_) => 5,
         Refusal::Limit(_) => 6,
@@ -74,7 +75,7 @@ pub fn refusal_line(alloc: Global, config: &Text, refusal: &Refusal) -> M<Text>
 {
     match refusal {
         Refusal::NoConfig => path_line(alloc, "error 2 absent ", config),
-        Refusal::NotBuilt => Ok(Text::from_str(alloc, "error 3 rules 0 NotBuilt\n")?),
+        Refusal::BadRules(fault) => rules_line(alloc, fault),
         Refusal::NotEmpty(directory) => path_line(alloc, "error 8 not-empty ", directory),
         Refusal::Gone(path) => path_line(alloc, "error 2 absent ", path),
         Refusal::Format(path, fault) => format_line(alloc, path, fault),

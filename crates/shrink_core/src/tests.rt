@@ -137,6 +137,67 @@ const DEMO_T_GOTO: &[u8] =
 \x01\0\x09\0\x05\0\x06\0\x01\0\x07\0\0\0\x1A\0\0\0\0\0\0\0\x05\xA7\0\x04\0\xB1\0\0\0\x01\0\
 \x08\0\0\0\x03\0\x01\x04\0\0";
 
+// `demo.Got` with `static int getA()`, `static Object getB()` and `static Object[] getC()`.
+const DEMO_GOT: &[u8] =
+    b"\xCA\xFE\xBA\xBE\0\0\x004\0\x0C\x01\0\x08demo/Got\x07\0\x01\x01\0\x10java/lang/Object\x07\0\x03\x01\
+\0\x04getA\x01\0\x03()I\x01\0\x04Code\x01\0\x04getB\x01\0\x14()Ljava/lang/Object;\x01\0\x04getC\x01\
+\0\x15()[Ljava/lang/Object;\0!\0\x02\0\x04\0\0\0\0\0\x03\0\x09\0\x05\0\x06\0\x01\0\x07\0\0\0\x0E\0\
+\x01\0\0\0\0\0\x02\x03\xAC\0\0\0\0\0\x09\0\x08\0\x09\0\x01\0\x07\0\0\0\x0E\0\x01\0\0\0\0\0\x02\x01\
+\xB0\0\0\0\0\0\x09\0\x0A\0\x0B\0\x01\0\x07\0\0\0\x0E\0\x01\0\0\0\0\0\x02\x01\xB0\0\0\0\0\0\0";
+
+// The same with `getB` alone.
+const DEMO_GOT_B: &[u8] =
+    b"\xCA\xFE\xBA\xBE\0\0\x004\0\x08\x01\0\x08demo/Got\x07\0\x01\x01\0\x10java/lang/Object\x07\0\x03\x01\
+\0\x04getB\x01\0\x14()Ljava/lang/Object;\x01\0\x04Code\0!\0\x02\0\x04\0\0\0\0\0\x01\0\x09\0\x05\0\
+\x06\0\x01\0\x07\0\0\0\x0E\0\x01\0\0\0\0\0\x02\x01\xB0\0\0\0\0\0\0";
+
+// `a.B` with `static int f()`.
+const A_B: &[u8] =
+    b"\xCA\xFE\xBA\xBE\0\0\x004\0\x08\x01\0\x03a/B\x07\0\x01\x01\0\x10java/lang/Object\x07\0\x03\x01\0\x01\
+f\x01\0\x03()I\x01\0\x04Code\0!\0\x02\0\x04\0\0\0\0\0\x01\0\x09\0\x05\0\x06\0\x01\0\x07\0\0\0\x0E\0\
+\x01\0\0\0\0\0\x02\x03\xAC\0\0\0\0\0\0";
+
+// `a.c.D` with `static int f()`.
+const A_C_D: &[u8] =
+    b"\xCA\xFE\xBA\xBE\0\0\x004\0\x08\x01\0\x05a/c/D\x07\0\x01\x01\0\x10java/lang/Object\x07\0\x03\x01\0\
+\x01f\x01\0\x03()I\x01\0\x04Code\0!\0\x02\0\x04\0\0\0\0\0\x01\0\x09\0\x05\0\x06\0\x01\0\x07\0\0\0\
+\x0E\0\x01\0\0\0\0\0\x02\x03\xAC\0\0\0\0\0\0";
+
+// The same without it.
+const A_C_D_BARE: &[u8] =
+    b"\xCA\xFE\xBA\xBE\0\0\x004\0\x05\x01\0\x05a/c/D\x07\0\x01\x01\0\x10java/lang/Object\x07\0\x03\0!\0\
+\x02\0\x04\0\0\0\0\0\0\0\0";
+
+// `demo.N` with `static int f()`, and all optional attributes: SourceFile, lines, Exceptions, Synthetic and Deprecated.
+const DEMO_N: &[u8] =
+    b"\xCA\xFE\xBA\xBE\0\0\x004\0\x10\x01\0\x06demo/N\x07\0\x01\x01\0\x10java/lang/Object\x07\0\x03\x01\0\
+\x01f\x01\0\x03()I\x01\0\x04Code\x01\0\x0FLineNumberTable\x01\0\x0AExceptions\x01\0\x13java/lang/Exc\
+eption\x07\0\x0A\x01\0\x0ADeprecated\x01\0\x0ASourceFile\x01\0\x06N.java\x01\0\x09Synthetic\0!\0\x02\
+\0\x04\0\0\0\0\0\x01\0\x09\0\x05\0\x06\0\x03\0\x07\0\0\0\x1E\0\x01\0\0\0\0\0\x02\x03\xAC\0\0\0\x01\0\
+\x08\0\0\0\x0A\0\x02\0\0\0\x07\0\x01\0\x08\0\x09\0\0\0\x04\0\x01\0\x0B\0\x0C\0\0\0\0\0\x02\0\x0D\0\0\
+\0\x02\0\x0E\0\x0F\0\0\0\0";
+
+// The same without them.
+const DEMO_N_PLAIN: &[u8] =
+    b"\xCA\xFE\xBA\xBE\0\0\x004\0\x08\x01\0\x06demo/N\x07\0\x01\x01\0\x10java/lang/Object\x07\0\x03\x01\0\
+\x01f\x01\0\x03()I\x01\0\x04Code\0!\0\x02\0\x04\0\0\0\0\0\x01\0\x09\0\x05\0\x06\0\x01\0\x07\0\0\0\
+\x0E\0\x01\0\0\0\0\0\x02\x03\xAC\0\0\0\0\0\0";
+
+// The same with SourceFile, which holds `Source`, and lines.
+const DEMO_N_TRACED: &[u8] =
+    b"\xCA\xFE\xBA\xBE\0\0\x004\0\x0B\x01\0\x06demo/N\x07\0\x01\x01\0\x10java/lang/Object\x07\0\x03\x01\0\
+\x01f\x01\0\x03()I\x01\0\x04Code\x01\0\x0FLineNumberTable\x01\0\x0ASourceFile\x01\0\x06Source\0!\0\
+\x02\0\x04\0\0\0\0\0\x01\0\x09\0\x05\0\x06\0\x01\0\x07\0\0\0\x1E\0\x01\0\0\0\0\0\x02\x03\xAC\0\0\0\
+\x01\0\x08\0\0\0\x0A\0\x02\0\0\0\x07\0\x01\0\x08\0\x01\0\x09\0\0\0\x02\0\x0A";
+
+// The same with all of them but Exceptions.
+const DEMO_N_CAUGHT: &[u8] =
+    b"\xCA\xFE\xBA\xBE\0\0\x004\0\x0D\x01\0\x06demo/N\x07\0\x01\x01\0\x10java/lang/Object\x07\0\x03\x01\0\
+\x01f\x01\0\x03()I\x01\0\x04Code\x01\0\x0FLineNumberTable\x01\0\x0ADeprecated\x01\0\x0ASourceFile\
+\x01\0\x06N.java\x01\0\x09Synthetic\0!\0\x02\0\x04\0\0\0\0\0\x01\0\x09\0\x05\0\x06\0\x02\0\x07\0\0\0\
+\x1E\0\x01\0\0\0\0\0\x02\x03\xAC\0\0\0\x01\0\x08\0\0\0\x0A\0\x02\0\0\0\x07\0\x01\0\x08\0\x09\0\0\0\0\
+\0\x02\0\x0A\0\0\0\x02\0\x0B\0\x0C\0\0\0\0";
+
 // No class file.
 const MAGIC: &[u8] = b"\xCA\xFE\xBA\xBE";
 
@@ -371,6 +432,115 @@ fn what_is_kept_is_written(rt: HostRuntime) -> Result<(), Fail> {
     Ok(())
 }
 
+// ---- what rules keep
+
+// The front of a config, and its rest.
+fn config_of(alloc: Global, rest: &str) -> M<Vec<u8>> {
+    let front = "-injars in -outjars out -printmapping map.txt";
+    let config = format!(in alloc; "{front}\n{rest}\n")?;
+    Ok(config.into_bytes())
+}
+
+// What is said of files, and what is written, by a config of which this is the rest.
+fn expect_kept(
+    rt: &(impl Abort + Threads + Sync),
+    alloc: Global,
+    rest: &str,
+    rows: &[Row<'_>],
+    status: u8,
+    said: &str,
+    written: &[Row<'_>],
+) -> M<()> {
+    let config = config_of(alloc, rest)?;
+    let mut files = files_of(alloc, rows)?;
+    files.push(FileAt {
+        path: text(alloc, CONFIG)?,
+        bytes: Bytes::from_vec(config),
+    })?;
+    let mut tree = MemoryTree::new(alloc, files, Items::new(alloc))?;
+    expect_end(rt, alloc, COMMAND, &mut tree, &[], status, said)?;
+    expect_files(rt, alloc, &mut tree, rows, written)
+}
+
+#[test]
+fn something_is_kept_where_something_is_removed(rt: HostRuntime) -> Result<(), Fail> {
+    let none = "classes 0 0\nfields 0 0\nmethods 0 0\nedited 0\nfallback 0\n";
+    for (rest, status, said) in [
+        ("-keep class A", 3, "error 3 rules 0 NothingKept\n"),
+        ("", 3, "error 3 rules 0 NothingKept\n"),
+        ("-keep class A -dontshrink", 0, none),
+    ] {
+        expect_kept(&rt, rt.alloc(), rest, &[], status, said, &[])?;
+    }
+    Ok(())
+}
+
+#[test]
+fn two_stars_for_a_type_are_a_class_and_no_array(rt: HostRuntime) -> Result<(), Fail> {
+    let rows = [("in/demo/Got.class", DEMO_GOT)];
+    let said = "classes 1 1\nfields 0 0\nmethods 3 1\nedited 0\nfallback 0\n";
+    let written = [("out/demo/Got.class", DEMO_GOT_B)];
+    let rest = "-keep class * { ** get*(); }";
+    expect_kept(&rt, rt.alloc(), rest, &rows, 0, said, &written)?;
+    Ok(())
+}
+
+#[test]
+fn a_star_in_a_class_name_takes_no_dot_unless_it_stands_alone(rt: HostRuntime) -> Result<(), Fail> {
+    let rows = [("in/a/B.class", A_B), ("in/a/c/D.class", A_C_D)];
+    for (rest, kept, below) in [
+        ("-keep class a.* { static int f(); }", 1u32, A_C_D_BARE),
+        ("-keep class * { static int f(); }", 2u32, A_C_D),
+        ("-keep class a.** { static int f(); }", 2u32, A_C_D),
+        (
+            "-keepnames class * { *; } -keep class a.B { *; }",
+            1,
+            A_C_D_BARE,
+        ),
+        (
+            "-keepclassmembers class * { *; } -keep class a.B { *; }",
+            1,
+            A_C_D_BARE,
+        ),
+        ("-dontshrink", 2u32, A_C_D),
+    ] {
+        let alloc = rt.alloc();
+        let said = format!(in alloc;
+            "classes 2 2\nfields 0 0\nmethods 2 {kept}\nedited 0\nfallback 0\n"
+        )?;
+        let written = [("out/a/B.class", A_B), ("out/a/c/D.class", below)];
+        expect_kept(&rt, alloc, rest, &rows, 0, said.as_str(), &written)?;
+    }
+    Ok(())
+}
+
+#[test]
+fn optional_attributes_are_written_where_they_are_kept(rt: HostRuntime) -> Result<(), Fail> {
+    let rows = [("in/demo/N.class", DEMO_N)];
+    let said = "classes 1 1\nfields 0 0\nmethods 1 1\nedited 0\nfallback 0\n";
+    for (rest, wanted) in [
+        ("-keep class demo.N { *; }", DEMO_N_PLAIN),
+        (
+            "-keep class demo.N { *; } -keepattributes Signature,InnerClasses",
+            DEMO_N_PLAIN,
+        ),
+        ("-keep class demo.N { *; } -keepattributes", DEMO_N),
+        ("-keep class demo.N { *; } -dontobfuscate", DEMO_N),
+        (
+            "-keep class demo.N { *; } -keepattributes !Exceptions,*",
+            DEMO_N_CAUGHT,
+        ),
+        (
+            "-keep class demo.N { *; } -keepattributes SourceFile,LineNumberTable -renamesourcefileattribute Source",
+            DEMO_N_TRACED,
+        ),
+    ] {
+        let written = [("out/demo/N.class", wanted)];
+        expect_kept(&rt, rt.alloc(), rest, &rows, 0, said, &written)?;
+    }
+    Ok(())
+}
+
 // ---- what is refused
 
 // Files, the status with which they are refused, and what is said.
@@ -383,7 +553,7 @@ const REFUSED: &[(&[Row<'static>], u8, &str)] = &[
     (
         &[(CONFIG, MAIN), ("in/Main.class", MAGIC)],
         3,
-        "error 3 rules 0 NotBuilt\n",
+        "error 3 rules 0 NotUtf8\n",
     ),
     // each file by itself before the set
     (
@@ -495,24 +665,50 @@ fn cut_class_files_are_refused(rt: HostRuntime) -> Result<(), Fail> {
     Ok(())
 }
 
+// Configs, and what is said of them.
+const BAD_CONFIGS: &[(&[u8], &str)] = &[
+    (b"-frobnicate\n", "error 3 rules 1 UnknownOption\n"),
+    (
+        b"-injars in\n-if class A\n-outjars out\n-printmapping map.txt\n",
+        "error 3 rules 2 LeftOut -if\n",
+    ),
+    (
+        b"-injars in\n-printmapping map.txt\n-keep class A\n",
+        "error 3 rules 0 MissingOption -outjars\n",
+    ),
+    (
+        b"-injars in\n-outjars out\n\n-printmapping\n",
+        "error 3 rules 4 MissingName\n",
+    ),
+    (
+        b"-injars in\n-outjars out\n-injars in\n",
+        "error 3 rules 3 Repeated -injars\n",
+    ),
+    (
+        b"-injars in # read\n-outjars 'out/../in'\n",
+        "error 3 rules 2 BadValue -outjars\n",
+    ),
+    (
+        b"-injars in -outjars out -printmapping map.txt\n-keep\nclass A {\nint x }",
+        "error 3 rules 4 BadMemberSpec\n",
+    ),
+    (b"-keep klass A\n", "error 3 rules 1 BadClassSpec\n"),
+    (
+        b"-injars in -outjars out -printmapping out/map.txt",
+        "error 3 rules 0 SamePath\n",
+    ),
+    (
+        b"-injars in -outjars out -printmapping wit.txt",
+        "error 3 rules 0 SamePath\n",
+    ),
+    (b"\n-injars 'in\n'", "error 3 rules 2 QuoteOpen\n"),
+    (b"-injars \xFF\n", "error 3 rules 0 NotUtf8\n"),
+];
+
 #[test]
-fn other_configs_are_refused(rt: HostRuntime) -> Result<(), Fail> {
-    for config in [
-        b"-injars in\n-outjars out\n-printmapping m\n-keep class Main { static int f(int); }".as_slice(),
-        b"-injars  in\n-outjars out\n-printmapping m\n-keep class Main { static int f(int); }\n",
-        b"-injars in\n-outjars out\n-printmapping m\n-keep class Main { static int f(int); }\n\n",
-        b"-injars in\n-outjars out\n-printmapping m\n-keep class Main { }\n",
-        b"-injars in\n-outjars o ut\n-printmapping m\n-keep class Main { static int f(int); }\n",
-        b"-injars in\n-outjars out\n-printmapping m/\n-keep class Main { static int f(int); }\n",
-        b"-injars in\n-outjars out\n-printmapping m\n-keep class Main { static int f(int,); }\n",
-        b"-injars in\n-outjars out\n-printmapping m\n-keep class Main { static int <init>(); }\n",
-        b"-outjars out\n-injars in\n-printmapping m\n-keep class Main { static int f(int); }\n",
-        b"-injars in\r\n-outjars out\n-printmapping m\n-keep class Main { static int f(int); }\n",
-        b"-injars in\x0C\n-outjars out\n-printmapping m\n-keep class Main { static int f(int); }\n",
-        b"-injars \xFF\n-outjars out\n-printmapping m\n-keep class Main { static int f(int); }\n",
-    ] {
-        let files = [(CONFIG, config), ("in/Main.class", MAIN)];
-        let said = "error 3 rules 0 NotBuilt\n";
+fn faults_of_a_config_are_told_with_line_kind_and_option(rt: HostRuntime) -> Result<(), Fail> {
+    for (config, said) in BAD_CONFIGS {
+        let files = [(CONFIG, *config), ("in/Main.class", MAGIC)];
         expect(&rt, rt.alloc(), &files, 3, said, &[])?;
     }
     Ok(())
@@ -581,7 +777,13 @@ fn bytes_are_limited(rt: HostRuntime) -> Result<(), Fail> {
             6,
             "error 6 limit input 67108864\n",
         ),
-        (&[], CONFIG, 67_108_864, 3, "error 3 rules 0 NotBuilt\n"),
+        (
+            &[],
+            CONFIG,
+            67_108_864,
+            3,
+            "error 3 rules 1 UnknownOption\n",
+        ),
         (
             &[],
             CONFIG,

@@ -3,8 +3,8 @@ ghost use Rattle.std.specs.Prelude.{◌≡◌, IfOk, IfSome, IfNone, OnErr};
 ghost use Rattle.shrink_core.specs.Words.{files_in};
 ghost use Rattle.shrink_core.specs.bodies.Words.{Names, AreTaken};
 
-use crate::path::file_in;
 use jv_base::{Items, M, Text};
+use path_text::file_in;
 use std::alloc::Global;
 
 /// The files that a command line names.

@@ -7,6 +7,15 @@ import report.Line;
 public class Main {
     private static final String[] SUMS = {"1+2*3", "(4-9)*n", "n/(n-7)", "2*(3", "n%5+-2"};
 
+    /** Evaluates the sums and then each word for 3. A word that is no sum ends the program with its stack trace. */
+    public static void main(String[] words) {
+        evaluate(3);
+        System.out.println(Line.of("nodes", size(0)));
+        for (String word : words) {
+            System.out.println(Line.of(word, Parser.parse(word).value(3)));
+        }
+    }
+
     /** Prints each sum with its value for a number n, and gives the sum of the values. */
     public static int evaluate(int n) {
         int total = 0;

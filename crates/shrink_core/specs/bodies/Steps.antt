@@ -9,12 +9,12 @@ use Rattle.class_model.specs.declared.class.Class.{Class}
 use Rattle.set_read.specs.Accepted.{IsAccepted, IsFault}
 use Rattle.set_read.specs.declared.fault.SetFault.TheVariants as set
 use Rattle.shrink_core.specs.Answer.{FailsSo, Hands, LacksSo, Output, Puts, StopsSo, Writes, absent_by}
-use Rattle.shrink_core.specs.Config.{IsConfig}
+use Rattle.keep_rules.specs.declared.rules.Rules.{Rules}
+use Rattle.shrink_core.specs.Config.{config_read}
 use Rattle.shrink_core.specs.Refusal.{status_of, line_of}
-use Rattle.shrink_core.specs.declared.config.Config.{Config}
 use Rattle.shrink_core.specs.declared.quantity.Quantity.TheVariants as quantity
 use Rattle.shrink_core.specs.declared.refusal.Refusal.{Refusal}
-use Rattle.shrink_core.specs.declared.refusal.Refusal.TheVariants.{NotBuilt, Gone, Format, Profile, Limit}
+use Rattle.shrink_core.specs.declared.refusal.Refusal.TheVariants.{BadRules, Gone, Format, Profile, Limit}
 use Rattle.shrink_core.specs.declared.refusal.Stop.{Stop}
 use Rattle.shrink_core.specs.declared.refusal.Stop.TheVariants.{Refused, Device, OutOfMemory}
 use Rattle.shrink_core.specs.declared.shrink.Plan.{Plan}
@@ -44,13 +44,13 @@ missed config (Err stop) = missed_by config stop
 
 -- ---- the steps
 
--- the config that bytes are, or they are none
-abbrev pub ConfigOf : Result Config Stop → List ℕ → Type 0
-ConfigOf (Ok config) bytes = IsConfig bytes config
-ConfigOf (Err (Refused NotBuilt)) bytes = (config : Config) → IsConfig bytes config → ⊥
-ConfigOf (Err (Refused _)) bytes = ⊥
-ConfigOf (Err Device) bytes = ⊥
-ConfigOf (Err OutOfMemory) bytes = Unit {0}
+-- the rules that bytes give, where the witness goes to this file, or the first fault
+abbrev pub ConfigOf : Result Rules Stop → List ℕ → List ℕ → Type 0
+ConfigOf (Ok rules) bytes witness = config_read bytes witness ≡ Ok rules
+ConfigOf (Err (Refused (BadRules fault))) bytes witness = config_read bytes witness ≡ Err fault
+ConfigOf (Err (Refused _)) bytes witness = ⊥
+ConfigOf (Err Device) bytes witness = ⊥
+ConfigOf (Err OutOfMemory) bytes witness = Unit {0}
 
 -- why a command stops where class files aren't given
 abbrev pub input_stop : InputFault → Stop

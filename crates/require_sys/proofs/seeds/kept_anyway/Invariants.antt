@@ -4,4 +4,4 @@ use Rattle.require_sys.specs.EarlySystem.{are_kept_anyway}
 use Rattle.require_sys.proofs.seeds.kept_anyway.Given as goal
 
 abbrev pub invariant-loop-number : goal.invariant-loop-number
-invariant-loop-number l = l.kept ≡ flat_map are_kept_anyway (take l.number l.set)
+invariant-loop-number l = l.kept ≡ flat_map (are_kept_anyway l.shrinks) (take l.number l.set)

@@ -1,5 +1,5 @@
 use Rattle.std.proofs.Common.{◌≡◌, take}
-use Rattle.require_sys.specs.EarlySystem.{places_of_true}
+use Rattle.keep_match.specs.Seeds.{places_of_true}
 use Rattle.require_sys.proofs.seeds.places_of_true.Given as goal
 
 abbrev pub invariant-loop-place : goal.invariant-loop-place

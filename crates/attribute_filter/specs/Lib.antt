@@ -1,0 +1,2 @@
+pub mod KeptAttributes
+pub mod Filtered

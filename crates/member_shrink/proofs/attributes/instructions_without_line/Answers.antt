@@ -1,7 +1,0 @@
-use Rattle.std.proofs.Common.{rules}
-use Rattle.std.proofs.lemmas.List.Edits.{map_over_more}
-use Rattle.member_shrink.specs.Attributes.{without_line}
-use Rattle.member_shrink.proofs.attributes.instructions_without_line.Goals as goal
-
-pub loop-instruction-preserved : goal.loop-instruction-preserved
-loop-instruction-preserved c = search (rules, map_over_more without_line)

@@ -1,0 +1,5 @@
+use Rattle.set_shrink.proofs.Writable.{filtered_writable}
+use Rattle.set_shrink.proofs.laws.filtered_can_be_written.Goals as goal
+
+pub returns : goal.returns
+returns c = filtered_writable
