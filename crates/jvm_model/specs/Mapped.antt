@@ -1,6 +1,6 @@
 -- A program that is the image of another one: some classes and members are left out, the others have new names, and
--- nothing that is kept names what isn't. Each part of the image is told by that part of the program alone (the project's
--- own: what a law about images asks).
+-- nothing that is kept names what isn't. Each part of the image is told by that part of the program alone (the
+-- project's own: what a law about images asks).
 use Rattle.std.specs.Prelude.{◌≡◌, ℕ, Bool, true, List, [], ◌∷◌, codes, Option, Some, None, option_map}
 use Rattle.std.specs.List.{AllZip, list_any}
 use Rattle.jv_base.specs.Names.{is_text}

@@ -13,7 +13,8 @@ pub data Target : Type 0 where
   Library : Row → Target
   Fails : Exception → Target
 
--- What names mean. That nothing is told means that linking fails, which is never so in a set that was taken.
+-- What names mean. That nothing is told means that linking fails, which shouldn't be so in a set that was taken (not
+-- proved yet).
 pub record Shape : Type 0 where
   -- the field of a reference (JVMS 5.4.3.2)
   pub field : MemberRef → Option Key
