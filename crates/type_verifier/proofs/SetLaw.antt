@@ -15,8 +15,8 @@ use Rattle.type_verifier.proofs.First.{first_flat}
 use Rattle.type_verifier.specs.declared.fault.TypeFault.{TypeFault}
 use Rattle.type_verifier.specs.Environment.{Environment}
 use Rattle.type_verifier.specs.Typed.{IsFirstFault, Typed}
-use Rattle.type_verifier.specs.Verified.{AreTyped, IsBefore, IsMethodFault, IsPlace, IsSetFault, IsTypedAt, IsTypedCode}
-use Rattle.type_verifier.specs.Verified.{IsTypedMethod, JudgesCode, JudgesMethod, environment}
+use Rattle.type_verifier.specs.Verified.{AreTyped, IsBefore, IsMethodFault, IsPlace, IsSetFault, IsTypedAt}
+use Rattle.type_verifier.specs.Verified.{IsTypedMethod, JudgesMethod, environment}
 use Rattle.type_verifier.specs.bodies.FirstFaults.{fault_of, fault_of_set, faults_of, method_checked}
 use Rattle.type_verifier.specs.bodies.Walked.{code_checked}
 use Rattle.type_verifier.proofs.TypedLaw.{first_where_no, never_both, one_fault, typed_where_yes, yes_where_typed}
@@ -130,7 +130,7 @@ pub typed_method : (classes : List Class) (own number : ℕ) (c : Class) (m : Me
 typed_method classes own number c m there is typed = by_code classes own number c m m.code refl (typed c there m is)
 
 -- what holds of the method that stands at a place holds there
-typed_there : (classes : List Class) (own number : ℕ) (c : Class) (m : Method) → slice_get classes own ≡ Some c
+pub typed_there : (classes : List Class) (own number : ℕ) (c : Class) (m : Method) → slice_get classes own ≡ Some c
     → slice_get c.methods number ≡ Some m → IsTypedMethod classes own c number m → IsTypedAt classes own number
 typed_there classes own number c m there is typed d at n named code has =
     let class : c ≡ d = same_some (slice_get classes own) c d there at in
@@ -305,26 +305,3 @@ one_set_fault classes f g a b =
     (λ over. one_in_class classes f g a b class (omega (arith, under, over))) (cases_lt g.method f.method))
     (cases_lt f.method g.method)))
     (cases_lt g.class f.class)) (cases_lt f.class g.class)
-
--- ---- codes
-
--- a typed code is taken
-pub typed_code : (classes : List Class) (own number : ℕ) (c : Class) (m : Method) (code : Code)
-    → slice_get classes own ≡ Some c → slice_get c.methods number ≡ Some m → IsTypedCode classes own number code
-    → code_checked (environment classes own c number m code) ≡ Ok tt
-typed_code classes own number c m code there is t =
-    let class : t.0 ≡ c = same_some (slice_get classes own) t.0 c t.1 there in
-    let method : t.2 ≡ m = same_some (slice_get c.methods number) t.2 m
-    (ap (λ (x : Class). slice_get x.methods number) (sym class) ∙ t.3) is in
-    yes_where_typed (environment classes own c number m code)
-    (subst (λ (e : Environment). Typed e) (λ i. environment classes own (class i) number (method i) code) t.4)
-
--- what is answered is what holds of the code
-pub code_judged : (classes : List Class) (own number : ℕ) (c : Class) (m : Method) (code : Code)
-    (r : Result (Unit {0}) (Or TypeFault)) → slice_get classes own ≡ Some c → slice_get c.methods number ≡ Some m
-    → IsDue r (code_checked (environment classes own c number m code)) → JudgesCode r classes own number code
-code_judged classes own number c m code (Ok u) there is h =
-    (c, there, m, is, typed_where_yes (environment classes own c number m code) h)
-code_judged classes own number c m code (Err (or.Fault f)) there is h =
-    (c, there, m, is, first_where_no (environment classes own c number m code) f h)
-code_judged classes own number c m code (Err or.OutOfMemory) there is h = tt

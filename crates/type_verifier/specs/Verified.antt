@@ -20,24 +20,6 @@ environment classes own class number method code = record {
   code = code;
 }
 
--- ---- codes
-
--- what holds of a code that is looked at as that of a method (JVMS 4.10.1.6)
-abbrev pub OfCode : List Class → ℕ → ℕ → Code → (Environment → Type 0) → Type 0
-OfCode classes own number code P = (c : Class) × (slice_get classes own ≡ Some c)
-    × (m : Method) × (slice_get c.methods number ≡ Some m) × P (environment classes own c number m code)
-
--- such a code is typed (JVMS 4.10.1.6, methodWithCodeIsTypeSafe)
-abbrev pub IsTypedCode : List Class → ℕ → ℕ → Code → Type 0
-IsTypedCode classes own number code = OfCode classes own number code Typed
-
--- the code is typed, or this is its first fault (the project's own: which fault is told)
-abbrev pub JudgesCode : Result (Unit {0}) (Or TypeFault) → List Class → ℕ → ℕ → Code → Type 0
-JudgesCode (Ok _) classes own number code = IsTypedCode classes own number code
-JudgesCode (Err (or.Fault fault)) classes own number code =
-    OfCode classes own number code (λ env. IsFirstFault env fault)
-JudgesCode (Err or.OutOfMemory) classes own number code = Unit {0}
-
 -- ---- methods
 
 -- a method without a code, or one whose code is typed (JVMS 4.10.1.5, 4.10.1.6, methodIsTypeSafe)

@@ -4,8 +4,9 @@ ghost use Rattle.jv_base.specs.Longest.{IfFault};
 ghost use Rattle.jv_base.specs.Outcome.{IsDue};
 ghost use Rattle.class_model.specs.declared.class.Class.{Class};
 ghost use Rattle.class_pool.specs.Resolution.{first};
-ghost use Rattle.type_verifier.specs.Verified.{AreTyped, IsPlace, IsTypedAt, IsTypedCode, JudgesCode, JudgesMethod};
+ghost use Rattle.type_verifier.specs.Verified.{AreTyped, IsPlace, IsTypedAt, JudgesMethod};
 ghost use Rattle.type_verifier.specs.Verified.{JudgesSet, environment};
+ghost use Rattle.type_verifier.specs.WithCode.{set_with_code};
 ghost use Rattle.type_verifier.specs.bodies.FirstFaults.{fault_of, fault_of_set, faults_of, method_checked};
 ghost use Rattle.type_verifier.specs.bodies.Walked.{code_checked};
 
@@ -18,8 +19,8 @@ use class_pool::ClassSet;
 use jv_base::{M, Or, OutOfMemory};
 use std::alloc::Global;
 
-/// Checks a code as that of a method, by the numbers of the class and of the method there, in place of the method's own
-/// code. The error is the first fault.
+/// Checks a code as that of a method, by the numbers of the class and of the method there: the answer is that for the
+/// set in which the method has this code. The error is the first fault.
 pub fn verify_code(
     alloc: Global,
     set: &ClassSet,
@@ -29,8 +30,8 @@ pub fn verify_code(
 ) -> Result<(), Or<TypeFault>>
     requires class { class < length set.now }
     requires method { (c : Class) → slice_get set.now class ≡ Some c → method < length c.methods }
-    ensures judged { JudgesCode result set.now class method code.now }
-    ensures typed { IsTypedCode set.now class method code.now → IsDue result (Ok tt) }
+    ensures judged { JudgesMethod result (set_with_code set.now class method code.now) class method }
+    ensures typed { IsTypedAt (set_with_code set.now class method code.now) class method → IsDue result (Ok tt) }
 {
     let known = Known::new(alloc)?;
     let of = set.class(class);

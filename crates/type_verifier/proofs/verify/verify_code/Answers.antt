@@ -1,7 +1,7 @@
 use Rattle.std.proofs.Common.{Result, subst}
 use Rattle.jv_base.specs.Outcome.{IsDue}
 use Rattle.type_verifier.specs.declared.fault.TypeFault.{TypeFault}
-use Rattle.type_verifier.proofs.SetLaw.{code_judged, typed_code}
+use Rattle.type_verifier.proofs.WithCode.{code_judged, typed_code}
 use Rattle.type_verifier.proofs.verify.verify_code.Goals as goal
 
 pub returns-clause-judged : goal.returns-clause-judged
