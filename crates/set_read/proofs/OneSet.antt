@@ -18,8 +18,8 @@ use Rattle.class_read.proofs.ClassLaw.{class_read-only, one_class}
 use Rattle.link_check.specs.Profile.{links_checked}
 use Rattle.link_check.specs.declared.fault.ProfileFault.{ProfileFault}
 use Rattle.report_text.specs.Spelled.{class_text, member_texts}
-use Rattle.type_verifier.proofs.SetLaw.{typed_set}
-use Rattle.type_verifier.specs.Verified.{AreTyped, set_verified}
+use Rattle.type_verifier.proofs.SetLaw.{one_set_fault, set_apart}
+use Rattle.type_verifier.specs.Verified.{AreTyped}
 use Rattle.type_verifier.specs.declared.fault.TypeFault.{TypeFault}
 use Rattle.set_read.specs.Accepted.{AreRead, BreaksClassRule, BreaksRule, IsClassFile, IsUnread, NamesMember, NamesMethod}
 use Rattle.set_read.specs.Accepted.{NamesPlace, Spells, named_pool_fault}
@@ -183,7 +183,7 @@ same_class_rule classes one other (inl h) (inl k) =
 same_class_rule classes one other (inl h) (inr k) = absurd (no_fault (links_checked classes) tt h.0 k.1 h.1)
 same_class_rule classes one other (inr h) (inl k) = absurd (no_fault (links_checked classes) tt k.0 h.1 k.1)
 same_class_rule classes one other (inr h) (inr k) =
-    let fault : h.0 ≡ k.0 = same_fault (set_verified classes) h.0 k.0 h.2 k.2 in
+    let fault : h.0 ≡ k.0 = one_set_fault classes h.0 k.0 h.2 k.2 in
     same_method classes k.0 one other (subst (λ (f : TypeFault). NamesMethod classes f one) fault h.3) k.3
 
 -- the classes break one rule first
@@ -211,7 +211,7 @@ one_fault files (Rule told) (Rule other) h k =
 class_rule_broken : (classes : List Class) (told : RuleFault) → links_checked classes ≡ Ok tt → AreTyped classes
     → BreaksClassRule classes told → ⊥
 class_rule_broken classes told linked typed (inl h) = no_fault (links_checked classes) tt h.0 linked h.1
-class_rule_broken classes told linked typed (inr h) = no_fault (set_verified classes) tt h.0 (typed_set classes typed) h.2
+class_rule_broken classes told linked typed (inr h) = set_apart classes h.0 typed h.2
 
 rule_broken : (named : List NamedClass) (told : RuleFault) → first_faults named ≡ Ok tt → NoCycle (classes_of named)
     → links_checked (classes_of named) ≡ Ok tt → AreTyped (classes_of named) → BreaksRule named told → ⊥

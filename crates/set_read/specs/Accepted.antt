@@ -19,7 +19,7 @@ use Rattle.link_check.specs.Profile.{links_checked}
 use Rattle.link_check.specs.declared.fault.ProfileFault.{ProfileFault}
 use Rattle.report_text.specs.Spelled.{class_text, member_texts}
 use Rattle.type_verifier.specs.KindNames.{type_name}
-use Rattle.type_verifier.specs.Verified.{AreTyped, set_verified}
+use Rattle.type_verifier.specs.Verified.{AreTyped, IsSetFault}
 use Rattle.type_verifier.specs.declared.fault.TypeFault.{TypeFault}
 use Rattle.set_read.specs.declared.fault.RuleFault.{RuleFault}
 use Rattle.set_read.specs.declared.fault.RuleKind.{RuleKind}
@@ -102,7 +102,7 @@ pub record NamesMethod (classes : List Class) (fault : TypeFault) (told : RuleFa
 abbrev pub BreaksClassRule : List Class → RuleFault → Type 0
 BreaksClassRule classes told =
     ((fault : ProfileFault) × (links_checked classes ≡ Err fault) × NamesPlace classes fault told)
-    ⊎ ((fault : TypeFault) × (links_checked classes ≡ Ok tt) × (set_verified classes ≡ Err fault)
+    ⊎ ((fault : TypeFault) × (links_checked classes ≡ Ok tt) × IsSetFault classes fault
     × NamesMethod classes fault told)
 
 -- the rule that classes break: one of sets, or, where they are a set, one of those for its classes

@@ -5,7 +5,7 @@ use Rattle.class_model.specs.declared.class.Class.{Class}
 use Rattle.class_pool.specs.declared.fault.NamedClass.{NamedClass}
 use Rattle.class_pool.specs.Faults.{Builds, classes_of}
 use Rattle.link_check.specs.Profile.{links_checked}
-use Rattle.type_verifier.specs.Verified.{AreTyped, set_verified}
+use Rattle.type_verifier.specs.Verified.{AreTyped, IsSetFault}
 use Rattle.set_vectors.specs.declared.judging.Judgement.{Judgement}
 use Rattle.set_vectors.specs.declared.judging.Judgement.TheVariants.{Taken, NotListed, NoSet, Breaks, Untyped}
 
@@ -15,7 +15,7 @@ IsJudgedSet classes Taken = (links_checked classes ≡ Ok tt) × AreTyped classe
 IsJudgedSet classes NotListed = ⊥
 IsJudgedSet classes (NoSet fault) = ⊥
 IsJudgedSet classes (Breaks place fault) = links_checked classes ≡ Err fault
-IsJudgedSet classes (Untyped place fault) = (links_checked classes ≡ Ok tt) × (set_verified classes ≡ Err fault)
+IsJudgedSet classes (Untyped place fault) = (links_checked classes ≡ Ok tt) × IsSetFault classes fault
 
 -- the classes are a set that is taken, or they are none, or a set that breaks a rule
 abbrev pub IsJudged : List NamedClass → Judgement → Type 0

@@ -21,9 +21,9 @@ use Rattle.link_check.specs.declared.fault.ProfileFault.{ProfileFault}
 use Rattle.report_text.specs.Spelled.{class_text, field_text, member_texts, method_text}
 use Rattle.set_read.specs.Accepted.{AreRead, BreaksRule, IsAccepted, IsFault, IsUnread, NamesMember, NamesMethod}
 use Rattle.set_read.specs.Accepted.{NamesPlace, named_pool_fault}
-use Rattle.type_verifier.proofs.SetLaw.{fault_place, set_typed}
+use Rattle.type_verifier.proofs.SetLaw.{fault_place, typed_or_fault}
 use Rattle.type_verifier.specs.Verified as verified
-use Rattle.type_verifier.specs.Verified.{AreTyped, set_verified}
+use Rattle.type_verifier.specs.Verified.{AreTyped, IsSetFault}
 use Rattle.type_verifier.specs.declared.fault.TypeFault.{TypeFault}
 use Rattle.set_read.specs.declared.fault.RuleFault.{RuleFault}
 use Rattle.set_read.specs.declared.fault.RuleKind.TheVariants as rule
@@ -116,17 +116,17 @@ Judged named = ((first_faults named ≡ Ok tt) × NoCycle (classes_of named) × 
     ⊎ ((told : RuleFault) × BreaksRule named told)
 
 judged_codes : (named : List NamedClass) → first_faults named ≡ Ok tt → NoCycle (classes_of named)
-    → links_checked (classes_of named) ≡ Ok tt → (r : Result (Unit {0}) TypeFault) → set_verified (classes_of named) ≡ r
-    → Judged named
-judged_codes named first acyclic linked (Ok _) e = inl (first, acyclic, linked, set_typed (classes_of named) e)
-judged_codes named first acyclic linked (Err fault) e =
+    → links_checked (classes_of named) ≡ Ok tt
+    → AreTyped (classes_of named) ⊎ ((f : TypeFault) × IsSetFault (classes_of named) f) → Judged named
+judged_codes named first acyclic linked (inl typed) = inl (first, acyclic, linked, typed)
+judged_codes named first acyclic linked (inr (fault, e)) =
     let place = method_named (classes_of named) fault (fault_place (classes_of named) fault e) in
     inr (place.0, inr ((first, acyclic, refl), inr (fault, linked, e, place.1)))
 
 judged_links : (named : List NamedClass) → first_faults named ≡ Ok tt → NoCycle (classes_of named)
     → (r : Result (Unit {0}) ProfileFault) → links_checked (classes_of named) ≡ r → Judged named
 judged_links named first acyclic (Ok _) e =
-    judged_codes named first acyclic e (set_verified (classes_of named)) refl
+    judged_codes named first acyclic e (typed_or_fault (classes_of named))
 judged_links named first acyclic (Err fault) e =
     let place = place_named (classes_of named) fault (place_of (classes_of named) fault e) in
     inr (place.0, inr ((first, acyclic, refl), inl (fault, e, place.1)))

@@ -3,6 +3,9 @@ pub mod Lists
 pub mod Marking
 pub mod Padding
 pub mod Popping
+pub mod RulesWithoutCodes
 pub mod SetLaw
 pub mod TypedLaw
 pub mod Walking
+pub mod WithCode
+pub mod WithoutCodes

@@ -1,6 +1,5 @@
 -- Tables of marks.
 use Rattle.std.proofs.Common.{◌≡◌, ◌≤◌, ◌<◌, ℕ, ◌+◌, Bool, true, false, ◌||◌, List, [], ◌∷◌, length, get_or, drop, refl, sym, ap, ◌∙◌, subst}
-use Rattle.std.proofs.Common.{arith}
 use Rattle.std.proofs.lemmas.List.{drop_all}
 use Rattle.type_verifier.specs.bodies.Marks.{Marks, MarksSoFar}
 use Rattle.type_verifier.proofs.Lists.{rest_is}

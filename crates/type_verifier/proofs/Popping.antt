@@ -1,6 +1,6 @@
 -- Several values from the stack, one after the other.
-use Rattle.std.proofs.Common.{◌≡◌, ◌≤◌, ◌<◌, ℕ, suc, ◌+◌, ◌-◌, List, [], ◌∷◌, ◌++◌, length, get_or, drop, take, map, reverse, replicate, Result, Ok, Err}
-use Rattle.std.proofs.Common.{refl, sym, ap, ◌∙◌, arith}
+use Rattle.std.proofs.Common.{◌≡◌, ◌≤◌, ◌<◌, ℕ, suc, ◌+◌, ◌-◌, List, [], ◌∷◌, ◌++◌, length, get_or, drop, take, map, reverse, replicate, Ok, Err}
+use Rattle.std.proofs.Common.{sym, ap, ◌∙◌, arith}
 use Rattle.std.proofs.lemmas.List.{drop_all, take_more, reverse-append}
 use Rattle.jv_base.specs.Outcome.{◌>>=◌}
 use Rattle.class_model.specs.declared.class.Class.{Class}

@@ -1,5 +1,5 @@
 -- The walk says yes exactly where there is a list of frames, and its fault is the first one.
-use Rattle.std.proofs.Common.{◌≡◌, ◌⊎◌, ◌<◌, ℕ, suc, zero, ◌+◌, ◌-◌, ◌≤◌, Bool, true, false, cond, not, IsTrue, List, [], ◌∷◌, length, take, drop, Option, Some, None}
+use Rattle.std.proofs.Common.{◌≡◌, ◌⊎◌, ℕ, suc, zero, ◌+◌, ◌-◌, ◌≤◌, Bool, true, false, cond, not, IsTrue, List, [], ◌∷◌, length, take, drop, Option, Some, None}
 use Rattle.std.proofs.Common.{Result, Ok, Err, refl, sym, ap, subst, ◌∙◌, inl, inr, slice_get, arith, add-zero}
 use Rattle.std.proofs.lemmas.List.{drop_all, take_all}
 use Rattle.std.proofs.lemmas.Option.{get_or_from_slice_get, slice_get_within}
@@ -13,10 +13,11 @@ use Rattle.type_verifier.specs.declared.fault.TypeKind.TheVariants.{NoFrame, Mis
 use Rattle.type_verifier.specs.declared.frame.TypeFrame.{TypeFrame}
 use Rattle.type_verifier.specs.Assignable.{is_frame_assignable}
 use Rattle.type_verifier.specs.Effects.{Checked, stepped}
-use Rattle.type_verifier.specs.Environment.{Environment, declared_at, initial_frame, is_entered}
-use Rattle.type_verifier.specs.Typed.{AreTyped, FallsOffAt, IsFirstFault, IsTypedBefore, IsWrongAt, Judges, Stands, Typed}
-use Rattle.type_verifier.specs.Walk.{arrived, at_instruction, code_checked, ended, fault_at, fits_targets, flow_after}
-use Rattle.type_verifier.specs.Walk.{flowed, gone_on, passed, satisfies_handlers, walked}
+use Rattle.type_verifier.specs.Environment.{Environment, declared_frame_at, initial_frame, is_entered}
+use Rattle.type_verifier.specs.Typed.{AreInstructionsTyped, FallsOffAt, IsFirstFault, IsWrongAt, Stands, Typed}
+use Rattle.type_verifier.specs.Walk.{arrived, at_instruction, fault_at, fits_targets, flow_after, flowed, instruction_checked}
+use Rattle.type_verifier.specs.Walk.{satisfies_handlers}
+use Rattle.type_verifier.specs.bodies.Walked.{code_checked, gone_on, walked}
 
 abbrev Answer : Type 0
 Answer = Result (Unit {0}) TypeFault
@@ -61,7 +62,7 @@ module _ (env : Environment) where
 
   -- what holds where an instruction is passed
   Passed : ℕ → Op → Option TypeFrame → Option TypeFrame → Type 0
-  Passed at op flow next = (f : TypeFrame) × Stands env at flow (declared_at env at) f
+  Passed at op flow next = (f : TypeFrame) × Stands env at flow (declared_frame_at env at) f
       × (after : TypeFrame) × (stepped env at op f ≡ Ok after) × IsTrue (fits_targets env op after)
       × IsTrue (satisfies_handlers env at f) × (flow_after op after ≡ next)
 
@@ -69,20 +70,20 @@ module _ (env : Environment) where
       → Passed at op flow next
   unfolding Passed
   was_passed at op flow next h =
-      let a = bound (arrived env at flow (declared_at env at)) (passed env at op) next h in
+      let a = bound (arrived env at flow (declared_frame_at env at)) (instruction_checked env at op) next h in
       let s = bound (stepped env at op a.0) (flowed env at op a.0) next a.2 in
       let t = passes (fits_targets env op s.0) Mismatch
       (cond (not (satisfies_handlers env at a.0)) (Err Handler) (Ok (flow_after op s.0))) next s.2 in
       let u = passes (satisfies_handlers env at a.0) Handler (Ok (flow_after op s.0)) next t.1 in
-      (a.0, stands at flow (declared_at env at) a.0 a.1, s.0, s.1, t.0, u.0, same_flow (flow_after op s.0) next u.1)
+      (a.0, stands at flow (declared_frame_at env at) a.0 a.1, s.0, s.1, t.0, u.0, same_flow (flow_after op s.0) next u.1)
     where
       same_flow : (x y : Option TypeFrame) → (let R : Flow = Ok x in R) ≡ Ok y → x ≡ y
       same_flow x y e = cc
 
   -- a frame more before the others
   one_more : (at : ℕ) (i : Ins) (ins : List Ins) (flow next behind : Option TypeFrame) (fs : List TypeFrame)
-      → Passed at i.op flow next → AreTyped env (at + 1) next ins fs behind
-      → (gs : List TypeFrame) × AreTyped env at flow (i ∷ ins) gs behind
+      → Passed at i.op flow next → AreInstructionsTyped env (at + 1) next ins fs behind
+      → (gs : List TypeFrame) × AreInstructionsTyped env at flow (i ∷ ins) gs behind
   unfolding Passed
   one_more at i ins flow next behind fs p rest = (
     p.0 ∷ fs,
@@ -92,12 +93,12 @@ module _ (env : Environment) where
       p.3,
       p.4,
       p.5,
-      subst (λ (x : Option TypeFrame). AreTyped env (at + 1) x ins fs behind) (sym p.6) rest,
+      subst (λ (x : Option TypeFrame). AreInstructionsTyped env (at + 1) x ins fs behind) (sym p.6) rest,
     ),
   )
 
   pub found : (at : ℕ) (flow : Option TypeFrame) (ins : List Ins) → walked env at flow ins ≡ Ok tt
-      → (fs : List TypeFrame) × AreTyped env at flow ins fs None
+      → (fs : List TypeFrame) × AreInstructionsTyped env at flow ins fs None
   unfolding walked
   found at None [] h = ([], refl)
   found at (Some f) [] h = absurd cc
@@ -126,16 +127,16 @@ module _ (env : Environment) where
       ∙ ap (λ (b : Bool). let R : Flow = cond (not b) (Err Handler) (Ok (flow_after op after)) in R)
       (is_true (satisfies_handlers env at before) u)
 
-  goes : (at : ℕ) (op : Op) (flow : Option TypeFrame) (f after : TypeFrame) → Stands env at flow (declared_at env at) f
+  goes : (at : ℕ) (op : Op) (flow : Option TypeFrame) (f after : TypeFrame) → Stands env at flow (declared_frame_at env at) f
       → stepped env at op f ≡ Ok after → IsTrue (fits_targets env op after) → IsTrue (satisfies_handlers env at f)
       → at_instruction env at op flow ≡ Ok (flow_after op after)
   goes at op flow f after st s t u =
-      ap (λ (c : Checked). c >>= passed env at op) (arrives at flow (declared_at env at) f st)
+      ap (λ (c : Checked). c >>= instruction_checked env at op) (arrives at flow (declared_frame_at env at) f st)
       ∙ ap (λ (c : Checked). c >>= flowed env at op f) s ∙ flows at op f after t u
 
   -- the walk behind instructions that are typed
   pub walked_on : (at k : ℕ) (flow behind : Option TypeFrame) (ins : List Ins) (fs : List TypeFrame)
-      → AreTyped env at flow (take k ins) fs behind → k ≤ length ins
+      → AreInstructionsTyped env at flow (take k ins) fs behind → k ≤ length ins
       → walked env at flow ins ≡ walked env (at + k) behind (drop k ins)
   unfolding walked
   walked_on at zero flow behind ins [] h le = ap (λ (x : Option TypeFrame). walked env at x ins) (sym h)
@@ -154,14 +155,14 @@ module _ (env : Environment) where
   -- these instructions before the one with this number are typed, and it has this fault
   Wrong : ℕ → Option TypeFrame → List Ins → ℕ → TypeKind → Type 0
   Wrong at flow ins k kind = (i : Ins) × (slice_get ins k ≡ Some i) × (before : Option TypeFrame)
-      × (fs : List TypeFrame) × AreTyped env at flow (take k ins) fs before
+      × (fs : List TypeFrame) × AreInstructionsTyped env at flow (take k ins) fs before
       × (at_instruction env (at + k) i.op before ≡ Err kind)
 
   Faulty : ℕ → Option TypeFrame → List Ins → TypeFault → Type 0
   Faulty at flow ins fault =
       ((k : ℕ) × (kind : TypeKind) × (fault ≡ fault_at env (at + k) kind) × Wrong at flow ins k kind)
       ⊎ ((f : TypeFrame) × (fs : List TypeFrame) × (fault ≡ fault_at env (at + length ins - 1) FallsOff)
-      × AreTyped env at flow ins fs (Some f))
+      × AreInstructionsTyped env at flow ins fs (Some f))
 
   same_fault : (x y : TypeFault) → (let R : Answer = Err x in R) ≡ Err y → x ≡ y
   same_fault x y h = cc
@@ -238,7 +239,7 @@ module _ (env : Environment) where
             w.0,
             (
               w.1,
-              subst (λ (ins : List Ins). AreTyped env 0 (Some (initial_frame env)) ins w.1 (Some w.0))
+              subst (λ (ins : List Ins). AreInstructionsTyped env 0 (Some (initial_frame env)) ins w.1 (Some w.0))
                   (sym (take_all (length env.code.ins) env.code.ins (omega arith))) w.3,
             ),
           ),
@@ -261,7 +262,7 @@ module _ (env : Environment) where
   yes_where_typed t =
       let all : List Ins = env.code.ins in
       walked_on 0 (length all) (Some (initial_frame env)) None all t.0
-      (subst (λ (ins : List Ins). AreTyped env 0 (Some (initial_frame env)) ins t.0 None)
+      (subst (λ (ins : List Ins). AreInstructionsTyped env 0 (Some (initial_frame env)) ins t.0 None)
       (sym (take_all (length all) all (omega arith))) t.1) (omega arith)
       ∙ ap (λ (ins : List Ins). walked env (0 + length all) None ins) (drop_all (length all) all (omega arith))
 

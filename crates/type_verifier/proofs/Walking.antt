@@ -1,5 +1,5 @@
 -- Going over the instructions.
-use Rattle.std.proofs.Common.{◌≡◌, ◌≤◌, ◌<◌, ℕ, ◌+◌, ◌-◌, Bool, true, false, List, [], ◌∷◌, length, get_or, drop, Option, Some, None, Result, Ok, Err}
+use Rattle.std.proofs.Common.{◌≡◌, ◌≤◌, ◌<◌, ℕ, ◌+◌, List, length, get_or, drop, Option, Result, Ok, Err}
 use Rattle.std.proofs.Common.{sym, ap, ◌∙◌}
 use Rattle.std.proofs.lemmas.List.{drop_all}
 use Rattle.jv_base.specs.Outcome.{FaultIs}
@@ -9,9 +9,10 @@ use Rattle.class_model.specs.declared.code.Ins.{Ins}
 use Rattle.type_verifier.specs.declared.fault.TypeFault.{TypeFault}
 use Rattle.type_verifier.specs.declared.fault.TypeKind.{TypeKind}
 use Rattle.type_verifier.specs.declared.frame.TypeFrame.{TypeFrame}
-use Rattle.type_verifier.specs.bodies.Changes.{GoesOn, flow}
+use Rattle.type_verifier.specs.bodies.Changes.{GoesOn}
 use Rattle.type_verifier.specs.Environment.{Environment}
-use Rattle.type_verifier.specs.Walk.{at_instruction, ended, fault_at, gone_on, walked}
+use Rattle.type_verifier.specs.Walk.{at_instruction, fault_at}
+use Rattle.type_verifier.specs.bodies.Walked.{ended, gone_on, walked}
 use Rattle.type_verifier.proofs.Lists.{rest_is}
 
 abbrev Answer : Type 0

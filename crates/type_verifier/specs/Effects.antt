@@ -1,5 +1,5 @@
--- What a rule makes of a frame, or the first thing that is wrong (JVMS 4.10.1.7, 4.10.1.8, 4.10.1.9). The order in which
--- faults are told is the project's own: Depth, Local, Operand, Protected, Uninit.
+-- What a rule makes of a frame, or the first thing that is wrong (JVMS 4.10.1.7, 4.10.1.8, 4.10.1.9). The order in
+-- which faults are told is the project's own: Depth, Local, Operand, Protected, Uninit.
 use Rattle.std.specs.Prelude.{ℕ, ◌+◌, ◌-◌, Bool, true, false, not, ◌&&◌, ◌==◌, nat_le, nat_lt, List, [], ◌∷◌, ◌++◌, length}
 use Rattle.std.specs.Prelude.{map, slice_get, slice_set, Option, Some, None, Result, Ok, Err, if◌then◌else◌}
 use Rattle.std.specs.List.{list_any, sum_by}
@@ -28,17 +28,18 @@ use Rattle.type_verifier.specs.Rules.{Rule, Takes, Loads, Stores, Counts, Drops,
 use Rattle.type_verifier.specs.Rules.{Returns, Uses, Initialises}
 use Rattle.class_model.specs.declared.op.Elem.TheVariants as elem
 
--- a frame, or what is wrong
+-- a frame, or what is wrong (the project's own: of several things the first is told)
 abbrev pub Checked : Type 0
 Checked = Result TypeFrame TypeKind
 
 -- ---- words (JVMS 4.10.1.4, sizeOf, operandStackHasLegalLength)
 
--- how many words a wanted value takes (JVMS 4.10.1.2, sizeOf)
+-- how many words a wanted value takes (JVMS 4.10.1.4, sizeOf)
 abbrev pub words_wanted : Wanted → ℕ
 words_wanted (Assignable ty) = words_of_type ty
 words_wanted _ = 1
 
+-- how many words wanted values take (JVMS 4.10.1.4, sizeOf)
 abbrev pub all_words_wanted : List Wanted → ℕ
 all_words_wanted wanted = sum_by words_wanted wanted
 
@@ -46,14 +47,16 @@ all_words_wanted wanted = sum_by words_wanted wanted
 abbrev pub words_of_arguments : List FieldType → ℕ
 words_of_arguments types = sum_by (λ ty. words_of_type (vtype_of ty)) types
 
+-- how many words what is given takes, if anything is (JVMS 4.10.1.4, sizeOf)
 abbrev pub words_given : Option VType → ℕ
 words_given given = option_map_or words_of_type given 0
 
+-- how many words an instruction of this kind moves (JVMS 4.10.1.4, sizeOf)
 abbrev pub words_of_kind : Kind → ℕ
 words_of_kind kind.Long = 2
 words_of_kind _ = 1
 
--- how many words of the stack a rule takes
+-- how many words of the stack a rule takes (JVMS 4.10.1.4, sizeOf, canPop)
 abbrev pub taken_words : Rule → ℕ
 taken_words (Takes wanted given) = all_words_wanted wanted
 taken_words (Loads k slot) = 0
@@ -68,7 +71,7 @@ taken_words (Returns k) = option_map_or words_of_kind k 0
 taken_words (Uses wanted receiver guarded given) = all_words_wanted wanted + 1
 taken_words (Initialises wanted class guarded) = all_words_wanted wanted + 1
 
--- how many words it puts onto the stack
+-- how many words it puts onto the stack (JVMS 4.10.1.4, sizeOf, pushOperandStack)
 abbrev pub given_words : Rule → ℕ
 given_words (Takes wanted given) = words_given given
 given_words (Loads k slot) = words_of_kind k
@@ -94,6 +97,7 @@ has_room max_stack max_locals taken given f =
 
 -- ---- the stack
 
+-- a frame with another stack (JVMS 4.10.1.4)
 abbrev pub with_stack : TypeFrame → List VType → TypeFrame
 with_stack f stack = record { locals = f.locals; stack = stack; marked = f.marked }
 
@@ -128,6 +132,7 @@ module _ (classes : List Class) where
   loaded_from wanted f None = Err Local
   loaded_from wanted f (Some ty) = if meets classes wanted ty then Ok (pushed ty f) else Err Local
 
+  -- the same of the local with this number (JVMS 4.10.1.7, loadIsTypeSafe)
   abbrev pub loaded : Kind → ℕ → TypeFrame → Checked
   loaded k slot f = loaded_from (moved k) f (slice_get f.locals slot)
 
@@ -163,6 +168,7 @@ module _ (classes : List Class) where
   counted_from f None = Err Local
   counted_from f (Some ty) = if meets classes (Assignable vtype.Int) ty then Ok f else Err Local
 
+  -- the same of the local with this number (JVMS 4.10.1.9.iinc)
   abbrev pub counted : ℕ → TypeFrame → Checked
   counted slot f = counted_from f (slice_get f.locals slot)
 
@@ -173,7 +179,7 @@ abbrev pub is_category_1 : VType → Bool
 is_category_1 vtype.Top = false
 is_category_1 ty = words_of_type ty == 1
 
--- the values at the top, the upper first, and what is below them
+-- the values at the top, the upper first, and what is below them (JVMS 4.10.1.4, popCategory1, popCategory2)
 abbrev pub Split : Type 0
 Split = List VType × List VType
 
@@ -182,7 +188,7 @@ abbrev pub one_word : List VType → Option Split
 one_word [] = None
 one_word (ty ∷ stack) = if is_category_1 ty then Some (ty ∷ [], stack) else None
 
--- a second value of category 1
+-- a second value of category 1 (JVMS 4.10.1.9.pop2)
 abbrev pub second_word : VType → List VType → Option Split
 second_word upper [] = None
 second_word upper (ty ∷ stack) = if is_category_1 ty then Some (upper ∷ ty ∷ [], stack) else None
@@ -199,11 +205,13 @@ two_words (ty ∷ stack) =
 abbrev pub split_words : ℕ → List VType → Option Split
 split_words n stack = if n == 0 then Some ([], stack) else if n == 1 then one_word stack else two_words stack
 
+-- a frame with the stack that is left; where words cut a value, the operand is wrong
+-- (the project's own: which fault is told)
 abbrev pub or_operand : TypeFrame → Option (List VType) → Checked
 or_operand f None = Err Operand
 or_operand f (Some stack) = Ok (with_stack f stack)
 
--- (JVMS 4.10.1.9.pop, 4.10.1.9.pop2)
+-- the stack without so many words (JVMS 4.10.1.9.pop, 4.10.1.9.pop2)
 abbrev pub dropped : ℕ → List VType → Option (List VType)
 dropped n stack = option_map (λ top. top.1) (split_words n stack)
 
@@ -216,7 +224,7 @@ abbrev pub doubled : ℕ → ℕ → List VType → Option (List VType)
 doubled copied under stack = option_and_then (λ top. option_map
     (λ below. top.0 ++ below) (put_below top.0 under top.1)) (split_words copied stack)
 
--- (JVMS 4.10.1.9.swap)
+-- the stack with its two words exchanged (JVMS 4.10.1.9.swap)
 abbrev pub swapped : List VType → Option (List VType)
 swapped stack = option_and_then (λ top. put_below top.0 1 top.1) (split_words 1 stack)
 
@@ -246,7 +254,7 @@ is_copy vtype.UninitThis vtype.UninitThis = true
 is_copy (vtype.Uninit m) (vtype.Uninit n) = m == n
 is_copy _ _ = false
 
--- a type in place of each copy of one that isn't initialised (JVMS 4.10.1.4, substitute)
+-- a type in place of each copy of one that isn't initialised (JVMS 4.10.1.9.invokespecial, substitute)
 abbrev pub substituted : VType → VType → List VType → List VType
 substituted old new types = map (λ ty. if is_copy old ty then new else ty) types
 
@@ -332,9 +340,10 @@ module _ (env : Environment) where
       if is_returned_by k (vtype_of ty) then popped env.classes (Assignable (vtype_of ty)) f else Err Operand
   result_taken _ _ f = Err Operand
 
-  -- a constructor returns once its object is initialised (JVMS 4.10.1.9.return)
-  abbrev pub left : TypeFrame → Checked
-  left f = if in_constructor env && f.marked then Err Uninit else Ok f
+  -- a constructor returns once its object is initialised (JVMS 4.10.1.9.return; that only a constructor is asked is the
+  -- project's own: the standard's rule asks it of every method, HotSpot does not)
+  abbrev pub constructor_returned : TypeFrame → Checked
+  constructor_returned f = if in_constructor env && f.marked then Err Uninit else Ok f
 
   -- ---- rules
 
@@ -349,18 +358,20 @@ module _ (env : Environment) where
   acted at Swaps f = or_operand f (swapped f.stack)
   acted at ReadsReference f = reference_read env.classes f
   acted at Makes f = made at f
-  acted at (Returns k) f = result_taken k env.method.ty.ret f >>= left
+  acted at (Returns k) f = result_taken k env.method.ty.ret f >>= constructor_returned
   acted at (Uses wanted receiver guarded given) f =
       all_popped env.classes wanted f >>= λ g. used_from receiver guarded g g.stack >>= λ h. Ok (gives given h)
   acted at (Initialises wanted class guarded) f =
       all_popped env.classes wanted f >>= λ g. object_initialised class guarded g g.stack
 
   -- what a rule makes of a frame: its words first, then that the locals are no more than max_locals
+  -- (JVMS 4.10.1.4, 4.10.1.9; that they come first is the project's own)
   abbrev pub ruled : ℕ → Rule → TypeFrame → Checked
   ruled at rule f = has_room env.code.max_stack env.code.max_locals (taken_words rule) (given_words rule) f
       >>= λ _. acted at rule f
 
-  -- the same where there is a rule
+  -- the same where there is a rule: one is missing only where a reference has no descriptor, which is refused before
+  -- (the project's own)
   abbrev pub if_ruled : ℕ → Option Rule → TypeFrame → Checked
   if_ruled at None f = Err Operand
   if_ruled at (Some rule) f = ruled at rule f

@@ -7,5 +7,6 @@ pub mod Effects
 pub mod Walk
 pub mod Typed
 pub mod Verified
+pub mod WithCode
 pub mod KindNames
 pub mod bodies

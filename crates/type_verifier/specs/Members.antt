@@ -1,5 +1,5 @@
 -- What the rules ask of the fields and methods that instructions name (JVMS 4.10.1.8, 4.10.1.9).
-use Rattle.std.specs.Prelude.{ℕ, Bool, false, not, ◌&&◌, ◌||◌, ◌==◌, is_some, List, Option, Some, None, Result, Ok, Err}
+use Rattle.std.specs.Prelude.{ℕ, Bool, false, not, ◌&&◌, ◌||◌, ◌==◌, is_some, List, Result, Ok, Err}
 use Rattle.jv_base.specs.Names.{is_text}
 use Rattle.jv_base.specs.declared.types.Base.{Base}
 use Rattle.jv_base.specs.declared.types.Base.TheVariants as base
@@ -24,7 +24,8 @@ is_class_type name ty = ty.dims == 0 && is_class_base name ty.base
 
 module _ (env : Environment) where
   -- a protected member, not static, of another package. What a reference in the class means is accessible to it, so
-  -- such a member is declared by a superclass (JVMS 4.10.1.8, passesProtectedCheck; 5.4.4)
+  -- such a member is declared by a superclass; the standard looks at the class that the reference names, and any other
+  -- named class makes the receiver fit anyway (JVMS 4.10.1.8, passesProtectedCheck; 5.4.4)
   abbrev pub is_guarded : Result MemberAt LinkKind → Bool
   is_guarded (Ok m) = is_protected_member env.classes m && not (is_static_member env.classes m)
       && not (same_package env.classes (Prog env.own) m.class)

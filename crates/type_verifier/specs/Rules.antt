@@ -31,16 +31,17 @@ use Rattle.type_verifier.specs.Members.{is_early_field, is_guarded_field, is_gua
 
 -- ---- what is wanted of a value on the stack
 
+-- what a rule wants of a value (JVMS 4.10.1.4, popMatchingType, 4.10.1.9)
 pub data Wanted : Type 0 where
-  -- it is assignable to this type
+  -- it is assignable to this type (JVMS 4.10.1.2, isAssignable)
   Assignable : VType → Wanted
-  -- it is a reference, initialised or not
+  -- it is a reference, initialised or not (JVMS 4.10.1.2, reference)
   Reference : Wanted
-  -- it is assignable to this class, or is `this` of a constructor that called no other one
+  -- it is assignable to this class, or is `this` of a constructor that called no other one (JVMS 4.10.1.9.putfield)
   OrThis : FieldType → Wanted
-  -- it is an array, or null
+  -- it is an array, or null (JVMS 4.10.1.9.arraylength)
   AnyArray : Wanted
-  -- it is an array of bytes or booleans, or null (isSmallArray)
+  -- it is an array of bytes or booleans, or null (JVMS 4.10.1.9.baload, isSmallArray)
   SmallArray : Wanted
 
 -- an array type (JVMS 4.10.1.2, arrayOf)
@@ -70,16 +71,19 @@ meets classes SmallArray _ = false
 
 -- ---- types that the rules name
 
+-- an object of the class of this name (JVMS 4.10.1.2, class)
 abbrev pub class_of : List ℕ → VType
 class_of name = vtype.Object (class_type name)
 
--- java.lang.Object, which each initialised reference is assignable to
+-- java.lang.Object, which each initialised reference is assignable to (JVMS 4.10.1.2, isJavaAssignable)
 abbrev pub object : VType
 object = class_of (codes "java/lang/Object")
 
+-- java.lang.Throwable, which is thrown and caught (JVMS 4.10.1.9.athrow)
 abbrev pub throwable : VType
 throwable = class_of (codes "java/lang/Throwable")
 
+-- java.lang.String, the type of a literal (JVMS 4.10.1.9.ldc)
 abbrev pub string : VType
 string = class_of (codes "java/lang/String")
 
@@ -87,19 +91,20 @@ string = class_of (codes "java/lang/String")
 abbrev pub array_of : FieldType → VType
 array_of ty = vtype.Object (record { dims = ty.dims + 1; base = ty.base })
 
+-- an array of one dimension of this type (JVMS 4.10.1.2, arrayOf)
 abbrev pub array_of_base : Base → VType
 array_of_base b = array_of (record { dims = 0; base = b })
 
--- the type of the elements of an array (JVMS 4.10.1.2, arrayComponentType)
+-- the type of the elements of an array (JVMS 4.10.1.9.aaload, arrayComponentType)
 abbrev pub element_type : FieldType → FieldType
 element_type ty = record { dims = ty.dims - 1; base = ty.base }
 
--- an int or a long
+-- an int or a long (JVMS 4.10.1.2; the two kinds of numbers that are taken are the project's own)
 abbrev pub number : Num → VType
 number num.Int = vtype.Int
 number num.Long = vtype.Long
 
--- an int or a long is wanted
+-- an int or a long is wanted (JVMS 4.10.1.9.iadd, 4.10.1.9.ladd)
 abbrev pub wanted_number : Num → Wanted
 wanted_number n = Assignable (number n)
 
@@ -151,31 +156,32 @@ method_type r = told_type (read_method r.ty)
 
 -- ---- rules
 
+-- what a rule does with a frame (JVMS 4.10.1.9; that the rules are told by these kinds is the project's own)
 pub data Rule : Type 0 where
-  -- takes values from the stack, and puts one onto it (validTypeTransition, canPop)
+  -- takes values from the stack, and puts one onto it (JVMS 4.10.1.4, validTypeTransition, canPop)
   Takes : (wanted : List Wanted) → (given : Option VType) → Rule
-  -- puts the value of a local onto the stack (loadIsTypeSafe)
+  -- puts the value of a local onto the stack (JVMS 4.10.1.7, loadIsTypeSafe)
   Loads : Kind → ℕ → Rule
-  -- takes a value from the stack into a local (storeIsTypeSafe)
+  -- takes a value from the stack into a local (JVMS 4.10.1.7, storeIsTypeSafe)
   Stores : Kind → ℕ → Rule
-  -- changes an int in a local
+  -- changes an int in a local (JVMS 4.10.1.9.iinc)
   Counts : ℕ → Rule
-  -- takes so many words from the stack
+  -- takes so many words from the stack (JVMS 4.10.1.9.pop, 4.10.1.9.pop2)
   Drops : ℕ → Rule
-  -- puts a copy of so many words of the stack under so many others
+  -- puts a copy of so many words of the stack under so many others (JVMS 4.10.1.9.dup to 4.10.1.9.dup2_x2)
   Doubles : (copied under : ℕ) → Rule
-  -- exchanges the two words at the top of the stack
+  -- exchanges the two words at the top of the stack (JVMS 4.10.1.9.swap)
   Swaps : Rule
-  -- takes an index and an array of references, and puts an element onto the stack
+  -- takes an index and an array of references, and puts an element onto the stack (JVMS 4.10.1.9.aaload)
   ReadsReference : Rule
-  -- makes an object of a class, which no constructor was called on
+  -- makes an object of a class, which no constructor was called on (JVMS 4.10.1.9.new)
   Makes : Rule
-  -- returns from the method
+  -- returns from the method (JVMS 4.10.1.9.return, 4.10.1.9.ireturn)
   Returns : Option Kind → Rule
   -- takes arguments and the object whose member is used; where the member is guarded, the object is one of the own
-  -- class
+  -- class (JVMS 4.10.1.9.getfield, 4.10.1.9.invokevirtual, 4.10.1.8)
   Uses : (wanted : List Wanted) → (receiver : Wanted) → (guarded : Bool) → (given : Option VType) → Rule
-  -- takes arguments and calls a constructor of this class
+  -- takes arguments and calls a constructor of this class (JVMS 4.10.1.9.invokespecial)
   Initialises : (wanted : List Wanted) → (class : FieldType) → (guarded : Bool) → Rule
 
 -- i2l and l2i take and give another number, the others an int (JVMS 4.10.1.9.i2l, 4.10.1.9.i2b, 4.10.1.9.l2i)

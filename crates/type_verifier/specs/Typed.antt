@@ -1,5 +1,5 @@
 -- Which codes are typed, by a whole list of frames (JVMS 4.10.1), and which fault is the first one.
-use Rattle.std.specs.Prelude.{◌≡◌, ◌<◌, ◌⊎◌, ℕ, ◌+◌, ◌-◌, Bool, false, IsTrue, List, [], ◌∷◌, length, take, slice_get}
+use Rattle.std.specs.Prelude.{◌≡◌, ◌⊎◌, ℕ, ◌+◌, ◌-◌, false, IsTrue, List, [], ◌∷◌, length, take, slice_get}
 use Rattle.std.specs.Prelude.{Option, Some, None, Result, Ok, Err}
 use Rattle.jv_base.specs.declared.outcome.Or.{Or}
 use Rattle.jv_base.specs.declared.outcome.Or.TheVariants as or
@@ -10,12 +10,12 @@ use Rattle.type_verifier.specs.declared.fault.TypeKind.TheVariants.{FallsOff}
 use Rattle.type_verifier.specs.declared.frame.TypeFrame.{TypeFrame}
 use Rattle.type_verifier.specs.Assignable.{is_frame_assignable}
 use Rattle.type_verifier.specs.Effects.{stepped}
-use Rattle.type_verifier.specs.Environment.{Environment, declared_at, initial_frame, is_entered}
+use Rattle.type_verifier.specs.Environment.{Environment, declared_frame_at, initial_frame, is_entered}
 use Rattle.type_verifier.specs.Walk.{at_instruction, fault_at, fits_targets, flow_after, satisfies_handlers}
 
 module _ (env : Environment) where
-  -- a frame stands before an instruction: the one that is declared, which what flows in is assignable to, else what flows
-  -- in, where nothing but that leads here (JVMS 4.10.1.5, mergedCodeIsTypeSafe)
+  -- a frame stands before an instruction: the one that is declared, which what flows in is assignable to, else what
+  -- flows in, where nothing but that leads here (JVMS 4.10.1.6, mergedCodeIsTypeSafe)
   abbrev pub Stands : ℕ → Option TypeFrame → Option TypeFrame → TypeFrame → Type 0
   Stands at (Some from) (Some d) f = (f ≡ d) × IsTrue (is_frame_assignable env.classes from d)
   Stands at None (Some d) f = f ≡ d
@@ -24,27 +24,28 @@ module _ (env : Environment) where
 
   -- one frame before each of these instructions: it stands there, the rule applies to it, what results fits at the
   -- targets, and it fits at the handlers; what results flows on, at the end to what comes behind
-  -- (JVMS 4.10.1.5, mergedCodeIsTypeSafe)
-  abbrev pub AreTyped : ℕ → Option TypeFrame → List Ins → List TypeFrame → Option TypeFrame → Type 0
-  AreTyped at flow [] [] behind = behind ≡ flow
-  AreTyped at flow [] (f ∷ fs) behind = ⊥
-  AreTyped at flow (i ∷ ins) [] behind = ⊥
-  AreTyped at flow (i ∷ ins) (f ∷ fs) behind =
-      Stands at flow (declared_at env at) f
+  -- (JVMS 4.10.1.6, mergedCodeIsTypeSafe)
+  abbrev pub AreInstructionsTyped : ℕ → Option TypeFrame → List Ins → List TypeFrame → Option TypeFrame → Type 0
+  AreInstructionsTyped at flow [] [] behind = behind ≡ flow
+  AreInstructionsTyped at flow [] (f ∷ fs) behind = ⊥
+  AreInstructionsTyped at flow (i ∷ ins) [] behind = ⊥
+  AreInstructionsTyped at flow (i ∷ ins) (f ∷ fs) behind =
+      Stands at flow (declared_frame_at env at) f
       × (after : TypeFrame) × (stepped env at i.op f ≡ Ok after)
       × IsTrue (fits_targets env i.op after)
       × IsTrue (satisfies_handlers env at f)
-      × AreTyped (at + 1) (flow_after i.op after) ins fs behind
+      × AreInstructionsTyped (at + 1) (flow_after i.op after) ins fs behind
 
   -- the code is typed: all its instructions are, from the initial frame on, and nothing flows on behind the last
-  -- (JVMS 4.10.1.5, 4.10.1.6, methodWithCodeIsTypeSafe)
+  -- (JVMS 4.10.1.6, methodWithCodeIsTypeSafe, endOfCode)
   abbrev pub Typed : Type 0
-  Typed = (frames : List TypeFrame) × AreTyped 0 (Some (initial_frame env)) env.code.ins frames None
+  Typed = (frames : List TypeFrame) × AreInstructionsTyped 0 (Some (initial_frame env)) env.code.ins frames None
 
   -- the instructions before the one with this number are typed, and this flows into it
+  -- (the project's own: which fault is told)
   abbrev pub IsTypedBefore : ℕ → Option TypeFrame → Type 0
   IsTypedBefore at flow = (frames : List TypeFrame)
-      × AreTyped 0 (Some (initial_frame env)) (take at env.code.ins) frames flow
+      × AreInstructionsTyped 0 (Some (initial_frame env)) (take at env.code.ins) frames flow
 
   -- this is the first thing that is wrong with an instruction, where those before it are typed
   -- (the project's own: which fault is told)

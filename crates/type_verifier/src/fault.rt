@@ -10,7 +10,7 @@ use jv_base::Or;
 #[derive(Clone, Copy, Debug, PartialEq, Eq)]
 pub enum TypeKind {
     /// No frame is declared where one is needed: at a target, where a handler begins, and behind an instruction that
-    /// never goes on to the next one (JVMS 4.10.1.5).
+    /// never goes on to the next one (JVMS 4.10.1.6).
     NoFrame,
     /// What flows to an instruction isn't assignable to the frame that is declared there (JVMS 4.10.1.4).
     Mismatch,
@@ -27,7 +27,7 @@ pub enum TypeKind {
     Uninit,
     /// A handler covers the instruction, and its locals or what is caught don't fit there (JVMS 4.10.1.6).
     Handler,
-    /// Control goes on behind the last instruction (JVMS 4.10.1.5).
+    /// Control goes on behind the last instruction (JVMS 4.10.1.6).
     FallsOff,
 }
 

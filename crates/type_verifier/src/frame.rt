@@ -9,5 +9,6 @@ pub struct TypeFrame {
     pub locals: Locals,
     /// The top first.
     pub stack: Stack,
+    /// The flag flagThisUninit (JVMS 4.10.1.4): it is on until another constructor was called on `this`.
     pub marked: bool,
 }

@@ -29,5 +29,5 @@ mod words;
 
 pub use assignability::assignable;
 pub use fault::{TypeFault, TypeKind};
-pub use laws::codes_are_typed_or_at_fault;
+pub use laws::{codes_are_typed_or_at_fault, sets_are_typed_or_at_fault};
 pub use verify::{verify_code, verify_method, verify_set};

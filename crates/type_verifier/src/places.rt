@@ -1,4 +1,4 @@
-// What is declared at the instructions of a code, and which of them are entered (JVMS 4.10.1.5).
+// What is declared at the instructions of a code, and which of them are entered (JVMS 4.10.1.6).
 ghost use Rattle.std.specs.Prelude.{◌≡◌, ◌<◌, nat_eq, false, IfOk, None, length, slice_index_or};
 ghost use Rattle.type_verifier.specs.Environment.{targets};
 ghost use Rattle.type_verifier.specs.bodies.Places.{ArePlaces};
@@ -9,8 +9,8 @@ use class_model::{Case, Code, Frames, Handler, Ins, Op};
 use jv_base::M;
 use std::alloc::Global;
 
-/// For each instruction of a code the number of the frame that is declared there, and whether it is a target or begins a
-/// handler.
+/// For each instruction of a code the number of the frame that is declared there, and whether it is a target or begins
+/// a handler.
 #[derive(Drop)]
 pub(crate) struct Places {
     frames: Vec<Option<usize>>,

@@ -1,13 +1,14 @@
 // Which codes, methods and sets are typed (JVMS 4.10.1).
 ghost use Rattle.std.specs.Prelude.{◌≡◌, ◌<◌, Ok, Some, IfOk, length, slice_get};
-ghost use Rattle.std.specs.List.{enumerate_from, filter_map, flat_map};
 ghost use Rattle.jv_base.specs.Longest.{IfFault};
 ghost use Rattle.jv_base.specs.Outcome.{IsDue};
 ghost use Rattle.class_model.specs.declared.class.Class.{Class};
 ghost use Rattle.class_pool.specs.Resolution.{first};
-ghost use Rattle.type_verifier.specs.Verified.{AreTyped, IsPlace, IsTypedCode, JudgesCode, code_verified, fault_of, faults_of};
-ghost use Rattle.type_verifier.specs.Verified.{environment, method_checked, method_verified, set_verified};
-ghost use Rattle.type_verifier.specs.Walk.{code_checked};
+ghost use Rattle.type_verifier.specs.Verified.{AreTyped, IsPlace, IsTypedAt, JudgesMethod};
+ghost use Rattle.type_verifier.specs.Verified.{JudgesSet, environment};
+ghost use Rattle.type_verifier.specs.WithCode.{set_with_code};
+ghost use Rattle.type_verifier.specs.bodies.FirstFaults.{fault_of, fault_of_set, faults_of, method_checked};
+ghost use Rattle.type_verifier.specs.bodies.Walked.{code_checked};
 
 use crate::TypeFault;
 use crate::environment::Env;
@@ -29,9 +30,8 @@ pub fn verify_code(
 ) -> Result<(), Or<TypeFault>>
     requires class { class < length set.now }
     requires method { (c : Class) → slice_get set.now class ≡ Some c → method < length c.methods }
-    ensures exact { IsDue result (code_verified set.now class method code.now) }
-    ensures judged { JudgesCode result set.now class method code.now }
-    ensures typed { IsTypedCode set.now class method code.now → IsDue result (Ok tt) }
+    ensures judged { JudgesMethod result (set_with_code set.now class method code.now) class method }
+    ensures typed { IsTypedAt (set_with_code set.now class method code.now) class method → IsDue result (Ok tt) }
 {
     let known = Known::new(alloc)?;
     let of = set.class(class);
@@ -57,7 +57,8 @@ pub fn verify_method(
 ) -> Result<(), Or<TypeFault>>
     requires class { class < length set.now }
     requires method { (c : Class) → slice_get set.now class ≡ Some c → method < length c.methods }
-    ensures exact { IsDue result (method_verified set.now class method) }
+    ensures judged { JudgesMethod result set.now class method }
+    ensures typed { IsTypedAt set.now class method → IsDue result (Ok tt) }
 {
     let known = Known::new(alloc)?;
     let of = set.class(class);
@@ -74,9 +75,8 @@ pub fn verify_method(
 
 /// Checks the codes of all methods. The error is the first fault, class after class in order, method after method.
 pub fn verify_set(alloc: Global, set: &ClassSet) -> Result<(), Or<TypeFault>>
-    ensures exact { IsDue result (set_verified set.now) }
-    ensures typed { IfOk result (λ _. AreTyped set.now) }
-    ensures only { AreTyped set.now → IsDue result (Ok tt) }
+    ensures judged { JudgesSet result set.now }
+    ensures typed { AreTyped set.now → IsDue result (Ok tt) }
     ensures place { IfFault result (IsPlace set.now) }
 {
     match first_fault(alloc, set)? {
@@ -86,7 +86,7 @@ pub fn verify_set(alloc: Global, set: &ClassSet) -> Result<(), Or<TypeFault>>
 }
 
 fn first_fault(alloc: Global, set: &ClassSet) -> M<Option<TypeFault>>
-    ensures { IfOk result (λ fault. fault ≡ first (flat_map (λ p. faults_of set.now p.0 p.1) (enumerate_from 0 set.now))) }
+    ensures { IfOk result (λ fault. fault ≡ fault_of_set set.now) }
 {
     let known = Known::new(alloc)?;
     for number in 0..set.len() {

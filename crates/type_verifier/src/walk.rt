@@ -1,4 +1,4 @@
-// The walk over a code, which keeps one frame (JVMS 4.10.1.5, 4.10.1.6).
+// The walk over a code, which keeps one frame (JVMS 4.10.1.6).
 ghost use Rattle.std.specs.Prelude.{◌≡◌, ◌<◌, ◌∷◌, [], Some, false, IfOk, length, map, slice_get};
 ghost use Rattle.std.specs.List.{list_all};
 ghost use Rattle.std.specs.Option.{option_map};
@@ -7,12 +7,13 @@ ghost use Rattle.class_model.specs.declared.op.Case.{Case};
 ghost use Rattle.type_verifier.specs.Assignable.{is_frame_assignable};
 ghost use Rattle.type_verifier.specs.bodies.Changes.{AfterOr, FlowsOr, GoesOn, flow};
 ghost use Rattle.type_verifier.specs.Effects.{with_stack};
-ghost use Rattle.type_verifier.specs.Environment.{declared_at, goes_elsewhere};
+ghost use Rattle.type_verifier.specs.Environment.{declared_frame_at, goes_elsewhere};
 ghost use Rattle.type_verifier.specs.Frames.{declared_frame};
 ghost use Rattle.type_verifier.specs.bodies.Places.{ArePlaces};
 ghost use Rattle.type_verifier.specs.bodies.Seen.{seen};
-ghost use Rattle.type_verifier.specs.Walk.{arrived, at_instruction, caught_type, code_checked, covers, fault_at};
-ghost use Rattle.type_verifier.specs.Walk.{fits_at, fits_targets, passed, satisfies, satisfies_handlers, walked};
+ghost use Rattle.type_verifier.specs.bodies.Walked.{code_checked, walked};
+ghost use Rattle.type_verifier.specs.Walk.{arrived, at_instruction, caught_type, covers, fault_at};
+ghost use Rattle.type_verifier.specs.Walk.{fits_at, fits_targets, instruction_checked, satisfies, satisfies_handlers};
 
 use crate::assignability::{are_assignable, assignable, is_stack_assignable};
 use crate::environment::Env;
@@ -126,7 +127,7 @@ fn pass(
 ) -> Result<bool, Or<TypeKind>>
     requires there { env.now.own < length env.now.set.now }
     requires places { ArePlaces env.now.code.now places.now }
-    ensures { FlowsOr result frame.new (passed (seen env.now) at op.now frame.old) }
+    ensures { FlowsOr result frame.new (instruction_checked (seen env.now) at op.now frame.old) }
 {
     let satisfies = satisfies_handlers(alloc, env, places, frame, at)?;
     step(alloc, env, frame, at, op)?;
@@ -155,7 +156,7 @@ fn goes_elsewhere(op: &Op) -> bool
 fn declared(alloc: Global, env: &Env, places: &Places, at: usize) -> M<Option<TypeFrame>>
     requires places { ArePlaces env.now.code.now places.now }
     requires instruction { at < length env.now.code.now.ins }
-    ensures { IfOk result (λ d. d ≡ declared_at (seen env.now) at) }
+    ensures { IfOk result (λ d. d ≡ declared_frame_at (seen env.now) at) }
 {
     match places.frame_number(at) {
         Some(number) => declared_frame(alloc, env.code, number),
@@ -174,7 +175,7 @@ fn arrive(
 ) -> Result<(), Or<TypeKind>>
     requires places { ArePlaces env.now.code.now places.now }
     requires instruction { at < length env.now.code.now.ins }
-    ensures { AfterOr result frame.new (arrived (seen env.now) at (flow flows frame.old) (declared_at (seen env.now) at)) }
+    ensures { AfterOr result frame.new (arrived (seen env.now) at (flow flows frame.old) (declared_frame_at (seen env.now) at)) }
 {
     match declared(alloc, env, places, at as usize)? {
         Some(declared) => {

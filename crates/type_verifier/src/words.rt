@@ -1,4 +1,5 @@
-// Instructions on the words at the top of the stack (JVMS 4.10.1.9.dup to 4.10.1.9.swap).
+// Instructions on the words at the top of the stack (JVMS 4.10.1.9.dup to 4.10.1.9.dup2_x2, 4.10.1.9.pop,
+// 4.10.1.9.pop2, 4.10.1.9.swap).
 ghost use Rattle.std.specs.Prelude.{◌≡◌, ◌++◌, IfOk, OnOk};
 ghost use Rattle.std.specs.List.{cons_option};
 ghost use Rattle.type_verifier.specs.bodies.Changes.{AfterOr};

@@ -1,4 +1,4 @@
-use Rattle.std.proofs.Common.{◌≡◌, ◌<◌, ◌≤◌, ◌+◌, ◌-◌, ℕ, Some, length, set, sym, subst, arith}
+use Rattle.std.proofs.Common.{◌<◌, ◌-◌, ℕ, Some, set, sym, subst, arith}
 use Rattle.class_model.specs.FrameLists.{no_frame}
 use Rattle.type_verifier.specs.bodies.Marks.{AreNumbersFrom}
 use Rattle.type_verifier.proofs.Padding.{numbers_more}

@@ -1,4 +1,4 @@
-use Rattle.std.proofs.Common.{◌≤◌, drop, length}
+use Rattle.std.proofs.Common.{◌≤◌, length}
 use Rattle.type_verifier.specs.bodies.Marks.{AreNumbersFrom}
 use Rattle.type_verifier.proofs.places.frame_numbers.Given as goal
 

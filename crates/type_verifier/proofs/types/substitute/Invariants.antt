@@ -1,4 +1,4 @@
-use Rattle.std.proofs.Common.{◌≡◌, drop, take, length}
+use Rattle.std.proofs.Common.{◌≡◌, drop, take}
 use Rattle.class_model.specs.Frames.{words_of_type, words_of_types}
 use Rattle.type_verifier.specs.Effects.{substituted}
 use Rattle.type_verifier.proofs.types.substitute.Given as goal

@@ -4,7 +4,7 @@ use Rattle.std.specs.Option.{option_or}
 use Rattle.class_model.specs.declared.class.Class.{Class}
 use Rattle.class_pool.specs.Resolution.{first}
 use Rattle.type_verifier.specs.declared.fault.TypeFault.{TypeFault}
-use Rattle.type_verifier.specs.Verified.{faults_of}
+use Rattle.type_verifier.specs.bodies.FirstFaults.{faults_of}
 use Rattle.type_verifier.proofs.First.{first_flat, first_from, more_at, none_or, some_or}
 use Rattle.type_verifier.proofs.verify.first_fault.Goals as goal
 

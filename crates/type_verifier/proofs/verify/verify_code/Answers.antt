@@ -1,7 +1,7 @@
-use Rattle.std.proofs.Common.{Result, Ok, sym, subst, ◌∙◌}
+use Rattle.std.proofs.Common.{Result, subst}
 use Rattle.jv_base.specs.Outcome.{IsDue}
 use Rattle.type_verifier.specs.declared.fault.TypeFault.{TypeFault}
-use Rattle.type_verifier.proofs.SetLaw.{code_is, code_judged, code_typed}
+use Rattle.type_verifier.proofs.WithCode.{code_judged, typed_code}
 use Rattle.type_verifier.proofs.verify.verify_code.Goals as goal
 
 pub returns-clause-judged : goal.returns-clause-judged
@@ -12,6 +12,6 @@ returns-clause-judged c =
 pub returns-clause-typed : goal.returns-clause-typed
 returns-clause-typed c = λ t.
     subst (λ (d : Result (Unit {0}) TypeFault). IsDue c.check_one.result d)
-    (sym (code_is c.args.set.now c.args.class c.args.method c.class-of.result.now c.index.result.now c.args.code.now
-    c.class-of.ensures.is c.index.ensures) ∙ code_typed c.args.set.now c.args.class c.args.method c.args.code.now t)
+    (typed_code c.args.set.now c.args.class c.args.method c.class-of.result.now c.index.result.now c.args.code.now
+    c.class-of.ensures.is c.index.ensures t)
     c.check_one.ensures

@@ -1,4 +1,4 @@
-use Rattle.std.proofs.Common.{◌≡◌, ◌≤◌, ◌<◌, ◌-◌, ℕ, Bool, List, length, get_or, Some, Err, Result, sym, ap, ◌∙◌, arith}
+use Rattle.std.proofs.Common.{◌≡◌, ◌≤◌, ◌-◌, ℕ, Bool, List, length, Some, Err, Result, sym, ap, ◌∙◌, arith}
 use Rattle.std.proofs.lemmas.Option.{get_or_from_slice_get, slice_get_within}
 use Rattle.std.proofs.lemmas.Result.{err_from_is_err_and}
 use Rattle.class_model.specs.declared.code.Ins.{Ins}
@@ -6,7 +6,8 @@ use Rattle.type_verifier.specs.declared.fault.TypeFault.{TypeFault}
 use Rattle.type_verifier.specs.declared.fault.TypeKind.TheVariants.{FallsOff}
 use Rattle.type_verifier.specs.bodies.Changes.{flow}
 use Rattle.type_verifier.specs.bodies.Seen.{seen}
-use Rattle.type_verifier.specs.Walk.{ended, fault_at, walked}
+use Rattle.type_verifier.specs.Walk.{fault_at}
+use Rattle.type_verifier.specs.bodies.Walked.{ended, walked}
 use Rattle.type_verifier.proofs.Walking.{walk_ends, walk_fails, walk_more}
 use Rattle.type_verifier.proofs.walk.walk.Goals as goal
 

@@ -1,7 +1,7 @@
 use Rattle.std.proofs.Common.{◌≡◌, drop, Some}
 use Rattle.type_verifier.specs.bodies.Changes.{flow}
 use Rattle.type_verifier.specs.bodies.Seen.{seen}
-use Rattle.type_verifier.specs.Walk.{walked}
+use Rattle.type_verifier.specs.bodies.Walked.{walked}
 use Rattle.type_verifier.proofs.walk.walk.Given as goal
 
 abbrev pub invariant-loop-at : goal.invariant-loop-at
