@@ -25,6 +25,8 @@ pub record Shape : Type 0 where
   -- the method that invokevirtual or invokeinterface runs on a receiver of a class (JVMS 6.5.invokevirtual,
   -- 6.5.invokeinterface)
   pub selected_target : (class : List ℕ) → MemberRef → Option Target
+  -- the same on an array, which is an Object, a Cloneable and a Serializable (JLS 4.10.3, 10.8)
+  pub array_target : MemberRef → Option Target
   -- a class is another one or one of its supertypes is (JLS 4.10.2)
   pub is_sub : List ℕ → List ℕ → Bool
   -- the class is one of the library, which is initialised before the program begins

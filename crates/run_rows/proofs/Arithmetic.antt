@@ -9,7 +9,8 @@ use Rattle.jv_base.specs.Walk.{walk}
 use Rattle.lib_table.specs.Library.{library}
 use Rattle.class_pool.specs.Walk.{upwards, walked}
 use Rattle.run_rows.specs.Arithmetic.{IntArithmeticRow, LongArithmeticRow, IntShiftsRow, LongShiftsRow, NopRow}
-use Rattle.run_rows.specs.Arithmetic.{I2cAndI2bRow, ArithmeticRows}
+use Rattle.run_rows.specs.Arithmetic.{I2cAndI2bRow, ArithmeticRows, IntArithmeticBelowZeroRow, IntShiftsMaskedRow}
+use Rattle.run_rows.specs.Arithmetic.{LongShiftsMaskedRow}
 
 int_arithmetic_row : IntArithmeticRow
 unfolding library upwards walked field_text base_text method_text result_text grown read_field read_method walk
@@ -41,5 +42,30 @@ unfolding library upwards walked field_text base_text method_text result_text gr
     is_class_name is_member_name is_primitive_or_void is_name_byte part_after words_of argument_words digits int_wrap
 i2c_and_i2b_row = refl
 
+int_arithmetic_below_zero_row : IntArithmeticBelowZeroRow
+unfolding library upwards walked field_text base_text method_text result_text grown read_field read_method walk
+    is_class_name is_member_name is_primitive_or_void is_name_byte part_after words_of argument_words digits int_wrap
+int_arithmetic_below_zero_row = refl
+
+int_shifts_masked_row : IntShiftsMaskedRow
+unfolding library upwards walked field_text base_text method_text result_text grown read_field read_method walk
+    is_class_name is_member_name is_primitive_or_void is_name_byte part_after words_of argument_words digits int_wrap
+int_shifts_masked_row = (refl, refl)
+
+long_shifts_masked_row : LongShiftsMaskedRow
+unfolding library upwards walked field_text base_text method_text result_text grown read_field read_method walk
+    is_class_name is_member_name is_primitive_or_void is_name_byte part_after words_of argument_words digits int_wrap
+long_shifts_masked_row = (refl, refl)
+
 pub computed : ArithmeticRows
-computed = (int_arithmetic_row, long_arithmetic_row, int_shifts_row, long_shifts_row, nop_row, i2c_and_i2b_row)
+computed = (
+  int_arithmetic_row,
+  int_arithmetic_below_zero_row,
+  long_arithmetic_row,
+  int_shifts_row,
+  int_shifts_masked_row,
+  long_shifts_row,
+  long_shifts_masked_row,
+  nop_row,
+  i2c_and_i2b_row,
+)

@@ -1,5 +1,5 @@
 -- Rows of runs: arithmetic (the project's own: what HotSpot does).
-use Rattle.std.specs.Prelude.{◌≡◌, pos, negsuc, List, [], ◌∷◌, Some, None, codes}
+use Rattle.std.specs.Prelude.{◌≡◌, ℤ, pos, negsuc, List, [], ◌∷◌, Some, None, codes}
 use Rattle.class_model.specs.declared.class.Class.{Class}
 use Rattle.class_model.specs.declared.op.ArithOp.TheVariants as arith
 use Rattle.class_model.specs.declared.op.ConvOp.TheVariants as conv
@@ -43,6 +43,13 @@ IntArithmeticRow = ended_after int_arithmetic_set (key (codes "t/T") (codes "f")
     arg.Int (pos 3) ∷ []) 55 ≡ ends (lines (codes "10" ∷ codes "4" ∷ codes "21" ∷ codes "-7" ∷ codes "3" ∷ codes "7" ∷
     codes "4" ∷ codes "-8" ∷ codes "2" ∷ codes "1" ∷ [])) (end.Returned (back.Int (pos 1)))
 
+-- of a number below zero
+abbrev pub IntArithmeticBelowZeroRow : Type 0
+IntArithmeticBelowZeroRow = ended_after int_arithmetic_set (key (codes "t/T") (codes "f") (codes "(II)I"))
+    (arg.Int (negsuc 6) ∷ arg.Int (pos 3) ∷ []) 55
+    ≡ ends (lines (codes "-4" ∷ codes "-10" ∷ codes "-21" ∷ codes "7" ∷ codes "1" ∷ codes "-5" ∷ codes "-6" ∷ codes "6"
+    ∷ codes "-2" ∷ codes "-1" ∷ [])) (end.Returned (back.Int (negsuc 0)))
+
 -- long arithmetic
 abbrev pub long_arithmetic_set : List Class
 long_arithmetic_set = plain_class 0x0021 (codes "t/T") object [] [] (plain_constructor 0x0001 object ∷ with_code 0x0008
@@ -80,6 +87,16 @@ abbrev pub IntShiftsRow : Type 0
 IntShiftsRow = ended_after int_shifts_set (key (codes "t/T") (codes "f") (codes "(II)V")) (arg.Int (pos 1) ∷ arg.Int
     (pos 31) ∷ []) 18 ≡ ends (lines (codes "-2147483648" ∷ codes "0" ∷ codes "0" ∷ [])) (end.Returned back.Nothing)
 
+-- by a distance of 1 after its low bits are taken, of a number below zero
+abbrev pub int_shifts_by_one : ℤ → Type 0
+int_shifts_by_one distance = ended_after int_shifts_set (key (codes "t/T") (codes "f") (codes "(II)V"))
+    (arg.Int (negsuc 19) ∷ arg.Int distance ∷ []) 18
+    ≡ ends (lines (codes "-40" ∷ codes "-10" ∷ codes "2147483638" ∷ [])) (end.Returned back.Nothing)
+
+-- by 33, and by -31
+abbrev pub IntShiftsMaskedRow : Type 0
+IntShiftsMaskedRow = int_shifts_by_one (pos 33) × int_shifts_by_one (negsuc 30)
+
 -- long shifts
 abbrev pub long_shifts_set : List Class
 long_shifts_set = plain_class 0x0021 (codes "t/T") object [] [] (plain_constructor 0x0001 object ∷ with_code 0x0008
@@ -94,6 +111,16 @@ abbrev pub LongShiftsRow : Type 0
 LongShiftsRow = ended_after long_shifts_set (key (codes "t/T") (codes "f") (codes "(JI)V")) (arg.Long (pos 1) ∷ arg.Int
     (pos 63) ∷ []) 18 ≡ ends (lines (codes "-9223372036854775808" ∷ codes "0" ∷ codes "0" ∷ [])) (end.Returned
     back.Nothing)
+
+-- by a distance of 1 after its low bits are taken, of a number below zero
+abbrev pub long_shifts_by_one : ℤ → Type 0
+long_shifts_by_one distance = ended_after long_shifts_set (key (codes "t/T") (codes "f") (codes "(JI)V"))
+    (arg.Long (negsuc 19) ∷ arg.Int distance ∷ []) 18
+    ≡ ends (lines (codes "-40" ∷ codes "-10" ∷ codes "9223372036854775798" ∷ [])) (end.Returned back.Nothing)
+
+-- by 65, and by -63
+abbrev pub LongShiftsMaskedRow : Type 0
+LongShiftsMaskedRow = long_shifts_by_one (pos 65) × long_shifts_by_one (negsuc 62)
 
 -- nop
 abbrev pub nop_set : List Class
@@ -116,4 +143,5 @@ I2cAndI2bRow = ended_after i2c_and_i2b_set (key (codes "t/T") (codes "f") (codes
 
 -- the rows
 abbrev pub ArithmeticRows : Type 0
-ArithmeticRows = IntArithmeticRow × LongArithmeticRow × IntShiftsRow × LongShiftsRow × NopRow × I2cAndI2bRow
+ArithmeticRows = IntArithmeticRow × IntArithmeticBelowZeroRow × LongArithmeticRow × IntShiftsRow × IntShiftsMaskedRow
+    × LongShiftsRow × LongShiftsMaskedRow × NopRow × I2cAndI2bRow

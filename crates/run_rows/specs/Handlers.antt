@@ -1,5 +1,5 @@
 -- Rows of runs: handlers (the project's own: what HotSpot does).
-use Rattle.std.specs.Prelude.{◌≡◌, pos, negsuc, List, [], ◌∷◌, Some, None, true, false, codes}
+use Rattle.std.specs.Prelude.{◌≡◌, ℕ, pos, negsuc, List, [], ◌∷◌, Some, None, true, false, codes}
 use Rattle.class_model.specs.declared.class.Class.{Class}
 use Rattle.class_model.specs.declared.op.ArithOp.TheVariants as arith
 use Rattle.class_model.specs.declared.op.Cond.TheVariants as cond
@@ -85,6 +85,23 @@ abbrev pub AthrowOfWhatWasCaughtRow : Type 0
 AthrowOfWhatWasCaughtRow = ended_after athrow_of_what_was_caught_set (key (codes "t/T") (codes "f") (codes "()I")) [] 16
     ≡ ends [] (end.Returned (back.Int (pos 1)))
 
+-- a division by zero at index 2, under a handler that returns 9
+abbrev pub divides_under : ℕ → ℕ → List Class
+divides_under from to = plain_class 0x0021 (codes "t/T") object [] [] (with_code 0x0009 (codes "f") [] (Some int)
+    (op.PushInt (pos 1) ∷ op.PushInt (pos 0) ∷ op.Arith arith.Div num.Int ∷ op.Return (Some kind.Int) ∷ op.Pop
+    ∷ op.PushInt (pos 9) ∷ op.Return (Some kind.Int) ∷ []) (handler from to 4 None ∷ []) ∷ []) ∷ []
+
+-- a handler that ends there doesn't cover it
+abbrev pub HandlerEndsThereRow : Type 0
+HandlerEndsThereRow = ended_after (divides_under 0 2) (key (codes "t/T") (codes "f") (codes "()I")) [] 7
+    ≡ ends [] (end.Threw (codes "java/lang/ArithmeticException") 1)
+
+-- one that begins there does
+abbrev pub HandlerBeginsThereRow : Type 0
+HandlerBeginsThereRow = ended_after (divides_under 2 3) (key (codes "t/T") (codes "f") (codes "()I")) [] 9
+    ≡ ends [] (end.Returned (back.Int (pos 9)))
+
 -- the rows
 abbrev pub HandlersRows : Type 0
 HandlersRows = NestedAndThrownAgainRow × HandlerCoversItselfRow × ExceptionInAHandlerRow × AthrowOfWhatWasCaughtRow
+    × HandlerEndsThereRow × HandlerBeginsThereRow
