@@ -4,7 +4,6 @@
 use Rattle.std.specs.Prelude.{ℕ, ◌+◌, Bool, true, not, ◌||◌, List, [], ◌++◌, length, map, replicate, Option, Some}
 use Rattle.std.specs.Prelude.{None, Result, Ok, Err, if◌then◌else◌}
 use Rattle.std.specs.List.{enumerate_from, filter_map, flat_map}
-use Rattle.std.specs.Option.{option_and_then}
 use Rattle.mark_core.specs.declared.system.System.{System}
 use Rattle.class_model.specs.Flags.{is_clinit, is_static}
 use Rattle.class_model.specs.declared.class.Class.{Class}

@@ -24,11 +24,10 @@ use Rattle.class_write.specs.ClassValues.{IsInsValue, IsCodeValue, IsFieldValue,
 use Rattle.class_write.specs.SpellingLaws.{IsWritable}
 use Rattle.class_write.proofs.SpelledWanted.{units_are}
 use Rattle.jv_base.specs.Mutf8.{IsUnits}
-use Rattle.jv_base.specs.Utf16.{units_of}
 use Rattle.class_pool.specs.Items.{class_item}
 use Rattle.member_shrink.specs.Shrunk.{is_marked, chosen, with_marked_members}
-use Rattle.attribute_filter.specs.Filtered.{code_kept, field_filtered, filtered, method_filtered, source_kept}
-use Rattle.attribute_filter.specs.Filtered.{source_named, throws_kept, without_line, without_lines}
+use Rattle.attribute_filter.specs.Filtered.{field_filtered, method_filtered}
+use Rattle.attribute_filter.specs.Filtered.{source_named, without_line, without_lines}
 use Rattle.attribute_filter.specs.declared.filter.AttributeFilter.{AttributeFilter}
 use Rattle.set_shrink.specs.Writable.{FilteredIsWritable, ShrunkAreWritable}
 use Rattle.member_shrink.proofs.Picked.{all_mapped, some_mapped, all_picked, pairs_mapped, pairs_picked}

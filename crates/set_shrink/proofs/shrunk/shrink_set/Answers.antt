@@ -1,4 +1,4 @@
-use Rattle.std.proofs.Common.{◌≡◌, List, ap, sym, subst, ◌∙◌, arith, map}
+use Rattle.std.proofs.Common.{List, ap, sym, subst, ◌∙◌, arith, map}
 use Rattle.std.specs.List.{AllByRecursion}
 use Rattle.attribute_filter.specs.Filtered.{filtered}
 use Rattle.class_model.specs.declared.class.Class.{Class}
