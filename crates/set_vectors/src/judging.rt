@@ -1,13 +1,12 @@
 // What is said of a set of class files.
-ghost use Rattle.std.specs.Prelude.{◌≡◌, ◌<◌, IfOk, IsTrue, Ok};
-ghost use Rattle.class_pool.specs.Count.{item_count};
-ghost use Rattle.class_pool.specs.Faults.{Ascends, classes_of};
+ghost use Rattle.std.specs.Prelude.{◌≡◌, IfOk, Ok};
 ghost use Rattle.link_check.specs.Profile.{links_checked};
 ghost use Rattle.set_vectors.specs.Judgement.{IsJudged, IsJudgedSet};
 
 use class_model::Class;
 use class_pool::{ClassSet, NamedClass, PoolFault, build};
 use jv_base::{Items, M, Or, OutOfMemory, Text};
+use line_sets::are_listed;
 use link_check::{ProfileFault, check_links};
 use report_text::{class_text, member_text, name_text};
 use std::alloc::Global;
@@ -38,7 +37,7 @@ pub struct Place {
 pub fn judge(alloc: Global, files: Items<NamedClass>) -> M<Judgement>
     ensures { IfOk result (IsJudged files) }
 {
-    if !ascends(files.as_slice()) || !are_few(files.as_slice()) {
+    if !are_listed(files.as_slice()) {
         return Ok(Judgement::NotListed);
     }
     let set = match build(alloc, files) {
@@ -115,34 +114,6 @@ fn text_of_member(alloc: Global, class: &Class, member: Option<u32>) -> M<Text> 
     } else {
         Ok(Text::from_str(alloc, "?")?)
     }
-}
-
-// ---- lists of files
-
-fn ascends(files: &[NamedClass]) -> bool
-    ensures { IsTrue result → Ascends files.now }
-{
-    for number in 1..files.len() {
-        if files[number - 1].path >= files[number].path {
-            return false;
-        }
-    }
-    true
-}
-
-fn are_few(files: &[NamedClass]) -> bool
-    ensures { IsTrue result → item_count (classes_of files.now) < 4294967295 }
-{
-    let mut count = 0usize;
-    for file in files {
-        let class = &file.class;
-        let members = class.fields.len().saturating_add(class.methods.len());
-        count = count.saturating_add(1).saturating_add(members);
-        if count >= 4_294_967_295 {
-            return false;
-        }
-    }
-    true
 }
 
 // ---- texts

@@ -1,8 +1,8 @@
 // Lines that are class files in hex.
-use crate::files::files_of;
 use crate::judging::{judge, judgement_text};
 use jv_base::{M, Text};
 use line_answers::Answers;
+use line_sets::files_of;
 use std::alloc::Global;
 
 /// Says of class files in hex whether they are taken as a set.

@@ -6,7 +6,6 @@
 //! the member, and `-` for the class itself; of a code that isn't typed the kind is `Type KIND INDEX`.
 #![tactic(auto)]
 
-mod files;
 mod judging;
 mod lines;
 

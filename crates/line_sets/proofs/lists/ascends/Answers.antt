@@ -1,6 +1,6 @@
 use Rattle.std.proofs.Common.{◌∙◌, sym}
 use Rattle.class_pool.proofs.Ascending.{ascends_more, next_less}
-use Rattle.set_vectors.proofs.judging.ascends.Goals as goal
+use Rattle.line_sets.proofs.lists.ascends.Goals as goal
 
 pub loop-number-preserved : goal.loop-number-preserved
 loop-number-preserved c =

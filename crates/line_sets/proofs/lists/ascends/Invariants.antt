@@ -3,7 +3,7 @@ use Rattle.std.specs.Prelude.{slice_index_or}
 use Rattle.std.specs.Cmp.Lexicographic.{slice_cmp}
 use Rattle.std.specs.Ordering.{nat_cmp, is_lt}
 use Rattle.class_pool.specs.declared.fault.NamedClass.{NamedClass}
-use Rattle.set_vectors.proofs.judging.ascends.Given as goal
+use Rattle.line_sets.proofs.lists.ascends.Given as goal
 
 abbrev pub invariant-loop-number : goal.invariant-loop-number
 invariant-loop-number l =
