@@ -86,6 +86,12 @@ map_reversed f [] = refl
 map_reversed {X} {Y} f (x ∷ xs) = ap (map f) (reverse_cons x xs) ∙ append_map f (reverse xs) (x ∷ [])
     ∙ ap (λ (r : List Y). r ++ f x ∷ []) (map_reversed f xs) ∙ sym (reverse_cons (f x) (map f xs))
 
+-- two tests that are passed
+pub both : (a b : Bool) → (a && b) ≡ true → (a ≡ true) × (b ≡ true)
+both true true h = (refl, refl)
+both true false h = absurd cc
+both false b h = absurd cc
+
 -- ---- pairs
 
 -- a pair that differs
@@ -109,11 +115,12 @@ pub changed_more : {X : Type 0} (h : X → X) (old now : List X) (i : ℕ) (x y 
 changed_more {X} h old now i x y lt same is e front rest =
     let lto : i < length old = omega (arith, lt, same) in
     let both = heads x (get_or old i x) (drop (i + 1) now) (drop (i + 1) old)
-        (sym (rest_is now i x lt is) ∙ rest ∙ rest_is old i (get_or old i x) lto (get_or_default old i x (get_or old i x) lto)) in
-    (take_more_set now i y lt ∙ ap (λ (r : List X). r ++ y ∷ []) front
-    ∙ ap (λ (z : X). map h (take i old) ++ z ∷ []) (e ∙ ap h both.0)
-    ∙ sym (append_map h (take i old) (get_or old i x ∷ [])) ∙ ap (map h) (sym (take_more old i x lto)),
-    drop-set-lt (i + 1) now i y (omega arith) ∙ both.1)
+    (sym (rest_is now i x lt is) ∙ rest ∙ rest_is old i (get_or old i x) lto (get_or_default old i x (get_or old i x) lto)) in (
+      take_more_set now i y lt ∙ ap (λ (r : List X). r ++ y ∷ []) front
+          ∙ ap (λ (z : X). map h (take i old) ++ z ∷ []) (e ∙ ap h both.0)
+          ∙ sym (append_map h (take i old) (get_or old i x ∷ [])) ∙ ap (map h) (sym (take_more old i x lto)),
+      drop-set-lt (i + 1) now i y (omega arith) ∙ both.1,
+    )
 
 -- the sum stays where an element is changed for one of the same size
 pub set_sum : {X : Type 0} (f : X → ℕ) (xs : List X) (i : ℕ) (x y : X) → i < length xs → x ≡ get_or xs i x → f y ≡ f x

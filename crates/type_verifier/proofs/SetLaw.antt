@@ -133,10 +133,10 @@ no_answer (Some f) h = absurd cc
 pub set_typed : (classes : List Class) → set_verified classes ≡ Ok tt → AreTyped classes
 set_typed classes h own c there number m is =
     let none = sym (first_flat (λ (p : ℕ × Class). faults_of classes p.0 p.1) (enumerate_from 0 classes))
-        ∙ no_answer (first (flat_map (λ p. faults_of classes p.0 p.1) (enumerate_from 0 classes))) h in
+    ∙ no_answer (first (flat_map (λ p. faults_of classes p.0 p.1) (enumerate_from 0 classes))) h in
     let of_class = none_in (λ (p : ℕ × Class). first (faults_of classes p.0 p.1)) 0 classes none own own c (omega arith) there in
     let of_method = none_in (λ (p : ℕ × Method). fault_of (method_checked classes own c p.0 p.1)) 0 c.methods of_class
-        number number m (omega arith) is in
+    number number m (omega arith) is in
     method_typed classes own number c m (no_fault (method_checked classes own c number m) of_method)
 
 -- a set of typed methods is taken
@@ -166,18 +166,21 @@ pub first_place : (classes : List Class) (f : TypeFault)
     → first (flat_map (λ p. faults_of classes p.0 p.1) (enumerate_from 0 classes)) ≡ Some f → IsPlace classes f
 first_place classes f h =
     let of_class = from_list (λ (p : ℕ × Class). first (faults_of classes p.0 p.1)) 0 classes f
-        (sym (first_flat (λ (p : ℕ × Class). faults_of classes p.0 p.1) (enumerate_from 0 classes)) ∙ h) in
+    (sym (first_flat (λ (p : ℕ × Class). faults_of classes p.0 p.1) (enumerate_from 0 classes)) ∙ h) in
     let own : ℕ = of_class.number in
     let c : Class = of_class.element in
     let of_method = from_list (λ (p : ℕ × Method). fault_of (method_checked classes own c p.0 p.1)) 0 c.methods f of_class.gives in
     let number : ℕ = of_method.number in
     let m : Method = of_method.element in
     let places = place_of_code classes own number c m f m.code
-        (is_fault (method_checked classes own c number m) f of_method.gives) in
+    (is_fault (method_checked classes own c number m) f of_method.gives) in
     let at_class : of_class.at ≡ f.class = omega (arith, of_class.counted, places.0) in
-    let at_method : of_method.at ≡ f.method = omega (arith, of_method.counted, places.1) in
-    (c, subst (λ (x : ℕ). slice_get classes x ≡ Some c) at_class of_class.stands,
-    m, subst (λ (x : ℕ). slice_get c.methods x ≡ Some m) at_method of_method.stands)
+    let at_method : of_method.at ≡ f.method = omega (arith, of_method.counted, places.1) in (
+      c,
+      subst (λ (x : ℕ). slice_get classes x ≡ Some c) at_class of_class.stands,
+      m,
+      subst (λ (x : ℕ). slice_get c.methods x ≡ Some m) at_method of_method.stands,
+    )
 
 fault_given : (o : Option TypeFault) (f : TypeFault) → answer_of o ≡ Err f → o ≡ Some f
 fault_given None f h = absurd cc

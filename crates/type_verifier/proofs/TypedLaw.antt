@@ -25,7 +25,7 @@ abbrev Flow : Type 0
 Flow = Result (Option TypeFrame) TypeKind
 
 -- a step that goes on has a first part that does
-bound : {A B : Type 0} (r : Result A TypeKind) (f : A → Result B TypeKind) (y : B) → (r >>= f) ≡ Ok y
+pub bound : {A B : Type 0} (r : Result A TypeKind) (f : A → Result B TypeKind) (y : B) → (r >>= f) ≡ Ok y
     → (x : A) × (r ≡ Ok x) × (f x ≡ Ok y)
 bound (Ok x) f y h = (x, refl, h)
 bound (Err e) f y h = absurd cc
@@ -60,19 +60,18 @@ module _ (env : Environment) where
   went_on at (Err e) k h = absurd cc
 
   -- what holds where an instruction is passed
-  Passed : ℕ → Op → Option TypeFrame → Option TypeFrame → Type 0
+  abbrev pub Passed : ℕ → Op → Option TypeFrame → Option TypeFrame → Type 0
   Passed at op flow next = (f : TypeFrame) × Stands env at flow (declared_at env at) f
       × (after : TypeFrame) × (stepped env at op f ≡ Ok after) × IsTrue (fits_targets env op after)
       × IsTrue (satisfies_handlers env at f) × (flow_after op after ≡ next)
 
-  was_passed : (at : ℕ) (op : Op) (flow next : Option TypeFrame) → at_instruction env at op flow ≡ Ok next
+  pub was_passed : (at : ℕ) (op : Op) (flow next : Option TypeFrame) → at_instruction env at op flow ≡ Ok next
       → Passed at op flow next
-  unfolding Passed
   was_passed at op flow next h =
       let a = bound (arrived env at flow (declared_at env at)) (passed env at op) next h in
       let s = bound (stepped env at op a.0) (flowed env at op a.0) next a.2 in
       let t = passes (fits_targets env op s.0) Mismatch
-          (cond (not (satisfies_handlers env at a.0)) (Err Handler) (Ok (flow_after op s.0))) next s.2 in
+      (cond (not (satisfies_handlers env at a.0)) (Err Handler) (Ok (flow_after op s.0))) next s.2 in
       let u = passes (satisfies_handlers env at a.0) Handler (Ok (flow_after op s.0)) next t.1 in
       (a.0, stands at flow (declared_at env at) a.0 a.1, s.0, s.1, t.0, u.0, same_flow (flow_after op s.0) next u.1)
     where
@@ -83,10 +82,17 @@ module _ (env : Environment) where
   one_more : (at : ℕ) (i : Ins) (ins : List Ins) (flow next behind : Option TypeFrame) (fs : List TypeFrame)
       → Passed at i.op flow next → AreTyped env (at + 1) next ins fs behind
       → (gs : List TypeFrame) × AreTyped env at flow (i ∷ ins) gs behind
-  unfolding Passed
-  one_more at i ins flow next behind fs p rest =
-      (p.0 ∷ fs, (p.1, p.2, p.3, p.4, p.5,
-      subst (λ (x : Option TypeFrame). AreTyped env (at + 1) x ins fs behind) (sym p.6) rest))
+  one_more at i ins flow next behind fs p rest = (
+    p.0 ∷ fs,
+    (
+      p.1,
+      p.2,
+      p.3,
+      p.4,
+      p.5,
+      subst (λ (x : Option TypeFrame). AreTyped env (at + 1) x ins fs behind) (sym p.6) rest,
+    ),
+  )
 
   pub found : (at : ℕ) (flow : Option TypeFrame) (ins : List Ins) → walked env at flow ins ≡ Ok tt
       → (fs : List TypeFrame) × AreTyped env at flow ins fs None
@@ -165,9 +171,19 @@ module _ (env : Environment) where
       let n : at + 1 + w.0 ≡ at + suc w.0 = omega arith in
       let v = w.3 in
       let more = one_more at i (take w.0 ins) flow next v.2 v.3 p v.4 in
-      inl (suc w.0, w.1, w.2 ∙ ap (λ (m : ℕ). fault_at env m w.1) n,
-      (v.0, v.1, v.2, more.0, more.1,
-      ap (λ (m : ℕ). at_instruction env m (v.0).op v.2) (sym n) ∙ v.5))
+      inl (
+        suc w.0,
+        w.1,
+        w.2 ∙ ap (λ (m : ℕ). fault_at env m w.1) n,
+        (
+          v.0,
+          v.1,
+          v.2,
+          more.0,
+          more.1,
+          ap (λ (m : ℕ). at_instruction env m (v.0).op v.2) (sym n) ∙ v.5,
+        ),
+      )
   faulty_on at i ins flow next fault p (inr w) =
       let n : at + 1 + length ins - 1 ≡ at + length (i ∷ ins) - 1 = omega arith in
       let more = one_more at i ins flow next (Some w.0) w.1 p w.3 in
@@ -183,8 +199,12 @@ module _ (env : Environment) where
       faulty_on at i ins flow next fault (was_passed at i.op flow next e) (others next h)
   at_first at i ins flow fault (Err kind) e h others =
       let n : at ≡ at + 0 = omega arith in
-      inl (0, kind, sym (same_fault (fault_at env at kind) fault h) ∙ ap (λ (m : ℕ). fault_at env m kind) n,
-      (i, refl, flow, [], refl, ap (λ (m : ℕ). at_instruction env m i.op flow) (sym n) ∙ e))
+      inl (
+        0,
+        kind,
+        sym (same_fault (fault_at env at kind) fault h) ∙ ap (λ (m : ℕ). fault_at env m kind) n,
+        (i, refl, flow, [], refl, ap (λ (m : ℕ). at_instruction env m i.op flow) (sym n) ∙ e),
+      )
 
   faulty : (at : ℕ) (flow : Option TypeFrame) (ins : List Ins) (fault : TypeFault) → walked env at flow ins ≡ Err fault
       → Faulty at flow ins fault
@@ -207,9 +227,21 @@ module _ (env : Environment) where
   first_of fault (inr w) =
       let z : 0 + length env.code.ins - 1 ≡ length env.code.ins - 1 = omega arith in
       let e : fault ≡ fault_at env (length env.code.ins - 1) FallsOff = w.2 ∙ ap (λ (m : ℕ). fault_at env m FallsOff) z in
-      subst (λ (f : TypeFault). IsFirstFault env f) (sym e)
-      (refl, inr (refl, (refl, w.0, (w.1, subst (λ (ins : List Ins). AreTyped env 0 (Some (initial_frame env)) ins w.1 (Some w.0))
-      (sym (take_all (length env.code.ins) env.code.ins (omega arith))) w.3))))
+      subst (λ (f : TypeFault). IsFirstFault env f) (sym e) (
+        refl,
+        inr (
+          refl,
+          (
+            refl,
+            w.0,
+            (
+              w.1,
+              subst (λ (ins : List Ins). AreTyped env 0 (Some (initial_frame env)) ins w.1 (Some w.0))
+                  (sym (take_all (length env.code.ins) env.code.ins (omega arith))) w.3,
+            ),
+          ),
+        ),
+      )
 
   -- ---- the laws
 

@@ -1,9 +1,14 @@
 -- Definitions that the proofs of bodies alone need.
 pub mod Changes
+pub mod Declared
 pub mod Halves
 pub mod Known
+pub mod Lifting
+pub mod Longs
 pub mod Marking
 pub mod Marks
 pub mod Places
 pub mod Pops
+pub mod Same
 pub mod Seen
+pub mod Since

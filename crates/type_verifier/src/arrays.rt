@@ -95,7 +95,12 @@ pub(crate) fn load_element(env: &Env, frame: &mut TypeFrame, elem: Elem) -> Resu
     }
 }
 
-fn load_number(env: &Env, frame: &mut TypeFrame, elem: Elem, given: VType) -> Result<(), Or<TypeKind>>
+fn load_number(
+    env: &Env,
+    frame: &mut TypeFrame,
+    elem: Elem,
+    given: VType,
+) -> Result<(), Or<TypeKind>>
     ensures { AfterOr result frame.new (ruled (seen env.now) 0 (Takes (Assignable vtype.Int ∷ array_wanted elem ∷ []) (Some given)) frame.old) }
 {
     check_room(env.code, frame, 2, words_of(&given))?;
@@ -127,7 +132,11 @@ fn read_element(env: &Env, frame: &mut TypeFrame) -> Result<(), Or<TypeKind>>
 }
 
 /// iastore and those like it.
-pub(crate) fn store_element(env: &Env, frame: &mut TypeFrame, elem: Elem) -> Result<(), Or<TypeKind>>
+pub(crate) fn store_element(
+    env: &Env,
+    frame: &mut TypeFrame,
+    elem: Elem,
+) -> Result<(), Or<TypeKind>>
     ensures { AfterOr result frame.new (ruled (seen env.now) 0 (array_store elem) frame.old) }
 {
     check_room(env.code, frame, words_of_element(elem) + 2, 0)?;
@@ -140,7 +149,11 @@ pub(crate) fn store_element(env: &Env, frame: &mut TypeFrame, elem: Elem) -> Res
 // ---- whole arrays
 
 /// newarray: an array of numbers.
-pub(crate) fn make_numbers(env: &Env, frame: &mut TypeFrame, base: &Base) -> Result<(), Or<TypeKind>>
+pub(crate) fn make_numbers(
+    env: &Env,
+    frame: &mut TypeFrame,
+    base: &Base,
+) -> Result<(), Or<TypeKind>>
     ensures { AfterOr result frame.new (ruled (seen env.now) 0 (Takes (Assignable vtype.Int ∷ []) (Some (array_of_base base.now))) frame.old) }
 {
     let array = VType::Object(FieldType {
@@ -151,7 +164,11 @@ pub(crate) fn make_numbers(env: &Env, frame: &mut TypeFrame, base: &Base) -> Res
 }
 
 /// anewarray: an array of these.
-pub(crate) fn make_array(env: &Env, frame: &mut TypeFrame, ty: &FieldType) -> Result<(), Or<TypeKind>>
+pub(crate) fn make_array(
+    env: &Env,
+    frame: &mut TypeFrame,
+    ty: &FieldType,
+) -> Result<(), Or<TypeKind>>
     ensures { AfterOr result frame.new (ruled (seen env.now) 0 (Takes (Assignable vtype.Int ∷ []) (Some (array_of ty.now))) frame.old) }
 {
     let array = array_of(ty)?;

@@ -31,7 +31,12 @@ use std::alloc::Global;
 // ---- instructions
 
 /// invokestatic.
-pub(crate) fn call_static(alloc: Global, env: &Env, frame: &mut TypeFrame, r: &MemberRef) -> Result<(), Or<TypeKind>>
+pub(crate) fn call_static(
+    alloc: Global,
+    env: &Env,
+    frame: &mut TypeFrame,
+    r: &MemberRef,
+) -> Result<(), Or<TypeKind>>
     ensures { AfterOr result frame.new (if_ruled (seen env.now) 0 (option_map static_call (method_type r.now)) frame.old) }
 {
     match method_type(alloc, r)? {
@@ -52,7 +57,12 @@ fn call_typed_static(env: &Env, frame: &mut TypeFrame, ty: &MethodType) -> Resul
 }
 
 /// invokevirtual and invokeinterface.
-pub(crate) fn call_on_object(alloc: Global, env: &Env, frame: &mut TypeFrame, r: &MemberRef) -> Result<(), Or<TypeKind>>
+pub(crate) fn call_on_object(
+    alloc: Global,
+    env: &Env,
+    frame: &mut TypeFrame,
+    r: &MemberRef,
+) -> Result<(), Or<TypeKind>>
     requires there { env.now.own < length env.now.set.now }
     ensures { AfterOr result frame.new (if_ruled (seen env.now) 0 (option_map (object_call (seen env.now) r.now) (method_type r.now)) frame.old) }
 {
@@ -62,7 +72,12 @@ pub(crate) fn call_on_object(alloc: Global, env: &Env, frame: &mut TypeFrame, r:
     }
 }
 
-fn call_typed(env: &Env, frame: &mut TypeFrame, r: &MemberRef, ty: &MethodType) -> Result<(), Or<TypeKind>>
+fn call_typed(
+    env: &Env,
+    frame: &mut TypeFrame,
+    r: &MemberRef,
+    ty: &MethodType,
+) -> Result<(), Or<TypeKind>>
     requires there { env.now.own < length env.now.set.now }
     ensures { AfterOr result frame.new (ruled (seen env.now) 0 (object_call (seen env.now) r.now ty.now) frame.old) }
 {
@@ -76,7 +91,12 @@ fn call_typed(env: &Env, frame: &mut TypeFrame, r: &MemberRef, ty: &MethodType) 
 }
 
 /// invokespecial.
-pub(crate) fn call_special(alloc: Global, env: &Env, frame: &mut TypeFrame, r: &MemberRef) -> Result<(), Or<TypeKind>>
+pub(crate) fn call_special(
+    alloc: Global,
+    env: &Env,
+    frame: &mut TypeFrame,
+    r: &MemberRef,
+) -> Result<(), Or<TypeKind>>
     requires there { env.now.own < length env.now.set.now }
     ensures { AfterOr result frame.new (if_ruled (seen env.now) 0 (option_map (special_call (seen env.now) r.now) (method_type r.now)) frame.old) }
 {
@@ -86,7 +106,12 @@ pub(crate) fn call_special(alloc: Global, env: &Env, frame: &mut TypeFrame, r: &
     }
 }
 
-fn call_typed_special(env: &Env, frame: &mut TypeFrame, r: &MemberRef, ty: &MethodType) -> Result<(), Or<TypeKind>>
+fn call_typed_special(
+    env: &Env,
+    frame: &mut TypeFrame,
+    r: &MemberRef,
+    ty: &MethodType,
+) -> Result<(), Or<TypeKind>>
     requires there { env.now.own < length env.now.set.now }
     ensures { AfterOr result frame.new (ruled (seen env.now) 0 (special_call (seen env.now) r.now ty.now) frame.old) }
 {
@@ -97,7 +122,12 @@ fn call_typed_special(env: &Env, frame: &mut TypeFrame, r: &MemberRef, ty: &Meth
     }
 }
 
-fn call_constructor(env: &Env, frame: &mut TypeFrame, r: &MemberRef, ty: &MethodType) -> Result<(), Or<TypeKind>>
+fn call_constructor(
+    env: &Env,
+    frame: &mut TypeFrame,
+    r: &MemberRef,
+    ty: &MethodType,
+) -> Result<(), Or<TypeKind>>
     requires there { env.now.own < length env.now.set.now }
     ensures { AfterOr result frame.new (ruled (seen env.now) 0 (Initialises (arguments ty.now) r.now.class (is_guarded_method (seen env.now) r.now)) frame.old) }
 {
@@ -130,7 +160,11 @@ fn take_own(env: &Env, frame: &mut TypeFrame) -> Result<(), Or<TypeKind>>
 // ---- arguments
 
 /// Takes the arguments of these types, the last first.
-fn take_arguments(set: &ClassSet, frame: &mut TypeFrame, types: &[FieldType]) -> Result<(), TypeKind>
+fn take_arguments(
+    set: &ClassSet,
+    frame: &mut TypeFrame,
+    types: &[FieldType],
+) -> Result<(), TypeKind>
     ensures { After result frame.new (all_popped set.now (wanted_arguments types.now) frame.old) }
 {
     let mut left = types.len();

@@ -20,7 +20,12 @@ use jv_base::Or;
 use std::alloc::Global;
 
 /// getstatic.
-pub(crate) fn read_static(alloc: Global, env: &Env, frame: &mut TypeFrame, r: &MemberRef) -> Result<(), Or<TypeKind>>
+pub(crate) fn read_static(
+    alloc: Global,
+    env: &Env,
+    frame: &mut TypeFrame,
+    r: &MemberRef,
+) -> Result<(), Or<TypeKind>>
     ensures { AfterOr result frame.new (if_ruled (seen env.now) 0 (option_map static_read (field_type r.now)) frame.old) }
 {
     match field_type(alloc, r)? {
@@ -30,7 +35,12 @@ pub(crate) fn read_static(alloc: Global, env: &Env, frame: &mut TypeFrame, r: &M
 }
 
 /// putstatic.
-pub(crate) fn write_static(alloc: Global, env: &Env, frame: &mut TypeFrame, r: &MemberRef) -> Result<(), Or<TypeKind>>
+pub(crate) fn write_static(
+    alloc: Global,
+    env: &Env,
+    frame: &mut TypeFrame,
+    r: &MemberRef,
+) -> Result<(), Or<TypeKind>>
     ensures { AfterOr result frame.new (if_ruled (seen env.now) 0 (option_map static_write (field_type r.now)) frame.old) }
 {
     match field_type(alloc, r)? {
@@ -40,7 +50,12 @@ pub(crate) fn write_static(alloc: Global, env: &Env, frame: &mut TypeFrame, r: &
 }
 
 /// getfield.
-pub(crate) fn read_field(alloc: Global, env: &Env, frame: &mut TypeFrame, r: &MemberRef) -> Result<(), Or<TypeKind>>
+pub(crate) fn read_field(
+    alloc: Global,
+    env: &Env,
+    frame: &mut TypeFrame,
+    r: &MemberRef,
+) -> Result<(), Or<TypeKind>>
     requires there { env.now.own < length env.now.set.now }
     ensures { AfterOr result frame.new (if_ruled (seen env.now) 0 (option_map (field_read (seen env.now) r.now) (field_type r.now)) frame.old) }
 {
@@ -50,7 +65,12 @@ pub(crate) fn read_field(alloc: Global, env: &Env, frame: &mut TypeFrame, r: &Me
     }
 }
 
-fn read_typed(env: &Env, frame: &mut TypeFrame, r: &MemberRef, ty: VType) -> Result<(), Or<TypeKind>>
+fn read_typed(
+    env: &Env,
+    frame: &mut TypeFrame,
+    r: &MemberRef,
+    ty: VType,
+) -> Result<(), Or<TypeKind>>
     requires there { env.now.own < length env.now.set.now }
     ensures { AfterOr result frame.new (ruled (seen env.now) 0 (field_read (seen env.now) r.now ty) frame.old) }
 {
@@ -61,7 +81,12 @@ fn read_typed(env: &Env, frame: &mut TypeFrame, r: &MemberRef, ty: VType) -> Res
 }
 
 /// putfield.
-pub(crate) fn write_field(alloc: Global, env: &Env, frame: &mut TypeFrame, r: &MemberRef) -> Result<(), Or<TypeKind>>
+pub(crate) fn write_field(
+    alloc: Global,
+    env: &Env,
+    frame: &mut TypeFrame,
+    r: &MemberRef,
+) -> Result<(), Or<TypeKind>>
     requires there { env.now.own < length env.now.set.now }
     ensures { AfterOr result frame.new (if_ruled (seen env.now) 0 (option_map (field_write (seen env.now) r.now) (field_type r.now)) frame.old) }
 {
@@ -71,11 +96,22 @@ pub(crate) fn write_field(alloc: Global, env: &Env, frame: &mut TypeFrame, r: &M
     }
 }
 
-fn write_typed(env: &Env, frame: &mut TypeFrame, r: &MemberRef, ty: &VType) -> Result<(), Or<TypeKind>>
+fn write_typed(
+    env: &Env,
+    frame: &mut TypeFrame,
+    r: &MemberRef,
+    ty: &VType,
+) -> Result<(), Or<TypeKind>>
     requires there { env.now.own < length env.now.set.now }
     ensures { AfterOr result frame.new (ruled (seen env.now) 0 (field_write (seen env.now) r.now ty.now) frame.old) }
 {
     check_room(env.code, frame, words_of(ty) + 1, 0)?;
     take(env.set, frame, ty)?;
-    use_object(env, frame, &r.class, is_early_field(env, r), is_guarded_field(env, r))
+    use_object(
+        env,
+        frame,
+        &r.class,
+        is_early_field(env, r),
+        is_guarded_field(env, r),
+    )
 }

@@ -110,7 +110,12 @@ pub(crate) fn compute(
 ) -> Result<(), Or<TypeKind>>
     ensures { AfterOr result frame.new (ruled (seen env.now) 0 (Takes (map wanted_number nums.now) given) frame.old) }
 {
-    check_room(env.code, frame, words_of_numbers(nums)?, words_given(&given))?;
+    check_room(
+        env.code,
+        frame,
+        words_of_numbers(nums)?,
+        words_given(&given),
+    )?;
     take_numbers(env.set, frame, nums)?;
     give(frame, given)?;
     Ok(())

@@ -28,14 +28,24 @@ fn is_moved(set: &ClassSet, kind: Kind, ty: &VType) -> bool
 }
 
 /// Puts the value of a local onto the stack.
-pub(crate) fn load(env: &Env, frame: &mut TypeFrame, kind: Kind, slot: u16) -> Result<(), Or<TypeKind>>
+pub(crate) fn load(
+    env: &Env,
+    frame: &mut TypeFrame,
+    kind: Kind,
+    slot: u16,
+) -> Result<(), Or<TypeKind>>
     ensures { AfterOr result frame.new (ruled (seen env.now) 0 (Loads kind slot) frame.old) }
 {
     check_room(env.code, frame, 0, words_of_kind(kind))?;
     load_local(env.set, frame, kind, usize::from(slot))
 }
 
-fn load_local(set: &ClassSet, frame: &mut TypeFrame, kind: Kind, slot: usize) -> Result<(), Or<TypeKind>>
+fn load_local(
+    set: &ClassSet,
+    frame: &mut TypeFrame,
+    kind: Kind,
+    slot: usize,
+) -> Result<(), Or<TypeKind>>
     ensures { AfterOr result frame.new (loaded set.now kind slot frame.old) }
 {
     let ty = match frame.locals.get(slot) {
@@ -47,7 +57,12 @@ fn load_local(set: &ClassSet, frame: &mut TypeFrame, kind: Kind, slot: usize) ->
 }
 
 /// Takes a value from the stack into a local.
-pub(crate) fn store(env: &Env, frame: &mut TypeFrame, kind: Kind, slot: u16) -> Result<(), Or<TypeKind>>
+pub(crate) fn store(
+    env: &Env,
+    frame: &mut TypeFrame,
+    kind: Kind,
+    slot: u16,
+) -> Result<(), Or<TypeKind>>
     ensures { AfterOr result frame.new (ruled (seen env.now) 0 (Stores kind slot) frame.old) }
 {
     check_room(env.code, frame, words_of_kind(kind), 0)?;
@@ -55,7 +70,12 @@ pub(crate) fn store(env: &Env, frame: &mut TypeFrame, kind: Kind, slot: u16) -> 
     Ok(())
 }
 
-fn store_local(set: &ClassSet, frame: &mut TypeFrame, kind: Kind, slot: usize) -> Result<(), TypeKind>
+fn store_local(
+    set: &ClassSet,
+    frame: &mut TypeFrame,
+    kind: Kind,
+    slot: usize,
+) -> Result<(), TypeKind>
     requires { slot ≤ 65535 }
     ensures { After result frame.new (stored set.now kind slot frame.old) }
 {

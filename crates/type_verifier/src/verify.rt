@@ -35,7 +35,16 @@ pub fn verify_code(
 {
     let known = Known::new(alloc)?;
     let of = set.class(class);
-    check_one(alloc, set, class, of, method, &of.methods[method as usize], code, &known)
+    check_one(
+        alloc,
+        set,
+        class,
+        of,
+        method,
+        &of.methods[method as usize],
+        code,
+        &known,
+    )
 }
 
 /// Checks the code of a method, by the numbers of the class and of the method there; one without a code is taken. The
@@ -52,7 +61,15 @@ pub fn verify_method(
 {
     let known = Known::new(alloc)?;
     let of = set.class(class);
-    check_method(alloc, set, class, of, method, &of.methods[method as usize], &known)
+    check_method(
+        alloc,
+        set,
+        class,
+        of,
+        method,
+        &of.methods[method as usize],
+        &known,
+    )
 }
 
 /// Checks the codes of all methods. The error is the first fault, class after class in order, method after method.

@@ -8,10 +8,11 @@ pub loop-number-preserved-then-at-count : goal.loop-number-preserved-then-at-cou
 loop-number-preserved-then-at-count c =
     let n = c.loop-number.number - 1 in
     let most = c.loop-number.invariant.0 in
-    let some = c.loop-number-test.true in
-    (omega (arith, most),
-    subst (λ (at : ℕ). AreNumbersFrom c.args.frames.now n c.args.count (set c.loop-number.numbers.items at (Some n)))
-    (sym c.index-at.ensures)
-    (numbers_more c.args.frames.now c.loop-number.number n c.args.count c.loop-number.numbers.items no_frame
-    (omega (arith, some)) (omega (arith, some, most))
-    (subst (λ (at : ℕ). at < c.args.count) c.index-at.ensures c.if-at-count.true) c.loop-number.invariant.1))
+    let some = c.loop-number-test.true in (
+      omega (arith, most),
+      subst (λ (at : ℕ). AreNumbersFrom c.args.frames.now n c.args.count (set c.loop-number.numbers.items at (Some n)))
+          (sym c.index-at.ensures)
+          (numbers_more c.args.frames.now c.loop-number.number n c.args.count c.loop-number.numbers.items no_frame
+          (omega (arith, some)) (omega (arith, some, most))
+          (subst (λ (at : ℕ). at < c.args.count) c.index-at.ensures c.if-at-count.true) c.loop-number.invariant.1),
+    )

@@ -16,8 +16,8 @@ loop-index-preserved c =
     let h : VType → VType = λ ty. if is_copy c.args.old.now ty then c.args.new.now else ty in
     let is : x ≡ get_or c.loop-index.types i x = c.index-types-index.is in
     let both = changed_more h
-        c.args.types.now c.loop-index.types i x y lt same
-        is (c.in_ok-replace.ensures.is ∙ ap h (sym is)) c.loop-index.invariant.front c.loop-index.invariant.rest in
+    c.args.types.now c.loop-index.types i x y lt same
+    is (c.in_ok-replace.ensures.is ∙ ap h (sym is)) c.loop-index.invariant.front c.loop-index.invariant.rest in
     record {
       front = both.0;
       rest = both.1;

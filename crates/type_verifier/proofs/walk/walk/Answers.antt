@@ -39,7 +39,7 @@ returns-then-flows c =
     let at = c.loop-at.at in
     let le : length ins ≤ at = omega (arith, c.loop-at-test.false, c.in-Ok.ensures, c.len.ensures) in
     let last : at - 1 ≡ c.saturating_sub.result =
-        omega (arith, c.loop-at-test.false, c.loop-at.auto.at-end, c.saturating_sub.ensures) in
+    omega (arith, c.loop-at-test.false, c.loop-at.auto.at-end, c.saturating_sub.ensures) in
     walk_ends env ins at (flow c.loop-at.flows c.loop-at.frame) (walked env 0 (Some c.args.frame.now) ins) le c.loop-at.invariant
     ∙ ap (λ (b : Bool). ended env at (flow b c.loop-at.frame)) c.if-flows.true
     ∙ ap (λ (n : ℕ). let R : Result (Unit {0}) TypeFault = Err (fault_at env n FallsOff) in R) last
