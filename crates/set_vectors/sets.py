@@ -1,6 +1,6 @@
 #!/usr/bin/env python3
 """Makes stdin and stdout of this folder: small sets of class files, each with what follows for it from the rules (JVMS 5.3, 5.4.3 to
-5.4.5, 6.5, and docs/CLASS-FILES.md). The answers are written by hand, beside the classes."""
+5.4.5, 6.5, and docs/CLASS-SETS.md). The answers are written by hand, beside the classes."""
 from assembler import *
 
 ROWS = []

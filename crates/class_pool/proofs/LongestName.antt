@@ -26,8 +26,8 @@ none_longer name longest [] all long = refl
 none_longer name longest (c ∷ cs) all long =
     let n : ℕ = length (c ∷ cs) in
     let e : position_or_len (λ (x : Class). is_text name x.name) (c ∷ cs) ≡ n =
-        position_or_len_is (λ (x : Class). is_text name x.name) (c ∷ cs) n c (omega arith)
-        (λ k lt. differs name (get_or (c ∷ cs) k c).name longest (all k c lt) long) (λ lt. absurd (omega (arith, lt))) in
+    position_or_len_is (λ (x : Class). is_text name x.name) (c ∷ cs) n c (omega arith)
+    (λ k lt. differs name (get_or (c ∷ cs) k c).name longest (all k c lt) long) (λ lt. absurd (omega (arith, lt))) in
     (λ i. cond (nat_lt (e i) n) (Some (e i)) None) ∙ ap (λ (b : Bool). cond b (Some n) None) (not_below n)
 
 -- ---- the longest of the first names

@@ -7,8 +7,8 @@ mod id;
 mod rows;
 mod set;
 
-pub use hierarchy::building::build;
 pub use fault::{NamedClass, PoolFault, PoolKind};
+pub use hierarchy::building::build;
 pub use id::{ClassId, MemberAt};
 pub use rows::computed_links;
 pub use set::ClassSet;

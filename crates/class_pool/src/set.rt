@@ -20,10 +20,10 @@ pub mod package;
 
 use crate::ClassId;
 use crate::hierarchy::graph::number;
+use crate::hierarchy::supers::supers_of;
 use crate::id::{has_class, is_same_class};
 use crate::set::lookup::ClassesByName;
 use crate::set::members::MemberIndex;
-use crate::hierarchy::supers::supers_of;
 use class_model::Class;
 use jv_base::{Items, M, Name, Text};
 use lib_table::{LibId, lib_member, lib_super};

@@ -173,9 +173,11 @@ module _ (pool : List PoolConstant) (right : AllRight pool pool) (count : length
       → AllByRecursion (MethodFits pool class) ms → AllByRecursion (λ m. HasAll pool (method_constants class m)) ms
       → AreMethods (entries_of pool) in_interface class (map (method_raw pool class) ms) ms (no_kinds ms)
   methods_are in_interface class [] named good value fits has = tt
-  methods_are in_interface class (m ∷ ms) named good value fits has =
-      (one_method in_interface class m named good.0 value.0 fits.0 has.0, methods_are in_interface class ms named
-          good.1 value.1 fits.1 has.1)
+  methods_are in_interface class (m ∷ ms) named good value fits has = (
+    one_method in_interface class m named good.0 value.0 fits.0 has.0,
+    methods_are in_interface class ms named
+        good.1 value.1 fits.1 has.1,
+  )
 
   fields_are : (in_interface : Bool) (fs : List Field) → AllByRecursion (IsGoodField in_interface) fs
       → AllByRecursion IsFieldValue fs → AllByRecursion (λ f. HasAll pool (field_constants f)) fs
@@ -224,9 +226,11 @@ fits_all : (pool : List PoolConstant) (class : List ℕ) (ms : List Method)
     → AllByRecursion (λ (m : Method). method_tables_fit class m ≡ Ok tt) ms
     → AllByRecursion (λ (m : Method). body_fits pool class m ≡ Ok tt) ms → AllByRecursion (MethodFits pool class) ms
 fits_all pool class [] words codes tables bodies = tt
-fits_all pool class (m ∷ ms) words codes tables bodies =
-    (record { words = words.0; code = codes.0; tables = tables.0; body = bodies.0 }, fits_all pool class ms words.1
-        codes.1 tables.1 bodies.1)
+fits_all pool class (m ∷ ms) words codes tables bodies = (
+  record { words = words.0; code = codes.0; tables = tables.0; body = bodies.0 },
+  fits_all pool class ms words.1
+      codes.1 tables.1 bodies.1,
+)
 
 class_is : (c : Class) → IsWritable c → limits (pool_of c) c ≡ Ok tt
     → IsClass (class_raw (pool_of c) c) c (entries_of (pool_of c))
@@ -292,9 +296,13 @@ class_is c w h =
           (all_front (Has pool) (flat_map (method_constants c.name) c.methods) sources h5));
       methods_differ = good.methods_differ;
       attributes = record {
-        count_fits = omega
-            (arith, length-append xs ys, source_few pool right count c.source, marks_few pool c.synthetic c.deprecated
-                has_marks);
+        count_fits = omega (
+          arith,
+          length-append xs ys,
+          source_few pool right count c.source,
+          marks_few pool c.synthetic c.deprecated
+              has_marks,
+        );
         each = all_both (IsAttribute entries) xs ys (source_is pool right count c.source has_source)
             (marks_are pool c.synthetic c.deprecated has_marks count);
       };

@@ -157,9 +157,14 @@ module _ (pool : List PoolConstant) (code : Code) (w : IsWritten pool code) wher
       (index_fits pool (Class name) w.count, ty, type_there pool w.right name named has.0 has.1.0, refl)
   type_stands (vtype.Uninit n) is has =
       let there = is.0.2 in
-      let lt : n < length code.ins = slice_get_within code.ins n is.0.0 there in
-      (place_low pool code w n lt, n, begins_at pool code w n lt, record
-          { at = is.0.0; there = there; name = is.0.1; new = is.0.3 }, refl)
+      let lt : n < length code.ins = slice_get_within code.ins n is.0.0 there in (
+        place_low pool code w n lt,
+        n,
+        begins_at pool code w n lt,
+        record
+            { at = is.0.0; there = there; name = is.0.1; new = is.0.3 },
+        refl,
+      )
 
   zip_is : (types : List VType) → AllByRecursion Stands types → AllZip Is (map (type_info pool all) types) types
   zip_is [] h = tt

@@ -185,9 +185,18 @@ module _ (pool : List PoolConstant) (right : AllByRecursion (IsRight pool) pool)
       ((t.0, (t.1.0, sym same ∙ t.1.1), type_text t.0 h.0.1.ty t.2 t.3), names_by ks h.1 k.1)
   names_by (Str text ∷ ks) h k = ((text, units_there pool text h.0), names_by ks h.1 k.1)
   names_by (NameAndType name descriptor ∷ ks) h k =
-      let n = h.0.2 in
-      ((n.name, n.descriptor, text_there pool n.name name n.name_is n.name_utf8 h.0.0, n.named, text_there pool
-          n.descriptor descriptor n.descriptor_is n.descriptor_utf8 h.0.1, n.described), names_by ks h.1 k.1)
+      let n = h.0.2 in (
+        (
+          n.name,
+          n.descriptor,
+          text_there pool n.name name n.name_is n.name_utf8 h.0.0,
+          n.named,
+          text_there pool
+              n.descriptor descriptor n.descriptor_is n.descriptor_utf8 h.0.1,
+          n.described,
+        ),
+        names_by ks h.1 k.1,
+      )
   names_by (Fieldref a b c ∷ ks) h k = (refers is_member_name IsFieldText a b c h.0, names_by ks h.1 k.1)
   names_by (Methodref a b c ∷ ks) h k = (refers is_method_name IsMethodText a b c h.0, names_by ks h.1 k.1)
   names_by (InterfaceMethodref a b c ∷ ks) h k = (refers is_method_name IsMethodText a b c h.0, names_by ks h.1 k.1)

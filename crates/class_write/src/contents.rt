@@ -69,7 +69,7 @@ fn put_tables(
     ensures { let attributes = canonical.attribute pool.now
         (canonical.is_some_item (canonical.line_rows None [] code.now.ins)) (codes "LineNumberTable") lines.now
         ++ canonical.attribute pool.now (canonical.is_some_item code.now.frames)
-            (codes "StackMapTable") frames.now in OnOk result
+        (codes "StackMapTable") frames.now in OnOk result
         (out.new.items ≡ out.old.items ++ (to_be_bytes w16 (length attributes) ++ flat_map attribute_info attributes)) }
 {
     let has_lines = has_rows(code.ins.as_slice());

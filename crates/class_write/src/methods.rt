@@ -56,7 +56,7 @@ fn put_other_attributes(
     requires throws { length method.now.throws < 2 ^ 16 }
     ensures { OnOk result (out.new.items ≡ out.old.items ++ flat_map attribute_info
         (canonical.attribute pool.now (canonical.is_some_item method.now.throws) (codes "Exceptions")
-            (canonical.exceptions pool.now method.now.throws)
+        (canonical.exceptions pool.now method.now.throws)
         ++ canonical.mark_attributes pool.now method.now.synthetic method.now.deprecated)) }
 {
     put_exceptions(alloc, pool, method.throws.as_slice(), out)?;
@@ -78,7 +78,7 @@ fn put_code(
     ensures { let contents = canonical.code_contents pool.now first.now.locals code.now in Puts result out.old.items
         out.new.items
         (flat_map attribute_info (canonical.attribute pool.now true (codes "Code") contents))
-            (body_length_fits (length contents)) }
+        (body_length_fits (length contents)) }
 {
     let info = code_contents(alloc, pool, first, code, placed)?;
     put_attribute(alloc, pool, true, "Code", &info, out)?;
@@ -99,7 +99,7 @@ fn put_body(
     requires placed { placed.now ≡ placed_body pool.now method.now.code }
     ensures { Puts result out.old.items out.new.items
         (flat_map attribute_info (canonical.body_attributes pool.now
-            (canonical.first_locals class.now method.now) method.now.code))
+        (canonical.first_locals class.now method.now) method.now.code))
         (contents_fit pool.now class.now method.now method.now.code) }
 {
     match (&method.code, placed) {

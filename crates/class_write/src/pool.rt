@@ -166,12 +166,7 @@ fn add_handlers(alloc: Global, pool: &mut ConstantTable, handlers: &[Handler]) -
 }
 
 /// The name of the StackMapTable, and the classes that its rows name.
-fn add_stack_map(
-    alloc: Global,
-    pool: &mut ConstantTable,
-    first: &[VType],
-    frames: &Frames,
-) -> M<()>
+fn add_stack_map(alloc: Global, pool: &mut ConstantTable, first: &[VType], frames: &Frames) -> M<()>
     ensures { OnOk result (pool.new ≡ insert_all same pool.old (canonical.attribute_constants
         (canonical.is_some_item frames.now) (codes "StackMapTable") (written.frame_constants first.now frames.now))) }
 {

@@ -56,7 +56,7 @@ pub mark_order_is_same : (λ (a b : MarkedText). is_eq
 mark_order_is_same = λ i a b. sym (both_tied _ _ (ordering_then (nat_cmp a.0 b.0) (nat_cmp a.1 b.1))
     (slice_cmp nat_cmp a.2 b.2)
     (both_tied _ _ (nat_cmp a.0 b.0) (nat_cmp a.1 b.1) (unsigned_ties a.0 b.0) (unsigned_ties a.1 b.1))
-        (texts_ties a.2 b.2)) i
+    (texts_ties a.2 b.2)) i
 
 -- marked texts that are one are of one text
 one_text : (a b c : Bool) (s t : List ℕ) → Decides c (s ≡ t) → ((a && b) && c) ≡ true → s ≡ t

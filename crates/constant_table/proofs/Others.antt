@@ -34,7 +34,7 @@ pub other_put : (old : Indices) (others : BTreeMap Key ℕ) (k : Key) (index : �
     → ((q : Key) → lookup (same_key q) others.entries
     ≡ cond (same_key k q) (Some index) (lookup (same_key q) old.others.entries))
     → (q : Key)
-        → index_at (record { texts = old.texts; classes = old.classes; strings = old.strings; others = others }) q
+    → index_at (record { texts = old.texts; classes = old.classes; strings = old.strings; others = others }) q
     ≡ cond (same_key k q) (Some index) (index_at old q)
 other_put old others k index u c s updates (key.Utf8 n) = by (same_key k (key.Utf8 n)) k (key.Utf8 n) index _ refl (u n)
 other_put old others k index u c s updates (key.Class n) = by (same_key k (key.Class n)) k (key.Class n) index _ refl

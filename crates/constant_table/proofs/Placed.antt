@@ -57,13 +57,13 @@ module _ (texts : List (List ℕ)) (places : List (List ℕ × ℕ)) (text : Lis
 
   module _ (new : List (List ℕ × ℕ)) (n : ℕ) (is : n ≡ length texts)
       (updates : (t : List ℕ) → lookup (same_text t) new
-          ≡ cond (same_text text t) (Some n) (lookup (same_text t) places)) where
+      ≡ cond (same_text text t) (Some n) (lookup (same_text t) places)) where
     -- a new one is kept with its number
     pub place_new : lookup (same_text text) places ≡ None → ArePlaces (texts ++ text ∷ []) new
     place_new none =
         let e : n ≡ 0 + length texts = omega (arith, is) in
         indexed_new same_text text_Decides 0 texts (λ t. lookup (same_text t) places)
-            (λ t. lookup (same_text t) new) text
+        (λ t. lookup (same_text t) new) text
         kept none (subst (λ m. (t : List ℕ) → lookup (same_text t) new ≡ cond (same_text text t) (Some m)
         (lookup (same_text t) places)) e updates)
 

@@ -144,8 +144,11 @@ pushed_is texts (x ∷ xs) q = ap (λ (ks : List PoolConstant). constant_of text
 
 pub pushed_within : (texts : List (List ℕ)) (keys : List Key) (q : Key) → AreKeysOf texts keys
     → IsKeyIn (length texts) q → AreKeysOf texts (keys ++ q ∷ [])
-pushed_within texts keys q h k = record { distinct = h.distinct; within = within_push texts h.distinct keys q h.within
-    k }
+pushed_within texts keys q h k = record {
+  distinct = h.distinct;
+  within = within_push texts h.distinct keys q h.within
+      k;
+}
 
 -- one more, unless it is there
 module _ (texts : List (List ℕ)) (keys : List Key) (q : Key) (h : AreKeysOf texts keys)
@@ -249,7 +252,7 @@ module _ (old new : List (List ℕ)) (keys : List Key) (g : Grows old new) (h : 
     distinct = g.distinct h.distinct;
     within = subst
         (λ (ts : List (List ℕ)). AllByRecursion (IsKeyIn (length ts)) keys) (sym g.is)
-            (all_in old g.more keys h.within);
+        (all_in old g.more keys h.within);
   }
 
 -- a text stays that of its number

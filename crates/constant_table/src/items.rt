@@ -23,7 +23,7 @@ pub fn put_all(alloc: Global, texts: &Texts, keys: &Keys, out: &mut Vec<u8>) -> 
     requires texts { first_of text_fits (constants_of texts.now keys.now) ≡ Ok tt }
     ensures { OnOk result (out.new.items ≡ out.old.items ++ (to_be_bytes w16 (length keys.now + 1)
         ++ flat_map cp_info (flat_map (λ key. canonical.info_of (constants_of texts.now keys.now)
-            (constant_of texts.now key)) keys.now))) }
+        (constant_of texts.now key)) keys.now))) }
 {
     put_u2(out, keys.len() as u16 + 1)?;
     for key in keys.as_slice() {

@@ -91,7 +91,7 @@ pub fn put_type(alloc: Global, texts: &mut Texts, keys: &mut Keys, ty: &FieldTyp
     ensures kept { AreKeysOf texts.new keys.new }
     ensures put { OnOk result (constants_of texts.new keys.new
         ≡ insert_all canonical.same (constants_of texts.old keys.old)
-            (canonical.class_constants (canonical.type_name ty.now))) }
+        (canonical.class_constants (canonical.type_name ty.now))) }
 {
     let number = keep_type(alloc, texts, ty)?;
     put_keys(texts, keys, &[Key::Utf8(number), Key::Class(number)])
@@ -152,7 +152,7 @@ fn put_member(texts: &Texts, keys: &mut Keys, m: MemberNumbers, key: Key) -> M<(
     ensures kept { AreKeysOf texts.now keys.new }
     ensures put { OnOk result (constants_of texts.now keys.new
         ≡ insert_all canonical.same (constants_of texts.now keys.old)
-            (map (constant_of texts.now) (part_keys m ++ key ∷ []))) }
+        (map (constant_of texts.now) (part_keys m ++ key ∷ []))) }
 {
     let wanted = [
         Key::Utf8(m.class),
@@ -170,7 +170,7 @@ pub fn put_field(alloc: Global, texts: &mut Texts, keys: &mut Keys, field: &Memb
     ensures kept { AreKeysOf texts.new keys.new }
     ensures put { OnOk result (constants_of texts.new keys.new
         ≡ insert_all canonical.same (constants_of texts.old keys.old)
-            (canonical.with_parts field.now (canonical.fieldref field.now))) }
+        (canonical.with_parts field.now (canonical.fieldref field.now))) }
 {
     let m = keep_member(alloc, texts, field)?;
     put_member(texts, keys, m, Key::Fieldref(m.class, m.name, m.descriptor))
@@ -181,7 +181,7 @@ pub fn put_method(alloc: Global, texts: &mut Texts, keys: &mut Keys, method: &Me
     ensures kept { AreKeysOf texts.new keys.new }
     ensures put { OnOk result (constants_of texts.new keys.new
         ≡ insert_all canonical.same (constants_of texts.old keys.old)
-            (canonical.with_parts method.now (canonical.methodref method.now))) }
+        (canonical.with_parts method.now (canonical.methodref method.now))) }
 {
     let m = keep_member(alloc, texts, method)?;
     put_member(texts, keys, m, method_key(m, method.of_interface))
@@ -267,7 +267,7 @@ fn push_key(texts: &Texts, keys: &mut Keys, key: Key) -> M<()>
     ensures kept { AreKeysOf texts.now keys.new }
     ensures put { constants_of texts.now keys.new
         ≡ (if is_ok result then constants_of texts.now keys.old ++ constant_of texts.now key
-            ∷ [] else constants_of texts.now keys.old) }
+        ∷ [] else constants_of texts.now keys.old) }
 {
     keys.push(key)
 }
@@ -282,7 +282,7 @@ pub fn put_constant(
     ensures kept { AreKeysOf texts.new keys.new }
     ensures put { constants_of texts.new keys.new
         ≡ (if is_ok result then constants_of texts.old keys.old ++ constant.now
-            ∷ [] else constants_of texts.old keys.old) }
+        ∷ [] else constants_of texts.old keys.old) }
 {
     match keep_constant(alloc, texts, constant) {
         Ok(key) => push_key(texts, keys, key),

@@ -182,7 +182,7 @@ module _ (entries : List Entry) (constants : List PoolConstant) (starts : List â
         let delta = delta_to constants starts before.offset offset in
         let stands = form_stands before.locals frame.frame.locals frame.frame.stack delta
         (delta_short constants starts before.offset offset known.place.offset) known.locals_short known.stack_short
-            known.locals
+        known.locals
         known.stack in
         let r = row_for before frame in
         let found : due bad.BadFrame (row_stands entries starts ops max_stack max_locals before r)

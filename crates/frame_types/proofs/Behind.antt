@@ -130,7 +130,7 @@ module _ (pool : List Entry) (starts : List ℕ) (ops : List Op) (max_stack max_
   -- at a fault the whole is that fault
   pub rows_stop : {T U : Type 0} (seen : T → Bool × List FrameAt × Before) (view : U → Bool × List FrameAt)
       (e : Or FormatFault) (new q : Place) (floats : Bool) (front : List FrameAt) (count i : ℕ) (before : Before)
-          (p : Place)
+      (p : Place)
       (total : Rows) → i < count
       → ReadsAsOr seen (Err e) new (read_onto front (read_frame pool starts ops max_stack max_locals before p))
       → joined floats front (rows_behind (count - i) before p) ≡ total → ReadsAsOr view (Err e) q total

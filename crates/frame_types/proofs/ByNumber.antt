@@ -57,13 +57,13 @@ module _ (pool : List PoolConstant) (starts : List ℕ) where
   abbrev pub rows_from : List VType → List FrameAt → ℕ → Option ℕ → List ℕ
   rows_from first frames number previous =
       flat_map stack_map_frame (rows pool starts (locals_before first frames number) previous
-          (frames_from frames number))
+      (frames_from frames number))
 
   -- the row of the frame of a number
   abbrev pub row_at : List VType → List FrameAt → ℕ → Option ℕ → List ℕ
   row_at first frames number previous =
       stack_map_frame (row pool starts (delta_to pool starts previous (slice_index starts
-          (frame_numbered frames number).index))
+      (frame_numbered frames number).index))
       (form_at first frames number))
 
   pub rows_more : (first : List VType) (frames : List FrameAt) (number : ℕ) (previous : Option ℕ)
@@ -73,10 +73,10 @@ module _ (pool : List PoolConstant) (starts : List ℕ) where
       ++ rows_from first frames (number + 1) (Some (slice_index starts (frame_numbered frames number).index))
   rows_more first frames number previous lt =
       ap (λ (fs : List FrameAt). flat_map stack_map_frame (rows pool starts (locals_before first frames number)
-          previous fs))
+      previous fs))
       (next_is frames number lt)
       ∙ ap (λ (before : List VType). row_at first frames number previous ++ flat_map stack_map_frame
-          (rows pool starts before
+      (rows pool starts before
       (Some (slice_index starts (frame_numbered frames number).index)) (frames_from frames (number + 1))))
       (sym (behind_is first frames number))
 
@@ -86,10 +86,10 @@ module _ (pool : List PoolConstant) (starts : List ℕ) where
       → number < length frames → after ≡ out ++ row_at first frames number previous
       → out ++ rows_from first frames number previous ≡ all
       → after ++ rows_from first frames (number + 1) (Some (slice_index starts (frame_numbered frames number).index))
-          ≡ all
+      ≡ all
   row_written first frames number previous out after all lt is so_far =
       let later = rows_from first frames (number + 1) (Some (slice_index starts (frame_numbered frames number).index))
-          in
+      in
       ap (λ (bytes : List ℕ). bytes ++ later) is
       ∙ append_assoc out (row_at first frames number previous) later
       ∙ ap (λ (bytes : List ℕ). out ++ bytes) (sym (rows_more first frames number previous lt)) ∙ so_far

@@ -31,17 +31,17 @@ few_Decides n = Decides-and (leb 1 n) (leb n 3) (leb-true 1 n, le-leb 1 n) (leb-
 
 chop_Decides : (before locals : List VType) → Decides (is_chop before locals)
     (((1 ≤ length before - length locals) × (length before - length locals ≤ 3)) × (locals ≡ take
-        (length locals) before))
+    (length locals) before))
 chop_Decides before locals =
     Decides-and _ _ (few_Decides (length before - length locals)) (same_types_Decides locals (take
-        (length locals) before))
+    (length locals) before))
 
 append_Decides : (before locals : List VType) → Decides (is_append before locals)
     (((1 ≤ length locals - length before) × (length locals - length before ≤ 3)) × (before ≡ take
-        (length before) locals))
+    (length before) locals))
 append_Decides before locals =
     Decides-and _ _ (few_Decides (length locals - length before)) (same_types_Decides before (take
-        (length before) locals))
+    (length before) locals))
 
 -- ---- the change
 
@@ -53,7 +53,7 @@ pub fewer : (before locals : List VType) → 1 ≤ length before - length locals
     → change_due before locals ≡ change.Fewer (length before - length locals)
 fewer before locals some few h =
     let not_same : same_types before locals ≡ false = is_false (same_types before locals)
-        (same_types_Decides before locals)
+    (same_types_Decides before locals)
     (λ e. let n : length before ≡ length locals = ap length e in absurd (omega (arith, n, some))) in
     let chops : is_chop before locals ≡ true = (chop_Decides before locals).1 ((some, few), h) in
     rw (not_same, chops) refl
@@ -63,7 +63,7 @@ pub more : (before locals : List VType) → 1 ≤ length locals - length before 
     → change_due before locals ≡ change.More (length locals - length before)
 more before locals some few h =
     let not_same : same_types before locals ≡ false = is_false (same_types before locals)
-        (same_types_Decides before locals)
+    (same_types_Decides before locals)
     (λ e. let n : length before ≡ length locals = ap length e in absurd (omega (arith, n, some))) in
     let not_chop : is_chop before locals ≡ false = is_false (is_chop before locals) (chop_Decides before locals)
     (λ p. let n = p.0.0 in absurd (omega (arith, n, some))) in
@@ -120,7 +120,7 @@ pub far : (before locals : List VType) → (length before - length locals ≤ 3 
     → change_due before locals ≡ change.Other
 far before locals refused =
     changed before locals (λ e. let n : length before ≡ length locals = ap length e in refused (omega (arith, n))
-        (omega (arith, n)))
+    (omega (arith, n)))
     (λ few e. let n : length locals ≡ length (take (length locals) before) = ap length e in
     let short = length-take (length locals) before in refused few (omega (arith, n, short)))
     (λ few e. let n : length before ≡ length (take (length before) locals) = ap length e in

@@ -48,7 +48,7 @@ fn with_item(
 ) -> M<Option<Written>>
     ensures { IfOk result (λ w. (locals : List VType) → option_map (written_of locals) w
         ≡ option_map (written pool.now starts.now ops.now delta locals)
-            (types_of pool.now starts.now ops.now (info_of item ∷ []))) }
+        (types_of pool.now starts.now ops.now (info_of item ∷ []))) }
 {
     match types_of(alloc, pool, starts, ops, &[item])? {
         Some(stack) => Ok(Some(Written { delta, stack })),
@@ -107,7 +107,7 @@ fn written_whole(
 ) -> M<Option<Written>>
     ensures written { IfOk result (λ w. option_map (written_of frames.new.locals) w
         ≡ written_by pool.now starts.now ops.now []
-            (FullFrame delta (map info_of locals.now) (map info_of stack.now))) }
+        (FullFrame delta (map info_of locals.now) (map info_of stack.now))) }
     ensures frames { OnOk result (frames.new.frames ≡ frames.old.frames) }
 {
     let Some(locals) = types_of(alloc, pool, starts, ops, locals)? else {
@@ -212,7 +212,7 @@ fn frame_of(
 ) -> M<Option<u32>>
     ensures { IfOk result (λ at. option_map (built_of frames.new) at
         ≡ onto frames.old.frames (frame_of [] starts.now [] max_stack max_locals offset
-            (written_of frames.old.locals written))) }
+        (written_of frames.old.locals written))) }
 {
     if frames.words() > u64::from(max_locals) || !fit(written.stack.as_slice(), max_stack) {
         return Ok(None);

@@ -2,7 +2,6 @@
 #![tactic(auto, unfolding(format_reading::specs::Reader::u1, format_reading::specs::Reader::u2, format_reading::specs::Reader::lead, format_reading::specs::Reader::bind, format_reading::specs::Reader::give))]
 
 mod back;
-mod bytes;
 mod comparing;
 mod constants;
 mod fault;

@@ -10,11 +10,10 @@ ghost use Rattle.jv_ops.specs.Constants.{constants_in};
 ghost use Rattle.frame_types.specs.Writing.{IsOffset, HasShortLists};
 ghost use Rattle.frame_types.specs.Forms.{form_of_row, IsShortForm};
 
-use crate::bytes::{put, put_u2};
 use crate::constants::class_index;
 use crate::form::{FrameForm, frame_form};
 use class_model::{Frame, Frames, Pool, VType};
-use constant_table::ConstantTable;
+use constant_table::{ConstantTable, put, put_u2};
 use jv_base::{Bytes, Items, M};
 use jv_ops::constants_in;
 use std::alloc::Global;
@@ -99,8 +98,7 @@ fn put_counted_types(
 // ---- forms
 
 fn put_same(delta: u16, out: &mut Vec<u8>) -> M<()>
-    ensures { OnOk result (out.new.items ≡ out.old.items ++ stack_map_frame (canonical.row [] [] delta canonical.same))
-        }
+    ensures { OnOk result (out.new.items ≡ out.old.items ++ stack_map_frame (canonical.row [] [] delta canonical.same)) }
 {
     if delta < 64 {
         return put(out, &[delta as u8]);

@@ -86,26 +86,46 @@ told_is at r o h = ap (or_bad_target at) (sym h)
 pub right_meant : (pool : List Entry) (at : ℕ) (info : Info) → IsRight pool at info → IsMeant pool at info
 unfolding op_of
 right_meant pool at (Plain c) h = let d = due_there bad.BadOperand
-    (plain_op c) h in record { meaning = unaimed.Whole d.0; is = whole_is _ d.0 d.1; alike = λ aim. told_is at _ d.0
-        d.1 }
+    (plain_op c) h in record {
+      meaning = unaimed.Whole d.0;
+      is = whole_is _ d.0 d.1;
+      alike = λ aim. told_is at _ d.0
+          d.1;
+    }
 right_meant pool at (Bipush byte) h = record { meaning = _; is = refl; alike = λ aim. refl }
 right_meant pool at (Sipush short) h = record { meaning = _; is = refl; alike = λ aim. refl }
 right_meant pool at (Ldc index) h = let d = due_there bad.BadOperand
-    (loaded pool index) h.2 in record { meaning = unaimed.Whole d.0; is = whole_is _ d.0 d.1; alike = λ aim. told_is at
-        _ d.0 d.1 }
+    (loaded pool index) h.2 in record {
+      meaning = unaimed.Whole d.0;
+      is = whole_is _ d.0 d.1;
+      alike = λ aim. told_is at
+          _ d.0 d.1;
+    }
 right_meant pool at (LdcWide c index) h = let d = due_there bad.BadOperand
-    (loaded_wide c pool index) h.3 in record { meaning = unaimed.Whole d.0; is = whole_is _ d.0 d.1; alike = λ aim.
-        told_is at _ d.0 d.1 }
+    (loaded_wide c pool index) h.3 in record {
+      meaning = unaimed.Whole d.0;
+      is = whole_is _ d.0 d.1;
+      alike = λ aim.
+          told_is at _ d.0 d.1;
+    }
 right_meant pool at (Local c index) h =
     let d = due_there bad.BadOperand (option_map (λ make. make index) (local_op c))
     (mapped_there (λ make. make index)
-    (local_op c) h.1) in record { meaning = unaimed.Whole d.0; is = whole_is _ d.0 d.1; alike = λ aim. told_is at _ d.0
-        d.1 }
+    (local_op c) h.1) in record {
+      meaning = unaimed.Whole d.0;
+      is = whole_is _ d.0 d.1;
+      alike = λ aim. told_is at _ d.0
+          d.1;
+    }
 right_meant pool at (WideLocal c index) h =
     let d = due_there bad.BadOperand (option_map (λ make. make index) (local_op c))
     (mapped_there (λ make. make index)
-    (local_op c) h.1) in record { meaning = unaimed.Whole d.0; is = whole_is _ d.0 d.1; alike = λ aim. told_is at _ d.0
-        d.1 }
+    (local_op c) h.1) in record {
+      meaning = unaimed.Whole d.0;
+      is = whole_is _ d.0 d.1;
+      alike = λ aim. told_is at _ d.0
+          d.1;
+    }
 right_meant pool at (Iinc index const) h = record { meaning = _; is = refl; alike = λ aim. refl }
 right_meant pool at (WideIinc index const) h = record { meaning = _; is = refl; alike = λ aim. refl }
 right_meant pool at (Branch c branch) h = record { meaning = _; is = refl; alike = λ aim. refl }
@@ -124,16 +144,24 @@ right_meant pool at (LookupSwitch pad default pairs) h = record {
       (aimed aim at default >>= (λ other. s >>= (λ cases. Ok (op.LookupSwitch other cases))))) (cases_are aim at pairs);
 }
 right_meant pool at (MemberOperand c index) h = let d = due_there bad.BadOperand
-    (member_op c pool index) h.1 in record { meaning = unaimed.Whole d.0; is = whole_is _ d.0 d.1; alike = λ aim.
-        told_is at _ d.0 d.1 }
+    (member_op c pool index) h.1 in record {
+      meaning = unaimed.Whole d.0;
+      is = whole_is _ d.0 d.1;
+      alike = λ aim.
+          told_is at _ d.0 d.1;
+    }
 right_meant pool at (InvokeInterface index count) h =
     let d = due_there bad.BadOperand
     (option_map (λ reference. op.InvokeInterface reference) (interface_methodref_at pool index))
     (mapped_there (λ reference. op.InvokeInterface reference) (interface_methodref_at pool index) h.there) in
     record { meaning = unaimed.Whole d.0; is = whole_is _ d.0 d.1; alike = λ aim. told_is at _ d.0 d.1 }
 right_meant pool at (ClassOperand c index) h = let d = due_there bad.BadOperand
-    (class_op c pool index) h.1 in record { meaning = unaimed.Whole d.0; is = whole_is _ d.0 d.1; alike = λ aim.
-        told_is at _ d.0 d.1 }
+    (class_op c pool index) h.1 in record {
+      meaning = unaimed.Whole d.0;
+      is = whole_is _ d.0 d.1;
+      alike = λ aim.
+          told_is at _ d.0 d.1;
+    }
 right_meant pool at (NewArray atype) h =
     let d = due_there bad.BadOperand (option_map (λ ty. op.NewArray ty) (array_type_of atype))
     (mapped_there (λ ty. op.NewArray ty) (array_type_of atype) h.2) in

@@ -6,8 +6,8 @@ mod fault;
 mod reading;
 mod writing;
 
-pub use writing::constants::constants_in;
-pub use reading::decoding::{Decoded, canonical_is_decoded, decode_code};
-pub use writing::encoding::{Coded, encode_code, encode_with};
 pub use examples::computed_codes;
 pub use fault::CodeFault;
+pub use reading::decoding::{Decoded, canonical_is_decoded, decode_code};
+pub use writing::constants::constants_in;
+pub use writing::encoding::{Coded, encode_code, encode_with};

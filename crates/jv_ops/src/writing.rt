@@ -22,13 +22,13 @@ pub mod sizes;
 
 use crate::writing::sizes::{is_lconst, is_short, padding};
 use class_model::opcode::{
-    NOP, ACONST_NULL, LCONST_0, BIPUSH, SIPUSH, LDC, LDC_W, LDC2_W, ILOAD, ILOAD_0, IALOAD,
-    ISTORE, ISTORE_0, IASTORE, POP, POP2, DUP, DUP_X1, DUP_X2, DUP2, DUP2_X1, DUP2_X2, SWAP,
-    IADD, ISUB, IMUL, IDIV, IREM, INEG, ISHL, ISHR, IUSHR, IAND, IOR, IXOR, IINC, I2L, L2I, I2B,
-    I2C, I2S, LCMP, IFEQ, IF_ICMPEQ, IF_ACMPEQ, IF_ACMPNE, GOTO, TABLESWITCH, LOOKUPSWITCH,
-    IRETURN, RETURN, GETSTATIC, PUTSTATIC, GETFIELD, PUTFIELD, INVOKEVIRTUAL, INVOKESPECIAL,
-    INVOKESTATIC, INVOKEINTERFACE, NEW, NEWARRAY, ANEWARRAY, ARRAYLENGTH, ATHROW, CHECKCAST,
-    INSTANCEOF, WIDE, MULTIANEWARRAY, IFNULL, IFNONNULL,
+    ACONST_NULL, ANEWARRAY, ARRAYLENGTH, ATHROW, BIPUSH, CHECKCAST, DUP, DUP_X1, DUP_X2, DUP2,
+    DUP2_X1, DUP2_X2, GETFIELD, GETSTATIC, GOTO, I2B, I2C, I2L, I2S, IADD, IALOAD, IAND, IASTORE,
+    IDIV, IF_ACMPEQ, IF_ACMPNE, IF_ICMPEQ, IFEQ, IFNONNULL, IFNULL, IINC, ILOAD, ILOAD_0, IMUL,
+    INEG, INSTANCEOF, INVOKEINTERFACE, INVOKESPECIAL, INVOKESTATIC, INVOKEVIRTUAL, IOR, IREM,
+    IRETURN, ISHL, ISHR, ISTORE, ISTORE_0, ISUB, IUSHR, IXOR, L2I, LCMP, LCONST_0, LDC, LDC_W,
+    LDC2_W, LOOKUPSWITCH, MULTIANEWARRAY, NEW, NEWARRAY, NOP, POP, POP2, PUTFIELD, PUTSTATIC,
+    RETURN, SIPUSH, SWAP, TABLESWITCH, WIDE,
 };
 use class_model::{ArithOp, Case, Cond, ConvOp, Elem, Kind, LogicOp, MemberRef, Num, Op, ShiftOp};
 use constant_table::{ConstantTable, put, put_u4};
@@ -359,7 +359,7 @@ fn put_keys(low: i32, count: usize, out: &mut Vec<u8>) -> M<()>
     requires most { (low +ℤ pos count) <ℤ pos (2 ^ 31 + 1) }
     ensures { OnOk result (out.new.items ≡ out.old.items
         ++ (to_be_bytes w32 (cast_unsigned w32 low)
-            ++ to_be_bytes w32 (cast_unsigned w32 (low +ℤ pos count -ℤ pos 1)))) }
+        ++ to_be_bytes w32 (cast_unsigned w32 (low +ℤ pos count -ℤ pos 1)))) }
 {
     put_u4(out, low.cast_unsigned())?;
     put_u4(out, high_key(low, count))
@@ -484,7 +484,7 @@ fn put_invoke_interface(
     requires words { HasFewWords (Op.InvokeInterface method.now) }
     ensures { OnOk result (out.new.items ≡ out.old.items ++ 0xB9
         ∷ (to_be_bytes w16 (pools.index_of table.now (pools.methodref method.now)) ++ unwrap_or (count_of method.now) 0
-            ∷ 0 ∷ [])) }
+        ∷ 0 ∷ [])) }
 {
     let count = count_byte(alloc, method)?;
     put_method(alloc, table, INVOKEINTERFACE, method, out)?;
@@ -501,7 +501,7 @@ fn put_multi_new_array(
     requires { HasIndex table.now (pools.class_constant (pools.type_name ty.now)) }
     ensures { OnOk result (out.new.items ≡ out.old.items ++ 0xC5
         ∷ (to_be_bytes w16 (pools.index_of table.now (pools.class_constant (pools.type_name ty.now))) ++ dimensions
-            ∷ [])) }
+        ∷ [])) }
 {
     put_type(alloc, table, MULTIANEWARRAY, ty, out)?;
     put(out, &[dimensions])
@@ -557,7 +557,13 @@ pub fn put_op(
         Op::LCmp => put(out, &[LCMP]),
         Op::IfZero(cond, to) => put_branch(places, at, IFEQ + cond_number(*cond), *to, out),
         Op::IfCmp(cond, to) => put_branch(places, at, IF_ICMPEQ + cond_number(*cond), *to, out),
-        Op::IfRef { eq, to } => put_branch(places, at, if *eq { IF_ACMPEQ } else { IF_ACMPNE }, *to, out),
+        Op::IfRef { eq, to } => put_branch(
+            places,
+            at,
+            if *eq { IF_ACMPEQ } else { IF_ACMPNE },
+            *to,
+            out,
+        ),
         Op::IfNull { null, to } => put_branch(
             places,
             at,

@@ -5,27 +5,9 @@ ghost use Rattle.jv_base.specs.Names.{is_text};
 ghost use Rattle.jv_base.specs.Types.{base_text, field_text, method_text, result_text};
 ghost use Rattle.lib_table.specs.bodies.Stripping.{behind};
 
-use jv_base::{Base, FieldType, MethodType, Text};
-
-/// Whether a text is the descriptor of a field type (JVMS 4.3.2), told without memory.
-#[tactic(auto, using(crate::proofs::Behind::behind_whole))]
-pub fn is_field_descriptor(text: &Text, ty: &FieldType) -> bool
-    ensures { result ≡ is_text text.now (field_text ty.now) }
-{
-    match behind_field(text.as_bytes(), ty) {
-        Some(rest) => rest.is_empty(),
-        None => false,
-    }
-}
+use jv_base::{Base, FieldType, MethodType};
 
 /// Whether a text is the descriptor of a method type (JVMS 4.3.3), told without memory.
-pub fn is_method_descriptor(text: &Text, ty: &MethodType) -> bool
-    ensures { result ≡ is_text text.now (method_text ty.now) }
-{
-    is_descriptor(text.as_str(), ty)
-}
-
-/// The same of a text of the table.
 #[tactic(auto, using(crate::proofs::Behind::behind_whole))]
 pub(crate) fn is_descriptor(text: &str, ty: &MethodType) -> bool
     ensures { result ≡ is_text text.now (method_text ty.now) }

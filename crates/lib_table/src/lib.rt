@@ -7,7 +7,6 @@ mod member;
 mod table;
 
 pub use class::{LibId, LibKind, lib_class, lib_interface, lib_kind, lib_name, lib_super};
-pub use descriptor::{is_field_descriptor, is_method_descriptor};
 pub use member::{
     LibMember, Role, lib_is, lib_like, lib_member, lib_member_at, lib_method, lib_named, lib_same,
 };

@@ -9,7 +9,9 @@ struct Letters;
 impl Answers for Letters {
     fn answer(&self, alloc: Global, line: &[u8]) -> M<Option<Text>> {
         match std::str::from_utf8(line) {
-            Ok(text) if line.iter().all(|byte| byte.is_ascii_lowercase()) => Ok(Some(Text::from_str(alloc, text)?)),
+            Ok(text) if line.iter().all(|byte| byte.is_ascii_lowercase()) => Ok(Some(Text::from_str(
+                alloc, text,
+            )?)),
             _ => Ok(None),
         }
     }
@@ -33,7 +35,9 @@ fn a_line_of_another_form_is_told_by_its_number(rt: HostRuntime) -> Result<(), F
 }
 
 #[test]
-fn a_title_is_put_out_as_it_is_and_the_last_line_may_lack_its_end(rt: HostRuntime) -> Result<(), Fail> {
+fn a_title_is_put_out_as_it_is_and_the_last_line_may_lack_its_end(
+    rt: HostRuntime,
+) -> Result<(), Fail> {
     let (output, ended) = answered(&rt, b"# 1\n\none");
     assert!(rt; ended.is_ok());
     assert!(rt; output.as_slice() == b"# 1\n\none\n".as_slice());

@@ -60,7 +60,7 @@ module _ (kinds : VType → List ProfileKind) where
       (sym (same before (omega arith)))) in
       ap (λ (ks : List ProfileKind). least (ks ++ (of (drop shared next.frame.locals) ++ of next.frame.stack))) is
       ∙ least_again front (of (take shared next.frame.locals)) (of (drop shared last.frame.locals))
-          (of last.frame.stack)
+      (of last.frame.stack)
       (of (drop shared next.frame.locals)) (of next.frame.stack)
       ∙ ap (λ (ks : List ProfileKind). least (ks ++ ((of (take shared next.frame.locals)
       ++ of (drop shared next.frame.locals)) ++ of next.frame.stack))) (sym is)

@@ -10,8 +10,8 @@ mod rules;
 
 pub use fault::{LinkKind, ProfileFault, ProfileKind};
 pub use laws::taken_sets_break_no_rule;
-pub use rules::profile::check_links;
 pub use references::access::is_class_below;
 pub use references::resolution::{resolve_field, resolve_method};
-pub use rows::computed_profile;
 pub use references::selection::select;
+pub use rows::computed_profile;
+pub use rules::profile::check_links;

@@ -1,6 +1,5 @@
 // Which methods a method overrides (JVMS 5.4.5).
 ghost use Rattle.std.specs.Prelude.{◌≡◌, ◌↔◌, IsTrue, Some, false};
-
 ghost use Rattle.class_pool.specs.Found.{IsMethod, IsMember, declared_in, named_at};
 ghost use Rattle.class_pool.specs.Hierarchy.{IsClass};
 ghost use Rattle.class_pool.specs.Resolution.{is_class_below};
@@ -12,8 +11,8 @@ pub mod inherited;
 pub mod overridden;
 
 use crate::references::access::is_class_below;
-use crate::rules::member_uses::is_same;
 use crate::references::supertypes::Superclasses;
+use crate::rules::member_uses::is_same;
 use class_pool::{ClassId, ClassSet, MemberAt};
 
 /// Whether a method overrides one that its class or a superclass declares with its name and descriptor, or is it. Other

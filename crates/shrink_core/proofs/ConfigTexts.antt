@@ -465,13 +465,13 @@ pub config_found : (text i o m k : List ℕ) → HasLines text i o m k → (inpu
     → IsConfig text (record { input = input2; output = output2; mapping = mapping; methods = methods })
 config_found text i o m k lines input input2 reads is1 output output2 writes is2 file mapping is3 methods keeps encoded
     = record {
-  input = i;
-  output = o;
-  methods = k;
-  spelled = lines.spelled ∙ ap (λ (w : List ℕ). lines_text i o w k) (sym is3);
-  reads_from = subst (NamesDirectory i) (sym is1) reads;
-  writes_to = subst (NamesDirectory o) (sym is2) writes;
-  maps_to = subst NamesFile (sym is3) file;
-  keeps = keeps;
-  encoded = encoded;
-}
+      input = i;
+      output = o;
+      methods = k;
+      spelled = lines.spelled ∙ ap (λ (w : List ℕ). lines_text i o w k) (sym is3);
+      reads_from = subst (NamesDirectory i) (sym is1) reads;
+      writes_to = subst (NamesDirectory o) (sym is2) writes;
+      maps_to = subst NamesFile (sym is3) file;
+      keeps = keeps;
+      encoded = encoded;
+    }

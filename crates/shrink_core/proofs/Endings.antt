@@ -47,9 +47,16 @@ pub ended_before : (stop : Stop) (named : CommandFiles) (status : ℕ) (x y : Op
     → Ended (Some named) status (outside x f a old) (outside y f2 b new)
 ended_before (Refused refusal) named status x y f f2 a b old new rose left (inl said) =
     (stopped (Refused refusal), record { answered = said.0; blamed = tt; left = left; said = said.1 })
-ended_before (Refused refusal) named status x y f f2 a b old new rose left (inr said) =
-    (stopped OutOfMemory, record { answered = said.0; blamed = tt; left = unsaid refusal named x y a b left; said =
-        said.1 })
+ended_before (Refused refusal) named status x y f f2 a b old new rose left (inr said) = (
+  stopped OutOfMemory,
+  record {
+    answered = said.0;
+    blamed = tt;
+    left = unsaid refusal named x y a b left;
+    said =
+        said.1;
+  },
+)
 ended_before Device named status x y f f2 a b old new rose left said =
     (stopped Device, record { answered = said.0; blamed = rose refl; left = left; said = said.1 })
 ended_before OutOfMemory named status x y f f2 a b old new rose left said =
@@ -92,4 +99,4 @@ pub answers_memory : (named : CommandFiles) (status : ℕ) (before after : Outsi
     → memory_faults before.calls < memory_faults after.calls → status ≡ 10
 answers_memory named status before after ended rose =
     lacked ended.0 named status before.calls after.calls ended.1.left.0 ended.1.left.1 ended.1.left.3 ended.1.answered
-        rose
+    rose

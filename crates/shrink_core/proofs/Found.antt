@@ -115,7 +115,7 @@ pub set_seen : (config directory : List ℕ) (inputs : List FileAt) (r : Result 
     (x y : Option Files)
     → AddsCalls a b x y (Sees (Some []) (λ files. input_due files directory ≡ Ok inputs)) → ReadsSet r directory inputs
     → AddsCalls a b x y (Sees (missed config r)
-        (λ files. Finds r (HasSet files directory) (RefusesInput files directory)))
+    (λ files. Finds r (HasSet files directory) (RefusesInput files directory)))
 set_seen config directory inputs (Ok classes) a b x y p is =
     weaken (Some []) (λ files. input_due files directory ≡ Ok inputs) (λ files. HasSet files directory classes) a b x y
     (λ files has. (inputs, has, is)) p
@@ -206,8 +206,15 @@ pub planned : (named : CommandFiles) (config : Config) (classes : List Class) (r
     → AddsCalls a b x y (Sees (missed named.config r) (Planned r named))
 planned named config classes (Ok plan) a b x y has is =
     weaken (Some []) (Taken named config classes) (Planned (Ok plan) named) a b x y
-    (λ files there. record { config = config; classes = classes; configured = there.0.0; empty = there.0.1; taken =
-        there.1; planned = is }) has
+    (λ files there. record {
+      config = config;
+      classes = classes;
+      configured = there.0.0;
+      empty = there.0.1;
+      taken =
+          there.1;
+      planned = is;
+    }) has
 planned named config classes (Err (Refused (Limit quantity))) a b x y has is =
     weaken (Some []) (Taken named config classes) (Planned (no_plan (Refused (Limit quantity))) named) a b x y
     (λ files there. by_plan config classes there.0.0 there.0.1 there.1 is) has

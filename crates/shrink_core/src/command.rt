@@ -21,7 +21,7 @@ fn end<S: Sink>(status: u8, line: &[u8], out: &mut S) -> u8
     ensures status { result ≡ status }
     ensures text { Puts line.now
         (output (S.written out.old) (S.faults out.old) (S.log out.old))
-            (output (S.written out.new) (S.faults out.new) (S.log out.new)) }
+        (output (S.written out.new) (S.faults out.new) (S.log out.new)) }
     ensures later { S.faults out.old ≤ S.faults out.new }
 {
     let _ = out.put(line);
@@ -32,7 +32,7 @@ fn end<S: Sink>(status: u8, line: &[u8], out: &mut S) -> u8
 fn say_device<S: Sink>(out: &mut S) -> u8
     ensures line { SaysLine [] failed_device result
         (output (S.written out.old) (S.faults out.old) (S.log out.old))
-            (output (S.written out.new) (S.faults out.new) (S.log out.new)) }
+        (output (S.written out.new) (S.faults out.new) (S.log out.new)) }
     ensures later { S.faults out.old ≤ S.faults out.new }
 {
     end(7, b"error 7 device\n", out)
@@ -42,7 +42,7 @@ fn say_device<S: Sink>(out: &mut S) -> u8
 fn say_no_memory<S: Sink>(out: &mut S) -> u8
     ensures { SaysLine [] no_memory result
         (output (S.written out.old) (S.faults out.old) (S.log out.old))
-            (output (S.written out.new) (S.faults out.new) (S.log out.new)) }
+        (output (S.written out.new) (S.faults out.new) (S.log out.new)) }
 {
     end(10, b"error 10 memory\n", out)
 }
@@ -51,7 +51,7 @@ fn say_no_memory<S: Sink>(out: &mut S) -> u8
 fn say_refusal<S: Sink>(alloc: Global, config: &Text, refusal: &Refusal, out: &mut S) -> u8
     ensures { Says config.now (Refused refusal.now) result
         (output (S.written out.old) (S.faults out.old) (S.log out.old))
-            (output (S.written out.new) (S.faults out.new) (S.log out.new)) }
+        (output (S.written out.new) (S.faults out.new) (S.log out.new)) }
 {
     match refusal_line(alloc, config, refusal) {
         Ok(line) => end(refusal_status(refusal), line.as_bytes(), out),
@@ -63,7 +63,7 @@ fn say_refusal<S: Sink>(alloc: Global, config: &Text, refusal: &Refusal, out: &m
 fn say<S: Sink>(alloc: Global, config: &Text, stop: &Stop, out: &mut S) -> u8
     ensures { Says config.now stop.now result
         (output (S.written out.old) (S.faults out.old) (S.log out.old))
-            (output (S.written out.new) (S.faults out.new) (S.log out.new)) }
+        (output (S.written out.new) (S.faults out.new) (S.log out.new)) }
 {
     match stop {
         Stop::Refused(refusal) => say_refusal(alloc, config, refusal, out),
@@ -77,7 +77,7 @@ fn finish<S: Sink>(summary: &Text, out: &mut S) -> u8
     ensures device { result ≡ 7 → Rose (S.faults out.old) (S.faults out.new) }
     ensures said { SaysSummary summary.now result
         (output (S.written out.old) (S.faults out.old) (S.log out.old))
-            (output (S.written out.new) (S.faults out.new) (S.log out.new)) }
+        (output (S.written out.new) (S.faults out.new) (S.log out.new)) }
 {
     match out.put(summary.as_bytes()) {
         Ok(()) => 0,
@@ -94,9 +94,9 @@ fn run_on<T: Tree, S: Sink>(alloc: Global, named: &CommandFiles, tree: &mut T, o
         ⊎ Rose (S.faults out.old) (S.faults out.new) }
     ensures ended { Ended (Some named.now) result
         (outside (T.files tree.old) (T.faults tree.old) (T.log tree.old)
-            (output (S.written out.old) (S.faults out.old) (S.log out.old)))
+        (output (S.written out.old) (S.faults out.old) (S.log out.old)))
         (outside (T.files tree.new) (T.faults tree.new) (T.log tree.new)
-            (output (S.written out.new) (S.faults out.new) (S.log out.new))) }
+        (output (S.written out.new) (S.faults out.new) (S.log out.new))) }
 {
     match shrink(alloc, named, tree) {
         Ok(plan) => finish(&plan.summary, out),
@@ -173,9 +173,9 @@ pub fn run<Rt: Threads + Sync, T: Tree, S: Sink, G: Gate>(
     // all files that its answers fit, told ones among them, and what was said.
     ensures ended { Ended (files_in words.now) result
         (outside (T.files tree.old) (T.faults tree.old) (T.log tree.old)
-            (output (S.written out.old) (S.faults out.old) (S.log out.old)))
+        (output (S.written out.old) (S.faults out.old) (S.log out.old)))
         (outside (T.files tree.new) (T.faults tree.new) (T.log tree.new)
-            (output (S.written out.new) (S.faults out.new) (S.log out.new))) }
+        (output (S.written out.new) (S.faults out.new) (S.log out.new))) }
 {
     match read_words(alloc, words) {
         Ok(Some(named)) => run_on(alloc, &named, tree, out),

@@ -74,7 +74,7 @@ pub fn check_empty<T: Tree>(alloc: Global, directory: &Text, tree: &mut T) -> Re
     ensures device { IsErrOf result Stop.Device → Rose (T.faults tree.old) (T.faults tree.new) }
     ensures seen { (config : List ℕ) → AddsCalls (T.log tree.old) (T.log tree.new) (T.files tree.old) (T.files tree.new)
         (Sees (missed config result) (λ fs. Finds result (λ _. IsEmpty fs directory.now)
-            (RefusesOutput fs directory.now))) }
+        (RefusesOutput fs directory.now))) }
 {
     match tree.list(alloc, directory, 0) {
         Ok(_) => Ok(()),

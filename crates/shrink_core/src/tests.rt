@@ -125,12 +125,14 @@ const FAR_FRONT: &[u8] = b"\xCA\xFE\xBA\xBE\0\0\0\x34\0\x09\
 const FAR_REST: &[u8] = b"\x03\xAC\0\0\0\x01\0\x08\0\0\0\x06\0\x02\x05\xFB\x7F\xFC\0\0";
 
 // `static int w()` of `demo.W`, which returns a local that is not set.
-const DEMO_W: &[u8] = b"\xCA\xFE\xBA\xBE\0\0\x004\0\x08\x01\0\x06demo/W\x07\0\x01\x01\0\x10java/lang/Object\x07\0\
+const DEMO_W: &[u8] =
+    b"\xCA\xFE\xBA\xBE\0\0\x004\0\x08\x01\0\x06demo/W\x07\0\x01\x01\0\x10java/lang/Object\x07\0\
 \x03\x01\0\x01w\x01\0\x03()I\x01\0\x04Code\0!\0\x02\0\x04\0\0\0\0\0\x01\0\x09\0\x05\0\x06\0\
 \x01\0\x07\0\0\0\x0E\0\x01\0\x01\0\0\0\x02\x1A\xAC\0\0\0\0\0\0";
 
 // `static void h()` of `demo.T`, without a frame behind a goto.
-const DEMO_T_GOTO: &[u8] = b"\xCA\xFE\xBA\xBE\0\0\x004\0\x09\x01\0\x06demo/T\x07\0\x01\x01\0\x10java/lang/Object\x07\0\
+const DEMO_T_GOTO: &[u8] =
+    b"\xCA\xFE\xBA\xBE\0\0\x004\0\x09\x01\0\x06demo/T\x07\0\x01\x01\0\x10java/lang/Object\x07\0\
 \x03\x01\0\x01h\x01\0\x03()V\x01\0\x04Code\x01\0\x0DStackMapTable\0!\0\x02\0\x04\0\0\0\0\0\
 \x01\0\x09\0\x05\0\x06\0\x01\0\x07\0\0\0\x1A\0\0\0\0\0\0\0\x05\xA7\0\x04\0\xB1\0\0\0\x01\0\
 \x08\0\0\0\x03\0\x01\x04\0\0";

@@ -107,46 +107,63 @@ steps_add : (before : List MethodWitness) (rest done : List PassEdits) (st : Met
     → AllByRecursion HasActsOfPass rest → StepsAdded before (steps_lines (length done + 1) rest) st (done ++ rest) rest
 steps_add before [] done st h few same passes acts =
     subst (λ (w : List PassEdits). StepsAdded before [] st w []) (sym (append-nil done)) (record {
-      end = st; added_all = refl; class_same = refl; name_same = refl; ty_same = refl; steps = same; few = few; acts = h;
-      stays = λ k. k; some = λ k. absurd k;
+      end = st;
+      added_all = refl;
+      class_same = refl;
+      name_same = refl;
+      ty_same = refl;
+      steps = same;
+      few = few;
+      acts = h;
+      stays = λ k. k;
+      some = λ k. absurd k;
     })
 steps_add before (s ∷ ss) done st h few same passes acts =
     by (λ z a f p. steps_add before ss (done ++ s ∷ []) z a f p next_passes acts.1) s.acts refl
   where
     whole : (done ++ s ∷ []) ++ ss ≡ done ++ s ∷ ss
     whole = append_assoc done (s ∷ []) ss
+
     long : length (done ++ s ∷ []) ≡ length done + 1
     long = omega (arith, length-append done (s ∷ []))
+
     total : length done + (1 + length ss) ≡ 6
     total = (let e = ap length passes in let six : length step_passes ≡ 6 = refl in
         omega (arith, e, six, length-map (done ++ s ∷ ss) (λ (x : PassEdits). x.pass), length-append done (s ∷ ss)))
+
     at : slice_get step_passes (length done) ≡ Some s.pass
     at = (let n : length (passes_of done) ≡ length done = length-map done (λ (x : PassEdits). x.pass) in
         ap (λ (l : List Pass). slice_get l (length done)) (sym passes ∙ map-append (λ x. x.pass) done (s ∷ ss))
         ∙ ap (λ (i : ℕ). slice_get (passes_of done ++ s.pass ∷ passes_of ss) i) (sym n) ∙ got_at (passes_of done) s.pass (passes_of ss))
+
     numbers : steps_lines (length (done ++ s ∷ []) + 1) ss ≡ steps_lines ((length done + 1) + 1) ss
     numbers = ap (λ (i : ℕ). steps_lines (i + 1) ss) long
+
     next_passes : passes_of ((done ++ s ∷ []) ++ ss) ≡ step_passes
     next_passes = ap passes_of whole ∙ passes
+
     by : ((z : MethodRead) → awaits_act z.step ≡ false → length (all_steps z) ≤ length (done ++ s ∷ [])
-            → padded (length (done ++ s ∷ [])) (all_steps z) ≡ done ++ s ∷ []
-            → StepsAdded before (steps_lines (length (done ++ s ∷ []) + 1) ss) z ((done ++ s ∷ []) ++ ss) ss)
+        → padded (length (done ++ s ∷ [])) (all_steps z) ≡ done ++ s ∷ []
+        → StepsAdded before (steps_lines (length (done ++ s ∷ []) + 1) ss) z ((done ++ s ∷ []) ++ ss) ss)
         → (l : List Act) → s.acts ≡ l → StepsAdded before (steps_lines (length done + 1) (s ∷ ss)) st (done ++ s ∷ ss) (s ∷ ss)
     by go [] e =
         let is : empty_step s.pass ≡ s = (λ i. record { pass = s.pass; acts = sym e i }) in
         let padded_on : padded (length (done ++ s ∷ [])) (all_steps st) ≡ done ++ s ∷ []
         = ap (λ (i : ℕ). padded i (all_steps st)) long ∙ padded_more (length done) s.pass (all_steps st) few (omega (arith, total)) at
-          ∙ ap (λ (l : List PassEdits). l ++ empty_step s.pass ∷ []) same ∙ ap (λ (x : PassEdits). done ++ x ∷ []) is in
+        ∙ ap (λ (l : List PassEdits). l ++ empty_step s.pass ∷ []) same ∙ ap (λ (x : PassEdits). done ++ x ∷ []) is in
         let more = go st h (omega (arith, long, few)) padded_on in
         let none : step_lines (length done + 1) s.acts ≡ [] = ap (step_lines (length done + 1)) e in
         record {
           end = more.end;
           added_all = ap (λ (l : List WitnessLine). adds added (l ++ steps_lines ((length done + 1) + 1) ss) (reading before st)) none
               ∙ ap (λ (l : List WitnessLine). adds added l (reading before st)) (sym numbers) ∙ more.added_all;
-          class_same = more.class_same; name_same = more.name_same; ty_same = more.ty_same;
+          class_same = more.class_same;
+          name_same = more.name_same;
+          ty_same = more.ty_same;
           steps = subst (λ (w : List PassEdits). padded (length w) (all_steps more.end) ≡ w) whole more.steps;
           few = subst (λ (w : List PassEdits). length (all_steps more.end) ≤ length w) whole more.few;
-          acts = more.acts; stays = more.stays;
+          acts = more.acts;
+          stays = more.stays;
           some = λ k. more.some (subst (λ (l : List Act). ActOr l (HasAct ss)) e k);
         }
     by go (a ∷ more_acts) e =
@@ -158,20 +175,23 @@ steps_add before (s ∷ ss) done st h few same passes acts =
         let first : adds added (step_lines (length done + 1) s.acts) (reading before st)
         ≡ read_to before (record { class = st.class; name = st.name; ty = st.ty; steps = done; step = Some s })
         = ap (λ (l : List WitnessLine). adds added l (reading before st)) lines
-          ∙ ap (λ (o : Result WitnessRead WitKind). o >>= (λ u. adds added (map (λ x. line.Act x) s.acts) u)) begun ∙ acted in
+        ∙ ap (λ (o : Result WitnessRead WitKind). o >>= (λ u. adds added (map (λ x. line.Act x) s.acts) u)) begun ∙ acted in
         let some_acts : eqb (length s.acts) 0 ≡ false = ap (λ (l : List Act). eqb (length l) 0) e ∙ grind arith in
         let more = go (record { class = st.class; name = st.name; ty = st.ty; steps = done; step = Some s })
-            some_acts (omega arith) (padded_full (length (done ++ s ∷ [])) (done ++ s ∷ []) refl) in
+        some_acts (omega arith) (padded_full (length (done ++ s ∷ [])) (done ++ s ∷ []) refl) in
         record {
           end = more.end;
           added_all = adds_append (step_lines (length done + 1) s.acts) (steps_lines ((length done + 1) + 1) ss) (reading before st)
               (reading before (record { class = st.class; name = st.name; ty = st.ty; steps = done; step = Some s })) first
               ∙ ap (λ (l : List WitnessLine). adds added l (reading before (record { class = st.class; name = st.name; ty = st.ty; steps = done; step = Some s }))) (sym numbers)
               ∙ more.added_all;
-          class_same = more.class_same; name_same = more.name_same; ty_same = more.ty_same;
+          class_same = more.class_same;
+          name_same = more.name_same;
+          ty_same = more.ty_same;
           steps = subst (λ (w : List PassEdits). padded (length w) (all_steps more.end) ≡ w) whole more.steps;
           few = subst (λ (w : List PassEdits). length (all_steps more.end) ≤ length w) whole more.few;
-          acts = more.acts; stays = λ k. more.stays some_acts;
+          acts = more.acts;
+          stays = λ k. more.stays some_acts;
           some = λ k. more.stays some_acts;
         }
 
@@ -199,7 +219,9 @@ method_adds r m is b w h e =
       added_all = ap (λ (o : Result WitnessRead WitKind). o >>= (λ u. adds added (steps_lines 1 m.edits.steps) u)) (method_begins r m.class m.name m.ty b w h e)
           ∙ steps.added_all;
       kept = λ i. record {
-        class = steps.class_same i; name = steps.name_same i; ty = steps.ty_same i;
+        class = steps.class_same i;
+        name = steps.name_same i;
+        ty = steps.ty_same i;
         edits = record { steps = (ap (λ (n : ℕ). padded n (all_steps steps.end)) (sym long) ∙ steps.steps) i };
       };
       done = steps.some is.some;

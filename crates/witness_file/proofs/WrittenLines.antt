@@ -75,8 +75,10 @@ member_lacks : (byte : ℕ) (ty : MethodType) (name : List ℕ) → byte < 32 �
     → Lacks byte name → Lacks byte (method_text ty name)
 member_lacks byte ty name small none t n =
     spaced byte (result_text ty.ret) _ small (word_lacks byte (result_text ty.ret) none (result_word ty.ret (returned_is ty.ret t.returned)).0)
-    (lacks_append byte name _ n ((λ e. omega (arith, small, e)),
-    lacks_append byte (arguments_text ty.args) (codes ")") (arguments_lack_byte byte ty.args none (λ e. omega (arith, small, e)) t.arguments) ((λ e. omega (arith, small, e)), tt)))
+    (lacks_append byte name _ n (
+      (λ e. omega (arith, small, e)),
+      lacks_append byte (arguments_text ty.args) (codes ")") (arguments_lack_byte byte ty.args none (λ e. omega (arith, small, e)) t.arguments) ((λ e. omega (arith, small, e)), tt),
+    ))
 
 line_lacks : (byte : ℕ) (l : WitnessLine) → byte < 32 → is_word_byte byte ≡ false → IsLine l → Lacks byte (line_text l)
 unfolding line_text

@@ -14,14 +14,14 @@ ghost use Rattle.class_pool.specs.Ranks.{HasObject, HasRanks};
 ghost use Rattle.class_pool.specs.bodies.Tables.{AreMembers, AreTables, IsAbove};
 
 use crate::hierarchy::cycles::check_cycles;
-use crate::set::descriptors::descriptors_of;
 use crate::hierarchy::graph::{graph_of, library_of};
-use crate::set::lookup::ClassesByName;
-use crate::set::members::MemberIndex;
-use crate::set::order::order_of;
 use crate::hierarchy::rounds::{check_names, check_supertypes};
 use crate::hierarchy::superclasses::superclasses_of;
 use crate::hierarchy::superinterfaces::superinterfaces_of;
+use crate::set::descriptors::descriptors_of;
+use crate::set::lookup::ClassesByName;
+use crate::set::members::MemberIndex;
+use crate::set::order::order_of;
 use crate::{ClassId, ClassSet, NamedClass, PoolFault};
 use class_model::Class;
 use jv_base::{Items, M, Or, Text};

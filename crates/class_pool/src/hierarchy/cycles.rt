@@ -7,8 +7,8 @@ ghost use Rattle.class_pool.specs.Ranks.{HasRanks};
 ghost use Rattle.class_pool.specs.bodies.Numbers.{IsHierarchy, above, numbers_named};
 ghost use Rattle.class_pool.specs.Supertypes.{IsCyclic};
 
-use crate::set::lookup::ClassesByName;
 use crate::hierarchy::rounds::fault_at;
+use crate::set::lookup::ClassesByName;
 use crate::{PoolFault, PoolKind};
 use class_model::Class;
 use jv_base::{Items, M, Name, Or};

@@ -13,9 +13,9 @@ ghost use Rattle.class_pool.specs.Walk.{each_once};
 
 use crate::ClassId;
 use crate::hierarchy::graph::number;
-use crate::set::lookup::ClassesByName;
 use crate::hierarchy::met::Met;
 use crate::hierarchy::supers::id_at;
+use crate::set::lookup::ClassesByName;
 use jv_base::{Items, M, Name};
 use lib_table::{LibId, lib_interface};
 use std::alloc::Global;

@@ -12,8 +12,8 @@ ghost use Rattle.class_pool.specs.Walk.{each_once, supers, upwards};
 
 use crate::ClassId;
 use crate::hierarchy::graph::number;
-use crate::set::lookup::ClassesByName;
 use crate::hierarchy::met::Met;
+use crate::set::lookup::ClassesByName;
 use jv_base::{Items, M};
 use lib_table::LibId;
 use std::alloc::Global;

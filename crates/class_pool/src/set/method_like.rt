@@ -48,7 +48,7 @@ impl ClassSet {
         requires method { IsMethod self.now (record { class = Prog number; index = index }) }
         ensures { result ≡ declared_at self.now id
             (named_at self.now (record { class = Prog number; index = index })).0
-                (named_at self.now (record { class = Prog number; index = index })).1 }
+            (named_at self.now (record { class = Prog number; index = index })).1 }
     {
         let class = self.class(number);
         let at = index as usize - class.fields.len();

@@ -45,7 +45,7 @@ on_members = map unlined (op.GetStatic field ∷ op.PutStatic field ∷ op.GetFi
 abbrev pub on_types : List Ins
 on_types = map unlined (op.New (codes "A") ∷ op.ANewArray class_a ∷ op.ANewArray rows_of_ints
     ∷ op.CheckCast class_a ∷ op.CheckCast rows_of_ints ∷ op.InstanceOf class_a ∷ op.InstanceOf rows_of_ints
-        ∷ op.MultiNewArray rows_of_ints 1 ∷ op.MultiNewArray rows_of_ints 2
+    ∷ op.MultiNewArray rows_of_ints 1 ∷ op.MultiNewArray rows_of_ints 2
     ∷ op.PushText (codes "f") ∷ [])
 
 -- newarray of each type that is taken (JVMS 6.5.newarray)

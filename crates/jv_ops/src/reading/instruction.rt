@@ -27,8 +27,8 @@ use crate::reading::opcodes::{
 };
 use crate::reading::unaimed::{Match, Unaimed};
 use class_model::opcode::{
-    BIPUSH, SIPUSH, LDC, LDC_W, LDC2_W, IINC, GOTO, TABLESWITCH, LOOKUPSWITCH, INVOKEINTERFACE,
-    INVOKEDYNAMIC, NEW, NEWARRAY, ANEWARRAY, WIDE, MULTIANEWARRAY, GOTO_W,
+    ANEWARRAY, BIPUSH, GOTO, GOTO_W, IINC, INVOKEDYNAMIC, INVOKEINTERFACE, LDC, LDC_W, LDC2_W,
+    LOOKUPSWITCH, MULTIANEWARRAY, NEW, NEWARRAY, SIPUSH, TABLESWITCH, WIDE,
 };
 use class_model::{Entry, Op};
 use jv_base::{Cursor, FieldType, Items, M, Or, Shared};

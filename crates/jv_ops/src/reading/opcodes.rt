@@ -7,21 +7,139 @@ ghost use Rattle.class_model.specs.Opcodes.{is_left_out_array_type, is_left_out_
 ghost use Rattle.class_model.specs.Opcodes.{is_left_out_opcode};
 ghost use Rattle.class_model.specs.declared.op.Op.TheVariants as op;
 
-use class_model::opcode::{
-    NOP, ACONST_NULL, ICONST_M1, ICONST_5, LCONST_0, LCONST_1, FCONST_0, DCONST_1, ILOAD, LLOAD,
-    FLOAD, DLOAD, ALOAD, ILOAD_0, FLOAD_0, DLOAD_3, ALOAD_3, IALOAD, FALOAD, DALOAD, SALOAD,
-    ISTORE, LSTORE, FSTORE, DSTORE, ASTORE, ISTORE_0, FSTORE_0, DSTORE_3, ASTORE_3, IASTORE,
-    FASTORE, DASTORE, SASTORE, POP, POP2, DUP, DUP_X1, DUP_X2, DUP2, DUP2_X1, DUP2_X2, SWAP,
-    IADD, LADD, FADD, DADD, ISUB, LSUB, FSUB, DSUB, IMUL, LMUL, FMUL, DMUL, IDIV, LDIV, FDIV,
-    DDIV, IREM, LREM, FREM, DREM, INEG, LNEG, FNEG, DNEG, ISHL, LSHL, ISHR, LSHR, IUSHR, LUSHR,
-    IAND, LAND, IOR, LOR, IXOR, LXOR, I2L, I2F, I2D, L2I, L2F, D2F, I2B, I2C, I2S, LCMP, FCMPL,
-    DCMPG, IFEQ, IFLE, IF_ICMPEQ, IF_ICMPLE, IF_ACMPEQ, IF_ACMPNE, GOTO, IRETURN, LRETURN,
-    FRETURN, DRETURN, ARETURN, RETURN, GETSTATIC, PUTSTATIC, GETFIELD, PUTFIELD, INVOKEVIRTUAL,
-    INVOKESPECIAL, INVOKESTATIC, ANEWARRAY, ARRAYLENGTH, ATHROW, CHECKCAST, INSTANCEOF,
-    MONITORENTER, MONITOREXIT, IFNULL, IFNONNULL,
-};
-use class_model::{ArithOp, Cond, ConvOp, Elem, Kind, LogicOp, MemberRef, Num, Op, ShiftOp};
-use jv_base::{Base, FieldType, Shared};
+use class_model::ArithOp;
+use class_model::Cond;
+use class_model::ConvOp;
+use class_model::Elem;
+use class_model::Kind;
+use class_model::LogicOp;
+use class_model::MemberRef;
+use class_model::Num;
+use class_model::Op;
+use class_model::ShiftOp;
+use class_model::opcode::ACONST_NULL;
+use class_model::opcode::ALOAD;
+use class_model::opcode::ALOAD_3;
+use class_model::opcode::ANEWARRAY;
+use class_model::opcode::ARETURN;
+use class_model::opcode::ARRAYLENGTH;
+use class_model::opcode::ASTORE;
+use class_model::opcode::ASTORE_3;
+use class_model::opcode::ATHROW;
+use class_model::opcode::CHECKCAST;
+use class_model::opcode::D2F;
+use class_model::opcode::DADD;
+use class_model::opcode::DALOAD;
+use class_model::opcode::DASTORE;
+use class_model::opcode::DCMPG;
+use class_model::opcode::DCONST_1;
+use class_model::opcode::DDIV;
+use class_model::opcode::DLOAD;
+use class_model::opcode::DLOAD_3;
+use class_model::opcode::DMUL;
+use class_model::opcode::DNEG;
+use class_model::opcode::DREM;
+use class_model::opcode::DRETURN;
+use class_model::opcode::DSTORE;
+use class_model::opcode::DSTORE_3;
+use class_model::opcode::DSUB;
+use class_model::opcode::DUP;
+use class_model::opcode::DUP_X1;
+use class_model::opcode::DUP_X2;
+use class_model::opcode::DUP2;
+use class_model::opcode::DUP2_X1;
+use class_model::opcode::DUP2_X2;
+use class_model::opcode::FADD;
+use class_model::opcode::FALOAD;
+use class_model::opcode::FASTORE;
+use class_model::opcode::FCMPL;
+use class_model::opcode::FCONST_0;
+use class_model::opcode::FDIV;
+use class_model::opcode::FLOAD;
+use class_model::opcode::FLOAD_0;
+use class_model::opcode::FMUL;
+use class_model::opcode::FNEG;
+use class_model::opcode::FREM;
+use class_model::opcode::FRETURN;
+use class_model::opcode::FSTORE;
+use class_model::opcode::FSTORE_0;
+use class_model::opcode::FSUB;
+use class_model::opcode::GETFIELD;
+use class_model::opcode::GETSTATIC;
+use class_model::opcode::GOTO;
+use class_model::opcode::I2B;
+use class_model::opcode::I2C;
+use class_model::opcode::I2D;
+use class_model::opcode::I2F;
+use class_model::opcode::I2L;
+use class_model::opcode::I2S;
+use class_model::opcode::IADD;
+use class_model::opcode::IALOAD;
+use class_model::opcode::IAND;
+use class_model::opcode::IASTORE;
+use class_model::opcode::ICONST_5;
+use class_model::opcode::ICONST_M1;
+use class_model::opcode::IDIV;
+use class_model::opcode::IF_ACMPEQ;
+use class_model::opcode::IF_ACMPNE;
+use class_model::opcode::IF_ICMPEQ;
+use class_model::opcode::IF_ICMPLE;
+use class_model::opcode::IFEQ;
+use class_model::opcode::IFLE;
+use class_model::opcode::IFNONNULL;
+use class_model::opcode::IFNULL;
+use class_model::opcode::ILOAD;
+use class_model::opcode::ILOAD_0;
+use class_model::opcode::IMUL;
+use class_model::opcode::INEG;
+use class_model::opcode::INSTANCEOF;
+use class_model::opcode::INVOKESPECIAL;
+use class_model::opcode::INVOKESTATIC;
+use class_model::opcode::INVOKEVIRTUAL;
+use class_model::opcode::IOR;
+use class_model::opcode::IREM;
+use class_model::opcode::IRETURN;
+use class_model::opcode::ISHL;
+use class_model::opcode::ISHR;
+use class_model::opcode::ISTORE;
+use class_model::opcode::ISTORE_0;
+use class_model::opcode::ISUB;
+use class_model::opcode::IUSHR;
+use class_model::opcode::IXOR;
+use class_model::opcode::L2F;
+use class_model::opcode::L2I;
+use class_model::opcode::LADD;
+use class_model::opcode::LAND;
+use class_model::opcode::LCMP;
+use class_model::opcode::LCONST_0;
+use class_model::opcode::LCONST_1;
+use class_model::opcode::LDIV;
+use class_model::opcode::LLOAD;
+use class_model::opcode::LMUL;
+use class_model::opcode::LNEG;
+use class_model::opcode::LOR;
+use class_model::opcode::LREM;
+use class_model::opcode::LRETURN;
+use class_model::opcode::LSHL;
+use class_model::opcode::LSHR;
+use class_model::opcode::LSTORE;
+use class_model::opcode::LSUB;
+use class_model::opcode::LUSHR;
+use class_model::opcode::LXOR;
+use class_model::opcode::MONITORENTER;
+use class_model::opcode::MONITOREXIT;
+use class_model::opcode::NOP;
+use class_model::opcode::POP;
+use class_model::opcode::POP2;
+use class_model::opcode::PUTFIELD;
+use class_model::opcode::PUTSTATIC;
+use class_model::opcode::RETURN;
+use class_model::opcode::SALOAD;
+use class_model::opcode::SASTORE;
+use class_model::opcode::SWAP;
+use jv_base::Base;
+use jv_base::FieldType;
+use jv_base::Shared;
 
 // ---- the order in which the standard goes through types and comparisons
 

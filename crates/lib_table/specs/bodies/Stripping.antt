@@ -1,4 +1,4 @@
--- What is left of a text behind a front (only the proofs of is_field_descriptor and is_method_descriptor need it).
+-- What is left of a text behind a front (only the proofs of is_descriptor need it).
 use Rattle.std.specs.Prelude.{ℕ, List, [], ◌∷◌, Option, Some, None, ◌==◌, if◌then◌else◌}
 
 -- none where the text doesn't begin with it

@@ -3,7 +3,6 @@
 
 ghost use Rattle.std.specs.Prelude.{◌≡◌, ◌<◌, [], IfSome, if◌then◌else◌, length};
 ghost use Rattle.std.specs.List.{All, flat_map};
-
 ghost use Rattle.class_pool.specs.Found.{IsMethod, IsMember, is_instance_method};
 ghost use Rattle.class_pool.specs.Hierarchy.{IsClass};
 ghost use Rattle.class_pool.specs.Walk.{own_superinterfaces};
@@ -14,10 +13,10 @@ ghost use Rattle.link_check.specs.bodies.Walks.{superclasses_up};
 
 use crate::ProfileKind;
 use crate::overriding::inherited::{Known, fits_in, program_number};
-use crate::rules::kind_order::lesser;
-use crate::rules::member_uses::role_kind;
 use crate::references::selection::select;
 use crate::references::supertypes::Superclasses;
+use crate::rules::kind_order::lesser;
+use crate::rules::member_uses::role_kind;
 use bitflags::Flags;
 use class_model::Class;
 use class_pool::{ClassId, ClassSet, MemberAt};

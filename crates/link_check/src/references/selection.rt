@@ -1,19 +1,18 @@
 // Which methods a method overrides, and which one a call runs (JVMS 5.4.5, 6.5).
 ghost use Rattle.std.specs.List.{find};
 ghost use Rattle.std.specs.Prelude.{◌≡◌, ◌&&◌, IfSome, false, not};
-
 ghost use Rattle.class_pool.specs.Found.{IsMethod, IsMember, is_protected_member, is_public_member, named_at};
 ghost use Rattle.class_pool.specs.Hierarchy.{IsClass};
 ghost use Rattle.class_pool.specs.Resolution.{first};
 ghost use Rattle.class_pool.specs.Selection.{first_instance, overrides, overriding_from, selected};
 ghost use Rattle.link_check.specs.bodies.Overriding.{alike_from, has_open_override, overrides_where};
 
-use crate::rules::member_uses::is_same;
 use crate::overriding::{
     has_open_override, is_declared_from, is_first_like, may_be_overridden, may_override,
     overrides_above,
 };
 use crate::references::supertypes::Superclasses;
+use crate::rules::member_uses::is_same;
 use class_pool::{ClassId, ClassSet, MemberAt};
 
 /// The method that runs where an object of a class is the receiver of a call of a method (JVMS 6.5.invokevirtual,

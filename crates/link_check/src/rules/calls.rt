@@ -14,10 +14,10 @@ ghost use Rattle.link_check.specs.Profile.{static_kinds, super_kinds};
 
 use crate::ProfileKind;
 use crate::references::access::is_class_below;
+use crate::references::resolution::linked_method;
 use crate::rules::kind_order::{lesser, unless};
 use crate::rules::member_uses::{is_same_class, role_kind, static_kind};
 use crate::rules::named_classes::{method_text_kind, name_kind};
-use crate::references::resolution::linked_method;
 use bitflags::Flags;
 use class_model::MemberRef;
 use class_pool::{ClassId, ClassSet};
@@ -128,7 +128,7 @@ fn special_named_kind(
     requires named { IsClass set.now named.now }
     ensures { result
         ≡ least (if is_init r.now.name then init_kinds set.now number named.now r.now else super_kinds set.now number
-            named.now) }
+        named.now) }
 {
     if r.name.as_str() == "<init>" {
         init_kind(set, number, named, r)

@@ -12,10 +12,10 @@ ghost use Rattle.link_check.specs.Profile.{used_kinds, written_kinds};
 ghost use Rattle.link_check.specs.declared.fault.ProfileKind.TheVariants.{LeftOutMember};
 
 use crate::ProfileKind;
+use crate::references::resolution::linked_field;
 use crate::rules::kind_order::{lesser, unless};
 use crate::rules::member_uses::{is_same_class, role_kind, static_kind};
 use crate::rules::named_classes::field_text_kind;
-use crate::references::resolution::linked_field;
 use class_model::MemberRef;
 use class_pool::{ClassId, ClassSet, MemberAt};
 use jv_base::{M, Name};
@@ -147,7 +147,7 @@ fn is_writer(set: &ClassSet, number: u32, method: &Name, is_static: bool, m: &Me
     requires there { IsMember set.now m.now }
     ensures { result ≡ (not (is_final_member set.now m.now) ||
         (same_class m.now.class (Prog number) && is_text method.now
-            (if is_static then codes "<clinit>" else codes "<init>"))) }
+        (if is_static then codes "<clinit>" else codes "<init>"))) }
 {
     !set.is_final_member(*m)
         || is_same_class(&m.class, &ClassId::Prog(number)) && is_initial(method, is_static)

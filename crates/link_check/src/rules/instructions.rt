@@ -101,7 +101,12 @@ fn handler_kind(set: &ClassSet, number: u32, handler: &Handler) -> Option<Profil
     }
 }
 
-fn frames_kind(alloc: Global, set: &ClassSet, number: u32, frames: &Frames) -> M<Option<ProfileKind>>
+fn frames_kind(
+    alloc: Global,
+    set: &ClassSet,
+    number: u32,
+    frames: &Frames,
+) -> M<Option<ProfileKind>>
     requires there { number < length set.now }
     ensures { IfOk result (λ kind. kind ≡ least (flat_map (frame_kinds set.now number) frames.now)) }
 {

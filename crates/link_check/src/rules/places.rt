@@ -15,10 +15,10 @@ ghost use Rattle.link_check.specs.Profile.{kinds_of_method, least, left_out_at, 
 use crate::ProfileKind;
 use crate::overriding::implemented::implementing_kind;
 use crate::overriding::inherited::Known;
+use crate::overriding::overridden::overriding_kind;
 use crate::rules::instructions::code_kind;
 use crate::rules::kind_order::{lesser, unless};
 use crate::rules::named_classes::{method_type_kind, name_kind, names_kind, type_kind};
-use crate::overriding::overridden::overriding_kind;
 use bitflags::Flags;
 use class_model::{Class, Field, Method};
 use class_pool::{ClassId, ClassSet, MemberAt};
@@ -141,7 +141,7 @@ fn body_kind(class: &Class, method: &Method) -> Option<ProfileKind>
 fn may_have_body(class: &Class, method: &Method) -> bool
     ensures { result
         ≡ (not (is_interface class.now.flags.0) || has acc_abstract method.now.flags.0 || is_text method.now.name
-            (codes "<clinit>")) }
+        (codes "<clinit>")) }
 {
     !class.flags.contains(Access::INTERFACE)
         || method.flags.contains(Access::ABSTRACT)

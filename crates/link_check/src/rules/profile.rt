@@ -106,7 +106,7 @@ fn method_fault(
     requires few { length class.now.fields + length class.now.methods < 4294967295 }
     ensures { IfOk result (λ fault. fault ≡ first
         (filter_map (λ p. fault_at number (Some p.0) (kinds_of_method set.now number class.now p.0 p.1))
-            (enumerate_from (length class.now.fields) class.now.methods))) }
+        (enumerate_from (length class.now.fields) class.now.methods))) }
 {
     let before = class.fields.len() as u32;
     for at in 0..class.methods.len() as u32 {

@@ -8,7 +8,7 @@ returns-in_err-skip_attribute c =
     let p = err_from_is_err_and c.from_residual.result c.from_residual.ensures.1 in
     rw (p.1, p.2) (ends c.args.count c.loop.counter c.loop.cursor c.in_err-skip_attribute.field-0.0
     (attributes_passed c.args.count c.args.cursor.now) c.loop-test.true c.in_err-skip_attribute.ensures
-        c.loop.invariant)
+    c.loop.invariant)
 
 pub loop-preserved : goal.loop-preserved
 loop-preserved c = goes_on c.args.count c.loop.counter c.loop.cursor c.skip_attribute.new.cursor

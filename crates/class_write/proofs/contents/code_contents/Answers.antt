@@ -77,10 +77,10 @@ returns-clause-due c =
     c.in_ok-put_items.ensures ∙ ap (λ (xs : List ℕ). xs ++ items_text pool code) c.new-info.ensures.items in
     let whole : c.put_tables.new.out.items ≡ code_contents pool first code =
     written_is pool first code c.put_items.new.out.items c.put_tables.new.out.items c.deref.result.now
-        c.deref-2.result.now items_are
+    c.deref-2.result.now items_are
     (c.deref.ensures.value ∙ lines_are) (c.deref-2.ensures.value ∙ frames_are) c.in_ok-put_tables.ensures in
     due_short pool first code c.contents_length-length.result c.put_tables.new.out.items long
-        c.if-length-gt4294967295.false whole
+    c.if-length-gt4294967295.false whole
 
 pub returns-clause-short : goal.returns-clause-short
 returns-clause-short c =
@@ -106,6 +106,6 @@ returns-clause-short c =
     c.in_ok-put_items.ensures ∙ ap (λ (xs : List ℕ). xs ++ items_text pool code) c.new-info.ensures.items in
     let whole : c.put_tables.new.out.items ≡ code_contents pool first code =
     written_is pool first code c.put_items.new.out.items c.put_tables.new.out.items c.deref.result.now
-        c.deref-2.result.now items_are
+    c.deref-2.result.now items_are
     (c.deref.ensures.value ∙ lines_are) (c.deref-2.ensures.value ∙ frames_are) c.in_ok-put_tables.ensures in
     omega (arith, ap length whole, long, c.if-length-gt4294967295.false)

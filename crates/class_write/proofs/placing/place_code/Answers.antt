@@ -20,6 +20,6 @@ overflow_cast-len c =
 pub returns : goal.returns
 returns c =
     placed_is c.args.pool.now c.args.code.now c.in_ok-coded.coded c.len.result c.from_vec.result
-        c.in_ok-coded.ensures.exact c.len.ensures
+    c.in_ok-coded.ensures.exact c.len.ensures
     (c.from_vec.ensures ∙ (c.in_ok-push.ensures.items ∙ ap (λ
     (xs : List ℕ). xs ++ c.len.result ∷ []) c.into_vec-places.ensures))

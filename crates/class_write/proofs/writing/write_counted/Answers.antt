@@ -23,7 +23,7 @@ returns-in_err-check_limits c =
     let pool = c.in_ok-pool.pool in
     let is = c.in_ok-pool.ensures in
     let p = err_from_is_err_and c.from_residual-in_err-check_limits.result
-        c.from_residual-in_err-check_limits.ensures.1 in
+    c.from_residual-in_err-check_limits.ensures.1 in
     record {
       exact = rw (p.1, p.2)
           (pool_fault_due class pool is c.in_err-check_limits.field-0.0 c.in_err-check_limits.ensures);
@@ -83,7 +83,7 @@ returns-in_err-put_class_file c =
     (λ (m : Method). code_fits pool m.code) class.methods) c.in_ok-placed.placed due).0 in
     let tables : tables_fit class ≡ Ok tt = sym c.in_default.ensures in
     let p = err_from_is_err_and c.from_residual-in_err-put_class_file.result
-        c.from_residual-in_err-put_class_file.ensures.1 in
+    c.from_residual-in_err-put_class_file.ensures.1 in
     record {
       exact = rw (p.1, p.2) (bodies_fault_due class pool is fits coded tables c.in_err-put_class_file.field-0.0
           c.new-out.result.items c.put_class_file.new.out.items

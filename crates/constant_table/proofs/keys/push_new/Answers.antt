@@ -12,5 +12,5 @@ returns-clause-indices c =
     let e : c.len-index.result ≡ 1 + length ks = search rules in
     subst (λ (xs : List Key). IsIndexed xs (index_at new)) (sym c.in_ok-push.ensures.items)
     (kept_new ks (index_at c.args.indices.now) c.args.key c.requires.indices
-        (index_at new) c.len-index.result c.requires.missing e
+    (index_at new) c.len-index.result c.requires.missing e
     (from_ok c.put.result (sym c.is_err.ensures.value ∙ c.if-is_err.false) c.put.ensures.kept))

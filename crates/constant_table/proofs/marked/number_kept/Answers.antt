@@ -8,4 +8,4 @@ pub returns : goal.returns
 returns c =
     c.copied.ensures ∙ c.get.ensures.value
     ∙ ap (λ (f : MarkedText → MarkedText → Bool). lookup
-        (f c.args.key.now) c.args.numbers.now.entries) mark_order_is_same
+    (f c.args.key.now) c.args.numbers.now.entries) mark_order_is_same

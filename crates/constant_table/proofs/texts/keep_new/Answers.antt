@@ -20,8 +20,8 @@ returns-clause-text c =
     let texts = c.keep.new.self in
     text_there texts c.in_ok-number.number (units_of c.args.text.now)
     (subst (λ
-        (u : List ℕ). HasNumber texts c.in_ok-number.number u) c.in_ok-units_of_text.ensures.written
-            c.in_ok-number.ensures.number)
+    (u : List ℕ). HasNumber texts c.in_ok-number.number u) c.in_ok-units_of_text.ensures.written
+    c.in_ok-number.ensures.number)
 
 pub returns-clause-numbers : goal.returns-clause-numbers
 returns-clause-numbers c =
@@ -29,7 +29,7 @@ returns-clause-numbers c =
     let texts = c.keep.new.self in
     let h : HasNumber texts c.in_ok-number.number (units_of c.args.text.now) =
     subst (λ (u : List ℕ). HasNumber texts c.in_ok-number.number u) c.in_ok-units_of_text.ensures.written
-        c.in_ok-number.ensures.number in
+    c.in_ok-number.ensures.number in
     number_put texts old c.put_number.new.numbers.entries c.args.text.now c.in_ok-number.number
     (numbers_grown c.args.texts.now texts old c.keep.ensures.grows c.requires.numbers) h
     (subst (λ (key : MarkedText). (k : MarkedText)

@@ -17,14 +17,14 @@ returns-clause-places c =
     (subst (λ (key : List ℕ). (t : List ℕ) → lookup (same_text t) c.put_place.new.places.entries
     ≡ cond (same_text key t) (Some c.len-number.result) (lookup (same_text t) c.args.places.now.entries)) c.requires.key
     (from_ok c.put_place.result (sym c.is_err.ensures.value
-        ∙ c.if-is_err.false) c.put_place.ensures.kept)) c.requires.missing)
+    ∙ c.if-is_err.false) c.put_place.ensures.kept)) c.requires.missing)
 
 pub returns-clause-number : goal.returns-clause-number
 returns-clause-number c =
     let ts = c.args.texts.now.items in
     let e : c.len-number.result ≡ length ts = search rules in
     place_there c.push.new.self.items c.put_place.new.places.entries c.args.text
-        (returns-clause-places c) c.len-number.result
+    (returns-clause-places c) c.len-number.result
     (placed ts c.args.places.now.entries c.args.text c.requires.places c.put_place.new.places.entries
     c.len-number.result e
     (subst (λ (key : List ℕ). (t : List ℕ) → lookup (same_text t) c.put_place.new.places.entries

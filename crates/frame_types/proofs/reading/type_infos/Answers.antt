@@ -21,7 +21,7 @@ pub loop-preserved : goal.loop-preserved
 loop-preserved c =
     let e : c.push.new.self ≡ c.loop.infos ++ c.in_ok-next.next ∷ [] = c.in_ok-push.ensures in
     rw e (goes_on_as info_of read_type c.loop.infos c.args.count c.loop.counter c.loop.cursor c.type_info.new.cursor
-        c.in_ok-next.next
+    c.in_ok-next.next
     (many c.args.count read_type c.args.cursor.now) c.loop-test.true c.in_ok-next.ensures c.loop.invariant)
 
 pub returns : goal.returns

@@ -9,7 +9,7 @@ use Rattle.link_check.proofs.overriding.has_open_override.Goals as goal
 pub returns-then-is_same : goal.returns-then-is_same
 returns-then-is_same c =
     open_here c.args.set.now c.args.above.now c.loop-class.class-iterator c.next.new.self c.in-Some.class
-        c.loop-class.opened c.in-Some-method_like.m _ c.in-Some.ensures.steps
+    c.loop-class.opened c.in-Some-method_like.m _ c.in-Some.ensures.steps
     (sym c.method_like.ensures.is ∙ c.in-Some-method_like.is) c.if-not-opened.false
     (sym c.is_same.ensures ∙ c.if-is_same.true) c.loop-class.invariant.found
 
@@ -17,10 +17,10 @@ pub loop-class-preserved-then-not-opened : goal.loop-class-preserved-then-not-op
 loop-class-preserved-then-not-opened c = record {
   there = All-rest
       (IsClass c.args.set.now) c.in-Some.class c.next.new.self c.loop-class.class-iterator c.in-Some.ensures.steps
-          c.loop-class.invariant.there;
+      c.loop-class.invariant.there;
   found =
       open_on c.args.set.now c.args.above.now c.loop-class.class-iterator c.next.new.self c.in-Some.class
-          c.loop-class.opened c.overrides_openly-opened.result
+      c.loop-class.opened c.overrides_openly-opened.result
       (Some c.in-Some-method_like.m) _ c.in-Some.ensures.steps (sym c.method_like.ensures.is ∙ c.in-Some-method_like.is)
       (ap (λ b. b && same_member c.in-Some-method_like.m c.args.above.now) c.if-not-opened.true)
       (c.overrides_openly-opened.ensures
@@ -34,10 +34,10 @@ pub loop-class-preserved-else-is_same : goal.loop-class-preserved-else-is_same
 loop-class-preserved-else-is_same c = record {
   there = All-rest
       (IsClass c.args.set.now) c.in-Some.class c.next.new.self c.loop-class.class-iterator c.in-Some.ensures.steps
-          c.loop-class.invariant.there;
+      c.loop-class.invariant.there;
   found =
       open_on c.args.set.now c.args.above.now c.loop-class.class-iterator c.next.new.self c.in-Some.class
-          c.loop-class.opened c.loop-class.opened
+      c.loop-class.opened c.loop-class.opened
       (Some c.in-Some-method_like.m) _ c.in-Some.ensures.steps (sym c.method_like.ensures.is ∙ c.in-Some-method_like.is)
       (ap (λ b. b && same_member c.in-Some-method_like.m c.args.above.now) c.if-not-opened.false ∙ sym c.is_same.ensures
       ∙ c.if-is_same.false)
@@ -52,9 +52,9 @@ pub loop-class-preserved : goal.loop-class-preserved
 loop-class-preserved c = record {
   there = All-rest
       (IsClass c.args.set.now) c.in-Some.class c.next.new.self c.loop-class.class-iterator c.in-Some.ensures.steps
-          c.loop-class.invariant.there;
+      c.loop-class.invariant.there;
   found =
       open_on c.args.set.now c.args.above.now c.loop-class.class-iterator c.next.new.self c.in-Some.class
-          c.loop-class.opened c.loop-class.opened None _
+      c.loop-class.opened c.loop-class.opened None _
       c.in-Some.ensures.steps (sym c.method_like.ensures.is ∙ c.in_default.is) tt refl c.loop-class.invariant.found;
 }

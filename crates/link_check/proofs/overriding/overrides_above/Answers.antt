@@ -34,7 +34,7 @@ returns-then-is_same c =
     (has_open_override c.args.set.now c.args.above.now (alike_from c.args.set.now c.args.above.now c.args.m.now.class))
     (sym c.is_same.ensures ∙ c.if-is_same.true)
     ∙ sym (overridden_below c.args.set.now c.args.above.now c.args.m.now c.requires.own c.requires.alike
-        c.requires.below)
+    c.requires.below)
 
 pub returns-then-may_be_overridden : goal.returns-then-may_be_overridden
 returns-then-may_be_overridden c =
@@ -46,7 +46,7 @@ returns-then-may_be_overridden c =
     (sym c.may_override.ensures ∙ c.if-may_override.true)
     (sym c.may_be_overridden.ensures ∙ c.if-may_be_overridden.true)
     ∙ sym (overridden_below c.args.set.now c.args.above.now c.args.m.now c.requires.own c.requires.alike
-        c.requires.below)
+    c.requires.below)
 
 pub returns-else-may_be_overridden : goal.returns-else-may_be_overridden
 returns-else-may_be_overridden c =
@@ -58,7 +58,7 @@ returns-else-may_be_overridden c =
     (sym c.may_override.ensures ∙ c.if-may_override.true)
     (sym c.may_be_overridden.ensures ∙ c.if-may_be_overridden.false)
     ∙ sym (overridden_below c.args.set.now c.args.above.now c.args.m.now c.requires.own c.requires.alike
-        c.requires.below)
+    c.requires.below)
 
 pub returns-else-may_override : goal.returns-else-may_override
 returns-else-may_override c =
@@ -69,4 +69,4 @@ returns-else-may_override c =
     (sym c.is_same.ensures ∙ c.if-is_same.false)
     (sym c.may_override.ensures ∙ c.if-may_override.false)
     ∙ sym (overridden_below c.args.set.now c.args.above.now c.args.m.now c.requires.own c.requires.alike
-        c.requires.below)
+    c.requires.below)

@@ -15,11 +15,11 @@ loop-method-preserved c =
     record {
       pushed = mapped
           (method_needs c.args.numbered.now.set.now c.args.number) methods i c.method-item.result
-              c.in_ok-method_needs.field-0 c.push_empty-2.new.needs c.loop-method.needs c.push.new.self lt
-                  c.method-item.is
+          c.in_ok-method_needs.field-0 c.push_empty-2.new.needs c.loop-method.needs c.push.new.self lt
+          c.method-item.is
           c.loop-method.invariant.pushed c.in_ok-method_needs.ensures.are c.in_ok-push.ensures;
       below = All-same (AreBelow count) _ _ c.in_ok-push.ensures
           (All-push
           (AreBelow count) c.loop-method.needs c.in_ok-method_needs.field-0 c.loop-method.invariant.below
-              c.in_ok-method_needs.ensures.below);
+          c.in_ok-method_needs.ensures.below);
     }

@@ -19,7 +19,7 @@ loop-number-preserved c =
     subst (λ (members : List MemberIndex). AllZip IsIndexOf
     (take (c.loop-number.number + 1) c.args.classes.now) members) (sym put)
     (index_more c.args.classes.now c.loop-number.members c.loop-number.number x c.in_ok-of.field-0
-        c.loop-number.invariant within at c.in_ok-of.ensures)
+    c.loop-number.invariant within at c.in_ok-of.ensures)
 
 pub index-texts-requires : goal.index-texts-requires
 index-texts-requires c =

@@ -9,4 +9,4 @@ returns-clause-before c =
     (λ (ns : List (List ℕ)). NoneRises ns c.args.ranks.now) c.as_slice.ensures
     (c.none_rises.ensures c.if-not-none_rises.false) in
     first_of_ranks c.args.set.now c.args.hierarchy.now c.args.ranks.now c.first_unranked.result c.requires rises
-        c.first_unranked.ensures.there c.first_unranked.ensures.before
+    c.first_unranked.ensures.there c.first_unranked.ensures.before

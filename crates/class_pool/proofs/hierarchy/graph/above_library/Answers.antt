@@ -7,23 +7,23 @@ pub overflow_add-k : goal.overflow_add-k
 overflow_add-k c =
     let few = few_interfaces c.args.id in
     let below = interface_below c.args.id c.loop-interface.k c.in-Some-lib_interface.interface
-        c.in-Some-lib_interface.ensures in
+    c.in-Some-lib_interface.ensures in
     omega (arith, few, below)
 
 pub loop-interface-smaller : goal.loop-interface-smaller
 loop-interface-smaller c =
     let below = interface_below c.args.id c.loop-interface.k c.in-Some-lib_interface.interface
-        c.in-Some-lib_interface.ensures in
+    c.in-Some-lib_interface.ensures in
     omega (arith, below)
 
 pub loop-interface-preserved : goal.loop-interface-preserved
 loop-interface-preserved c =
     let below = interface_below c.args.id c.loop-interface.k c.in-Some-lib_interface.interface
-        c.in-Some-lib_interface.ensures in (
+    c.in-Some-lib_interface.ensures in (
       interface_put c.args.id c.loop-interface.k c.in-Some-lib_interface.interface
           c.library_number-in-Some-lib_interface.result c.loop-interface.numbers c.push-in-Some-lib_interface.new.self
           c.in-Some-lib_interface.ensures c.loop-interface.invariant.0 c.library_number-in-Some-lib_interface.ensures
-              c.in_ok-push-2.ensures,
+          c.in_ok-push-2.ensures,
       omega (arith, below),
     )
 

@@ -8,13 +8,13 @@ returns-then-eq c =
     c.loop-other.invariant.0
     ∙ sym
     (library_at c.args.library.now c.loop-other.other-index c.other-item.result c.requires.library
-        c.loop-other-test.true c.other-item.is)
+    c.loop-other-test.true c.other-item.is)
     ∙ eqb-true _ _ (sym c.eq.ensures ∙ c.if-eq.true)
 
 pub loop-other-preserved : goal.loop-other-preserved
 loop-other-preserved c =
     let at = library_at c.args.library.now c.loop-other.other-index c.other-item.result c.requires.library
-        c.loop-other-test.true c.other-item.is in
+    c.loop-other-test.true c.other-item.is in
     let low = c.loop-other.invariant.1 in (
       ap (λ k. k + 1) c.loop-other.invariant.0,
       ⊎_elim (λ e. absurd (eqb-false _ _ (sym c.eq.ensures ∙ c.if-eq.false) (at ∙ e))) (λ ne. omega (arith, low, ne))

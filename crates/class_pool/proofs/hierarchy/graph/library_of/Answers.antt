@@ -4,5 +4,5 @@ use Rattle.class_pool.proofs.hierarchy.graph.library_of.Goals as goal
 pub loop-name-preserved : goal.loop-name-preserved
 loop-name-preserved c =
     library_more c.library_names-name-items.result.now c.loop-name.name-index _ c.loop-name.ids c.push_class.new.ids
-        c.in_ok-from_str.field-0 c.loop-name-test.true c.loop-name.invariant
+    c.in_ok-from_str.field-0 c.loop-name-test.true c.loop-name.invariant
     c.in_ok-from_str.ensures c.in_ok-push_class.ensures

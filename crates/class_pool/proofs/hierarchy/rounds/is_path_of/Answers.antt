@@ -4,7 +4,7 @@ use Rattle.class_pool.proofs.hierarchy.rounds.is_path_of.Goals as goal
 pub returns-in-Some : goal.returns-in-Some
 returns-in-Some c =
     path_is_some c.args.path.now c.args.name.now _ _ _ _ c.in-Some.rest.now c.eq.result c.as_bytes.ensures
-        c.as_bytes-2.ensures c.as_slice.ensures
+    c.as_bytes-2.ensures c.as_slice.ensures
     c.in-Some.ensures.cases.0 c.in-Some.ensures.cases.1 c.eq.ensures
 
 pub returns-in-None : goal.returns-in-None

@@ -4,4 +4,4 @@ use Rattle.class_pool.proofs.hierarchy.superinterfaces.classes_named.Goals as go
 pub loop-name-preserved : goal.loop-name-preserved
 loop-name-preserved c =
     named_put c.args.classes.now c.args.names.now c.loop-name.name-index c.name-item.result c.loop-name.ids
-        c.push_named.new.ids c.loop-name-test.true c.name-item.is c.loop-name.invariant c.in_ok-push_named.ensures
+    c.push_named.new.ids c.loop-name-test.true c.name-item.is c.loop-name.invariant c.in_ok-push_named.ensures

@@ -33,7 +33,7 @@ returns-clause-filling c =
     c.requires.filling.none c.as_slice-3.ensures.value
     (c.as_slice-4.ensures ∙ c.in_ok-interfaces.ensures) c.in_ok-walk.ensures.ids in
     filling_put c.args.classes.now c.args.filling.now _ c.args.id.now c.number-place.result c.take.result
-        c.requires.steps c.requires.filling c.requires.there c.number-place.ensures
+    c.requires.steps c.requires.filling c.requires.there c.number-place.ensures
     (all_filled c.as_slice.result.now c.args.filling.now.filled.items c.as_slice-2.result.now
     (interfaces c.args.classes.now c.args.id.now) c.are_filled.result c.as_slice.ensures.value
     (c.as_slice-2.ensures ∙ c.in_ok-interfaces.ensures) c.are_filled.ensures c.if-not-are_filled.false)

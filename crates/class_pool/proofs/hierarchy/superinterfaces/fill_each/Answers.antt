@@ -20,7 +20,7 @@ loop-place-preserved c = record {
       (λ before. c.in_ok-fill.ensures.keeps a (c.loop-place.invariant.more a a-in before all))
       (λ over.
       filled_at c.args.classes.now c.args.filling.now.filled.items c.loop-place.filling.filled.items
-          c.fill.new.filling.filled.items c.loop-place.place c.id_at.result a c.id_at.ensures a-in
+      c.fill.new.filling.filled.items c.loop-place.place c.id_at.result a c.id_at.ensures a-in
       (omega (arith, low, over)) c.in_ok-fill.ensures.more
       (λ k d within. c.loop-place.invariant.keeps (get_or (interfaces c.args.classes.now a) k d) (all k d within)))
       (cases_lt (number a) c.loop-place.place);

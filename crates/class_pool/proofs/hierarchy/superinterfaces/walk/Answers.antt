@@ -25,13 +25,13 @@ loop-id-preserved c =
     let list : c.as_slice.result.now ≡ list_at c.args.lists.now (get_or xs c.loop-id.id-index x) =
     list_read c.args.lists.now x
     (get_or xs c.loop-id.id-index x) c.number.result c.args.met.now.count c.index-lists-number.result
-        c.as_slice.result.now c.as_slice.ensures c.index-lists-number.is c.number.ensures c.id-item.is
+    c.as_slice.result.now c.as_slice.ensures c.index-lists-number.is c.number.ensures c.id-item.is
     (c.requires.below c.loop-id.id-index x c.loop-id-test.true).1 c.requires.count in
     record {
       count = c.meet_all.ensures.count ∙ c.meet.ensures.count ∙ c.loop-id.invariant.count;
       ids =
           walk_more c.args.lists.now c.args.met.now.ids xs c.loop-id.id-index x c.loop-id.met.ids c.meet.new.self.ids
-              c.meet_all.new.self.ids c.loop-id-test.true c.loop-id.invariant.ids one
+          c.meet_all.new.self.ids c.loop-id-test.true c.loop-id.invariant.ids one
           (c.in_ok-meet_all.ensures.ids
           ∙ ap (λ (t : List ClassId). c.meet.new.self.ids ++ each_once c.meet.new.self.ids t) list);
     }

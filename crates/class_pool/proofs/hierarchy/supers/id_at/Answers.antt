@@ -16,5 +16,5 @@ returns-then-number-len c = low_at c.args.library.now c.args.number c.index.resu
 pub returns-else-number-len : goal.returns-else-number-len
 returns-else-number-len c =
     high_at c.args.library.now c.args.number c.len-else-number-len.result c.requires.library
-        c.len-else-number-len.ensures
+    c.len-else-number-len.ensures
     (omega (arith, c.if-number-len.false, c.len.ensures, c.len-else-number-len.ensures))

@@ -38,15 +38,15 @@ loop-id-preserved c =
     let list : c.as_slice.result.now ≡ list_at c.args.lists.now (get_or xs c.loop-id.id-index x) =
     list_read c.args.lists.now x
     (get_or xs c.loop-id.id-index x) c.number.result c.args.met.now.count c.index.result.now c.as_slice.result.now
-        c.as_slice.ensures
+    c.as_slice.ensures
     (sym (get_or_from_slice_get c.args.lists.now c.number.result c.index.result.now c.index.result.now
-        c.index.ensures)) c.number.ensures c.id-item.is
+    c.index.ensures)) c.number.ensures c.id-item.is
     (c.requires.below c.loop-id.id-index x c.loop-id-test.true).1 c.requires.count in
     record {
       count = c.meet_all.ensures.count ∙ c.loop-id.invariant.count;
       ids =
           lists_more c.args.lists.now c.args.met.now.ids xs c.loop-id.id-index x c.loop-id.met.ids
-              c.meet_all.new.self.ids c.loop-id-test.true c.loop-id.invariant.ids
+          c.meet_all.new.self.ids c.loop-id-test.true c.loop-id.invariant.ids
           (c.in_ok-meet_all.ensures.ids
           ∙ ap (λ (t : List ClassId). c.loop-id.met.ids ++ each_once c.loop-id.met.ids t) list);
     }

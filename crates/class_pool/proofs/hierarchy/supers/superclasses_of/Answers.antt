@@ -21,14 +21,14 @@ pub super_of-requires : goal.super_of-requires
 super_of-requires c =
     subst (IsClass c.args.classes.now)
     (get_or_from_slice_get c.loop-number.ids c.loop-number.number c.index.result.now c.args.id.now c.index.ensures)
-        c.loop-number.invariant.there
+    c.loop-number.invariant.there
 
 pub returns-in-None : goal.returns-in-None
 returns-in-None c =
     let x : ClassId = get_or c.loop-number.ids c.loop-number.number c.args.id.now in
     let at : x
     ≡ c.index.result.now = get_or_from_slice_get c.loop-number.ids c.loop-number.number c.index.result.now
-        c.args.id.now c.index.ensures in
+    c.args.id.now c.index.ensures in
     chain_top c.args.classes.now (c.args.steps - c.loop-number.number) x c.loop-number.ids
     (upwards (c.args.steps + 1) c.args.classes.now c.args.id.now)
     (ap (superclass c.args.classes.now) at ∙ sym c.in-None.ensures.is) c.loop-number.invariant.ids
@@ -38,12 +38,12 @@ loop-number-preserved c =
     let x : ClassId = get_or c.loop-number.ids c.loop-number.number c.args.id.now in
     let at : x
     ≡ c.index.result.now = get_or_from_slice_get c.loop-number.ids c.loop-number.number c.index.result.now
-        c.args.id.now c.index.ensures in
+    c.args.id.now c.index.ensures in
     let above : ClassId = c.in-Some.above in
     let put : c.push-in-Some.new.self ≡ c.loop-number.ids ++ above ∷ [] = c.in_ok-push-in-Some.ensures in
     let last : get_or c.push-in-Some.new.self (c.loop-number.number + 1) c.args.id.now ≡ above =
     pushed_last c.loop-number.ids c.push-in-Some.new.self above c.args.id.now c.loop-number.number
-        c.loop-number.invariant.long put in
+    c.loop-number.invariant.long put in
     let longer = ap length put in
     let added = length-append c.loop-number.ids (above ∷ []) in
     record {

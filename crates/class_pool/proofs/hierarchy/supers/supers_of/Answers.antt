@@ -78,7 +78,7 @@ remove-requires c =
     let ids : c.into_vec-ids.result.items ≡ c.args.id ∷ supers c.args.classes.now c.args.id =
     c.into_vec-ids.ensures ∙ c.take.ensures.ids
     ∙ supers_met c.args.classes.now c.args.superinterfaces.now c.args.id up c.in_ok-met.met.ids c.meet_all.new.self.ids
-        c.meet_lists.new.met.ids c.requires.own c.requires.there up-is
+    c.meet_lists.new.met.ids c.requires.own c.requires.there up-is
     (ap (λ (m : Classes). m.ids) c.in_ok-met.ensures) one two in
     let some = ap length ids in
     omega (arith, some, c.into_vec-ids.result.ok)
@@ -105,7 +105,7 @@ returns-clause-order c =
     let ids : c.into_vec-ids.result.items ≡ c.args.id ∷ supers c.args.classes.now c.args.id =
     c.into_vec-ids.ensures ∙ c.take.ensures.ids
     ∙ supers_met c.args.classes.now c.args.superinterfaces.now c.args.id up c.in_ok-met.met.ids c.meet_all.new.self.ids
-        c.meet_lists.new.met.ids c.requires.own c.requires.there up-is
+    c.meet_lists.new.met.ids c.requires.own c.requires.there up-is
     (ap (λ (m : Classes). m.ids) c.in_ok-met.ensures) one two in
     c.from_vec.ensures ∙ c.remove.ensures.items
     ∙ without_first c.args.id (supers c.args.classes.now c.args.id) c.into_vec-ids.result.items ids
@@ -132,7 +132,7 @@ returns-clause-are c =
     let ids : c.into_vec-ids.result.items ≡ c.args.id ∷ supers c.args.classes.now c.args.id =
     c.into_vec-ids.ensures ∙ c.take.ensures.ids
     ∙ supers_met c.args.classes.now c.args.superinterfaces.now c.args.id up c.in_ok-met.met.ids c.meet_all.new.self.ids
-        c.meet_lists.new.met.ids c.requires.own c.requires.there up-is
+    c.meet_lists.new.met.ids c.requires.own c.requires.there up-is
     (ap (λ (m : Classes). m.ids) c.in_ok-met.ensures) one two in
     let is : c.from_vec.result ≡ supers c.args.classes.now c.args.id =
     c.from_vec.ensures ∙ c.remove.ensures.items

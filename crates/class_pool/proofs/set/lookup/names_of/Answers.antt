@@ -12,4 +12,4 @@ loop-class-preserved c =
     (arith, c.loop-class-test.true, ap length c.as_slice-class-items.ensures) in
     c.in_ok-insert_name.ensures
     ∙ name_put c.args.classes.now c.loop-class.class-index x c.loop-class.names.keys c.requires within at
-        c.loop-class.invariant
+    c.loop-class.invariant

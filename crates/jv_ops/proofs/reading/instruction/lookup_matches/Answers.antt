@@ -7,7 +7,7 @@ returns-in_err-matches c = λ pool pad.
     let p = err_from_is_err_and c.from_residual.result c.from_residual.ensures.1 in
     rw (p.1, p.2)
     (lookup_stops pool pad c.args.default c.args.count c.args.cursor.now c.in_err-matches.field-0.0
-        c.matches.new.cursor c.matches.new.cursor c.in_err-matches.ensures)
+    c.matches.new.cursor c.matches.new.cursor c.in_err-matches.ensures)
 
 pub returns : goal.returns
 returns c = λ pool pad. lookup_done pool pad c.args.default c.args.count c.args.cursor.now c.matches.new.cursor

@@ -21,6 +21,6 @@ returns c = λ pool.
     let count : u4 c.u4.new.self ≡ Ok (c.in_ok-count.count, c.u4-2.new.self) = ap or_cut c.in_ok-count.ensures in
     let fits : lookup_count c.in_ok-count.count ≡ Ok c.in_ok-count.count = search rules in
     let is = lookup_switch_is c.args.at c.in_ok-default.default c.in_ok-count.count pad p c.take.new.self c.u4.new.self
-        c.u4-2.new.self padded default count fits in
+    c.u4-2.new.self padded default count fits in
     subst (λ (r : Result (Read × Place) FormatFault). ReadsOr c.lookup_matches.result c.lookup_matches.new.cursor
     (meaning_of_read pool r)) (sym is) (c.lookup_matches.ensures pool pad)

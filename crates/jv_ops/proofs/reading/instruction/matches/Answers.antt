@@ -13,13 +13,13 @@ returns-in_err-next c =
     (stops
     (match_read c.loop.previous c.loop.cursor) total c.in_err-next.field-0.0 c.match_at.new.cursor c.match_at.new.cursor
     (λ f h. matches_fault c.loop.matches c.args.count c.loop.counter c.loop.previous c.loop.cursor f total
-        c.loop-test.true c.loop.invariant h) c.in_err-next.ensures)
+    c.loop-test.true c.loop.invariant h) c.in_err-next.ensures)
 
 pub loop-preserved : goal.loop-preserved
 loop-preserved c =
     let e : c.push.new.self ≡ c.loop.matches ++ c.in_ok-next.next ∷ [] = c.in_ok-push.ensures in
     rw e (matches_go_on c.loop.matches c.args.count c.loop.counter c.loop.previous c.loop.cursor c.match_at.new.cursor
-        c.in_ok-next.next (matches_from c.args.count None c.args.cursor.now) c.loop-test.true
+    c.in_ok-next.next (matches_from c.args.count None c.args.cursor.now) c.loop-test.true
     (told_ok (match_read c.loop.previous c.loop.cursor)
     (c.in_ok-next.next, c.match_at.new.cursor) c.in_ok-next.ensures) c.loop.invariant)
 

@@ -12,7 +12,7 @@ returns-in_err-next c =
     let total = many c.args.count u4 c.args.cursor.now in
     rw (p.1, p.2) (stops (u4 c.loop.cursor) total c.in_err-next.field-0.0 c.offset.new.cursor c.offset.new.cursor
     (λ f h. many_fault u4 c.loop.offsets c.args.count c.loop.counter c.loop.cursor f total c.loop-test.true
-        c.loop.invariant h) c.in_err-next.ensures)
+    c.loop.invariant h) c.in_err-next.ensures)
 
 pub loop-preserved : goal.loop-preserved
 loop-preserved c =

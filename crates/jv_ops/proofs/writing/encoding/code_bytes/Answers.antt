@@ -19,7 +19,7 @@ loop-instruction-preserved c =
     let front = c.loop-instruction.bytes.items in
     let here : c.len-at.result ≡ length front = search rules in
     goes_on c.args.table.now c.args.places.now c.args.ins.now c.loop-instruction.instruction-index front
-        c.put_op.new.out.items
+    c.put_op.new.out.items
     (code_bytes c.args.table.now c.args.places.now c.args.ins.now) _ c.instruction-item.result c.len-at.result
-        c.loop-instruction-test.true
+    c.loop-instruction-test.true
     c.instruction-item.is here c.in_ok-put_op.ensures c.loop-instruction.invariant

@@ -21,7 +21,7 @@ loop-index-preserved c =
     (arith, rows, c.loop-index-test.true, c.len.ensures, c.len-2.ensures) in
     least_more f
     (members_of c.args.set.now c.args.interface) c.loop-index.index m c.loop-index.kind c.member_kind.result
-        c.lesser-kind.result
+    c.lesser-kind.result
     (omega (arith, count, c.loop-index-test.true, c.len.ensures, c.len-2.ensures))
     (member_at c.args.set.now c.args.interface c.loop-index.index m within)
     c.loop-index.invariant c.member_kind.ensures c.lesser-kind.ensures

@@ -18,13 +18,13 @@ loop-class-preserved c =
     record {
       there = All-rest
           (IsClass c.args.set.now) c.in-Some.class c.next.new.self c.loop-class.class-iterator c.in-Some.ensures.steps
-              c.loop-class.invariant.there;
+          c.loop-class.invariant.there;
       gathered =
           gathered_more kinds
           (superclasses_up c.args.set.now c.args.class) c.loop-class.class-iterator c.next.new.self c.in-Some.class
-              c.loop-class.kind
+          c.loop-class.kind
           c.own_kind.result c.lesser-kind.result c.in-Some.ensures.steps c.loop-class.invariant.gathered
-              c.own_kind.ensures c.lesser-kind.ensures;
+          c.own_kind.ensures c.lesser-kind.ensures;
     }
 
 pub returns : goal.returns
@@ -33,6 +33,6 @@ returns c =
     let h : ClassId → List ClassId = own_superinterfaces c.args.set.now in
     gathered_all (λ d. flat_map f (h d))
     (superclasses_up c.args.set.now c.args.class) c.loop-class.class-iterator c.loop-class.kind
-        c.loop-class.invariant.gathered
+    c.loop-class.invariant.gathered
     c.in-None.ensures.steps.0
     ∙ ap least (sym (flat_flat f h (superclasses_up c.args.set.now c.args.class)))

@@ -7,7 +7,7 @@ pub returns-in-Some : goal.returns-in-Some
 returns-in-Some c =
     subst (IsStart c.args.set.now c.args.number) (sym c.start_in.ensures)
     (start_above c.args.set.now c.has_ranks.ensures c.args.known.now c.args.number c.in-Some.superclass
-        c.super_of-above.result (omega (arith, c.len-count.ensures))
+    c.super_of-above.result (omega (arith, c.len-count.ensures))
     c.requires.there c.requires.known c.super_of-above.ensures c.in-Some.ensures
     (sym c.is_plain_in.ensures ∙ c.if-is_plain_in.true))
 

@@ -15,11 +15,11 @@ loop-class-preserved c =
     record {
       there = All-rest
           (IsClass c.args.set.now) c.in-Some.class c.next.new.self c.loop-class.class-iterator c.in-Some.ensures.steps
-              c.loop-class.invariant.there;
+          c.loop-class.invariant.there;
       below =
           All-same (λ n. n < length c.args.set.now) c.push.new.self.items
           (c.loop-class.unknown.items ++ c.in-Prog.number ∷ []) put
           (All-push
           (λ n. n < length c.args.set.now) c.loop-class.unknown.items c.in-Prog.number c.loop-class.invariant.below
-              number-in);
+          number-in);
     }

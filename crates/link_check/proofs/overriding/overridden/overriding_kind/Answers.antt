@@ -18,7 +18,7 @@ pub loop-class-init : goal.loop-class-init
 loop-class-init c = record {
   there =
       All-same (IsClass c.args.set.now) c.into_iter-class-iterator.result c.up-class-items.result
-          c.into_iter-class-iterator.ensures.into_iter_gives
+      c.into_iter-class-iterator.ensures.into_iter_gives
       c.up-class-items.ensures.there;
   gathered =
       gathered_none (overridden_in c.args.set.now c.args.m.now)
@@ -31,12 +31,12 @@ pub loop-class-preserved : goal.loop-class-preserved
 loop-class-preserved c = record {
   there = All-rest
       (IsClass c.args.set.now) c.in-Some.class c.next.new.self c.loop-class.class-iterator c.in-Some.ensures.steps
-          c.loop-class.invariant.there;
+      c.loop-class.invariant.there;
   gathered =
       gathered_more (overridden_in c.args.set.now c.args.m.now)
       (superclasses_up c.args.set.now (start_at c.args.known.now c.args.number)) c.loop-class.class-iterator
       c.next.new.self c.in-Some.class c.loop-class.kind c.like_kind.result c.lesser-kind.result c.in-Some.ensures.steps
-          c.loop-class.invariant.gathered
+      c.loop-class.invariant.gathered
       c.like_kind.ensures c.lesser-kind.ensures;
 }
 
@@ -47,4 +47,4 @@ returns c =
     c.loop-class.kind c.loop-class.invariant.gathered c.in-None.ensures.steps.0
     ∙ ap least (overridden_from c.args.set.now c.args.m.now c.args.number (start_at c.args.known.now c.args.number)
     (start_known c.args.set.now c.args.known.now c.args.number c.requires.known c.requires.there) c.requires.own
-        c.requires.method)
+    c.requires.method)

@@ -12,9 +12,9 @@ pub returns-in-Some-first_declared-clause-is : goal.returns-in-Some-first_declar
 returns-in-Some-first_declared-clause-is c =
     sym (field_passed c.args.set.now
     (c.args.name.now, c.args.ty.now) c.loop-class.class-iterator c.next.new.self c.in-Some.class c.declared_in.result
-        c.own_superinterfaces.result.now
+    c.own_superinterfaces.result.now
     c.first_declared.result c.in-Some.ensures.steps c.declared_in.ensures.is c.in_default.is
-        c.own_superinterfaces.ensures.are c.first_declared.ensures.is
+    c.own_superinterfaces.ensures.are c.first_declared.ensures.is
     ∙ ap (λ r. option_or r (first_declared c.args.set.now (c.args.name.now, c.args.ty.now)
     (flat_map (λ d. d ∷ own_superinterfaces c.args.set.now d) c.next.new.self)))
     c.in-Some-first_declared.is)
@@ -26,7 +26,7 @@ loop-class-preserved c = record {
       (field_passed c.args.set.now
       (c.args.name.now, c.args.ty.now) c.loop-class.class-iterator c.next.new.self c.in-Some.class c.declared_in.result
       c.own_superinterfaces.result.now c.first_declared.result c.in-Some.ensures.steps c.declared_in.ensures.is
-          c.in_default.is c.own_superinterfaces.ensures.are
+      c.in_default.is c.own_superinterfaces.ensures.are
       c.first_declared.ensures.is
       ∙ ap (λ r. option_or r (first_declared c.args.set.now (c.args.name.now, c.args.ty.now)
       (flat_map (λ d. d ∷ own_superinterfaces c.args.set.now d) c.next.new.self)))
@@ -34,5 +34,5 @@ loop-class-preserved c = record {
       ∙ c.loop-class.invariant.same;
   there = All-rest
       (IsClass c.args.set.now) c.in-Some.class c.next.new.self c.loop-class.class-iterator c.in-Some.ensures.steps
-          c.loop-class.invariant.there;
+      c.loop-class.invariant.there;
 }

@@ -9,10 +9,10 @@ loop-class-preserved c = record {
   same = sym
       (nearest_passed c.args.set.now
       (c.args.name.now, c.args.ty.now) c.loop-class.class-iterator c.next.new.self c.in-Some.class c.declared_in.result
-          c.in-Some.ensures.steps
+      c.in-Some.ensures.steps
       c.declared_in.ensures.is c.in_default.is)
       ∙ c.loop-class.invariant.same;
   there = All-rest
       (IsClass c.args.set.now) c.in-Some.class c.next.new.self c.loop-class.class-iterator c.in-Some.ensures.steps
-          c.loop-class.invariant.there;
+      c.loop-class.invariant.there;
 }

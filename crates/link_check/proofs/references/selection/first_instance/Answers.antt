@@ -19,7 +19,7 @@ pub loop-class-preserved-else-is_instance_method : goal.loop-class-preserved-els
 loop-class-preserved-else-is_instance_method c = record {
   there = All-rest
       (IsClass c.args.set.now) c.in-Some.class c.next.new.self c.loop-class.class-iterator c.in-Some.ensures.steps
-          c.loop-class.invariant.there;
+      c.loop-class.invariant.there;
   found =
       find_on c.args.set.now
       (named_at c.args.set.now c.args.m.now) c.loop-class.class-iterator c.next.new.self c.in-Some.class
@@ -34,7 +34,7 @@ pub loop-class-preserved : goal.loop-class-preserved
 loop-class-preserved c = record {
   there = All-rest
       (IsClass c.args.set.now) c.in-Some.class c.next.new.self c.loop-class.class-iterator c.in-Some.ensures.steps
-          c.loop-class.invariant.there;
+      c.loop-class.invariant.there;
   found =
       find_on c.args.set.now
       (named_at c.args.set.now c.args.m.now) c.loop-class.class-iterator c.next.new.self c.in-Some.class

@@ -21,7 +21,7 @@ pub loop-class-preserved-else-overrides_where : goal.loop-class-preserved-else-o
 loop-class-preserved-else-overrides_where c = record {
   there = All-rest
       (IsClass c.args.set.now) c.in-Some.class c.next.new.self c.loop-class.class-iterator c.in-Some.ensures.steps
-          c.loop-class.invariant.there;
+      c.loop-class.invariant.there;
   found =
       find_on c.args.set.now
       (named_at c.args.set.now c.args.m.now) c.loop-class.class-iterator c.next.new.self c.in-Some.class
@@ -37,7 +37,7 @@ pub loop-class-preserved : goal.loop-class-preserved
 loop-class-preserved c = record {
   there = All-rest
       (IsClass c.args.set.now) c.in-Some.class c.next.new.self c.loop-class.class-iterator c.in-Some.ensures.steps
-          c.loop-class.invariant.there;
+      c.loop-class.invariant.there;
   found =
       find_on c.args.set.now
       (named_at c.args.set.now c.args.m.now) c.loop-class.class-iterator c.next.new.self c.in-Some.class

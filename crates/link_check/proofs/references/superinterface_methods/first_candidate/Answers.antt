@@ -16,7 +16,7 @@ loop-m-init c = record {
       ∙ first_candidate c.args.set.now c.args.class.now (c.args.name.now, c.args.ty.now);
   there = All-same
       (IsMember c.args.set.now) c.into_iter-m-iterator.result c.of-m-items.result
-          c.into_iter-m-iterator.ensures.into_iter_gives c.of-m-items.ensures.there;
+      c.into_iter-m-iterator.ensures.into_iter_gives c.of-m-items.ensures.there;
 }
 
 pub loop-m-preserved : goal.loop-m-preserved
@@ -24,9 +24,9 @@ loop-m-preserved c = record {
   same = sym (ap first (filter_passed (is_candidate c.args.set.now
       (superinterface_methods c.args.set.now c.args.class.now (c.args.name.now, c.args.ty.now))) c.loop-m.m-iterator
       c.next.new.self c.in-Some.m c.is_candidate.result c.in-Some.ensures.steps c.is_candidate.ensures
-          c.if-is_candidate.false))
+      c.if-is_candidate.false))
       ∙ c.loop-m.invariant.same;
   there = All-rest
       (IsMember c.args.set.now) c.in-Some.m c.next.new.self c.loop-m.m-iterator c.in-Some.ensures.steps
-          c.loop-m.invariant.there;
+      c.loop-m.invariant.there;
 }

@@ -14,7 +14,7 @@ loop-other-init c = record {
       ∙ maximal_met c.args.set.now c.args.class.now (c.args.name.now, c.args.ty.now) c.args.m.now;
   there = All-same
       (IsMember c.args.set.now) c.into_iter-other-iterator.result c.of-other-items.result
-          c.into_iter-other-iterator.ensures.into_iter_gives
+      c.into_iter-other-iterator.ensures.into_iter_gives
       c.of-other-items.ensures.there;
 }
 
@@ -24,10 +24,10 @@ loop-other-preserved c = record {
       (ap not
       (any_passed
       (λ other. is_subinterface c.args.set.now other.class c.args.m.now.class) c.loop-other.other-iterator
-          c.next.new.self c.in-Some.other
+      c.next.new.self c.in-Some.other
       c.is_subinterface.result c.in-Some.ensures.steps c.is_subinterface.ensures c.if-is_subinterface.false))
       ∙ c.loop-other.invariant.same;
   there = All-rest
       (IsMember c.args.set.now) c.in-Some.other c.next.new.self c.loop-other.other-iterator c.in-Some.ensures.steps
-          c.loop-other.invariant.there;
+      c.loop-other.invariant.there;
 }

@@ -17,7 +17,7 @@ loop-m-init c = record {
       ∙ all_candidates c.args.set.now c.args.class.now (c.args.name.now, c.args.ty.now) (same_member c.args.one.now);
   there = All-same
       (IsMember c.args.set.now) c.into_iter-m-iterator.result c.of-m-items.result
-          c.into_iter-m-iterator.ensures.into_iter_gives c.of-m-items.ensures.there;
+      c.into_iter-m-iterator.ensures.into_iter_gives c.of-m-items.ensures.there;
 }
 
 pub loop-m-preserved-then-not-is_candidate : goal.loop-m-preserved-then-not-is_candidate
@@ -26,11 +26,11 @@ loop-m-preserved-then-not-is_candidate c = record {
       (is_candidate c.args.set.now
       (superinterface_methods c.args.set.now c.args.class.now (c.args.name.now, c.args.ty.now))) c.loop-m.m-iterator
       c.next.new.self c.in-Some.m c.is_candidate.result c.in-Some.ensures.steps c.is_candidate.ensures
-          c.if-not-is_candidate.true))
+      c.if-not-is_candidate.true))
       ∙ c.loop-m.invariant.same;
   there = All-rest
       (IsMember c.args.set.now) c.in-Some.m c.next.new.self c.loop-m.m-iterator c.in-Some.ensures.steps
-          c.loop-m.invariant.there;
+      c.loop-m.invariant.there;
 }
 
 pub loop-m-preserved : goal.loop-m-preserved
@@ -38,10 +38,10 @@ loop-m-preserved c = record {
   same = sym (all_passed (is_candidate c.args.set.now (superinterface_methods c.args.set.now c.args.class.now
       (c.args.name.now, c.args.ty.now))) (same_member c.args.one.now)
       c.loop-m.m-iterator c.next.new.self c.in-Some.m c.is_candidate.result c.is_same.result c.in-Some.ensures.steps
-          c.is_candidate.ensures c.if-not-is_candidate.false
+      c.is_candidate.ensures c.if-not-is_candidate.false
       c.is_same.ensures c.if-not-is_same.false)
       ∙ c.loop-m.invariant.same;
   there = All-rest
       (IsMember c.args.set.now) c.in-Some.m c.next.new.self c.loop-m.m-iterator c.in-Some.ensures.steps
-          c.loop-m.invariant.there;
+      c.loop-m.invariant.there;
 }

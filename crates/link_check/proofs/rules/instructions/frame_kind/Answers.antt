@@ -12,11 +12,13 @@ returns c =
     let kinds : VType → List ProfileKind = verification_kinds c.args.set.now c.args.number in
     let of : List VType → List ProfileKind = λ types. flat_map kinds types in
     let frame = frame_numbered c.args.frames.now c.args.at in
-    let locals = drop c.shared_locals.result frame.frame.locals in
-    (of locals ++ of frame.frame.stack, c.lesser.ensures (of locals) (of frame.frame.stack)
-    (c.verification_types_kind-of_locals.ensures ∙ ap (λ (types : List VType). least (of types))
-    (c.as_slice.ensures ∙ c.in_ok-locals.ensures))
-    (c.verification_types_kind-of_stack.ensures ∙ ap (λ (types : List VType). least (of types))
-    (c.as_slice-2.ensures ∙ c.in_ok-stack.ensures)),
-    new_kinds kinds c.args.frames.now c.args.at c.shared_locals.result c.requires.frame c.shared_locals.ensures.first
-    c.shared_locals.ensures.same)
+    let locals = drop c.shared_locals.result frame.frame.locals in (
+      of locals ++ of frame.frame.stack,
+      c.lesser.ensures (of locals) (of frame.frame.stack)
+          (c.verification_types_kind-of_locals.ensures ∙ ap (λ (types : List VType). least (of types))
+          (c.as_slice.ensures ∙ c.in_ok-locals.ensures))
+          (c.verification_types_kind-of_stack.ensures ∙ ap (λ (types : List VType). least (of types))
+          (c.as_slice-2.ensures ∙ c.in_ok-stack.ensures)),
+      new_kinds kinds c.args.frames.now c.args.at c.shared_locals.result c.requires.frame c.shared_locals.ensures.first
+          c.shared_locals.ensures.same,
+    )

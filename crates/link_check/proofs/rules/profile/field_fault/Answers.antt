@@ -18,7 +18,7 @@ returns-in-Some c =
     ∙ first_here h 0 c.args.class.now.fields i i f fault (omega arith) within c.index-field.ensures
     (fault_is c.args.number (Some i)
     (kinds_of_field c.args.set.now c.args.number c.args.class.now i f) c.kind_of_field.result c.in-Some.kind
-        c.kind_of_field.ensures c.in-Some.is)
+    c.kind_of_field.ensures c.in-Some.is)
     )
 
 pub loop-index-preserved : goal.loop-index-preserved
@@ -32,4 +32,4 @@ loop-index-preserved c =
     ∙ first_next h 0 c.args.class.now.fields i i f (omega arith) within c.index-field.ensures
     (fault_none c.args.number (Some i)
     (kinds_of_field c.args.set.now c.args.number c.args.class.now i f) c.kind_of_field.result c.kind_of_field.ensures
-        c.in_default.is)
+    c.in_default.is)

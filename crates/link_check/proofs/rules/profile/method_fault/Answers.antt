@@ -19,7 +19,7 @@ kind_of_method-requires-clause-method c =
     (row_at c.args.set.now (record { class = Prog c.args.number; index = n + c.loop-at.at })) false ≡ true)
     (sym c.len-before.ensures)
     (at_method c.args.set.now c.args.number c.loop-at.at c.args.class.now c.index-method.result.now c.requires.class
-        within)
+    within)
 
 pub loop-at-init : goal.loop-at-init
 loop-at-init c =
@@ -44,7 +44,7 @@ returns-in-Some c =
     (ap (λ (n : ℕ). n + c.loop-at.at) c.len-before.ensures) within c.index-method.ensures
     (fault_is c.args.number (Some i)
     (kinds_of_method c.args.set.now c.args.number c.args.class.now i m) c.in_ok-kind.field-0 c.in-Some.kind
-        c.in_ok-kind.ensures c.in-Some.is)
+    c.in_ok-kind.ensures c.in-Some.is)
     )
 
 pub loop-at-preserved : goal.loop-at-preserved
@@ -60,4 +60,4 @@ loop-at-preserved c =
     (ap (λ (n : ℕ). n + c.loop-at.at) c.len-before.ensures) within c.index-method.ensures
     (fault_none c.args.number (Some i)
     (kinds_of_method c.args.set.now c.args.number c.args.class.now i m) c.in_ok-kind.field-0 c.in_ok-kind.ensures
-        c.in_default.is)
+    c.in_default.is)

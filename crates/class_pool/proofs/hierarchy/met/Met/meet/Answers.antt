@@ -11,7 +11,7 @@ returns-then-index-clause-ids c =
     subst (λ (s : Classes). s.ids ≡ s.ids ++ each_once s.ids (c.args.id.now ∷ [])) c.self.view_is
     (met_before c.self.inside.marks.items c.self.inside.ids c.args.id.now c.self.invariant low
     (mark_at c.self.inside.marks.items c.args.id.now c.number-place.result _ _ c.number-place.ensures low
-        c.index.ensures c.if-index.true))
+    c.index.ensures c.if-index.true))
 
 pub returns-clause-ids : goal.returns-clause-ids
 returns-clause-ids c =
@@ -21,4 +21,4 @@ returns-clause-ids c =
     subst (λ (s : Classes). c.push.new.self ≡ s.ids ++ each_once s.ids (c.args.id.now ∷ [])) c.self.view_is
     (put ∙ met_first c.self.inside.marks.items c.self.inside.ids c.args.id.now c.self.invariant low
     (mark_at c.self.inside.marks.items c.args.id.now c.number-place.result _ _ c.number-place.ensures low
-        c.index.ensures c.if-index.false))
+    c.index.ensures c.if-index.false))

@@ -19,5 +19,5 @@ loop-id-preserved c = record {
       c.in_ok-meet.ensures.ids
       ∙ ap (λ (x : ClassId). c.loop-id.self.ids ++ each_once c.loop-id.self.ids (x ∷ [])) c.id-item.is
       ∙ once_more c.args.self.now.ids c.args.ids.now c.loop-id.id-index c.id-item.result c.loop-id.self.ids
-          c.loop-id-test.true c.loop-id.invariant.ids;
+      c.loop-id-test.true c.loop-id.invariant.ids;
 }

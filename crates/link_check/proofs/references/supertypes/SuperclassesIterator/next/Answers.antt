@@ -15,7 +15,7 @@ returns-then-self-eq0-clause-steps c =
 pub returns-clause-steps : goal.returns-clause-steps
 returns-clause-steps c =
     yields c.self.inside.left c.self.inside.set.now c.args.self.now c.self.inside.next c.replace.new.dest
-        c.replace.result c.in_ok-self.field-0
+    c.replace.result c.in_ok-self.field-0
     c.if-self-eq0.false c.self.view_is c.in_ok-self.was c.replace.ensures.value
     (c.replace.ensures.after ∙ c.super_of-above.ensures)
 
@@ -23,6 +23,6 @@ pub returns-clause-goes : goal.returns-clause-goes
 returns-clause-goes c =
     goes c.args.self.now _ c.replace.result
     (yields c.self.inside.left c.self.inside.set.now c.args.self.now c.self.inside.next c.replace.new.dest
-        c.replace.result c.in_ok-self.field-0
+    c.replace.result c.in_ok-self.field-0
     c.if-self-eq0.false c.self.view_is c.in_ok-self.was c.replace.ensures.value
     (c.replace.ensures.after ∙ c.super_of-above.ensures))
