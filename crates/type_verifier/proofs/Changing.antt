@@ -31,7 +31,7 @@ use Rattle.type_verifier.specs.Rules.{Initialises, Wanted, Assignable, array_loa
 use Rattle.type_verifier.specs.Rules.{field_read, field_write, object_call, rule_of, static_call, static_read, static_write}
 use Rattle.type_verifier.specs.Walk.{at_instruction, flow_after, satisfies_handlers}
 use Rattle.type_verifier.specs.bodies.Changes.{flow}
-use Rattle.type_verifier.specs.bodies.Since.{Agrees, AgreesBy, IsSame, IsSince, around, changed_by, nothing, since_after}
+use Rattle.type_verifier.specs.bodies.Since.{Agrees, AgreesBy, IsSame, IsSince, around, changed_by, nothing, since_after, since_there}
 use Rattle.type_verifier.proofs.TypedLaw.{Passed, bound, was_passed}
 
 -- ---- frames with the same locals and flag
@@ -148,7 +148,7 @@ module _ (env : Environment) where
       (told_unless (in_constructor env && b.0.marked) Uninit b.0 b.0 g (is_same b.0) b.2)
   acts_same at (Uses wanted receiver guarded given) f g p h =
       let a = bound (all_popped env.classes wanted f)
-          (λ x. used_from env receiver guarded x x.stack >>= λ y. let R : Checked = Ok (gives given y) in R) g h in
+      (λ x. used_from env receiver guarded x x.stack >>= λ y. let R : Checked = Ok (gives given y) in R) g h in
       let b = bound (used_from env receiver guarded a.0 a.0.stack) (λ y. let R : Checked = Ok (gives given y) in R) g a.2 in
       given_same given f b.0 g (then_same f a.0 b.0 (all_same env.classes wanted f a.0 a.1)
       (used_same receiver guarded a.0 a.0.stack b.0 b.1)) b.2
@@ -163,7 +163,7 @@ module _ (env : Environment) where
   steps_same at None f g p h = absurd cc
   steps_same at (Some rule) f g p h =
       let b = bound (has_room env.code.max_stack env.code.max_locals (taken_words rule) (given_words rule) f)
-          (λ u. acted env at rule f) g h in
+      (λ u. acted env at rule f) g h in
       acts_same at rule f g p b.2
 
   -- ---- instructions that change no local
@@ -191,7 +191,7 @@ module _ (env : Environment) where
   plain_conversion c = tt
 
   plain_rule : (o : Op) → IsPlainOp o → IsPlainIf (rule_of env o)
-  unfolding (IsPlain, IsPlainIf, IsPlainOp, rule_of)
+  unfolding IsPlain IsPlainIf IsPlainOp rule_of
   plain_rule (op.Store k slot) p = absurd p
   plain_rule (op.New name) p = absurd p
   plain_rule (op.InvokeSpecial r) p = absurd p
@@ -287,7 +287,7 @@ module _ (env : Environment) where
       → Agrees (around slot) f g
   stores_agree at k slot f g h =
       let b = bound (has_room env.code.max_stack env.code.max_locals (words_of_kind k) 0 f)
-          (λ u. acted env at (Stores k slot) f) g h in
+      (λ u. acted env at (Stores k slot) f) g h in
       within (nat_le (slot + words_of_kind k) (length f.locals)) b.2
     where
       within : (b : Bool) → (let R : Checked = cond b (stored_from env.classes (moved k) slot f f.stack) (Err Local) in R)
@@ -307,7 +307,7 @@ module _ (env : Environment) where
   }
 
   step_agrees : (at : ℕ) (o : Op) (f g : TypeFrame) → stepped env at o f ≡ Ok g → AgreesBy (changed_by o) f g
-  unfolding (IsPlainOp, rule_of)
+  unfolding IsPlainOp rule_of
   step_agrees at (op.Store k slot) f g h = stores_agree at k slot f g h
   step_agrees at (op.New name) f g h = tt
   step_agrees at (op.InvokeSpecial r) f g h = tt
@@ -324,9 +324,12 @@ module _ (env : Environment) where
       → AgreesBy c before after → after ≡ g → IsSince env (at + 1) c g
   since_by at None before after g s a e = tt
   since_by at (Some c) before after g s a e =
-      let n : at + 1 - 1 ≡ at = omega arith in
-      (omega arith, before, subst (λ (k : ℕ). IsTrue (satisfies_handlers env k before)) (sym n) s,
-      subst (λ (x : TypeFrame). Agrees c before x) e a)
+      let n : at + 1 - 1 ≡ at = omega arith in (
+        omega arith,
+        before,
+        subst (λ (k : ℕ). IsTrue (satisfies_handlers env k before)) (sym n) s,
+        subst (λ (x : TypeFrame). Agrees c before x) e a,
+      )
 
   -- an instruction that is passed tells what it may have changed of a frame that satisfies its handlers
   pub since_more : (at : ℕ) (o : Op) (old : Option TypeFrame) (flows : Bool) (g : TypeFrame)
@@ -342,11 +345,15 @@ pub since_same : (env : Environment) (at : ℕ) (since : Option Changed) (same :
 since_same env at since false f g s is = tt
 since_same env at None true f g s is = tt
 since_same env at (Some c) true f g s is =
-    let e = is refl in
-    (s.0, s.1, s.2, record {
-      ordered = s.3.ordered;
-      long = ap length e.0 ∙ s.3.long;
-      front = ap (take c.from) e.0 ∙ s.3.front;
-      rest = ap (drop c.to) e.0 ∙ s.3.rest;
-      marked = e.1 ∙ s.3.marked;
-    })
+    let e = is refl in (
+      s.0,
+      s.1,
+      s.2,
+      record {
+        ordered = s.3.ordered;
+        long = ap length e.0 ∙ s.3.long;
+        front = ap (take c.from) e.0 ∙ s.3.front;
+        rest = ap (drop c.to) e.0 ∙ s.3.rest;
+        marked = e.1 ∙ s.3.marked;
+      },
+    )

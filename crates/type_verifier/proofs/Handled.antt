@@ -3,7 +3,7 @@ use Rattle.std.proofs.Common.{◌≡◌, ◌⊎◌, ◌≤◌, ◌<◌, ◌≢�
 use Rattle.std.proofs.Common.{List, [], ◌∷◌, ◌++◌, length, get_or, take, drop, Option, Some, None, inl, inr, refl, sym, ap, subst, ◌∙◌, arith, ⊎_elim}
 use Rattle.std.specs.Cmp.Lexicographic.{pointwise, unequal}
 use Rattle.std.specs.List.{list_all, list_any}
-use Rattle.std.proofs.lemmas.Bool.{le-leb, leb-true, lt-ltb, ltb-true}
+use Rattle.std.proofs.lemmas.Bool.{eq-eqb, le-leb, leb-true, lt-ltb, ltb-true}
 use Rattle.std.proofs.lemmas.Bool.Decides.{eqb_tells}
 use Rattle.std.proofs.lemmas.List.{drop_all, take-append-drop}
 use Rattle.std.proofs.lemmas.List.Folds.{list_all_at}
@@ -194,7 +194,9 @@ module _ (env : Environment) where
       rw (one, other) refl
     where
       ne_false : (a b : ℕ) → nat_eq a b ≡ false → a ≡ b → ⊥
-      ne_false a b f e = absurd cc
+      ne_false a b f e =
+          let t : nat_eq a b ≡ true = eq-eqb a b e in
+          absurd cc
 
   implied : (a b : Bool) → (not a || b) ≡ true → a ≡ true → b ≡ true
   implied true b h e = h

@@ -1,7 +1,6 @@
 pub mod Changing
 pub mod First
 pub mod Handled
-pub mod Lifting
 pub mod Lists
 pub mod Marking
 pub mod Padding

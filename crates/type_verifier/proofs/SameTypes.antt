@@ -1,5 +1,5 @@
 -- What tests whether types are the same have told.
-use Rattle.std.proofs.Common.{◌≡◌, ℕ, Bool, true, false, ◌&&◌, ◌==◌, List, [], ◌∷◌, refl, sym, ap, ◌∙◌}
+use Rattle.std.proofs.Common.{◌≡◌, ℕ, Bool, true, false, ◌&&◌, ◌==◌, IsTrue, List, [], ◌∷◌, refl, sym, ap, ◌∙◌}
 use Rattle.std.specs.Cmp.Lexicographic.{pointwise, same_text}
 use Rattle.std.proofs.lemmas.Bool.{eqb-true}
 use Rattle.jv_base.specs.declared.types.Base.{Base}
@@ -7,6 +7,8 @@ use Rattle.jv_base.specs.declared.types.Base.TheVariants as base
 use Rattle.jv_base.specs.declared.types.FieldType.{FieldType}
 use Rattle.class_model.specs.declared.frame.VType.{VType}
 use Rattle.class_model.specs.declared.frame.VType.TheVariants as vtype
+use Rattle.type_verifier.specs.declared.frame.TypeFrame.{TypeFrame}
+use Rattle.type_verifier.specs.bodies.Since.{IsSame}
 use Rattle.type_verifier.proofs.Lists.{both}
 use Rattle.type_verifier.specs.bodies.Same.{is_same_base, is_same_type}
 
@@ -51,3 +53,9 @@ same_types (x ∷ xs) [] h = absurd cc
 same_types (x ∷ xs) (y ∷ ys) h =
     let b = both (is_same_type x y) (pointwise is_same_type xs ys) h in
     ap (λ (z : VType). z ∷ xs) (same_type x y b.0) ∙ ap (λ (r : List VType). y ∷ r) (same_types xs ys b.1)
+
+-- two frames whose locals and flags are the same
+pub same_frames : (f g : TypeFrame) (one other : List VType) (b : Bool) → one ≡ f.locals → other ≡ g.locals
+    → b ≡ pointwise is_same_type one other → f.marked ≡ g.marked → IsTrue b → IsSame f g
+same_frames f g one other b is_one is_other tells marked t =
+    (sym (sym is_one ∙ same_types one other (sym tells ∙ t) ∙ is_other), sym marked)

@@ -3,7 +3,6 @@ pub mod Changes
 pub mod Declared
 pub mod Halves
 pub mod Known
-pub mod Lifting
 pub mod Longs
 pub mod Marking
 pub mod Marks

@@ -200,9 +200,20 @@ fn is_frame_assignable(set: &ClassSet, from: &TypeFrame, to: &TypeFrame) -> bool
 fn is_same(code: &Code, from: &TypeFrame, to: &TypeFrame) -> bool
     ensures { IsTrue result → IsSame from.now to.now }
 {
-    !code.handlers.is_empty()
-        && from.marked == to.marked
+    !code.handlers.is_empty() && has_same(from, to)
+}
+
+fn has_same(from: &TypeFrame, to: &TypeFrame) -> bool
+    ensures { IsTrue result → IsSame from.now to.now }
+{
+    is_same_flag(from.marked, to.marked)
         && are_same_types(from.locals.as_slice(), to.locals.as_slice())
+}
+
+fn is_same_flag(one: bool, other: bool) -> bool
+    ensures { IsTrue result → one ≡ other }
+{
+    one == other
 }
 
 // ---- frames that flow to other instructions
