@@ -1,6 +1,6 @@
 // What the definitions of the class file give for a few files.
 //
-// Each clause is computed from the definitions. The files are written out in specs/Whole/Rows.antt:
+// Each clause is computed from the definitions. The files are written out in specs/rows/Rows.antt:
 // their offsets and kinds of fault follow from JVMS 4 and 6.5, and two of them were made by javac.
 ghost use Rattle.class_model.specs.rows.Rows.{IsSpelled, IsRead, IsWritten, IsCutAnywhere, IsTrailed, HeadFaults};
 ghost use Rattle.class_model.specs.rows.Rows.{CodeFaults, CodeLeftOut, MemberFaults, PoolFaults, ClassLeftOut};

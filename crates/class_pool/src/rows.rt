@@ -1,7 +1,7 @@
 // What the definitions of supertypes, resolution and selection give for a few classes.
 //
-// Each clause is computed from the definitions. The classes are written out in specs/LinkRows.antt; what is asked of
-// them follows from JVMS 5.4.3 to 5.4.5. Not all of them could stand in one program.
+// Each clause is computed from the definitions. The classes are written out in specs/rows/LinkRows.antt; what is asked
+// of them follows from JVMS 5.4.3 to 5.4.5. Not all of them could stand in one program.
 ghost use Rattle.class_pool.specs.rows.LinkRows.{ClassAccessRows, ClassMethodRows, FieldRows, InterfaceMethodRows};
 ghost use Rattle.class_pool.specs.rows.LinkRows.{InterfaceSelectionRows, MemberAccessRows, NotOverridingRows};
 ghost use Rattle.class_pool.specs.rows.LinkRows.{OverridingRows, PackageRows, ProtectedRows, SpecialRows};

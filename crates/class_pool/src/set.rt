@@ -188,8 +188,8 @@ impl ClassSet {
     }
 
     /// The number of the member that the class declares with a name and a descriptor (JVMS 4.3). A program class has
-    /// its
-    /// fields and then its methods; its members are searched in the order of names and descriptors. It takes no memory.
+    /// its fields and then its methods; its members are searched in the order of names and descriptors. It takes no
+    /// memory.
     pub fn declares(&self, id: ClassId, name: &Name, ty: &Text) -> Option<u32>
         requires { IsClass self.now id }
         ensures { result ≡ declared_at self.now id name.now ty.now }

@@ -15,6 +15,7 @@ use Rattle.jvm_model.specs.Step.{run, start}
 use Rattle.jvm_model.specs.Value.{Key, Value, Int, Long, Null, Ref, Lit}
 use Rattle.set_view.specs.ViewOf.{view_of}
 
+-- what an entry has returned, as it is told
 abbrev pub back_of : Option Value → Back
 back_of None = back.Nothing
 back_of (Some (Int z)) = back.Int z
@@ -34,7 +35,8 @@ end_of heap WentWrong = end.Wrong
 abbrev pub ended_of : State → Ended
 ended_of s = record { printed = s.world.printed; how = end_of s.world.heap (status s) }
 
--- what a run of an entry of a set has come to after so many steps
+-- what a run of an entry of a set has come to after so many steps; the entry is a method that a run may begin with
+-- (`is_startable`), and the arguments are of its parameters' types (the project's own)
 abbrev pub ended_after : List Class → Key → List Arg → ℕ → Ended
 ended_after classes entry args n =
     ended_of (run (view_of classes) (start (view_of classes) entry (started args).heap (started args).args) n)

@@ -20,6 +20,7 @@ use Rattle.class_run.specs.declared.ended.Ended.{Ended}
 use Rattle.jvm_model.specs.Value.{Key}
 use Rattle.set_view.specs.Examples.{class, initialiser, int, static_method}
 
+-- a method by its parts
 abbrev pub key : List ℕ → List ℕ → List ℕ → Key
 key class name descriptor = record { class = class; name = name; descriptor = descriptor }
 
@@ -29,6 +30,7 @@ silent how = record { printed = []; how = how }
 
 -- ---- static int f() of demo.T, which goes from 1 to 4
 
+-- the class
 abbrev pub branching : List Class
 branching = class (codes "demo/T") object
     (static_method (codes "f") [] (Some int)
@@ -43,6 +45,7 @@ Returning = (ended_after branching (key (codes "demo/T") (codes "f") (codes "()I
 
 -- ---- demo.E, whose initialisation divides by zero
 
+-- the class
 abbrev pub failing : List Class
 failing = class (codes "demo/E") object
     (initialiser (op.PushInt (pos 1) ∷ op.PushInt (pos 0) ∷ op.Arith arith.Div num.Int ∷ op.Pop ∷ op.Return None ∷ [])
@@ -55,9 +58,11 @@ Throwing = ended_after failing (key (codes "demo/E") (codes "f") (codes "()V")) 
 
 -- ---- static int f(int n, String[] texts, String text) { return texts[n].length() + text.length(); }
 
+-- String, or arrays of it
 abbrev pub string_type : ℕ → FieldType
 string_type dims = record { dims = dims; base = base.Class (codes "java/lang/String") }
 
+-- the class
 abbrev pub counts : List Class
 counts = class (codes "demo/A") object
     (static_method (codes "f") (int ∷ string_type 1 ∷ string_type 0 ∷ []) (Some int)
@@ -66,6 +71,7 @@ counts = class (codes "demo/A") object
     ∷ op.Load kind.Ref 2 ∷ op.InvokeVirtual (of_class (codes "java/lang/String") (codes "length") (codes "()I"))
     ∷ op.Arith arith.Add num.Int ∷ op.Return (Some kind.Int) ∷ []) [] ∷ []) ∷ []
 
+-- with 1, the texts "a" and "bcd", and "xy" it returns 5
 abbrev pub Starting : Type 0
 Starting = ended_after counts (key (codes "demo/A") (codes "f") (codes "(I[Ljava/lang/String;Ljava/lang/String;)I"))
     (arg.Int (pos 1) ∷ arg.Texts (codes "a" ∷ codes "bcd" ∷ []) ∷ arg.Text (codes "xy") ∷ []) 100

@@ -1,6 +1,6 @@
 // What the definitions of the canonical spelling give for a few codes.
 //
-// Each clause is computed from the definitions. The codes are written out in specs/Examples.antt.
+// Each clause is computed from the definitions. The codes are written out in specs/rows/Examples.antt.
 ghost use Rattle.jv_ops.specs.rows.Examples.{AreOnMembers, AreOnTypes, AreNewArrays};
 
 /// Carries what the definitions give for a few codes. It does nothing.

@@ -23,7 +23,7 @@ use Rattle.jvm_model.specs.Arrays.{new_arrays}
 use Rattle.jvm_model.specs.Arrays.{on_array, put_in, put_value}
 use Rattle.jvm_model.specs.Calls.{acted, all_seen, call_selected, call_special, called, called_static, on_receiver}
 use Rattle.jvm_model.specs.Calls.{seen}
-use Rattle.jvm_model.specs.Calls.{seen_object, set_builder, set_thrown}
+use Rattle.jvm_model.specs.Calls.{seen_object, set_builder, set_thrown, target_on}
 use Rattle.jvm_model.specs.Casts.{cast, tested}
 use Rattle.jvm_model.specs.Exceptions.{Exception, Arithmetic, NullPointer, ArrayIndex, NegativeSize, ArrayStore}
 use Rattle.jvm_model.specs.Exceptions.{ClassCast}
@@ -492,9 +492,25 @@ module _ (m : Mapping) (p q : Shape) (is : ShapeMap m p q) where
         (option_and_then g (object_of b v)) (target_of_object f g k (object_of a v) (object_of b v) (object_at v))
         (called_map (v ∷ args))
 
+    -- what runs on an object and on the one that stands for it
+    target_on_same : (r s : MemberRef) → m.method_ref r ≡ Some s → (x y : Object) → Objects x y
+        → OptionCorr (TargetMap m.names) (target_on p r x) (target_on q s y)
+    target_on_same r s e (Instance c fs i z) y k =
+        subst (λ o. OptionCorr (TargetMap m.names) (p.selected_target c r) (target_on q s o)) (sym k.2)
+        (is.selected_target c k.0 r s k.3 e)
+    target_on_same r s e (Array t vs) y k =
+        subst (λ o. OptionCorr (TargetMap m.names) (p.array_target r) (target_on q s o)) (sym k.1)
+        (is.array_target r s e)
+    target_on_same r s e (Str u) y k =
+        subst (λ o. OptionCorr (TargetMap m.names) (p.selected_target string r) (target_on q s o)) (sym k)
+        (is.selected_target string string r s (is.own_class string refl) e)
+    target_on_same r s e (Builder u) y k =
+        subst (λ o. OptionCorr (TargetMap m.names) (p.selected_target string_builder r) (target_on q s o)) (sym k)
+        (is.selected_target string_builder string_builder r s (is.own_class string_builder refl) e)
+
     selected_map : (r s : MemberRef) → m.method_ref r ≡ Some s → (args : List Value)
         → AnswerMap (call_selected p a r args) (call_selected q b s args)
-    selected_map r s e args = receiver_map args _ _ (λ x y k. is.selected_target _ _ r s (class_same x y k) e)
+    selected_map r s e args = receiver_map args (target_on p r) (target_on q s) (target_on_same r s e)
 
     special_map : (c d : List ℕ) → ClassCorr c d → (r s : MemberRef) → m.special_ref c r ≡ Some s → (args : List Value)
         → AnswerMap (call_special p c a r args) (call_special q d b s args)

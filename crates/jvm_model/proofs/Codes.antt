@@ -19,7 +19,7 @@ use Rattle.jvm_model.specs.Same.{Alike, Corr, CorrEnd, FrameCorr, LineCorr, Same
 use Rattle.jvm_model.specs.State.{AfterCall, AfterClinit, AfterFirst, AfterInit, Body, Completes, Control, Frame}
 use Rattle.jvm_model.specs.State.{Initialises}
 use Rattle.jvm_model.specs.State.{Prepares, Returned, Runs, State, Threw, ToEntry, Unwinds, Wait, WentWrong, Wrong}
-use Rattle.jvm_model.specs.State.{frames}
+use Rattle.jvm_model.specs.State.{frames, in_flight}
 use Rattle.jvm_model.specs.State.{status, status_of, waiting_frames}
 use Rattle.jvm_model.specs.Step.{next, on_answer, on_local, return, run, run_frame, start, step, toss}
 use Rattle.jvm_model.specs.Unwinding.{enter, is_of_class, unwind, unwind_clinit, unwind_frame}
@@ -314,6 +314,16 @@ module _ (v w : View) (shape : w.shape ≡ v.shape) (R : Key → ℕ → Body �
   status_sim (Threw n) l h = ap status_of h
   status_sim Wrong l h = ap status_of h
 
+  flight_sim : (k l : Control) → ControlSim k l → in_flight l ≡ in_flight k
+  flight_sim (Runs f) l h = ap in_flight h.1
+  flight_sim (Unwinds n) l h = ap in_flight h
+  flight_sim (Initialises x) l h = ap in_flight h
+  flight_sim (Prepares x xs) l h = ap in_flight h
+  flight_sim (Completes x) l h = ap in_flight h
+  flight_sim (Returned o) l h = ap in_flight h
+  flight_sim (Threw n) l h = ap in_flight h
+  flight_sim Wrong l h = ap in_flight h
+
   world_sim : (s t : State) → StateSim s t → WorldCorr own_names s.world t.world
   world_sim s t h = subst (λ q. WorldCorr own_names s.world q) (sym h.world) (world_refl s.world)
 
@@ -328,6 +338,7 @@ module _ (v w : View) (shape : w.shape ≡ v.shape) (R : Key → ℕ → Body �
   corr_with s t ok h l = record {
     ending = (status_sim s.control t.control h.control, ok);
     world = world_sim s t h;
+    thrown = flight_sim s.control t.control h.control;
     stack = l;
   }
 
@@ -467,10 +478,7 @@ module _ (v w : View) (shape : w.shape ≡ v.shape) (R : Key → ℕ → Body �
   start_sim x heap args = record { world = refl; control = refl; waits = (refl, tt) }
 
   own_same : (entries : List Key) → Same v new own_names entries
-  own_same entries x y i e heap plain args =
-      let own : x ≡ y = cc in
-      subst (λ q. Alike v new own_names (start v x heap args) (start new q heap args)) own
-      (alike _ _ (start_sim x heap args))
+  own_same entries x i = (x, refl, λ heap plain args. alike _ _ (start_sim x heap args))
 
   -- programs that differ in codes alone
   pub codes_same : (entries : List Key) → Same v w own_names entries

@@ -14,7 +14,7 @@ use Rattle.jvm_model.specs.Same.{ToldCorr, WorldCorr, base_name, chain, line_of,
 use Rattle.jvm_model.specs.State.{Frame, HasReturned, HasThrown, Running, State, Status, WentWrong, frames, status}
 use Rattle.jvm_model.specs.Step.{run, start}
 use Rattle.jvm_model.specs.Value.{Key}
-use Rattle.std.specs.Prelude.{option_map}
+use Rattle.std.specs.Prelude.{IsSome, option_map}
 
 -- ---- names
 
@@ -22,6 +22,10 @@ pub then_some : {A B : Type 0} (f : A → Option B) (o : Option A) (z : B) → o
     → (y : A) × (o ≡ Some y) × (f y ≡ Some z)
 then_some f None z e = cc
 then_some f (Some y) z e = (y, refl, e)
+
+pub there_is : {A : Type 0} (o : Option A) → IsSome o → (x : A) × (o ≡ Some x)
+there_is None h = absurd cc
+there_is (Some x) h = (x, refl)
 
 pub mapped_some : {A B : Type 0} (f : A → B) (o : Option A) (z : B) → option_map f o ≡ Some z
     → (y : A) × (o ≡ Some y) × (z ≡ f y)
@@ -110,6 +114,7 @@ corr_trans : (u v w : View) (m n : Names) (r s t : State) → Corr u v m r s →
 corr_trans u v w m n r s t h k = record {
   ending = (k.ending.0 ∙ h.ending.0, h.ending.1);
   world = world_trans m n _ _ _ h.world k.world;
+  thrown = k.thrown ∙ h.thrown;
   stack = zip_trans _ _ _ (frame_trans u v w m n) (frames r) (frames s) (frames t) h.stack k.stack;
 }
 
@@ -151,9 +156,13 @@ module _ (u v w : View) (m n : Names) (a b c : State) (h : Alike u v m a b) (k :
 
 pub same_trans : (u v w : View) (m n : Names) (xs ys : List Key) → Renamed m xs ys → Same u v m xs → Same v w n ys
     → Same u w (chain m n) xs
-same_trans u v w m n xs ys to h k x z e named heap plain args =
-    let y = then_some n.method (m.method x) z named in
-    alike_trans u v w m n _ _ _ (h x y.0 e y.1 heap plain args) (k y.0 z (to x y.0 e y.1) y.2 heap plain args)
+same_trans u v w m n xs ys to h k x e =
+    let y = h x e in
+    let z = k y.0 (to x y.0 e y.1) in (
+      z.0,
+      ap (option_and_then n.method) y.1 ∙ z.1,
+      λ heap plain args. alike_trans u v w m n _ _ _ (y.2 heap plain args) (z.2 heap plain args),
+    )
 
 -- ---- runs that go side by side
 
@@ -221,6 +230,7 @@ corr_refl : (v : View) (s : State) → status s ≢ WentWrong → Corr v v own_n
 corr_refl v s ok = record {
   ending = (refl, ok);
   world = world_refl s.world;
+  thrown = refl;
   stack = zip_refl (FrameCorr v v own_names) (frame_refl v) (frames s);
 }
 
@@ -231,8 +241,10 @@ is_wrong (HasThrown n) = inr (λ e. cc)
 is_wrong WentWrong = inl refl
 
 pub same_refl : (v : View) (xs : List Key) → Same v v own_names xs
-same_refl v xs m m' i e heap plain args =
-    let own : m ≡ m' = cc in
-    subst (λ x. Alike v v own_names (start v m heap args) (start v x heap args)) own
-    (alike_by_side v v own_names _ _
-    (λ n. ⊎_elim (λ bad. inl bad) (λ ok. inr (corr_refl v _ ok)) (is_wrong (status (run v (start v m heap args) n)))))
+same_refl v xs x i = (
+  x,
+  refl,
+  λ heap plain args. alike_by_side v v own_names _ _
+      (λ n. ⊎_elim (λ bad. inl bad) (λ ok. inr (corr_refl v _ ok))
+      (is_wrong (status (run v (start v x heap args) n)))),
+)

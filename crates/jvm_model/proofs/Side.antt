@@ -23,12 +23,12 @@ use Rattle.jvm_model.specs.Local.{Local, Moves, Wants, Ends, Tosses, Stuck, by_i
 use Rattle.jvm_model.specs.Local.{handles, with_stack}
 use Rattle.jvm_model.specs.Mapped.{CodeMap, HandlerMap, InsMap, Mapped, Mapping, OptionCorr}
 use Rattle.jvm_model.specs.Program.{View}
-use Rattle.jvm_model.specs.Same.{Corr, FrameCorr, LineCorr, ObjectCorr, Same, WorldCorr, base_name, line_at}
+use Rattle.jvm_model.specs.Same.{AreKept, Corr, FrameCorr, LineCorr, ObjectCorr, Same, WorldCorr, base_name, line_at}
 use Rattle.jvm_model.specs.Start.{ArePlain, is_plain_base, is_plain_object}
 use Rattle.jvm_model.specs.State.{AfterCall, AfterClinit, AfterFirst, AfterInit, Body, Completes, Control, Frame}
 use Rattle.jvm_model.specs.State.{Initialises}
 use Rattle.jvm_model.specs.State.{Prepares, Returned, Runs, State, Threw, ToEntry, Unwinds, Wait, WentWrong, Wrong}
-use Rattle.jvm_model.specs.State.{frames_with, status, status_of, waiting_frames}
+use Rattle.jvm_model.specs.State.{frames_with, in_flight, status, status_of, waiting_frames}
 use Rattle.jvm_model.specs.Step.{next, on_answer, on_local, out, return, run, run_frame, start}
 use Rattle.jvm_model.specs.Step.{toss}
 use Rattle.jvm_model.specs.Unwinding.{enter, is_of_class, unwind, unwind_clinit, unwind_frame}
@@ -38,7 +38,7 @@ use Rattle.jvm_model.proofs.Answering.{instance_same}
 use Rattle.jvm_model.proofs.Answering.{one_more, same_length}
 use Rattle.jvm_model.proofs.Asking.{LocalMap, local_map, sort_map}
 use Rattle.jvm_model.proofs.Codes.{wrong_stays}
-use Rattle.jvm_model.proofs.Compose.{alike_by_side, is_wrong}
+use Rattle.jvm_model.proofs.Compose.{alike_by_side, is_wrong, there_is}
 use Rattle.jvm_model.proofs.Keys.{set_class_agrees, set_key_agrees, texts_agree, zip_get}
 
 module _ (m : Mapping) (v w : View) (is : Mapped m v w) where
@@ -406,6 +406,16 @@ module _ (m : Mapping) (v w : View) (is : Mapped m v w) where
   status_same (Threw n) d k = ap status_of k
   status_same Wrong d k = ap status_of k
 
+  flight_same : (c d : Control) → ControlMap c d → in_flight d ≡ in_flight c
+  flight_same (Runs f) d k = ap in_flight k.1
+  flight_same (Unwinds n) d k = ap in_flight k
+  flight_same (Initialises c) d k = ap in_flight k.1
+  flight_same (Prepares c cs) d k = ap in_flight k.2
+  flight_same (Completes c) d k = ap in_flight k.1
+  flight_same (Returned o) d k = ap in_flight k
+  flight_same (Threw n) d k = ap in_flight k
+  flight_same Wrong d k = ap in_flight k
+
   line_by : (from : List ℕ) (i j : Option Ins) → OptionCorr (InsMap m from) i j
       → LineCorr (option_and_then (λ x. x.line) i) (option_and_then (λ x. x.line) j)
   line_by from None j k = subst (λ q. LineCorr None (option_and_then (λ x. x.line) q)) (sym k) tt
@@ -460,6 +470,7 @@ module _ (m : Mapping) (v w : View) (is : Mapped m v w) where
   corr_of s t ok h = record {
     ending = (status_same s.control t.control h.control, ok);
     world = h.world;
+    thrown = flight_same s.control t.control h.control;
     stack = stack_same s.control t.control _ _ h.control (below_same s.waits t.waits h.waits);
   }
 
@@ -479,8 +490,8 @@ module _ (m : Mapping) (v w : View) (is : Mapped m v w) where
   plain_base base.Short e = refl
   plain_base base.Int e = refl
   plain_base base.Long e = refl
-  plain_base base.Float e = refl
-  plain_base base.Double e = refl
+  plain_base base.Float e = absurd cc
+  plain_base base.Double e = absurd cc
 
   plain_object : (o : Object) → is_plain_object o ≡ true → ObjectCorr m.names o o
   plain_object (Instance class fields message cause) e = absurd cc
@@ -520,6 +531,11 @@ module _ (m : Mapping) (v w : View) (is : Mapped m v w) where
     waits = ((y, refl, e), tt);
   }
 
-  pub mapped_same : (entries : List Key) → Same v w m.names entries
-  mapped_same entries x y i e heap plain args =
-      alike_by_side v w m.names _ _ (λ n. sides _ _ (run_map _ _ (start_map x y e heap plain args) n))
+  pub mapped_same : (entries : List Key) → AreKept m.names entries → Same v w m.names entries
+  mapped_same entries kept x i =
+      let y = there_is (m.names.method x) (kept x i) in (
+        y.0,
+        y.1,
+        λ heap plain args. alike_by_side v w m.names _ _
+            (λ n. sides _ _ (run_map _ _ (start_map x y.0 y.1 heap plain args) n)),
+      )

@@ -1,6 +1,7 @@
 -- Arrays (JVMS 6.5.newarray, 6.5.anewarray, 6.5.multianewarray, 6.5.arraylength, 6.5.xaload, 6.5.xastore).
 use Rattle.std.specs.Prelude.{ℕ, ◌+◌, ◌*◌, ℤ, pos, negsuc, List, [], ◌∷◌, ◌++◌, map, length, replicate, Some, None}
 use Rattle.std.specs.Prelude.{int_lt, nat_lt, slice_get, slice_set, if◌then◌else◌}
+use Rattle.std.specs.Int.{w32, int_wrap}
 use Rattle.std.specs.Int.RustNames.{unsigned_abs}
 use Rattle.std.specs.List.{list_any, range_with_len}
 use Rattle.jv_base.specs.declared.types.FieldType.{FieldType}
@@ -50,9 +51,9 @@ on_array w (Ref n) f = of_some (f n) (slice_get w.heap n)
 on_array w Null f = Raises NullPointer
 on_array w _ f = NoAnswer
 
--- the length of an array (JVMS 6.5.arraylength)
+-- the length of an array; one past 2^31 - 1 wraps (JVMS 6.5.arraylength; a JVM has no such array)
 abbrev pub length_in : World → ℕ → Object → Answer
-length_in w n (Array component values) = Gives (Some (Int (pos (length values)))) w
+length_in w n (Array component values) = Gives (Some (Int (int_wrap w32 (pos (length values))))) w
 length_in w n _ = NoAnswer
 
 -- the place of an index within an array of this length

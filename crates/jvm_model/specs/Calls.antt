@@ -81,6 +81,11 @@ on_receiver w [] target = NoAnswer
 abbrev pub call_special : Shape → List ℕ → World → MemberRef → List Value → Answer
 call_special p from w r args = on_receiver w args (λ o. p.special_target from r)
 
+-- what runs on an object
+abbrev pub target_on : Shape → MemberRef → Object → Option Target
+target_on p r (Array component values) = p.array_target r
+target_on p r o = p.selected_target (class_of o) r
+
 -- a method that is selected by the class of the receiver (JVMS 6.5.invokevirtual, 6.5.invokeinterface)
 abbrev pub call_selected : Shape → World → MemberRef → List Value → Answer
-call_selected p w r args = on_receiver w args (λ o. p.selected_target (class_of o) r)
+call_selected p w r args = on_receiver w args (target_on p r)

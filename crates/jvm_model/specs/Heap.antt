@@ -27,10 +27,11 @@ pub record World : Type 0 where
   pub inits : List ℕ → Init
   pub printed : List ℕ
 
--- two classes of the library of which the machine knows more
+-- two classes of the library of which the machine knows more: that of strings
 abbrev pub string : List ℕ
 string = codes "java/lang/String"
 
+-- and that of what builds them
 abbrev pub string_builder : List ℕ
 string_builder = codes "java/lang/StringBuilder"
 
@@ -41,7 +42,7 @@ type_of (Array component values) = array_of component
 type_of (Str units) = class_type string
 type_of (Builder units) = class_type string_builder
 
--- the class whose methods an object has; an array has those of Object (JVMS 6.5.invokevirtual)
+-- the class of an object by name; that of an array counts as Object, whose methods it has (JVMS 6.5.invokevirtual)
 abbrev pub class_of : Object → List ℕ
 class_of (Instance class fields message cause) = class
 class_of (Array component values) = codes "java/lang/Object"

@@ -25,7 +25,7 @@ frame method body = record { method = method; body = body }
 abbrev pub raised : World → Exception → List Wait → State
 raised w exception ws = state (with_new w (fresh (exception_class exception))) (Unwinds (length w.heap)) ws
 
--- an initialisation that has ended, or wasn't needed: what waits for it goes on
+-- an initialisation that has ended, or wasn't needed: what waits for it goes on (JVMS 5.5, steps 3, 4 and 10)
 abbrev pub goes_back : World → List Wait → State
 goes_back w (AfterInit f ∷ ws) = state w (Runs f) ws
 goes_back w (AfterFirst class firsts ∷ ws) = state w (Prepares class firsts) ws
@@ -36,7 +36,7 @@ goes_back w ws = state w Wrong ws
 abbrev pub marked : World → List ℕ → Init → World
 marked w class i = record w { inits = set_class w.inits class i }
 
--- the fields of the class that have one hold their ConstantValue (JVMS 5.5, step 6)
+-- the fields of the class that have one hold their ConstantValue (JVMS 4.7.2; 5.5, step 6, speaks of final ones alone)
 abbrev pub with_constants : Shape → List ℕ → (Key → Value) → Key → Value
 with_constants p class statics k =
     if is_text k.class class then option_map_or (stored_in k) (p.constant k) (statics k) else statics k

@@ -1,6 +1,5 @@
 -- What each instruction does in its frame (JVMS 6.5). It is told in two layers: here each family of instructions is of
--- a
--- sort, by what it touches; `Local` says what a frame does at an instruction of a sort.
+-- a sort, by what it touches; `Local` says what a frame does at an instruction of a sort.
 use Rattle.std.specs.Prelude.{ℕ, ℤ, pos, ◌-ℤ◌, List, [], ◌∷◌, Option, Some, None, Bool, true, false, int_rem, slice_get}
 use Rattle.std.specs.Prelude.{if◌then◌else◌}
 use Rattle.std.specs.Bool.{beq}

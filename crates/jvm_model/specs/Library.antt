@@ -115,23 +115,19 @@ abbrev pub with_reference : Option Value → (Value → Act) → Act
 with_reference None act = NoAct
 with_reference (Some r) act = act r
 
--- s[0]*31^(n-1) + s[1]*31^(n-2) + ... + s[n-1] (Java SE 8 API, String.hashCode)
+-- s[0]*31^(n-1) + s[1]*31^(n-2) + ... + s[n-1], which int arithmetic wraps (Java SE 8 API, String.hashCode)
 abbrev pub polynomial : List ℕ → ℕ
 polynomial [] = 0
 polynomial (u ∷ us) = u * 31 ^ length us + polynomial us
-
--- the same in int arithmetic
-abbrev pub hash_code : List ℕ → ℤ
-hash_code units = int_wrap w32 (pos (polynomial units))
 
 -- the difference of the first unlike units, else that of the lengths (Java SE 8 API, String.compareTo)
 abbrev pub comparison : List ℕ → List ℕ → ℤ
 comparison (u ∷ us) (v ∷ vs) = if u == v then comparison us vs else pos u -ℤ pos v
 comparison us vs = pos (length us) -ℤ pos (length vs)
 
--- an int is returned
+-- an int is returned; a length past 2^31 - 1 wraps (the project's own: a JVM has no such text)
 abbrev pub int : ℤ → Act
-int z = Returns (Some (Int z))
+int z = Returns (Some (Int (int_wrap w32 z)))
 
 -- a truth value is returned
 abbrev pub boolean : Bool → Act
@@ -160,7 +156,7 @@ act StringLength (AString r us ∷ []) = int (pos (length us))
 act StringCharAt (AString r us ∷ AnInt i ∷ []) = unit_at us i
 act StringEquals (AString r us ∷ AString s vs ∷ []) = boolean (is_text us vs)
 act StringEquals (AString r us ∷ x ∷ []) = with_reference (reference x) (λ s. boolean false)
-act StringHashCode (AString r us ∷ []) = int (hash_code us)
+act StringHashCode (AString r us ∷ []) = int (pos (polynomial us))
 act StringIsEmpty (AString r us ∷ []) = boolean (length us == 0)
 act StringFrom (AString r us ∷ AnInt a ∷ []) = part_of us a (pos (length us))
 act StringBetween (AString r us ∷ AnInt a ∷ AnInt b ∷ []) = part_of us a b

@@ -85,7 +85,8 @@ of_throwable =
     ∷ entry (codes "getCause") (codes "()Ljava/lang/Throwable;") GetCause
     ∷ []
 
--- the methods of a class of the library; what is none of the first four and has methods is an exception
+-- the methods of a class of the library; what is none of the first four and has methods is an exception, or an
+-- interface, whose methods never run
 abbrev pub entries_of : List ℕ → List Entry
 entries_of class =
     if is_text class (codes "java/lang/Object") then of_object

@@ -1,6 +1,6 @@
 -- A program that is the image of another one: some classes and members are left out, the others have new names, and
--- nothing that is kept names what isn't. Each part of the image is told by that part of the program alone (the project's
--- own: what a law about images asks).
+-- nothing that is kept names what isn't. Each part of the image is told by that part of the program alone (the
+-- project's own: what a law about images asks).
 use Rattle.std.specs.Prelude.{◌≡◌, ℕ, Bool, true, List, [], ◌∷◌, codes, Option, Some, None, option_map}
 use Rattle.std.specs.List.{AllZip, list_any}
 use Rattle.jv_base.specs.Names.{is_text}
@@ -112,6 +112,8 @@ pub record ShapeMap (m : Mapping) (p q : Shape) : Type 0 where
       → OptionCorr (TargetMap m.names) (p.special_target c r) (q.special_target d s)
   pub selected_target : (c d : List ℕ) (r s : MemberRef) → m.names.class c ≡ Some d → m.method_ref r ≡ Some s
       → OptionCorr (TargetMap m.names) (p.selected_target c r) (q.selected_target d s)
+  pub array_target : (r s : MemberRef) → m.method_ref r ≡ Some s
+      → OptionCorr (TargetMap m.names) (p.array_target r) (q.array_target s)
   -- classes
   pub is_sub : (a b c d : List ℕ) → m.names.class a ≡ Some c → m.names.class b ≡ Some d → q.is_sub c d ≡ p.is_sub a b
   pub is_library : (c d : List ℕ) → m.names.class c ≡ Some d → q.is_library d ≡ p.is_library c

@@ -13,7 +13,8 @@ pub data Target : Type 0 where
   Library : Row → Target
   Fails : Exception → Target
 
--- What names mean. That nothing is told means that linking fails, which is never so in a set that was taken.
+-- What names mean. That nothing is told means that linking fails, which shouldn't be so in a set that was taken (not
+-- proved yet).
 pub record Shape : Type 0 where
   -- the field of a reference (JVMS 5.4.3.2)
   pub field : MemberRef → Option Key
@@ -24,6 +25,8 @@ pub record Shape : Type 0 where
   -- the method that invokevirtual or invokeinterface runs on a receiver of a class (JVMS 6.5.invokevirtual,
   -- 6.5.invokeinterface)
   pub selected_target : (class : List ℕ) → MemberRef → Option Target
+  -- the same on an array, which is an Object, a Cloneable and a Serializable (JLS 4.10.3, 10.8)
+  pub array_target : MemberRef → Option Target
   -- a class is another one or one of its supertypes is (JLS 4.10.2)
   pub is_sub : List ℕ → List ℕ → Bool
   -- the class is one of the library, which is initialised before the program begins

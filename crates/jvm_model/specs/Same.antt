@@ -1,6 +1,6 @@
 -- When two programs do the same (the project's own: what is promised). What the second does is what the first does,
 -- read through new names.
-use Rattle.std.specs.Prelude.{◌≡◌, ◌≢◌, ◌≤◌, ◌⊎◌, ℕ, List, Option, Some, None, slice_get}
+use Rattle.std.specs.Prelude.{◌≡◌, ◌≢◌, ◌≤◌, ◌⊎◌, ℕ, List, Option, Some, None, IsSome, slice_get}
 use Rattle.std.specs.List.{AllZip, Contains}
 use Rattle.std.specs.Option.{option_and_then, option_map}
 use Rattle.jv_base.specs.declared.types.Base.{Base}
@@ -10,7 +10,7 @@ use Rattle.class_model.specs.declared.code.Code.{Code}
 use Rattle.jvm_model.specs.Heap.{Array, Builder, Instance, Object, Str, World}
 use Rattle.jvm_model.specs.Program.{View}
 use Rattle.jvm_model.specs.Start.{ArePlain}
-use Rattle.jvm_model.specs.State.{Frame, Running, State, Status, WentWrong, frames, status}
+use Rattle.jvm_model.specs.State.{Frame, Running, State, Status, WentWrong, frames, in_flight, status}
 use Rattle.jvm_model.specs.Step.{run, start}
 use Rattle.jvm_model.specs.Value.{Key, Value}
 
@@ -81,10 +81,12 @@ pub record FrameCorr (v w : View) (names : Names) (f g : Frame) : Type 0 where
   pub method : names.method f.method ≡ Some g.method
   pub line : LineCorr (line_of v f) (line_of w g)
 
--- two states agree
+-- Two states agree (the project's own): in status, world, the object that is going up, and the frames one to one, the
+-- present one first.
 pub record Corr (v w : View) (names : Names) (s t : State) : Type 0 where
   pub ending : StatusCorr (status s) (status t)
   pub world : WorldCorr names s.world t.world
+  pub thrown : in_flight t.control ≡ in_flight s.control
   pub stack : AllZip (FrameCorr v w names) (frames s) (frames t)
 
 -- of the world what is printed, and all of it when the run has ended
@@ -92,7 +94,7 @@ abbrev pub ToldCorr : Status → Names → World → World → Type 0
 ToldCorr Running names a b = b.printed ≡ a.printed
 ToldCorr _ names a b = WorldCorr names a b
 
--- two states agree in what may be told of them
+-- two states agree in what may be told of them (the project's own): in status and print, and at the end in the world
 pub record CorrEnd (names : Names) (s t : State) : Type 0 where
   pub ending : StatusCorr (status s) (status t)
   pub told : ToldCorr (status s) names s.world t.world
@@ -103,13 +105,16 @@ pub record Alike (v w : View) (names : Names) (a b : State) : Type 0 where
   pub no_further : (k : ℕ)
       → ((n : ℕ) × (k ≤ n) × Corr v w names (run v a n) (run w b k)) ⊎ ((n : ℕ) × (status (run v a n) ≡ WentWrong))
 
--- From each of these entries the second program, begun at the entry's new name, does what the first does, whatever heap
--- and arguments they are given.
+-- Each of these entries has a new name, and from there the second program does what the first does from the entry,
+-- whatever heap of strings and arrays and whatever arguments they are given (the project's own).
 abbrev pub Same : View → View → Names → List Key → Type 0
-Same v w names entries =
-    (entry entry' : Key) → Contains entries entry → names.method entry ≡ Some entry'
-    → (heap : List Object) → ArePlain heap → (args : List Value)
-    → Alike v w names (start v entry heap args) (start w entry' heap args)
+Same v w names entries = (entry : Key) → Contains entries entry
+    → (entry' : Key) × (names.method entry ≡ Some entry') × ((heap : List Object) → ArePlain heap → (args : List Value)
+    → Alike v w names (start v entry heap args) (start w entry' heap args))
+
+-- each of these methods has a new name, so is kept
+abbrev pub AreKept : Names → List Key → Type 0
+AreKept names entries = (entry : Key) → Contains entries entry → IsSome (names.method entry)
 
 -- the new names of these entries are among those
 abbrev pub Renamed : Names → List Key → List Key → Type 0

@@ -1,5 +1,5 @@
 -- What the machine holds between two steps (JVMS 2.5, 2.6).
-use Rattle.std.specs.Prelude.{ℕ, List, [], ◌∷◌, Option}
+use Rattle.std.specs.Prelude.{ℕ, List, [], ◌∷◌, Option, Some, None}
 use Rattle.jvm_model.specs.Heap.{World}
 use Rattle.jvm_model.specs.Value.{Key, Value}
 
@@ -18,7 +18,8 @@ pub record Frame : Type 0 where
 -- What waits below the present activity: a frame for the return of the method that it called, at the instruction that
 -- called it; a frame at an instruction that a class has to be initialised for, and that is done afterwards; a class
 -- whose initialisation has begun for one that comes first, with those that come then; a class for its initialisation
--- method; and the entry for its class.
+-- method; and the entry for its class. So does the frame at whose instruction an object is thrown, while it goes up: as
+-- after a call where an exception arose there, and as one that is done afterwards where the instruction is athrow.
 pub data Wait : Type 0 where
   AfterCall : Frame → Wait
   AfterInit : Frame → Wait
@@ -63,6 +64,11 @@ status_of _ = Running
 -- of a state
 abbrev pub status : State → Status
 status s = status_of s.control
+
+-- the object that is going up, while one is (JVMS 2.10)
+abbrev pub in_flight : Control → Option ℕ
+in_flight (Unwinds n) = Some n
+in_flight _ = None
 
 -- the frames that wait
 abbrev pub waiting_frames : List Wait → List Frame

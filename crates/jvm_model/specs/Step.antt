@@ -24,7 +24,7 @@ on_answer p w m b asking ws (Begins method args) =
 on_answer p w m b asking ws (Awaits class) = begin p w class (AfterInit (frame m b) ∷ ws)
 on_answer p w m b asking ws NoAnswer = state w Wrong ws
 
--- a method returns to the one that called it, or ends an initialisation, or the run (JVMS 2.6.4)
+-- a method returns to the one that called it, or ends an initialisation, or the run (JVMS 2.6.4, 5.5, step 10)
 abbrev pub return : World → Option Value → List Wait → State
 return w result [] = state w (Returned result) []
 return w result (AfterCall f ∷ ws) = state w (Runs (frame f.method (resumed f.body result))) ws
@@ -60,7 +60,8 @@ next v w ws (Completes class) = complete w class ws
 next v w ws c = state w c ws
 
 -- One instruction with the call of a library method that it makes, one return, one move of an initialisation, or one
--- move of an object that is thrown. A run that has ended stays as it is.
+-- move of an object that is thrown. A run that has ended stays as it is. (JVMS 2.11 has the loop over instructions;
+-- what counts as a step is the project's own.)
 abbrev pub step : View → State → State
 step v s = next v s.world s.waits s.control
 

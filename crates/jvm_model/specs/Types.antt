@@ -21,7 +21,7 @@ use Rattle.jvm_model.specs.Value.{Value, Int, Long, Null}
 
 -- ---- computational types (JVMS 2.11.1, table 2.11.1-B)
 
--- of a type without dimensions
+-- of a type without dimensions; float and double, which are left out, count as int here, and nothing rests on it
 abbrev pub kind_of_base : Base → Kind
 kind_of_base base.Long = kind.Long
 kind_of_base (base.Class name) = kind.Ref
@@ -140,6 +140,6 @@ module _ (is_sub : List ℕ → List ℕ → Bool) where
   is_array_below zero a (suc n) b = false
   is_array_below zero a zero b = is_base_below a b
 
-  -- of types
+  -- of types (JLS 4.10.2, 4.10.3; JVMS 6.5.checkcast, 6.5.instanceof, 6.5.aastore)
   abbrev pub is_type_below : FieldType → FieldType → Bool
   is_type_below a b = is_array_below a.dims a.base b.dims b.base

@@ -34,7 +34,8 @@ unwind_clinit w n ws true = state w (Unwinds n) ws
 unwind_clinit w n ws false =
     state (with_new w (Instance (exception_class InInitializer) blank Null (Ref n))) (Unwinds (length w.heap)) ws
 
--- the object leaves what waits
+-- The object leaves what waits: a frame, which may catch it; a class whose superclass fails, which fails with it; a
+-- class whose initialisation method fails (JVMS 2.10; 5.5, steps 7, 11 and 12); or the entry, and so the run.
 abbrev pub unwind : View → World → ℕ → List Wait → State
 unwind v w n [] = state w (Threw n) []
 unwind v w n (AfterCall f ∷ ws) = unwind_frame v.shape w n f ws (v.code f.method)

@@ -2,7 +2,7 @@
 ghost use Rattle.std.specs.Prelude.{List};
 ghost use Rattle.jvm_model.specs.Mapped.{Mapped, Mapping};
 ghost use Rattle.jvm_model.specs.Program.{View};
-ghost use Rattle.jvm_model.specs.Same.{Names, Renamed, Same, chain, own_names};
+ghost use Rattle.jvm_model.specs.Same.{AreKept, Names, Renamed, Same, chain, own_names};
 ghost use Rattle.jvm_model.specs.Value.{Key};
 
 /// A program does what it does; and what does the same as a second program, which does the same as a
@@ -13,8 +13,9 @@ pub fn same_composes()
         → Same u v first entries → Same v w second middle → Same u w (chain first second) entries }
 {}
 
-/// A program whose image another one is does the same: where classes and members that nothing names
-/// are left out, and where all that is kept has new names. It does nothing.
+/// A program whose image another one is does the same, from entries that are kept: where classes and
+/// members that nothing names are left out, and where all that is kept has new names. It does nothing.
 pub fn images_do_the_same()
-    ensures { (m : Mapping) (v w : View) → Mapped m v w → (entries : List Key) → Same v w m.names entries }
+    ensures { (m : Mapping) (v w : View) → Mapped m v w → (entries : List Key)
+        → AreKept m.names entries → Same v w m.names entries }
 {}

@@ -1,7 +1,7 @@
 // What the rules for classes give for a few small sets.
 //
-// Each clause is computed from the definitions. The classes are written out in specs/ProfileRows.antt; what is told of
-// them follows from JVMS 4.10, 5.4.3 to 5.4.5 and 6.5. Not all of them could stand in one program.
+// Each clause is computed from the definitions. The classes are written out in specs/rows/ProfileRows.antt; what is
+// told of them follows from JVMS 4.10, 5.4.3 to 5.4.5 and 6.5. Not all of them could stand in one program.
 ghost use Rattle.link_check.specs.rows.ProfileRows.{AccessRows, ArrayCallRows, CallRows, FieldRows, FinalRows};
 ghost use Rattle.link_check.specs.rows.ProfileRows.{FlagRows};
 ghost use Rattle.link_check.specs.rows.ProfileRows.{FloatRows, HandlerRows, ImplementingRows, InitRows};

@@ -1,18 +1,21 @@
 -- A text stands for the mapping that is read of it, and for no other; what is written stands for what was written.
-use Rattle.std.proofs.Common.{◌≡◌, ℕ, Bool, true, false, not, cond, List, [], ◌∷◌, ◌++◌, map, Result, Ok, Err, refl, sym, ap}
-use Rattle.std.proofs.Common.{subst, ◌∙◌}
+use Rattle.std.proofs.Common.{◌≡◌, ℕ, ◌+◌, Bool, true, false, not, cond, List, [], ◌∷◌, ◌++◌, length, map, Result, Ok, Err, refl, sym}
+use Rattle.std.proofs.Common.{ap, subst, ◌∙◌, append_assoc, arith}
 use Rattle.std.specs.List.{AllByRecursion, filter_map, flat_map}
 use Rattle.std.specs.Str.{IsUtf8}
 use Rattle.std.specs.Str.Lines.{lines}
+use Rattle.std.proofs.lemmas.List.{append-nil}
 use Rattle.jv_base.specs.Outcome.{◌>>=◌, FaultIs}
 use Rattle.jv_base.specs.declared.outcome.Or.{Or}
 use Rattle.jv_base.specs.declared.outcome.Or.TheVariants.{Fault, OutOfMemory}
-use Rattle.text_lines.specs.Lines.{AllSpell, AreSpelled, is_passed_over, read_lines, saying}
+use Rattle.text_lines.specs.Faults.{IsFirstAtFault}
+use Rattle.text_lines.specs.Lines.{AllSpell, AreSpelled, is_passed_over, item_added, line_read, read_lines, saying}
 use Rattle.text_lines.proofs.ReadLines.{bind_ok, lines_found, lines_only}
+use Rattle.text_lines.proofs.Refused.{bind_err, kind_at, lines_refused, refused_anyway}
 use Rattle.mapping_file.specs.LineReading.{line_of}
 use Rattle.mapping_file.specs.MapLines.{IsLine, SpellsLine, line_text}
 use Rattle.mapping_file.specs.MapReading.{added, all_classes, fault, nothing, read_mapping, step}
-use Rattle.mapping_file.specs.Mappings.{AreApart, IsMapping, IsMember, IsTextLine, Reading, TellClasses, TellMembers}
+use Rattle.mapping_file.specs.Mappings.{AreApart, IsMapping, IsMember, IsTextLine, Reading, StandFor, TellClasses, TellMembers}
 use Rattle.mapping_file.specs.Mappings.{class_lines, field_in, mapping_text, method_in}
 use Rattle.mapping_file.specs.declared.line.MapLine.{MapLine}
 use Rattle.mapping_file.specs.declared.line.MapLine.TheVariants as line
@@ -31,24 +34,60 @@ use Rattle.mapping_file.proofs.Told.{all_append, all_split, told_by, told_only}
 abbrev of_classes : List MapClass → Mapping
 of_classes cs = record { classes = cs }
 
+-- lines that were read stand for what they told
+stand_found : (ls : List (List ℕ)) (r : ClassesRead) → read_lines step 1 ls nothing ≡ Ok r → StandFor ls (of_classes (all_classes r))
+stand_found ls r h =
+    let found = lines_found fault NotUtf8 BadLine added line_says 1 ls nothing r h in
+    let told = told_by found.0 r found.2 in
+    record { told = found.0; spelled = found.1; classes = told.classes; apart = told.apart }
+
+-- lines that stand for a mapping are read
+stand_only : (ls : List (List ℕ)) (m : Mapping) → StandFor ls m
+    → (r : ClassesRead) × (read_lines step 1 ls nothing ≡ Ok r) × (all_classes r ≡ m.classes)
+stand_only ls m h =
+    let s = told_only h.told m.classes h.classes h.apart in
+    (s.0, lines_only fault NotUtf8 BadLine added line_says 1 ls h.told nothing s.0 h.spelled s.1, s.2)
+
 -- what is read is what the text stands for
 pub read_found : (text : List ℕ) (m : Mapping) → read_mapping text ≡ Ok m → Reading text m
 unfolding read_mapping
 read_found text m h =
     let b = bind_ok (read_lines step 1 (lines text) nothing) (λ r. Ok (of_classes (all_classes r))) m h in
-    let found = lines_found fault NotUtf8 BadLine added line_says 1 (lines text) nothing b.0 b.1 in
-    let told = told_by found.0 b.0 found.2 in
     let is : of_classes (all_classes b.0) ≡ m = cc in
-    subst (Reading text) is (record { told = found.0; spelled = found.1; classes = told.classes; apart = told.apart })
+    subst (Reading text) is (stand_found (lines text) b.0 b.1)
 
 -- what the text stands for is read
 pub read_only : (text : List ℕ) (m : Mapping) → Reading text m → read_mapping text ≡ Ok m
 unfolding read_mapping
 read_only text m h =
-    let s = told_only h.told m.classes h.classes h.apart in
-    let read : read_lines step 1 (lines text) nothing ≡ Ok s.0
-    = lines_only fault NotUtf8 BadLine added line_says 1 (lines text) h.told nothing s.0 h.spelled s.1 in
-    rw read (ap (λ (cs : List MapClass). let R : Result Mapping MapFault = Ok (of_classes cs) in R) s.2)
+    let s = stand_only (lines text) m h in
+    rw s.1 (ap (λ (cs : List MapClass). let R : Result Mapping MapFault = Ok (of_classes cs) in R) s.2)
+
+-- the line that is told is the first at fault
+pub first_at_fault : (text : List ℕ) (f : MapFault) → read_mapping text ≡ Err f → IsFirstAtFault StandFor (lines text) f.line
+unfolding read_mapping
+first_at_fault text f h =
+    let e = bind_err (read_lines step 1 (lines text) nothing) (λ r. of_classes (all_classes r)) f h in
+    let p = lines_refused step 1 (lines text) nothing f e in
+    let kind = kind_at fault (1 + length p.before) (line_read NotUtf8 (λ l t. item_added BadLine added (line_of l) t) p.line p.state) f p.refused in
+    let number : f.line ≡ 1 + length p.before = ap (λ (g : MapFault). g.line) kind.1 in
+    record {
+      before = p.before;
+      line = p.line;
+      behind = p.behind;
+      parts = p.parts;
+      numbered = omega (arith, number);
+      begins = (
+        [],
+        of_classes (all_classes p.state),
+        subst (λ (ls : List (List ℕ)). StandFor ls (of_classes (all_classes p.state))) (sym (append-nil p.before)) (stand_found p.before p.state p.read),
+      );
+      stops = λ more.
+          let lines_are : (p.before ++ p.line ∷ []) ++ more.0 ≡ p.before ++ p.line ∷ more.0 = append_assoc p.before (p.line ∷ []) more.0 in
+          let read = stand_only (p.before ++ p.line ∷ more.0) more.1 (subst (λ (ls : List (List ℕ)). StandFor ls more.1) lines_are more.2) in
+          let refused = refused_anyway step 1 p.before p.line more.0 nothing p.state f p.read p.refused in
+          absurd cc;
+    }
 
 -- ---- what is written
 

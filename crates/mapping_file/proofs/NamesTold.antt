@@ -110,11 +110,9 @@ method_keeps (Ok x) t m old new h k = method_names t old.before old.last m new h
 method_keeps (Err e) t m old new h k = tt
 
 -- names that were put one after the other
-pub both_put : {T E : Type 0} (r : Result T E) (t u : ClassNames) (cs : List MapClass) (d : MapClass)
-    → Updates (slice_cmp nat_cmp) t.before u.before d.old true
-    → OnOk r (Updates (slice_cmp nat_cmp) t.after u.after d.new true) → TellsNames t cs → OnOk r (TellsNames u (cs ++ d ∷ []))
-both_put (Ok x) t u cs d p q h = record {
+pub both_put : (t u : ClassNames) (cs : List MapClass) (d : MapClass) → Updates (slice_cmp nat_cmp) t.before u.before d.old true
+    → Updates (slice_cmp nat_cmp) t.after u.after d.new true → TellsNames t cs → TellsNames u (cs ++ d ∷ [])
+both_put t u cs d p q h = record {
   old = name_put t.before u.before (λ (c : MapClass). c.old) cs d p h.old;
   new = name_put t.after u.after (λ (c : MapClass). c.new) cs d q h.new;
 }
-both_put (Err e) t u cs d p q h = tt

@@ -1,13 +1,15 @@
 -- The mapping that a text stands for, read line by line, or the first line at fault (ProGuard manual, "ReTrace", the
 -- mapping file; the kinds of faults are the project's own).
-use Rattle.std.specs.Prelude.{ℕ, ◌||◌, Bool, List, [], ◌∷◌, ◌++◌, Option, Some, None, Result, Ok, Err, if◌then◌else◌}
+use Rattle.std.specs.Prelude.{◌≡◌, ℕ, ◌||◌, Bool, List, [], ◌∷◌, ◌++◌, Option, Some, None, Result, Ok, Err, if◌then◌else◌}
 use Rattle.std.specs.List.{list_any}
 use Rattle.std.specs.Option.{option_to_list}
 use Rattle.std.specs.Str.Lines.{lines}
 use Rattle.jv_base.specs.Names.{is_text}
 use Rattle.jv_base.specs.Outcome.{◌>>=◌}
+use Rattle.text_lines.specs.Faults.{IsFirstAtFault}
 use Rattle.text_lines.specs.Lines.{line_step, read_lines}
 use Rattle.mapping_file.specs.LineReading.{line_of}
+use Rattle.mapping_file.specs.Mappings.{StandFor}
 use Rattle.mapping_file.specs.declared.line.MapLine.{MapLine}
 use Rattle.mapping_file.specs.declared.line.MapLine.TheVariants as line
 use Rattle.mapping_file.specs.declared.mapping.MapClass.{MapClass}
@@ -66,3 +68,9 @@ nothing = record { before = []; last = None }
 -- the mapping that the text stands for, or the first line at fault and the kind
 unfoldable pub read_mapping : List ℕ → Result Mapping MapFault
 read_mapping text = read_lines step 1 (lines text) nothing >>= (λ r. Ok (record { classes = all_classes r }))
+
+-- ---- the law
+
+-- the line that is told is the first at fault
+abbrev pub IsFirstFault : Type 0
+IsFirstFault = (text : List ℕ) (f : MapFault) → read_mapping text ≡ Err f → IsFirstAtFault StandFor (lines text) f.line

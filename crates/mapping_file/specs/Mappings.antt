@@ -51,12 +51,16 @@ abbrev pub AreApart : List MapClass → Type 0
 AreApart [] = Unit {0}
 AreApart (c ∷ cs) = AllByRecursion (HasOtherNames c) cs × AreApart cs
 
--- the text is a mapping file that stands for the mapping
-pub record Reading (text : List ℕ) (m : Mapping) : Type 0 where
+-- the lines are those of a mapping file that stands for the mapping
+pub record StandFor (ls : List (List ℕ)) (m : Mapping) : Type 0 where
   pub told : List MapLine
-  pub spelled : AreSpelled SpellsLine (lines text) told
+  pub spelled : AreSpelled SpellsLine ls told
   pub classes : TellClasses told m.classes
   pub apart : AreApart m.classes
+
+-- the text is a mapping file that stands for the mapping
+abbrev pub Reading : List ℕ → Mapping → Type 0
+Reading text m = StandFor (lines text) m
 
 -- ---- how a mapping is written
 

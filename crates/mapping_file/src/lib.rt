@@ -9,5 +9,5 @@ mod reading;
 mod writing;
 
 pub use mapping::{MapClass, MapFault, MapField, MapKind, MapMethod, Mapping, Range};
-pub use reading::{one_mapping, read_mapping};
+pub use reading::{first_fault, one_mapping, read_mapping};
 pub use writing::write_mapping;

@@ -1,6 +1,6 @@
 // The names of classes that were read.
-ghost use Rattle.std.specs.Prelude.{◌≡◌, true, List, [], ◌∷◌, ◌++◌, OnOk};
-ghost use Rattle.std.specs.BTreeSet.{Updates};
+ghost use Rattle.std.specs.Prelude.{◌≡◌, true, not, List, [], ◌∷◌, ◌++◌, IfOk, OnOk};
+ghost use Rattle.std.specs.BTreeSet.{Updates, contains};
 ghost use Rattle.std.specs.Cmp.Lexicographic.{slice_cmp};
 ghost use Rattle.std.specs.Ordering.{nat_cmp};
 ghost use Rattle.mapping_file.specs.MapReading.{begun, has_name};
@@ -28,25 +28,20 @@ impl ClassNames {
         }
     }
 
-    /// Whether a class has one of the names.
-    pub(crate) fn has_name(&self, old: &Name, new: &Name) -> bool
-        ensures { (classes : List MapClass) → TellsNames self.now classes → result ≡ has_name classes old.now new.now }
+    /// Puts the names of a class, and answers whether no class has one of them yet.
+    pub(crate) fn put(&mut self, old: &Name, new: &Name) -> M<bool>
+        ensures is_new { (classes : List MapClass) → TellsNames self.old classes → IfOk result (λ is_new. is_new ≡ not (has_name classes old.now new.now)) }
+        ensures put { (classes : List MapClass) → TellsNames self.old classes → OnOk result (TellsNames self.new (classes ++ begun old.now new.now ∷ [])) }
     {
-        self.before.contains(old) || self.after.contains(new)
-    }
-
-    /// Puts the names of a class.
-    pub(crate) fn put(&mut self, old: &Name, new: &Name) -> M<()>
-        ensures { (classes : List MapClass) → TellsNames self.old classes → OnOk result (TellsNames self.new (classes ++ begun old.now new.now ∷ [])) }
-    {
-        put_name(&mut self.before, old)?;
-        put_name(&mut self.after, new)
+        let is_new_before = put_name(&mut self.before, old)?;
+        let is_new_after = put_name(&mut self.after, new)?;
+        Ok(is_new_before && is_new_after)
     }
 }
 
-fn put_name(names: &mut BTreeSet<Name>, name: &Name) -> M<()>
-    ensures { OnOk result (Updates (slice_cmp nat_cmp) names.old names.new name.now true) }
+fn put_name(names: &mut BTreeSet<Name>, name: &Name) -> M<bool>
+    ensures is_new { IfOk result (λ is_new. is_new ≡ not (contains (slice_cmp nat_cmp) names.old name.now)) }
+    ensures put { OnOk result (Updates (slice_cmp nat_cmp) names.old names.new name.now true) }
 {
-    names.insert(name.clone()?)?;
-    Ok(())
+    Ok(names.insert(name.clone()?)?)
 }

@@ -2,7 +2,7 @@
 ghost use Rattle.std.specs.Prelude.{◌≡◌, ◌<◌, length, Some, IfOk, OnOk, Ok};
 ghost use Rattle.jv_base.specs.Outcome.{IsDue};
 ghost use Rattle.text_lines.specs.Steps.{ChangesOr};
-ghost use Rattle.mapping_file.specs.MapReading.{added, all_classes, begun, nothing, read_mapping, step};
+ghost use Rattle.mapping_file.specs.MapReading.{IsFirstFault, added, all_classes, begun, nothing, read_mapping, step};
 ghost use Rattle.text_lines.specs.Lines.{read_lines};
 ghost use Rattle.std.specs.Str.Lines.{lines};
 ghost use Rattle.jv_base.specs.declared.outcome.Or.TheVariants.{Fault};
@@ -42,6 +42,11 @@ pub fn one_mapping()
     ensures { IsOneMapping }
 {}
 
+/// The line that is told is the first at fault: a mapping can begin with those before it, and none with it behind them.
+pub fn first_fault()
+    ensures { IsFirstFault }
+{}
+
 fn mapping_of(read: ClassesRead) -> M<Mapping>
     ensures { IfOk result (λ map. map.classes ≡ all_classes read) }
 {
@@ -57,12 +62,12 @@ fn read_classes(alloc: Global, bytes: &[u8]) -> Result<ClassesRead, Or<MapFault>
     requires { length bytes.now < 4294967295 }
     ensures { IsDue result (read_lines step 1 (lines bytes.now) nothing) }
 {
+    let mut known = Known::new(alloc, bytes.len())?;
     let mut read = ClassesRead {
         before: Items::new(alloc),
         last: None,
     };
     let mut names = ClassNames::new(alloc);
-    let mut known = Known::new(alloc);
     let mut rest = bytes;
     let mut number = 1;
     while let Some(line) = next_line(rest) {
@@ -160,10 +165,9 @@ fn add_class(
     ensures read { ChangesOr result read.new (added (line.Class old new) read.old) }
     ensures names { OnOk result (TellsNames names.new (all_classes read.new)) }
 {
-    if names.has_name(&old, &new) {
+    if !names.put(&old, &new)? {
         return Err(Or::Fault(MapKind::Repeated));
     }
-    names.put(&old, &new)?;
     begin(alloc, read, old, new)?;
     Ok(())
 }

@@ -17,26 +17,26 @@ pub fn write_mapping(alloc: Global, map: &Mapping) -> M<Bytes>
     ensures again { (text : List ℕ) → Reading text map.now → IfOk result (λ bytes. read_mapping bytes ≡ Ok map.now) }
 {
     let mut out = Vec::new(alloc);
-    push_mapping(alloc, &mut out, map)?;
+    push_mapping(&mut out, map)?;
     Ok(Items::from_vec(out))
 }
 
 #[tactic(auto, unfolding(crate::specs::Mappings::mapping_text))]
-fn push_mapping(alloc: Global, out: &mut Vec<u8>, map: &Mapping) -> M<()>
+fn push_mapping(out: &mut Vec<u8>, map: &Mapping) -> M<()>
     ensures { OnOk result (out.new.items ≡ out.old.items ++ mapping_text map.now) }
 {
     for class in map.classes.as_slice() {
-        push_class_lines(alloc, out, class)?;
+        push_class_lines(out, class)?;
     }
     Ok(())
 }
 
-fn push_class_lines(alloc: Global, out: &mut Vec<u8>, class: &MapClass) -> M<()>
+fn push_class_lines(out: &mut Vec<u8>, class: &MapClass) -> M<()>
     ensures { OnOk result (out.new.items ≡ out.old.items ++ flat_map ended_line (class_lines class.now)) }
 {
     push_class_line(out, &class.old, &class.new)?;
-    push_field_lines(alloc, out, class.fields.as_slice())?;
-    push_method_lines(alloc, out, class.methods.as_slice())
+    push_field_lines(out, class.fields.as_slice())?;
+    push_method_lines(out, class.methods.as_slice())
 }
 
 fn push_class_line(out: &mut Vec<u8>, old: &Name, new: &Name) -> M<()>
@@ -49,20 +49,20 @@ fn push_class_line(out: &mut Vec<u8>, old: &Name, new: &Name) -> M<()>
     Ok(())
 }
 
-fn push_field_lines(alloc: Global, out: &mut Vec<u8>, fields: &[MapField]) -> M<()>
+fn push_field_lines(out: &mut Vec<u8>, fields: &[MapField]) -> M<()>
     ensures { OnOk result (out.new.items ≡ out.old.items ++ flat_map (λ f. field_line_text f ++ 10 ∷ []) fields.now) }
 {
     for field in fields {
-        push_field_line(alloc, out, field)?;
+        push_field_line(out, field)?;
     }
     Ok(())
 }
 
-fn push_field_line(alloc: Global, out: &mut Vec<u8>, field: &MapField) -> M<()>
+fn push_field_line(out: &mut Vec<u8>, field: &MapField) -> M<()>
     ensures { OnOk result (out.new.items ≡ out.old.items ++ (field_line_text field.now ++ 10 ∷ [])) }
 {
     out.extend_from_slice(b"    ")?;
-    push_type(alloc, out, &field.ty)?;
+    push_type(out, &field.ty)?;
     out.extend_from_slice(b" ")?;
     out.extend_from_slice(field.old.as_bytes())?;
     push_new_name(out, &field.new)
@@ -77,33 +77,33 @@ fn push_new_name(out: &mut Vec<u8>, new: &Name) -> M<()>
     Ok(())
 }
 
-fn push_method_lines(alloc: Global, out: &mut Vec<u8>, methods: &[MapMethod]) -> M<()>
+fn push_method_lines(out: &mut Vec<u8>, methods: &[MapMethod]) -> M<()>
     ensures { OnOk result (out.new.items ≡ out.old.items ++ flat_map (λ m. method_line_text m ++ 10 ∷ []) methods.now) }
 {
     for method in methods {
-        push_method_line(alloc, out, method)?;
+        push_method_line(out, method)?;
     }
     Ok(())
 }
 
-fn push_method_line(alloc: Global, out: &mut Vec<u8>, method: &MapMethod) -> M<()>
+fn push_method_line(out: &mut Vec<u8>, method: &MapMethod) -> M<()>
     ensures { OnOk result (out.new.items ≡ out.old.items ++ (method_line_text method.now ++ 10 ∷ [])) }
 {
     out.extend_from_slice(b"    ")?;
-    push_range(alloc, out, method.lines)?;
-    push_method(alloc, out, &method.ty, &method.old)?;
+    push_range(out, method.lines)?;
+    push_method(out, &method.ty, &method.old)?;
     push_new_name(out, &method.new)
 }
 
-fn push_range(alloc: Global, out: &mut Vec<u8>, lines: Option<Range>) -> M<()>
+fn push_range(out: &mut Vec<u8>, lines: Option<Range>) -> M<()>
     ensures { OnOk result (out.new.items ≡ out.old.items ++ range_text lines) }
 {
     let Some(range) = lines else {
         return Ok(());
     };
-    push_number(alloc, out, range.first as u64)?;
+    push_number(out, range.first as u64)?;
     out.extend_from_slice(b":")?;
-    push_number(alloc, out, range.last as u64)?;
+    push_number(out, range.last as u64)?;
     out.extend_from_slice(b":")?;
     Ok(())
 }

@@ -1,3 +1,5 @@
 pub mod EarlySystem
+pub mod Requires
+pub mod Closing
 pub mod Called
 pub mod bodies

@@ -8,37 +8,64 @@ use Rattle.jv_base.specs.Types.{argument_words, base_text, field_text, method_te
 use Rattle.jv_base.specs.Walk.{walk}
 use Rattle.lib_table.specs.Library.{library}
 use Rattle.class_pool.specs.Walk.{upwards, walked}
-use Rattle.run_rows.specs.Arithmetic.{Row1, Row9, Row15, Row20, Row40, Row41, ArithmeticRows}
+use Rattle.run_rows.specs.Arithmetic.{IntArithmeticRow, LongArithmeticRow, IntShiftsRow, LongShiftsRow, NopRow}
+use Rattle.run_rows.specs.Arithmetic.{I2cAndI2bRow, ArithmeticRows, IntArithmeticBelowZeroRow, IntShiftsMaskedRow}
+use Rattle.run_rows.specs.Arithmetic.{LongShiftsMaskedRow}
 
-row1 : Row1
+int_arithmetic_row : IntArithmeticRow
 unfolding library upwards walked field_text base_text method_text result_text grown read_field read_method walk
     is_class_name is_member_name is_primitive_or_void is_name_byte part_after words_of argument_words digits int_wrap
-row1 = refl
+int_arithmetic_row = refl
 
-row9 : Row9
+long_arithmetic_row : LongArithmeticRow
 unfolding library upwards walked field_text base_text method_text result_text grown read_field read_method walk
     is_class_name is_member_name is_primitive_or_void is_name_byte part_after words_of argument_words digits int_wrap
-row9 = refl
+long_arithmetic_row = refl
 
-row15 : Row15
+int_shifts_row : IntShiftsRow
 unfolding library upwards walked field_text base_text method_text result_text grown read_field read_method walk
     is_class_name is_member_name is_primitive_or_void is_name_byte part_after words_of argument_words digits int_wrap
-row15 = refl
+int_shifts_row = refl
 
-row20 : Row20
+long_shifts_row : LongShiftsRow
 unfolding library upwards walked field_text base_text method_text result_text grown read_field read_method walk
     is_class_name is_member_name is_primitive_or_void is_name_byte part_after words_of argument_words digits int_wrap
-row20 = refl
+long_shifts_row = refl
 
-row40 : Row40
+nop_row : NopRow
 unfolding library upwards walked field_text base_text method_text result_text grown read_field read_method walk
     is_class_name is_member_name is_primitive_or_void is_name_byte part_after words_of argument_words digits int_wrap
-row40 = refl
+nop_row = refl
 
-row41 : Row41
+i2c_and_i2b_row : I2cAndI2bRow
 unfolding library upwards walked field_text base_text method_text result_text grown read_field read_method walk
     is_class_name is_member_name is_primitive_or_void is_name_byte part_after words_of argument_words digits int_wrap
-row41 = refl
+i2c_and_i2b_row = refl
+
+int_arithmetic_below_zero_row : IntArithmeticBelowZeroRow
+unfolding library upwards walked field_text base_text method_text result_text grown read_field read_method walk
+    is_class_name is_member_name is_primitive_or_void is_name_byte part_after words_of argument_words digits int_wrap
+int_arithmetic_below_zero_row = refl
+
+int_shifts_masked_row : IntShiftsMaskedRow
+unfolding library upwards walked field_text base_text method_text result_text grown read_field read_method walk
+    is_class_name is_member_name is_primitive_or_void is_name_byte part_after words_of argument_words digits int_wrap
+int_shifts_masked_row = (refl, refl)
+
+long_shifts_masked_row : LongShiftsMaskedRow
+unfolding library upwards walked field_text base_text method_text result_text grown read_field read_method walk
+    is_class_name is_member_name is_primitive_or_void is_name_byte part_after words_of argument_words digits int_wrap
+long_shifts_masked_row = (refl, refl)
 
 pub computed : ArithmeticRows
-computed = (row1, row9, row15, row20, row40, row41)
+computed = (
+  int_arithmetic_row,
+  int_arithmetic_below_zero_row,
+  long_arithmetic_row,
+  int_shifts_row,
+  int_shifts_masked_row,
+  long_shifts_row,
+  long_shifts_masked_row,
+  nop_row,
+  i2c_and_i2b_row,
+)

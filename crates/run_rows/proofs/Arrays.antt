@@ -8,47 +8,58 @@ use Rattle.jv_base.specs.Types.{argument_words, base_text, field_text, method_te
 use Rattle.jv_base.specs.Walk.{walk}
 use Rattle.lib_table.specs.Library.{library}
 use Rattle.class_pool.specs.Walk.{upwards, walked}
-use Rattle.run_rows.specs.Arrays.{Row112, Row114, Row121, Row123, Row124, Row125, Row131, Row135, ArraysRows}
+use Rattle.run_rows.specs.Arrays.{StoreNarrowsToShortRow, BooleanLoadFromNullRow, LongStoreAtTheLengthRow}
+use Rattle.run_rows.specs.Arrays.{LoadReferenceFromNullRow, StoreReferenceIntoNullRow, StoresReferencesRow}
+use Rattle.run_rows.specs.Arrays.{NoSuchSizesRow, LengthNullRow, ArraysRows}
 
-row112 : Row112
+store_narrows_to_short_row : StoreNarrowsToShortRow
 unfolding library upwards walked field_text base_text method_text result_text grown read_field read_method walk
     is_class_name is_member_name is_primitive_or_void is_name_byte part_after words_of argument_words digits int_wrap
-row112 = refl
+store_narrows_to_short_row = refl
 
-row114 : Row114
+boolean_load_from_null_row : BooleanLoadFromNullRow
 unfolding library upwards walked field_text base_text method_text result_text grown read_field read_method walk
     is_class_name is_member_name is_primitive_or_void is_name_byte part_after words_of argument_words digits int_wrap
-row114 = refl
+boolean_load_from_null_row = refl
 
-row121 : Row121
+long_store_at_the_length_row : LongStoreAtTheLengthRow
 unfolding library upwards walked field_text base_text method_text result_text grown read_field read_method walk
     is_class_name is_member_name is_primitive_or_void is_name_byte part_after words_of argument_words digits int_wrap
-row121 = refl
+long_store_at_the_length_row = refl
 
-row123 : Row123
+load_reference_from_null_row : LoadReferenceFromNullRow
 unfolding library upwards walked field_text base_text method_text result_text grown read_field read_method walk
     is_class_name is_member_name is_primitive_or_void is_name_byte part_after words_of argument_words digits int_wrap
-row123 = refl
+load_reference_from_null_row = refl
 
-row124 : Row124
+store_reference_into_null_row : StoreReferenceIntoNullRow
 unfolding library upwards walked field_text base_text method_text result_text grown read_field read_method walk
     is_class_name is_member_name is_primitive_or_void is_name_byte part_after words_of argument_words digits int_wrap
-row124 = refl
+store_reference_into_null_row = refl
 
-row125 : Row125
+stores_references_row : StoresReferencesRow
 unfolding library upwards walked field_text base_text method_text result_text grown read_field read_method walk
     is_class_name is_member_name is_primitive_or_void is_name_byte part_after words_of argument_words digits int_wrap
-row125 = refl
+stores_references_row = refl
 
-row131 : Row131
+no_such_sizes_row : NoSuchSizesRow
 unfolding library upwards walked field_text base_text method_text result_text grown read_field read_method walk
     is_class_name is_member_name is_primitive_or_void is_name_byte part_after words_of argument_words digits int_wrap
-row131 = refl
+no_such_sizes_row = refl
 
-row135 : Row135
+length_null_row : LengthNullRow
 unfolding library upwards walked field_text base_text method_text result_text grown read_field read_method walk
     is_class_name is_member_name is_primitive_or_void is_name_byte part_after words_of argument_words digits int_wrap
-row135 = refl
+length_null_row = refl
 
 pub computed : ArraysRows
-computed = (row112, row114, row121, row123, row124, row125, row131, row135)
+computed = (
+  store_narrows_to_short_row,
+  boolean_load_from_null_row,
+  long_store_at_the_length_row,
+  load_reference_from_null_row,
+  store_reference_into_null_row,
+  stores_references_row,
+  no_such_sizes_row,
+  length_null_row,
+)

@@ -8,27 +8,27 @@ use Rattle.jv_base.specs.Types.{argument_words, base_text, field_text, method_te
 use Rattle.jv_base.specs.Walk.{walk}
 use Rattle.lib_table.specs.Library.{library}
 use Rattle.class_pool.specs.Walk.{upwards, walked}
-use Rattle.run_rows.specs.Branches.{Row46, Row54, Row58, Row59, BranchesRows}
+use Rattle.run_rows.specs.Branches.{LcmpRow, IfsAgainstZeroRow, IfsTwoIntsRow, IfsTwoIntsAgainRow, BranchesRows}
 
-row46 : Row46
+lcmp_row : LcmpRow
 unfolding library upwards walked field_text base_text method_text result_text grown read_field read_method walk
     is_class_name is_member_name is_primitive_or_void is_name_byte part_after words_of argument_words digits int_wrap
-row46 = refl
+lcmp_row = refl
 
-row54 : Row54
+ifs_against_zero_row : IfsAgainstZeroRow
 unfolding library upwards walked field_text base_text method_text result_text grown read_field read_method walk
     is_class_name is_member_name is_primitive_or_void is_name_byte part_after words_of argument_words digits int_wrap
-row54 = refl
+ifs_against_zero_row = refl
 
-row58 : Row58
+ifs_two_ints_row : IfsTwoIntsRow
 unfolding library upwards walked field_text base_text method_text result_text grown read_field read_method walk
     is_class_name is_member_name is_primitive_or_void is_name_byte part_after words_of argument_words digits int_wrap
-row58 = refl
+ifs_two_ints_row = refl
 
-row59 : Row59
+ifs_two_ints_again_row : IfsTwoIntsAgainRow
 unfolding library upwards walked field_text base_text method_text result_text grown read_field read_method walk
     is_class_name is_member_name is_primitive_or_void is_name_byte part_after words_of argument_words digits int_wrap
-row59 = refl
+ifs_two_ints_again_row = refl
 
 pub computed : BranchesRows
-computed = (row46, row54, row58, row59)
+computed = (lcmp_row, ifs_against_zero_row, ifs_two_ints_row, ifs_two_ints_again_row)

@@ -8,17 +8,17 @@ use Rattle.jv_base.specs.Types.{argument_words, base_text, field_text, method_te
 use Rattle.jv_base.specs.Walk.{walk}
 use Rattle.lib_table.specs.Library.{library}
 use Rattle.class_pool.specs.Walk.{upwards, walked}
-use Rattle.run_rows.specs.Builders.{Row408, Row418, BuildersRows}
+use Rattle.run_rows.specs.Builders.{AppendEachKindRow, TextTurnedRoundRow, BuildersRows}
 
-row408 : Row408
+append_each_kind_row : AppendEachKindRow
 unfolding library upwards walked field_text base_text method_text result_text grown read_field read_method walk
     is_class_name is_member_name is_primitive_or_void is_name_byte part_after words_of argument_words digits int_wrap
-row408 = refl
+append_each_kind_row = refl
 
-row418 : Row418
+text_turned_round_row : TextTurnedRoundRow
 unfolding library upwards walked field_text base_text method_text result_text grown read_field read_method walk
     is_class_name is_member_name is_primitive_or_void is_name_byte part_after words_of argument_words digits int_wrap
-row418 = refl
+text_turned_round_row = refl
 
 pub computed : BuildersRows
-computed = (row408, row418)
+computed = (append_each_kind_row, text_turned_round_row)

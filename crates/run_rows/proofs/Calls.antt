@@ -8,47 +8,58 @@ use Rattle.jv_base.specs.Types.{argument_words, base_text, field_text, method_te
 use Rattle.jv_base.specs.Walk.{walk}
 use Rattle.lib_table.specs.Library.{library}
 use Rattle.class_pool.specs.Walk.{upwards, walked}
-use Rattle.run_rows.specs.Calls.{Row314, Row339, Row348, Row349, Row351, Row353, Row357, Row358, CallsRows}
+use Rattle.run_rows.specs.Calls.{ConstructorThrowsRow, SuperEqualsRow, InterfaceOnArrayRow}
+use Rattle.run_rows.specs.Calls.{InterfaceSelectsPackagePrivateRow, InterfaceSelectsNoneRow, VirtualSelectsAbstractRow}
+use Rattle.run_rows.specs.Calls.{InterfacePassesOverStaticRow, InterfaceEqualsRow, CallsRows}
 
-row314 : Row314
+constructor_throws_row : ConstructorThrowsRow
 unfolding library upwards walked field_text base_text method_text result_text grown read_field read_method walk
     is_class_name is_member_name is_primitive_or_void is_name_byte part_after words_of argument_words digits int_wrap
-row314 = refl
+constructor_throws_row = refl
 
-row339 : Row339
+super_equals_row : SuperEqualsRow
 unfolding library upwards walked field_text base_text method_text result_text grown read_field read_method walk
     is_class_name is_member_name is_primitive_or_void is_name_byte part_after words_of argument_words digits int_wrap
-row339 = refl
+super_equals_row = refl
 
-row348 : Row348
+interface_on_array_row : InterfaceOnArrayRow
 unfolding library upwards walked field_text base_text method_text result_text grown read_field read_method walk
     is_class_name is_member_name is_primitive_or_void is_name_byte part_after words_of argument_words digits int_wrap
-row348 = refl
+interface_on_array_row = refl
 
-row349 : Row349
+interface_selects_package_private_row : InterfaceSelectsPackagePrivateRow
 unfolding library upwards walked field_text base_text method_text result_text grown read_field read_method walk
     is_class_name is_member_name is_primitive_or_void is_name_byte part_after words_of argument_words digits int_wrap
-row349 = refl
+interface_selects_package_private_row = refl
 
-row351 : Row351
+interface_selects_none_row : InterfaceSelectsNoneRow
 unfolding library upwards walked field_text base_text method_text result_text grown read_field read_method walk
     is_class_name is_member_name is_primitive_or_void is_name_byte part_after words_of argument_words digits int_wrap
-row351 = refl
+interface_selects_none_row = refl
 
-row353 : Row353
+virtual_selects_abstract_row : VirtualSelectsAbstractRow
 unfolding library upwards walked field_text base_text method_text result_text grown read_field read_method walk
     is_class_name is_member_name is_primitive_or_void is_name_byte part_after words_of argument_words digits int_wrap
-row353 = refl
+virtual_selects_abstract_row = refl
 
-row357 : Row357
+interface_passes_over_static_row : InterfacePassesOverStaticRow
 unfolding library upwards walked field_text base_text method_text result_text grown read_field read_method walk
     is_class_name is_member_name is_primitive_or_void is_name_byte part_after words_of argument_words digits int_wrap
-row357 = refl
+interface_passes_over_static_row = refl
 
-row358 : Row358
+interface_equals_row : InterfaceEqualsRow
 unfolding library upwards walked field_text base_text method_text result_text grown read_field read_method walk
     is_class_name is_member_name is_primitive_or_void is_name_byte part_after words_of argument_words digits int_wrap
-row358 = refl
+interface_equals_row = refl
 
 pub computed : CallsRows
-computed = (row314, row339, row348, row349, row351, row353, row357, row358)
+computed = (
+  constructor_throws_row,
+  super_equals_row,
+  interface_on_array_row,
+  interface_selects_package_private_row,
+  interface_selects_none_row,
+  virtual_selects_abstract_row,
+  interface_passes_over_static_row,
+  interface_equals_row,
+)

@@ -8,27 +8,28 @@ use Rattle.jv_base.specs.Types.{argument_words, base_text, field_text, method_te
 use Rattle.jv_base.specs.Walk.{walk}
 use Rattle.lib_table.specs.Library.{library}
 use Rattle.class_pool.specs.Walk.{upwards, walked}
-use Rattle.run_rows.specs.FailedInitialisation.{Row277, Row287, Row290, Row297, FailedInitialisationRows}
+use Rattle.run_rows.specs.FailedInitialisation.{FirstAndLaterUsesRow, UncaughtRow, ThrowableThatIsNeitherRow}
+use Rattle.run_rows.specs.FailedInitialisation.{StaticsOfAFailedClassRow, FailedInitialisationRows}
 
-row277 : Row277
+first_and_later_uses_row : FirstAndLaterUsesRow
 unfolding library upwards walked field_text base_text method_text result_text grown read_field read_method walk
     is_class_name is_member_name is_primitive_or_void is_name_byte part_after words_of argument_words digits int_wrap
-row277 = refl
+first_and_later_uses_row = refl
 
-row287 : Row287
+uncaught_row : UncaughtRow
 unfolding library upwards walked field_text base_text method_text result_text grown read_field read_method walk
     is_class_name is_member_name is_primitive_or_void is_name_byte part_after words_of argument_words digits int_wrap
-row287 = refl
+uncaught_row = refl
 
-row290 : Row290
+throwable_that_is_neither_row : ThrowableThatIsNeitherRow
 unfolding library upwards walked field_text base_text method_text result_text grown read_field read_method walk
     is_class_name is_member_name is_primitive_or_void is_name_byte part_after words_of argument_words digits int_wrap
-row290 = refl
+throwable_that_is_neither_row = refl
 
-row297 : Row297
+statics_of_a_failed_class_row : StaticsOfAFailedClassRow
 unfolding library upwards walked field_text base_text method_text result_text grown read_field read_method walk
     is_class_name is_member_name is_primitive_or_void is_name_byte part_after words_of argument_words digits int_wrap
-row297 = refl
+statics_of_a_failed_class_row = refl
 
 pub computed : FailedInitialisationRows
-computed = (row277, row287, row290, row297)
+computed = (first_and_later_uses_row, uncaught_row, throwable_that_is_neither_row, statics_of_a_failed_class_row)

@@ -8,27 +8,45 @@ use Rattle.jv_base.specs.Types.{argument_words, base_text, field_text, method_te
 use Rattle.jv_base.specs.Walk.{walk}
 use Rattle.lib_table.specs.Library.{library}
 use Rattle.class_pool.specs.Walk.{upwards, walked}
-use Rattle.run_rows.specs.Handlers.{Row198, Row209, Row211, Row213, HandlersRows}
+use Rattle.run_rows.specs.Handlers.{NestedAndThrownAgainRow, HandlerCoversItselfRow, ExceptionInAHandlerRow}
+use Rattle.run_rows.specs.Handlers.{AthrowOfWhatWasCaughtRow, HandlerBeginsThereRow, HandlerEndsThereRow, HandlersRows}
 
-row198 : Row198
+nested_and_thrown_again_row : NestedAndThrownAgainRow
 unfolding library upwards walked field_text base_text method_text result_text grown read_field read_method walk
     is_class_name is_member_name is_primitive_or_void is_name_byte part_after words_of argument_words digits int_wrap
-row198 = refl
+nested_and_thrown_again_row = refl
 
-row209 : Row209
+handler_covers_itself_row : HandlerCoversItselfRow
 unfolding library upwards walked field_text base_text method_text result_text grown read_field read_method walk
     is_class_name is_member_name is_primitive_or_void is_name_byte part_after words_of argument_words digits int_wrap
-row209 = refl
+handler_covers_itself_row = refl
 
-row211 : Row211
+exception_in_a_handler_row : ExceptionInAHandlerRow
 unfolding library upwards walked field_text base_text method_text result_text grown read_field read_method walk
     is_class_name is_member_name is_primitive_or_void is_name_byte part_after words_of argument_words digits int_wrap
-row211 = refl
+exception_in_a_handler_row = refl
 
-row213 : Row213
+athrow_of_what_was_caught_row : AthrowOfWhatWasCaughtRow
 unfolding library upwards walked field_text base_text method_text result_text grown read_field read_method walk
     is_class_name is_member_name is_primitive_or_void is_name_byte part_after words_of argument_words digits int_wrap
-row213 = refl
+athrow_of_what_was_caught_row = refl
+
+handler_ends_there_row : HandlerEndsThereRow
+unfolding library upwards walked field_text base_text method_text result_text grown read_field read_method walk
+    is_class_name is_member_name is_primitive_or_void is_name_byte part_after words_of argument_words digits int_wrap
+handler_ends_there_row = refl
+
+handler_begins_there_row : HandlerBeginsThereRow
+unfolding library upwards walked field_text base_text method_text result_text grown read_field read_method walk
+    is_class_name is_member_name is_primitive_or_void is_name_byte part_after words_of argument_words digits int_wrap
+handler_begins_there_row = refl
 
 pub computed : HandlersRows
-computed = (row198, row209, row211, row213)
+computed = (
+  nested_and_thrown_again_row,
+  handler_covers_itself_row,
+  exception_in_a_handler_row,
+  athrow_of_what_was_caught_row,
+  handler_ends_there_row,
+  handler_begins_there_row,
+)

@@ -8,12 +8,12 @@ use Rattle.jv_base.specs.Types.{argument_words, base_text, field_text, method_te
 use Rattle.jv_base.specs.Walk.{walk}
 use Rattle.lib_table.specs.Library.{library}
 use Rattle.class_pool.specs.Walk.{upwards, walked}
-use Rattle.run_rows.specs.Initialisation.{Row268, InitialisationRows}
+use Rattle.run_rows.specs.Initialisation.{ConstantsBeforeTheSuperclassRow, InitialisationRows}
 
-row268 : Row268
+constants_before_the_superclass_row : ConstantsBeforeTheSuperclassRow
 unfolding library upwards walked field_text base_text method_text result_text grown read_field read_method walk
     is_class_name is_member_name is_primitive_or_void is_name_byte part_after words_of argument_words digits int_wrap
-row268 = refl
+constants_before_the_superclass_row = refl
 
 pub computed : InitialisationRows
-computed = row268
+computed = constants_before_the_superclass_row

@@ -5,6 +5,7 @@ mod Stack
 mod Arrays
 mod NestedArrays
 mod NullReceivers
+mod ArrayReceivers
 mod Handlers
 mod Uncaught
 mod Initialisation

@@ -8,22 +8,23 @@ use Rattle.jv_base.specs.Types.{argument_words, base_text, field_text, method_te
 use Rattle.jv_base.specs.Walk.{walk}
 use Rattle.lib_table.specs.Library.{library}
 use Rattle.class_pool.specs.Walk.{upwards, walked}
-use Rattle.run_rows.specs.NestedArrays.{Row145, Row147, Row150, NestedArraysRows}
+use Rattle.run_rows.specs.NestedArrays.{MultianewarrayOneDimensionRow, MultianewarrayOneDimensionAgainRow}
+use Rattle.run_rows.specs.NestedArrays.{InitialValuesRow, NestedArraysRows}
 
-row145 : Row145
+multianewarray_one_dimension_row : MultianewarrayOneDimensionRow
 unfolding library upwards walked field_text base_text method_text result_text grown read_field read_method walk
     is_class_name is_member_name is_primitive_or_void is_name_byte part_after words_of argument_words digits int_wrap
-row145 = refl
+multianewarray_one_dimension_row = refl
 
-row147 : Row147
+multianewarray_one_dimension_again_row : MultianewarrayOneDimensionAgainRow
 unfolding library upwards walked field_text base_text method_text result_text grown read_field read_method walk
     is_class_name is_member_name is_primitive_or_void is_name_byte part_after words_of argument_words digits int_wrap
-row147 = refl
+multianewarray_one_dimension_again_row = refl
 
-row150 : Row150
+initial_values_row : InitialValuesRow
 unfolding library upwards walked field_text base_text method_text result_text grown read_field read_method walk
     is_class_name is_member_name is_primitive_or_void is_name_byte part_after words_of argument_words digits int_wrap
-row150 = refl
+initial_values_row = refl
 
 pub computed : NestedArraysRows
-computed = (row145, row147, row150)
+computed = (multianewarray_one_dimension_row, multianewarray_one_dimension_again_row, initial_values_row)

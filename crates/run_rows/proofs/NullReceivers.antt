@@ -8,42 +8,52 @@ use Rattle.jv_base.specs.Types.{argument_words, base_text, field_text, method_te
 use Rattle.jv_base.specs.Walk.{walk}
 use Rattle.lib_table.specs.Library.{library}
 use Rattle.class_pool.specs.Walk.{upwards, walked}
-use Rattle.run_rows.specs.NullReceivers.{Row153, Row154, Row155, Row157, Row162, Row163, Row166, NullReceiversRows}
+use Rattle.run_rows.specs.NullReceivers.{PutfieldRow, GetfieldLongRow, InvokevirtualRow, InvokevirtualLibraryMethodRow}
+use Rattle.run_rows.specs.NullReceivers.{InvokeinterfaceRow, RunnableRunRow, InvokespecialPrivateMethodRow}
+use Rattle.run_rows.specs.NullReceivers.{NullReceiversRows}
 
-row153 : Row153
+putfield_row : PutfieldRow
 unfolding library upwards walked field_text base_text method_text result_text grown read_field read_method walk
     is_class_name is_member_name is_primitive_or_void is_name_byte part_after words_of argument_words digits int_wrap
-row153 = refl
+putfield_row = refl
 
-row154 : Row154
+getfield_long_row : GetfieldLongRow
 unfolding library upwards walked field_text base_text method_text result_text grown read_field read_method walk
     is_class_name is_member_name is_primitive_or_void is_name_byte part_after words_of argument_words digits int_wrap
-row154 = refl
+getfield_long_row = refl
 
-row155 : Row155
+invokevirtual_row : InvokevirtualRow
 unfolding library upwards walked field_text base_text method_text result_text grown read_field read_method walk
     is_class_name is_member_name is_primitive_or_void is_name_byte part_after words_of argument_words digits int_wrap
-row155 = refl
+invokevirtual_row = refl
 
-row157 : Row157
+invokevirtual_library_method_row : InvokevirtualLibraryMethodRow
 unfolding library upwards walked field_text base_text method_text result_text grown read_field read_method walk
     is_class_name is_member_name is_primitive_or_void is_name_byte part_after words_of argument_words digits int_wrap
-row157 = refl
+invokevirtual_library_method_row = refl
 
-row162 : Row162
+invokeinterface_row : InvokeinterfaceRow
 unfolding library upwards walked field_text base_text method_text result_text grown read_field read_method walk
     is_class_name is_member_name is_primitive_or_void is_name_byte part_after words_of argument_words digits int_wrap
-row162 = refl
+invokeinterface_row = refl
 
-row163 : Row163
+runnable_run_row : RunnableRunRow
 unfolding library upwards walked field_text base_text method_text result_text grown read_field read_method walk
     is_class_name is_member_name is_primitive_or_void is_name_byte part_after words_of argument_words digits int_wrap
-row163 = refl
+runnable_run_row = refl
 
-row166 : Row166
+invokespecial_private_method_row : InvokespecialPrivateMethodRow
 unfolding library upwards walked field_text base_text method_text result_text grown read_field read_method walk
     is_class_name is_member_name is_primitive_or_void is_name_byte part_after words_of argument_words digits int_wrap
-row166 = refl
+invokespecial_private_method_row = refl
 
 pub computed : NullReceiversRows
-computed = (row153, row154, row155, row157, row162, row163, row166)
+computed = (
+  putfield_row,
+  getfield_long_row,
+  invokevirtual_row,
+  invokevirtual_library_method_row,
+  invokeinterface_row,
+  runnable_run_row,
+  invokespecial_private_method_row,
+)

@@ -8,17 +8,17 @@ use Rattle.jv_base.specs.Types.{argument_words, base_text, field_text, method_te
 use Rattle.jv_base.specs.Walk.{walk}
 use Rattle.lib_table.specs.Library.{library}
 use Rattle.class_pool.specs.Walk.{upwards, walked}
-use Rattle.run_rows.specs.Printing.{Row422, Row427, PrintingRows}
+use Rattle.run_rows.specs.Printing.{EachTypeRow, NullStreamRow, PrintingRows}
 
-row422 : Row422
+each_type_row : EachTypeRow
 unfolding library upwards walked field_text base_text method_text result_text grown read_field read_method walk
     is_class_name is_member_name is_primitive_or_void is_name_byte part_after words_of argument_words digits int_wrap
-row422 = refl
+each_type_row = refl
 
-row427 : Row427
+null_stream_row : NullStreamRow
 unfolding library upwards walked field_text base_text method_text result_text grown read_field read_method walk
     is_class_name is_member_name is_primitive_or_void is_name_byte part_after words_of argument_words digits int_wrap
-row427 = refl
+null_stream_row = refl
 
 pub computed : PrintingRows
-computed = (row422, row427)
+computed = (each_type_row, null_stream_row)

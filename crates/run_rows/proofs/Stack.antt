@@ -8,27 +8,27 @@ use Rattle.jv_base.specs.Types.{argument_words, base_text, field_text, method_te
 use Rattle.jv_base.specs.Walk.{walk}
 use Rattle.lib_table.specs.Library.{library}
 use Rattle.class_pool.specs.Walk.{upwards, walked}
-use Rattle.run_rows.specs.Stack.{Row88, Row93, Row97, Row104, StackRows}
+use Rattle.run_rows.specs.Stack.{Pop2LongRow, DupX2OverLongRow, Dup2X1LongRow, IncrementsAsValuesRow, StackRows}
 
-row88 : Row88
+pop2_long_row : Pop2LongRow
 unfolding library upwards walked field_text base_text method_text result_text grown read_field read_method walk
     is_class_name is_member_name is_primitive_or_void is_name_byte part_after words_of argument_words digits int_wrap
-row88 = refl
+pop2_long_row = refl
 
-row93 : Row93
+dup_x2_over_long_row : DupX2OverLongRow
 unfolding library upwards walked field_text base_text method_text result_text grown read_field read_method walk
     is_class_name is_member_name is_primitive_or_void is_name_byte part_after words_of argument_words digits int_wrap
-row93 = refl
+dup_x2_over_long_row = refl
 
-row97 : Row97
+dup2_x1_long_row : Dup2X1LongRow
 unfolding library upwards walked field_text base_text method_text result_text grown read_field read_method walk
     is_class_name is_member_name is_primitive_or_void is_name_byte part_after words_of argument_words digits int_wrap
-row97 = refl
+dup2_x1_long_row = refl
 
-row104 : Row104
+increments_as_values_row : IncrementsAsValuesRow
 unfolding library upwards walked field_text base_text method_text result_text grown read_field read_method walk
     is_class_name is_member_name is_primitive_or_void is_name_byte part_after words_of argument_words digits int_wrap
-row104 = refl
+increments_as_values_row = refl
 
 pub computed : StackRows
-computed = (row88, row93, row97, row104)
+computed = (pop2_long_row, dup_x2_over_long_row, dup2_x1_long_row, increments_as_values_row)

@@ -8,47 +8,57 @@ use Rattle.jv_base.specs.Types.{argument_words, base_text, field_text, method_te
 use Rattle.jv_base.specs.Walk.{walk}
 use Rattle.lib_table.specs.Library.{library}
 use Rattle.class_pool.specs.Walk.{upwards, walked}
-use Rattle.run_rows.specs.Strings.{Row362, Row376, Row382, Row389, Row397, Row401, Row406, Row407, StringsRows}
+use Rattle.run_rows.specs.Strings.{EqualLiteralsOneRow, SubstringOneRow, SubstringTwoRow, CompareToRow, EqualsRow}
+use Rattle.run_rows.specs.Strings.{ValueOfRow, CallsOnNullRow, ExceptionsCaughtBySuperclassesRow, StringsRows}
 
-row362 : Row362
+equal_literals_one_row : EqualLiteralsOneRow
 unfolding library upwards walked field_text base_text method_text result_text grown read_field read_method walk
     is_class_name is_member_name is_primitive_or_void is_name_byte part_after words_of argument_words digits int_wrap
-row362 = refl
+equal_literals_one_row = refl
 
-row376 : Row376
+substring_one_row : SubstringOneRow
 unfolding library upwards walked field_text base_text method_text result_text grown read_field read_method walk
     is_class_name is_member_name is_primitive_or_void is_name_byte part_after words_of argument_words digits int_wrap
-row376 = refl
+substring_one_row = refl
 
-row382 : Row382
+substring_two_row : SubstringTwoRow
 unfolding library upwards walked field_text base_text method_text result_text grown read_field read_method walk
     is_class_name is_member_name is_primitive_or_void is_name_byte part_after words_of argument_words digits int_wrap
-row382 = refl
+substring_two_row = refl
 
-row389 : Row389
+compare_to_row : CompareToRow
 unfolding library upwards walked field_text base_text method_text result_text grown read_field read_method walk
     is_class_name is_member_name is_primitive_or_void is_name_byte part_after words_of argument_words digits int_wrap
-row389 = refl
+compare_to_row = refl
 
-row397 : Row397
+equals_row : EqualsRow
 unfolding library upwards walked field_text base_text method_text result_text grown read_field read_method walk
     is_class_name is_member_name is_primitive_or_void is_name_byte part_after words_of argument_words digits int_wrap
-row397 = refl
+equals_row = refl
 
-row401 : Row401
+value_of_row : ValueOfRow
 unfolding library upwards walked field_text base_text method_text result_text grown read_field read_method walk
     is_class_name is_member_name is_primitive_or_void is_name_byte part_after words_of argument_words digits int_wrap
-row401 = refl
+value_of_row = refl
 
-row406 : Row406
+calls_on_null_row : CallsOnNullRow
 unfolding library upwards walked field_text base_text method_text result_text grown read_field read_method walk
     is_class_name is_member_name is_primitive_or_void is_name_byte part_after words_of argument_words digits int_wrap
-row406 = refl
+calls_on_null_row = refl
 
-row407 : Row407
+exceptions_caught_by_superclasses_row : ExceptionsCaughtBySuperclassesRow
 unfolding library upwards walked field_text base_text method_text result_text grown read_field read_method walk
     is_class_name is_member_name is_primitive_or_void is_name_byte part_after words_of argument_words digits int_wrap
-row407 = refl
+exceptions_caught_by_superclasses_row = refl
 
 pub computed : StringsRows
-computed = (row362, row376, row382, row389, row397, row401, row406, row407)
+computed = (
+  equal_literals_one_row,
+  substring_one_row,
+  substring_two_row,
+  compare_to_row,
+  equals_row,
+  value_of_row,
+  calls_on_null_row,
+  exceptions_caught_by_superclasses_row,
+)

@@ -8,12 +8,12 @@ use Rattle.jv_base.specs.Types.{argument_words, base_text, field_text, method_te
 use Rattle.jv_base.specs.Walk.{walk}
 use Rattle.lib_table.specs.Library.{library}
 use Rattle.class_pool.specs.Walk.{upwards, walked}
-use Rattle.run_rows.specs.Switches.{Row81, SwitchesRows}
+use Rattle.run_rows.specs.Switches.{SwitchOnTextsRow, SwitchesRows}
 
-row81 : Row81
+switch_on_texts_row : SwitchOnTextsRow
 unfolding library upwards walked field_text base_text method_text result_text grown read_field read_method walk
     is_class_name is_member_name is_primitive_or_void is_name_byte part_after words_of argument_words digits int_wrap
-row81 = refl
+switch_on_texts_row = refl
 
 pub computed : SwitchesRows
-computed = row81
+computed = switch_on_texts_row

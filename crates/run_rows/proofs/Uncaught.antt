@@ -8,22 +8,23 @@ use Rattle.jv_base.specs.Types.{argument_words, base_text, field_text, method_te
 use Rattle.jv_base.specs.Walk.{walk}
 use Rattle.lib_table.specs.Library.{library}
 use Rattle.class_pool.specs.Walk.{upwards, walked}
-use Rattle.run_rows.specs.Uncaught.{Row224, Row236, Row237, UncaughtRows}
+use Rattle.run_rows.specs.Uncaught.{ArithmeticExceptionConstructorsRow, NumberFormatExceptionConstructorsRow}
+use Rattle.run_rows.specs.Uncaught.{MessagesRow, UncaughtRows}
 
-row224 : Row224
+arithmetic_exception_constructors_row : ArithmeticExceptionConstructorsRow
 unfolding library upwards walked field_text base_text method_text result_text grown read_field read_method walk
     is_class_name is_member_name is_primitive_or_void is_name_byte part_after words_of argument_words digits int_wrap
-row224 = refl
+arithmetic_exception_constructors_row = refl
 
-row236 : Row236
+number_format_exception_constructors_row : NumberFormatExceptionConstructorsRow
 unfolding library upwards walked field_text base_text method_text result_text grown read_field read_method walk
     is_class_name is_member_name is_primitive_or_void is_name_byte part_after words_of argument_words digits int_wrap
-row236 = refl
+number_format_exception_constructors_row = refl
 
-row237 : Row237
+messages_row : MessagesRow
 unfolding library upwards walked field_text base_text method_text result_text grown read_field read_method walk
     is_class_name is_member_name is_primitive_or_void is_name_byte part_after words_of argument_words digits int_wrap
-row237 = refl
+messages_row = refl
 
 pub computed : UncaughtRows
-computed = (row224, row236, row237)
+computed = (arithmetic_exception_constructors_row, number_format_exception_constructors_row, messages_row)

@@ -16,8 +16,8 @@ use Rattle.run_rows.specs.Rows.{ends, long, plain_constructor, with_code}
 use Rattle.set_view.specs.Examples.{int}
 
 -- lcmp
-abbrev pub set_46 : List Class
-set_46 = plain_class 0x0021 (codes "r8/T") object [] [] (plain_constructor 0x0001 object ∷ with_code 0x0008 (codes
+abbrev pub lcmp_set : List Class
+lcmp_set = plain_class 0x0021 (codes "t/T") object [] [] (plain_constructor 0x0001 object ∷ with_code 0x0008 (codes
     "f") (long ∷ long ∷ []) (Some int) (op.Load kind.Long 0 ∷ op.Load kind.Long 2 ∷ op.LCmp ∷ op.IfZero cond.Ge 6 ∷
     op.PushInt (pos 1) ∷ op.Goto 7 ∷ op.PushInt (pos 0) ∷ op.Load kind.Long 0 ∷ op.Load kind.Long 2 ∷ op.LCmp ∷
     op.IfZero cond.Gt 13 ∷ op.PushInt (pos 2) ∷ op.Goto 14 ∷ op.PushInt (pos 0) ∷ op.Arith arith.Add num.Int ∷ op.Load
@@ -29,60 +29,60 @@ set_46 = plain_class 0x0021 (codes "r8/T") object [] [] (plain_constructor 0x000
     op.PushInt (pos 32) ∷ op.Goto 46 ∷ op.PushInt (pos 0) ∷ op.Arith arith.Add num.Int ∷ op.Return (Some kind.Int) ∷
     []) [] ∷ []) ∷ []
 
-abbrev pub Row46 : Type 0
-Row46 = ended_after set_46 (key (codes "r8/T") (codes "f") (codes "(JJ)I")) (arg.Long (pos 1) ∷ arg.Long (pos 2) ∷ [])
-    41 ≡ ends [] (end.Returned (back.Int (pos 35)))
+abbrev pub LcmpRow : Type 0
+LcmpRow = ended_after lcmp_set (key (codes "t/T") (codes "f") (codes "(JJ)I")) (arg.Long (pos 1) ∷ arg.Long (pos 2) ∷
+    []) 41 ≡ ends [] (end.Returned (back.Int (pos 35)))
 
 -- ifs against zero
-abbrev pub set_54 : List Class
-set_54 = plain_class 0x0021 (codes "r9/T") object [] [] (plain_constructor 0x0001 object ∷ with_code 0x0008 (codes
-    "f") (int ∷ []) (Some int) (op.Load kind.Int 0 ∷ op.IfZero cond.Ge 4 ∷ op.PushInt (pos 1) ∷ op.Goto 5 ∷ op.PushInt
-    (pos 0) ∷ op.Load kind.Int 0 ∷ op.IfZero cond.Gt 9 ∷ op.PushInt (pos 2) ∷ op.Goto 10 ∷ op.PushInt (pos 0) ∷
-    op.Arith arith.Add num.Int ∷ op.Load kind.Int 0 ∷ op.IfZero cond.Le 15 ∷ op.PushInt (pos 4) ∷ op.Goto 16 ∷
+abbrev pub ifs_against_zero_set : List Class
+ifs_against_zero_set = plain_class 0x0021 (codes "t/T") object [] [] (plain_constructor 0x0001 object ∷ with_code 0x0008
+    (codes "f") (int ∷ []) (Some int) (op.Load kind.Int 0 ∷ op.IfZero cond.Ge 4 ∷ op.PushInt (pos 1) ∷ op.Goto 5 ∷
+    op.PushInt (pos 0) ∷ op.Load kind.Int 0 ∷ op.IfZero cond.Gt 9 ∷ op.PushInt (pos 2) ∷ op.Goto 10 ∷ op.PushInt (pos 0)
+    ∷ op.Arith arith.Add num.Int ∷ op.Load kind.Int 0 ∷ op.IfZero cond.Le 15 ∷ op.PushInt (pos 4) ∷ op.Goto 16 ∷
     op.PushInt (pos 0) ∷ op.Arith arith.Add num.Int ∷ op.Load kind.Int 0 ∷ op.IfZero cond.Lt 21 ∷ op.PushInt (pos 8) ∷
     op.Goto 22 ∷ op.PushInt (pos 0) ∷ op.Arith arith.Add num.Int ∷ op.Load kind.Int 0 ∷ op.IfZero cond.Ne 27 ∷
-    op.PushInt (pos 16) ∷ op.Goto 28 ∷ op.PushInt (pos 0) ∷ op.Arith arith.Add num.Int ∷ op.Load kind.Int 0 ∷
-    op.IfZero cond.Eq 33 ∷ op.PushInt (pos 32) ∷ op.Goto 34 ∷ op.PushInt (pos 0) ∷ op.Arith arith.Add num.Int ∷
-    op.Return (Some kind.Int) ∷ []) [] ∷ []) ∷ []
-
-abbrev pub Row54 : Type 0
-Row54 = ended_after set_54 (key (codes "r9/T") (codes "f") (codes "(I)I")) (arg.Int (pos 1) ∷ []) 29 ≡ ends []
-    (end.Returned (back.Int (pos 44)))
-
--- ifs of two ints
-abbrev pub set_58 : List Class
-set_58 = plain_class 0x0021 (codes "r10/T") object [] [] (plain_constructor 0x0001 object ∷ with_code 0x0008 (codes
-    "f") (int ∷ int ∷ []) (Some int) (op.Load kind.Int 0 ∷ op.Load kind.Int 1 ∷ op.IfCmp cond.Ge 5 ∷ op.PushInt (pos
-    1) ∷ op.Goto 6 ∷ op.PushInt (pos 0) ∷ op.Load kind.Int 0 ∷ op.Load kind.Int 1 ∷ op.IfCmp cond.Gt 11 ∷ op.PushInt
-    (pos 2) ∷ op.Goto 12 ∷ op.PushInt (pos 0) ∷ op.Arith arith.Add num.Int ∷ op.Load kind.Int 0 ∷ op.Load kind.Int 1 ∷
-    op.IfCmp cond.Le 18 ∷ op.PushInt (pos 4) ∷ op.Goto 19 ∷ op.PushInt (pos 0) ∷ op.Arith arith.Add num.Int ∷ op.Load
-    kind.Int 0 ∷ op.Load kind.Int 1 ∷ op.IfCmp cond.Lt 25 ∷ op.PushInt (pos 8) ∷ op.Goto 26 ∷ op.PushInt (pos 0) ∷
-    op.Arith arith.Add num.Int ∷ op.Load kind.Int 0 ∷ op.Load kind.Int 1 ∷ op.IfCmp cond.Ne 32 ∷ op.PushInt (pos 16) ∷
-    op.Goto 33 ∷ op.PushInt (pos 0) ∷ op.Arith arith.Add num.Int ∷ op.Load kind.Int 0 ∷ op.Load kind.Int 1 ∷ op.IfCmp
-    cond.Eq 39 ∷ op.PushInt (pos 32) ∷ op.Goto 40 ∷ op.PushInt (pos 0) ∷ op.Arith arith.Add num.Int ∷ op.Return (Some
+    op.PushInt (pos 16) ∷ op.Goto 28 ∷ op.PushInt (pos 0) ∷ op.Arith arith.Add num.Int ∷ op.Load kind.Int 0 ∷ op.IfZero
+    cond.Eq 33 ∷ op.PushInt (pos 32) ∷ op.Goto 34 ∷ op.PushInt (pos 0) ∷ op.Arith arith.Add num.Int ∷ op.Return (Some
     kind.Int) ∷ []) [] ∷ []) ∷ []
 
-abbrev pub Row58 : Type 0
-Row58 = ended_after set_58 (key (codes "r10/T") (codes "f") (codes "(II)I")) (arg.Int (pos 3) ∷ arg.Int (pos 3) ∷ [])
-    35 ≡ ends [] (end.Returned (back.Int (pos 26)))
+abbrev pub IfsAgainstZeroRow : Type 0
+IfsAgainstZeroRow = ended_after ifs_against_zero_set (key (codes "t/T") (codes "f") (codes "(I)I")) (arg.Int (pos 1) ∷
+    []) 29 ≡ ends [] (end.Returned (back.Int (pos 44)))
 
 -- ifs of two ints
-abbrev pub set_59 : List Class
-set_59 = plain_class 0x0021 (codes "r10/T") object [] [] (plain_constructor 0x0001 object ∷ with_code 0x0008 (codes
-    "f") (int ∷ int ∷ []) (Some int) (op.Load kind.Int 0 ∷ op.Load kind.Int 1 ∷ op.IfCmp cond.Ge 5 ∷ op.PushInt (pos
-    1) ∷ op.Goto 6 ∷ op.PushInt (pos 0) ∷ op.Load kind.Int 0 ∷ op.Load kind.Int 1 ∷ op.IfCmp cond.Gt 11 ∷ op.PushInt
-    (pos 2) ∷ op.Goto 12 ∷ op.PushInt (pos 0) ∷ op.Arith arith.Add num.Int ∷ op.Load kind.Int 0 ∷ op.Load kind.Int 1 ∷
-    op.IfCmp cond.Le 18 ∷ op.PushInt (pos 4) ∷ op.Goto 19 ∷ op.PushInt (pos 0) ∷ op.Arith arith.Add num.Int ∷ op.Load
-    kind.Int 0 ∷ op.Load kind.Int 1 ∷ op.IfCmp cond.Lt 25 ∷ op.PushInt (pos 8) ∷ op.Goto 26 ∷ op.PushInt (pos 0) ∷
-    op.Arith arith.Add num.Int ∷ op.Load kind.Int 0 ∷ op.Load kind.Int 1 ∷ op.IfCmp cond.Ne 32 ∷ op.PushInt (pos 16) ∷
-    op.Goto 33 ∷ op.PushInt (pos 0) ∷ op.Arith arith.Add num.Int ∷ op.Load kind.Int 0 ∷ op.Load kind.Int 1 ∷ op.IfCmp
-    cond.Eq 39 ∷ op.PushInt (pos 32) ∷ op.Goto 40 ∷ op.PushInt (pos 0) ∷ op.Arith arith.Add num.Int ∷ op.Return (Some
-    kind.Int) ∷ []) [] ∷ []) ∷ []
+abbrev pub ifs_two_ints_set : List Class
+ifs_two_ints_set = plain_class 0x0021 (codes "t/T") object [] [] (plain_constructor 0x0001 object ∷ with_code 0x0008
+    (codes "f") (int ∷ int ∷ []) (Some int) (op.Load kind.Int 0 ∷ op.Load kind.Int 1 ∷ op.IfCmp cond.Ge 5 ∷ op.PushInt
+    (pos 1) ∷ op.Goto 6 ∷ op.PushInt (pos 0) ∷ op.Load kind.Int 0 ∷ op.Load kind.Int 1 ∷ op.IfCmp cond.Gt 11 ∷
+    op.PushInt (pos 2) ∷ op.Goto 12 ∷ op.PushInt (pos 0) ∷ op.Arith arith.Add num.Int ∷ op.Load kind.Int 0 ∷ op.Load
+    kind.Int 1 ∷ op.IfCmp cond.Le 18 ∷ op.PushInt (pos 4) ∷ op.Goto 19 ∷ op.PushInt (pos 0) ∷ op.Arith arith.Add num.Int
+    ∷ op.Load kind.Int 0 ∷ op.Load kind.Int 1 ∷ op.IfCmp cond.Lt 25 ∷ op.PushInt (pos 8) ∷ op.Goto 26 ∷ op.PushInt (pos
+    0) ∷ op.Arith arith.Add num.Int ∷ op.Load kind.Int 0 ∷ op.Load kind.Int 1 ∷ op.IfCmp cond.Ne 32 ∷ op.PushInt (pos
+    16) ∷ op.Goto 33 ∷ op.PushInt (pos 0) ∷ op.Arith arith.Add num.Int ∷ op.Load kind.Int 0 ∷ op.Load kind.Int 1 ∷
+    op.IfCmp cond.Eq 39 ∷ op.PushInt (pos 32) ∷ op.Goto 40 ∷ op.PushInt (pos 0) ∷ op.Arith arith.Add num.Int ∷ op.Return
+    (Some kind.Int) ∷ []) [] ∷ []) ∷ []
 
-abbrev pub Row59 : Type 0
-Row59 = ended_after set_59 (key (codes "r10/T") (codes "f") (codes "(II)I")) (arg.Int (pos 2147483647) ∷ arg.Int
-    (negsuc 2147483647) ∷ []) 35 ≡ ends [] (end.Returned (back.Int (pos 44)))
+abbrev pub IfsTwoIntsRow : Type 0
+IfsTwoIntsRow = ended_after ifs_two_ints_set (key (codes "t/T") (codes "f") (codes "(II)I")) (arg.Int (pos 3) ∷ arg.Int
+    (pos 3) ∷ []) 35 ≡ ends [] (end.Returned (back.Int (pos 26)))
+
+-- ifs of two ints
+abbrev pub ifs_two_ints_again_set : List Class
+ifs_two_ints_again_set = plain_class 0x0021 (codes "t/T") object [] [] (plain_constructor 0x0001 object ∷ with_code
+    0x0008 (codes "f") (int ∷ int ∷ []) (Some int) (op.Load kind.Int 0 ∷ op.Load kind.Int 1 ∷ op.IfCmp cond.Ge 5 ∷
+    op.PushInt (pos 1) ∷ op.Goto 6 ∷ op.PushInt (pos 0) ∷ op.Load kind.Int 0 ∷ op.Load kind.Int 1 ∷ op.IfCmp cond.Gt 11
+    ∷ op.PushInt (pos 2) ∷ op.Goto 12 ∷ op.PushInt (pos 0) ∷ op.Arith arith.Add num.Int ∷ op.Load kind.Int 0 ∷ op.Load
+    kind.Int 1 ∷ op.IfCmp cond.Le 18 ∷ op.PushInt (pos 4) ∷ op.Goto 19 ∷ op.PushInt (pos 0) ∷ op.Arith arith.Add num.Int
+    ∷ op.Load kind.Int 0 ∷ op.Load kind.Int 1 ∷ op.IfCmp cond.Lt 25 ∷ op.PushInt (pos 8) ∷ op.Goto 26 ∷ op.PushInt (pos
+    0) ∷ op.Arith arith.Add num.Int ∷ op.Load kind.Int 0 ∷ op.Load kind.Int 1 ∷ op.IfCmp cond.Ne 32 ∷ op.PushInt (pos
+    16) ∷ op.Goto 33 ∷ op.PushInt (pos 0) ∷ op.Arith arith.Add num.Int ∷ op.Load kind.Int 0 ∷ op.Load kind.Int 1 ∷
+    op.IfCmp cond.Eq 39 ∷ op.PushInt (pos 32) ∷ op.Goto 40 ∷ op.PushInt (pos 0) ∷ op.Arith arith.Add num.Int ∷ op.Return
+    (Some kind.Int) ∷ []) [] ∷ []) ∷ []
+
+abbrev pub IfsTwoIntsAgainRow : Type 0
+IfsTwoIntsAgainRow = ended_after ifs_two_ints_again_set (key (codes "t/T") (codes "f") (codes "(II)I")) (arg.Int (pos
+    2147483647) ∷ arg.Int (negsuc 2147483647) ∷ []) 35 ≡ ends [] (end.Returned (back.Int (pos 44)))
 
 -- the rows
 abbrev pub BranchesRows : Type 0
-BranchesRows = Row46 × Row54 × Row58 × Row59
+BranchesRows = LcmpRow × IfsAgainstZeroRow × IfsTwoIntsRow × IfsTwoIntsAgainRow

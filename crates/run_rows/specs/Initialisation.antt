@@ -14,20 +14,20 @@ use Rattle.run_rows.specs.Rows.{constant_field, ends, lines, of_stream, with_cod
 use Rattle.set_view.specs.Examples.{int}
 
 -- constants are set before the superclass is initialised
-abbrev pub set_268 : List Class
-set_268 = plain_class 0x0021 (codes "t/D") (codes "t/E") [] (constant_field 0x0019 (codes "c") int (constant.Int (pos
-    3)) ∷ []) (with_code 0x0008 (codes "<clinit>") [] None (op.GetStatic system_out ∷ op.PushText (codes "D") ∷
-    op.InvokeVirtual (of_stream (codes "println") (codes "(Ljava/lang/String;)V")) ∷ op.Return None ∷ []) [] ∷ []) ∷
-    plain_class 0x0021 (codes "t/E") object [] [] (with_code 0x0008 (codes "<clinit>") [] None (op.GetStatic
-    system_out ∷ op.GetStatic (of_class (codes "t/D") (codes "c") (codes "I")) ∷ op.InvokeVirtual (of_stream (codes
-    "println") (codes "(I)V")) ∷ op.Return None ∷ []) [] ∷ []) ∷ plain_class 0x0021 (codes "t/T") object [] []
-    (with_code 0x0009 (codes "f") [] (Some int) (op.GetStatic (of_class (codes "t/D") (codes "c") (codes "I")) ∷
-    op.Return (Some kind.Int) ∷ []) [] ∷ []) ∷ []
+abbrev pub constants_before_the_superclass_set : List Class
+constants_before_the_superclass_set = plain_class 0x0021 (codes "t/D") (codes "t/E") [] (constant_field 0x0019 (codes
+    "c") int (constant.Int (pos 3)) ∷ []) (with_code 0x0008 (codes "<clinit>") [] None (op.GetStatic system_out ∷
+    op.PushText (codes "D") ∷ op.InvokeVirtual (of_stream (codes "println") (codes "(Ljava/lang/String;)V")) ∷ op.Return
+    None ∷ []) [] ∷ []) ∷ plain_class 0x0021 (codes "t/E") object [] [] (with_code 0x0008 (codes "<clinit>") [] None
+    (op.GetStatic system_out ∷ op.GetStatic (of_class (codes "t/D") (codes "c") (codes "I")) ∷ op.InvokeVirtual
+    (of_stream (codes "println") (codes "(I)V")) ∷ op.Return None ∷ []) [] ∷ []) ∷ plain_class 0x0021 (codes "t/T")
+    object [] [] (with_code 0x0009 (codes "f") [] (Some int) (op.GetStatic (of_class (codes "t/D") (codes "c") (codes
+    "I")) ∷ op.Return (Some kind.Int) ∷ []) [] ∷ []) ∷ []
 
-abbrev pub Row268 : Type 0
-Row268 = ended_after set_268 (key (codes "t/T") (codes "f") (codes "()I")) [] 19 ≡ ends (lines (codes "3" ∷ codes "D"
-    ∷ [])) (end.Returned (back.Int (pos 3)))
+abbrev pub ConstantsBeforeTheSuperclassRow : Type 0
+ConstantsBeforeTheSuperclassRow = ended_after constants_before_the_superclass_set (key (codes "t/T") (codes "f") (codes
+    "()I")) [] 19 ≡ ends (lines (codes "3" ∷ codes "D" ∷ [])) (end.Returned (back.Int (pos 3)))
 
 -- the rows
 abbrev pub InitialisationRows : Type 0
-InitialisationRows = Row268
+InitialisationRows = ConstantsBeforeTheSuperclassRow

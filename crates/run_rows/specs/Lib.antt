@@ -6,6 +6,7 @@ pub mod Stack
 pub mod Arrays
 pub mod NestedArrays
 pub mod NullReceivers
+pub mod ArrayReceivers
 pub mod Handlers
 pub mod Uncaught
 pub mod Initialisation

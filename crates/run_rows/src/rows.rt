@@ -2,6 +2,7 @@
 //
 // Each clause is computed from the definitions.
 ghost use Rattle.run_rows.specs.Arithmetic.{ArithmeticRows};
+ghost use Rattle.run_rows.specs.ArrayReceivers.{ArrayReceiversRows};
 ghost use Rattle.run_rows.specs.Arrays.{ArraysRows};
 ghost use Rattle.run_rows.specs.Branches.{BranchesRows};
 ghost use Rattle.run_rows.specs.Builders.{BuildersRows};
@@ -26,6 +27,7 @@ pub fn computed_rows()
     ensures arrays { ArraysRows }
     ensures nested_arrays { NestedArraysRows }
     ensures null_receivers { NullReceiversRows }
+    ensures array_receivers { ArrayReceiversRows }
     ensures handlers { HandlersRows }
     ensures uncaught { UncaughtRows }
     ensures initialisation { InitialisationRows }

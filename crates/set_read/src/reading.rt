@@ -20,10 +20,10 @@ use std::alloc::Global;
 use tree_io::FileAt;
 use type_verifier::verify_set;
 
-/// The set of classes that files spell, where they are class files and the set is taken (JVMS 4, 4.10.1, 5.3.5, 5.4.3 to
-/// 5.4.5): names follow paths, supertypes are there and of their kinds, nothing is left out, references and overriding
-/// are as they have to be, and each code is typed. The paths of the files ascend, and the files have together fewer than 2^32 - 1 bytes. Each class
-/// can be written.
+/// The set of classes that files spell, where they are class files and the set is taken (JVMS 4, 4.10.1, 5.3.5, 5.4.3
+/// to 5.4.5): names follow paths, supertypes are there and of their kinds, nothing is left out, references and
+/// overriding are as they have to be, and each code is typed. The paths of the files ascend, and the files have
+/// together fewer than 2^32 - 1 bytes. Each class can be written.
 pub fn read_set(alloc: Global, files: Items<FileAt>) -> Result<ClassSet, Or<SetFault>>
     requires ascending { IsAscending (map (λ f. f.path) files) }
     requires short { sum_by (λ f. length f.bytes) files < 4294967295 }

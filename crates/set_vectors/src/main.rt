@@ -1,9 +1,9 @@
 //! Sets of class files, one on each line of standard input: says of each whether it is taken, or the first rule that it
 //! breaks.
 //!
-//! A line is words `PATH=HEX` with blanks between them, their paths ascending. The line of an answer is `ok`, or `profile
-//! CLASS - KIND` where the files are no set, or `profile CLASS MEMBER KIND` with the texts of the class and the member,
-//! and `-` for the class itself; of a code that isn't typed the kind is `Type KIND INDEX`.
+//! A line is words `PATH=HEX` with blanks between them, their paths ascending. The line of an answer is `ok`, or
+//! `profile CLASS - KIND` where the files are no set, or `profile CLASS MEMBER KIND` with the texts of the class and
+//! the member, and `-` for the class itself; of a code that isn't typed the kind is `Type KIND INDEX`.
 #![tactic(auto)]
 
 mod files;

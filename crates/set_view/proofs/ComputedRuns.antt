@@ -9,7 +9,7 @@ use Rattle.jv_base.specs.Walk.{walk}
 use Rattle.lib_table.specs.Library.{library}
 use Rattle.class_pool.specs.Walk.{upwards, walked}
 use Rattle.set_view.specs.Examples.{Arrays, Calls, Exceptions, FailedInitialisation, HashCodes, Initialisation, Loop}
-use Rattle.set_view.specs.Examples.{Selection}
+use Rattle.set_view.specs.Examples.{Selection, Startable}
 
 pub hash_codes : HashCodes
 unfolding library upwards walked field_text base_text method_text result_text grown read_field read_method walk
@@ -50,3 +50,8 @@ pub arrays : Arrays
 unfolding library upwards walked field_text base_text method_text result_text grown read_field read_method walk
     is_class_name is_member_name is_primitive_or_void is_name_byte part_after words_of argument_words digits int_wrap
 arrays = refl
+
+pub startable : Startable
+unfolding library upwards walked field_text base_text method_text result_text grown read_field read_method walk
+    is_class_name is_member_name is_primitive_or_void is_name_byte part_after words_of argument_words digits int_wrap
+startable = (refl, refl, refl, refl, refl, refl)

@@ -1,5 +1,6 @@
 -- What a few small programs do, which is computed (the project's own: definitions are tried on programs).
-use Rattle.std.specs.Prelude.{◌≡◌, ℕ, pos, negsuc, List, [], ◌∷◌, Option, Some, None, codes, slice_get}
+use Rattle.std.specs.Prelude.{◌≡◌, ℕ, pos, negsuc, Bool, true, false, List, [], ◌∷◌, Option, Some, None, codes}
+use Rattle.std.specs.Prelude.{slice_get}
 use Rattle.std.specs.Option.{option_map}
 use Rattle.jv_base.specs.declared.types.Base.TheVariants as base
 use Rattle.jv_base.specs.declared.types.FieldType.{FieldType}
@@ -18,11 +19,12 @@ use Rattle.class_model.specs.declared.op.Op.TheVariants as op
 use Rattle.class_pool.specs.rows.LinkRows.{int_field, object, plain_class}
 use Rattle.link_check.specs.rows.ProfileRows.{code_of, init, made_method, no_result, of_class, running}
 use Rattle.link_check.specs.rows.ProfileRows.{system_out}
-use Rattle.jvm_model.specs.Heap.{class_of}
+use Rattle.jvm_model.specs.Heap.{class_of, string}
 use Rattle.jvm_model.specs.State.{HasReturned, HasThrown, State, Status, status}
 use Rattle.jvm_model.specs.Step.{run, start}
+use Rattle.jvm_model.specs.Types.{class_type}
 use Rattle.jvm_model.specs.Value.{Int, Value}
-use Rattle.set_view.specs.ViewOf.{view_of}
+use Rattle.set_view.specs.ViewOf.{is_startable, view_of}
 
 -- ---- what programs are made of
 
@@ -47,10 +49,11 @@ initialiser ops = running 0x0008 (codes "<clinit>") ops
 abbrev pub class : List ℕ → List ℕ → List Method → Class
 class name above methods = plain_class 0x0021 name above [] [] methods
 
--- what prints an int, and what ends its line
+-- what prints an int
 abbrev pub print_int : MemberRef
 print_int = of_class (codes "java/io/PrintStream") (codes "print") (codes "(I)V")
 
+-- what prints an int, and ends its line
 abbrev pub print_line : MemberRef
 print_line = of_class (codes "java/io/PrintStream") (codes "println") (codes "(I)V")
 
@@ -245,3 +248,28 @@ arrays = class (codes "demo/Array") object
 -- 3, and 44, which is what a byte holds of 300
 abbrev pub Arrays : Type 0
 Arrays = Returns (after arrays (codes "demo/Array") (codes "f") (codes "()I") [] 18) (Int (pos 47))
+
+-- ---- where a run may begin: static void f(int, String[][]) of demo.Entry, but none of its static void g(Entry),
+-- static void h(float), class initialisation method and constructor, and no method of the library
+
+-- the class
+abbrev pub beginning : List Class
+beginning = class (codes "demo/Entry") object
+    (static_method (codes "f") (int ∷ record { dims = 2; base = base.Class string } ∷ []) None (op.Return None ∷ []) []
+    ∷ static_method (codes "g") (class_type (codes "demo/Entry") ∷ []) None (op.Return None ∷ []) []
+    ∷ static_method (codes "h") (record { dims = 0; base = base.Float } ∷ []) None (op.Return None ∷ []) []
+    ∷ initialiser (op.Return None ∷ []) ∷ constructor_above object ∷ []) ∷ []
+
+-- a run may begin with a method of a class
+abbrev pub may_begin : List ℕ → List ℕ → List ℕ → Bool
+may_begin name method descriptor =
+    is_startable beginning (record { class = name; name = method; descriptor = descriptor })
+
+-- with f alone
+abbrev pub Startable : Type 0
+Startable = (may_begin (codes "demo/Entry") (codes "f") (codes "(I[[Ljava/lang/String;)V") ≡ true)
+    × (may_begin (codes "demo/Entry") (codes "g") (codes "(Ldemo/Entry;)V") ≡ false)
+    × (may_begin (codes "demo/Entry") (codes "h") (codes "(F)V") ≡ false)
+    × (may_begin (codes "demo/Entry") (codes "<clinit>") (codes "()V") ≡ false)
+    × (may_begin (codes "demo/Entry") (codes "<init>") (codes "()V") ≡ false)
+    × (may_begin string (codes "valueOf") (codes "(I)Ljava/lang/String;") ≡ false)

@@ -4,6 +4,8 @@ use Rattle.std.specs.Prelude.{ℕ, Bool, true, false, not, ◌&&◌, ◌||◌, L
 use Rattle.std.specs.Prelude.{slice_get}
 use Rattle.std.specs.Prelude.{if◌then◌else◌, option_to_list}
 use Rattle.std.specs.Option.{option_and_then, option_map, option_map_or}
+use Rattle.jv_base.specs.Names.{is_text}
+use Rattle.jv_base.specs.declared.types.Base.TheVariants as base
 use Rattle.class_model.specs.declared.class.Class.{Class}
 use Rattle.class_model.specs.declared.class.Constant.{Constant}
 use Rattle.class_model.specs.declared.class.Constant.TheVariants as constant
@@ -11,8 +13,8 @@ use Rattle.class_model.specs.declared.class.Field.{Field}
 use Rattle.class_model.specs.declared.class.Method.{Method}
 use Rattle.class_model.specs.declared.code.Code.{Code}
 use Rattle.class_model.specs.declared.op.MemberRef.{MemberRef}
-use Rattle.class_pool.specs.Found.{declared_in, is_abstract_member, is_instance_method, is_private_member}
-use Rattle.class_pool.specs.Found.{is_public_member, name_of, named_at}
+use Rattle.class_pool.specs.Found.{declared_in, is_abstract_member, is_instance_method, is_method_at, is_private_member}
+use Rattle.class_pool.specs.Found.{is_public_member, is_static_member, name_of, named_at}
 use Rattle.class_pool.specs.Hierarchy.{class_named, superclass}
 use Rattle.class_pool.specs.Resolution.{field_found, is_interface_in, method_found}
 use Rattle.class_pool.specs.Selection.{selected, selected_special}
@@ -24,6 +26,8 @@ use Rattle.link_check.specs.Profile.{class_of, is_of_library}
 use Rattle.jvm_model.specs.Exceptions.{AbstractMethod, IllegalAccess, IncompatibleChange}
 use Rattle.jvm_model.specs.LibraryRows.{row_of}
 use Rattle.jvm_model.specs.Program.{Fails, Library, Program, Shape, Target, View}
+use Rattle.jvm_model.specs.Start.{are_plain_parameters}
+use Rattle.jvm_model.specs.Types.{is_above_arrays}
 use Rattle.jvm_model.specs.Value.{Int, Key, Lit, Long, Value}
 
 -- what a call of a method runs: one of the program, or a row of the library
@@ -95,12 +99,14 @@ module _ (classes : List Class) where
   checked true m = if option_map_or (is_public_member classes) m true then target_of m else Some (Fails IllegalAccess)
 
   -- an instance method that isn't private is selected by the receiver's class; of an interface no other one is
+  -- (JVMS 6.5.invokevirtual, 6.5.invokeinterface; that such a one is an AbstractMethodError is the project's own)
   abbrev pub is_selected : MemberAt → Bool
   is_selected m = not (is_interface_in classes m.class)
       || (is_instance_method classes m && not (is_private_member classes m))
 
   -- The receiver's class is below the class that the reference names, and below the one that declares the method; else
-  -- invokeinterface owes an IncompatibleClassChangeError, and to invokevirtual it is an operand of another kind.
+  -- invokeinterface owes an IncompatibleClassChangeError, and to invokevirtual it is an operand of another kind
+  -- (JVMS 6.5.invokeinterface; of invokevirtual the project's own).
   abbrev pub selected_from : MemberRef → ClassId → ClassId → MemberAt → Option Target
   selected_from r x c m =
       if is_below classes x c && is_below classes x m.class
@@ -112,6 +118,18 @@ module _ (classes : List Class) where
   -- 6.5.invokevirtual, 6.5.invokeinterface)
   abbrev pub selected_of : MemberRef → ClassId → Option Target
   selected_of r x = if is_interface_in classes x then None else of_method (selected_from r x) r
+
+  -- On an array the method that was found runs, where the reference names a class that arrays are of: it is one of
+  -- Object (JLS 4.10.3, 10.7). Else the same is due as on other objects.
+  abbrev pub array_from : MemberRef → ClassId → MemberAt → Option Target
+  array_from r c m =
+      if is_above_arrays (base.Class (name_of classes c)) then target_at m
+      else if r.of_interface then Some (Fails IncompatibleChange)
+      else None
+
+  -- of invokevirtual and invokeinterface, on an array (JVMS 6.5.invokevirtual, 6.5.invokeinterface)
+  abbrev pub array_target_of : MemberRef → Option Target
+  array_target_of r = of_method (array_from r) r
 
   -- ---- what is told of a member
 
@@ -126,10 +144,11 @@ module _ (classes : List Class) where
   abbrev pub told_at : {A : Type 0} → (Field → Option A) → (Method → Option A) → MemberAt → Option A
   told_at g h m = told_in g h m.class m.index
 
-  -- the code of a method, and what the attribute ConstantValue of a field holds
+  -- the code of a method (JVMS 4.7.3)
   abbrev pub code_at : MemberAt → Option Code
   code_at m = told_at (λ f. None) (λ m. m.code) m
 
+  -- what the attribute ConstantValue of a field holds (JVMS 4.7.2)
   abbrev pub constant_at : MemberAt → Option Constant
   constant_at m = told_at (λ f. f.constant) (λ m. None) m
 
@@ -144,6 +163,7 @@ module _ (classes : List Class) where
     static_target = static_of;
     special_target = λ from r. of_class (special_of r) None from;
     selected_target = λ class r. of_class (selected_of r) None class;
+    array_target = array_target_of;
     is_sub = λ a b. of_class (λ x. of_class (is_below classes x) false b) false a;
     is_library = of_class is_of_library false;
     firsts = of_class firsts_of [];
@@ -154,3 +174,15 @@ module _ (classes : List Class) where
   -- the set as a program
   abbrev pub view_of : View
   view_of = record { shape = shape_of; code = λ k. option_and_then code_at (member_of k) }
+
+  -- ---- entries
+
+  -- a static method of a class of the set
+  abbrev pub is_static_method : MemberAt → Bool
+  is_static_method m = is_method_at classes m && is_static_member classes m && not (is_of_library m.class)
+
+  -- A run may begin with this method: a static one of the program, other than a class initialisation method, whose
+  -- parameters are primitive, String, or arrays of these (the project's own: what an entry is).
+  abbrev pub is_startable : Key → Bool
+  is_startable k = option_map_or is_static_method (member_of k) false && not (is_text k.name (codes "<clinit>"))
+      && are_plain_parameters k.descriptor

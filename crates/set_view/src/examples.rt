@@ -1,10 +1,10 @@
-// What a few small programs do.
+// What a few small programs do, and where a run of one may begin.
 //
 // Each clause is computed from the definitions. The programs are written out in specs/Examples.antt.
 ghost use Rattle.set_view.specs.Examples.{Arrays, Calls, Exceptions, FailedInitialisation, HashCodes, Initialisation};
-ghost use Rattle.set_view.specs.Examples.{Loop, Selection};
+ghost use Rattle.set_view.specs.Examples.{Loop, Selection, Startable};
 
-/// Carries what the machine does with a few small programs. It does nothing.
+/// Carries what the machine does with a few small programs, and where a run may begin. It does nothing.
 pub fn computed_runs()
     ensures hash_codes { HashCodes }
     ensures loops { Loop }
@@ -14,4 +14,5 @@ pub fn computed_runs()
     ensures initialisation { Initialisation }
     ensures selection { Selection }
     ensures arrays { Arrays }
+    ensures startable { Startable }
 {}

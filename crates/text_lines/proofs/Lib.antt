@@ -1,5 +1,6 @@
 pub mod Parts
 pub mod ReadLines
+pub mod Refused
 pub mod Spelling
 pub mod Taking
 pub mod Words

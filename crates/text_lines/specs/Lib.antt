@@ -1,4 +1,5 @@
 pub mod Cut
+pub mod Faults
 pub mod Lines
 pub mod Members
 pub mod Numbers

@@ -1,25 +1,16 @@
 -- What a table of texts keeps (the project's own: a text that many lines have is kept once).
 use Rattle.std.specs.Prelude.{◌≡◌, ℕ, Bool, true, false, List, [], ◌∷◌, ◌++◌, Option, Some, None}
 use Rattle.std.specs.Borrow.{Bor}
-use Rattle.std.specs.BTreeMap as tree
 use Rattle.std.specs.BTreeMap.{BTreeMap}
-use Rattle.std.specs.Cmp.Lexicographic.{slice_cmp}
-use Rattle.std.specs.Option.{ForSome}
-use Rattle.std.specs.Ordering.{nat_cmp}
-use Rattle.jv_base.specs.declared.types.FieldType.{FieldType}
-use Rattle.text_lines.specs.Members.{type_of}
+use Rattle.std.specs.List.{All}
 
--- what is kept for a text
-abbrev pub kept_at : {V : Type 0} → BTreeMap (Bor (List ℕ)) V → List ℕ → Option V
-kept_at m text = tree.get_by (λ k. slice_cmp nat_cmp text k.now) m
+-- each value of a tree is one that the text of its key tells
+abbrev pub HasTold : {V : Type 0} → (List ℕ → V → Type 0) → BTreeMap (ℕ × Bor (List ℕ)) V → Type 0
+HasTold told tree = All (λ e. told e.0.1.now e.1) tree.entries
 
--- a type that is kept for a text is the one that it spells
-abbrev pub KeepsTypes : BTreeMap (Bor (List ℕ)) FieldType → Type 0
-KeepsTypes m = (text : List ℕ) → ForSome (kept_at m text) (λ ty. type_of text ≡ Some ty)
-
--- a name that is kept for a text is that text
-abbrev pub KeepsNames : BTreeMap (Bor (List ℕ)) (List ℕ) → Type 0
-KeepsNames m = (text : List ℕ) → ForSome (kept_at m text) (λ name. name ≡ text)
+-- so it is in each of the trees
+abbrev pub KeepsTold : {V : Type 0} → (List ℕ → V → Type 0) → List (BTreeMap (ℕ × Bor (List ℕ)) V) → Type 0
+KeepsTold told trees = All (HasTold told) trees
 
 -- a list with the value that was found at its end, or there is no value
 abbrev pub IsPushed : {A : Type 0} → Bool → List A → List A → Option A → Type 0

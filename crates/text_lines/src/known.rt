@@ -5,47 +5,59 @@ ghost use Rattle.jv_base.specs.Types as descriptor;
 ghost use Rattle.jv_base.specs.Types.{argument_words, words_of};
 ghost use Rattle.text_lines.specs.Members.{arguments_of, class_of, class_of_type, method_type, method_type_of};
 ghost use Rattle.text_lines.specs.Members.{result_of, type_of};
-ghost use Rattle.text_lines.specs.Shared.{IsPushed, KeepsNames, KeepsTypes};
+ghost use Rattle.text_lines.specs.Shared.{IsPushed, KeepsTold};
 
 use crate::cut;
+use crate::table::{Told, Trees, keep_value, kept_value, no_values};
 use jv_base::{
     Base, FieldType, Items, M, MethodType, Name, Or, OutOfMemory, Text, method_text, read_external,
 };
 use std::alloc::Global;
-use std::collections::{BTreeMap, BTreeSet};
+use std::collections::BTreeSet;
 
 /// The types and names of a text, each kept once however many lines have it. A look-up takes the logarithm of how
-/// many there are, whatever they are.
+/// many there are at most, whatever they are.
 #[derive(Drop)]
 pub struct Known<'a> {
-    types: BTreeMap<&'a str, FieldType>,
-    names: BTreeMap<&'a str, Name>,
+    types: Trees<'a, FieldType>,
+    names: Trees<'a, Name>,
     descriptors: BTreeSet<Text>,
-    ghost types_spelled: { KeepsTypes types },
-    ghost names_same: { KeepsNames names },
+    ghost types_told: { KeepsTold (λ text ty. type_of text ≡ Some ty) types.items },
+    ghost names_told: { KeepsTold (λ text name. name ≡ text) names.items },
+}
+
+impl Told for FieldType {
+    ghost told_by = { λ text ty. type_of text ≡ Some ty };
+}
+
+impl Told for Text {
+    ghost told_by = { λ text name. name ≡ text };
 }
 
 impl<'a> Known<'a> {
-    /// Nothing is kept yet.
-    pub fn new(alloc: Global) -> Known<'a> {
-        Known {
-            types: BTreeMap::new(alloc),
-            names: BTreeMap::new(alloc),
+    /// Nothing is kept yet of a text of so many bytes.
+    pub fn new(alloc: Global, length: usize) -> M<Known<'a>> {
+        let count = tree_count(length);
+        let types = no_values(alloc, count)?;
+        let names = no_values(alloc, count)?;
+        Ok(Known {
+            types,
+            names,
             descriptors: BTreeSet::new(alloc),
-        }
+        })
     }
 
     /// The type that a text spells as Java source does, if it spells one.
     pub fn field_type(&mut self, alloc: Global, text: &'a str) -> M<Option<FieldType>>
         ensures { IfOk result (λ ty. ty ≡ type_of text.now) }
     {
-        if let Some(ty) = self.types.get(text) {
+        if let Some(ty) = kept_value(&self.types, text) {
             return Ok(Some(copy_of(ty)?));
         }
         let Some(ty) = read_type(alloc, text)? else {
             return Ok(None);
         };
-        keep_type(&mut self.types, text, copy_of(&ty)?)?;
+        keep_value(&mut self.types, text, copy_of(&ty)?)?;
         Ok(Some(ty))
     }
 
@@ -63,11 +75,11 @@ impl<'a> Known<'a> {
     pub fn name(&mut self, alloc: Global, text: &'a str) -> M<Name>
         ensures { IfOk result (λ name. name ≡ text.now) }
     {
-        if let Some(name) = self.names.get(text) {
+        if let Some(name) = kept_value(&self.names, text) {
             return Ok(name.clone()?);
         }
         let name = Text::from_str(alloc, text)?;
-        keep_name(&mut self.names, text, name.clone()?)?;
+        keep_value(&mut self.names, text, name.clone()?)?;
         Ok(name)
     }
 
@@ -148,24 +160,9 @@ impl<'a> Known<'a> {
     }
 }
 
-// Keeps a type for the text that spells it.
-fn keep_type<'a>(types: &mut BTreeMap<&'a str, FieldType>, text: &'a str, ty: FieldType) -> M<()>
-    requires spelled { type_of text.now ≡ Some ty }
-    requires kept { KeepsTypes types.old }
-    ensures { KeepsTypes types.new }
-{
-    types.insert(text, ty)?;
-    Ok(())
-}
-
-// Keeps a name for itself.
-fn keep_name<'a>(names: &mut BTreeMap<&'a str, Name>, text: &'a str, name: Name) -> M<()>
-    requires same { name ≡ text.now }
-    requires kept { KeepsNames names.old }
-    ensures { KeepsNames names.new }
-{
-    names.insert(text, name)?;
-    Ok(())
+// How many trees serve for a text of so many bytes: one for each 2 KiB, within bounds.
+fn tree_count(length: usize) -> usize {
+    (length / 2048).clamp(1, 65_536)
 }
 
 // A type once more. Its name is shared.

@@ -6,6 +6,7 @@ mod known;
 mod lines;
 mod numbers;
 mod spelled;
+mod table;
 
 pub use cutting::{after, cut};
 pub use known::Known;

@@ -5,8 +5,8 @@ ghost use Rattle.std.specs.List.{flat_map, join_by, repeat};
 ghost use Rattle.jv_base.specs.External.{dotted, external_text, swapped, word_text};
 ghost use Rattle.text_lines.specs.Members.{arguments_text, method_text, result_text};
 
-use jv_base::{Base, FieldType, M, MethodType, Name, external};
-use std::alloc::Global;
+use itoa::Buffer;
+use jv_base::{Base, FieldType, M, MethodType, Name};
 
 /// The name of a class with dots (JLS 13.1).
 pub fn push_class(out: &mut Vec<u8>, name: &Name) -> M<()>
@@ -19,21 +19,31 @@ pub fn push_class(out: &mut Vec<u8>, name: &Name) -> M<()>
 }
 
 /// A type as Java source spells it.
-#[tactic(auto, unfolding(jv_base::specs::External::external_text, jv_base::specs::External::word_text))]
-pub fn push_type(alloc: Global, out: &mut Vec<u8>, ty: &FieldType) -> M<()>
+#[tactic(auto, unfolding(jv_base::specs::External::external_text))]
+pub fn push_type(out: &mut Vec<u8>, ty: &FieldType) -> M<()>
     ensures { OnOk result (out.new.items ≡ out.old.items ++ external_text ty.now) }
 {
-    match &ty.base {
-        Base::Class(name) => {
-            push_class(out, name)?;
-            push_dimensions(out, ty.dims)
-        }
-        _ => {
-            let text = external(alloc, ty)?;
-            out.extend_from_slice(text.as_bytes())?;
-            Ok(())
-        }
-    }
+    push_base(out, &ty.base)?;
+    push_dimensions(out, ty.dims)
+}
+
+#[tactic(auto, unfolding(jv_base::specs::External::word_text))]
+fn push_base(out: &mut Vec<u8>, base: &Base) -> M<()>
+    ensures { OnOk result (out.new.items ≡ out.old.items ++ word_text base.now) }
+{
+    let word: &[u8] = match base {
+        Base::Boolean => b"boolean",
+        Base::Byte => b"byte",
+        Base::Char => b"char",
+        Base::Short => b"short",
+        Base::Int => b"int",
+        Base::Long => b"long",
+        Base::Float => b"float",
+        Base::Double => b"double",
+        Base::Class(name) => return push_class(out, name),
+    };
+    out.extend_from_slice(word)?;
+    Ok(())
 }
 
 fn push_dimensions(out: &mut Vec<u8>, count: u8) -> M<()>
@@ -46,23 +56,23 @@ fn push_dimensions(out: &mut Vec<u8>, count: u8) -> M<()>
 }
 
 /// A method, as `int twice(int)`.
-pub fn push_method(alloc: Global, out: &mut Vec<u8>, ty: &MethodType, name: &Name) -> M<()>
+pub fn push_method(out: &mut Vec<u8>, ty: &MethodType, name: &Name) -> M<()>
     ensures { OnOk result (out.new.items ≡ out.old.items ++ method_text ty.now name.now) }
 {
-    push_result(alloc, out, &ty.ret)?;
+    push_result(out, &ty.ret)?;
     out.extend_from_slice(b" ")?;
     out.extend_from_slice(name.as_bytes())?;
     out.extend_from_slice(b"(")?;
-    push_arguments(alloc, out, ty.args.as_slice())?;
+    push_arguments(out, ty.args.as_slice())?;
     out.extend_from_slice(b")")?;
     Ok(())
 }
 
-fn push_result(alloc: Global, out: &mut Vec<u8>, ret: &Option<FieldType>) -> M<()>
+fn push_result(out: &mut Vec<u8>, ret: &Option<FieldType>) -> M<()>
     ensures { OnOk result (out.new.items ≡ out.old.items ++ result_text ret.now) }
 {
     match ret {
-        Some(ty) => push_type(alloc, out, ty),
+        Some(ty) => push_type(out, ty),
         None => {
             out.extend_from_slice(b"void")?;
             Ok(())
@@ -70,25 +80,25 @@ fn push_result(alloc: Global, out: &mut Vec<u8>, ret: &Option<FieldType>) -> M<(
     }
 }
 
-fn push_arguments(alloc: Global, out: &mut Vec<u8>, types: &[FieldType]) -> M<()>
+fn push_arguments(out: &mut Vec<u8>, types: &[FieldType]) -> M<()>
     ensures { OnOk result (out.new.items ≡ out.old.items ++ arguments_text types.now) }
 {
     let [first, rest @ ..] = types else {
         return Ok(());
     };
-    push_type(alloc, out, first)?;
+    push_type(out, first)?;
     for ty in rest {
         out.extend_from_slice(b",")?;
-        push_type(alloc, out, ty)?;
+        push_type(out, ty)?;
     }
     Ok(())
 }
 
 /// A number in decimal digits.
-pub fn push_number(alloc: Global, out: &mut Vec<u8>, number: u64) -> M<()>
+pub fn push_number(out: &mut Vec<u8>, number: u64) -> M<()>
     ensures { OnOk result (out.new.items ≡ out.old.items ++ decimal number) }
 {
-    let digits = format!(in alloc; "{number}")?;
-    out.extend_from_slice(digits.as_bytes())?;
+    let mut digits = Buffer::new();
+    out.extend_from_slice(digits.format(number).as_bytes())?;
     Ok(())
 }

@@ -2,10 +2,13 @@
 use Rattle.std.proofs.Common.{◌≡◌, ℕ, not, ◌&&◌, ◌||◌, Bool, true, false, cond, List, [], map, Option, Some, None}
 use Rattle.std.proofs.Common.{refl}
 use Rattle.std.proofs.Common.{sym, ap, subst, ◌∙◌}
-use Rattle.std.specs.Prelude.{IfSome, option_to_list}
+use Rattle.std.specs.Prelude.{◌==◌, IfSome, codes, option_to_list}
 use Rattle.std.specs.List.{AllZip}
 use Rattle.std.specs.Option.{option_and_then, option_map, option_map_or}
 use Rattle.std.proofs.lemmas.Bool.{and_parts}
+use Rattle.jv_base.specs.Names.{is_text}
+use Rattle.jv_base.specs.declared.types.Base.{Base}
+use Rattle.jv_base.specs.declared.types.Base.TheVariants as base
 use Rattle.class_model.specs.declared.class.Class.{Class}
 use Rattle.class_model.specs.declared.op.MemberRef.{MemberRef}
 use Rattle.class_model.specs.Flags.{acc_abstract, acc_private, acc_public}
@@ -20,6 +23,7 @@ use Rattle.class_pool.specs.declared.id.ClassId.TheVariants.{Prog, Lib}
 use Rattle.class_pool.specs.declared.id.MemberAt.{MemberAt}
 use Rattle.class_pool.proofs.Declaring.{declared_named, named_there, superclass_there}
 use Rattle.link_check.specs.Profile.{class_of, is_of_library}
+use Rattle.lib_table.specs.Library.{object, serializable}
 use Rattle.set_image.specs.Image.{Image, IsProperSet, SelectedKept, if_kept}
 use Rattle.set_image.specs.Laws.{KeepsFields, KeepsMethods, KeepsOrder, KeepsSelection, KeepsSpecialCalls}
 use Rattle.set_image.proofs.Finding.{field_moved, method_moved}
@@ -29,12 +33,14 @@ use Rattle.jvm_model.specs.Exceptions.{AbstractMethod, IllegalAccess, Incompatib
 use Rattle.jvm_model.specs.Fields.{blank, stored_in}
 use Rattle.jvm_model.specs.Library.{Row}
 use Rattle.jvm_model.specs.LibraryRows.{row_of}
-use Rattle.jvm_model.specs.Mapped.{CodeMap, Mapped, OptionCorr, ShapeMap, TargetMap}
+use Rattle.jvm_model.specs.Mapped.{CodeMap, Mapped, OptionCorr, ShapeMap, TargetMap, is_own_class}
 use Rattle.jvm_model.specs.Program.{Fails, Library, Program, Target}
-use Rattle.jvm_model.specs.Types.{default_of, field_kind}
+use Rattle.jvm_model.specs.Types.{default_of, field_kind, is_above_arrays}
 use Rattle.jvm_model.specs.Value.{Key, Null, Value}
 use Rattle.jvm_model.proofs.Compose.{mapped_some, then_some}
-use Rattle.set_view.specs.ViewOf.{checked, code_at, constant_at, field_of, firsts_of, is_selected, key_at, member_of}
+use Rattle.jvm_model.proofs.Keys.{texts_agree}
+use Rattle.set_view.specs.ViewOf.{array_from, array_target_of, checked, code_at, constant_at, field_of, firsts_of}
+use Rattle.set_view.specs.ViewOf.{is_selected, key_at, member_of}
 use Rattle.set_view.specs.ViewOf.{method_of, of_class, of_method, selected_from, selected_of, shape_of, special_of}
 use Rattle.set_view.specs.ViewOf.{static_of}
 use Rattle.set_view.specs.ViewOf.{target_at, target_in, target_of, value_of, view_of}
@@ -410,6 +416,11 @@ module _ (a b : List Class) (i : Image a b) (p : IsProperSet a) (rule : Selected
       let parts = and_parts (is_instance_method a m) (not (is_private_member a m)) h in
       (parts.0, not_true (is_private_member a m) parts.1)
 
+  otherwise : (t : Bool) → OptionCorr (TargetMap (names a b i)) (cond t (Some (Fails IncompatibleChange)) None)
+      (cond t (Some (Fails IncompatibleChange)) None)
+  otherwise true = (Fails IncompatibleChange, refl, refl)
+  otherwise false = refl
+
   module _ (x : ClassId) (there : IsClass a x) (k : i.kept x ≡ true) (r s : MemberRef)
       (f : Ref (methods_of r) r s) where
     abbrev Same : Option Target → Option Target → Type 0
@@ -426,11 +437,6 @@ module _ (a b : List Class) (i : Image a b) (p : IsProperSet a) (rule : Selected
         subst (λ o. Same (checked a r.of_interface (selected a x f.member)) (checked b r.of_interface o)) (sym both.0)
         (checked_same (named_at a f.member) r.of_interface (selected a x f.member) both.1
         (selected_stands a x f.member))
-
-    otherwise : (t : Bool) → Same (cond t (Some (Fails IncompatibleChange)) None)
-        (cond t (Some (Fails IncompatibleChange)) None)
-    otherwise true = (Fails IncompatibleChange, refl, refl)
-    otherwise false = refl
 
     -- by the tests on the receiver's class
     tested : is_interface_in a x ≡ false → (u t : Bool) → is_below a x (f.member).class ≡ t
@@ -496,6 +502,68 @@ module _ (a b : List Class) (i : Image a b) (p : IsProperSet a) (rule : Selected
       (subst (λ o. OptionCorr (TargetMap (names a b i)) (selected_of a r x.at) o)
       (sym (ap (λ o. option_map_or (selected_of b s) o None) (class_there_too a b i told c d x)))
       (selected_of_same x.at (class_valid c x.at x.is) x.kept r s f))
+
+  -- ---- arrays
+
+  some_valid : (t : Bool) (o : Option ClassId) → IfSome o (IsClass a) → (x : ClassId) → cond t o None ≡ Some x
+      → IsClass a x
+  some_valid true o h x e = subst (λ z. IfSome z (IsClass a)) e h
+  some_valid false o h x e = absurd cc
+
+  ref_class_valid : (r : MemberRef) (x : ClassId) → class_of a r ≡ Some x → IsClass a x
+  ref_class_valid r x e = by (r.class).base e
+    where
+      by : (c : Base)
+          → class_of a (record {
+            class = record { dims = (r.class).dims; base = c };
+            name = r.name;
+            ty = r.ty;
+            of_interface = r.of_interface;
+          })
+          ≡ Some x
+          → IsClass a x
+      by (base.Class name) e = some_valid ((r.class).dims == 0) (class_named a name) (named_there a name) x e
+      by base.Boolean e = some_valid ((r.class).dims == 0) None tt x e
+      by base.Byte e = some_valid ((r.class).dims == 0) None tt x e
+      by base.Char e = some_valid ((r.class).dims == 0) None tt x e
+      by base.Short e = some_valid ((r.class).dims == 0) None tt x e
+      by base.Int e = some_valid ((r.class).dims == 0) None tt x e
+      by base.Long e = some_valid ((r.class).dims == 0) None tt x e
+      by base.Float e = some_valid ((r.class).dims == 0) None tt x e
+      by base.Double e = some_valid ((r.class).dims == 0) None tt x e
+
+  -- the class is one that arrays are of
+  is_of_arrays : (x : ClassId) → IsClass a x → i.kept x ≡ true
+      → is_above_arrays (base.Class (name_of b (i.moved x))) ≡ is_above_arrays (base.Class (name_of a x))
+  is_of_arrays x there k = λ j. own object refl j || (own (codes "java/lang/Cloneable") refl j
+      || (own serializable refl j || false))
+    where
+      own : (c : List ℕ) → is_own_class c ≡ true → is_text (name_of b (i.moved x)) c ≡ is_text (name_of a x) c
+      own c h = texts_agree (names a b i).class (one_class a b i told) (name_of a x) (name_of b (i.moved x)) c c
+          (new_name a b i told x there k) (told.own_class c h)
+
+  array_same : (r s : MemberRef) → found_ref a b i (methods_of r) r ≡ Some s
+      → OptionCorr (TargetMap (names a b i)) (array_target_of a r) (array_target_of b s)
+  array_same r s e =
+      let f = ref_of (methods_of r) r s e in
+      let kind : s.of_interface ≡ r.of_interface = ap (λ (z : MemberRef). z.of_interface) f.new in
+      let moved : array_from b s (i.moved f.class) (i.moved_member f.member)
+      ≡ cond (is_above_arrays (base.Class (name_of a f.class))) (target_at b (i.moved_member f.member))
+      (cond r.of_interface (Some (Fails IncompatibleChange)) None) =
+      λ j. cond (is_of_arrays f.class (ref_class_valid r f.class f.class_is) f.class_kept j)
+      (target_at b (i.moved_member f.member)) (cond (kind j) (Some (Fails IncompatibleChange)) None) in
+      subst (λ o. OptionCorr (TargetMap (names a b i)) o (array_target_of b s))
+      (sym (said_here (array_from a r) r s f))
+      (subst (λ o. OptionCorr (TargetMap (names a b i)) (array_from a r f.class f.member) o)
+      (sym (said_there (array_from b s) r s f ∙ moved))
+      (by r s f (is_above_arrays (base.Class (name_of a f.class)))))
+    where
+      by : (r s : MemberRef) (f : Ref (methods_of r) r s) (t : Bool)
+          → OptionCorr (TargetMap (names a b i))
+          (cond t (target_at a f.member) (cond r.of_interface (Some (Fails IncompatibleChange)) None))
+          (cond t (target_at b (i.moved_member f.member)) (cond r.of_interface (Some (Fails IncompatibleChange)) None))
+      by r s f true = target_same (r.name, r.ty) f.member (method_stands_at r s f) f.member_kept
+      by r s f false = otherwise r.of_interface
 
   -- ---- classes
 
@@ -605,6 +673,7 @@ module _ (a b : List Class) (i : Image a b) (p : IsProperSet a) (rule : Selected
     static_target = static_same;
     special_target = special_same;
     selected_target = selected_same;
+    array_target = array_same;
     is_sub = sub_same;
     is_library = library_same;
     firsts = firsts_same;

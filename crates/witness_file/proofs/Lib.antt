@@ -1,3 +1,4 @@
+pub mod FirstFault
 pub mod LineLaw
 pub mod MethodsTold
 pub mod Only

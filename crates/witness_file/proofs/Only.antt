@@ -30,22 +30,22 @@ use Rattle.witness_file.proofs.Told.{before_one, order_at, step_after, with_act,
 
 -- ---- lines one behind the other
 
-adds_append : (xs ys : List WitnessLine) (r s : WitnessRead) → adds added xs r ≡ Ok s → adds added (xs ++ ys) r ≡ adds added ys s
+pub adds_append : (xs ys : List WitnessLine) (r s : WitnessRead) → adds added xs r ≡ Ok s → adds added (xs ++ ys) r ≡ adds added ys s
 adds_append [] ys r s h = let is : r ≡ s = cc in ap (adds added ys) is
 adds_append (x ∷ xs) ys r s h =
     let b = bind_ok (added x r) (λ u. adds added xs u) s h in
     ap (λ (o : Result WitnessRead WitKind). o >>= (λ u. adds added (xs ++ ys) u)) b.1 ∙ adds_append xs ys b.0 s b.2
 
 -- methods, and one that is read
-abbrev reading : List MethodWitness → MethodRead → WitnessRead
+abbrev pub reading : List MethodWitness → MethodRead → WitnessRead
 reading before m = record { begun = true; before = before; last = Some m }
 
-abbrev read_to : List MethodWitness → MethodRead → Result WitnessRead WitKind
+abbrev pub read_to : List MethodWitness → MethodRead → Result WitnessRead WitKind
 read_to before m = Ok (reading before m)
 
 -- ---- acts
 
-act_adds : (before : List MethodWitness) (m : MethodRead) (s : PassEdits) (a : Act) → pass_of a ≡ s.pass
+pub act_adds : (before : List MethodWitness) (m : MethodRead) (s : PassEdits) (a : Act) → pass_of a ≡ s.pass
     → added (line.Act a) (reading before (with_step m s)) ≡ read_to before (with_step m (with_act s a))
 act_adds before m s a h =
     let yes : is_pass (pass_of a) s.pass ≡ true = ap (λ (p : Pass). is_pass p s.pass) h ∙ pass_same s.pass in rw yes refl

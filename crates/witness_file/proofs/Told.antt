@@ -38,15 +38,15 @@ use Rattle.witness_file.proofs.StepLines.{passes_at, passes_empty, passes_of, sa
 -- ---- the lines of what was read
 
 -- the line of the step that is read, and those of its acts
-abbrev open_lines : ℕ → Option PassEdits → List WitnessLine
+abbrev pub open_lines : ℕ → Option PassEdits → List WitnessLine
 open_lines k None = []
 open_lines k (Some s) = line.Step k ∷ map (λ a. line.Act a) s.acts
 
 -- the lines of a method that is read
-abbrev read_lines_of : MethodRead → List WitnessLine
+abbrev pub read_lines_of : MethodRead → List WitnessLine
 read_lines_of m = line.Method m.class m.name m.ty ∷ (steps_lines 1 m.steps ++ open_lines (length m.steps + 1) m.step)
 
-abbrev last_lines : Option MethodRead → List WitnessLine
+abbrev pub last_lines : Option MethodRead → List WitnessLine
 last_lines None = []
 last_lines (Some m) = read_lines_of m
 
@@ -159,11 +159,12 @@ order_at (l ∷ k ∷ ms) m n ns o = order_at (k ∷ ms) m n ns o.1
 -- ---- what was read
 
 -- a method that is read: names, the passes of its steps, and acts of these
-record MethodFits (m : MethodRead) : Type 0 where
-  named : IsMethodLine m.class m.name m.ty
-  few : length (all_steps m) ≤ 6
-  placed : ArePlaced (all_steps m)
-  acts : AllByRecursion HasActsOfPass (all_steps m)
+pub record MethodFits (m : MethodRead) : Type 0 where
+  pub named : IsMethodLine m.class m.name m.ty
+  pub few : length (all_steps m) ≤ 6
+  pub placed : ArePlaced (all_steps m)
+  pub acts : AllByRecursion HasActsOfPass (all_steps m)
+  pub fresh : m.step ≡ None → m.steps ≡ []
 
 -- what is kept of it
 closed_is : (m : MethodRead) → MethodFits m → awaits_step m.step ≡ false → IsMethodWitness (closed m)
@@ -179,13 +180,13 @@ closed_is m f h = record {
     by (Some s) k = act_last m.steps s k
 
 -- what was read behind the first line fits the lines
-record Fits (ls : List WitnessLine) (before : List MethodWitness) (last : Option MethodRead) : Type 0 where
-  told : ls ≡ line.Head ∷ (flat_map method_lines before ++ last_lines last)
-  methods : AllByRecursion IsMethodWitness before
-  ordered : AreInOrder (before ++ map closed (option_to_list last))
-  apart : AreApart (before ++ map closed (option_to_list last))
-  first : last ≡ None → before ≡ []
-  fits : (m : MethodRead) → last ≡ Some m → MethodFits m
+pub record Fits (ls : List WitnessLine) (before : List MethodWitness) (last : Option MethodRead) : Type 0 where
+  pub told : ls ≡ line.Head ∷ (flat_map method_lines before ++ last_lines last)
+  pub methods : AllByRecursion IsMethodWitness before
+  pub ordered : AreInOrder (before ++ map closed (option_to_list last))
+  pub apart : AreApart (before ++ map closed (option_to_list last))
+  pub first : last ≡ None → before ≡ []
+  pub fits : (m : MethodRead) → last ≡ Some m → MethodFits m
 
 -- ---- one more line
 
@@ -220,7 +221,7 @@ method_told ls before last class name ty s named f h =
 
     begun_fits : (m : MethodRead) → Some (method_begun class name ty) ≡ Some m → MethodFits m
     begun_fits m e = (let is : method_begun class name ty ≡ m = cc in
-        subst MethodFits is (record { named = named; few = omega arith; placed = refl; acts = tt }))
+        subst MethodFits is (record { named = named; few = omega arith; placed = refl; acts = tt; fresh = λ e. refl }))
 
     by : (a b : Bool) → awaits_more last ≡ a
         → has_method (before ++ map closed (option_to_list last)) class name ty || is_too_early last class ≡ b
@@ -295,6 +296,7 @@ begun_fits k m p f n high within up low =
           ∙ ap (λ (l : List Pass). l ++ p ∷ []) (padded_passes (k - 1) (all_steps m) within f.placed)
           ∙ sym up ∙ ap (λ (i : ℕ). take i step_passes) (sym long);
       acts = all_append HasActsOfPass (padded (k - 1) (all_steps m)) (empty_step p ∷ []) (padded_acts (k - 1) (all_steps m) f.acts) (tt, tt);
+      fresh = λ e. absurd cc;
     }
 
 step_told : (ls : List WitnessLine) (before : List MethodWitness) (m n : MethodRead) (k : ℕ) → IsLine (line.Step k)
@@ -335,6 +337,7 @@ acts_fit m s a is same f =
           ∙ ap (λ (i : ℕ). take i step_passes) (sym long);
       acts = all_append HasActsOfPass m.steps (with_act s a ∷ []) parts.0
           (all_append (λ x. IsAct x × (pass_of x ≡ s.pass)) s.acts (a ∷ []) parts.1.0 ((is, same), tt), tt);
+      fresh = λ e. absurd cc;
     }
 
 act_told : (ls : List WitnessLine) (before : List MethodWitness) (m n : MethodRead) (step : Option PassEdits) (a : Act) → IsAct a
@@ -359,7 +362,7 @@ act_told ls before m n (Some s) a is e f h = by (is_pass (pass_of a) s.pass) ref
 -- ---- states
 
 -- nothing was read, or what was read behind the first line
-abbrev State : List WitnessLine → WitnessRead → Type 0
+abbrev pub State : List WitnessLine → WitnessRead → Type 0
 State ls r = ((ls ≡ []) × (r ≡ nothing)) ⊎ ((r.begun ≡ true) × Fits ls r.before r.last)
 
 first_fits : Fits (line.Head ∷ []) [] None
@@ -412,7 +415,7 @@ one_added ls x r s is (inr p) h = inr (behind_told ls x r s is p.0 p.1 (by r.beg
     by true e k = k
     by false e k = absurd cc
 
-all_added : (ls xs : List WitnessLine) (r s : WitnessRead) → AllByRecursion IsLine xs → State ls r → adds added xs r ≡ Ok s → State (ls ++ xs) s
+pub all_added : (ls xs : List WitnessLine) (r s : WitnessRead) → AllByRecursion IsLine xs → State ls r → adds added xs r ≡ Ok s → State (ls ++ xs) s
 all_added ls [] r s is t h = let same : r ≡ s = cc in subst (λ (l : List WitnessLine). State l s) (sym (append-nil ls)) (subst (State ls) same t)
 all_added ls (x ∷ xs) r s is t h =
     let b = bind_ok (added x r) (λ u. adds added xs u) s h in

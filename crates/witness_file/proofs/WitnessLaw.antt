@@ -10,7 +10,7 @@ use Rattle.text_lines.specs.Lines.{AllSpell, AreSpelled, at_line, is_passed_over
 use Rattle.text_lines.proofs.ReadLines.{at_ok, bind_ok, lines_found, lines_only}
 use Rattle.witness_file.specs.WitnessLines.{IsLine, SpellsLine, line_text, method_line_text}
 use Rattle.witness_file.specs.WitnessReading.{added, all_methods, awaits_more, ended, fault, nothing, read_witness, step}
-use Rattle.witness_file.specs.Witnesses.{AreTexts, IsWitness, Reading, method_lines, witness_lines, witness_text}
+use Rattle.witness_file.specs.Witnesses.{AreTexts, IsWitness, Reading, StandFor, method_lines, witness_lines, witness_text}
 use Rattle.witness_file.specs.declared.line.WitnessLine.{WitnessLine}
 use Rattle.witness_file.specs.declared.line.WitnessLine.TheVariants as line
 use Rattle.witness_file.specs.declared.reading.WitnessRead.{WitnessRead}
@@ -24,11 +24,18 @@ use Rattle.witness_file.proofs.StepLines.{all_split}
 use Rattle.witness_file.proofs.Told.{told_by}
 use Rattle.witness_file.proofs.WrittenLines.{IsTextLine, text_spells}
 
-all_valid : (ls : List (List ℕ)) (xs : List WitnessLine) → AllSpell SpellsLine ls xs → AllByRecursion IsLine xs
+pub all_valid : (ls : List (List ℕ)) (xs : List WitnessLine) → AllSpell SpellsLine ls xs → AllByRecursion IsLine xs
 all_valid [] [] h = tt
 all_valid [] (x ∷ xs) h = absurd h
 all_valid (l ∷ ls) [] h = tt
 all_valid (l ∷ ls) (x ∷ xs) h = (h.0.0, all_valid ls xs h.1)
+
+-- lines that stand for a witness are read
+pub stand_only : (ls : List (List ℕ)) (w : Witness) → StandFor ls w
+    → (r : WitnessRead) × (read_lines step 1 ls nothing ≡ Ok r) × (ended r ≡ Ok w)
+stand_only ls w h =
+    let r = told_only w h.witness in
+    (r.0, lines_only fault NotUtf8 BadLine added line_says 1 ls (witness_lines w) nothing r.0 h.spelled r.1, r.2)
 
 -- what is read is what the text stands for
 pub read_found : (text : List ℕ) (w : Witness) → read_witness text ≡ Ok w → Reading text w
@@ -43,11 +50,7 @@ read_found text w h =
 -- what the text stands for is read
 pub read_only : (text : List ℕ) (w : Witness) → Reading text w → read_witness text ≡ Ok w
 unfolding read_witness
-read_only text w h =
-    let r = told_only w h.witness in
-    let read : read_lines step 1 (lines text) nothing ≡ Ok r.0
-    = lines_only fault NotUtf8 BadLine added line_says 1 (lines text) (witness_lines w) nothing r.0 h.spelled r.1 in
-    rw (read, r.2) refl
+read_only text w h = let r = stand_only (lines text) w h in rw (r.1, r.2) refl
 
 -- what is written is read back
 pub written_back : (w : Witness) → IsWitness w → AreTexts w.methods → read_witness (witness_text w) ≡ Ok w

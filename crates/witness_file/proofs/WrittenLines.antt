@@ -163,7 +163,7 @@ own_text (line.Act (act.Skip m)) = refl
 line_written : (l : WitnessLine) → IsLine l → IsTextLine l → IsWritten SpellsLine line_text l
 line_written l h t = record { plain = line_plain l h; utf8 = line_utf8 l h t; says = line_says_something l; spelled = (h, own_text l) }
 
-lines_written : (ls : List WitnessLine) → AllByRecursion IsLine ls → AllByRecursion IsTextLine ls → AllByRecursion (IsWritten SpellsLine line_text) ls
+pub lines_written : (ls : List WitnessLine) → AllByRecursion IsLine ls → AllByRecursion IsTextLine ls → AllByRecursion (IsWritten SpellsLine line_text) ls
 lines_written [] h t = tt
 lines_written (l ∷ ls) h t = (line_written l h.0 t.0, lines_written ls h.1 t.1)
 

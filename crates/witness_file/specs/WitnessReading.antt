@@ -1,16 +1,17 @@
 -- The witness that a text stands for, read line by line, or the first line at fault (the project's own; docs/WITNESS.md).
-use Rattle.std.specs.Prelude.{ℕ, ◌+◌, ◌-◌, Bool, true, false, not, ◌||◌, ◌==◌, nat_le, List, [], ◌++◌, ◌∷◌, length, map, take, drop}
+use Rattle.std.specs.Prelude.{◌≡◌, ◌⊎◌, ℕ, ◌+◌, ◌-◌, Bool, true, false, not, ◌||◌, ◌==◌, nat_le, List, [], ◌++◌, ◌∷◌, length, map, take, drop}
 use Rattle.std.specs.Prelude.{slice_get, Option, Some, None, Result, Ok, Err, if◌then◌else◌}
 use Rattle.std.specs.Option.{option_map, option_to_list}
 use Rattle.std.specs.Str.Lines.{lines}
 use Rattle.jv_base.specs.Outcome.{◌>>=◌}
+use Rattle.text_lines.specs.Faults.{EndsTooSoon, IsFirstAtFault}
 use Rattle.text_lines.specs.Lines.{at_line, line_step, read_lines}
 use Rattle.code_edit.specs.Acts.{is_pass, pass_of, step_passes}
 use Rattle.code_edit.specs.declared.act.Act.{Act}
 use Rattle.code_edit.specs.declared.act.Pass.{Pass}
 use Rattle.code_edit.specs.declared.act.PassEdits.{PassEdits}
 use Rattle.witness_file.specs.LineReading.{line_of}
-use Rattle.witness_file.specs.Witnesses.{has_method, is_before}
+use Rattle.witness_file.specs.Witnesses.{StandFor, has_method, is_before}
 use Rattle.witness_file.specs.declared.line.WitnessLine.{WitnessLine}
 use Rattle.witness_file.specs.declared.line.WitnessLine.TheVariants as line
 use Rattle.witness_file.specs.declared.steps.MethodRead.{MethodRead}
@@ -134,3 +135,10 @@ ended r = if not r.begun || awaits_more r.last then Err BadLine else Ok (record 
 -- line behind its last
 unfoldable pub read_witness : List ℕ → Result Witness WitFault
 read_witness text = read_lines step 1 (lines text) nothing >>= (λ r. at_line fault (length (lines text) + 1) (ended r))
+
+-- ---- the law
+
+-- the line that is told is the first at fault, or the text ends before it and too soon
+abbrev pub IsFirstFault : Type 0
+IsFirstFault = (text : List ℕ) (f : WitFault) → read_witness text ≡ Err f
+    → IsFirstAtFault StandFor (lines text) f.line ⊎ EndsTooSoon StandFor (lines text) f.line

@@ -88,10 +88,14 @@ pub record IsWitness (w : Witness) : Type 0 where
   pub ordered : AreInOrder w.methods
   pub apart : AreApart w.methods
 
--- the text stands for the witness
-pub record Reading (text : List ℕ) (w : Witness) : Type 0 where
+-- the lines stand for the witness
+pub record StandFor (ls : List (List ℕ)) (w : Witness) : Type 0 where
   pub witness : IsWitness w
-  pub spelled : AreSpelled SpellsLine (lines text) (witness_lines w)
+  pub spelled : AreSpelled SpellsLine ls (witness_lines w)
+
+-- the text stands for the witness
+abbrev pub Reading : List ℕ → Witness → Type 0
+Reading text w = StandFor (lines text) w
 
 -- ---- how a witness is written
 

@@ -9,6 +9,6 @@ mod steps;
 mod witness;
 mod writing;
 
-pub use reading::{one_witness, read_witness};
+pub use reading::{first_fault, one_witness, read_witness};
 pub use witness::{MethodWitness, WitFault, WitKind, Witness};
 pub use writing::write_witness;

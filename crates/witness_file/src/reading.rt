@@ -6,7 +6,7 @@ ghost use Rattle.jv_base.specs.declared.outcome.Or.TheVariants.{Fault};
 ghost use Rattle.text_lines.specs.Lines.{read_lines};
 ghost use Rattle.text_lines.specs.Steps.{ChangesOr};
 ghost use Rattle.witness_file.specs.MethodTable.{TellsMethods};
-ghost use Rattle.witness_file.specs.WitnessReading.{added, added_behind, all_methods, awaits_more, awaits_step};
+ghost use Rattle.witness_file.specs.WitnessReading.{IsFirstFault, added, added_behind, all_methods, awaits_more, awaits_step};
 ghost use Rattle.witness_file.specs.WitnessReading.{is_too_early, method_begun, nothing, read_witness, step, with_method};
 ghost use Rattle.witness_file.specs.Witnesses.{IsOneWitness, Reading};
 ghost use Rattle.witness_file.specs.declared.line.WitnessLine.TheVariants as line;
@@ -49,6 +49,12 @@ pub fn one_witness()
     ensures { IsOneWitness }
 {}
 
+/// The line that is told is the first at fault: a witness can begin with those before it, and none with it behind them.
+/// Where it is the line behind the last, a witness can begin with all lines, and none has them alone.
+pub fn first_fault()
+    ensures { IsFirstFault }
+{}
+
 fn witness_of(alloc: Global, read: WitnessRead) -> M<Witness>
     ensures { IfOk result (λ w. w.methods ≡ all_methods read) }
 {
@@ -85,13 +91,13 @@ fn read_methods(alloc: Global, bytes: &[u8]) -> Result<(WitnessRead, u32), Or<Wi
     ensures read { Gives (λ r. r.0) result (read_lines step 1 (lines bytes.now) nothing) }
     ensures count { IfOk result (λ r. r.1 ≡ length (lines bytes.now) + 1) }
 {
+    let mut known = Known::new(alloc, bytes.len())?;
     let mut read = WitnessRead {
         begun: false,
         before: Items::new(alloc),
         last: None,
     };
     let mut table = BTreeSet::new(alloc);
-    let mut known = Known::new(alloc);
     let mut rest = bytes;
     let mut number = 1;
     while let Some(line) = next_line(rest) {

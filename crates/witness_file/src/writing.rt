@@ -67,7 +67,7 @@ fn push_member(alloc: Global, out: &mut Vec<u8>, method: &MethodWitness) -> M<()
         return Err(OutOfMemory);
     }
     match read_method_type(alloc, &method.ty) {
-        Ok(ty) => push_method(alloc, out, &ty, &method.name),
+        Ok(ty) => push_method(out, &ty, &method.name),
         Err(Or::Fault(_)) => {
             out.extend_from_slice(method.name.as_bytes())?;
             out.extend_from_slice(method.ty.as_bytes())?;
@@ -94,15 +94,15 @@ fn push_step(alloc: Global, out: &mut Vec<u8>, number: u64, acts: &[Act]) -> M<(
     if acts.is_empty() {
         return Ok(());
     }
-    push_step_line(alloc, out, number)?;
+    push_step_line(out, number)?;
     push_acts(alloc, out, acts)
 }
 
-fn push_step_line(alloc: Global, out: &mut Vec<u8>, number: u64) -> M<()>
+fn push_step_line(out: &mut Vec<u8>, number: u64) -> M<()>
     ensures { OnOk result (out.new.items ≡ out.old.items ++ (codes "step " ++ (decimal number ++ 10 ∷ []))) }
 {
     out.extend_from_slice(b"step ")?;
-    push_number(alloc, out, number)?;
+    push_number(out, number)?;
     out.extend_from_slice(b"\n")?;
     Ok(())
 }

@@ -18,7 +18,8 @@ pub(crate) fn is_class_accessible(set: &ClassSet, from: ClassId, class: ClassId)
     set.is_public_class(*class) || set.is_same_package(from, *class)
 }
 
-/// Whether a class is another one or a subclass of it (JVMS 4.1). Takes no memory; its superclasses are gone over upwards.
+/// Whether a class is another one or a subclass of it (JVMS 4.1). Takes no memory; its superclasses are gone over
+/// upwards.
 pub fn is_class_below(set: &ClassSet, below: ClassId, above: ClassId) -> bool
     requires below { IsClass set.now below }
     requires above { IsClass set.now above }

@@ -9,7 +9,7 @@ pub returns-in_err-read_line : goal.returns-in_err-read_line
 returns-in_err-read_line c =
     let stops = loop_stops (Unit {0}) step c.loop-line.number (lines c.loop-line.rest.now) (lines c.in-Some.line.rest.now) c.in-Some.line.line.now c.loop-line.read
     c.read_line.new.read c.in_err-read_line.field-0.0 _ c.in-Some.ensures.first c.in_err-read_line.ensures.read c.loop-line.invariant.read in
-    let p = err_from_is_err_and c.from_residual.result c.from_residual.ensures.1 in
+    let p = err_from_is_err_and c.from_residual-in_err-read_line.result c.from_residual-in_err-read_line.ensures.1 in
     rw (p.1, p.2) stops
 
 pub loop-line-preserved : goal.loop-line-preserved

@@ -5,6 +5,7 @@ use Rattle.run_rows.proofs.Stack as stack
 use Rattle.run_rows.proofs.Arrays as arrays
 use Rattle.run_rows.proofs.NestedArrays as nested_arrays
 use Rattle.run_rows.proofs.NullReceivers as null_receivers
+use Rattle.run_rows.proofs.ArrayReceivers as array_receivers
 use Rattle.run_rows.proofs.Handlers as handlers
 use Rattle.run_rows.proofs.Uncaught as uncaught
 use Rattle.run_rows.proofs.Initialisation as initialisation
@@ -35,6 +36,9 @@ returns-clause-nested_arrays c = nested_arrays.computed
 
 pub returns-clause-null_receivers : goal.returns-clause-null_receivers
 returns-clause-null_receivers c = null_receivers.computed
+
+pub returns-clause-array_receivers : goal.returns-clause-array_receivers
+returns-clause-array_receivers c = array_receivers.computed
 
 pub returns-clause-handlers : goal.returns-clause-handlers
 returns-clause-handlers c = handlers.computed

@@ -24,3 +24,6 @@ returns-clause-selection c = computed.selection
 
 pub returns-clause-arrays : goal.returns-clause-arrays
 returns-clause-arrays c = computed.arrays
+
+pub returns-clause-startable : goal.returns-clause-startable
+returns-clause-startable c = computed.startable

@@ -1,0 +1,10 @@
+//! Lists of the classes and members of a set, for people: what rules keep, and what is dropped.
+#![tactic(auto)]
+
+mod items;
+mod seeds;
+mod usage;
+
+pub use items::item_text;
+pub use seeds::seeds_text;
+pub use usage::usage_text;

@@ -1,0 +1,30 @@
+-- Rows of runs: arrays as receivers, computed.
+use Rattle.std.proofs.Common.{refl}
+use Rattle.std.specs.Fmt.{digits}
+use Rattle.std.specs.Int.{int_wrap}
+use Rattle.jv_base.specs.Descriptors.{grown, read_field, read_method}
+use Rattle.jv_base.specs.Names.{is_class_name, is_member_name, is_name_byte, is_primitive_or_void, part_after}
+use Rattle.jv_base.specs.Types.{argument_words, base_text, field_text, method_text, result_text, words_of}
+use Rattle.jv_base.specs.Walk.{walk}
+use Rattle.lib_table.specs.Library.{library}
+use Rattle.class_pool.specs.Walk.{upwards, walked}
+use Rattle.run_rows.specs.ArrayReceivers.{ArrayReceiversRows, ThroughCloneableRow, ThroughInterfaceRow}
+use Rattle.run_rows.specs.ArrayReceivers.{ThroughObjectRow}
+
+through_object : ThroughObjectRow
+unfolding library upwards walked field_text base_text method_text result_text grown read_field read_method walk
+    is_class_name is_member_name is_primitive_or_void is_name_byte part_after words_of argument_words digits int_wrap
+through_object = refl
+
+through_cloneable : ThroughCloneableRow
+unfolding library upwards walked field_text base_text method_text result_text grown read_field read_method walk
+    is_class_name is_member_name is_primitive_or_void is_name_byte part_after words_of argument_words digits int_wrap
+through_cloneable = refl
+
+through_interface : ThroughInterfaceRow
+unfolding library upwards walked field_text base_text method_text result_text grown read_field read_method walk
+    is_class_name is_member_name is_primitive_or_void is_name_byte part_after words_of argument_words digits int_wrap
+through_interface = refl
+
+pub computed : ArrayReceiversRows
+computed = (through_object, through_cloneable, through_interface)

@@ -1,0 +1,5 @@
+use Rattle.text_lines.specs.Shared.{KeepsTold}
+use Rattle.text_lines.proofs.table.no_values.Given as goal
+
+abbrev pub invariant-loop : goal.invariant-loop
+invariant-loop g l = KeepsTold g.V.Told.told_by l.trees.items

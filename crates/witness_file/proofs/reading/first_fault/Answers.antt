@@ -1,0 +1,5 @@
+use Rattle.witness_file.proofs.FirstFault.{first_at_fault}
+use Rattle.witness_file.proofs.reading.first_fault.Goals as goal
+
+pub returns : goal.returns
+returns c = first_at_fault
