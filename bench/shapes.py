@@ -135,6 +135,58 @@ def frames(n):
     yield File('p/A', methods=[raw(make)])
 
 
+LOCALS = 255
+INTS = b''.join(b'\x03\x36' + bytes([k]) for k in range(LOCALS))  # iconst_0 into each local
+
+
+def full_frame(delta, stack=()):
+    """All locals are ints."""
+    return (b'\xff' + struct.pack('>HH', delta, LOCALS) + b'\x01' * LOCALS + struct.pack('>H', len(stack)) + b''.join(stack))
+
+
+def stack_map(pool, rows):
+    return attribute(pool, 'StackMapTable', struct.pack('>H', len(rows)) + b''.join(rows))
+
+
+def full_frames(n):
+    """N frames of 255 locals, at every second instruction."""
+    def make(pool):
+        rows = [full_frame(len(INTS))] + [full_frame(1)] * (n - 1)
+        return code_attribute(1, LOCALS, INTS + b'\x00\x00' * n + b'\xb1', attributes=[stack_map(pool, rows)])
+    yield File('p/A', methods=[raw(make)])
+
+
+def branches(n):
+    """N branches to one frame of 255 locals."""
+    def make(pool):
+        code = INTS + b''.join(b'\x03\x99' + struct.pack('>h', -4 * k - 1) for k in range(n)) + b'\xb1'
+        return code_attribute(1, LOCALS, code, attributes=[stack_map(pool, [full_frame(len(INTS))])])
+    yield File('p/A', methods=[raw(make)])
+
+
+def covering(n):
+    """N handlers with frames of 255 locals, each of which covers N stores."""
+    def make(pool):
+        body = INTS + b'\x03\x3b' * n + b'\xb1'
+        thrown = b'\x07' + struct.pack('>H', pool.of_class('java/lang/Throwable'))
+        rows = [full_frame(len(body), [thrown])] + [b'\x40' + thrown] * (n - 1)
+        table = [(len(INTS), len(body), len(body) + k, 0) for k in range(n)]
+        return code_attribute(1, LOCALS, body + b'\xbf' * n, table, [stack_map(pool, rows)])
+    yield File('p/A', methods=[raw(make)])
+
+
+def deep_frames(n):
+    """A chain of N classes, and N frames into which the lowest flows where the topmost is wanted."""
+    yield from chain(n)
+
+    def make(pool):
+        low, top = (b'\x07' + struct.pack('>H', pool.of_class(f'p/C{k:05}')) for k in (0, n - 1))
+        first = b'\xff' + struct.pack('>HH', 0, 2) + top + low + struct.pack('>H', 0)
+        code = b'\x2b\x4b' * n + b'\xb1'
+        return code_attribute(1, 2, code, attributes=[stack_map(pool, [first] + [b'\x01'] * (n - 1))])
+    yield File('p/A', methods=[raw(make, descriptor='(Lp/C00000;Lp/C00000;)V')])
+
+
 def tall(n):
     """A chain of N classes below an interface with N methods, which the first class has."""
     yield interface('p/I', methods=[abstract(f'm{k}') for k in range(n)])
@@ -203,11 +255,12 @@ def colliding(n):
 
 
 USUAL = [classes, chain, overriding, implementing, interfaces, extending, calls]
-HOSTILE = [strings, long_calls, handlers, throws, descriptors, long_arguments, frames, tall, overriding_twenty, overloads, two_overloads, colliding]
+HOSTILE = [strings, long_calls, handlers, throws, descriptors, long_arguments, frames, full_frames, branches, covering, deep_frames, tall, overriding_twenty, overloads, two_overloads, colliding]
 SIZES = {
     'classes': [2000, 4000, 8000], 'calls': [4000, 8000, 16000], 'strings': [8000, 16000], 'long_calls': [5000, 10000, 20000],
     'handlers': [16000, 32000, 65000], 'throws': [16000, 32000, 65000], 'descriptors': [5000, 10000, 20000],
-    'long_arguments': [5000, 10000, 20000], 'frames': [2500, 5000, 10000, 20000], 'tall': [500, 1000, 2000],
+    'long_arguments': [5000, 10000, 20000], 'frames': [2500, 5000, 10000, 20000],
+    'full_frames': [8000, 16000, 32000], 'branches': [2000, 4000, 8000], 'covering': [500, 1000, 2000, 4000], 'deep_frames': [1000, 2000, 4000], 'tall': [500, 1000, 2000],
     'overriding_twenty': [1000, 2000, 4000], 'overloads': [15000, 30000, 60000], 'two_overloads': [5000, 10000, 20000],
     'colliding': [5000, 10000, 20000],
 }

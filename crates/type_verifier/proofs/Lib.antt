@@ -1,9 +1,12 @@
+pub mod Changing
 pub mod First
+pub mod Handled
 pub mod Lists
 pub mod Marking
 pub mod Padding
 pub mod Popping
 pub mod RulesWithoutCodes
+pub mod SameTypes
 pub mod SetLaw
 pub mod TypedLaw
 pub mod Walking

@@ -86,6 +86,12 @@ map_reversed f [] = refl
 map_reversed {X} {Y} f (x ∷ xs) = ap (map f) (reverse_cons x xs) ∙ append_map f (reverse xs) (x ∷ [])
     ∙ ap (λ (r : List Y). r ++ f x ∷ []) (map_reversed f xs) ∙ sym (reverse_cons (f x) (map f xs))
 
+-- two tests that are passed
+pub both : (a b : Bool) → (a && b) ≡ true → (a ≡ true) × (b ≡ true)
+both true true h = (refl, refl)
+both true false h = absurd cc
+both false b h = absurd cc
+
 -- ---- pairs
 
 -- a pair that differs

@@ -1,17 +1,21 @@
 -- Tops up to so many words, and the numbers of declared frames.
-use Rattle.std.proofs.Common.{◌≡◌, ◌≤◌, ◌<◌, ℕ, suc, ◌+◌, ◌-◌, ◌==◌, Bool, cond, List, [], ◌∷◌, ◌++◌, length, replicate, get_or, set, drop}
+use Rattle.std.proofs.Common.{◌≡◌, ◌≤◌, ◌<◌, ℕ, suc, ◌+◌, ◌-◌, ◌==◌, Bool, true, false, cond, refl, List, [], ◌∷◌, ◌++◌, length, replicate, get_or, set, drop}
 use Rattle.std.proofs.Common.{Option, Some, None, sym, ap, ◌∙◌, arith, ⊎_elim}
 use Rattle.std.specs.Prelude.{slice_get}
-use Rattle.std.specs.List.{find}
+use Rattle.std.specs.List.{find, flat_map, list_any}
 use Rattle.std.specs.Option.{option_and_then}
 use Rattle.std.proofs.lemmas.Bool.Decides.{eqb_tells}
-use Rattle.std.proofs.lemmas.List.{append_assoc, get_or-set_other, get_or-set_same, get_or_default, length-set, length_push}
-use Rattle.std.proofs.lemmas.Option.{slice_get-get_or}
+use Rattle.std.proofs.lemmas.List.{append_assoc, get_or-set_other, get_or-set_same, get_or_append_left, get_or_default, length-set, length_push}
+use Rattle.std.proofs.lemmas.Option.{get_or_from_slice_get, slice_get-get_or, slice_get_within}
+use Rattle.std.proofs.Math.Seq.{get_or-append_seam}
+use Rattle.class_model.specs.declared.code.Code.{Code}
 use Rattle.class_model.specs.declared.frame.FrameAt.{FrameAt}
 use Rattle.class_model.specs.declared.frame.VType.{VType}
 use Rattle.class_model.specs.declared.frame.VType.TheVariants as vtype
-use Rattle.type_verifier.specs.Frames.{padded}
-use Rattle.type_verifier.specs.bodies.Marks.{AreNumbersFrom}
+use Rattle.type_verifier.specs.declared.frame.TypeFrame.{TypeFrame}
+use Rattle.type_verifier.specs.Frames.{padded, words_of}
+use Rattle.type_verifier.specs.bodies.Longs.{is_long}
+use Rattle.type_verifier.specs.bodies.Marks.{AreKept, AreNumbersFrom, declared_numbered}
 use Rattle.type_verifier.proofs.Lists.{rest_is}
 
 pub pad_more : (max_locals : ℕ) (words new : List VType) (total : List VType) → length words < max_locals
@@ -69,3 +73,34 @@ numbers_kept frames number n count numbers x e lt over so_far =
           ∙ sym (ap (λ (r : List FrameAt). find (λ (f : FrameAt). f.index == at) r) (rest_is frames n y lt is_y)))
           (eqb_tells y.index at);
     }
+
+-- locals without a long are their words
+pub narrow : (types : List VType) → list_any is_long types ≡ false → flat_map words_of types ≡ types
+narrow [] h = refl
+narrow (vtype.Long ∷ types) h = absurd cc
+narrow (ty ∷ types) h = ap (λ (r : List VType). ty ∷ r) (narrow types h)
+
+-- a frame more is kept, or none
+pub kept_more : (code : Code) (kept : List (Option TypeFrame)) (number : ℕ) (new : Option TypeFrame)
+    → ((f : TypeFrame) → new ≡ Some f → declared_numbered code number ≡ Some f) → length kept ≡ number → AreKept code kept
+    → (length (kept ++ new ∷ []) ≡ number + 1) × AreKept code (kept ++ new ∷ [])
+kept_more code kept number new is long so_far =
+    let longer = length_push kept new in (
+      omega (arith, longer, long),
+      λ k f h.
+          let kept_one : List (Option TypeFrame) = kept ++ new ∷ [] in
+          let lt = slice_get_within kept_one k (Some f) h in
+          let got : get_or kept_one k None ≡ Some f = get_or_from_slice_get kept_one k (Some f) None h in
+          ⊎_elim
+          (λ here.
+          let e : k ≡ length kept = here.1 ∙ sym long in
+          let last : new ≡ Some f = sym (get_or-append_seam kept new [] None) ∙ ap (λ (n : ℕ). get_or kept_one n None) (sym e) ∙ got in
+          ap (declared_numbered code) here.1 ∙ is f last)
+          (λ there.
+          let ne = there.1 in
+          let less : k < length kept = omega (arith, lt, longer, long, ne) in
+          so_far k f (slice_get-get_or kept k None less
+          ∙ ap (λ (o : Option TypeFrame). let R : Option (Option TypeFrame) = Some o in R)
+          (sym (get_or_append_left kept (new ∷ []) None k less) ∙ got)))
+          (eqb_tells k number),
+    )

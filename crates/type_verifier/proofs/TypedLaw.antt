@@ -26,7 +26,7 @@ abbrev Flow : Type 0
 Flow = Result (Option TypeFrame) TypeKind
 
 -- a step that goes on has a first part that does
-bound : {A B : Type 0} (r : Result A TypeKind) (f : A → Result B TypeKind) (y : B) → (r >>= f) ≡ Ok y
+pub bound : {A B : Type 0} (r : Result A TypeKind) (f : A → Result B TypeKind) (y : B) → (r >>= f) ≡ Ok y
     → (x : A) × (r ≡ Ok x) × (f x ≡ Ok y)
 bound (Ok x) f y h = (x, refl, h)
 bound (Err e) f y h = absurd cc
@@ -61,14 +61,13 @@ module _ (env : Environment) where
   went_on at (Err e) k h = absurd cc
 
   -- what holds where an instruction is passed
-  Passed : ℕ → Op → Option TypeFrame → Option TypeFrame → Type 0
+  abbrev pub Passed : ℕ → Op → Option TypeFrame → Option TypeFrame → Type 0
   Passed at op flow next = (f : TypeFrame) × Stands env at flow (declared_frame_at env at) f
       × (after : TypeFrame) × (stepped env at op f ≡ Ok after) × IsTrue (fits_targets env op after)
       × IsTrue (satisfies_handlers env at f) × (flow_after op after ≡ next)
 
-  was_passed : (at : ℕ) (op : Op) (flow next : Option TypeFrame) → at_instruction env at op flow ≡ Ok next
+  pub was_passed : (at : ℕ) (op : Op) (flow next : Option TypeFrame) → at_instruction env at op flow ≡ Ok next
       → Passed at op flow next
-  unfolding Passed
   was_passed at op flow next h =
       let a = bound (arrived env at flow (declared_frame_at env at)) (instruction_checked env at op) next h in
       let s = bound (stepped env at op a.0) (flowed env at op a.0) next a.2 in
@@ -84,7 +83,6 @@ module _ (env : Environment) where
   one_more : (at : ℕ) (i : Ins) (ins : List Ins) (flow next behind : Option TypeFrame) (fs : List TypeFrame)
       → Passed at i.op flow next → AreInstructionsTyped env (at + 1) next ins fs behind
       → (gs : List TypeFrame) × AreInstructionsTyped env at flow (i ∷ ins) gs behind
-  unfolding Passed
   one_more at i ins flow next behind fs p rest = (
     p.0 ∷ fs,
     (

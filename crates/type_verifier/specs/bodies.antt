@@ -1,11 +1,15 @@
 -- Definitions that the proofs of bodies alone need.
 pub mod Changes
+pub mod Declared
 pub mod FirstFaults
 pub mod Halves
 pub mod Known
+pub mod Longs
 pub mod Marking
 pub mod Marks
 pub mod Places
 pub mod Pops
+pub mod Same
 pub mod Seen
+pub mod Since
 pub mod Walked

@@ -1,10 +1,12 @@
 // Frames of type checking from those that are declared, and the one before the first instruction (JVMS 4.10.1.6).
 ghost use Rattle.std.specs.Prelude.{◌≡◌, ◌++◌, IfOk, OnOk, map, reverse};
-ghost use Rattle.std.specs.List.{list_any};
+ghost use Rattle.std.specs.List.{flat_map, list_any};
 ghost use Rattle.class_model.specs.Flags.{is_static};
 ghost use Rattle.class_model.specs.Frames.{initial_locals, this_type, vtype_of};
 ghost use Rattle.type_verifier.specs.Environment.{initial_frame};
 ghost use Rattle.type_verifier.specs.Frames.{expanded, framed, is_uninit_this, padded, words_of};
+ghost use Rattle.type_verifier.specs.bodies.Marks.{declared_numbered};
+ghost use Rattle.type_verifier.specs.bodies.Longs.{is_long};
 ghost use Rattle.type_verifier.specs.bodies.Seen.{seen};
 
 use crate::descriptors::vtype_of;
@@ -14,7 +16,7 @@ use crate::locals::Locals;
 use crate::stack::Stack;
 use crate::types::is_uninit_this;
 use bitflags::Flags;
-use class_model::VType;
+use class_model::{Code, Frame, VType};
 use jv_base::{Access, FieldType, M};
 use std::alloc::Global;
 
@@ -22,18 +24,31 @@ use std::alloc::Global;
 pub(crate) fn framed(
     alloc: Global,
     max_locals: u16,
-    locals: &[VType],
-    stack: &[VType],
+    locals: Vec<VType>,
+    stack: Vec<VType>,
 ) -> M<TypeFrame>
-    ensures { IfOk result (λ f. f ≡ framed max_locals locals.now stack.now) }
+    ensures { IfOk result (λ f. f ≡ framed max_locals locals.items stack.items) }
 {
+    let marked = has_uninit_this(locals.as_slice());
     let words = expanded(alloc, usize::from(max_locals), locals)?;
     let stack = stack_of(alloc, stack)?;
     Ok(TypeFrame {
         locals: Locals::from_words(words),
         stack,
-        marked: has_uninit_this(locals),
+        marked,
     })
+}
+
+/// The frame of a number among those that are declared.
+pub(crate) fn declared_frame(alloc: Global, code: &Code, number: usize) -> M<Option<TypeFrame>>
+    ensures { IfOk result (λ d. d ≡ declared_numbered code.now number) }
+{
+    if number >= code.frames.len() {
+        return Ok(None);
+    }
+    let Frame { locals, stack } = code.frames.frame(alloc, number)?;
+    let frame = framed(alloc, code.max_locals, locals.into_vec(), stack.into_vec())?;
+    Ok(Some(frame))
 }
 
 fn has_uninit_this(types: &[VType]) -> bool
@@ -42,32 +57,63 @@ fn has_uninit_this(types: &[VType]) -> bool
     types.iter().any(|ty| is_uninit_this(ty))
 }
 
-fn stack_of(alloc: Global, types: &[VType]) -> M<Stack>
-    ensures { IfOk result (λ stack. stack ≡ reverse types.now) }
+fn stack_of(alloc: Global, types: Vec<VType>) -> M<Stack>
+    ensures { IfOk result (λ stack. stack ≡ reverse types.items) }
 {
     let mut stack = Stack::new(alloc);
     for ty in types {
-        stack.push(ty.clone()?)?;
+        stack.push(ty)?;
     }
     Ok(stack)
 }
 
-fn expanded(alloc: Global, max_locals: usize, types: &[VType]) -> M<Vec<VType>>
-    ensures { IfOk result (λ words. words.items ≡ expanded max_locals types.now) }
+fn expanded(alloc: Global, max_locals: usize, types: Vec<VType>) -> M<Vec<VType>>
+    ensures { IfOk result (λ words. words.items ≡ expanded max_locals types.items) }
+{
+    let mut words = words_of_all(alloc, types)?;
+    pad(&mut words, max_locals)?;
+    Ok(words)
+}
+
+/// The words of locals. Where each takes one, no other list is made.
+fn words_of_all(alloc: Global, types: Vec<VType>) -> M<Vec<VType>>
+    ensures { IfOk result (λ words. words.items ≡ flat_map words_of types.items) }
+{
+    if has_long(types.as_slice()) {
+        all_words(alloc, types)
+    } else {
+        Ok(types)
+    }
+}
+
+fn has_long(types: &[VType]) -> bool
+    ensures { result ≡ list_any is_long types.now }
+{
+    types.iter().any(|ty| is_long(ty))
+}
+
+fn is_long(ty: &VType) -> bool
+    ensures { result ≡ is_long ty.now }
+{
+    matches!(ty, VType::Long)
+}
+
+fn all_words(alloc: Global, types: Vec<VType>) -> M<Vec<VType>>
+    ensures { IfOk result (λ words. words.items ≡ flat_map words_of types.items) }
 {
     let mut words = Vec::new(alloc);
     for ty in types {
         push_words(&mut words, ty)?;
     }
-    pad(&mut words, max_locals)?;
     Ok(words)
 }
 
-fn push_words(words: &mut Vec<VType>, ty: &VType) -> M<()>
-    ensures { OnOk result (words.new.items ≡ words.old.items ++ words_of ty.now) }
+fn push_words(words: &mut Vec<VType>, ty: VType) -> M<()>
+    ensures { OnOk result (words.new.items ≡ words.old.items ++ words_of ty) }
 {
-    words.push(ty.clone()?)?;
-    if matches!(ty, VType::Long) {
+    let is_long = is_long(&ty);
+    words.push(ty)?;
+    if is_long {
         words.push(VType::Top)?;
     }
     Ok(())
@@ -89,7 +135,7 @@ pub(crate) fn initial_frame(alloc: Global, env: &Env) -> M<TypeFrame>
     ensures { IfOk result (λ f. f ≡ initial_frame (seen env.now)) }
 {
     let locals = initial_locals(alloc, env)?;
-    framed(alloc, env.code.max_locals, locals.as_slice(), &[])
+    framed(alloc, env.code.max_locals, locals, Vec::new(alloc))
 }
 
 fn initial_locals(alloc: Global, env: &Env) -> M<Vec<VType>>

@@ -1,20 +1,30 @@
 // What is declared at the instructions of a code, and which of them are entered (JVMS 4.10.1.6).
-ghost use Rattle.std.specs.Prelude.{◌≡◌, ◌<◌, nat_eq, false, IfOk, None, length, slice_index_or};
+ghost use Rattle.std.specs.Prelude.{◌≡◌, ◌<◌, nat_eq, false, IfOk, IfSome, None, Some, length, option_copied, slice_get};
+ghost use Rattle.std.specs.Prelude.{slice_index_or};
+ghost use Rattle.type_verifier.specs.declared.frame.TypeFrame.{TypeFrame};
 ghost use Rattle.type_verifier.specs.Environment.{targets};
 ghost use Rattle.type_verifier.specs.bodies.Places.{ArePlaces};
-ghost use Rattle.type_verifier.specs.bodies.Marking.{is_among, is_begun, is_case, is_target};
-ghost use Rattle.type_verifier.specs.bodies.Marks.{AreNumbers, IsEntered, Marks};
+ghost use Rattle.type_verifier.specs.bodies.Marking.{is_among, is_begun, is_case, is_first_covered, is_target};
+ghost use Rattle.type_verifier.specs.bodies.Marks.{AreFirstCovered, AreKept, AreNumbers, IsEntered, Marks, declared_numbered};
 
+use crate::frame::TypeFrame;
+use crate::framing::declared_frame;
 use class_model::{Case, Code, Frames, Handler, Ins, Op};
 use jv_base::M;
 use std::alloc::Global;
 
-/// For each instruction of a code the number of the frame that is declared there, and whether it is a target or begins
-/// a handler.
+/// How many words the locals of the frames that are kept take at most.
+const KEPT_WORDS: usize = 262_144;
+
+/// For each instruction of a code the number of the frame that is declared there, whether it is a target or begins a
+/// handler, and whether some handler covers it as the first one; and frames that are compared again.
 #[derive(Drop)]
 pub(crate) struct Places {
     frames: Vec<Option<usize>>,
     entered: Vec<bool>,
+    covered: Vec<bool>,
+    /// By the numbers of the frames.
+    kept: Vec<Option<TypeFrame>>,
 }
 
 pub(crate) fn places_of(alloc: Global, code: &Code) -> M<Places>
@@ -22,7 +32,14 @@ pub(crate) fn places_of(alloc: Global, code: &Code) -> M<Places>
 {
     let frames = frame_numbers(alloc, &code.frames, code.ins.len())?;
     let entered = entered_of(alloc, code)?;
-    Ok(Places { frames, entered })
+    let covered = covered_of(alloc, code)?;
+    let kept = kept_frames(alloc, code, entered.as_slice())?;
+    Ok(Places {
+        frames,
+        entered,
+        covered,
+        kept,
+    })
 }
 
 // ---- frames
@@ -43,6 +60,37 @@ fn frame_numbers(alloc: Global, frames: &Frames, count: usize) -> M<Vec<Option<u
     Ok(numbers)
 }
 
+/// The frames at instructions that are entered, as many as the bound allows.
+fn kept_frames(alloc: Global, code: &Code, entered: &[bool]) -> M<Vec<Option<TypeFrame>>>
+    ensures { IfOk result (λ kept. AreKept code.now kept.items) }
+{
+    let mut kept = Vec::new(alloc);
+    let mut left = KEPT_WORDS / (usize::from(code.max_locals) + 1);
+    for number in 0..code.frames.len() {
+        let wanted = left > 0 && is_marked(entered, code.frames.index(number));
+        kept.push(kept_frame(alloc, code, number, wanted)?)?;
+        if wanted {
+            left -= 1;
+        }
+    }
+    Ok(kept)
+}
+
+/// A frame, where it is wanted.
+fn kept_frame(alloc: Global, code: &Code, number: usize, wanted: bool) -> M<Option<TypeFrame>>
+    ensures { IfOk result (λ kept. (f : TypeFrame) → kept ≡ Some f → declared_numbered code.now number ≡ Some f) }
+{
+    if wanted {
+        declared_frame(alloc, code, number)
+    } else {
+        Ok(None)
+    }
+}
+
+fn is_marked(marks: &[bool], at: u32) -> bool {
+    matches!(marks.get(at as usize), Some(true))
+}
+
 // ---- instructions that are entered
 
 fn entered_of(alloc: Global, code: &Code) -> M<Vec<bool>>
@@ -52,6 +100,15 @@ fn entered_of(alloc: Global, code: &Code) -> M<Vec<bool>>
     mark_instructions(entered.as_mut_slice(), code.ins.as_slice());
     mark_handlers(entered.as_mut_slice(), code.handlers.as_slice());
     Ok(entered)
+}
+
+/// The instructions that handlers cover as the first ones.
+fn covered_of(alloc: Global, code: &Code) -> M<Vec<bool>>
+    ensures { IfOk result (λ covered. AreFirstCovered code.now covered.items) }
+{
+    let mut covered = vec![in alloc; false; code.ins.len()]?;
+    mark_covered(covered.as_mut_slice(), code.handlers.as_slice());
+    Ok(covered)
 }
 
 /// Marks the targets of instructions.
@@ -69,6 +126,15 @@ fn mark_handlers(entered: &mut [bool], handlers: &[Handler])
 {
     for handler in handlers {
         mark(entered, handler.entry);
+    }
+}
+
+/// Marks what handlers cover as the first.
+fn mark_covered(covered: &mut [bool], handlers: &[Handler])
+    ensures { Marks covered.old covered.new (is_first_covered handlers.now) }
+{
+    for handler in handlers {
+        mark(covered, handler.from);
     }
 }
 
@@ -135,5 +201,23 @@ impl Places {
         ensures { result ≡ slice_index_or self.now.entered.items at false }
     {
         self.entered[at]
+    }
+
+    /// Whether some handler covers an instruction as the first one.
+    pub(crate) fn is_first_covered(&self, at: usize) -> bool
+        requires { at < length self.now.covered.items }
+        ensures { result ≡ slice_index_or self.now.covered.items at false }
+    {
+        self.covered[at]
+    }
+
+    /// The frame of a number, if it is kept.
+    pub(crate) fn kept(&self, number: usize) -> Option<&TypeFrame>
+        ensures { IfSome (option_copied result) (λ f. slice_get self.now.kept.items number ≡ Some (Some f)) }
+    {
+        match self.kept.get(number) {
+            Some(Some(frame)) => Some(frame),
+            _ => None,
+        }
     }
 }

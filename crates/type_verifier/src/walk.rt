@@ -1,30 +1,29 @@
 // The walk over a code, which keeps one frame (JVMS 4.10.1.6).
-ghost use Rattle.std.specs.Prelude.{◌≡◌, ◌<◌, ◌∷◌, [], Some, false, IfOk, length, map, slice_get};
+ghost use Rattle.std.specs.Prelude.{◌≡◌, ◌<◌, Some, IfOk, IsTrue, length, map};
 ghost use Rattle.std.specs.List.{list_all};
-ghost use Rattle.std.specs.Option.{option_map};
 ghost use Rattle.jv_base.specs.Outcome.{IsDue};
 ghost use Rattle.class_model.specs.declared.op.Case.{Case};
 ghost use Rattle.type_verifier.specs.Assignable.{is_frame_assignable};
-ghost use Rattle.type_verifier.specs.bodies.Changes.{AfterOr, FlowsOr, GoesOn, flow};
-ghost use Rattle.type_verifier.specs.Effects.{with_stack};
+ghost use Rattle.type_verifier.specs.bodies.Changes.{ArrivesOr, FlowsOr, GoesOn, flow};
 ghost use Rattle.type_verifier.specs.Environment.{declared_frame_at, goes_elsewhere};
-ghost use Rattle.type_verifier.specs.Frames.{declared_frame};
 ghost use Rattle.type_verifier.specs.bodies.Places.{ArePlaces};
 ghost use Rattle.type_verifier.specs.bodies.Seen.{seen};
+ghost use Rattle.type_verifier.specs.bodies.Since.{IsSame, IsSince};
+ghost use Rattle.type_verifier.specs.Walk.{arrived, at_instruction, fault_at, fits_at, fits_targets, instruction_checked};
 ghost use Rattle.type_verifier.specs.bodies.Walked.{code_checked, walked};
-ghost use Rattle.type_verifier.specs.Walk.{arrived, at_instruction, caught_type, covers, fault_at};
-ghost use Rattle.type_verifier.specs.Walk.{fits_at, fits_targets, instruction_checked, satisfies, satisfies_handlers};
 
-use crate::assignability::{are_assignable, assignable, is_stack_assignable};
+use crate::assignability::{are_assignable, is_stack_assignable};
+use crate::changed::{Changed, since_after, since_there};
+use crate::declared::{look_up, make};
 use crate::environment::Env;
 use crate::frame::TypeFrame;
-use crate::framing::{framed, initial_frame};
+use crate::framing::initial_frame;
+use crate::handlers::satisfies_handlers;
 use crate::instructions::step;
 use crate::places::{Places, places_of};
-use crate::stack::Stack;
-use crate::types::class_type;
+use crate::same::are_same_types;
 use crate::{TypeFault, TypeKind};
-use class_model::{Case, Code, Handler, Op, VType};
+use class_model::{Case, Code, Op};
 use class_pool::ClassSet;
 use jv_base::{M, Or};
 use std::alloc::Global;
@@ -54,9 +53,11 @@ fn walk(
         return Err(Or::OutOfMemory);
     };
     let mut flows = true;
+    let mut since = None;
     for at in 0..count {
         let op = &env.code.ins[at as usize].op;
-        flows = go_on(alloc, env, places, frame, flows, at, op)?;
+        flows = go_on(alloc, env, places, frame, flows, since, at, op)?;
+        since = since_after(flows, op);
     }
     if flows {
         return Err(Or::Fault(fault(env, count.saturating_sub(1), TypeKind::FallsOff)));
@@ -82,15 +83,17 @@ fn go_on(
     places: &Places,
     frame: &mut TypeFrame,
     flows: bool,
+    since: Option<Changed>,
     at: u32,
     op: &Op,
 ) -> Result<bool, Or<TypeFault>>
     requires there { env.now.own < length env.now.set.now }
     requires places { ArePlaces env.now.code.now places.now }
     requires instruction { at < length env.now.code.now.ins }
+    requires since { IsSince (seen env.now) at since frame.old }
     ensures { GoesOn (seen env.now) at result frame.new op.now (flow flows frame.old) }
 {
-    match pass_instruction(alloc, env, places, frame, flows, at, op) {
+    match pass_instruction(alloc, env, places, frame, flows, since, at, op) {
         Ok(flows) => Ok(flows),
         Err(Or::Fault(kind)) => Err(Or::Fault(fault(env, at, kind))),
         Err(Or::OutOfMemory) => Err(Or::OutOfMemory),
@@ -104,16 +107,18 @@ fn pass_instruction(
     places: &Places,
     frame: &mut TypeFrame,
     flows: bool,
+    since: Option<Changed>,
     at: u32,
     op: &Op,
 ) -> Result<bool, Or<TypeKind>>
     requires there { env.now.own < length env.now.set.now }
     requires places { ArePlaces env.now.code.now places.now }
     requires instruction { at < length env.now.code.now.ins }
+    requires since { IsSince (seen env.now) at since frame.old }
     ensures { FlowsOr result frame.new (at_instruction (seen env.now) at op.now (flow flows frame.old)) }
 {
-    arrive(alloc, env, places, frame, flows, at)?;
-    pass(alloc, env, places, frame, at, op)
+    let same = arrive(alloc, env, places, frame, flows, at)?;
+    pass(alloc, env, places, frame, since_there(same, since), at, op)
 }
 
 /// Goes over an instruction by the frame before it.
@@ -122,14 +127,17 @@ fn pass(
     env: &Env,
     places: &Places,
     frame: &mut TypeFrame,
+    since: Option<Changed>,
     at: u32,
     op: &Op,
 ) -> Result<bool, Or<TypeKind>>
     requires there { env.now.own < length env.now.set.now }
     requires places { ArePlaces env.now.code.now places.now }
+    requires instruction { at < length env.now.code.now.ins }
+    requires since { IsSince (seen env.now) at since frame.old }
     ensures { FlowsOr result frame.new (instruction_checked (seen env.now) at op.now frame.old) }
 {
-    let satisfies = satisfies_handlers(alloc, env, places, frame, at)?;
+    let satisfies = satisfies_handlers(alloc, env, places, frame, since, at)?;
     step(alloc, env, frame, at, op)?;
     if !fits_targets(alloc, env, places, frame, op)? {
         return Err(Or::Fault(TypeKind::Mismatch));
@@ -152,19 +160,7 @@ fn goes_elsewhere(op: &Op) -> bool
 
 // ---- the frame before an instruction
 
-/// The frame that is declared at an instruction.
-fn declared(alloc: Global, env: &Env, places: &Places, at: usize) -> M<Option<TypeFrame>>
-    requires places { ArePlaces env.now.code.now places.now }
-    requires instruction { at < length env.now.code.now.ins }
-    ensures { IfOk result (λ d. d ≡ declared_frame_at (seen env.now) at) }
-{
-    match places.frame_number(at) {
-        Some(number) => declared_frame(alloc, env.code, number),
-        None => Ok(None),
-    }
-}
-
-/// Has the frame before an instruction, by what flows into it.
+/// Has the frame before an instruction, by what flows into it. Tells whether it has the same locals and flag as that.
 fn arrive(
     alloc: Global,
     env: &Env,
@@ -172,20 +168,22 @@ fn arrive(
     frame: &mut TypeFrame,
     flows: bool,
     at: u32,
-) -> Result<(), Or<TypeKind>>
+) -> Result<bool, Or<TypeKind>>
     requires places { ArePlaces env.now.code.now places.now }
     requires instruction { at < length env.now.code.now.ins }
-    ensures { AfterOr result frame.new (arrived (seen env.now) at (flow flows frame.old) (declared_frame_at (seen env.now) at)) }
+    ensures after { ArrivesOr result frame.new (arrived (seen env.now) at (flow flows frame.old) (declared_frame_at (seen env.now) at)) }
+    ensures same { IfOk result (λ same. IsTrue same → IsSame frame.old frame.new) }
 {
-    match declared(alloc, env, places, at as usize)? {
+    match make(alloc, env, places, at as usize)? {
         Some(declared) => {
             if flows && !is_frame_assignable(env.set, frame, &declared) {
                 return Err(Or::Fault(TypeKind::Mismatch));
             }
+            let same = flows && is_same(env.code, frame, &declared);
             *frame = declared;
-            Ok(())
+            Ok(same)
         }
-        None if flows && !places.is_entered(at as usize) => Ok(()),
+        None if flows && !places.is_entered(at as usize) => Ok(true),
         None => Err(Or::Fault(TypeKind::NoFrame)),
     }
 }
@@ -198,17 +196,24 @@ fn is_frame_assignable(set: &ClassSet, from: &TypeFrame, to: &TypeFrame) -> bool
         && (!from.marked || to.marked)
 }
 
-/// The frame of a number among those that are declared.
-fn declared_frame(alloc: Global, code: &Code, number: usize) -> M<Option<TypeFrame>>
-    ensures { IfOk result (λ d. d ≡ option_map (λ f. declared_frame code.now.max_locals f.frame) (slice_get code.now.frames number)) }
+/// Whether a frame has the same locals and flag as another one. Only handlers need it: without them this isn't told.
+fn is_same(code: &Code, from: &TypeFrame, to: &TypeFrame) -> bool
+    ensures { IsTrue result → IsSame from.now to.now }
 {
-    if number >= code.frames.len() {
-        return Ok(None);
-    }
-    let frame = code.frames.frame(alloc, number)?;
-    let locals = frame.locals.as_slice();
-    let stack = frame.stack.as_slice();
-    Ok(Some(framed(alloc, code.max_locals, locals, stack)?))
+    !code.handlers.is_empty() && has_same(from, to)
+}
+
+fn has_same(from: &TypeFrame, to: &TypeFrame) -> bool
+    ensures { IsTrue result → IsSame from.now to.now }
+{
+    is_same_flag(from.marked, to.marked)
+        && are_same_types(from.locals.as_slice(), to.locals.as_slice())
+}
+
+fn is_same_flag(one: bool, other: bool) -> bool
+    ensures { IsTrue result → one ≡ other }
+{
+    one == other
 }
 
 // ---- frames that flow to other instructions
@@ -283,98 +288,8 @@ fn fits_at(alloc: Global, env: &Env, places: &Places, frame: &TypeFrame, to: u32
     if env.code.ins.len() <= to {
         return Ok(false);
     }
-    match declared(alloc, env, places, to)? {
-        Some(declared) => Ok(is_frame_assignable(env.set, frame, &declared)),
+    match look_up(alloc, env, places, to)? {
+        Some(declared) => Ok(is_frame_assignable(env.set, frame, declared.frame())),
         None => Ok(true),
     }
-}
-
-// ---- handlers
-
-/// Whether the frame before an instruction satisfies each handler that covers it.
-fn satisfies_handlers(
-    alloc: Global,
-    env: &Env,
-    places: &Places,
-    frame: &TypeFrame,
-    at: u32,
-) -> M<bool>
-    requires places { ArePlaces env.now.code.now places.now }
-    ensures { IfOk result (λ ok. ok ≡ satisfies_handlers (seen env.now) at frame.now) }
-{
-    for handler in env.code.handlers.as_slice() {
-        if covers(at, handler) && !satisfies(alloc, env, places, frame, handler)? {
-            return Ok(false);
-        }
-    }
-    Ok(true)
-}
-
-fn covers(at: u32, handler: &Handler) -> bool
-    ensures { result ≡ covers at handler.now }
-{
-    handler.from <= at && at < handler.to
-}
-
-/// Whether what is caught is thrown, and fits with the locals where the handler begins.
-fn satisfies(
-    alloc: Global,
-    env: &Env,
-    places: &Places,
-    frame: &TypeFrame,
-    handler: &Handler,
-) -> M<bool>
-    requires places { ArePlaces env.now.code.now places.now }
-    ensures { IfOk result (λ ok. ok ≡ satisfies (seen env.now) frame.now handler.now) }
-{
-    let caught = caught_type(env, handler)?;
-    if frame.marked || !assignable(env.set, &caught, env.known.throwable()) {
-        return Ok(false);
-    }
-    fits_handler(alloc, env, places, frame, caught, handler.entry)
-}
-
-fn caught_type(env: &Env, handler: &Handler) -> M<VType>
-    ensures { IfOk result (λ ty. ty ≡ caught_type handler.now) }
-{
-    match &handler.caught {
-        Some(name) => Ok(VType::Object(class_type(name)?)),
-        None => Ok(env.known.throwable().clone()?),
-    }
-}
-
-/// Whether the locals of an unmarked frame, and what is caught alone on the stack, fit where a handler begins.
-fn fits_handler(
-    alloc: Global,
-    env: &Env,
-    places: &Places,
-    frame: &TypeFrame,
-    caught: VType,
-    entry: u32,
-) -> M<bool>
-    requires places { ArePlaces env.now.code.now places.now }
-    requires marked { frame.now.marked ≡ false }
-    ensures { IfOk result (λ fits. fits ≡ fits_at (seen env.now) (with_stack frame.now (caught ∷ [])) entry) }
-{
-    let entry = entry as usize;
-    if env.code.ins.len() <= entry {
-        return Ok(false);
-    }
-    match declared(alloc, env, places, entry)? {
-        Some(declared) => {
-            let mut stack = Stack::new(alloc);
-            stack.push(caught)?;
-            Ok(is_handler_frame(env.set, frame, &stack, &declared))
-        }
-        None => Ok(true),
-    }
-}
-
-/// Whether the locals of an unmarked frame and another stack fit a frame.
-fn is_handler_frame(set: &ClassSet, from: &TypeFrame, stack: &Stack, to: &TypeFrame) -> bool
-    requires { from.now.marked ≡ false }
-    ensures { result ≡ is_frame_assignable set.now (with_stack from.now stack.now) to.now }
-{
-    are_assignable(set, from.locals.as_slice(), to.locals.as_slice())
-        && is_stack_assignable(set, stack, &to.stack)
 }

@@ -22,6 +22,12 @@ AfterOr (Ok _) new due = due ≡ Ok new
 AfterOr (Err (or.Fault kind)) new due = due ≡ Err kind
 AfterOr (Err or.OutOfMemory) new due = Unit {0}
 
+-- the same where something else is told of the frame
+abbrev pub ArrivesOr : Result Bool (Or TypeKind) → TypeFrame → Checked → Type 0
+ArrivesOr (Ok same) new due = due ≡ Ok new
+ArrivesOr (Err (or.Fault kind)) new due = due ≡ Err kind
+ArrivesOr (Err or.OutOfMemory) new due = Unit {0}
+
 -- a frame that flows on, or nothing
 abbrev pub flow : Bool → TypeFrame → Option TypeFrame
 flow true f = Some f

@@ -18,6 +18,10 @@ is_case cases at = list_any (nat_eq at) (map (λ (c : Case). c.to) cases)
 abbrev pub is_begun : List Handler → ℕ → Bool
 is_begun handlers at = list_any (λ (h : Handler). nat_eq at h.entry) handlers
 
+-- one of these handlers covers it as the first
+abbrev pub is_first_covered : List Handler → ℕ → Bool
+is_first_covered handlers at = list_any (λ (h : Handler). nat_eq at h.from) handlers
+
 -- it is a target of one of these instructions
 abbrev pub is_target : List Ins → ℕ → Bool
 is_target ins at = list_any (λ (i : Ins). list_any (nat_eq at) (targets i.op)) ins

@@ -1,10 +1,13 @@
 -- Tables of what is declared at instructions, and which are entered (only the proof of the walk needs it).
-use Rattle.std.specs.Prelude.{◌≡◌, ◌<◌, ℕ, Bool, false, ◌||◌, List, length, Option, None, slice_get, slice_index_or, drop, ◌==◌}
+use Rattle.std.specs.Prelude.{◌≡◌, ◌<◌, ℕ, Bool, false, ◌||◌, List, length, Option, Some, None, slice_get, slice_index_or, drop, ◌==◌}
 use Rattle.std.specs.List.{find}
-use Rattle.std.specs.Option.{option_and_then}
+use Rattle.std.specs.Option.{option_and_then, option_map}
 use Rattle.class_model.specs.declared.code.Code.{Code}
 use Rattle.class_model.specs.declared.frame.FrameAt.{FrameAt}
+use Rattle.type_verifier.specs.declared.frame.TypeFrame.{TypeFrame}
 use Rattle.type_verifier.specs.Environment.{is_entered}
+use Rattle.type_verifier.specs.Frames.{declared_frame}
+use Rattle.type_verifier.specs.bodies.Marking.{is_first_covered}
 
 -- places that pass are marked, beside those that were
 pub record Marks (old new : List Bool) (passes : ℕ → Bool) : Type 0 where
@@ -22,6 +25,21 @@ pub record AreNumbers (frames : List FrameAt) (count : ℕ) (numbers : List (Opt
 pub record IsEntered (code : Code) (entered : List Bool) : Type 0 where
   pub long : length entered ≡ length code.ins
   pub marked : (at : ℕ) → at < length code.ins → slice_index_or entered at false ≡ is_entered code at
+
+-- each instruction is marked where some handler covers it as the first
+pub record AreFirstCovered (code : Code) (covered : List Bool) : Type 0 where
+  pub long : length covered ≡ length code.ins
+  pub marked : (at : ℕ) → at < length code.ins → slice_index_or covered at false ≡ is_first_covered code.handlers at
+
+-- the frame of a number among those that are declared
+abbrev pub declared_numbered : Code → ℕ → Option TypeFrame
+declared_numbered code number =
+    option_map (λ (f : FrameAt). declared_frame code.max_locals f.frame) (slice_get code.frames number)
+
+-- a frame that is kept is the one that is declared
+abbrev pub AreKept : Code → List (Option TypeFrame) → Type 0
+AreKept code kept = (number : ℕ) (f : TypeFrame) → slice_get kept number ≡ Some (Some f)
+    → declared_numbered code number ≡ Some f
 
 -- the same of what is gone over so far, and what is left
 pub record MarksSoFar (old now : List Bool) (passes left : ℕ → Bool) : Type 0 where

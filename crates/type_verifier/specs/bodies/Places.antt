@@ -1,10 +1,12 @@
--- The table of what is declared at instructions, and which are entered (only the proof of the walk needs it).
+-- The table of what is declared at instructions, and which are entered or begin to be covered (only the proof of the walk needs it).
 use Rattle.std.specs.Prelude.{length}
 use Rattle.class_model.specs.declared.code.Code.{Code}
-use Rattle.type_verifier.specs.bodies.Marks.{AreNumbers, IsEntered}
+use Rattle.type_verifier.specs.bodies.Marks.{AreFirstCovered, AreKept, AreNumbers, IsEntered}
 use Rattle.type_verifier.specs.declared.places.Places.{Places}
 
 -- the table is that of the code
 pub record ArePlaces (code : Code) (places : Places) : Type 0 where
   pub frames : AreNumbers code.frames (length code.ins) places.frames.items
   pub entered : IsEntered code places.entered.items
+  pub covered : AreFirstCovered code places.covered.items
+  pub kept : AreKept code places.kept.items

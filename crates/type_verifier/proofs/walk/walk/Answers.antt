@@ -1,4 +1,4 @@
-use Rattle.std.proofs.Common.{◌≡◌, ◌≤◌, ◌-◌, ℕ, Bool, List, length, Some, Err, Result, sym, ap, ◌∙◌, arith}
+use Rattle.std.proofs.Common.{◌≡◌, ◌≤◌, ◌<◌, ◌+◌, ◌-◌, subst, ℕ, Bool, List, length, get_or, Some, Err, Result, sym, ap, ◌∙◌, arith}
 use Rattle.std.proofs.lemmas.Option.{get_or_from_slice_get, slice_get_within}
 use Rattle.std.proofs.lemmas.Result.{err_from_is_err_and}
 use Rattle.class_model.specs.declared.code.Ins.{Ins}
@@ -6,6 +6,8 @@ use Rattle.type_verifier.specs.declared.fault.TypeFault.{TypeFault}
 use Rattle.type_verifier.specs.declared.fault.TypeKind.TheVariants.{FallsOff}
 use Rattle.type_verifier.specs.bodies.Changes.{flow}
 use Rattle.type_verifier.specs.bodies.Seen.{seen}
+use Rattle.type_verifier.specs.bodies.Since.{IsSince}
+use Rattle.type_verifier.proofs.Changing.{since_more}
 use Rattle.type_verifier.specs.Walk.{fault_at}
 use Rattle.type_verifier.specs.bodies.Walked.{ended, walked}
 use Rattle.type_verifier.proofs.Walking.{walk_ends, walk_fails, walk_more}
@@ -21,17 +23,22 @@ returns-in_err-flows c =
     (walk_fails (seen c.args.env.now) ins at i (flow c.loop-at.flows c.loop-at.frame) c.go_on.new.frame
     c.in_err-flows.field-0.0 (walked (seen c.args.env.now) 0 (Some c.args.frame.now) ins)
     (slice_get_within ins at i c.index.ensures) (sym (get_or_from_slice_get ins at i i c.index.ensures))
-    c.in_err-flows.ensures c.loop-at.invariant)
+    c.in_err-flows.ensures c.loop-at.invariant.0)
 
 pub loop-at-preserved : goal.loop-at-preserved
 loop-at-preserved c =
     let ins : List Ins = c.args.env.now.code.now.ins in
     let at = c.loop-at.at in
     let i : Ins = c.index.result.now in
-    walk_more (seen c.args.env.now) ins at i (flow c.loop-at.flows c.loop-at.frame)
-    (flow c.in_ok-flows.flows c.go_on.new.frame) (walked (seen c.args.env.now) 0 (Some c.args.frame.now) ins)
-    (slice_get_within ins at i c.index.ensures) (sym (get_or_from_slice_get ins at i i c.index.ensures))
-    c.in_ok-flows.ensures c.loop-at.invariant
+    let flows = c.in_ok-flows.flows in
+    let old = flow c.loop-at.flows c.loop-at.frame in (
+      walk_more (seen c.args.env.now) ins at i old (flow flows c.go_on.new.frame)
+          (walked (seen c.args.env.now) 0 (Some c.args.frame.now) ins)
+          (slice_get_within ins at i c.index.ensures) (sym (get_or_from_slice_get ins at i i c.index.ensures))
+          c.in_ok-flows.ensures c.loop-at.invariant.0,
+      subst (λ since. IsSince (seen c.args.env.now) (at + 1) since c.go_on.new.frame) (sym c.since_after-since.ensures)
+          (since_more (seen c.args.env.now) at i.op old flows c.go_on.new.frame c.in_ok-flows.ensures),
+    )
 
 pub returns-then-flows : goal.returns-then-flows
 returns-then-flows c =
@@ -41,7 +48,7 @@ returns-then-flows c =
     let le : length ins ≤ at = omega (arith, c.loop-at-test.false, c.in-Ok.ensures, c.len.ensures) in
     let last : at - 1 ≡ c.saturating_sub.result =
     omega (arith, c.loop-at-test.false, c.loop-at.auto.at-end, c.saturating_sub.ensures) in
-    walk_ends env ins at (flow c.loop-at.flows c.loop-at.frame) (walked env 0 (Some c.args.frame.now) ins) le c.loop-at.invariant
+    walk_ends env ins at (flow c.loop-at.flows c.loop-at.frame) (walked env 0 (Some c.args.frame.now) ins) le c.loop-at.invariant.0
     ∙ ap (λ (b : Bool). ended env at (flow b c.loop-at.frame)) c.if-flows.true
     ∙ ap (λ (n : ℕ). let R : Result (Unit {0}) TypeFault = Err (fault_at env n FallsOff) in R) last
     ∙ ap (λ (f : TypeFault). let R : Result (Unit {0}) TypeFault = Err f in R) (sym c.fault.ensures)
@@ -52,5 +59,5 @@ returns c =
     let ins : List Ins = c.args.env.now.code.now.ins in
     let at = c.loop-at.at in
     let le : length ins ≤ at = omega (arith, c.loop-at-test.false, c.in-Ok.ensures, c.len.ensures) in
-    walk_ends env ins at (flow c.loop-at.flows c.loop-at.frame) (walked env 0 (Some c.args.frame.now) ins) le c.loop-at.invariant
+    walk_ends env ins at (flow c.loop-at.flows c.loop-at.frame) (walked env 0 (Some c.args.frame.now) ins) le c.loop-at.invariant.0
     ∙ ap (λ (b : Bool). ended env at (flow b c.loop-at.frame)) c.if-flows.false

@@ -3,7 +3,7 @@ use Rattle.std.specs.Prelude.{not, ◌||◌}
 use Rattle.std.specs.List.{list_all}
 use Rattle.type_verifier.specs.bodies.Seen.{seen}
 use Rattle.type_verifier.specs.Walk.{covers, satisfies}
-use Rattle.type_verifier.proofs.walk.satisfies_handlers.Given as goal
+use Rattle.type_verifier.proofs.handlers.satisfies_all.Given as goal
 
 abbrev pub invariant-loop-handler : goal.invariant-loop-handler
 invariant-loop-handler l =

@@ -1,0 +1,213 @@
+// Whether frames fit where handlers begin (JVMS 4.10.1.6).
+//
+// Handlers look at the locals and the flag alone. So where these are the same as at the previous instruction, which
+// satisfied its handlers, only handlers that didn't cover that one are looked at; and behind a store the others are
+// looked at in the words that it may have changed.
+ghost use Rattle.std.specs.Prelude.{◌≡◌, ◌<◌, ◌∷◌, ◌⊎◌, [], false, length, IfOk, Some};
+ghost use Rattle.std.specs.Cmp.Lexicographic.{pointwise};
+ghost use Rattle.type_verifier.specs.Assignable.{is_assignable, is_frame_assignable};
+ghost use Rattle.type_verifier.specs.Effects.{with_stack};
+ghost use Rattle.type_verifier.specs.Walk.{caught_type, covers, fits_at, satisfies, satisfies_handlers};
+ghost use Rattle.type_verifier.specs.bodies.Places.{ArePlaces};
+ghost use Rattle.type_verifier.specs.bodies.Seen.{seen};
+ghost use Rattle.type_verifier.specs.bodies.Since.{AreElse, IsKnown, IsSince};
+
+use crate::assignability::{are_assignable, assignable, is_stack_assignable};
+use crate::changed::Changed;
+use crate::declared::look_up;
+use crate::environment::Env;
+use crate::frame::TypeFrame;
+use crate::places::Places;
+use crate::stack::Stack;
+use crate::types::class_type;
+use class_model::{Handler, VType};
+use class_pool::ClassSet;
+use jv_base::M;
+use std::alloc::Global;
+
+/// Whether the frame before an instruction satisfies each handler that covers it, by what changed since the previous one.
+pub(crate) fn satisfies_handlers(
+    alloc: Global,
+    env: &Env,
+    places: &Places,
+    frame: &TypeFrame,
+    since: Option<Changed>,
+    at: u32,
+) -> M<bool>
+    requires places { ArePlaces env.now.code.now places.now }
+    requires instruction { at < length env.now.code.now.ins }
+    requires since { IsSince (seen env.now) at since frame.now }
+    ensures { IfOk result (λ ok. ok ≡ satisfies_handlers (seen env.now) at frame.now) }
+{
+    let Some(changed) = since else {
+        return satisfies_all(alloc, env, places, frame, at);
+    };
+    if changed.is_nothing() && !places.is_first_covered(at as usize) {
+        return Ok(true);
+    }
+    satisfies_since(alloc, env, places, frame, changed, at)
+}
+
+fn satisfies_all(alloc: Global, env: &Env, places: &Places, frame: &TypeFrame, at: u32) -> M<bool>
+    requires places { ArePlaces env.now.code.now places.now }
+    ensures { IfOk result (λ ok. ok ≡ satisfies_handlers (seen env.now) at frame.now) }
+{
+    for handler in env.code.handlers.as_slice() {
+        if covers(at, handler) && !satisfies(alloc, env, places, frame, handler)? {
+            return Ok(false);
+        }
+    }
+    Ok(true)
+}
+
+fn covers(at: u32, handler: &Handler) -> bool
+    ensures { result ≡ covers at handler.now }
+{
+    handler.from <= at && at < handler.to
+}
+
+/// Whether what is caught is thrown, and fits with the locals where the handler begins.
+fn satisfies(
+    alloc: Global,
+    env: &Env,
+    places: &Places,
+    frame: &TypeFrame,
+    handler: &Handler,
+) -> M<bool>
+    requires places { ArePlaces env.now.code.now places.now }
+    ensures { IfOk result (λ ok. ok ≡ satisfies (seen env.now) frame.now handler.now) }
+{
+    let caught = caught_type(env, handler)?;
+    if frame.marked || !assignable(env.set, &caught, env.known.throwable()) {
+        return Ok(false);
+    }
+    fits_handler(alloc, env, places, frame, caught, handler.entry)
+}
+
+fn caught_type(env: &Env, handler: &Handler) -> M<VType>
+    ensures { IfOk result (λ ty. ty ≡ caught_type handler.now) }
+{
+    match &handler.caught {
+        Some(name) => Ok(VType::Object(class_type(name)?)),
+        None => Ok(env.known.throwable().clone()?),
+    }
+}
+
+/// Whether the locals of an unmarked frame, and what is caught alone on the stack, fit where a handler begins.
+fn fits_handler(
+    alloc: Global,
+    env: &Env,
+    places: &Places,
+    frame: &TypeFrame,
+    caught: VType,
+    entry: u32,
+) -> M<bool>
+    requires places { ArePlaces env.now.code.now places.now }
+    requires marked { frame.now.marked ≡ false }
+    ensures { IfOk result (λ fits. fits ≡ fits_at (seen env.now) (with_stack frame.now (caught ∷ [])) entry) }
+{
+    let entry = entry as usize;
+    if env.code.ins.len() <= entry {
+        return Ok(false);
+    }
+    match look_up(alloc, env, places, entry)? {
+        Some(declared) => {
+            let mut stack = Stack::new(alloc);
+            stack.push(caught)?;
+            Ok(is_handler_frame(env.set, frame, &stack, declared.frame()))
+        }
+        None => Ok(true),
+    }
+}
+
+/// Whether the locals of an unmarked frame and another stack fit a frame.
+fn is_handler_frame(set: &ClassSet, from: &TypeFrame, stack: &Stack, to: &TypeFrame) -> bool
+    requires { from.now.marked ≡ false }
+    ensures { result ≡ is_frame_assignable set.now (with_stack from.now stack.now) to.now }
+{
+    are_assignable(set, from.locals.as_slice(), to.locals.as_slice())
+        && is_stack_assignable(set, stack, &to.stack)
+}
+
+// ---- by what changed
+
+fn satisfies_since(
+    alloc: Global,
+    env: &Env,
+    places: &Places,
+    frame: &TypeFrame,
+    changed: Changed,
+    at: u32,
+) -> M<bool>
+    requires places { ArePlaces env.now.code.now places.now }
+    requires since { IsSince (seen env.now) at (Some changed) frame.now }
+    ensures { IfOk result (λ ok. ok ≡ satisfies_handlers (seen env.now) at frame.now) }
+{
+    for handler in env.code.handlers.as_slice() {
+        if covers(at, handler) && !satisfies_one(alloc, env, places, frame, changed, at, handler)? {
+            return Ok(false);
+        }
+    }
+    Ok(true)
+}
+
+/// The same of a handler that covers the instruction. Where it didn't cover the previous one, nothing is known.
+fn satisfies_one(
+    alloc: Global,
+    env: &Env,
+    places: &Places,
+    frame: &TypeFrame,
+    changed: Changed,
+    at: u32,
+    handler: &Handler,
+) -> M<bool>
+    requires places { ArePlaces env.now.code.now places.now }
+    requires known { handler.now.from ≡ at ⊎ IsKnown (seen env.now) handler.now changed frame.now }
+    ensures { IfOk result (λ ok. ok ≡ satisfies (seen env.now) frame.now handler.now) }
+{
+    if handler.from == at {
+        satisfies(alloc, env, places, frame, handler)
+    } else {
+        fits_changed(alloc, env, places, frame, changed, handler)
+    }
+}
+
+/// The same of a handler that the frame satisfied before some words changed.
+fn fits_changed(
+    alloc: Global,
+    env: &Env,
+    places: &Places,
+    frame: &TypeFrame,
+    changed: Changed,
+    handler: &Handler,
+) -> M<bool>
+    requires places { ArePlaces env.now.code.now places.now }
+    requires known { IsKnown (seen env.now) handler.now changed frame.now }
+    ensures { IfOk result (λ ok. ok ≡ satisfies (seen env.now) frame.now handler.now) }
+{
+    let entry = handler.entry as usize;
+    if env.code.ins.len() <= entry {
+        return Ok(false);
+    }
+    match look_up(alloc, env, places, entry)? {
+        Some(declared) => {
+            let locals = declared.frame().locals.as_slice();
+            Ok(are_assignable_in(env.set, changed, frame.locals.as_slice(), locals))
+        }
+        None => Ok(true),
+    }
+}
+
+/// Whether locals fit others, where all but those that may have changed do.
+fn are_assignable_in(set: &ClassSet, changed: Changed, from: &[VType], to: &[VType]) -> bool
+    requires known { AreElse (is_assignable set.now) changed from.now to.now }
+    ensures { result ≡ pointwise (is_assignable set.now) from.now to.now }
+{
+    let end = changed.to.min(from.len());
+    for index in changed.from..end {
+        if !assignable(set, &from[index], &to[index]) {
+            return false;
+        }
+    }
+    true
+}
