@@ -1,8 +1,7 @@
 -- What instructions leave of the locals and of the flag.
-use Rattle.std.proofs.Common.{◌≡◌, ◌≤◌, ◌<◌, ℕ, zero, suc, ◌+◌, ◌-◌, ◌==◌, Bool, true, false, cond, not, ◌&&◌, nat_le, IsTrue, List, [], ◌∷◌, length, take, drop}
-use Rattle.std.proofs.Common.{Option, Some, None, Result, Ok, Err, refl, sym, ap, subst, ◌∙◌, arith, set, slice_get}
+use Rattle.std.proofs.Common.{◌≡◌, ℕ, ◌+◌, ◌-◌, ◌==◌, Bool, true, false, cond, not, ◌&&◌, nat_le, IsTrue, List, [], ◌∷◌, length, take, drop}
+use Rattle.std.proofs.Common.{Option, Some, None, Ok, Err, refl, sym, ap, subst, ◌∙◌, arith, set, slice_get}
 use Rattle.std.specs.Option.{option_map, option_map_or}
-use Rattle.std.proofs.lemmas.Bool.{leb-true}
 use Rattle.std.proofs.lemmas.List.{drop-set-lt, length-set, take-set-le}
 use Rattle.jv_base.specs.Outcome.{◌>>=◌}
 use Rattle.jv_base.specs.declared.types.FieldType.{FieldType}
@@ -21,9 +20,9 @@ use Rattle.type_verifier.specs.declared.changed.Changed.{Changed}
 use Rattle.type_verifier.specs.declared.fault.TypeKind.{TypeKind}
 use Rattle.type_verifier.specs.declared.fault.TypeKind.TheVariants.{Local, Operand, Uninit}
 use Rattle.type_verifier.specs.declared.frame.TypeFrame.{TypeFrame}
-use Rattle.type_verifier.specs.Effects.{Checked, acted, all_popped, counted_from, cut_before, doubled, dropped, element, gives, has_room, if_ruled, left}
-use Rattle.type_verifier.specs.Effects.{given_words, guarded_use, is_returned_by, loaded_from, object_initialised, or_operand, popped}
-use Rattle.type_verifier.specs.Effects.{popped_from, put_local, pushed, read_from, result_taken, ruled, stepped, stored_from, swapped}
+use Rattle.type_verifier.specs.Effects.{Checked, acted, all_popped, counted_from, cut_before, doubled, dropped, element, gives, has_room, if_ruled, constructor_returned}
+use Rattle.type_verifier.specs.Effects.{given_words, guarded_use, is_returned_by, loaded_from, or_operand, popped}
+use Rattle.type_verifier.specs.Effects.{popped_from, put_local, pushed, read_from, result_taken, stepped, stored_from, swapped}
 use Rattle.type_verifier.specs.Effects.{taken_words, top_behind, used_from, with_stack, words_of_kind}
 use Rattle.type_verifier.specs.Environment.{Environment, goes_elsewhere, in_constructor}
 use Rattle.type_verifier.specs.Rules.{Rule, Takes, Loads, Stores, Counts, Drops, Doubles, Swaps, ReadsReference, Makes, Returns, Uses}
@@ -32,7 +31,7 @@ use Rattle.type_verifier.specs.Rules.{field_read, field_write, object_call, rule
 use Rattle.type_verifier.specs.Walk.{at_instruction, flow_after, satisfies_handlers}
 use Rattle.type_verifier.specs.bodies.Changes.{flow}
 use Rattle.type_verifier.specs.bodies.Since.{Agrees, AgreesBy, IsSame, IsSince, around, changed_by, nothing, since_after, since_there}
-use Rattle.type_verifier.proofs.TypedLaw.{Passed, bound, was_passed}
+use Rattle.type_verifier.proofs.TypedLaw.{bound, was_passed}
 
 -- ---- frames with the same locals and flag
 
@@ -143,7 +142,7 @@ module _ (env : Environment) where
       (read_same env.classes b.0 b.0.stack g b.2)
   acts_same at Makes f g p h = absurd p
   acts_same at (Returns k) f g p h =
-      let b = bound (result_taken env k env.method.ty.ret f) (left env) g h in
+      let b = bound (result_taken env k env.method.ty.ret f) (constructor_returned env) g h in
       then_same f b.0 g (result_same k env.method.ty.ret f b.0 b.1)
       (told_unless (in_constructor env && b.0.marked) Uninit b.0 b.0 g (is_same b.0) b.2)
   acts_same at (Uses wanted receiver guarded given) f g p h =

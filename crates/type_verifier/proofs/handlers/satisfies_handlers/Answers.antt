@@ -1,4 +1,4 @@
-use Rattle.std.proofs.Common.{Some, sym, ap, subst, ◌∙◌, ◌==◌, true}
+use Rattle.std.proofs.Common.{sym, subst, ◌∙◌}
 use Rattle.std.proofs.lemmas.Bool.{eqb-true}
 use Rattle.type_verifier.specs.bodies.Seen.{seen}
 use Rattle.type_verifier.specs.bodies.Since.{IsSince}
