@@ -1,6 +1,17 @@
 // Texts in a line: a byte from 21 to 7E other than `\` stands for itself, and a backslash begins an escape.
-use jv_base::M;
+use jv_base::{M, Text};
 use std::alloc::{AllocError, Global};
+
+/// The text that a text of a line stands for, where it is well formed and in UTF-8.
+pub fn unescaped_text(alloc: Global, text: &[u8]) -> M<Option<Text>> {
+    let Some(bytes) = unescaped(alloc, text)? else {
+        return Ok(None);
+    };
+    match std::str::from_utf8(bytes.as_slice()) {
+        Ok(text) => Ok(Some(Text::from_str(alloc, text)?)),
+        Err(_) => Ok(None),
+    }
+}
 
 /// The bytes that a text of a line stands for, where it is well formed.
 pub fn unescaped(alloc: Global, text: &[u8]) -> M<Option<Vec<u8>>> {
@@ -50,13 +61,31 @@ fn hex_byte(high: u8, low: u8) -> Option<u8> {
 
 const DIGITS: &[u8; 16] = b"0123456789abcdef";
 
-/// Appends a text as a line has it, each comma as an escape too.
+/// Appends a text as a line has it.
 pub fn push_escaped(line: &mut String, text: &str) -> Result<(), AllocError> {
-    if text.is_empty() || text.as_bytes().first() == Some(&b'#') {
-        line.push_str("\\e")?;
-    }
+    push_front(line, text)?;
     for byte in text.as_bytes() {
         push_byte(line, *byte)?;
+    }
+    Ok(())
+}
+
+/// Appends a text as a list in a line has it, each comma as an escape too.
+pub fn push_listed(line: &mut String, text: &str) -> Result<(), AllocError> {
+    push_front(line, text)?;
+    for byte in text.as_bytes() {
+        match byte {
+            b',' => push_number(line, *byte)?,
+            _ => push_byte(line, *byte)?,
+        }
+    }
+    Ok(())
+}
+
+// A text that is empty, or begins as a title does, can be told by what stands before it.
+fn push_front(line: &mut String, text: &str) -> Result<(), AllocError> {
+    if text.is_empty() || text.as_bytes().first() == Some(&b'#') {
+        line.push_str("\\e")?;
     }
     Ok(())
 }
@@ -69,11 +98,13 @@ fn push_byte(line: &mut String, byte: u8) -> Result<(), AllocError> {
         12 => line.push_str("\\f"),
         b' ' => line.push_str("\\s"),
         b'\\' => line.push_str("\\\\"),
-        0x21..=0x7E if byte != b',' => line.push(byte as char),
-        _ => {
-            line.push_str("\\x")?;
-            line.push(DIGITS[(byte / 16) as usize] as char)?;
-            line.push(DIGITS[(byte % 16) as usize] as char)
-        }
+        0x21..=0x7E => line.push(byte as char),
+        _ => push_number(line, byte),
     }
+}
+
+fn push_number(line: &mut String, byte: u8) -> Result<(), AllocError> {
+    line.push_str("\\x")?;
+    line.push(DIGITS[(byte / 16) as usize] as char)?;
+    line.push(DIGITS[(byte % 16) as usize] as char)
 }

@@ -1,11 +1,14 @@
-//! Questions about configs, one on each line of standard input: says what the rules of a config are.
+//! Questions about configs, one on each line of standard input: says what the rules of a config are, and what patterns,
+//! specifications and rules match.
 //!
-//! A line is `config TEXT`, with a config whose witness goes to `wit.txt`; the README tells how a text is written. The
-//! answer is `ok` and the rules, or `rules LINE KIND`. The status is that of `line_answers`.
+//! A line is `config TEXT`, `wild PATTERN TEXT`, `class SPECIFICATION FILES`, `member SPECIFICATION FILES` or `seeds RULES
+//! FILES`; the README tells what each asks, and how texts and files are written. The status is that of `line_answers`.
 #![tactic(auto)]
 
 mod config;
 mod escapes;
+mod items;
+mod matching;
 mod printing;
 
 use jv_base::{M, Text};
@@ -18,9 +21,14 @@ struct Rows;
 
 impl Answers for Rows {
     fn answer(&self, alloc: Global, line: &[u8]) -> M<Option<Text>> {
-        match line.strip_prefix(b"config ") {
-            Some(text) => config::answer(alloc, text),
-            None => Ok(None),
+        let (question, words) = matching::first_word(line);
+        match question {
+            b"config" => config::answer(alloc, words),
+            b"wild" => matching::wild_answer(alloc, words),
+            b"class" => matching::class_answer(alloc, words),
+            b"member" => matching::member_answer(alloc, words),
+            b"seeds" => matching::seeds_answer(alloc, words),
+            _ => Ok(None),
         }
     }
 }
