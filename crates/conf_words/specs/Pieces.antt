@@ -1,6 +1,6 @@
 -- What a config's text is made of: blanks, comments and words (ProGuard manual, "Usage": blanks separate words, `#`
--- begins a comment, and a text in quotes is a word; that a line feed alone ends a line, a comment and a quote's line, and
--- that a quote or a `#` ends the word before it, is the project's own).
+-- begins a comment, and a text in quotes is a word; that a line feed alone ends a line, a comment and a quote's line,
+-- and that a quote or a `#` ends the word before it, is the project's own).
 use Rattle.std.specs.Prelude.{◌≡◌, ℕ, ◌+◌, Bool, true, false, not, ◌||◌, ◌==◌, if◌then◌else◌, List, [], ◌∷◌, ◌++◌, Option}
 use Rattle.std.specs.Prelude.{Some, None, IsTrue}
 use Rattle.std.specs.List.{list_all, flat_map}
@@ -8,8 +8,8 @@ use Rattle.conf_words.specs.declared.splitting.Word.{Word}
 use Rattle.conf_words.specs.declared.kinds.Kind.{Kind}
 use Rattle.conf_words.specs.declared.kinds.Kind.TheVariants.{LineEnd, Blank, Hash, Mark, Quote, Plain}
 
--- what a byte is: a line feed; a space, tab, carriage return or form feed; `#`; one of `( ) , ; { }`; `"` or `'`; or one
--- of a word. In UTF-8 a character from U+0080 on has no byte below 128, so it is of a word.
+-- what a byte is: a line feed; a space, tab, carriage return or form feed; `#`; one of `( ) , ; { }`; `"` or `'`; or
+-- one of a word. In UTF-8 a character from U+0080 on has no byte below 128, so it is of a word.
 unfoldable pub kind_of : ℕ → Kind
 kind_of b =
     if b == 10 then LineEnd

@@ -18,8 +18,8 @@ quoted_in quote text =
     let inside = before_first (ends_quote quote) text in
     if get_or (drop (length inside) text) 0 10 == quote then Some (quoted quote inside) else None
 
--- the piece with which a text begins, told by the kind of its first byte, that byte and what stands behind it; there is none
--- where a quote stays open
+-- the piece with which a text begins, told by the kind of its first byte, that byte and what stands behind it; there is
+-- none where a quote stays open
 abbrev pub piece_by : Kind → ℕ → List ℕ → Option Piece
 piece_by LineEnd b text = Some line_end
 piece_by Blank b text = Some (blank b)

@@ -28,9 +28,9 @@ pub enum WordFault {
 
 /// The words of a config's bytes, or the first fault (ProGuard manual, "Usage").
 ///
-/// Space, tab, carriage return, line feed and form feed separate words. A `#` begins a comment, which goes to the end of
-/// the line. Each of `( ) , ; { }` is a word, and so is a text in `'` or `"`, which has to be closed on its line.
-/// A line ends with a line feed.
+/// Space, tab, carriage return, line feed and form feed separate words. A `#` begins a comment, which goes to the end
+/// of the line. Each of `( ) , ; { }` is a word, and so is a text in `'` or `"`, which has to be closed on its line. A
+/// line ends with a line feed.
 pub fn words(alloc: Global, bytes: &[u8]) -> Result<Items<Word>, Or<WordFault>>
     requires { length bytes.now < 4294967295 }
     ensures { IsDue result (words_of_bytes bytes.now) }

@@ -36,8 +36,8 @@ pub(crate) fn accepts_class(filters: &[Filter], name: &str) -> bool
     accepted
 }
 
-/// Whether a pattern matches the name of a class in internal form, `*` alone each name. It is read with dots in place of
-/// slashes.
+/// Whether a pattern matches the name of a class in internal form, `*` alone each name. It is read with dots in place
+/// of slashes.
 pub(crate) fn matches_class_name(pattern: &Text, name: &str) -> bool
     ensures { result ≡ matches_class_name pattern.now name.now }
 {

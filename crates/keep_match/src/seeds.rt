@@ -24,8 +24,8 @@ use std::alloc::Global;
 use std::mem::replace;
 
 /// The items that rules keep, ascending and each once: each class in the order of the set is an item, then its fields,
-/// then its methods. A rule with allowshrinking keeps nothing, nor does one on members alone; `-dontshrink` isn't looked
-/// at.
+/// then its methods. A rule with allowshrinking keeps nothing, nor does one on members alone; `-dontshrink` isn't
+/// looked at.
 ///
 /// A rule whose class names have no wildcards looks its classes up; another one goes over all classes.
 pub fn seeds_of(alloc: Global, rules: &Rules, set: &ClassSet) -> M<Items<u32>>

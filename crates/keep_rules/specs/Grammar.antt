@@ -1,5 +1,5 @@
--- Which words say what: the options of a config, class specifications and member specifications (ProGuard manual, "Usage",
--- "Filters", "Class Specifications", "Keep Options", "Keep Option Modifiers").
+-- Which words say what: the options of a config, class specifications and member specifications (ProGuard manual,
+-- "Usage", "Filters", "Class Specifications", "Keep Options", "Keep Option Modifiers").
 use Rattle.std.specs.Prelude.{◌≡◌, ◌⊎◌, ℕ, ◌<◌, Bool, true, false, not, List, [], ◌∷◌, ◌++◌, length, map, codes, IsTrue}
 use Rattle.std.specs.Prelude.{Option, Some, None, option_to_list}
 use Rattle.std.specs.List.{list_all, list_any, flat_map, filter_map, AllZip}

@@ -1,5 +1,5 @@
--- Reading the words of an option from left to right, with the first fault that is met (the project's own: ProGuard's manual
--- has no order of faults).
+-- Reading the words of an option from left to right, with the first fault that is met (the project's own: ProGuard's
+-- manual has no order of faults).
 use Rattle.std.specs.Prelude.{◌≡◌, ℕ, Bool, true, false, List, [], ◌∷◌, ◌++◌, Option, Some, None, Result, Ok, Err, if◌then◌else◌}
 use Rattle.std.specs.Borrow.{Bor}
 use Rattle.jv_base.specs.declared.outcome.Or.{Or}

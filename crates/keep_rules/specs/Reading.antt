@@ -194,8 +194,8 @@ dirs_meet rules = is_text rules.in_dir rules.out_dir || is_below rules.in_dir ru
 abbrev pub is_inside : Rules → List ℕ → Bool
 is_inside rules file = is_below file rules.in_dir || is_below file rules.out_dir
 
--- two files are one, or a file or a directory lies below a directory, or the directories are one (the project's own: what
--- is written may not be read again)
+-- two files are one, or a file or a directory lies below a directory, or the directories are one (the project's own:
+-- what is written may not be read again)
 unfoldable pub paths_meet : Rules → List ℕ → Bool
 paths_meet rules witness = has_twice (files_of rules witness)
     || list_any (is_inside rules) (files_of rules witness) || dirs_meet rules

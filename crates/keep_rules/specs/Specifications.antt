@@ -97,7 +97,8 @@ members names p = members_in (length p.words) names p
 abbrev pub without_parameters : MemberSpec
 without_parameters = record { flags = []; ty = None; name = codes "<init>"; args = Some [] }
 
--- the members of a specification; where none is written, there is the constructor without parameters (the project's own)
+-- the members of a specification; where none is written, there is the constructor without parameters (the project's
+-- own)
 abbrev pub or_constructor : List MemberSpec → List MemberSpec
 or_constructor [] = without_parameters ∷ []
 or_constructor (m ∷ members) = m ∷ members
@@ -139,8 +140,8 @@ class_spec = do
 abbrev pub unmodified : Bool → Modifiers
 unmodified shrinking = record { descriptor_classes = false; allow_shrinking = shrinking; allow_obfuscation = false }
 
--- what a modifier adds (ProGuard manual, "Keep Option Modifiers"; allowoptimization changes nothing, since the passes change
--- code alone)
+-- what a modifier adds (ProGuard manual, "Keep Option Modifiers"; allowoptimization changes nothing, since the passes
+-- change code alone)
 unfoldable pub with_modifier : Modifiers → List ℕ → Option Modifiers
 with_modifier m word =
     if is_text word (codes "includedescriptorclasses") then Some (record m { descriptor_classes = true })

@@ -29,7 +29,8 @@ abbrev pub is_mark : List ℕ → Bool
 is_mark word = is_text word (codes "(") || is_text word (codes ")") || is_text word (codes ",")
     || is_text word (codes ";") || is_text word (codes "{") || is_text word (codes "}")
 
--- any other word that isn't empty is a pattern (the project's own: a pattern that no name can match is none the less one)
+-- any other word that isn't empty is a pattern (the project's own: a pattern that no name can match is none the less
+-- one)
 abbrev pub is_pattern : List ℕ → Bool
 is_pattern word = not (length word == 0) && not (is_mark word)
 

@@ -17,11 +17,11 @@ use jv_base::{Items, M, Or, Text};
 use path_text::is_below;
 use std::alloc::Global;
 
-/// The rules that the words of a config stand for, where the witness goes to this file, or the first fault (ProGuard manual,
-/// "Usage").
+/// The rules that the words of a config stand for, where the witness goes to this file, or the first fault (ProGuard
+/// manual, "Usage").
 ///
-/// Words are read in their order, and the fault of the first word at fault is told; then an option that is missing, and then
-/// paths that meet. An option ends at the next word that begins with `-`.
+/// Words are read in their order, and the fault of the first word at fault is told; then an option that is missing, and
+/// then paths that meet. An option ends at the next word that begins with `-`.
 #[tactic(auto, using(crate::proofs::OptionSteps::begins_here))]
 pub fn read_rules(
     alloc: Global,

@@ -1,5 +1,5 @@
--- Classes and members as lists of items have them (ProGuard manual, "-printseeds", "-printusage"). Items are the classes
--- of a set in their order, each followed by its fields and then its methods.
+-- Classes and members as lists of items have them (ProGuard manual, "-printseeds", "-printusage"). Items are the
+-- classes of a set in their order, each followed by its fields and then its methods.
 use Rattle.std.specs.Prelude.{ℕ, ◌+◌, ◌==◌, Bool, List, [], ◌∷◌, ◌++◌, map, codes, if◌then◌else◌}
 use Rattle.std.specs.List.{enumerate_from, flat_map, list_any}
 use Rattle.mark_core.specs.Marks.{set_of}

@@ -13,8 +13,8 @@ use report_text::{class_text, member_text};
 use std::alloc::Global;
 
 /// An item as a list of seeds has it: the name of a class, or behind it `: ` and a member (ProGuard manual,
-/// "-printseeds"). Items are numbered from 0: each class of the set in its order, then its fields, then its methods. The
-/// classes before it are gone over.
+/// "-printseeds"). Items are numbered from 0: each class of the set in its order, then its fields, then its methods.
+/// The classes before it are gone over.
 pub fn item_text(alloc: Global, set: &ClassSet, item: u32) -> M<Text>
     requires { item < item_count set.now }
     ensures { IfOk result (λ text. slice_get (item_texts set.now) item ≡ Some text) }

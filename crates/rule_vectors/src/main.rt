@@ -1,8 +1,9 @@
 //! Questions about configs, one on each line of standard input: says what the rules of a config are, and what patterns,
 //! specifications and rules match.
 //!
-//! A line is `config TEXT`, `wild PATTERN TEXT`, `class SPECIFICATION FILES`, `member SPECIFICATION FILES` or `seeds RULES
-//! FILES`; the README tells what each asks, and how texts and files are written. The status is that of `line_answers`.
+//! A line is `config TEXT`, `wild PATTERN TEXT`, `class SPECIFICATION FILES`, `member SPECIFICATION FILES` or `seeds
+//! RULES FILES`; the README tells what each asks, and how texts and files are written. The status is that of
+//! `line_answers`.
 #![tactic(auto)]
 
 mod config;

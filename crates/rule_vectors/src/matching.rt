@@ -71,8 +71,8 @@ pub fn seeds_answer(alloc: Global, words: &[u8]) -> M<Option<Text>> {
     items_text(alloc, &set, &Question::Seeds(seeds.as_slice()))
 }
 
-// The rules that the first word is the end of, behind `before`, and the set of the files behind it; none where one of them
-// isn't well formed.
+// The rules that the first word is the end of, behind `before`, and the set of the files behind it; none where one of
+// them isn't well formed.
 fn asked(alloc: Global, before: &[u8], words: &[u8]) -> M<Option<(Rules, ClassSet)>> {
     let (text, files) = first_word(words);
     let Some(rules) = rules_behind(alloc, before, text)? else {

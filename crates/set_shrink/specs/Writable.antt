@@ -13,8 +13,8 @@ abbrev pub ShrunkAreWritable : Type 0
 ShrunkAreWritable = (classes : List Class) (marks : List Bool) → AllByRecursion IsWritable classes
     → AllByRecursion IsWritable (shrunk classes marks)
 
--- a class that can be written can be written with those optional attributes alone that are kept, where the name that its
--- source file gets is in UTF-8, as each text of the code is
+-- a class that can be written can be written with those optional attributes alone that are kept, where the name that
+-- its source file gets is in UTF-8, as each text of the code is
 abbrev pub FilteredIsWritable : Type 0
 FilteredIsWritable = (filter : AttributeFilter) (c : Class) → IfSome filter.source_name IsUtf8 → IsWritable c
     → IsWritable (filtered filter c)

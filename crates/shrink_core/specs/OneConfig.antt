@@ -1,5 +1,5 @@
--- What is read of a config is what its text stands for, and a text is one config at most (the project's own: laws of the
--- definitions).
+-- What is read of a config is what its text stands for, and a text is one config at most (the project's own: laws of
+-- the definitions).
 use Rattle.std.specs.Prelude.{◌≡◌, ◌↔◌, ℕ, List, Ok}
 use Rattle.keep_rules.specs.declared.rules.Rules.{Rules}
 use Rattle.shrink_core.specs.Config.{IsConfig, config_read}

@@ -111,9 +111,9 @@ fn run_on<T: Tree, S: Sink>(alloc: Global, named: &CommandFiles, tree: &mut T, o
 /// and then segments joined by `/`, none of them empty, `.` or `..`. Nothing is written to OUTWIT yet.
 ///
 /// A config has options as ProGuard has them (`read_rules` of `keep_rules`): `-injars IN`, `-outjars OUT` and
-/// `-printmapping MAP`, which have to be there, and others. IN, OUT and MAP are paths; one `/` at the end of a directory
-/// is dropped. Nothing is written to MAP yet, nor to the files of `-printseeds` and `-printusage`, and nothing is
-/// optimised or renamed.
+/// `-printmapping MAP`, which have to be there, and others. IN, OUT and MAP are paths; one `/` at the end of a
+/// directory is dropped. Nothing is written to MAP yet, nor to the files of `-printseeds` and `-printusage`, and
+/// nothing is optimised or renamed.
 ///
 /// All classes and fields are kept, and all methods but static ones; of these class initialisation methods, the methods
 /// that a keep rule keeps, and all that kept methods call; under `-dontshrink` all. Each class is written in its
@@ -136,12 +136,11 @@ fn run_on<T: Tree, S: Sink>(alloc: Global, named: &CommandFiles, tree: &mut T, o
 ///
 /// The config is looked at first, then OUT, then IN: the number of its files, of its class files, and of their bytes;
 /// then each class file by itself, in the order of their paths, and then all as a set; then whether anything is kept;
-/// last what is to be written. LINE counts from 1, and is 0 where the config as a whole is at fault; KIND has its option
-/// behind it.
-/// CLASS is a name with dots, MEMBER as `int x` or `int f(int)`, and `-` where the class itself is at fault; of a code that
-/// isn't typed KIND is two words, as `Type Local`. Limits:
-/// `config` and `input` (the class files together) 67,108,864 bytes, `files` 65,536 and `classes` 20,000 below IN, and
-/// what a class file has room for (`pool`, `utf8`, `code`, `table`, `branch`, `attribute`).
+/// last what is to be written. LINE counts from 1, and is 0 where the config as a whole is at fault; KIND has its
+/// option behind it. CLASS is a name with dots, MEMBER as `int x` or `int f(int)`, and `-` where the class itself is at
+/// fault; of a code that isn't typed KIND is two words, as `Type Local`. Limits: `config` and `input` (the class files
+/// together) 67,108,864 bytes, `files` 65,536 and `classes` 20,000 below IN, and what a class file has room for
+/// (`pool`, `utf8`, `code`, `table`, `branch`, `attribute`).
 ///
 /// After 1 to 6 and 8 no file has changed. After 7 and 10 the first of the files to be written may stand, in the order
 /// of their paths; after 7 the next path may hold any bytes.

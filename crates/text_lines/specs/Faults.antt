@@ -15,8 +15,8 @@ pub record IsFirstAtFault {V : Type 0} (stand : List (List ℕ) → V → Type 0
   pub begins : CanBegin stand before
   pub stops : CanBegin stand (before ++ line ∷ []) → ⊥
 
--- the text ends too soon: a text can begin with all of its lines, and by themselves they stand for nothing; the number is that of the
--- line behind the last
+-- the text ends too soon: a text can begin with all of its lines, and by themselves they stand for nothing; the number
+-- is that of the line behind the last
 pub record EndsTooSoon {V : Type 0} (stand : List (List ℕ) → V → Type 0) (ls : List (List ℕ)) (number : ℕ) : Type 0 where
   pub numbered : number ≡ length ls + 1
   pub begins : CanBegin stand ls

@@ -1,5 +1,5 @@
--- Types and members in lines, spelled as a mapping file has them (ProGuard manual, "ReTrace", the mapping file: original
--- types as in Java source, JLS 4.2, 4.3, 8.4, 10.1, with classes by their binary names, JLS 13.1).
+-- Types and members in lines, spelled as a mapping file has them (ProGuard manual, "ReTrace", the mapping file:
+-- original types as in Java source, JLS 4.2, 4.3, 8.4, 10.1, with classes by their binary names, JLS 13.1).
 use Rattle.std.specs.Prelude.{◌≡◌, ℕ, nat_le, ◌==◌, List, [], ◌∷◌, ◌++◌, length, Option, Some, None, IsTrue, codes}
 use Rattle.std.specs.Prelude.{if◌then◌else◌}
 use Rattle.std.specs.List.{join_by, slice_split}

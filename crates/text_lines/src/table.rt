@@ -15,8 +15,9 @@ pub(crate) trait Told {
 /// Values by texts, behind their marks.
 type Tree<'a, V> = BTreeMap<(u64, &'a str), V>;
 
-/// A value for each of some texts. The mark of a text says in which of the trees it stands. There few texts are compared,
-/// since marks come first; where many texts have one mark, a look-up still takes the logarithm of how many there are.
+/// A value for each of some texts. The mark of a text says in which of the trees it stands. There few texts are
+/// compared, since marks come first; where many texts have one mark, a look-up still takes the logarithm of how many
+/// there are.
 pub(crate) type Trees<'a, V> = Vec<Tree<'a, V>>;
 
 /// No value yet, in so many trees.

@@ -1,8 +1,9 @@
-//! Mappings and witnesses, one on each line of standard input: says of each how it is written again, or its first fault.
+//! Mappings and witnesses, one on each line of standard input: says of each how it is written again, or its first
+//! fault.
 //!
 //! A line is `mapping` or `witness`, a space, and the text, in which `\n`, `\r`, `\t` and `\\` stand for LF, CR, a tab
-//! and a backslash, and `\xHH` for the byte of a number in two hexadecimal digits; each other byte stands for itself. An
-//! answer is `ok`, a space, and the text, spelled in the same way, or `LINE KIND`. The status is that of
+//! and a backslash, and `\xHH` for the byte of a number in two hexadecimal digits; each other byte stands for itself.
+//! An answer is `ok`, a space, and the text, spelled in the same way, or `LINE KIND`. The status is that of
 //! `line_answers`.
 #![tactic(auto)]
 

@@ -25,7 +25,8 @@ use class_pool::ClassSet;
 use jv_base::M;
 use std::alloc::Global;
 
-/// Whether the frame before an instruction satisfies each handler that covers it, by what changed since the previous one.
+/// Whether the frame before an instruction satisfies each handler that covers it, by what changed since the previous
+/// one.
 pub(crate) fn satisfies_handlers(
     alloc: Global,
     env: &Env,

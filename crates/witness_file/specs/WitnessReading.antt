@@ -1,4 +1,5 @@
--- The witness that a text stands for, read line by line, or the first line at fault (the project's own; docs/WITNESS.md).
+-- The witness that a text stands for, read line by line, or the first line at fault (the project's own;
+-- docs/WITNESS.md).
 use Rattle.std.specs.Prelude.{◌≡◌, ◌⊎◌, ℕ, ◌+◌, ◌-◌, Bool, true, false, not, ◌||◌, ◌==◌, nat_le, List, [], ◌++◌, ◌∷◌, length, map, take, drop}
 use Rattle.std.specs.Prelude.{slice_get, Option, Some, None, Result, Ok, Err, if◌then◌else◌}
 use Rattle.std.specs.Option.{option_map, option_to_list}

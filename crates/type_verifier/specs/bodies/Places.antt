@@ -1,4 +1,5 @@
--- The table of what is declared at instructions, and which are entered or begin to be covered (only the proof of the walk needs it).
+-- The table of what is declared at instructions, and which are entered or begin to be covered (only the proof of the
+-- walk needs it).
 use Rattle.std.specs.Prelude.{length}
 use Rattle.class_model.specs.declared.code.Code.{Code}
 use Rattle.type_verifier.specs.bodies.Marks.{AreFirstCovered, AreKept, AreNumbers, IsEntered}

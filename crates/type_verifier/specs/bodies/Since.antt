@@ -50,7 +50,8 @@ abbrev pub AgreesBy : Option Changed → TypeFrame → TypeFrame → Type 0
 AgreesBy None f g = Unit {0}
 AgreesBy (Some c) f g = Agrees c f g
 
--- a frame satisfies each handler that covers the instruction before this one, and this one differs from it by what is told
+-- a frame satisfies each handler that covers the instruction before this one, and this one differs from it by what is
+-- told
 abbrev pub IsSince : Environment → ℕ → Option Changed → TypeFrame → Type 0
 IsSince env at None f = Unit {0}
 IsSince env at (Some c) f =
