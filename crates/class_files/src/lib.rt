@@ -6,6 +6,3 @@ mod output;
 
 pub use input::{InputFault, read_files};
 pub use output::write_files;
-
-#[cfg(test)]
-mod tests;

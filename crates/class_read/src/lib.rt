@@ -26,8 +26,3 @@ mod signatures;
 
 pub use class::read_class;
 pub use laws::files_are_read_where_spelled;
-
-#[cfg(test)]
-mod code_tests;
-#[cfg(test)]
-mod tests;

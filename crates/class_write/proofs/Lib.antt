@@ -29,4 +29,3 @@ mod FileTexts
 mod FewFrames
 pub mod FormedFlags
 pub mod FormedFile
-mod Interface

@@ -1,4 +1,3 @@
 pub mod ClassValues
 pub mod SpellingLaws
 pub mod bodies
-pub mod rows

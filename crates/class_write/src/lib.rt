@@ -18,6 +18,3 @@ mod writing;
 
 pub use laws::{canonical_spells_the_class, spelled_classes_can_be_written};
 pub use writing::write_class;
-
-#[cfg(test)]
-mod tests;

@@ -20,6 +20,3 @@ pub use form::{FrameForm, frame_form};
 pub use starts::Starts;
 pub use table::{StackMapTable, frames_at, read_frames};
 pub use writing::{write_frames, write_frames_with};
-
-#[cfg(test)]
-mod tests;

@@ -27,6 +27,3 @@ pub use shared::Shared;
 pub use text::Text;
 pub use types::{Base, FieldType, MethodType, Name};
 pub use utf16::{text_of_units, units_of_text};
-
-#[cfg(test)]
-mod tests;

@@ -10,6 +10,3 @@ pub use class::{LibId, LibKind, lib_class, lib_interface, lib_kind, lib_name, li
 pub use member::{
     LibMember, Role, lib_is, lib_like, lib_member, lib_member_at, lib_method, lib_named, lib_same,
 };
-
-#[cfg(test)]
-mod tests;

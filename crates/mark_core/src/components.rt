@@ -120,6 +120,3 @@ fn come_to(search: &mut Search, item: usize) -> M<()> {
     }
     Ok(())
 }
-
-#[cfg(test)]
-mod tests;

@@ -12,6 +12,3 @@ pub use components::component_ranks;
 pub use plain::plain_marks;
 pub use ranks::{are_ranked, first_unranked, none_rises, ranks_of};
 pub use system::{Pair, System, valid};
-
-#[cfg(test)]
-mod tests;

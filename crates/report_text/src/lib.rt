@@ -7,6 +7,3 @@ mod spelled;
 
 pub use kinds::format_name;
 pub use spelled::{class_text, member_text, name_text};
-
-#[cfg(test)]
-mod tests;

@@ -9,6 +9,3 @@ mod texts;
 pub use fault::{RuleFault, RuleKind, SetFault};
 pub use laws::files_are_one_set;
 pub use reading::read_set;
-
-#[cfg(test)]
-mod tests;

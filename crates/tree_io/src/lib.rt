@@ -29,6 +29,3 @@ pub use memory_tree::MemoryTree;
 pub use sink::Sink;
 pub use stream_sink::StreamSink;
 pub use tree::Tree;
-
-#[cfg(test)]
-mod tests;

@@ -1,4 +1,8 @@
-use super::*;
+use jv_base::{
+    BadDescriptor, Base, FieldType, Items, MethodType, Or, Text, external, field_text,
+    is_class_name, is_member_name, is_method_name, method_text, mutf8_of_units, read_external,
+    read_field_type, read_method_type, text_of_units, units_of_mutf8, units_of_text,
+};
 use std::test::Fail;
 
 #[test]

@@ -1,4 +1,3 @@
-use super::*;
 use jv_base::{Items, Text};
 use std::alloc::{Allocator, Global};
 use std::fmt::Display;
@@ -10,6 +9,7 @@ use std::process::Abort;
 use std::rt::Files;
 use std::test::Fail;
 use std::{fs, io, str};
+use tree_io::{FileAt, FileTree, MemorySink, MemoryTree, Sink, StreamSink, Tree};
 
 // The paths, each with a blank after it, or the fault.
 fn list(alloc: Global, tree: &mut impl Tree, dir: &str, max: u32) -> Result<String, Fail> {

@@ -1,5 +1,8 @@
-use super::*;
 use jv_base::{Base, FieldType, Items, MethodType, Text};
+use lib_table::{
+    LibId, LibKind, LibMember, Role, lib_class, lib_interface, lib_is, lib_kind, lib_like,
+    lib_member, lib_member_at, lib_method, lib_name, lib_named, lib_same, lib_super,
+};
 use std::alloc::{AllocError, Global};
 use std::process::Abort;
 use std::test::Fail;

@@ -1,8 +1,8 @@
 ghost use Rattle.std.specs.Prelude.{◌≡◌, ◌+◌, ◌<◌, length, IfOk};
 
-use super::*;
 use class_model::{Class, Field, Method};
 use jv_base::{Access, Base, FieldType, Items, M, MethodType, Text};
+use report_text::{class_text, member_text};
 use std::alloc::Global;
 use std::test::Fail;
 

@@ -1,6 +1,5 @@
-use super::component_ranks;
-use crate::{System, first_unranked, none_rises, plain_marks, valid};
 use jv_base::{Items, M};
+use mark_core::{System, component_ranks, first_unranked, none_rises, plain_marks, valid};
 use std::alloc::Global;
 use std::process::Abort;
 use std::test::Fail;

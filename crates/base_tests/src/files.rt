@@ -1,4 +1,4 @@
-use super::*;
+use class_files::{read_files, write_files};
 use jv_base::{Bytes, Items, M, Text};
 use std::alloc::Global;
 use std::test::Fail;

@@ -1,5 +1,5 @@
-use super::*;
 use jv_base::{Items, M};
+use mark_core::{Pair, System, plain_marks, valid};
 use std::alloc::Global;
 use std::process::Abort;
 use std::test::Fail;

@@ -1,2 +1,0 @@
--- Computed rows.
-pub mod Example
