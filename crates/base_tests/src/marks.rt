@@ -1,106 +1,127 @@
 use jv_base::{Items, M};
 use mark_core::{Pair, System, plain_marks, valid};
 use std::alloc::Global;
-use std::process::Abort;
 use std::test::Fail;
 
-fn pair(one: u32, two: u32, derived: u32) -> Pair {
-    Pair { one, two, derived }
-}
+/// The number of items, the seeds, what each item needs, and pairs, each with what it marks.
+type Row<'a> = (u32, &'a [u32], &'a [&'a [u32]], &'a [[u32; 3]]);
 
-fn system(alloc: Global, n: u32, seeds: &[u32], needs: &[&[u32]], pairs: &[Pair]) -> M<System> {
+fn lists(alloc: Global, needs: &[&[u32]]) -> M<Items<Items<u32>>> {
     let mut lists = Items::new(alloc);
     for list in needs {
         lists.push(Items::from_vec(list.to_vec(alloc)?))?;
     }
+    Ok(lists)
+}
+
+fn pairs(alloc: Global, rows: &[[u32; 3]]) -> M<Items<Pair>> {
+    let mut pairs = Items::new(alloc);
+    for [one, two, derived] in rows {
+        pairs.push(Pair {
+            one: *one,
+            two: *two,
+            derived: *derived,
+        })?;
+    }
+    Ok(pairs)
+}
+
+fn system(alloc: Global, row: &Row) -> M<System> {
+    let seeds = Items::from_vec(row.1.to_vec(alloc)?);
+    let needs = lists(alloc, row.2)?;
+    let pairs = pairs(alloc, row.3)?;
     Ok(System {
-        n,
-        seeds: Items::from_vec(seeds.to_vec(alloc)?),
-        needs: lists,
-        pairs: Items::from_vec(pairs.to_vec(alloc)?),
+        n: row.0,
+        seeds,
+        needs,
+        pairs,
     })
 }
 
-/// The marked items are those that are wanted, in ascending order.
-fn expect_marked(rt: &impl Abort, alloc: Global, sys: &System, wanted: &[usize]) -> M<()> {
-    assert!(rt; valid(sys));
-    let marks = plain_marks(alloc, sys)?;
-    assert_eq!(rt; marks.len(), sys.n as usize);
-    let mut items = Vec::new(alloc);
-    for (item, mark) in marks.as_slice().iter().enumerate() {
-        if *mark {
-            items.push(item)?;
-        }
+// ---- marks
+
+// Systems, with the marks of their items.
+const MARKED: &[(Row<'static>, &[bool])] = &[
+    ((3, &[0, 1], &[&[], &[], &[]], &[[0, 1, 2]]), &[true; 3]),
+    (
+        (3, &[0], &[&[], &[], &[]], &[[0, 1, 2]]),
+        &[true, false, false],
+    ),
+    (
+        (3, &[1], &[&[], &[], &[]], &[[1, 1, 0]]),
+        &[true, true, false],
+    ),
+    (
+        (5, &[0], &[&[3], &[], &[1], &[2, 3], &[0]], &[]),
+        &[true, true, true, true, false],
+    ),
+    (
+        (
+            5,
+            &[0],
+            &[&[1], &[], &[], &[4], &[]],
+            &[[2, 0, 3], [1, 0, 2]],
+        ),
+        &[true; 5],
+    ),
+    ((0, &[], &[], &[]), &[]),
+];
+
+fn has_marks(alloc: Global, sys: &System, marks: &[bool]) -> M<bool> {
+    if !valid(sys) {
+        return Ok(false);
     }
-    assert!(rt; items.as_slice() == wanted);
-    Ok(())
+    let found = plain_marks(alloc, sys)?;
+    Ok(found.as_slice() == marks)
 }
 
-#[test]
-fn a_pair_marks_its_consequence_where_both_of_its_items_are_marked(
-    rt: HostRuntime,
-) -> Result<(), Fail> {
-    let alloc = rt.alloc();
-    let none: [&[u32]; 3] = [&[], &[], &[]];
-    let both = system(alloc, 3, &[0, 1], &none, &[pair(0, 1, 2)])?;
-    expect_marked(&rt, alloc, &both, &[0, 1, 2])?;
-    let one = system(alloc, 3, &[0], &none, &[pair(0, 1, 2)])?;
-    expect_marked(&rt, alloc, &one, &[0])?;
-    let same = system(alloc, 3, &[1], &none, &[pair(1, 1, 0)])?;
-    expect_marked(&rt, alloc, &same, &[0, 1])?;
-    Ok(())
+fn is_marked(alloc: Global, row: &Row, marks: &[bool]) -> M<bool> {
+    let sys = system(alloc, row)?;
+    has_marks(alloc, &sys, marks)
 }
 
 #[test]
 fn needs_and_pairs_are_followed_to_their_end(rt: HostRuntime) -> Result<(), Fail> {
-    let alloc = rt.alloc();
-    let chain: [&[u32]; 5] = [&[3], &[], &[1], &[2, 3], &[0]];
-    expect_marked(
-        &rt,
-        alloc,
-        &system(alloc, 5, &[0], &chain, &[])?,
-        &[0, 1, 2, 3],
-    )?;
-    let needs: [&[u32]; 5] = [&[1], &[], &[], &[4], &[]];
-    let pairs = [pair(2, 0, 3), pair(1, 0, 2)];
-    expect_marked(
-        &rt,
-        alloc,
-        &system(alloc, 5, &[0], &needs, &pairs)?,
-        &[0, 1, 2, 3, 4],
-    )?;
-    expect_marked(&rt, alloc, &system(alloc, 0, &[], &[], &[])?, &[])?;
+    for (row, marks) in MARKED {
+        assert!(rt; is_marked(rt.alloc(), row, marks)?);
+    }
     Ok(())
+}
+
+// ---- valid systems
+
+// Systems, with whether each item is below the number of items and has its list.
+const JUDGED: &[(Row<'static>, bool, &str)] = &[
+    ((0, &[], &[], &[]), true, "no item"),
+    ((2, &[1, 0], &[&[1], &[]], &[[1, 1, 0]]), true, "two items"),
+    ((2, &[0, 2], &[&[1], &[]], &[]), false, "a seed"),
+    ((2, &[0], &[&[], &[0, 2]], &[]), false, "a need"),
+    (
+        (2, &[], &[&[1], &[]], &[[2, 0, 0]]),
+        false,
+        "the first of a pair",
+    ),
+    (
+        (2, &[], &[&[1], &[]], &[[0, 2, 0]]),
+        false,
+        "the second of a pair",
+    ),
+    ((2, &[], &[&[1], &[]], &[[0, 0, 2]]), false, "a consequence"),
+    ((2, &[], &[&[], &[], &[]], &[]), false, "a list too many"),
+    ((2, &[], &[], &[]), false, "no list"),
+];
+
+fn is_valid(alloc: Global, row: &Row) -> M<bool> {
+    let sys = system(alloc, row)?;
+    Ok(valid(&sys))
 }
 
 #[test]
 fn a_system_is_valid_where_each_item_is_below_n_and_has_its_list(
     rt: HostRuntime,
 ) -> Result<(), Fail> {
-    let alloc = rt.alloc();
-    let two: [&[u32]; 2] = [&[1], &[]];
-    let three: [&[u32]; 3] = [&[], &[], &[]];
-    let wrong: [&[u32]; 2] = [&[], &[0, 2]];
-    assert!(rt; valid(&system(alloc, 0, &[], &[], &[])?));
-    assert!(rt; valid(&system(alloc, 2, &[1, 0], &two, &[pair(1, 1, 0)])?));
-    assert!(rt; !valid(&system(alloc, 2, &[0, 2], &two, &[])?), "a seed");
-    assert!(rt; !valid(&system(alloc, 2, &[0], &wrong, &[])?), "a need");
-    assert!(rt;
-        !valid(&system(alloc, 2, &[], &two, &[pair(2, 0, 0)])?),
-        "the first of a pair"
-    );
-    assert!(rt;
-        !valid(&system(alloc, 2, &[], &two, &[pair(0, 2, 0)])?),
-        "the second of a pair"
-    );
-    assert!(rt;
-        !valid(&system(alloc, 2, &[], &two, &[pair(0, 0, 2)])?),
-        "a consequence"
-    );
-    assert!(rt;
-        !valid(&system(alloc, 2, &[], &three, &[])?),
-        "a list too many"
-    );
-    assert!(rt; !valid(&system(alloc, 2, &[], &[], &[])?), "no list");
+    for (row, valid, what) in JUDGED {
+        assert!(rt; is_valid(rt.alloc(), row)? == *valid, "{what}");
+    }
     Ok(())
 }

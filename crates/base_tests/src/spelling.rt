@@ -109,15 +109,30 @@ fn a_class_is_told_by_its_name_with_dots(rt: HostRuntime) -> Result<(), Fail> {
     Ok(())
 }
 
+// The members of the class in their order.
+const MEMBERS: [&str; 6] = [
+    "int x",
+    "java.lang.String[] names",
+    "void <init>(int)",
+    "void main(java.lang.String[])",
+    "int f(int,int)",
+    "java.lang.String[] g()",
+];
+
+fn are_members(alloc: Global, class: &Class) -> M<bool>
+    requires { length class.now.fields + length class.now.methods ≡ 6 }
+{
+    for member in 0..6 {
+        if !is_member(alloc, class, member, MEMBERS[member as usize])? {
+            return Ok(false);
+        }
+    }
+    Ok(true)
+}
+
 #[test]
 fn a_member_is_told_by_its_types_and_its_name(rt: HostRuntime) -> Result<(), Fail> {
-    let alloc = rt.alloc();
-    let class = class(alloc, "demo/Main")?;
-    assert!(rt; is_member(alloc, &class, 0, "int x")?);
-    assert!(rt; is_member(alloc, &class, 1, "java.lang.String[] names")?);
-    assert!(rt; is_member(alloc, &class, 2, "void <init>(int)")?);
-    assert!(rt; is_member(alloc, &class, 3, "void main(java.lang.String[])")?);
-    assert!(rt; is_member(alloc, &class, 4, "int f(int,int)")?);
-    assert!(rt; is_member(alloc, &class, 5, "java.lang.String[] g()")?);
+    let class = class(rt.alloc(), "demo/Main")?;
+    assert!(rt; are_members(rt.alloc(), &class)?);
     Ok(())
 }
