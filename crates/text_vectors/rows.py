@@ -1,8 +1,10 @@
-"""Makes stdin and stdout: rows of mappings and witnesses with what is said of them. Run it in this folder: python3 rows.py
+"""Makes stdin and stdout: rows of mappings, witnesses and traces with what is said of them. Run it in this folder: python3 rows.py
 
 A row is a title, a text, and what is said of it: SAME where the text is written again as it is, a text where it is
-written otherwise, or 'LINE KIND'. The answers are written by hand.
+written otherwise, or 'LINE KIND'. The answers are written by hand, but those of traces.
 """
+
+from traces import TRACES
 
 SAME = object()
 Q = 'a -> b:\n'
@@ -216,6 +218,9 @@ def main():
             asked += [f'# {title}', f'{word} {spelled(text)}']
             is_fault = isinstance(answer, str) and answer[:1].isdigit() and '\n' not in answer
             said += [f'# {title}', answer if is_fault else 'ok ' + spelled(text if answer is SAME else answer)]
+    for title, mapping, trace, answer in TRACES:
+        asked += [f'# {title}', f'retrace {spelled(mapping).replace(" ", chr(92) + "s")} {spelled(trace)}']
+        said += [f'# {title}', answer if isinstance(answer, str) else 'ok ' + spelled(answer)]
     open('stdin', 'w').write('\n'.join(asked) + '\n')
     open('stdout', 'w').write('\n'.join(said) + '\n')
 

@@ -11,3 +11,4 @@ pub mod PlaceLaw
 pub mod LiteralLaw
 pub mod MarkLaw
 pub mod NameLaw
+mod AskedLaw

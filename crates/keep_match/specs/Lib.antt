@@ -6,4 +6,6 @@ pub mod TypePatterns
 pub mod Matches
 pub mod Above
 pub mod Seeds
+pub mod Asked
 pub mod Marks
+pub mod bodies

@@ -1,6 +1,8 @@
 //! What the rules of a config match in a set of classes: wildcards, class and member specifications, and what is kept.
 #![tactic(auto)]
 
+mod as_keeps;
+mod asked;
 mod class_spec;
 mod filter;
 mod flag_word;
@@ -13,6 +15,7 @@ mod seeds;
 mod type_pattern;
 mod wildcard;
 
+pub use asked::members_asked;
 pub use class_spec::class_matches;
 pub use filter::accepts_attribute;
 pub use member_spec::member_matches;

@@ -38,7 +38,7 @@ pub fn seeds_of(alloc: Global, rules: &Rules, set: &ClassSet) -> M<Items<u32>>
 }
 
 /// For each class the marks of itself and its members, by all rules.
-fn rows_of(alloc: Global, keeps: &[Keep], set: &ClassSet) -> M<Vec<Items<bool>>>
+pub(crate) fn rows_of(alloc: Global, keeps: &[Keep], set: &ClassSet) -> M<Vec<Items<bool>>>
     ensures { IfOk result (λ rows. HasRows set.now keeps.now rows.items) }
 {
     let names = names_of(alloc, set)?;
@@ -223,7 +223,7 @@ fn places_of(alloc: Global, rows: &[Items<bool>]) -> M<Items<u32>>
 }
 
 /// Appends the places of a list that have true, counted from `next`.
-fn push_places(items: &mut Items<u32>, next: u32, row: &[bool]) -> M<()>
+pub(crate) fn push_places(items: &mut Items<u32>, next: u32, row: &[bool]) -> M<()>
     requires { next + length row.now < 4294967296 }
     ensures { OnOk result (items.new ≡ items.old ++ places_of_true next row.now) }
 {

@@ -5,10 +5,12 @@
 //! wanting. Nothing is proved of the loop: the stored runs of the programs show it.
 #![tactic(auto)]
 
+mod escapes;
 mod lines;
 mod program;
 #[cfg(test)]
 mod tests;
 
+pub use escapes::{escaped_line, first_word, push_escaped, push_listed, unescaped, unescaped_text};
 pub use lines::{Answers, Stop, answer_lines};
 pub use program::answer_standard_input;

@@ -6,5 +6,5 @@
 mod files;
 mod lists;
 
-pub use files::files_of;
+pub use files::{LineFile, bytes_of, files_of};
 pub use lists::{are_listed, set_of};

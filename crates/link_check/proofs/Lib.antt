@@ -17,3 +17,4 @@ pub mod OverridingLaws
 pub mod Passing
 pub mod Taken
 pub mod Upwards
+pub mod Meaning

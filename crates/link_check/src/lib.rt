@@ -13,5 +13,6 @@ pub use laws::taken_sets_break_no_rule;
 pub use references::access::is_class_below;
 pub use references::resolution::{resolve_field, resolve_method};
 pub use references::selection::select;
+pub use references::special::select_special;
 pub use rows::computed_profile;
 pub use rules::profile::check_links;

@@ -3,5 +3,6 @@ pub mod access;
 pub mod found;
 pub mod resolution;
 pub mod selection;
+pub mod special;
 pub mod superinterface_methods;
 pub mod supertypes;

@@ -1,3 +1,4 @@
+pub mod Limits
 pub mod Numbered
 pub mod Listing
 pub mod Marking

@@ -1,11 +1,13 @@
 -- Classes and members as lists of items have them (ProGuard manual, "-printseeds", "-printusage"). Items are the
 -- classes of a set in their order, each followed by its fields and then its methods.
-use Rattle.std.specs.Prelude.{ℕ, ◌+◌, ◌==◌, Bool, List, [], ◌∷◌, ◌++◌, map, codes, if◌then◌else◌}
+use Rattle.std.specs.Prelude.{ℕ, ◌+◌, ◌==◌, Bool, List, [], ◌∷◌, ◌++◌, length, map, nat_le, codes, Result, Ok, Err}
+use Rattle.std.specs.Prelude.{if◌then◌else◌}
 use Rattle.std.specs.List.{enumerate_from, flat_map, list_any}
 use Rattle.mark_core.specs.Marks.{set_of}
 use Rattle.class_model.specs.declared.class.Class.{Class}
 use Rattle.class_pool.specs.Items.{class_item}
 use Rattle.report_text.specs.Spelled.{class_text, member_texts}
+use Rattle.list_texts.specs.declared.limit.TooLong.{TooLong}
 
 -- ---- items
 
@@ -64,3 +66,9 @@ class_usage marks item c =
 abbrev pub usage_text : List Class → List Bool → List ℕ
 usage_text classes marks =
     flat_map (λ p. class_usage marks (class_item classes p.0) p.1) (enumerate_from 0 classes)
+
+-- ---- how long a list may be
+
+-- a list of at most so many bytes; a longer one isn't made (the project's own)
+abbrev pub up_to : ℕ → List ℕ → Result (List ℕ) TooLong
+up_to limit text = if nat_le (length text) limit then Ok text else Err (record { limit = limit })

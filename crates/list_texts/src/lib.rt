@@ -2,9 +2,11 @@
 #![tactic(auto)]
 
 mod items;
+mod limit;
 mod seeds;
 mod usage;
 
 pub use items::item_text;
+pub use limit::TooLong;
 pub use seeds::seeds_text;
 pub use usage::usage_text;

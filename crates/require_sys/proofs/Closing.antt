@@ -22,7 +22,7 @@ use Rattle.require_sys.specs.Closing.{AreIn, is_in}
 use Rattle.require_sys.specs.Requires.{Item, OfClass, ascending, called_wants, class_needs, class_wants, field_wants}
 use Rattle.require_sys.specs.Requires.{initialisation_wants, method_wants, name_wants, needs_of, number_of, numbers}
 use Rattle.require_sys.specs.Requires.{requires, rule_wants, super_wants}
-use Rattle.require_sys.specs.declared.kept_by_rules.KeptByRules.{KeptByRules}
+use Rattle.require_sys.specs.declared.kept.KeptByRules.{KeptByRules}
 use Rattle.require_sys.proofs.Parts.{all_ascending, all_filter, all_filter_map, all_left, all_option, from_all}
 
 -- the needs of an item of the n-th class are among those of that class

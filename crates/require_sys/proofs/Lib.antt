@@ -1,6 +1,17 @@
 pub mod Numbering
 pub mod Steps
-pub mod Called
 pub mod Parts
 pub mod Closing
 pub mod Running
+mod Ascending
+mod SortedNeeds
+mod Gathering
+mod SharedFrames
+mod CountedLists
+mod SupersLaw
+mod There
+mod Referring
+mod Membering
+mod Limiting
+pub mod Validity
+pub mod AskedThere

@@ -3,23 +3,18 @@ use Rattle.std.proofs.Common.{◌≡◌, ℕ, ◌+◌, ◌<◌, ◌≤◌, ◌�
 use Rattle.std.proofs.Common.{get_or, map, take, slice_get, Option, Some, None, All, refl, sym, ap, subst, ◌∙◌, arith}
 use Rattle.std.proofs.Common.{length-append}
 use Rattle.std.specs.Option.{option_map_or}
-use Rattle.std.specs.List.{enumerate_from, flat_map}
 use Rattle.std.proofs.Math.Seq.{get_or-append_seam}
 use Rattle.std.proofs.lemmas.Bool.{cases_lt}
-use Rattle.std.proofs.lemmas.List.{get_or_append_left, length-map, take_more, length-replicate}
+use Rattle.std.proofs.lemmas.List.{get_or_append_left, take_more}
 use Rattle.std.proofs.lemmas.List.Elements.{All-nil, All-cons}
-use Rattle.std.proofs.lemmas.List.Sums.{sum_by-cons, sum_by_push, sum_by-take-le}
+use Rattle.std.proofs.lemmas.List.Sums.{sum_by_push, sum_by-take-le}
 use Rattle.std.proofs.lemmas.Option.{slice_get_within, get_or_from_slice_get}
 use Rattle.class_model.specs.declared.class.Class.{Class}
 use Rattle.class_pool.specs.Count.{items_of, item_count}
 use Rattle.class_pool.specs.Found.{field_row, IsMember, method_row, rows_in}
-use Rattle.class_pool.specs.Hierarchy.{IsClass}
-use Rattle.class_pool.specs.declared.id.ClassId.{ClassId}
 use Rattle.class_pool.specs.declared.id.ClassId.TheVariants.{Prog}
-use Rattle.class_pool.specs.declared.id.MemberAt.{MemberAt}
-use Rattle.class_pool.specs.Items.{class_item, item_in, item_of}
+use Rattle.class_pool.specs.Items.{class_item}
 use Rattle.keep_match.specs.Seeds.{places_of_true}
-use Rattle.require_sys.specs.EarlySystem.{are_kept_anyway, class_needs}
 use Rattle.require_sys.specs.bodies.Starts.{AreStarts}
 use Rattle.class_pool.proofs.ToldMembers.{rows_counted}
 
@@ -61,17 +56,29 @@ table_is classes starts n x are within at =
     sym (get_or_from_slice_get starts n x 0 at) ∙ are.each n most
 
 -- so the item of a member is found
-pub item_sum : (classes : List Class) (starts : List ℕ) (m : MemberAt) (n x : ℕ) → AreStarts classes starts
-    → IsMember classes m → m.class ≡ Prog n → slice_get starts n ≡ Some x
-    → (x + 1 + m.index < item_count classes) × (Some (x + 1 + m.index) ≡ item_of classes m)
-item_sum classes starts m n x are there is at =
-    let within : n < length classes = subst (λ (id : ClassId). IsClass classes id) is there.0 in
-    let row : m.index < length (rows_in classes (Prog n)) = subst
-    (λ (id : ClassId). m.index < length (rows_in classes id)) is there.1 in
-    let first : x ≡ class_item classes n = table_is classes starts n x are within at in (
-      subst (λ k. k + 1 + m.index < item_count classes) (sym first) (member_below classes n m.index row),
-      ap (λ k. Some (k + 1 + m.index)) first ∙ sym (ap (λ (id : ClassId). item_in classes id m.index) is),
+pub item_sum : (classes : List Class) (starts : List ℕ) (n index x : ℕ) → AreStarts classes starts
+    → IsMember classes (record { class = Prog n; index = index }) → slice_get starts n ≡ Some x
+    → (x + 1 + index < item_count classes) × (x + 1 + index ≡ class_item classes n + 1 + index)
+item_sum classes starts n index x are there at =
+    let first : x ≡ class_item classes n = table_is classes starts n x are there.0 at in (
+      subst (λ k. k + 1 + index < item_count classes) (sym first) (member_below classes n index there.1),
+      ap (λ k. k + 1 + index) first,
     )
+
+-- the table has the item of a class
+pub item_found : (classes : List Class) (starts : List ℕ) (n x : ℕ) → AreStarts classes starts → n < length classes
+    → slice_get starts n ≡ Some x → x ≡ class_item classes n
+item_found classes starts n x are within at = table_is classes starts n x are within at
+
+-- a member of a class is there
+pub member_there : (classes : List Class) (n index : ℕ) (c : Class) → slice_get classes n ≡ Some c
+    → index < length c.fields + length c.methods → IsMember classes (record { class = Prog n; index = index })
+member_there classes n index c is lt = (
+  slice_get_within classes n c is,
+  let rows = ap (λ (o : Option Class). length (option_map_or
+      (λ (d : Class). map field_row d.fields ++ map method_row d.methods) o [])) is in
+      let counted = rows_counted c in omega (arith, rows, counted, lt),
+)
 
 -- ---- the table of the items
 
@@ -95,7 +102,7 @@ table_more classes n v old new count each is grown = (
       ∙ more_at classes n v old count each is k most (cases_lt k (length old)),
 )
 
--- ---- seeds
+-- ---- places
 
 pub places_below : (m n : ℕ) (bs : List Bool) → n + length bs ≤ m → All (λ x. x < m) (places_of_true n bs)
 places_below m n [] most = All-nil (λ x. x < m)
@@ -103,35 +110,11 @@ places_below m n (true ∷ bs) most = All-cons (λ x. x < m) n (places_of_true (
     (places_below m (n + 1) bs (omega arith))
 places_below m n (false ∷ bs) most = places_below m (n + 1) bs (omega arith)
 
-kept_counted : (shrinks : Bool) (c : Class) → length (are_kept_anyway shrinks c) ≡ items_of c
-kept_counted shrinks c = simp (length-append, length-replicate, length-map)
-
--- there is a truth value for each item
-pub length-kept : (shrinks : Bool) (classes : List Class)
-    → length (flat_map (are_kept_anyway shrinks) classes) ≡ item_count classes
-length-kept shrinks [] = refl
-length-kept shrinks (c ∷ cs) =
-    let here = kept_counted shrinks c in
-    let rest = length-kept shrinks cs in
-    let both = length-append (are_kept_anyway shrinks c) (flat_map (are_kept_anyway shrinks) cs) in
-    let all = sum_by-cons items_of c cs in
-    both ∙ ap (λ n. n + length (flat_map (are_kept_anyway shrinks) cs)) here ∙ ap (λ n. items_of c + n) rest ∙ sym all
-
--- ---- needs
-
-needs_counted : (classes : List Class) (n : ℕ) (c : Class) → length (class_needs classes (n, c)) ≡ items_of c
-needs_counted classes n c = simp (length-append, length-replicate, length-map)
-
-needs_from : (classes : List Class) (n : ℕ) (cs : List Class)
-    → length (flat_map (class_needs classes) (enumerate_from n cs)) ≡ item_count cs
-needs_from classes n [] = refl
-needs_from classes n (c ∷ cs) =
-    let rest = needs_from classes (n + 1) cs in
-    length-append (class_needs classes (n, c)) (flat_map (class_needs classes) (enumerate_from (n + 1) cs))
-    ∙ ap (λ k. k + length (flat_map (class_needs classes) (enumerate_from (n + 1) cs))) (needs_counted classes n c)
-    ∙ ap (λ k. items_of c + k) rest ∙ sym (sum_by-cons items_of c cs)
-
--- there is a list for each item
-pub length-needs : (classes : List Class)
-    → length (flat_map (class_needs classes) (enumerate_from 0 classes)) ≡ item_count classes
-length-needs classes = needs_from classes 0 classes
+-- a member whose number is listed is there
+pub member_listed : (classes : List Class) (n : ℕ) (members : List ℕ) (i k : ℕ) → n < length classes
+    → All (λ x. x < length (rows_in classes (Prog n))) members → i < length members → k ≡ get_or members i k
+    → IsMember classes (record { class = Prog n; index = k })
+member_listed classes n members i k there all lt at = (
+  there,
+  subst (λ (x : ℕ). x < length (rows_in classes (Prog n))) (sym at) (all i k lt),
+)

@@ -26,7 +26,7 @@ use Rattle.require_sys.specs.Closing.{is_in}
 use Rattle.require_sys.specs.Requires.{Item, OfMember, called_wants, class_pairs, initialisation_wants, instance_methods}
 use Rattle.require_sys.specs.Requires.{is_inheritable, is_program, library_supers, members_of, methods_above, pair_from}
 use Rattle.require_sys.specs.Requires.{pair_of, program_supers, requires, rule_wants, super_wants}
-use Rattle.require_sys.specs.declared.kept_by_rules.KeptByRules.{KeptByRules}
+use Rattle.require_sys.specs.declared.kept.KeptByRules.{KeptByRules}
 use Rattle.require_sys.proofs.Closing.{class_in}
 use Rattle.require_sys.proofs.Parts.{all_among, all_enumerated, all_filter, all_filter_map, all_flat_map, all_left}
 use Rattle.require_sys.proofs.Parts.{all_map, from_all}

@@ -1,7 +1,8 @@
 -- Steps of loops.
-use Rattle.std.proofs.Common.{◌≡◌, ℕ, ◌+◌, ◌<◌, Bool, true, false, cond, List, [], ◌∷◌, ◌++◌, length, get_or, map, take}
+use Rattle.std.proofs.Common.{◌≡◌, ℕ, zero, suc, ◌+◌, ◌<◌, Bool, true, false, cond, List, [], ◌∷◌, ◌++◌, length}
+use Rattle.std.proofs.Common.{get_or, map, take}
 use Rattle.std.proofs.Common.{slice_get, Option, Some, None, refl, sym, ap, ◌∙◌, arith, append_assoc, append-nil}
-use Rattle.std.specs.List.{cons_option, enumerate_from, filter_map, flat_map}
+use Rattle.std.specs.List.{cons_option, enumerate_from, filter_map, flat_map, range_with_len}
 use Rattle.std.proofs.lemmas.List.{map_push, take_more, length-take}
 use Rattle.std.proofs.lemmas.List.Concat.{flat_map-append}
 use Rattle.std.proofs.lemmas.List.Elements.{filter_map-append}
@@ -17,7 +18,7 @@ none_of : {Y : Type 0} (r : Option Y) → r ≡ None → cons_option r [] ≡ []
 none_of None e = refl
 none_of (Some z) e = absurd cc
 
-more_of : {X : Type 0} (xs : List X) (i : ℕ) (x : X) → i < length xs → x ≡ get_or xs i x
+pub more_of : {X : Type 0} (xs : List X) (i : ℕ) (x : X) → i < length xs → x ≡ get_or xs i x
     → take (i + 1) xs ≡ take i xs ++ x ∷ []
 more_of xs i x lt at = take_more xs i x lt ∙ ap (λ w. take i xs ++ w ∷ []) (sym at)
 
@@ -69,6 +70,15 @@ numbered_more xs i x is =
     ap (enumerate_from 0) (take_at xs i x is) ∙ enumerate_from-append 0 (take i xs) (x ∷ [])
     ∙ ap (λ k. enumerate_from 0 (take i xs) ++ (k, x) ∷ []) so_far
 
+-- a numbered list with one more element
+pub enumerated_more : {X : Type 0} (s : ℕ) (xs : List X) (i : ℕ) (x : X) → slice_get xs i ≡ Some x
+    → enumerate_from s (take (i + 1) xs) ≡ enumerate_from s (take i xs) ++ (s + i, x) ∷ []
+enumerated_more s xs i x is =
+    let within = slice_get_within xs i x is in
+    let so_far : s + length (take i xs) ≡ s + i = omega (arith, length-take i xs, within) in
+    ap (enumerate_from s) (take_at xs i x is) ∙ enumerate_from-append s (take i xs) (x ∷ [])
+    ∙ ap (λ k. enumerate_from s (take i xs) ++ (k, x) ∷ []) so_far
+
 pub numbered_given : {X Y : Type 0} (f : ℕ × X → List Y) (xs : List X) (i : ℕ) (x : X) (ys zs : List Y)
     → slice_get xs i ≡ Some x → ys ≡ flat_map f (enumerate_from 0 (take i xs))
     → zs ≡ ys ++ f (i, x) → zs ≡ flat_map f (enumerate_from 0 (take (i + 1) xs))
@@ -109,3 +119,27 @@ place_given bs i b places grown lt at is more =
     ∙ ap (λ k. places_of_true 0 (take i bs) ++ cond b (k ∷ []) []) (sym so_far)
     ∙ sym (places_push 0 (take i bs) b)
     ∙ ap (places_of_true 0) (sym (take_more bs i false lt ∙ ap (λ y. take i bs ++ y ∷ []) at))
+
+-- one more that may give nothing
+pub optional_given : {X Y : Type 0} (h : X → Option Y) (xs : List X) (i : ℕ) (x : X) (ys zs : List Y) → i < length xs
+    → x ≡ get_or xs i x → ys ≡ filter_map h (take i xs) → zs ≡ ys ++ cons_option (h x) []
+    → zs ≡ filter_map h (take (i + 1) xs)
+optional_given h xs i x ys zs lt at is grown =
+    grown ∙ ap (λ t. t ++ cons_option (h x) []) is
+    ∙ sym (filter_map-append h (take i xs) (x ∷ []))
+    ∙ ap (filter_map h) (sym (more_of xs i x lt at))
+
+-- one more number
+pub range_more : (a n : ℕ) → range_with_len a (n + 1) ≡ range_with_len a n ++ (a + n) ∷ []
+range_more a zero = let e : a ≡ a + zero = omega arith in ap (λ (k : ℕ). k ∷ []) e
+range_more a (suc n) =
+    let e : a + 1 + n ≡ a + suc n = omega arith in
+    let next : suc n + 1 ≡ suc (n + 1) = omega arith in
+    ap (range_with_len a) next ∙ ap (λ (t : List ℕ). a ∷ t) (range_more (a + 1) n)
+    ∙ ap (λ (k : ℕ). a ∷ (range_with_len (a + 1) n ++ k ∷ [])) e
+
+-- what isn't there gives the default
+pub none_there : {X : Type 0} (xs : List X) (i : ℕ) (d : X) → None ≡ slice_get xs i → d ≡ get_or xs i d
+none_there [] i d e = refl
+none_there (x ∷ xs) zero d e = absurd cc
+none_there (x ∷ xs) (suc i) d e = none_there xs i d e

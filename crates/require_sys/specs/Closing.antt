@@ -18,7 +18,7 @@ use Rattle.class_pool.specs.declared.id.ClassId.TheVariants.{Prog}
 use Rattle.class_pool.specs.declared.id.MemberAt.{MemberAt}
 use Rattle.require_sys.specs.Requires.{Item, OfClass, OfMember, class_wants, field_wants, method_wants, number_of}
 use Rattle.require_sys.specs.Requires.{requires}
-use Rattle.require_sys.specs.declared.kept_by_rules.KeptByRules.{KeptByRules}
+use Rattle.require_sys.specs.declared.kept.KeptByRules.{KeptByRules}
 
 -- an item is in the set of numbers, if it has a number
 abbrev pub is_in : List Class → (ℕ → Bool) → Item → Bool

@@ -1,5 +1,4 @@
-pub mod EarlySystem
 pub mod Requires
 pub mod Closing
-pub mod Called
+pub mod Required
 pub mod bodies

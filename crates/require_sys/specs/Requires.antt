@@ -39,7 +39,7 @@ use Rattle.class_pool.specs.declared.id.MemberAt.{MemberAt}
 use Rattle.link_check.specs.Links.{resolved_field, resolved_method}
 use Rattle.link_check.specs.Profile.{class_of}
 use Rattle.link_check.specs.declared.fault.LinkKind.{LinkKind}
-use Rattle.require_sys.specs.declared.kept_by_rules.KeptByRules.{KeptByRules}
+use Rattle.require_sys.specs.declared.kept.KeptByRules.{KeptByRules}
 
 -- ---- items
 
@@ -172,6 +172,23 @@ module _ (classes : List Class) where
   resolved_wants (Ok m) = OfMember m ∷ []
   resolved_wants (Err kind) = []
 
+  -- the class that a handler catches (JVMS 4.7.3, catch_type)
+  abbrev pub handler_wants : Handler → List Item
+  handler_wants h = option_map_or name_wants h.caught []
+
+  -- the class of a type in a frame (JVMS 4.7.4)
+  abbrev pub verification_wants : VType → List Item
+  verification_wants (vtype.Object ty) = type_wants ty
+  verification_wants _ = []
+
+  -- the classes of a frame (JVMS 4.7.4)
+  abbrev pub frame_wants : FrameAt → List Item
+  frame_wants f = flat_map verification_wants (f.frame.locals ++ f.frame.stack)
+
+  -- the classes that Exceptions names, where that attribute is kept (JVMS 4.7.5)
+  abbrev pub throws_wants : KeptByRules → Method → List Item
+  throws_wants kept m = if kept.exceptions then flat_map name_wants m.throws else []
+
   module _ (n : ℕ) where
     -- of a reference to a field, as an instruction of the class with this number has it: the class that it names, those
     -- in its descriptor, and the field (JVMS 5.4.3.2)
@@ -208,27 +225,10 @@ module _ (classes : List Class) where
     op_wants (op.MultiNewArray ty dimensions) = type_wants ty
     op_wants _ = []
 
-    -- the class that a handler catches (JVMS 4.7.3, catch_type)
-    abbrev pub handler_wants : Handler → List Item
-    handler_wants h = option_map_or name_wants h.caught []
-
-    -- the class of a type in a frame (JVMS 4.7.4)
-    abbrev pub verification_wants : VType → List Item
-    verification_wants (vtype.Object ty) = type_wants ty
-    verification_wants _ = []
-
-    -- the classes of a frame (JVMS 4.7.4)
-    abbrev pub frame_wants : FrameAt → List Item
-    frame_wants f = flat_map verification_wants (f.frame.locals ++ f.frame.stack)
-
     -- what a code wants (JVMS 4.7.3, 4.7.4)
     abbrev pub code_wants : Code → List Item
     code_wants code = flat_map (λ (i : Ins). op_wants i.op) code.ins
         ++ (flat_map handler_wants code.handlers ++ flat_map frame_wants code.frames)
-
-    -- the classes that Exceptions names, where that attribute is kept (JVMS 4.7.5)
-    abbrev pub throws_wants : KeptByRules → Method → List Item
-    throws_wants kept m = if kept.exceptions then flat_map name_wants m.throws else []
 
     -- what a method wants, by the fourth, the fifth and the sixth rule (JVMS 4.6)
     abbrev pub method_wants : KeptByRules → Method → List Item

@@ -1,2 +1,9 @@
 -- Definitions that the proofs of bodies alone need.
 pub mod Starts
+pub mod Wanting
+pub mod Counting
+pub mod Selecting
+pub mod Asked
+pub mod Frames
+pub mod Needs
+pub mod Supers

@@ -1,13 +1,23 @@
 //! What of a set of classes has to be kept, as a system of requirements on its items.
 #![tactic(auto)]
 
-mod kept_by_rules;
+mod classes;
+mod code;
+mod frames;
+mod kept;
 mod laws;
+mod limits;
+mod members;
+mod named;
 mod needs;
 mod numbered;
+mod pairs;
 mod seeds;
+mod supers;
 mod system;
+mod wants;
 
-pub use kept_by_rules::KeptByRules;
+pub use kept::{KeptByRules, kept_by_rules};
 pub use laws::closed_sets_keep;
+pub use limits::{Counted, TooMany};
 pub use system::system_of;

@@ -1,116 +1,172 @@
-// What each item needs: a method the static methods that it calls.
-ghost use Rattle.std.specs.Prelude.{◌≡◌, ◌<◌, ◌++◌, [], IfOk, IfSome, OnOk, length, replicate};
-ghost use Rattle.std.specs.List.{All, filter_map};
-ghost use Rattle.class_pool.specs.Count.{item_count};
-ghost use Rattle.class_pool.specs.Found.{IsMember};
-ghost use Rattle.std.specs.Option.{option_and_then};
-ghost use Rattle.class_pool.specs.Items.{item_of};
-ghost use Rattle.require_sys.specs.EarlySystem.{class_needs, method_needs, needs_of, static_method};
-ghost use Rattle.require_sys.specs.Called.{called_item};
-ghost use Rattle.require_sys.specs.bodies.Starts.{AreBelow};
+// What each item needs.
+ghost use Rattle.std.specs.Prelude.{◌≡◌, ◌+◌, ◌<◌, [], ◌∷◌, IfOk, OnOk, Some, length, slice_get};
+ghost use Rattle.class_pool.specs.Items.{class_item};
+ghost use Rattle.require_sys.specs.Requires.{class_needs, class_wants, field_wants, method_wants, needs_of};
+ghost use Rattle.require_sys.specs.bodies.Asked.{AreMembers};
+ghost use Rattle.require_sys.specs.bodies.Counting.{AddsNeeds, HasNeeds};
+ghost use Rattle.require_sys.specs.bodies.Needs.{all_needs, fields_needs, methods_needs};
 
+use crate::classes::want_of_class;
+use crate::kept::KeptByRules;
+use crate::limits::Counted;
+use crate::members::{want_of_field, want_of_method};
 use crate::numbered::Numbered;
-use class_model::{Class, Ins, Method, Op};
-use class_pool::MemberAt;
+use crate::wants::Wants;
+use class_model::{Class, Field, Method};
 use jv_base::{Items, M};
-use link_check::{LinkKind, resolve_method};
 use std::alloc::Global;
 
-/// What each item needs, in the order of the items.
-pub(crate) fn needs_of(alloc: Global, numbered: &Numbered) -> M<Items<Items<u32>>>
-    ensures are { IfOk result (λ needs. needs ≡ needs_of numbered.now.set.now) }
-    ensures below { IfOk result (All (AreBelow (item_count numbered.now.set.now))) }
+/// What items need, counted. The lists are no longer made where they are too long together.
+#[derive(Drop)]
+pub(crate) struct Needs {
+    pub lists: Items<Items<u32>>,
+    pub count: u64,
+}
+
+impl Needs {
+    /// What one more item needs.
+    fn add(&mut self, needs: Items<u32>) -> M<()>
+        ensures { OnOk result (AddsNeeds self.old (needs ∷ []) self.new) }
+    {
+        self.count = self.count.saturating_add(needs.len() as u64);
+        if self.count <= Counted::Needs.limit() {
+            self.lists.push(needs)?;
+        }
+        Ok(())
+    }
+}
+
+/// What each item of a set needs, in the order of the items.
+pub(crate) fn needs_of(alloc: Global, numbered: &Numbered, kept: &KeptByRules) -> M<Needs>
+    requires { AreMembers numbered.now.set.now kept.now.members }
+    ensures { IfOk result (HasNeeds (all_needs numbered.now.set.now kept.now)) }
 {
     let set = numbered.set;
-    let mut needs = Items::new(alloc);
+    let mut needs = Needs {
+        lists: Items::new(alloc),
+        count: 0,
+    };
     for number in 0..set.len() {
-        push_class(alloc, numbered, number, set.class(number), &mut needs)?;
+        add_class(alloc, numbered, kept, number, set.class(number), &mut needs)?;
     }
     Ok(needs)
 }
 
-/// Appends what each item of a class needs.
-fn push_class(
+/// What the items of a class need: the class, its fields, its methods.
+fn add_class(
+    alloc: Global,
+    numbered: &Numbered,
+    kept: &KeptByRules,
+    number: u32,
+    class: &Class,
+    needs: &mut Needs,
+) -> M<()>
+    requires there { slice_get numbered.now.set.now number ≡ Some class.now }
+    requires few { length class.now.fields + length class.now.methods < 4294967295 }
+    requires members { AreMembers numbered.now.set.now kept.now.members }
+    ensures { OnOk result (AddsNeeds needs.old (class_needs numbered.now.set.now kept.now
+        (number, class.now)) needs.new) }
+{
+    needs.add(class_needs(alloc, numbered, kept, number, class)?)?;
+    add_fields(alloc, numbered, number, class, needs)?;
+    add_methods(alloc, numbered, kept, number, class, needs)
+}
+
+fn add_fields(
     alloc: Global,
     numbered: &Numbered,
     number: u32,
     class: &Class,
-    needs: &mut Items<Items<u32>>,
+    needs: &mut Needs,
 ) -> M<()>
-    requires there { number < length numbered.now.set.now }
-    requires below { All (AreBelow (item_count numbered.now.set.now)) needs.old }
-    ensures pushed { OnOk result (needs.new
-        ≡ needs.old ++ class_needs numbered.now.set.now (number, class.now)) }
-    ensures below { OnOk result (All (AreBelow (item_count numbered.now.set.now)) needs.new) }
+    requires there { slice_get numbered.now.set.now number ≡ Some class.now }
+    requires few { length class.now.fields + length class.now.methods < 4294967295 }
+    ensures { OnOk result (AddsNeeds needs.old (fields_needs numbered.now.set.now number class.now) needs.new) }
 {
-    push_empty(alloc, needs, 1)?;
-    push_empty(alloc, needs, class.fields.len())?;
-    for method in class.methods.as_slice() {
-        needs.push(method_needs(alloc, numbered, number, method)?)?;
+    for index in 0..class.fields.len() {
+        let own = numbered.member_item(number, index as u32);
+        needs.add(field_needs(alloc, numbered, own, number, &class.fields[index])?)?;
     }
     Ok(())
 }
 
-fn push_empty(alloc: Global, needs: &mut Items<Items<u32>>, count: usize) -> M<()>
-    ensures { OnOk result (needs.new ≡ needs.old ++ replicate count []) }
+fn add_methods(
+    alloc: Global,
+    numbered: &Numbered,
+    kept: &KeptByRules,
+    number: u32,
+    class: &Class,
+    needs: &mut Needs,
+) -> M<()>
+    requires there { slice_get numbered.now.set.now number ≡ Some class.now }
+    requires few { length class.now.fields + length class.now.methods < 4294967295 }
+    ensures { OnOk result (AddsNeeds needs.old
+        (methods_needs numbered.now.set.now kept.now number class.now) needs.new) }
 {
-    for _ in 0..count {
-        needs.push(Items::new(alloc))?;
+    for index in 0..class.methods.len() {
+        let own = method_item(numbered, number, class, index);
+        let method = &class.methods[index];
+        needs.add(method_needs(alloc, numbered, kept, own, number, method)?)?;
     }
     Ok(())
 }
 
-fn method_needs(alloc: Global, numbered: &Numbered, number: u32, method: &Method) -> M<Items<u32>>
-    requires { number < length numbered.now.set.now }
-    ensures are { IfOk result (λ items. items
-        ≡ method_needs numbered.now.set.now number method.now) }
-    ensures below { IfOk result (AreBelow (item_count numbered.now.set.now)) }
+/// The item of a method by its number among the methods of its class.
+fn method_item(numbered: &Numbered, number: u32, class: &Class, index: usize) -> u32
+    requires there { slice_get numbered.now.set.now number ≡ Some class.now }
+    requires few { length class.now.fields + length class.now.methods < 4294967295 }
+    requires method { index < length class.now.methods }
+    ensures { result ≡ class_item numbered.now.set.now number + 1 + (length class.now.fields + index) }
 {
-    match &method.code {
-        Some(code) => called_items(alloc, numbered, number, code.ins.as_slice()),
-        None => Ok(Items::new(alloc)),
-    }
+    numbered.member_item(number, (class.fields.len() + index) as u32)
 }
 
-/// The items of the static methods that instructions of a class call.
-fn called_items(alloc: Global, numbered: &Numbered, number: u32, ins: &[Ins]) -> M<Items<u32>>
-    requires { number < length numbered.now.set.now }
-    ensures are { IfOk result (λ items. items
-        ≡ filter_map (λ i. called_item numbered.now.set.now number i.op) ins.now) }
-    ensures below { IfOk result (AreBelow (item_count numbered.now.set.now)) }
+fn class_needs(
+    alloc: Global,
+    numbered: &Numbered,
+    kept: &KeptByRules,
+    number: u32,
+    class: &Class,
+) -> M<Items<u32>>
+    requires there { slice_get numbered.now.set.now number ≡ Some class.now }
+    requires members { AreMembers numbered.now.set.now kept.now.members }
+    ensures { IfOk result (λ needs. needs ≡ needs_of numbered.now.set.now (class_item numbered.now.set.now number)
+        (class_wants numbered.now.set.now kept.now number class.now)) }
 {
-    let mut items = Items::new(alloc);
-    for instruction in ins {
-        if let Some(item) = called_item(numbered, number, &instruction.op) {
-            items.push(item)?;
-        }
-    }
-    Ok(items)
+    let mut wants = Wants::new(alloc, numbered);
+    want_of_class(alloc, &mut wants, kept, number, class)?;
+    wants.into_needs(alloc, numbered.class_item(number))
 }
 
-#[tactic(auto, unfolding(crate::specs::EarlySystem::called_method))]
-fn called_item(numbered: &Numbered, number: u32, op: &Op) -> Option<u32>
+fn field_needs(
+    alloc: Global,
+    numbered: &Numbered,
+    own: u32,
+    number: u32,
+    field: &Field,
+) -> M<Items<u32>>
     requires { number < length numbered.now.set.now }
-    ensures is { result ≡ called_item numbered.now.set.now number op.now }
-    ensures below { IfSome result (λ x. x < item_count numbered.now.set.now) }
+    ensures { IfOk result (λ needs. needs ≡ needs_of numbered.now.set.now own
+        (field_wants numbered.now.set.now number field.now)) }
 {
-    match op {
-        Op::InvokeStatic(reference) => {
-            let resolved = resolve_method(numbered.set, number, reference);
-            static_item(numbered, resolved)
-        }
-        _ => None,
-    }
+    let mut wants = Wants::new(alloc, numbered);
+    want_of_field(&mut wants, number, field)?;
+    wants.into_needs(alloc, own)
 }
 
-/// The item of what was resolved, if it is a static method of the program.
-fn static_item(numbered: &Numbered, resolved: Result<MemberAt, LinkKind>) -> Option<u32>
-    requires { IfOk resolved (IsMember numbered.now.set.now) }
-    ensures is { result ≡ option_and_then (item_of numbered.now.set.now) (static_method numbered.now.set.now resolved) }
-    ensures below { IfSome result (λ x. x < item_count numbered.now.set.now) }
+fn method_needs(
+    alloc: Global,
+    numbered: &Numbered,
+    kept: &KeptByRules,
+    own: u32,
+    number: u32,
+    method: &Method,
+) -> M<Items<u32>>
+    requires { number < length numbered.now.set.now }
+    ensures { IfOk result (λ needs. needs ≡ needs_of numbered.now.set.now own
+        (method_wants numbered.now.set.now number kept.now method.now)) }
 {
-    match &resolved {
-        Ok(member) if numbered.set.is_static_member(*member) => numbered.item_of(*member),
-        _ => None,
-    }
+    let mut wants = Wants::new(alloc, numbered);
+    want_of_method(alloc, &mut wants, kept, number, method)?;
+    wants.into_needs(alloc, own)
 }

@@ -1,8 +1,9 @@
 // The items of a set by their numbers.
-ghost use Rattle.std.specs.Prelude.{◌≡◌, ◌<◌, IfOk, IfSome};
+ghost use Rattle.std.specs.Prelude.{◌≡◌, ◌+◌, ◌<◌, IfOk, length};
 ghost use Rattle.class_pool.specs.Count.{item_count};
 ghost use Rattle.class_pool.specs.Found.{IsMember};
-ghost use Rattle.class_pool.specs.Items.{item_of};
+ghost use Rattle.class_pool.specs.Items.{class_item, item_of};
+ghost use Rattle.class_pool.specs.declared.id.ClassId.TheVariants.{Prog};
 ghost use Rattle.require_sys.specs.bodies.Starts.{AreStarts};
 
 use class_pool::{ClassId, ClassSet, MemberAt};
@@ -36,14 +37,29 @@ impl<'a> Numbered<'a> {
         self.starts[self.set.len() as usize]
     }
 
+    /// The item of a class of the set.
+    pub fn class_item(&self, number: u32) -> u32
+        requires { number < length self.now.set.now }
+        ensures { result ≡ class_item self.now.set.now number }
+    {
+        self.starts[number as usize]
+    }
+
+    /// The item of a member of a class of the set, by its number there.
+    pub fn member_item(&self, number: u32, index: u32) -> u32
+        requires { IsMember self.now.set.now (record { class = Prog number; index = index }) }
+        ensures { result ≡ class_item self.now.set.now number + 1 + index }
+    {
+        self.starts[number as usize] + 1 + index
+    }
+
     /// The item of a member; one of the library is none.
     pub fn item_of(&self, member: MemberAt) -> Option<u32>
         requires { IsMember self.now.set.now member }
-        ensures is { result ≡ item_of self.now.set.now member }
-        ensures below { IfSome result (λ x. x < item_count self.now.set.now) }
+        ensures { result ≡ item_of self.now.set.now member }
     {
         match member.class {
-            ClassId::Prog(number) => Some(self.starts[number as usize] + 1 + member.index),
+            ClassId::Prog(number) => Some(self.member_item(number, member.index)),
             ClassId::Lib(_) => None,
         }
     }

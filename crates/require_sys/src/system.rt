@@ -1,32 +1,93 @@
 // The system of requirements.
-ghost use Rattle.std.specs.Prelude.{◌≡◌, IfOk};
+ghost use Rattle.std.specs.Prelude.{◌≤◌, IfOk, Ok, length};
+ghost use Rattle.jv_base.specs.Outcome.{IsDue};
 ghost use Rattle.mark_core.specs.Valid.{Valid};
-ghost use Rattle.require_sys.specs.EarlySystem.{system_of};
+ghost use Rattle.class_pool.specs.Count.{item_count};
+ghost use Rattle.require_sys.specs.Required.{limited_lists, need_count, system_due, within_limit};
+ghost use Rattle.require_sys.specs.Requires.{requires};
+ghost use Rattle.require_sys.specs.bodies.Asked.{AreMembers};
+ghost use Rattle.require_sys.specs.bodies.Selecting.{all_pairs};
+ghost use Rattle.require_sys.specs.declared.limits.Counted.TheVariants as counted;
 
+use crate::kept::{KeptByRules, kept_by_rules};
+use crate::limits::{Counted, TooMany};
 use crate::needs::needs_of;
 use crate::numbered::Numbered;
+use crate::pairs::pairs_of;
 use crate::seeds::seeds_of;
 use class_pool::ClassSet;
-use jv_base::{Items, M};
+use jv_base::{Items, Or};
 use keep_rules::Rules;
-use mark_core::System;
+use mark_core::{Pair, System};
 use std::alloc::Global;
 
-/// What has to be kept of a set of classes where only static methods are removed. The items are
-/// each class in the order of the set, then its fields, then its methods. All but the static
-/// methods are seeds, and so is `<clinit>` (JVMS 2.9); another static method is one where a rule
-/// keeps it (ProGuard manual, "Keep Options"), and each is under `-dontshrink`. A method needs the
-/// static methods of the set that its invokestatic instructions call (JVMS 6.5). A rule on members
-/// alone keeps nothing yet.
-pub fn system_of(alloc: Global, set: &ClassSet, rules: &Rules) -> M<System>
-    ensures is { IfOk result (λ sys. sys ≡ system_of set.now rules.now) }
+/// What has to be kept of a set of classes by the rules of a config, as a system of requirements; or the first of the
+/// counts of items, of needs and of pairs that passes its limit. The items are each class in the order of the set, then
+/// its fields, then its methods. Seeds are what the rules keep, and under `-dontshrink` all items (ProGuard manual,
+/// "Keep Options"). What each item needs, and what a class and a method above it need together, is as JVMS 4 to 6 have
+/// it. No list is made that passes its limit.
+pub fn system_of(alloc: Global, set: &ClassSet, rules: &Rules) -> Result<System, Or<TooMany>>
+    ensures exact { IsDue result (system_due set.now rules.now) }
     ensures valid { IfOk result Valid }
 {
     let numbered = Numbered::of(alloc, set)?;
+    within(Counted::Items, u64::from(numbered.count()))?;
+    let kept = kept_by_rules(alloc, set, rules)?;
+    limited_system(alloc, &numbered, &kept)
+}
+
+/// The system, where it has no more needs and pairs than it may.
+fn limited_system(
+    alloc: Global,
+    numbered: &Numbered,
+    kept: &KeptByRules,
+) -> Result<System, Or<TooMany>>
+    requires few { item_count numbered.now.set.now ≤ 1048576 }
+    requires members { AreMembers numbered.now.set.now kept.now.members }
+    ensures { IsDue result (limited_lists (requires numbered.now.set.now kept.now)) }
+{
+    let needs = limited_needs(alloc, numbered, kept)?;
+    let pairs = limited_pairs(alloc, numbered)?;
+    let seeds = seeds_of(alloc, numbered, kept)?;
     Ok(System {
         n: numbered.count(),
-        seeds: seeds_of(alloc, &numbered, rules)?,
-        needs: needs_of(alloc, &numbered)?,
-        pairs: Items::new(alloc),
+        seeds,
+        needs,
+        pairs,
     })
+}
+
+fn limited_needs(
+    alloc: Global,
+    numbered: &Numbered,
+    kept: &KeptByRules,
+) -> Result<Items<Items<u32>>, Or<TooMany>>
+    requires few { item_count numbered.now.set.now ≤ 1048576 }
+    requires members { AreMembers numbered.now.set.now kept.now.members }
+    ensures { IsDue result (within_limit counted.Needs (need_count (requires numbered.now.set.now kept.now))
+        (Ok (requires numbered.now.set.now kept.now).needs)) }
+{
+    let needs = needs_of(alloc, numbered, kept)?;
+    within(Counted::Needs, needs.count)?;
+    Ok(needs.lists)
+}
+
+fn limited_pairs(alloc: Global, numbered: &Numbered) -> Result<Items<Pair>, Or<TooMany>>
+    requires { item_count numbered.now.set.now ≤ 1048576 }
+    ensures { IsDue result (within_limit counted.Pairs (length (all_pairs numbered.now.set.now))
+        (Ok (all_pairs numbered.now.set.now))) }
+{
+    let pairs = pairs_of(alloc, numbered)?;
+    within(Counted::Pairs, pairs.count)?;
+    Ok(pairs.pairs)
+}
+
+/// Whether a count is within its limit.
+fn within(what: Counted, count: u64) -> Result<(), Or<TooMany>>
+    ensures { IsDue result (within_limit what count (Ok tt)) }
+{
+    if count > what.limit() {
+        return Err(Or::Fault(TooMany { what, count }));
+    }
+    Ok(())
 }

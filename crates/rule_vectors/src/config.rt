@@ -1,9 +1,9 @@
 // What the rules of a config are.
-use crate::escapes::unescaped;
 use crate::printing::{fault_text, rules_text};
 use conf_words::{WordFault, words};
 use jv_base::{M, Or, OutOfMemory, Text};
 use keep_rules::{RuleFault, RuleKind, Rules, read_rules};
+use line_answers::unescaped;
 use std::alloc::Global;
 
 /// The answer to a config, whose witness goes to `wit.txt`; none where the text isn't well formed.

@@ -2,11 +2,11 @@
 ghost use Rattle.std.specs.Prelude.{◌≡◌, ◌+◌, ◌<◌, Some, length, slice_get};
 ghost use Rattle.class_model.specs.declared.class.Class.{Class};
 
-use crate::escapes::push_escaped;
 use class_pool::ClassSet;
 use jv_base::{M, Text};
 use keep_match::{class_matches, member_matches};
 use keep_rules::{ClassSpec, MemberSpec};
+use line_answers::push_escaped;
 use report_text::{class_text, member_text};
 use std::alloc::Global;
 
@@ -113,6 +113,6 @@ fn push_item(text: &mut String, item: &str) -> M<()> {
     if !text.is_empty() {
         text.push_str(" ")?;
     }
-    push_escaped(text, item)?;
+    push_escaped(text, item.as_bytes())?;
     Ok(())
 }

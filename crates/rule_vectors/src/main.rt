@@ -7,13 +7,12 @@
 #![tactic(auto)]
 
 mod config;
-mod escapes;
 mod items;
 mod matching;
 mod printing;
 
 use jv_base::{M, Text};
-use line_answers::{Answers, answer_standard_input};
+use line_answers::{Answers, answer_standard_input, first_word};
 use std::alloc::Global;
 use std::process::ExitCode;
 
@@ -22,7 +21,7 @@ struct Rows;
 
 impl Answers for Rows {
     fn answer(&self, alloc: Global, line: &[u8]) -> M<Option<Text>> {
-        let (question, words) = matching::first_word(line);
+        let (question, words) = first_word(line);
         match question {
             b"config" => config::answer(alloc, words),
             b"wild" => matching::wild_answer(alloc, words),

@@ -1,24 +1,16 @@
 // What patterns match, and specifications and rules in a set of class files.
 use crate::config::rules_of;
-use crate::escapes::{unescaped, unescaped_text};
 use crate::items::{Question, items_text};
 use class_pool::ClassSet;
 use jv_base::{M, Or, OutOfMemory, Text};
 use keep_match::{seeds_of, wild};
 use keep_rules::{Keep, Rules};
+use line_answers::{first_word, unescaped, unescaped_text};
 use line_sets::{files_of, set_of};
 use std::alloc::Global;
 
 /// The options before the keep options that are asked about.
 const BEFORE_KEEPS: &str = "-injars in -outjars out -printmapping map.txt ";
-
-/// A line up to its first blank, and what stands behind that.
-pub fn first_word(line: &[u8]) -> (&[u8], &[u8]) {
-    match line.iter().position(|byte| *byte == b' ') {
-        Some(at) => (&line[..at], &line[at + 1..]),
-        None => (line, &line[line.len()..]),
-    }
-}
 
 /// `yes` where a pattern matches a text, else `no`; none where one of the two isn't well formed.
 pub fn wild_answer(alloc: Global, words: &[u8]) -> M<Option<Text>> {

@@ -1,5 +1,4 @@
 // Rules and faults in words.
-use crate::escapes::push_listed;
 use jv_base::{Items, Text};
 use keep_rules::{ClassSpec, Filter, Keep, KeepKind, MemberSpec, RuleFault, RuleKind, Rules};
 use std::alloc::{AllocError, Global};
@@ -11,7 +10,7 @@ pub fn fault_text(alloc: Global, fault: &RuleFault) -> Result<String, AllocError
     text.push_str(kind_name(&fault.kind))?;
     if let Some(option) = option_of(&fault.kind) {
         text.push_str(" ")?;
-        push_listed(&mut text, option.as_str())?;
+        push_listed(&mut text, option.as_bytes())?;
     }
     Ok(text)
 }
@@ -103,7 +102,7 @@ fn push_member(text: &mut String, member: &MemberSpec) -> Result<(), AllocError>
 
 fn push_text(text: &mut String, name: &str, value: &Text) -> Result<(), AllocError> {
     text.push_str(name)?;
-    push_listed(text, value.as_str())
+    push_listed(text, value.as_bytes())
 }
 
 fn push_any(text: &mut String, name: &str, value: &Option<Text>) -> Result<(), AllocError> {
@@ -131,7 +130,7 @@ fn push_filters(text: &mut String, name: &str, filters: &Items<Filter>) -> Resul
         if filter.negated {
             text.push_str("!")?;
         }
-        push_listed(text, filter.pattern.as_str())?;
+        push_listed(text, filter.pattern.as_bytes())?;
     }
     text.push_str("]")
 }
@@ -142,7 +141,7 @@ fn push_types(text: &mut String, types: &Items<Text>) -> Result<(), AllocError> 
         if at > 0 {
             text.push_str(",")?;
         }
-        push_listed(text, ty.as_str())?;
+        push_listed(text, ty.as_bytes())?;
     }
     text.push_str("]")
 }

@@ -1,4 +1,5 @@
 pub mod ShrunkSet
+pub mod Lists
 pub mod OneShrunk
 pub mod Writable
 pub mod bodies

@@ -4,7 +4,6 @@ use Rattle.std.specs.List.{AllByRecursion, AllZip, sum_by}
 use Rattle.jv_base.specs.declared.outcome.Or.{Or}
 use Rattle.jv_base.specs.declared.outcome.Or.TheVariants.{Fault, OutOfMemory}
 use Rattle.tree_io.specs.declared.file_at.FileAt.{FileAt}
-use Rattle.mark_core.specs.Marks.{Marks}
 use Rattle.class_model.specs.WriteLimits.{class_written}
 use Rattle.class_model.specs.declared.class.Class.{Class}
 use Rattle.class_model.specs.declared.limit.WriteLimit.{WriteLimit}
@@ -12,21 +11,15 @@ use Rattle.keep_rules.specs.declared.rules.Rules.{Rules}
 use Rattle.member_shrink.specs.Shrunk.{shrunk}
 use Rattle.attribute_filter.specs.Filtered.{filtered}
 use Rattle.attribute_filter.specs.KeptAttributes.{filter_of}
-use Rattle.require_sys.specs.EarlySystem.{system_of}
 use Rattle.set_shrink.specs.declared.counts.Counts.{Counts}
 use Rattle.set_shrink.specs.declared.shrunk.ShrunkSet.{ShrunkSet}
 
 -- ---- what is kept
 
--- the classes of the least closed set of the system, with their members of that set
-pub record IsKept (classes : List Class) (rules : Rules) (kept : List Class) : Type 0 where
-  pub marks : List Bool
-  pub least : Marks (system_of classes rules) marks
-  pub left : kept ≡ shrunk classes marks
-
--- each class with those optional attributes that the rules keep (ProGuard manual, "-keepattributes")
-abbrev pub with_attributes : Rules → List Class → List Class
-with_attributes rules classes = map (filtered (filter_of rules)) classes
+-- the marked classes with their marked members, each with those optional attributes that the rules keep
+-- (ProGuard manual, "-keepattributes")
+abbrev pub left_of : List Class → List Bool → Rules → List Class
+left_of classes marks rules = map (filtered (filter_of rules)) (shrunk classes marks)
 
 -- ---- files
 
@@ -67,21 +60,18 @@ counts_of classes = record {
 
 -- ---- the whole (the project's own: what the command promises)
 
--- the files of what is kept, below the output directory, and the counts of all and of what is kept
-pub record IsShrunk (classes : List Class) (rules : Rules) (set : ShrunkSet) : Type 0 where
-  pub kept : List Class
-  pub are_kept : IsKept classes rules kept
-  pub files : AreFilesOf rules.out_dir (with_attributes rules kept) set.files
+-- the files of what is marked, below the output directory, and the counts of all and of what is marked
+pub record IsShrunk (classes : List Class) (marks : List Bool) (rules : Rules) (set : ShrunkSet) : Type 0 where
+  pub files : AreFilesOf rules.out_dir (left_of classes marks rules) set.files
   pub read : set.read ≡ counts_of classes
-  pub left : set.kept ≡ counts_of kept
+  pub left : set.kept ≡ counts_of (shrunk classes marks)
 
--- a class that is kept passes a limit
-abbrev pub PassesLimit : List Class → Rules → WriteLimit → Type 0
-PassesLimit classes rules limit = (kept : List Class) × IsKept classes rules kept
-    × PassLimit (with_attributes rules kept) limit
+-- a class that is marked passes a limit
+abbrev pub PassesLimit : List Class → List Bool → Rules → WriteLimit → Type 0
+PassesLimit classes marks rules limit = PassLimit (left_of classes marks rules) limit
 
 -- what is written of a set, or the first limit that it passes; want of memory is free
-abbrev pub Shrinks : Result ShrunkSet (Or WriteLimit) → List Class → Rules → Type 0
-Shrinks (Ok set) classes rules = IsShrunk classes rules set
-Shrinks (Err (Fault limit)) classes rules = PassesLimit classes rules limit
-Shrinks (Err OutOfMemory) classes rules = Unit {0}
+abbrev pub Shrinks : Result ShrunkSet (Or WriteLimit) → List Class → List Bool → Rules → Type 0
+Shrinks (Ok set) classes marks rules = IsShrunk classes marks rules set
+Shrinks (Err (Fault limit)) classes marks rules = PassesLimit classes marks rules limit
+Shrinks (Err OutOfMemory) classes marks rules = Unit {0}

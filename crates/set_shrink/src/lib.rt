@@ -4,8 +4,10 @@
 mod counts;
 mod files;
 mod laws;
+mod lists;
 mod shrunk;
 
 pub use counts::Counts;
 pub use laws::{filtered_can_be_written, one_shrunk_set, shrunk_can_be_written};
+pub use lists::lists_of;
 pub use shrunk::{ShrunkSet, shrink_set};

@@ -1,9 +1,8 @@
 // A set without what isn't kept.
-ghost use Rattle.std.specs.Prelude.{◌≡◌};
+ghost use Rattle.std.specs.Prelude.{◌≡◌, length};
 ghost use Rattle.std.specs.List.{AllByRecursion};
-ghost use Rattle.mark_core.specs.Valid.{Valid};
+ghost use Rattle.class_pool.specs.Count.{item_count};
 ghost use Rattle.class_write.specs.SpellingLaws.{IsWritable};
-ghost use Rattle.require_sys.specs.EarlySystem.{system_of};
 ghost use Rattle.set_shrink.specs.ShrunkSet.{Shrinks};
 
 use crate::counts::{Counts, counts_of};
@@ -13,7 +12,6 @@ use class_model::WriteLimit;
 use class_pool::ClassSet;
 use jv_base::{Items, Or};
 use keep_rules::Rules;
-use mark_core::{System, plain_marks};
 use member_shrink::shrunk;
 use std::alloc::Global;
 use tree_io::FileAt;
@@ -29,27 +27,25 @@ pub struct ShrunkSet {
     pub kept: Counts,
 }
 
-/// The files of a set without the members that aren't kept, below the output directory of the rules: each kept class
-/// with its kept members and those optional attributes that the rules keep, in its canonical spelling (JVMS 4). What is
-/// kept is the least that the system of the set and the rules asks for. Each class of the set can be written. The error
-/// is the first limit of the format that a kept class passes (JVMS 4.11).
+/// The files of a set without what isn't kept, below the output directory of the rules: each kept class with its kept
+/// members and those optional attributes that the rules keep, in its canonical spelling (JVMS 4). What is kept is
+/// marked, one mark for each item: each class of the set in its order, then its fields, then its methods. Each class of
+/// the set can be written. The error is the first limit of the format that a kept class passes (JVMS 4.11).
 pub fn shrink_set(
     alloc: Global,
     set: ClassSet,
-    sys: &System,
+    marks: &Items<bool>,
     rules: &Rules,
 ) -> Result<ShrunkSet, Or<WriteLimit>>
     requires writable { AllByRecursion IsWritable set }
-    requires system { sys.now ≡ system_of set rules.now }
-    requires valid { Valid sys.now }
-    ensures exact { Shrinks result set rules.now }
+    requires marks { length marks.now ≡ item_count set }
+    ensures exact { Shrinks result set marks.now rules.now }
 {
     set.few_items();
-    let marks = plain_marks(alloc, sys)?;
     let filter = attribute_filter(alloc, rules)?;
     let classes = set.into_classes();
     let read = counts_of(classes.as_slice());
-    let kept = shrunk(alloc, classes, &marks)?;
+    let kept = shrunk(alloc, classes, marks)?;
     let counts = counts_of(kept.as_slice());
     let files = files_of(alloc, kept, &filter, &rules.out_dir)?;
     Ok(ShrunkSet {

@@ -12,19 +12,20 @@ use tree_io::{FileTree, OpenGate, Sink, StreamSink};
 const HELP: &[u8] = b"Usage: shrink CONFIG OUTWIT
 
 Reads CONFIG, and the class files below the directory IN that it names, and writes them below the
-directory OUT without the methods that aren't kept, each in its canonical spelling. Then it says
-how many classes, fields and methods there were and how many are kept. Nothing is written to
+directory OUT without the classes, fields and methods that aren't kept, each in its canonical
+spelling. Then it says how many of them there were and how many are kept. Nothing is written to
 OUTWIT yet.
 
 CONFIG has ProGuard's options, among them
   -injars IN  -outjars OUT  -printmapping MAP
   -keepclasseswithmembers class * { public static void main(java.lang.String[]); }
   -keepattributes SourceFile,LineNumberTable
+  -printseeds SEEDS  -printusage USAGE
 of which the first three have to be there. docs/MANUAL.md has them all. OUT must have no file.
 Nothing is written to MAP yet, and nothing is optimised or renamed.
 
-All classes and fields are kept, and all methods but static ones. Of these class initialisation
-methods are kept, those that a rule of CONFIG keeps, and all that kept methods call.
+Kept is what the rules of CONFIG keep, and what that needs. SEEDS lists the former, USAGE what
+goes.
 
 Class files are the files whose names end in .class. Each lies at the path of its class, as
 IN/demo/X.class for demo.X. Classes, fields and methods that they name are their own or those of

@@ -1,6 +1,6 @@
 -- What files hold that the calls of a tree fit, step by step.
 use Rattle.std.proofs.Common.{◌≡◌, ℕ, Bool, true, false, cond, nat_lt, List, [], ◌∷◌, ◌++◌, length, Option, Some}
-use Rattle.std.proofs.Common.{Result, Ok, Err, refl, subst, ◌∙◌, inl, inr, ap}
+use Rattle.std.proofs.Common.{Result, Ok, Err, refl, sym, subst, ◌∙◌, inl, inr, ap}
 use Rattle.tree_io.specs.Below.{paths_below}
 use Rattle.std.specs.FinMap.{keys}
 use Rattle.tree_io.specs.Event.{files_to_write}
@@ -18,6 +18,7 @@ use Rattle.class_files.specs.Output as output
 use Rattle.class_files.specs.declared.input.InputFault.{InputFault}
 use Rattle.class_files.specs.declared.input.InputFault.TheVariants as fault
 use Rattle.class_model.specs.declared.class.Class.{Class}
+use Rattle.shrink_core.specs.Answer as answer
 use Rattle.shrink_core.specs.Answer.{Refuses, StopsSo, Writes, StopsBefore}
 use Rattle.keep_rules.specs.declared.rules.Rules.{Rules}
 use Rattle.shrink_core.proofs.OneConfig.{config_found}
@@ -31,6 +32,7 @@ use Rattle.shrink_core.specs.declared.refusal.Stop.TheVariants.{Refused, Device,
 use Rattle.shrink_core.specs.Due.{HasBytes, HasConfig, HasSet, IsDue, IsEmpty, IsPlan, IsResult, IsRefused}
 use Rattle.shrink_core.specs.Due.{RefusesConfig, RefusesInput, RefusesOutput, RefusesPlan}
 use Rattle.shrink_core.specs.Due.{by_config, by_output, by_input, by_plan}
+use Rattle.shrink_core.specs.Due.{by_format, by_list, by_seeds, by_system}
 use Rattle.shrink_core.specs.bodies.Steps.{ConfigOf, Finds, ReadsSet, StopsAs, input_stop, missed, missed_by}
 
 -- where a step was refused, what follows it is refused so
@@ -53,7 +55,8 @@ weaken absent P Q a b x y so p = made_so (Sees absent P) (Sees absent Q) a b x y
 -- ---- the config
 
 -- what the bytes of a file are is what stands there
-pub config_seen : (named : CommandFiles) (bytes : List ℕ) (r : Result Rules Stop) (a b : List Event) (x y : Option Files)
+pub config_seen : (named : CommandFiles) (bytes : List ℕ) (r : Result Rules Stop) (a b : List Event)
+    (x y : Option Files)
     → AddsCalls a b x y (Sees (Some []) (λ files. HasBytes files named.config bytes)) → ConfigOf r bytes named.witness
     → AddsCalls a b x y (Sees (missed named.config r)
     (λ files. Finds r (HasConfig files named) (RefusesConfig files named)))
@@ -202,6 +205,15 @@ taken named rules classes a b c x y z has p =
     made_sees (Some []) (Emptied named rules) (λ files. HasSet files rules.in_dir classes)
     (Taken named rules classes) a b c x y z (λ files there set. (there, set)) has p
 
+-- what is to be written is refused without a file being missed
+none_missed : (rules : Rules) (classes : List Class) (config : List ℕ) (refusal : Refusal)
+    → RefusesPlan rules classes refusal → answer.absent_by config refusal ≡ []
+none_missed rules classes config refusal (by_system many due is) = ap (answer.absent_by config) is
+none_missed rules classes config refusal (by_seeds sys due nothing is) = ap (answer.absent_by config) is
+none_missed rules classes config refusal (by_format marks kept limit passes is) = ap (answer.absent_by config) is
+none_missed rules classes config refusal (by_list marks kept shrunk is_shrunk long listed is) =
+    ap (answer.absent_by config) is
+
 pub planned : (named : CommandFiles) (rules : Rules) (classes : List Class) (r : Result Plan Stop) (a b : List Event)
     (x y : Option Files)
     → AddsCalls a b x y (Sees (Some []) (Taken named rules classes))
@@ -218,17 +230,11 @@ planned named rules classes (Ok plan) a b x y has is =
           there.1;
       planned = is;
     }) has
-planned named rules classes (Err (Refused (Limit quantity))) a b x y has is =
-    weaken (Some []) (Taken named rules classes) (Planned (no_plan (Refused (Limit quantity))) named) a b x y
-    (λ files there. by_plan rules classes there.0.0 there.0.1 there.1 is) has
-planned named rules classes (Err (Refused NoConfig)) a b x y has is = absurd is
-planned named rules classes (Err (Refused (BadRules fault))) a b x y has is =
-    weaken (Some []) (Taken named rules classes) (Planned (no_plan (Refused (BadRules fault))) named) a b x y
-    (λ files there. by_plan rules classes there.0.0 there.0.1 there.1 is) has
-planned named rules classes (Err (Refused (NotEmpty at))) a b x y has is = absurd is
-planned named rules classes (Err (Refused (Gone at))) a b x y has is = absurd is
-planned named rules classes (Err (Refused (Format at fault))) a b x y has is = absurd is
-planned named rules classes (Err (Refused (Profile fault))) a b x y has is = absurd is
+planned named rules classes (Err (Refused refusal)) a b x y has is =
+    subst (λ (paths : List (List ℕ)). AddsCalls a b x y (Sees (Some paths) (Planned (no_plan (Refused refusal)) named)))
+    (sym (none_missed rules classes named.config refusal is))
+    (weaken (Some []) (Taken named rules classes) (Planned (no_plan (Refused refusal)) named) a b x y
+    (λ files there. by_plan rules classes there.0.0 there.0.1 there.1 is) has)
 planned named rules classes (Err Device) a b x y has is =
     weaken (Some []) (Taken named rules classes) (Planned (no_plan Device) named) a b x y (λ files there. tt) has
 planned named rules classes (Err OutOfMemory) a b x y has is = lacks (Taken named rules classes) a b x y has

@@ -1,6 +1,5 @@
 -- What a run leaves of files that the tree tells.
-use Rattle.std.proofs.Common.{◌≡◌, ◌⊎◌, ℕ, List, Option, Some, None, Ok, Err, inl, inr, subst}
-use Rattle.std.specs.Prelude.{IfSome}
+use Rattle.std.proofs.Common.{◌≡◌, ◌⊎◌, ℕ, List, Option, Some, inl, inr, subst}
 use Rattle.tree_io.specs.Files.{Files}
 use Rattle.tree_io.specs.Runs.{Run, Tells}
 use Rattle.tree_io.specs.declared.event.Event.{Event}

@@ -39,8 +39,3 @@ module _ {Y : Type 0} (P : Y → Type 0) where
       All-append P (f (n, x)) (flat_map f (enumerate_from (n + 1) xs))
       (subst (λ (k : ℕ). All P (f (k, x))) here (each 0 x refl))
       (all_given f (n + 1) xs (λ i y is. subst (λ (k : ℕ). All P (f (k, y))) (next i) (each (suc i) y is)))
-
-  -- what some elements give
-  pub given : {X : Type 0} (h : X → Option Y) (xs : List X) → ((x : X) → IfSome (h x) P) → All P (filter_map h xs)
-  given h [] each = All-nil P
-  given h (x ∷ xs) each = put (h x) (filter_map h xs) (each x) (given h xs each)

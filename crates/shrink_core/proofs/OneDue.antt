@@ -1,5 +1,5 @@
 -- One thing at most is due of told files: one plan, or one refusal.
-use Rattle.std.proofs.Common.{◌≡◌, ◌⊎◌, inl, inr, ℕ, ◌<◌, Bool, true, false, cond, nat_lt, List, length}
+use Rattle.std.proofs.Common.{◌≡◌, ◌⊎◌, inl, inr, ℕ, ◌<◌, Bool, true, false, cond, nat_lt, List, ◌++◌, length}
 use Rattle.std.proofs.Common.{Option, Some, None, Result, Ok, Err, refl, sym, ap, subst, ◌∙◌, arith}
 use Rattle.std.specs.FinMap.{get}
 use Rattle.std.proofs.lemmas.Bool.{lt-ltb, le-ltb}
@@ -14,7 +14,13 @@ use Rattle.set_read.specs.Accepted.{IsAccepted, IsFault}
 use Rattle.set_read.specs.declared.fault.SetFault.{SetFault}
 use Rattle.set_read.specs.declared.fault.SetFault.TheVariants as set
 use Rattle.set_read.proofs.OneSet.{not_both, one_fault, one_set, same_some}
-use Rattle.set_shrink.specs.ShrunkSet.{PassesLimit}
+use Rattle.list_texts.specs.declared.limit.TooLong.{TooLong as LongList}
+use Rattle.mark_core.specs.Marks.{Marks}
+use Rattle.mark_core.specs.declared.system.System.{System}
+use Rattle.require_sys.specs.Required.{system_due}
+use Rattle.require_sys.specs.declared.limits.TooMany.{TooMany}
+use Rattle.set_shrink.specs.Lists.{lists_due}
+use Rattle.set_shrink.specs.ShrunkSet.{IsShrunk, PassesLimit}
 use Rattle.set_shrink.specs.declared.shrunk.ShrunkSet.{ShrunkSet}
 use Rattle.set_shrink.proofs.OneShrunk.{not_both_shrunk, one_limit, one_shrunk}
 use Rattle.keep_rules.specs.declared.fault.RuleFault.{RuleFault}
@@ -22,6 +28,7 @@ use Rattle.keep_rules.specs.declared.rules.Rules.{Rules}
 use Rattle.shrink_core.specs.Config.{IsConfig, config_read}
 use Rattle.shrink_core.specs.Due.{HasBytes, HasConfig, HasInput, HasSet, IsDue, IsEmpty, IsPlan}
 use Rattle.shrink_core.specs.Due.{by_config, by_input, by_output, by_plan, keeps_nothing}
+use Rattle.shrink_core.specs.Due.{by_format, by_list, by_seeds, by_system}
 use Rattle.shrink_core.specs.Due.{RefusesConfig, RefusesInput, RefusesOutput, RefusesPlan}
 use Rattle.shrink_core.specs.OneDue.{IsOneDue}
 use Rattle.shrink_core.specs.Refusal.{quantity_of}
@@ -35,6 +42,7 @@ use Rattle.shrink_core.specs.declared.refusal.Refusal.{Refusal}
 use Rattle.shrink_core.specs.declared.refusal.Refusal.TheVariants.{NoConfig, BadRules, NotEmpty, Gone, Format, Profile}
 use Rattle.shrink_core.specs.declared.refusal.Refusal.TheVariants.{Limit}
 use Rattle.shrink_core.proofs.OneConfig.{config_only, one_config}
+use Rattle.shrink_core.proofs.SameMarks.{same_marks}
 
 -- ---- one at most
 
@@ -119,6 +127,8 @@ config_refused files named (Limit quantity.Code) h = absurd h
 config_refused files named (Limit quantity.Table) h = absurd h
 config_refused files named (Limit quantity.Branch) h = absurd h
 config_refused files named (Limit quantity.Attribute) h = absurd h
+config_refused files named (Limit (quantity.System what)) h = absurd h
+config_refused files named (Limit quantity.Text) h = absurd h
 
 same_text : (files : Files) (path one other : List ℕ) → HasBytes files path one → get files path ≡ Some other
     → one ≡ other
@@ -147,6 +157,8 @@ config_not_refused files named rules (Limit quantity.Code) h k = k
 config_not_refused files named rules (Limit quantity.Table) h k = k
 config_not_refused files named rules (Limit quantity.Branch) h k = k
 config_not_refused files named rules (Limit quantity.Attribute) h k = k
+config_not_refused files named rules (Limit (quantity.System what)) h k = k
+config_not_refused files named rules (Limit quantity.Text) h k = k
 
 one_configured : (files : Files) (named : CommandFiles) → IsOne (Configures files named)
 one_configured files named (Ok rules) (Ok other) h k =
@@ -219,6 +231,8 @@ input_refused files directory (Limit quantity.Code) h = absurd h
 input_refused files directory (Limit quantity.Table) h = absurd h
 input_refused files directory (Limit quantity.Branch) h = absurd h
 input_refused files directory (Limit quantity.Attribute) h = absurd h
+input_refused files directory (Limit (quantity.System what)) h = absurd h
+input_refused files directory (Limit quantity.Text) h = absurd h
 input_refused files directory NoConfig h = absurd h
 input_refused files directory (BadRules fault) h = absurd h
 input_refused files directory (NotEmpty named) h = absurd h
@@ -260,59 +274,119 @@ one_taken files directory (Err refusal) (Err other) h k =
 
 -- ---- the plan
 
-abbrev Plans : Rules → List Class → Result Plan Refusal → Type 0
-Plans rules classes (Ok plan) = IsPlan rules classes plan
-Plans rules classes (Err refusal) = RefusesPlan rules classes refusal
+-- a step whose answer is a value
+one_value : {A : Type 0} (due : Result A Refusal) → IsOne (λ z. z ≡ due)
+one_value due one other h k = h ∙ sym k
+
+-- the system of requirements, or the limit that it passes
+abbrev system_told : Result System TooMany → Result System Refusal
+system_told (Ok sys) = Ok sys
+system_told (Err many) = Err (Limit (quantity.System many.what))
+
+-- what it marks, or that it keeps nothing
+abbrev Marked : Rules → System → Result (List Bool) Refusal → Type 0
+Marked rules sys (Ok marks) = (keeps_nothing rules sys ≡ false) × Marks sys marks
+Marked rules sys (Err refusal) = (keeps_nothing rules sys ≡ true) × (refusal ≡ BadRules nothing_kept)
 
 not_both_ways : (b : Bool) → b ≡ true → b ≡ false → ⊥
 not_both_ways b h k = absurd cc
 
--- nothing is kept, or a limit is passed
-abbrev PlanRefused : Rules → List Class → Refusal → Type 0
-PlanRefused rules classes refusal =
-    ((keeps_nothing rules classes ≡ true) × (refusal ≡ BadRules nothing_kept))
-    ⊎ ((keeps_nothing rules classes ≡ false) × (limit : WriteLimit) × PassesLimit classes rules limit
-    × (refusal ≡ Limit (quantity_of limit)))
+one_marked : (rules : Rules) (sys : System) → IsOne (Marked rules sys)
+one_marked rules sys (Ok marks) (Ok other) h k = ap Ok (same_marks sys marks other h.1 k.1)
+one_marked rules sys (Ok marks) (Err refusal) h k = absurd (not_both_ways (keeps_nothing rules sys) k.0 h.0)
+one_marked rules sys (Err refusal) (Ok marks) h k = absurd (not_both_ways (keeps_nothing rules sys) h.0 k.0)
+one_marked rules sys (Err refusal) (Err other) h k = ap Err (h.1 ∙ sym k.1)
 
-plan_refused : (rules : Rules) (classes : List Class) (refusal : Refusal) → RefusesPlan rules classes refusal
-    → PlanRefused rules classes refusal
-plan_refused rules classes (BadRules fault) h = inl (h.0, ap BadRules h.1)
-plan_refused rules classes (Limit quantity) h = inr (h.0, h.1, h.2, ap Limit h.3)
-plan_refused rules classes NoConfig h = absurd h
-plan_refused rules classes (NotEmpty named) h = absurd h
-plan_refused rules classes (Gone at) h = absurd h
-plan_refused rules classes (Format at fault) h = absurd h
-plan_refused rules classes (Profile fault) h = absurd h
+-- the class files of what is marked, or the limit of the format that they pass
+abbrev Written : Rules → List Class → List Bool → Result ShrunkSet Refusal → Type 0
+Written rules classes marks (Ok shrunk) = IsShrunk classes marks rules shrunk
+Written rules classes marks (Err refusal) =
+    (limit : WriteLimit) × PassesLimit classes marks rules limit × (refusal ≡ Limit (quantity_of limit))
 
-plan_not_refused : (rules : Rules) (classes : List Class) (plan : Plan) (refusal : Refusal)
-    → IsPlan rules classes plan → PlanRefused rules classes refusal → ⊥
-plan_not_refused rules classes plan refusal h (inl k) = not_both_ways (keeps_nothing rules classes) k.0 h.some
-plan_not_refused rules classes plan refusal h (inr k) = not_both_shrunk classes rules h.shrunk k.1 h.is_shrunk k.2
+one_written : (rules : Rules) (classes : List Class) (marks : List Bool) → IsOne (Written rules classes marks)
+one_written rules classes marks (Ok shrunk) (Ok other) h k =
+    ap Ok (one_shrunk classes marks rules shrunk other h k)
+one_written rules classes marks (Ok shrunk) (Err refusal) h k =
+    absurd (not_both_shrunk classes marks rules shrunk k.0 h k.1)
+one_written rules classes marks (Err refusal) (Ok shrunk) h k =
+    absurd (not_both_shrunk classes marks rules shrunk h.0 k h.1)
+one_written rules classes marks (Err refusal) (Err other) h k =
+    ap Err (h.2 ∙ (ap (λ (l : WriteLimit). Limit (quantity_of l)) (one_limit classes marks rules h.0 k.0 h.1 k.1)
+    ∙ sym k.2))
 
-one_refused_plan : (rules : Rules) (classes : List Class) → IsOne (PlanRefused rules classes)
-one_refused_plan rules classes refusal other (inl h) (inl k) = h.1 ∙ sym k.1
-one_refused_plan rules classes refusal other (inl h) (inr k) =
-    absurd (not_both_ways (keeps_nothing rules classes) h.0 k.0)
-one_refused_plan rules classes refusal other (inr h) (inl k) =
-    absurd (not_both_ways (keeps_nothing rules classes) k.0 h.0)
-one_refused_plan rules classes refusal other (inr h) (inr k) =
-    let limit : h.1 ≡ k.1 = one_limit classes rules h.1 k.1 h.2 k.2 in
-    h.3 ∙ (ap (λ (l : WriteLimit). Limit (quantity_of l)) limit ∙ sym k.3)
+-- the lists, or that one is too long
+abbrev lists_told : Result (List FileAt) LongList → Result (List FileAt) Refusal
+lists_told (Ok lists) = Ok lists
+lists_told (Err long) = Err (Limit quantity.Text)
+
+abbrev plan_for : ShrunkSet → List FileAt → Plan
+plan_for shrunk lists =
+    record { files = shrunk.files ++ lists; summary = summary_text shrunk.read shrunk.kept }
+
+abbrev Plans : Rules → List Class → Result Plan Refusal → Type 0
+Plans rules classes (Ok plan) = IsPlan rules classes plan
+Plans rules classes (Err refusal) = RefusesPlan rules classes refusal
+
+-- one step follows the other: the system, what it marks, the class files, the lists
+abbrev PlansBySteps : Rules → List Class → Result Plan Refusal → Type 0
+PlansBySteps rules classes = Then (λ z. z ≡ system_told (system_due classes rules))
+    (λ sys. Then (Marked rules sys)
+    (λ marks. Then (Written rules classes marks)
+    (λ shrunk. Then (λ z. z ≡ lists_told (lists_due classes marks rules)) (λ lists z. z ≡ Ok (plan_for shrunk lists)))))
+
+plan_is : (plan : Plan) (shrunk : ShrunkSet) (lists : List FileAt) → plan.files ≡ shrunk.files ++ lists
+    → plan.summary ≡ summary_text shrunk.read shrunk.kept → plan ≡ plan_for shrunk lists
+plan_is plan shrunk lists files summary = λ i. record { files = files i; summary = summary i }
+
+by_steps : (rules : Rules) (classes : List Class) (z : Result Plan Refusal) → Plans rules classes z
+    → PlansBySteps rules classes z
+by_steps rules classes (Ok plan) h = inr (
+  h.kept.sys,
+  ap system_told (sym h.kept.due),
+  inr (
+    h.marks,
+    (h.kept.some, h.kept.least),
+    inr (
+      h.shrunk,
+      h.is_shrunk,
+      inr (h.lists, ap lists_told (sym h.listed), ap Ok (plan_is plan h.shrunk h.lists h.files h.summary)),
+    ),
+  ),
+)
+by_steps rules classes (Err refusal) (by_system many due is) =
+    inl (Limit (quantity.System many.what), ap system_told (sym due), ap Err is)
+by_steps rules classes (Err refusal) (by_seeds sys due nothing is) =
+    inr (sys, ap system_told (sym due), inl (BadRules nothing_kept, (nothing, refl), ap Err is))
+by_steps rules classes (Err refusal) (by_format marks kept limit passes is) =
+    inr (
+      kept.sys,
+      ap system_told (sym kept.due),
+      inr (
+        marks,
+        (kept.some, kept.least),
+        inl (Limit (quantity_of limit), (limit, passes, refl), ap Err is),
+      ),
+    )
+by_steps rules classes (Err refusal) (by_list marks kept shrunk is_shrunk long listed is) =
+    inr (
+      kept.sys,
+      ap system_told (sym kept.due),
+      inr (
+        marks,
+        (kept.some, kept.least),
+        inr (shrunk, is_shrunk, inl (Limit quantity.Text, ap lists_told (sym listed), ap Err is)),
+      ),
+    )
 
 one_planned : (rules : Rules) (classes : List Class) → IsOne (Plans rules classes)
-one_planned rules classes (Ok plan) (Ok other) h k =
-    let shrunk = one_shrunk classes rules h.shrunk k.shrunk h.is_shrunk k.is_shrunk in
-    let files : plan.files ≡ other.files = h.files ∙ (ap (λ (s : ShrunkSet). s.files) shrunk ∙ sym k.files) in
-    let summary : plan.summary ≡ other.summary = h.summary
-    ∙ (ap (λ (s : ShrunkSet). summary_text s.read s.kept) shrunk ∙ sym k.summary) in
-    λ i. Ok (record { files = files i; summary = summary i })
-one_planned rules classes (Ok plan) (Err refusal) h k =
-    absurd (plan_not_refused rules classes plan refusal h (plan_refused rules classes refusal k))
-one_planned rules classes (Err refusal) (Ok plan) h k =
-    absurd (plan_not_refused rules classes plan refusal k (plan_refused rules classes refusal h))
-one_planned rules classes (Err refusal) (Err other) h k =
-    ap Err (one_refused_plan rules classes refusal other (plan_refused rules classes refusal h)
-    (plan_refused rules classes other k))
+one_planned rules classes one other h k =
+    then_one (λ z. z ≡ system_told (system_due classes rules)) _ (one_value (system_told (system_due classes rules)))
+    (λ sys. then_one (Marked rules sys) _ (one_marked rules sys)
+    (λ marks. then_one (Written rules classes marks) _ (one_written rules classes marks)
+    (λ shrunk. then_one (λ z. z ≡ lists_told (lists_due classes marks rules)) _
+    (one_value (lists_told (lists_due classes marks rules)))
+    (λ lists. one_value (Ok (plan_for shrunk lists))))))
+    one other (by_steps rules classes one h) (by_steps rules classes other k)
 
 -- ---- the law
 

@@ -1,23 +1,29 @@
 -- What a config keeps of a set can be written, or a first limit is passed.
-use Rattle.std.proofs.Common.{◌≡◌, ◌⊎◌, inl, inr, ℕ, Bool, true, false, List, [], ◌∷◌, Result, Ok, Err, refl, ap}
+use Rattle.std.proofs.Common.{◌≡◌, ◌⊎◌, inl, inr, ℕ, Bool, true, false, List, [], ◌∷◌, ◌++◌, Result, Ok, Err, refl, ap}
 use Rattle.tree_io.specs.declared.file_at.FileAt.{FileAt}
 use Rattle.mark_core.specs.Marks.{Marks}
 use Rattle.class_model.specs.WriteLimits.{class_written}
 use Rattle.class_model.specs.declared.class.Class.{Class}
 use Rattle.class_model.specs.declared.limit.WriteLimit.{WriteLimit}
 use Rattle.member_shrink.specs.Shrunk.{shrunk}
-use Rattle.require_sys.specs.EarlySystem.{system_of}
-use Rattle.set_shrink.specs.ShrunkSet.{AreFilesOf, IsKept, PassLimit, counts_of, path_of, with_attributes}
-use Rattle.shrink_core.specs.Due.{IsPlan, RefusesPlan, keeps_nothing}
+use Rattle.list_texts.specs.declared.limit.TooLong.{TooLong}
+use Rattle.mark_core.specs.declared.system.System.{System}
+use Rattle.require_sys.specs.Required.{system_due}
+use Rattle.require_sys.specs.declared.limits.TooMany.{TooMany}
+use Rattle.set_shrink.specs.Lists.{lists_due}
+use Rattle.set_shrink.specs.ShrunkSet.{AreFilesOf, IsShrunk, PassLimit, counts_of, left_of, path_of}
+use Rattle.set_shrink.specs.declared.shrunk.ShrunkSet.{ShrunkSet}
+use Rattle.shrink_core.specs.Due.{IsKept, IsPlan, RefusesPlan, by_format, by_list, by_seeds, by_system, keeps_nothing}
 use Rattle.shrink_core.specs.Refusal.{quantity_of}
 use Rattle.shrink_core.specs.RuleText.{nothing_kept}
 use Rattle.shrink_core.specs.Summary.{summary_text}
 use Rattle.keep_rules.specs.declared.rules.Rules.{Rules}
 use Rattle.shrink_core.specs.declared.refusal.Refusal.{Refusal}
 use Rattle.shrink_core.specs.declared.refusal.Refusal.TheVariants.{BadRules, Limit}
+use Rattle.shrink_core.specs.declared.quantity.Quantity.TheVariants as quantity
 use Rattle.shrink_core.specs.declared.shrink.Plan.{Plan}
 use Rattle.shrink_core.proofs.SomeMarks.{some_marks}
-use Rattle.shrink_core.proofs.SomeSystem.{system_valid}
+use Rattle.shrink_core.proofs.SomeSystem.{due_valid}
 
 -- classes have files, or a first one passes a limit
 abbrev Writes : List ℕ → List Class → Type 0
@@ -65,31 +71,48 @@ abbrev Planned : Rules → List Class → Type 0
 Planned rules classes =
     ((plan : Plan) × IsPlan rules classes plan) ⊎ ((refusal : Refusal) × RefusesPlan rules classes refusal)
 
-plan_of : (rules : Rules) (classes kept : List Class) → keeps_nothing rules classes ≡ false → IsKept classes rules kept
-    → Writes rules.out_dir (with_attributes rules kept) → Planned rules classes
-plan_of rules classes kept some are (inl (files, written)) = inl (
-  record { files = files; summary = summary_text (counts_of classes) (counts_of kept) },
+-- the lists are made, or one is too long
+plan_of : (rules : Rules) (classes : List Class) (marks : List Bool) → IsKept rules classes marks
+    → (shrunk : ShrunkSet) → IsShrunk classes marks rules shrunk
+    → (due : Result (List FileAt) TooLong) → lists_due classes marks rules ≡ due → Planned rules classes
+plan_of rules classes marks kept shrunk is_shrunk (Ok lists) listed = inl (
+  record { files = shrunk.files ++ lists; summary = summary_text shrunk.read shrunk.kept },
   record {
-    some = some;
-    shrunk = record { files = files; read = counts_of classes; kept = counts_of kept };
-    is_shrunk = record { kept = kept; are_kept = are; files = written; read = refl; left = refl };
+    marks = marks;
+    kept = kept;
+    shrunk = shrunk;
+    is_shrunk = is_shrunk;
+    lists = lists;
+    listed = listed;
     files = refl;
     summary = refl;
   },
 )
-plan_of rules classes kept some are (inr (limit, pass)) =
-    inr (Limit (quantity_of limit), (some, limit, (kept, are, pass), refl))
+plan_of rules classes marks kept shrunk is_shrunk (Err long) listed =
+    inr (Limit quantity.Text, by_list marks kept shrunk is_shrunk long listed refl)
 
-plan_by : (rules : Rules) (classes : List Class) (nothing : Bool) → keeps_nothing rules classes ≡ nothing
+plan_for : (rules : Rules) (classes : List Class) (marks : List Bool) → IsKept rules classes marks
+    → Writes rules.out_dir (left_of classes marks rules) → Planned rules classes
+plan_for rules classes marks kept (inl (files, written)) =
+    plan_of rules classes marks kept
+    (record { files = files; read = counts_of classes; kept = counts_of (shrunk classes marks) })
+    (record { files = written; read = refl; left = refl }) (lists_due classes marks rules) refl
+plan_for rules classes marks kept (inr (limit, pass)) =
+    inr (Limit (quantity_of limit), by_format marks kept limit pass refl)
+
+plan_by : (rules : Rules) (classes : List Class) (sys : System) → system_due classes rules ≡ Ok sys
+    → (nothing : Bool) → keeps_nothing rules sys ≡ nothing → Planned rules classes
+plan_by rules classes sys due true nothing = inr (BadRules nothing_kept, by_seeds sys due nothing refl)
+plan_by rules classes sys due false some =
+    let marks : (m : List Bool) × Marks sys m = some_marks sys (due_valid classes rules sys due) in
+    plan_for rules classes marks.0 (record { sys = sys; due = due; some = some; least = marks.1 })
+    (write_or rules.out_dir (left_of classes marks.0 rules))
+
+plan_at : (rules : Rules) (classes : List Class) (due : Result System TooMany) → system_due classes rules ≡ due
     → Planned rules classes
-plan_by rules classes true nothing = inr (BadRules nothing_kept, (nothing, refl))
-plan_by rules classes false some =
-    let marks : (m : List Bool) × Marks (system_of classes rules) m =
-    some_marks (system_of classes rules) (system_valid classes rules) in
-    let kept : List Class = shrunk classes marks.0 in
-    plan_of rules classes kept some (record { marks = marks.0; least = marks.1; left = refl })
-    (write_or rules.out_dir (with_attributes rules kept))
+plan_at rules classes (Ok sys) due = plan_by rules classes sys due (keeps_nothing rules sys) refl
+plan_at rules classes (Err many) due = inr (Limit (quantity.System many.what), by_system many due refl)
 
 pub plan_or : (rules : Rules) (classes : List Class)
     → ((plan : Plan) × IsPlan rules classes plan) ⊎ ((refusal : Refusal) × RefusesPlan rules classes refusal)
-plan_or rules classes = plan_by rules classes (keeps_nothing rules classes) refl
+plan_or rules classes = plan_at rules classes (system_due classes rules) refl

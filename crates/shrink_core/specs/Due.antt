@@ -1,5 +1,6 @@
 -- What a command is to do on told files (the project's own: what the command promises).
-use Rattle.std.specs.Prelude.{◌≡◌, ◌≤◌, ◌<◌, ℕ, Bool, true, false, ◌&&◌, ◌==◌, List, [], length, Some, None, Result, Ok, Err}
+use Rattle.std.specs.Prelude.{◌≡◌, ◌≤◌, ◌<◌, ℕ, Bool, true, false, ◌&&◌, ◌==◌, List, [], ◌++◌, length, Some, None}
+use Rattle.std.specs.Prelude.{Result, Ok, Err}
 use Rattle.std.specs.FinMap.{get, keys}
 use Rattle.tree_io.specs.Below.{paths_below}
 use Rattle.tree_io.specs.Files.{Files}
@@ -9,9 +10,14 @@ use Rattle.class_files.specs.declared.input.InputFault.TheVariants.{TooManyFiles
 use Rattle.class_model.specs.declared.class.Class.{Class}
 use Rattle.class_model.specs.declared.limit.WriteLimit.{WriteLimit}
 use Rattle.keep_rules.specs.declared.rules.Rules.{Rules}
-use Rattle.require_sys.specs.EarlySystem.{system_of}
+use Rattle.list_texts.specs.declared.limit.TooLong.{TooLong as LongList}
+use Rattle.mark_core.specs.Marks.{Marks}
+use Rattle.mark_core.specs.declared.system.System.{System}
+use Rattle.require_sys.specs.Required.{system_due}
+use Rattle.require_sys.specs.declared.limits.TooMany.{TooMany}
 use Rattle.set_read.specs.Accepted.{IsAccepted, IsFault}
 use Rattle.set_read.specs.declared.fault.SetFault.TheVariants as set
+use Rattle.set_shrink.specs.Lists.{lists_due}
 use Rattle.set_shrink.specs.ShrunkSet.{IsShrunk, PassesLimit}
 use Rattle.set_shrink.specs.declared.shrunk.ShrunkSet.{ShrunkSet}
 use Rattle.shrink_core.specs.Config.{IsConfig, config_read}
@@ -48,18 +54,32 @@ HasInput files directory inputs = input_due files directory ≡ Ok inputs
 abbrev pub HasSet : Files → List ℕ → List Class → Type 0
 HasSet files directory classes = (inputs : List FileAt) × HasInput files directory inputs × IsAccepted inputs classes
 
+-- ---- what is kept
+
+-- nothing is kept, though what isn't kept goes: the system has no seeds
+abbrev pub keeps_nothing : Rules → System → Bool
+keeps_nothing rules sys = rules.shrink && (length sys.seeds == 0)
+
+-- what is kept of the classes, as a truth value for each item: the least set that has all that the system of
+-- requirements asks for, which passes no limit and keeps something
+pub record IsKept (rules : Rules) (classes : List Class) (marks : List Bool) : Type 0 where
+  pub sys : System
+  pub due : system_due classes rules ≡ Ok sys
+  pub some : keeps_nothing rules sys ≡ false
+  pub least : Marks sys marks
+
 -- ---- the result
 
--- nothing is kept of classes, though what isn't kept goes: the system has no seeds
-abbrev pub keeps_nothing : Rules → List Class → Bool
-keeps_nothing rules classes = rules.shrink && (length (system_of classes rules).seeds == 0)
-
--- the files of what the rules keep of the classes, which is something, and the summary
+-- the files of the classes that are kept, behind them the list of what the rules keep and the list of what is dropped,
+-- where these are asked for; and the summary
 pub record IsPlan (rules : Rules) (classes : List Class) (plan : Plan) : Type 0 where
-  pub some : keeps_nothing rules classes ≡ false
+  pub marks : List Bool
+  pub kept : IsKept rules classes marks
   pub shrunk : ShrunkSet
-  pub is_shrunk : IsShrunk classes rules shrunk
-  pub files : plan.files ≡ shrunk.files
+  pub is_shrunk : IsShrunk classes marks rules shrunk
+  pub lists : List FileAt
+  pub listed : lists_due classes marks rules ≡ Ok lists
+  pub files : plan.files ≡ shrunk.files ++ lists
   pub summary : plan.summary ≡ summary_text shrunk.read shrunk.kept
 
 -- the rules, the empty directory and the set that lead to a plan
@@ -91,12 +111,19 @@ RefusesInput files directory (Profile fault) = (inputs : List FileAt) × HasInpu
     × IsFault inputs (set.Rule fault)
 RefusesInput files directory _ = ⊥
 
--- nothing is kept; or a class that is to be written passes a limit of the format
-abbrev pub RefusesPlan : Rules → List Class → Refusal → Type 0
-RefusesPlan rules classes (BadRules fault) = (keeps_nothing rules classes ≡ true) × (fault ≡ nothing_kept)
-RefusesPlan rules classes (Limit quantity) = (keeps_nothing rules classes ≡ false)
-    × (limit : WriteLimit) × PassesLimit classes rules limit × (quantity ≡ quantity_of limit)
-RefusesPlan rules classes _ = ⊥
+-- the system of requirements passes a limit; or nothing is kept; or a class that is kept passes a limit of the format;
+-- or each can be written, but one of the lists is longer than 64 MiB
+pub data RefusesPlan (rules : Rules) (classes : List Class) (refusal : Refusal) : Type 0 where
+  by_system : (many : TooMany) → system_due classes rules ≡ Err many → refusal ≡ Limit (quantity.System many.what)
+      → RefusesPlan rules classes refusal
+  by_seeds : (sys : System) → system_due classes rules ≡ Ok sys → keeps_nothing rules sys ≡ true
+      → refusal ≡ BadRules nothing_kept → RefusesPlan rules classes refusal
+  by_format : (marks : List Bool) → IsKept rules classes marks → (limit : WriteLimit)
+      → PassesLimit classes marks rules limit → refusal ≡ Limit (quantity_of limit)
+      → RefusesPlan rules classes refusal
+  by_list : (marks : List Bool) → IsKept rules classes marks → (shrunk : ShrunkSet)
+      → IsShrunk classes marks rules shrunk → (long : LongList) → lists_due classes marks rules ≡ Err long
+      → refusal ≡ Limit quantity.Text → RefusesPlan rules classes refusal
 
 -- the config isn't there, is too long, or has a first fault
 abbrev pub RefusesConfig : Files → CommandFiles → Refusal → Type 0

@@ -5,12 +5,13 @@ use Rattle.format_reading.specs.declared.fault.FormatFault.{FormatFault}
 use Rattle.class_model.specs.declared.limit.WriteLimit.{WriteLimit}
 use Rattle.class_model.specs.declared.limit.WriteLimit.TheVariants as limit
 use Rattle.report_text.specs.Kinds.{format_name}
+use Rattle.require_sys.specs.Required.{counted_limit, counted_name}
 use Rattle.set_read.specs.Accepted.{rule_name}
 use Rattle.set_read.specs.declared.fault.RuleFault.{RuleFault}
 use Rattle.shrink_core.specs.RuleText.{rules_line}
 use Rattle.shrink_core.specs.declared.quantity.Quantity.{Quantity}
 use Rattle.shrink_core.specs.declared.quantity.Quantity.TheVariants.{Config, Files, Classes, Input, Pool, Utf8, Code}
-use Rattle.shrink_core.specs.declared.quantity.Quantity.TheVariants.{Table, Branch, Attribute}
+use Rattle.shrink_core.specs.declared.quantity.Quantity.TheVariants.{Table, Branch, Attribute, System, Text}
 use Rattle.shrink_core.specs.declared.refusal.Refusal.{Refusal}
 use Rattle.shrink_core.specs.declared.refusal.Refusal.TheVariants.{NoConfig, BadRules, NotEmpty, Gone, Format, Profile}
 use Rattle.shrink_core.specs.declared.refusal.Refusal.TheVariants.{Limit}
@@ -25,12 +26,14 @@ quantity_name Config = codes "config"
 quantity_name Files = codes "files"
 quantity_name Classes = codes "classes"
 quantity_name Input = codes "input"
+quantity_name (System what) = counted_name what
 quantity_name Pool = codes "pool"
 quantity_name Utf8 = codes "utf8"
 quantity_name Code = codes "code"
 quantity_name Table = codes "table"
 quantity_name Branch = codes "branch"
 quantity_name Attribute = codes "attribute"
+quantity_name Text = codes "text"
 
 -- the greatest number that each may be; those of a class file are the format's own (JVMS 4.7, 4.11, 6.5)
 abbrev pub quantity_limit : Quantity → ℕ
@@ -38,12 +41,14 @@ quantity_limit Config = 67108864
 quantity_limit Files = 65536
 quantity_limit Classes = 20000
 quantity_limit Input = 67108864
+quantity_limit (System what) = counted_limit what
 quantity_limit Pool = 65535
 quantity_limit Utf8 = 65535
 quantity_limit Code = 65535
 quantity_limit Table = 65535
 quantity_limit Branch = 32767
 quantity_limit Attribute = 4294967295
+quantity_limit Text = 67108864
 
 -- what a limit of the format counts
 abbrev pub quantity_of : WriteLimit → Quantity

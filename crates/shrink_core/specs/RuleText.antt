@@ -1,5 +1,5 @@
 -- What is said of a config that is refused (the project's own: what the command says).
-use Rattle.std.specs.Prelude.{ℕ, List, [], ◌++◌, Option, Some, None, codes}
+use Rattle.std.specs.Prelude.{ℕ, List, ◌++◌, Option, Some, None, codes}
 use Rattle.std.specs.Fmt.{decimal}
 use Rattle.keep_rules.specs.declared.fault.RuleFault.{RuleFault}
 use Rattle.keep_rules.specs.declared.fault.RuleKind.{RuleKind}

@@ -112,38 +112,39 @@ fn run_on<T: Tree, S: Sink>(alloc: Global, named: &CommandFiles, tree: &mut T, o
 ///
 /// A config has options as ProGuard has them (`read_rules` of `keep_rules`): `-injars IN`, `-outjars OUT` and
 /// `-printmapping MAP`, which have to be there, and others. IN, OUT and MAP are paths; one `/` at the end of a
-/// directory is dropped. Nothing is written to MAP yet, nor to the files of `-printseeds` and `-printusage`, and
-/// nothing is optimised or renamed.
+/// directory is dropped. Nothing is written to MAP yet, and nothing is optimised or renamed.
 ///
-/// All classes and fields are kept, and all methods but static ones; of these class initialisation methods, the methods
-/// that a keep rule keeps, and all that kept methods call; under `-dontshrink` all. Each class is written in its
-/// canonical spelling, with the attributes ConstantValue, Code and StackMapTable, and of SourceFile, Exceptions,
-/// LineNumberTable, Synthetic and Deprecated those that `-keepattributes` keeps, or all under `-dontobfuscate`.
+/// Kept is the least set of classes, fields and methods that has what keep rules keep and what all that is kept needs
+/// (`system_of` of `require_sys`); under `-dontshrink` all. Each class is written in its canonical spelling, with its
+/// kept members and the attributes ConstantValue, Code and StackMapTable, and of SourceFile, Exceptions,
+/// LineNumberTable, Synthetic and Deprecated those that `-keepattributes` keeps, or all under `-dontobfuscate`. Behind
+/// the classes a list of what the rules keep goes to the file of `-printseeds`, and one of what is dropped to the file
+/// of `-printusage`, where these are given.
 ///
 /// | Status | Comes | Text |
 /// |---|---|---|
 /// | 0 | where the files were written | the summary |
 /// | 1 | exactly where the words aren't those | `error 1 words` |
 /// | 2 | where no file stands at CONFIG, or a class file that was listed isn't there any more | `error 2 absent PATH` |
-/// | 3 | where the config breaks its grammar, or the set has no class to keep | `error 3 rules LINE KIND` |
+/// | 3 | where the config breaks its grammar, or no rule keeps anything | `error 3 rules LINE KIND` |
 /// | 4 | where a file below IN that ends in `.class` is no class file | `error 4 format PATH OFFSET KIND` |
 /// | 5 | where these are no set, a rule is broken, or a code isn't typed | `error 5 profile CLASS MEMBER KIND` |
 /// | 6 | where a quantity passes its limit | `error 6 limit QUANTITY LIMIT` |
-/// | 7 | only where a count of faults rose: the tree's, or, once the files were written, the sink's | `error 7 device`
-/// |
+/// | 7 | only where a count of faults rose, the tree's or (once the files stand) the sink's | `error 7 device` |
 /// | 8 | where a file lies below OUT | `error 8 not-empty OUT` |
 /// | 10 | where memory is wanting | `error 10 memory` |
 ///
 /// The config is looked at first, then OUT, then IN: the number of its files, of its class files, and of their bytes;
-/// then each class file by itself, in the order of their paths, and then all as a set; then whether anything is kept;
-/// last what is to be written. LINE counts from 1, and is 0 where the config as a whole is at fault; KIND has its
-/// option behind it. CLASS is a name with dots, MEMBER as `int x` or `int f(int)`, and `-` where the class itself is at
-/// fault; of a code that isn't typed KIND is two words, as `Type Local`. Limits: `config` and `input` (the class files
-/// together) 67,108,864 bytes, `files` 65,536 and `classes` 20,000 below IN, and what a class file has room for
-/// (`pool`, `utf8`, `code`, `table`, `branch`, `attribute`).
+/// then each class file by itself, in the order of their paths, and then all as a set; then how much they have and need
+/// (`items`, `needs`, `pairs`); then whether anything is kept; last what is to be written, the classes before the
+/// lists. LINE counts from 1, and is 0 where the config as a whole is at fault; KIND has its option behind it. CLASS is
+/// a name with dots, MEMBER as `int x` or `int f(int)`, and `-` where the class itself is at fault; of a code that
+/// isn't typed KIND is two words, as `Type Local`. Limits: `config` and `input` (the class files together) 67,108,864
+/// bytes, `files` 65,536 and `classes` 20,000 below IN, `items` 1,048,576, `needs` and `pairs` 16,777,216, what a class
+/// file has room for (`pool`, `utf8`, `code`, `table`, `branch`, `attribute`), and `text` (a list) 67,108,864 bytes.
 ///
-/// After 1 to 6 and 8 no file has changed. After 7 and 10 the first of the files to be written may stand, in the order
-/// of their paths; after 7 the next path may hold any bytes.
+/// After 1 to 6 and 8 no file has changed. After 7 and 10 the first of the files to be written may stand: the class
+/// files in the order of their paths, then both lists; after 7 the next path may hold any bytes.
 ///
 /// The summary is five lines: `classes`, `fields` and `methods`, each with how many were read and how many are kept,
 /// `edited 0` and `fallback 0`.

@@ -22,8 +22,7 @@ pub fn one_due()
 {}
 
 /// Of files that hold bytes something is due for each command: a plan, or a refusal. So, with `one_due`, exactly one
-/// thing
-/// is.
+/// thing is.
 pub fn some_due()
     ensures { IsSomeDue }
 {}
@@ -34,9 +33,8 @@ pub fn some_marks()
 {}
 
 /// Where a tree tells its files, what `run` says of its calls settles them: after status 0 they are the old ones with
-/// the
-/// plan that is due put, after a refusal that is due they are as they were, after 10 they are as they were or hold the
-/// first files of the plan that is due, and after 7 the same, while the path of the next file may hold any bytes.
+/// the plan that is due put, after a refusal that is due they are as they were, after 10 they are as they were or hold
+/// the first files of the plan that is due, and after 7 the same, while the path of the next file may hold any bytes.
 pub fn told_files_are_left_as_due()
     ensures { LeavesTold }
 {}

@@ -3,6 +3,7 @@ ghost use Rattle.std.specs.Prelude.{◌≡◌};
 ghost use Rattle.shrink_core.specs.Refusal.{quantity_limit, quantity_name, quantity_of};
 
 use class_model::WriteLimit;
+use require_sys::Counted;
 
 /// A counted quantity with a limit.
 #[derive(Clone, Copy, PartialEq, Eq)]
@@ -15,6 +16,8 @@ pub enum Quantity {
     Classes,
     /// The bytes of these together.
     Input,
+    /// What is counted of the system of requirements.
+    System(Counted),
     /// The constant_pool_count of a class file that is written (JVMS 4.1).
     Pool,
     /// The bytes of a text of its constant pool (JVMS 4.4.7).
@@ -27,6 +30,8 @@ pub enum Quantity {
     Branch,
     /// The bytes of an attribute (JVMS 4.7).
     Attribute,
+    /// The bytes of a text that is written.
+    Text,
 }
 
 impl Quantity {
@@ -39,12 +44,14 @@ impl Quantity {
             Quantity::Files => "files",
             Quantity::Classes => "classes",
             Quantity::Input => "input",
+            Quantity::System(counted) => counted.name(),
             Quantity::Pool => "pool",
             Quantity::Utf8 => "utf8",
             Quantity::Code => "code",
             Quantity::Table => "table",
             Quantity::Branch => "branch",
             Quantity::Attribute => "attribute",
+            Quantity::Text => "text",
         }
     }
 
@@ -53,9 +60,10 @@ impl Quantity {
         ensures { result ≡ quantity_limit self }
     {
         match self {
-            Quantity::Config | Quantity::Input => 67_108_864,
+            Quantity::Config | Quantity::Input | Quantity::Text => 67_108_864,
             Quantity::Files => 65_536,
             Quantity::Classes => 20_000,
+            Quantity::System(counted) => counted.limit(),
             Quantity::Pool | Quantity::Utf8 | Quantity::Code | Quantity::Table => 65_535,
             Quantity::Branch => 32_767,
             Quantity::Attribute => 4_294_967_295,

@@ -1,39 +1,42 @@
 // The command `shrink` without what it says.
-ghost use Rattle.std.specs.Prelude.{◌≡◌, ◌≤◌, ◌&&◌, ◌==◌, IsErrOf, false, length};
+ghost use Rattle.std.specs.Prelude.{◌≡◌, ◌≤◌, ◌++◌, IfOk, IsErrOf, length};
 ghost use Rattle.std.specs.List.{AllByRecursion};
 ghost use Rattle.tree_io.specs.Count.{Rose};
 ghost use Rattle.tree_io.specs.Runs.{AddsCalls, Sees};
 ghost use Rattle.mark_core.specs.Valid.{Valid};
 ghost use Rattle.class_write.specs.SpellingLaws.{IsWritable};
-ghost use Rattle.require_sys.specs.EarlySystem.{system_of};
-ghost use Rattle.shrink_core.specs.Due.{IsPlan, IsRefused, IsResult, RefusesPlan, keeps_nothing};
-ghost use Rattle.shrink_core.specs.bodies.Steps.{Finds, Shrinks, missed};
+ghost use Rattle.class_pool.specs.Count.{item_count};
+ghost use Rattle.shrink_core.specs.Due.{IsKept, IsPlan, IsRefused, IsResult, RefusesPlan, keeps_nothing};
+ghost use Rattle.shrink_core.specs.bodies.Steps.{Finds, Joins, MarksOf, Shrinks, missed};
 
 use crate::finding::{check_empty, find_config, find_set};
-use crate::quantity::quantity_of;
+use crate::quantity::{Quantity, quantity_of};
 use crate::refusal::{Refusal, Stop};
 use crate::rule_text::nothing_kept;
 use crate::summary::summary_text;
 use crate::words::CommandFiles;
 use class_files::write_files;
 use class_pool::ClassSet;
-use jv_base::{Items, Or, Text};
+use jv_base::{Items, M, Or, Text};
 use keep_rules::Rules;
-use mark_core::System;
+use list_texts::TooLong;
+use mark_core::{System, plain_marks};
 use require_sys::system_of;
-use set_shrink::shrink_set;
+use set_shrink::{ShrunkSet, lists_of, shrink_set};
 use std::alloc::Global;
 use tree_io::{FileAt, Tree, WriteFault};
 
 /// What a shrink is to write and to say.
 #[derive(Drop)]
 pub struct Plan {
+    /// In the order in which they are written: the class files, then the lists that the config asks for.
     pub files: Items<FileAt>,
     /// The summary.
     pub summary: Text,
 }
 
-/// Reads the class files of the input directory, and writes what the config keeps of them below the output directory.
+/// Reads the class files of the input directory, and writes what the config keeps of them below the output directory,
+/// and the lists that it asks for.
 pub fn shrink<T: Tree>(alloc: Global, named: &CommandFiles, tree: &mut T) -> Result<Plan, Stop>
     ensures later { T.faults tree.old ≤ T.faults tree.new }
     ensures device { IsErrOf result Stop.Device → Rose (T.faults tree.old) (T.faults tree.new) }
@@ -68,35 +71,86 @@ fn plan_of(alloc: Global, rules: &Rules, set: ClassSet) -> Result<Plan, Stop>
     ensures planned { Finds result (IsPlan rules.now set) (RefusesPlan rules.now set) }
     ensures device { IsErrOf result Stop.Device → ⊥ }
 {
-    let sys = system_of(alloc, &set, rules)?;
-    if lacks_seeds(rules, &sys) {
+    let marks = marks_of(alloc, rules, &set)?;
+    kept_plan(alloc, rules, set, &marks)
+}
+
+// ---- what is kept
+
+/// For each item of a set whether rules keep it.
+fn marks_of(alloc: Global, rules: &Rules, set: &ClassSet) -> Result<Items<bool>, Stop>
+    ensures kept { Finds result (IsKept rules.now set.now) (RefusesPlan rules.now set.now) }
+    ensures count { IfOk result (λ marks. length marks ≡ item_count set.now) }
+    ensures device { IsErrOf result Stop.Device → ⊥ }
+{
+    match system_of(alloc, set, rules) {
+        Ok(sys) => least_marks(alloc, rules, &sys),
+        Err(Or::Fault(many)) => Err(Stop::Refused(Refusal::Limit(Quantity::System(many.what)))),
+        Err(Or::OutOfMemory) => Err(Stop::OutOfMemory),
+    }
+}
+
+/// For each item whether a system marks it, if rules keep something by it.
+fn least_marks(alloc: Global, rules: &Rules, sys: &System) -> Result<Items<bool>, Stop>
+    requires valid { Valid sys.now }
+    ensures { MarksOf result rules.now sys.now }
+{
+    if lacks_seeds(rules, sys) {
         return Err(Stop::Refused(Refusal::BadRules(nothing_kept())));
     }
-    kept_plan(alloc, rules, set, &sys)
+    Ok(plain_marks(alloc, sys)?)
 }
 
 /// Whether nothing is kept, though what isn't kept goes.
 fn lacks_seeds(rules: &Rules, sys: &System) -> bool
-    ensures { result ≡ (rules.now.shrink && (length sys.now.seeds == 0)) }
+    ensures { result ≡ keeps_nothing rules.now sys.now }
 {
     rules.shrink && sys.seeds.is_empty()
 }
 
-/// The plan for a set of which something is kept.
-fn kept_plan(alloc: Global, rules: &Rules, set: ClassSet, sys: &System) -> Result<Plan, Stop>
+// ---- what is written
+
+/// The plan for a set of which the marked items are kept. The lists are made while the set is whole; that one of them
+/// is too long is told behind the limits of the classes.
+fn kept_plan(alloc: Global, rules: &Rules, set: ClassSet, marks: &Items<bool>) -> Result<Plan, Stop>
     requires writable { AllByRecursion IsWritable set }
-    requires system { sys.now ≡ system_of set rules.now }
-    requires valid { Valid sys.now }
-    requires some { keeps_nothing rules.now set ≡ false }
+    requires count { length marks.now ≡ item_count set }
+    requires kept { IsKept rules.now set marks.now }
     ensures planned { Finds result (IsPlan rules.now set) (RefusesPlan rules.now set) }
     ensures device { IsErrOf result Stop.Device → ⊥ }
 {
-    match shrink_set(alloc, set, sys, rules) {
-        Ok(shrunk) => Ok(Plan {
-            summary: summary_text(alloc, shrunk.read, shrunk.kept)?,
-            files: shrunk.files,
-        }),
+    let lists = lists_of(alloc, &set, marks, rules);
+    match shrink_set(alloc, set, marks, rules) {
+        Ok(shrunk) => joined(alloc, shrunk, lists),
         Err(Or::Fault(limit)) => Err(Stop::Refused(Refusal::Limit(quantity_of(limit)))),
         Err(Or::OutOfMemory) => Err(Stop::OutOfMemory),
     }
+}
+
+/// The plan of what is written of a set, and of its lists.
+fn joined(
+    alloc: Global,
+    shrunk: ShrunkSet,
+    lists: Result<Items<FileAt>, Or<TooLong>>,
+) -> Result<Plan, Stop>
+    ensures { Joins result shrunk lists }
+{
+    match lists {
+        Ok(lists) => {
+            let summary = summary_text(alloc, shrunk.read, shrunk.kept)?;
+            let files = with_lists(shrunk.files, lists)?;
+            Ok(Plan { files, summary })
+        }
+        Err(Or::Fault(_)) => Err(Stop::Refused(Refusal::Limit(Quantity::Text))),
+        Err(Or::OutOfMemory) => Err(Stop::OutOfMemory),
+    }
+}
+
+/// Files, and lists behind them.
+fn with_lists(files: Items<FileAt>, lists: Items<FileAt>) -> M<Items<FileAt>>
+    ensures { IfOk result (λ all. all ≡ files ++ lists) }
+{
+    let mut all = files.into_vec();
+    all.append(&mut lists.into_vec())?;
+    Ok(Items::from_vec(all))
 }

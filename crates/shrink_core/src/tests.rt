@@ -50,34 +50,6 @@ const DEMO_X: &[u8] = b"\xCA\xFE\xBA\xBE\0\0\0\x34\0\x0C\
 \0\x01\0\x05\0\x06\0\x01\0\x07\0\0\0\x11\0\x01\0\x01\0\0\0\x05\x2A\xB7\0\x09\xB1\0\0\0\0\
 \0\x09\0\x0A\0\x0B\0\x01\0\x07\0\0\0\x0E\0\x01\0\0\0\0\0\x02\x04\xAC\0\0\0\0\0\0";
 
-// The same without `k`.
-const DEMO_X_INIT: &[u8] = b"\xCA\xFE\xBA\xBE\0\0\0\x34\0\x0A\
-\x01\0\x06demo/X\x07\0\x01\x01\0\x10java/lang/Object\x07\0\x03\x01\0\x06<init>\x01\0\x03()V\x01\0\x04Code\
-\x0C\0\x05\0\x06\x0A\0\x04\0\x08\
-\0\x21\0\x02\0\x04\0\0\0\0\0\x01\
-\0\x01\0\x05\0\x06\0\x01\0\x07\0\0\0\x11\0\x01\0\x01\0\0\0\x05\x2A\xB7\0\x09\xB1\0\0\0\0\0\0";
-
-// `demo.S` with `static int x`, an initialiser that sets it to `demo.X.k()`, `int v()` and `static void u()`.
-const DEMO_S: &[u8] = b"\xCA\xFE\xBA\xBE\0\0\0\x34\0\x14\
-\x01\0\x06demo/S\x07\0\x01\x01\0\x10java/lang/Object\x07\0\x03\x01\0\x01x\x01\0\x01I\x01\0\x08<clinit>\
-\x01\0\x03()V\x01\0\x04Code\x01\0\x06demo/X\x07\0\x0A\x01\0\x01k\x01\0\x03()I\x0C\0\x0C\0\x0D\x0A\0\x0B\0\x0E\
-\x0C\0\x05\0\x06\x09\0\x02\0\x10\x01\0\x01v\x01\0\x01u\
-\0\x21\0\x02\0\x04\0\0\0\x01\
-\0\x09\0\x05\0\x06\0\0\0\x03\
-\0\x08\0\x07\0\x08\0\x01\0\x09\0\0\0\x13\0\x01\0\0\0\0\0\x07\xB8\0\x0F\xB3\0\x11\xB1\0\0\0\0\
-\0\x01\0\x12\0\x0D\0\x01\0\x09\0\0\0\x0E\0\x01\0\x01\0\0\0\x02\x03\xAC\0\0\0\0\
-\0\x09\0\x13\0\x08\0\x01\0\x09\0\0\0\x0D\0\0\0\0\0\0\0\x01\xB1\0\0\0\0\0\0";
-
-// The same without `u`.
-const DEMO_S_KEPT: &[u8] = b"\xCA\xFE\xBA\xBE\0\0\0\x34\0\x13\
-\x01\0\x06demo/S\x07\0\x01\x01\0\x10java/lang/Object\x07\0\x03\x01\0\x01x\x01\0\x01I\x01\0\x08<clinit>\
-\x01\0\x03()V\x01\0\x04Code\x01\0\x06demo/X\x07\0\x0A\x01\0\x01k\x01\0\x03()I\x0C\0\x0C\0\x0D\x0A\0\x0B\0\x0E\
-\x0C\0\x05\0\x06\x09\0\x02\0\x10\x01\0\x01v\
-\0\x21\0\x02\0\x04\0\0\0\x01\
-\0\x09\0\x05\0\x06\0\0\0\x02\
-\0\x08\0\x07\0\x08\0\x01\0\x09\0\0\0\x13\0\x01\0\0\0\0\0\x07\xB8\0\x0F\xB3\0\x11\xB1\0\0\0\0\
-\0\x01\0\x12\0\x0D\0\x01\0\x09\0\0\0\x0E\0\x01\0\x01\0\0\0\x02\x03\xAC\0\0\0\0\0\0";
-
 // The interface `A`, without members, of 53 bytes.
 const INTERFACE: &[u8] = b"\xCA\xFE\xBA\xBE\0\0\0\x34\0\x05\
 \x01\0\x01A\x07\0\x01\x01\0\x10java/lang/Object\x07\0\x03\
@@ -163,11 +135,6 @@ const A_C_D: &[u8] =
 \x01f\x01\0\x03()I\x01\0\x04Code\0!\0\x02\0\x04\0\0\0\0\0\x01\0\x09\0\x05\0\x06\0\x01\0\x07\0\0\0\
 \x0E\0\x01\0\0\0\0\0\x02\x03\xAC\0\0\0\0\0\0";
 
-// The same without it.
-const A_C_D_BARE: &[u8] =
-    b"\xCA\xFE\xBA\xBE\0\0\x004\0\x05\x01\0\x05a/c/D\x07\0\x01\x01\0\x10java/lang/Object\x07\0\x03\0!\0\
-\x02\0\x04\0\0\0\0\0\0\0\0";
-
 // `demo.N` with `static int f()`, and all optional attributes: SourceFile, lines, Exceptions, Synthetic and Deprecated.
 const DEMO_N: &[u8] =
     b"\xCA\xFE\xBA\xBE\0\0\x004\0\x10\x01\0\x06demo/N\x07\0\x01\x01\0\x10java/lang/Object\x07\0\x03\x01\0\
@@ -211,6 +178,14 @@ const KEEP_F: &[u8] = b"-injars in\n-outjars out/\n-printmapping map.txt\n\
 const KEEP_G: &[u8] = b"-injars in/\n-outjars out\n-printmapping map.txt\n\
 -keep class Main { static int f(int,int); static int g(int); }\n";
 
+// The config that keeps these and all of `demo.X`, and asks for both lists.
+const KEEP_BOTH: &[u8] = b"-injars in\n-outjars out\n-printmapping map.txt\n\
+-printseeds seeds.txt\n-printusage use.txt\n\
+-keep class Main { static int f(int); }\n-keep class demo.X { *; }\n";
+
+// The config that keeps everything.
+const KEEP_ALL: &[u8] = b"-injars in\n-outjars out\n-printmapping map.txt\n-dontshrink\n";
+
 // ---- runs
 
 const CONFIG: &str = "shrink.pro";
@@ -225,6 +200,23 @@ const MAIN_AND_X: &[Row<'static>] = &[
     ("in/Main.class", MAIN),
     ("in/demo/X.class", DEMO_X),
 ];
+
+const BOTH_KEPT: &[Row<'static>] = &[
+    (CONFIG, KEEP_BOTH),
+    ("in/Main.class", MAIN),
+    ("in/demo/X.class", DEMO_X),
+];
+
+const BOTH_WRITTEN: &[Row<'static>] = &[
+    ("out/Main.class", MAIN_F_G),
+    ("out/demo/X.class", DEMO_X),
+    ("seeds.txt", SEEDS),
+    ("use.txt", USAGE),
+];
+
+const SEEDS: &[u8] = b"Main\nMain: int f(int)\ndemo.X\ndemo.X: void <init>()\ndemo.X: int k()\n";
+
+const USAGE: &[u8] = b"Main:\n    int h(int)\n";
 
 // The words and the files of a run, and which calls of the tree and of the sink fail.
 #[derive(Clone, Copy)]
@@ -306,7 +298,8 @@ fn expect_end(
     Ok(())
 }
 
-// What stands in a tree: these files, and of others just those below the output directory.
+// What stands in a tree: these files, and of others below the output directory, of lists, mapping and witness just
+// those that were written.
 fn expect_files(
     rt: &(impl Abort + Threads + Sync),
     alloc: Global,
@@ -316,10 +309,22 @@ fn expect_files(
 ) -> M<()> {
     assert!(rt; holds_each(alloc, tree, files)?);
     assert!(rt; holds_each(alloc, tree, written)?);
-    assert!(rt; has_written(alloc, tree, written.len())?);
-    assert!(rt; holds(alloc, tree, "map.txt", None)?);
-    assert!(rt; holds(alloc, tree, "wit.txt", None)?);
+    let below = written.iter().filter(|row| row.0.starts_with("out/"));
+    assert!(rt; has_written(alloc, tree, below.count())?);
+    for path in ["map.txt", "seeds.txt", "use.txt", "wit.txt"] {
+        assert!(rt; holds(alloc, tree, path, bytes_at(written, path))?);
+    }
     Ok(())
+}
+
+// The bytes that rows have at a path, if one has.
+fn bytes_at<'a>(rows: &[Row<'a>], path: &str) -> Option<&'a [u8]> {
+    for (at, bytes) in rows {
+        if *at == path {
+            return Some(bytes);
+        }
+    }
+    None
 }
 
 // The end of a run, and what then stands below the output directory. All other files are as they were.
@@ -388,31 +393,22 @@ const WRITTEN: &[(&[Row<'static>], &str, &[Row<'static>])] = &[
         "classes 1 1\nfields 0 0\nmethods 1 0\nedited 0\nfallback 0\n",
         &[("out/Main.class", MAIN_BARE)],
     ),
-    // a static method of another class is kept where it is called
+    // a class that nothing needs goes
     (
         MAIN_AND_X,
-        "classes 2 2\nfields 0 0\nmethods 5 3\nedited 0\nfallback 0\n",
-        &[
-            ("out/Main.class", MAIN_F_G),
-            ("out/demo/X.class", DEMO_X_INIT),
-        ],
+        "classes 2 1\nfields 0 0\nmethods 5 2\nedited 0\nfallback 0\n",
+        &[("out/Main.class", MAIN_F_G)],
     ),
+    // the lists behind the class files
     (
-        &[
-            (CONFIG, KEEP_F),
-            ("in/demo/S.class", DEMO_S),
-            ("in/demo/X.class", DEMO_X),
-        ],
-        "classes 2 2\nfields 1 1\nmethods 5 4\nedited 0\nfallback 0\n",
-        &[
-            ("out/demo/S.class", DEMO_S_KEPT),
-            ("out/demo/X.class", DEMO_X),
-        ],
+        BOTH_KEPT,
+        "classes 2 2\nfields 0 0\nmethods 5 4\nedited 0\nfallback 0\n",
+        BOTH_WRITTEN,
     ),
     // of the files below the directory those that end in `.class` are looked at
     (
         &[
-            (CONFIG, KEEP_F),
+            (CONFIG, KEEP_ALL),
             ("in/A.class", INTERFACE),
             ("in/A.classes", MAGIC),
             ("in/demo/X.class.txt", DEMO_X),
@@ -488,28 +484,25 @@ fn two_stars_for_a_type_are_a_class_and_no_array(rt: HostRuntime) -> Result<(), 
 #[test]
 fn a_star_in_a_class_name_takes_no_dot_unless_it_stands_alone(rt: HostRuntime) -> Result<(), Fail> {
     let rows = [("in/a/B.class", A_B), ("in/a/c/D.class", A_C_D)];
-    for (rest, kept, below) in [
-        ("-keep class a.* { static int f(); }", 1u32, A_C_D_BARE),
-        ("-keep class * { static int f(); }", 2u32, A_C_D),
-        ("-keep class a.** { static int f(); }", 2u32, A_C_D),
-        (
-            "-keepnames class * { *; } -keep class a.B { *; }",
-            1,
-            A_C_D_BARE,
-        ),
-        (
-            "-keepclassmembers class * { *; } -keep class a.B { *; }",
-            1,
-            A_C_D_BARE,
-        ),
-        ("-dontshrink", 2u32, A_C_D),
+    let written = [("out/a/B.class", A_B), ("out/a/c/D.class", A_C_D)];
+    for (rest, kept) in [
+        ("-keep class a.* { static int f(); }", 1u32),
+        ("-keep class * { static int f(); }", 2),
+        ("-keep class a.** { static int f(); }", 2),
+        ("-keepnames class * { *; } -keep class a.B { *; }", 1),
+        ("-keepclassmembers class * { *; } -keep class a.B", 1),
+        ("-dontshrink", 2),
     ] {
         let alloc = rt.alloc();
         let said = format!(in alloc;
-            "classes 2 2\nfields 0 0\nmethods 2 {kept}\nedited 0\nfallback 0\n"
+            "classes 2 {kept}\nfields 0 0\nmethods 2 {kept}\nedited 0\nfallback 0\n"
         )?;
-        let written = [("out/a/B.class", A_B), ("out/a/c/D.class", below)];
-        expect_kept(&rt, alloc, rest, &rows, 0, said.as_str(), &written)?;
+        let written = if kept == 1 {
+            &written[..1]
+        } else {
+            &written[..]
+        };
+        expect_kept(&rt, alloc, rest, &rows, 0, said.as_str(), written)?;
     }
     Ok(())
 }
@@ -854,39 +847,46 @@ fn what_is_kept_has_to_fit_into_a_class_file(rt: HostRuntime) -> Result<(), Fail
 
 // ---- devices
 
-// The config is read, both directories are listed, the classes are read, the files are written, the summary is said.
+// What is written where this call of the tree fails. The first five read the config, list both directories and read the
+// classes; the others write, and the one that fails writes the first half.
+fn written_until(alloc: Global, call: u64) -> M<Vec<Row<'static>>> {
+    let mut rows = Vec::new(alloc);
+    for (number, (path, bytes)) in BOTH_WRITTEN.iter().enumerate() {
+        let write = number as u64 + 5;
+        if write < call {
+            rows.push((*path, *bytes))?;
+        }
+        if write == call {
+            rows.push((*path, &bytes[..bytes.len() / 2]))?;
+        }
+    }
+    Ok(rows)
+}
+
+// The device fails at these calls.
+fn expect_failed(
+    rt: &(impl Abort + Threads + Sync),
+    alloc: Global,
+    tree_fails: &[u64],
+    sink_fails: &[u64],
+    written: &[Row<'_>],
+) -> M<()> {
+    let run = Run {
+        words: COMMAND,
+        files: BOTH_KEPT,
+        tree_fails,
+        sink_fails,
+    };
+    expect_of(rt, alloc, &run, 7, "error 7 device\n", written)
+}
+
 #[test]
 fn devices_fail_in_turn(rt: HostRuntime) -> Result<(), Fail> {
-    let first = &MAIN_F_G[..MAIN_F_G.len() / 2];
-    let second = &DEMO_X_INIT[..DEMO_X_INIT.len() / 2];
-    for (tree_fails, sink_fails, written) in [
-        ([0].as_slice(), [].as_slice(), [].as_slice()),
-        (&[1], &[], &[]),
-        (&[2], &[], &[]),
-        (&[3], &[], &[]),
-        (&[4], &[], &[]),
-        (&[5], &[], &[("out/Main.class", first)]),
-        (
-            &[6],
-            &[],
-            &[("out/Main.class", MAIN_F_G), ("out/demo/X.class", second)],
-        ),
-        (
-            &[],
-            &[0],
-            &[
-                ("out/Main.class", MAIN_F_G),
-                ("out/demo/X.class", DEMO_X_INIT),
-            ],
-        ),
-    ] {
-        let run = Run {
-            words: COMMAND,
-            files: MAIN_AND_X,
-            tree_fails,
-            sink_fails,
-        };
-        expect_of(&rt, rt.alloc(), &run, 7, "error 7 device\n", written)?;
+    let alloc = rt.alloc();
+    for call in 0..9 {
+        let written = written_until(alloc, call)?;
+        expect_failed(&rt, alloc, &[call], &[], written.as_slice())?;
     }
+    expect_failed(&rt, alloc, &[], &[0], BOTH_WRITTEN)?;
     Ok(())
 }

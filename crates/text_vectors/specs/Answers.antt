@@ -6,6 +6,7 @@ use Rattle.mapping_file.specs.declared.mapping.MapFault.{MapFault}
 use Rattle.mapping_file.specs.declared.mapping.MapKind.{MapKind}
 use Rattle.mapping_file.specs.declared.mapping.MapKind.TheVariants as bad_map
 use Rattle.mapping_file.specs.declared.mapping.Mapping.{Mapping}
+use Rattle.retrace_core.specs.Retraced.{retraced}
 use Rattle.witness_file.specs.Witnesses.{witness_text}
 use Rattle.witness_file.specs.declared.witness.WitFault.{WitFault}
 use Rattle.witness_file.specs.declared.witness.WitKind.{WitKind}
@@ -42,3 +43,8 @@ mapping_answer (Err f) = fault_answer f.line (map_kind_name f.kind)
 abbrev pub witness_answer : Result Witness WitFault → List ℕ
 witness_answer (Ok w) = ok_answer (witness_text w)
 witness_answer (Err f) = fault_answer f.line (wit_kind_name f.kind)
+
+-- what is said of a mapping's text and a trace
+abbrev pub retrace_answer : Result Mapping MapFault → List ℕ → List ℕ
+retrace_answer (Ok map) trace = ok_answer (retraced map trace)
+retrace_answer (Err f) trace = fault_answer f.line (map_kind_name f.kind)

@@ -2,11 +2,12 @@
 ghost use Rattle.std.specs.Prelude.{◌≡◌, ◌<◌, IfOk, length};
 ghost use Rattle.mapping_file.specs.MapReading.{read_mapping};
 ghost use Rattle.witness_file.specs.WitnessReading.{read_witness};
-ghost use Rattle.text_vectors.specs.Answers.{fault_answer, map_kind_name, mapping_answer, ok_answer, wit_kind_name};
-ghost use Rattle.text_vectors.specs.Answers.{witness_answer};
+ghost use Rattle.text_vectors.specs.Answers.{fault_answer, map_kind_name, mapping_answer, ok_answer, retrace_answer};
+ghost use Rattle.text_vectors.specs.Answers.{wit_kind_name, witness_answer};
 
 use jv_base::{M, Or, OutOfMemory};
 use mapping_file::{MapKind, read_mapping, write_mapping};
+use retrace_core::retrace;
 use std::alloc::Global;
 use witness_file::{WitKind, read_witness, write_witness};
 
@@ -30,6 +31,18 @@ pub(crate) fn witness_answer(alloc: Global, bytes: &[u8]) -> M<Vec<u8>>
     match read_witness(alloc, bytes) {
         Ok(w) => ok_answer(alloc, write_witness(alloc, &w)?.as_slice()),
         Err(Or::Fault(fault)) => fault_answer(alloc, fault.line, wit_kind_name(fault.kind)),
+        Err(Or::OutOfMemory) => Err(OutOfMemory),
+    }
+}
+
+/// A trace with the old names of the mapping that a text stands for, or the text's first fault.
+pub(crate) fn retrace_answer(alloc: Global, bytes: &[u8], trace: &[u8]) -> M<Vec<u8>>
+    requires { length bytes.now < 4294967295 }
+    ensures { IfOk result (λ text. text.items ≡ retrace_answer (read_mapping bytes.now) trace.now) }
+{
+    match read_mapping(alloc, bytes) {
+        Ok(map) => ok_answer(alloc, retrace(alloc, &map, trace)?.as_slice()),
+        Err(Or::Fault(fault)) => fault_answer(alloc, fault.line, map_kind_name(fault.kind)),
         Err(Or::OutOfMemory) => Err(OutOfMemory),
     }
 }

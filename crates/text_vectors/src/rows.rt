@@ -1,19 +1,21 @@
 // The lines of the run.
 ghost use Rattle.std.specs.Prelude.{◌<◌, IfOk, IfSome, length};
 
-use crate::answer::{mapping_answer, witness_answer};
-use crate::escapes::{escaped, unescaped};
+use crate::answer::{mapping_answer, retrace_answer, witness_answer};
 use jv_base::{M, Text};
-use line_answers::Answers;
+use line_answers::{Answers, escaped_line, unescaped};
 use std::alloc::Global;
 
-/// The answers to mappings and witnesses.
+/// The answers to mappings, witnesses and traces.
 pub(crate) struct Rows;
 
 impl Answers for Rows {
     fn answer(&self, alloc: Global, line: &[u8]) -> M<Option<Text>> {
         if let Some(text) = line.strip_prefix(b"mapping ") {
             return mapping_row(alloc, text);
+        }
+        if let Some(text) = line.strip_prefix(b"retrace ") {
+            return retrace_row(alloc, text);
         }
         match line.strip_prefix(b"witness ") {
             Some(text) => witness_row(alloc, text),
@@ -27,7 +29,7 @@ fn mapping_row(alloc: Global, text: &[u8]) -> M<Option<Text>> {
         return Ok(None);
     };
     let answer = mapping_answer(alloc, bytes.as_slice())?;
-    Ok(Some(escaped(alloc, answer.as_slice())?))
+    Ok(Some(escaped_line(alloc, answer.as_slice())?))
 }
 
 fn witness_row(alloc: Global, text: &[u8]) -> M<Option<Text>> {
@@ -35,7 +37,24 @@ fn witness_row(alloc: Global, text: &[u8]) -> M<Option<Text>> {
         return Ok(None);
     };
     let answer = witness_answer(alloc, bytes.as_slice())?;
-    Ok(Some(escaped(alloc, answer.as_slice())?))
+    Ok(Some(escaped_line(alloc, answer.as_slice())?))
+}
+
+// A mapping, in which no byte is a blank, and a trace.
+fn retrace_row(alloc: Global, texts: &[u8]) -> M<Option<Text>> {
+    let Some(blank) = texts.iter().position(|b| *b == b' ') else {
+        return Ok(None);
+    };
+    let Some(map) = bytes_of(alloc, &texts[..blank])? else {
+        return Ok(None);
+    };
+    match bytes_of(alloc, &texts[blank + 1..])? {
+        Some(trace) => {
+            let answer = retrace_answer(alloc, map.as_slice(), trace.as_slice())?;
+            Ok(Some(escaped_line(alloc, answer.as_slice())?))
+        }
+        None => Ok(None),
+    }
 }
 
 // The bytes that a text spells, fewer than 4 GiB of them.

@@ -1,5 +1,8 @@
 -- What the steps of a command have found or said (only the proof of run needs it).
-use Rattle.std.specs.Prelude.{◌≡◌, ◌⊎◌, ℕ, List, Option, Some, None, [], Result, Ok, Err}
+use Rattle.std.specs.Prelude.{◌≡◌, ◌⊎◌, ℕ, Bool, true, false, List, Option, Some, None, [], ◌++◌, Result, Ok, Err}
+use Rattle.jv_base.specs.declared.outcome.Or.{Or}
+use Rattle.jv_base.specs.declared.outcome.Or.TheVariants.{Fault}
+use Rattle.jv_base.specs.declared.outcome.Or.TheVariants as too
 use Rattle.tree_io.specs.declared.event.Event.{Event}
 use Rattle.tree_io.specs.declared.file_at.FileAt.{FileAt}
 use Rattle.class_files.specs.Input.{path_in}
@@ -8,10 +11,17 @@ use Rattle.class_files.specs.declared.input.InputFault.TheVariants as input
 use Rattle.class_model.specs.declared.class.Class.{Class}
 use Rattle.set_read.specs.Accepted.{IsAccepted, IsFault}
 use Rattle.set_read.specs.declared.fault.SetFault.TheVariants as set
+use Rattle.list_texts.specs.declared.limit.TooLong.{TooLong}
+use Rattle.set_shrink.specs.declared.shrunk.ShrunkSet.{ShrunkSet}
 use Rattle.shrink_core.specs.Answer.{FailsSo, Hands, LacksSo, Output, Puts, StopsSo, Writes, absent_by}
 use Rattle.keep_rules.specs.declared.rules.Rules.{Rules}
+use Rattle.mark_core.specs.Marks.{Marks}
+use Rattle.mark_core.specs.declared.system.System.{System}
 use Rattle.shrink_core.specs.Config.{config_read}
+use Rattle.shrink_core.specs.Due.{keeps_nothing}
+use Rattle.shrink_core.specs.RuleText.{nothing_kept}
 use Rattle.shrink_core.specs.Refusal.{status_of, line_of}
+use Rattle.shrink_core.specs.Summary.{summary_text}
 use Rattle.shrink_core.specs.declared.quantity.Quantity.TheVariants as quantity
 use Rattle.shrink_core.specs.declared.refusal.Refusal.{Refusal}
 use Rattle.shrink_core.specs.declared.refusal.Refusal.TheVariants.{BadRules, Gone, Format, Profile, Limit}
@@ -70,6 +80,24 @@ ReadsSet (Err (Refused (Profile fault))) directory inputs = IsFault inputs (set.
 ReadsSet (Err (Refused _)) directory inputs = ⊥
 ReadsSet (Err Device) directory inputs = ⊥
 ReadsSet (Err OutOfMemory) directory inputs = Unit {0}
+
+-- what a system marks that keeps something, or that it keeps nothing
+abbrev pub MarksOf : Result (List Bool) Stop → Rules → System → Type 0
+MarksOf (Ok marks) rules sys = (keeps_nothing rules sys ≡ false) × Marks sys marks
+MarksOf (Err (Refused refusal)) rules sys = (keeps_nothing rules sys ≡ true) × (refusal ≡ BadRules nothing_kept)
+MarksOf (Err Device) rules sys = ⊥
+MarksOf (Err OutOfMemory) rules sys = Unit {0}
+
+-- what is written of a set with its lists, and the summary; or one of the lists is too long
+abbrev pub Joins : Result Plan Stop → ShrunkSet → Result (List FileAt) (Or TooLong) → Type 0
+Joins (Ok plan) shrunk (Ok lists) = (plan.files ≡ shrunk.files ++ lists)
+    × (plan.summary ≡ summary_text shrunk.read shrunk.kept)
+Joins (Ok plan) shrunk (Err e) = ⊥
+Joins (Err (Refused refusal)) shrunk (Ok lists) = ⊥
+Joins (Err (Refused refusal)) shrunk (Err (Fault long)) = refusal ≡ Limit quantity.Text
+Joins (Err (Refused refusal)) shrunk (Err too.OutOfMemory) = ⊥
+Joins (Err Device) shrunk lists = ⊥
+Joins (Err OutOfMemory) shrunk lists = Unit {0}
 
 -- the plan was done, or the command stopped before
 abbrev pub Shrinks : Result Plan Stop → CommandFiles → List Event → Type 0

@@ -1,8 +1,12 @@
-use Rattle.std.proofs.Common.{ℕ, ◌+◌, ◌++◌, ap, ◌∙◌, arith}
+use Rattle.std.proofs.Common.{◌≡◌, ◌≤◌, ℕ, ◌+◌, ◌++◌, List, length, Err, sym, ap, subst, ◌∙◌, arith}
+use Rattle.std.proofs.lemmas.List.{take_all}
+use Rattle.std.proofs.lemmas.Result.{err_from_is_err_and}
+use Rattle.list_texts.specs.bodies.Appends.{IsShort}
+use Rattle.list_texts.proofs.Limits.{items_shorter, not_made, not_made_within, short_enough}
 use Rattle.std.specs.Prelude.{string_bytes}
 use Rattle.std.specs.List.{enumerate_from, flat_map}
 use Rattle.mark_core.specs.Marks.{set_of}
-use Rattle.list_texts.specs.ItemTexts.{item_texts_of, line_if}
+use Rattle.list_texts.specs.ItemTexts.{item_texts, item_texts_of, line_if, up_to}
 use Rattle.list_texts.proofs.Listing.{class_item-le, class_item-next, class_more}
 use Rattle.list_texts.proofs.seeds.marked_lines.Goals as goal
 
@@ -11,6 +15,53 @@ push_class-requires-clause-within c =
     let next = class_item-next c.args.set.now c.loop-number.number c.class-class.result.now c.class-class.ensures.is in
     let most = class_item-le c.args.set.now (c.loop-number.number + 1) in
     omega (arith, next, most, c.requires, c.loop-number.invariant.item)
+
+pub returns-in_err-push_class : goal.returns-in_err-push_class
+returns-in_err-push_class c =
+    let class = c.class-class.result.now in
+    let classes = c.args.set.now in
+    let lines : ℕ × List ℕ → List ℕ = line_if (set_of c.args.marks.now) in
+    let front : List ℕ = string_bytes c.loop-number.text in
+    let more : List ℕ = flat_map lines (enumerate_from c.loop-number.item (item_texts_of class)) in
+    let whole : List ℕ = flat_map lines (enumerate_from 0 (item_texts classes)) in
+    let made = ap length (class_more lines classes c.loop-number.number class front (front ++ more)
+    c.class-class.ensures.is c.loop-number.invariant.text
+    (ap (λ (k : ℕ). front ++ flat_map lines (enumerate_from k (item_texts_of class))) c.loop-number.invariant.item)) in
+    let shorter = items_shorter lines 0 classes (c.loop-number.number + 1) in
+    let p = err_from_is_err_and c.from_residual.result c.from_residual.ensures.1 in
+    rw (p.1, p.2) (not_made_within c.in_err-push_class.field-0.0 c.args.limit front more
+    (string_bytes c.push_class.new.out) whole (omega (arith, made, shorter)) c.in_err-push_class.ensures)
+
+pub returns-in_err-check_length : goal.returns-in_err-check_length
+returns-in_err-check_length c =
+    let class = c.class-class.result.now in
+    let classes = c.args.set.now in
+    let lines : ℕ × List ℕ → List ℕ = line_if (set_of c.args.marks.now) in
+    let old : List ℕ = string_bytes c.loop-number.text in
+    let front : List ℕ = string_bytes c.push_class.new.out in
+    let made = ap length (class_more lines classes c.loop-number.number class old front
+    c.class-class.ensures.is c.loop-number.invariant.text
+    (c.in_ok-push_class.ensures
+    ∙ ap (λ (k : ℕ). old ++ flat_map lines (enumerate_from k (item_texts_of class))) c.loop-number.invariant.item)) in
+    let shorter = items_shorter lines 0 classes (c.loop-number.number + 1) in
+    let e = c.in_err-check_length.field-0.0 in
+    let long = subst (λ (t : List ℕ). IsShort (Err e) c.args.limit t) c.as_str.ensures.value
+    c.in_err-check_length.ensures in
+    let p = err_from_is_err_and c.from_residual-in_err-check_length.result
+    c.from_residual-in_err-check_length.ensures.1 in
+    rw (p.1, p.2) (not_made e c.args.limit front (flat_map lines (enumerate_from 0 (item_texts classes)))
+    (omega (arith, made, shorter)) long)
+
+pub returns : goal.returns
+returns c =
+    let classes = c.args.set.now in
+    let lines : ℕ × List ℕ → List ℕ = line_if (set_of c.args.marks.now) in
+    let all = take_all c.loop-number.number classes
+    (omega (arith, c.loop-number-test.false, c.len-number-end.ensures)) in
+    let is : string_bytes c.loop-number.text ≡ flat_map lines (enumerate_from 0 (item_texts classes)) =
+    c.loop-number.invariant.text ∙ ap (λ t. flat_map lines (enumerate_from 0 (item_texts t))) all in
+    ap (up_to c.args.limit) (sym is)
+    ∙ short_enough c.args.limit (string_bytes c.loop-number.text) c.loop-number.invariant.short
 
 pub loop-number-preserved : goal.loop-number-preserved
 loop-number-preserved c =
@@ -24,4 +75,5 @@ loop-number-preserved c =
           ++ flat_map (line_if (set_of c.args.marks.now)) (enumerate_from k (item_texts_of class)))
           c.loop-number.invariant.item);
       item = omega (arith, next, c.loop-number.invariant.item, c.count_of.ensures);
+      short = subst (λ (t : List ℕ). length t ≤ c.args.limit) c.as_str.ensures.value c.in_ok-check_length.ensures;
     }

@@ -1,11 +1,12 @@
-use Rattle.require_sys.specs.EarlySystem.{class_needs}
+use Rattle.std.proofs.Common.{List, ℕ, refl, subst}
+use Rattle.require_sys.specs.Requires.{class_needs}
+use Rattle.require_sys.specs.bodies.Counting.{HasNeeds}
 use Rattle.require_sys.proofs.Steps.{numbered_given}
 use Rattle.require_sys.proofs.needs.needs_of.Goals as goal
 
 pub loop-number-preserved : goal.loop-number-preserved
-loop-number-preserved c = record {
-  are = numbered_given
-      (class_needs c.args.numbered.now.set.now) c.args.numbered.now.set.now c.loop-number.number c.class.result.now c.loop-number.needs c.push_class.new.needs c.class.ensures.is
-      c.loop-number.invariant.are c.in_ok-push_class.ensures.pushed;
-  below = c.in_ok-push_class.ensures.below;
-}
+loop-number-preserved c =
+    subst (λ (t : List (List ℕ)). HasNeeds t c.add_class.new.needs)
+    (numbered_given (class_needs c.args.numbered.now.set.now c.args.kept.now) c.args.numbered.now.set.now
+    c.loop-number.number c.class.result.now _ _ c.class.ensures.is refl refl)
+    (c.in_ok-add_class.ensures _ c.loop-number.invariant)

@@ -1,14 +1,47 @@
-use Rattle.std.proofs.Common.{◌<◌, All, length, sym, ap, subst, ◌∙◌}
-use Rattle.std.proofs.lemmas.List.Elements.{All-nil, All-same}
-use Rattle.mark_core.specs.Valid.{PairBelow}
-use Rattle.require_sys.specs.bodies.Starts.{AreBelow}
-use Rattle.require_sys.proofs.Numbering.{length-needs}
+use Rattle.std.proofs.Common.{rules, ◌≡◌, List, Result, Err, arith, subst, sym, ◌∙◌}
+use Rattle.jv_base.specs.Outcome.{IsDue}
+use Rattle.jv_base.specs.declared.outcome.Or.{Or}
+use Rattle.mark_core.specs.declared.system.System.{System}
+use Rattle.class_model.specs.declared.class.Class.{Class}
+use Rattle.require_sys.specs.Required.{system_due}
+use Rattle.require_sys.specs.bodies.Asked.{AreMembers}
+use Rattle.require_sys.specs.declared.kept.KeptByRules.{KeptByRules}
+use Rattle.require_sys.specs.declared.limits.Counted.TheVariants.{Items}
+use Rattle.require_sys.specs.declared.limits.TooMany.{TooMany}
+use Rattle.require_sys.proofs.AskedThere.{are_members, due_valid, items_fault, whole_due}
+use Rattle.require_sys.proofs.Limiting.{fits}
 use Rattle.require_sys.proofs.system.system_of.Goals as goal
 
+pub returns-in_err-within-clause-exact : goal.returns-in_err-within-clause-exact
+returns-in_err-within-clause-exact c =
+    let same : c.from_residual-in_err-within.result ≡ Err c.in_err-within.field-0.0 = search rules in
+    let count : c.from.result ≡ c.count.result = search rules in
+    subst (λ (r : Result System (Or TooMany)). IsDue r (system_due c.args.set.now c.args.rules.now)) (sym same)
+    (items_fault c.args.set.now _ c.args.rules.now c.from.result tt c.in_err-within.field-0.0 c.in_ok-numbered.ensures
+    (count ∙ c.count.ensures) c.in_err-within.ensures)
+
+pub limited_system-requires-clause-few : goal.limited_system-requires-clause-few
+limited_system-requires-clause-few c =
+    let low = fits Items _ tt tt c.in_ok-within.ensures in
+    omega (arith, low, c.count.ensures)
+
+pub limited_system-requires-clause-members : goal.limited_system-requires-clause-members
+limited_system-requires-clause-members c =
+    subst (λ (set : List Class). AreMembers set c.in_ok-kept.kept.members) (sym c.in_ok-numbered.ensures)
+    (subst (λ (kept : KeptByRules). AreMembers c.args.set.now kept.members) (sym c.in_ok-kept.ensures)
+    (are_members c.args.set.now c.args.rules.now))
+
+pub returns-clause-exact : goal.returns-clause-exact
+returns-clause-exact c =
+    let count : c.from.result ≡ c.count.result = search rules in
+    whole_due c.limited_system.result c.args.set.now _ c.args.rules.now c.in_ok-kept.kept c.from.result tt
+    c.in_ok-within.field-0 c.in_ok-numbered.ensures c.in_ok-kept.ensures (count ∙ c.count.ensures)
+    c.in_ok-within.ensures c.limited_system.ensures
+
 pub returns-clause-valid : goal.returns-clause-valid
-returns-clause-valid c = (
-  ap length c.in_ok-needs_of.ensures.are ∙ length-needs c.in_ok-numbered.numbered.set.now ∙ sym c.count.ensures,
-  subst (λ n. All (λ x. x < n) c.in_ok-seeds_of.field-0) (sym c.count.ensures) c.in_ok-seeds_of.ensures.below,
-  subst (λ n. All (AreBelow n) c.in_ok-needs_of.field-0) (sym c.count.ensures) c.in_ok-needs_of.ensures.below,
-  All-same (PairBelow c.count.result) _ _ c.new.ensures (All-nil (PairBelow c.count.result)),
-)
+returns-clause-valid c =
+    let count : c.from.result ≡ c.count.result = search rules in
+    due_valid c.limited_system.result c.args.set.now c.args.rules.now
+    (whole_due c.limited_system.result c.args.set.now _ c.args.rules.now c.in_ok-kept.kept c.from.result tt
+    c.in_ok-within.field-0 c.in_ok-numbered.ensures c.in_ok-kept.ensures (count ∙ c.count.ensures)
+    c.in_ok-within.ensures c.limited_system.ensures)

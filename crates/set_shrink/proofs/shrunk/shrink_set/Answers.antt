@@ -12,7 +12,7 @@ pub counts_of-counts-requires : goal.counts_of-counts-requires
 counts_of-counts-requires c = record {
   few =
       let classes : List Class = c.into_classes-classes.result in
-      let few = shrunk_few classes c.in_ok-marks.marks in
+      let few = shrunk_few classes c.args.marks.now in
       let kept = ap item_count (c.as_slice-2.ensures ∙ c.in_ok-kept.ensures) in
       let same = ap item_count c.into_classes-classes.ensures in
       omega (arith, few, kept, same, c.few_items.ensures);
@@ -26,5 +26,5 @@ files_of-requires c = record {
       let writable : AllByRecursion IsWritable classes = subst (AllByRecursion IsWritable)
       (sym c.into_classes-classes.ensures) c.requires.writable in
       subst (λ (cs : List Class). AllByRecursion IsWritable (map (filtered filter) cs)) (sym c.in_ok-kept.ensures)
-      (kept_writable filter classes c.in_ok-marks.marks c.in_ok-filter.ensures.name writable);
+      (kept_writable filter classes c.args.marks.now c.in_ok-filter.ensures.name writable);
 }

@@ -1,0 +1,10 @@
+-- What the code knows of clap's answer (only its proofs need it).
+use Rattle.std.specs.Prelude.{◌≡◌, ◌≢◌, ℕ, List, [], Option, Some, None}
+use Rattle.clap.specs.Words.{fault_of, found_of, matches_of, rows_of}
+use Rattle.clap.specs.declared.parser.matches.ArgMatches.{ArgMatches}
+use Rattle.command_words.specs.CommandLine.{command_line}
+
+-- clap takes the words and has these matches, or it doesn't take them
+abbrev pub Reads : List (List ℕ) → Option ArgMatches → Type 0
+Reads words (Some m) = (fault_of command_line words ≡ []) × (rows_of (found_of m) ≡ matches_of command_line words)
+Reads words None = fault_of command_line words ≢ []

@@ -1,0 +1,37 @@
+// The text of `--help`.
+use crate::arguments::{command_argument, operands_argument, workers_argument};
+use clap::Command;
+use jv_base::M;
+use std::alloc::Global;
+
+const ABOUT: &str = "Shrinks class files in the manner of ProGuard, and turns stack traces back.";
+
+// The commands that can be run, an example, and what their statuses say.
+const COMMANDS: &str = "Commands:
+  shrink CONFIG WITNESS   writes the classes that CONFIG keeps, as its options say
+  retrace MAPPING TRACE   prints TRACE with the old names of MAPPING in place of the new ones
+
+CONFIG, WITNESS, MAPPING and TRACE are paths: an optional / and names with a / between two, none of
+them empty, . or .. . docs/MANUAL.md has the options of a config and every message.
+
+Example:
+  cixorradde shrink examples/app/shrink.pro out.wit
+  cixorradde retrace map.txt trace.txt
+
+Status: 0 done, 1 faulty words, 2 a file isn't there, 3 faulty config, 4 no class file, 5 a class
+that breaks a rule, 6 a limit passed, 7 a device failed, 8 a file below the output directory,
+10 memory was wanting, 11 faulty mapping.";
+
+/// The text of `--help`: usage, options with their defaults, each command that can be run in a line, and an example.
+pub fn help_text(alloc: Global) -> M<String> {
+    let command = command_argument(alloc).help("What to do, one of the commands below");
+    let operands = operands_argument(alloc).help("The two files that the command takes");
+    let workers = workers_argument(alloc).help("How many threads may work, from 1 to 64");
+    let mut line = Command::new(alloc, "cixorradde")
+        .about(ABOUT)
+        .after_help(COMMANDS)
+        .arg(command)?
+        .arg(operands)?
+        .arg(workers)?;
+    Ok(line.render_help()?)
+}

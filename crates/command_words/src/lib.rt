@@ -1,0 +1,11 @@
+//! The words of a command line: which command is meant, and with which files.
+#![tactic(auto)]
+
+mod arguments;
+mod command;
+mod help;
+mod words;
+
+pub use command::Command;
+pub use help::help_text;
+pub use words::read_command;

@@ -1,0 +1,13 @@
+use Rattle.std.proofs.Common.{List, refl, subst}
+use Rattle.mark_core.specs.declared.system.Pair.{Pair}
+use Rattle.require_sys.specs.Requires.{class_pairs}
+use Rattle.require_sys.specs.bodies.Counting.{HasPairs}
+use Rattle.require_sys.proofs.Steps.{numbered_given}
+use Rattle.require_sys.proofs.pairs.pairs_of.Goals as goal
+
+pub loop-number-preserved : goal.loop-number-preserved
+loop-number-preserved c =
+    subst (λ (t : List Pair). HasPairs t c.add_class.new.pairs)
+    (numbered_given (class_pairs c.args.numbered.now.set.now) c.args.numbered.now.set.now c.loop-number.number
+    c.class.result.now _ _ c.class.ensures.is refl refl)
+    (c.in_ok-add_class.ensures _ c.loop-number.invariant)

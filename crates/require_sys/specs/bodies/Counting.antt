@@ -1,0 +1,26 @@
+-- Lists that are counted while they grow, and are no longer made where the count passes its limit.
+use Rattle.std.specs.Prelude.{◌≡◌, ◌≤◌, ◌<◌, ℕ, ◌^◌, List, ◌++◌, length}
+use Rattle.std.specs.List.{sum_by}
+use Rattle.mark_core.specs.declared.system.Pair.{Pair}
+use Rattle.require_sys.specs.Required.{counted_limit}
+use Rattle.require_sys.specs.declared.limits.Counted.TheVariants as counted
+use Rattle.require_sys.specs.declared.needs.Needs.{Needs}
+use Rattle.require_sys.specs.declared.pairs.Pairs.{Pairs}
+
+-- these lists were counted, as far as a counter goes, and are there where they aren't too long together
+pub record HasNeeds (due : List (List ℕ)) (needs : Needs) : Type 0 where
+  pub count : sum_by length due < 2 ^ 64 → needs.count ≡ sum_by length due
+  pub made : needs.count ≤ counted_limit counted.Needs → needs.lists ≡ due
+
+-- some more lists were counted
+abbrev pub AddsNeeds : Needs → List (List ℕ) → Needs → Type 0
+AddsNeeds old more new = (due : List (List ℕ)) → HasNeeds due old → HasNeeds (due ++ more) new
+
+-- these pairs were counted, as far as a counter goes, and are there where they aren't too many
+pub record HasPairs (due : List Pair) (pairs : Pairs) : Type 0 where
+  pub count : length due < 2 ^ 64 → pairs.count ≡ length due
+  pub made : pairs.count ≤ counted_limit counted.Pairs → pairs.pairs ≡ due
+
+-- some more pairs were counted
+abbrev pub AddsPairs : Pairs → List Pair → Pairs → Type 0
+AddsPairs old more new = (due : List Pair) → HasPairs due old → HasPairs (due ++ more) new

@@ -1,0 +1,8 @@
+//! The command `retrace`: a trace with the old names of a mapping, from two files to a sink.
+#![tactic(auto)]
+
+mod command;
+mod finding;
+mod refusal;
+
+pub use command::retrace_files;

@@ -1,0 +1,4 @@
+pub mod LastPlace
+pub mod LineParts
+pub mod Telling
+pub mod Trees

@@ -1,0 +1,67 @@
+// A run of the command in memory.
+use jv_base::{Bytes, Items, M, Text};
+use line_answers::{first_word, unescaped};
+use line_sets::{LineFile, bytes_of};
+use shrink_core::run;
+use std::alloc::Global;
+use std::thread::Threads;
+use tree_io::{FileAt, MemorySink, MemoryTree, OpenGate};
+
+/// What a run of `shrink` left and said.
+#[derive(Drop)]
+pub struct Ran {
+    pub status: u8,
+    pub tree: MemoryTree,
+    pub out: MemorySink,
+}
+
+/// A run of `shrink` on the config and the files of a row, whose input directory is `in`; none where the row is of
+/// another form.
+pub fn ran<Rt: Threads + Sync>(rt: &Rt, alloc: Global, row: &[u8]) -> M<Option<Ran>> {
+    let (config, words) = first_word(row);
+    let Some(config) = unescaped(alloc, config)? else {
+        return Ok(None);
+    };
+    let Some(mut files) = input_of(alloc, words)? else {
+        return Ok(None);
+    };
+    files.push(FileAt {
+        path: Text::from_str(alloc, "config.pro")?,
+        bytes: Bytes::from_vec(config),
+    })?;
+    Ok(Some(ran_on(rt, alloc, files)?))
+}
+
+// The files of a row below the input directory; none where a word is of another form.
+fn input_of(alloc: Global, words: &[u8]) -> M<Option<Items<FileAt>>> {
+    let mut files = Items::new(alloc);
+    if words.is_empty() {
+        return Ok(Some(files));
+    }
+    let Some(read) = bytes_of(alloc, words)? else {
+        return Ok(None);
+    };
+    for file in read.into_vec() {
+        files.push(below_input(alloc, file)?)?;
+    }
+    Ok(Some(files))
+}
+
+fn below_input(alloc: Global, file: LineFile) -> M<FileAt> {
+    let path = file.path.as_str();
+    Ok(FileAt {
+        path: Text::from_string(alloc, format!(in alloc; "in/{path}")?)?,
+        bytes: file.bytes,
+    })
+}
+
+fn ran_on<Rt: Threads + Sync>(rt: &Rt, alloc: Global, files: Items<FileAt>) -> M<Ran> {
+    let mut words = Items::new(alloc);
+    for word in ["shrink", "config.pro", "wit.txt"] {
+        words.push(Text::from_str(alloc, word)?)?;
+    }
+    let mut tree = MemoryTree::new(alloc, files, Items::new(alloc))?;
+    let mut out = MemorySink::new(alloc, Items::new(alloc))?;
+    let status = run(rt, alloc, &words, &mut tree, &mut out, &OpenGate);
+    Ok(Ran { status, tree, out })
+}

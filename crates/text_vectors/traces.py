@@ -1,0 +1,181 @@
+"""Traces with what is said of them: a title, the text of a mapping, a trace, and the trace with old names or
+'LINE KIND'. A second implementation of the rules gave the answers.
+"""
+
+WORKED = (
+    b'demo.Helper -> demo.a:\n'
+    b'    10:10:int twice(int) -> a\n'
+    b'demo.Main -> demo.Main:\n'
+    b'    5:6:void main(java.lang.String[]) -> main\n'
+)
+
+SHARED = (
+    b'demo.Helper -> demo.a:\n'
+    b'    10:10:int twice(int) -> a\n'
+    b'demo.Main -> demo.Main:\n'
+    b'    5:6:void main(java.lang.String[]) -> main\n'
+    b'p.Q$R$S -> p.x:\n'
+    b'    int[] f -> g\n'
+    b'    0:65535:p.Q[][] <init>(long,p.Q[]) -> a\n'
+    b'    void one() -> a\n'
+    b'    void two(int) -> b\n'
+    b'    void three() -> c\n'
+    b'    int three(int) -> c\n'
+    b'$Odd -> z:\n'
+    b'    void m() -> a\n'
+    b'NoPackage -> y:\n'
+)
+
+TRACES = [
+    # worked rows
+    ('at demo.a.a(SourceFile:10)', WORKED,
+     b'    at demo.a.a(SourceFile:10)',
+     b'    at demo.Helper.twice(Helper.java:10)'),
+    ('at demo.a.a(Unknown Source)', WORKED,
+     b'    at demo.a.a(Unknown Source)',
+     b'    at demo.Helper.twice(Helper.java)'),
+    ('Caused by: demo.a: x', WORKED, b'Caused by: demo.a: x', b'Caused by: demo.Helper: x'),
+    ('hello demo.a', WORKED, b'hello demo.a', b'hello demo.a'),
+    ('the four lines', WORKED,
+     b'    at demo.a.a(SourceFile:10)\n    at demo.a.a(Unknown Source)\nCaused by: demo.a: x\nhello demo.a\n',
+     b'    at demo.Helper.twice(Helper.java:10)\n    at demo.Helper.twice(Helper.java)\nCaused by: demo.Helper: x\nhello demo.a\n'),
+    # frame lines
+    ('at demo.a.a(X.java:3)', SHARED, b'\tat demo.a.a(X.java:3)', b'\tat demo.Helper.twice(Helper.java:3)'),
+    ('at demo.a.a(:3)', SHARED, b' \t at demo.a.a(:3)', b' \t at demo.Helper.twice(Helper.java:3)'),
+    ('at demo.a.a()', SHARED, b'at demo.a.a()', b'at demo.Helper.twice(Helper.java)'),
+    ('at demo.Main.main(SourceFile:5)', SHARED,
+     b'    at demo.Main.main(SourceFile:5)',
+     b'    at demo.Main.main(Main.java:5)'),
+    ('at demo.a.nope(X:1)', SHARED, b'    at demo.a.nope(X:1)', b'    at demo.Helper.nope(Helper.java:1)'),
+    ('at demo.a.<init>(X:1)', SHARED, b'    at demo.a.<init>(X:1)', b'    at demo.Helper.<init>(Helper.java:1)'),
+    ('at demo.a.<clinit>(X:1)', SHARED,
+     b'    at demo.a.<clinit>(X:1)',
+     b'    at demo.Helper.<clinit>(Helper.java:1)'),
+    ('at demo.b.a(X:1)', SHARED, b'    at demo.b.a(X:1)', b'    at demo.b.a(X:1)'),
+    ('at demo.Helper.twice(X:1)', SHARED, b'    at demo.Helper.twice(X:1)', b'    at demo.Helper.twice(X:1)'),
+    ('at p.x.b(X:7)', SHARED, b'    at p.x.b(X:7)', b'    at p.Q$R$S.two(Q.java:7)'),
+    ('at p.x.a(X:7)', SHARED, b'    at p.x.a(X:7)', b'    at p.Q$R$S.<init>(Q.java:7)'),
+    ('at p.x.c(X:7)', SHARED, b'    at p.x.c(X:7)', b'    at p.Q$R$S.three(Q.java:7)'),
+    ('at p.x.g(X:7)', SHARED, b'    at p.x.g(X:7)', b'    at p.Q$R$S.g(Q.java:7)'),
+    ('at z.a(X:7)', SHARED, b'    at z.a(X:7)', b'    at $Odd.m($Odd.java:7)'),
+    ('at y.q(X:7)', SHARED, b'    at y.q(X:7)', b'    at NoPackage.q(NoPackage.java:7)'),
+    ('at demo.a.a(X:99999999999999999999)', SHARED,
+     b'    at demo.a.a(X:99999999999999999999)',
+     b'    at demo.Helper.twice(Helper.java:99999999999999999999)'),
+    ('at demo.a.a(X:007)', SHARED, b'    at demo.a.a(X:007)', b'    at demo.Helper.twice(Helper.java:007)'),
+    ('at demo.a.a(Native Method)', SHARED,
+     b'    at demo.a.a(Native Method)',
+     b'    at demo.Helper.twice(Helper.java)'),
+    ('at demo.a.a(X:)', SHARED, b'    at demo.a.a(X:)', b'    at demo.a.a(X:)'),
+    ('at demo.a.a(X:1x)', SHARED, b'    at demo.a.a(X:1x)', b'    at demo.a.a(X:1x)'),
+    ('at demo.a.a(X:-1)', SHARED, b'    at demo.a.a(X:-1)', b'    at demo.a.a(X:-1)'),
+    ('at demo.a.a(X:1:2)', SHARED, b'    at demo.a.a(X:1:2)', b'    at demo.a.a(X:1:2)'),
+    ('at demo.a.a(X:1)', SHARED, b'    at demo.a.a(X:1) ', b'    at demo.a.a(X:1) '),
+    ('at demo.a.a(X:1) ~[x.jar]', SHARED, b'    at demo.a.a(X:1) ~[x.jar]', b'    at demo.a.a(X:1) ~[x.jar]'),
+    ('at demo.a.a', SHARED, b'    at demo.a.a', b'    at demo.a.a'),
+    ('at demo.a.a(X', SHARED, b'    at demo.a.a(X', b'    at demo.a.a(X'),
+    ('in demo.a.a(X:1)', SHARED, b'    in demo.a.a(X:1)', b'    in demo.a.a(X:1)'),
+    ('atdemo.a.a(X:1)', SHARED, b'    atdemo.a.a(X:1)', b'    atdemo.a.a(X:1)'),
+    ('at a(X:1)', SHARED, b'    at a(X:1)', b'    at a(X:1)'),
+    ('x at demo.a.a(X:1)', SHARED, b'x at demo.a.a(X:1)', b'x at demo.a.a(X:1)'),
+    ('at demo.a.a b(X:1)', SHARED, b'    at demo.a.a b(X:1)', b'    at demo.a.a b(X:1)'),
+    # head lines
+    ('demo.a', SHARED, b'demo.a', b'demo.Helper'),
+    ('demo.a: x: demo.a', SHARED, b'demo.a: x: demo.a', b'demo.Helper: x: demo.a'),
+    ('Caused by: demo.a', SHARED, b'Caused by: demo.a', b'Caused by: demo.Helper'),
+    ('Exception in thread "main" demo.a', SHARED,
+     b'Exception in thread "main" demo.a',
+     b'Exception in thread "main" demo.Helper'),
+    ('Exception in thread "a b" demo.a: y', SHARED,
+     b'Exception in thread "a b" demo.a: y',
+     b'Exception in thread "a b" demo.Helper: y'),
+    ('demo.a x', SHARED, b'demo.a x', b'demo.a x'),
+    ('demo.a:x', SHARED, b'demo.a:x', b'demo.a:x'),
+    ('demo.a:', SHARED, b'demo.a:', b'demo.a:'),
+    ('demo.a', SHARED, b' demo.a', b' demo.a'),
+    ('Caused by:demo.a', SHARED, b'Caused by:demo.a', b'Caused by:demo.a'),
+    ('caused by: demo.a', SHARED, b'caused by: demo.a', b'caused by: demo.a'),
+    ('Exception in thread main demo.a', SHARED,
+     b'Exception in thread main demo.a',
+     b'Exception in thread main demo.a'),
+    ('java.lang.Error: demo.a', SHARED, b'java.lang.Error: demo.a', b'java.lang.Error: demo.a'),
+    ('demo.Helper: x', SHARED, b'demo.Helper: x', b'demo.Helper: x'),
+    ('demo.Main: x', SHARED, b'demo.Main: x', b'demo.Main: x'),
+    ('y', SHARED, b'y', b'NoPackage'),
+    ('... 3 more', SHARED, b'\t... 3 more', b'\t... 3 more'),
+    ('Suppressed: demo.a: x', SHARED, b'Suppressed: demo.a: x', b'Suppressed: demo.a: x'),
+    # lines and bytes
+    ('no trace', SHARED, b'', b''),
+    ('ends of lines stay', SHARED,
+     b'demo.a\r\ndemo.a\n\r\n\ndemo.a',
+     b'demo.Helper\r\ndemo.Helper\n\r\n\ndemo.Helper'),
+    ('bytes that are no UTF-8 stay', SHARED, b'\xff\xfe demo.a\ndemo.a\n', b'\xff\xfe demo.a\ndemo.Helper\n'),
+    ('no mapping', b'', b'    at demo.a.a(X:1)\ndemo.a\n', b'    at demo.a.a(X:1)\ndemo.a\n'),
+    ('comments and blank lines in the mapping', b'# demo.X -> demo.a:\n\n \t\ndemo.Helper -> demo.a:\r\n    10:10:int twice(int) -> a\r\ndemo.Main -> demo.Main:\r\n    5:6:void main(java.lang.String[]) -> main\r\n',
+     b'demo.a\n',
+     b'demo.Helper\n'),
+    ('several methods of one new name', b'A -> b:\n    void f() -> a\n    void g(int) -> a\n',
+     b'    at b.a(X:3)',
+     b'    at A.f(A.java:3)'),
+    ('the lines of a range play no part', b'A -> b:\n    5:6:void f() -> a\n    7:9:void g(int) -> a\n',
+     b'    at b.a(X:8)',
+     b'    at A.f(A.java:8)'),
+    ('a field of that name plays no part', b'A -> b:\n    int f -> a\n    void g() -> a\n',
+     b'    at b.a(X:8)',
+     b'    at A.g(A.java:8)'),
+    ('other letters', b'\xc3\xa9.\xe6\x97\xa5 -> \xc3\xa9.b:\n    void \xc3\xb1() -> a\n',
+     b'    at \xc3\xa9.b.a(X:1)\n\xc3\xa9.b: \xc3\xbc',
+     b'    at \xc3\xa9.\xe6\x97\xa5.\xc3\xb1(\xe6\x97\xa5.java:1)\n\xc3\xa9.\xe6\x97\xa5: \xc3\xbc'),
+    ('a class that is new and old', b'A -> B:\nB -> A:\n', b'A\nB\n', b'B\nA\n'),
+    # mappings at fault
+    ('a member line first', b'    int f -> g\n', b'b\n', '1 NoClass'),
+    ('a member line before any class, at fault', b'    int f g\n', b'b\n', '1 BadLine'),
+    ('no colon', b'a -> b\n', b'b\n', '1 BadLine'),
+    ('no arrow', b'a b:\n', b'b\n', '1 BadLine'),
+    ('two blanks', b'a  -> b:\n', b'b\n', '1 BadLine'),
+    ('a type as a class', b'a -> int:\n', b'b\n', '1 BadLine'),
+    ('a type as an old class', b'void -> b:\n', b'b\n', '1 BadLine'),
+    ('a type in a package is a class', b'p.int -> p.b:\n', b'b\n', b'b\n'),
+    ('slashes', b'a/b -> c:\n', b'b\n', '1 BadLine'),
+    ('an empty part', b'a..b -> c:\n', b'b\n', '1 BadLine'),
+    ('an array', b'a[] -> c:\n', b'b\n', '1 BadLine'),
+    ('a blank at the end', b'a -> b: \n', b'b\n', '1 BadLine'),
+    ('a tab', b'\ta -> b:\n', b'b\n', '1 BadLine'),
+    ('three blanks before a member', b'a -> b:\n   int f -> g\n', b'b\n', '2 BadLine'),
+    ('five blanks before a member', b'a -> b:\n     int f -> g\n', b'b\n', '2 BadLine'),
+    ('a tab before a member', b'a -> b:\n\tint f -> g\n', b'b\n', '2 BadLine'),
+    ('the old name twice', b'a -> b:\na -> c:\n', b'b\n', '2 Repeated'),
+    ('the new name twice', b'a -> b:\n\n# x\nc -> b:\n', b'b\n', '4 Repeated'),
+    ('a new name that is an old one', b'a -> b:\nb -> c:\n', b'b\n', b'a\n'),
+    ('a field with lines', b'a -> b:\n    1:2:int f -> g\n', b'b\n', '2 BadLine'),
+    ('a method with lines', b'a -> b:\n    1:2:int f() -> g\n', b'b\n', b'a\n'),
+    ('one line number', b'a -> b:\n    1:int f() -> g\n', b'b\n', '2 BadLine'),
+    ('a leading zero', b'a -> b:\n    01:2:int f() -> g\n', b'b\n', '2 BadLine'),
+    ('a number past 65535', b'a -> b:\n    1:65536:int f() -> g\n', b'b\n', '2 BadLine'),
+    ('0 and 65535', b'a -> b:\n    0:65535:int f() -> g\n', b'b\n', b'a\n'),
+    ('the first above the last', b'a -> b:\n    9:2:int f() -> g\n', b'b\n', b'a\n'),
+    ('original lines', b'a -> b:\n    1:2:int f():3:4 -> g\n', b'b\n', '2 BadLine'),
+    ('one original line', b'a -> b:\n    1:2:int f():3 -> g\n', b'b\n', '2 BadLine'),
+    ('no type', b'a -> b:\n    f() -> g\n', b'b\n', '2 BadLine'),
+    ('a void field', b'a -> b:\n    void f -> g\n', b'b\n', '2 BadLine'),
+    ('a void argument', b'a -> b:\n    void f(void) -> g\n', b'b\n', '2 BadLine'),
+    ('blanks between arguments', b'a -> b:\n    void f(int, int) -> g\n', b'b\n', '2 BadLine'),
+    ('an argument too few', b'a -> b:\n    void f(int,) -> g\n', b'b\n', '2 BadLine'),
+    ('arrays and classes', b'a -> b:\n    p.Q[][] f(long[],p.R) -> g\n    int[] x -> y\n', b'b\n', b'a\n'),
+    ('a field named <init>', b'a -> b:\n    int <init> -> g\n', b'b\n', '2 BadLine'),
+    ('a method named <init>', b'a -> b:\n    void <init>() -> <init>\n    void <clinit>() -> <clinit>\n',
+     b'b\n',
+     b'a\n'),
+    ('another name in angles', b'a -> b:\n    void <x>() -> g\n', b'b\n', '2 BadLine'),
+    ('a new name with a dot', b'a -> b:\n    int f -> g.h\n', b'b\n', '2 BadLine'),
+    ('no arrow in a member line', b'a -> b:\n    int f g\n', b'b\n', '2 BadLine'),
+    ('fields after methods', b'a -> b:\n    int f() -> g\n    int f -> g\n', b'b\n', b'a\n'),
+    ('a method twice', b'a -> b:\n    int f() -> g\n    int f() -> h\n', b'b\n', b'a\n'),
+    ('no UTF-8', b'a -> b:\n    int \xff -> g\n', b'b\n', '2 NotUtf8'),
+    ('no UTF-8 in a comment', b'# \xff\na -> b:\n', b'b\n', '1 NotUtf8'),
+    ('the first line at fault', b'a -> b:\nx\na -> c:\n', b'b\n', '2 BadLine'),
+    ('a # after a blank', b'a -> b:\n # x\n', b'b\n', '2 BadLine'),
+    ('double is a type', b'a -> b:\n    double f(float[]) -> g\n', b'b\n', b'a\n'),
+    ('255 argument words', b'a -> b:\n    void f(' + b','.join([b'int'] * 255) + b') -> g\n', b'b\n', b'a\n'),
+    ('256 argument words', b'a -> b:\n    void f(' + b','.join([b'long'] * 128) + b') -> g\n', b'b\n', '2 BadLine'),
+]
