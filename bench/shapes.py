@@ -145,6 +145,7 @@ def full_frame(delta, stack=()):
 
 
 def stack_map(pool, rows):
+    rows = list(rows)
     return attribute(pool, 'StackMapTable', struct.pack('>H', len(rows)) + b''.join(rows))
 
 
@@ -173,6 +174,37 @@ def covering(n):
         table = [(len(INTS), len(body), len(body) + k, 0) for k in range(n)]
         return code_attribute(1, LOCALS, body + b'\xbf' * n, table, [stack_map(pool, rows)])
     yield File('p/A', methods=[raw(make)])
+
+
+def handler_frames(pool, body, others):
+    """A frame for each of N instructions behind a body: the first local and those of `others` are Tops, the rest ints."""
+    thrown = b'\x07' + struct.pack('>H', pool.of_class('java/lang/Throwable'))
+    for k, tops in enumerate(others):
+        types = bytes(0 if slot == 0 or slot in tops else 1 for slot in range(LOCALS))
+        yield b'\xff' + struct.pack('>HH', 0 if k else len(body), LOCALS) + types + struct.pack('>H', 1) + thrown
+
+
+def storing(n, others, begins):
+    def make(pool):
+        body = INTS + b'\x03\x3b\x01\x4b' * (n // 2) + b'\xb1'
+        table = [(len(INTS) + begins(k), len(body), len(body) + k, 0) for k in range(n)]
+        return code_attribute(1, LOCALS, body + b'\xbf' * n, table, [stack_map(pool, handler_frames(pool, body, others))])
+    yield File('p/A', methods=[raw(make)])
+
+
+def changing(n):
+    """N handlers with the same locals, each of which covers N stores of an int and of null in turn."""
+    return storing(n, [()] * n, lambda k: 0)
+
+
+def beginning(n):
+    """The same, each of which covers a store less than the one before."""
+    return storing(n, [()] * n, lambda k: 2 * k)
+
+
+def differing(n):
+    """The same, each with locals of its own."""
+    return storing(n, [(1 + k % 254, 1 + k // 254) for k in range(n)], lambda k: 0)
 
 
 def deep_frames(n):
@@ -255,12 +287,12 @@ def colliding(n):
 
 
 USUAL = [classes, chain, overriding, implementing, interfaces, extending, calls]
-HOSTILE = [strings, long_calls, handlers, throws, descriptors, long_arguments, frames, full_frames, branches, covering, deep_frames, tall, overriding_twenty, overloads, two_overloads, colliding]
+HOSTILE = [strings, long_calls, handlers, throws, descriptors, long_arguments, frames, full_frames, branches, covering, changing, beginning, differing, deep_frames, tall, overriding_twenty, overloads, two_overloads, colliding]
 SIZES = {
     'classes': [2000, 4000, 8000], 'calls': [4000, 8000, 16000], 'strings': [8000, 16000], 'long_calls': [5000, 10000, 20000],
     'handlers': [16000, 32000, 65000], 'throws': [16000, 32000, 65000], 'descriptors': [5000, 10000, 20000],
     'long_arguments': [5000, 10000, 20000], 'frames': [2500, 5000, 10000, 20000],
-    'full_frames': [8000, 16000, 32000], 'branches': [2000, 4000, 8000], 'covering': [500, 1000, 2000, 4000], 'deep_frames': [1000, 2000, 4000], 'tall': [500, 1000, 2000],
+    'full_frames': [8000, 16000, 32000], 'branches': [2000, 4000, 8000], 'covering': [500, 1000, 2000, 4000], 'changing': [1000, 2000, 4000], 'beginning': [2000, 4000, 8000], 'differing': [500, 1000, 2000], 'deep_frames': [1000, 2000, 4000], 'tall': [500, 1000, 2000],
     'overriding_twenty': [1000, 2000, 4000], 'overloads': [15000, 30000, 60000], 'two_overloads': [5000, 10000, 20000],
     'colliding': [5000, 10000, 20000],
 }

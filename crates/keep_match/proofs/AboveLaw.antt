@@ -24,7 +24,7 @@ absorbed : (p q x y : Bool) → x ≡ (p || y) → (p ≡ false → y ≡ q) →
 absorbed true q x y e h = e
 absorbed false q x y e h = e ∙ h refl
 
-any_same : {A : Type 0} (p q : A → Bool) (xs : List A) → ((x : A) → p x ≡ q x) → list_any p xs ≡ list_any q xs
+pub any_same : {A : Type 0} (p q : A → Bool) (xs : List A) → ((x : A) → p x ≡ q x) → list_any p xs ≡ list_any q xs
 any_same p q [] h = refl
 any_same p q (x ∷ xs) h = λ i. h x i || any_same p q xs h i
 
@@ -83,23 +83,33 @@ any_both p q (x ∷ xs) =
     or_pairs (p x) (list_any p xs) (q x) (list_any q xs) ∙ ap (λ (t : Bool). (p x || q x) || t) (any_both p q xs)
 
 module _ (pattern : List ℕ) (classes : List Class) (n : ℕ) where
-  -- the test over all supertypes is that over the superclasses, each with its own superinterfaces
-  pub above_is : list_any (λ id. matches_class_name pattern (name_of classes id)) (supers classes (Prog n))
-      ≡ list_any (is_met_at pattern classes n) (superclasses_from classes (Prog n))
-  above_is =
+  -- the test over all supertypes is that over what is met, the class itself aside
+  pub supers_is : list_any (λ id. matches_class_name pattern (name_of classes id)) (supers classes (Prog n))
+      ≡ list_any (is_other_met pattern classes n)
+      (superclasses_from classes (Prog n) ++ superinterfaces classes (Prog n))
+  supers_is =
       any_once (λ id. matches_class_name pattern (name_of classes id)) (Prog n ∷ [])
       (superclasses_from classes (Prog n) ++ superinterfaces classes (Prog n))
       ∙ any_same (unseen (Prog n ∷ []) (λ id. matches_class_name pattern (name_of classes id)))
       (is_other_met pattern classes n) (superclasses_from classes (Prog n) ++ superinterfaces classes (Prog n))
       (λ c. ap (λ (t : Bool). not t && matches_class_name pattern (name_of classes c))
       (or-false (same_class c (Prog n))))
-      ∙ list_any-append (is_other_met pattern classes n) (superclasses_from classes (Prog n))
-      (superinterfaces classes (Prog n))
-      ∙ ap (λ (t : Bool). list_any (is_other_met pattern classes n) (superclasses_from classes (Prog n)) || t)
-      (any_flat (is_other_met pattern classes n) (own_superinterfaces classes) (superclasses_from classes (Prog n)))
+
+  -- the test over what is met from a class upwards is that over its superclasses, each with its own superinterfaces
+  pub met_is : (c : ClassId)
+      → list_any (is_other_met pattern classes n) (superclasses_from classes c ++ superinterfaces classes c)
+      ≡ list_any (is_met_at pattern classes n) (superclasses_from classes c)
+  met_is c =
+      list_any-append (is_other_met pattern classes n) (superclasses_from classes c) (superinterfaces classes c)
+      ∙ ap (λ (t : Bool). list_any (is_other_met pattern classes n) (superclasses_from classes c) || t)
+      (any_flat (is_other_met pattern classes n) (own_superinterfaces classes) (superclasses_from classes c))
       ∙ any_both (is_other_met pattern classes n)
-      (λ c. list_any (is_other_met pattern classes n) (own_superinterfaces classes c))
-      (superclasses_from classes (Prog n))
+      (λ d. list_any (is_other_met pattern classes n) (own_superinterfaces classes d)) (superclasses_from classes c)
+
+  -- the test over all supertypes is that over the superclasses, each with its own superinterfaces
+  pub above_is : list_any (λ id. matches_class_name pattern (name_of classes id)) (supers classes (Prog n))
+      ≡ list_any (is_met_at pattern classes n) (superclasses_from classes (Prog n))
+  above_is = supers_is ∙ met_is (Prog n)
 
   -- own superinterfaces, each once
   pub own_once : (ids : List ClassId)

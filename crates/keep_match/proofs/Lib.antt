@@ -6,6 +6,7 @@ pub mod Filtering
 pub mod Pairs
 pub mod Arguments
 pub mod AboveLaw
+pub mod SuperLaw
 pub mod RowLaw
 pub mod PlaceLaw
 pub mod LiteralLaw

@@ -5,10 +5,11 @@ ghost use Rattle.class_pool.specs.declared.id.ClassId.TheVariants.{Prog};
 ghost use Rattle.class_pool.specs.Found.{name_of};
 ghost use Rattle.class_pool.specs.Hierarchy.{IsClass};
 ghost use Rattle.class_pool.specs.Walk.{same_class, supers};
-ghost use Rattle.keep_match.specs.Above.{is_met_at, is_other_met};
-ghost use Rattle.keep_match.specs.Matches.{class_matches, is_above_met, is_kind_met, matches_but_name, matches_class};
+ghost use Rattle.keep_match.specs.Above.{AreKnown, is_met_at, is_other_met};
+ghost use Rattle.keep_match.specs.Matches.{class_matches, is_kind_met, matches_but_name, matches_class};
 ghost use Rattle.keep_match.specs.Matches.{matches_class_name};
 
+use crate::above::is_above_met;
 use crate::filter::{accepts_class, matches_class_name};
 use crate::flag_word::{FlagsOf, flags_met};
 use bitflags::Flags;
@@ -37,17 +38,24 @@ pub(crate) fn matches_class(spec: &ClassSpec, set: &ClassSet, number: u32, class
     ensures { result ≡ matches_class spec.now set.now number class.now }
 {
     accepts_class(spec.names.as_slice(), class.name.as_str())
-        && matches_but_name(spec, set, number, class)
+        && matches_but_name(spec, set, &[], number, class)
 }
 
-/// Whether a specification matches a class but for its name.
-pub(crate) fn matches_but_name(spec: &ClassSpec, set: &ClassSet, number: u32, class: &Class) -> bool
-    requires { number < length set.now }
+/// Whether a specification matches a class but for its name, by what is known of the names above classes.
+pub(crate) fn matches_but_name(
+    spec: &ClassSpec,
+    set: &ClassSet,
+    known: &[Option<bool>],
+    number: u32,
+    class: &Class,
+) -> bool
+    requires there { number < length set.now }
+    requires known { AreKnown spec.now.above set.now known.now }
     ensures { result ≡ matches_but_name spec.now set.now number class.now }
 {
     flags_met(FlagsOf::Class, class.flags, spec.flags.as_slice())
         && is_kind_met(spec.kind.as_str(), class.flags)
-        && is_above_met(&spec.above, set, number)
+        && is_above_met(&spec.above, set, known, number)
 }
 
 #[tactic(auto, unfolding(crate::specs::Matches::is_kind_met))]
@@ -62,19 +70,9 @@ fn is_kind_met(kind: &str, flags: Access) -> bool
     }
 }
 
-fn is_above_met(above: &Option<Text>, set: &ClassSet, number: u32) -> bool
-    requires { number < length set.now }
-    ensures { result ≡ is_above_met above.now set.now number }
-{
-    match above {
-        None => true,
-        Some(pattern) => has_above(pattern, set, number),
-    }
-}
-
 /// Whether the name of a class above this one is matched. The superclasses are gone over upwards, each with its own
 /// superinterfaces; no memory is taken.
-fn has_above(pattern: &Text, set: &ClassSet, number: u32) -> bool
+pub(crate) fn has_above(pattern: &Text, set: &ClassSet, number: u32) -> bool
     requires { number < length set.now }
     ensures { result ≡ list_any (λ id. matches_class_name pattern.now (name_of set.now id)) (supers set.now (Prog number)) }
 {
@@ -95,7 +93,7 @@ fn has_above(pattern: &Text, set: &ClassSet, number: u32) -> bool
 
 /// Whether a class, or one of its own superinterfaces, is another one and has a name that is matched.
 #[tactic(auto, using(crate::proofs::AboveLaw::own_once))]
-fn is_met_at(pattern: &Text, set: &ClassSet, number: u32, class: &ClassId) -> bool
+pub(crate) fn is_met_at(pattern: &Text, set: &ClassSet, number: u32, class: &ClassId) -> bool
     requires { IsClass set.now class.now }
     ensures { result ≡ is_met_at pattern.now set.now number class.now }
 {
@@ -131,7 +129,7 @@ fn is_program(class: &ClassId, number: u32) -> bool
     }
 }
 
-fn name_of<'a>(set: &'a ClassSet, class: &ClassId) -> &'a str
+pub(crate) fn name_of<'a>(set: &'a ClassSet, class: &ClassId) -> &'a str
     requires { IsClass set.now class.now }
     ensures { result.now ≡ name_of set.now class.now }
 {

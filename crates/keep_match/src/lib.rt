@@ -1,6 +1,7 @@
 //! What the rules of a config match in a set of classes: wildcards, class and member specifications, and what is kept.
 #![tactic(auto)]
 
+mod above;
 mod as_keeps;
 mod asked;
 mod class_spec;

@@ -5,12 +5,14 @@ ghost use Rattle.report_text.specs.Spelled.{class_text};
 ghost use Rattle.std.specs.List.{All, flat_map};
 ghost use Rattle.class_model.specs.declared.class.Class.{Class};
 ghost use Rattle.class_pool.specs.Count.{item_count, items_of};
+ghost use Rattle.keep_match.specs.Above.{AreKnown};
 ghost use Rattle.keep_match.specs.Filters.{accepts};
 ghost use Rattle.keep_match.specs.Marks.{AreAdded, AreLiteral, AreMarked, AreNames, AreRows, HasRows, IsNamed};
 ghost use Rattle.keep_match.specs.Marks.{IsPut, members_kept, or_each};
 ghost use Rattle.keep_match.specs.Matches.{matches_but_name, matches_class_name};
 ghost use Rattle.keep_match.specs.Seeds.{are_members_met, keeps_classes, places_of_true, seeds_of};
 
+use crate::above::known_above;
 use crate::class_spec::matches_but_name;
 use crate::filter::accepts_class;
 use crate::named::{are_literal, names_of, number_of};
@@ -43,10 +45,26 @@ pub(crate) fn rows_of(alloc: Global, keeps: &[Keep], set: &ClassSet) -> M<Vec<It
 {
     let names = names_of(alloc, set)?;
     let mut rows = unmarked(alloc, set)?;
-    for keep in keeps {
-        mark_rows(alloc, keep, set, &names, &mut rows);
-    }
+    mark_all(alloc, keeps, set, &names, &mut rows)?;
     Ok(rows)
+}
+
+/// Marks what rules keep, where nothing is marked.
+fn mark_all(
+    alloc: Global,
+    keeps: &[Keep],
+    set: &ClassSet,
+    names: &Option<IndexSet<Text>>,
+    rows: &mut Vec<Items<bool>>,
+) -> M<()>
+    requires rows { HasRows set.now [] rows.old.items }
+    requires names { IfSome names.now (λ known. AreNames set.now (length set.now) known.keys) }
+    ensures { OnOk result (HasRows set.now keeps.now rows.new.items) }
+{
+    for keep in keeps {
+        mark_rows(alloc, keep, set, names, rows)?;
+    }
+    Ok(())
 }
 
 /// For each class the marks of itself and its members, where nothing is kept.
@@ -87,19 +105,39 @@ fn mark_rows(
     set: &ClassSet,
     names: &Option<IndexSet<Text>>,
     rows: &mut Vec<Items<bool>>,
-)
+) -> M<()>
     requires rows { AreRows set.now rows.old.items }
     requires names { IfSome names.now (λ known. AreNames set.now (length set.now) known.keys) }
-    ensures { AreMarked set.now keep.now rows.old.items rows.new.items }
+    ensures { OnOk result (AreMarked set.now keep.now rows.old.items rows.new.items) }
 {
     if !keeps_classes(keep) {
-        return;
+        return Ok(());
     }
+    let above = known_above(alloc, &keep.spec, set)?;
+    mark_kept(alloc, keep, set, above.as_slice(), names, rows);
+    Ok(())
+}
+
+/// The same of a rule that keeps classes, by what is known of the names above classes.
+fn mark_kept(
+    alloc: Global,
+    keep: &Keep,
+    set: &ClassSet,
+    above: &[Option<bool>],
+    names: &Option<IndexSet<Text>>,
+    rows: &mut Vec<Items<bool>>,
+)
+    requires above { AreKnown keep.now.spec.above set.now above.now }
+    requires rows { AreRows set.now rows.old.items }
+    requires names { IfSome names.now (λ known. AreNames set.now (length set.now) known.keys) }
+    requires keeps { keeps_classes keep.now ≡ true }
+    ensures { AreMarked set.now keep.now rows.old.items rows.new.items }
+{
     match names {
         Some(names) if are_literal(keep.spec.names.as_slice()) => {
-            mark_named(alloc, keep, set, names, rows)
+            mark_named(alloc, keep, set, above, names, rows)
         }
-        _ => mark_each(alloc, keep, set, rows),
+        _ => mark_each(alloc, keep, set, above, rows),
     }
 }
 
@@ -108,9 +146,11 @@ fn mark_named(
     alloc: Global,
     keep: &Keep,
     set: &ClassSet,
+    above: &[Option<bool>],
     names: &IndexSet<Text>,
     rows: &mut Vec<Items<bool>>,
 )
+    requires above { AreKnown keep.now.spec.above set.now above.now }
     requires rows { AreRows set.now rows.old.items }
     requires keeps { keeps_classes keep.now ≡ true }
     requires literal { AreLiteral (length keep.now.spec.names) keep.now.spec.names }
@@ -118,7 +158,7 @@ fn mark_named(
     ensures { AreMarked set.now keep.now rows.old.items rows.new.items }
 {
     for filter in keep.spec.names.as_slice() {
-        mark_pattern(alloc, keep, set, names, &filter.pattern, rows);
+        mark_pattern(alloc, keep, set, above, names, &filter.pattern, rows);
     }
 }
 
@@ -127,10 +167,12 @@ fn mark_pattern(
     alloc: Global,
     keep: &Keep,
     set: &ClassSet,
+    above: &[Option<bool>],
     names: &IndexSet<Text>,
     pattern: &Text,
     rows: &mut Vec<Items<bool>>,
 )
+    requires above { AreKnown keep.now.spec.above set.now above.now }
     requires rows { AreRows set.now rows.old.items }
     requires keeps { keeps_classes keep.now ≡ true }
     requires names { AreNames set.now (length set.now) names.now.keys }
@@ -141,23 +183,38 @@ fn mark_pattern(
     let Some(number) = number_of(names, set, pattern) else {
         return;
     };
-    mark_class(alloc, keep, set, number, rows);
+    mark_class(alloc, keep, set, above, number, rows);
 }
 
 /// Marks what a rule keeps of all classes.
-fn mark_each(alloc: Global, keep: &Keep, set: &ClassSet, rows: &mut Vec<Items<bool>>)
+fn mark_each(
+    alloc: Global,
+    keep: &Keep,
+    set: &ClassSet,
+    above: &[Option<bool>],
+    rows: &mut Vec<Items<bool>>,
+)
+    requires above { AreKnown keep.now.spec.above set.now above.now }
     requires rows { AreRows set.now rows.old.items }
     requires keeps { keeps_classes keep.now ≡ true }
     ensures { AreMarked set.now keep.now rows.old.items rows.new.items }
 {
     for number in 0..set.len() {
-        mark_number(alloc, keep, set, number, rows);
+        mark_number(alloc, keep, set, above, number, rows);
     }
 }
 
 /// Marks what a rule keeps of the class of a number.
-fn mark_number(alloc: Global, keep: &Keep, set: &ClassSet, number: u32, rows: &mut Vec<Items<bool>>)
+fn mark_number(
+    alloc: Global,
+    keep: &Keep,
+    set: &ClassSet,
+    above: &[Option<bool>],
+    number: u32,
+    rows: &mut Vec<Items<bool>>,
+)
     requires there { number < length set.now }
+    requires above { AreKnown keep.now.spec.above set.now above.now }
     requires rows { AreRows set.now rows.old.items }
     requires keeps { keeps_classes keep.now ≡ true }
     ensures { AreAdded set.now keep.now rows.old.items rows.new.items (λ n. n ≡ number) }
@@ -166,12 +223,20 @@ fn mark_number(alloc: Global, keep: &Keep, set: &ClassSet, number: u32, rows: &m
     if !accepts_class(keep.spec.names.as_slice(), name) {
         return;
     }
-    mark_class(alloc, keep, set, number, rows);
+    mark_class(alloc, keep, set, above, number, rows);
 }
 
 /// Marks what a rule keeps of a class whose name it matches.
-fn mark_class(alloc: Global, keep: &Keep, set: &ClassSet, number: u32, rows: &mut Vec<Items<bool>>)
+fn mark_class(
+    alloc: Global,
+    keep: &Keep,
+    set: &ClassSet,
+    above: &[Option<bool>],
+    number: u32,
+    rows: &mut Vec<Items<bool>>,
+)
     requires there { number < length set.now }
+    requires above { AreKnown keep.now.spec.above set.now above.now }
     requires rows { AreRows set.now rows.old.items }
     requires keeps { keeps_classes keep.now ≡ true }
     requires named { (c : Class) → slice_get set.now number ≡ Some c
@@ -179,7 +244,7 @@ fn mark_class(alloc: Global, keep: &Keep, set: &ClassSet, number: u32, rows: &mu
     ensures { IsPut set.now keep.now rows.old.items rows.new.items number }
 {
     let class = set.class(number);
-    if !is_kept(keep, set, number, class) {
+    if !is_kept(keep, set, above, number, class) {
         return;
     }
     let members = keep.spec.members.as_slice();
@@ -187,13 +252,14 @@ fn mark_class(alloc: Global, keep: &Keep, set: &ClassSet, number: u32, rows: &mu
 }
 
 /// Whether a rule keeps a class whose name it matches.
-fn is_kept(keep: &Keep, set: &ClassSet, number: u32, class: &Class) -> bool
+fn is_kept(keep: &Keep, set: &ClassSet, above: &[Option<bool>], number: u32, class: &Class) -> bool
     requires there { number < length set.now }
+    requires above { AreKnown keep.now.spec.above set.now above.now }
     requires few { length class.now.fields + length class.now.methods < 4294967295 }
     ensures { result ≡ (matches_but_name keep.now.spec set.now number class.now
         && are_members_met keep.now.kind keep.now.spec.members class.now) }
 {
-    matches_but_name(&keep.spec, set, number, class)
+    matches_but_name(&keep.spec, set, above, number, class)
         && are_members_met(keep.kind, keep.spec.members.as_slice(), class)
 }
 

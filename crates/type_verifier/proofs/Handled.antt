@@ -92,7 +92,7 @@ module _ (env : Environment) where
   looks_at : List VType → Bool → Handler → Bool
   looks_at locals marked h = satisfies env (record { locals = locals; stack = []; marked = marked }) h
 
-  same_satisfies : (f g : TypeFrame) (h : Handler) → IsSame f g → satisfies env g h ≡ satisfies env f h
+  pub same_satisfies : (f g : TypeFrame) (h : Handler) → IsSame f g → satisfies env g h ≡ satisfies env f h
   unfolding looks_at
   same_satisfies f g h s =
       ap (λ (locals : List VType). looks_at locals g.marked h) s.0 ∙ ap (λ (marked : Bool). looks_at f.locals marked h) s.1
@@ -229,7 +229,7 @@ module _ (env : Environment) where
 
   -- nothing changed, and no handler covers this instruction as the first
 
-  unchanged : (c : Changed) (f g : TypeFrame) → c.from ≡ c.to → Agrees c f g → IsSame f g
+  pub unchanged : (c : Changed) (f g : TypeFrame) → c.from ≡ c.to → Agrees c f g → IsSame f g
   unchanged c f g e a = (
     sym (take-append-drop c.from g.locals)
         ∙ ap (λ (n : ℕ). take c.from g.locals ++ drop n g.locals) e

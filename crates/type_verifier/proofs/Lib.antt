@@ -1,4 +1,6 @@
+pub mod Asking
 pub mod Changing
+pub mod Climbing
 pub mod First
 pub mod Handled
 pub mod Lists

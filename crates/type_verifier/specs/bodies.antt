@@ -1,4 +1,5 @@
 -- Definitions that the proofs of bodies alone need.
+pub mod Asked
 pub mod Changes
 pub mod Declared
 pub mod FirstFaults
@@ -12,4 +13,5 @@ pub mod Pops
 pub mod Same
 pub mod Seen
 pub mod Since
+pub mod Steps
 pub mod Walked

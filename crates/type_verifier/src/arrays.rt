@@ -12,11 +12,11 @@ use crate::TypeKind;
 use crate::assignability::assignable;
 use crate::environment::Env;
 use crate::frame::TypeFrame;
+use crate::hierarchy::Hierarchy;
 use crate::operands::{compute, take, take_array, take_number, take_small_array};
 use crate::room::check_room;
 use crate::types::words_of;
 use class_model::{Elem, Num, VType};
-use class_pool::ClassSet;
 use jv_base::{Base, FieldType, M, Or, OutOfMemory};
 
 // ---- types
@@ -192,7 +192,7 @@ pub(crate) fn make_arrays(
 }
 
 /// Takes so many ints.
-fn take_ints(set: &ClassSet, frame: &mut TypeFrame, count: u8) -> Result<(), TypeKind>
+fn take_ints(set: &Hierarchy, frame: &mut TypeFrame, count: u8) -> Result<(), TypeKind>
     ensures { After result frame.new (all_popped set.now (replicate count (Assignable vtype.Int)) frame.old) }
 {
     for _ in 0..count {

@@ -8,15 +8,15 @@ ghost use Rattle.class_pool.specs.Hierarchy.{IsClass};
 ghost use Rattle.type_verifier.specs.Assignable.{is_above_arrays, is_assignable, is_base_assignable};
 ghost use Rattle.type_verifier.specs.Assignable.{is_class_assignable, is_item_assignable, is_java_assignable, reaches};
 
+use crate::hierarchy::Hierarchy;
 use crate::stack::Stack;
 use crate::types::words_of;
 use class_model::VType;
-use class_pool::{ClassId, ClassSet};
+use class_pool::ClassId;
 use jv_base::{Base, FieldType, Name};
-use link_check::is_class_below;
 
 /// Whether a value of one type fits where one of another type is wanted. Takes no memory.
-pub fn assignable(set: &ClassSet, from: &VType, to: &VType) -> bool
+pub(crate) fn assignable(set: &Hierarchy, from: &VType, to: &VType) -> bool
     ensures { result ≡ is_assignable set.now from.now to.now }
 {
     match (from, to) {
@@ -32,7 +32,7 @@ pub fn assignable(set: &ClassSet, from: &VType, to: &VType) -> bool
 }
 
 /// Whether a value fits where one of this class or array type is wanted.
-pub(crate) fn fits_type(set: &ClassSet, from: &VType, to: &FieldType) -> bool
+pub(crate) fn fits_type(set: &Hierarchy, from: &VType, to: &FieldType) -> bool
     ensures { result ≡ is_assignable set.now from.now (vtype.Object to.now) }
 {
     match from {
@@ -44,13 +44,13 @@ pub(crate) fn fits_type(set: &ClassSet, from: &VType, to: &FieldType) -> bool
 
 /// The same of items of the stack, which have as many words.
 #[tactic(auto)]
-pub(crate) fn is_item_assignable(set: &ClassSet, from: &VType, to: &VType) -> bool
+pub(crate) fn is_item_assignable(set: &Hierarchy, from: &VType, to: &VType) -> bool
     ensures { result ≡ is_item_assignable set.now from.now to.now }
 {
     words_of(from) == words_of(to) && assignable(set, from, to)
 }
 
-fn is_java_assignable(set: &ClassSet, from: &FieldType, to: &FieldType) -> bool
+fn is_java_assignable(set: &Hierarchy, from: &FieldType, to: &FieldType) -> bool
     ensures { result ≡ is_java_assignable set.now from.now to.now }
 {
     if from.dims == to.dims {
@@ -72,7 +72,7 @@ fn is_above_arrays(base: &Base) -> bool
     }
 }
 
-fn is_base_assignable(set: &ClassSet, from: &Base, to: &Base) -> bool
+fn is_base_assignable(set: &Hierarchy, from: &Base, to: &Base) -> bool
     ensures { result ≡ is_base_assignable set.now from.now to.now }
 {
     match (from, to) {
@@ -89,14 +89,14 @@ fn is_base_assignable(set: &ClassSet, from: &Base, to: &Base) -> bool
     }
 }
 
-fn is_class_assignable(set: &ClassSet, from: &Name, to: &Name) -> bool
+fn is_class_assignable(set: &Hierarchy, from: &Name, to: &Name) -> bool
     ensures { result ≡ is_class_assignable set.now from.now to.now }
 {
     from == to || reaches(set, &set.find(from), &set.find(to))
 }
 
 /// Whether a class that is there is an interface, or another one or a superclass of it.
-fn reaches(set: &ClassSet, from: &Option<ClassId>, to: &Option<ClassId>) -> bool
+fn reaches(set: &Hierarchy, from: &Option<ClassId>, to: &Option<ClassId>) -> bool
     requires from { IfSome from.now (IsClass set.now) }
     requires to { IfSome to.now (IsClass set.now) }
     ensures { result ≡ reaches set.now from.now to.now }
@@ -104,13 +104,13 @@ fn reaches(set: &ClassSet, from: &Option<ClassId>, to: &Option<ClassId>) -> bool
     match (from, to) {
         (_, None) => false,
         (None, Some(to)) => set.is_interface(*to),
-        (Some(from), Some(to)) => set.is_interface(*to) || is_class_below(set, *from, *to),
+        (Some(from), Some(to)) => set.is_interface(*to) || set.is_below(*from, *to),
     }
 }
 
 /// Whether each of some locals fits that in its place.
 #[tactic(auto)]
-pub(crate) fn are_assignable(set: &ClassSet, from: &[VType], to: &[VType]) -> bool
+pub(crate) fn are_assignable(set: &Hierarchy, from: &[VType], to: &[VType]) -> bool
     ensures { result ≡ pointwise (is_assignable set.now) from.now to.now }
 {
     if from.len() != to.len() {
@@ -126,7 +126,7 @@ pub(crate) fn are_assignable(set: &ClassSet, from: &[VType], to: &[VType]) -> bo
 
 /// The same of the items of stacks, both from the bottom or both from the top.
 #[tactic(auto)]
-fn are_items_assignable(set: &ClassSet, from: &[VType], to: &[VType]) -> bool
+fn are_items_assignable(set: &Hierarchy, from: &[VType], to: &[VType]) -> bool
     ensures { result ≡ pointwise (is_item_assignable set.now) from.now to.now }
 {
     if from.len() != to.len() {
@@ -142,7 +142,7 @@ fn are_items_assignable(set: &ClassSet, from: &[VType], to: &[VType]) -> bool
 
 /// The same of two stacks.
 #[tactic(auto)]
-pub(crate) fn is_stack_assignable(set: &ClassSet, from: &Stack, to: &Stack) -> bool
+pub(crate) fn is_stack_assignable(set: &Hierarchy, from: &Stack, to: &Stack) -> bool
     ensures { result ≡ pointwise (is_item_assignable set.now) from.now to.now }
 {
     are_items_assignable(set, from.from_bottom(), to.from_bottom())

@@ -19,12 +19,12 @@ use crate::descriptors::{method_type, returned};
 use crate::environment::Env;
 use crate::frame::TypeFrame;
 use crate::guards::is_guarded_method;
+use crate::hierarchy::Hierarchy;
 use crate::objects::initialise;
 use crate::operands::{give, take, take_number};
 use crate::receivers::use_object;
 use crate::room::{check_room, plus, words_given};
 use class_model::{MemberRef, Num};
-use class_pool::ClassSet;
 use jv_base::{Base, FieldType, M, MethodType, Or};
 use std::alloc::Global;
 
@@ -161,7 +161,7 @@ fn take_own(env: &Env, frame: &mut TypeFrame) -> Result<(), Or<TypeKind>>
 
 /// Takes the arguments of these types, the last first.
 fn take_arguments(
-    set: &ClassSet,
+    set: &Hierarchy,
     frame: &mut TypeFrame,
     types: &[FieldType],
 ) -> Result<(), TypeKind>
@@ -175,7 +175,7 @@ fn take_arguments(
     Ok(())
 }
 
-fn take_argument(set: &ClassSet, frame: &mut TypeFrame, ty: &FieldType) -> Result<(), TypeKind>
+fn take_argument(set: &Hierarchy, frame: &mut TypeFrame, ty: &FieldType) -> Result<(), TypeKind>
     ensures { After result frame.new (popped set.now (Assignable (vtype_of ty.now)) frame.old) }
 {
     if ty.dims != 0 {
@@ -189,7 +189,7 @@ fn take_argument(set: &ClassSet, frame: &mut TypeFrame, ty: &FieldType) -> Resul
     }
 }
 
-fn take_object(set: &ClassSet, frame: &mut TypeFrame, ty: &FieldType) -> Result<(), TypeKind>
+fn take_object(set: &Hierarchy, frame: &mut TypeFrame, ty: &FieldType) -> Result<(), TypeKind>
     ensures { After result frame.new (popped set.now (Assignable (vtype.Object ty.now)) frame.old) }
 {
     match frame.stack.pop() {
@@ -199,7 +199,7 @@ fn take_object(set: &ClassSet, frame: &mut TypeFrame, ty: &FieldType) -> Result<
 }
 
 /// Takes a value of any type. A float and a double stand for none: no set with them is taken.
-fn take_any(set: &ClassSet, frame: &mut TypeFrame) -> Result<(), TypeKind>
+fn take_any(set: &Hierarchy, frame: &mut TypeFrame) -> Result<(), TypeKind>
     ensures { After result frame.new (popped set.now (Assignable vtype.Top) frame.old) }
 {
     match frame.stack.pop() {

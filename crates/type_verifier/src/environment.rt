@@ -3,16 +3,16 @@ ghost use Rattle.std.specs.Prelude.{◌≡◌, IfOk};
 ghost use Rattle.type_verifier.specs.Environment.{in_constructor, own_type};
 ghost use Rattle.type_verifier.specs.bodies.Seen.{seen};
 
+use crate::hierarchy::Hierarchy;
 use crate::known::Known;
 use crate::types::class_type;
 use class_model::{Class, Code, Method, VType};
-use class_pool::ClassSet;
 use jv_base::M;
 
 /// A method of a class of the set, and the code that is looked at as that method's.
 #[derive(Drop)]
 pub(crate) struct Env<'a> {
-    pub(crate) set: &'a ClassSet,
+    pub(crate) set: &'a Hierarchy<'a>,
     /// The number of the class.
     pub(crate) own: u32,
     pub(crate) class: &'a Class,

@@ -17,7 +17,7 @@ pub(crate) fn is_guarded_field(env: &Env, r: &MemberRef) -> bool
     requires there { env.now.own < length env.now.set.now }
     ensures { result ≡ is_guarded_field (seen env.now) r.now }
 {
-    match resolve_field(env.set, env.own, r) {
+    match resolve_field(env.set.class_set(), env.own, r) {
         Ok(m) => is_guarded(env, &m),
         Err(_) => false,
     }
@@ -28,7 +28,7 @@ pub(crate) fn is_guarded_method(env: &Env, r: &MemberRef) -> bool
     requires there { env.now.own < length env.now.set.now }
     ensures { result ≡ is_guarded_method (seen env.now) r.now }
 {
-    match resolve_method(env.set, env.own, r) {
+    match resolve_method(env.set.class_set(), env.own, r) {
         Ok(m) => is_guarded(env, &m),
         Err(_) => false,
     }
@@ -39,7 +39,7 @@ fn is_guarded(env: &Env, m: &MemberAt) -> bool
     requires member { IsMember env.now.set.now m.now }
     ensures { result ≡ is_guarded (seen env.now) (Ok m.now) }
 {
-    let set = env.set;
+    let set = env.set.class_set();
     set.is_protected_member(*m)
         && !set.is_static_member(*m)
         && !set.is_same_package(ClassId::Prog(env.own), m.class)
@@ -58,6 +58,7 @@ fn is_declared(env: &Env, r: &MemberRef) -> bool
     ensures { result ≡ is_some (declared_at env.now.set.now (Prog env.now.own) r.now.name r.now.ty) }
 {
     env.set
+        .class_set()
         .declares(ClassId::Prog(env.own), &r.name, &r.ty)
         .is_some()
 }

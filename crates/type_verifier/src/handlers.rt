@@ -1,13 +1,15 @@
 // Whether frames fit where handlers begin (JVMS 4.10.1.6).
 //
 // Handlers look at the locals and the flag alone. So where these are the same as at the previous instruction, which
-// satisfied its handlers, only handlers that didn't cover that one are looked at; and behind a store the others are
-// looked at in the words that it may have changed.
+// satisfied its handlers, only handlers that didn't cover that one are looked at; and behind a store those that stand
+// for the others are looked at, in the words that it may have changed.
 ghost use Rattle.std.specs.Prelude.{◌≡◌, ◌<◌, ◌∷◌, ◌⊎◌, [], false, length, IfOk, Some};
 ghost use Rattle.std.specs.Cmp.Lexicographic.{pointwise};
 ghost use Rattle.type_verifier.specs.Assignable.{is_assignable, is_frame_assignable};
 ghost use Rattle.type_verifier.specs.Effects.{with_stack};
 ghost use Rattle.type_verifier.specs.Walk.{caught_type, covers, fits_at, satisfies, satisfies_handlers};
+ghost use Rattle.type_verifier.specs.bodies.Asked.{IsUncovered, covers_behind, covers_first, handler_at};
+ghost use Rattle.type_verifier.specs.bodies.Asked.{satisfies_behind, satisfies_first, satisfies_if_behind};
 ghost use Rattle.type_verifier.specs.bodies.Places.{ArePlaces};
 ghost use Rattle.type_verifier.specs.bodies.Seen.{seen};
 ghost use Rattle.type_verifier.specs.bodies.Since.{AreElse, IsKnown, IsSince};
@@ -17,11 +19,11 @@ use crate::changed::Changed;
 use crate::declared::look_up;
 use crate::environment::Env;
 use crate::frame::TypeFrame;
+use crate::hierarchy::Hierarchy;
 use crate::places::Places;
 use crate::stack::Stack;
 use crate::types::class_type;
 use class_model::{Handler, VType};
-use class_pool::ClassSet;
 use jv_base::M;
 use std::alloc::Global;
 
@@ -53,12 +55,28 @@ fn satisfies_all(alloc: Global, env: &Env, places: &Places, frame: &TypeFrame, a
     requires places { ArePlaces env.now.code.now places.now }
     ensures { IfOk result (λ ok. ok ≡ satisfies_handlers (seen env.now) at frame.now) }
 {
+    if !is_covered(env, places, at) {
+        return Ok(true);
+    }
     for handler in env.code.handlers.as_slice() {
         if covers(at, handler) && !satisfies(alloc, env, places, frame, handler)? {
             return Ok(false);
         }
     }
     Ok(true)
+}
+
+/// Whether some handler covers an instruction: then one does that stands for it.
+fn is_covered(env: &Env, places: &Places, at: u32) -> bool
+    requires places { ArePlaces env.now.code.now places.now }
+    ensures { result ≡ false → IsUncovered env.now.code.now at }
+{
+    for number in places.asked() {
+        if covers(at, &env.code.handlers[*number]) {
+            return true;
+        }
+    }
+    false
 }
 
 fn covers(at: u32, handler: &Handler) -> bool
@@ -122,7 +140,7 @@ fn fits_handler(
 }
 
 /// Whether the locals of an unmarked frame and another stack fit a frame.
-fn is_handler_frame(set: &ClassSet, from: &TypeFrame, stack: &Stack, to: &TypeFrame) -> bool
+fn is_handler_frame(set: &Hierarchy, from: &TypeFrame, stack: &Stack, to: &TypeFrame) -> bool
     requires { from.now.marked ≡ false }
     ensures { result ≡ is_frame_assignable set.now (with_stack from.now stack.now) to.now }
 {
@@ -141,36 +159,92 @@ fn satisfies_since(
     at: u32,
 ) -> M<bool>
     requires places { ArePlaces env.now.code.now places.now }
+    requires instruction { at < length env.now.code.now.ins }
     requires since { IsSince (seen env.now) at (Some changed) frame.now }
     ensures { IfOk result (λ ok. ok ≡ satisfies_handlers (seen env.now) at frame.now) }
 {
+    if !satisfies_first(alloc, env, places, frame, at)? {
+        return Ok(false);
+    }
+    satisfies_behind(alloc, env, places, frame, changed, at)
+}
+
+/// The same of the handlers that cover the instruction as the first one, of which nothing is known.
+fn satisfies_first(alloc: Global, env: &Env, places: &Places, frame: &TypeFrame, at: u32) -> M<bool>
+    requires places { ArePlaces env.now.code.now places.now }
+    requires instruction { at < length env.now.code.now.ins }
+    ensures { IfOk result (λ ok. ok ≡ satisfies_first (seen env.now) at frame.now) }
+{
+    if !places.is_first_covered(at as usize) {
+        return Ok(true);
+    }
     for handler in env.code.handlers.as_slice() {
-        if covers(at, handler) && !satisfies_one(alloc, env, places, frame, changed, at, handler)? {
+        if covers_first(at, handler) && !satisfies(alloc, env, places, frame, handler)? {
             return Ok(false);
         }
     }
     Ok(true)
 }
 
-/// The same of a handler that covers the instruction. Where it didn't cover the previous one, nothing is known.
-fn satisfies_one(
+fn covers_first(at: u32, handler: &Handler) -> bool
+    ensures { result ≡ covers_first at handler.now }
+{
+    at == handler.from && covers(at, handler)
+}
+
+/// The same of the handlers that cover the previous instruction too, which that satisfied. Those are asked that stand
+/// for all.
+fn satisfies_behind(
     alloc: Global,
     env: &Env,
     places: &Places,
     frame: &TypeFrame,
     changed: Changed,
     at: u32,
-    handler: &Handler,
 ) -> M<bool>
     requires places { ArePlaces env.now.code.now places.now }
-    requires known { handler.now.from ≡ at ⊎ IsKnown (seen env.now) handler.now changed frame.now }
-    ensures { IfOk result (λ ok. ok ≡ satisfies (seen env.now) frame.now handler.now) }
+    requires since { IsSince (seen env.now) at (Some changed) frame.now }
+    ensures { IfOk result (λ ok. ok ≡ satisfies_behind (seen env.now) at frame.now) }
 {
-    if handler.from == at {
-        satisfies(alloc, env, places, frame, handler)
-    } else {
-        fits_changed(alloc, env, places, frame, changed, handler)
+    if changed.is_nothing() {
+        return Ok(true);
     }
+    for number in places.asked() {
+        if !satisfies_if_behind(alloc, env, places, frame, changed, at, *number)? {
+            return Ok(false);
+        }
+    }
+    Ok(true)
+}
+
+/// The same of the handler of a number, if it covers the previous instruction too.
+fn satisfies_if_behind(
+    alloc: Global,
+    env: &Env,
+    places: &Places,
+    frame: &TypeFrame,
+    changed: Changed,
+    at: u32,
+    number: usize,
+) -> M<bool>
+    requires places { ArePlaces env.now.code.now places.now }
+    requires since { IsSince (seen env.now) at (Some changed) frame.now }
+    requires there { number < length env.now.code.now.handlers }
+    ensures { IfOk result (λ ok.
+        ok ≡ satisfies_if_behind (seen env.now) at frame.now (handler_at env.now.code.now number)) }
+{
+    let handler = &env.code.handlers[number];
+    if covers_behind(at, handler) {
+        fits_changed(alloc, env, places, frame, changed, handler)
+    } else {
+        Ok(true)
+    }
+}
+
+fn covers_behind(at: u32, handler: &Handler) -> bool
+    ensures { result ≡ covers_behind at handler.now }
+{
+    handler.from < at && at < handler.to
 }
 
 /// The same of a handler that the frame satisfied before some words changed.
@@ -200,7 +274,7 @@ fn fits_changed(
 }
 
 /// Whether locals fit others, where all but those that may have changed do.
-fn are_assignable_in(set: &ClassSet, changed: Changed, from: &[VType], to: &[VType]) -> bool
+fn are_assignable_in(set: &Hierarchy, changed: Changed, from: &[VType], to: &[VType]) -> bool
     requires known { AreElse (is_assignable set.now) changed from.now to.now }
     ensures { result ≡ pointwise (is_assignable set.now) from.now to.now }
 {

@@ -2,6 +2,7 @@
 #![tactic(auto)]
 
 mod arrays;
+mod asked;
 mod assignability;
 mod calls;
 mod changed;
@@ -14,6 +15,7 @@ mod frame;
 mod framing;
 mod guards;
 mod handlers;
+mod hierarchy;
 mod instructions;
 mod known;
 mod laws;
@@ -31,7 +33,6 @@ mod verify;
 mod walk;
 mod words;
 
-pub use assignability::assignable;
 pub use fault::{TypeFault, TypeKind};
 pub use laws::{codes_are_typed_or_at_fault, sets_are_typed_or_at_fault};
-pub use verify::{verify_code, verify_method, verify_set};
+pub use verify::{assignable, verify_code, verify_method, verify_set};

@@ -13,16 +13,16 @@ use crate::TypeKind;
 use crate::assignability::assignable;
 use crate::environment::Env;
 use crate::frame::TypeFrame;
+use crate::hierarchy::Hierarchy;
 use crate::room::{check_room, words_given, words_of_numbers};
 use crate::types::{is_reference, words_of};
 use class_model::{Num, VType};
-use class_pool::ClassSet;
 use jv_base::{Base, FieldType, M, Or};
 
 // ---- one value
 
 /// Takes a value that fits where this type is wanted.
-pub(crate) fn take(set: &ClassSet, frame: &mut TypeFrame, to: &VType) -> Result<(), TypeKind>
+pub(crate) fn take(set: &Hierarchy, frame: &mut TypeFrame, to: &VType) -> Result<(), TypeKind>
     ensures { After result frame.new (popped set.now (Assignable to.now) frame.old) }
 {
     match frame.stack.pop() {
@@ -32,7 +32,7 @@ pub(crate) fn take(set: &ClassSet, frame: &mut TypeFrame, to: &VType) -> Result<
 }
 
 /// Takes an int or a long.
-pub(crate) fn take_number(set: &ClassSet, frame: &mut TypeFrame, num: Num) -> Result<(), TypeKind>
+pub(crate) fn take_number(set: &Hierarchy, frame: &mut TypeFrame, num: Num) -> Result<(), TypeKind>
     ensures { After result frame.new (popped set.now (wanted_number num) frame.old) }
 {
     match (num, frame.stack.pop()) {
@@ -42,7 +42,7 @@ pub(crate) fn take_number(set: &ClassSet, frame: &mut TypeFrame, num: Num) -> Re
 }
 
 /// Takes a reference, initialised or not.
-pub(crate) fn take_reference(set: &ClassSet, frame: &mut TypeFrame) -> Result<(), TypeKind>
+pub(crate) fn take_reference(set: &Hierarchy, frame: &mut TypeFrame) -> Result<(), TypeKind>
     ensures { After result frame.new (popped set.now Reference frame.old) }
 {
     match frame.stack.pop() {
@@ -52,7 +52,7 @@ pub(crate) fn take_reference(set: &ClassSet, frame: &mut TypeFrame) -> Result<()
 }
 
 /// Takes an array, or null.
-pub(crate) fn take_array(set: &ClassSet, frame: &mut TypeFrame) -> Result<(), TypeKind>
+pub(crate) fn take_array(set: &Hierarchy, frame: &mut TypeFrame) -> Result<(), TypeKind>
     ensures { After result frame.new (popped set.now AnyArray frame.old) }
 {
     match frame.stack.pop() {
@@ -63,7 +63,7 @@ pub(crate) fn take_array(set: &ClassSet, frame: &mut TypeFrame) -> Result<(), Ty
 }
 
 /// Takes an array of bytes or booleans, or null.
-pub(crate) fn take_small_array(set: &ClassSet, frame: &mut TypeFrame) -> Result<(), TypeKind>
+pub(crate) fn take_small_array(set: &Hierarchy, frame: &mut TypeFrame) -> Result<(), TypeKind>
     ensures { After result frame.new (popped set.now SmallArray frame.old) }
 {
     match frame.stack.pop() {
@@ -92,7 +92,7 @@ pub(crate) fn give(frame: &mut TypeFrame, given: Option<VType>) -> M<()>
 // ---- several values
 
 /// Takes ints and longs.
-fn take_numbers(set: &ClassSet, frame: &mut TypeFrame, nums: &[Num]) -> Result<(), TypeKind>
+fn take_numbers(set: &Hierarchy, frame: &mut TypeFrame, nums: &[Num]) -> Result<(), TypeKind>
     ensures { After result frame.new (all_popped set.now (map wanted_number nums.now) frame.old) }
 {
     for num in nums {

@@ -7,17 +7,22 @@ ghost use Rattle.type_verifier.specs.bodies.Places.{ArePlaces};
 ghost use Rattle.type_verifier.specs.bodies.Marking.{is_among, is_begun, is_case, is_first_covered, is_target};
 ghost use Rattle.type_verifier.specs.bodies.Marks.{AreFirstCovered, AreKept, AreNumbers, IsEntered, Marks, declared_numbered};
 
+use crate::asked::asked_of;
 use crate::frame::TypeFrame;
 use crate::framing::declared_frame;
 use class_model::{Case, Code, Frames, Handler, Ins, Op};
 use jv_base::M;
 use std::alloc::Global;
 
-/// How many words the locals of the frames that are kept take at most.
-const KEPT_WORDS: usize = 262_144;
+/// How many words the locals of the frames that are compared most often and kept take at most.
+const KEPT_WORDS: usize = 4_194_304;
+
+/// The same of the other frames at instructions that are entered.
+const SPARE_WORDS: usize = 262_144;
 
 /// For each instruction of a code the number of the frame that is declared there, whether it is a target or begins a
-/// handler, and whether some handler covers it as the first one; and frames that are compared again.
+/// handler, and whether some handler covers it as the first one; frames that are compared again, and handlers that are
+/// asked about locals that change.
 #[derive(Drop)]
 pub(crate) struct Places {
     frames: Vec<Option<usize>>,
@@ -25,6 +30,8 @@ pub(crate) struct Places {
     covered: Vec<bool>,
     /// By the numbers of the frames.
     kept: Vec<Option<TypeFrame>>,
+    /// The numbers of the handlers that are asked about locals that change.
+    asked: Vec<usize>,
 }
 
 pub(crate) fn places_of(alloc: Global, code: &Code) -> M<Places>
@@ -33,12 +40,14 @@ pub(crate) fn places_of(alloc: Global, code: &Code) -> M<Places>
     let frames = frame_numbers(alloc, &code.frames, code.ins.len())?;
     let entered = entered_of(alloc, code)?;
     let covered = covered_of(alloc, code)?;
-    let kept = kept_frames(alloc, code, entered.as_slice())?;
+    let asked = asked_of(alloc, code, frames.as_slice())?;
+    let kept = frames_compared(alloc, code, entered.as_slice(), asked.as_slice())?;
     Ok(Places {
         frames,
         entered,
         covered,
         kept,
+        asked,
     })
 }
 
@@ -60,18 +69,55 @@ fn frame_numbers(alloc: Global, frames: &Frames, count: usize) -> M<Vec<Option<u
     Ok(numbers)
 }
 
-/// The frames at instructions that are entered, as many as the bound allows.
-fn kept_frames(alloc: Global, code: &Code, entered: &[bool]) -> M<Vec<Option<TypeFrame>>>
+/// The frames that are compared again: at targets, and where handlers begin, those first that are asked about locals
+/// that change.
+fn frames_compared(
+    alloc: Global,
+    code: &Code,
+    entered: &[bool],
+    asked: &[usize],
+) -> M<Vec<Option<TypeFrame>>>
+    ensures { IfOk result (λ kept. AreKept code.now kept.items) }
+{
+    let mut compared = vec![in alloc; false; code.ins.len()]?;
+    mark_instructions(compared.as_mut_slice(), code.ins.as_slice());
+    mark_asked(compared.as_mut_slice(), code.handlers.as_slice(), asked);
+    kept_frames(alloc, code, entered, compared.as_slice())
+}
+
+/// Marks where the handlers of these numbers begin.
+fn mark_asked(compared: &mut [bool], handlers: &[Handler], asked: &[usize]) {
+    for number in asked {
+        if let Some(handler) = handlers.get(*number) {
+            mark(compared, handler.entry);
+        }
+    }
+}
+
+/// The frames at instructions that are entered, as many as the bounds allow.
+fn kept_frames(
+    alloc: Global,
+    code: &Code,
+    entered: &[bool],
+    compared: &[bool],
+) -> M<Vec<Option<TypeFrame>>>
     ensures { IfOk result (λ kept. AreKept code.now kept.items) }
 {
     let mut kept = Vec::new(alloc);
-    let mut left = KEPT_WORDS / (usize::from(code.max_locals) + 1);
+    let words = usize::from(code.max_locals) + 1;
+    let (mut left, mut spare) = (KEPT_WORDS / words, SPARE_WORDS / words);
     for number in 0..code.frames.len() {
-        let wanted = left > 0 && is_marked(entered, code.frames.index(number));
-        kept.push(kept_frame(alloc, code, number, wanted)?)?;
+        let at = code.frames.index(number);
+        let bound = if is_marked(compared, at) {
+            &mut left
+        } else {
+            &mut spare
+        };
+        let wanted = is_marked(entered, at) && *bound > 0;
         if wanted {
-            left -= 1;
+            *bound -= 1;
         }
+        kept.push(kept_frame(alloc, code, number, wanted)?)?;
     }
     Ok(kept)
 }
@@ -219,5 +265,12 @@ impl Places {
             Some(Some(frame)) => Some(frame),
             _ => None,
         }
+    }
+
+    /// The numbers of the handlers that are asked about locals that change.
+    pub(crate) fn asked(&self) -> &[usize]
+        ensures { result.now ≡ self.now.asked.items }
+    {
+        self.asked.as_slice()
     }
 }

@@ -14,9 +14,9 @@ use crate::TypeKind;
 use crate::assignability::fits_type;
 use crate::environment::Env;
 use crate::frame::TypeFrame;
+use crate::hierarchy::Hierarchy;
 use crate::objects::is_own_object;
 use class_model::VType;
-use class_pool::ClassSet;
 use jv_base::{FieldType, Or};
 
 /// Takes the object whose member is used. Where it may be `this` before another constructor was called, that is said;
@@ -36,7 +36,7 @@ pub(crate) fn use_object(
     }
 }
 
-fn is_receiver(set: &ClassSet, class: &FieldType, or_this: bool, ty: &VType) -> bool
+fn is_receiver(set: &Hierarchy, class: &FieldType, or_this: bool, ty: &VType) -> bool
     ensures { result ≡ meets set.now (if or_this then OrThis class.now else Assignable (vtype.Object class.now)) ty.now }
 {
     match ty {

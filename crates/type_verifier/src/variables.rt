@@ -10,14 +10,14 @@ ghost use Rattle.type_verifier.specs.bodies.Seen.{seen};
 use crate::TypeKind;
 use crate::environment::Env;
 use crate::frame::TypeFrame;
+use crate::hierarchy::Hierarchy;
 use crate::room::{check_room, words_of_kind};
 use crate::types::is_reference;
 use class_model::{Kind, VType};
-use class_pool::ClassSet;
 use jv_base::Or;
 
 /// Whether an instruction on values of this kind moves a value.
-fn is_moved(set: &ClassSet, kind: Kind, ty: &VType) -> bool
+fn is_moved(set: &Hierarchy, kind: Kind, ty: &VType) -> bool
     ensures { result ≡ meets set.now (moved kind) ty.now }
 {
     match kind {
@@ -41,7 +41,7 @@ pub(crate) fn load(
 }
 
 fn load_local(
-    set: &ClassSet,
+    set: &Hierarchy,
     frame: &mut TypeFrame,
     kind: Kind,
     slot: usize,
@@ -71,7 +71,7 @@ pub(crate) fn store(
 }
 
 fn store_local(
-    set: &ClassSet,
+    set: &Hierarchy,
     frame: &mut TypeFrame,
     kind: Kind,
     slot: usize,

@@ -4,6 +4,7 @@ ghost use Rattle.jv_base.specs.Longest.{IfFault};
 ghost use Rattle.jv_base.specs.Outcome.{IsDue};
 ghost use Rattle.class_model.specs.declared.class.Class.{Class};
 ghost use Rattle.class_pool.specs.Resolution.{first};
+ghost use Rattle.type_verifier.specs.Assignable.{is_assignable};
 ghost use Rattle.type_verifier.specs.Verified.{AreTyped, IsPlace, IsTypedAt, JudgesMethod};
 ghost use Rattle.type_verifier.specs.Verified.{JudgesSet, environment};
 ghost use Rattle.type_verifier.specs.WithCode.{set_with_code};
@@ -11,13 +12,23 @@ ghost use Rattle.type_verifier.specs.bodies.FirstFaults.{fault_of, fault_of_set,
 ghost use Rattle.type_verifier.specs.bodies.Walked.{code_checked};
 
 use crate::TypeFault;
+use crate::assignability::assignable as is_assignable;
 use crate::environment::Env;
+use crate::hierarchy::{Hierarchy, steps_of};
 use crate::known::Known;
 use crate::walk::check_code;
-use class_model::{Class, Code, Method};
+use class_model::{Class, Code, Method, VType};
 use class_pool::ClassSet;
 use jv_base::{M, Or, OutOfMemory};
 use std::alloc::Global;
+
+/// Whether a value of one type fits where one of another type is wanted. Takes no memory; superclasses are gone over
+/// upwards.
+pub fn assignable(set: &ClassSet, from: &VType, to: &VType) -> bool
+    ensures { result ≡ is_assignable set.now from.now to.now }
+{
+    is_assignable(&Hierarchy::of(set), from, to)
+}
 
 /// Checks a code as that of a method, by the numbers of the class and of the method there: the answer is that for the
 /// set in which the method has this code. The error is the first fault.
@@ -34,10 +45,11 @@ pub fn verify_code(
     ensures typed { IsTypedAt (set_with_code set.now class method code.now) class method → IsDue result (Ok tt) }
 {
     let known = Known::new(alloc)?;
+    let hierarchy = Hierarchy::of(set);
     let of = set.class(class);
     check_one(
         alloc,
-        set,
+        &hierarchy,
         class,
         of,
         method,
@@ -61,10 +73,11 @@ pub fn verify_method(
     ensures typed { IsTypedAt set.now class method → IsDue result (Ok tt) }
 {
     let known = Known::new(alloc)?;
+    let hierarchy = Hierarchy::of(set);
     let of = set.class(class);
     check_method(
         alloc,
-        set,
+        &hierarchy,
         class,
         of,
         method,
@@ -89,8 +102,10 @@ fn first_fault(alloc: Global, set: &ClassSet) -> M<Option<TypeFault>>
     ensures { IfOk result (λ fault. fault ≡ fault_of_set set.now) }
 {
     let known = Known::new(alloc)?;
+    let steps = steps_of(alloc, set)?;
+    let hierarchy = Hierarchy::with(set, steps.as_slice());
     for number in 0..set.len() {
-        let fault = class_fault(alloc, set, number, set.class(number), &known)?;
+        let fault = class_fault(alloc, &hierarchy, number, set.class(number), &known)?;
         if fault.is_some() {
             return Ok(fault);
         }
@@ -101,7 +116,7 @@ fn first_fault(alloc: Global, set: &ClassSet) -> M<Option<TypeFault>>
 /// The first fault of the methods of a class.
 fn class_fault(
     alloc: Global,
-    set: &ClassSet,
+    set: &Hierarchy,
     own: u32,
     class: &Class,
     known: &Known,
@@ -122,7 +137,7 @@ fn class_fault(
 
 fn method_fault(
     alloc: Global,
-    set: &ClassSet,
+    set: &Hierarchy,
     own: u32,
     class: &Class,
     number: u32,
@@ -141,7 +156,7 @@ fn method_fault(
 
 fn check_method(
     alloc: Global,
-    set: &ClassSet,
+    set: &Hierarchy,
     own: u32,
     class: &Class,
     number: u32,
@@ -159,7 +174,7 @@ fn check_method(
 
 fn check_one(
     alloc: Global,
-    set: &ClassSet,
+    set: &Hierarchy,
     own: u32,
     class: &Class,
     number: u32,

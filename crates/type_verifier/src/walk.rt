@@ -19,12 +19,12 @@ use crate::environment::Env;
 use crate::frame::TypeFrame;
 use crate::framing::initial_frame;
 use crate::handlers::satisfies_handlers;
+use crate::hierarchy::Hierarchy;
 use crate::instructions::step;
 use crate::places::{Places, places_of};
 use crate::same::are_same_types;
 use crate::{TypeFault, TypeKind};
 use class_model::{Case, Code, Op};
-use class_pool::ClassSet;
 use jv_base::{M, Or};
 use std::alloc::Global;
 
@@ -188,7 +188,7 @@ fn arrive(
     }
 }
 
-fn is_frame_assignable(set: &ClassSet, from: &TypeFrame, to: &TypeFrame) -> bool
+fn is_frame_assignable(set: &Hierarchy, from: &TypeFrame, to: &TypeFrame) -> bool
     ensures { result ≡ is_frame_assignable set.now from.now to.now }
 {
     are_assignable(set, from.locals.as_slice(), to.locals.as_slice())

@@ -1,7 +1,8 @@
--- The table of what is declared at instructions, and which are entered or begin to be covered (only the proof of the
--- walk needs it).
+-- The table of what is declared at instructions, which are entered or begin to be covered, and which handlers are asked
+-- about what changes (only the proof of the walk needs it).
 use Rattle.std.specs.Prelude.{length}
 use Rattle.class_model.specs.declared.code.Code.{Code}
+use Rattle.type_verifier.specs.bodies.Asked.{AreAsked}
 use Rattle.type_verifier.specs.bodies.Marks.{AreFirstCovered, AreKept, AreNumbers, IsEntered}
 use Rattle.type_verifier.specs.declared.places.Places.{Places}
 
@@ -11,3 +12,4 @@ pub record ArePlaces (code : Code) (places : Places) : Type 0 where
   pub entered : IsEntered code places.entered.items
   pub covered : AreFirstCovered code places.covered.items
   pub kept : AreKept code places.kept.items
+  pub asked : AreAsked code places.asked.items

@@ -1,4 +1,4 @@
-use Rattle.std.proofs.Common.{ℕ, ◌+◌, ◌<◌, length, Option, ◌∙◌, ap, sym, arith}
+use Rattle.std.proofs.Common.{ℕ, ◌+◌, ◌<◌, length, List, Option, ◌∙◌, ap, sym, arith}
 use Rattle.std.specs.List.{enumerate_from}
 use Rattle.std.specs.Option.{option_or}
 use Rattle.class_model.specs.declared.class.Class.{Class}
@@ -21,7 +21,8 @@ returns-then-is_some c =
     c.loop-number.invariant
     ∙ more_at h 0 c.args.set.now c.loop-number.number c.loop-number.number c.class.result.now
     (omega arith) within c.class.ensures.is
-    ∙ ap (λ (o : Option TypeFault). option_or o rest) (sym c.in_ok-fault.ensures)
+    ∙ ap (λ (o : Option TypeFault). option_or o rest) (sym (c.in_ok-fault.ensures ∙ ap (λ (cs : List Class).
+    first (faults_of cs c.loop-number.number c.class.result.now)) c.with-hierarchy.ensures))
     ∙ some_or c.in_ok-fault.fault rest (sym c.is_some.ensures ∙ c.if-is_some.true)
     )
 
@@ -34,5 +35,6 @@ loop-number-preserved c =
     c.loop-number.invariant
     ∙ more_at h 0 c.args.set.now c.loop-number.number c.loop-number.number c.class.result.now
     (omega arith) within c.class.ensures.is
-    ∙ ap (λ (o : Option TypeFault). option_or o rest) (sym c.in_ok-fault.ensures)
+    ∙ ap (λ (o : Option TypeFault). option_or o rest) (sym (c.in_ok-fault.ensures ∙ ap (λ (cs : List Class).
+    first (faults_of cs c.loop-number.number c.class.result.now)) c.with-hierarchy.ensures))
     ∙ none_or c.in_ok-fault.fault rest (sym c.is_some.ensures ∙ c.if-is_some.false)

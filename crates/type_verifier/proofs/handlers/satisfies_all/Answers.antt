@@ -1,0 +1,7 @@
+use Rattle.type_verifier.specs.bodies.Seen.{seen}
+use Rattle.type_verifier.proofs.Asking.{uncovered_holds}
+use Rattle.type_verifier.proofs.handlers.satisfies_all.Goals as goal
+
+pub returns-then-not-is_covered : goal.returns-then-not-is_covered
+returns-then-not-is_covered c =
+    uncovered_holds (seen c.args.env.now) c.args.at c.args.frame.now (c.is_covered.ensures c.if-not-is_covered.true)

@@ -1,0 +1,9 @@
+use Rattle.std.proofs.Common.{sym, ◌∙◌}
+use Rattle.type_verifier.specs.bodies.Seen.{seen}
+use Rattle.type_verifier.proofs.Asking.{known_numbered}
+use Rattle.type_verifier.proofs.handlers.satisfies_if_behind.Goals as goal
+
+pub fits_changed-requires-clause-known : goal.fits_changed-requires-clause-known
+fits_changed-requires-clause-known c =
+    known_numbered (seen c.args.env.now) c.args.at c.args.changed c.args.frame.now c.requires.since c.args.number
+    c.index-handler.result.now c.index-handler.ensures (sym c.covers_behind.ensures ∙ c.if-covers_behind.true)
