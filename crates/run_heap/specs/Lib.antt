@@ -1,0 +1,4 @@
+pub mod Held
+pub mod Worlds
+pub mod Answers
+pub mod bodies

@@ -1,0 +1,53 @@
+// Which handler catches an object (JVMS 2.10, 4.7.3).
+ghost use Rattle.std.specs.Prelude.{◌≡◌, true};
+ghost use Rattle.std.specs.Option.{option_map_or};
+ghost use Rattle.jvm_model.specs.Heap.{class_of};
+ghost use Rattle.jvm_model.specs.Local.{handler_for, handles};
+ghost use Rattle.run_heap.specs.Worlds.{object_of};
+
+use crate::{Object, Shapes};
+use class_model::Handler;
+
+/// The class of an object by name; that of an array counts as Object.
+pub fn class_of(object: &Object) -> &str
+    ensures { result.now ≡ class_of (object_of object.now) }
+{
+    match object {
+        Object::Instance(instance) => instance.class.as_str(),
+        Object::Array { .. } => "java/lang/Object",
+        Object::Text(_) => "java/lang/String",
+        Object::Builder(_) => "java/lang/StringBuilder",
+    }
+}
+
+/// Where the first handler begins that covers an index and catches objects of a class.
+pub fn handler_for<S: Shapes>(
+    shapes: &S,
+    class: &str,
+    at: usize,
+    handlers: &[Handler],
+) -> Option<u32>
+    ensures { result ≡ handler_for ((S.shape shapes.now).is_sub class.now) at handlers.now }
+{
+    for handler in handlers {
+        if handles(shapes, class, at, handler) {
+            return Some(handler.entry);
+        }
+    }
+    None
+}
+
+fn handles<S: Shapes>(shapes: &S, class: &str, at: usize, handler: &Handler) -> bool
+    ensures { result ≡ handles ((S.shape shapes.now).is_sub class.now) at handler.now }
+{
+    handler.from as usize <= at && at < handler.to as usize && catches(shapes, class, handler)
+}
+
+fn catches<S: Shapes>(shapes: &S, class: &str, handler: &Handler) -> bool
+    ensures { result ≡ option_map_or ((S.shape shapes.now).is_sub class.now) handler.now.caught true }
+{
+    match &handler.caught {
+        Some(caught) => shapes.is_sub(class, caught),
+        None => true,
+    }
+}

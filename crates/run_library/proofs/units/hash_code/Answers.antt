@@ -1,0 +1,7 @@
+use Rattle.std.proofs.Common.{rules}
+use Rattle.std.specs.Int.{int_wrap}
+use Rattle.run_library.proofs.units.hash_code.Goals as goal
+
+pub returns : goal.returns
+unfolding int_wrap
+returns c = search rules

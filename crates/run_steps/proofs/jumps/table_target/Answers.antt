@@ -1,0 +1,20 @@
+use Rattle.std.proofs.Common.{◌∙◌, sym, rules}
+use Rattle.std.proofs.lemmas.Int.{to_z-of_z}
+use mir.Syntax.{w32}
+use mir.Val.{SFits}
+use Rattle.run_steps.proofs.Tables.{target_at, target_before}
+use Rattle.run_steps.proofs.jumps.table_target.Goals as goal
+
+pub returns-in-Some : goal.returns-in-Some
+returns-in-Some c =
+    let key : SFits w32 c.args.key = search rules in
+    let low : SFits w32 c.args.low = search rules in
+    let e = rw (to_z-of_z w32 c.args.key key, to_z-of_z w32 c.args.low low) at c.in-Some.ensures in
+    c.target_or.ensures ∙ sym (target_at c.args.targets.now _ c.in-Some.index c.args.other e)
+
+pub returns-in-None : goal.returns-in-None
+returns-in-None c =
+    let key : SFits w32 c.args.key = search rules in
+    let low : SFits w32 c.args.low = search rules in
+    let e = rw (to_z-of_z w32 c.args.key key, to_z-of_z w32 c.args.low low) at c.in-None.ensures.1 in
+    sym (target_before c.args.targets.now _ c.in-None.ensures.0 c.args.other e)

@@ -1,0 +1,4 @@
+pub mod Frames
+pub mod Outcomes
+pub mod Arguments
+pub mod bodies

@@ -1,0 +1,56 @@
+-- What a frame of the code does, as what one of the machine does (JVMS 6.5).
+use Rattle.std.specs.Prelude.{◌≡◌, Result, IfOk}
+use Rattle.jv_base.specs.declared.outcome.OutOfMemory.{OutOfMemory}
+use Rattle.jvm_model.specs.Exceptions.{Arithmetic}
+use Rattle.jvm_model.specs.Instructions.{Request as Asked, Sort}
+use Rattle.jvm_model.specs.Instructions as asked
+use Rattle.jvm_model.specs.Local.{Ends, Local, Moves, Stuck, Tosses, Wants, by_sort}
+use Rattle.run_steps.specs.Frames.{body_of}
+use Rattle.run_steps.specs.declared.body.Body.{Body}
+use Rattle.run_steps.specs.declared.outcome.Outcome.{Outcome}
+use Rattle.run_steps.specs.declared.outcome.Outcome.TheVariants as outcome
+use Rattle.run_steps.specs.declared.outcome.Request.{Request}
+use Rattle.run_steps.specs.declared.outcome.Request.TheVariants as request
+
+-- what is asked
+abbrev pub request_of : Request → Asked
+request_of (request.Known v) = asked.Known v
+request_of request.DividesByZero = asked.Raise Arithmetic
+request_of (request.GetStatic r) = asked.GetStatic r.now
+request_of (request.PutStatic r v) = asked.PutStatic r.now v
+request_of (request.GetField r v) = asked.GetField r.now v
+request_of (request.PutField r v x) = asked.PutField r.now v x
+request_of (request.CallStatic r args) = asked.CallStatic r.now args
+request_of (request.CallSpecial r args) = asked.CallSpecial r.now args
+request_of (request.CallVirtual r args) = asked.CallVirtual r.now args
+request_of (request.CallInterface r args) = asked.CallInterface r.now args
+request_of (request.New class) = asked.New class.now
+request_of (request.NewBaseArray b n) = asked.NewArray (record { dims = 0; base = b.now }) n
+request_of (request.NewArray ty n) = asked.NewArray ty.now n
+request_of (request.NewArrays ty sizes) = asked.NewArrays ty.now sizes
+request_of (request.ArrayLength v) = asked.ArrayLength v
+request_of (request.GetAt e v i) = asked.GetAt e v i
+request_of (request.PutAt e v i x) = asked.PutAt e v i x
+request_of (request.Cast ty v) = asked.Cast ty.now v
+request_of (request.Test ty v) = asked.Test ty.now v
+
+-- what the frame does, by what it is afterwards
+abbrev pub told : Outcome → (after : Body) → Local
+told outcome.Moves after = Moves (body_of after)
+told (outcome.Wants r) after = Wants (request_of r) after.stack
+told (outcome.Ends v) after = Ends v
+told (outcome.Tosses v) after = Tosses v
+told outcome.Stuck after = Stuck
+
+-- a frame that asks waits where it stood, and its local variables are as they were
+abbrev pub Waits : Outcome → (before after : Body) → Type 0
+Waits (outcome.Wants r) before after = (after.at ≡ before.at) × (after.locals ≡ before.locals)
+Waits _ before after = Unit {0}
+
+-- it does what is due
+abbrev pub Does : Outcome → (before after : Body) → (due : Local) → Type 0
+Does o before after due = (told o after ≡ due) × Waits o before after
+
+-- it does what a frame does at an instruction of a sort, unless memory was wanting
+abbrev pub DoesAs : Result Outcome OutOfMemory → (before after : Body) → Sort → Type 0
+DoesAs result before after sort = IfOk result (λ o. Does o before after (by_sort (body_of before) sort))

@@ -1,0 +1,7 @@
+-- How far an int is from the least key of a table (only the proof of the bodies needs it).
+use Rattle.std.specs.Prelude.{◌≡◌, ℕ, ℤ, pos, negsuc, Option, Some, None}
+
+-- the number is that natural one, or below zero
+abbrev pub IsDistance : Option ℕ → ℤ → Type 0
+IsDistance (Some n) z = z ≡ pos n
+IsDistance None z = (n : ℕ) × (z ≡ negsuc n)

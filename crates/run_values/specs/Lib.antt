@@ -1,0 +1,4 @@
+pub mod References
+pub mod Takes
+pub mod Slots
+pub mod bodies
