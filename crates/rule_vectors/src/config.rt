@@ -8,14 +8,26 @@ use std::alloc::Global;
 
 /// The answer to a config, whose witness goes to `wit.txt`; none where the text isn't well formed.
 pub fn answer(alloc: Global, text: &[u8]) -> M<Option<Text>> {
-    let Some(bytes) = unescaped(alloc, text)? else {
-        return Ok(None);
-    };
-    match rules_of(alloc, bytes.as_slice()) {
-        Ok(rules) => Ok(Some(Text::from_string(alloc, rules_text(alloc, &rules)?)?)),
-        Err(Or::Fault(fault)) => Ok(Some(Text::from_string(alloc, fault_text(alloc, &fault)?)?)),
+    match unescaped(alloc, text)? {
+        Some(bytes) => Ok(Some(config_text(alloc, bytes.as_slice())?)),
+        None => Ok(None),
+    }
+}
+
+fn config_text(alloc: Global, bytes: &[u8]) -> M<Text> {
+    match rules_of(alloc, bytes) {
+        Ok(rules) => text_of_rules(alloc, &rules),
+        Err(Or::Fault(fault)) => text_of_fault(alloc, &fault),
         Err(Or::OutOfMemory) => Err(OutOfMemory),
     }
+}
+
+fn text_of_rules(alloc: Global, rules: &Rules) -> M<Text> {
+    Ok(Text::from_string(alloc, rules_text(alloc, rules)?)?)
+}
+
+fn text_of_fault(alloc: Global, fault: &RuleFault) -> M<Text> {
+    Ok(Text::from_string(alloc, fault_text(alloc, fault)?)?)
 }
 
 /// The rules of a config, whose witness goes to `wit.txt`, or its first fault.

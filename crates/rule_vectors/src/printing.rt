@@ -1,6 +1,7 @@
 // Rules and faults in words.
 use jv_base::{Items, Text};
 use keep_rules::{ClassSpec, Filter, Keep, KeepKind, MemberSpec, RuleFault, RuleKind, Rules};
+use line_answers::push_listed;
 use std::alloc::{AllocError, Global};
 
 /// `rules LINE KIND`, with the option of the kind.
@@ -45,20 +46,33 @@ fn option_of(kind: &RuleKind) -> Option<&Text> {
 /// `ok`, and each part of the rules as `NAME=VALUE`.
 pub fn rules_text(alloc: Global, rules: &Rules) -> Result<String, AllocError> {
     let mut text = String::from_str(alloc, "ok")?;
-    push_text(&mut text, " in=", &rules.in_dir)?;
-    push_text(&mut text, " out=", &rules.out_dir)?;
-    push_text(&mut text, " mapping=", &rules.mapping)?;
-    push_any(&mut text, " seeds=", &rules.seeds)?;
-    push_any(&mut text, " usage=", &rules.usage)?;
-    push_yes(&mut text, " shrink=", rules.shrink)?;
-    push_yes(&mut text, " optimise=", rules.optimise)?;
-    push_yes(&mut text, " obfuscate=", rules.obfuscate)?;
-    push_filters(&mut text, " attrs=", &rules.attrs)?;
-    push_any(&mut text, " source=", &rules.source_name)?;
-    for keep in rules.keeps.as_slice() {
-        push_keep(&mut text, keep)?;
-    }
+    push_rules(&mut text, rules)?;
     Ok(text)
+}
+
+fn push_rules(text: &mut String, rules: &Rules) -> Result<(), AllocError> {
+    push_paths(text, rules)?;
+    push_steps(text, rules)?;
+    push_filters(text, " attrs=", &rules.attrs)?;
+    push_any(text, " source=", &rules.source_name)?;
+    for keep in rules.keeps.as_slice() {
+        push_keep(text, keep)?;
+    }
+    Ok(())
+}
+
+fn push_paths(text: &mut String, rules: &Rules) -> Result<(), AllocError> {
+    push_text(text, " in=", &rules.in_dir)?;
+    push_text(text, " out=", &rules.out_dir)?;
+    push_text(text, " mapping=", &rules.mapping)?;
+    push_any(text, " seeds=", &rules.seeds)?;
+    push_any(text, " usage=", &rules.usage)
+}
+
+fn push_steps(text: &mut String, rules: &Rules) -> Result<(), AllocError> {
+    push_yes(text, " shrink=", rules.shrink)?;
+    push_yes(text, " optimise=", rules.optimise)?;
+    push_yes(text, " obfuscate=", rules.obfuscate)
 }
 
 fn push_keep(text: &mut String, keep: &Keep) -> Result<(), AllocError> {
