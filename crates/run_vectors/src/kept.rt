@@ -1,7 +1,7 @@
 // What a run kept, from what it wrote and said alone.
 ghost use Rattle.std.specs.Prelude.{◌+◌, ◌<◌, length};
 
-use crate::running::{Ran, ran};
+use crate::running::{Ran, run_row};
 use class_model::Class;
 use class_read::read_class;
 use jv_base::{M, Or, OutOfMemory, Text};
@@ -14,7 +14,7 @@ use tree_io::{ListFault, MemoryTree, Tree};
 /// `ok`, the items of the class files that were written, the list of seeds, the list of what was dropped, and what was
 /// said; or what was said where the status isn't 0.
 pub fn answer<Rt: Threads + Sync>(rt: &Rt, alloc: Global, row: &[u8]) -> M<Option<Text>> {
-    let Some(mut ran) = ran(rt, alloc, row)? else {
+    let Some(mut ran) = run_row(rt, alloc, row)? else {
         return Ok(None);
     };
     if ran.status == 0 {

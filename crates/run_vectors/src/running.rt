@@ -17,7 +17,7 @@ pub struct Ran {
 
 /// A run of `shrink` on the config and the files of a row, whose input directory is `in`; none where the row is of
 /// another form.
-pub fn ran<Rt: Threads + Sync>(rt: &Rt, alloc: Global, row: &[u8]) -> M<Option<Ran>> {
+pub fn run_row<Rt: Threads + Sync>(rt: &Rt, alloc: Global, row: &[u8]) -> M<Option<Ran>> {
     let (config, words) = first_word(row);
     let Some(config) = unescaped(alloc, config)? else {
         return Ok(None);

@@ -15,17 +15,18 @@ use Rattle.shrink_core.specs.declared.words.CommandFiles.{CommandFiles}
 use Rattle.shrink_core.specs.declared.refusal.Refusal.{Refusal}
 use Rattle.shrink_core.specs.declared.refusal.Stop.{Stop}
 use Rattle.shrink_core.specs.declared.refusal.Stop.TheVariants.{Refused, Device, OutOfMemory}
-use Rattle.shrink_core.specs.Answer.{Ended, Ending, LeavesSo, Outside, Output, StopsSo, Writes}
-use Rattle.shrink_core.specs.Answer.{done, outside, status_of, stopped, summary_failed, summary_without_memory}
-use Rattle.shrink_core.specs.bodies.Steps.{Says, SaysLine, SaysSummary}
-use Rattle.shrink_core.proofs.Found.{no_plan, nothing_done}
+use Rattle.command_output.specs.Output.{Outside, Output, SaysText, outside}
+use Rattle.shrink_core.specs.Answer.{Ended, Ending, LeavesSo, StopsSo, Writes}
+use Rattle.shrink_core.specs.Answer.{done, status_of, stopped, summary_failed, summary_without_memory}
+use Rattle.shrink_core.specs.bodies.Steps.{Says}
+use Rattle.shrink_core.proofs.Found.{no_plan}
 
 -- a run that wrote its files
 pub finished : (plan : Plan) (named : CommandFiles) (status : ℕ) (x y : Option Files) (f f2 : ℕ) (a b : List Event)
     (old new : Output)
-    → AddsCalls a b x y (Writes plan named) → SaysSummary plan.summary status old new
+    → AddsCalls a b x y (Writes plan named) → SaysText plan.summary status old new
     → (status ≡ 7 → Rose old.faults new.faults)
-    → Ended (Some named) status (outside x f a old) (outside y f2 b new)
+    → Ended named status (outside x f a old) (outside y f2 b new)
 finished plan named status x y f f2 a b old new left (inl said) rose =
     (done plan, record { answered = said.0; blamed = tt; left = left; said = said.1 })
 finished plan named status x y f f2 a b old new left (inr (inl said)) rose =
@@ -44,7 +45,7 @@ pub ended_before : (stop : Stop) (named : CommandFiles) (status : ℕ) (x y : Op
     (old new : Output)
     → (IsErrOf (no_plan stop) Device → Rose f f2) → AddsCalls a b x y (StopsSo stop named)
     → Says named.config stop status old new
-    → Ended (Some named) status (outside x f a old) (outside y f2 b new)
+    → Ended named status (outside x f a old) (outside y f2 b new)
 ended_before (Refused refusal) named status x y f f2 a b old new rose left (inl said) =
     (stopped (Refused refusal), record { answered = said.0; blamed = tt; left = left; said = said.1 })
 ended_before (Refused refusal) named status x y f f2 a b old new rose left (inr said) = (
@@ -61,15 +62,6 @@ ended_before Device named status x y f f2 a b old new rose left said =
     (stopped Device, record { answered = said.0; blamed = rose refl; left = left; said = said.1 })
 ended_before OutOfMemory named status x y f f2 a b old new rose left said =
     (stopped OutOfMemory, record { answered = said.0; blamed = tt; left = left; said = said.1 })
-
--- a run without memory for its words
-pub ended_at_once : (named : Option CommandFiles) (status : ℕ) (x : Option Files) (f f2 : ℕ) (a : List Event)
-    (old new : Output) (some : CommandFiles)
-    → named ≡ Some some → SaysLine some.config OutOfMemory status old new
-    → Ended named status (outside x f a old) (outside x f2 a new)
-ended_at_once None status x f f2 a old new some is said = absurd cc
-ended_at_once (Some named) status x f f2 a old new some is said =
-    (stopped OutOfMemory, record { answered = said.0; blamed = tt; left = nothing_done named a x; said = said.1 })
 
 -- ---- memory
 
@@ -95,7 +87,7 @@ lacked (stopped Device) named status a b calls is left answered rose = absurd om
 lacked (stopped OutOfMemory) named status a b calls is left answered rose = answered
 
 pub answers_memory : (named : CommandFiles) (status : ℕ) (before after : Outside)
-    → Ended (Some named) status before after
+    → Ended named status before after
     → memory_faults before.calls < memory_faults after.calls → status ≡ 10
 answers_memory named status before after ended rose =
     lacked ended.0 named status before.calls after.calls ended.1.left.0 ended.1.left.1 ended.1.left.3 ended.1.answered

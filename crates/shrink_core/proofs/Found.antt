@@ -328,9 +328,3 @@ pub writing_stopped : (named : CommandFiles) (plan : Plan) (fault : WriteFault) 
 writing_stopped named plan fault a b c x y z p q =
     made_both (Sees (Some []) (λ files. IsResult files named plan)) (output.Writes (Err fault) plan.files)
     (StopsSo (stop_of fault) named) a b c x y z (wrote_until named plan fault) p q
-
--- no call was made, as memory was wanting
-pub nothing_done : (named : CommandFiles) (a : List Event) (x : Option Files)
-    → AddsCalls a a x x (StopsSo OutOfMemory named)
-nothing_done named a x = made_none (StopsSo OutOfMemory named) a x
-    (inl (record { wrote = refl; same = λ old new run. run }))

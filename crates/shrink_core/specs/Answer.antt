@@ -12,6 +12,7 @@ use Rattle.tree_io.specs.declared.faults.PutFault.{PutFault}
 use Rattle.tree_io.specs.declared.faults.PutFault.TheVariants as sink
 use Rattle.tree_io.specs.declared.file_at.FileAt.{FileAt}
 use Rattle.class_files.specs.Output.{put_all, StopsAt, StopsWithin}
+use Rattle.command_output.specs.Output.{FailsSo, Hands, LacksSo, Output, Outside, Puts}
 use Rattle.shrink_core.specs.Due.{IsDue}
 use Rattle.shrink_core.specs.Refusal as refusal
 use Rattle.shrink_core.specs.declared.shrink.Plan.{Plan}
@@ -21,26 +22,6 @@ use Rattle.shrink_core.specs.declared.refusal.Refusal.TheVariants.{NoConfig, Bad
 use Rattle.shrink_core.specs.declared.refusal.Refusal.TheVariants.{Limit}
 use Rattle.shrink_core.specs.declared.refusal.Stop.{Stop}
 use Rattle.shrink_core.specs.declared.refusal.Stop.TheVariants.{Refused, Device, OutOfMemory}
-
--- what was put to a sink: told text, how often its device has failed, and every call with its answer
-pub record Output : Type 0 where
-  pub text : Option (List ℕ)
-  pub faults : ℕ
-  pub calls : List Event
-
-abbrev pub output : Option (List ℕ) → ℕ → List Event → Output
-output text faults calls = record { text = text; faults = faults; calls = calls }
-
--- what a run meets outside: told files, how often the tree's device has failed, every call of the tree with its answer,
--- and the sink
-pub record Outside : Type 0 where
-  pub files : Option Files
-  pub file_faults : ℕ
-  pub calls : List Event
-  pub out : Output
-
-abbrev pub outside : Option Files → ℕ → List Event → Output → Outside
-outside files file_faults calls out = record { files = files; file_faults = file_faults; calls = calls; out = out }
 
 -- the plan was done; or the command stopped before; or its files were written, and the summary's device failed or
 -- memory was wanting for it
@@ -128,29 +109,6 @@ LeavesSo (summary_without_memory plan) named calls = Writes plan named calls
 
 -- ---- text
 
--- a text was handed to the sink, which gave this answer
-abbrev pub Hands : List ℕ → Result (Unit {0}) PutFault → Output → Output → Type 0
-Hands text answer old new = (new.calls ≡ old.calls ++ Put text answer ∷ [])
-    × Takes answer text old.text new.text old.faults new.faults
-
--- the text was handed to the sink, once: it took all; or a front, where its count of faults rose; or nothing, where
--- memory was wanting
-abbrev pub Puts : List ℕ → Output → Output → Type 0
-Puts text old new = (answer : Result (Unit {0}) PutFault) × Hands text answer old new
-
--- the summary was handed to the sink, whose device failed at it, and then the line of a failed device
-pub record FailsSo (summary : List ℕ) (old new : Output) : Type 0 where
-  pub mid : Output
-  pub handed : Hands summary (Err sink.Failed) old mid
-  pub line : Puts (codes "error 7 device\n") mid new
-  pub later : mid.faults ≤ new.faults
-
--- the summary was handed to the sink, which wanted memory for it, and then the line of want of memory
-pub record LacksSo (summary : List ℕ) (old new : Output) : Type 0 where
-  pub mid : Output
-  pub handed : Hands summary (Err sink.OutOfMemory) old mid
-  pub line : Puts (codes "error 10 memory\n") mid new
-
 abbrev pub SaidSo : Ending → List ℕ → Output → Output → Type 0
 SaidSo (done plan) config old new = Hands plan.summary (Ok tt) old new
 SaidSo (stopped stop) config old new = Puts (refusal.line_of config stop) old new
@@ -167,14 +125,6 @@ pub record Ends (ending : Ending) (named : CommandFiles) (status : ℕ) (before 
   pub left : AddsCalls before.calls after.calls before.files after.files (LeavesSo ending named)
   pub said : SaidSo ending named.config before.out after.out
 
--- words that aren't those of a command are refused as such, and the tree isn't asked
-pub record Misused (status : ℕ) (before after : Outside) : Type 0 where
-  pub answered : status ≡ 1
-  pub asked : after.calls ≡ before.calls
-  pub left : after.files ≡ before.files
-  pub said : Puts (codes "error 1 words\n") before.out after.out
-
--- what a run has done that was given words which name these files, or other words
-abbrev pub Ended : Option CommandFiles → ℕ → Outside → Outside → Type 0
-Ended None status before after = Misused status before after
-Ended (Some named) status before after = (ending : Ending) × Ends ending named status before after
+-- what a run has done that was given these files
+abbrev pub Ended : CommandFiles → ℕ → Outside → Outside → Type 0
+Ended named status before after = (ending : Ending) × Ends ending named status before after

@@ -3,7 +3,8 @@ use Rattle.std.specs.Prelude.{◌≡◌, ◌⊎◌, ℕ, List, Some, Ok, Err}
 use Rattle.tree_io.specs.Files.{Files}
 use Rattle.tree_io.specs.declared.file_at.FileAt.{FileAt}
 use Rattle.class_files.specs.Output.{put_all, StopsWithin}
-use Rattle.shrink_core.specs.Answer.{Ended, Ending, Outside, StopsBefore}
+use Rattle.command_output.specs.Output.{Outside}
+use Rattle.shrink_core.specs.Answer.{Ended, Ending, StopsBefore}
 use Rattle.shrink_core.specs.Answer.{done, status_of, stopped, summary_failed, summary_without_memory}
 use Rattle.shrink_core.specs.Due.{IsDue}
 use Rattle.shrink_core.specs.declared.refusal.Stop.{Stop}
@@ -35,6 +36,6 @@ Leaves named (summary_without_memory plan) old new = LeavesPut named plan old ne
 -- of files that are told before a run, those after it are told, and are as its ending leaves them
 abbrev pub LeavesTold : Type 0
 LeavesTold = (named : CommandFiles) (status : ℕ) (before after : Outside) (old : Files) → before.files ≡ Some old
-    → Ended (Some named) status before after
+    → Ended named status before after
     → (ending : Ending) × (status ≡ status_of ending) × (new : Files) × (after.files ≡ Some new)
     × Leaves named ending old new

@@ -1,4 +1,4 @@
-pub mod Words
+pub mod Commands
 pub mod Config
 pub mod OneConfig
 pub mod Summary

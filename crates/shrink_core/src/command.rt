@@ -1,51 +1,24 @@
 // The command line: words in, a status out.
-ghost use Rattle.std.specs.Prelude.{◌≡◌, ◌≢◌, ◌⊎◌, ◌≤◌, ◌<◌, ◌↔◌, [], None, Some};
+ghost use Rattle.std.specs.Prelude.{◌≡◌, ◌≢◌, ◌⊎◌, ◌<◌, Some, codes, false};
 ghost use Rattle.tree_io.specs.Count.{Rose};
 ghost use Rattle.tree_io.specs.Runs.{memory_faults};
-ghost use Rattle.shrink_core.specs.Words.{files_in};
-ghost use Rattle.shrink_core.specs.Answer.{Ended, Puts, outside, output};
-ghost use Rattle.shrink_core.specs.bodies.Steps.{Says, SaysLine, SaysSummary};
-ghost use Rattle.shrink_core.specs.declared.refusal.Stop.TheVariants.{Device as failed_device};
-ghost use Rattle.shrink_core.specs.declared.refusal.Stop.TheVariants.{OutOfMemory as no_memory, Refused};
+ghost use Rattle.command_output.specs.Output.{SaysLine, outside, output};
+ghost use Rattle.command_words.specs.Words.{commanded};
+ghost use Rattle.shrink_core.specs.Answer.{Ended};
+ghost use Rattle.shrink_core.specs.Commands.{Does, Ran, is_there};
+ghost use Rattle.shrink_core.specs.bodies.Steps.{Says};
+ghost use Rattle.shrink_core.specs.declared.refusal.Stop.TheVariants.{Refused};
 
 use crate::refusal::{Refusal, Stop, refusal_line, refusal_status};
 use crate::shrink::shrink;
-use crate::words::{CommandFiles, read_words};
+use crate::words::CommandFiles;
+use command_output::{say_device, say_line, say_no_memory, say_text};
+use command_words::{Command, read_command};
 use jv_base::{Items, Text};
+use retrace_command::retrace_files;
 use std::alloc::Global;
 use std::thread::Threads;
-use tree_io::{Gate, PutFault, Sink, Tree};
-
-// Puts the line of a status, which stays where the line can't be put.
-fn end<S: Sink>(status: u8, line: &[u8], out: &mut S) -> u8
-    ensures status { result ≡ status }
-    ensures text { Puts line.now
-        (output (S.written out.old) (S.faults out.old) (S.log out.old))
-        (output (S.written out.new) (S.faults out.new) (S.log out.new)) }
-    ensures later { S.faults out.old ≤ S.faults out.new }
-{
-    let _ = out.put(line);
-    status
-}
-
-// Says that a device failed.
-fn say_device<S: Sink>(out: &mut S) -> u8
-    ensures line { SaysLine [] failed_device result
-        (output (S.written out.old) (S.faults out.old) (S.log out.old))
-        (output (S.written out.new) (S.faults out.new) (S.log out.new)) }
-    ensures later { S.faults out.old ≤ S.faults out.new }
-{
-    end(7, b"error 7 device\n", out)
-}
-
-// Says that memory is wanting.
-fn say_no_memory<S: Sink>(out: &mut S) -> u8
-    ensures { SaysLine [] no_memory result
-        (output (S.written out.old) (S.faults out.old) (S.log out.old))
-        (output (S.written out.new) (S.faults out.new) (S.log out.new)) }
-{
-    end(10, b"error 10 memory\n", out)
-}
+use tree_io::{Gate, Sink, Tree};
 
 // Says why a command is refused, whose config is at a path, and answers the status.
 fn say_refusal<S: Sink>(alloc: Global, config: &Text, refusal: &Refusal, out: &mut S) -> u8
@@ -54,7 +27,7 @@ fn say_refusal<S: Sink>(alloc: Global, config: &Text, refusal: &Refusal, out: &m
         (output (S.written out.new) (S.faults out.new) (S.log out.new)) }
 {
     match refusal_line(alloc, config, refusal) {
-        Ok(line) => end(refusal_status(refusal), line.as_bytes(), out),
+        Ok(line) => say_line(refusal_status(refusal), line.as_bytes(), out),
         Err(_) => say_no_memory(out),
     }
 }
@@ -72,39 +45,64 @@ fn say<S: Sink>(alloc: Global, config: &Text, stop: &Stop, out: &mut S) -> u8
     }
 }
 
-// Says the summary, and answers the status.
-fn finish<S: Sink>(summary: &Text, out: &mut S) -> u8
-    ensures device { result ≡ 7 → Rose (S.faults out.old) (S.faults out.new) }
-    ensures said { SaysSummary summary.now result
-        (output (S.written out.old) (S.faults out.old) (S.log out.old))
-        (output (S.written out.new) (S.faults out.new) (S.log out.new)) }
-{
-    match out.put(summary.as_bytes()) {
-        Ok(()) => 0,
-        Err(PutFault::Failed) => say_device(out),
-        Err(PutFault::OutOfMemory) => say_no_memory(out),
-    }
-}
-
-// Runs the command on the files that its words name.
-fn run_on<T: Tree, S: Sink>(alloc: Global, named: &CommandFiles, tree: &mut T, out: &mut S) -> u8
+// Runs `shrink` on its files.
+fn run_shrink<T: Tree, S: Sink>(
+    alloc: Global,
+    named: &CommandFiles,
+    tree: &mut T,
+    out: &mut S,
+) -> u8
     ensures words { result ≢ 1 }
     ensures memory { memory_faults (T.log tree.old) < memory_faults (T.log tree.new) → result ≡ 10 }
     ensures device { result ≡ 7 → Rose (T.faults tree.old) (T.faults tree.new)
         ⊎ Rose (S.faults out.old) (S.faults out.new) }
-    ensures ended { Ended (Some named.now) result
+    ensures ended { Ended named.now result
         (outside (T.files tree.old) (T.faults tree.old) (T.log tree.old)
         (output (S.written out.old) (S.faults out.old) (S.log out.old)))
         (outside (T.files tree.new) (T.faults tree.new) (T.log tree.new)
         (output (S.written out.new) (S.faults out.new) (S.log out.new))) }
 {
     match shrink(alloc, named, tree) {
-        Ok(plan) => finish(&plan.summary, out),
+        Ok(plan) => say_text(plan.summary.as_bytes(), out),
         Err(stop) => say(alloc, &named.config, &stop, out),
     }
 }
 
-/// Runs a command and answers the status with which the program ends.
+// Refuses words that ask for no command that can be run.
+fn refuse_words<S: Sink>(out: &mut S) -> u8
+    ensures { SaysLine 1 (codes "error 1 words\n") result
+        (output (S.written out.old) (S.faults out.old) (S.log out.old))
+        (output (S.written out.new) (S.faults out.new) (S.log out.new)) }
+{
+    say_line(1, b"error 1 words\n", out)
+}
+
+// Runs the command that words ask for; `check` and `gen` can't be run yet.
+fn run_asked<T: Tree, S: Sink>(alloc: Global, command: Command, tree: &mut T, out: &mut S) -> u8
+    ensures refused { result ≡ 1 → is_there (Some command) ≡ false }
+    ensures words { is_there (Some command) ≡ false → result ≡ 1 }
+    ensures device { result ≡ 7 → Rose (T.faults tree.old) (T.faults tree.new)
+        ⊎ Rose (S.faults out.old) (S.faults out.new) }
+    ensures memory { memory_faults (T.log tree.old) < memory_faults (T.log tree.new) → result ≡ 10 }
+    ensures ended { Does (Some command) result
+        (outside (T.files tree.old) (T.faults tree.old) (T.log tree.old)
+        (output (S.written out.old) (S.faults out.old) (S.log out.old)))
+        (outside (T.files tree.new) (T.faults tree.new) (T.log tree.new)
+        (output (S.written out.new) (S.faults out.new) (S.log out.new))) }
+{
+    match command {
+        Command::Shrink { config, witness } => {
+            run_shrink(alloc, &CommandFiles { config, witness }, tree, out)
+        }
+        Command::Retrace { mapping, trace } => retrace_files(alloc, &mapping, &trace, tree, out),
+        Command::Check { .. } => refuse_words(out),
+        Command::Gen { .. } => refuse_words(out),
+    }
+}
+
+/// Runs a command and answers the status with which the program ends. The words are read by `read_command` of
+/// `command_words`; `check` and `gen` can't be run yet. `retrace MAPPING TRACE` is done by `retrace_files` of
+/// `retrace_command`, which tells its statuses.
 ///
 /// `shrink CONFIG OUTWIT` reads the config and the class files of the directory that it names, keeps what its rules
 /// keep, and writes the classes that are left to another directory. CONFIG and OUTWIT are paths: an optional `/`,
@@ -124,7 +122,7 @@ fn run_on<T: Tree, S: Sink>(alloc: Global, named: &CommandFiles, tree: &mut T, o
 /// | Status | Comes | Text |
 /// |---|---|---|
 /// | 0 | where the files were written | the summary |
-/// | 1 | exactly where the words aren't those | `error 1 words` |
+/// | 1 | where the words ask for no command that can be run | `error 1 words` |
 /// | 2 | where no file stands at CONFIG, or a class file that was listed isn't there any more | `error 2 absent PATH` |
 /// | 3 | where the config breaks its grammar, or no rule keeps anything | `error 3 rules LINE KIND` |
 /// | 4 | where a file below IN that ends in `.class` is no class file | `error 4 format PATH OFFSET KIND` |
@@ -156,8 +154,10 @@ pub fn run<Rt: Threads + Sync, T: Tree, S: Sink, G: Gate>(
     out: &mut S,
     _gate: &G,
 ) -> u8
-    // The words are refused exactly where they aren't those of the command.
-    ensures words { (result ≡ 1) ↔ (files_in words.now ≡ None) }
+    // The words are refused only where they ask for no command that is there, and no status but want of memory comes
+    // then beside.
+    ensures refused { result ≡ 1 → is_there (commanded words.now) ≡ false }
+    ensures words { is_there (commanded words.now) ≡ false → (result ≡ 1) ⊎ (result ≡ 10) }
 
     // A device is blamed only where its count rose.
     ensures device { result ≡ 7 → Rose (T.faults tree.old) (T.faults tree.new)
@@ -168,15 +168,15 @@ pub fn run<Rt: Threads + Sync, T: Tree, S: Sink, G: Gate>(
 
     // The run has an ending, which tells its status, which device is blamed, what the tree was asked, what became of
     // all files that its answers fit, told ones among them, and what was said.
-    ensures ended { Ended (files_in words.now) result
+    ensures ended { Ran (commanded words.now) result
         (outside (T.files tree.old) (T.faults tree.old) (T.log tree.old)
         (output (S.written out.old) (S.faults out.old) (S.log out.old)))
         (outside (T.files tree.new) (T.faults tree.new) (T.log tree.new)
         (output (S.written out.new) (S.faults out.new) (S.log out.new))) }
 {
-    match read_words(alloc, words) {
-        Ok(Some(named)) => run_on(alloc, &named, tree, out),
-        Ok(None) => end(1, b"error 1 words\n", out),
+    match read_command(alloc, words) {
+        Ok(Some(command)) => run_asked(alloc, command, tree, out),
+        Ok(None) => refuse_words(out),
         Err(_) => say_no_memory(out),
     }
 }

@@ -13,7 +13,8 @@ use Rattle.set_read.specs.Accepted.{IsAccepted, IsFault}
 use Rattle.set_read.specs.declared.fault.SetFault.TheVariants as set
 use Rattle.list_texts.specs.declared.limit.TooLong.{TooLong}
 use Rattle.set_shrink.specs.declared.shrunk.ShrunkSet.{ShrunkSet}
-use Rattle.shrink_core.specs.Answer.{FailsSo, Hands, LacksSo, Output, Puts, StopsSo, Writes, absent_by}
+use Rattle.command_output.specs.Output.{Output, SaysLine}
+use Rattle.shrink_core.specs.Answer.{StopsSo, Writes, absent_by}
 use Rattle.keep_rules.specs.declared.rules.Rules.{Rules}
 use Rattle.mark_core.specs.Marks.{Marks}
 use Rattle.mark_core.specs.declared.system.System.{System}
@@ -107,18 +108,12 @@ Shrinks (Err stop) named calls = StopsSo stop named calls
 -- ---- what was said
 
 -- the line of a stop was said, with its status; the config stands at this path
-abbrev pub SaysLine : List ℕ → Stop → ℕ → Output → Output → Type 0
-SaysLine config stop status old new = (status ≡ status_of stop) × Puts (line_of config stop) old new
+abbrev pub SaysStop : List ℕ → Stop → ℕ → Output → Output → Type 0
+SaysStop config stop status old new = SaysLine (status_of stop) (line_of config stop) status old new
 
 -- memory may be wanting for the line of a refusal
 abbrev pub Says : List ℕ → Stop → ℕ → Output → Output → Type 0
-Says config (Refused refusal) status old new = SaysLine config (Refused refusal) status old new
-    ⊎ SaysLine config OutOfMemory status old new
-Says config Device status old new = SaysLine config Device status old new
-Says config OutOfMemory status old new = SaysLine config OutOfMemory status old new
-
--- the summary was said whole; or its device failed; or memory was wanting
-abbrev pub SaysSummary : List ℕ → ℕ → Output → Output → Type 0
-SaysSummary summary status old new =
-    ((status ≡ 0) × Hands summary (Ok tt) old new)
-    ⊎ (((status ≡ 7) × FailsSo summary old new) ⊎ ((status ≡ 10) × LacksSo summary old new))
+Says config (Refused refusal) status old new = SaysStop config (Refused refusal) status old new
+    ⊎ SaysStop config OutOfMemory status old new
+Says config Device status old new = SaysStop config Device status old new
+Says config OutOfMemory status old new = SaysStop config OutOfMemory status old new

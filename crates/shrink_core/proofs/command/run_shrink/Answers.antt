@@ -1,0 +1,22 @@
+use Rattle.std.proofs.Common.{List, subst}
+use Rattle.command_output.specs.Output.{SaysText, output}
+use Rattle.shrink_core.proofs.Endings.{answers_memory, ended_before, finished}
+use Rattle.shrink_core.proofs.command.run_shrink.Goals as goal
+
+pub returns-in-Ok-clause-ended : goal.returns-in-Ok-clause-ended
+returns-in-Ok-clause-ended g c =
+    finished c.in-Ok.plan c.args.named.now c.say_text.result _ _ _ _ _ _ _ _ c.in-Ok.ensures.ended
+    (subst (λ t. SaysText t c.say_text.result
+    (output (g.S.Sink.written c.args.out.now) (g.S.Sink.faults c.args.out.now) (g.S.Sink.log c.args.out.now))
+    (output (g.S.Sink.written c.say_text.new.out) (g.S.Sink.faults c.say_text.new.out) (g.S.Sink.log c.say_text.new.out)))
+    c.as_bytes.ensures c.say_text.ensures.said) c.say_text.ensures.device
+
+pub returns-in-Ok-clause-memory : goal.returns-in-Ok-clause-memory
+returns-in-Ok-clause-memory g c = answers_memory c.args.named.now c.say_text.result _ _ (returns-in-Ok-clause-ended g c)
+
+pub returns-in-Err-clause-ended : goal.returns-in-Err-clause-ended
+returns-in-Err-clause-ended g c =
+    ended_before c.in-Err.stop c.args.named.now c.say.result _ _ _ _ _ _ _ _ c.in-Err.ensures.device c.in-Err.ensures.ended c.say.ensures
+
+pub returns-in-Err-clause-memory : goal.returns-in-Err-clause-memory
+returns-in-Err-clause-memory g c = answers_memory c.args.named.now c.say.result _ _ (returns-in-Err-clause-ended g c)

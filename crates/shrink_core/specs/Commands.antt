@@ -1,0 +1,31 @@
+-- What a run has done that was given words (the project's own: the command's answers are no part of a standard).
+use Rattle.std.specs.Prelude.{◌≡◌, ◌⊎◌, ℕ, List, Bool, true, false, Option, Some, None, codes}
+use Rattle.command_output.specs.Output.{Outside, SaysLine}
+use Rattle.command_words.specs.declared.command.Command.{Command}
+use Rattle.command_words.specs.declared.command.Command.TheVariants.{Shrink, Check, Retrace, Gen}
+use Rattle.retrace_command.specs.Answer as retrace
+use Rattle.shrink_core.specs.Answer.{Ended}
+
+-- words ask for a command that can be run; `check` and `gen` can't be run yet
+abbrev pub is_there : Option Command → Bool
+is_there (Some (Shrink config witness)) = true
+is_there (Some (Retrace mapping trace)) = true
+is_there _ = false
+
+-- a line was said at once, with its status, and the tree wasn't asked
+pub record SaysAtOnce (due : ℕ) (line : List ℕ) (status : ℕ) (before after : Outside) : Type 0 where
+  pub asked : after.calls ≡ before.calls
+  pub left : after.files ≡ before.files
+  pub said : SaysLine due line status before.out after.out
+
+-- what was done for the command that words ask for; other words are refused
+abbrev pub Does : Option Command → ℕ → Outside → Outside → Type 0
+Does (Some (Shrink config witness)) status before after =
+    Ended (record { config = config; witness = witness }) status before after
+Does (Some (Retrace mapping trace)) status before after = retrace.Ended mapping trace status before after
+Does _ status before after = SaysAtOnce 1 (codes "error 1 words\n") status before after
+
+-- a run that was given words which ask for this command did it, or memory was wanting for the words
+abbrev pub Ran : Option Command → ℕ → Outside → Outside → Type 0
+Ran command status before after = Does command status before after
+    ⊎ SaysAtOnce 10 (codes "error 10 memory\n") status before after
