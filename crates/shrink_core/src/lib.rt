@@ -16,6 +16,3 @@ pub use command::run;
 pub use laws::{
     configs_are_read, one_config, one_due, some_due, some_marks, told_files_are_left_as_due,
 };
-
-#[cfg(test)]
-mod tests;

@@ -1,5 +1,5 @@
-use super::*;
 use jv_base::{Bytes, Items, M, Text};
+use shrink_core::run;
 use std::alloc::Global;
 use std::process::Abort;
 use std::test::Fail;
@@ -193,7 +193,7 @@ const CONFIG: &str = "shrink.pro";
 const COMMAND: &[&str] = &["shrink", CONFIG, "wit.txt"];
 
 // A path and the bytes of the file there.
-type Row<'a> = (&'a str, &'a [u8]);
+pub(crate) type Row<'a> = (&'a str, &'a [u8]);
 
 const MAIN_AND_X: &[Row<'static>] = &[
     (CONFIG, KEEP_F),
@@ -231,7 +231,7 @@ fn text(alloc: Global, text: &str) -> M<Text> {
     Ok(Text::from_str(alloc, text)?)
 }
 
-fn words_of(alloc: Global, words: &[&str]) -> M<Items<Text>> {
+pub(crate) fn words_of(alloc: Global, words: &[&str]) -> M<Items<Text>> {
     let mut all = Items::new(alloc);
     for word in words {
         all.push(text(alloc, word)?)?;
@@ -239,7 +239,7 @@ fn words_of(alloc: Global, words: &[&str]) -> M<Items<Text>> {
     Ok(all)
 }
 
-fn files_of(alloc: Global, rows: &[Row<'_>]) -> M<Items<FileAt>> {
+pub(crate) fn files_of(alloc: Global, rows: &[Row<'_>]) -> M<Items<FileAt>> {
     let mut files = Items::new(alloc);
     for (path, bytes) in rows {
         files.push(FileAt {
@@ -250,7 +250,7 @@ fn files_of(alloc: Global, rows: &[Row<'_>]) -> M<Items<FileAt>> {
     Ok(files)
 }
 
-fn numbers(alloc: Global, numbers: &[u64]) -> M<Items<u64>> {
+pub(crate) fn numbers(alloc: Global, numbers: &[u64]) -> M<Items<u64>> {
     Ok(Items::from_vec(numbers.to_vec(alloc)?))
 }
 
