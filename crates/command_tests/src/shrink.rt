@@ -481,27 +481,26 @@ fn two_stars_for_a_type_are_a_class_and_no_array(rt: HostRuntime) -> Result<(), 
     Ok(())
 }
 
+const ONE_OF_A: &[Row<'static>] = &[("out/a/B.class", A_B)];
+
+const BOTH_OF_A: &[Row<'static>] = &[("out/a/B.class", A_B), ("out/a/c/D.class", A_C_D)];
+
 #[test]
 fn a_star_in_a_class_name_takes_no_dot_unless_it_stands_alone(rt: HostRuntime) -> Result<(), Fail> {
+    let alloc = rt.alloc();
     let rows = [("in/a/B.class", A_B), ("in/a/c/D.class", A_C_D)];
-    let written = [("out/a/B.class", A_B), ("out/a/c/D.class", A_C_D)];
-    for (rest, kept) in [
-        ("-keep class a.* { static int f(); }", 1u32),
-        ("-keep class * { static int f(); }", 2),
-        ("-keep class a.** { static int f(); }", 2),
-        ("-keepnames class * { *; } -keep class a.B { *; }", 1),
-        ("-keepclassmembers class * { *; } -keep class a.B", 1),
-        ("-dontshrink", 2),
+    for (rest, written) in [
+        ("-keep class a.* { static int f(); }", ONE_OF_A),
+        ("-keep class * { static int f(); }", BOTH_OF_A),
+        ("-keep class a.** { static int f(); }", BOTH_OF_A),
+        ("-keepnames class * { *; } -keep class a.B { *; }", ONE_OF_A),
+        ("-keepclassmembers class * { *; } -keep class a.B", ONE_OF_A),
+        ("-dontshrink", BOTH_OF_A),
     ] {
-        let alloc = rt.alloc();
+        let kept = written.len();
         let said = format!(in alloc;
             "classes 2 {kept}\nfields 0 0\nmethods 2 {kept}\nedited 0\nfallback 0\n"
         )?;
-        let written = if kept == 1 {
-            &written[..1]
-        } else {
-            &written[..]
-        };
         expect_kept(&rt, alloc, rest, &rows, 0, said.as_str(), written)?;
     }
     Ok(())

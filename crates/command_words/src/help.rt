@@ -10,6 +10,7 @@ const ABOUT: &str = "Shrinks class files in the manner of ProGuard, and turns st
 const COMMANDS: &str = "Commands:
   shrink CONFIG WITNESS   writes the classes that CONFIG keeps, as its options say
   retrace MAPPING TRACE   prints TRACE with the old names of MAPPING in place of the new ones
+  --version               alone, prints the version
 
 CONFIG, WITNESS, MAPPING and TRACE are paths: an optional / and names with a / between two, none of
 them empty, . or .. . docs/MANUAL.md has the options of a config and every message.

@@ -18,7 +18,7 @@ pub record Frame : Type 0 where
   pub method : List ℕ
   pub number : List ℕ
 
--- no byte is `)`
+-- the number behind a source, of which no byte is `)`
 abbrev pub lacks_end : List ℕ → List ℕ → Option (List ℕ)
 lacks_end source number = where_true (not (list_any (λ b. b == 41) source)) number
 
@@ -48,7 +48,8 @@ number_of text = closed text >>= number_in
 unfoldable pub class_and_method : List ℕ → Option (List ℕ × List ℕ)
 class_and_method text = do
   dot ← last_place_of 46 text
-  where_true (is_utf8 (drop (dot + 1) text) && is_method_name (drop (dot + 1) text)) (take dot text, drop (dot + 1) text)
+  where_true (is_utf8 (drop (dot + 1) text) && is_method_name (drop (dot + 1) text))
+      (take dot text, drop (dot + 1) text)
 
 -- what stands behind `at `
 unfoldable pub frame_behind : List ℕ → List ℕ → Option Frame

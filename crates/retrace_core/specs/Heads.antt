@@ -30,7 +30,8 @@ ends_class text = length text == 0 || begins (codes ": ") text
 
 -- the class ends before this place
 abbrev pub head_at : List ℕ → List ℕ → ℕ → Option Head
-head_at front text end = where_true (ends_class (drop end text)) (record { front = front; class = take end text; text = drop end text })
+head_at front text end = where_true (ends_class (drop end text))
+    (record { front = front; class = take end text; text = drop end text })
 
 -- a class, and perhaps a text, behind a front
 unfoldable pub head_behind : List ℕ → List ℕ → Option Head

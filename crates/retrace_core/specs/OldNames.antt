@@ -1,4 +1,5 @@
--- The old names of classes and methods (ProGuard manual, "ReTrace").
+-- The old names of classes and methods (ProGuard manual, "ReTrace"; that of several methods with one new name the first
+-- counts is the project's own).
 use Rattle.std.specs.Prelude.{ℕ, ◌+◌, List, ◌++◌, take, drop, length, Option, Some, None, codes}
 use Rattle.std.specs.List.{find}
 use Rattle.std.specs.Option.{option_map, unwrap_or}
@@ -29,14 +30,15 @@ behind_package name (Some slash) = drop (slash + 1) name
 abbrev pub simple_name : List ℕ → List ℕ
 simple_name name = behind_package name (last_place_of 47 name)
 
--- how long the name of the outermost class is: up to the first `$`, which isn't the first character (JLS 13.1)
+-- how long the name of the outermost class is: up to the first `$` that isn't the first character, with which compilers
+-- join the names of nested classes (JLS 13.1); a name that has a `$` itself is cut there too (the project's own)
 abbrev pub outer_length : List ℕ → ℕ
 outer_length simple = unwrap_or (option_map (λ n. n + 1) (place_of 36 (drop 1 simple))) (length simple)
 
--- the outermost class that a class stands in
+-- a name up to there
 abbrev pub outermost : List ℕ → List ℕ
 outermost simple = take (outer_length simple) simple
 
--- the source file of a class: as the outermost class is called
+-- the source file of a class: called as the outermost class
 unfoldable pub source_of : List ℕ → List ℕ
 source_of name = outermost (simple_name name) ++ codes ".java"

@@ -11,7 +11,8 @@ use Rattle.retrace_core.specs.OldNames.{class_named, old_method, source_of}
 
 -- the line of a frame in a class
 abbrev pub frame_text : Frame → List ℕ → List ℕ
-frame_text f source = f.blanks ++ (codes "at " ++ (f.class ++ (codes "." ++ (f.method ++ (codes "(" ++ (source ++ (f.number ++ codes ")")))))))
+frame_text f source = f.blanks ++ (codes "at " ++ (f.class ++ (codes "." ++ (f.method ++ (codes "("
+    ++ (source ++ (f.number ++ codes ")")))))))
 
 -- a frame with old names
 abbrev pub old_frame : Frame → MapClass → Frame

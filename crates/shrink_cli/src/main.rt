@@ -19,7 +19,7 @@ enum Notice {
     Version,
 }
 
-fn notice(words: &Items<Text>) -> Option<Notice> {
+fn notice_of(words: &Items<Text>) -> Option<Notice> {
     let [word] = words.as_slice() else {
         return None;
     };
@@ -68,7 +68,7 @@ fn main(rt: HostRuntime) -> ExitCode {
         let _ = out.put(b"error 10 memory\n");
         return ExitCode::from(10);
     };
-    if let Some(notice) = notice(&words) {
+    if let Some(notice) = notice_of(&words) {
         return ExitCode::from(print_notice(alloc, notice, &mut out));
     }
     let mut tree = FileTree::new(&rt);

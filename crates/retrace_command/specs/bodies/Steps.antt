@@ -25,12 +25,14 @@ missed (Err Device) = Some []
 missed (Err OutOfMemory) = None
 
 -- calls that read alone found what is due of all files that they fit
-abbrev pub Finds : {A : Type 0} → Result A Stop → (Files → Result A Refusal) → List Event → List Event → Option Files → Option Files → Type 0
+abbrev pub Finds : {A : Type 0} → Result A Stop → (Files → Result A Refusal) → List Event → List Event → Option Files
+    → Option Files → Type 0
 Finds result due old new files left = AddsCalls old new files left (Sees (missed result) (λ fs. Told result (due fs)))
 
 -- memory may be wanting for the line of a refusal
 abbrev pub Says : Stop → ℕ → Output → Output → Type 0
-Says (Refused refusal) status old new = SaysLine (status_of (Refused refusal)) (line_of (Refused refusal)) status old new
+Says (Refused refusal) status old new =
+    SaysLine (status_of (Refused refusal)) (line_of (Refused refusal)) status old new
     ⊎ SaysLine (status_of OutOfMemory) (line_of OutOfMemory) status old new
 Says Device status old new = SaysLine (status_of Device) (line_of Device) status old new
 Says OutOfMemory status old new = SaysLine (status_of OutOfMemory) (line_of OutOfMemory) status old new
