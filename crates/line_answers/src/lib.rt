@@ -12,5 +12,5 @@ mod program;
 mod tests;
 
 pub use escapes::{escaped_line, first_word, push_escaped, push_listed, unescaped, unescaped_text};
-pub use lines::{Answers, Stop, answer_lines};
-pub use program::answer_standard_input;
+pub use lines::{Answers, Stop, answer_lines, is_title, put_answer, put_line, read_line};
+pub use program::{answer_standard_input, exit_code};

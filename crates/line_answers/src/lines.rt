@@ -49,40 +49,51 @@ pub fn answer_lines<A: Answers, R: BufRead, W: Write>(
 ) -> Result<(), Stop> {
     let mut line = Vec::new(alloc);
     for number in 1..u64::MAX {
-        line.clear();
-        if input.read_until(b'\n', &mut line)? == 0 {
+        if !read_line(input, &mut line)? {
             return Ok(());
         }
-        put_answer(alloc, answers, number, without_end(line.as_slice()), output)?;
-        output.write_all(b"\n")?;
+        if is_title(line.as_slice()) {
+            put_line(line.as_slice(), output)?;
+        } else {
+            let answer = answers.answer(alloc, line.as_slice())?;
+            put_answer(number, &answer, output)?;
+        }
     }
     Err(Stop::Device)
 }
 
-fn without_end(line: &[u8]) -> &[u8] {
-    match line.strip_suffix(b"\n") {
-        Some(front) => front,
-        None => line,
+/// Reads the next line, without its end; false where there is none.
+pub fn read_line<R: BufRead>(input: &mut R, line: &mut Vec<u8>) -> Result<bool, Stop> {
+    line.clear();
+    if input.read_until(b'\n', line)? == 0 {
+        return Ok(false);
+    }
+    if line.last() == Some(&b'\n') {
+        line.pop();
+    }
+    Ok(true)
+}
+
+/// Whether a line is a title, which is put out as it is.
+pub fn is_title(line: &[u8]) -> bool {
+    line.starts_with(b"#")
+}
+
+/// Puts the answer to the line of this number; where there is none, the line is of another form.
+pub fn put_answer<W: Write>(
+    number: u64,
+    answer: &Option<Text>,
+    output: &mut W,
+) -> Result<(), Stop> {
+    match answer {
+        Some(text) => put_line(text.as_bytes(), output),
+        None => Err(Stop::Form(number)),
     }
 }
 
-// A title as it is; of any other line the answer.
-fn put_answer<A: Answers, W: Write>(
-    alloc: Global,
-    answers: &A,
-    number: u64,
-    line: &[u8],
-    output: &mut W,
-) -> Result<(), Stop> {
-    if line.starts_with(b"#") {
-        output.write_all(line)?;
-        return Ok(());
-    }
-    match answers.answer(alloc, line)? {
-        Some(text) => {
-            output.write_all(text.as_bytes())?;
-            Ok(())
-        }
-        None => Err(Stop::Form(number)),
-    }
+/// Puts a line with its end.
+pub fn put_line<W: Write>(line: &[u8], output: &mut W) -> Result<(), Stop> {
+    output.write_all(line)?;
+    output.write_all(b"\n")?;
+    Ok(())
 }

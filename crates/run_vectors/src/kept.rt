@@ -94,8 +94,10 @@ fn push_items(alloc: Global, items: &mut String, class: &Class) -> M<()> {
     let name = class_text(alloc, class)?;
     items.push_str(name.as_str())?;
     items.push_str("\n")?;
-    for member in 0..class.fields.len() + class.methods.len() {
-        push_member(alloc, items, name.as_str(), class, member as u32)?;
+    // a class file has fewer than 2^17 members
+    let members = class.fields.len().saturating_add(class.methods.len());
+    for member in 0..u32::try_from(members).unwrap_or(0) {
+        push_member(alloc, items, name.as_str(), class, member)?;
     }
     Ok(())
 }
