@@ -1,11 +1,12 @@
 //! Whole runs of the command in memory, one for each line of standard input: says what the run kept, wrote and said.
 //!
-//! A line is `kept CONFIG FILES`; the README tells how texts and files are written, and what is answered. The status is
-//! that of `line_answers`.
+//! A line is `kept CONFIG FILES` or `retrace MAPPING TRACE`; the README tells how texts and files are written, and what
+//! is answered. The status is that of `line_answers`.
 #![tactic(auto)]
 
 mod kept;
 mod running;
+mod traced;
 
 use jv_base::{M, Text};
 use line_answers::{Stop, exit_code, first_word, is_title, put_answer, put_line, read_line};
@@ -19,6 +20,7 @@ fn answer<Rt: Threads + Sync>(rt: &Rt, alloc: Global, line: &[u8]) -> M<Option<T
     let (word, row) = first_word(line);
     match word {
         b"kept" => kept::answer(rt, alloc, row),
+        b"retrace" => traced::answer(rt, alloc, row),
         _ => Ok(None),
     }
 }

@@ -7,7 +7,7 @@ use std::alloc::Global;
 use std::thread::Threads;
 use tree_io::{FileAt, MemorySink, MemoryTree, OpenGate};
 
-/// What a run of `shrink` left and said.
+/// What a run of the command left and said.
 #[derive(Drop)]
 pub struct Ran {
     pub status: u8,
@@ -29,7 +29,8 @@ pub fn run_row<Rt: Threads + Sync>(rt: &Rt, alloc: Global, row: &[u8]) -> M<Opti
         path: Text::from_str(alloc, "config.pro")?,
         bytes: Bytes::from_vec(config),
     })?;
-    Ok(Some(ran_on(rt, alloc, files)?))
+    let words = ["shrink", "config.pro", "wit.txt"];
+    Ok(Some(run_words(rt, alloc, words, files)?))
 }
 
 // The files of a row below the input directory; none where a word is of another form.
@@ -55,9 +56,15 @@ fn below_input(alloc: Global, file: LineFile) -> M<FileAt> {
     })
 }
 
-fn ran_on<Rt: Threads + Sync>(rt: &Rt, alloc: Global, files: Items<FileAt>) -> M<Ran> {
+/// A run of the command on a command line and files.
+pub fn run_words<Rt: Threads + Sync>(
+    rt: &Rt,
+    alloc: Global,
+    line: [&str; 3],
+    files: Items<FileAt>,
+) -> M<Ran> {
     let mut words = Items::new(alloc);
-    for word in ["shrink", "config.pro", "wit.txt"] {
+    for word in line {
         words.push(Text::from_str(alloc, word)?)?;
     }
     let mut tree = MemoryTree::new(alloc, files, Items::new(alloc))?;
