@@ -1,3 +1,3 @@
-mod Standing
-mod Naming
-mod Views
+pub mod Standing
+pub mod Naming
+pub mod Views

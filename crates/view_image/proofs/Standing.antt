@@ -43,11 +43,11 @@ module _ (a : List Class) where
       by None e r = r
       by (Some k) e r = (ap (option_map (λ k. record { class = c; index = k })) e, r)
 
-  first_all : (P : MemberAt → Type 0) (ms : List MemberAt) → AllByRecursion P ms → IfSome (first ms) P
+  pub first_all : (P : MemberAt → Type 0) (ms : List MemberAt) → AllByRecursion P ms → IfSome (first ms) P
   first_all P [] h = tt
   first_all P (m ∷ ms) h = h.0
 
-  find_all : (P : MemberAt → Type 0) (t : MemberAt → Bool) (ms : List MemberAt) → AllByRecursion P ms
+  pub find_all : (P : MemberAt → Type 0) (t : MemberAt → Bool) (ms : List MemberAt) → AllByRecursion P ms
       → IfSome (find t ms) P
   find_all P t [] h = tt
   find_all P t (m ∷ ms) h = by (t m) (find_all P t ms h.1)
@@ -56,7 +56,7 @@ module _ (a : List Class) where
       by true r = h.0
       by false r = r
 
-  filter_all : (P : MemberAt → Type 0) (t : MemberAt → Bool) (ms : List MemberAt) → AllByRecursion P ms
+  pub filter_all : (P : MemberAt → Type 0) (t : MemberAt → Bool) (ms : List MemberAt) → AllByRecursion P ms
       → AllByRecursion P (filter t ms)
   filter_all P t [] h = tt
   filter_all P t (m ∷ ms) h = by (t m) (filter_all P t ms h.1)
@@ -65,7 +65,7 @@ module _ (a : List Class) where
       by true r = (h.0, r)
       by false r = r
 
-  overriding_all : (P : MemberAt → Type 0) (m : MemberAt) (ms : List MemberAt) → AllByRecursion P ms
+  pub overriding_all : (P : MemberAt → Type 0) (m : MemberAt) (ms : List MemberAt) → AllByRecursion P ms
       → AllByRecursion P (overriding a m ms)
   overriding_all P m [] h = tt
   overriding_all P m (z ∷ ms) h =

@@ -1,0 +1,5 @@
+mod Instructions
+mod Implementing
+mod Overriding
+mod Places
+mod Left

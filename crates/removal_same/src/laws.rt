@@ -1,0 +1,8 @@
+//! What removal changes: nothing that a run tells.
+ghost use Rattle.removal_same.specs.Laws.{RemovalKeepsSame};
+
+/// A set that is taken, and what is left of it by marks that are closed for the system of requirements, do the same
+/// from each entry that is kept. It does nothing.
+pub fn removal_keeps_same()
+    ensures { RemovalKeepsSame }
+{}

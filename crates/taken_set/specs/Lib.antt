@@ -1,0 +1,2 @@
+pub mod TakenSet
+pub mod Laws
