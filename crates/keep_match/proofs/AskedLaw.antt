@@ -14,7 +14,7 @@ use Rattle.keep_match.specs.Matches.{matches_class, matches_field, matches_metho
 use Rattle.keep_match.specs.Seeds.{are_kept, keeps_class, keeps_field, keeps_method, places_of_true}
 use Rattle.keep_match.specs.bodies.AsKeeps.{as_keep, as_keeps}
 
-any_of : (t q : Keep → Bool) (f : Keep → Keep) (ks : List Keep)
+pub any_of : (t q : Keep → Bool) (f : Keep → Keep) (ks : List Keep)
     → list_any q (map f (filter t ks)) ≡ list_any (λ k. t k && q (f k)) ks
 any_of t q f [] = refl
 any_of t q f (k ∷ ks) = by (t k) ∙ ap (λ (b : Bool). (t k && q (f k)) || b) (any_of t q f ks)
@@ -59,7 +59,7 @@ asked_row classes n c keeps =
     λ i. map (λ f. field_asked classes n c keeps f i) c.fields ++ map
     (λ m. method_asked classes n c keeps m i) c.methods
 
-map_is : {Y : Type 0} (g : List Bool → Y) (f : ℕ × Class → Y) (k : ℕ) (classes : List Class) (rows : List (List Bool))
+pub map_is : {Y : Type 0} (g : List Bool → Y) (f : ℕ × Class → Y) (k : ℕ) (classes : List Class) (rows : List (List Bool))
     → length rows ≡ length classes
     → ((n : ℕ) (c : Class) → slice_get classes n ≡ Some c → g (row_at rows n) ≡ f (k + n, c))
     → map g rows ≡ map f (enumerate_from k classes)

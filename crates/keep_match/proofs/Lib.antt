@@ -12,4 +12,5 @@ pub mod PlaceLaw
 pub mod LiteralLaw
 pub mod MarkLaw
 pub mod NameLaw
-mod AskedLaw
+pub mod AskedLaw
+mod FixedLaw

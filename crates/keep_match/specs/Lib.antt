@@ -7,5 +7,6 @@ pub mod Matches
 pub mod Above
 pub mod Seeds
 pub mod Asked
+pub mod Fixed
 pub mod Marks
 pub mod bodies

@@ -31,7 +31,7 @@ fn asks_members(keep: &Keep) -> bool
         }
 }
 
-fn as_keep(alloc: Global, keep: &Keep) -> M<Keep>
+pub(crate) fn as_keep(alloc: Global, keep: &Keep) -> M<Keep>
     ensures { IfOk result (λ copy. copy ≡ as_keep keep.now) }
 {
     let spec = class_spec(alloc, &keep.spec)?;

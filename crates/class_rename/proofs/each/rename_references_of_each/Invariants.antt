@@ -1,0 +1,8 @@
+use Rattle.std.proofs.Common.{◌≡◌, ◌++◌, take, drop, map}
+use Rattle.class_rename.specs.Names.{names_in}
+use Rattle.class_rename.proofs.each.rename_references_of_each.Given as goal
+
+abbrev pub invariant-loop-part : goal.invariant-loop-part
+invariant-loop-part g l = (l.renamer ≡ l.fn.renamer)
+    × (l.part-items ≡ map (g.T.RenameReferences.renamed (names_in l.fn.renamer)) (take l.part-index l.fn.items)
+    ++ drop l.part-index l.fn.items)

@@ -1,0 +1,11 @@
+use Rattle.class_rename.specs.Names.{names_in}
+use Rattle.class_rename.specs.Renamed.{renamed_field_text}
+use Rattle.class_rename.proofs.Known.{found_if}
+use Rattle.class_rename.proofs.renamer.field_text.Goals as goal
+
+pub known_field_text-requires : goal.known_field_text-requires
+known_field_text-requires c = record {
+  known = c.requires;
+  found = found_if (renamed_field_text (names_in c.args.names.now)) c.args.table.now.entries c.args.text.now
+      c.in_ok-found.found c.requires c.in_ok-found.ensures;
+}

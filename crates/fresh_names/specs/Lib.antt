@@ -1,0 +1,5 @@
+pub mod Fresh
+pub mod Reserved
+pub mod Given
+pub mod Laws
+pub mod bodies

@@ -1,0 +1,11 @@
+// What holds of new names.
+ghost use Rattle.fresh_names.specs.Given.{front_of, no_front};
+ghost use Rattle.fresh_names.specs.Laws.{NamesDiffer, TakenStay};
+
+/// No two names that stay or get a new one come to one, and a name that is taken stays: of classes, where one front of
+/// names is given after the other, and of members.
+pub fn given_names_differ()
+    ensures members { NamesDiffer no_front }
+    ensures classes_stay { TakenStay front_of }
+    ensures members_stay { TakenStay no_front }
+{}

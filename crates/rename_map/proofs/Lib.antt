@@ -1,0 +1,3 @@
+pub mod Added
+pub mod Beside
+pub mod Ranges

@@ -1,0 +1,4 @@
+pub mod Fixed
+pub mod Names
+pub mod MappingOf
+pub mod bodies

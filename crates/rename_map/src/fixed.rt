@@ -1,0 +1,76 @@
+// Names that stay by rules (ProGuard manual, "-keepnames", "includedescriptorclasses", "-dontobfuscate").
+ghost use Rattle.std.specs.Prelude.{◌≡◌, ◌++◌, [], IfOk};
+ghost use Rattle.keep_match.specs.Fixed.{fixed_rows};
+ghost use Rattle.keep_match.specs.declared.fixed.Fixes.TheVariants as fixes;
+ghost use Rattle.fresh_names.specs.Reserved.{reserved};
+ghost use Rattle.rename_map.specs.Fixed.{names_that_stay, of_each};
+ghost use Rattle.rename_map.specs.Names.{AreFixed, AreSame};
+
+use crate::gathering::{Chosen, gather};
+use class_pool::ClassSet;
+use fresh_names::{Named, TakenNames, TakenSet};
+use indexmap::IndexSet;
+use jv_base::{Items, M, Name};
+use keep_match::{Fixes, fixed_rows};
+use keep_rules::Rules;
+use std::alloc::Global;
+
+/// The names that stay by rules, whatever is kept of a set; with `-dontobfuscate` all stay, which is told by none. A
+/// class stays that a rule matches which isn't on members alone; a member's name stays everywhere where a rule matches
+/// a member of this name, and with includedescriptorclasses so do the classes in its descriptor. A rule with
+/// allowobfuscation makes nothing stay.
+pub fn fixed_names(alloc: Global, rules: &Rules, input: &ClassSet) -> M<Option<TakenNames>>
+    ensures { IfOk result (AreFixed rules.now input.now) }
+{
+    if !rules.obfuscate {
+        return Ok(None);
+    }
+    let classes = fixed_classes(alloc, rules, input)?;
+    let rows = fixed_rows(alloc, rules, input, Fixes::Members)?;
+    let fields = fixed_members(alloc, input, rows.as_slice(), Chosen::Fields, Named::Field)?;
+    let methods = fixed_members(
+        alloc,
+        input,
+        rows.as_slice(),
+        Chosen::Methods,
+        Named::Method,
+    )?;
+    Ok(Some(TakenNames {
+        classes,
+        fields,
+        methods,
+    }))
+}
+
+/// The names of classes that stay.
+fn fixed_classes(alloc: Global, rules: &Rules, input: &ClassSet) -> M<TakenSet>
+    ensures { IfOk result (λ taken. AreSame taken (names_that_stay rules.now input.now).classes) }
+{
+    let mut names = no_names(alloc);
+    let rows = fixed_rows(alloc, rules, input, Fixes::Classes)?;
+    gather(input, rows.as_slice(), Chosen::Class, &mut names)?;
+    let described = fixed_rows(alloc, rules, input, Fixes::DescriptorClasses)?;
+    gather(input, described.as_slice(), Chosen::Described, &mut names)?;
+    Ok(TakenSet::new(names, Named::Class))
+}
+
+/// The names of fields or of methods that stay by marks.
+fn fixed_members(
+    alloc: Global,
+    input: &ClassSet,
+    rows: &[Items<bool>],
+    what: Chosen,
+    named: Named,
+) -> M<TakenSet>
+    ensures { IfOk result (λ taken. AreSame taken (of_each what rows.now input.now ++ reserved named)) }
+{
+    let mut names = no_names(alloc);
+    gather(input, rows, what, &mut names)?;
+    Ok(TakenSet::new(names, named))
+}
+
+fn no_names(alloc: Global) -> IndexSet<Name>
+    ensures { result.keys ≡ [] }
+{
+    IndexSet::new(alloc)
+}
