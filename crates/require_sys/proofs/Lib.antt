@@ -8,6 +8,7 @@ mod SortedNeeds
 mod Gathering
 mod SharedFrames
 mod CountedLists
+mod Meeting
 mod SupersLaw
 mod There
 mod Referring

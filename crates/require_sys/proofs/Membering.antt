@@ -137,6 +137,13 @@ called_is classes n c class =
     turned [] = refl
     turned (x ∷ xs) = λ i. one (is_program x) (called_in classes n x) i ++ turned xs i
 
+-- the classes of the program count for nothing
+pub by_library : (classes : List Class) (n : ℕ) (xs : List ClassId)
+    → flat_map (called_by classes n) (filter (λ y. not (is_program y)) xs) ≡ flat_map (called_by classes n) xs
+by_library classes n [] = refl
+by_library classes n (Prog k ∷ xs) = by_library classes n xs
+by_library classes n (Lib id ∷ xs) = ap (λ (t : List Item). called_in classes n (Lib id) ++ t) (by_library classes n xs)
+
 pub interface_called : (classes : List Class) (n : ℕ) (c : Class) → is_interface c.flags.0 ≡ true
     → [] ≡ called_wants classes n c
 interface_called classes n c is =

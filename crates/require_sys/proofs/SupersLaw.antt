@@ -2,20 +2,20 @@
 use Rattle.std.proofs.Common.{◌≡◌, ℕ, ◌+◌, ◌<◌, ◌≤◌, ◌==◌, ◌||◌, ◌&&◌, not, Bool, true, false, cond, List, []}
 use Rattle.std.proofs.Common.{◌∷◌, ◌++◌, All, length, map, Option, refl, sym, ap, subst, ◌∙◌, arith, ◌⊎◌, inl, inr}
 use Rattle.std.specs.List.{AllByRecursion, enumerate_from, filter, filter_map, flat_map, list_any}
-use Rattle.std.proofs.lemmas.Bool.{cases_eq, cases_lt, eq-eqb, eqb-true, ne_eqb}
+use Rattle.std.proofs.lemmas.Bool.{and_parts, cases_eq, cases_lt, eq-eqb, eqb-true, ne_eqb}
 use Rattle.std.proofs.lemmas.List.Elements.{All-from_recursion, filter-append, filter_map-append}
 use Rattle.class_model.specs.declared.class.Class.{Class}
 use Rattle.class_pool.specs.Hierarchy.{IsClass}
-use Rattle.class_pool.specs.Supers.{IsSupers, is_below}
-use Rattle.class_pool.specs.Walk.{each_once, same_class, superclasses_from, superinterfaces, supers}
+use Rattle.class_pool.specs.Supers.{is_below}
+use Rattle.class_pool.specs.Walk.{same_class, superclasses_from}
 use Rattle.class_pool.specs.declared.id.ClassId.{ClassId}
-use Rattle.class_pool.specs.declared.id.ClassId.TheVariants.{Prog, Lib}
-use Rattle.class_pool.proofs.EachOnce.{same_is, same_itself}
+use Rattle.class_pool.specs.declared.id.ClassId.TheVariants.{Prog}
+use Rattle.class_pool.proofs.EachOnce.{same_is}
 use Rattle.require_sys.specs.Requires.{ascending, program_supers}
-use Rattle.require_sys.specs.bodies.Supers.{program_number}
+use Rattle.require_sys.specs.bodies.Supers.{other_number, own_once}
 use Rattle.require_sys.specs.bodies.Wanting.{has}
 use Rattle.require_sys.proofs.Ascending.{Rising, has_ascending, never_both, rising_ascending, unique}
-use Rattle.require_sys.proofs.Parts.{from_all}
+use Rattle.require_sys.proofs.Meeting.{below_met, met_there, other_any}
 
 -- ---- numbers in a row
 
@@ -92,55 +92,6 @@ has_filter z q (x ∷ xs) = by (z == x) refl (q x) refl (has_filter z q xs)
 
 -- ---- classes that stand in the list
 
-abbrev IsOnce : ClassId → List ClassId → List ClassId → Type 0
-IsOnce y seen xs =
-    list_any (same_class y) (each_once seen xs) ≡ (list_any (same_class y) xs && not (list_any (same_class y) seen))
-
-once_any : (y : ClassId) (seen xs : List ClassId)
-    → list_any (same_class y) (each_once seen xs) ≡ (list_any (same_class y) xs && not (list_any (same_class y) seen))
-unfolding each_once
-once_any y seen [] = refl
-once_any y seen (c ∷ cs) =
-    by (list_any (same_class c) seen) refl (same_class y c) refl (once_any y seen cs) (once_any y (c ∷ seen) cs)
-  where
-    never : (t : Bool) → (t && false) ≡ false
-    never true = refl
-    never false = refl
-
-    at : same_class y c ≡ true → list_any (same_class y) seen ≡ list_any (same_class c) seen
-    at e = ap (λ (d : ClassId). list_any (same_class d) seen) (same_is y c e)
-
-    by : (b : Bool) → list_any (same_class c) seen ≡ b → (s : Bool) → same_class y c ≡ s → IsOnce y seen cs
-        → IsOnce y (c ∷ seen) cs
-        → list_any (same_class y) (cond b (each_once seen cs) (c ∷ each_once (c ∷ seen) cs))
-        ≡ ((s || list_any (same_class y) cs) && not (list_any (same_class y) seen))
-    by true f true e one two =
-        one ∙ ap (λ (t : Bool). list_any (same_class y) cs && not t) (at e ∙ f) ∙ never (list_any (same_class y) cs)
-        ∙ sym (ap not (at e ∙ f))
-    by true f false e one two = one
-    by false f true e one two =
-        ap (λ (t : Bool). t || list_any (same_class y) (each_once (c ∷ seen) cs)) e ∙ sym (ap not (at e ∙ f))
-    by false f false e one two =
-        ap (λ (t : Bool). t || list_any (same_class y) (each_once (c ∷ seen) cs)) e
-        ∙ two
-        ∙ ap (λ (t : Bool). list_any (same_class y) cs && not (t || list_any (same_class y) seen)) e
-
-numbers_any : (z : ℕ) (ids : List ClassId) → has z (filter_map program_number ids) ≡ list_any (same_class (Prog z)) ids
-numbers_any z [] = refl
-numbers_any z (Prog n ∷ ids) = ap (λ (b : Bool). (z == n) || b) (numbers_any z ids)
-numbers_any z (Lib n ∷ ids) = numbers_any z ids
-
-same_turned : (a b : ClassId) → same_class a b ≡ same_class b a
-same_turned a b = by (same_class a b) refl (same_class b a) refl
-  where
-    by : (s : Bool) → same_class a b ≡ s → (t : Bool) → same_class b a ≡ t → s ≡ t
-    by true e true f = refl
-    by false e false f = refl
-    by true e false f =
-        never_both (sym (same_itself a) ∙ ap (λ (x : ClassId). same_class x a) (same_is a b e) ∙ f)
-    by false e true f =
-        never_both (sym (same_itself b) ∙ ap (λ (x : ClassId). same_class x b) (same_is b a f) ∙ e)
-
 there_of : (classes : List Class) (z : ℕ) (ids : List ClassId) → AllByRecursion (IsClass classes) ids
     → list_any (same_class (Prog z)) ids ≡ true → z < length classes
 there_of classes z [] all h = never_both (sym h)
@@ -155,37 +106,38 @@ module _ (classes : List Class) (n : ℕ) where
   abbrev test : ℕ → Bool
   test k = is_below classes (Prog n) (Prog k) && not (same_class (Prog n) (Prog k))
 
-  listed : (z : ℕ) → list_any (same_class (Prog z)) (supers classes (Prog n)) ≡ test z
-  listed z =
-      once_any (Prog z) (Prog n ∷ []) (superclasses_from classes (Prog n) ++ superinterfaces classes (Prog n))
-      ∙ ap (λ (b : Bool). is_below classes (Prog n) (Prog z) && not b)
-      (or_false (same_class (Prog z) (Prog n)) ∙ same_turned (Prog z) (Prog n))
-    where
-      or_false : (b : Bool) → (b || false) ≡ b
-      or_false true = refl
-      or_false false = refl
+  -- all that is met
+  abbrev met : List ClassId
+  met = superclasses_from classes (Prog n) ++ flat_map (own_once classes) (superclasses_from classes (Prog n))
 
-  -- their numbers, ascending, are those that pass the test
-  pub numbers_are : AllByRecursion (IsClass classes) (supers classes (Prog n))
-      → ascending (filter_map program_number (supers classes (Prog n))) ≡ filter test (places 0 classes)
-  numbers_are all =
-      unique (ascending (filter_map program_number (supers classes (Prog n)))) (filter test (places 0 classes))
-      (rising_ascending (filter_map program_number (supers classes (Prog n))))
+  listed : (z : ℕ) → has z (filter_map (other_number n) met) ≡ test z
+  listed z =
+      other_any n z met
+      ∙ ap (λ (b : Bool). b && not (same_class (Prog n) (Prog z))) (below_met classes n (Prog z))
+
+  below_of : (z : ℕ) → test z ≡ true → list_any (same_class (Prog z)) met ≡ true
+  below_of z e =
+      below_met classes n (Prog z)
+      ∙ (and_parts (is_below classes (Prog n) (Prog z)) (not (same_class (Prog n) (Prog z))) e).0
+
+  -- the numbers of what is met, ascending, are those that pass the test
+  numbers_are : IsClass classes (Prog n)
+      → ascending (filter_map (other_number n) met) ≡ filter test (places 0 classes)
+  numbers_are n-in =
+      unique (ascending (filter_map (other_number n) met)) (filter test (places 0 classes))
+      (rising_ascending (filter_map (other_number n) met))
       (rising_filter test (places 0 classes) (rising_places 0 classes))
-      (λ z. has_ascending z (filter_map program_number (supers classes (Prog n)))
-      ∙ numbers_any z (supers classes (Prog n)) ∙ by z (list_any (same_class (Prog z)) (supers classes (Prog n))) refl
+      (λ z. has_ascending z (filter_map (other_number n) met) ∙ listed z ∙ by z (test z) refl
       ∙ sym (has_filter z test (places 0 classes)))
     where
-      there : (z : ℕ) → list_any (same_class (Prog z)) (supers classes (Prog n)) ≡ true
-          → has z (places 0 classes) ≡ true
+      there : (z : ℕ) → test z ≡ true → has z (places 0 classes) ≡ true
       there z h =
-          let lt = there_of classes z (supers classes (Prog n)) all h in
+          let lt = there_of classes z met (met_there classes n n-in) (below_of z h) in
           in_places z 0 classes (omega arith) (omega (arith, lt))
 
-      by : (z : ℕ) (b : Bool) → list_any (same_class (Prog z)) (supers classes (Prog n)) ≡ b
-          → b ≡ (test z && has z (places 0 classes))
-      by z true e = sym ((λ i. (sym (listed z) ∙ e) i && there z e i))
-      by z false e = sym (ap (λ (t : Bool). t && has z (places 0 classes)) (sym (listed z) ∙ e))
+      by : (z : ℕ) (b : Bool) → test z ≡ b → b ≡ (test z && has z (places 0 classes))
+      by z true e = sym ((λ i. e i && there z e i))
+      by z false e = sym (ap (λ (t : Bool). t && has z (places 0 classes)) e)
 
   filter_mapped : (t : ClassId → Bool) (s : ℕ) (cs : List Class)
       → map Prog (filter (λ k. t (Prog k)) (places s cs)) ≡ filter t (map (λ p. Prog p.0) (enumerate_from s cs))
@@ -201,23 +153,26 @@ module _ (classes : List Class) (n : ℕ) where
       by true r = ap (λ (xs : List ClassId). Prog s ∷ xs) r
       by false r = r
 
-  each_class : (ids : List ClassId) → IsSupers classes (Prog n) ids → AllByRecursion (IsClass classes) ids
-  each_class ids are = from_all (IsClass classes) ids (λ k d lt. (are.each k d lt).0)
-
-  pub supers_are : (ids : List ClassId) (numbers : List ℕ) → ids ≡ supers classes (Prog n)
-      → IsSupers classes (Prog n) ids → numbers ≡ ascending (filter_map program_number ids)
+  pub supers_are : (chain : List ClassId) (numbers : List ℕ) → IsClass classes (Prog n)
+      → chain ≡ superclasses_from classes (Prog n)
+      → numbers ≡ ascending (filter_map (other_number n) (chain ++ flat_map (own_once classes) chain))
       → map Prog numbers ≡ program_supers classes (Prog n)
-  supers_are ids numbers order are is =
-      let all = subst (λ (xs : List ClassId). AllByRecursion (IsClass classes) xs) order (each_class ids are) in
-      ap (map Prog) (is ∙ ap (λ (xs : List ClassId). ascending (filter_map program_number xs)) order ∙ numbers_are all)
+  supers_are chain numbers n-in up is =
+      ap (map Prog)
+      (is
+      ∙ ap (λ (cs : List ClassId). ascending (filter_map (other_number n) (cs ++ flat_map (own_once classes) cs))) up
+      ∙ numbers_are n-in)
       ∙ filter_mapped (λ y. is_below classes (Prog n) y && not (same_class (Prog n) y)) 0 classes
 
-  pub supers_there : (ids : List ClassId) (numbers : List ℕ) → ids ≡ supers classes (Prog n)
-      → IsSupers classes (Prog n) ids → numbers ≡ ascending (filter_map program_number ids)
+  pub supers_there : (chain : List ClassId) (numbers : List ℕ) → IsClass classes (Prog n)
+      → chain ≡ superclasses_from classes (Prog n)
+      → numbers ≡ ascending (filter_map (other_number n) (chain ++ flat_map (own_once classes) chain))
       → All (λ k. k < length classes) numbers
-  supers_there ids numbers order are is =
-      let all = subst (λ (xs : List ClassId). AllByRecursion (IsClass classes) xs) order (each_class ids are) in
-      let same = is ∙ ap (λ (xs : List ClassId). ascending (filter_map program_number xs)) order ∙ numbers_are all in
+  supers_there chain numbers n-in up is =
+      let same =
+      is
+      ∙ ap (λ (cs : List ClassId). ascending (filter_map (other_number n) (cs ++ flat_map (own_once classes) cs))) up
+      ∙ numbers_are n-in in
       let e : 0 + length classes ≡ length classes = omega arith in
       subst (λ (xs : List ℕ). All (λ k. k < length classes) xs) (sym same)
       (All-from_recursion (λ k. k < length classes) (filter test (places 0 classes))

@@ -15,7 +15,7 @@ ghost use Rattle.require_sys.specs.bodies.Wanting.{wanting};
 
 use crate::kept::KeptByRules;
 use crate::named::{want_name, want_names};
-use crate::supers::is_interface;
+use crate::supers::{is_interface, library_supers};
 use crate::wants::Wants;
 use class_model::Class;
 use class_pool::{ClassId, MemberAt};
@@ -110,8 +110,8 @@ fn want_called(alloc: Global, wants: &mut Wants<'_>, number: u32, class: &Class)
     if is_interface(class) {
         return Ok(());
     }
-    let supers = wants.set().supers(alloc, ClassId::Prog(number))?;
-    want_called_by(wants, number, supers.as_slice())
+    let libraries = library_supers(alloc, wants.set(), number)?;
+    want_called_by(wants, number, libraries.as_slice())
 }
 
 fn want_called_by(wants: &mut Wants<'_>, number: u32, ids: &[ClassId]) -> M<()>

@@ -1,10 +1,12 @@
-// The classes of the program above a class, and which classes have objects.
-ghost use Rattle.std.specs.Prelude.{◌≡◌, ◌<◌, [], ◌++◌, IfOk, OnOk, length, map};
-ghost use Rattle.std.specs.List.{All, cons_option, filter_map};
+// The classes above a class, and which classes have objects.
+ghost use Rattle.std.specs.Prelude.{◌≡◌, ◌&&◌, ◌<◌, [], ◌∷◌, ◌++◌, IfOk, OnOk, length, map, not};
+ghost use Rattle.std.specs.List.{All, cons_option, filter, filter_map, flat_map, list_any};
 ghost use Rattle.class_model.specs.Flags.{is_interface};
+ghost use Rattle.class_pool.specs.Hierarchy.{IsClass};
+ghost use Rattle.class_pool.specs.Walk.{each_once, same_class, superclasses_from};
 ghost use Rattle.class_pool.specs.declared.id.ClassId.TheVariants.{Prog};
-ghost use Rattle.require_sys.specs.Requires.{program_supers};
-ghost use Rattle.require_sys.specs.bodies.Supers.{program_number};
+ghost use Rattle.require_sys.specs.Requires.{library_supers, program_supers};
+ghost use Rattle.require_sys.specs.bodies.Supers.{is_library, is_new, other_number, own_once};
 
 use bitflags::Flags;
 use class_model::Class;
@@ -12,37 +14,150 @@ use class_pool::{ClassId, ClassSet};
 use jv_base::{Access, M};
 use std::alloc::Global;
 
+/// More than any set has classes, those of the library with them.
+const HIGHEST: u64 = 1 << 33;
+
 /// The numbers of the classes of the program above the class with a number, ascending.
 pub(crate) fn program_supers(alloc: Global, set: &ClassSet, number: u32) -> M<Vec<u32>>
     requires { number < length set.now }
     ensures are { IfOk result (λ numbers. map Prog numbers.items ≡ program_supers set.now (Prog number)) }
     ensures there { IfOk result (λ numbers. All (λ k. k < length set.now) numbers.items) }
 {
-    let supers = set.supers(alloc, ClassId::Prog(number))?;
-    let mut numbers = program_numbers(alloc, supers.as_slice())?;
+    let chain = superclasses_of(alloc, set, number)?;
+    let mut numbers = others_met(alloc, set, number, chain.as_slice())?;
     numbers.sort_unstable();
     numbers.dedup();
     Ok(numbers)
 }
 
-/// The numbers of those classes that are of the program.
-fn program_numbers(alloc: Global, ids: &[ClassId]) -> M<Vec<u32>>
-    ensures { IfOk result (λ numbers. numbers.items ≡ filter_map program_number ids.now) }
+/// The classes of the library above the class with a number, each once.
+pub(crate) fn library_supers(alloc: Global, set: &ClassSet, number: u32) -> M<Vec<ClassId>>
+    requires { number < length set.now }
+    ensures { IfOk result (λ ids. ids.items ≡ library_supers set.now (Prog number)) }
+{
+    let chain = superclasses_of(alloc, set, number)?;
+    libraries_met(alloc, set, chain.as_slice())
+}
+
+/// A class and its superclasses, the nearest first.
+fn superclasses_of(alloc: Global, set: &ClassSet, number: u32) -> M<Vec<ClassId>>
+    requires { number < length set.now }
+    ensures { IfOk result (λ ids. ids.items ≡ superclasses_from set.now (Prog number)) }
+{
+    let mut ids = Vec::new(alloc);
+    let mut next = Some(ClassId::Prog(number));
+    for _ in 0..HIGHEST {
+        let Some(class) = &next else {
+            return Ok(ids);
+        };
+        ids.push(*class)?;
+        next = set.super_of(*class);
+    }
+    Ok(ids)
+}
+
+/// The numbers of the classes of the program among these classes and the superinterfaces that each of them has itself,
+/// but for one number, as often as they are met.
+fn others_met(alloc: Global, set: &ClassSet, own: u32, chain: &[ClassId]) -> M<Vec<u32>>
+    requires { All (IsClass set.now) chain.now }
+    ensures { IfOk result (λ numbers. numbers.items
+        ≡ filter_map (other_number own) (chain.now ++ flat_map (own_once set.now) chain.now)) }
 {
     let mut numbers = Vec::new(alloc);
-    for id in ids {
-        push_number(&mut numbers, id)?;
-    }
+    push_others(&mut numbers, own, chain)?;
+    push_interfaces(&mut numbers, own, set, chain)?;
     Ok(numbers)
 }
 
-fn push_number(numbers: &mut Vec<u32>, id: &ClassId) -> M<()>
-    ensures { OnOk result (numbers.new.items ≡ numbers.old.items ++ cons_option (program_number id.now) []) }
+fn push_interfaces(numbers: &mut Vec<u32>, own: u32, set: &ClassSet, chain: &[ClassId]) -> M<()>
+    requires { All (IsClass set.now) chain.now }
+    ensures { OnOk result (numbers.new.items
+        ≡ numbers.old.items ++ filter_map (other_number own) (flat_map (own_once set.now) chain.now)) }
 {
-    if let ClassId::Prog(number) = id {
-        numbers.push(*number)?;
+    for class in chain {
+        push_others(numbers, own, set.own_superinterfaces(*class))?;
     }
     Ok(())
+}
+
+fn push_others(numbers: &mut Vec<u32>, own: u32, ids: &[ClassId]) -> M<()>
+    ensures { OnOk result (numbers.new.items ≡ numbers.old.items ++ filter_map (other_number own) ids.now) }
+{
+    for id in ids {
+        push_other(numbers, own, id)?;
+    }
+    Ok(())
+}
+
+fn push_other(numbers: &mut Vec<u32>, own: u32, id: &ClassId) -> M<()>
+    ensures { OnOk result (numbers.new.items ≡ numbers.old.items ++ cons_option (other_number own id.now) []) }
+{
+    if let ClassId::Prog(number) = id {
+        if *number != own {
+            numbers.push(*number)?;
+        }
+    }
+    Ok(())
+}
+
+/// Those of the library among these classes and the superinterfaces that each of them has itself, each once.
+fn libraries_met(alloc: Global, set: &ClassSet, chain: &[ClassId]) -> M<Vec<ClassId>>
+    requires { All (IsClass set.now) chain.now }
+    ensures { IfOk result (λ ids. ids.items
+        ≡ each_once [] (filter is_library (chain.now ++ flat_map (own_once set.now) chain.now))) }
+{
+    let mut ids = Vec::new(alloc);
+    add_libraries(&mut ids, chain)?;
+    for class in chain {
+        add_libraries(&mut ids, set.own_superinterfaces(*class))?;
+    }
+    Ok(ids)
+}
+
+fn add_libraries(found: &mut Vec<ClassId>, ids: &[ClassId]) -> M<()>
+    ensures { OnOk result (found.new.items
+        ≡ found.old.items ++ each_once found.old.items (filter is_library ids.now)) }
+{
+    for id in ids {
+        add_library(found, id)?;
+    }
+    Ok(())
+}
+
+#[tactic(auto, using(crate::proofs::Meeting::library_left, crate::proofs::Meeting::library_put))]
+fn add_library(found: &mut Vec<ClassId>, id: &ClassId) -> M<()>
+    ensures { OnOk result (found.new.items
+        ≡ found.old.items ++ each_once found.old.items (filter is_library (id.now ∷ []))) }
+{
+    if is_new(found.as_slice(), id) {
+        found.push(*id)?;
+    }
+    Ok(())
+}
+
+/// Whether a class of the library isn't among these.
+fn is_new(found: &[ClassId], id: &ClassId) -> bool
+    ensures { result ≡ is_new found.now id.now }
+{
+    is_library(id) && !has_class(found, id)
+}
+
+fn is_library(id: &ClassId) -> bool
+    ensures { result ≡ is_library id.now }
+{
+    matches!(id, ClassId::Lib(_))
+}
+
+fn has_class(ids: &[ClassId], class: &ClassId) -> bool
+    ensures { result ≡ list_any (same_class class.now) ids.now }
+{
+    ids.iter().any(|id| is_same_class(class, id))
+}
+
+fn is_same_class(one: &ClassId, other: &ClassId) -> bool
+    ensures { result ≡ same_class one.now other.now }
+{
+    one == other
 }
 
 /// Whether a class is an interface, of which there is no object.

@@ -4,10 +4,10 @@ use Rattle.std.specs.List.{flat_map}
 use Rattle.class_model.specs.declared.class.Class.{Class}
 use Rattle.class_pool.specs.Walk.{supers}
 use Rattle.class_pool.specs.declared.id.ClassId.TheVariants.{Prog}
-use Rattle.require_sys.specs.Requires.{Item}
+use Rattle.require_sys.specs.Requires.{Item, library_supers}
 use Rattle.require_sys.specs.bodies.Selecting.{called_by}
 use Rattle.require_sys.specs.bodies.Wanting.{wanting}
-use Rattle.require_sys.proofs.Membering.{called_is}
+use Rattle.require_sys.proofs.Membering.{by_library, called_is}
 use Rattle.require_sys.proofs.classes.want_called.Goals as goal
 
 pub returns : goal.returns
@@ -15,7 +15,8 @@ returns c =
     let classes = c.args.wants.now.classes in
     subst (λ (t : List Item). OnOk c.want_called_by.result (c.want_called_by.new.wants ≡ wanting c.args.wants.now t))
     (ap (flat_map (called_by classes c.args.number))
-    (c.as_slice.ensures ∙ c.in_ok-supers.ensures.order
-    ∙ ap (λ (cs : List Class). supers cs (Prog c.args.number)) c.set.ensures)
+    (c.as_slice.ensures.value ∙ c.in_ok-libraries.ensures
+    ∙ ap (λ (cs : List Class). library_supers cs (Prog c.args.number)) c.set.ensures)
+    ∙ by_library classes c.args.number (supers classes (Prog c.args.number))
     ∙ called_is classes c.args.number c.args.class.now (sym c.is_interface.ensures ∙ c.if-is_interface.false))
     c.want_called_by.ensures
