@@ -1,0 +1,12 @@
+use Rattle.std.proofs.Common.{◌≤◌, drop, length}
+use Rattle.new_names.specs.bodies.Tables.{TellsClasses}
+use Rattle.new_names.proofs.tables.classes_of.Given as goal
+
+abbrev pub invariant-loop-left : goal.invariant-loop-left
+invariant-loop-left l = record {
+  within : l.left ≤ length l.lines;
+  told : TellsClasses l.table (drop l.left l.lines);
+}
+
+abbrev pub decreases-loop-left : goal.decreases-loop-left
+decreases-loop-left l = l.left

@@ -1,0 +1,136 @@
+// Tables of names: of several lines with one old name the first counts.
+//
+// Each table is filled from the last line to the first, so that the first line stays.
+ghost use Rattle.std.specs.Prelude.{◌≡◌, ℕ, List, [], ◌++◌, if◌then◌else◌, IfOk, OnOk, Some};
+ghost use Rattle.std.specs.Option.{option_map};
+ghost use Rattle.indexmap.specs.IndexMap.{get};
+ghost use Rattle.jv_base.specs.Names.{is_text};
+ghost use Rattle.new_names.specs.NewNames.{all_field_names, all_method_names, field_names, method_names};
+ghost use Rattle.new_names.specs.bodies.Tables.{TellsClasses, TellsNames};
+
+use indexmap::IndexMap;
+use jv_base::{M, Name};
+use mapping_file::{MapClass, MapField, MapMethod};
+use std::alloc::Global;
+
+/// New names by old ones.
+pub(crate) type NameTable = IndexMap<Name, Name>;
+
+/// Lines of classes by their old names.
+pub(crate) type ClassTable<'a> = IndexMap<Name, &'a MapClass>;
+
+/// The lines of classes.
+pub(crate) fn classes_of<'a>(alloc: Global, lines: &'a [MapClass]) -> M<ClassTable<'a>>
+    ensures { IfOk result (λ table. TellsClasses table lines.now) }
+{
+    let mut table = IndexMap::new(alloc);
+    let mut left = lines.len();
+    while left > 0 {
+        left -= 1;
+        put_class(&mut table, &lines[left])?;
+    }
+    Ok(table)
+}
+
+fn put_class<'a>(table: &mut ClassTable<'a>, line: &'a MapClass) -> M<()>
+    ensures { OnOk result ((name : List ℕ) → option_map (λ l. l.now) (get is_text table.new name)
+        ≡ (if is_text line.entry.now.old name then Some line.entry.now
+        else option_map (λ l. l.now) (get is_text table.old name))) }
+{
+    let old = line.old.clone()?;
+    put_line(table, old, line)
+}
+
+fn put_line<'a>(table: &mut ClassTable<'a>, old: Name, line: &'a MapClass) -> M<()>
+    ensures { OnOk result ((name : List ℕ) → option_map (λ l. l.now) (get is_text table.new name)
+        ≡ (if is_text old name then Some line.entry.now else option_map (λ l. l.now) (get is_text table.old name))) }
+{
+    table.insert(old, line)?;
+    Ok(())
+}
+
+/// The new names of the fields of all classes.
+pub(crate) fn fields_of(alloc: Global, lines: &[MapClass]) -> M<NameTable>
+    ensures { IfOk result (λ table. TellsNames table (all_field_names lines.now)) }
+{
+    let mut table = IndexMap::new(alloc);
+    let mut left = lines.len();
+    while left > 0 {
+        left -= 1;
+        put_fields_of(&mut table, &lines[left])?;
+    }
+    Ok(table)
+}
+
+fn put_fields_of(table: &mut NameTable, line: &MapClass) -> M<()>
+    ensures { (rest : List (List ℕ × List ℕ)) → TellsNames table.old rest
+        → OnOk result (TellsNames table.new (field_names line.now.fields ++ rest)) }
+{
+    put_fields(table, line.fields.as_slice())
+}
+
+fn put_fields(table: &mut NameTable, lines: &[MapField]) -> M<()>
+    ensures { (rest : List (List ℕ × List ℕ)) → TellsNames table.old rest
+        → OnOk result (TellsNames table.new (field_names lines.now ++ rest)) }
+{
+    let mut left = lines.len();
+    while left > 0 {
+        left -= 1;
+        put_field(table, &lines[left])?;
+    }
+    Ok(())
+}
+
+fn put_field(table: &mut NameTable, line: &MapField) -> M<()>
+    ensures { OnOk result ((name : List ℕ) → get is_text table.new name
+        ≡ (if is_text line.now.old name then Some line.now.new else get is_text table.old name)) }
+{
+    put_name(table, &line.old, &line.new)
+}
+
+/// The new names of the methods of all classes.
+pub(crate) fn methods_of(alloc: Global, lines: &[MapClass]) -> M<NameTable>
+    ensures { IfOk result (λ table. TellsNames table (all_method_names lines.now)) }
+{
+    let mut table = IndexMap::new(alloc);
+    let mut left = lines.len();
+    while left > 0 {
+        left -= 1;
+        put_methods_of(&mut table, &lines[left])?;
+    }
+    Ok(table)
+}
+
+fn put_methods_of(table: &mut NameTable, line: &MapClass) -> M<()>
+    ensures { (rest : List (List ℕ × List ℕ)) → TellsNames table.old rest
+        → OnOk result (TellsNames table.new (method_names line.now.methods ++ rest)) }
+{
+    put_methods(table, line.methods.as_slice())
+}
+
+fn put_methods(table: &mut NameTable, lines: &[MapMethod]) -> M<()>
+    ensures { (rest : List (List ℕ × List ℕ)) → TellsNames table.old rest
+        → OnOk result (TellsNames table.new (method_names lines.now ++ rest)) }
+{
+    let mut left = lines.len();
+    while left > 0 {
+        left -= 1;
+        put_method(table, &lines[left])?;
+    }
+    Ok(())
+}
+
+fn put_method(table: &mut NameTable, line: &MapMethod) -> M<()>
+    ensures { OnOk result ((name : List ℕ) → get is_text table.new name
+        ≡ (if is_text line.now.old name then Some line.now.new else get is_text table.old name)) }
+{
+    put_name(table, &line.old, &line.new)
+}
+
+fn put_name(table: &mut NameTable, old: &Name, new: &Name) -> M<()>
+    ensures { OnOk result ((name : List ℕ) → get is_text table.new name
+        ≡ (if is_text old.now name then Some new.now else get is_text table.old name)) }
+{
+    table.insert(old.clone()?, new.clone()?)?;
+    Ok(())
+}
