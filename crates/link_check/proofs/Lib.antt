@@ -18,3 +18,4 @@ pub mod Passing
 pub mod Taken
 pub mod Upwards
 pub mod Meaning
+pub mod Alone

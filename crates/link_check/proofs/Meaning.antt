@@ -224,3 +224,15 @@ pub method_named : (classes : List Class) (from : ClassId) (r : MemberRef) (m : 
 method_named classes from r m is =
     subst (λ (o : Result MemberAt LinkKind). IfOk o (λ x. named_at classes x ≡ (r.name, r.ty))) is
     (method_has (λ x. named_at classes x ≡ (r.name, r.ty)) classes from r (declared_so classes (r.name, r.ty)))
+
+-- the field that a class finds has the name and the descriptor that were looked for
+pub field_found_named : (classes : List Class) (named : NameAndType) (c : ClassId)
+    → IfSome (field_found classes c named) (λ m. named_at classes m ≡ named)
+field_found_named classes named c =
+    of_field (λ m. named_at classes m ≡ named) classes named (declared_so classes named) c
+
+-- and so has the method
+pub method_found_named : (classes : List Class) (named : NameAndType) (c : ClassId)
+    → IfSome (method_found classes c named) (λ m. named_at classes m ≡ named)
+method_found_named classes named c =
+    of_method (λ m. named_at classes m ≡ named) classes named (declared_so classes named) c

@@ -2,6 +2,7 @@
 pub mod access;
 pub mod found;
 pub mod resolution;
+pub mod running;
 pub mod selection;
 pub mod special;
 pub mod superinterface_methods;

@@ -4,3 +4,8 @@ pub mod Putting
 pub mod Below
 pub mod Kin
 pub mod Storable
+pub mod Seeing
+pub mod Receiving
+pub mod Changing
+pub mod Due
+pub mod Nesting

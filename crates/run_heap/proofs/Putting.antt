@@ -20,12 +20,12 @@ map_set (h ∷ hs) zero o = refl
 map_set (h ∷ hs) (suc n) o = ap (λ (ts : List Thing). object_of h ∷ ts) (map_set hs n o)
 
 -- the same object in its place
-set_same : (ts : List Thing) (n : ℕ) (t : Thing) → slice_get ts n ≡ Some t → slice_set ts n t ≡ ts
+pub set_same : (ts : List Thing) (n : ℕ) (t : Thing) → slice_get ts n ≡ Some t → slice_set ts n t ≡ ts
 set_same [] n t e = refl
 set_same (h ∷ ts) zero t e = let f : t ≡ h = cc in ap (λ (x : Thing). x ∷ ts) f
 set_same (h ∷ ts) (suc n) t e = ap (λ (xs : List Thing). h ∷ xs) (set_same ts n t e)
 
-found : (hs : List Object) (n : ℕ) (o : Object) → slice_get hs n ≡ Some o
+pub found : (hs : List Object) (n : ℕ) (o : Object) → slice_get hs n ≡ Some o
     → slice_get (map object_of hs) n ≡ Some (object_of o)
 found hs n o e = rw (slice_get-map object_of hs n, e) refl
 

@@ -10,7 +10,7 @@ use Rattle.jvm_model.specs.Fields.{blank}
 use Rattle.run_heap.specs.Held.{found_in, held, replaced}
 use Rattle.run_heap.specs.declared.fields.Held.{Held}
 
-key_Decides : (a b : Key) → Decides (same_key a b) (a ≡ b)
+pub key_Decides : (a b : Key) → Decides (same_key a b) (a ≡ b)
 key_Decides a b =
     and_Decides {P = (a.class ≡ b.class) × (a.name ≡ b.name)} _ _
     (and_Decides _ _ (text_Decides a.class b.class) (text_Decides a.name b.name) (λ p q. (p, q)) (λ r. r.0) (λ r. r.1))

@@ -13,13 +13,14 @@ use Rattle.run_library.specs.Rows.{exception_of}
 abbrev pub told : Answer → Whole → Due
 told (answer.Gives v) w = due.Gives v w
 told (answer.Raises e) w = due.Raises (exception_of e)
+told (answer.Begins key args) w = due.Begins key args
 told answer.NoAnswer w = due.NoAnswer
 
 -- the answer that is due in a world, which isn't changed
 abbrev pub Answered : Answer → World → (Whole → Due) → Type 0
 Answered a w d = (inits : List ℕ → Init) → told a (world_of inits w) ≡ d (world_of inits w)
 
--- where an exception is due or an operand is of another kind, the world is as it was
+-- where an exception is due, a method begins or an operand is of another kind, the world is as it was
 abbrev pub Keeps : Answer → (before after : World) → Type 0
 Keeps (answer.Gives v) before after = Unit {0}
 Keeps _ before after = (inits : List ℕ → Init) → world_of inits after ≡ world_of inits before

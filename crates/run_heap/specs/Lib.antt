@@ -1,4 +1,5 @@
 pub mod Held
 pub mod Worlds
 pub mod Answers
+pub mod Targets
 pub mod bodies

@@ -4,3 +4,7 @@ pub mod Components
 pub mod Kinships
 pub mod Verdicts
 pub mod Storing
+pub mod Seeing
+pub mod Acting
+pub mod Receivers
+pub mod Levels

@@ -1,8 +1,9 @@
 // Which handler catches an object (JVMS 2.10, 4.7.3).
-ghost use Rattle.std.specs.Prelude.{◌≡◌, true};
-ghost use Rattle.std.specs.Option.{option_map_or};
+ghost use Rattle.std.specs.Prelude.{◌≡◌, false, option_copied, true};
+ghost use Rattle.std.specs.Option.{option_map, option_map_or};
 ghost use Rattle.jvm_model.specs.Heap.{class_of};
 ghost use Rattle.jvm_model.specs.Local.{handler_for, handles};
+ghost use Rattle.jvm_model.specs.Unwinding.{is_of_class};
 ghost use Rattle.run_heap.specs.Worlds.{object_of};
 
 use crate::{Object, Shapes};
@@ -17,6 +18,49 @@ pub fn class_of(object: &Object) -> &str
         Object::Array { .. } => "java/lang/Object",
         Object::Text(_) => "java/lang/String",
         Object::Builder(_) => "java/lang/StringBuilder",
+    }
+}
+
+/// Where the first handler begins that covers an index and catches an object, if there is one.
+pub fn handler_of<S: Shapes>(
+    shapes: &S,
+    object: Option<&Object>,
+    at: usize,
+    handlers: &[Handler],
+) -> Option<u32>
+    ensures { result ≡ handler_for
+        (is_of_class (S.shape shapes.now) (option_map object_of (option_copied object.entry))) at handlers.now }
+{
+    match object {
+        Some(object) => handler_for(shapes, class_of(object), at, handlers),
+        None => handler_of_all(at, handlers),
+    }
+}
+
+/// Where the first handler begins that covers an index and catches everything.
+fn handler_of_all(at: usize, handlers: &[Handler]) -> Option<u32>
+    ensures { result ≡ handler_for (λ class. false) at handlers.now }
+{
+    for handler in handlers {
+        if handles_all(at, handler) {
+            return Some(handler.entry);
+        }
+    }
+    None
+}
+
+fn handles_all(at: usize, handler: &Handler) -> bool
+    ensures { result ≡ handles (λ class. false) at handler.now }
+{
+    handler.from as usize <= at && at < handler.to as usize && catches_all(handler)
+}
+
+fn catches_all(handler: &Handler) -> bool
+    ensures { result ≡ option_map_or (λ class. false) handler.now.caught true }
+{
+    match &handler.caught {
+        Some(_) => false,
+        None => true,
     }
 }
 

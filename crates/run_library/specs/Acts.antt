@@ -21,22 +21,17 @@ operand_of (seen.Builder n units) = method.ABuilder n units.now
 operand_of (seen.Instance n message cause) = method.AnInstance n message.now cause.now
 operand_of (seen.Array n) = method.AnArray n
 
--- the units of a StringBuilder
-abbrev pub units_of : Operand → List ℕ
-units_of (method.ABuilder n units) = units
-units_of _ = []
-
--- those of the first operand
-abbrev pub first_units : List Operand → List ℕ
-first_units [] = []
-first_units (x ∷ xs) = units_of x
+-- units are appended to the first operand, which is returned, where it is a StringBuilder
+abbrev pub appended : List Operand → List ℕ → Done
+appended (method.ABuilder n us ∷ xs) units = method.SetsBuilder n (us ++ units) (Some (Ref n))
+appended _ units = method.NoAct
 
 -- what is done with these operands
 abbrev pub done_of : List Operand → Act → Done
 done_of operands (doing.Returns v) = method.Returns v
 done_of operands (doing.MakesText units) = method.MakesString units
 done_of operands (doing.SetsBuilder n units) = method.SetsBuilder n units None
-done_of operands (doing.Appends n units) = method.SetsBuilder n (first_units operands ++ units) (Some (Ref n))
+done_of operands (doing.Appends units) = appended operands units
 done_of operands (doing.SetsThrown n message cause) = method.SetsThrown n message cause
 done_of operands (doing.Writes units) = method.Writes units
 done_of operands (doing.Throws e) = method.Throws (exception_of e)

@@ -65,11 +65,11 @@ pub(crate) fn append(alloc: Global, ty: Told, operands: &[Seen<'_>]) -> M<Act>
 fn appended(alloc: Global, ty: Told, builder: Seen<'_>, operand: Seen<'_>) -> M<Act>
     ensures { ActsAs result (method.BuilderAppend (type_of ty)) (builder.entry ∷ operand.entry ∷ []) }
 {
-    let Seen::Builder(number, _) = builder else {
+    let Seen::Builder(_, _) = builder else {
         return Ok(Act::NoAct);
     };
     match told(alloc, ty, operand)? {
-        Some(units) => Ok(Act::Appends(number, units)),
+        Some(units) => Ok(Act::Appends(units)),
         None => Ok(Act::NoAct),
     }
 }

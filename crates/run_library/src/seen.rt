@@ -28,8 +28,8 @@ pub enum Act {
     MakesText(Units),
     /// It gives the StringBuilder with a number these units.
     SetsBuilder(usize, Units),
-    /// It appends units to the StringBuilder with a number, its first operand, and returns it.
-    Appends(usize, Units),
+    /// It appends units to its first operand, a StringBuilder, and returns it.
+    Appends(Units),
     /// It gives the exception with a number a message and a cause.
     SetsThrown(usize, Value, Value),
     /// It writes to the stream.

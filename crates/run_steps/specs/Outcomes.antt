@@ -1,10 +1,11 @@
 -- What a frame of the code does, as what one of the machine does (JVMS 6.5).
-use Rattle.std.specs.Prelude.{◌≡◌, Result, IfOk}
+use Rattle.std.specs.Prelude.{◌≡◌, List, [], ◌∷◌, ◌++◌, Option, Some, None, Result, IfOk, IfSome, reverse}
 use Rattle.jv_base.specs.declared.outcome.OutOfMemory.{OutOfMemory}
 use Rattle.jvm_model.specs.Exceptions.{Arithmetic}
 use Rattle.jvm_model.specs.Instructions.{Request as Asked, Sort}
 use Rattle.jvm_model.specs.Instructions as asked
 use Rattle.jvm_model.specs.Local.{Ends, Local, Moves, Stuck, Tosses, Wants, by_sort}
+use Rattle.jvm_model.specs.Value.{Value}
 use Rattle.run_steps.specs.Frames.{body_of}
 use Rattle.run_steps.specs.declared.body.Body.{Body}
 use Rattle.run_steps.specs.declared.outcome.Outcome.{Outcome}
@@ -42,9 +43,25 @@ told (outcome.Ends v) after = Ends v
 told (outcome.Tosses v) after = Tosses v
 told outcome.Stuck after = Stuck
 
--- a frame that asks waits where it stood, and its local variables are as they were
+-- the operands, the top first, of a request before which a class may have to be initialised (JVMS 5.5)
+abbrev pub operands_of : Request → Option (List Value)
+operands_of (request.GetStatic r) = Some []
+operands_of (request.PutStatic r v) = Some (v ∷ [])
+operands_of (request.CallStatic r args) = Some (reverse args)
+operands_of (request.New class) = Some []
+operands_of _ = None
+
+-- the frame stands where it stood, with the same local variables and without these operands
+abbrev pub IsWithout : List Value → (before after : Body) → Type 0
+IsWithout vs before after =
+    (after.at ≡ before.at) × (after.locals ≡ before.locals) × (before.stack ≡ vs ++ after.stack)
+
+-- A frame that asks waits where it stood, and its local variables are as they were. So does one that throws. Where a
+-- class may have to be initialised first, and of the reference that is thrown, it is told which operands were taken.
 abbrev pub Waits : Outcome → (before after : Body) → Type 0
 Waits (outcome.Wants r) before after = (after.at ≡ before.at) × (after.locals ≡ before.locals)
+    × IfSome (operands_of r) (λ vs. before.stack ≡ vs ++ after.stack)
+Waits (outcome.Tosses v) before after = IsWithout (v ∷ []) before after
 Waits _ before after = Unit {0}
 
 -- it does what is due

@@ -26,6 +26,7 @@ fn take_value(alloc: Global, stack: &mut Stack, field: &MemberRef) -> M<Option<V
 }
 
 /// It asks to set a static field (JVMS 6.5.putstatic).
+#[tactic(auto, using(crate::proofs::Taken::field_taken))]
 pub(crate) fn put_static<'a>(alloc: Global, body: &mut Body, field: &'a MemberRef) -> M<Outcome<'a>>
     ensures { DoesAs result body.old body.new (sort_of (op.PutStatic field.now)) }
 {

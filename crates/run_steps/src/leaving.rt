@@ -24,6 +24,7 @@ pub(crate) fn end(body: &mut Body, kind: Option<Kind>) -> Outcome<'static>
 }
 
 /// A reference is thrown (JVMS 6.5.athrow).
+#[tactic(auto, using(crate::proofs::Taken::kind_taken))]
 pub(crate) fn toss(body: &mut Body) -> Outcome<'static>
     ensures { Does result body.old body.new (by_sort (body_of body.old) Throws) }
 {

@@ -1,8 +1,8 @@
 // What a local variable, an operand stack, a field or a component of an array holds (JVMS 2.3, 2.4, 2.6).
-ghost use Rattle.std.specs.Prelude.{◌≡◌};
+ghost use Rattle.std.specs.Prelude.{◌≡◌, option_copied};
 ghost use Rattle.jvm_model.specs.Types.{default_of};
 ghost use Rattle.jvm_model.specs.Value as machine;
-ghost use Rattle.run_values.specs.References.{number_of};
+ghost use Rattle.run_values.specs.References.{number_of, text_of};
 
 use class_model::Kind;
 use jv_base::{Shared, Units};
@@ -164,6 +164,16 @@ impl Value {
     {
         match self.content {
             Content::Ref(number) => Some(number),
+            _ => None,
+        }
+    }
+
+    /// The UTF-16 units of the literal that it refers to, if it does.
+    pub fn as_text(&self) -> Option<&Units>
+        ensures { option_copied result ≡ text_of self.now }
+    {
+        match &self.content {
+            Content::Lit(units) => Some(&**units),
             _ => None,
         }
     }

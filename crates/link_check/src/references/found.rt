@@ -12,13 +12,9 @@ use crate::references::supertypes::Superclasses;
 use class_pool::{ClassId, ClassSet, MemberAt};
 use jv_base::{Name, Text};
 
-/// A field of the class, else of its superinterfaces, else the same of its superclass (JVMS 5.4.3.2).
-pub(crate) fn field_found(
-    set: &ClassSet,
-    class: ClassId,
-    name: &Name,
-    ty: &Text,
-) -> Option<MemberAt>
+/// The field that is found for a class: its own, else of its superinterfaces, else the same of its superclass (JVMS
+/// 5.4.3.2). Takes no memory.
+pub fn field_found(set: &ClassSet, class: ClassId, name: &Name, ty: &Text) -> Option<MemberAt>
     requires { IsClass set.now class }
     ensures is { result ≡ field_found set.now class (name.now, ty.now) }
     ensures there { IfSome result (IsMember set.now) }
@@ -49,13 +45,9 @@ fn first_declared(set: &ClassSet, classes: &[ClassId], name: &Name, ty: &Text) -
     None
 }
 
-/// The method of a class or an interface.
-pub(crate) fn method_found(
-    set: &ClassSet,
-    class: &ClassId,
-    name: &Name,
-    ty: &Text,
-) -> Option<MemberAt>
+/// The method that is found for a class or an interface, whatever kind of reference names it (JVMS 5.4.3.3, 5.4.3.4).
+/// Takes no memory.
+pub fn method_found(set: &ClassSet, class: &ClassId, name: &Name, ty: &Text) -> Option<MemberAt>
     requires { IsClass set.now class.now }
     ensures is { result ≡ method_found set.now class.now (name.now, ty.now) }
     ensures there { IfSome result (IsMember set.now) }

@@ -58,7 +58,11 @@ fn special_of(
 }
 
 /// The first instance method of the name and the descriptor of a reference, from a class upwards, if there is one.
-fn first_instance_up(set: &ClassSet, class: Option<ClassId>, r: &MemberRef) -> Option<MemberAt>
+pub(crate) fn first_instance_up(
+    set: &ClassSet,
+    class: Option<ClassId>,
+    r: &MemberRef,
+) -> Option<MemberAt>
     requires { IfSome class (IsClass set.now) }
     ensures there { IfSome result (IsMember set.now) }
     ensures is { result ≡ find (is_instance_method set.now)

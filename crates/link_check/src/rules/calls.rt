@@ -104,8 +104,8 @@ fn special_class_kind(set: &ClassSet, number: u32, r: &MemberRef) -> Option<Prof
     }
 }
 
-/// The class that a reference names, where it is none of an array.
-pub(crate) fn class_of(set: &ClassSet, r: &MemberRef) -> Option<ClassId>
+/// The class that a reference names, where it is there and none of an array.
+pub fn class_of(set: &ClassSet, r: &MemberRef) -> Option<ClassId>
     ensures is { result ≡ class_of set.now r.now }
     ensures there { IfSome result (IsClass set.now) }
 {

@@ -1,0 +1,3 @@
+pub mod Inits
+pub mod States
+pub mod bodies

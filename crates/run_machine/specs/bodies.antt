@@ -1,0 +1,6 @@
+pub mod Piles
+pub mod Marks
+pub mod Firsts
+pub mod Constants
+pub mod Asked
+pub mod Ended
