@@ -280,16 +280,17 @@ module _ (classes : List Class) (rules : KeptByRules) (marks : List Bool)
   class_origin j d e = origin (p classes marks) (f classes marks) 0 classes j d
       (ap (λ (t : List Class). slice_get t j) (sym (as_filter (p classes marks) (f classes marks) 0 classes)) ∙ e)
 
-  record Stays (j : ℕ) (d : Class) : Type 0 where
-    n : ℕ
-    class : Class
-    there : slice_get classes n ≡ Some class
-    marked : is_marked marks (class_item classes n) ≡ true
-    own : is_class_kept classes marks (Prog n) ≡ true
-    place : j ≡ rank (p classes marks) 0 n
-    is : d ≡ f classes marks n class
+  -- which it is
+  pub record Stays (j : ℕ) (d : Class) : Type 0 where
+    pub n : ℕ
+    pub class : Class
+    pub there : slice_get classes n ≡ Some class
+    pub marked : is_marked marks (class_item classes n) ≡ true
+    pub own : is_class_kept classes marks (Prog n) ≡ true
+    pub place : j ≡ rank (p classes marks) 0 n
+    pub is : d ≡ f classes marks n class
 
-  stays : (j : ℕ) (d : Class) → slice_get out j ≡ Some d → Stays j d
+  pub stays : (j : ℕ) (d : Class) → slice_get out j ≡ Some d → Stays j d
   stays j d e =
       let o = class_origin j d e in
       let plain : 0 + o.k ≡ o.k = omega arith in

@@ -1,5 +1,5 @@
 mod Instructions
 mod Implementing
 mod Overriding
-mod Places
-mod Left
+pub mod Places
+pub mod Left

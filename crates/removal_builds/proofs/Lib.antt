@@ -1,0 +1,6 @@
+mod LeftLists
+mod Rounds
+mod RanksLeft
+mod Again
+mod Formed
+mod Taken

@@ -1,0 +1,2 @@
+pub mod FilesLeft
+pub mod Laws
