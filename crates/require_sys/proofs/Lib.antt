@@ -9,6 +9,8 @@ mod Gathering
 mod SharedFrames
 mod CountedLists
 mod Meeting
+mod Remembering
+mod AloneLaw
 mod SupersLaw
 mod There
 mod Referring

@@ -7,3 +7,5 @@ pub mod Asked
 pub mod Frames
 pub mod Needs
 pub mod Supers
+pub mod Alone
+pub mod Known

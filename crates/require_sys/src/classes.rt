@@ -1,10 +1,9 @@
 // What a class wants (JVMS 5.3.5, 5.5, 6.5).
 #![tactic(auto, using(crate::proofs::Gathering::in_turn, crate::proofs::Gathering::nothing))]
 
-ghost use Rattle.std.specs.Prelude.{◌≡◌, ◌<◌, [], ◌∷◌, OnOk, Some, if◌then◌else◌, length, map, nat_lt, slice_get};
+ghost use Rattle.std.specs.Prelude.{◌≡◌, ◌<◌, [], ◌∷◌, OnOk, Some, if◌then◌else◌, length, map, slice_get};
 ghost use Rattle.std.specs.Prelude.{slice_index_or};
 ghost use Rattle.std.specs.List.{All, cons_option, flat_map};
-ghost use Rattle.lib_table.specs.Lookups.{class_at};
 ghost use Rattle.class_pool.specs.Found.{IsMember, IsMethod, is_instance_method, rows_in};
 ghost use Rattle.class_pool.specs.declared.id.ClassId.TheVariants.{Lib, Prog};
 ghost use Rattle.require_sys.specs.Requires.Item.{OfMember};
@@ -13,6 +12,7 @@ ghost use Rattle.require_sys.specs.bodies.Asked.{AreMembers};
 ghost use Rattle.require_sys.specs.bodies.Selecting.{called_by, called_in, called_item};
 ghost use Rattle.require_sys.specs.bodies.Wanting.{wanting};
 
+use crate::calls::has_member;
 use crate::kept::KeptByRules;
 use crate::named::{want_name, want_names};
 use crate::supers::{is_interface, library_supers};
@@ -20,7 +20,7 @@ use crate::wants::Wants;
 use class_model::Class;
 use class_pool::{ClassId, MemberAt};
 use jv_base::{M, Text};
-use lib_table::{LibId, lib_member_at};
+use lib_table::LibId;
 use link_check::select;
 use std::alloc::Global;
 
@@ -154,20 +154,17 @@ fn want_called_in(wants: &mut Wants<'_>, number: u32, id: LibId) -> M<()>
     Ok(())
 }
 
-/// Whether a class of the library has a member with a number.
-fn has_member(id: LibId, at: u32) -> bool
-    ensures { result ≡ nat_lt at (length (class_at id).members) }
-{
-    lib_member_at(id, at).is_some()
-}
-
-/// The method that runs where a member of the library is called, if this is an instance method.
+/// The method that runs where a member of the library is called, if this is an instance method. Where no class of the
+/// set has its name and descriptor, that is of the library too.
 fn want_run(wants: &mut Wants<'_>, number: u32, m: &MemberAt) -> M<()>
     requires there { number < length wants.old.classes }
     requires member { IsMember wants.old.classes m.now }
     ensures { OnOk result (wants.new ≡ wanting wants.old (if is_instance_method wants.old.classes m.now
         then cons_option (called_item wants.old.classes number m.now) [] else [])) }
 {
+    if wants.is_alone(m) {
+        return Ok(());
+    }
     if wants.set().is_instance_method(*m) {
         want_selected(wants, number, m)
     } else {

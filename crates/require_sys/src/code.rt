@@ -1,7 +1,7 @@
 // What a code names and means (JVMS 4.7.3, 6.5).
 #![tactic(auto, using(crate::proofs::Gathering::in_turn, crate::proofs::Gathering::nothing))]
 
-ghost use Rattle.std.specs.Prelude.{◌≡◌, ◌<◌, ◌∷◌, ◌++◌, Ok, OnOk, length};
+ghost use Rattle.std.specs.Prelude.{◌≡◌, ◌<◌, ◌∷◌, ◌++◌, IfOk, Ok, OnOk, length};
 ghost use Rattle.std.specs.List.{flat_map};
 ghost use Rattle.class_pool.specs.Found.{IsMember};
 ghost use Rattle.class_pool.specs.declared.id.ClassId.TheVariants.{Prog};
@@ -9,14 +9,16 @@ ghost use Rattle.link_check.specs.Links.{resolved_method};
 ghost use Rattle.link_check.specs.Profile.{class_of};
 ghost use Rattle.require_sys.specs.Requires.Item.{OfMember};
 ghost use Rattle.require_sys.specs.Requires.{field_ref_wants, handler_wants, method_ref_wants, op_wants};
-ghost use Rattle.require_sys.specs.Requires.{special_wants};
+ghost use Rattle.require_sys.specs.Requires.{numbers, special_wants};
+ghost use Rattle.require_sys.specs.bodies.Known.{ref_wants};
 ghost use Rattle.require_sys.specs.bodies.Wanting.{wanting};
 
+use crate::known::RefKind;
 use crate::named::{want_base, want_field_text, want_method_text, want_name, want_type};
 use crate::wants::Wants;
 use class_model::{Handler, Ins, MemberRef, Op};
 use class_pool::MemberAt;
-use jv_base::M;
+use jv_base::{Items, M};
 use link_check::{resolve_field, resolve_method, select_special};
 use std::alloc::Global;
 
@@ -43,17 +45,69 @@ fn want_op(alloc: Global, wants: &mut Wants<'_>, number: u32, op: &Op) -> M<()>
 {
     match op {
         Op::GetStatic(r) | Op::PutStatic(r) | Op::GetField(r) | Op::PutField(r) => {
-            want_field_ref(alloc, wants, number, r)
+            want_ref(alloc, wants, number, RefKind::Field, r)
         }
         Op::InvokeVirtual(r) | Op::InvokeStatic(r) | Op::InvokeInterface(r) => {
-            want_method_ref(alloc, wants, number, r)
+            want_ref(alloc, wants, number, RefKind::Method, r)
         }
-        Op::InvokeSpecial(r) => want_special_ref(alloc, wants, number, r),
+        Op::InvokeSpecial(r) => want_ref(alloc, wants, number, RefKind::Special, r),
         Op::New(name) => want_name(wants, name),
         Op::ANewArray(ty) | Op::CheckCast(ty) | Op::InstanceOf(ty) | Op::MultiNewArray(ty, _) => {
             want_type(wants, ty)
         }
         _ => Ok(()),
+    }
+}
+
+/// What a reference wants by the kind of its instruction. It is looked for once, where it can be remembered.
+fn want_ref(
+    alloc: Global,
+    wants: &mut Wants<'_>,
+    number: u32,
+    kind: RefKind,
+    r: &MemberRef,
+) -> M<()>
+    requires { number < length wants.old.classes }
+    ensures { OnOk result (wants.new ≡ wanting wants.old (ref_wants wants.old.classes number kind r.now)) }
+{
+    if wants.want_known(number, kind, r)? {
+        return Ok(());
+    }
+    let found = ref_numbers(alloc, wants, number, kind, r)?;
+    wants.want_found(number, kind, r, found)
+}
+
+/// The numbers of what a reference wants.
+fn ref_numbers(
+    alloc: Global,
+    wants: &Wants<'_>,
+    number: u32,
+    kind: RefKind,
+    r: &MemberRef,
+) -> M<Items<u32>>
+    requires { number < length wants.now.classes }
+    ensures { IfOk result (λ found. found
+        ≡ numbers wants.now.classes (ref_wants wants.now.classes number kind r.now)) }
+{
+    let mut anew = wants.anew(alloc);
+    want_ref_anew(alloc, &mut anew, number, kind, r)?;
+    Ok(anew.into_numbers())
+}
+
+fn want_ref_anew(
+    alloc: Global,
+    wants: &mut Wants<'_>,
+    number: u32,
+    kind: RefKind,
+    r: &MemberRef,
+) -> M<()>
+    requires { number < length wants.old.classes }
+    ensures { OnOk result (wants.new ≡ wanting wants.old (ref_wants wants.old.classes number kind r.now)) }
+{
+    match kind {
+        RefKind::Field => want_field_ref(alloc, wants, number, r),
+        RefKind::Method => want_method_ref(alloc, wants, number, r),
+        RefKind::Special => want_special_ref(alloc, wants, number, r),
     }
 }
 

@@ -1,10 +1,12 @@
 //! What of a set of classes has to be kept, as a system of requirements on its items.
 #![tactic(auto)]
 
+mod calls;
 mod classes;
 mod code;
 mod frames;
 mod kept;
+mod known;
 mod laws;
 mod limits;
 mod members;

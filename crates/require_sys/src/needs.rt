@@ -5,6 +5,7 @@ ghost use Rattle.require_sys.specs.Requires.{class_needs, class_wants, field_wan
 ghost use Rattle.require_sys.specs.bodies.Asked.{AreMembers};
 ghost use Rattle.require_sys.specs.bodies.Counting.{AddsNeeds, HasNeeds};
 ghost use Rattle.require_sys.specs.bodies.Needs.{all_needs, fields_needs, methods_needs};
+ghost use Rattle.require_sys.specs.bodies.Wanting.{wanting_nothing};
 
 use crate::classes::want_of_class;
 use crate::kept::KeptByRules;
@@ -103,10 +104,11 @@ fn add_methods(
     ensures { OnOk result (AddsNeeds needs.old
         (methods_needs numbered.now.set.now kept.now number class.now) needs.new) }
 {
+    let mut wants = Wants::new(alloc, numbered);
     for index in 0..class.methods.len() {
         let own = method_item(numbered, number, class, index);
         let method = &class.methods[index];
-        needs.add(method_needs(alloc, numbered, kept, own, number, method)?)?;
+        needs.add(method_needs(alloc, &mut wants, kept, own, number, method)?)?;
     }
     Ok(())
 }
@@ -154,19 +156,21 @@ fn field_needs(
     wants.into_needs(alloc, own)
 }
 
+/// What a method needs. Nothing is wanted before, nor after.
 fn method_needs(
     alloc: Global,
-    numbered: &Numbered,
+    wants: &mut Wants<'_>,
     kept: &KeptByRules,
     own: u32,
     number: u32,
     method: &Method,
 ) -> M<Items<u32>>
-    requires { number < length numbered.now.set.now }
-    ensures { IfOk result (λ needs. needs ≡ needs_of numbered.now.set.now own
-        (method_wants numbered.now.set.now number kept.now method.now)) }
+    requires there { number < length wants.old.classes }
+    requires before { wants.old ≡ wanting_nothing wants.old.classes }
+    ensures needs { IfOk result (λ needs. needs ≡ needs_of wants.old.classes own
+        (method_wants wants.old.classes number kept.now method.now)) }
+    ensures after { OnOk result (wants.new ≡ wanting_nothing wants.old.classes) }
 {
-    let mut wants = Wants::new(alloc, numbered);
-    want_of_method(alloc, &mut wants, kept, number, method)?;
-    wants.into_needs(alloc, own)
+    want_of_method(alloc, wants, kept, number, method)?;
+    wants.take_needs(alloc, own)
 }

@@ -1,11 +1,16 @@
 // The items of a set by their numbers.
-ghost use Rattle.std.specs.Prelude.{◌≡◌, ◌+◌, ◌<◌, IfOk, length};
+ghost use Rattle.std.specs.Prelude.{◌≡◌, ◌+◌, ◌<◌, IfOk, IfSome, IsTrue, Some, false, length, slice_get};
+ghost use Rattle.std.specs.Option.{ForSome};
 ghost use Rattle.class_pool.specs.Count.{item_count};
 ghost use Rattle.class_pool.specs.Found.{IsMember};
+ghost use Rattle.class_pool.specs.Hierarchy.{IsClass};
 ghost use Rattle.class_pool.specs.Items.{class_item, item_of};
 ghost use Rattle.class_pool.specs.declared.id.ClassId.TheVariants.{Prog};
+ghost use Rattle.require_sys.specs.bodies.Alone.{AreAlone, IsAlone};
 ghost use Rattle.require_sys.specs.bodies.Starts.{AreStarts};
 
+use crate::calls::declared_of;
+use crate::supers::is_same_class;
 use class_pool::{ClassId, ClassSet, MemberAt};
 use jv_base::{Items, M};
 use std::alloc::Global;
@@ -16,6 +21,11 @@ pub(crate) struct Numbered<'a> {
     pub set: &'a ClassSet,
     /// The item of each class, and behind these how many items there are.
     starts: Items<u32>,
+    /// Object, where its name leads to a class.
+    object: Option<ClassId>,
+    /// For each member of Object whether a class of the set may have one with its name and descriptor.
+    declared: Items<bool>,
+    ghost alone: { ForSome object (λ class. AreAlone set.now class declared) },
     ghost few: { item_count set.now < 4294967295 },
     ghost are: { AreStarts set.now starts },
 }
@@ -27,7 +37,14 @@ impl<'a> Numbered<'a> {
     {
         set.few_items();
         let starts = starts_of(alloc, set)?;
-        Ok(Numbered { set, starts })
+        let object = set.object();
+        let declared = declared_by_others(alloc, set, &object)?;
+        Ok(Numbered {
+            set,
+            starts,
+            object,
+            declared,
+        })
     }
 
     /// How many items the set has.
@@ -35,6 +52,19 @@ impl<'a> Numbered<'a> {
         ensures { result ≡ item_count self.now.set.now }
     {
         self.starts[self.set.len() as usize]
+    }
+
+    /// Whether it is known that no class of the set has a member with the name and the descriptor of a member.
+    pub fn is_alone(&self, member: &MemberAt) -> bool
+        ensures { IsTrue result → IsAlone self.now.set.now member.now }
+    {
+        match &self.object {
+            Some(object) => {
+                is_same_class(object, &member.class)
+                    && is_false(self.declared.as_slice(), member.index)
+            }
+            None => false,
+        }
     }
 
     /// The item of a class of the set.
@@ -62,6 +92,37 @@ impl<'a> Numbered<'a> {
             ClassId::Prog(number) => Some(self.member_item(number, member.index)),
             ClassId::Lib(_) => None,
         }
+    }
+}
+
+fn declared_by_others(alloc: Global, set: &ClassSet, object: &Option<ClassId>) -> M<Items<bool>>
+    requires { IfSome object.now (IsClass set.now) }
+    ensures { IfOk result (λ flags. ForSome object.now (λ class. AreAlone set.now class flags)) }
+{
+    match object {
+        Some(class) => declared_of_class(alloc, set, class),
+        None => Ok(Items::new(alloc)),
+    }
+}
+
+/// A class of the set is asked for no method of the library.
+fn declared_of_class(alloc: Global, set: &ClassSet, class: &ClassId) -> M<Items<bool>>
+    requires { IsClass set.now class.now }
+    ensures { IfOk result (AreAlone set.now class.now) }
+{
+    match class {
+        ClassId::Lib(id) => declared_of(alloc, set, *id),
+        ClassId::Prog(_) => Ok(Items::new(alloc)),
+    }
+}
+
+/// Whether a list says false at a place.
+fn is_false(flags: &[bool], at: u32) -> bool
+    ensures { IsTrue result → slice_get flags.now at ≡ Some false }
+{
+    match flags.get(at as usize) {
+        Some(flag) => !*flag,
+        None => false,
     }
 }
 

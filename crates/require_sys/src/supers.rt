@@ -154,7 +154,7 @@ fn has_class(ids: &[ClassId], class: &ClassId) -> bool
     ids.iter().any(|id| is_same_class(class, id))
 }
 
-fn is_same_class(one: &ClassId, other: &ClassId) -> bool
+pub(crate) fn is_same_class(one: &ClassId, other: &ClassId) -> bool
     ensures { result ≡ same_class one.now other.now }
 {
     one == other

@@ -1,0 +1,10 @@
+use Rattle.std.proofs.Common.{◌≡◌, length}
+use Rattle.class_pool.specs.declared.id.ClassId.TheVariants.{Lib}
+use Rattle.require_sys.specs.bodies.Alone.{AreAlone}
+use Rattle.require_sys.proofs.calls.declared_of.Given as goal
+
+abbrev pub invariant-loop-at : goal.invariant-loop-at
+invariant-loop-at l = record {
+  long : length l.flags ≡ l.at;
+  alone : AreAlone l.set (Lib l.id) l.flags;
+}

@@ -1,0 +1,15 @@
+use Rattle.std.proofs.Common.{List, ℕ, Ok, ap, subst}
+use Rattle.std.specs.Prelude.{◌≡◌}
+use Rattle.jv_base.specs.declared.outcome.OutOfMemory.{OutOfMemory}
+use Rattle.require_sys.specs.bodies.Wanting.{Wanted, needs_from}
+use Rattle.require_sys.proofs.SortedNeeds.{needs_then}
+use Rattle.require_sys.proofs.wants.Wants.take_needs.Goals as goal
+
+pub returns-clause-needs : goal.returns-clause-needs
+returns-clause-needs c =
+    subst (λ (ns : List ℕ). c.in_ok-needs.needs ≡ needs_from c.args.own ns)
+    (ap (λ (w : Wanted). w.numbers) c.self.view_is)
+    (needs_then {E = OutOfMemory} (Ok c.in_ok-needs.needs) c.args.own c.self.inside.numbers.items
+    c.sort_unstable.new.self.items c.dedup.new.self.items c.as_slice.result.now
+    c.sort_unstable.ensures.permutation c.sort_unstable.ensures.sorted c.dedup.ensures.filtered c.as_slice.ensures.value
+    c.in_ok-needs.ensures)

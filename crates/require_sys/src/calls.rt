@@ -1,0 +1,60 @@
+// Which methods of Object a class of the set may have too.
+ghost use Rattle.std.specs.Prelude.{◌≡◌, ◌<◌, false, length, nat_lt, IfOk};
+ghost use Rattle.lib_table.specs.Library.{library as library_rows};
+ghost use Rattle.lib_table.specs.Lookups.{class_at};
+ghost use Rattle.class_pool.specs.Found.{IsMember, IsMethod, named_at};
+ghost use Rattle.class_pool.specs.declared.id.ClassId.TheVariants.{Lib};
+ghost use Rattle.require_sys.specs.bodies.Alone.{AreAlone, AreNone, IsAlone};
+
+use class_pool::{ClassId, ClassSet, MemberAt};
+use jv_base::{Items, M};
+use lib_table::{LibId, lib_member_at};
+use std::alloc::Global;
+
+/// For each member of a class of the library whether a class of the set may have one with its name and descriptor.
+pub(crate) fn declared_of(alloc: Global, set: &ClassSet, id: LibId) -> M<Items<bool>>
+    requires { id < length library_rows }
+    ensures { IfOk result (AreAlone set.now (Lib id)) }
+{
+    let mut flags = Items::new(alloc);
+    for at in 0..u32::MAX {
+        if !has_member(id, at) {
+            return Ok(flags);
+        }
+        flags.push(may_be_declared(set, id, at))?;
+    }
+    Ok(flags)
+}
+
+/// Whether a class of the library has a member with a number.
+pub(crate) fn has_member(id: LibId, at: u32) -> bool
+    ensures { result ≡ nat_lt at (length (class_at id).members) }
+{
+    lib_member_at(id, at).is_some()
+}
+
+/// Whether a class of the set may have a member with the name and the descriptor of one of the library. It is looked
+/// for if that is an instance method.
+fn may_be_declared(set: &ClassSet, id: LibId, at: u32) -> bool
+    requires { IsMember set.now (record { class = Lib id; index = at }) }
+    ensures { result ≡ false → IsAlone set.now (record { class = Lib id; index = at }) }
+{
+    let m = MemberAt {
+        class: ClassId::Lib(id),
+        index: at,
+    };
+    !set.is_instance_method(m) || is_declared(set, &m)
+}
+
+fn is_declared(set: &ClassSet, m: &MemberAt) -> bool
+    requires there { IsMember set.now m.now }
+    requires method { IsMethod set.now m.now }
+    ensures { result ≡ false → AreNone set.now (named_at set.now m.now) (length set.now) }
+{
+    for number in 0..set.len() {
+        if set.method_like(ClassId::Prog(number), *m).is_some() {
+            return true;
+        }
+    }
+    false
+}
