@@ -8,7 +8,7 @@ use Rattle.indexmap.specs.IndexMap.{insert_entry}
 use Rattle.jv_base.specs.Names.{is_text}
 use Rattle.fresh_names.specs.Fresh.{fresh, given, is_taken, next_free}
 use Rattle.fresh_names.specs.bodies.Giving.{after}
-use Rattle.fresh_names.proofs.Once.{same_text, symmetric, text_is}
+use Rattle.fresh_names.proofs.Once.{same_text, text_is}
 
 -- what is there, else something else that may be there
 abbrev pub or_first : {V : Type 0} → Option V → Option V → Option V

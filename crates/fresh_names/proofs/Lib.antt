@@ -6,3 +6,4 @@ pub mod Reserved
 pub mod Found
 pub mod OneMore
 pub mod Fronts
+pub mod Letters

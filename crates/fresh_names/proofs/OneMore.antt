@@ -1,6 +1,6 @@
 -- One name more is given.
-use Rattle.std.proofs.Common.{◌≡◌, ◌⊎◌, inl, inr, ℕ, ◌+◌, Bool, true, false, cond, ◌||◌, List, [], ◌∷◌, ◌++◌, Option, Some, None}
-use Rattle.std.proofs.Common.{is_some, filter, map, flat_map, length, get_or, take, ◌<◌, Result, Ok, Err, OnOk, refl, sym, ap, ◌∙◌, subst}
+use Rattle.std.proofs.Common.{◌≡◌, ℕ, ◌+◌, Bool, true, false, cond, ◌||◌, List, [], ◌∷◌, ◌++◌, Option, Some, None}
+use Rattle.std.proofs.Common.{is_some, map, flat_map, length, get_or, take, ◌<◌, Result, Ok, Err, OnOk, refl, sym, ap, ◌∙◌, subst}
 use Rattle.std.specs.Prelude.{nat_eq}
 use Rattle.std.specs.Cmp.Lexicographic.{pointwise}
 use Rattle.std.specs.Map.{lookup}
@@ -14,7 +14,7 @@ use Rattle.fresh_names.specs.Fresh.{fresh, given, is_taken, next_free}
 use Rattle.fresh_names.specs.Given.{given_name, olds, once, with_front}
 use Rattle.fresh_names.specs.bodies.Giving.{IsGiven, after, number_of}
 use Rattle.fresh_names.proofs.Found.{after_last, given_found, given_last, lookup_inserted, lookup_last, or_first}
-use Rattle.fresh_names.proofs.Once.{kept_taken, olds_new, olds_taken, olds_there, one_kept, same_text, symmetric, text_is}
+use Rattle.fresh_names.proofs.Once.{kept_taken, olds_new, olds_taken, olds_there, one_kept, same_text, text_is}
 
 module _ (front : List ℕ → List ℕ) (taken done : List (List ℕ)) where
   -- nothing is given yet

@@ -1,8 +1,7 @@
 -- No two names get one new name (the project's own: what is renamed is told apart as before).
 use Rattle.std.specs.Prelude.{◌≡◌, ◌⊎◌, ℕ, true, List}
-use Rattle.class_rename.specs.Names.{new_name}
-use Rattle.fresh_names.specs.Fresh.{given, is_taken}
-use Rattle.fresh_names.specs.Given.{front_of, given_name, no_front}
+use Rattle.fresh_names.specs.Fresh.{is_taken}
+use Rattle.fresh_names.specs.Given.{front_of, given_name}
 
 -- a name that is taken, or stands among those that get new ones where they aren't taken
 abbrev pub IsNamed : List (List ℕ) → List (List ℕ) → List ℕ → Type 0
