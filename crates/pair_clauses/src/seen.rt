@@ -1,0 +1,122 @@
+// What the lines of a mapping that were gone over have told.
+ghost use Rattle.std.specs.Prelude.{◌≡◌, [], ◌∷◌, ◌++◌, false, not, IfOk, OnOk, List, ℕ};
+ghost use Rattle.std.specs.List.{list_any};
+ghost use Rattle.std.specs.Option.{option_copied};
+ghost use Rattle.jv_base.specs.Names.{is_text};
+ghost use Rattle.new_names.specs.NewNames.{NameAndType, is_same};
+ghost use Rattle.pair_clauses.specs.Shape.{clashes, is_other};
+ghost use Rattle.pair_clauses.specs.bodies.Seen.{HasMembers, HasNames, TellsPairs};
+
+use indexmap::{IndexMap, IndexSet};
+use jv_base::{M, Name, Text};
+use std::alloc::Global;
+
+/// Names, each once.
+#[derive(Drop)]
+pub(crate) struct SeenNames {
+    names: IndexSet<Name>,
+}
+
+impl SeenNames {
+    pub(crate) fn new(alloc: Global) -> SeenNames
+        ensures { HasNames result [] }
+    {
+        SeenNames {
+            names: IndexSet::new(alloc),
+        }
+    }
+
+    pub(crate) fn has(&self, name: &Name) -> bool
+        ensures { (names : List (List ℕ)) → HasNames self.now names
+            → result ≡ list_any (λ seen. is_text seen name.now) names }
+    {
+        self.names.contains(name)
+    }
+
+    /// Puts a name, and answers whether it is new.
+    pub(crate) fn put(&mut self, name: &Name) -> M<bool>
+        ensures is_new { (names : List (List ℕ)) → HasNames self.old names
+            → IfOk result (λ is_new. is_new ≡ not (list_any (λ seen. is_text seen name.now) names)) }
+        ensures put { (names : List (List ℕ)) → HasNames self.old names
+            → OnOk result (HasNames self.new (names ++ name.now ∷ [])) }
+    {
+        let (_, is_new) = self.names.insert_full(name.clone()?)?;
+        Ok(is_new)
+    }
+}
+
+/// Members, each once, by names and descriptors.
+#[derive(Drop)]
+pub(crate) struct SeenMembers {
+    members: IndexSet<(Name, Text)>,
+}
+
+impl SeenMembers {
+    pub(crate) fn new(alloc: Global) -> SeenMembers
+        ensures { HasMembers result [] }
+    {
+        SeenMembers {
+            members: IndexSet::new(alloc),
+        }
+    }
+
+    /// Puts a member, and answers whether it is new.
+    pub(crate) fn put(&mut self, name: &Name, ty: &Text) -> M<bool>
+        ensures is_new { (members : List NameAndType) → HasMembers self.old members
+            → IfOk result (λ is_new. is_new ≡ not (list_any (λ seen. is_same seen (name.now, ty.now)) members)) }
+        ensures put { (members : List NameAndType) → HasMembers self.old members
+            → OnOk result (HasMembers self.new (members ++ (name.now, ty.now) ∷ [])) }
+    {
+        let (_, is_new) = self.members.insert_full((name.clone()?, ty.clone()?))?;
+        Ok(is_new)
+    }
+}
+
+/// Old and new names, one to one.
+#[derive(Drop)]
+pub(crate) struct SeenPairs {
+    /// New names by old ones.
+    by_old: IndexMap<Name, Name>,
+    /// Old names by new ones.
+    by_new: IndexMap<Name, Name>,
+}
+
+impl SeenPairs {
+    pub(crate) fn new(alloc: Global) -> SeenPairs
+        ensures { TellsPairs result [] }
+    {
+        SeenPairs {
+            by_old: IndexMap::new(alloc),
+            by_new: IndexMap::new(alloc),
+        }
+    }
+
+    /// Whether an old name has another new one already, or a new one another old one.
+    pub(crate) fn clashes(&self, old: &Name, new: &Name) -> bool
+        ensures { (pairs : List (List ℕ × List ℕ)) → TellsPairs self.now pairs
+            → result ≡ clashes pairs old.now new.now }
+    {
+        is_other(self.by_old.get(old), new) || is_other(self.by_new.get(new), old)
+    }
+
+    /// Puts an old name with its new one, which clash with none.
+    pub(crate) fn put(&mut self, old: &Name, new: &Name) -> M<()>
+        ensures { (pairs : List (List ℕ × List ℕ)) → TellsPairs self.old pairs
+            → clashes pairs old.now new.now ≡ false
+            → OnOk result (TellsPairs self.new (pairs ++ (old.now, new.now) ∷ [])) }
+    {
+        self.by_old.insert(old.clone()?, new.clone()?)?;
+        self.by_new.insert(new.clone()?, old.clone()?)?;
+        Ok(())
+    }
+}
+
+/// Another name than the one that is there, if one is.
+fn is_other(there: Option<&Name>, name: &Name) -> bool
+    ensures { result ≡ is_other (option_copied there.entry) name.now }
+{
+    match there {
+        Some(there) => *there != *name,
+        None => false,
+    }
+}
