@@ -8,20 +8,7 @@ use Rattle.jv_base.proofs.Equality.{text_Decides}
 use Rattle.mapping_file.specs.declared.mapping.MapClass.{MapClass}
 use Rattle.pair_clauses.specs.Shape.{is_other}
 
--- one more at the end of a list
-pub any_more : {A : Type 0} (test : A → Bool) (xs : List A) (x : A)
-    → list_any test (xs ++ x ∷ []) ≡ (list_any test xs || test x)
-any_more test [] x = by (test x)
-  where
-    by : (b : Bool) → (b || false) ≡ (false || b)
-    by true = refl
-    by false = refl
-any_more test (y ∷ xs) x = ap (λ (b : Bool). test y || b) (any_more test xs x) ∙ by (test y) (list_any test xs) (test x)
-  where
-    by : (a b c : Bool) → (a || (b || c)) ≡ ((a || b) || c)
-    by true b c = refl
-    by false b c = refl
-
+-- what a look-up finds with one pair more
 pub lookup_more : {K V : Type 0} (test : K → Bool) (xs : List (K × V)) (k : K) (v : V)
     → lookup test (xs ++ (k, v) ∷ []) ≡ option_or (lookup test xs) (cond (test k) (Some v) None)
 lookup_more test [] k v = refl

@@ -116,7 +116,3 @@ module _ {A : Type 0} (F : A → Option Place) (xs : List A) (i : ℕ) (x : A) (
   one_on none = sym (
       ap (first_place F) (drop_some xs i x sx)
       ∙ ap (λ (o : Option Place). option_or o (first_place F (drop (i + 1) xs))) none)
-
--- nothing is left of one list
-pub one_done : {A : Type 0} (F : A → Option Place) (xs : List A) (i : ℕ) → length xs ≤ i → first_place F (drop i xs) ≡ None
-one_done F xs i all = ap (first_place F) (drop_none xs i (beyond xs i all))
