@@ -1,8 +1,8 @@
 // What a run has come to.
-ghost use Rattle.std.specs.Prelude.{◌≡◌, IfOk, option_copied};
+ghost use Rattle.std.specs.Prelude.{◌≡◌, IfOk, Some};
 ghost use Rattle.class_run.specs.Ended.{back_of, end_of, ended_of};
 ghost use Rattle.jvm_model.specs.Program.{Shape};
-ghost use Rattle.jvm_model.specs.State.{status};
+ghost use Rattle.jvm_model.specs.State.{HasThrown, status};
 ghost use Rattle.run_machine.specs.States.{state_of};
 
 use class_run::{Back, End, Ended};
@@ -32,13 +32,16 @@ fn end_of(alloc: Global, state: &State) -> M<End>
 {
     match state.status() {
         Status::Running => Ok(End::Running),
-        Status::Returned(value) => Ok(End::Returned(back_of(value)?)),
+        Status::Returned(Some(value)) => Ok(End::Returned(back_of(value)?)),
+        Status::Returned(None) => Ok(End::Returned(Back::Nothing)),
         Status::Threw(number) => thrown(alloc, state, number),
         Status::Wrong => Ok(End::Wrong),
     }
 }
 
-fn thrown(alloc: Global, state: &State, number: usize) -> M<End> {
+fn thrown(alloc: Global, state: &State, number: usize) -> M<End>
+    ensures { IfOk result (λ how. (p : Shape) → how ≡ end_of (state_of p state.now).world.heap (HasThrown number)) }
+{
     let class = Text::from_str(alloc, state.class_of(number))?;
     Ok(End::Threw {
         class,
@@ -46,17 +49,8 @@ fn thrown(alloc: Global, state: &State, number: usize) -> M<End> {
     })
 }
 
-fn back_of(value: Option<&Value>) -> M<Back>
-    ensures { IfOk result (λ back. back ≡ back_of (option_copied value)) }
-{
-    match value {
-        Some(value) => value_back(value),
-        None => Ok(Back::Nothing),
-    }
-}
-
 #[tactic(auto, using(crate::proofs::Backs::int_back, crate::proofs::Backs::long_back, crate::proofs::Backs::ref_back, crate::proofs::Backs::text_back, crate::proofs::Backs::null_back))]
-fn value_back(value: &Value) -> M<Back>
+fn back_of(value: &Value) -> M<Back>
     ensures { IfOk result (λ back. back ≡ back_of (Some value.now)) }
 {
     if let Some(number) = value.as_int() {

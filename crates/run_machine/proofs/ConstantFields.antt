@@ -1,6 +1,7 @@
 -- Fields that get their ConstantValue one after the other are all that have one.
 use Rattle.std.proofs.Common.{◌≡◌, ◌∙◌, Bool, true, false, ◌||◌, ℕ, zero, suc, List, [], ◌∷◌, Option, Some, None, ap, arith}
-use Rattle.std.proofs.Common.{refl, sym}
+use Rattle.std.proofs.Common.{drop, get_or, length, refl, sym, ◌+◌, ◌<◌}
+use Rattle.std.proofs.lemmas.List.{drop_more}
 use Rattle.std.specs.List.{All, list_any}
 use Rattle.std.specs.Option.{option_map_or}
 use Rattle.std.specs.Prelude.{if◌then◌else◌, is_some}
@@ -95,3 +96,11 @@ each_is_all p class keys f has = λ i k. (each_at p keys f k
     ∙ by_tests (is_text k.class class) (list_any (same_key k) keys) (p.constant k) (stored_in k) (f k)
     (λ e. (text_Decides k.class class).1 (of_class class keys k has.0 e))
     (λ e s. has.1 k ((text_Decides k.class class).0 e) s)) i
+
+-- one more field
+pub each_next : (p : Shape) (keys : List Key) (i : ℕ) (key : Key) (f g : Key → Value) → i < length keys
+    → key ≡ get_or keys i key → g ≡ with_constant p f key
+    → with_each p (drop (i + 1) keys) g ≡ with_each p (drop i keys) f
+each_next p keys i key f g lt e h = ap (with_each p (drop (i + 1) keys)) h
+    ∙ ap (λ (ks : List Key). with_each p ks f)
+    (sym (drop_more keys i key lt ∙ ap (λ (k : Key). k ∷ drop (i + 1) keys) (sym e)))

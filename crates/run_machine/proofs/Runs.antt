@@ -22,12 +22,13 @@ stays : (v : View) (s : State) → has_ended s.control ≡ true → step v s ≡
 stays v s e = next_stays v s.world s.waits s.control e
 
 more : (v : View) (s : State) (n k : ℕ) → has_ended (run v s n).control ≡ true → run v s (k + n) ≡ run v s n
-more v s n zero e = ap (run v s) (omega arith)
-more v s n (suc k) e = ap (run v s) (let i : suc k + n ≡ suc (k + n) = omega arith in i) ∙ ap (step v) (more v s n k e)
-    ∙ stays v (run v s n) e
+more v s n zero e = let i : zero + n ≡ n = omega arith in ap (run v s) i
+more v s n (suc k) e = let i : suc k + n ≡ suc (k + n) = omega arith in
+    ap (run v s) i ∙ ap (step v) (more v s n k e) ∙ stays v (run v s n) e
 
 -- so it is after any number of steps that are left
 pub ended_stays : (v : View) (s t : State) (n m : ℕ) → t ≡ run v s n → has_ended t.control ≡ true → n ≤ m → t ≡ run v s m
 ended_stays v s t n m is e le =
     let same : run v s (m - n + n) ≡ run v s n = more v s n (m - n) (rw (sym is) e) in
-    is ∙ sym same ∙ ap (run v s) (omega (arith, le))
+    let whole : m - n + n ≡ m = omega (arith, le) in
+    is ∙ sym same ∙ ap (run v s) whole

@@ -32,7 +32,7 @@ pub(crate) fn ask<S: Shapes>(
     frame: Frame,
     request: Request<'_>,
 ) -> M<Control>
-    ensures { IfOk result (λ c. Asks (S.shape shapes.now) rest.old rest.new c frame request) }
+    ensures { IfOk result (λ c. Asks (S.shape shapes.now) rest.old rest.new c frame request.entry) }
 {
     match request {
         Request::GetStatic(field) => get_static(alloc, shapes, rest, frame, field),
@@ -53,11 +53,11 @@ fn ask_other<S: Shapes>(
     frame: Frame,
     request: Request<'_>,
 ) -> M<Control>
-    ensures { operands_of request ≡ None → IfOk result (λ c. (b : Standing)
+    ensures { operands_of request.entry ≡ None → IfOk result (λ c. (b : Standing)
         → state_at (S.shape shapes.now) rest.new c
         ≡ on_answer (S.shape shapes.now) (whole (S.shape shapes.now) rest.old) frame.method b (body_of frame.body)
         (waits_of rest.old.waits)
-        (answer (S.shape shapes.now) frame.method.class (whole (S.shape shapes.now) rest.old) (request_of request))) }
+        (answer (S.shape shapes.now) frame.method.class (whole (S.shape shapes.now) rest.old) (request_of request.entry))) }
 {
     let answer = answer(
         alloc,

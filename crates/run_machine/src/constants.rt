@@ -9,7 +9,6 @@ use run_heap::{Fields, Key, Shapes, stored_in};
 use std::alloc::Global;
 
 /// The fields of a class that have one hold their ConstantValue.
-#[tactic(auto, using(crate::proofs::ConstantFields::each_is_all))]
 pub(crate) fn set_constants<S: Shapes>(
     alloc: Global,
     shapes: &S,

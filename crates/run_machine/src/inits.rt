@@ -49,7 +49,7 @@ fn marked_in(marks: &[Marked], class: &Name) -> Option<Init>
     let mut left = marks.len();
     while left > 0 {
         left -= 1;
-        if marks[left].class == *class {
+        if *class == marks[left].class {
             return Some(marks[left].init);
         }
     }

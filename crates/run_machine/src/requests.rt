@@ -26,8 +26,8 @@ pub(crate) fn answer<S: Shapes>(
     from: &Name,
     request: Request<'_>,
 ) -> M<Answer>
-    ensures { operands_of request ≡ None → IfOk result (λ a. Changes a world.old world.new
-        (λ w. answer (S.shape shapes.now) from.now w (request_of request))) }
+    ensures { operands_of request.entry ≡ None → IfOk result (λ a. Changes a world.old world.new
+        (λ w. answer (S.shape shapes.now) from.now w (request_of request.entry))) }
 {
     match request {
         Request::Known(value) => Ok(Answer::Gives(Some(value))),

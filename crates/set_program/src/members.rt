@@ -1,5 +1,6 @@
 // What is told of a member (JVMS 4.5, 4.6).
-ghost use Rattle.std.specs.Prelude.{◌≡◌, ◌<◌, ◌+◌, ◌++◌, IfOk, IfSome, None, Option, length, map, option_copied, slice_get};
+ghost use Rattle.std.specs.Prelude.{◌≡◌, ◌<◌, ◌+◌, ◌++◌, IfOk, IfSome, None, Option, length, map, option_copied};
+ghost use Rattle.std.specs.Prelude.{slice_get};
 ghost use Rattle.std.specs.Option.{option_and_then, option_map};
 ghost use Rattle.class_model.specs.declared.class.Constant.{Constant};
 ghost use Rattle.class_model.specs.declared.code.Code.{Code};

@@ -26,7 +26,7 @@ returns-in-Some c = λ told are. IfOk-weaker _
 
 pub returns : goal.returns
 returns c = λ told are. (
-      λ inits. append_nowhere (world_of inits c.args.world.now) c.args.operands.now told c.args.units (are inits)
-          (sym c.in-None.ensures),
-      λ inits. refl,
-    )
+  λ inits. append_nowhere (world_of inits c.args.world.now) c.args.operands.now told c.args.units (are inits)
+      (sym c.in-None.ensures),
+  λ inits. refl,
+)

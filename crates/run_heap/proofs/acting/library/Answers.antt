@@ -27,7 +27,7 @@ returns-in-Some c =
 
 pub returns-in-None : goal.returns-in-None
 returns-in-None c = (
-      λ inits. sym (ap (of_some (λ operands. acted (world_of inits c.args.world.now) (act (method_of c.args.row) operands)))
-          ((rw c.in-None.is at c.in_ok-act.ensures) inits)),
-      λ inits. refl,
-    )
+  λ inits. sym (ap (of_some (λ operands. acted (world_of inits c.args.world.now) (act (method_of c.args.row) operands)))
+      ((rw c.in-None.is at c.in_ok-act.ensures) inits)),
+  λ inits. refl,
+)

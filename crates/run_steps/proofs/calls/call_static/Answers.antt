@@ -5,8 +5,11 @@ use Rattle.run_steps.proofs.calls.call_static.Goals as goal
 
 pub returns-in-Some : goal.returns-in-Some
 returns-in-Some c = (
-      search rules,
-      (search rules, search rules,
-      operands_taken c.args.method.now (argument_kinds c.args.method.now.ty) c.args.body.now.stack c.in-Some.arguments
-      c.take_operands.new.stack (rw c.in-Some.is at c.in_ok-arguments.ensures)),
-    )
+  search rules,
+  (
+    search rules,
+    search rules,
+    operands_taken c.args.method.now (argument_kinds c.args.method.now.ty) c.args.body.now.stack c.in-Some.arguments
+        c.take_operands.new.stack (rw c.in-Some.is at c.in_ok-arguments.ensures),
+  ),
+)
