@@ -3,3 +3,4 @@ pub mod LineLaw
 pub mod MapLaw
 pub mod NamesTold
 pub mod Told
+mod Limits

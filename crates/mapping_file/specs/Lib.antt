@@ -2,4 +2,6 @@ pub mod LineReading
 pub mod MapLines
 pub mod MapReading
 pub mod Mappings
+pub mod Limited
 pub mod NameTable
+pub mod bodies

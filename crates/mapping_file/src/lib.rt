@@ -10,4 +10,4 @@ mod writing;
 
 pub use mapping::{MapClass, MapFault, MapField, MapKind, MapMethod, Mapping, Range};
 pub use reading::{first_fault, one_mapping, read_mapping};
-pub use writing::write_mapping;
+pub use writing::{write_mapping, write_mapping_within};

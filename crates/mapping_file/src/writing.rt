@@ -1,6 +1,8 @@
 // Writing a mapping file.
 ghost use Rattle.std.specs.Prelude.{◌≡◌, ℕ, List, [], ◌∷◌, ◌++◌, codes, IfOk, OnOk, Ok};
 ghost use Rattle.std.specs.List.{flat_map};
+ghost use Rattle.mapping_file.specs.Limited.{text_within};
+ghost use Rattle.mapping_file.specs.bodies.Pushed.{IsPushed};
 ghost use Rattle.mapping_file.specs.MapLines.{class_line_text, field_line_text, method_line_text, range_text};
 ghost use Rattle.mapping_file.specs.MapReading.{read_mapping};
 ghost use Rattle.mapping_file.specs.Mappings.{IsMapping, Reading, class_lines, ended_line, mapping_text};
@@ -37,6 +39,69 @@ fn push_class_lines(out: &mut Vec<u8>, class: &MapClass) -> M<()>
     push_class_line(out, &class.old, &class.new)?;
     push_field_lines(out, class.fields.as_slice())?;
     push_method_lines(out, class.methods.as_slice())
+}
+
+/// The text of a mapping, if it has at most so many bytes; no more is made of a longer one than its first line too many.
+pub fn write_mapping_within(alloc: Global, map: &Mapping, limit: usize) -> M<Option<Bytes>>
+    ensures { IfOk result (λ text. text ≡ text_within limit map.now) }
+{
+    let mut out = Vec::new(alloc);
+    push_within(&mut out, map, limit)?;
+    if out.len() > limit {
+        return Ok(None);
+    }
+    Ok(Some(Items::from_vec(out)))
+}
+
+/// Appends the lines of a mapping, up to the first one with which the text is longer than the limit.
+#[tactic(auto, unfolding(crate::specs::Mappings::mapping_text))]
+fn push_within(out: &mut Vec<u8>, map: &Mapping, limit: usize) -> M<()>
+    ensures { OnOk result (IsPushed limit out.old.items (mapping_text map.now) out.new.items) }
+{
+    for class in map.classes.as_slice() {
+        if out.len() > limit {
+            return Ok(());
+        }
+        push_class_within(out, class, limit)?;
+    }
+    Ok(())
+}
+
+/// The same of the lines of a class.
+fn push_class_within(out: &mut Vec<u8>, class: &MapClass, limit: usize) -> M<()>
+    ensures { OnOk result (IsPushed limit out.old.items (flat_map ended_line (class_lines class.now)) out.new.items) }
+{
+    push_class_line(out, &class.old, &class.new)?;
+    push_fields_within(out, class.fields.as_slice(), limit)?;
+    push_methods_within(out, class.methods.as_slice(), limit)
+}
+
+/// The same of the lines of fields.
+fn push_fields_within(out: &mut Vec<u8>, fields: &[MapField], limit: usize) -> M<()>
+    ensures { OnOk result (IsPushed limit out.old.items (flat_map (λ f. field_line_text f ++ 10 ∷ []) fields.now)
+        out.new.items) }
+{
+    for field in fields {
+        if out.len() > limit {
+            return Ok(());
+        }
+        push_field_line(out, field)?;
+    }
+    Ok(())
+}
+
+/// The same of the lines of methods.
+fn push_methods_within(out: &mut Vec<u8>, methods: &[MapMethod], limit: usize) -> M<()>
+    ensures { OnOk result (IsPushed limit out.old.items (flat_map (λ m. method_line_text m ++ 10 ∷ []) methods.now)
+        out.new.items) }
+{
+    for method in methods {
+        if out.len() > limit {
+            return Ok(());
+        }
+        push_method_line(out, method)?;
+    }
+    Ok(())
 }
 
 fn push_class_line(out: &mut Vec<u8>, old: &Name, new: &Name) -> M<()>

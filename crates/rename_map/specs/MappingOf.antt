@@ -1,5 +1,5 @@
 -- The mapping of classes to their new names (ProGuard manual, "-printmapping").
-use Rattle.std.specs.Prelude.{ℕ, List, [], ◌∷◌, map, min, max, Option, Some, None}
+use Rattle.std.specs.Prelude.{ℕ, Bool, List, [], ◌∷◌, map, min, max, Option, Some, None, if◌then◌else◌}
 use Rattle.std.specs.List.{filter_map, fold}
 use Rattle.std.specs.Option.{option_and_then}
 use Rattle.jv_base.specs.Types.{method_text}
@@ -33,24 +33,25 @@ module _ (names : Names) where
   abbrev pub field_line : Field → MapField
   field_line f = record { ty = f.ty; old = f.name; new = names.field f.name }
 
-  -- a method with its new name, and the lines of its code where it has any
-  abbrev pub method_line : Method → MapMethod
-  method_line m = record {
-    lines = option_and_then (λ code. range_of (lines_of code)) m.code;
-    ty = m.ty;
-    old = m.name;
-    new = names.method m.name (method_text m.ty);
-  }
+  module _ (lines : Bool) where
+    -- a method with its new name, and the lines of its code where lines are kept and it has any
+    abbrev pub method_line : Method → MapMethod
+    method_line m = record {
+      lines = if lines then option_and_then (λ code. range_of (lines_of code)) m.code else None;
+      ty = m.ty;
+      old = m.name;
+      new = names.method m.name (method_text m.ty);
+    }
 
-  -- a class with its new name, its fields and its methods
-  abbrev pub class_lines : Class → MapClass
-  class_lines c = record {
-    old = c.name;
-    new = names.class c.name;
-    fields = map field_line c.fields;
-    methods = map method_line c.methods;
-  }
+    -- a class with its new name, its fields and its methods
+    abbrev pub class_lines : Class → MapClass
+    class_lines c = record {
+      old = c.name;
+      new = names.class c.name;
+      fields = map field_line c.fields;
+      methods = map method_line c.methods;
+    }
 
-  -- all classes, in their order
-  abbrev pub mapping_of : List Class → Mapping
-  mapping_of classes = record { classes = map class_lines classes }
+    -- all classes, in their order
+    abbrev pub mapping_of : List Class → Mapping
+    mapping_of classes = record { classes = map class_lines classes }

@@ -1,5 +1,5 @@
 // The mapping of classes to their new names (ProGuard manual, "-printmapping").
-ghost use Rattle.std.specs.Prelude.{◌≡◌, ◌++◌, [], ℕ, List, IfOk, map};
+ghost use Rattle.std.specs.Prelude.{◌≡◌, ◌++◌, [], ℕ, List, None, IfOk, if◌then◌else◌, map};
 ghost use Rattle.std.specs.List.{cons_option};
 ghost use Rattle.std.specs.Option.{option_and_then};
 ghost use Rattle.class_model.specs.declared.code.Code.{Code};
@@ -13,23 +13,28 @@ use jv_base::{FieldType, Items, M, MethodType, Name};
 use mapping_file::{MapClass, MapField, MapMethod, Mapping, Range};
 use std::alloc::Global;
 
-/// What each class with its members was named and what it is named now, in their order. A method has the least and the
-/// greatest line of its code, where that has lines.
-pub fn mapping_of(alloc: Global, names: &NewNames, kept: &Items<Class>) -> M<Mapping>
-    ensures { IfOk result (λ mapping. mapping ≡ mapping_of (names_in names.now) kept.now) }
+/// What each class with its members was named and what it is named now, in their order. Where lines are kept, a method
+/// has the least and the greatest line of its code, if that has lines.
+pub fn mapping_of(
+    alloc: Global,
+    names: &NewNames,
+    kept: &Items<Class>,
+    lines: bool,
+) -> M<Mapping>
+    ensures { IfOk result (λ mapping. mapping ≡ mapping_of (names_in names.now) lines kept.now) }
 {
     let mut classes = Items::new(alloc);
     for class in kept.as_slice() {
-        classes.push(class_lines(alloc, names, class)?)?;
+        classes.push(class_lines(alloc, names, class, lines)?)?;
     }
     Ok(Mapping { classes })
 }
 
-fn class_lines(alloc: Global, names: &NewNames, class: &Class) -> M<MapClass>
-    ensures { IfOk result (λ lines. lines ≡ class_lines (names_in names.now) class.now) }
+fn class_lines(alloc: Global, names: &NewNames, class: &Class, lines: bool) -> M<MapClass>
+    ensures { IfOk result (λ told. told ≡ class_lines (names_in names.now) lines class.now) }
 {
     let fields = field_lines(alloc, names, class.fields.as_slice())?;
-    let methods = method_lines(alloc, names, class.methods.as_slice())?;
+    let methods = method_lines(alloc, names, class.methods.as_slice(), lines)?;
     let old = class.name.clone()?;
     let new = new_class_name(names, &class.name)?;
     Ok(MapClass {
@@ -68,20 +73,25 @@ fn field_line(names: &NewNames, field: &Field) -> M<MapField>
     Ok(MapField { ty, old, new })
 }
 
-fn method_lines(alloc: Global, names: &NewNames, methods: &[Method]) -> M<Items<MapMethod>>
-    ensures { IfOk result (λ lines. lines ≡ map (method_line (names_in names.now)) methods.now) }
+fn method_lines(
+    alloc: Global,
+    names: &NewNames,
+    methods: &[Method],
+    lines: bool,
+) -> M<Items<MapMethod>>
+    ensures { IfOk result (λ told. told ≡ map (method_line (names_in names.now) lines) methods.now) }
 {
-    let mut lines = Items::new(alloc);
+    let mut told = Items::new(alloc);
     for method in methods {
-        lines.push(method_line(alloc, names, method)?)?;
+        told.push(method_line(alloc, names, method, lines)?)?;
     }
-    Ok(lines)
+    Ok(told)
 }
 
-fn method_line(alloc: Global, names: &NewNames, method: &Method) -> M<MapMethod>
-    ensures { IfOk result (λ line. line ≡ method_line (names_in names.now) method.now) }
+fn method_line(alloc: Global, names: &NewNames, method: &Method, lines: bool) -> M<MapMethod>
+    ensures { IfOk result (λ line. line ≡ method_line (names_in names.now) lines method.now) }
 {
-    let lines = range_of(&method.code);
+    let lines = range_of(&method.code, lines);
     let ty = type_copy(alloc, &method.ty)?;
     let old = method.name.clone()?;
     let new = names.method_of_type(&method.name, &method.ty)?;
@@ -120,10 +130,13 @@ fn result_copy(ty: &Option<FieldType>) -> M<Option<FieldType>>
     }
 }
 
-/// From the least to the greatest line of a code, if it has lines.
-fn range_of(code: &Option<Code>) -> Option<Range>
-    ensures { result ≡ option_and_then (λ (c : Code). range_of (lines_of c)) code.now }
+/// From the least to the greatest line of a code, if lines are kept and it has any.
+fn range_of(code: &Option<Code>, lines: bool) -> Option<Range>
+    ensures { result ≡ (if lines then option_and_then (λ (c : Code). range_of (lines_of c)) code.now else None) }
 {
+    if !lines {
+        return None;
+    }
     match code {
         Some(code) => lines_in(code),
         None => None,

@@ -11,10 +11,13 @@ use std::alloc::Global;
 use std::thread::Threads;
 use tree_io::{ListFault, MemoryTree, Tree};
 
+/// A rule that keeps all names, whatever is kept.
+const ALL_NAMES: &str = "-keepnames class ** { *; }\n";
+
 /// `ok`, the items of the class files that were written, the list of seeds, the list of what was dropped, and what was
 /// said; or what was said where the status isn't 0.
 pub fn answer<Rt: Threads + Sync>(rt: &Rt, alloc: Global, row: &[u8]) -> M<Option<Text>> {
-    let Some(mut ran) = run_row(rt, alloc, row)? else {
+    let Some(mut ran) = run_row(rt, alloc, row, ALL_NAMES)? else {
         return Ok(None);
     };
     if ran.status == 0 {
@@ -24,8 +27,8 @@ pub fn answer<Rt: Threads + Sync>(rt: &Rt, alloc: Global, row: &[u8]) -> M<Optio
     }
 }
 
-// What was said, without the end of its line.
-fn refusal_answer(alloc: Global, said: &[u8]) -> M<Option<Text>> {
+/// What was said, without the end of its line.
+pub fn refusal_answer(alloc: Global, said: &[u8]) -> M<Option<Text>> {
     let line = match said.strip_suffix(b"\n") {
         Some(front) => front,
         None => said,

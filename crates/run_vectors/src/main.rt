@@ -1,10 +1,11 @@
 //! Whole runs of the command in memory, one for each line of standard input: says what the run kept, wrote and said.
 //!
-//! A line is `kept CONFIG FILES` or `retrace MAPPING TRACE`; the README tells how texts and files are written, and what
-//! is answered. The status is that of `line_answers`.
+//! A line is `kept CONFIG FILES`, `names CONFIG FILES` or `retrace MAPPING TRACE`; the README tells how texts and files
+//! are written, and what is answered. The status is that of `line_answers`.
 #![tactic(auto)]
 
 mod kept;
+mod named;
 mod running;
 mod traced;
 
@@ -20,6 +21,7 @@ fn answer<Rt: Threads + Sync>(rt: &Rt, alloc: Global, line: &[u8]) -> M<Option<T
     let (word, row) = first_word(line);
     match word {
         b"kept" => kept::answer(rt, alloc, row),
+        b"names" => named::answer(rt, alloc, row),
         b"retrace" => traced::answer(rt, alloc, row),
         _ => Ok(None),
     }

@@ -15,11 +15,16 @@ pub struct Ran {
     pub out: MemorySink,
 }
 
-/// A run of `shrink` on the config and the files of a row, whose input directory is `in`; none where the row is of
-/// another form.
-pub fn run_row<Rt: Threads + Sync>(rt: &Rt, alloc: Global, row: &[u8]) -> M<Option<Ran>> {
+/// A run of `shrink` on the config of a row with more behind it, and on the files of the row, whose input directory is
+/// `in`; none where the row is of another form.
+pub fn run_row<Rt: Threads + Sync>(
+    rt: &Rt,
+    alloc: Global,
+    row: &[u8],
+    more: &str,
+) -> M<Option<Ran>> {
     let (config, words) = first_word(row);
-    let Some(config) = unescaped(alloc, config)? else {
+    let Some(config) = config_with(alloc, config, more)? else {
         return Ok(None);
     };
     let Some(mut files) = input_of(alloc, words)? else {
@@ -31,6 +36,15 @@ pub fn run_row<Rt: Threads + Sync>(rt: &Rt, alloc: Global, row: &[u8]) -> M<Opti
     })?;
     let words = ["shrink", "config.pro", "wit.txt"];
     Ok(Some(run_words(rt, alloc, words, files)?))
+}
+
+// The config of a row with more behind it; none where it is of another form.
+fn config_with(alloc: Global, config: &[u8], more: &str) -> M<Option<Vec<u8>>> {
+    let Some(mut config) = unescaped(alloc, config)? else {
+        return Ok(None);
+    };
+    config.extend_from_slice(more.as_bytes())?;
+    Ok(Some(config))
 }
 
 // The files of a row below the input directory; none where a word is of another form.

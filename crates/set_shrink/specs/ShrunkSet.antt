@@ -1,4 +1,5 @@
--- What is written of a set of classes (ProGuard manual, "Usage": shrinking removes what isn't kept).
+-- What is written of a set of classes (ProGuard manual, "Usage": shrinking removes what isn't kept, obfuscation renames
+-- what is).
 use Rattle.std.specs.Prelude.{◌≡◌, ℕ, Bool, List, ◌∷◌, ◌++◌, length, map, codes, Result, Ok, Err}
 use Rattle.std.specs.List.{AllByRecursion, AllZip, sum_by}
 use Rattle.jv_base.specs.declared.outcome.Or.{Or}
@@ -11,15 +12,28 @@ use Rattle.keep_rules.specs.declared.rules.Rules.{Rules}
 use Rattle.member_shrink.specs.Shrunk.{shrunk}
 use Rattle.attribute_filter.specs.Filtered.{filtered}
 use Rattle.attribute_filter.specs.KeptAttributes.{filter_of}
+use Rattle.class_rename.specs.Names.{Names}
+use Rattle.class_rename.specs.Renamed.{renamed}
+use Rattle.rename_map.specs.MappingOf.{mapping_of}
+use Rattle.rename_map.specs.Names.{names_of}
+use Rattle.set_shrink.specs.Order.{in_order}
 use Rattle.set_shrink.specs.declared.counts.Counts.{Counts}
 use Rattle.set_shrink.specs.declared.shrunk.ShrunkSet.{ShrunkSet}
 
 -- ---- what is kept
 
--- the marked classes with their marked members, each with those optional attributes that the rules keep
--- (ProGuard manual, "-keepattributes")
+-- the new names of what is marked (ProGuard manual, "Usage": obfuscation)
+abbrev pub new_names : List Class → List Bool → Rules → Names
+new_names classes marks rules = names_of classes (shrunk classes marks) rules
+
+-- the marked classes with their marked members under their new names (ProGuard manual, "Usage": obfuscation)
+abbrev pub renamed_of : List Class → List Bool → Rules → List Class
+renamed_of classes marks rules = map (renamed (new_names classes marks rules)) (shrunk classes marks)
+
+-- these in the order of their files, each with those optional attributes that the rules keep (ProGuard manual,
+-- "-keepattributes"; the order is the project's own)
 abbrev pub left_of : List Class → List Bool → Rules → List Class
-left_of classes marks rules = map (filtered (filter_of rules)) (shrunk classes marks)
+left_of classes marks rules = map (filtered (filter_of rules)) (in_order (renamed_of classes marks rules))
 
 -- ---- files
 
@@ -60,9 +74,12 @@ counts_of classes = record {
 
 -- ---- the whole (the project's own: what the command promises)
 
--- the files of what is marked, below the output directory, and the counts of all and of what is marked
+-- the files of what is marked, below the output directory, the mapping, where lines are told if they are kept, and the
+-- counts of all and of what is marked
 pub record IsShrunk (classes : List Class) (marks : List Bool) (rules : Rules) (set : ShrunkSet) : Type 0 where
   pub files : AreFilesOf rules.out_dir (left_of classes marks rules) set.files
+  pub mapping : set.mapping
+      ≡ mapping_of (new_names classes marks rules) (filter_of rules).line_numbers (shrunk classes marks)
   pub read : set.read ≡ counts_of classes
   pub left : set.kept ≡ counts_of (shrunk classes marks)
 

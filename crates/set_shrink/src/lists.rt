@@ -13,8 +13,8 @@ use list_texts::{TooLong, seeds_text, usage_text};
 use std::alloc::Global;
 use tree_io::FileAt;
 
-/// The greatest length of a list, in bytes.
-const MAX_LIST: usize = 67_108_864;
+/// The greatest length of a text, in bytes.
+pub(crate) const MAX_TEXT: usize = 67_108_864;
 
 /// The lists that rules ask for, as files at the paths that they name: first what the rules keep of a set (ProGuard
 /// manual, "-printseeds"), then what is dropped of it ("-printusage"), which is what isn't marked. There is a mark for
@@ -53,7 +53,7 @@ fn seeds_list(alloc: Global, set: &ClassSet, rules: &Rules) -> Result<Option<Fil
         return Ok(None);
     };
     let seeds = seeds_of(alloc, rules, set)?;
-    let text = seeds_text(alloc, set, &seeds, MAX_LIST)?;
+    let text = seeds_text(alloc, set, &seeds, MAX_TEXT)?;
     Ok(Some(list_at(alloc, path, &text)?))
 }
 
@@ -70,7 +70,7 @@ fn usage_list(
     let Some(path) = &rules.usage else {
         return Ok(None);
     };
-    let text = usage_text(alloc, set, marks, MAX_LIST)?;
+    let text = usage_text(alloc, set, marks, MAX_TEXT)?;
     Ok(Some(list_at(alloc, path, &text)?))
 }
 

@@ -1,26 +1,32 @@
-// A set without what isn't kept.
+// A set without what isn't kept, under new names.
 ghost use Rattle.std.specs.Prelude.{◌≡◌, length};
 ghost use Rattle.std.specs.List.{AllByRecursion};
+ghost use Rattle.class_model.specs.declared.class.Class.{Class as ClassValue};
 ghost use Rattle.class_pool.specs.Count.{item_count};
 ghost use Rattle.class_write.specs.SpellingLaws.{IsWritable};
-ghost use Rattle.set_shrink.specs.ShrunkSet.{Shrinks};
+ghost use Rattle.rename_map.specs.Names.{AreFixed};
+ghost use Rattle.set_shrink.specs.ShrunkSet.{Shrinks, renamed_of};
 
 use crate::counts::{Counts, counts_of};
-use crate::files::files_of;
-use attribute_filter::attribute_filter;
-use class_model::WriteLimit;
+use crate::renaming::written_named;
+use class_model::{Class, WriteLimit};
 use class_pool::ClassSet;
+use fresh_names::TakenNames;
 use jv_base::{Items, Or};
 use keep_rules::Rules;
+use mapping_file::Mapping;
 use member_shrink::shrunk;
+use rename_map::{fixed_names, names_beside};
 use std::alloc::Global;
 use tree_io::FileAt;
 
 /// What is written of a set, and what was kept of it.
 #[derive(Drop)]
 pub struct ShrunkSet {
-    /// The files of the kept classes, in the order of the set.
+    /// The files of the kept classes, in the order of their paths.
     pub files: Items<FileAt>,
+    /// The old and the new names of the kept classes and their members, in the order of the set.
+    pub mapping: Mapping,
     /// The counts of the whole set.
     pub read: Counts,
     /// The counts of what is kept.
@@ -28,28 +34,49 @@ pub struct ShrunkSet {
 }
 
 /// The files of a set without what isn't kept, below the output directory of the rules: each kept class with its kept
-/// members and those optional attributes that the rules keep, in its canonical spelling (JVMS 4). What is kept is
-/// marked, one mark for each item: each class of the set in its order, then its fields, then its methods. Each class of
-/// the set can be written. The error is the first limit of the format that a kept class passes (JVMS 4.11).
+/// members under the new names that the rules leave to be given (ProGuard manual, "Usage": obfuscation), and with those
+/// optional attributes that the rules keep, in its canonical spelling (JVMS 4). What is kept is marked, one mark for
+/// each item: each class of the set in its order, then its fields, then its methods. Each kept class can be written
+/// under its new names. The error is the first limit of the format that a kept class passes (JVMS 4.11), in the order of
+/// the files.
 pub fn shrink_set(
     alloc: Global,
     set: ClassSet,
     marks: &Items<bool>,
     rules: &Rules,
 ) -> Result<ShrunkSet, Or<WriteLimit>>
-    requires writable { AllByRecursion IsWritable set }
     requires marks { length marks.now ≡ item_count set }
+    requires writable { AllByRecursion IsWritable (renamed_of set marks.now rules.now) }
     ensures exact { Shrinks result set marks.now rules.now }
 {
+    let fixed = fixed_names(alloc, rules, &set)?;
     set.few_items();
-    let filter = attribute_filter(alloc, rules)?;
     let classes = set.into_classes();
+    shrink_classes(alloc, classes, &fixed, marks, rules)
+}
+
+/// The same of the classes of a set, beside the names that stay.
+fn shrink_classes(
+    alloc: Global,
+    classes: Items<Class>,
+    fixed: &Option<TakenNames>,
+    marks: &Items<bool>,
+    rules: &Rules,
+) -> Result<ShrunkSet, Or<WriteLimit>>
+    requires few { item_count classes < 4294967295 }
+    requires marks { length marks.now ≡ item_count classes }
+    requires fixed { AreFixed rules.now classes fixed.now }
+    requires writable { AllByRecursion IsWritable (renamed_of classes marks.now rules.now) }
+    ensures exact { Shrinks result classes marks.now rules.now }
+{
     let read = counts_of(classes.as_slice());
     let kept = shrunk(alloc, classes, marks)?;
     let counts = counts_of(kept.as_slice());
-    let files = files_of(alloc, kept, &filter, &rules.out_dir)?;
+    let names = names_beside(alloc, fixed, &kept)?;
+    let written = written_named(alloc, &names, kept, rules)?;
     Ok(ShrunkSet {
-        files,
+        files: written.files,
+        mapping: written.mapping,
         read,
         kept: counts,
     })

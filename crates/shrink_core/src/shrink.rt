@@ -22,21 +22,22 @@ use keep_rules::Rules;
 use list_texts::TooLong;
 use mark_core::{System, plain_marks};
 use require_sys::system_of;
-use set_shrink::{ShrunkSet, lists_of, shrink_set};
+use set_shrink::{ShrunkSet, lists_of, shrink_set, texts_of};
 use std::alloc::Global;
 use tree_io::{FileAt, Tree, WriteFault};
 
 /// What a shrink is to write and to say.
 #[derive(Drop)]
 pub struct Plan {
-    /// In the order in which they are written: the class files, then the lists that the config asks for.
+    /// In the order in which they are written: the class files, then the mapping, the lists that the config asks for,
+    /// and the witness.
     pub files: Items<FileAt>,
     /// The summary.
     pub summary: Text,
 }
 
-/// Reads the class files of the input directory, and writes what the config keeps of them below the output directory,
-/// and the lists that it asks for.
+/// Reads the class files of the input directory, and writes what the config keeps of them below the output directory
+/// under new names, the mapping, the lists that the config asks for, and the witness.
 pub fn shrink<T: Tree>(alloc: Global, named: &CommandFiles, tree: &mut T) -> Result<Plan, Stop>
     ensures later { T.faults tree.old ≤ T.faults tree.new }
     ensures device { IsErrOf result Stop.Device → Rose (T.faults tree.old) (T.faults tree.new) }
@@ -62,17 +63,23 @@ fn due_plan<T: Tree>(alloc: Global, named: &CommandFiles, tree: &mut T) -> Resul
     let rules = find_config(alloc, named, tree)?;
     check_empty(alloc, &rules.out_dir, tree)?;
     let set = find_set(alloc, &rules.in_dir, tree)?;
-    plan_of(alloc, &rules, set)
+    plan_of(alloc, named, &rules, set)
 }
 
 /// The plan for a set, by rules.
-fn plan_of(alloc: Global, rules: &Rules, set: ClassSet) -> Result<Plan, Stop>
+fn plan_of(
+    alloc: Global,
+    named: &CommandFiles,
+    rules: &Rules,
+    set: ClassSet,
+) -> Result<Plan, Stop>
     requires writable { AllByRecursion IsWritable set }
-    ensures planned { Finds result (IsPlan rules.now set) (RefusesPlan rules.now set) }
+    requires linked { IsLinked set }
+    ensures planned { Finds result (IsPlan rules.now set named.now.witness) (RefusesPlan rules.now set named.now.witness) }
     ensures device { IsErrOf result Stop.Device → ⊥ }
 {
     let marks = marks_of(alloc, rules, &set)?;
-    kept_plan(alloc, rules, set, &marks)
+    kept_plan(alloc, named, rules, set, &marks)
 }
 
 // ---- what is kept
@@ -112,45 +119,60 @@ fn lacks_seeds(rules: &Rules, sys: &System) -> bool
 
 /// The plan for a set of which the marked items are kept. The lists are made while the set is whole; that one of them
 /// is too long is told behind the limits of the classes.
-fn kept_plan(alloc: Global, rules: &Rules, set: ClassSet, marks: &Items<bool>) -> Result<Plan, Stop>
+fn kept_plan(
+    alloc: Global,
+    named: &CommandFiles,
+    rules: &Rules,
+    set: ClassSet,
+    marks: &Items<bool>,
+) -> Result<Plan, Stop>
     requires writable { AllByRecursion IsWritable set }
+    requires linked { IsLinked set }
     requires count { length marks.now ≡ item_count set }
     requires kept { IsKept rules.now set marks.now }
-    ensures planned { Finds result (IsPlan rules.now set) (RefusesPlan rules.now set) }
+    ensures planned { Finds result (IsPlan rules.now set named.now.witness) (RefusesPlan rules.now set named.now.witness) }
     ensures device { IsErrOf result Stop.Device → ⊥ }
 {
     let lists = lists_of(alloc, &set, marks, rules);
     match shrink_set(alloc, set, marks, rules) {
-        Ok(shrunk) => joined(alloc, shrunk, lists),
+        Ok(shrunk) => joined(alloc, named, rules, shrunk, lists),
         Err(Or::Fault(limit)) => Err(Stop::Refused(Refusal::Limit(quantity_of(limit)))),
         Err(Or::OutOfMemory) => Err(Stop::OutOfMemory),
     }
 }
 
-/// The plan of what is written of a set, and of its lists.
+/// The plan of what is written of a set, and of its texts.
 fn joined(
     alloc: Global,
+    named: &CommandFiles,
+    rules: &Rules,
     shrunk: ShrunkSet,
     lists: Result<Items<FileAt>, Or<TooLong>>,
 ) -> Result<Plan, Stop>
-    ensures { Joins result shrunk lists }
+    ensures { (due : DueResult (List FileValue) LongText) → IsDue lists due
+        → Joins result shrunk (texts_beside shrunk.mapping due rules.now named.now.witness) }
 {
-    match lists {
-        Ok(lists) => {
-            let summary = summary_text(alloc, shrunk.read, shrunk.kept)?;
-            let files = with_lists(shrunk.files, lists)?;
-            Ok(Plan { files, summary })
-        }
+    match texts_of(alloc, &shrunk.mapping, lists, rules, &named.witness) {
+        Ok(texts) => with_summary(alloc, shrunk, texts),
         Err(Or::Fault(_)) => Err(Stop::Refused(Refusal::Limit(Quantity::Text))),
         Err(Or::OutOfMemory) => Err(Stop::OutOfMemory),
     }
 }
 
-/// Files, and lists behind them.
-fn with_lists(files: Items<FileAt>, lists: Items<FileAt>) -> M<Items<FileAt>>
-    ensures { IfOk result (λ all. all ≡ files ++ lists) }
+/// The plan of what is written of a set, with texts.
+fn with_summary(alloc: Global, shrunk: ShrunkSet, texts: Items<FileAt>) -> Result<Plan, Stop>
+    ensures { Joins result shrunk (Ok texts) }
+{
+    let summary = summary_text(alloc, shrunk.read, shrunk.kept)?;
+    let files = with_texts(shrunk.files, texts)?;
+    Ok(Plan { files, summary })
+}
+
+/// Files, and texts behind them.
+fn with_texts(files: Items<FileAt>, texts: Items<FileAt>) -> M<Items<FileAt>>
+    ensures { IfOk result (λ all. all ≡ files ++ texts) }
 {
     let mut all = files.into_vec();
-    all.append(&mut lists.into_vec())?;
+    all.append(&mut texts.into_vec())?;
     Ok(Items::from_vec(all))
 }

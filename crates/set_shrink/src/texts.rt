@@ -1,0 +1,77 @@
+// The texts that are written behind the classes.
+ghost use Rattle.std.specs.Prelude.{◌≡◌, ◌∷◌, ◌++◌, [], List, IfOk, Result};
+ghost use Rattle.jv_base.specs.Outcome.{IsDue};
+ghost use Rattle.tree_io.specs.declared.file_at.FileAt.{FileAt};
+ghost use Rattle.list_texts.specs.declared.limit.TooLong.{TooLong as LongList};
+ghost use Rattle.set_shrink.specs.Texts.{mapping_due, texts_beside, witness_file};
+
+use crate::lists::MAX_TEXT;
+use jv_base::{Bytes, Items, M, Or, Text};
+use keep_rules::Rules;
+use list_texts::TooLong;
+use mapping_file::{Mapping, write_mapping_within};
+use std::alloc::Global;
+use tree_io::FileAt;
+use witness_file::{Witness, write_witness};
+
+/// The texts that are written behind the classes, in their order: the mapping at the path that the rules name (ProGuard
+/// manual, "-printmapping"), the lists, which are made before (`lists_of`), and at its path the witness of a run that
+/// edited no method. The error is that the mapping or a list has more than 67,108,864 bytes.
+pub fn texts_of(
+    alloc: Global,
+    mapping: &Mapping,
+    lists: Result<Items<FileAt>, Or<TooLong>>,
+    rules: &Rules,
+    witness: &Text,
+) -> Result<Items<FileAt>, Or<TooLong>>
+    ensures { (due : Result (List FileAt) LongList) → IsDue lists due
+        → IsDue result (texts_beside mapping.now due rules.now witness.now) }
+{
+    let mapping = mapping_file(alloc, mapping, rules)?;
+    let lists = lists?;
+    let witness = witness_file(alloc, witness)?;
+    Ok(joined(alloc, mapping, lists, witness)?)
+}
+
+/// A mapping as a file.
+fn mapping_file(alloc: Global, mapping: &Mapping, rules: &Rules) -> Result<FileAt, Or<TooLong>>
+    ensures { IsDue result (mapping_due mapping.now rules.now) }
+{
+    match write_mapping_within(alloc, mapping, MAX_TEXT)? {
+        Some(bytes) => Ok(FileAt {
+            path: rules.mapping.clone()?,
+            bytes,
+        }),
+        None => Err(Or::Fault(TooLong { limit: MAX_TEXT })),
+    }
+}
+
+/// The witness of a run that edited no method, as a file.
+fn witness_file(alloc: Global, path: &Text) -> M<FileAt>
+    ensures { IfOk result (λ file. file ≡ witness_file path.now) }
+{
+    let bytes = witness_text(alloc)?;
+    let path = path.clone()?;
+    Ok(FileAt { path, bytes })
+}
+
+/// The text of a witness without methods.
+fn witness_text(alloc: Global) -> M<Bytes>
+    ensures { IfOk result (λ bytes. bytes ≡ (witness_file []).bytes) }
+{
+    let witness = Witness {
+        methods: Items::new(alloc),
+    };
+    write_witness(alloc, &witness)
+}
+
+/// One file, others, and one more.
+fn joined(alloc: Global, first: FileAt, others: Items<FileAt>, last: FileAt) -> M<Items<FileAt>>
+    ensures { IfOk result (λ all. all ≡ first ∷ (others ++ last ∷ [])) }
+{
+    let mut all = Vec::new(alloc);
+    all.push(first)?;
+    all.append(&mut others.into_vec())?;
+    all.push(last)?;
+    Ok(Items::from_vec(all))
+}
