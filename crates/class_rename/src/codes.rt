@@ -8,49 +8,17 @@ use crate::NewNames;
 use crate::each::{Rename, RenameReferences, rename_each, rename_references_of_each};
 use crate::frames::rename_frames;
 use crate::renamer::Renamer;
-use crate::types::{rename_shared_type, renamed_type};
+use crate::types::rename_shared_type;
 use class_model::{Code, Handler, Ins, MemberRef, Op};
 use jv_base::{M, Shared};
 use std::alloc::Global;
-
-/// What becomes of a reference to a field.
-fn renamed_field_ref(alloc: Global, renamer: &mut Renamer, field: &MemberRef) -> M<MemberRef>
-    ensures names { renamer.new ≡ renamer.old }
-    ensures renamed { IfOk result (λ new. new ≡ renamed_field_ref (names_in renamer.old) field.now) }
-{
-    let ty = renamer.field_text(alloc, &field.ty)?;
-    let class = renamed_type(renamer.names(), &field.class)?;
-    let name = renamer.names().field(&field.name)?;
-    Ok(MemberRef {
-        class,
-        name,
-        ty,
-        of_interface: field.of_interface,
-    })
-}
-
-/// What becomes of a reference to a method.
-fn renamed_method_ref(alloc: Global, renamer: &mut Renamer, method: &MemberRef) -> M<MemberRef>
-    ensures names { renamer.new ≡ renamer.old }
-    ensures renamed { IfOk result (λ new. new ≡ renamed_method_ref (names_in renamer.old) method.now) }
-{
-    let ty = renamer.method_text(alloc, &method.ty)?;
-    let class = renamed_type(renamer.names(), &method.class)?;
-    let name = renamer.names().method(&method.name, &method.ty)?;
-    Ok(MemberRef {
-        class,
-        name,
-        ty,
-        of_interface: method.of_interface,
-    })
-}
 
 fn rename_field_ref(alloc: Global, renamer: &mut Renamer, field: &mut Shared<MemberRef>) -> M<()>
     ensures names { renamer.new ≡ renamer.old }
     ensures renamed { OnOk result (field.new ≡ renamed_field_ref (names_in renamer.old) field.old) }
 {
-    let new = renamed_field_ref(alloc, renamer, field)?;
-    *field = Shared::new(alloc, new)?;
+    let new = renamer.field_ref(alloc, field)?;
+    *field = new;
     Ok(())
 }
 
@@ -58,8 +26,8 @@ fn rename_method_ref(alloc: Global, renamer: &mut Renamer, method: &mut Shared<M
     ensures names { renamer.new ≡ renamer.old }
     ensures renamed { OnOk result (method.new ≡ renamed_method_ref (names_in renamer.old) method.old) }
 {
-    let new = renamed_method_ref(alloc, renamer, method)?;
-    *method = Shared::new(alloc, new)?;
+    let new = renamer.method_ref(alloc, method)?;
+    *method = new;
     Ok(())
 }
 

@@ -6,6 +6,7 @@ mod codes;
 mod each;
 mod frames;
 mod names;
+mod references;
 mod renamer;
 mod types;
 

@@ -1,39 +1,48 @@
-// New names, with the descriptors that were renamed before.
+// New names, with the descriptors and the references that were renamed before.
 ghost use Rattle.std.specs.Prelude.{◌≡◌, IfOk, IfSome, if◌then◌else◌, is_ok, nat_eq};
 ghost use Rattle.std.specs.Cmp.Lexicographic.{pointwise};
 ghost use Rattle.indexmap.specs.IndexMap.{insert_entry};
 ghost use Rattle.class_rename.specs.Names.{names_in};
-ghost use Rattle.class_rename.specs.Renamed.{renamed_field_text, renamed_method_text};
+ghost use Rattle.class_rename.specs.Renamed.{renamed_field_ref, renamed_field_text, renamed_method_ref};
+ghost use Rattle.class_rename.specs.Renamed.{renamed_method_text};
 ghost use Rattle.class_rename.specs.bodies.Known.{AreKnown};
 
 use crate::NewNames;
 use crate::names::looked_up;
+use crate::references::{References, field_ref, method_ref};
 use crate::types::{renamed_field_text, renamed_method_text};
+use class_model::MemberRef;
 use indexmap::IndexMap;
-use jv_base::{M, Text};
+use jv_base::{M, Shared, Text};
 use std::alloc::Global;
 use std::marker::Model;
 
-/// New names, which contracts see alone. Each descriptor is renamed once, and all references that name it share what
-/// becomes of it: else many references to one long descriptor would take its length as often.
+/// New names, which contracts see alone. Each descriptor and each reference is renamed once, and all places that name it
+/// share what becomes of it: else many references to one long descriptor would take its length as often.
 #[derive(Drop)]
 pub(crate) struct Renamer<'a> {
     names: &'a NewNames,
-    fields: IndexMap<Text, Text>,
-    methods: IndexMap<Text, Text>,
+    field_texts: IndexMap<Text, Text>,
+    method_texts: IndexMap<Text, Text>,
+    field_refs: References,
+    method_refs: References,
 }
 
 impl<'a> Model for Renamer<'a> {
     ghost use Rattle.class_rename.specs.Names.{Tables, names_in};
-    ghost use Rattle.class_rename.specs.Renamed.{renamed_field_text, renamed_method_text};
+    ghost use Rattle.class_rename.specs.Renamed.{renamed_field_ref, renamed_field_text, renamed_method_ref};
+    ghost use Rattle.class_rename.specs.Renamed.{renamed_method_text};
     ghost use Rattle.class_rename.specs.bodies.Known.{AreKnown};
+    ghost use Rattle.class_rename.specs.bodies.References.{AreRenamed};
 
     ghost Value = { Tables };
 
     ghost view = { λ r. r.names.now };
 
-    ghost invariant = { λ r. AreKnown (renamed_field_text (names_in r.names.now)) r.fields.entries
-        × AreKnown (renamed_method_text (names_in r.names.now)) r.methods.entries };
+    ghost invariant = { λ r. AreKnown (renamed_field_text (names_in r.names.now)) r.field_texts.entries
+        × AreKnown (renamed_method_text (names_in r.names.now)) r.method_texts.entries
+        × AreRenamed (renamed_field_ref (names_in r.names.now)) r.field_refs.entries
+        × AreRenamed (renamed_method_ref (names_in r.names.now)) r.method_refs.entries };
 }
 
 impl<'a> Renamer<'a> {
@@ -42,8 +51,10 @@ impl<'a> Renamer<'a> {
     {
         Renamer {
             names,
-            fields: IndexMap::new(alloc),
-            methods: IndexMap::new(alloc),
+            field_texts: IndexMap::new(alloc),
+            method_texts: IndexMap::new(alloc),
+            field_refs: IndexMap::new(alloc),
+            method_refs: IndexMap::new(alloc),
         }
     }
 
@@ -54,25 +65,25 @@ impl<'a> Renamer<'a> {
         self.names
     }
 
-    /// The descriptor of a field with new names.
-    pub(crate) fn field_text(&mut self, alloc: Global, text: &Text) -> M<Text>
+    /// What becomes of a reference to a field.
+    pub(crate) fn field_ref(&mut self, alloc: Global, r: &MemberRef) -> M<Shared<MemberRef>>
         ensures names { self.new ≡ self.old }
-        ensures text { IfOk result (λ new. new ≡ renamed_field_text (names_in self.old) text.now) }
+        ensures renamed { IfOk result (λ new. new ≡ renamed_field_ref (names_in self.old) r.now) }
     {
-        field_text(alloc, self.names, &mut self.fields, text)
+        field_ref(alloc, self.names, &mut self.field_texts, &mut self.field_refs, r)
     }
 
-    /// The descriptor of a method with new names.
-    pub(crate) fn method_text(&mut self, alloc: Global, text: &Text) -> M<Text>
+    /// What becomes of a reference to a method.
+    pub(crate) fn method_ref(&mut self, alloc: Global, r: &MemberRef) -> M<Shared<MemberRef>>
         ensures names { self.new ≡ self.old }
-        ensures text { IfOk result (λ new. new ≡ renamed_method_text (names_in self.old) text.now) }
+        ensures renamed { IfOk result (λ new. new ≡ renamed_method_ref (names_in self.old) r.now) }
     {
-        method_text(alloc, self.names, &mut self.methods, text)
+        method_ref(alloc, self.names, &mut self.method_texts, &mut self.method_refs, r)
     }
 }
 
 /// The descriptor of a field with new names, by what is known.
-fn field_text(
+pub(crate) fn field_text(
     alloc: Global,
     names: &NewNames,
     table: &mut IndexMap<Text, Text>,
@@ -106,7 +117,7 @@ fn known_field_text(
 }
 
 /// The descriptor of a method with new names, by what is known.
-fn method_text(
+pub(crate) fn method_text(
     alloc: Global,
     names: &NewNames,
     table: &mut IndexMap<Text, Text>,

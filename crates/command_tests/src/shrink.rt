@@ -17,9 +17,9 @@ const MAIN: &[u8] = b"\xCA\xFE\xBA\xBE\0\0\0\x34\0\x0C\
 \0\x09\0\x08\0\x06\0\x01\0\x07\0\0\0\x0F\0\x01\0\x01\0\0\0\x03\x1A\x74\xAC\0\0\0\0\
 \0\x09\0\x0B\0\x06\0\x01\0\x07\0\0\0\x0F\0\x01\0\x01\0\0\0\x03\0\x1A\xAC\0\0\0\0\0\0";
 
-// The same without `h`.
-const MAIN_F_G: &[u8] = b"\xCA\xFE\xBA\xBE\0\0\0\x34\0\x0B\
-\x01\0\x04Main\x07\0\x01\x01\0\x10java/lang/Object\x07\0\x03\x01\0\x01f\x01\0\x04(I)I\x01\0\x04Code\x01\0\x01g\
+// The same without `h`, and with `g` as `a`.
+const MAIN_F_A: &[u8] = b"\xCA\xFE\xBA\xBE\0\0\0\x34\0\x0B\
+\x01\0\x04Main\x07\0\x01\x01\0\x10java/lang/Object\x07\0\x03\x01\0\x01f\x01\0\x04(I)I\x01\0\x04Code\x01\0\x01a\
 \x0C\0\x08\0\x06\x0A\0\x02\0\x09\
 \0\x21\0\x02\0\x04\0\0\0\0\0\x02\
 \0\x09\0\x05\0\x06\0\x01\0\x07\0\0\0\x11\0\x01\0\x01\0\0\0\x05\x1A\xB8\0\x0A\xAC\0\0\0\0\
@@ -165,6 +165,78 @@ const DEMO_N_CAUGHT: &[u8] =
 \x1E\0\x01\0\0\0\0\0\x02\x03\xAC\0\0\0\x01\0\x08\0\0\0\x0A\0\x02\0\0\0\x07\0\x01\0\x08\0\x09\0\0\0\0\
 \0\x02\0\x0A\0\0\0\x02\0\x0B\0\x0C\0\0\0\0";
 
+// `demo.Helper` with a constructor, `int twice(int)`, all on line 10, and `int half(int)`.
+const DEMO_HELPER: &[u8] =
+    b"\xCA\xFE\xBA\xBE\0\0\x004\0\x10\n\0\x02\0\x03\x07\0\x04\x0C\0\x05\0\x06\x01\0\x10java/lang/Object\x01\0\x06<in\
+it>\x01\0\x03()V\x07\0\x08\x01\0\x0Bdemo/Helper\x01\0\x04Code\x01\0\x0FLineNumberTable\x01\0\x05twice\x01\0\
+\x04(I)I\x01\0\x04half\x01\0\nSourceFile\x01\0\x0BHelper.java\0!\0\x07\0\x02\0\0\0\0\0\x03\0\x01\0\x05\0\x06\
+\0\x01\0\x09\0\0\0\x1D\0\x01\0\x01\0\0\0\x05*\xB7\0\x01\xB1\0\0\0\x01\0\n\0\0\0\x06\0\x01\0\0\0\x02\0\x08\0\
+\x0B\0\x0C\0\x01\0\x09\0\0\0\x1C\0\x02\0\x01\0\0\0\x04\x1A\x05h\xAC\0\0\0\x01\0\n\0\0\0\x06\0\x01\0\0\0\n\0\
+\x08\0\x0D\0\x0C\0\x01\0\x09\0\0\0\x1C\0\x02\0\x01\0\0\0\x04\x1A\x05l\xAC\0\0\0\x01\0\n\0\0\0\x06\0\x01\0\0\
+\0\x0B\0\x01\0\x0E\0\0\0\x02\0\x0F";
+
+// `demo.Main`, whose `main` prints `Helper.twice(21)` on line 5 and returns on line 6.
+const DEMO_MAIN: &[u8] =
+    b"\xCA\xFE\xBA\xBE\0\0\x004\0!\n\0\x02\0\x03\x07\0\x04\x0C\0\x05\0\x06\x01\0\x10java/lang/Object\x01\0\x06<init>\
+\x01\0\x03()V\x09\0\x08\0\x09\x07\0\n\x0C\0\x0B\0\x0C\x01\0\x10java/lang/System\x01\0\x03out\x01\0\x15Ljava/\
+io/PrintStream;\n\0\x0E\0\x0F\x07\0\x10\x0C\0\x11\0\x12\x01\0\x0Bdemo/Helper\x01\0\x05twice\x01\0\x04(I)I\n\
+\0\x14\0\x15\x07\0\x16\x0C\0\x17\0\x18\x01\0\x13java/io/PrintStream\x01\0\x07println\x01\0\x04(I)V\x07\0\x1A\
+\x01\0\x09demo/Main\x01\0\x04Code\x01\0\x0FLineNumberTable\x01\0\x04main\x01\0\x16([Ljava/lang/String;)V\x01\
+\0\nSourceFile\x01\0\x09Main.java\0!\0\x19\0\x02\0\0\0\0\0\x02\0\x01\0\x05\0\x06\0\x01\0\x1B\0\0\0\x1D\0\x01\
+\0\x01\0\0\0\x05*\xB7\0\x01\xB1\0\0\0\x01\0\x1C\0\0\0\x06\0\x01\0\0\0\x02\0\x09\0\x1D\0\x1E\0\x01\0\x1B\0\0\
+\0(\0\x02\0\x01\0\0\0\x0C\xB2\0\x07\x10\x15\xB8\0\x0D\xB6\0\x13\xB1\0\0\0\x01\0\x1C\0\0\0\n\0\x02\0\0\0\x05\
+\0\x0B\0\x06\0\x01\0\x1F\0\0\0\x02\0 ";
+
+// `demo.a` with `int a(int)`: what is kept of `demo.Helper`, with its lines.
+const DEMO_HELPER_A: &[u8] =
+    b"\xCA\xFE\xBA\xBE\0\0\x004\0\x09\x01\0\x06demo/a\x07\0\x01\x01\0\x10java/lang/Object\x07\0\x03\x01\0\x01a\x01\0\
+\x04(I)I\x01\0\x04Code\x01\0\x0FLineNumberTable\0!\0\x02\0\x04\0\0\0\0\0\x01\0\x08\0\x05\0\x06\0\x01\0\x07\0\
+\0\0\x1C\0\x02\0\x01\0\0\0\x04\x1A\x05h\xAC\0\0\0\x01\0\x08\0\0\0\x06\0\x01\0\0\0\n\0\0";
+
+// `demo.Main` with `main` alone, which calls it.
+const DEMO_MAIN_CALLS_A: &[u8] =
+    b"\xCA\xFE\xBA\xBE\0\0\x004\0\x1B\x01\0\x09demo/Main\x07\0\x01\x01\0\x10java/lang/Object\x07\0\x03\x01\0\x04main\
+\x01\0\x16([Ljava/lang/String;)V\x01\0\x04Code\x01\0\x10java/lang/System\x07\0\x08\x01\0\x03out\x01\0\x15Lja\
+va/io/PrintStream;\x0C\0\n\0\x0B\x09\0\x09\0\x0C\x01\0\x06demo/a\x07\0\x0E\x01\0\x01a\x01\0\x04(I)I\x0C\0\
+\x10\0\x11\n\0\x0F\0\x12\x01\0\x13java/io/PrintStream\x07\0\x14\x01\0\x07println\x01\0\x04(I)V\x0C\0\x16\0\
+\x17\n\0\x15\0\x18\x01\0\x0FLineNumberTable\0!\0\x02\0\x04\0\0\0\0\0\x01\0\x09\0\x05\0\x06\0\x01\0\x07\0\0\0\
+(\0\x02\0\x01\0\0\0\x0C\xB2\0\x0D\x10\x15\xB8\0\x13\xB6\0\x19\xB1\0\0\0\x01\0\x1A\0\0\0\n\0\x02\0\0\0\x05\0\
+\x0B\0\x06\0\0";
+
+// `demo.Main` with a constructor, `main`, which prints 1, and `static void unused()`.
+const DEMO_MAIN_PRINTS: &[u8] =
+    b"\xCA\xFE\xBA\xBE\0\0\x004\0\x19\x01\0\x09demo/Main\x07\0\x01\x01\0\x10java/lang/Object\x07\0\x03\x01\0\x06<ini\
+t>\x01\0\x03()V\x01\0\x04Code\x0C\0\x05\0\x06\n\0\x04\0\x08\x01\0\x04main\x01\0\x16([Ljava/lang/String;)V\
+\x01\0\x10java/lang/System\x07\0\x0C\x01\0\x03out\x01\0\x15Ljava/io/PrintStream;\x0C\0\x0E\0\x0F\x09\0\x0D\0\
+\x10\x01\0\x13java/io/PrintStream\x07\0\x12\x01\0\x07println\x01\0\x04(I)V\x0C\0\x14\0\x15\n\0\x13\0\x16\x01\
+\0\x06unused\0!\0\x02\0\x04\0\0\0\0\0\x03\0\x01\0\x05\0\x06\0\x01\0\x07\0\0\0\x11\0\x02\0\x01\0\0\0\x05*\xB7\
+\0\x09\xB1\0\0\0\0\0\x09\0\n\0\x0B\0\x01\0\x07\0\0\0\x14\0\x02\0\x01\0\0\0\x08\xB2\0\x11\x04\xB6\0\x17\xB1\0\
+\0\0\0\0\x09\0\x18\0\x06\0\x01\0\x07\0\0\0\x0D\0\0\0\0\0\0\0\x01\xB1\0\0\0\0\0\0";
+
+// `demo.B` with `static void g()`.
+const DEMO_B_G: &[u8] =
+    b"\xCA\xFE\xBA\xBE\0\0\x004\0\x08\x01\0\x06demo/B\x07\0\x01\x01\0\x10java/lang/Object\x07\0\x03\x01\0\x01g\x01\0\
+\x03()V\x01\0\x04Code\0!\0\x02\0\x04\0\0\0\0\0\x01\0\x08\0\x05\0\x06\0\x01\0\x07\0\0\0\x0D\0\0\0\x04\0\0\0\
+\x01\xB1\0\0\0\0\0\0";
+
+// `demo.a` with `static void f()`, which calls it.
+const DEMO_A_F: &[u8] =
+    b"\xCA\xFE\xBA\xBE\0\0\x004\0\x0D\x01\0\x06demo/a\x07\0\x01\x01\0\x10java/lang/Object\x07\0\x03\x01\0\x01f\x01\0\
+\x03()V\x01\0\x04Code\x01\0\x06demo/B\x07\0\x08\x01\0\x01g\x0C\0\n\0\x06\n\0\x09\0\x0B\0!\0\x02\0\x04\0\0\0\
+\0\0\x01\0\x08\0\x05\0\x06\0\x01\0\x07\0\0\0\x10\0\0\0\0\0\0\0\x04\xB8\0\x0C\xB1\0\0\0\0\0\0";
+
+// The first as `demo.b` with `static void a()`.
+const DEMO_B_RENAMED: &[u8] =
+    b"\xCA\xFE\xBA\xBE\0\0\x004\0\x08\x01\0\x06demo/b\x07\0\x01\x01\0\x10java/lang/Object\x07\0\x03\x01\0\x01a\x01\0\
+\x03()V\x01\0\x04Code\0!\0\x02\0\x04\0\0\0\0\0\x01\0\x08\0\x05\0\x06\0\x01\0\x07\0\0\0\x0D\0\0\0\x04\0\0\0\
+\x01\xB1\0\0\0\0\0\0";
+
+// The second, which calls that.
+const DEMO_A_CALLS_B: &[u8] =
+    b"\xCA\xFE\xBA\xBE\0\0\x004\0\x0D\x01\0\x06demo/a\x07\0\x01\x01\0\x10java/lang/Object\x07\0\x03\x01\0\x01f\x01\0\
+\x03()V\x01\0\x04Code\x01\0\x06demo/b\x07\0\x08\x01\0\x01a\x0C\0\n\0\x06\n\0\x09\0\x0B\0!\0\x02\0\x04\0\0\0\
+\0\0\x01\0\x08\0\x05\0\x06\0\x01\0\x07\0\0\0\x10\0\0\0\0\0\0\0\x04\xB8\0\x0C\xB1\0\0\0\0\0\0";
+
 // No class file.
 const MAGIC: &[u8] = b"\xCA\xFE\xBA\xBE";
 
@@ -183,8 +255,14 @@ const KEEP_BOTH: &[u8] = b"-injars in\n-outjars out\n-printmapping map.txt\n\
 -printseeds seeds.txt\n-printusage use.txt\n\
 -keep class Main { static int f(int); }\n-keep class demo.X { *; }\n";
 
-// The config that keeps everything.
-const KEEP_ALL: &[u8] = b"-injars in\n-outjars out\n-printmapping map.txt\n-dontshrink\n";
+// The config that keeps everything, and all names.
+const KEEP_ALL: &[u8] =
+    b"-injars in\n-outjars out\n-printmapping map.txt\n-dontshrink\n-dontobfuscate\n";
+
+// The config that keeps `main` of `demo.Main`, and lines.
+const KEEP_MAIN: &[u8] = b"-injars in\n-outjars out\n-printmapping map.txt\n\
+-keep class demo.Main { public static void main(java.lang.String[]); }\n\
+-keepattributes LineNumberTable\n-printusage use.txt\n";
 
 // ---- runs
 
@@ -207,11 +285,47 @@ const BOTH_KEPT: &[Row<'static>] = &[
     ("in/demo/X.class", DEMO_X),
 ];
 
+// Nothing is edited.
+const WITNESS: Row<'static> = ("wit.txt", b"witness 1\n");
+
+const F_AND_A: Row<'static> = (
+    "map.txt",
+    b"Main -> Main:\n    int f(int) -> f\n    int g(int) -> a\n",
+);
+
 const BOTH_WRITTEN: &[Row<'static>] = &[
-    ("out/Main.class", MAIN_F_G),
+    ("out/Main.class", MAIN_F_A),
     ("out/demo/X.class", DEMO_X),
+    (
+        "map.txt",
+        b"Main -> Main:\n    int f(int) -> f\n    int g(int) -> a\n\
+demo.X -> demo.X:\n    void <init>() -> <init>\n    int k() -> k\n",
+    ),
     ("seeds.txt", SEEDS),
     ("use.txt", USAGE),
+    WITNESS,
+];
+
+// A class that calls another one, which gets a new name; lines are kept.
+const MAIN_AND_HELPER: &[Row<'static>] = &[
+    (CONFIG, KEEP_MAIN),
+    ("in/demo/Helper.class", DEMO_HELPER),
+    ("in/demo/Main.class", DEMO_MAIN),
+];
+
+const HELPER_RENAMED: &[Row<'static>] = &[
+    ("out/demo/Main.class", DEMO_MAIN_CALLS_A),
+    ("out/demo/a.class", DEMO_HELPER_A),
+    (
+        "map.txt",
+        b"demo.Helper -> demo.a:\n    10:10:int twice(int) -> a\n\
+demo.Main -> demo.Main:\n    5:6:void main(java.lang.String[]) -> main\n",
+    ),
+    (
+        "use.txt",
+        b"demo.Helper:\n    void <init>()\n    int half(int)\ndemo.Main:\n    void <init>()\n",
+    ),
+    WITNESS,
 ];
 
 const SEEDS: &[u8] = b"Main\nMain: int f(int)\ndemo.X\ndemo.X: void <init>()\ndemo.X: int k()\n";
@@ -375,31 +489,43 @@ const WRITTEN: &[(&[Row<'static>], &str, &[Row<'static>])] = &[
     (
         &[(CONFIG, KEEP_F), ("in/Main.class", MAIN)],
         "classes 1 1\nfields 0 0\nmethods 3 2\nedited 0\nfallback 0\n",
-        &[("out/Main.class", MAIN_F_G)],
+        &[("out/Main.class", MAIN_F_A), F_AND_A, WITNESS],
     ),
     (
         &[(CONFIG, KEEP_G), ("in/Main.class", MAIN)],
         "classes 1 1\nfields 0 0\nmethods 3 1\nedited 0\nfallback 0\n",
-        &[("out/Main.class", MAIN_G)],
+        &[
+            ("out/Main.class", MAIN_G),
+            ("map.txt", b"Main -> Main:\n    int g(int) -> g\n"),
+            WITNESS,
+        ],
     ),
     // in its canonical spelling
     (
         &[(CONFIG, KEEP_F), ("in/Main.class", MAIN_SUM_OTHERWISE)],
         "classes 1 1\nfields 0 0\nmethods 1 1\nedited 0\nfallback 0\n",
-        &[("out/Main.class", MAIN_SUM)],
+        &[
+            ("out/Main.class", MAIN_SUM),
+            ("map.txt", b"Main -> Main:\n    int f(int) -> f\n"),
+            WITNESS,
+        ],
     ),
     (
         &[(CONFIG, KEEP_G), ("in/Main.class", MAIN_SUM_OTHERWISE)],
         "classes 1 1\nfields 0 0\nmethods 1 0\nedited 0\nfallback 0\n",
-        &[("out/Main.class", MAIN_BARE)],
+        &[
+            ("out/Main.class", MAIN_BARE),
+            ("map.txt", b"Main -> Main:\n"),
+            WITNESS,
+        ],
     ),
     // a class that nothing needs goes
     (
         MAIN_AND_X,
         "classes 2 1\nfields 0 0\nmethods 5 2\nedited 0\nfallback 0\n",
-        &[("out/Main.class", MAIN_F_G)],
+        &[("out/Main.class", MAIN_F_A), F_AND_A, WITNESS],
     ),
-    // the lists behind the class files
+    // the texts behind the class files
     (
         BOTH_KEPT,
         "classes 2 2\nfields 0 0\nmethods 5 4\nedited 0\nfallback 0\n",
@@ -416,7 +542,16 @@ const WRITTEN: &[(&[Row<'static>], &str, &[Row<'static>])] = &[
             ("outer/B.class", MAGIC),
         ],
         "classes 1 1\nfields 0 0\nmethods 0 0\nedited 0\nfallback 0\n",
-        &[("out/A.class", INTERFACE)],
+        &[
+            ("out/A.class", INTERFACE),
+            ("map.txt", b"A -> A:\n"),
+            WITNESS,
+        ],
+    ),
+    (
+        MAIN_AND_HELPER,
+        "classes 2 2\nfields 0 0\nmethods 5 2\nedited 0\nfallback 0\n",
+        HELPER_RENAMED,
     ),
 ];
 
@@ -461,12 +596,13 @@ fn expect_kept(
 #[test]
 fn something_is_kept_where_something_is_removed(rt: HostRuntime) -> Result<(), Fail> {
     let none = "classes 0 0\nfields 0 0\nmethods 0 0\nedited 0\nfallback 0\n";
-    for (rest, status, said) in [
-        ("-keep class A", 3, "error 3 rules 0 NothingKept\n"),
-        ("", 3, "error 3 rules 0 NothingKept\n"),
-        ("-keep class A -dontshrink", 0, none),
+    let texts: &[Row<'static>] = &[("map.txt", b""), WITNESS];
+    for (rest, status, said, written) in [
+        ("-keep class A", 3, "error 3 rules 0 NothingKept\n", &texts[..0]),
+        ("", 3, "error 3 rules 0 NothingKept\n", &texts[..0]),
+        ("-keep class A -dontshrink", 0, none, texts),
     ] {
-        expect_kept(&rt, rt.alloc(), rest, &[], status, said, &[])?;
+        expect_kept(&rt, rt.alloc(), rest, &[], status, said, written)?;
     }
     Ok(())
 }
@@ -475,15 +611,32 @@ fn something_is_kept_where_something_is_removed(rt: HostRuntime) -> Result<(), F
 fn two_stars_for_a_type_are_a_class_and_no_array(rt: HostRuntime) -> Result<(), Fail> {
     let rows = [("in/demo/Got.class", DEMO_GOT)];
     let said = "classes 1 1\nfields 0 0\nmethods 3 1\nedited 0\nfallback 0\n";
-    let written = [("out/demo/Got.class", DEMO_GOT_B)];
+    let mapping = b"demo.Got -> demo.Got:\n    java.lang.Object getB() -> getB\n";
+    let written: [Row<'_>; 3] = [
+        ("out/demo/Got.class", DEMO_GOT_B),
+        ("map.txt", mapping),
+        WITNESS,
+    ];
     let rest = "-keep class * { ** get*(); }";
     expect_kept(&rt, rt.alloc(), rest, &rows, 0, said, &written)?;
     Ok(())
 }
 
-const ONE_OF_A: &[Row<'static>] = &[("out/a/B.class", A_B)];
+const ONE_OF_A: &[Row<'static>] = &[
+    ("out/a/B.class", A_B),
+    ("map.txt", b"a.B -> a.B:\n    int f() -> f\n"),
+    WITNESS,
+];
 
-const BOTH_OF_A: &[Row<'static>] = &[("out/a/B.class", A_B), ("out/a/c/D.class", A_C_D)];
+const BOTH_OF_A: &[Row<'static>] = &[
+    ("out/a/B.class", A_B),
+    ("out/a/c/D.class", A_C_D),
+    (
+        "map.txt",
+        b"a.B -> a.B:\n    int f() -> f\na.c.D -> a.c.D:\n    int f() -> f\n",
+    ),
+    WITNESS,
+];
 
 #[test]
 fn a_star_in_a_class_name_takes_no_dot_unless_it_stands_alone(rt: HostRuntime) -> Result<(), Fail> {
@@ -495,9 +648,9 @@ fn a_star_in_a_class_name_takes_no_dot_unless_it_stands_alone(rt: HostRuntime) -
         ("-keep class a.** { static int f(); }", BOTH_OF_A),
         ("-keepnames class * { *; } -keep class a.B { *; }", ONE_OF_A),
         ("-keepclassmembers class * { *; } -keep class a.B", ONE_OF_A),
-        ("-dontshrink", BOTH_OF_A),
+        ("-dontshrink -dontobfuscate", BOTH_OF_A),
     ] {
-        let kept = written.len();
+        let kept = written.len() - 2;
         let said = format!(in alloc;
             "classes 2 {kept}\nfields 0 0\nmethods 2 {kept}\nedited 0\nfallback 0\n"
         )?;
@@ -510,26 +663,65 @@ fn a_star_in_a_class_name_takes_no_dot_unless_it_stands_alone(rt: HostRuntime) -
 fn optional_attributes_are_written_where_they_are_kept(rt: HostRuntime) -> Result<(), Fail> {
     let rows = [("in/demo/N.class", DEMO_N)];
     let said = "classes 1 1\nfields 0 0\nmethods 1 1\nedited 0\nfallback 0\n";
-    for (rest, wanted) in [
-        ("-keep class demo.N { *; }", DEMO_N_PLAIN),
+    let plain: &[u8] = b"demo.N -> demo.N:\n    int f() -> f\n";
+    let lined: &[u8] = b"demo.N -> demo.N:\n    7:7:int f() -> f\n";
+    for (rest, wanted, mapping) in [
+        ("-keep class demo.N { *; }", DEMO_N_PLAIN, plain),
         (
             "-keep class demo.N { *; } -keepattributes Signature,InnerClasses",
             DEMO_N_PLAIN,
+            plain,
         ),
-        ("-keep class demo.N { *; } -keepattributes", DEMO_N),
-        ("-keep class demo.N { *; } -dontobfuscate", DEMO_N),
+        ("-keep class demo.N { *; } -keepattributes", DEMO_N, lined),
+        ("-keep class demo.N { *; } -dontobfuscate", DEMO_N, lined),
         (
             "-keep class demo.N { *; } -keepattributes !Exceptions,*",
             DEMO_N_CAUGHT,
+            lined,
         ),
         (
             "-keep class demo.N { *; } -keepattributes SourceFile,LineNumberTable -renamesourcefileattribute Source",
             DEMO_N_TRACED,
+            lined,
         ),
     ] {
-        let written = [("out/demo/N.class", wanted)];
+        let written = [
+            ("out/demo/N.class", wanted),
+            ("map.txt", mapping),
+            WITNESS,
+        ];
         expect_kept(&rt, rt.alloc(), rest, &rows, 0, said, &written)?;
     }
+    Ok(())
+}
+
+// ---- new names
+
+#[test]
+fn a_name_that_stays_is_given_to_nothing_else(rt: HostRuntime) -> Result<(), Fail> {
+    let rows = [("in/demo/B.class", DEMO_B_G), ("in/demo/a.class", DEMO_A_F)];
+    let said = "classes 2 2\nfields 0 0\nmethods 2 2\nedited 0\nfallback 0\n";
+    let mapping = b"demo.B -> demo.b:\n    void g() -> a\ndemo.a -> demo.a:\n    void f() -> f\n";
+    let written: [Row<'_>; 4] = [
+        ("out/demo/a.class", DEMO_A_CALLS_B),
+        ("out/demo/b.class", DEMO_B_RENAMED),
+        ("map.txt", mapping),
+        WITNESS,
+    ];
+    let rest = "-keep class demo.a { static void f(); }";
+    expect_kept(&rt, rt.alloc(), rest, &rows, 0, said, &written)?;
+    Ok(())
+}
+
+#[test]
+fn a_witness_is_written_where_nothing_is_edited(rt: HostRuntime) -> Result<(), Fail> {
+    let alloc = rt.alloc();
+    let rows = [(CONFIG, KEEP_MAIN), ("in/demo/Main.class", DEMO_MAIN_PRINTS)];
+    let mut tree = MemoryTree::new(alloc, files_of(alloc, &rows)?, Items::new(alloc))?;
+    let said = "classes 1 1\nfields 0 0\nmethods 3 1\nedited 0\nfallback 0\n";
+    expect_end(&rt, alloc, COMMAND, &mut tree, &[], 0, said)?;
+    assert!(&rt; holds_each(alloc, &tree, &[WITNESS])?);
+    assert!(&rt; has_written(alloc, &mut tree, 1)?);
     Ok(())
 }
 
@@ -850,7 +1042,7 @@ fn what_is_kept_has_to_fit_into_a_class_file(rt: HostRuntime) -> Result<(), Fail
 // classes; the others write, and the one that fails writes the first half.
 fn written_until(alloc: Global, call: u64) -> M<Vec<Row<'static>>> {
     let mut rows = Vec::new(alloc);
-    for (number, (path, bytes)) in BOTH_WRITTEN.iter().enumerate() {
+    for (number, (path, bytes)) in HELPER_RENAMED.iter().enumerate() {
         let write = number as u64 + 5;
         if write < call {
             rows.push((*path, *bytes))?;
@@ -872,7 +1064,7 @@ fn expect_failed(
 ) -> M<()> {
     let run = Run {
         words: COMMAND,
-        files: BOTH_KEPT,
+        files: MAIN_AND_HELPER,
         tree_fails,
         sink_fails,
     };
@@ -882,10 +1074,10 @@ fn expect_failed(
 #[test]
 fn devices_fail_in_turn(rt: HostRuntime) -> Result<(), Fail> {
     let alloc = rt.alloc();
-    for call in 0..9 {
+    for call in 0..10 {
         let written = written_until(alloc, call)?;
         expect_failed(&rt, alloc, &[call], &[], written.as_slice())?;
     }
-    expect_failed(&rt, alloc, &[], &[0], BOTH_WRITTEN)?;
+    expect_failed(&rt, alloc, &[], &[0], HELPER_RENAMED)?;
     Ok(())
 }

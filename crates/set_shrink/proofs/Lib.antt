@@ -1,5 +1,6 @@
 mod Few
 mod Kept
+mod Ordered
 mod Members
 mod Written
 pub mod OneShrunk

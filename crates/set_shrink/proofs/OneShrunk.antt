@@ -74,9 +74,10 @@ pub one_shrunk : IsOneShrunk
 one_shrunk classes marks rules one other h k =
     let files : one.files ≡ other.files =
     same_files rules.out_dir (left_of classes marks rules) one.files other.files h.files k.files in
+    let mapping : one.mapping ≡ other.mapping = h.mapping ∙ sym k.mapping in
     let read : one.read ≡ other.read = h.read ∙ sym k.read in
     let left : one.kept ≡ other.kept = h.left ∙ sym k.left in
-    λ i. record { files = files i; read = read i; kept = left i }
+    λ i. record { files = files i; mapping = mapping i; read = read i; kept = left i }
 
 pub one_limit : IsOneLimit
 one_limit classes marks rules limit other h k =

@@ -1,8 +1,9 @@
 // Classes in the order of their files.
-ghost use Rattle.std.specs.Prelude.{◌≡◌, IfOk, OnOk};
-ghost use Rattle.std.specs.FinMap.{empty, insert};
+ghost use Rattle.std.specs.Prelude.{◌≡◌, [], IfOk, OnOk};
+ghost use Rattle.std.specs.BTreeMap.{insert_entry};
+ghost use Rattle.std.specs.Cmp.Lexicographic.{slice_cmp};
+ghost use Rattle.std.specs.Ordering.{nat_cmp};
 ghost use Rattle.set_shrink.specs.Order.{class_path, in_order, placed};
-ghost use Rattle.set_shrink.specs.bodies.Places.{told};
 
 use class_model::Class;
 use jv_base::{Items, M, Text};
@@ -24,7 +25,7 @@ pub(crate) fn in_order(alloc: Global, classes: Items<Class>) -> M<Items<Class>>
 
 /// Each class at the path of its file.
 fn placed(alloc: Global, classes: Items<Class>) -> M<BTreeMap<Text, Class>>
-    ensures { IfOk result (λ map. told map.entries ≡ placed empty classes) }
+    ensures { IfOk result (λ map. map.entries ≡ placed [] classes) }
 {
     let mut map = BTreeMap::new(alloc);
     for class in classes.into_vec() {
@@ -35,15 +36,10 @@ fn placed(alloc: Global, classes: Items<Class>) -> M<BTreeMap<Text, Class>>
 
 /// Puts a class at the path of its file.
 fn place(alloc: Global, map: &mut BTreeMap<Text, Class>, class: Class) -> M<()>
-    ensures { OnOk result (told map.new.entries ≡ insert (told map.old.entries) (class_path class) class) }
+    ensures { OnOk result (map.new.entries
+        ≡ insert_entry (slice_cmp nat_cmp) map.old.entries (class_path class) class) }
 {
     let path = class_path(alloc, &class)?;
-    put(map, path, class)
-}
-
-fn put(map: &mut BTreeMap<Text, Class>, path: Text, class: Class) -> M<()>
-    ensures { OnOk result (told map.new.entries ≡ insert (told map.old.entries) path class) }
-{
     map.insert(path, class)?;
     Ok(())
 }

@@ -32,7 +32,7 @@ use Rattle.shrink_core.specs.declared.refusal.Stop.TheVariants.{Refused, Device,
 use Rattle.shrink_core.specs.Due.{HasBytes, HasConfig, HasSet, IsDue, IsEmpty, IsPlan, IsResult, IsRefused}
 use Rattle.shrink_core.specs.Due.{RefusesConfig, RefusesInput, RefusesOutput, RefusesPlan}
 use Rattle.shrink_core.specs.Due.{by_config, by_output, by_input, by_plan}
-use Rattle.shrink_core.specs.Due.{by_format, by_list, by_seeds, by_system}
+use Rattle.shrink_core.specs.Due.{by_format, by_text, by_seeds, by_system}
 use Rattle.shrink_core.specs.bodies.Steps.{ConfigOf, Finds, ReadsSet, StopsAs, input_stop, missed, missed_by}
 
 -- where a step was refused, what follows it is refused so
@@ -206,18 +206,18 @@ taken named rules classes a b c x y z has p =
     (Taken named rules classes) a b c x y z (λ files there set. (there, set)) has p
 
 -- what is to be written is refused without a file being missed
-none_missed : (rules : Rules) (classes : List Class) (config : List ℕ) (refusal : Refusal)
-    → RefusesPlan rules classes refusal → answer.absent_by config refusal ≡ []
-none_missed rules classes config refusal (by_system many due is) = ap (answer.absent_by config) is
-none_missed rules classes config refusal (by_seeds sys due nothing is) = ap (answer.absent_by config) is
-none_missed rules classes config refusal (by_format marks kept limit passes is) = ap (answer.absent_by config) is
-none_missed rules classes config refusal (by_list marks kept shrunk is_shrunk long listed is) =
+none_missed : (rules : Rules) (classes : List Class) (witness config : List ℕ) (refusal : Refusal)
+    → RefusesPlan rules classes witness refusal → answer.absent_by config refusal ≡ []
+none_missed rules classes witness config refusal (by_system many due is) = ap (answer.absent_by config) is
+none_missed rules classes witness config refusal (by_seeds sys due nothing is) = ap (answer.absent_by config) is
+none_missed rules classes witness config refusal (by_format marks kept limit passes is) = ap (answer.absent_by config) is
+none_missed rules classes witness config refusal (by_text marks kept shrunk is_shrunk long listed is) =
     ap (answer.absent_by config) is
 
 pub planned : (named : CommandFiles) (rules : Rules) (classes : List Class) (r : Result Plan Stop) (a b : List Event)
     (x y : Option Files)
     → AddsCalls a b x y (Sees (Some []) (Taken named rules classes))
-    → Finds r (IsPlan rules classes) (RefusesPlan rules classes)
+    → Finds r (IsPlan rules classes named.witness) (RefusesPlan rules classes named.witness)
     → AddsCalls a b x y (Sees (missed named.config r) (Planned r named))
 planned named rules classes (Ok plan) a b x y has is =
     weaken (Some []) (Taken named rules classes) (Planned (Ok plan) named) a b x y
@@ -232,7 +232,7 @@ planned named rules classes (Ok plan) a b x y has is =
     }) has
 planned named rules classes (Err (Refused refusal)) a b x y has is =
     subst (λ (paths : List (List ℕ)). AddsCalls a b x y (Sees (Some paths) (Planned (no_plan (Refused refusal)) named)))
-    (sym (none_missed rules classes named.config refusal is))
+    (sym (none_missed rules classes named.witness named.config refusal is))
     (weaken (Some []) (Taken named rules classes) (Planned (no_plan (Refused refusal)) named) a b x y
     (λ files there. by_plan rules classes there.0.0 there.0.1 there.1 is) has)
 planned named rules classes (Err Device) a b x y has is =

@@ -14,13 +14,13 @@ use Rattle.set_read.specs.Accepted.{IsAccepted, IsFault}
 use Rattle.set_read.specs.declared.fault.SetFault.{SetFault}
 use Rattle.set_read.specs.declared.fault.SetFault.TheVariants as set
 use Rattle.set_read.proofs.OneSet.{not_both, one_fault, one_set, same_some}
-use Rattle.list_texts.specs.declared.limit.TooLong.{TooLong as LongList}
+use Rattle.list_texts.specs.declared.limit.TooLong.{TooLong as LongText}
 use Rattle.mark_core.specs.Marks.{Marks}
 use Rattle.mark_core.specs.declared.system.System.{System}
 use Rattle.require_sys.specs.Required.{system_due}
 use Rattle.require_sys.specs.declared.limits.TooMany.{TooMany}
-use Rattle.set_shrink.specs.Lists.{lists_due}
 use Rattle.set_shrink.specs.ShrunkSet.{IsShrunk, PassesLimit}
+use Rattle.set_shrink.specs.Texts.{texts_due}
 use Rattle.set_shrink.specs.declared.shrunk.ShrunkSet.{ShrunkSet}
 use Rattle.set_shrink.proofs.OneShrunk.{not_both_shrunk, one_limit, one_shrunk}
 use Rattle.keep_rules.specs.declared.fault.RuleFault.{RuleFault}
@@ -28,7 +28,7 @@ use Rattle.keep_rules.specs.declared.rules.Rules.{Rules}
 use Rattle.shrink_core.specs.Config.{IsConfig, config_read}
 use Rattle.shrink_core.specs.Due.{HasBytes, HasConfig, HasInput, HasSet, IsDue, IsEmpty, IsPlan}
 use Rattle.shrink_core.specs.Due.{by_config, by_input, by_output, by_plan, keeps_nothing}
-use Rattle.shrink_core.specs.Due.{by_format, by_list, by_seeds, by_system}
+use Rattle.shrink_core.specs.Due.{by_format, by_text, by_seeds, by_system}
 use Rattle.shrink_core.specs.Due.{RefusesConfig, RefusesInput, RefusesOutput, RefusesPlan}
 use Rattle.shrink_core.specs.OneDue.{IsOneDue}
 use Rattle.shrink_core.specs.Refusal.{quantity_of}
@@ -314,33 +314,34 @@ one_written rules classes marks (Err refusal) (Err other) h k =
     ap Err (h.2 ∙ (ap (λ (l : WriteLimit). Limit (quantity_of l)) (one_limit classes marks rules h.0 k.0 h.1 k.1)
     ∙ sym k.2))
 
--- the lists, or that one is too long
-abbrev lists_told : Result (List FileAt) LongList → Result (List FileAt) Refusal
-lists_told (Ok lists) = Ok lists
-lists_told (Err long) = Err (Limit quantity.Text)
+-- the texts, or that one is too long
+abbrev texts_told : Result (List FileAt) LongText → Result (List FileAt) Refusal
+texts_told (Ok texts) = Ok texts
+texts_told (Err long) = Err (Limit quantity.Text)
 
 abbrev plan_for : ShrunkSet → List FileAt → Plan
-plan_for shrunk lists =
-    record { files = shrunk.files ++ lists; summary = summary_text shrunk.read shrunk.kept }
+plan_for shrunk texts =
+    record { files = shrunk.files ++ texts; summary = summary_text shrunk.read shrunk.kept }
 
-abbrev Plans : Rules → List Class → Result Plan Refusal → Type 0
-Plans rules classes (Ok plan) = IsPlan rules classes plan
-Plans rules classes (Err refusal) = RefusesPlan rules classes refusal
+abbrev Plans : Rules → List ℕ → List Class → Result Plan Refusal → Type 0
+Plans rules witness classes (Ok plan) = IsPlan rules classes witness plan
+Plans rules witness classes (Err refusal) = RefusesPlan rules classes witness refusal
 
--- one step follows the other: the system, what it marks, the class files, the lists
-abbrev PlansBySteps : Rules → List Class → Result Plan Refusal → Type 0
-PlansBySteps rules classes = Then (λ z. z ≡ system_told (system_due classes rules))
+-- one step follows the other: the system, what it marks, the class files, the texts
+abbrev PlansBySteps : Rules → List ℕ → List Class → Result Plan Refusal → Type 0
+PlansBySteps rules witness classes = Then (λ z. z ≡ system_told (system_due classes rules))
     (λ sys. Then (Marked rules sys)
     (λ marks. Then (Written rules classes marks)
-    (λ shrunk. Then (λ z. z ≡ lists_told (lists_due classes marks rules)) (λ lists z. z ≡ Ok (plan_for shrunk lists)))))
+    (λ shrunk. Then (λ z. z ≡ texts_told (texts_due shrunk.mapping classes marks rules witness))
+    (λ texts z. z ≡ Ok (plan_for shrunk texts)))))
 
-plan_is : (plan : Plan) (shrunk : ShrunkSet) (lists : List FileAt) → plan.files ≡ shrunk.files ++ lists
-    → plan.summary ≡ summary_text shrunk.read shrunk.kept → plan ≡ plan_for shrunk lists
-plan_is plan shrunk lists files summary = λ i. record { files = files i; summary = summary i }
+plan_is : (plan : Plan) (shrunk : ShrunkSet) (texts : List FileAt) → plan.files ≡ shrunk.files ++ texts
+    → plan.summary ≡ summary_text shrunk.read shrunk.kept → plan ≡ plan_for shrunk texts
+plan_is plan shrunk texts files summary = λ i. record { files = files i; summary = summary i }
 
-by_steps : (rules : Rules) (classes : List Class) (z : Result Plan Refusal) → Plans rules classes z
-    → PlansBySteps rules classes z
-by_steps rules classes (Ok plan) h = inr (
+by_steps : (rules : Rules) (witness : List ℕ) (classes : List Class) (z : Result Plan Refusal)
+    → Plans rules witness classes z → PlansBySteps rules witness classes z
+by_steps rules witness classes (Ok plan) h = inr (
   h.kept.sys,
   ap system_told (sym h.kept.due),
   inr (
@@ -349,15 +350,15 @@ by_steps rules classes (Ok plan) h = inr (
     inr (
       h.shrunk,
       h.is_shrunk,
-      inr (h.lists, ap lists_told (sym h.listed), ap Ok (plan_is plan h.shrunk h.lists h.files h.summary)),
+      inr (h.texts, ap texts_told (sym h.told), ap Ok (plan_is plan h.shrunk h.texts h.files h.summary)),
     ),
   ),
 )
-by_steps rules classes (Err refusal) (by_system many due is) =
+by_steps rules witness classes (Err refusal) (by_system many due is) =
     inl (Limit (quantity.System many.what), ap system_told (sym due), ap Err is)
-by_steps rules classes (Err refusal) (by_seeds sys due nothing is) =
+by_steps rules witness classes (Err refusal) (by_seeds sys due nothing is) =
     inr (sys, ap system_told (sym due), inl (BadRules nothing_kept, (nothing, refl), ap Err is))
-by_steps rules classes (Err refusal) (by_format marks kept limit passes is) =
+by_steps rules witness classes (Err refusal) (by_format marks kept limit passes is) =
     inr (
       kept.sys,
       ap system_told (sym kept.due),
@@ -367,33 +368,33 @@ by_steps rules classes (Err refusal) (by_format marks kept limit passes is) =
         inl (Limit (quantity_of limit), (limit, passes, refl), ap Err is),
       ),
     )
-by_steps rules classes (Err refusal) (by_list marks kept shrunk is_shrunk long listed is) =
+by_steps rules witness classes (Err refusal) (by_text marks kept shrunk is_shrunk long told is) =
     inr (
       kept.sys,
       ap system_told (sym kept.due),
       inr (
         marks,
         (kept.some, kept.least),
-        inr (shrunk, is_shrunk, inl (Limit quantity.Text, ap lists_told (sym listed), ap Err is)),
+        inr (shrunk, is_shrunk, inl (Limit quantity.Text, ap texts_told (sym told), ap Err is)),
       ),
     )
 
-one_planned : (rules : Rules) (classes : List Class) → IsOne (Plans rules classes)
-one_planned rules classes one other h k =
+one_planned : (rules : Rules) (witness : List ℕ) (classes : List Class) → IsOne (Plans rules witness classes)
+one_planned rules witness classes one other h k =
     then_one (λ z. z ≡ system_told (system_due classes rules)) _ (one_value (system_told (system_due classes rules)))
     (λ sys. then_one (Marked rules sys) _ (one_marked rules sys)
     (λ marks. then_one (Written rules classes marks) _ (one_written rules classes marks)
-    (λ shrunk. then_one (λ z. z ≡ lists_told (lists_due classes marks rules)) _
-    (one_value (lists_told (lists_due classes marks rules)))
-    (λ lists. one_value (Ok (plan_for shrunk lists))))))
-    one other (by_steps rules classes one h) (by_steps rules classes other k)
+    (λ shrunk. then_one (λ z. z ≡ texts_told (texts_due shrunk.mapping classes marks rules witness)) _
+    (one_value (texts_told (texts_due shrunk.mapping classes marks rules witness)))
+    (λ texts. one_value (Ok (plan_for shrunk texts))))))
+    one other (by_steps rules witness classes one h) (by_steps rules witness classes other k)
 
 -- ---- the law
 
 -- one step follows the other: the config, the output directory, the set, the plan
 abbrev Follows : Files → CommandFiles → Result Plan Refusal → Type 0
 Follows files named = Then (Configures files named)
-    (λ rules. Then (Empties files rules.out_dir) (λ _. Then (Takes files rules.in_dir) (Plans rules)))
+    (λ rules. Then (Empties files rules.out_dir) (λ _. Then (Takes files rules.in_dir) (Plans rules named.witness)))
 
 due_follows : (files : Files) (named : CommandFiles) (due : Result Plan Refusal) → IsDue files named due
     → Follows files named due
@@ -410,5 +411,6 @@ pub one_due : IsOneDue
 one_due files named one other h k =
     then_one (Configures files named) _ (one_configured files named)
     (λ rules. then_one (Empties files rules.out_dir) _ (one_emptied files rules.out_dir)
-    (λ _. then_one (Takes files rules.in_dir) (Plans rules) (one_taken files rules.in_dir) (one_planned rules)))
+    (λ _. then_one (Takes files rules.in_dir) (Plans rules named.witness) (one_taken files rules.in_dir)
+    (one_planned rules named.witness)))
     one other (due_follows files named one h) (due_follows files named other k)

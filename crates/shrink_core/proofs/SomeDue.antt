@@ -147,7 +147,8 @@ Answered files named = (due : Result Plan Refusal) × IsDue files named due
 after_set : (files : Files) (named : CommandFiles) (rules : Rules) (classes : List Class)
     → HasConfig files named rules
     → IsEmpty files rules.out_dir → HasSet files rules.in_dir classes
-    → ((plan : Plan) × IsPlan rules classes plan) ⊎ ((refusal : Refusal) × RefusesPlan rules classes refusal)
+    → ((plan : Plan) × IsPlan rules classes named.witness plan)
+    ⊎ ((refusal : Refusal) × RefusesPlan rules classes named.witness refusal)
     → Answered files named
 after_set files named rules classes has empty taken (inl (plan, planned)) = (
   Ok plan,
@@ -167,7 +168,7 @@ after_output : (files : Files) (named : CommandFiles) (rules : Rules) → HasCon
     → IsEmpty files rules.out_dir
     → Taken files rules.in_dir → Answered files named
 after_output files named rules has empty (inl (classes, taken)) = after_set files named rules classes has empty taken
-    (plan_or rules classes)
+    (plan_or rules classes named.witness)
 after_output files named rules has empty (inr (refusal, refused)) = (Err refusal, by_input rules has empty refused)
 
 after_config : (files : Files) (named : CommandFiles) (rules : Rules) → HoldBytes files

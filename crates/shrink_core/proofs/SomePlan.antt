@@ -10,10 +10,13 @@ use Rattle.list_texts.specs.declared.limit.TooLong.{TooLong}
 use Rattle.mark_core.specs.declared.system.System.{System}
 use Rattle.require_sys.specs.Required.{system_due}
 use Rattle.require_sys.specs.declared.limits.TooMany.{TooMany}
-use Rattle.set_shrink.specs.Lists.{lists_due}
-use Rattle.set_shrink.specs.ShrunkSet.{AreFilesOf, IsShrunk, PassLimit, counts_of, left_of, path_of}
+use Rattle.set_shrink.specs.ShrunkSet.{AreFilesOf, IsShrunk, PassLimit, counts_of, left_of, new_names, path_of}
+use Rattle.set_shrink.specs.Texts.{texts_due}
 use Rattle.set_shrink.specs.declared.shrunk.ShrunkSet.{ShrunkSet}
-use Rattle.shrink_core.specs.Due.{IsKept, IsPlan, RefusesPlan, by_format, by_list, by_seeds, by_system, keeps_nothing}
+use Rattle.attribute_filter.specs.KeptAttributes.{filter_of}
+use Rattle.mapping_file.specs.declared.mapping.Mapping.{Mapping}
+use Rattle.rename_map.specs.MappingOf.{mapping_of}
+use Rattle.shrink_core.specs.Due.{IsKept, IsPlan, RefusesPlan, by_format, by_text, by_seeds, by_system, keeps_nothing}
 use Rattle.shrink_core.specs.Refusal.{quantity_of}
 use Rattle.shrink_core.specs.RuleText.{nothing_kept}
 use Rattle.shrink_core.specs.Summary.{summary_text}
@@ -67,52 +70,62 @@ write_or : (directory : List ℕ) (classes : List Class) → Writes directory cl
 write_or directory [] = inl ([], tt)
 write_or directory (c ∷ classes) = write_first directory c classes (class_written c) refl (write_or directory classes)
 
-abbrev Planned : Rules → List Class → Type 0
-Planned rules classes =
-    ((plan : Plan) × IsPlan rules classes plan) ⊎ ((refusal : Refusal) × RefusesPlan rules classes refusal)
+abbrev Planned : Rules → List ℕ → List Class → Type 0
+Planned rules witness classes = ((plan : Plan) × IsPlan rules classes witness plan)
+    ⊎ ((refusal : Refusal) × RefusesPlan rules classes witness refusal)
 
--- the lists are made, or one is too long
-plan_of : (rules : Rules) (classes : List Class) (marks : List Bool) → IsKept rules classes marks
-    → (shrunk : ShrunkSet) → IsShrunk classes marks rules shrunk
-    → (due : Result (List FileAt) TooLong) → lists_due classes marks rules ≡ due → Planned rules classes
-plan_of rules classes marks kept shrunk is_shrunk (Ok lists) listed = inl (
-  record { files = shrunk.files ++ lists; summary = summary_text shrunk.read shrunk.kept },
-  record {
-    marks = marks;
-    kept = kept;
-    shrunk = shrunk;
-    is_shrunk = is_shrunk;
-    lists = lists;
-    listed = listed;
-    files = refl;
-    summary = refl;
-  },
-)
-plan_of rules classes marks kept shrunk is_shrunk (Err long) listed =
-    inr (Limit quantity.Text, by_list marks kept shrunk is_shrunk long listed refl)
+module _ (rules : Rules) (witness : List ℕ) (classes : List Class) where
+  -- the texts are made, or one is too long
+  plan_of : (marks : List Bool) → IsKept rules classes marks → (shrunk : ShrunkSet)
+      → IsShrunk classes marks rules shrunk
+      → (due : Result (List FileAt) TooLong) → texts_due shrunk.mapping classes marks rules witness ≡ due
+      → Planned rules witness classes
+  plan_of marks kept shrunk is_shrunk (Ok texts) told = inl (
+    record { files = shrunk.files ++ texts; summary = summary_text shrunk.read shrunk.kept },
+    record {
+      marks = marks;
+      kept = kept;
+      shrunk = shrunk;
+      is_shrunk = is_shrunk;
+      texts = texts;
+      told = told;
+      files = refl;
+      summary = refl;
+    },
+  )
+  plan_of marks kept shrunk is_shrunk (Err long) told =
+      inr (Limit quantity.Text, by_text marks kept shrunk is_shrunk long told refl)
 
-plan_for : (rules : Rules) (classes : List Class) (marks : List Bool) → IsKept rules classes marks
-    → Writes rules.out_dir (left_of classes marks rules) → Planned rules classes
-plan_for rules classes marks kept (inl (files, written)) =
-    plan_of rules classes marks kept
-    (record { files = files; read = counts_of classes; kept = counts_of (shrunk classes marks) })
-    (record { files = written; read = refl; left = refl }) (lists_due classes marks rules) refl
-plan_for rules classes marks kept (inr (limit, pass)) =
-    inr (Limit (quantity_of limit), by_format marks kept limit pass refl)
+  plan_for : (marks : List Bool) → IsKept rules classes marks
+      → Writes rules.out_dir (left_of classes marks rules) → Planned rules witness classes
+  plan_for marks kept (inl (files, written)) =
+      let mapping : Mapping =
+      mapping_of (new_names classes marks rules) (filter_of rules).line_numbers (shrunk classes marks) in
+      plan_of marks kept
+      (record {
+        files = files;
+        mapping = mapping;
+        read = counts_of classes;
+        kept = counts_of (shrunk classes marks);
+      })
+      (record { files = written; mapping = refl; read = refl; left = refl })
+      (texts_due mapping classes marks rules witness) refl
+  plan_for marks kept (inr (limit, pass)) =
+      inr (Limit (quantity_of limit), by_format marks kept limit pass refl)
 
-plan_by : (rules : Rules) (classes : List Class) (sys : System) → system_due classes rules ≡ Ok sys
-    → (nothing : Bool) → keeps_nothing rules sys ≡ nothing → Planned rules classes
-plan_by rules classes sys due true nothing = inr (BadRules nothing_kept, by_seeds sys due nothing refl)
-plan_by rules classes sys due false some =
-    let marks : (m : List Bool) × Marks sys m = some_marks sys (due_valid classes rules sys due) in
-    plan_for rules classes marks.0 (record { sys = sys; due = due; some = some; least = marks.1 })
-    (write_or rules.out_dir (left_of classes marks.0 rules))
+  plan_by : (sys : System) → system_due classes rules ≡ Ok sys
+      → (nothing : Bool) → keeps_nothing rules sys ≡ nothing → Planned rules witness classes
+  plan_by sys due true nothing = inr (BadRules nothing_kept, by_seeds sys due nothing refl)
+  plan_by sys due false some =
+      let marks : (m : List Bool) × Marks sys m = some_marks sys (due_valid classes rules sys due) in
+      plan_for marks.0 (record { sys = sys; due = due; some = some; least = marks.1 })
+      (write_or rules.out_dir (left_of classes marks.0 rules))
 
-plan_at : (rules : Rules) (classes : List Class) (due : Result System TooMany) → system_due classes rules ≡ due
-    → Planned rules classes
-plan_at rules classes (Ok sys) due = plan_by rules classes sys due (keeps_nothing rules sys) refl
-plan_at rules classes (Err many) due = inr (Limit (quantity.System many.what), by_system many due refl)
+  plan_at : (due : Result System TooMany) → system_due classes rules ≡ due → Planned rules witness classes
+  plan_at (Ok sys) due = plan_by sys due (keeps_nothing rules sys) refl
+  plan_at (Err many) due = inr (Limit (quantity.System many.what), by_system many due refl)
 
-pub plan_or : (rules : Rules) (classes : List Class)
-    → ((plan : Plan) × IsPlan rules classes plan) ⊎ ((refusal : Refusal) × RefusesPlan rules classes refusal)
-plan_or rules classes = plan_at rules classes (system_due classes rules) refl
+pub plan_or : (rules : Rules) (classes : List Class) (witness : List ℕ)
+    → ((plan : Plan) × IsPlan rules classes witness plan)
+    ⊎ ((refusal : Refusal) × RefusesPlan rules classes witness refusal)
+plan_or rules classes witness = plan_at rules witness classes (system_due classes rules) refl

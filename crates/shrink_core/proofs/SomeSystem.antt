@@ -33,7 +33,7 @@ within_is all sys h =
     (passed Pairs (length all.pairs) (Ok all) sys
     (passed Needs (need_count all) pairs sys (passed Items all.n needs sys h)))
 
-due_is : (classes : List Class) (rules : Rules) (sys : System) → system_due classes rules ≡ Ok sys
+pub due_is : (classes : List Class) (rules : Rules) (sys : System) → system_due classes rules ≡ Ok sys
     → required classes rules ≡ sys
 unfolding system_due
 due_is classes rules sys h = within_is (required classes rules) sys h

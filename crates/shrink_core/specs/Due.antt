@@ -10,15 +10,15 @@ use Rattle.class_files.specs.declared.input.InputFault.TheVariants.{TooManyFiles
 use Rattle.class_model.specs.declared.class.Class.{Class}
 use Rattle.class_model.specs.declared.limit.WriteLimit.{WriteLimit}
 use Rattle.keep_rules.specs.declared.rules.Rules.{Rules}
-use Rattle.list_texts.specs.declared.limit.TooLong.{TooLong as LongList}
+use Rattle.list_texts.specs.declared.limit.TooLong.{TooLong as LongText}
 use Rattle.mark_core.specs.Marks.{Marks}
 use Rattle.mark_core.specs.declared.system.System.{System}
 use Rattle.require_sys.specs.Required.{system_due}
 use Rattle.require_sys.specs.declared.limits.TooMany.{TooMany}
 use Rattle.set_read.specs.Accepted.{IsAccepted, IsFault}
 use Rattle.set_read.specs.declared.fault.SetFault.TheVariants as set
-use Rattle.set_shrink.specs.Lists.{lists_due}
 use Rattle.set_shrink.specs.ShrunkSet.{IsShrunk, PassesLimit}
+use Rattle.set_shrink.specs.Texts.{texts_due}
 use Rattle.set_shrink.specs.declared.shrunk.ShrunkSet.{ShrunkSet}
 use Rattle.shrink_core.specs.Config.{IsConfig, config_read}
 use Rattle.shrink_core.specs.Refusal.{quantity_of}
@@ -70,16 +70,16 @@ pub record IsKept (rules : Rules) (classes : List Class) (marks : List Bool) : T
 
 -- ---- the result
 
--- the files of the classes that are kept, behind them the list of what the rules keep and the list of what is dropped,
--- where these are asked for; and the summary
-pub record IsPlan (rules : Rules) (classes : List Class) (plan : Plan) : Type 0 where
+-- the files of the classes that are kept, behind them the mapping, the list of what the rules keep and the list of what
+-- is dropped, where these are asked for, and the witness at its path; and the summary
+pub record IsPlan (rules : Rules) (classes : List Class) (witness : List ℕ) (plan : Plan) : Type 0 where
   pub marks : List Bool
   pub kept : IsKept rules classes marks
   pub shrunk : ShrunkSet
   pub is_shrunk : IsShrunk classes marks rules shrunk
-  pub lists : List FileAt
-  pub listed : lists_due classes marks rules ≡ Ok lists
-  pub files : plan.files ≡ shrunk.files ++ lists
+  pub texts : List FileAt
+  pub told : texts_due shrunk.mapping classes marks rules witness ≡ Ok texts
+  pub files : plan.files ≡ shrunk.files ++ texts
   pub summary : plan.summary ≡ summary_text shrunk.read shrunk.kept
 
 -- the rules, the empty directory and the set that lead to a plan
@@ -89,7 +89,7 @@ pub record IsResult (files : Files) (named : CommandFiles) (plan : Plan) : Type 
   pub configured : HasConfig files named rules
   pub empty : IsEmpty files rules.out_dir
   pub taken : HasSet files rules.in_dir classes
-  pub planned : IsPlan rules classes plan
+  pub planned : IsPlan rules classes named.witness plan
 
 -- ---- refusals, each where what was looked at before is right
 
@@ -112,18 +112,19 @@ RefusesInput files directory (Profile fault) = (inputs : List FileAt) × HasInpu
 RefusesInput files directory _ = ⊥
 
 -- the system of requirements passes a limit; or nothing is kept; or a class that is kept passes a limit of the format;
--- or each can be written, but one of the lists is longer than 64 MiB
-pub data RefusesPlan (rules : Rules) (classes : List Class) (refusal : Refusal) : Type 0 where
+-- or each can be written, but the mapping or one of the lists is longer than 64 MiB
+pub data RefusesPlan (rules : Rules) (classes : List Class) (witness : List ℕ) (refusal : Refusal) : Type 0 where
   by_system : (many : TooMany) → system_due classes rules ≡ Err many → refusal ≡ Limit (quantity.System many.what)
-      → RefusesPlan rules classes refusal
+      → RefusesPlan rules classes witness refusal
   by_seeds : (sys : System) → system_due classes rules ≡ Ok sys → keeps_nothing rules sys ≡ true
-      → refusal ≡ BadRules nothing_kept → RefusesPlan rules classes refusal
+      → refusal ≡ BadRules nothing_kept → RefusesPlan rules classes witness refusal
   by_format : (marks : List Bool) → IsKept rules classes marks → (limit : WriteLimit)
       → PassesLimit classes marks rules limit → refusal ≡ Limit (quantity_of limit)
-      → RefusesPlan rules classes refusal
-  by_list : (marks : List Bool) → IsKept rules classes marks → (shrunk : ShrunkSet)
-      → IsShrunk classes marks rules shrunk → (long : LongList) → lists_due classes marks rules ≡ Err long
-      → refusal ≡ Limit quantity.Text → RefusesPlan rules classes refusal
+      → RefusesPlan rules classes witness refusal
+  by_text : (marks : List Bool) → IsKept rules classes marks → (shrunk : ShrunkSet)
+      → IsShrunk classes marks rules shrunk → (long : LongText)
+      → texts_due shrunk.mapping classes marks rules witness ≡ Err long
+      → refusal ≡ Limit quantity.Text → RefusesPlan rules classes witness refusal
 
 -- the config isn't there, is too long, or has a first fault
 abbrev pub RefusesConfig : Files → CommandFiles → Refusal → Type 0
@@ -148,7 +149,7 @@ pub data IsRefused (files : Files) (named : CommandFiles) (refusal : Refusal) : 
       → RefusesInput files rules.in_dir refusal → IsRefused files named refusal
   by_plan : (rules : Rules) (classes : List Class) → HasConfig files named rules → IsEmpty files rules.out_dir
       → HasSet files rules.in_dir classes
-      → RefusesPlan rules classes refusal → IsRefused files named refusal
+      → RefusesPlan rules classes named.witness refusal → IsRefused files named refusal
 
 -- what `shrink CONFIG OUTWIT` is to write and to say, or why it is refused
 abbrev pub IsDue : Files → CommandFiles → Result Plan Refusal → Type 0

@@ -105,19 +105,21 @@ fn run_asked<T: Tree, S: Sink>(alloc: Global, command: Command, tree: &mut T, ou
 /// `retrace_command`, which tells its statuses.
 ///
 /// `shrink CONFIG OUTWIT` reads the config and the class files of the directory that it names, keeps what its rules
-/// keep, and writes the classes that are left to another directory. CONFIG and OUTWIT are paths: an optional `/`,
-/// and then segments joined by `/`, none of them empty, `.` or `..`. Nothing is written to OUTWIT yet.
+/// keep, gives it new names, and writes the classes that are left to another directory. CONFIG and OUTWIT are paths: an
+/// optional `/`, and then segments joined by `/`, none of them empty, `.` or `..`. OUTWIT gets the witness, which is the
+/// one line `witness 1`, since nothing is optimised yet.
 ///
 /// A config has options as ProGuard has them (`read_rules` of `keep_rules`): `-injars IN`, `-outjars OUT` and
 /// `-printmapping MAP`, which have to be there, and others. IN, OUT and MAP are paths; one `/` at the end of a
-/// directory is dropped. Nothing is written to MAP yet, and nothing is optimised or renamed.
+/// directory is dropped.
 ///
 /// Kept is the least set of classes, fields and methods that has what keep rules keep and what all that is kept needs
 /// (`system_of` of `require_sys`); under `-dontshrink` all. Each class is written in its canonical spelling, with its
 /// kept members and the attributes ConstantValue, Code and StackMapTable, and of SourceFile, Exceptions,
-/// LineNumberTable, Synthetic and Deprecated those that `-keepattributes` keeps, or all under `-dontobfuscate`. Behind
-/// the classes a list of what the rules keep goes to the file of `-printseeds`, and one of what is dropped to the file
-/// of `-printusage`, where these are given.
+/// LineNumberTable, Synthetic and Deprecated those that `-keepattributes` keeps, or all under `-dontobfuscate`. Names
+/// that the rules don't keep become short ones (`names_of` of `rename_map`), and each class is written at the path of
+/// its new name. Behind the classes the mapping goes to MAP, a list of what the rules keep to the file of
+/// `-printseeds`, one of what is dropped to the file of `-printusage`, where these are given, and the witness to OUTWIT.
 ///
 /// | Status | Comes | Text |
 /// |---|---|---|
@@ -135,14 +137,16 @@ fn run_asked<T: Tree, S: Sink>(alloc: Global, command: Command, tree: &mut T, ou
 /// The config is looked at first, then OUT, then IN: the number of its files, of its class files, and of their bytes;
 /// then each class file by itself, in the order of their paths, and then all as a set; then how much they have and need
 /// (`items`, `needs`, `pairs`); then whether anything is kept; last what is to be written, the classes before the
-/// lists. LINE counts from 1, and is 0 where the config as a whole is at fault; KIND has its option behind it. CLASS is
+/// texts. LINE counts from 1, and is 0 where the config as a whole is at fault; KIND has its option behind it. CLASS is
 /// a name with dots, MEMBER as `int x` or `int f(int)`, and `-` where the class itself is at fault; of a code that
 /// isn't typed KIND is two words, as `Type Local`. Limits: `config` and `input` (the class files together) 67,108,864
 /// bytes, `files` 65,536 and `classes` 20,000 below IN, `items` 1,048,576, `needs` and `pairs` 16,777,216, what a class
-/// file has room for (`pool`, `utf8`, `code`, `table`, `branch`, `attribute`), and `text` (a list) 67,108,864 bytes.
+/// file has room for (`pool`, `utf8`, `code`, `table`, `branch`, `attribute`), and `text` (the mapping, a list)
+/// 67,108,864 bytes.
 ///
 /// After 1 to 6 and 8 no file has changed. After 7 and 10 the first of the files to be written may stand: the class
-/// files in the order of their paths, then both lists; after 7 the next path may hold any bytes.
+/// files in the order of their paths, then the mapping, both lists and the witness; after 7 the next path may hold any
+/// bytes.
 ///
 /// The summary is five lines: `classes`, `fields` and `methods`, each with how many were read and how many are kept,
 /// `edited 0` and `fallback 0`.

@@ -6,6 +6,7 @@ ghost use Rattle.tree_io.specs.Count.{Rose};
 ghost use Rattle.tree_io.specs.Runs.{AddsCalls, Sees};
 ghost use Rattle.class_files.specs.Input.{path_in, total};
 ghost use Rattle.class_write.specs.SpellingLaws.{IsWritable};
+ghost use Rattle.named_form.specs.Laws.{IsLinked};
 ghost use Rattle.shrink_core.specs.Due.{HasBytes, HasConfig, HasSet, IsEmpty, RefusesConfig, RefusesInput};
 ghost use Rattle.shrink_core.specs.Due.{RefusesOutput};
 ghost use Rattle.shrink_core.specs.bodies.Steps.{ConfigOf, Finds, ReadsSet, input_stop, missed};
@@ -95,12 +96,13 @@ pub fn check_empty<T: Tree>(alloc: Global, directory: &Text, tree: &mut T) -> Re
 
 // ---- the input directory
 
-/// The set of the class files below a directory. Each class can be written.
+/// The set of the class files below a directory. Each class can be written, and no rule for links is broken.
 pub fn find_set<T: Tree>(alloc: Global, directory: &Text, tree: &mut T) -> Result<ClassSet, Stop>
     ensures files { T.files tree.new ≡ T.files tree.old }
     ensures later { T.faults tree.old ≤ T.faults tree.new }
     ensures device { IsErrOf result Stop.Device → Rose (T.faults tree.old) (T.faults tree.new) }
     ensures writable { IfOk result (AllByRecursion IsWritable) }
+    ensures linked { IfOk result IsLinked }
     ensures seen { (config : List ℕ) → AddsCalls (T.log tree.old) (T.log tree.new) (T.files tree.old) (T.files tree.new)
         (Sees (missed config result) (λ fs. Finds result (HasSet fs directory.now) (RefusesInput fs directory.now))) }
 {
@@ -130,6 +132,7 @@ fn set_of(alloc: Global, directory: &Text, files: Items<FileAt>) -> Result<Class
     requires short { total files ≤ 67108864 }
     ensures read { ReadsSet result directory.now files }
     ensures writable { IfOk result (AllByRecursion IsWritable) }
+    ensures linked { IfOk result IsLinked }
 {
     match read_set(alloc, files) {
         Ok(set) => Ok(set),

@@ -1,10 +1,15 @@
 // The command `shrink` without what it says.
-ghost use Rattle.std.specs.Prelude.{◌≡◌, ◌≤◌, ◌++◌, IfOk, IsErrOf, length};
+ghost use Rattle.std.specs.Prelude.{◌≡◌, ◌≤◌, ◌++◌, ℕ, List, IfOk, IsErrOf, Ok, Result, length};
 ghost use Rattle.std.specs.List.{AllByRecursion};
 ghost use Rattle.tree_io.specs.Count.{Rose};
 ghost use Rattle.tree_io.specs.Runs.{AddsCalls, Sees};
 ghost use Rattle.mark_core.specs.Valid.{Valid};
+ghost use Rattle.jv_base.specs.Outcome.{IsDue};
+ghost use Rattle.tree_io.specs.declared.file_at.FileAt.{FileAt as FileValue};
 ghost use Rattle.class_write.specs.SpellingLaws.{IsWritable};
+ghost use Rattle.list_texts.specs.declared.limit.TooLong.{TooLong as LongText};
+ghost use Rattle.named_form.specs.Laws.{IsLinked};
+ghost use Rattle.set_shrink.specs.Texts.{texts_beside};
 ghost use Rattle.class_pool.specs.Count.{item_count};
 ghost use Rattle.shrink_core.specs.Due.{IsKept, IsPlan, IsRefused, IsResult, RefusesPlan, keeps_nothing};
 ghost use Rattle.shrink_core.specs.bodies.Steps.{Finds, Joins, MarksOf, Shrinks, missed};
@@ -21,6 +26,7 @@ use jv_base::{Items, M, Or, Text};
 use keep_rules::Rules;
 use list_texts::TooLong;
 use mark_core::{System, plain_marks};
+use named_form::kept_can_be_written;
 use require_sys::system_of;
 use set_shrink::{ShrunkSet, lists_of, shrink_set, texts_of};
 use std::alloc::Global;
@@ -86,7 +92,7 @@ fn plan_of(
 
 /// For each item of a set whether rules keep it.
 fn marks_of(alloc: Global, rules: &Rules, set: &ClassSet) -> Result<Items<bool>, Stop>
-    ensures kept { Finds result (IsKept rules.now set.now) (RefusesPlan rules.now set.now) }
+    ensures kept { (witness : List ℕ) → Finds result (IsKept rules.now set.now) (RefusesPlan rules.now set.now witness) }
     ensures count { IfOk result (λ marks. length marks ≡ item_count set.now) }
     ensures device { IsErrOf result Stop.Device → ⊥ }
 {
@@ -133,6 +139,7 @@ fn kept_plan(
     ensures planned { Finds result (IsPlan rules.now set named.now.witness) (RefusesPlan rules.now set named.now.witness) }
     ensures device { IsErrOf result Stop.Device → ⊥ }
 {
+    kept_can_be_written();
     let lists = lists_of(alloc, &set, marks, rules);
     match shrink_set(alloc, set, marks, rules) {
         Ok(shrunk) => joined(alloc, named, rules, shrunk, lists),
@@ -149,8 +156,9 @@ fn joined(
     shrunk: ShrunkSet,
     lists: Result<Items<FileAt>, Or<TooLong>>,
 ) -> Result<Plan, Stop>
-    ensures { (due : DueResult (List FileValue) LongText) → IsDue lists due
+    ensures joined { (due : Result (List FileValue) LongText) → IsDue lists due
         → Joins result shrunk (texts_beside shrunk.mapping due rules.now named.now.witness) }
+    ensures device { IsErrOf result Stop.Device → ⊥ }
 {
     match texts_of(alloc, &shrunk.mapping, lists, rules, &named.witness) {
         Ok(texts) => with_summary(alloc, shrunk, texts),
@@ -161,7 +169,8 @@ fn joined(
 
 /// The plan of what is written of a set, with texts.
 fn with_summary(alloc: Global, shrunk: ShrunkSet, texts: Items<FileAt>) -> Result<Plan, Stop>
-    ensures { Joins result shrunk (Ok texts) }
+    ensures joined { Joins result shrunk (Ok texts) }
+    ensures device { IsErrOf result Stop.Device → ⊥ }
 {
     let summary = summary_text(alloc, shrunk.read, shrunk.kept)?;
     let files = with_texts(shrunk.files, texts)?;

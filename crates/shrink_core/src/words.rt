@@ -6,6 +6,6 @@ use jv_base::Text;
 pub struct CommandFiles {
     /// The config that is read.
     pub config: Text,
-    /// Where the witness goes; none is written yet.
+    /// Where the witness goes.
     pub witness: Text,
 }

@@ -1,8 +1,5 @@
 -- What the steps of a command have found or said (only the proof of run needs it).
 use Rattle.std.specs.Prelude.{◌≡◌, ◌⊎◌, ℕ, Bool, true, false, List, Option, Some, None, [], ◌++◌, Result, Ok, Err}
-use Rattle.jv_base.specs.declared.outcome.Or.{Or}
-use Rattle.jv_base.specs.declared.outcome.Or.TheVariants.{Fault}
-use Rattle.jv_base.specs.declared.outcome.Or.TheVariants as too
 use Rattle.tree_io.specs.declared.event.Event.{Event}
 use Rattle.tree_io.specs.declared.file_at.FileAt.{FileAt}
 use Rattle.class_files.specs.Input.{path_in}
@@ -89,16 +86,13 @@ MarksOf (Err (Refused refusal)) rules sys = (keeps_nothing rules sys ≡ true) �
 MarksOf (Err Device) rules sys = ⊥
 MarksOf (Err OutOfMemory) rules sys = Unit {0}
 
--- what is written of a set with its lists, and the summary; or one of the lists is too long
-abbrev pub Joins : Result Plan Stop → ShrunkSet → Result (List FileAt) (Or TooLong) → Type 0
-Joins (Ok plan) shrunk (Ok lists) = (plan.files ≡ shrunk.files ++ lists)
+-- what is written of a set with its texts, and the summary; or a text is too long
+abbrev pub Joins : Result Plan Stop → ShrunkSet → Result (List FileAt) TooLong → Type 0
+Joins (Ok plan) shrunk due = (texts : List FileAt) × (due ≡ Ok texts) × (plan.files ≡ shrunk.files ++ texts)
     × (plan.summary ≡ summary_text shrunk.read shrunk.kept)
-Joins (Ok plan) shrunk (Err e) = ⊥
-Joins (Err (Refused refusal)) shrunk (Ok lists) = ⊥
-Joins (Err (Refused refusal)) shrunk (Err (Fault long)) = refusal ≡ Limit quantity.Text
-Joins (Err (Refused refusal)) shrunk (Err too.OutOfMemory) = ⊥
-Joins (Err Device) shrunk lists = ⊥
-Joins (Err OutOfMemory) shrunk lists = Unit {0}
+Joins (Err (Refused refusal)) shrunk due = (long : TooLong) × (due ≡ Err long) × (refusal ≡ Limit quantity.Text)
+Joins (Err Device) shrunk due = ⊥
+Joins (Err OutOfMemory) shrunk due = Unit {0}
 
 -- the plan was done, or the command stopped before
 abbrev pub Shrinks : Result Plan Stop → CommandFiles → List Event → Type 0

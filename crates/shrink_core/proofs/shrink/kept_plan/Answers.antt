@@ -1,14 +1,21 @@
 use Rattle.std.proofs.Common.{ap, ◌∙◌}
+use Rattle.set_shrink.specs.Lists.{lists_due}
 use Rattle.shrink_core.specs.Due.{by_format}
 use Rattle.shrink_core.specs.Refusal.{quantity_of}
 use Rattle.shrink_core.specs.declared.refusal.Refusal.TheVariants.{Limit}
-use Rattle.shrink_core.proofs.Planned.{planned_with}
+use Rattle.shrink_core.proofs.Planned.{kept_closed, planned_with}
 use Rattle.shrink_core.proofs.shrink.kept_plan.Goals as goal
+
+pub shrink_set-requires-clause-writable : goal.shrink_set-requires-clause-writable
+shrink_set-requires-clause-writable c =
+    c.kept_can_be_written.ensures c.args.set c.args.rules.now c.args.marks.now c.requires.linked
+    (kept_closed c.args.rules.now c.args.set c.args.marks.now c.requires.kept) c.requires.writable
 
 pub returns-in-Ok-clause-planned : goal.returns-in-Ok-clause-planned
 returns-in-Ok-clause-planned c =
     planned_with c.args.rules.now c.args.set c.args.marks.now c.requires.kept c.in-Ok.shrunk c.in-Ok.ensures.exact
-    c.lists_of-lists.result c.lists_of-lists.ensures c.joined.result c.joined.ensures
+    c.args.named.now.witness c.joined.result
+    (c.joined.ensures.joined (lists_due c.args.set c.args.marks.now c.args.rules.now) c.lists_of-lists.ensures)
 
 pub returns-in-Err-Fault-clause-planned : goal.returns-in-Err-Fault-clause-planned
 returns-in-Err-Fault-clause-planned c =

@@ -17,6 +17,6 @@ returns-in-Ok-clause-count c =
     c.least_marks.ensures
 
 pub returns-in-Err-Fault-clause-kept : goal.returns-in-Err-Fault-clause-kept
-returns-in-Err-Fault-clause-kept c =
+returns-in-Err-Fault-clause-kept c = λ witness.
     by_system c.in-Err-Fault.many (rw c.in-Err-Fault.field-0-is at c.in-Err-Fault.ensures.exact)
     (ap (λ (many : TooMany). Limit (System many.what)) c.in-Err-Fault.many-is)

@@ -1,0 +1,5 @@
+mod Fronts
+mod Picked
+mod Kept
+mod Same
+pub mod Written

@@ -1,0 +1,78 @@
+-- What is kept of a set can be written under its new names.
+use Rattle.std.proofs.Common.{◌≡◌, ℕ, ◌||◌, Bool, true, false, cond, List, [], ◌∷◌, ◌++◌, map, Some, slice_get, codes, refl}
+use Rattle.std.proofs.Common.{sym, ap, subst, ◌∙◌}
+use Rattle.std.specs.List.{AllByRecursion}
+use Rattle.mark_core.specs.Marks.{Closed}
+use Rattle.class_model.specs.declared.class.Class.{Class}
+use Rattle.class_rename.specs.Names.{Names, same_names}
+use Rattle.class_rename.specs.Renamed.{renamed}
+use Rattle.class_write.specs.SpellingLaws.{IsWritable}
+use Rattle.keep_rules.specs.declared.rules.Rules.{Rules}
+use Rattle.member_shrink.specs.Shrunk.{is_marked, shrunk}
+use Rattle.member_shrink.proofs.Picked.{all_mapped}
+use Rattle.fresh_names.specs.Fresh.{is_taken}
+use Rattle.fresh_names.specs.Given.{names_given}
+use Rattle.fresh_names.specs.Reserved.{reserved}
+use Rattle.fresh_names.specs.declared.taken.Named.TheVariants as named
+use Rattle.fresh_names.specs.declared.taken.TakenNames.{TakenNames}
+use Rattle.fresh_names.proofs.Reserved.{taken_parts}
+use Rattle.rename_map.specs.Fixed.{Stay, names_that_stay}
+use Rattle.rename_map.specs.Names.{given_beside}
+use Rattle.renamed_form.specs.GivenForm.{HasReserved}
+use Rattle.renamed_form.proofs.GivenWritable.{given_writable}
+use Rattle.require_sys.specs.Required.{kept_by_rules, required}
+use Rattle.set_shrink.specs.ShrunkSet.{renamed_of}
+use Rattle.set_shrink.proofs.Writable.{shrunk_writable}
+use Rattle.named_form.specs.Laws.{IsLinked, KeptAreWritable}
+use Rattle.named_form.proofs.Kept.{no_name, none_java, types_known}
+use Rattle.named_form.proofs.Picked.{all_at, all_from}
+use Rattle.named_form.proofs.Same.{same_writable}
+
+-- names that stay, as those that are taken
+abbrev taken_of : Stay → TakenNames
+taken_of stay = record { classes = stay.classes; fields = stay.fields; methods = stay.methods }
+
+or_right : (b c : Bool) → c ≡ true → (b || c) ≡ true
+or_right true c h = refl
+or_right false c h = h
+
+behind : (front names : List (List ℕ)) (a : List ℕ) → is_taken names a ≡ true → is_taken (front ++ names) a ≡ true
+behind front names a h = taken_parts front names a ∙ or_right (is_taken front a) (is_taken names a) h
+
+has_reserved : (rules : Rules) (classes : List Class) → HasReserved (taken_of (names_that_stay rules classes))
+has_reserved rules classes = record {
+  classes = λ a h. behind _ _ a (behind _ (reserved named.Class) a h);
+  methods = λ a h. behind _ (reserved named.Method) a h;
+}
+
+module _ (classes : List Class) (rules : Rules) (marks : List Bool) (t : IsLinked classes)
+    (closed : Closed (required classes rules) (is_marked marks)) (all : AllByRecursion IsWritable classes) where
+  kept_as_before : AllByRecursion IsWritable (shrunk classes marks)
+  kept_as_before = shrunk_writable classes marks all
+
+  each_given : (k : ℕ) (c : Class) → slice_get (shrunk classes marks) k ≡ Some c
+      → IsWritable (renamed (names_given (taken_of (names_that_stay rules classes)) (shrunk classes marks)) c)
+  each_given k c at =
+      given_writable (taken_of (names_that_stay rules classes)) (shrunk classes marks) k c (has_reserved rules classes)
+      (no_name (shrunk classes marks) (codes "java/lang/String")
+      (none_java classes (kept_by_rules classes rules) marks t closed) refl)
+      at
+      (all_at _ (shrunk classes marks) k c
+      (types_known classes (kept_by_rules classes rules) marks t closed (taken_of (names_that_stay rules classes))) at)
+      (all_at IsWritable (shrunk classes marks) k c kept_as_before at)
+
+  by_names : (names : Names) → ((k : ℕ) (c : Class) → slice_get (shrunk classes marks) k ≡ Some c
+      → IsWritable (renamed names c)) → AllByRecursion IsWritable (map (renamed names) (shrunk classes marks))
+  by_names names each =
+      all_mapped (λ (c : Class). IsWritable (renamed names c)) IsWritable (renamed names) (λ c h. h)
+      (shrunk classes marks) (all_from (λ (c : Class). IsWritable (renamed names c)) (shrunk classes marks) each)
+
+  by_obfuscation : (obfuscate : Bool) → AllByRecursion IsWritable
+      (map (renamed (cond obfuscate (given_beside (names_that_stay rules classes) (shrunk classes marks)) same_names))
+      (shrunk classes marks))
+  by_obfuscation true = by_names (given_beside (names_that_stay rules classes) (shrunk classes marks)) each_given
+  by_obfuscation false = by_names same_names
+      (λ k c at. same_writable c (all_at IsWritable (shrunk classes marks) k c kept_as_before at))
+
+pub kept_writable : KeptAreWritable
+kept_writable classes rules marks t closed all = by_obfuscation classes rules marks t closed all rules.obfuscate
