@@ -664,7 +664,7 @@ fn optional_attributes_are_written_where_they_are_kept(rt: HostRuntime) -> Resul
     let rows = [("in/demo/N.class", DEMO_N)];
     let said = "classes 1 1\nfields 0 0\nmethods 1 1\nedited 0\nfallback 0\n";
     let plain: &[u8] = b"demo.N -> demo.N:\n    int f() -> f\n";
-    let lined: &[u8] = b"demo.N -> demo.N:\n    7:7:int f() -> f\n";
+    let lined: &[u8] = b"demo.N -> demo.N:\n    7:8:int f() -> f\n";
     for (rest, wanted, mapping) in [
         ("-keep class demo.N { *; }", DEMO_N_PLAIN, plain),
         (

@@ -108,3 +108,9 @@ module _ (taken done : List (List ℕ)) (x : List ℕ) where
   pub olds_new : is_taken taken x ≡ false → is_taken (olds taken done) x ≡ false
       → olds taken (done ++ x ∷ []) ≡ olds taken done ++ x ∷ []
   olds_new is new = more is ∙ ap (λ (b : Bool). cond b (olds taken done) (olds taken done ++ x ∷ [])) new
+
+pub or_swapped : (a b : Bool) → (b || a) ≡ (a || b)
+or_swapped true true = refl
+or_swapped true false = refl
+or_swapped false true = refl
+or_swapped false false = refl

@@ -159,13 +159,12 @@ fn give(
     put_number(next, front, behind)
 }
 
-/// Whether a name stays, or has a new one.
+/// Whether a name stays, or has a new one. Most names have stood before.
+#[tactic(auto, using(crate::proofs::Once::or_swapped))]
 fn is_settled(taken: &TakenSet, table: &IndexMap<Name, Name>, name: &Name) -> bool
     ensures { result ≡ (is_taken taken.now name.now || is_some (lookup (is_text name.now) table.now.entries)) }
 {
-    let stays = taken.has(name);
-    let is_named = has_name(table, name);
-    stays || is_named
+    has_name(table, name) || taken.has(name)
 }
 
 fn has_name(table: &IndexMap<Name, Name>, name: &Name) -> bool

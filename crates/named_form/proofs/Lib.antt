@@ -1,3 +1,4 @@
+mod Apart
 mod Fronts
 mod Picked
 mod Kept

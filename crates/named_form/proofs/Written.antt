@@ -1,9 +1,14 @@
 -- What is kept of a set can be written under its new names.
-use Rattle.std.proofs.Common.{◌≡◌, ℕ, ◌||◌, Bool, true, false, cond, List, [], ◌∷◌, ◌++◌, map, Some, slice_get, codes, refl}
+use Rattle.std.proofs.Common.{◌≡◌, ℕ, ◌||◌, Bool, true, false, cond, List, [], ◌∷◌, ◌++◌, map, Some, slice_get, codes, inr, Result, Ok, Err, refl}
 use Rattle.std.proofs.Common.{sym, ap, subst, ◌∙◌}
 use Rattle.std.specs.List.{AllByRecursion}
 use Rattle.mark_core.specs.Marks.{Closed}
 use Rattle.class_model.specs.declared.class.Class.{Class}
+use Rattle.class_pool.specs.Faults.{classes_of, name_faults, then_super_faults}
+use Rattle.class_pool.specs.bodies.Faults.{NamesDiffer}
+use Rattle.class_pool.specs.declared.fault.NamedClass.{NamedClass}
+use Rattle.class_pool.specs.declared.fault.PoolFault.{PoolFault}
+use Rattle.class_pool.proofs.FaultLaws.{names_differ}
 use Rattle.class_rename.specs.Names.{Names, same_names}
 use Rattle.class_rename.specs.Renamed.{renamed}
 use Rattle.class_write.specs.SpellingLaws.{IsWritable}
@@ -11,19 +16,23 @@ use Rattle.keep_rules.specs.declared.rules.Rules.{Rules}
 use Rattle.member_shrink.specs.Shrunk.{is_marked, shrunk}
 use Rattle.member_shrink.proofs.Picked.{all_mapped}
 use Rattle.fresh_names.specs.Fresh.{is_taken}
-use Rattle.fresh_names.specs.Given.{names_given}
+use Rattle.fresh_names.specs.Given.{class_names, names_given}
 use Rattle.fresh_names.specs.Reserved.{reserved}
 use Rattle.fresh_names.specs.declared.taken.Named.TheVariants as named
 use Rattle.fresh_names.specs.declared.taken.TakenNames.{TakenNames}
 use Rattle.fresh_names.proofs.Reserved.{taken_parts}
+use Rattle.fresh_names.proofs.Tables.{classes_differ}
 use Rattle.rename_map.specs.Fixed.{Stay, names_that_stay}
 use Rattle.rename_map.specs.Names.{given_beside}
 use Rattle.renamed_form.specs.GivenForm.{HasReserved}
 use Rattle.renamed_form.proofs.GivenWritable.{given_writable}
 use Rattle.require_sys.specs.Required.{kept_by_rules, required}
+use Rattle.set_shrink.specs.Order.{AreApart}
 use Rattle.set_shrink.specs.ShrunkSet.{renamed_of}
+use Rattle.set_shrink.proofs.AllOrdered.{order_keeps_all}
 use Rattle.set_shrink.proofs.Writable.{shrunk_writable}
-use Rattle.named_form.specs.Laws.{IsLinked, KeptAreWritable}
+use Rattle.named_form.specs.Laws.{IsLinked, KeptAreAllWritten, KeptAreWritable}
+use Rattle.named_form.proofs.Apart.{kept_apart, pairs_apart, renamed_apart}
 use Rattle.named_form.proofs.Kept.{no_name, none_java, types_known}
 use Rattle.named_form.proofs.Picked.{all_at, all_from}
 use Rattle.named_form.proofs.Same.{same_writable}
@@ -76,3 +85,33 @@ module _ (classes : List Class) (rules : Rules) (marks : List Bool) (t : IsLinke
 
 pub kept_writable : KeptAreWritable
 kept_writable classes rules marks t closed all = by_obfuscation classes rules marks t closed all rules.obfuscate
+
+-- ---- all of it
+
+no_name_fault : (files : List NamedClass) (r : Result (Unit {0}) PoolFault) → name_faults files ≡ r
+    → then_super_faults files r ≡ Ok tt → name_faults files ≡ Ok tt
+no_name_fault files (Ok t) is h = is
+no_name_fault files (Err f) is h = absurd cc
+
+set_apart : (classes : List Class) → IsLinked classes → AreApart classes
+set_apart classes t =
+    pairs_apart classes
+    (subst NamesDiffer (sym t.built.2)
+    (names_differ t.files t.ascend (no_name_fault t.files (name_faults t.files) refl t.built.0)))
+
+apart_by : (classes : List Class) (rules : Rules) (marks : List Bool) → IsLinked classes → (obfuscate : Bool)
+    → AreApart (map
+    (renamed (cond obfuscate (given_beside (names_that_stay rules classes) (shrunk classes marks)) same_names))
+    (shrunk classes marks))
+apart_by classes rules marks t true =
+    renamed_apart (given_beside (names_that_stay rules classes) (shrunk classes marks)) (shrunk classes marks)
+    (λ a b h k same.
+    classes_differ (names_that_stay rules classes).classes (class_names (shrunk classes marks)) a b (inr h) (inr k) same)
+    (kept_apart classes marks (set_apart classes t))
+apart_by classes rules marks t false =
+    renamed_apart same_names (shrunk classes marks) (λ a b h k same. same)
+    (kept_apart classes marks (set_apart classes t))
+
+pub all_written : KeptAreAllWritten
+all_written classes rules marks t =
+    order_keeps_all (renamed_of classes marks rules) (apart_by classes rules marks t rules.obfuscate)

@@ -1,4 +1,4 @@
-mod Few
+pub mod Few
 mod Files
 mod Judging
 mod Methods

@@ -1,7 +1,8 @@
 -- Classes in the order of the paths of their files (the project's own: so they are written).
-use Rattle.std.specs.Prelude.{ℕ, List, [], ◌∷◌, ◌++◌, codes}
+use Rattle.std.specs.Prelude.{◌≢◌, ℕ, List, [], ◌∷◌, ◌++◌, IsPermutation, codes}
 use Rattle.std.specs.BTreeMap.{insert_entry}
 use Rattle.std.specs.Cmp.Lexicographic.{slice_cmp}
+use Rattle.std.specs.List.{AllByRecursion}
 use Rattle.std.specs.Map.{values_of}
 use Rattle.std.specs.Ordering.{nat_cmp}
 use Rattle.class_model.specs.declared.class.Class.{Class}
@@ -18,3 +19,14 @@ placed entries (c ∷ cs) = placed (insert_entry (slice_cmp nat_cmp) entries (cl
 -- classes in the order of their paths
 abbrev pub in_order : List Class → List Class
 in_order classes = values_of (placed [] classes)
+
+-- ---- the law
+
+-- no two classes have one name (JVMS 5.3.5)
+abbrev pub AreApart : List Class → Type 0
+AreApart [] = Unit {0}
+AreApart (c ∷ cs) = AllByRecursion (λ (d : Class). c.name ≢ d.name) cs × AreApart cs
+
+-- then each of them stands there once, and nothing else
+abbrev pub OrderKeepsAll : Type 0
+OrderKeepsAll = (classes : List Class) → AreApart classes → IsPermutation classes (in_order classes)

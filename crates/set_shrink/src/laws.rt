@@ -1,4 +1,5 @@
 // What holds of what is written of a set.
+ghost use Rattle.set_shrink.specs.Order.{OrderKeepsAll};
 ghost use Rattle.set_shrink.specs.OneShrunk.{IsOneLimit, IsOneShrunk, NotBothShrunk};
 ghost use Rattle.set_shrink.specs.Writable.{FilteredIsWritable, ShrunkAreWritable};
 
@@ -19,4 +20,9 @@ pub fn shrunk_can_be_written()
 /// A class that can be written can be written with those optional attributes alone that are kept (JVMS 4.1).
 pub fn filtered_can_be_written()
     ensures { FilteredIsWritable }
+{}
+
+/// Classes of which no two have one name are all there in the order of their paths, each once. It does nothing.
+pub fn order_keeps_all()
+    ensures { OrderKeepsAll }
 {}

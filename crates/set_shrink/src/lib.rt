@@ -11,7 +11,7 @@ mod shrunk;
 mod texts;
 
 pub use counts::Counts;
-pub use laws::{filtered_can_be_written, one_shrunk_set, shrunk_can_be_written};
+pub use laws::{filtered_can_be_written, one_shrunk_set, order_keeps_all, shrunk_can_be_written};
 pub use lists::lists_of;
 pub use shrunk::{ShrunkSet, shrink_set};
 pub use texts::texts_of;

@@ -1,5 +1,5 @@
 -- What is planned of a set, step by step.
-use Rattle.std.proofs.Common.{◌≡◌, ℕ, Bool, List, length, Result, Ok, Err, sym, subst, ◌∙◌}
+use Rattle.std.proofs.Common.{◌≡◌, ℕ, Bool, List, length, map, Result, Ok, Err, sym, subst, ◌∙◌}
 use Rattle.std.specs.Prelude.{IfOk, IsErrOf}
 use Rattle.tree_io.specs.declared.file_at.FileAt.{FileAt}
 use Rattle.mark_core.specs.Marks.{Closed, set_of}
@@ -12,6 +12,8 @@ use Rattle.class_pool.specs.Supertypes.{NoCycle}
 use Rattle.named_form.specs.Laws.{IsLinked}
 use Rattle.require_sys.specs.Required.{required, system_due}
 use Rattle.set_read.specs.Accepted.{IsAccepted}
+use Rattle.set_read.proofs.Few.{ascending_kept}
+use Rattle.tree_io.specs.Below.{IsAscending}
 use Rattle.set_shrink.specs.ShrunkSet.{IsShrunk}
 use Rattle.set_shrink.specs.Texts.{texts_due}
 use Rattle.set_shrink.specs.declared.shrunk.ShrunkSet.{ShrunkSet}
@@ -50,9 +52,11 @@ kept_closed rules classes marks kept =
     subst (λ (sys : System). Closed sys (set_of marks)) (sym (due_is classes rules kept.sys kept.due)) kept.least.closed
 
 -- a set that is taken was built and breaks no rule for links
-pub linked_set : (inputs : List FileAt) (classes : List Class) → IsAccepted inputs classes → IsLinked classes
-linked_set inputs classes taken = record {
+pub linked_set : (inputs : List FileAt) (classes : List Class)
+    → IsAscending (map (λ (f : FileAt). f.path) inputs) → IsAccepted inputs classes → IsLinked classes
+linked_set inputs classes ascending taken = record {
   files = taken.named;
+  ascend = ascending_kept inputs taken.named taken.read ascending;
   built = (taken.first, subst NoCycle taken.are taken.acyclic, taken.are);
   linked = taken.linked;
 }

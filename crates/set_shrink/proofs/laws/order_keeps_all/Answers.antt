@@ -1,0 +1,5 @@
+use Rattle.set_shrink.proofs.AllOrdered.{order_keeps_all}
+use Rattle.set_shrink.proofs.laws.order_keeps_all.Goals as goal
+
+pub returns : goal.returns
+returns c = order_keeps_all
