@@ -1,7 +1,6 @@
 // A set without what isn't kept, under new names.
-ghost use Rattle.std.specs.Prelude.{◌≡◌, length};
+ghost use Rattle.std.specs.Prelude.{◌≡◌, ◌<◌, length};
 ghost use Rattle.std.specs.List.{AllByRecursion};
-ghost use Rattle.class_model.specs.declared.class.Class.{Class as ClassValue};
 ghost use Rattle.class_pool.specs.Count.{item_count};
 ghost use Rattle.class_write.specs.SpellingLaws.{IsWritable};
 ghost use Rattle.rename_map.specs.Names.{AreFixed};

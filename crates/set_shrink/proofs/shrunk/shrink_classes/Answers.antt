@@ -15,8 +15,8 @@ counts_of-counts-requires c = record {
       omega (arith, few, kept, c.requires.few);
 }
 
-pub written_named-written-requires : goal.written_named-written-requires
-written_named-written-requires c = record {
+pub written_named-requires : goal.written_named-requires
+written_named-requires c = record {
   writable = named_writable c.args.classes c.args.marks.now c.args.rules.now (names_in c.in_ok-names.names)
       c.in_ok-kept.kept c.in_ok-kept.ensures
       (c.in_ok-names.ensures c.args.rules.now c.args.classes c.requires.fixed) c.requires.writable;
