@@ -70,7 +70,13 @@ impl<'a> Renamer<'a> {
         ensures names { self.new ≡ self.old }
         ensures renamed { IfOk result (λ new. new ≡ renamed_field_ref (names_in self.old) r.now) }
     {
-        field_ref(alloc, self.names, &mut self.field_texts, &mut self.field_refs, r)
+        field_ref(
+            alloc,
+            self.names,
+            &mut self.field_texts,
+            &mut self.field_refs,
+            r,
+        )
     }
 
     /// What becomes of a reference to a method.
@@ -78,7 +84,13 @@ impl<'a> Renamer<'a> {
         ensures names { self.new ≡ self.old }
         ensures renamed { IfOk result (λ new. new ≡ renamed_method_ref (names_in self.old) r.now) }
     {
-        method_ref(alloc, self.names, &mut self.method_texts, &mut self.method_refs, r)
+        method_ref(
+            alloc,
+            self.names,
+            &mut self.method_texts,
+            &mut self.method_refs,
+            r,
+        )
     }
 }
 

@@ -598,7 +598,12 @@ fn something_is_kept_where_something_is_removed(rt: HostRuntime) -> Result<(), F
     let none = "classes 0 0\nfields 0 0\nmethods 0 0\nedited 0\nfallback 0\n";
     let texts: &[Row<'static>] = &[("map.txt", b""), WITNESS];
     for (rest, status, said, written) in [
-        ("-keep class A", 3, "error 3 rules 0 NothingKept\n", &texts[..0]),
+        (
+            "-keep class A",
+            3,
+            "error 3 rules 0 NothingKept\n",
+            &texts[..0],
+        ),
         ("", 3, "error 3 rules 0 NothingKept\n", &texts[..0]),
         ("-keep class A -dontshrink", 0, none, texts),
     ] {
@@ -685,11 +690,7 @@ fn optional_attributes_are_written_where_they_are_kept(rt: HostRuntime) -> Resul
             lined,
         ),
     ] {
-        let written = [
-            ("out/demo/N.class", wanted),
-            ("map.txt", mapping),
-            WITNESS,
-        ];
+        let written = [("out/demo/N.class", wanted), ("map.txt", mapping), WITNESS];
         expect_kept(&rt, rt.alloc(), rest, &rows, 0, said, &written)?;
     }
     Ok(())
@@ -716,7 +717,10 @@ fn a_name_that_stays_is_given_to_nothing_else(rt: HostRuntime) -> Result<(), Fai
 #[test]
 fn a_witness_is_written_where_nothing_is_edited(rt: HostRuntime) -> Result<(), Fail> {
     let alloc = rt.alloc();
-    let rows = [(CONFIG, KEEP_MAIN), ("in/demo/Main.class", DEMO_MAIN_PRINTS)];
+    let rows = [
+        (CONFIG, KEEP_MAIN),
+        ("in/demo/Main.class", DEMO_MAIN_PRINTS),
+    ];
     let mut tree = MemoryTree::new(alloc, files_of(alloc, &rows)?, Items::new(alloc))?;
     let said = "classes 1 1\nfields 0 0\nmethods 3 1\nedited 0\nfallback 0\n";
     expect_end(&rt, alloc, COMMAND, &mut tree, &[], 0, said)?;

@@ -15,12 +15,7 @@ use std::alloc::Global;
 
 /// What each class with its members was named and what it is named now, in their order. Where lines are kept, a method
 /// has the least and the greatest line of its code, if that has lines.
-pub fn mapping_of(
-    alloc: Global,
-    names: &NewNames,
-    kept: &Items<Class>,
-    lines: bool,
-) -> M<Mapping>
+pub fn mapping_of(alloc: Global, names: &NewNames, kept: &Items<Class>, lines: bool) -> M<Mapping>
     ensures { IfOk result (λ mapping. mapping ≡ mapping_of (names_in names.now) lines kept.now) }
 {
     let mut classes = Items::new(alloc);
