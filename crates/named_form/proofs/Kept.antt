@@ -22,10 +22,14 @@ use Rattle.lib_table.specs.declared.class.LibKind.TheVariants.{Open}
 use Rattle.class_pool.specs.Hierarchy.{class_named, or_found}
 use Rattle.class_pool.specs.Items.{class_item}
 use Rattle.class_pool.specs.declared.id.ClassId.{ClassId}
+use Rattle.class_pool.specs.declared.id.MemberAt.{MemberAt}
 use Rattle.class_pool.specs.declared.id.ClassId.TheVariants.{Prog, Lib}
 use Rattle.class_pool.proofs.Distinct.{position_next}
 use Rattle.class_pool.proofs.ObjectLaws.{no_library_name}
-use Rattle.link_check.specs.Profile.{class_kinds, method_type_kinds, name_kinds, type_kinds}
+use Rattle.link_check.specs.Profile.{body_kinds, class_kinds, code_kinds, declaration_kinds, left_out_at}
+use Rattle.link_check.specs.Profile.{method_type_kinds, name_kinds, overriding_kinds, type_kinds, unless}
+use Rattle.link_check.specs.declared.fault.ProfileKind.TheVariants.{LeftOutFlag}
+use Rattle.class_model.specs.Flags.{is_native}
 use Rattle.link_check.specs.Profile as profile
 use Rattle.link_check.specs.Taken.{BreaksNoRule}
 use Rattle.link_check.proofs.Taken.{links_taken}
@@ -49,24 +53,32 @@ use Rattle.named_form.proofs.Picked.{all_picked_at, picked_name}
 
 -- ---- lists
 
--- where none is found, none passes
-none_at : {A : Type 0} (q : A → Bool) (xs : List A) → position q xs ≡ None → (k : ℕ) (x : A) → slice_get xs k ≡ Some x
-    → q x ≡ false
-none_at q [] none k x at = absurd cc
-none_at q (y ∷ xs) none k x at = on (q y) refl k at
+none_behind : (o : Option ℕ) → option_map suc o ≡ None → o ≡ None
+none_behind None h = refl
+none_behind (Some n) h = absurd cc
+
+-- where none is found, the first one doesn't pass, and none is found behind it
+none_first : {A : Type 0} (q : A → Bool) (y : A) (xs : List A) → position q (y ∷ xs) ≡ None
+    → (q y ≡ false) × (position q xs ≡ None)
+none_first q y xs none = on (q y) refl
   where
-    on : (b : Bool) → q y ≡ b → (k : ℕ) → slice_get (y ∷ xs) k ≡ Some x → q x ≡ false
-    on true e k at = absurd (
+    on : (b : Bool) → q y ≡ b → (q y ≡ false) × (position q xs ≡ None)
+    on true e = absurd (
         let first : Some 0 ≡ None = sym (position_next q y xs
         ∙ ap (λ (b : Bool). cond b (Some 0) (option_map suc (position q xs))) e) ∙ none in
         cc)
-    on false e zero at = let same : y ≡ x = cc in ap q (sym same) ∙ e
-    on false e (suc k) at = none_at q xs (rest (position q xs) (sym (position_next q y xs
-        ∙ ap (λ (b : Bool). cond b (Some 0) (option_map suc (position q xs))) e) ∙ none)) k x at
-      where
-        rest : (o : Option ℕ) → option_map suc o ≡ None → o ≡ None
-        rest None h = refl
-        rest (Some n) h = absurd cc
+    on false e = (
+      e,
+      none_behind (position q xs)
+          (sym (position_next q y xs ∙ ap (λ (b : Bool). cond b (Some 0) (option_map suc (position q xs))) e) ∙ none),
+    )
+
+-- none passes
+none_at : {A : Type 0} (q : A → Bool) (xs : List A) → position q xs ≡ None → (k : ℕ) (x : A) → slice_get xs k ≡ Some x
+    → q x ≡ false
+none_at q [] none k x at = absurd cc
+none_at q (y ∷ xs) none zero x at = let same : y ≡ x = cc in ap q (sym same) ∙ (none_first q y xs none).0
+none_at q (y ∷ xs) none (suc k) x at = none_at q xs (none_first q y xs none).1 k x at
 
 none_each : {X Y : Type 0} (g : X → List Y) (xs : List X) → flat_map g xs ≡ [] → AllByRecursion (λ x. g x ≡ []) xs
 none_each g [] h = tt
@@ -258,11 +270,18 @@ module _ (classes : List Class) (rules : KeptByRules) (marks : List Bool) (t : I
         let wants = method_in classes rules (is_marked marks) closed n c is k m at h in
         let typed = all_left In (method_type_wants classes m.ty)
         (throws_wants classes rules m ++ option_map_or (code_wants classes n) m.code []) wants.1 in
-        let one = none_left _ _ (no_rule.method n c k m is at) in
-        let two = none_left _ _ one.0 in
-        let three = none_left _ _ two.1 in
-        let four = none_left _ _ three.1 in
-        method_type_known n m.ty four.0 typed.0
+        let item : MemberAt = record { class = Prog n; index = length c.fields + k } in
+        let head = left_out_at c.left_out (Some (length c.fields + k)) in
+        let native = unless (not (is_native m.flags.0)) LeftOutFlag in
+        let head_kinds = declaration_kinds classes n c (length c.fields + k) m in
+        let one = none_left (head_kinds ++ body_kinds c m ++ overriding_kinds classes n item)
+        (option_map_or (code_kinds classes n m.name) m.code []) (no_rule.method n c k m is at) in
+        let two = none_left (head_kinds ++ body_kinds c m) (overriding_kinds classes n item) one.0 in
+        let three = none_left head_kinds (body_kinds c m) two.0 in
+        let four = none_left (head ++ native ++ method_type_kinds classes n m.ty)
+        (flat_map (name_kinds classes n) m.throws) three.0 in
+        let five = none_left (head ++ native) (method_type_kinds classes n m.ty) four.0 in
+        method_type_known n m.ty five.1 typed.0
 
     class_known : (n : ℕ) (c : Class) → slice_get classes n ≡ Some c → TypesAreKnown known (left (n, c))
     class_known n c is = record {

@@ -15,15 +15,12 @@ use Rattle.class_write.specs.SpellingLaws.{IsWritable}
 use Rattle.keep_rules.specs.declared.rules.Rules.{Rules}
 use Rattle.member_shrink.specs.Shrunk.{is_marked, shrunk}
 use Rattle.member_shrink.proofs.Picked.{all_mapped}
-use Rattle.fresh_names.specs.Fresh.{is_taken}
 use Rattle.fresh_names.specs.Given.{class_names, names_given}
-use Rattle.fresh_names.specs.Reserved.{reserved}
-use Rattle.fresh_names.specs.declared.taken.Named.TheVariants as named
 use Rattle.fresh_names.specs.declared.taken.TakenNames.{TakenNames}
-use Rattle.fresh_names.proofs.Reserved.{taken_parts}
 use Rattle.fresh_names.proofs.Tables.{classes_differ}
 use Rattle.rename_map.specs.Fixed.{Stay, names_that_stay}
 use Rattle.rename_map.specs.Names.{given_beside}
+use Rattle.rename_map.proofs.Stays.{reserved_class_stays, reserved_method_stays}
 use Rattle.renamed_form.specs.GivenForm.{HasReserved}
 use Rattle.renamed_form.proofs.GivenWritable.{given_writable}
 use Rattle.require_sys.specs.Required.{kept_by_rules, required}
@@ -41,17 +38,10 @@ use Rattle.named_form.proofs.Same.{same_writable}
 abbrev taken_of : Stay → TakenNames
 taken_of stay = record { classes = stay.classes; fields = stay.fields; methods = stay.methods }
 
-or_right : (b c : Bool) → c ≡ true → (b || c) ≡ true
-or_right true c h = refl
-or_right false c h = h
-
-behind : (front names : List (List ℕ)) (a : List ℕ) → is_taken names a ≡ true → is_taken (front ++ names) a ≡ true
-behind front names a h = taken_parts front names a ∙ or_right (is_taken front a) (is_taken names a) h
-
 has_reserved : (rules : Rules) (classes : List Class) → HasReserved (taken_of (names_that_stay rules classes))
 has_reserved rules classes = record {
-  classes = λ a h. behind _ _ a (behind _ (reserved named.Class) a h);
-  methods = λ a h. behind _ (reserved named.Method) a h;
+  classes = λ a h. reserved_class_stays rules classes a h;
+  methods = λ a h. reserved_method_stays rules classes a h;
 }
 
 module _ (classes : List Class) (rules : Rules) (marks : List Bool) (t : IsLinked classes)

@@ -1,0 +1,31 @@
+-- Names that are reserved stay, whatever the rules are.
+use Rattle.std.proofs.Common.{◌≡◌, ℕ, ◌||◌, Bool, true, false, List, ◌++◌, refl, ◌∙◌}
+use Rattle.class_model.specs.declared.class.Class.{Class}
+use Rattle.keep_match.specs.Fixed.{fixed_rows}
+use Rattle.keep_match.specs.declared.fixed.Fixes.TheVariants as fixes
+use Rattle.keep_rules.specs.declared.rules.Rules.{Rules}
+use Rattle.fresh_names.specs.Fresh.{is_taken}
+use Rattle.fresh_names.specs.Reserved.{reserved}
+use Rattle.fresh_names.specs.declared.taken.Named.TheVariants as named
+use Rattle.fresh_names.proofs.Reserved.{taken_parts}
+use Rattle.rename_map.specs.declared.gathering.Chosen.TheVariants as choose
+use Rattle.rename_map.specs.Fixed.{names_that_stay, of_each}
+
+or_right : (b c : Bool) → c ≡ true → (b || c) ≡ true
+or_right true c h = refl
+or_right false c h = h
+
+behind : (front names : List (List ℕ)) (a : List ℕ) → is_taken names a ≡ true → is_taken (front ++ names) a ≡ true
+behind front names a h = taken_parts front names a ∙ or_right (is_taken front a) (is_taken names a) h
+
+pub reserved_class_stays : (rules : Rules) (classes : List Class) (a : List ℕ)
+    → is_taken (reserved named.Class) a ≡ true → is_taken (names_that_stay rules classes).classes a ≡ true
+reserved_class_stays rules classes a h =
+    let own = of_each choose.Class (fixed_rows fixes.Classes rules classes) classes in
+    let described = of_each choose.Described (fixed_rows fixes.DescriptorClasses rules classes) classes in
+    behind own (described ++ reserved named.Class) a (behind described (reserved named.Class) a h)
+
+pub reserved_method_stays : (rules : Rules) (classes : List Class) (a : List ℕ)
+    → is_taken (reserved named.Method) a ≡ true → is_taken (names_that_stay rules classes).methods a ≡ true
+reserved_method_stays rules classes a h =
+    behind (of_each choose.Methods (fixed_rows fixes.Members rules classes) classes) (reserved named.Method) a h
