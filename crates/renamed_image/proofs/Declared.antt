@@ -86,19 +86,18 @@ library_at id k row at = by (slice_get library id) refl
 
 -- ---- the descriptor of a class initialisation method
 
-initial : MethodType
+abbrev pub initial : MethodType
 initial = record { args = []; ret = None }
 
-initial_is : IsMethodType initial
-unfolding initial argument_words
+pub initial_is : IsMethodType initial
+unfolding argument_words
 initial_is = record { arguments = tt; words = omega arith; returned = tt }
 
 initial_known : (known : List ℕ → Bool) → IsKnownMethodType known initial
-unfolding initial
 initial_known known = record { arguments = tt; returned = tt }
 
-initial_text : method_text initial ≡ codes "()V"
-unfolding initial method_text result_text
+pub initial_text : method_text initial ≡ codes "()V"
+unfolding method_text result_text
 initial_text = refl
 
 -- ---- the test
