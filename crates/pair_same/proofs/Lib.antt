@@ -1,0 +1,5 @@
+pub mod Tables
+pub mod Lines
+pub mod Lined
+pub mod ClosedLines
+pub mod Expected
