@@ -151,11 +151,19 @@ code_new mapping filter a b h = by filter.line_numbers a b h
       handlers = sym h.handlers;
     })
 
-some_of : {X : Type 0} (o : Option X) → is_some o ≡ true → (x : X) × (o ≡ Some x)
+-- the class with a number has the name by which that was found
+pub numbered_class : (cs : List Class) (name : List ℕ) (n : ℕ) → number_of cs name ≡ Some n
+    → (d : Class) × (slice_get cs n ≡ Some d) × (d.name ≡ name)
+numbered_class [] name n e = absurd cc
+numbered_class (d ∷ cs) name n e =
+    let p = position-Some (λ (c : Class). is_text name c.name) (d ∷ cs) n d e in
+    (get_or (d ∷ cs) n d, slice_get-get_or (d ∷ cs) n d p.0, sym (same_text name (get_or (d ∷ cs) n d).name p.1))
+
+pub some_of : {X : Type 0} (o : Option X) → is_some o ≡ true → (x : X) × (o ≡ Some x)
 some_of None h = absurd cc
 some_of (Some x) h = (x, refl)
 
-some_under : {X Y : Type 0} (g : X → Y) (o : Option X) → is_some (option_map g o) ≡ true → (x : X) × (o ≡ Some x)
+pub some_under : {X Y : Type 0} (g : X → Y) (o : Option X) → is_some (option_map g o) ≡ true → (x : X) × (o ≡ Some x)
 some_under g None h = absurd cc
 some_under g (Some x) h = (x, refl)
 
@@ -164,12 +172,12 @@ all_both : {X : Type 0} (P Q : X → Type 0) (xs : List X) → AllByRecursion P 
 all_both P Q [] h k = tt
 all_both P Q (x ∷ xs) h k = ((h.0, k.0), all_both P Q xs h.1 k.1)
 
-mapped_all : {X Y : Type 0} (P : Y → Type 0) (g : X → Y) (xs : List X) → AllByRecursion (λ x. P (g x)) xs
+pub mapped_all : {X Y : Type 0} (P : Y → Type 0) (g : X → Y) (xs : List X) → AllByRecursion (λ x. P (g x)) xs
     → AllByRecursion P (map g xs)
 mapped_all P g [] h = tt
 mapped_all P g (x ∷ xs) h = (h.0, mapped_all P g xs h.1)
 
-each_all : {X : Type 0} (P Q : X → Type 0) → ((x : X) → P x → Q x) → (xs : List X) → AllByRecursion P xs
+pub each_all : {X : Type 0} (P Q : X → Type 0) → ((x : X) → P x → Q x) → (xs : List X) → AllByRecursion P xs
     → AllByRecursion Q xs
 each_all P Q to [] h = tt
 each_all P Q to (x ∷ xs) h = (to x h.0, each_all P Q to xs h.1)
@@ -291,7 +299,7 @@ module _ (input output : List Class) (mapping : Mapping) (rules : Rules) (taken 
       let l = some_under (λ (l : MapClass). l.new) (class_line mapping c.name) h in
       let good = (line_of c.name l.0 l.1).0 in
       let n = some_of (number_of output l.0.new) good.line.in_output in
-      let found = at_number output l.0.new n.0 n.1 in
+      let found = numbered_class output l.0.new n.0 n.1 in
       record {
         line = l.0;
         line_is = l.1;
@@ -305,13 +313,6 @@ module _ (input output : List Class) (mapping : Mapping) (rules : Rules) (taken 
             (number_of output new)) (option_map (λ (l : MapClass). l.new) o)) l.1
             ∙ ap (option_and_then (λ n. slice_get output n)) n.1 ∙ found.1;
       }
-    where
-      at_number : (cs : List Class) (name : List ℕ) (n : ℕ) → position (λ (c : Class). is_text name c.name) cs ≡ Some n
-          → (d : Class) × (slice_get cs n ≡ Some d) × (d.name ≡ name)
-      at_number [] name n e = absurd cc
-      at_number (d ∷ cs) name n e =
-          let p = position-Some (λ (c : Class). is_text name c.name) (d ∷ cs) n d e in
-          (get_or (d ∷ cs) n d, slice_get-get_or (d ∷ cs) n d p.0, sym (same_text name (get_or (d ∷ cs) n d).name p.1))
 
   -- the clauses at a class of the input
   members_at : (n : ℕ) (c : Class) → slice_get input n ≡ Some c
@@ -355,14 +356,14 @@ module _ (input output : List Class) (mapping : Mapping) (rules : Rules) (taken 
       (codes_at n c at) in
       let more = neither (nat_lt (length fields) (length o.out.fields)) (nat_lt (length methods) (length o.out.methods))
       (no_place (nat_lt (length fields) (length o.out.fields) || nat_lt (length methods) (length o.out.methods))
-      (class_place c.name) (sym all.3)) in
+      (class_place c.name) (sym all.1.1.1)) in
       let few = ltb-false (length fields) (length o.out.fields) more.0 in
       let few_methods = ltb-false (length methods) (length o.out.methods) more.1 in
       record {
         class = all.0;
-        fields = unlike_none (IsSameField mapping) (λ (e : NewField). place_of_field c e.0) fields o.out.fields all.1 few;
+        fields = unlike_none (IsSameField mapping) (λ (e : NewField). place_of_field c e.0) fields o.out.fields all.1.0 few;
         methods = unlike_none (IsSameMethod mapping (filter_of rules)) (λ (e : NewMethod). place_of_method c e.0) methods
-            o.out.methods all.2 few_methods;
+            o.out.methods all.1.1.0 few_methods;
         bodies = unlike_none (IsSameBody mapping (filter_of rules)) (λ (e : NewMethod). place_of_method c e.0) methods
             o.out.methods codes few_methods;
       }

@@ -34,7 +34,7 @@ use Rattle.taken_set.proofs.Rows.{all_at}
 
 -- ---- what some element passes, and where
 
-any_at : {A : Type 0} (p : A → Bool) (xs : List A) → list_any p xs ≡ true
+pub any_at : {A : Type 0} (p : A → Bool) (xs : List A) → list_any p xs ≡ true
     → (k : ℕ) × (y : A) × (slice_get xs k ≡ Some y) × (p y ≡ true)
 any_at p [] is = absurd cc
 any_at {A = A} p (x ∷ xs) is = by (p x) refl is (any_at p xs)
@@ -49,7 +49,7 @@ or_true : (b : Bool) → (b || true) ≡ true
 or_true true = refl
 or_true false = refl
 
-any_of : {A : Type 0} (p : A → Bool) (xs : List A) (k : ℕ) (y : A) → slice_get xs k ≡ Some y → p y ≡ true
+pub any_of : {A : Type 0} (p : A → Bool) (xs : List A) (k : ℕ) (y : A) → slice_get xs k ≡ Some y → p y ≡ true
     → list_any p xs ≡ true
 any_of p [] k y at is = absurd cc
 any_of p (x ∷ xs) zero y at is = ap (λ (b : Bool). b || list_any p xs) (ap p (same_Some x y at) ∙ is)
@@ -65,7 +65,7 @@ library_class_at id c at = by library id at
     by (d ∷ cs) zero at = same_Some d c at
     by (d ∷ cs) (suc k) at = by cs k at
 
-library_at : (id k : ℕ) (row : MemberRow)
+pub library_at : (id k : ℕ) (row : MemberRow)
     → slice_get (map (library_row (table.class_at id).kind) (table.class_at id).members) k ≡ Some row
     → (c : LibraryClass) × (slice_get library id ≡ Some c) × (slice_get (library_rows_of c) k ≡ Some row)
 library_at id k row at = by (slice_get library id) refl
