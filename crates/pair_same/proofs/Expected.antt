@@ -1,6 +1,7 @@
 -- What the clauses MemberDiffers and CodeDiffers give: each class of the output is the class of the input with the
 -- members that have lines, under the new names, and so are the codes.
-use Rattle.std.proofs.Common.{◌≡◌, ◌≤◌, ◌<◌, ℕ, zero, suc, ◌+◌, nat_lt, ◌||◌, Bool, true, false, cond, List, [], ◌∷◌, map}
+use Rattle.std.proofs.Common.{◌≡◌, ◌≤◌, ◌<◌, ℕ, zero, suc, ◌+◌, nat_lt, ◌||◌, Bool, true, false, cond, List, [], ◌∷◌}
+use Rattle.std.proofs.Common.{map}
 use Rattle.std.proofs.Common.{length, Option, Some, None, slice_get, get_or, refl, sym, ap, subst, ◌∙◌, arith}
 use Rattle.std.specs.Prelude.{is_some}
 use Rattle.std.specs.List.{AllByRecursion, AllZip, cons_option, filter_map, flat_map, position, zip}
@@ -110,9 +111,10 @@ module _ (names : class_rename.Names) where
   instructions_new (x ∷ xs) [] e = absurd cc
   instructions_new (x ∷ xs) (y ∷ ys) e =
       let first : renamed_ins names x ≡ y = cc in
-      let rest : map (renamed_ins names) xs ≡ ys = cc in
-      (record { op = sym (ap (λ (i : Ins). i.op) first); line = at_line x.line y.line (ap (λ (i : Ins). i.line) first) },
-      instructions_new xs ys rest)
+      let rest : map (renamed_ins names) xs ≡ ys = cc in (
+        record { op = sym (ap (λ (i : Ins). i.op) first); line = at_line x.line y.line (ap (λ (i : Ins). i.line) first) },
+        instructions_new xs ys rest,
+      )
     where
       at_line : (a b : Option ℕ) → a ≡ b → LineCorr a b
       at_line a None e = tt
@@ -124,11 +126,13 @@ module _ (names : class_rename.Names) where
   lines_gone (x ∷ xs) [] e = absurd cc
   lines_gone (x ∷ xs) (y ∷ ys) e =
       let first : renamed_ins names (without_line x) ≡ y = cc in
-      let rest : map (renamed_ins names) (map without_line xs) ≡ ys = cc in
-      (record {
-        op = sym (ap (λ (i : Ins). i.op) first);
-        line = subst (LineCorr x.line) (ap (λ (i : Ins). i.line) first) tt;
-      }, lines_gone xs ys rest)
+      let rest : map (renamed_ins names) (map without_line xs) ≡ ys = cc in (
+        record {
+          op = sym (ap (λ (i : Ins). i.op) first);
+          line = subst (LineCorr x.line) (ap (λ (i : Ins). i.line) first) tt;
+        },
+        lines_gone xs ys rest,
+      )
 
 code_new : (mapping : Mapping) (filter : AttributeFilter) (a b : Option Code) → AreSameCodes mapping (code_kept filter a) b
     → OptionCorr (IsNewCode (names_of mapping)) a b
@@ -139,17 +143,25 @@ code_new mapping filter a b h = by filter.line_numbers a b h
     by true None None h = refl
     by true None (Some d) h = absurd h
     by true (Some c) None h = absurd h
-    by true (Some c) (Some d) h = (d, refl, record {
-      ins = instructions_new (names_of mapping) c.ins d.ins h.ins;
-      handlers = sym h.handlers;
-    })
+    by true (Some c) (Some d) h = (
+      d,
+      refl,
+      record {
+        ins = instructions_new (names_of mapping) c.ins d.ins h.ins;
+        handlers = sym h.handlers;
+      },
+    )
     by false None None h = refl
     by false None (Some d) h = absurd h
     by false (Some c) None h = absurd h
-    by false (Some c) (Some d) h = (d, refl, record {
-      ins = lines_gone (names_of mapping) c.ins d.ins h.ins;
-      handlers = sym h.handlers;
-    })
+    by false (Some c) (Some d) h = (
+      d,
+      refl,
+      record {
+        ins = lines_gone (names_of mapping) c.ins d.ins h.ins;
+        handlers = sym h.handlers;
+      },
+    )
 
 -- the class with a number has the name by which that was found
 pub numbered_class : (cs : List Class) (name : List ℕ) (n : ℕ) → number_of cs name ≡ Some n
@@ -455,16 +467,18 @@ module _ (input output : List Class) (mapping : Mapping) (rules : Rules) (taken 
   renamed j d at =
       let b = becomes j d at in
       let o = b.new in
-      let same = (compared b.n b.class b.there o).class in
-      (o.out, ap (slice_get output) b.place_is ∙ o.at,
-      subst (λ (x : Class). IsNewClass names x o.out) (sym b.is) (record {
-        name = o.name ∙ sym (class_new b.class.name o.line.new (ap (option_map (λ (l : MapClass). l.new)) o.line_is));
-        flags = sym same.flags;
-        super_name = sym same.super_name;
-        interfaces = sym same.interfaces;
-        fields = fields_new b.n b.class b.there o;
-        methods = methods_new b.n b.class b.there o;
-      }))
+      let same = (compared b.n b.class b.there o).class in (
+        o.out,
+        ap (slice_get output) b.place_is ∙ o.at,
+        subst (λ (x : Class). IsNewClass names x o.out) (sym b.is) (record {
+          name = o.name ∙ sym (class_new b.class.name o.line.new (ap (option_map (λ (l : MapClass). l.new)) o.line_is));
+          flags = sym same.flags;
+          super_name = sym same.super_name;
+          interfaces = sym same.interfaces;
+          fields = fields_new b.n b.class b.there o;
+          methods = methods_new b.n b.class b.there o;
+        }),
+      )
 
   pub codes_new : HasNewCodes names place left output
   codes_new j d e at then_at =

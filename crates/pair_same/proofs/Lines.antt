@@ -1,6 +1,7 @@
 -- What the clause MapShape gives: each line of a class names one of the input and one of the output, both once, each
 -- line of a member names one of its class, and names of fields, and of methods, are one to one.
-use Rattle.std.proofs.Common.{◌≡◌, ℕ, ◌||◌, not, Bool, true, false, cond, List, [], ◌∷◌, ◌++◌, map, Option, Some, None, refl}
+use Rattle.std.proofs.Common.{◌≡◌, ℕ, ◌||◌, not, Bool, true, false, cond, List, [], ◌∷◌, ◌++◌, map, Option, Some}
+use Rattle.std.proofs.Common.{None, refl}
 use Rattle.std.proofs.Common.{sym, ap, subst, ◌∙◌}
 use Rattle.std.specs.Prelude.{is_some}
 use Rattle.std.specs.List.{AllByRecursion, flat_map, list_any}
@@ -18,7 +19,8 @@ use Rattle.new_names.specs.NewNames.{all_field_names, all_method_names, class_li
 use Rattle.pair_clauses.specs.Finding.{first_place}
 use Rattle.pair_clauses.specs.Places.{class_place, field_place, method_place, place_if}
 use Rattle.pair_clauses.specs.Shape.{clashes, field_fault, field_named, fields_fault, has_class, has_member}
-use Rattle.pair_clauses.specs.Shape.{is_field_wrong, is_line_at_fault, is_method_wrong, is_stray, line_fault, lines_fault}
+use Rattle.pair_clauses.specs.Shape.{is_field_wrong, is_line_at_fault, is_method_wrong, is_stray, line_fault}
+use Rattle.pair_clauses.specs.Shape.{lines_fault}
 use Rattle.pair_clauses.specs.Shape.{method_fault, method_named, methods_fault, shape_fault, unlined_fault}
 use Rattle.pair_clauses.specs.declared.place.Place.{Place}
 use Rattle.pair_same.proofs.Tables.{AreOne, Names, lookup_append, neither, one_more, text_itself, turned}

@@ -1,7 +1,9 @@
 -- The names that a pair's mapping gives keep apart all that is there: what the clauses MapShape, FixedName and Package
 -- give.
-use Rattle.std.proofs.Common.{◌≡◌, ◌⊎◌, inl, inr, ⊎_elim, ◌<◌, ℕ, zero, suc, ◌+◌, nat_eq, not, ◌&&◌, ◌||◌, Bool, true, false}
-use Rattle.std.proofs.Common.{cond, List, [], ◌∷◌, ◌++◌, length, map, Option, Some, None, slice_get, get_or, refl, sym, ap}
+use Rattle.std.proofs.Common.{◌≡◌, ◌⊎◌, inl, inr, ⊎_elim, ◌<◌, ℕ, zero, suc, ◌+◌, nat_eq, not, ◌&&◌, ◌||◌, Bool, true}
+use Rattle.std.proofs.Common.{false}
+use Rattle.std.proofs.Common.{cond, List, [], ◌∷◌, ◌++◌, length, map, Option, Some, None, slice_get, get_or, refl}
+use Rattle.std.proofs.Common.{sym, ap}
 use Rattle.std.proofs.Common.{subst, ◌∙◌, arith, codes}
 use Rattle.std.specs.Bool.{beq}
 use Rattle.std.specs.Prelude.{IfSome, IsTrue, is_some}
@@ -67,8 +69,10 @@ use Rattle.renamed_image.proofs.Declared.{any_of, library_at}
 use Rattle.renamed_image.proofs.Descriptors.{field_is_none, method_is_one}
 use Rattle.renamed_image.specs.Renaming.{is_method_text}
 use Rattle.pair_same.specs.Pairs.{IsPair, given_names}
-use Rattle.pair_same.proofs.Expected.{GoodLine, all_good, becomes, closed, each_all, field_found, fields_table, left, line_of}
-use Rattle.pair_same.proofs.Expected.{lined, mapped_all, method_found, methods_table, names, new_of, numbered_class, place}
+use Rattle.pair_same.proofs.Expected.{GoodLine, all_good, becomes, closed, each_all, field_found, fields_table, left}
+use Rattle.pair_same.proofs.Expected.{line_of}
+use Rattle.pair_same.proofs.Expected.{lined, mapped_all, method_found, methods_table, names, new_of, numbered_class}
+use Rattle.pair_same.proofs.Expected.{place}
 use Rattle.pair_same.proofs.Expected.{renamed, some_of, some_under, zip_given}
 use Rattle.pair_same.proofs.Fixing as fixing
 use Rattle.pair_same.proofs.Lined.{field_lined, method_lined}
@@ -254,9 +258,13 @@ module _ (input output : List Class) (mapping : Mapping) (rules : Rules) (taken 
       let n = some_of (number_of input l.old) good.line.in_input in
       let c = numbered_class input l.old n.0 n.1 in
       let has : is_some (declared_at input (Prog n.0) named.0 named.1) ≡ true =
-      sym (ap (λ o. option_map_or (λ n. is_some (declared_at input (Prog n) named.0 named.1)) o false) n.1) ∙ h in
-      (n.0, c.0, c.1, c.2,
-      sym (ap (λ o. is_some (option_and_then (λ c. member_named c named.0 named.1) o)) c.1) ∙ has)
+      sym (ap (λ o. option_map_or (λ n. is_some (declared_at input (Prog n) named.0 named.1)) o false) n.1) ∙ h in (
+        n.0,
+        c.0,
+        c.1,
+        c.2,
+        sym (ap (λ o. is_some (option_and_then (λ c. member_named c named.0 named.1) o)) c.1) ∙ has,
+      )
 
   texts_differ : (a b : List ℕ) → is_method_text a ≡ false → is_method_text b ≡ true → a ≡ b → ⊥
   texts_differ a b h k e = let w : false ≡ true = sym h ∙ ap is_method_text e ∙ k in cc

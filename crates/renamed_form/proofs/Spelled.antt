@@ -4,7 +4,8 @@ use Rattle.std.specs.Prelude.{IsTrue, if◌then◌else◌}
 use Rattle.std.specs.List.{fold}
 use Rattle.std.proofs.lemmas.List.Folds.{fold-map}
 use Rattle.jv_base.specs.Names.{is_class_name}
-use Rattle.jv_base.specs.Types.{IsBase, IsFieldType, IsMethodType, argument_words, field_text, is_wide_base, method_text}
+use Rattle.jv_base.specs.Types.{IsBase, IsFieldType, IsMethodType, argument_words, field_text, is_wide_base}
+use Rattle.jv_base.specs.Types.{method_text}
 use Rattle.jv_base.specs.Types.{words_of}
 use Rattle.jv_base.specs.declared.types.Base.{Base}
 use Rattle.jv_base.specs.declared.types.Base.TheVariants as base

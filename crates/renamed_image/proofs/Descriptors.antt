@@ -176,4 +176,3 @@ module _ (names : Names) where
     pub one_member : (a b : NameAndType) → Declared a → Declared b → renamed_named names a ≡ renamed_named names b
         → a ≡ b
     one_member a b d e same = one_of d.method e.method a b d.named d.typed e.named e.typed same
-

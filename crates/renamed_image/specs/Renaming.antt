@@ -1,5 +1,6 @@
 -- Classes under new names, in whatever order, and what is asked of names so that all else stays (JVMS 4, 5.4).
-use Rattle.std.specs.Prelude.{◌≡◌, ◌⊎◌, ℕ, nat_eq, ◌==◌, ◌||◌, Bool, true, false, List, [], ◌∷◌, map, Some, codes, slice_get}
+use Rattle.std.specs.Prelude.{◌≡◌, ◌⊎◌, ℕ, nat_eq, ◌==◌, ◌||◌, Bool, true, false, List, [], ◌∷◌, map, Some, codes}
+use Rattle.std.specs.Prelude.{slice_get}
 use Rattle.std.specs.Prelude.{IsTrue, is_some, if◌then◌else◌}
 use Rattle.std.specs.List.{AllByRecursion, AllZip, starts_with}
 use Rattle.std.specs.Option.{option_map}

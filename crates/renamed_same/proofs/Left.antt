@@ -1,5 +1,6 @@
 -- What is left of a set finds its classes, and names types of classes that are there.
-use Rattle.std.proofs.Common.{◌≡◌, ◌<◌, ℕ, zero, suc, ◌+◌, ◌||◌, not, Bool, true, false, cond, List, [], ◌∷◌, ◌++◌, length}
+use Rattle.std.proofs.Common.{◌≡◌, ◌<◌, ℕ, zero, suc, ◌+◌, ◌||◌, not, Bool, true, false, cond, List, [], ◌∷◌, ◌++◌}
+use Rattle.std.proofs.Common.{length}
 use Rattle.std.proofs.Common.{map, Option, Some, None, slice_get, refl, sym, ap, subst, ◌∙◌, arith}
 use Rattle.std.specs.Prelude.{IfSome, is_some, codes}
 use Rattle.std.specs.List.{AllByRecursion, cons_option, flat_map}
@@ -181,9 +182,11 @@ module _ (classes : List Class) (rules : KeptByRules) (marks : List Bool)
         let none = (none_left (left_out_at c.left_out (Some o.k)) (type_kinds classes s.n x.ty)
         (right.field s.n c o.k x s.there here)).1 in
         let wants = (field_in classes rules (is_marked marks) closed s.n c s.there o.k x here o.passes).1 in
-        let good = all_at (IsGoodField (is_interface c.flags.0)) c.fields o.k x (taken.formed s.n c s.there).fields here in
-        (good.typed, type_there out place x.ty
-        (base_left classes rules marks closed taken s.n s.own x.ty.base wants none))
+        let good = all_at (IsGoodField (is_interface c.flags.0)) c.fields o.k x (taken.formed s.n c s.there).fields here in (
+          good.typed,
+          type_there out place x.ty
+              (base_left classes rules marks closed taken s.n s.own x.ty.base wants none),
+        )
 
     method_typed : (k : ℕ) (m : Method) → slice_get new.methods k ≡ Some m
         → IsMethodType m.ty × IsKnownMethodType (is_known out) m.ty

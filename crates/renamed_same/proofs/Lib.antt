@@ -6,3 +6,4 @@ pub mod Like
 pub mod Told
 pub mod NewView
 pub mod NewSame
+pub mod AllKept

@@ -1,5 +1,6 @@
 -- What a set owes what is left of it under new names, so that they do the same.
-use Rattle.std.proofs.Common.{◌≡◌, ◌+◌, ◌++◌, ℕ, nat_eq, ◌&&◌, Bool, true, false, cond, List, [], length, map, Option, Some}
+use Rattle.std.proofs.Common.{◌≡◌, ◌+◌, ◌++◌, ℕ, nat_eq, ◌&&◌, Bool, true, false, cond, List, [], length, map, Option}
+use Rattle.std.proofs.Common.{Some}
 use Rattle.std.proofs.Common.{None, slice_get, refl, sym, ap, subst, ◌∙◌, codes}
 use Rattle.std.specs.Prelude.{IfSome, is_some}
 use Rattle.std.specs.List.{AllByRecursion, starts_with}
