@@ -6,3 +6,4 @@ pub mod Expected
 pub mod Fixing
 pub mod Naming
 pub mod PairSame
+pub mod Entered

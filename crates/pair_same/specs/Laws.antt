@@ -10,6 +10,7 @@ use Rattle.jvm_model.specs.Value.{Key}
 use Rattle.set_view.specs.ViewOf.{view_of}
 use Rattle.taken_set.specs.TakenSet.{IsTaken}
 use Rattle.renamed_same.specs.NewKeys.{kept_names}
+use Rattle.pair_same.specs.Entries.{AreEntries}
 use Rattle.pair_same.specs.Pairs.{IsPair, given_names}
 
 -- the names of what has a line, and of the library; what has no line isn't kept
@@ -21,3 +22,9 @@ abbrev pub PairsDoTheSame : Type 0
 PairsDoTheSame = (input output : List Class) (mapping : Mapping) (rules : Rules) → IsTaken input → IsTaken output
     → IsPair input output mapping rules → (entries : List Key) → AreKept (pair_names input mapping) entries
     → Same (view_of input) (view_of output) (pair_names input mapping) entries
+
+-- each entry has a line, and so a new name
+abbrev pub EntriesHaveLines : Type 0
+EntriesHaveLines = (input output : List Class) (mapping : Mapping) (rules : Rules) → IsTaken input
+    → IsPair input output mapping rules → (entries : List Key) → AreEntries input rules entries
+    → AreKept (pair_names input mapping) entries
