@@ -1,7 +1,9 @@
--- What is asked of a set of classes is as it was where optional attributes are taken away. Each lemma is named after the
--- definition of which it says so, as an equation of functions, and goes the definition's way.
-use Rattle.std.proofs.Common.{◌≡◌, ℕ, zero, suc, ◌+◌, not, ◌&&◌, ◌||◌, Bool, true, false, cond, List, [], ◌∷◌, ◌++◌, length}
-use Rattle.std.proofs.Common.{map, nat_lt, Option, Some, None, Result, Ok, Err, slice_get, refl, sym, ap, ◌∙◌, codes, filter}
+-- What is asked of a set of classes is as it was where optional attributes are taken away. Each lemma is named after
+-- the definition of which it says so, as an equation of functions, and goes the definition's way.
+use Rattle.std.proofs.Common.{◌≡◌, ℕ, zero, suc, ◌+◌, not, ◌&&◌, ◌||◌, Bool, true, false, cond, List, [], ◌∷◌, ◌++◌}
+use Rattle.std.proofs.Common.{length}
+use Rattle.std.proofs.Common.{map, nat_lt, Option, Some, None, Result, Ok, Err, slice_get, refl, sym, ap, ◌∙◌, codes}
+use Rattle.std.proofs.Common.{filter}
 use Rattle.std.specs.Prelude.{◌==◌}
 use Rattle.std.specs.Bool.{beq}
 use Rattle.std.specs.List.{filter_map, find, flat_map, list_any, position, position_or_len, prefix_len}
@@ -54,7 +56,8 @@ position_map : {X Y : Type 0} (f : X → Y) (p : Y → Bool) (xs : List X)
     → position p (map f xs) ≡ position (λ x. p (f x)) xs
 position_map {X} f p xs =
     ap (λ (n : ℕ). cond (nat_lt n (length (map f xs))) (Some n) None) (prefix_of xs)
-    ∙ ap (λ (n : ℕ). cond (nat_lt (position_or_len (λ x. p (f x)) xs) n) (Some (position_or_len (λ x. p (f x)) xs)) None)
+    ∙ ap (λ (n : ℕ). cond (nat_lt (position_or_len (λ x. p (f x)) xs) n)
+    (Some (position_or_len (λ x. p (f x)) xs)) None)
     (length-map xs f)
   where
     prefix_of : (xs : List X) → position_or_len p (map f xs) ≡ position_or_len (λ x. p (f x)) xs
@@ -186,13 +189,15 @@ module _ (filter_by : AttributeFilter) (a : List Class) where
   member_named_at : (c : Class) (name ty : List ℕ)
       → member_named (filtered filter_by c) name ty ≡ member_named c name ty
   member_named_at c name ty =
-      ap (or_method (filtered filter_by c) name ty) (position_map (field_filtered filter_by) (is_field name ty) c.fields)
+      ap (or_method (filtered filter_by c) name ty)
+      (position_map (field_filtered filter_by) (is_field name ty) c.fields)
       ∙ by (position (is_field name ty) c.fields)
     where
       by : (o : Option ℕ) → or_method (filtered filter_by c) name ty o ≡ or_method c name ty o
       by (Some n) = refl
       by None =
-          ap (λ (n : ℕ). option_map (λ k. n + k) (position (is_method name ty) (map (method_filtered filter_by) c.methods)))
+          ap (λ (n : ℕ). option_map (λ k. n + k)
+              (position (is_method name ty) (map (method_filtered filter_by) c.methods)))
           (length-map c.fields (field_filtered filter_by))
           ∙ ap (option_map (λ k. length c.fields + k))
           (position_map (method_filtered filter_by) (is_method name ty) c.methods)

@@ -1,5 +1,6 @@
 -- A set that is taken is taken without optional attributes, where no rule is broken that Exceptions doesn't break.
-use Rattle.std.proofs.Common.{◌≡◌, ◌<◌, ◌≤◌, ℕ, zero, suc, ◌+◌, not, ◌&&◌, ◌||◌, Bool, true, false, cond, List, [], ◌∷◌, ◌++◌, length, map}
+use Rattle.std.proofs.Common.{◌≡◌, ◌<◌, ◌≤◌, ℕ, zero, suc, ◌+◌, not, ◌&&◌, ◌||◌, Bool, true, false, cond, List, []}
+use Rattle.std.proofs.Common.{◌∷◌, ◌++◌, length, map}
 use Rattle.std.proofs.Common.{Option, Some, None, Result, Ok, Err, slice_get, refl, sym, ap, subst, ◌∙◌, codes, is_lt}
 use Rattle.std.specs.Prelude.{IfSome}
 use Rattle.std.specs.Cmp.Lexicographic.{slice_cmp}
@@ -17,7 +18,8 @@ use Rattle.class_model.specs.declared.class.Class.{Class}
 use Rattle.class_model.specs.declared.class.Method.{Method}
 use Rattle.lib_table.specs.Library.{library}
 use Rattle.class_pool.specs.Count.{item_count, items_of}
-use Rattle.class_pool.specs.Faults.{Ascends, Builds, classes_of, fault_of, first_fault, is_super_missing, is_super_wrong}
+use Rattle.class_pool.specs.Faults.{Ascends, Builds, classes_of, fault_of, first_fault, is_super_missing}
+use Rattle.class_pool.specs.Faults.{is_super_wrong}
 use Rattle.class_pool.specs.Faults.{name_fault, name_faults, super_fault, super_faults, then_super_faults}
 use Rattle.class_pool.specs.Hierarchy.{IsClass, is_interface_kind, is_open_kind}
 use Rattle.class_pool.specs.Ranks.{HasRanks}
@@ -72,7 +74,8 @@ module _ (filter_by : AttributeFilter) (utf8 : IfSome filter_by.source_name IsUt
     super_name = formed.super_name;
     interfaces = formed.interfaces;
     fields =
-        all_mapped (IsGoodField (is_interface c.flags.0)) (IsGoodField (is_interface c.flags.0)) (field_filtered filter_by)
+        all_mapped (IsGoodField (is_interface c.flags.0)) (IsGoodField (is_interface c.flags.0))
+        (field_filtered filter_by)
         (field_good filter_by (is_interface c.flags.0)) c.fields formed.fields;
     fields_differ = pairs_mapped FieldsDiffer (field_filtered filter_by) c.fields formed.fields_differ;
     methods =
@@ -87,7 +90,8 @@ module _ (filter_by : AttributeFilter) (utf8 : IfSome filter_by.source_name IsUt
   abbrev pub file_filtered : NamedClass → NamedClass
   file_filtered file = record { path = file.path; class = new file.class }
 
-  same_fault : (c : Class) (o : Option PoolKind) (r : Result (Unit {0}) PoolFault) → fault_of (new c) o r ≡ fault_of c o r
+  same_fault : (c : Class) (o : Option PoolKind) (r : Result (Unit {0}) PoolFault) → fault_of (new c) o r
+      ≡ fault_of c o r
   same_fault c None r = refl
   same_fault c (Some kind) r = refl
 
@@ -156,20 +160,24 @@ module _ (filter_by : AttributeFilter) (utf8 : IfSome filter_by.source_name IsUt
 
     -- ---- the whole
 
+    -- the files, with those attributes alone, make the set
+    pub built_again : (h : IsBuilt a) → Builds (Ok b) (map file_filtered h.files)
+    built_again h =
+        let same : b ≡ classes_of (map file_filtered h.files) = ap (map new) h.built.2 ∙ classes_same h.files in
+        (
+          first_are (map file_filtered h.files) b (names_same h.files ∙ h.names) (supers_same a ∙ h.supers) same,
+          subst NoCycle same (none_cyclic b (ranks_again h.ranks)),
+          same,
+        )
+
     pub taken_again : IsBuilt a → BreaksNone filter_by a → IsTaken b
     taken_again h right =
-        let same : b ≡ classes_of (map file_filtered h.files) = ap (map new) h.built.2 ∙ classes_same h.files in
-        let ranks = ranks_again h.ranks in
         record {
           files = map file_filtered h.files;
           ascend = pairs_mapped (λ x y. is_lt (slice_cmp nat_cmp x.path y.path) ≡ true) file_filtered h.files h.ascend;
-          built = (
-            first_are (map file_filtered h.files) b (names_same h.files ∙ h.names) (supers_same a ∙ h.supers) same,
-            subst NoCycle same (none_cyclic b ranks),
-            same,
-          );
+          built = built_again h;
           few = subst (λ (n : ℕ). n < 4294967295) (sym (items_same a)) h.few;
-          ranks = ranks;
+          ranks = ranks_again h.ranks;
           formed = λ n c is. at_place b n c (all_mapped IsWellFormed IsWellFormed new formed_again a h.formed) is;
           linked = none_broken b (filtered_breaks_none filter_by a right);
         }

@@ -33,18 +33,21 @@ use Rattle.class_pool.specs.declared.id.ClassId.{ClassId}
 use Rattle.class_pool.specs.declared.id.ClassId.TheVariants.{Prog, Lib}
 use Rattle.class_pool.specs.declared.id.MemberAt.{MemberAt}
 use Rattle.link_check.specs.Links.{is_callable_role}
-use Rattle.link_check.specs.Profile.{base_kinds, body_kinds, call_kinds, changed_kinds, class_kinds, class_of, code_kinds}
+use Rattle.link_check.specs.Profile.{base_kinds, body_kinds, call_kinds, changed_kinds, class_kinds, class_of}
+use Rattle.link_check.specs.Profile.{code_kinds}
 use Rattle.link_check.specs.Profile.{declaration_kinds, field_kinds, field_text_kinds, frame_kinds, handler_kinds}
 use Rattle.link_check.specs.Profile.{implementing_kinds, init_kinds, is_abstract_class, is_of_library, kinds_of_class}
 use Rattle.link_check.specs.Profile.{kinds_of_field, kinds_of_method, left_out_at, made_kinds, may_be_overridden_role}
-use Rattle.link_check.specs.Profile.{member_kinds, method_text_kinds, method_type_kinds, methods_of, name_kinds, new_kinds}
+use Rattle.link_check.specs.Profile.{member_kinds, method_text_kinds, method_type_kinds, methods_of, name_kinds}
+use Rattle.link_check.specs.Profile.{new_kinds}
 use Rattle.link_check.specs.Profile.{no_init_kinds, op_kinds, overridden_kinds, overriding_kinds, selected_kinds}
 use Rattle.link_check.specs.Profile.{special_class_kinds, special_kinds, static_kinds, super_kinds, type_kinds, unless}
 use Rattle.link_check.specs.Profile.{used_kinds, verification_kinds, written_kinds}
 use Rattle.link_check.specs.Taken.{BreaksNoRule}
 use Rattle.link_check.specs.declared.fault.ProfileKind.{ProfileKind}
 use Rattle.link_check.specs.declared.fault.ProfileKind.TheVariants.{Inaccessible, LeftOutFlag, LeftOutMember, WrongKind}
-use Rattle.attribute_filter.specs.Filtered.{code_kept, field_filtered, filtered, method_filtered, throws_kept, without_line}
+use Rattle.attribute_filter.specs.Filtered.{code_kept, field_filtered, filtered, method_filtered, throws_kept}
+use Rattle.attribute_filter.specs.Filtered.{without_line}
 use Rattle.attribute_filter.specs.Filtered.{without_lines}
 use Rattle.attribute_filter.specs.declared.filter.AttributeFilter.{AttributeFilter}
 use Rattle.filtered_set.proofs.Alike as alike
@@ -123,7 +126,8 @@ module _ (filter_by : AttributeFilter) (a : List Class) where
         ++ unless (not (static && is_of_library m.class)) LeftOutMember) []
 
     used_kinds_is : used_kinds b n ≡ used_kinds a n
-    used_kinds_is = λ i method static written m. static_kinds_is i static m ++ changed_kinds_is i method static written m
+    used_kinds_is = λ i method static written m. static_kinds_is i static m
+        ++ changed_kinds_is i method static written m
 
     field_kinds_is : field_kinds b n ≡ field_kinds a n
     field_kinds_is = λ i method static written r. field_text_kinds_at (read_field r.ty) i
@@ -137,7 +141,8 @@ module _ (filter_by : AttributeFilter) (a : List Class) where
     special_class_kinds_is : special_class_kinds b n ≡ special_class_kinds a n
     special_class_kinds_is = λ i r. option_map_or
         (λ named. cond (is_init r.name)
-        (member_kinds (alike.linked_method_is filter_by a i (Prog n) r) (λ m. unless (same_class m.class named) WrongKind))
+        (member_kinds (alike.linked_method_is filter_by a i (Prog n) r)
+        (λ m. unless (same_class m.class named) WrongKind))
         (unless (alike.is_class_below_is filter_by a i (Prog n) named) WrongKind))
         (class_of_is i r) (WrongKind ∷ [])
 
@@ -222,7 +227,8 @@ module _ (filter_by : AttributeFilter) (a : List Class) where
     throwing m = record m { throws = throws_kept filter_by m.throws }
 
     method_kinds_same : (c : Class) (k : ℕ) (m : Method)
-        → kinds_of_method b n (filtered filter_by c) (length (filtered filter_by c).fields + k) (method_filtered filter_by m)
+        → kinds_of_method b n (filtered filter_by c) (length (filtered filter_by c).fields + k)
+        (method_filtered filter_by m)
         ≡ kinds_of_method a n c (length c.fields + k) (throwing m)
     method_kinds_same c k m =
         ap (λ (l : ℕ). kinds_of_method b n (filtered filter_by c) (l + k) (method_filtered filter_by m))

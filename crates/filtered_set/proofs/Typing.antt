@@ -1,6 +1,7 @@
--- A set without optional attributes is an image of the set, in which each class and each member stands where it stood; so
--- each method is typed in it as it was.
-use Rattle.std.proofs.Common.{◌≡◌, ℕ, not, ◌&&◌, Bool, true, false, cond, is_some, List, [], ◌∷◌, map, Option, Some, None}
+-- A set without optional attributes is an image of the set, in which each class and each member stands where it stood;
+-- so each method is typed in it as it was.
+use Rattle.std.proofs.Common.{◌≡◌, ℕ, not, ◌&&◌, Bool, true, false, cond, is_some, List, [], ◌∷◌, map, Option, Some}
+use Rattle.std.proofs.Common.{None}
 use Rattle.std.proofs.Common.{Result, Ok, Err, slice_get, refl, sym, ap, subst, ◌∙◌, codes}
 use Rattle.std.specs.Prelude.{IfSome}
 use Rattle.std.specs.List.{AllByRecursion}
@@ -240,8 +241,7 @@ module _ (filter_by : AttributeFilter) (a : List Class) where
       by true o e = (left, e, itself left)
       by false None e = absurd cc
       by false (Some code) e =
-          let same : without_lines code ≡ left = cc in
-          (
+          let same : without_lines code ≡ left = cc in (
             code,
             refl,
             subst (IsCodeRenamed same_names code) same

@@ -1,5 +1,5 @@
--- What is left of a set, without the optional attributes that aren't kept, is taken and typed again, as statements on all
--- sets, rules, marks and filters (the project's own).
+-- What is left of a set, without the optional attributes that aren't kept, is taken and typed again, as statements on
+-- all sets, rules, marks and filters (the project's own).
 use Rattle.std.specs.Prelude.{◌≡◌, Bool, List, map, IfSome}
 use Rattle.std.specs.Str.{IsUtf8}
 use Rattle.mark_core.specs.Marks.{Closed, set_of}
@@ -16,8 +16,8 @@ use Rattle.type_verifier.specs.Verified.{AreTyped}
 abbrev pub left_and_filtered : AttributeFilter → List Class → List Bool → List Class
 left_and_filtered filter classes marks = map (filtered filter) (shrunk classes marks)
 
--- where rules and filter agree on Exceptions, all that was asked of the set holds of what is left, whether that attribute
--- is kept or not; the name that the source files get, if they get one, is UTF-8
+-- where rules and filter agree on Exceptions, all that was asked of the set holds of what is left, whether that
+-- attribute is kept or not; the name that the source files get, if they get one, is UTF-8
 abbrev pub FilteredRemovalKeepsTaken : Type 0
 FilteredRemovalKeepsTaken = (classes : List Class) (rules : KeptByRules) (marks : List Bool) (filter : AttributeFilter)
     → IsTaken classes → Closed (requires classes rules) (set_of marks) → filter.exceptions ≡ rules.exceptions

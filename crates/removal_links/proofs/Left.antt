@@ -245,11 +245,13 @@ module _ (classes : List Class) (rules : KeptByRules) (marks : List Bool)
             let overridden : overriding_kinds out at new ≡ [] =
             ap (λ (k : ℕ). overriding_kinds out at (record { class = Prog at; index = k })) place
             ∙ overriding_left classes rules marks closed taken n (length c.fields + o.k) kept two.1 in
-            joined (declaration_kinds out at d (length d.fields + j) bare ++ body_kinds c m ++ overriding_kinds out at new)
+            joined (declaration_kinds out at d (length d.fields + j) bare ++ body_kinds c m
+            ++ overriding_kinds out at new)
             (option_map_or (code_kinds out at m.name) m.code [])
             (joined (declaration_kinds out at d (length d.fields + j) bare ++ body_kinds c m)
             (overriding_kinds out at new)
-            (joined (declaration_kinds out at d (length d.fields + j) bare) (body_kinds c m) declared three.1) overridden)
+            (joined (declaration_kinds out at d (length d.fields + j) bare)
+            (body_kinds c m) declared three.1) overridden)
             (code_left m.name m.code wants.code one.1)
           where
             method_place : (k j : ℕ) → j ≡ rank (is_marked marks) (class_item classes n + 1 + length c.fields) k

@@ -1,5 +1,6 @@
 -- What closed marks keep of the classes that a method names.
-use Rattle.std.proofs.Common.{◌≡◌, ◌<◌, ℕ, zero, suc, Bool, true, false, cond, List, [], ◌∷◌, ◌++◌, length, Option, Some}
+use Rattle.std.proofs.Common.{◌≡◌, ◌<◌, ℕ, zero, suc, Bool, true, false, cond, List, [], ◌∷◌, ◌++◌, length, Option}
+use Rattle.std.proofs.Common.{Some}
 use Rattle.std.proofs.Common.{None, Result, Ok, Err, slice_get, nat_eq, refl, sym, ap, subst, ◌∙◌, arith, codes}
 use Rattle.std.specs.Prelude.{IfSome, ◌==◌}
 use Rattle.std.specs.List.{AllByRecursion, cons_option, flat_map, starts_with}
@@ -24,7 +25,8 @@ use Rattle.class_pool.specs.declared.id.ClassId.TheVariants.{Prog, Lib}
 use Rattle.class_pool.proofs.Declaring.{named_there}
 use Rattle.class_rename.specs.Names.{same_names}
 use Rattle.member_shrink.specs.Shrunk.{is_marked, shrunk}
-use Rattle.require_sys.specs.Requires.{Item, base_wants, field_text_wants, frame_wants, handler_wants, method_text_wants}
+use Rattle.require_sys.specs.Requires.{Item, base_wants, field_text_wants, frame_wants, handler_wants}
+use Rattle.require_sys.specs.Requires.{method_text_wants}
 use Rattle.require_sys.specs.Requires.{method_type_wants, name_wants, requires, type_wants, verification_wants}
 use Rattle.require_sys.specs.declared.kept.KeptByRules.{KeptByRules}
 use Rattle.require_sys.proofs.Parts.{all_left}
@@ -36,7 +38,8 @@ use Rattle.taken_set.proofs.Names.{class_found, library_named}
 use Rattle.type_verifier.specs.Rules.{told_type}
 use Rattle.removal_image.proofs.Marked.{image}
 use Rattle.removal_image.proofs.Wanted.{AllIn, In, name_kept}
-use Rattle.typed_image.specs.Named.{AreKnownNamed, IsBaseNamed, IsFrameNamed, IsHandlerNamed, IsMethodTypeNamed, IsNamed}
+use Rattle.typed_image.specs.Named.{AreKnownNamed, IsBaseNamed, IsFrameNamed, IsHandlerNamed, IsMethodTypeNamed}
+use Rattle.typed_image.specs.Named.{IsNamed}
 use Rattle.typed_image.specs.Named.{IsTypeNamed, IsVTypeNamed}
 
 module _ (classes : List Class) (rules : KeptByRules) (marks : List Bool)
@@ -105,7 +108,8 @@ module _ (classes : List Class) (rules : KeptByRules) (marks : List Bool)
   types_named : (tys : List FieldType) → All (flat_map (type_wants classes) tys) → AllByRecursion TypeNamed tys
   types_named [] all = tt
   types_named (ty ∷ tys) all =
-      let parts = all_left (In classes rules marks closed) (type_wants classes ty) (flat_map (type_wants classes) tys) all
+      let parts = all_left (In classes rules marks closed) (type_wants classes ty)
+      (flat_map (type_wants classes) tys) all
       in (base_named ty.base parts.0, types_named tys parts.1)
 
   pub method_type_named : (ty : MethodType) → All (method_type_wants classes ty)
@@ -148,7 +152,8 @@ module _ (classes : List Class) (rules : KeptByRules) (marks : List Bool)
       → AllByRecursion (IsHandlerNamed same_names classes out i) hs
   handlers_named [] all = tt
   handlers_named (h ∷ hs) all =
-      let parts = all_left (In classes rules marks closed) (handler_wants classes h) (flat_map (handler_wants classes) hs)
+      let parts = all_left (In classes rules marks closed) (handler_wants classes h)
+      (flat_map (handler_wants classes) hs)
       all in
       (by h.caught parts.0, handlers_named hs parts.1)
     where
@@ -181,7 +186,8 @@ module _ (classes : List Class) (rules : KeptByRules) (marks : List Bool)
       → AllByRecursion (IsFrameNamed same_names classes out i) fs
   frames_named [] all = tt
   frames_named (f ∷ fs) all =
-      let parts = all_left (In classes rules marks closed) (frame_wants classes f) (flat_map (frame_wants classes) fs) all
+      let parts = all_left (In classes rules marks closed) (frame_wants classes f)
+      (flat_map (frame_wants classes) fs) all
       in
       let types = vtypes_named f.frame.locals f.frame.stack parts.0 in
       (record { locals = types.0; stack = all_vtypes_named f.frame.stack types.1 }, frames_named fs parts.1)

@@ -1,5 +1,6 @@
 -- The rules look at what the references of a kept method lead to as they did.
-use Rattle.std.proofs.Common.{◌≡◌, ◌<◌, ℕ, zero, suc, not, ◌&&◌, Bool, true, false, cond, List, [], ◌∷◌, ◌++◌, Option, Some, None}
+use Rattle.std.proofs.Common.{◌≡◌, ◌<◌, ℕ, zero, suc, not, ◌&&◌, Bool, true, false, cond, List, [], ◌∷◌, ◌++◌, Option}
+use Rattle.std.proofs.Common.{Some, None}
 use Rattle.std.proofs.Common.{Result, Ok, Err, slice_get, refl, sym, ap, subst, ◌∙◌, arith, codes}
 use Rattle.std.specs.Prelude.{IfSome, ◌==◌}
 use Rattle.std.specs.Cmp.Lexicographic.{same_text}
@@ -26,8 +27,10 @@ use Rattle.class_pool.specs.Walk.{highest, own_superinterfaces, upwards}
 use Rattle.class_pool.specs.declared.id.ClassId.{ClassId}
 use Rattle.class_pool.specs.declared.id.ClassId.TheVariants.{Prog}
 use Rattle.class_pool.specs.declared.id.MemberAt.{MemberAt}
-use Rattle.link_check.specs.Links.{callable, is_callable_role, linked_field, linked_method, resolved_field, resolved_method}
-use Rattle.link_check.specs.Profile.{call_kinds, class_of, field_kinds, field_text_kinds, member_kinds, method_text_kinds}
+use Rattle.link_check.specs.Links.{callable, is_callable_role, linked_field, linked_method, resolved_field}
+use Rattle.link_check.specs.Links.{resolved_method}
+use Rattle.link_check.specs.Profile.{call_kinds, class_of, field_kinds, field_text_kinds, member_kinds}
+use Rattle.link_check.specs.Profile.{method_text_kinds}
 use Rattle.link_check.specs.Profile.{no_init_kinds, op_kinds, special_class_kinds, static_kinds, unless, used_kinds}
 use Rattle.link_check.specs.declared.fault.LinkKind.{LinkKind}
 use Rattle.link_check.specs.declared.fault.LinkKind.TheVariants as link

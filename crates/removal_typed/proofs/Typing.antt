@@ -1,5 +1,6 @@
 -- Each method that is left is typed, as it was.
-use Rattle.std.proofs.Common.{◌≡◌, ℕ, zero, suc, ◌+◌, Bool, true, false, List, [], ◌∷◌, ◌++◌, length, Option, Some, None}
+use Rattle.std.proofs.Common.{◌≡◌, ℕ, zero, suc, ◌+◌, Bool, true, false, List, [], ◌∷◌, ◌++◌, length, Option, Some}
+use Rattle.std.proofs.Common.{None}
 use Rattle.std.proofs.Common.{slice_get}
 use Rattle.std.proofs.Common.{refl, sym, ap, subst, ◌∙◌, arith}
 use Rattle.std.specs.Prelude.{IfSome}
@@ -74,8 +75,7 @@ module _ (classes : List Class) (rules : KeptByRules) (marks : List Bool)
         let parts = all_left (In classes rules marks closed) (op_wants classes n x.op)
         (flat_map (λ (x : Ins). op_wants classes n x.op) ins) all in
         let nones = none_left (op_kinds classes n m.name x.op)
-        (flat_map (λ (x : Ins). op_kinds classes n m.name x.op) ins) none in
-        (
+        (flat_map (λ (x : Ins). op_kinds classes n m.name x.op) ins) none in (
           op_named classes rules marks closed taken n own c there k j m code size x.op good.0 parts.0 nones.0,
           ops_named size ins good.1 parts.1 nones.1,
         )
@@ -104,7 +104,8 @@ module _ (classes : List Class) (rules : KeptByRules) (marks : List Bool)
         let firsts = none_left (flat_map (λ (x : Ins). op_kinds classes n m.name x.op) code.ins)
         (flat_map (handler_kinds classes n) code.handlers)
         (none_left (flat_map (λ (x : Ins). op_kinds classes n m.name x.op) code.ins
-        ++ flat_map (handler_kinds classes n) code.handlers) (flat_map (frame_kinds classes n) code.frames) no_kinds).0 in
+        ++ flat_map (handler_kinds classes n) code.handlers)
+        (flat_map (frame_kinds classes n) code.frames) no_kinds).0 in
         record {
           own = refl;
           super = refl;

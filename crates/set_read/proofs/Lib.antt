@@ -1,7 +1,7 @@
-mod Few
+pub mod Few
 mod Files
 mod Judging
 mod Methods
 mod Sets
-mod Writable
+pub mod Writable
 pub mod OneSet

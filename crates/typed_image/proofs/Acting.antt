@@ -1,5 +1,6 @@
 -- What rules do with the words of frames, under new names.
-use Rattle.std.proofs.Common.{◌≡◌, ℕ, zero, suc, ◌+◌, ◌-◌, not, ◌&&◌, ◌||◌, Bool, true, false, cond, List, [], ◌∷◌, ◌++◌, length, map}
+use Rattle.std.proofs.Common.{◌≡◌, ℕ, zero, suc, ◌+◌, ◌-◌, not, ◌&&◌, ◌||◌, Bool, true, false, cond, List, [], ◌∷◌}
+use Rattle.std.proofs.Common.{◌++◌, length, map}
 use Rattle.std.proofs.Common.{Option, Some, None, Ok, Err, Result, slice_get, slice_set, refl, sym, ap, subst, ◌∙◌}
 use Rattle.std.specs.Prelude.{◌==◌, nat_le, IfSome}
 use Rattle.std.specs.List.{AllByRecursion, list_any}
@@ -275,7 +276,8 @@ module _ (names : Names) (a b : List Class) (i : Image a b) (stay : KeepsKnownNa
       subst (λ (o : Option VType). Follows (counted a slot f) (counted_from b (frame f) o))
       (sym (slice_get-map new f.locals slot)) (by (slice_get f.locals slot) (get_named f.locals slot named.0))
     where
-      by : (o : Option VType) → IfSome o Named → Follows (counted_from a f o) (counted_from b (frame f) (option_map new o))
+      by : (o : Option VType) → IfSome o Named → Follows (counted_from a f o)
+          (counted_from b (frame f) (option_map new o))
       by None h = tt
       by (Some ty) h =
           if_follows (meets a (Assignable vtype.Int) ty) (meets b (Assignable vtype.Int) (new ty)) f Local
@@ -420,7 +422,8 @@ module _ (names : Names) (a b : List Class) (i : Image a b) (stay : KeepsKnownNa
   element_named (vtype.Object ty) h = h
   element_named ty h = tt
 
-  pub read_follows : (w : Wanted) (f : TypeFrame) (tys : List VType) → renamed_wanted (array_wanted elem.Ref) ≡ array_wanted elem.Ref
+  pub read_follows : (w : Wanted) (f : TypeFrame) (tys : List VType) → renamed_wanted (array_wanted elem.Ref)
+      ≡ array_wanted elem.Ref
       → WantedNamed (array_wanted elem.Ref) → Framed f → Each tys
       → Follows (read_from a f tys) (read_from b (frame f) (news tys))
   read_follows w f [] same k named all = tt
@@ -501,4 +504,5 @@ module _ (names : Names) (a b : List Class) (i : Image a b) (stay : KeepsKnownNa
 
       by : (t : Bool) → Follows (cond t (Err Uninit) (Ok after)) (cond t (Err Uninit) (Ok (frame after)))
       by true = tt
-      by false = (refl, (substituted_named (vtype.Uninit at) (new_copies at) vtype.Top f.locals tt named.0, (tt, named.1)))
+      by false = (refl, (substituted_named (vtype.Uninit at) (new_copies at) vtype.Top f.locals tt named.0,
+          (tt, named.1)))

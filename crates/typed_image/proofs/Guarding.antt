@@ -1,5 +1,6 @@
 -- The rules look at a member that is kept as they did.
-use Rattle.std.proofs.Common.{◌≡◌, ℕ, not, ◌&&◌, Bool, true, false, is_some, List, Option, Some, None, Ok, refl, sym, ap, ◌∙◌}
+use Rattle.std.proofs.Common.{◌≡◌, ℕ, not, ◌&&◌, Bool, true, false, is_some, List, Option, Some, None, Ok, refl, sym}
+use Rattle.std.proofs.Common.{ap, ◌∙◌}
 use Rattle.std.specs.Prelude.{IfSome}
 use Rattle.std.specs.Option.{option_and_then, option_map}
 use Rattle.class_model.specs.Flags.{acc_protected, acc_static}
@@ -57,7 +58,8 @@ module _ (a b : Environment) (i : Image a.classes b.classes) (own : i.kept (Prog
       → IfSome (declared_in a.classes (r.name, r.ty) (Prog a.own)) (λ m. i.kept_member m ≡ true))
       → is_early_field b s ≡ is_early_field a r
   early_moved r s e constructor same kept =
-      ap (λ (t : Bool). t && is_class_type b.class.name s.class && is_some (declared_at b.classes (Prog b.own) s.name s.ty))
+      ap (λ (t : Bool). t && is_class_type b.class.name s.class && is_some
+          (declared_at b.classes (Prog b.own) s.name s.ty))
       constructor
       ∙ ap (λ (t : Bool). in_constructor a && t && is_some (declared_at b.classes (Prog b.own) s.name s.ty)) same
       ∙ by (in_constructor a) (is_class_type a.class.name r.class) kept

@@ -1,5 +1,6 @@
 -- The rule of an instruction under new names, family by family.
-use Rattle.std.proofs.Common.{◌≡◌, ℕ, zero, suc, ◌+◌, Bool, true, false, cond, List, [], ◌∷◌, ◌++◌, map, reverse, replicate}
+use Rattle.std.proofs.Common.{◌≡◌, ℕ, zero, suc, ◌+◌, Bool, true, false, cond, List, [], ◌∷◌, ◌++◌, map, reverse}
+use Rattle.std.proofs.Common.{replicate}
 use Rattle.std.proofs.Common.{Option, Some, None, refl, sym, ap, subst, ◌∙◌}
 use Rattle.std.specs.Prelude.{IfSome, codes}
 use Rattle.std.specs.List.{AllByRecursion}
@@ -137,7 +138,8 @@ module _ (names : Names) (a b : Environment) (i : Image a.classes b.classes) (st
 
   read_renamed : (r : MemberRef) → IsFieldNamed names a b i r → (ty : VType)
       → field_read b (renamed_field_ref names r) (new ty) ≡ rule (field_read a r ty)
-  read_renamed r h ty = ap (λ (t : Bool). Uses [] (wanted (Assignable (vtype.Object r.class))) t (Some (new ty))) h.guarded
+  read_renamed r h ty = ap
+      (λ (t : Bool). Uses [] (wanted (Assignable (vtype.Object r.class))) t (Some (new ty))) h.guarded
 
   receiver_renamed : (r : MemberRef) (t : Bool)
       → cond t (OrThis (renamed_type names r.class)) (Assignable (vtype.Object (renamed_type names r.class)))
@@ -153,7 +155,8 @@ module _ (names : Names) (a b : Environment) (i : Image a.classes b.classes) (st
   write_renamed : (r : MemberRef) → IsFieldNamed names a b i r → (ty : VType)
       → field_write b (renamed_field_ref names r) (new ty) ≡ rule (field_write a r ty)
   write_renamed r h ty =
-      ap (λ (t : Bool). Uses (Assignable (new ty) ∷ []) (written_receiver b (renamed_field_ref names r)) t None) h.guarded
+      ap (λ (t : Bool). Uses (Assignable (new ty) ∷ [])
+          (written_receiver b (renamed_field_ref names r)) t None) h.guarded
       ∙ ap (λ (t : Bool). Uses (Assignable (new ty) ∷ []) (cond t (OrThis (renamed_type names r.class))
       (Assignable (vtype.Object (renamed_type names r.class)))) (is_guarded_field a r) None) h.early
       ∙ ap (λ (w : Wanted). Uses (Assignable (new ty) ∷ []) w (is_guarded_field a r) None)
@@ -170,7 +173,8 @@ module _ (names : Names) (a b : Environment) (i : Image a.classes b.classes) (st
       → object_call b (renamed_method_ref names r) (renamed_method_type names ty) ≡ rule (object_call a r ty)
   call_renamed r h ty =
       ap (λ ws. Uses ws (wanted (Assignable (vtype.Object r.class)))
-      (is_guarded_method b (renamed_method_ref names r)) (returned (renamed_method_type names ty))) (arguments_renamed ty)
+      (is_guarded_method b (renamed_method_ref names r)) (returned (renamed_method_type names ty)))
+      (arguments_renamed ty)
       ∙ ap (λ (t : Bool). Uses (map wanted (arguments ty)) (wanted (Assignable (vtype.Object r.class))) t
       (returned (renamed_method_type names ty))) h.guarded
       ∙ ap (Uses (map wanted (arguments ty)) (wanted (Assignable (vtype.Object r.class))) (is_guarded_method a r))

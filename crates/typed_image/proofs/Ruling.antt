@@ -1,5 +1,6 @@
 -- What rules do with frames in a method under new names, and which rule an instruction has.
-use Rattle.std.proofs.Common.{◌≡◌, ℕ, zero, suc, ◌+◌, ◌-◌, not, ◌&&◌, Bool, true, false, cond, List, [], ◌∷◌, length, map}
+use Rattle.std.proofs.Common.{◌≡◌, ℕ, zero, suc, ◌+◌, ◌-◌, not, ◌&&◌, Bool, true, false, cond, List, [], ◌∷◌, length}
+use Rattle.std.proofs.Common.{map}
 use Rattle.std.proofs.Common.{Option, Some, None, Ok, Err, Result, nat_lt, reverse, replicate, slice_get, refl, sym, ap}
 use Rattle.std.proofs.Common.{subst, ◌∙◌}
 use Rattle.std.specs.Prelude.{◌==◌, nat_le, IfSome, codes}
@@ -33,15 +34,19 @@ use Rattle.class_rename.specs.Renamed.{renamed_base, renamed_field_ref, renamed_
 use Rattle.class_rename.specs.Renamed.{renamed_method_type, renamed_op, renamed_type, renamed_vtype}
 use Rattle.set_image.specs.Image.{Image}
 use Rattle.type_verifier.specs.Assignable.{class_type, is_assignable}
-use Rattle.type_verifier.specs.Effects.{Checked, acted, all_popped, all_words_wanted, class_made_at, constructor_returned}
-use Rattle.type_verifier.specs.Effects.{doubled, dropped, given_words, gives, guarded_use, has_depth, has_room, if_ruled}
+use Rattle.type_verifier.specs.Effects.{Checked, acted, all_popped, all_words_wanted, class_made_at}
+use Rattle.type_verifier.specs.Effects.{constructor_returned}
+use Rattle.type_verifier.specs.Effects.{doubled, dropped, given_words, gives, guarded_use, has_depth, has_room}
+use Rattle.type_verifier.specs.Effects.{if_ruled}
 use Rattle.type_verifier.specs.Effects.{initialised, is_copy, is_returned_by, loaded, made, made_class, new_initialised}
 use Rattle.type_verifier.specs.Effects.{object_initialised, or_operand, popped, read_from, reference_read, result_taken}
-use Rattle.type_verifier.specs.Effects.{ruled, stepped, stored, substituted, swapped, taken_words, this_initialised, used_from}
+use Rattle.type_verifier.specs.Effects.{ruled, stepped, stored, substituted, swapped, taken_words, this_initialised}
+use Rattle.type_verifier.specs.Effects.{used_from}
 use Rattle.type_verifier.specs.Effects.{with_stack, words_given, words_wanted}
 use Rattle.type_verifier.specs.Environment.{Environment, in_constructor, own_type}
 use Rattle.type_verifier.specs.Members.{is_class_base, is_class_type, is_own_or_super}
-use Rattle.type_verifier.specs.Rules.{Wanted, Assignable, OrThis, Reference, array_wanted, class_of, meets, object, rule_of}
+use Rattle.type_verifier.specs.Rules.{Wanted, Assignable, OrThis, Reference, array_wanted, class_of, meets, object}
+use Rattle.type_verifier.specs.Rules.{rule_of}
 use Rattle.type_verifier.specs.Rules.{Rule, Takes, Loads, Stores, Counts, Drops, Doubles, Swaps, ReadsReference, Makes}
 use Rattle.type_verifier.specs.Rules.{Returns, Uses, Initialises}
 use Rattle.type_verifier.specs.declared.fault.TypeKind.{TypeKind}
@@ -143,12 +148,15 @@ module _ (names : Names) (a b : Environment) (i : Image a.classes b.classes) (st
       ∙ sym (sum_by-cons words_of_type ty tys)
 
   room_same : (r : Rule) (f : TypeFrame)
-      → has_room b.code.max_stack b.code.max_locals (taken_words (renamed_rule r)) (given_words (renamed_rule r)) (frame f)
+      → has_room b.code.max_stack b.code.max_locals (taken_words (renamed_rule r)) (given_words (renamed_rule r))
+      (frame f)
       ≡ has_room a.code.max_stack a.code.max_locals (taken_words r) (given_words r) f
   room_same r f =
-      ap (λ (n : ℕ). has_room n b.code.max_locals (taken_words (renamed_rule r)) (given_words (renamed_rule r)) (frame f))
+      ap (λ (n : ℕ). has_room n b.code.max_locals (taken_words (renamed_rule r)) (given_words (renamed_rule r))
+          (frame f))
       c.code.max_stack
-      ∙ ap (λ (n : ℕ). has_room a.code.max_stack n (taken_words (renamed_rule r)) (given_words (renamed_rule r)) (frame f))
+      ∙ ap (λ (n : ℕ). has_room a.code.max_stack n (taken_words (renamed_rule r)) (given_words (renamed_rule r))
+      (frame f))
       c.code.max_locals
       ∙ ap (λ (n : ℕ). has_room a.code.max_stack a.code.max_locals n (given_words (renamed_rule r)) (frame f))
       (taken_same r)
@@ -229,7 +237,8 @@ module _ (names : Names) (a b : Environment) (i : Image a.classes b.classes) (st
   guard_kept false ty h e = refl
   guard_kept true ty h e =
       ap (λ (t : VType). not (is_assignable b.classes (new ty) t)) own_renamed
-      ∙ ap not (assignable names a.classes b.classes i stay ty (own_type a) h c.own_named (passes (is_assignable a.classes ty (own_type a)) e))
+      ∙ ap not (assignable names a.classes b.classes i stay ty (own_type a) h c.own_named
+      (passes (is_assignable a.classes ty (own_type a)) e))
     where
       passes : (t : Bool) → not t ≡ false → t ≡ true
       passes true e = refl
@@ -319,7 +328,8 @@ module _ (names : Names) (a b : Environment) (i : Image a.classes b.classes) (st
       after : TypeFrame
       after = with_stack f stack
 
-      guarding : To (guarded_use a guarded ty >>= (λ _. Ok after)) (guarded_use b guarded (new ty) >>= (λ _. Ok (frame after)))
+      guarding : To (guarded_use a guarded ty >>= (λ _. Ok after))
+          (guarded_use b guarded (new ty) >>= (λ _. Ok (frame after)))
       guarding = by (guarded && not (is_assignable a.classes ty (own_type a))) refl
         where
           by : (t : Bool) → (guarded && not (is_assignable a.classes ty (own_type a))) ≡ t
@@ -411,7 +421,8 @@ module _ (names : Names) (a b : Environment) (i : Image a.classes b.classes) (st
   -- ---- rules
 
   string_ref : wanted (array_wanted elem.Ref) ≡ array_wanted elem.Ref
-  string_ref = ap (λ (name : List ℕ). Assignable (vtype.Object (record { dims = 1; base = base.Class name }))) stay.object
+  string_ref = ap (λ (name : List ℕ). Assignable
+      (vtype.Object (record { dims = 1; base = base.Class name }))) stay.object
 
   pub acted_follows : (at : ℕ) (r : Rule) (f : TypeFrame) → RuleNamed r → Framed f
       → To (acted a at r f) (acted b at (renamed_rule r) (frame f))

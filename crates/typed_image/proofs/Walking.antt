@@ -1,5 +1,6 @@
 -- A code under new names is typed in the image, by the same frames under new names.
-use Rattle.std.proofs.Common.{◌≡◌, ℕ, zero, suc, ◌+◌, ◌-◌, not, ◌&&◌, ◌||◌, Bool, true, false, cond, List, [], ◌∷◌, ◌++◌}
+use Rattle.std.proofs.Common.{◌≡◌, ℕ, zero, suc, ◌+◌, ◌-◌, not, ◌&&◌, ◌||◌, Bool, true, false, cond, List, [], ◌∷◌}
+use Rattle.std.proofs.Common.{◌++◌}
 use Rattle.std.proofs.Common.{length, map, reverse, replicate, nat_eq, nat_lt, Option, Some, None, Ok, Result, IsTrue}
 use Rattle.std.proofs.Common.{refl, sym, ap, subst, ◌∙◌}
 use Rattle.std.specs.Prelude.{◌==◌, IfSome, codes}
@@ -163,7 +164,8 @@ module _ (names : Names) (a b : Environment) (i : Image a.classes b.classes) (st
         by : (t : Bool)
             → find (λ (f : FrameAt). f.index == at) (map (renamed_frame names) fs)
             ≡ option_map (renamed_frame names) (find (λ (f : FrameAt). f.index == at) fs)
-            → cond t (Some (renamed_frame names f)) (find (λ (f : FrameAt). f.index == at) (map (renamed_frame names) fs))
+            → cond t (Some (renamed_frame names f))
+            (find (λ (f : FrameAt). f.index == at) (map (renamed_frame names) fs))
             ≡ option_map (renamed_frame names) (cond t (Some f) (find (λ (f : FrameAt). f.index == at) fs))
         by true rest = refl
         by false rest = rest
@@ -284,7 +286,8 @@ module _ (names : Names) (a b : Environment) (i : Image a.classes b.classes) (st
         || list_any (λ (h : Handler). nat_eq at h.entry) b.code.handlers) c.code.ins
         ∙ ap (λ hs. list_any (λ (j : Ins). list_any (nat_eq at) (targets j.op)) (map renewed a.code.ins)
         || list_any (λ (h : Handler). nat_eq at h.entry) hs) c.code.handlers
-        ∙ ap (λ (t : Bool). t || list_any (λ (h : Handler). nat_eq at h.entry) (map (renamed_handler names) a.code.handlers))
+        ∙ ap (λ (t : Bool). t || list_any (λ (h : Handler). nat_eq at h.entry)
+        (map (renamed_handler names) a.code.handlers))
         (instructions a.code.ins)
         ∙ ap (λ (t : Bool). list_any (λ (j : Ins). list_any (nat_eq at) (targets j.op)) a.code.ins || t)
         (handlers a.code.handlers)
@@ -355,7 +358,8 @@ module _ (names : Names) (a b : Environment) (i : Image a.classes b.classes) (st
     caught_named : (h : Handler) → IsHandlerNamed names a.classes b.classes i h → Named (caught_type h)
     caught_named h = by h.caught
       where
-        by : (o : Option (List ℕ)) → IfSome o (IsNamed names a.classes b.classes i) → Named (option_map_or class_of o throwable)
+        by : (o : Option (List ℕ)) → IfSome o (IsNamed names a.classes b.classes i) → Named
+            (option_map_or class_of o throwable)
         by None k = c.known.throwable
         by (Some name) k = k
 
@@ -432,8 +436,8 @@ module _ (names : Names) (a b : Environment) (i : Image a.classes b.classes) (st
     are_typed at flow (j ∷ ins) (f ∷ fs) behind h named t =
         let framed = stands_named at flow (declared_frame_at a at) f named (declared_named at) t.0 in
         let step = subst (λ (r : Checked). Follows names a.classes b.classes i stay r
-        (stepped b at (renamed_op names j.op) (frame f))) t.2 (stepped_follows names a b i stay c at j.op f h.0 framed) in
-        (
+        (stepped b at (renamed_op names j.op) (frame f))) t.2
+        (stepped_follows names a b i stay c at j.op f h.0 framed) in (
           subst (λ (d : Option TypeFrame). Stands b at (flow_to flow) d (frame f)) (sym (declared_same at))
               (stands_kept at flow (declared_frame_at a at) f named (declared_named at) t.0),
           frame t.1,
@@ -441,7 +445,7 @@ module _ (names : Names) (a b : Environment) (i : Image a.classes b.classes) (st
           fits_targets_kept j.op t.1 step.1 t.3,
           handlers_kept at f framed t.4,
           subst (λ (o : Option TypeFrame). AreInstructionsTyped b (at + 1) o (map renewed ins)
-          (map frame fs) (flow_to behind)) (sym (flow_same j.op t.1))
+              (map frame fs) (flow_to behind)) (sym (flow_same j.op t.1))
               (are_typed (at + 1) (flow_after j.op t.1) ins fs behind h.1 (flow_named j.op t.1 step.1) t.5),
         )
 
@@ -450,7 +454,8 @@ module _ (names : Names) (a b : Environment) (i : Image a.classes b.classes) (st
     is_typed t = (
       map frame t.0,
       subst (λ (f : TypeFrame). AreInstructionsTyped b 0 (Some f) b.code.ins (map frame t.0) None) (sym initial_same)
-          (subst (λ (ins : List Ins). AreInstructionsTyped b 0 (Some (frame (initial_frame a))) ins (map frame t.0) None)
+          (subst (λ (ins : List Ins). AreInstructionsTyped b 0 (Some (frame (initial_frame a))) ins
+          (map frame t.0) None)
           (sym c.code.ins)
           (are_typed 0 (Some (initial_frame a)) a.code.ins t.0 None c.instructions initial_named t.1)),
     )
