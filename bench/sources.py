@@ -6,16 +6,16 @@
 A definition names its source in the comment above it, or falls under a heading that does: the comment `-- ---- ..`
 above it, up to the next such one, else the comment at the top of its file. A source is a section of the Java Virtual
 Machine Specification, Java SE 8 Edition (JVMS 4.7.3), or of the Java Language Specification (JLS 13.1), the Unicode
-Standard, a part of the ProGuard manual, the words "the project's own" with what it is for, or "only the proof of"
-what needs it. One line is written for each definition without one, and then how many there are; the status is 1
-where there is one.
+Standard, the documentation of the library (Java SE 8 API), a part of the ProGuard manual, the words "the project's own"
+with what it is for, or "only the proof of" what needs it. One line is written for each definition without one, and then
+how many there are; the status is 1 where there is one.
 """
 import glob
 import os
 import re
 import sys
 
-SOURCE = re.compile(r"JVMS \d|JLS \d|Unicode Standard|ProGuard manual|project's own|only the proofs? of")
+SOURCE = re.compile(r"JVMS \d|JLS \d|Unicode Standard|Java SE 8 API|ProGuard manual|project's own|only the proofs? of")
 DEFINITION = re.compile(r'\s*(?:pub )?(?:abbrev|unfoldable|opaque|data|record)(?: pub)? ([^\s{]\S*) ')
 TOP = os.path.join(os.path.dirname(os.path.abspath(__file__)), '..', 'crates')
 

@@ -2,7 +2,7 @@
 'LINE KIND'. A second implementation of the rules gave the answers.
 """
 
-WORKED = (
+MANUAL = (
     b'demo.Helper -> demo.a:\n'
     b'    10:10:int twice(int) -> a\n'
     b'demo.Main -> demo.Main:\n'
@@ -27,16 +27,16 @@ SHARED = (
 )
 
 TRACES = [
-    # worked rows
-    ('at demo.a.a(SourceFile:10)', WORKED,
+    # the rows of docs/MANUAL.md
+    ('at demo.a.a(SourceFile:10)', MANUAL,
      b'    at demo.a.a(SourceFile:10)',
      b'    at demo.Helper.twice(Helper.java:10)'),
-    ('at demo.a.a(Unknown Source)', WORKED,
+    ('at demo.a.a(Unknown Source)', MANUAL,
      b'    at demo.a.a(Unknown Source)',
      b'    at demo.Helper.twice(Helper.java)'),
-    ('Caused by: demo.a: x', WORKED, b'Caused by: demo.a: x', b'Caused by: demo.Helper: x'),
-    ('hello demo.a', WORKED, b'hello demo.a', b'hello demo.a'),
-    ('the four lines', WORKED,
+    ('Caused by: demo.a: x', MANUAL, b'Caused by: demo.a: x', b'Caused by: demo.Helper: x'),
+    ('hello demo.a', MANUAL, b'hello demo.a', b'hello demo.a'),
+    ('the four lines', MANUAL,
      b'    at demo.a.a(SourceFile:10)\n    at demo.a.a(Unknown Source)\nCaused by: demo.a: x\nhello demo.a\n',
      b'    at demo.Helper.twice(Helper.java:10)\n    at demo.Helper.twice(Helper.java)\nCaused by: demo.Helper: x\nhello demo.a\n'),
     # frame lines

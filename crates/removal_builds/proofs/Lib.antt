@@ -1,6 +1,6 @@
-mod LeftLists
-mod Rounds
-mod RanksLeft
-mod Again
-mod Formed
-mod Taken
+pub mod LeftLists
+pub mod Rounds
+pub mod RanksLeft
+pub mod Again
+pub mod Formed
+pub mod Taken

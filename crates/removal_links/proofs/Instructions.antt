@@ -216,7 +216,7 @@ module _ (classes : List Class) (rules : KeptByRules) (marks : List Bool)
     SomeKept o = IfSome o (λ m. i.kept_member m ≡ true)
 
     -- what is linked is marked, where a program may name it
-    field_marked : (r : MemberRef) (of_member : MemberAt → List ProfileKind) → All (field_ref_wants classes n r)
+    pub field_marked : (r : MemberRef) (of_member : MemberAt → List ProfileKind) → All (field_ref_wants classes n r)
         → member_kinds (linked_field classes (Prog n) r) of_member ≡ [] → (m : MemberAt)
         → linked_field classes (Prog n) r ≡ Ok m → i.kept_member m ≡ true
     field_marked r of_member all none m e =
@@ -231,7 +231,7 @@ module _ (classes : List Class) (rules : KeptByRules) (marks : List Bool)
         (subst (λ o. IfSome o (Stands classes (r.name, r.ty))) l.member_is
         (field_stands classes (r.name, r.ty) l.class)) marked.0)
 
-    method_marked : (r : MemberRef) (of_member : MemberAt → List ProfileKind) → All (method_ref_wants classes n r)
+    pub method_marked : (r : MemberRef) (of_member : MemberAt → List ProfileKind) → All (method_ref_wants classes n r)
         → member_kinds (linked_method classes (Prog n) r) of_member ≡ [] → (m : MemberAt)
         → linked_method classes (Prog n) r ≡ Ok m → i.kept_member m ≡ true
     method_marked r of_member all none m e =
@@ -247,7 +247,7 @@ module _ (classes : List Class) (rules : KeptByRules) (marks : List Bool)
         (method_stands classes (is_proper classes taken).abstract_methods (r.name, r.ty) l.class)) marked.0)
 
     -- a reference to what is kept leads to it in what is left
-    field_there : (r : MemberRef) (m : MemberAt) → All (base_wants classes r.class.base) → i.kept_member m ≡ true
+    pub field_there : (r : MemberRef) (m : MemberAt) → All (base_wants classes r.class.base) → i.kept_member m ≡ true
         → linked_field classes (Prog n) r ≡ Ok m → linked_field out (Prog left) r ≡ Ok (i.moved_member m)
     field_there r m all k e =
         let l = field_link classes (Prog n) r m e in
@@ -263,7 +263,7 @@ module _ (classes : List Class) (rules : KeptByRules) (marks : List Bool)
           rightly = refl;
         })
 
-    method_there : (r : MemberRef) (m : MemberAt) → All (base_wants classes r.class.base) → i.kept_member m ≡ true
+    pub method_there : (r : MemberRef) (m : MemberAt) → All (base_wants classes r.class.base) → i.kept_member m ≡ true
         → linked_method classes (Prog n) r ≡ Ok m → linked_method out (Prog left) r ≡ Ok (i.moved_member m)
     method_there r m all k e =
         let l = method_link classes (Prog n) r m e in

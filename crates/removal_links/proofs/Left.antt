@@ -36,7 +36,7 @@ use Rattle.link_check.specs.declared.fault.ProfileKind.TheVariants.{LeftOutFlag}
 use Rattle.link_check.proofs.Taken.{links_taken}
 use Rattle.member_shrink.specs.Shrunk.{is_marked, shrunk}
 use Rattle.require_sys.specs.Requires.{Item, called_wants, frame_wants, handler_wants, initialisation_wants}
-use Rattle.require_sys.specs.Requires.{name_wants, op_wants, requires, rule_wants, super_wants}
+use Rattle.require_sys.specs.Requires.{name_wants, op_wants, requires, rule_wants, super_wants, throws_wants}
 use Rattle.require_sys.specs.Requires.{verification_wants}
 use Rattle.require_sys.specs.declared.kept.KeptByRules.{KeptByRules}
 use Rattle.require_sys.proofs.Closing.{class_in, field_in}
@@ -199,9 +199,12 @@ module _ (classes : List Class) (rules : KeptByRules) (marks : List Bool)
             joined (left_out_at c.left_out (Some j)) (type_kinds out at x.ty) (not_left_out (Some j))
             (base_left classes rules marks closed taken n own x.ty.base wants none)
 
-        method_left : rules.exceptions ≡ true → (j : ℕ) (m : Method) → slice_get d.methods j ≡ Some m
-            → kinds_of_method out at d (length d.fields + j) m ≡ []
-        method_left exceptions j m there =
+        -- a method with these classes in its Exceptions, where they may be named
+        method_left : (j : ℕ) (m : Method) → slice_get d.methods j ≡ Some m → (throws : List (List ℕ))
+            → (All (throws_wants classes rules m) → flat_map (name_kinds classes n) m.throws ≡ []
+            → flat_map (name_kinds out at) throws ≡ [])
+            → kinds_of_method out at d (length d.fields + j) (record m { throws = throws }) ≡ []
+        method_left j m there throws may =
             let first = class_item classes n + 1 + length c.fields in
             let o = origin (is_marked marks) (λ k y. y) first c.methods j m
             (ap (λ (t : List Method). slice_get t j)
@@ -228,25 +231,27 @@ module _ (classes : List Class) (rules : KeptByRules) (marks : List Bool)
             (flat_map (name_kinds classes n) m.throws) three.0 in
             let five = none_left (head ++ native) (method_type_kinds classes n m.ty) four.0 in
             let native_none = (none_left head native five.0).1 in
-            let thrown : All (flat_map (name_wants classes) m.throws) =
-            subst (λ (t : Bool). All (cond t (flat_map (name_wants classes) m.throws) [])) exceptions wants.throws in
-            let declared : declaration_kinds out at d (length d.fields + j) m ≡ [] =
+            let bare : Method = record m { throws = throws } in
+            let declared : declaration_kinds out at d (length d.fields + j) bare ≡ [] =
             joined (left_out_at c.left_out (Some (length d.fields + j)) ++ native ++ method_type_kinds out at m.ty)
-            (flat_map (name_kinds out at) m.throws)
+            (flat_map (name_kinds out at) throws)
             (joined (left_out_at c.left_out (Some (length d.fields + j)) ++ native) (method_type_kinds out at m.ty)
             (joined (left_out_at c.left_out (Some (length d.fields + j))) native
             (not_left_out (Some (length d.fields + j))) native_none)
             (types_left classes rules marks closed taken n own (cons_option m.ty.ret m.ty.args) wants.typed five.1))
-            (names_left classes rules marks closed taken n own m.throws thrown four.1) in
+            (may wants.throws four.1) in
             let kept : is_member_kept classes marks old ≡ true =
             member_from classes marks old own (method_row_there o.k (slice_get_within c.methods o.k m here)) passes in
             let overridden : overriding_kinds out at new ≡ [] =
             ap (λ (k : ℕ). overriding_kinds out at (record { class = Prog at; index = k })) place
             ∙ overriding_left classes rules marks closed taken n (length c.fields + o.k) kept two.1 in
-            joined (declaration_kinds out at d (length d.fields + j) m ++ body_kinds c m ++ overriding_kinds out at new)
+            joined (declaration_kinds out at d (length d.fields + j) bare ++ body_kinds c m
+            ++ overriding_kinds out at new)
             (option_map_or (code_kinds out at m.name) m.code [])
-            (joined (declaration_kinds out at d (length d.fields + j) m ++ body_kinds c m) (overriding_kinds out at new)
-            (joined (declaration_kinds out at d (length d.fields + j) m) (body_kinds c m) declared three.1) overridden)
+            (joined (declaration_kinds out at d (length d.fields + j) bare ++ body_kinds c m)
+            (overriding_kinds out at new)
+            (joined (declaration_kinds out at d (length d.fields + j) bare)
+            (body_kinds c m) declared three.1) overridden)
             (code_left m.name m.code wants.code one.1)
           where
             method_place : (k j : ℕ) → j ≡ rank (is_marked marks) (class_item classes n + 1 + length c.fields) k
@@ -305,26 +310,58 @@ module _ (classes : List Class) (rules : KeptByRules) (marks : List Bool)
         is = o.is ∙ ap (λ (k : ℕ). f classes marks k o.element) plain;
       }
 
+  pub classes_right : (j : ℕ) (d : Class) → slice_get out j ≡ Some d → kinds_of_class out j d ≡ []
+  classes_right j d e =
+      let s = stays j d e in
+      subst (λ (x : Class). kinds_of_class out j x ≡ []) (sym s.is)
+      (subst (λ (k : ℕ). kinds_of_class out k (f classes marks s.n s.class) ≡ []) (sym s.place)
+      (class_left s.n s.own s.class s.there s.marked))
+
+  pub fields_right : (j : ℕ) (d : Class) (k : ℕ) (x : Field) → slice_get out j ≡ Some d → slice_get d.fields k ≡ Some x
+      → kinds_of_field out j d k x ≡ []
+  fields_right j d k x e at =
+      let s = stays j d e in
+      subst (λ (y : Class). kinds_of_field out j y k x ≡ []) (sym s.is)
+      (subst (λ (i : ℕ). kinds_of_field out i (f classes marks s.n s.class) k x ≡ []) (sym s.place)
+      (field_left s.n s.own s.class s.there s.marked k x
+      (ap (λ (y : Class). slice_get y.fields k) (sym s.is) ∙ at)))
+
+  -- a method that is left, with these classes in its Exceptions, where they may be named
+  methods_right : (throws : Method → List (List ℕ))
+      → ((n : ℕ) (own : is_class_kept classes marks (Prog n) ≡ true) (m : Method)
+      → All (throws_wants classes rules m) → flat_map (name_kinds classes n) m.throws ≡ []
+      → flat_map (name_kinds out (at n own)) (throws m) ≡ [])
+      → (j : ℕ) (d : Class) (k : ℕ) (m : Method) → slice_get out j ≡ Some d → slice_get d.methods k ≡ Some m
+      → kinds_of_method out j d (length d.fields + k) (record m { throws = throws m }) ≡ []
+  methods_right throws may j d k m e at =
+      let s = stays j d e in
+      subst (λ (y : Class). kinds_of_method out j y (length y.fields + k) (record m { throws = throws m }) ≡ [])
+      (sym s.is)
+      (subst (λ (i : ℕ). kinds_of_method out i (f classes marks s.n s.class)
+      (length (f classes marks s.n s.class).fields + k) (record m { throws = throws m }) ≡ []) (sym s.place)
+      (method_left s.n s.own s.class s.there s.marked k m
+      (ap (λ (y : Class). slice_get y.methods k) (sym s.is) ∙ at) (throws m) (may s.n s.own m)))
+
+  -- where Exceptions is kept, the classes that it names are
+  thrown : (n : ℕ) (own : is_class_kept classes marks (Prog n) ≡ true) (m : Method) → rules.exceptions ≡ true
+      → All (throws_wants classes rules m) → flat_map (name_kinds classes n) m.throws ≡ []
+      → flat_map (name_kinds out (at n own)) m.throws ≡ []
+  thrown n own m exceptions wants none =
+      names_left classes rules marks closed taken n own m.throws
+      (subst (λ (t : Bool). All (cond t (flat_map (name_wants classes) m.throws) [])) exceptions wants) none
+
+  -- a method that is left, with the classes in its Exceptions where that attribute is kept
+  pub methods_kept : (exceptions : Bool) → exceptions ≡ rules.exceptions → (j : ℕ) (d : Class) (k : ℕ) (m : Method)
+      → slice_get out j ≡ Some d → slice_get d.methods k ≡ Some m
+      → kinds_of_method out j d (length d.fields + k) (record m { throws = cond exceptions m.throws [] }) ≡ []
+  methods_kept true same = methods_right (λ m. m.throws) (λ n own m. thrown n own m (sym same))
+  methods_kept false same = methods_right (λ m. []) (λ n own m wants none. refl)
+
   left_right : rules.exceptions ≡ true → BreaksNoRule out
   left_right exceptions = record {
-    class = λ j d e.
-        let s = stays j d e in
-        subst (λ (x : Class). kinds_of_class out j x ≡ []) (sym s.is)
-        (subst (λ (k : ℕ). kinds_of_class out k (f classes marks s.n s.class) ≡ []) (sym s.place)
-        (class_left s.n s.own s.class s.there s.marked));
-    field = λ j d k x e at.
-        let s = stays j d e in
-        subst (λ (y : Class). kinds_of_field out j y k x ≡ []) (sym s.is)
-        (subst (λ (i : ℕ). kinds_of_field out i (f classes marks s.n s.class) k x ≡ []) (sym s.place)
-        (field_left s.n s.own s.class s.there s.marked k x
-        (ap (λ (y : Class). slice_get y.fields k) (sym s.is) ∙ at)));
-    method = λ j d k m e at.
-        let s = stays j d e in
-        subst (λ (y : Class). kinds_of_method out j y (length y.fields + k) m ≡ []) (sym s.is)
-        (subst (λ (i : ℕ). kinds_of_method out i (f classes marks s.n s.class)
-        (length (f classes marks s.n s.class).fields + k) m ≡ []) (sym s.place)
-        (method_left s.n s.own s.class s.there s.marked exceptions k m
-        (ap (λ (y : Class). slice_get y.methods k) (sym s.is) ∙ at)));
+    class = classes_right;
+    field = fields_right;
+    method = methods_kept true (sym exceptions);
   }
 
 pub links_left : RemovalKeepsLinks

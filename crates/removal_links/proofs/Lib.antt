@@ -1,4 +1,4 @@
-mod Instructions
+pub mod Instructions
 mod Implementing
 mod Overriding
 pub mod Places

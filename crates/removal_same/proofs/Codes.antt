@@ -58,7 +58,7 @@ use Rattle.removal_image.proofs.Wanted.{AllIn, CodeWants, In, base_kept, field_p
 use Rattle.removal_image.proofs.Wanted.{name_kept}
 
 -- an array of a primitive type names no class
-no_class_array : (atype : ℕ) (name : List ℕ) → array_type_of atype ≡ Some (base.Class name) → ⊥
+pub no_class_array : (atype : ℕ) (name : List ℕ) → array_type_of atype ≡ Some (base.Class name) → ⊥
 no_class_array atype name =
     by (atype == 4) (atype == 5) (atype == 8) (atype == 9) (atype == 10) (atype == 11)
   where
@@ -168,11 +168,11 @@ module _ (classes : List Class) (rules : KeptByRules) (marks : List Bool)
         ∙ ap (option_and_then (new_ref classes out i r c)) member ∙ ref_itself r found c m is k l
 
     -- the member of a reference that is linked is declared under its name
-    field_stand : (r : MemberRef) (m : MemberAt) → FieldLink classes (Prog n) r m → Stands classes (r.name, r.ty) m
+    pub field_stand : (r : MemberRef) (m : MemberAt) → FieldLink classes (Prog n) r m → Stands classes (r.name, r.ty) m
     field_stand r m l = subst (λ o. IfSome o (Stands classes (r.name, r.ty))) l.member_is
         (field_stands classes (r.name, r.ty) l.class)
 
-    method_stand : (r : MemberRef) (m : MemberAt) → MethodLink classes (Prog n) r m → Stands classes (r.name, r.ty) m
+    pub method_stand : (r : MemberRef) (m : MemberAt) → MethodLink classes (Prog n) r m → Stands classes (r.name, r.ty) m
     method_stand r m l = subst (λ o. IfSome o (Stands classes (r.name, r.ty))) l.member_is
         (method_stands classes (is_proper classes taken).abstract_methods (r.name, r.ty) l.class)
 
@@ -191,14 +191,14 @@ module _ (classes : List Class) (rules : KeptByRules) (marks : List Bool)
         (found_kept classes rules marks closed (r.name, r.ty) m.member (field_stand r m.member l) marked.0)
 
     -- what is found for a call without a fault
-    record Called (r : MemberRef) : Type 0 where
-      member : MemberAt
-      link : MethodLink classes (Prog n) r member
-      callable : callable classes (Prog n) (linked_method classes (Prog n) r) ≡ Ok member
-      class_kept : is_class_kept classes marks link.class ≡ true
-      member_kept : is_member_kept classes marks member ≡ true
+    pub record Called (r : MemberRef) : Type 0 where
+      pub member : MemberAt
+      pub link : MethodLink classes (Prog n) r member
+      pub callable : callable classes (Prog n) (linked_method classes (Prog n) r) ≡ Ok member
+      pub class_kept : is_class_kept classes marks link.class ≡ true
+      pub member_kept : is_member_kept classes marks member ≡ true
 
-    called : (static : Bool) (r : MemberRef) → All (method_ref_wants classes n r) → call_kinds classes n static r ≡ []
+    pub called : (static : Bool) (r : MemberRef) → All (method_ref_wants classes n r) → call_kinds classes n static r ≡ []
         → Called r
     called static r all none =
         let links = (none_left (method_text_kinds classes n (read_method r.ty)
@@ -309,7 +309,7 @@ module _ (classes : List Class) (rules : KeptByRules) (marks : List Bool)
 
     -- ---- codes
 
-    same_line : (o : Option ℕ) → LineCorr o o
+    pub same_line : (o : Option ℕ) → LineCorr o o
     same_line None = tt
     same_line (Some line) = refl
 

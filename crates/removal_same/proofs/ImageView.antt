@@ -55,7 +55,7 @@ use Rattle.removal_same.proofs.Told.{code_found, told_same}
 
 -- ---- the classes and the field of which the machine speaks are the library's
 
-abbrev is_library_name : List ℕ → Bool
+abbrev pub is_library_name : List ℕ → Bool
 is_library_name name = starts_with nat_eq name (codes "java/") && is_some (table.class_named name)
 
 found_among : (good : List ℕ → Bool) (name : List ℕ) (names : List (List ℕ)) → list_any (is_text name) names ≡ true
@@ -79,7 +79,7 @@ own_classes = object ∷ serializable ∷ codes "java/lang/Cloneable" ∷ string
     ∷ exception_class NoClassDef ∷ exception_class InInitializer ∷ exception_class IncompatibleChange
     ∷ exception_class IllegalAccess ∷ exception_class AbstractMethod ∷ []
 
-own_names : (name : List ℕ) → is_own_class name ≡ true → is_library_name name ≡ true
+pub own_names : (name : List ℕ) → is_own_class name ≡ true → is_library_name name ≡ true
 unfolding library
 own_names name own = found_among is_library_name name own_classes own refl
 
@@ -102,7 +102,7 @@ module _ (classes : List Class) (rules : KeptByRules) (marks : List Bool)
       → IfSome (class_named classes name) (λ y. is_class_kept classes marks y ≡ true)
   some_class_kept name x e k = subst (λ o. IfSome o (λ y. is_class_kept classes marks y ≡ true)) (sym e) k
 
-  found_left : (x : ClassId) → is_class_kept classes marks x ≡ true
+  pub found_left : (x : ClassId) → is_class_kept classes marks x ≡ true
       → class_named out (name_of out (class_place classes marks x)) ≡ Some (class_place classes marks x)
   found_left x k =
       let found = class_found classes taken x (class_there classes marks x k) in
@@ -141,7 +141,7 @@ module _ (classes : List Class) (rules : KeptByRules) (marks : List Bool)
   library_same (Lib id) = refl
 
   -- a class of the library is found by its name and kept
-  library_found : (name : List ℕ) → is_library_name name ≡ true
+  pub library_found : (name : List ℕ) → is_library_name name ≡ true
       → (id : ℕ) × (class_named classes name ≡ Some (Lib id)) × (is_class_kept classes marks (Lib id) ≡ true)
   library_found name h =
       let parts = and_parts (starts_with nat_eq name (codes "java/")) (is_some (table.class_named name)) h in
@@ -159,15 +159,15 @@ module _ (classes : List Class) (rules : KeptByRules) (marks : List Bool)
       class_same classes rules marks closed taken c (Lib id.0) id.1 id.2
 
   -- the field `System.out`
-  abbrev out_field : MemberAt
+  abbrev pub out_field : MemberAt
   out_field = record { class = Lib 8; index = 0 }
 
-  out_found : member_of classes step.out ≡ Some out_field
+  pub out_found : member_of classes step.out ≡ Some out_field
   unfolding library
   out_found = ap (option_and_then (declared_in classes (step.out.name, step.out.descriptor)))
       (library_named classes taken (codes "java/lang/System") refl)
 
-  out_kept : is_member_kept classes marks out_field ≡ true
+  pub out_kept : is_member_kept classes marks out_field ≡ true
   unfolding library
   out_kept = refl
 
@@ -185,7 +185,7 @@ module _ (classes : List Class) (rules : KeptByRules) (marks : List Bool)
 
   -- ---- codes
 
-  code_kinds_none : (n : ℕ) (c : Class) (k : ℕ) (m : Method) (code : Code) → slice_get classes n ≡ Some c
+  pub code_kinds_none : (n : ℕ) (c : Class) (k : ℕ) (m : Method) (code : Code) → slice_get classes n ≡ Some c
       → slice_get c.methods k ≡ Some m → m.code ≡ Some code → code_kinds classes n m.name code ≡ []
   code_kinds_none n c k m code is at has =
       let place : MemberAt = record { class = Prog n; index = length c.fields + k } in
@@ -195,7 +195,7 @@ module _ (classes : List Class) (rules : KeptByRules) (marks : List Bool)
       (none_left (head ++ body_kinds c m ++ overriding_kinds classes n place)
       (option_map_or (code_kinds classes n m.name) m.code []) none).1
 
-  good_code : (n : ℕ) (c : Class) (k : ℕ) (m : Method) (code : Code) → slice_get classes n ≡ Some c
+  pub good_code : (n : ℕ) (c : Class) (k : ℕ) (m : Method) (code : Code) → slice_get classes n ≡ Some c
       → slice_get c.methods k ≡ Some m → m.code ≡ Some code
       → AllByRecursion (λ (x : Ins). IsGoodOp (length code.ins) x.op) code.ins
   good_code n c k m code is at has =

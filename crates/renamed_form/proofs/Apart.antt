@@ -74,7 +74,7 @@ module _ (names : Names) (known : List ℕ → Bool)
   one_base ty other base.Float b e f is then_is same = simple base.Float b same (λ n e. cc)
   one_base ty other base.Double b e f is then_is same = simple base.Double b same (λ n e. cc)
 
-  one_renamed_type : (ty other : FieldType) → IsKnownType known ty → IsKnownType known other
+  pub one_renamed_type : (ty other : FieldType) → IsKnownType known ty → IsKnownType known other
       → renamed_type names ty ≡ renamed_type names other → ty ≡ other
   one_renamed_type ty other is then_is same =
       let dims = ap (λ (t : FieldType). t.dims) same in
@@ -99,7 +99,7 @@ module _ (names : Names) (known : List ℕ → Bool)
   one_ret (Some t) None is then_is same = absurd cc
   one_ret (Some t) (Some u) is then_is same = ap Some (one_renamed_type t u is then_is cc)
 
-  one_renamed_method : (ty other : MethodType) → IsKnownMethodType known ty → IsKnownMethodType known other
+  pub one_renamed_method : (ty other : MethodType) → IsKnownMethodType known ty → IsKnownMethodType known other
       → renamed_method_type names ty ≡ renamed_method_type names other → ty ≡ other
   one_renamed_method ty other is then_is same =
       let args = one_args ty.args other.args is.arguments then_is.arguments (ap (λ (t : MethodType). t.args) same) in

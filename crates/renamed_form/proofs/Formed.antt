@@ -44,7 +44,8 @@ use Rattle.class_rename.specs.Renamed.{renamed_method_ref, renamed_method_text, 
 use Rattle.class_rename.specs.Renamed.{renamed_type, renamed_vtype}
 use Rattle.member_shrink.proofs.Picked.{all_mapped, some_mapped, pairs_mapped}
 use Rattle.renamed_form.specs.Form.{KeepsApart, KeepsForm}
-use Rattle.renamed_form.proofs.Spelled.{field_text_is, method_text_is, one_method_type}
+use Rattle.renamed_form.proofs.Spelled.{field_text_is, method_text_is, method_type_spelled, one_method_type}
+use Rattle.renamed_form.proofs.Spelled.{arguments_stay, type_spelled}
 
 module _ (names : Names) (form : KeepsForm names) where
   -- ---- types
@@ -52,46 +53,11 @@ module _ (names : Names) (form : KeepsForm names) where
   class_formed : (a : List ℕ) → IsClassName a → IsClassName (names.class a)
   class_formed a h = (form.class_text a h.0, form.class_name a h.1)
 
-  base_formed : (b : Base) → IsBase b → IsBase (renamed_base names b)
-  base_formed (base.Class name) h = form.class_name name h
-  base_formed base.Boolean h = tt
-  base_formed base.Byte h = tt
-  base_formed base.Char h = tt
-  base_formed base.Short h = tt
-  base_formed base.Int h = tt
-  base_formed base.Long h = tt
-  base_formed base.Float h = tt
-  base_formed base.Double h = tt
-
   pub type_formed : (ty : FieldType) → IsFieldType ty → IsFieldType (renamed_type names ty)
-  type_formed ty h = record { dimensions = h.dimensions; named = base_formed ty.base h.named }
-
-  wide_stays : (b : Base) → is_wide_base (renamed_base names b) ≡ is_wide_base b
-  wide_stays (base.Class name) = refl
-  wide_stays base.Boolean = refl
-  wide_stays base.Byte = refl
-  wide_stays base.Char = refl
-  wide_stays base.Short = refl
-  wide_stays base.Int = refl
-  wide_stays base.Long = refl
-  wide_stays base.Float = refl
-  wide_stays base.Double = refl
-
-  words_stay : (ty : FieldType) → words_of (renamed_type names ty) ≡ words_of ty
-  unfolding words_of
-  words_stay ty = ap (λ (w : Bool). if ty.dims == 0 && w then 2 else 1) (wide_stays ty.base)
-
-  arguments_stay : (args : List FieldType) → argument_words (map (renamed_type names) args) ≡ argument_words args
-  unfolding argument_words
-  arguments_stay args = fold-map (λ (a : ℕ) (t : FieldType). a + words_of t) (renamed_type names) 0 args
-      ∙ (λ i. fold (λ (a : ℕ) (t : FieldType). a + words_stay t i) 0 args)
+  type_formed ty h = type_spelled names form.class_name ty h
 
   pub method_type_formed : (ty : MethodType) → IsMethodType ty → IsMethodType (renamed_method_type names ty)
-  method_type_formed ty h = record {
-    arguments = all_mapped IsFieldType IsFieldType (renamed_type names) type_formed ty.args h.arguments;
-    words = subst (λ (n : ℕ). n ≤ 255) (sym (arguments_stay ty.args)) h.words;
-    returned = some_mapped IsFieldType IsFieldType (renamed_type names) type_formed ty.ret h.returned;
-  }
+  method_type_formed ty h = method_type_spelled names form.class_name ty h
 
   operand_formed : (ty : FieldType) → IsClassOrArray ty → IsClassOrArray (renamed_type names ty)
   operand_formed ty (is, inl dims) = (type_formed ty is, inl dims)
@@ -302,7 +268,7 @@ module _ (names : Names) (form : KeepsForm names) where
         typed = method_type_formed m.ty h.typed;
         room_for_this =
             subst (λ (n : ℕ). IsTrue (is_static m.flags.0 || not (n == 255)))
-            (sym (arguments_stay m.ty.args)) h.room_for_this;
+            (sym (arguments_stay names m.ty.args)) h.room_for_this;
         initial_flags =
             subst IsTrue
             (λ i. (not (sym init i) ||
@@ -330,7 +296,7 @@ module _ (names : Names) (form : KeepsForm names) where
       one_method_type ty (renamed_method_type names spelled.0) is (method_type_formed spelled.0 spelled.1)
       (sym same ∙ text) in
       subst (λ (k : ℕ). k ≤ 254)
-      (sym (ap (λ (t : MethodType). argument_words t.args) one ∙ arguments_stay spelled.0.args))
+      (sym (ap (λ (t : MethodType). argument_words t.args) one ∙ arguments_stay names spelled.0.args))
       (few spelled.0 spelled.1 spelled.2)
   few_stay n (op.GetStatic r) good few = tt
   few_stay n (op.PutStatic r) good few = tt

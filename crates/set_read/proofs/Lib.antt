@@ -3,5 +3,5 @@ mod Files
 mod Judging
 mod Methods
 mod Sets
-mod Writable
+pub mod Writable
 pub mod OneSet

@@ -174,11 +174,11 @@ throws_by : (kept : Bool) (throws : List (List ℕ)) → AllByRecursion IsClassN
 throws_by true throws h = h
 throws_by false throws h = tt
 
-field_good : (filter : AttributeFilter) (in_interface : Bool) (field : Field) → IsGoodField in_interface field
+pub field_good : (filter : AttributeFilter) (in_interface : Bool) (field : Field) → IsGoodField in_interface field
     → IsGoodField in_interface (field_filtered filter field)
 field_good filter in_interface field g = record { meant = g.meant; flags = g.flags; name = g.name; typed = g.typed; constant = g.constant }
 
-method_good : (filter : AttributeFilter) (in_interface : Bool) (m : Method) → IsGoodMethod in_interface m
+pub method_good : (filter : AttributeFilter) (in_interface : Bool) (m : Method) → IsGoodMethod in_interface m
     → IsGoodMethod in_interface (method_filtered filter m)
 method_good filter in_interface m g = record {
   meant = g.meant;
@@ -204,7 +204,7 @@ units_named filter utf8 own units (Some name) is =
     rw is (units_are name (subst (λ (o : Option (List ℕ)). IfSome o IsUtf8) is utf8))
 units_named filter utf8 own units None is = rw is units
 
-source_by : (filter : AttributeFilter) → IfSome filter.source_name IsUtf8 → (kept : Bool) (o : Option (List ℕ))
+pub source_by : (filter : AttributeFilter) → IfSome filter.source_name IsUtf8 → (kept : Bool) (o : Option (List ℕ))
     → IfSome o IsUnits → IfSome (cond kept (option_map (source_named filter) o) None) IsUnits
 source_by filter utf8 true (Some own) h = units_named filter utf8 own h filter.source_name refl
 source_by filter utf8 true None h = tt

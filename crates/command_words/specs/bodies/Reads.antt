@@ -1,4 +1,4 @@
--- What the code knows of clap's answer (only its proofs need it).
+-- What the code knows of clap's answer (only the proof of `read_command` needs it).
 use Rattle.std.specs.Prelude.{◌≡◌, ◌≢◌, ℕ, List, [], Option, Some, None}
 use Rattle.clap.specs.Words.{fault_of, found_of, matches_of, rows_of}
 use Rattle.clap.specs.declared.parser.matches.ArgMatches.{ArgMatches}

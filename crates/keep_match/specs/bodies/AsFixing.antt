@@ -1,4 +1,5 @@
--- Rules by which names stay, as rules that keep classes: so one search serves both.
+-- Rules by which names stay, as rules that keep classes: so one search serves both (only the proof of `fixed_rows`
+-- needs them).
 use Rattle.std.specs.Prelude.{false, List, map}
 use Rattle.std.specs.List.{filter}
 use Rattle.keep_rules.specs.declared.rules.Keep.{Keep}

@@ -1,4 +1,5 @@
--- Rules on members alone, as rules that keep classes with these members: so one search serves both.
+-- Rules on members alone, as rules that keep classes with these members: so one search serves both (only the proof of
+-- `members_asked` needs them).
 use Rattle.std.specs.Prelude.{false, List, map}
 use Rattle.std.specs.List.{filter}
 use Rattle.keep_rules.specs.declared.rules.Keep.{Keep}

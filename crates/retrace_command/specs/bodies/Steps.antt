@@ -1,4 +1,4 @@
--- What steps of the command have found (only its proofs need it).
+-- What steps of the command have found (only the proof of `retrace_files` needs it).
 use Rattle.std.specs.Prelude.{◌≡◌, ◌⊎◌, ℕ, List, [], Option, Some, None, Result, Ok, Err}
 use Rattle.tree_io.specs.Files.{Files}
 use Rattle.tree_io.specs.Runs.{AddsCalls, Sees}

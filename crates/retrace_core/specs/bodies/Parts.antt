@@ -1,4 +1,4 @@
--- What the code has of lines in parts (only its proofs need it).
+-- What the code has of lines in parts (only the proof of `retrace` needs it).
 use Rattle.std.specs.Prelude.{ℕ, List, Option}
 use Rattle.std.specs.Option.{option_map}
 use Rattle.std.specs.Borrow.{Bor}

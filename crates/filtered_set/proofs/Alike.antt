@@ -1,0 +1,349 @@
+-- What is asked of a set of classes is as it was where optional attributes are taken away. Each lemma is named after
+-- the definition of which it says so, as an equation of functions, and goes the definition's way.
+use Rattle.std.proofs.Common.{◌≡◌, ℕ, zero, suc, ◌+◌, not, ◌&&◌, ◌||◌, Bool, true, false, cond, List, [], ◌∷◌, ◌++◌}
+use Rattle.std.proofs.Common.{length}
+use Rattle.std.proofs.Common.{map, nat_lt, Option, Some, None, Result, Ok, Err, slice_get, refl, sym, ap, ◌∙◌, codes}
+use Rattle.std.proofs.Common.{filter}
+use Rattle.std.specs.Prelude.{◌==◌}
+use Rattle.std.specs.Bool.{beq}
+use Rattle.std.specs.List.{filter_map, find, flat_map, list_any, position, position_or_len, prefix_len}
+use Rattle.std.specs.Option.{option_and_then, option_map, option_map_or, option_or}
+use Rattle.std.proofs.lemmas.List.{length-map}
+use Rattle.std.proofs.lemmas.Option.{slice_get-map}
+use Rattle.jv_base.specs.Names.{is_text}
+use Rattle.jv_base.specs.declared.types.Base.{Base}
+use Rattle.jv_base.specs.declared.types.Base.TheVariants as base
+use Rattle.class_model.specs.Flags.{acc_abstract, acc_private, acc_protected, acc_public, acc_static, has, is_init}
+use Rattle.class_model.specs.declared.class.Class.{Class}
+use Rattle.class_model.specs.declared.class.Field.{Field}
+use Rattle.class_model.specs.declared.class.Method.{Method}
+use Rattle.class_model.specs.declared.op.MemberRef.{MemberRef}
+use Rattle.lib_table.specs.Lookups as table
+use Rattle.lib_table.specs.declared.class.LibKind.{LibKind}
+use Rattle.lib_table.specs.declared.class.LibKind.TheVariants.{Open}
+use Rattle.class_pool.specs.Found.{MemberRow, NameAndType, declared_by, declared_in, field_row, has_flag}
+use Rattle.class_pool.specs.Found.{is_instance_method, is_instance_row, is_private_member, is_static_member, method_row}
+use Rattle.class_pool.specs.Found.{name_of, named_at, package_of, row_at, rows_in, same_member, same_package}
+use Rattle.class_pool.specs.Hierarchy.{class_named, interfaces, is_interface_kind, kind_in, kind_of, or_found}
+use Rattle.class_pool.specs.Hierarchy.{superclass, superclass_of}
+use Rattle.class_pool.specs.Members.{declared_at, is_field, is_method, member_named, or_method}
+use Rattle.class_pool.specs.Resolution.{chosen, class_method_found, field_found, first, interface_method_found}
+use Rattle.class_pool.specs.Resolution.{is_class_accessible, is_class_below, is_interface_in, is_maximally_specific}
+use Rattle.class_pool.specs.Resolution.{is_member_accessible, is_open, is_protected_accessible, is_public_class}
+use Rattle.class_pool.specs.Resolution.{is_subinterface, maximally_specific, method_found, object_method, only_one}
+use Rattle.class_pool.specs.Resolution.{superinterface_methods}
+use Rattle.class_pool.specs.Selection.{first_instance, may_be_overridden, may_override, overrides, overriding}
+use Rattle.class_pool.specs.Selection.{overriding_from, selected, selected_special, with_nearest}
+use Rattle.class_pool.specs.Walk.{highest, own_superinterfaces, same_class, superclasses_from, superinterfaces}
+use Rattle.class_pool.specs.Walk.{upwards, walked}
+use Rattle.class_pool.specs.declared.id.ClassId.{ClassId}
+use Rattle.class_pool.specs.declared.id.ClassId.TheVariants.{Prog, Lib}
+use Rattle.class_pool.specs.declared.id.MemberAt.{MemberAt}
+use Rattle.link_check.specs.Links.{linked, linked_field, linked_method, of_array, of_class, through}
+use Rattle.link_check.specs.declared.fault.LinkKind.{LinkKind}
+use Rattle.link_check.specs.declared.fault.LinkKind.TheVariants as link
+use Rattle.attribute_filter.specs.Filtered.{field_filtered, filtered, method_filtered}
+use Rattle.attribute_filter.specs.declared.filter.AttributeFilter.{AttributeFilter}
+
+-- ---- lists
+
+prefix_map : {X Y : Type 0} (f : X → Y) (p : Y → Bool) (xs : List X)
+    → prefix_len p (map f xs) ≡ prefix_len (λ x. p (f x)) xs
+prefix_map f p [] = refl
+prefix_map f p (x ∷ xs) = ap (λ (n : ℕ). cond (p (f x)) (1 + n) 0) (prefix_map f p xs)
+
+position_map : {X Y : Type 0} (f : X → Y) (p : Y → Bool) (xs : List X)
+    → position p (map f xs) ≡ position (λ x. p (f x)) xs
+position_map {X} f p xs =
+    ap (λ (n : ℕ). cond (nat_lt n (length (map f xs))) (Some n) None) (prefix_of xs)
+    ∙ ap (λ (n : ℕ). cond (nat_lt (position_or_len (λ x. p (f x)) xs) n)
+    (Some (position_or_len (λ x. p (f x)) xs)) None)
+    (length-map xs f)
+  where
+    prefix_of : (xs : List X) → position_or_len p (map f xs) ≡ position_or_len (λ x. p (f x)) xs
+    prefix_of xs = prefix_map f (λ y. not (p y)) xs
+
+map_map : {X Y Z : Type 0} (f : X → Y) (g : Y → Z) (h : X → Z) → ((x : X) → g (f x) ≡ h x) → (xs : List X)
+    → map g (map f xs) ≡ map h xs
+map_map f g h same [] = refl
+map_map {X} {Y} {Z} f g h same (x ∷ xs) =
+    ap (λ (z : Z). z ∷ map g (map f xs)) (same x) ∙ ap (λ (t : List Z). h x ∷ t) (map_map f g h same xs)
+
+module _ (filter_by : AttributeFilter) (a : List Class) where
+  abbrev pub b : List Class
+  b = map (filtered filter_by) a
+
+  -- ---- classes
+
+  -- what is told of a class by what no attribute says
+  pub told : {A : Type 0} (h : Class → A) (d : A) → ((c : Class) → h (filtered filter_by c) ≡ h c) → (n : ℕ)
+      → option_map_or h (slice_get b n) d ≡ option_map_or h (slice_get a n) d
+  told {A} h d same n =
+      ap (λ o. option_map_or h o d) (slice_get-map (filtered filter_by) a n) ∙ by (slice_get a n)
+    where
+      by : (o : Option Class) → option_map_or h (option_map (filtered filter_by) o) d ≡ option_map_or h o d
+      by None = refl
+      by (Some c) = same c
+
+  class_named_at : (name : List ℕ) → class_named b name ≡ class_named a name
+  class_named_at name = ap (λ o. or_found o (option_map Lib (table.class_named name)))
+      (position_map (filtered filter_by) (λ c. is_text name c.name) a)
+
+  pub class_named_is : class_named b ≡ class_named a
+  class_named_is = λ i name. class_named_at name i
+
+  superclass_at : (x : ClassId) → superclass b x ≡ superclass a x
+  superclass_at (Prog n) =
+      ap (option_and_then (superclass_of b)) (slice_get-map (filtered filter_by) a n) ∙ by (slice_get a n)
+    where
+      by : (o : Option Class)
+          → option_and_then (superclass_of b) (option_map (filtered filter_by) o) ≡ option_and_then (superclass_of a) o
+      by None = refl
+      by (Some c) = class_named_at c.super_name
+  superclass_at (Lib id) = refl
+
+  pub superclass_is : superclass b ≡ superclass a
+  superclass_is = λ i x. superclass_at x i
+
+  interfaces_at : (x : ClassId) → interfaces b x ≡ interfaces a x
+  interfaces_at (Prog n) =
+      told (λ c. filter_map (class_named b) c.interfaces) [] (λ c. refl) n
+      ∙ (λ i. option_map_or (λ c. filter_map (class_named_is i) c.interfaces) (slice_get a n) [])
+  interfaces_at (Lib id) = refl
+
+  pub interfaces_is : interfaces b ≡ interfaces a
+  interfaces_is = λ i x. interfaces_at x i
+
+  kind_in_at : (x : ClassId) → kind_in b x ≡ kind_in a x
+  kind_in_at (Prog n) = told kind_of Open (λ c. refl) n
+  kind_in_at (Lib id) = refl
+
+  pub kind_in_is : kind_in b ≡ kind_in a
+  kind_in_is = λ i x. kind_in_at x i
+
+  pub is_interface_in_is : is_interface_in b ≡ is_interface_in a
+  is_interface_in_is = λ i x. is_interface_kind (kind_in_is i x)
+
+  name_of_at : (x : ClassId) → name_of b x ≡ name_of a x
+  name_of_at (Prog n) = told (λ c. c.name) [] (λ c. refl) n
+  name_of_at (Lib id) = refl
+
+  pub same_package_is : same_package b ≡ same_package a
+  same_package_is = λ i x y. is_text (package_of (name_of_at x i)) (package_of (name_of_at y i))
+
+  pub is_public_at : (x : ClassId) → is_public_class b x ≡ is_public_class a x
+  is_public_at (Prog n) = told (λ c. has acc_public c.flags.0) false (λ c. refl) n
+  is_public_at (Lib id) = refl
+
+  -- ---- walks (JVMS 5.4.3)
+
+  upwards_is : (n : ℕ) → upwards n b ≡ upwards n a
+  unfolding upwards
+  upwards_is zero = λ i x. []
+  upwards_is (suc n) = λ i x. x ∷ option_map_or (upwards_is n i) (superclass_is i x) []
+
+  walked_is : (n : ℕ) → walked n b ≡ walked n a
+  unfolding walked
+  walked_is zero = λ i xs. []
+  walked_is (suc n) = λ i xs. flat_map (λ x. x ∷ walked_is n i (interfaces_is i x)) xs
+
+  pub superclasses_from_is : superclasses_from b ≡ superclasses_from a
+  superclasses_from_is = upwards_is highest
+
+  own_superinterfaces_is : own_superinterfaces b ≡ own_superinterfaces a
+  own_superinterfaces_is = λ i x. walked_is highest i (interfaces_is i x)
+
+  pub superinterfaces_is : superinterfaces b ≡ superinterfaces a
+  superinterfaces_is = λ i x. flat_map (own_superinterfaces_is i) (superclasses_from_is i x)
+
+  -- ---- members
+
+  rows_of : Class → List MemberRow
+  rows_of c = map field_row c.fields ++ map method_row c.methods
+
+  rows_in_at : (x : ClassId) → rows_in b x ≡ rows_in a x
+  unfolding rows_of
+  rows_in_at (Prog n) =
+      told rows_of []
+      (λ c. ap (λ (t : List MemberRow). t ++ map method_row (map (method_filtered filter_by) c.methods))
+      (map_map (field_filtered filter_by) field_row field_row (λ f. refl) c.fields)
+      ∙ ap (λ (t : List MemberRow). map field_row c.fields ++ t)
+      (map_map (method_filtered filter_by) method_row method_row (λ m. refl) c.methods)) n
+  rows_in_at (Lib id) = refl
+
+  pub rows_in_is : rows_in b ≡ rows_in a
+  rows_in_is = λ i x. rows_in_at x i
+
+  row_at_is : row_at b ≡ row_at a
+  row_at_is = λ i m. slice_get (rows_in_is i m.class) m.index
+
+  pub has_flag_is : has_flag b ≡ has_flag a
+  has_flag_is = λ i flag m. option_map_or (λ row. has flag row.flags) (row_at_is i m) false
+
+  pub is_instance_method_is : is_instance_method b ≡ is_instance_method a
+  is_instance_method_is = λ i m. option_map_or is_instance_row (row_at_is i m) false
+
+  pub named_at_is : named_at b ≡ named_at a
+  named_at_is = λ i m. option_map_or (λ row. row.named) (row_at_is i m) ([], [])
+
+  member_named_at : (c : Class) (name ty : List ℕ)
+      → member_named (filtered filter_by c) name ty ≡ member_named c name ty
+  member_named_at c name ty =
+      ap (or_method (filtered filter_by c) name ty)
+      (position_map (field_filtered filter_by) (is_field name ty) c.fields)
+      ∙ by (position (is_field name ty) c.fields)
+    where
+      by : (o : Option ℕ) → or_method (filtered filter_by c) name ty o ≡ or_method c name ty o
+      by (Some n) = refl
+      by None =
+          ap (λ (n : ℕ). option_map (λ k. n + k)
+              (position (is_method name ty) (map (method_filtered filter_by) c.methods)))
+          (length-map c.fields (field_filtered filter_by))
+          ∙ ap (option_map (λ k. length c.fields + k))
+          (position_map (method_filtered filter_by) (is_method name ty) c.methods)
+
+  pub declared_at_at : (x : ClassId) (name ty : List ℕ) → declared_at b x name ty ≡ declared_at a x name ty
+  declared_at_at (Prog n) name ty =
+      ap (option_and_then (λ c. member_named c name ty)) (slice_get-map (filtered filter_by) a n) ∙ by (slice_get a n)
+    where
+      by : (o : Option Class)
+          → option_and_then (λ c. member_named c name ty) (option_map (filtered filter_by) o)
+          ≡ option_and_then (λ c. member_named c name ty) o
+      by None = refl
+      by (Some c) = member_named_at c name ty
+  declared_at_at (Lib id) name ty = refl
+
+  pub declared_in_is : declared_in b ≡ declared_in a
+  declared_in_is = λ i named x. option_map (λ n. record { class = x; index = n }) (declared_at_at x named.0 named.1 i)
+
+  pub declared_by_is : declared_by b ≡ declared_by a
+  declared_by_is = λ i named xs. filter_map (declared_in_is i named) xs
+
+  -- ---- resolution (JVMS 5.4.3)
+
+  pub field_found_is : field_found b ≡ field_found a
+  field_found_is = λ i x named. first (declared_by_is i named
+      (flat_map (λ d. d ∷ own_superinterfaces_is i d) (superclasses_from_is i x)))
+
+  is_open_is : is_open b ≡ is_open a
+  is_open_is = λ i m. not (has_flag_is i acc_private m) && not (has_flag_is i acc_static m)
+
+  superinterface_methods_is : superinterface_methods b ≡ superinterface_methods a
+  superinterface_methods_is = λ i x named. filter (is_open_is i) (declared_by_is i named (superinterfaces_is i x))
+
+  is_maximally_specific_is : is_maximally_specific b ≡ is_maximally_specific a
+  is_maximally_specific_is = λ i ms m. not (list_any
+      (λ other. list_any (same_class m.class) (superinterfaces_is i other.class)) ms)
+
+  only_one_at : (ms : List MemberAt) → only_one b ms ≡ only_one a ms
+  only_one_at [] = refl
+  only_one_at (m ∷ ms) = refl
+
+  maximally_specific_is : maximally_specific b ≡ maximally_specific a
+  maximally_specific_is = λ i ms. only_one_at
+      (filter (λ m. not (has_flag_is i acc_abstract m)) (filter (is_maximally_specific_is i ms) ms)) i
+
+  chosen_is : chosen b ≡ chosen a
+  chosen_is = λ i ms. option_or (maximally_specific_is i ms) (first ms)
+
+  class_method_found_is : class_method_found b ≡ class_method_found a
+  class_method_found_is = λ i x named. option_or (first (declared_by_is i named (superclasses_from_is i x)))
+      (chosen_is i (superinterface_methods_is i x named))
+
+  object_method_is : object_method b ≡ object_method a
+  object_method_is = λ i named. option_and_then
+      (λ object. find (λ m. has_flag_is i acc_public m && not (has_flag_is i acc_static m))
+      (declared_by_is i named (object ∷ [])))
+      (class_named_is i (codes "java/lang/Object"))
+
+  interface_method_found_is : interface_method_found b ≡ interface_method_found a
+  interface_method_found_is = λ i x named. option_or (declared_in_is i named x)
+      (option_or (object_method_is i named) (chosen_is i (superinterface_methods_is i x named)))
+
+  pub method_found_is : method_found b ≡ method_found a
+  method_found_is = λ i x named. cond (is_interface_in_is i x) (interface_method_found_is i x named)
+      (class_method_found_is i x named)
+
+  -- ---- access (JVMS 5.4.4)
+
+  pub is_class_accessible_is : is_class_accessible b ≡ is_class_accessible a
+  is_class_accessible_is = λ i from x. is_public_at x i || same_package_is i from x
+
+  pub is_class_below_is : is_class_below b ≡ is_class_below a
+  is_class_below_is = λ i x y. list_any (same_class y) (superclasses_from_is i x)
+
+  is_protected_accessible_is : is_protected_accessible b ≡ is_protected_accessible a
+  is_protected_accessible_is = λ i from named m. is_class_below_is i from m.class
+      && (has_flag_is i acc_static m || is_class_below_is i named from || is_class_below_is i from named)
+
+  is_member_accessible_is : is_member_accessible b ≡ is_member_accessible a
+  is_member_accessible_is = λ i from named m. cond (has_flag_is i acc_public m) true
+      (cond (has_flag_is i acc_private m) (same_class from m.class)
+      (same_package_is i from m.class || (has_flag_is i acc_protected m && is_protected_accessible_is i from named m)))
+
+  -- ---- selection (JVMS 5.4.5)
+
+  may_override_is : may_override b ≡ may_override a
+  may_override_is = λ i m. is_instance_method_is i m && not (has_flag_is i acc_private m)
+      && not (is_interface_in_is i m.class)
+
+  may_be_overridden_is : may_be_overridden b ≡ may_be_overridden a
+  may_be_overridden_is = λ i below m. is_instance_method_is i m
+      && (has_flag_is i acc_public m || has_flag_is i acc_protected m
+      || (not (has_flag_is i acc_private m) && same_package_is i below m.class))
+
+  with_nearest_is : with_nearest b ≡ with_nearest a
+  with_nearest_is = λ i above m ms. cond
+      (same_member m above || (may_override_is i m && list_any (may_be_overridden_is i m.class) ms)) (m ∷ ms) ms
+
+  overriding_at : (above : MemberAt) (ms : List MemberAt) → overriding b above ms ≡ overriding a above ms
+  overriding_at above [] = refl
+  overriding_at above (m ∷ ms) = λ i. with_nearest_is i above m (overriding_at above ms i)
+
+  overriding_from_is : overriding_from b ≡ overriding_from a
+  overriding_from_is = λ i x above. overriding_at above
+      (declared_by_is i (named_at_is i above) (superclasses_from_is i x)) i
+
+  pub overrides_is : overrides b ≡ overrides a
+  overrides_is = λ i m above. list_any (same_member m) (overriding_from_is i m.class above)
+
+  first_instance_is : first_instance b ≡ first_instance a
+  first_instance_is = λ i x named. find (is_instance_method_is i) (declared_by_is i named (superclasses_from_is i x))
+
+  pub selected_is : selected b ≡ selected a
+  selected_is = λ i x m. cond (is_interface_in_is i m.class) (first_instance_is i x (named_at_is i m))
+      (first (overriding_from_is i x m))
+
+  -- ---- references (JVMS 5.4.3)
+
+  linked_at : (from named : ClassId) (right : Bool) (o : Option MemberAt)
+      → linked b from named right o ≡ linked a from named right o
+  linked_at from named right None = refl
+  linked_at from named right (Some m) = λ i. cond (not (is_member_accessible_is i from named m)) (Err link.Inaccessible)
+      (cond right (Ok m) (Err link.WrongKind))
+
+  through_at : (from : ClassId) (o : Option ClassId) (found : ClassId → Result MemberAt LinkKind)
+      → through b from o found ≡ through a from o found
+  through_at from None found = refl
+  through_at from (Some x) found = λ i. cond (is_class_accessible_is i from x) (found x) (Err link.Inaccessible)
+
+  of_array_at : (from : ClassId) (right : Bool) (ty : Base) → of_array b from right ty ≡ of_array a from right ty
+  of_array_at from right (base.Class name) = λ i. through_at from (class_named_is i name)
+      (λ x. cond right (Err link.LeftOutMember) (Err link.WrongKind)) i
+  of_array_at from right ty = refl
+
+  of_class_at : (from : ClassId) (ty : Base) (found : ClassId → Result MemberAt LinkKind)
+      → of_class b from ty found ≡ of_class a from ty found
+  of_class_at from (base.Class name) found = λ i. through_at from (class_named_is i name) found i
+  of_class_at from ty found = refl
+
+  pub linked_field_is : linked_field b ≡ linked_field a
+  linked_field_is = λ i from r. cond (r.class.dims == 0)
+      (of_class_at from r.class.base (λ x. linked_at from x true (field_found_is i x (r.name, r.ty)) i) i)
+      (of_array_at from true r.class.base i)
+
+  pub linked_method_is : linked_method b ≡ linked_method a
+  linked_method_is = λ i from r. cond (r.class.dims == 0)
+      (of_class_at from r.class.base (λ x. linked_at from x (beq (is_interface_in_is i x) r.of_interface)
+      (method_found_is i x (r.name, r.ty)) i) i)
+      (of_array_at from (not r.of_interface) r.class.base i)

@@ -1,0 +1,4 @@
+pub mod Alike
+pub mod LinkKinds
+pub mod Building
+pub mod Typing

@@ -1,0 +1,3 @@
+pub mod Naming
+pub mod References
+pub mod Typing

@@ -1,0 +1,5 @@
+pub mod Rows
+pub mod LibraryTypes
+pub mod Descriptors
+pub mod Declared
+pub mod Join

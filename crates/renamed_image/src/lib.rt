@@ -1,0 +1,4 @@
+//! Classes under new names are an image of the set.
+#![tactic(auto)]
+
+pub mod laws;

@@ -1,0 +1,3 @@
+pub mod NewCodes
+pub mod NewKeys
+pub mod Laws
