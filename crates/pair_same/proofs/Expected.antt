@@ -415,7 +415,7 @@ module _ (input output : List Class) (mapping : Mapping) (rules : Rules) (taken 
       omega arith in
       ap (is_marked lined) item ∙ method_lined mapping input n c at k x there
 
-  methods_new : (n : ℕ) (c : Class) → slice_get input n ≡ Some c → (o : NewOne c)
+  pub methods_new : (n : ℕ) (c : Class) → slice_get input n ≡ Some c → (o : NewOne c)
       → AllZip (IsNewMethod names) (f input lined n c).methods o.out.methods
   methods_new n c at o =
       subst (λ (t : List Method). AllZip (IsNewMethod names) t o.out.methods)

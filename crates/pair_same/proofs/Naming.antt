@@ -113,7 +113,7 @@ found_at test [] k e = absurd cc
 found_at test (x ∷ xs) k e =
     let p = position-Some test (x ∷ xs) k x e in (get_or (x ∷ xs) k x, slice_get-get_or (x ∷ xs) k x p.0, p.1)
 
-zip_at : {A B : Type 0} (R : A → B → Type 0) (xs : List A) (ys : List B) (k : ℕ) (x : A) → AllZip R xs ys
+pub zip_at : {A B : Type 0} (R : A → B → Type 0) (xs : List A) (ys : List B) (k : ℕ) (x : A) → AllZip R xs ys
     → slice_get xs k ≡ Some x → (y : B) × (slice_get ys k ≡ Some y) × R x y
 zip_at R [] ys k x z e = absurd cc
 zip_at R (a ∷ xs) [] k x z e = absurd z
