@@ -1,10 +1,12 @@
 -- Bytes of names.
-use Rattle.std.proofs.Common.{◌≡◌, ◌⊎◌, inl, inr, ℕ, ◌==◌, ◌&&◌, ◌||◌, not, Bool, true, false, cond, List, [], ◌∷◌, map, refl}
+use Rattle.std.proofs.Common.{◌≡◌, ◌⊎◌, inl, inr, ℕ, ◌==◌, ◌&&◌, ◌||◌, not, Bool, true, false, cond, List, [], ◌∷◌}
+use Rattle.std.proofs.Common.{map, refl}
 use Rattle.std.proofs.Common.{sym, ap, subst, ◌∙◌, codes}
 use Rattle.std.specs.List.{AllByRecursion, list_all}
 use Rattle.std.proofs.lemmas.Bool.{and_parts, eqb-true}
 use Rattle.jv_base.specs.External.{dotted, swapped}
-use Rattle.jv_base.specs.Names.{is_class_name, is_member_name, is_method_name, is_name_byte, is_primitive_or_void, is_text}
+use Rattle.jv_base.specs.Names.{is_class_name, is_member_name, is_method_name, is_name_byte, is_primitive_or_void}
+use Rattle.jv_base.specs.Names.{is_text}
 use Rattle.jv_base.specs.Names.{all_name_bytes, parts_whole}
 use Rattle.jv_base.proofs.Equality.{text_Decides}
 use Rattle.jv_base.proofs.Naming.{class_name_is}
@@ -73,7 +75,8 @@ undotted (b ∷ bs) h = λ i. by (b == 47) refl i ∷ undotted bs h.1 i
 
 pub one_dotted : (a b : List ℕ) → is_class_name a ≡ true → is_class_name b ≡ true → dotted a ≡ dotted b → a ≡ b
 one_dotted a b h k e =
-    sym (undotted a (no_dots a (class_bytes a h))) ∙ ap (map (swapped 46 47)) e ∙ undotted b (no_dots b (class_bytes b k))
+    sym (undotted a (no_dots a (class_bytes a h))) ∙ ap (map (swapped 46 47)) e ∙ undotted b (no_dots b
+    (class_bytes b k))
 
 -- names of methods
 none_of_bytes : (byte : ℕ) (bs : List ℕ) → is_name_byte byte ≡ false → list_all is_name_byte bs ≡ true → HasNone byte bs
@@ -96,7 +99,8 @@ method_has_none name h = by (is_member_name name) refl (is_text name (codes "<in
         subst (λ (t : List ℕ). HasNone 40 t × HasNone 46 t) (sym ((text_Decides name (codes "<init>")).0 f))
         ((refl, (refl, (refl, (refl, (refl, (refl, tt)))))), (refl, (refl, (refl, (refl, (refl, (refl, tt)))))))
     by false e false f true g h =
-        subst (λ (t : List ℕ). HasNone 40 t × HasNone 46 t) (sym ((text_Decides name (codes "<clinit>")).0 g))
-        ((refl, (refl, (refl, (refl, (refl, (refl, (refl, (refl, tt)))))))),
-        (refl, (refl, (refl, (refl, (refl, (refl, (refl, (refl, tt)))))))))
+        subst (λ (t : List ℕ). HasNone 40 t × HasNone 46 t) (sym ((text_Decides name (codes "<clinit>")).0 g)) (
+          (refl, (refl, (refl, (refl, (refl, (refl, (refl, (refl, tt)))))))),
+          (refl, (refl, (refl, (refl, (refl, (refl, (refl, (refl, tt)))))))),
+        )
     by false e false f false g h = absurd cc

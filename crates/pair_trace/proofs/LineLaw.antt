@@ -1,8 +1,8 @@
 -- The line of a frame tells the frame.
-use Rattle.std.proofs.Common.{◌≡◌, ◌⊎◌, inl, inr, ℕ, zero, suc, ◌+◌, ◌-◌, nat_eq, not, ◌&&◌, ◌==◌, ◌||◌, Bool, true, false, cond}
-use Rattle.std.proofs.Common.{List, [], ◌∷◌, ◌++◌, length, take, drop, Option, Some, None, refl, sym, ap, subst, ◌∙◌, arith}
+use Rattle.std.proofs.Common.{◌≡◌, inl, inr, ℕ, suc, ◌+◌, ◌-◌, not, ◌&&◌, ◌==◌, ◌||◌, Bool, true, false, cond}
+use Rattle.std.proofs.Common.{List, [], ◌∷◌, ◌++◌, length, take, drop, Some, None, refl, sym, ap, ◌∙◌, arith}
 use Rattle.std.proofs.Common.{codes}
-use Rattle.std.specs.List.{AllByRecursion, list_any, position, slice_index}
+use Rattle.std.specs.List.{list_any, position, slice_index}
 use Rattle.std.specs.Option.{option_map}
 use Rattle.std.specs.Str.{is_utf8}
 use Rattle.std.proofs.lemmas.Bool.{eq-eqb, ne_eqb}
@@ -11,7 +11,7 @@ use Rattle.class_pool.proofs.Distinct.{position_next}
 use Rattle.text_lines.specs.Cut.{◌>>=◌, where_true}
 use Rattle.text_lines.specs.Lines.{is_blank}
 use Rattle.text_lines.specs.Numbers.{are_digits}
-use Rattle.retrace_core.specs.Cut.{behind, begins, last_of, last_place_of, place_of}
+use Rattle.retrace_core.specs.Cut.{behind, last_of, last_place_of, place_of}
 use Rattle.retrace_core.specs.Frames.{Frame, class_and_method, closed, frame_behind, frame_of, lacks_end, number_from}
 use Rattle.retrace_core.specs.Frames.{number_in, number_of, numbered}
 use Rattle.retrace_core.specs.Retraced.{frame_text}
@@ -144,7 +144,8 @@ blanks_read : (rest : List ℕ) → position (λ b. not (is_blank b)) (32 ∷ (3
 blanks_read rest =
     let test = λ (b : ℕ). not (is_blank b) in
     let five : position test (97 ∷ rest) ≡ Some 0 = position_next test 97 rest in
-    let four : position test (32 ∷ (97 ∷ rest)) ≡ Some 1 = position_next test 32 (97 ∷ rest) ∙ ap (option_map suc) five in
+    let four : position test (32 ∷ (97 ∷ rest)) ≡ Some 1 = position_next test 32 (97 ∷ rest) ∙ ap
+    (option_map suc) five in
     let three : position test (32 ∷ (32 ∷ (97 ∷ rest))) ≡ Some 2 =
     position_next test 32 (32 ∷ (97 ∷ rest)) ∙ ap (option_map suc) four in
     let two : position test (32 ∷ (32 ∷ (32 ∷ (97 ∷ rest)))) ≡ Some 3 =
@@ -179,5 +180,10 @@ frame_read class method source number open_class open_method dot good colon end 
     ∙ ap (λ o. o >>= (λ named. number_of tail
     >>= (λ number. Some (record { blanks = codes "    "; class = named.0; method = named.1; number = number }))))
     (named_read class method dot good)
-    ∙ ap (λ o. o >>= (λ number. Some (record { blanks = codes "    "; class = class; method = method; number = number })))
+    ∙ ap (λ o. o >>= (λ number. Some (record {
+      blanks = codes "    ";
+      class = class;
+      method = method;
+      number = number;
+    })))
     (number_told source number colon end is)

@@ -1,7 +1,7 @@
 -- The frames of the output, with old names, are those of the input.
-use Rattle.std.proofs.Common.{◌≡◌, ◌<◌, ℕ, zero, suc, ◌+◌, ◌&&◌, Bool, true, false, cond, List, [], ◌∷◌, ◌++◌, length, map}
+use Rattle.std.proofs.Common.{◌≡◌, ℕ, zero, suc, ◌+◌, ◌&&◌, Bool, true, false, cond, List, [], ◌∷◌, ◌++◌, length, map}
 use Rattle.std.proofs.Common.{Option, Some, None, slice_get, refl, sym, ap, subst, ◌∙◌, arith}
-use Rattle.std.specs.Prelude.{IsSome, IsTrue, is_some}
+use Rattle.std.specs.Prelude.{IsSome, is_some}
 use Rattle.std.specs.List.{AllByRecursion, AllZip, find}
 use Rattle.std.specs.Map.{lookup}
 use Rattle.std.specs.Option.{option_and_then, option_map, option_map_or, unwrap_or}
@@ -18,7 +18,6 @@ use Rattle.class_model.specs.declared.class.Field.{Field}
 use Rattle.class_model.specs.declared.class.Method.{Method}
 use Rattle.class_model.specs.declared.code.Code.{Code}
 use Rattle.class_pool.specs.Found.{MemberRow, NameAndType, field_row, method_row, name_of, named_at}
-use Rattle.class_pool.specs.Hierarchy.{IsClass}
 use Rattle.class_pool.specs.Items.{class_item}
 use Rattle.class_pool.specs.declared.id.ClassId.{ClassId}
 use Rattle.class_pool.specs.declared.id.ClassId.TheVariants.{Prog}
@@ -28,28 +27,29 @@ use Rattle.mapping_file.specs.declared.mapping.MapClass.{MapClass}
 use Rattle.mapping_file.specs.declared.mapping.MapMethod.{MapMethod}
 use Rattle.mapping_file.specs.declared.mapping.Mapping.{Mapping}
 use Rattle.member_shrink.specs.Shrunk.{is_marked}
-use Rattle.jvm_model.specs.Same.{Corr, FrameCorr}
-use Rattle.jvm_model.specs.State.{Frame, State, frames}
+use Rattle.jvm_model.specs.Same.{FrameCorr}
+use Rattle.jvm_model.specs.State.{Frame, frames}
 use Rattle.jvm_model.specs.Value.{Key}
 use Rattle.set_view.specs.ViewOf.{code_at, member_of, view_of}
 use Rattle.view_image.proofs.Naming.{member_is}
-use Rattle.new_names.specs.NewNames.{NameAndType as Named, class_line, class_lines, is_same, method_in, method_lines}
-use Rattle.new_names.specs.NewNames.{names_of, new_class, new_method}
-use Rattle.retrace_core.specs.OldNames.{class_named, old_in, old_method, source_of}
+use Rattle.new_names.specs.NewNames.{NameAndType as Named, class_line, is_same, method_in, method_lines}
+use Rattle.new_names.specs.NewNames.{names_of, new_method}
+use Rattle.retrace_core.specs.OldNames.{class_named, old_method, source_of}
 use Rattle.retrace_core.specs.Retraced.{frame_retraced, frame_text, line_retraced, line_retraced_by}
 use Rattle.require_sys.proofs.Parts.{all_map}
 use Rattle.shrunk_image.specs.Keeping.{is_class_kept, is_index_marked, is_member_kept, rank}
 use Rattle.shrunk_image.proofs.Classes.{class_marked, class_of_kept, f, member_marked}
-use Rattle.shrunk_image.proofs.Kept.{as_filter, kept_at, kept_of}
+use Rattle.shrunk_image.proofs.Kept.{as_filter, kept_at}
 use Rattle.removal_same.proofs.Told.{code_found}
 use Rattle.taken_set.specs.TakenSet.{IsTaken}
 use Rattle.taken_set.proofs.Rows.{all_at}
 use Rattle.renamed_image.specs.Renaming.{IsNewMethod, renamed_named}
 use Rattle.renamed_image.proofs.Descriptors.{method_named}
-use Rattle.renamed_same.specs.NewKeys.{kept_key, new_key}
+use Rattle.renamed_same.specs.NewKeys.{new_key}
 use Rattle.pair_same.specs.Laws.{pair_names}
 use Rattle.pair_same.specs.Pairs.{IsPair}
-use Rattle.pair_same.proofs.Expected.{GoodLine, all_good, class_new, each_all, line_of, lined, mapped_all, method_found}
+use Rattle.pair_same.proofs.Expected.{GoodLine, all_good, class_new, each_all, line_of, lined, mapped_all}
+use Rattle.pair_same.proofs.Expected.{method_found}
 use Rattle.pair_same.proofs.Expected.{method_name, methods_new, methods_table, new_of, numbered_class, some_of}
 use Rattle.pair_same.proofs.Lined.{class_lined, method_lined}
 use Rattle.pair_same.proofs.Naming.{zip_at}
@@ -130,7 +130,8 @@ module _ (input output : List Class) (mapping : Mapping) (rules : Rules) (taken 
       → class_named mapping.classes (dotted l.new) ≡ Some l
   class_found name l e =
       let g = (line_of input output mapping rules taken pair name l e).0 in
-      find_only (λ (x : MapClass). x.old) name (λ (x : MapClass). is_text (dotted l.new) (dotted x.new)) mapping.classes l e
+      find_only (λ (x : MapClass). x.old) name (λ (x : MapClass). is_text (dotted l.new)
+      (dotted x.new)) mapping.classes l e
       (text_itself (dotted l.new))
       (each_all (GoodLine input output mapping rules taken pair)
       (λ (x : MapClass). is_text (dotted l.new) (dotted x.new) ≡ true → x ≡ l)
@@ -163,14 +164,16 @@ module _ (input output : List Class) (mapping : Mapping) (rules : Rules) (taken 
 
       never : AllByRecursion (λ (m : MapMethod). is_text new m.new ≡ false) l.methods → ⊥
       never none =
-          let h = looked (λ (p : Named × List ℕ). is_text new p.1 ≡ false) (λ key. is_same key (x.name, method_text x.ty))
+          let h = looked (λ (p : Named × List ℕ). is_text new p.1 ≡ false) (λ key. is_same key
+          (x.name, method_text x.ty))
           (method_lines l.methods) new
           (mapped_all (λ (p : Named × List ℕ). is_text new p.1 ≡ false)
           (λ (m : MapMethod). ((m.old, method_text m.ty), m.new)) l.methods none) inside in
           let w : true ≡ false = sym (text_itself new) ∙ h.holds in
           cc
 
-      by : (o : Option MapMethod) → find test l.methods ≡ o → unwrap_or (option_map (λ (m : MapMethod). m.old) o) new ≡ x.name
+      by : (o : Option MapMethod) → find test l.methods ≡ o
+          → unwrap_or (option_map (λ (m : MapMethod). m.old) o) new ≡ x.name
       by None e = absurd (never (find_none test l.methods e))
       by (Some m) e =
           let h = find_holds (λ (m : MapMethod). IsFound table (m.old, m.new)) test l.methods m lines e in
@@ -183,7 +186,8 @@ module _ (input output : List Class) (mapping : Mapping) (rules : Rules) (taken 
       → is_marked marks (class_item input n + 1 + (length c.fields + j)) ≡ true → (source number : List ℕ)
       → IsSource source → IsNumber number
       → line_retraced mapping (frame_line
-      (new_key (names_of mapping) (record { class = c.name; name = x.name; descriptor = method_text x.ty })) number source)
+      (new_key (names_of mapping) (record { class = c.name; name = x.name; descriptor = method_text x.ty })) number
+      source)
       ≡ frame_line (record { class = c.name; name = x.name; descriptor = method_text x.ty }) number (source_of c.name)
   unfolding line_retraced
   traced n c j x at there class_is method_is source number is digits =
@@ -192,7 +196,8 @@ module _ (input output : List Class) (mapping : Mapping) (rules : Rules) (taken 
       let new = some_of (new_method mapping c x) (sym (method_lined mapping input n c at j x there) ∙ method_is) in
       let good = line_of input output mapping rules taken pair c.name l o.line_is in
       let class : (names_of mapping).class c.name ≡ l.new =
-      class_new input output mapping rules taken pair c.name l.new (ap (option_map (λ (l : MapClass). l.new)) o.line_is) in
+      class_new input output mapping rules taken pair c.name l.new (ap (option_map (λ
+      (l : MapClass). l.new)) o.line_is) in
       let formed = all_at (IsGoodMethod (is_interface c.flags.0)) c.methods j x (taken.formed n c at).methods there in
       let found = method_found input output mapping rules taken pair c x new.0 new.1 in
       let name : (renamed_named (names_of mapping) (x.name, method_text x.ty)).0 ≡ new.0 =
@@ -207,7 +212,8 @@ module _ (input output : List Class) (mapping : Mapping) (rules : Rules) (taken 
       ∙ ap (option_map (λ (y : Method). y)) there in
       let y = zip_at (IsNewMethod (names_of mapping)) (f input marks n c).methods o.out.methods
       (rank (is_marked marks) first j) x (methods_new input output mapping rules taken pair n c at o) left in
-      let out_formed = all_at (IsGoodMethod (is_interface o.out.flags.0)) o.out.methods (rank (is_marked marks) first j) y.0
+      let out_formed = all_at (IsGoodMethod (is_interface o.out.flags.0)) o.out.methods (rank
+      (is_marked marks) first j) y.0
       (then_taken.formed o.number o.out o.at).methods y.1 in
       let own : y.0.name ≡ new.0 =
       y.2.name ∙ method_name input output mapping rules taken pair x.name new.0 (method_text x.ty) found in
@@ -218,7 +224,8 @@ module _ (input output : List Class) (mapping : Mapping) (rules : Rules) (taken 
       let frame = frame_with (dotted l.new) new.0 number in
       (λ i. line_retraced mapping (frame_text (frame_with (dotted (class i)) (name i) number) source))
       ∙ ap (line_retraced_by mapping (frame_text frame source))
-      (frame_read (dotted l.new) new.0 source number (class_has_no_paren l.new (line_formed l good.0)) bytes.0 bytes.1 both
+      (frame_read (dotted l.new) new.0 source number (class_has_no_paren l.new
+      (line_formed l good.0)) bytes.0 bytes.1 both
       is.colon is.end digits)
       ∙ ap (frame_retraced (frame_text frame source) frame) (class_found c.name l o.line_is)
       ∙ (λ i. frame_text (frame_with (dotted (good.1 i)) (method_traced c x l new.0 o.line_is new.1 i) number)
@@ -265,12 +272,14 @@ module _ (input output : List Class) (mapping : Mapping) (rules : Rules) (taken 
           → cond t (Some (new_key (names_of mapping) k)) None ≡ Some g → (o : Option Code) → code_at input m ≡ o
           → is_some o ≡ true
           → line_retraced mapping (frame_line g number source) ≡ frame_line k number (source_of k.class)
-      at m found true kept e (Some d) has h = of_member m found kept (same_Some (new_key (names_of mapping) k) g e) d has
+      at m found true kept e (Some d) has h =
+          of_member m found kept (same_Some (new_key (names_of mapping) k) g e) d has
       at m found true kept e None has h = absurd cc
       at m found false kept e o has h = absurd cc
 
       by : (o : Option MemberAt) → member_of input k ≡ o
-          → cond (option_map_or (is_member_kept input marks) o false) (Some (new_key (names_of mapping) k)) None ≡ Some g
+          → cond (option_map_or (is_member_kept input marks) o false) (Some (new_key (names_of mapping) k)) None
+          ≡ Some g
           → is_some (option_and_then (code_at input) o) ≡ true
           → line_retraced mapping (frame_line g number source) ≡ frame_line k number (source_of k.class)
       by None found e h = absurd cc
@@ -282,9 +291,10 @@ module _ (input output : List Class) (mapping : Mapping) (rules : Rules) (taken 
   frames_traced [] [] zip = tt
   frames_traced [] (g ∷ gs) zip = absurd zip
   frames_traced (f ∷ fs) [] zip = absurd zip
-  frames_traced (f ∷ fs) (g ∷ gs) zip =
-      (λ code source number is digits. key_traced f.method g.method zip.0.method code source number is digits,
-      frames_traced fs gs zip.1)
+  frames_traced (f ∷ fs) (g ∷ gs) zip = (
+    λ code source number is digits. key_traced f.method g.method zip.0.method code source number is digits,
+    frames_traced fs gs zip.1,
+  )
 
 pub frames_retraced : FramesRetrace
 frames_retraced input output mapping rules taken then_taken pair s t corr =

@@ -1,5 +1,5 @@
 -- The lines of frames as Java prints them (ProGuard manual, "ReTrace").
-use Rattle.std.specs.Prelude.{◌≡◌, ◌⊎◌, ◌==◌, ℕ, Bool, true, false, List, [], ◌∷◌, codes}
+use Rattle.std.specs.Prelude.{◌≡◌, ◌⊎◌, ◌==◌, ℕ, true, false, List, [], ◌∷◌, codes}
 use Rattle.std.specs.List.{AllByRecursion}
 use Rattle.jv_base.specs.External.{dotted}
 use Rattle.text_lines.specs.Numbers.{are_digits}
