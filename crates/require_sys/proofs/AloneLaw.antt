@@ -1,9 +1,9 @@
 -- What runs where a method of the library is called that no class of the set has.
-use Rattle.std.proofs.Common.{◌≡◌, ℕ, zero, suc, ◌+◌, ◌≤◌, Bool, true, false, cond, List, [], ◌∷◌, ◌++◌}
+use Rattle.std.proofs.Common.{◌≡◌, ℕ, zero, suc, ◌+◌, ◌-◌, ◌≤◌, ◌<◌, Bool, true, false, cond, List, [], ◌∷◌, ◌++◌}
 use Rattle.std.proofs.Common.{length, slice_get, is_some, Option, Some, None, IfSome, refl, sym, ap, subst, ◌∙◌}
 use Rattle.std.proofs.Common.{arith, ◌⊎◌, ⊎_elim, inl, inr}
 use Rattle.std.specs.List.{AllByRecursion, cons_option, find}
-use Rattle.std.specs.Option.{ForSome, option_and_then, option_map}
+use Rattle.std.specs.Option.{ForSome, option_and_then, option_map, option_map_or}
 use Rattle.std.proofs.lemmas.Bool.{cases_lt}
 use Rattle.std.proofs.lemmas.Option.{same_Some}
 use Rattle.class_model.specs.declared.class.Class.{Class}
@@ -13,15 +13,18 @@ use Rattle.class_pool.specs.Members.{declared_at, member_named}
 use Rattle.class_pool.specs.Resolution.{first, is_interface_in}
 use Rattle.class_pool.specs.Selection.{first_instance, overriding, overriding_from}
 use Rattle.class_pool.specs.Selection.{selected}
-use Rattle.class_pool.specs.Walk.{same_class, superclasses_from}
+use Rattle.class_pool.specs.Hierarchy.{superclass}
+use Rattle.class_pool.specs.Walk.{same_class, superclasses_from, upwards}
 use Rattle.class_pool.specs.declared.id.ClassId.{ClassId}
 use Rattle.class_pool.specs.declared.id.ClassId.TheVariants.{Prog, Lib}
 use Rattle.class_pool.specs.declared.id.MemberAt.{MemberAt}
 use Rattle.require_sys.specs.Requires.{Item, OfMember, is_program, numbers}
-use Rattle.require_sys.specs.bodies.Alone.{AreAlone, AreNone, IsAlone}
+use Rattle.require_sys.specs.bodies.Alone.{AreAlone, AreNone, AreUndeclared, IsAlone}
 use Rattle.require_sys.specs.bodies.Selecting.{called_item}
 use Rattle.require_sys.specs.bodies.Wanting.{Wanted, wanting}
+use Rattle.lib_table.specs.Lookups.{super_of}
 use Rattle.class_pool.proofs.EachOnce.{same_is}
+use Rattle.link_check.proofs.Climbing.{upwards_step}
 use Rattle.require_sys.proofs.Gathering.{nothing}
 
 abbrev IsOfLibrary : MemberAt → Type 0
@@ -38,16 +41,23 @@ library_one : (id : ℕ) (o : Option ℕ) (xs : List MemberAt) → AllByRecursio
 library_one id None xs h = h
 library_one id (Some k) xs h = (refl, h)
 
-library_all : (classes : List Class) (named : NameAndType)
-    → ((n : ℕ) → declared_in classes named (Prog n) ≡ None) → (cs : List ClassId)
+library_all : (classes : List Class) (named : NameAndType) (cs : List ClassId) → AreUndeclared classes named cs
     → AllByRecursion IsOfLibrary (declared_by classes named cs)
-library_all classes named none [] = tt
-library_all classes named none (Prog n ∷ cs) =
+library_all classes named [] h = tt
+library_all classes named (Prog n ∷ cs) h =
     subst (λ (o : Option MemberAt). AllByRecursion IsOfLibrary (cons_option o (declared_by classes named cs)))
-    (sym (none n)) (library_all classes named none cs)
-library_all classes named none (Lib id ∷ cs) =
+    (sym (no_some _ h.0)) (library_all classes named cs h.1)
+library_all classes named (Lib id ∷ cs) h =
     library_one id (declared_at classes (Lib id) named.0 named.1) (declared_by classes named cs)
-    (library_all classes named none cs)
+    (library_all classes named cs h.1)
+
+-- no class of the set declares it
+undeclared_all : (classes : List Class) (named : NameAndType)
+    → ((n : ℕ) → is_some (declared_in classes named (Prog n)) ≡ false) → (cs : List ClassId)
+    → AreUndeclared classes named cs
+undeclared_all classes named none [] = tt
+undeclared_all classes named none (Prog n ∷ cs) = (none n, undeclared_all classes named none cs)
+undeclared_all classes named none (Lib id ∷ cs) = (tt, undeclared_all classes named none cs)
 
 -- ---- the one that runs
 
@@ -79,11 +89,11 @@ either_kept : (b : Bool) (one two : Option MemberAt) → IfSome one IsOfLibrary 
 either_kept true one two h k = h
 either_kept false one two h k = k
 
-selected_kept : (classes : List Class) (n : ℕ) (m : MemberAt) → IsAlone classes m
+selected_kept : (classes : List Class) (n : ℕ) (m : MemberAt)
+    → AreUndeclared classes (named_at classes m) (superclasses_from classes (Prog n))
     → IfSome (selected classes (Prog n) m) IsOfLibrary
-selected_kept classes n m alone =
-    let alike = library_all classes (named_at classes m) (λ k. no_some _ (alone.none k))
-    (superclasses_from classes (Prog n)) in
+selected_kept classes n m none =
+    let alike = library_all classes (named_at classes m) (superclasses_from classes (Prog n)) none in
     either_kept (is_interface_in classes m.class) (first_instance classes (Prog n) (named_at classes m))
     (first (overriding_from classes (Prog n) m))
     (found_kept (is_instance_method classes)
@@ -106,13 +116,73 @@ none_wanted : (w : Wanted) (items : List Item) → numbers w.classes items ≡ [
 none_wanted w items none =
     nothing w ∙ ap (λ (t : List ℕ). record { classes = w.classes; numbers = w.numbers ++ t }) (sym none)
 
--- nothing is wanted where such a method is called
+-- nothing is wanted where a method is called that no class of the set among these has
+pub outside_run : (w : Wanted) (n : ℕ) (m : MemberAt) (b : Bool)
+    → AreUndeclared w.classes (named_at w.classes m) (superclasses_from w.classes (Prog n))
+    → w ≡ wanting w (cond b (cons_option (called_item w.classes n m) []) [])
+outside_run w n m true none =
+    none_wanted w (cons_option (called_item w.classes n m) [])
+    (no_number w.classes (selected w.classes (Prog n) m) (selected_kept w.classes n m none))
+outside_run w n m false none = nothing w
+
 pub alone_run : (w : Wanted) (n : ℕ) (m : MemberAt) (b : Bool) → IsAlone w.classes m
     → w ≡ wanting w (cond b (cons_option (called_item w.classes n m) []) [])
-alone_run w n m true alone =
-    none_wanted w (cons_option (called_item w.classes n m) [])
-    (no_number w.classes (selected w.classes (Prog n) m) (selected_kept w.classes n m alone))
-alone_run w n m false alone = nothing w
+alone_run w n m b alone =
+    outside_run w n m b (undeclared_all w.classes (named_at w.classes m) alone.none (superclasses_from w.classes
+    (Prog n)))
+
+-- ---- a walk over the classes above
+
+library_only : (classes : List Class) (named : NameAndType) (k id : ℕ)
+    → AreUndeclared classes named (upwards k classes (Lib id))
+unfolding upwards
+library_only classes named zero id = tt
+library_only classes named (suc k) id = (tt, by (super_of id) (λ other. library_only classes named k other))
+  where
+    by : (o : Option ℕ) → ((other : ℕ) → AreUndeclared classes named (upwards k classes (Lib other)))
+        → AreUndeclared classes named (option_map_or (upwards k classes) (option_map Lib o) [])
+    by None rest = tt
+    by (Some other) rest = rest other
+
+ended : (classes : List Class) (named : NameAndType) (k : ℕ) (o : Option ClassId)
+    → IfSome o (λ c. is_program c ≡ false) → AreUndeclared classes named (option_map_or (upwards k classes) o [])
+ended classes named k None h = tt
+ended classes named k (Some (Lib id)) h = library_only classes named k id
+ended classes named k (Some (Prog n)) h = absurd cc
+
+-- one more class has none
+one_up : (classes : List Class) (named : NameAndType) (k c : ℕ) (r : Option MemberAt) → 0 < k
+    → r ≡ declared_in classes named (Prog c) → is_some r ≡ false
+    → AreUndeclared classes named (option_map_or (upwards (k - 1) classes) (superclass classes (Prog c)) [])
+    → AreUndeclared classes named (upwards k classes (Prog c))
+one_up classes named k c r some is none rest =
+    subst (AreUndeclared classes named) (sym (upwards_step k classes (Prog c) some))
+    (sym (ap is_some is) ∙ none, rest)
+
+pub undeclared_end : (classes : List Class) (named : NameAndType) (k c : ℕ) (r : Option MemberAt)
+    (above : Option ClassId) → 0 < k → r ≡ declared_in classes named (Prog c) → is_some r ≡ false
+    → above ≡ superclass classes (Prog c) → IfSome above (λ x. is_program x ≡ false)
+    → AreUndeclared classes named (upwards k classes (Prog c))
+undeclared_end classes named k c r above some is none up end =
+    one_up classes named k c r some is none
+    (subst (λ (o : Option ClassId). AreUndeclared classes named (option_map_or (upwards (k - 1) classes) o [])) up
+    (ended classes named (k - 1) above end))
+
+pub undeclared_on : (classes : List Class) (named : NameAndType) (k c d : ℕ) (r : Option MemberAt)
+    (above : Option ClassId) → 0 < k → r ≡ declared_in classes named (Prog c) → is_some r ≡ false
+    → above ≡ superclass classes (Prog c) → above ≡ Some (Prog d)
+    → AreUndeclared classes named (upwards (k - 1) classes (Prog d))
+    → AreUndeclared classes named (upwards k classes (Prog c))
+undeclared_on classes named k c d r above some is none up to rest =
+    one_up classes named k c r some is none
+    (subst (λ (o : Option ClassId). AreUndeclared classes named (option_map_or (upwards (k - 1) classes) o []))
+    (sym to ∙ up) rest)
+
+pub undeclared_stop : (classes : List Class) (named : NameAndType) (k : ℕ) (c : ClassId) → k ≡ 0
+    → AreUndeclared classes named (upwards k classes c)
+unfolding upwards
+undeclared_stop classes named zero c e = tt
+undeclared_stop classes named (suc k) c e = absurd (omega (arith, e))
 
 -- ---- how it is found
 

@@ -12,6 +12,8 @@ mod Meeting
 mod Remembering
 mod AloneLaw
 mod SupersLaw
+mod TopsLaw
+mod Looking
 mod There
 mod Referring
 mod Membering

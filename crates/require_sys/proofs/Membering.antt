@@ -22,6 +22,7 @@ use Rattle.require_sys.specs.Requires.{library_supers, members_of, program_super
 use Rattle.class_pool.specs.Walk.{supers}
 use Rattle.require_sys.specs.bodies.Counting.{AddsPairs}
 use Rattle.require_sys.specs.bodies.Selecting.{called_by, called_in, called_item, pair_with, pairs_in}
+use Rattle.require_sys.specs.bodies.Tops.{IsTop}
 use Rattle.require_sys.specs.bodies.Wanting.{Wanted, wanting}
 use Rattle.require_sys.specs.declared.pairs.Pairs.{Pairs}
 use Rattle.require_sys.proofs.Gathering.{in_turn}
@@ -92,39 +93,41 @@ one_above g xs i x lt at =
     ∙ flat_map-append g (map Prog (take i xs)) (Prog x ∷ [])
     ∙ ap (λ t. flat_map g (map Prog (take i xs)) ++ t) (append-nil (g (Prog x)))
 
-pub pairs_more : (classes : List Class) (n : ℕ) (xs : List ℕ) (i x : ℕ) (old now new : Pairs) → i < length xs
-    → x ≡ get_or xs i x → AddsPairs old (flat_map (pairs_in classes n) (map Prog (take i xs))) now
-    → AddsPairs now (pairs_in classes n (Prog x)) new
-    → AddsPairs old (flat_map (pairs_in classes n) (map Prog (take (i + 1) xs))) new
-pairs_more classes n xs i x old now new lt at so_far one =
-    subst (λ (t : List Pair). AddsPairs old t new) (sym (one_above (pairs_in classes n) xs i x lt at))
-    (both_pairs old now new (flat_map (pairs_in classes n) (map Prog (take i xs))) (pairs_in classes n
-    (Prog x)) so_far one)
+pub pairs_more : (classes : List Class) (n t : ℕ) (xs : List ℕ) (i x : ℕ) (old now new : Pairs) → i < length xs
+    → x ≡ get_or xs i x → AddsPairs old (flat_map (pairs_in classes n t) (map Prog (take i xs))) now
+    → AddsPairs now (pairs_in classes n t (Prog x)) new
+    → AddsPairs old (flat_map (pairs_in classes n t) (map Prog (take (i + 1) xs))) new
+pairs_more classes n t xs i x old now new lt at so_far one =
+    subst (λ (ps : List Pair). AddsPairs old ps new) (sym (one_above (pairs_in classes n t) xs i x lt at))
+    (both_pairs old now new (flat_map (pairs_in classes n t) (map Prog (take i xs)))
+    (pairs_in classes n t (Prog x)) so_far one)
 
-pub class_is : (classes : List Class) (n : ℕ) (c : Class) (numbers : List ℕ) → is_interface c.flags.0 ≡ false
-    → map Prog numbers ≡ program_supers classes (Prog n)
-    → flat_map (pairs_in classes n) (map Prog numbers) ≡ class_pairs classes (n, c)
-class_is classes n c numbers class same =
-    ap (flat_map (pairs_in classes n)) same
-    ∙ flat_of (pair_with classes n) (is_inheritable classes) (members_of classes) (program_supers classes (Prog n))
-    ∙ sym (ap (λ (b : Bool). cond b [] (filter_map (pair_with classes n) (filter (is_inheritable classes)
+pub class_is : (classes : List Class) (n t : ℕ) (c : Class) (numbers : List ℕ) → is_interface c.flags.0 ≡ false
+    → IsTop classes n t → map Prog numbers ≡ program_supers classes (Prog t)
+    → flat_map (pairs_in classes n t) (map Prog numbers) ≡ class_pairs classes (n, c)
+class_is classes n t c numbers class top same =
+    ap (flat_map (pairs_in classes n t)) same
+    ∙ flat_of (pair_with classes n t) (is_inheritable classes) (members_of classes) (program_supers classes (Prog t))
+    ∙ sym (top.pairs n)
+    ∙ sym (ap (λ (b : Bool). cond b [] (filter_map (pair_with classes n n) (filter (is_inheritable classes)
     (flat_map (members_of classes) (program_supers classes (Prog n)))))) class)
 
 pub interface_is : (classes : List Class) (n : ℕ) (c : Class) → is_interface c.flags.0 ≡ true
     → [] ≡ class_pairs classes (n, c)
 interface_is classes n c is =
-    sym (ap (λ (b : Bool). cond b [] (filter_map (pair_with classes n) (filter (is_inheritable classes)
+    sym (ap (λ (b : Bool). cond b [] (filter_map (pair_with classes n n) (filter (is_inheritable classes)
     (flat_map (members_of classes) (program_supers classes (Prog n)))))) is)
 
 -- ---- the classes of the library above a class, one by one
 
-pub called_is : (classes : List Class) (n : ℕ) (c : Class) → is_interface c.flags.0 ≡ false
-    → flat_map (called_by classes n) (supers classes (Prog n)) ≡ called_wants classes n c
-called_is classes n c class =
-    turned (supers classes (Prog n))
-    ∙ flat_filtered (called_in classes n) (λ y. not (is_program y)) (supers classes (Prog n))
-    ∙ flat_of (called_item classes n) (is_instance_method classes) (members_of classes) (library_supers classes
-    (Prog n))
+pub called_is : (classes : List Class) (n t : ℕ) (c : Class) → is_interface c.flags.0 ≡ false → IsTop classes n t
+    → flat_map (called_by classes t) (supers classes (Prog t)) ≡ called_wants classes n c
+called_is classes n t c class top =
+    turned (supers classes (Prog t))
+    ∙ flat_filtered (called_in classes t) (λ y. not (is_program y)) (supers classes (Prog t))
+    ∙ flat_of (called_item classes t) (is_instance_method classes) (members_of classes)
+    (library_supers classes (Prog t))
+    ∙ sym top.called
     ∙ sym (ap (λ (b : Bool). cond b [] (filter_map (called_item classes n)
     (instance_methods classes (library_supers classes (Prog n))))) class)
   where
@@ -133,9 +136,9 @@ called_is classes n c class =
     one false ys = refl
 
     turned : (xs : List ClassId)
-        → flat_map (called_by classes n) xs ≡ flat_map (λ y. cond (not (is_program y)) (called_in classes n y) []) xs
+        → flat_map (called_by classes t) xs ≡ flat_map (λ y. cond (not (is_program y)) (called_in classes t y) []) xs
     turned [] = refl
-    turned (x ∷ xs) = λ i. one (is_program x) (called_in classes n x) i ++ turned xs i
+    turned (x ∷ xs) = λ i. one (is_program x) (called_in classes t x) i ++ turned xs i
 
 -- the classes of the program count for nothing
 pub by_library : (classes : List Class) (n : ℕ) (xs : List ClassId)

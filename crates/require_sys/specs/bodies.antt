@@ -9,3 +9,4 @@ pub mod Needs
 pub mod Supers
 pub mod Alone
 pub mod Known
+pub mod Tops

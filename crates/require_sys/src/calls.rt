@@ -1,11 +1,13 @@
-// Which methods of Object a class of the set may have too.
+// Which methods of Object a class of the set may have too, and which methods none above a class has.
 ghost use Rattle.std.specs.Prelude.{◌≡◌, ◌<◌, false, length, nat_lt, IfOk};
 ghost use Rattle.lib_table.specs.Library.{library as library_rows};
 ghost use Rattle.lib_table.specs.Lookups.{class_at};
 ghost use Rattle.class_pool.specs.Found.{IsMember, IsMethod, named_at};
-ghost use Rattle.class_pool.specs.declared.id.ClassId.TheVariants.{Lib};
-ghost use Rattle.require_sys.specs.bodies.Alone.{AreAlone, AreNone, IsAlone};
+ghost use Rattle.class_pool.specs.Walk.{superclasses_from};
+ghost use Rattle.class_pool.specs.declared.id.ClassId.TheVariants.{Lib, Prog};
+ghost use Rattle.require_sys.specs.bodies.Alone.{AreAlone, AreNone, AreUndeclared, IsAlone};
 
+use crate::supers::{HIGHEST, superclass_number};
 use class_pool::{ClassId, ClassSet, MemberAt};
 use jv_base::{Items, M};
 use lib_table::{LibId, lib_member_at};
@@ -55,6 +57,28 @@ fn is_declared(set: &ClassSet, m: &MemberAt) -> bool
         if set.method_like(ClassId::Prog(number), *m).is_some() {
             return true;
         }
+    }
+    false
+}
+
+/// Whether a class of the set, the one with a number or a superclass of it, has a method with the name and the
+/// descriptor of another one.
+pub(crate) fn is_declared_above(set: &ClassSet, number: u32, m: &MemberAt) -> bool
+    requires there { number < length set.now }
+    requires member { IsMember set.now m.now }
+    requires method { IsMethod set.now m.now }
+    ensures { result ≡ false
+        → AreUndeclared set.now (named_at set.now m.now) (superclasses_from set.now (Prog number)) }
+{
+    let mut next = number;
+    for _ in 0..HIGHEST {
+        if set.method_like(ClassId::Prog(next), *m).is_some() {
+            return true;
+        }
+        let Some(above) = superclass_number(set, next) else {
+            return false;
+        };
+        next = above;
     }
     false
 }

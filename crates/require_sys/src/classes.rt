@@ -12,7 +12,7 @@ ghost use Rattle.require_sys.specs.bodies.Asked.{AreMembers};
 ghost use Rattle.require_sys.specs.bodies.Selecting.{called_by, called_in, called_item};
 ghost use Rattle.require_sys.specs.bodies.Wanting.{wanting};
 
-use crate::calls::has_member;
+use crate::calls::{has_member, is_declared_above};
 use crate::kept::KeptByRules;
 use crate::named::{want_name, want_names};
 use crate::supers::{is_interface, library_supers};
@@ -110,8 +110,9 @@ fn want_called(alloc: Global, wants: &mut Wants<'_>, number: u32, class: &Class)
     if is_interface(class) {
         return Ok(());
     }
-    let libraries = library_supers(alloc, wants.set(), number)?;
-    want_called_by(wants, number, libraries.as_slice())
+    let top = wants.top(number);
+    let libraries = library_supers(alloc, wants.set(), top)?;
+    want_called_by(wants, top, libraries.as_slice())
 }
 
 fn want_called_by(wants: &mut Wants<'_>, number: u32, ids: &[ClassId]) -> M<()>
@@ -172,6 +173,7 @@ fn want_run(wants: &mut Wants<'_>, number: u32, m: &MemberAt) -> M<()>
     }
 }
 
+/// The method that runs where another one is called. Where no class of the set has one alike, that is of the library.
 fn want_selected(wants: &mut Wants<'_>, number: u32, m: &MemberAt) -> M<()>
     requires there { number < length wants.old.classes }
     requires member { IsMember wants.old.classes m.now }
@@ -179,6 +181,9 @@ fn want_selected(wants: &mut Wants<'_>, number: u32, m: &MemberAt) -> M<()>
     ensures { OnOk result (wants.new
         ≡ wanting wants.old (cons_option (called_item wants.old.classes number m.now) [])) }
 {
+    if !is_declared_above(wants.set(), number, m) {
+        return Ok(());
+    }
     match select(wants.set(), ClassId::Prog(number), *m) {
         Some(selected) => wants.want_member(selected),
         None => Ok(()),

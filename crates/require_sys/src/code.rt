@@ -1,7 +1,7 @@
 // What a code names and means (JVMS 4.7.3, 6.5).
 #![tactic(auto, using(crate::proofs::Gathering::in_turn, crate::proofs::Gathering::nothing))]
 
-ghost use Rattle.std.specs.Prelude.{◌≡◌, ◌<◌, ◌∷◌, ◌++◌, IfOk, Ok, OnOk, length};
+ghost use Rattle.std.specs.Prelude.{◌≡◌, ◌<◌, ◌∷◌, ◌++◌, Ok, OnOk, length};
 ghost use Rattle.std.specs.List.{flat_map};
 ghost use Rattle.class_pool.specs.Found.{IsMember};
 ghost use Rattle.class_pool.specs.declared.id.ClassId.TheVariants.{Prog};
@@ -9,7 +9,7 @@ ghost use Rattle.link_check.specs.Links.{resolved_method};
 ghost use Rattle.link_check.specs.Profile.{class_of};
 ghost use Rattle.require_sys.specs.Requires.Item.{OfMember};
 ghost use Rattle.require_sys.specs.Requires.{field_ref_wants, handler_wants, method_ref_wants, op_wants};
-ghost use Rattle.require_sys.specs.Requires.{numbers, special_wants};
+ghost use Rattle.require_sys.specs.Requires.{special_wants};
 ghost use Rattle.require_sys.specs.bodies.Known.{ref_wants};
 ghost use Rattle.require_sys.specs.bodies.Wanting.{wanting};
 
@@ -18,7 +18,7 @@ use crate::named::{want_base, want_field_text, want_method_text, want_name, want
 use crate::wants::Wants;
 use class_model::{Handler, Ins, MemberRef, Op};
 use class_pool::MemberAt;
-use jv_base::{Items, M};
+use jv_base::M;
 use link_check::{resolve_field, resolve_method, select_special};
 use std::alloc::Global;
 
@@ -73,25 +73,23 @@ fn want_ref(
     if wants.want_known(number, kind, r)? {
         return Ok(());
     }
-    let found = ref_numbers(alloc, wants, number, kind, r)?;
-    wants.want_found(number, kind, r, found)
+    want_ref_and_keep(alloc, wants, number, kind, r)
 }
 
-/// The numbers of what a reference wants.
-fn ref_numbers(
+/// The same, which is remembered.
+fn want_ref_and_keep(
     alloc: Global,
-    wants: &Wants<'_>,
+    wants: &mut Wants<'_>,
     number: u32,
     kind: RefKind,
     r: &MemberRef,
-) -> M<Items<u32>>
-    requires { number < length wants.now.classes }
-    ensures { IfOk result (λ found. found
-        ≡ numbers wants.now.classes (ref_wants wants.now.classes number kind r.now)) }
+) -> M<()>
+    requires { number < length wants.old.classes }
+    ensures { OnOk result (wants.new ≡ wanting wants.old (ref_wants wants.old.classes number kind r.now)) }
 {
-    let mut anew = wants.anew(alloc);
-    want_ref_anew(alloc, &mut anew, number, kind, r)?;
-    Ok(anew.into_numbers())
+    let start = wants.count();
+    want_ref_anew(alloc, wants, number, kind, r)?;
+    wants.keep(start, number, kind, r)
 }
 
 fn want_ref_anew(

@@ -1,9 +1,24 @@
-// What references want, remembered: a class often has one reference in many instructions.
-ghost use Rattle.std.specs.Prelude.{IfSome, IsTrue};
-ghost use Rattle.require_sys.specs.bodies.Known.{IsFor, IsForAt};
+// What names, descriptors and references want, remembered: a set has most of them many times.
+//
+// Each has one place by its text, where the one that was looked for last is remembered.
+ghost use Rattle.std.specs.Prelude.{◌≡◌, ℕ, IfOk, IfSome, IsTrue, None, Some, slice_get};
+ghost use Rattle.std.specs.List.{All};
+ghost use Rattle.require_sys.specs.bodies.Known.{IsFor, IsTextFor};
 
 use class_model::MemberRef;
-use jv_base::Items;
+use jv_base::{Items, M, Text};
+use std::alloc::Global;
+
+/// What a text stands for.
+#[derive(Clone, Copy, PartialEq, Eq)]
+pub(crate) enum TextKind {
+    /// A class, whose name it is.
+    Name,
+    /// The type of a field, whose descriptor it is.
+    Field,
+    /// The type of a method, whose descriptor it is.
+    Method,
+}
 
 /// What an instruction asks of its reference.
 #[derive(Clone, Copy, PartialEq, Eq)]
@@ -14,6 +29,15 @@ pub(crate) enum RefKind {
     Method,
     /// The method that it means, and the one that invokespecial runs.
     Special,
+}
+
+/// What one text wants.
+#[derive(Drop)]
+pub(crate) struct TextRow {
+    pub kind: TextKind,
+    pub text: Text,
+    /// The numbers of the items that it wants.
+    pub numbers: Items<u32>,
 }
 
 /// What one reference wants.
@@ -27,22 +51,89 @@ pub(crate) struct Row {
     pub numbers: Items<u32>,
 }
 
+impl TextRow {
+    pub fn is_for(&self, kind: TextKind, text: &Text) -> bool
+        ensures { IsTrue result → IsTextFor kind text.now self.now }
+    {
+        self.kind == kind && self.text == *text
+    }
+}
+
 impl Row {
-    fn is_for(&self, from: u32, kind: RefKind, r: &MemberRef) -> bool
+    pub fn is_for(&self, from: u32, kind: RefKind, r: &MemberRef) -> bool
         ensures { IsTrue result → IsFor from kind r.now self.now }
     {
         self.from == from && self.kind == kind && self.reference == *r
     }
 }
 
-/// The place of the row of a reference, if there is one.
-pub(crate) fn place_of(rows: &[Row], from: u32, kind: RefKind, r: &MemberRef) -> Option<usize>
-    ensures { IfSome result (IsForAt from kind r.now rows.now) }
+/// So many texts and so many references are remembered.
+const PLACES: usize = 512;
+
+/// No text at any place.
+pub(crate) fn no_texts(alloc: Global) -> M<Vec<Option<TextRow>>>
+    ensures { IfOk result (λ rows. All (λ row. row ≡ None) rows.items) }
 {
-    for place in 0..rows.len() {
-        if rows[place].is_for(from, kind, r) {
-            return Some(place);
-        }
+    let mut rows = Vec::with_capacity(alloc, PLACES)?;
+    for _ in 0..PLACES {
+        rows.push(None)?;
     }
-    None
+    Ok(rows)
+}
+
+/// No reference at any place.
+pub(crate) fn no_rows(alloc: Global) -> M<Vec<Option<Row>>>
+    ensures { IfOk result (λ rows. All (λ row. row ≡ None) rows.items) }
+{
+    let mut rows = Vec::with_capacity(alloc, PLACES)?;
+    for _ in 0..PLACES {
+        rows.push(None)?;
+    }
+    Ok(rows)
+}
+
+/// The place of a text, which is another one for most texts.
+pub(crate) fn text_place(text: &Text) -> usize {
+    let mark = text.tail().wrapping_mul(0x9E37_79B9_7F4A_7C15) >> 48;
+    (mark as usize ^ text.len()) % PLACES
+}
+
+/// The place of a reference.
+pub(crate) fn place_of(r: &MemberRef) -> usize {
+    (text_place(&r.name) ^ text_place(&r.ty)) % PLACES
+}
+
+/// The row of a text, if it is remembered.
+pub(crate) fn text_row<'a>(
+    rows: &'a [Option<TextRow>],
+    kind: TextKind,
+    text: &Text,
+) -> Option<&'a TextRow>
+    ensures at { IfSome result (λ row. (place : ℕ) × slice_get rows.now place ≡ Some (Some row.now)) }
+    ensures is { IfSome result (λ row. IsTextFor kind text.now row.now) }
+{
+    let row = rows.get(text_place(text))?.as_ref()?;
+    if row.is_for(kind, text) {
+        Some(row)
+    } else {
+        None
+    }
+}
+
+/// The row of a reference, if it is remembered.
+pub(crate) fn row_of<'a>(
+    rows: &'a [Option<Row>],
+    from: u32,
+    kind: RefKind,
+    r: &MemberRef,
+) -> Option<&'a Row>
+    ensures at { IfSome result (λ row. (place : ℕ) × slice_get rows.now place ≡ Some (Some row.now)) }
+    ensures is { IfSome result (λ row. IsFor from kind r.now row.now) }
+{
+    let row = rows.get(place_of(r))?.as_ref()?;
+    if row.is_for(from, kind, r) {
+        Some(row)
+    } else {
+        None
+    }
 }

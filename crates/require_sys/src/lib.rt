@@ -17,6 +17,7 @@ mod pairs;
 mod seeds;
 mod supers;
 mod system;
+mod tops;
 mod wants;
 
 pub use kept::{KeptByRules, kept_by_rules};

@@ -8,6 +8,7 @@ ghost use Rattle.require_sys.specs.Requires.{base_wants, field_text_wants, metho
 ghost use Rattle.require_sys.specs.Requires.{name_wants, type_wants};
 ghost use Rattle.require_sys.specs.bodies.Wanting.{wanting};
 
+use crate::known::TextKind;
 use crate::wants::Wants;
 use jv_base::{
     Base, FieldType, M, MethodType, Name, Or, OutOfMemory, Text, read_field_type, read_method_type,
@@ -16,6 +17,24 @@ use std::alloc::Global;
 
 /// The class of a name, if there is one.
 pub(crate) fn want_name(wants: &mut Wants<'_>, name: &Name) -> M<()>
+    ensures { OnOk result (wants.new ≡ wanting wants.old (name_wants wants.old.classes name.now)) }
+{
+    if wants.want_known_text(TextKind::Name, name)? {
+        return Ok(());
+    }
+    want_name_and_keep(wants, name)
+}
+
+/// The same, which is remembered.
+fn want_name_and_keep(wants: &mut Wants<'_>, name: &Name) -> M<()>
+    ensures { OnOk result (wants.new ≡ wanting wants.old (name_wants wants.old.classes name.now)) }
+{
+    let start = wants.count();
+    want_class_named(wants, name)?;
+    wants.keep_text(start, TextKind::Name, name)
+}
+
+fn want_class_named(wants: &mut Wants<'_>, name: &Name) -> M<()>
     ensures { OnOk result (wants.new ≡ wanting wants.old (name_wants wants.old.classes name.now)) }
 {
     match wants.set().find(name) {
@@ -76,6 +95,26 @@ pub(crate) fn want_field_text(alloc: Global, wants: &mut Wants<'_>, text: &Text)
     ensures { OnOk result (wants.new
         ≡ wanting wants.old (field_text_wants wants.old.classes (read_field text.now))) }
 {
+    if wants.want_known_text(TextKind::Field, text)? {
+        return Ok(());
+    }
+    want_field_and_keep(alloc, wants, text)
+}
+
+/// The same, which is remembered.
+fn want_field_and_keep(alloc: Global, wants: &mut Wants<'_>, text: &Text) -> M<()>
+    ensures { OnOk result (wants.new
+        ≡ wanting wants.old (field_text_wants wants.old.classes (read_field text.now))) }
+{
+    let start = wants.count();
+    want_field_read(alloc, wants, text)?;
+    wants.keep_text(start, TextKind::Field, text)
+}
+
+fn want_field_read(alloc: Global, wants: &mut Wants<'_>, text: &Text) -> M<()>
+    ensures { OnOk result (wants.new
+        ≡ wanting wants.old (field_text_wants wants.old.classes (read_field text.now))) }
+{
     if text.len() >= TOO_LONG {
         return Err(OutOfMemory);
     }
@@ -88,6 +127,26 @@ pub(crate) fn want_field_text(alloc: Global, wants: &mut Wants<'_>, text: &Text)
 
 /// The classes in the descriptor of a method.
 pub(crate) fn want_method_text(alloc: Global, wants: &mut Wants<'_>, text: &Text) -> M<()>
+    ensures { OnOk result (wants.new
+        ≡ wanting wants.old (method_text_wants wants.old.classes (read_method text.now))) }
+{
+    if wants.want_known_text(TextKind::Method, text)? {
+        return Ok(());
+    }
+    want_method_and_keep(alloc, wants, text)
+}
+
+/// The same, which is remembered.
+fn want_method_and_keep(alloc: Global, wants: &mut Wants<'_>, text: &Text) -> M<()>
+    ensures { OnOk result (wants.new
+        ≡ wanting wants.old (method_text_wants wants.old.classes (read_method text.now))) }
+{
+    let start = wants.count();
+    want_method_read(alloc, wants, text)?;
+    wants.keep_text(start, TextKind::Method, text)
+}
+
+fn want_method_read(alloc: Global, wants: &mut Wants<'_>, text: &Text) -> M<()>
     ensures { OnOk result (wants.new
         ≡ wanting wants.old (method_text_wants wants.old.classes (read_method text.now))) }
 {

@@ -47,8 +47,10 @@ pub(crate) fn needs_of(alloc: Global, numbered: &Numbered, kept: &KeptByRules) -
         lists: Items::new(alloc),
         count: 0,
     };
+    let mut wants = Wants::new(alloc, numbered)?;
     for number in 0..set.len() {
-        add_class(alloc, numbered, kept, number, set.class(number), &mut needs)?;
+        let class = set.class(number);
+        add_class(alloc, &mut wants, numbered, kept, number, class, &mut needs)?;
     }
     Ok(needs)
 }
@@ -56,59 +58,67 @@ pub(crate) fn needs_of(alloc: Global, numbered: &Numbered, kept: &KeptByRules) -
 /// What the items of a class need: the class, its fields, its methods.
 fn add_class(
     alloc: Global,
+    wants: &mut Wants<'_>,
     numbered: &Numbered,
     kept: &KeptByRules,
     number: u32,
     class: &Class,
     needs: &mut Needs,
 ) -> M<()>
+    requires before { wants.old ≡ wanting_nothing numbered.now.set.now }
     requires there { slice_get numbered.now.set.now number ≡ Some class.now }
     requires few { length class.now.fields + length class.now.methods < 4294967295 }
     requires members { AreMembers numbered.now.set.now kept.now.members }
-    ensures { OnOk result (AddsNeeds needs.old (class_needs numbered.now.set.now kept.now
+    ensures added { OnOk result (AddsNeeds needs.old (class_needs numbered.now.set.now kept.now
         (number, class.now)) needs.new) }
+    ensures after { OnOk result (wants.new ≡ wanting_nothing numbered.now.set.now) }
 {
-    needs.add(class_needs(alloc, numbered, kept, number, class)?)?;
-    add_fields(alloc, numbered, number, class, needs)?;
-    add_methods(alloc, numbered, kept, number, class, needs)
+    needs.add(class_needs(alloc, wants, numbered, kept, number, class)?)?;
+    add_fields(alloc, wants, numbered, number, class, needs)?;
+    add_methods(alloc, wants, numbered, kept, number, class, needs)
 }
 
 fn add_fields(
     alloc: Global,
+    wants: &mut Wants<'_>,
     numbered: &Numbered,
     number: u32,
     class: &Class,
     needs: &mut Needs,
 ) -> M<()>
+    requires before { wants.old ≡ wanting_nothing numbered.now.set.now }
     requires there { slice_get numbered.now.set.now number ≡ Some class.now }
     requires few { length class.now.fields + length class.now.methods < 4294967295 }
-    ensures { OnOk result (AddsNeeds needs.old (fields_needs numbered.now.set.now number class.now) needs.new) }
+    ensures added { OnOk result (AddsNeeds needs.old (fields_needs numbered.now.set.now number class.now) needs.new) }
+    ensures after { OnOk result (wants.new ≡ wanting_nothing numbered.now.set.now) }
 {
     for index in 0..class.fields.len() {
         let own = numbered.member_item(number, index as u32);
-        needs.add(field_needs(alloc, numbered, own, number, &class.fields[index])?)?;
+        needs.add(field_needs(alloc, wants, own, number, &class.fields[index])?)?;
     }
     Ok(())
 }
 
 fn add_methods(
     alloc: Global,
+    wants: &mut Wants<'_>,
     numbered: &Numbered,
     kept: &KeptByRules,
     number: u32,
     class: &Class,
     needs: &mut Needs,
 ) -> M<()>
+    requires before { wants.old ≡ wanting_nothing numbered.now.set.now }
     requires there { slice_get numbered.now.set.now number ≡ Some class.now }
     requires few { length class.now.fields + length class.now.methods < 4294967295 }
-    ensures { OnOk result (AddsNeeds needs.old
+    ensures added { OnOk result (AddsNeeds needs.old
         (methods_needs numbered.now.set.now kept.now number class.now) needs.new) }
+    ensures after { OnOk result (wants.new ≡ wanting_nothing numbered.now.set.now) }
 {
-    let mut wants = Wants::new(alloc, numbered);
     for index in 0..class.methods.len() {
         let own = method_item(numbered, number, class, index);
         let method = &class.methods[index];
-        needs.add(method_needs(alloc, &mut wants, kept, own, number, method)?)?;
+        needs.add(method_needs(alloc, wants, kept, own, number, method)?)?;
     }
     Ok(())
 }
@@ -123,37 +133,42 @@ fn method_item(numbered: &Numbered, number: u32, class: &Class, index: usize) ->
     numbered.member_item(number, (class.fields.len() + index) as u32)
 }
 
+/// What a class needs. Nothing is wanted before, nor after.
 fn class_needs(
     alloc: Global,
+    wants: &mut Wants<'_>,
     numbered: &Numbered,
     kept: &KeptByRules,
     number: u32,
     class: &Class,
 ) -> M<Items<u32>>
+    requires before { wants.old ≡ wanting_nothing numbered.now.set.now }
     requires there { slice_get numbered.now.set.now number ≡ Some class.now }
     requires members { AreMembers numbered.now.set.now kept.now.members }
-    ensures { IfOk result (λ needs. needs ≡ needs_of numbered.now.set.now (class_item numbered.now.set.now number)
-        (class_wants numbered.now.set.now kept.now number class.now)) }
+    ensures needs { IfOk result (λ needs. needs ≡ needs_of numbered.now.set.now
+        (class_item numbered.now.set.now number) (class_wants numbered.now.set.now kept.now number class.now)) }
+    ensures after { OnOk result (wants.new ≡ wanting_nothing numbered.now.set.now) }
 {
-    let mut wants = Wants::new(alloc, numbered);
-    want_of_class(alloc, &mut wants, kept, number, class)?;
-    wants.into_needs(alloc, numbered.class_item(number))
+    want_of_class(alloc, wants, kept, number, class)?;
+    wants.take_needs(alloc, numbered.class_item(number))
 }
 
+/// What a field needs. Nothing is wanted before, nor after.
 fn field_needs(
     alloc: Global,
-    numbered: &Numbered,
+    wants: &mut Wants<'_>,
     own: u32,
     number: u32,
     field: &Field,
 ) -> M<Items<u32>>
-    requires { number < length numbered.now.set.now }
-    ensures { IfOk result (λ needs. needs ≡ needs_of numbered.now.set.now own
-        (field_wants numbered.now.set.now number field.now)) }
+    requires there { number < length wants.old.classes }
+    requires before { wants.old ≡ wanting_nothing wants.old.classes }
+    ensures needs { IfOk result (λ needs. needs ≡ needs_of wants.old.classes own
+        (field_wants wants.old.classes number field.now)) }
+    ensures after { OnOk result (wants.new ≡ wanting_nothing wants.old.classes) }
 {
-    let mut wants = Wants::new(alloc, numbered);
-    want_of_field(&mut wants, number, field)?;
-    wants.into_needs(alloc, own)
+    want_of_field(wants, number, field)?;
+    wants.take_needs(alloc, own)
 }
 
 /// What a method needs. Nothing is wanted before, nor after.

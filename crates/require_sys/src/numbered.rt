@@ -8,9 +8,11 @@ ghost use Rattle.class_pool.specs.Items.{class_item, item_of};
 ghost use Rattle.class_pool.specs.declared.id.ClassId.TheVariants.{Prog};
 ghost use Rattle.require_sys.specs.bodies.Alone.{AreAlone, IsAlone};
 ghost use Rattle.require_sys.specs.bodies.Starts.{AreStarts};
+ghost use Rattle.require_sys.specs.bodies.Tops.{AreTops, IsTop};
 
 use crate::calls::declared_of;
 use crate::supers::is_same_class;
+use crate::tops::tops_of;
 use class_pool::{ClassId, ClassSet, MemberAt};
 use jv_base::{Items, M};
 use std::alloc::Global;
@@ -25,9 +27,12 @@ pub(crate) struct Numbered<'a> {
     object: Option<ClassId>,
     /// For each member of Object whether a class of the set may have one with its name and descriptor.
     declared: Items<bool>,
+    /// For each class one in which the same methods run.
+    tops: Vec<u32>,
     ghost alone: { ForSome object (λ class. AreAlone set.now class declared) },
     ghost few: { item_count set.now < 4294967295 },
     ghost are: { AreStarts set.now starts },
+    ghost same: { AreTops set.now tops.items },
 }
 
 impl<'a> Numbered<'a> {
@@ -39,11 +44,13 @@ impl<'a> Numbered<'a> {
         let starts = starts_of(alloc, set)?;
         let object = set.object();
         let declared = declared_by_others(alloc, set, &object)?;
+        let tops = tops_of(alloc, set)?;
         Ok(Numbered {
             set,
             starts,
             object,
             declared,
+            tops,
         })
     }
 
@@ -65,6 +72,14 @@ impl<'a> Numbered<'a> {
             }
             None => false,
         }
+    }
+
+    /// A class in which the same methods run: the class itself, or one above it.
+    pub fn top(&self, number: u32) -> u32
+        requires { number < length self.now.set.now }
+        ensures { IsTop self.now.set.now number result }
+    {
+        self.tops[number as usize]
     }
 
     /// The item of a class of the set.

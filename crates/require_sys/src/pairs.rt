@@ -69,44 +69,50 @@ fn add_class(
     if is_interface(class) {
         return Ok(());
     }
-    let supers = program_supers(alloc, numbered.set, number)?;
-    add_above(numbered, number, supers.as_slice(), pairs)
+    let top = numbered.top(number);
+    let supers = program_supers(alloc, numbered.set, top)?;
+    add_above(numbered, number, top, supers.as_slice(), pairs)
 }
 
-/// Those of a class with the methods of these classes above it.
-fn add_above(numbered: &Numbered, number: u32, supers: &[u32], pairs: &mut Pairs) -> M<()>
+/// Those of a class with the methods of these classes above it. The same methods run in another one, its top.
+fn add_above(numbered: &Numbered, number: u32, top: u32, supers: &[u32], pairs: &mut Pairs) -> M<()>
     requires there { number < length numbered.now.set.now }
+    requires top { top < length numbered.now.set.now }
     requires supers { All (λ k. k < length numbered.now.set.now) supers.now }
-    ensures { OnOk result (AddsPairs pairs.old (flat_map (pairs_in numbered.now.set.now number)
+    ensures { OnOk result (AddsPairs pairs.old (flat_map (pairs_in numbered.now.set.now number top)
         (map Prog supers.now)) pairs.new) }
 {
     for above in supers {
-        add_of(numbered, number, above, pairs)?;
+        add_of(numbered, number, top, above, pairs)?;
     }
     Ok(())
 }
 
-fn add_of(numbered: &Numbered, number: u32, above: &u32, pairs: &mut Pairs) -> M<()>
+fn add_of(numbered: &Numbered, number: u32, top: u32, above: &u32, pairs: &mut Pairs) -> M<()>
     requires there { number < length numbered.now.set.now }
+    requires top { top < length numbered.now.set.now }
     requires above { above.now < length numbered.now.set.now }
-    ensures { OnOk result (AddsPairs pairs.old (pairs_in numbered.now.set.now number (Prog above.now)) pairs.new) }
+    ensures { OnOk result (AddsPairs pairs.old
+        (pairs_in numbered.now.set.now number top (Prog above.now)) pairs.new) }
 {
     let class = numbered.set.class(*above);
-    add_methods(numbered, number, *above, class, pairs)
+    add_methods(numbered, number, top, *above, class, pairs)
 }
 
 /// Those of a class with the methods of one class above it.
 fn add_methods(
     numbered: &Numbered,
     number: u32,
+    top: u32,
     above: u32,
     class: &Class,
     pairs: &mut Pairs,
 ) -> M<()>
     requires there { number < length numbered.now.set.now }
+    requires top { top < length numbered.now.set.now }
     requires above { slice_get numbered.now.set.now above ≡ Some class.now }
     requires few { length class.now.fields + length class.now.methods < 4294967295 }
-    ensures { OnOk result (AddsPairs pairs.old (pairs_in numbered.now.set.now number (Prog above)) pairs.new) }
+    ensures { OnOk result (AddsPairs pairs.old (pairs_in numbered.now.set.now number top (Prog above)) pairs.new) }
 {
     let count = class.fields.len() + class.methods.len();
     for index in 0..count as u32 {
@@ -114,23 +120,24 @@ fn add_methods(
             class: ClassId::Prog(above),
             index,
         };
-        add_member(numbered, number, &m, pairs)?;
+        add_member(numbered, number, top, &m, pairs)?;
     }
     Ok(())
 }
 
 /// That of a class with a member above it, if this is a method that may be inherited.
-fn add_member(numbered: &Numbered, number: u32, m: &MemberAt, pairs: &mut Pairs) -> M<()>
+fn add_member(numbered: &Numbered, number: u32, top: u32, m: &MemberAt, pairs: &mut Pairs) -> M<()>
     requires there { number < length numbered.now.set.now }
+    requires top { top < length numbered.now.set.now }
     requires member { IsMember numbered.now.set.now m.now }
     ensures { OnOk result (AddsPairs pairs.old
-        (if is_inheritable numbered.now.set.now m.now then cons_option (pair_with numbered.now.set.now number m.now) []
-        else []) pairs.new) }
+        (if is_inheritable numbered.now.set.now m.now
+        then cons_option (pair_with numbered.now.set.now number top m.now) [] else []) pairs.new) }
 {
     if !is_inheritable(numbered.set, m) {
         return Ok(());
     }
-    pairs.add(pair_with(numbered, number, m))
+    pairs.add(pair_with(numbered, number, top, m))
 }
 
 /// Whether a member is an instance method that isn't private.
@@ -143,13 +150,14 @@ fn is_inheritable(set: &ClassSet, m: &MemberAt) -> bool
 
 /// What a class and a method above it need together: the method that runs where that one is called on an object of
 /// the class, where it is another one of the program.
-fn pair_with(numbered: &Numbered, number: u32, m: &MemberAt) -> Option<Pair>
+fn pair_with(numbered: &Numbered, number: u32, top: u32, m: &MemberAt) -> Option<Pair>
     requires there { number < length numbered.now.set.now }
+    requires top { top < length numbered.now.set.now }
     requires member { IsMember numbered.now.set.now m.now }
     requires method { IsMethod numbered.now.set.now m.now }
-    ensures { result ≡ pair_with numbered.now.set.now number m.now }
+    ensures { result ≡ pair_with numbered.now.set.now number top m.now }
 {
-    match &select(numbered.set, ClassId::Prog(number), *m) {
+    match &select(numbered.set, ClassId::Prog(top), *m) {
         Some(selected) => pair_of(numbered, number, m, selected),
         None => None,
     }

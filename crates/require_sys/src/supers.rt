@@ -2,11 +2,11 @@
 ghost use Rattle.std.specs.Prelude.{◌≡◌, ◌&&◌, ◌<◌, [], ◌∷◌, ◌++◌, IfOk, OnOk, length, map, not};
 ghost use Rattle.std.specs.List.{All, cons_option, filter, filter_map, flat_map, list_any};
 ghost use Rattle.class_model.specs.Flags.{is_interface};
-ghost use Rattle.class_pool.specs.Hierarchy.{IsClass};
+ghost use Rattle.class_pool.specs.Hierarchy.{IsClass, superclass};
 ghost use Rattle.class_pool.specs.Walk.{each_once, same_class, superclasses_from};
 ghost use Rattle.class_pool.specs.declared.id.ClassId.TheVariants.{Prog};
 ghost use Rattle.require_sys.specs.Requires.{library_supers, program_supers};
-ghost use Rattle.require_sys.specs.bodies.Supers.{is_library, is_new, other_number, own_once};
+ghost use Rattle.require_sys.specs.bodies.Supers.{is_library, is_new, other_number, own_once, program_number};
 
 use bitflags::Flags;
 use class_model::Class;
@@ -15,7 +15,7 @@ use jv_base::{Access, M};
 use std::alloc::Global;
 
 /// More than any set has classes, those of the library with them.
-const HIGHEST: u64 = 1 << 33;
+pub(crate) const HIGHEST: u64 = 1 << 33;
 
 /// The numbers of the classes of the program above the class with a number, ascending.
 pub(crate) fn program_supers(alloc: Global, set: &ClassSet, number: u32) -> M<Vec<u32>>
@@ -37,6 +37,17 @@ pub(crate) fn library_supers(alloc: Global, set: &ClassSet, number: u32) -> M<Ve
 {
     let chain = superclasses_of(alloc, set, number)?;
     libraries_met(alloc, set, chain.as_slice())
+}
+
+/// The number of the superclass of a class, if that is of the program.
+pub(crate) fn superclass_number(set: &ClassSet, number: u32) -> Option<u32>
+    requires { number < length set.now }
+    ensures { result ≡ program_number (superclass set.now (Prog number)) }
+{
+    match set.super_of(ClassId::Prog(number)) {
+        Some(ClassId::Prog(above)) => Some(above),
+        _ => None,
+    }
 }
 
 /// A class and its superclasses, the nearest first.

@@ -1,19 +1,22 @@
 // What an item wants, gathered as the numbers of those items that have one.
-ghost use Rattle.std.specs.Prelude.{◌≡◌, ◌==◌, [], ◌∷◌, IfOk, IsTrue, OnOk, false, not};
+ghost use Rattle.std.specs.Prelude.{◌≡◌, ◌==◌, ◌≤◌, ◌<◌, [], ◌∷◌, IfOk, IsTrue, OnOk, drop, false, length, not};
 ghost use Rattle.std.specs.List.{filter};
 ghost use Rattle.class_pool.specs.Found.{IsMember};
 ghost use Rattle.class_pool.specs.Hierarchy.{IsClass};
 ghost use Rattle.require_sys.specs.Requires.Item.{OfClass, OfMember};
 ghost use Rattle.require_sys.specs.bodies.Alone.{IsAlone};
 ghost use Rattle.require_sys.specs.Requires.{numbers};
-ghost use Rattle.require_sys.specs.bodies.Known.{ref_wants};
+ghost use Rattle.require_sys.specs.bodies.Known.{IsBehind, ref_wants, text_wants};
+ghost use Rattle.require_sys.specs.bodies.Tops.{IsTop};
 ghost use Rattle.require_sys.specs.bodies.Wanting.{needs_from, wanting, wanting_nothing};
 
-use crate::known::{RefKind, Row, place_of};
+use crate::known::{
+    RefKind, Row, TextKind, TextRow, no_rows, no_texts, place_of, row_of, text_place, text_row,
+};
 use crate::numbered::Numbered;
 use class_model::MemberRef;
 use class_pool::{ClassId, ClassSet, MemberAt};
-use jv_base::{Items, M};
+use jv_base::{Items, M, Text};
 use std::alloc::Global;
 use std::marker::Model;
 
@@ -22,41 +25,41 @@ use std::marker::Model;
 pub(crate) struct Wants<'a> {
     numbered: &'a Numbered<'a>,
     numbers: Vec<u32>,
+    alloc: Global,
+    /// What some names and descriptors want.
+    texts: Vec<Option<TextRow>>,
     /// What some references want.
-    rows: Vec<Row>,
+    rows: Vec<Option<Row>>,
 }
 
-/// So many references are remembered, and searched one by one.
-const MOST: usize = 64;
-
 impl<'a> Model for Wants<'a> {
+    ghost use Rattle.std.specs.Prelude.{IfSome};
     ghost use Rattle.std.specs.List.{All};
-    ghost use Rattle.require_sys.specs.bodies.Known.{IsRow};
+    ghost use Rattle.require_sys.specs.bodies.Known.{IsRow, IsTextRow};
     ghost use Rattle.require_sys.specs.bodies.Wanting.{Wanted};
 
     ghost Value = { Wanted };
 
     ghost view = { λ w. record { classes = w.numbered.now.set.now; numbers = w.numbers.items } };
 
-    ghost invariant = { λ w. All (IsRow w.numbered.now.set.now) w.rows.items };
+    ghost invariant = { λ w. All (λ o. IfSome o (IsTextRow w.numbered.now.set.now)) w.texts.items
+        × All (λ o. IfSome o (IsRow w.numbered.now.set.now)) w.rows.items };
 }
 
 impl<'a> Wants<'a> {
-    pub fn new(alloc: Global, numbered: &'a Numbered<'a>) -> Self
-        ensures { result ≡ wanting_nothing numbered.now.set.now }
+    /// Nothing yet.
+    pub fn new(alloc: Global, numbered: &'a Numbered<'a>) -> M<Self>
+        ensures { IfOk result (λ wants. wants ≡ wanting_nothing numbered.now.set.now) }
     {
-        Wants {
+        let texts = no_texts(alloc)?;
+        let rows = no_rows(alloc)?;
+        Ok(Wants {
             numbered,
             numbers: Vec::new(alloc),
-            rows: Vec::new(alloc),
-        }
-    }
-
-    /// Nothing yet, of the same set.
-    pub fn anew(&self, alloc: Global) -> Wants<'a>
-        ensures { result ≡ wanting_nothing self.now.classes }
-    {
-        Wants::new(alloc, self.numbered)
+            alloc,
+            texts,
+            rows,
+        })
     }
 
     /// The set whose items they are.
@@ -71,6 +74,14 @@ impl<'a> Wants<'a> {
         ensures { IsTrue result → IsAlone self.now.classes member.now }
     {
         self.numbered.is_alone(member)
+    }
+
+    /// A class in which the same methods run as in another one: that class, or one above it.
+    pub fn top(&self, number: u32) -> u32
+        requires { number < length self.now.classes }
+        ensures { IsTop self.now.classes number result }
+    {
+        self.numbered.top(number)
     }
 
     pub fn want_class(&mut self, class: ClassId) -> M<()>
@@ -93,15 +104,21 @@ impl<'a> Wants<'a> {
         Ok(())
     }
 
-    /// What a reference wants, if that is remembered.
-    pub fn want_known(&mut self, from: u32, kind: RefKind, r: &MemberRef) -> M<bool>
+    /// How many numbers there are.
+    pub fn count(&self) -> usize
+        ensures { result ≡ length self.now.numbers }
+    {
+        self.numbers.len()
+    }
+
+    /// What a name or a descriptor wants, if that is remembered.
+    pub fn want_known_text(&mut self, kind: TextKind, text: &Text) -> M<bool>
         ensures known { IfOk result (λ known. IsTrue known
-            → self.new ≡ wanting self.old (ref_wants self.old.classes from kind r.now)) }
+            → self.new ≡ wanting self.old (text_wants self.old.classes kind text.now)) }
         ensures other { IfOk result (λ known. known ≡ false → self.new ≡ self.old) }
     {
-        match place_of(self.rows.as_slice(), from, kind, r) {
-            Some(place) => {
-                let row = &self.rows[place];
+        match text_row(self.texts.as_slice(), kind, text) {
+            Some(row) => {
                 self.numbers.extend_from_slice(row.numbers.as_slice())?;
                 Ok(true)
             }
@@ -109,46 +126,61 @@ impl<'a> Wants<'a> {
         }
     }
 
-    /// What a reference wants, by the numbers of that; it is remembered unless many are.
-    pub fn want_found(
-        &mut self,
-        from: u32,
-        kind: RefKind,
-        r: &MemberRef,
-        found: Items<u32>,
-    ) -> M<()>
-        requires { found ≡ numbers self.old.classes (ref_wants self.old.classes from kind r.now) }
-        ensures { OnOk result (self.new ≡ wanting self.old (ref_wants self.old.classes from kind r.now)) }
+    /// Remembers what a name or a descriptor wants: the numbers from a place on.
+    pub fn keep_text(&mut self, start: usize, kind: TextKind, text: &Text) -> M<()>
+        requires { IsBehind start self.old.numbers (numbers self.old.classes
+            (text_wants self.old.classes kind text.now)) }
+        ensures { OnOk result (self.new ≡ self.old) }
     {
-        self.numbers.extend_from_slice(found.as_slice())?;
-        if self.rows.len() < MOST {
-            let reference = r.clone()?;
-            self.rows.push(Row {
-                from,
+        let numbers = copied_from(self.alloc, self.numbers.as_slice(), start)?;
+        let text = text.clone()?;
+        let place = text_place(&text);
+        if place < self.texts.len() {
+            self.texts[place] = Some(TextRow {
                 kind,
-                reference,
-                numbers: found,
-            })?;
+                text,
+                numbers,
+            });
         }
         Ok(())
     }
 
-    /// The numbers of what was wanted.
-    pub fn into_numbers(self) -> Items<u32>
-        ensures { result ≡ self.entry.numbers }
+    /// What a reference wants, if that is remembered.
+    pub fn want_known(&mut self, from: u32, kind: RefKind, r: &MemberRef) -> M<bool>
+        ensures known { IfOk result (λ known. IsTrue known
+            → self.new ≡ wanting self.old (ref_wants self.old.classes from kind r.now)) }
+        ensures other { IfOk result (λ known. known ≡ false → self.new ≡ self.old) }
     {
-        Items::from_vec(self.numbers)
+        match row_of(self.rows.as_slice(), from, kind, r) {
+            Some(row) => {
+                self.numbers.extend_from_slice(row.numbers.as_slice())?;
+                Ok(true)
+            }
+            None => Ok(false),
+        }
     }
 
-    /// What an item needs that wants these: each but itself, ascending and each once.
-    pub fn into_needs(self, alloc: Global, own: u32) -> M<Items<u32>>
-        ensures { IfOk result (λ needs. needs ≡ needs_from own self.entry.numbers) }
+    /// Remembers what a reference wants: the numbers from a place on.
+    pub fn keep(&mut self, start: usize, from: u32, kind: RefKind, r: &MemberRef) -> M<()>
+        requires { IsBehind start self.old.numbers (numbers self.old.classes
+            (ref_wants self.old.classes from kind r.now)) }
+        ensures { OnOk result (self.new ≡ self.old) }
     {
-        let mut wants = self;
-        wants.take_needs(alloc, own)
+        let numbers = copied_from(self.alloc, self.numbers.as_slice(), start)?;
+        let reference = r.clone()?;
+        let place = place_of(&reference);
+        if place < self.rows.len() {
+            self.rows[place] = Some(Row {
+                from,
+                kind,
+                reference,
+                numbers,
+            });
+        }
+        Ok(())
     }
 
-    /// The same; nothing is wanted from then on.
+    /// What an item needs that wants these: each but itself, ascending and each once. Nothing is wanted from then on.
     pub fn take_needs(&mut self, alloc: Global, own: u32) -> M<Items<u32>>
         ensures needs { IfOk result (λ needs. needs ≡ needs_from own self.old.numbers) }
         ensures after { OnOk result (self.new ≡ wanting_nothing self.old.classes) }
@@ -172,4 +204,12 @@ fn all_but(alloc: Global, own: u32, numbers: &[u32]) -> M<Items<u32>>
         }
     }
     Ok(others)
+}
+
+/// These numbers from a place on.
+fn copied_from(alloc: Global, numbers: &[u32], start: usize) -> M<Items<u32>>
+    requires { start ≤ length numbers.now }
+    ensures { IfOk result (λ copies. copies ≡ drop start numbers.now) }
+{
+    Ok(Items::from_vec(numbers[start..].to_vec(alloc)?))
 }

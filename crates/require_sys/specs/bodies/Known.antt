@@ -1,14 +1,19 @@
 -- What references want, as it is remembered.
-use Rattle.std.specs.Prelude.{◌≡◌, ℕ, List, ◌++◌, slice_get, Some}
+use Rattle.std.specs.Prelude.{◌≡◌, ◌≤◌, ℕ, List, ◌++◌, drop, length}
+use Rattle.jv_base.specs.Descriptors.{read_field, read_method}
 use Rattle.class_model.specs.declared.class.Class.{Class}
 use Rattle.class_model.specs.declared.op.MemberRef.{MemberRef}
 use Rattle.class_pool.specs.declared.id.ClassId.TheVariants.{Prog}
 use Rattle.link_check.specs.Links.{resolved_method}
 use Rattle.link_check.specs.Profile.{class_of}
-use Rattle.require_sys.specs.Requires.{Item, field_ref_wants, method_ref_wants, numbers, special_wants}
+use Rattle.require_sys.specs.Requires.{Item, field_ref_wants, field_text_wants, method_ref_wants, method_text_wants}
+use Rattle.require_sys.specs.Requires.{name_wants, numbers, special_wants}
 use Rattle.require_sys.specs.declared.known.RefKind.{RefKind}
 use Rattle.require_sys.specs.declared.known.RefKind.TheVariants.{Field, Method, Special}
 use Rattle.require_sys.specs.declared.known.Row.{Row}
+use Rattle.require_sys.specs.declared.known.TextKind.{TextKind}
+use Rattle.require_sys.specs.declared.known.TextKind.TheVariants as text
+use Rattle.require_sys.specs.declared.known.TextRow.{TextRow}
 
 -- what a reference wants in the class with a number, by the kind of its instruction
 abbrev pub ref_wants : List Class → ℕ → RefKind → MemberRef → List Item
@@ -16,6 +21,26 @@ ref_wants classes n Field r = field_ref_wants classes n r
 ref_wants classes n Method r = method_ref_wants classes n r
 ref_wants classes n Special r =
     method_ref_wants classes n r ++ special_wants classes n (class_of classes r) (resolved_method classes (Prog n) r)
+
+-- what a name or a descriptor wants
+abbrev pub text_wants : List Class → TextKind → List ℕ → List Item
+text_wants classes (text.Name) t = name_wants classes t
+text_wants classes (text.Field) t = field_text_wants classes (read_field t)
+text_wants classes (text.Method) t = method_text_wants classes (read_method t)
+
+-- these stand behind so many others
+pub record IsBehind (start : ℕ) (all behind : List ℕ) : Type 0 where
+  pub within : start ≤ length all
+  pub are : drop start all ≡ behind
+
+-- a row has the numbers of what its text wants
+abbrev pub IsTextRow : List Class → TextRow → Type 0
+IsTextRow classes row = row.numbers ≡ numbers classes (text_wants classes row.kind row.text)
+
+-- the row is that of a text
+pub record IsTextFor (k : TextKind) (t : List ℕ) (row : TextRow) : Type 0 where
+  pub kind : row.kind ≡ k
+  pub text : row.text ≡ t
 
 -- a row has the numbers of what its reference wants
 abbrev pub IsRow : List Class → Row → Type 0
@@ -26,7 +51,3 @@ pub record IsFor (n : ℕ) (k : RefKind) (r : MemberRef) (row : Row) : Type 0 wh
   pub from : row.from ≡ n
   pub kind : row.kind ≡ k
   pub reference : row.reference ≡ r
-
--- so is the row at a place of a list
-abbrev pub IsForAt : ℕ → RefKind → MemberRef → List Row → ℕ → Type 0
-IsForAt from kind r rows place = (row : Row) × (slice_get rows place ≡ Some row) × IsFor from kind r row

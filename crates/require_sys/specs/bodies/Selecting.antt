@@ -24,9 +24,10 @@ module _ (classes : List Class) (n : ℕ) where
   abbrev pub called_by : ClassId → List Item
   called_by x = if is_program x then [] else called_in x
 
-  -- what the class and a method above it want together
+module _ (classes : List Class) (own n : ℕ) where
+  -- what a class and a method want together, where the methods of another one run in it
   abbrev pub pair_with : MemberAt → Option Pair
-  pair_with m = option_and_then (pair_of classes (Prog n) m) (selected classes (Prog n) m)
+  pair_with m = option_and_then (pair_of classes (Prog own) m) (selected classes (Prog n) m)
 
   -- what it and those of a class above it want
   abbrev pub pairs_in : ClassId → List Pair

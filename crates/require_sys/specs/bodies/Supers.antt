@@ -12,6 +12,11 @@ abbrev pub other_number : ℕ → ClassId → Option ℕ
 other_number own (Prog n) = if n == own then None else Some n
 other_number own (Lib id) = None
 
+-- the number of a class, if there is one and it is of the program
+abbrev pub program_number : Option ClassId → Option ℕ
+program_number (Some (Prog n)) = Some n
+program_number _ = None
+
 -- a class of the library
 abbrev pub is_library : ClassId → Bool
 is_library y = not (is_program y)

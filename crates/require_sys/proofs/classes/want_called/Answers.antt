@@ -13,10 +13,12 @@ use Rattle.require_sys.proofs.classes.want_called.Goals as goal
 pub returns : goal.returns
 returns c =
     let classes = c.args.wants.now.classes in
+    let top = c.top-top.result in
     subst (λ (t : List Item). OnOk c.want_called_by.result (c.want_called_by.new.wants ≡ wanting c.args.wants.now t))
-    (ap (flat_map (called_by classes c.args.number))
+    (ap (flat_map (called_by classes top))
     (c.as_slice.ensures.value ∙ c.in_ok-libraries.ensures
-    ∙ ap (λ (cs : List Class). library_supers cs (Prog c.args.number)) c.set.ensures)
-    ∙ by_library classes c.args.number (supers classes (Prog c.args.number))
-    ∙ called_is classes c.args.number c.args.class.now (sym c.is_interface.ensures ∙ c.if-is_interface.false))
+    ∙ ap (λ (cs : List Class). library_supers cs (Prog top)) c.set.ensures)
+    ∙ by_library classes top (supers classes (Prog top))
+    ∙ called_is classes c.args.number top c.args.class.now (sym c.is_interface.ensures ∙ c.if-is_interface.false)
+    c.top-top.ensures)
     c.want_called_by.ensures

@@ -5,8 +5,10 @@ use Rattle.require_sys.proofs.Steps.{numbered_given}
 use Rattle.require_sys.proofs.needs.needs_of.Goals as goal
 
 pub loop-number-preserved : goal.loop-number-preserved
-loop-number-preserved c =
-    subst (λ (t : List (List ℕ)). HasNeeds t c.add_class.new.needs)
-    (numbered_given (class_needs c.args.numbered.now.set.now c.args.kept.now) c.args.numbered.now.set.now
-    c.loop-number.number c.class.result.now _ _ c.class.ensures.is refl refl)
-    (c.in_ok-add_class.ensures _ c.loop-number.invariant)
+loop-number-preserved c = record {
+  has = subst (λ (t : List (List ℕ)). HasNeeds t c.add_class.new.needs)
+      (numbered_given (class_needs c.args.numbered.now.set.now c.args.kept.now) c.args.numbered.now.set.now
+      c.loop-number.number c.class-class.result.now _ _ c.class-class.ensures.is refl refl)
+      (c.in_ok-add_class.ensures.added _ c.loop-number.invariant.has);
+  empty = c.in_ok-add_class.ensures.after;
+}

@@ -5,7 +5,7 @@ use Rattle.require_sys.proofs.pairs.add_above.Goals as goal
 
 pub loop-above-preserved : goal.loop-above-preserved
 loop-above-preserved c =
-    pairs_more c.args.numbered.now.set.now c.args.number c.args.supers.now c.loop-above.above-index
+    pairs_more c.args.numbered.now.set.now c.args.number c.args.top c.args.supers.now c.loop-above.above-index
     (get_or c.args.supers.now c.loop-above.above-index 0)
     c.args.pairs.now c.loop-above.pairs _ c.loop-above-test.true
     (get_or_default c.args.supers.now c.loop-above.above-index 0 _ c.loop-above-test.true) c.loop-above.invariant

@@ -7,4 +7,4 @@ use Rattle.require_sys.proofs.pairs.add_above.Given as goal
 
 abbrev pub invariant-loop-above : goal.invariant-loop-above
 invariant-loop-above l = AddsPairs l.fn.pairs
-    (flat_map (pairs_in l.numbered.set.now l.number) (map Prog (take l.above-index l.supers))) l.pairs
+    (flat_map (pairs_in l.numbered.set.now l.number l.top) (map Prog (take l.above-index l.supers))) l.pairs

@@ -9,7 +9,7 @@ use Rattle.require_sys.proofs.pairs.add_class.Goals as goal
 pub returns : goal.returns
 returns c =
     subst (λ (t : List Pair). OnOk c.add_above.result (AddsPairs c.args.pairs.now t c.add_above.new.pairs))
-    (class_is c.args.numbered.now.set.now c.args.number c.args.class.now c.as_slice.result.now
-    (sym c.is_interface.ensures ∙ c.if-is_interface.false)
+    (class_is c.args.numbered.now.set.now c.args.number c.top-top.result c.args.class.now c.as_slice.result.now
+    (sym c.is_interface.ensures ∙ c.if-is_interface.false) c.top-top.ensures
     (ap (map Prog) c.as_slice.ensures.value ∙ c.in_ok-supers.ensures.are))
     c.add_above.ensures

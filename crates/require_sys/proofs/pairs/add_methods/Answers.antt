@@ -14,7 +14,7 @@ loop-index-preserved c =
     let set = c.args.numbered.now.set.now in
     let rows = rows_few set c.args.above c.args.class.now c.requires.above in
     subst (λ (t : List Pair). AddsPairs c.args.pairs.now t c.add_member.new.pairs)
-    (sym (one_more set (Prog c.args.above) (is_inheritable set) (pair_with set c.args.number) c.loop-index.index
+    (sym (one_more set (Prog c.args.above) (is_inheritable set) (pair_with set c.args.number c.args.top) c.loop-index.index
     (omega (arith, rows, c.loop-index-test.true, c.len.ensures, c.len-2.ensures))))
     (both_pairs c.args.pairs.now c.loop-index.pairs c.add_member.new.pairs _ _ c.loop-index.invariant
     c.in_ok-add_member.ensures)
@@ -24,6 +24,6 @@ returns c =
     let set = c.args.numbered.now.set.now in
     let rows = rows_few set c.args.above c.args.class.now c.requires.above in
     subst (λ (t : List Pair). AddsPairs c.args.pairs.now t c.loop-index.pairs)
-    (all_taken set (Prog c.args.above) (is_inheritable set) (pair_with set c.args.number) c.loop-index.index
+    (all_taken set (Prog c.args.above) (is_inheritable set) (pair_with set c.args.number c.args.top) c.loop-index.index
     (omega (arith, rows, c.loop-index-test.false, c.len.ensures, c.len-2.ensures)))
     c.loop-index.invariant

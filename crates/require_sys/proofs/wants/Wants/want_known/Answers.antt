@@ -1,7 +1,7 @@
-use Rattle.std.proofs.Common.{List, ℕ, ap, subst, ◌∙◌, ◌++◌}
+use Rattle.std.proofs.Common.{List, ℕ, Option, Some, ap, slice_get, subst, ◌∙◌, ◌++◌}
 use Rattle.std.specs.Prelude.{◌≡◌}
 use Rattle.require_sys.specs.Requires.{numbers}
-use Rattle.require_sys.specs.bodies.Known.{IsForAt, ref_wants}
+use Rattle.require_sys.specs.bodies.Known.{ref_wants}
 use Rattle.require_sys.specs.bodies.Wanting.{Wanted, wanting}
 use Rattle.require_sys.specs.declared.known.Row.{Row}
 use Rattle.require_sys.proofs.Remembering.{found_row}
@@ -12,10 +12,11 @@ pub returns-in_ok-extend_from_slice-in-Some-clause-known :
 returns-in_ok-extend_from_slice-in-Some-clause-known c said =
     let inside = c.self.inside in
     let set = inside.numbered.now.set.now in
-    let row = found_row set inside.rows.items c.in-Some.place c.args.from c.args.kind c.args.r.now
-    c.index-row.result.now c.self.invariant
-    (subst (λ (rows : List Row). IsForAt c.args.from c.args.kind c.args.r.now rows c.in-Some.place)
-    c.as_slice.ensures.value c.in-Some.ensures) c.index-row.ensures in
+    let at = c.in-Some.ensures.at in
+    let row = found_row set inside.rows.items at.0 c.args.from c.args.kind c.args.r.now c.in-Some.row.now
+    c.self.invariant.1
+    (subst (λ (rows : List (Option Row)). slice_get rows at.0 ≡ Some (Some c.in-Some.row.now))
+    c.as_slice.ensures.value at.1) c.in-Some.ensures.is in
     let more : c.extend_from_slice.new.self.items
     ≡ inside.numbers.items ++ numbers set (ref_wants set c.args.from c.args.kind c.args.r.now) =
     c.in_ok-extend_from_slice-in-Some.ensures.items

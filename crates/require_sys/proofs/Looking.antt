@@ -1,0 +1,140 @@
+-- How the classes are found in which the same methods run.
+use Rattle.std.proofs.Common.{◌≡◌, ℕ, zero, suc, ◌+◌, ◌<◌, ◌≤◌, ◌==◌, Bool, true, false, List, [], ◌∷◌, ◌++◌, length, get_or}
+use Rattle.std.proofs.Common.{set, slice_get, Option, Some, None, IfSome, refl, sym, ap, subst, ◌∙◌, arith, eqb}
+use Rattle.std.proofs.Common.{get_or-set_same, get_or-set_other, length-set, ⊎_elim}
+use Rattle.std.specs.Option.{option_map_or}
+use Rattle.std.proofs.lemmas.Bool.{cases_lt, eq-eqb, eqb-true}
+use Rattle.class_model.specs.declared.class.Class.{Class}
+use Rattle.class_pool.specs.Found.{is_instance_method, is_instance_row, rows_in}
+use Rattle.class_pool.specs.Hierarchy.{IsClass, superclass}
+use Rattle.class_pool.specs.Ranks.{HasRanks}
+use Rattle.class_pool.specs.Walk.{each_once}
+use Rattle.class_pool.specs.declared.id.ClassId.{ClassId}
+use Rattle.class_pool.specs.declared.id.ClassId.TheVariants.{Lib, Prog}
+use Rattle.class_pool.proofs.Declaring.{superclass_there}
+use Rattle.std.proofs.lemmas.Option.{same_Some}
+use Rattle.require_sys.specs.Requires.{is_program}
+use Rattle.require_sys.specs.bodies.Supers.{program_number}
+use Rattle.require_sys.specs.bodies.Tops.{AreTops, HasNoMethod, IsBlank, IsTop}
+use Rattle.require_sys.proofs.TopsLaw.{blank_top, top_itself}
+
+-- each class for itself
+pub own_are : (classes : List Class) (tops : List ℕ) (k : ℕ) → length tops ≡ k → length classes ≤ k → k ≤ length classes
+    → ((n : ℕ) → n < k → get_or tops n 0 ≡ n) → AreTops classes tops
+own_are classes tops k count low high each = record {
+  count = omega (arith, count, low, high);
+  each = λ n lt.
+      subst (λ (t : ℕ). IsTop classes n t) (sym (each n (omega (arith, lt, low)))) (top_itself classes n lt);
+}
+
+-- one more number
+pub own_more : (tops new : List ℕ) (k : ℕ) → length tops ≡ k → ((n : ℕ) → n < k → get_or tops n 0 ≡ n)
+    → new ≡ tops ++ k ∷ [] → (n : ℕ) → n < k + 1 → get_or new n 0 ≡ n
+own_more tops new k count each put n lt =
+    ap (λ (t : List ℕ). get_or t n 0) put ∙ by tops k count each n lt
+  where
+    later : (x : ℕ) (xs : List ℕ) (m : ℕ) → get_or (x ∷ xs) (suc m) 0 ≡ get_or xs m 0
+    later x xs m = refl
+
+    last : (xs : List ℕ) (x : ℕ) → get_or (xs ++ x ∷ []) (length xs) 0 ≡ x
+    last [] x = refl
+    last (y ∷ xs) x = last xs x
+
+    before : (xs : List ℕ) (x m : ℕ) → m < length xs → get_or (xs ++ x ∷ []) m 0 ≡ get_or xs m 0
+    before [] x m within = absurd (omega (arith, within))
+    before (y ∷ xs) x zero within = refl
+    before (y ∷ xs) x (suc m) within = before xs x m (omega (arith, within))
+
+    by : (xs : List ℕ) (j : ℕ) → length xs ≡ j → ((m : ℕ) → m < j → get_or xs m 0 ≡ m) → (m : ℕ) → m < j + 1
+        → get_or (xs ++ j ∷ []) m 0 ≡ m
+    by xs j long are m low =
+        ⊎_elim
+        (λ within. before xs j m (omega (arith, long, within)) ∙ are m within)
+        (λ over. let e : m ≡ length xs = omega (arith, long, over, low) in
+        ap (λ i. get_or (xs ++ j ∷ []) i 0) e ∙ last xs j ∙ sym long ∙ sym e)
+        (cases_lt m j)
+
+put_here : (classes : List Class) (old : List ℕ) (i t n : ℕ) (b : Bool) → AreTops classes old → i < length classes
+    → IsTop classes i t → eqb n i ≡ b → n < length classes → IsTop classes n (get_or (set old i t) n 0)
+put_here classes old i t n true are i-in top same n-in =
+    let count = are.count in
+    let e : i ≡ n = sym (eqb-true n i same) in
+    subst (λ (m : ℕ). IsTop classes m (get_or (set old i t) m 0)) e
+    (subst (λ (u : ℕ). IsTop classes i u) (sym (get_or-set_same old i t 0 (omega (arith, i-in, count)))) top)
+put_here classes old i t n false are i-in top other n-in =
+    subst (λ (u : ℕ). IsTop classes n u)
+    (sym (get_or-set_other old i n t 0 (λ e. absurd (let h = eq-eqb n i e in cc)))) (are.each n n-in)
+
+-- one class is found
+pub top_put : (classes : List Class) (old new : List ℕ) (i t : ℕ) → AreTops classes old → i < length classes
+    → IsTop classes i t → new ≡ set old i t → AreTops classes new
+top_put classes old new i t are i-in top put =
+    subst (AreTops classes) (sym put)
+    (record {
+      count = length-set old i t ∙ are.count;
+      each = λ n n-in. put_here classes old i t n (eqb n i) are i-in top refl n-in;
+    })
+
+pub above_is : (o : Option ClassId) (n : ℕ) → Some n ≡ program_number o → o ≡ Some (Prog n)
+above_is (Some (Prog m)) n is = ap (λ k. Some (Prog k)) (sym (same_Some n m is))
+above_is (Some (Lib id)) n is = absurd cc
+above_is None n is = absurd cc
+
+pub above_none : (o : Option ClassId) → None ≡ program_number o → IfSome o (λ x. is_program x ≡ false)
+above_none (Some (Prog m)) is = absurd cc
+above_none (Some (Lib id)) is = refl
+above_none None is = tt
+
+pub above_there : (classes : List Class) (n p : ℕ) (r : Option ℕ) → r ≡ program_number (superclass classes (Prog n))
+    → r ≡ Some p → p < length classes
+above_there classes n p r up is =
+    subst (λ (o : Option ClassId). IfSome o (IsClass classes)) (above_is (superclass classes (Prog n)) p (sym is ∙ up))
+    (superclass_there classes (Prog n))
+
+-- where the class is blank
+pub top_above : (classes : List Class) (r : HasRanks classes) (tops : List ℕ) (n p : ℕ) (o : Option ℕ)
+    → length classes ≤ 4294967295 → n < length classes → AreTops classes tops
+    → o ≡ program_number (superclass classes (Prog n)) → o ≡ Some p → IsBlank classes n p
+    → IsTop classes n (get_or tops p 0)
+top_above classes r tops n p o few n-in are up is blank =
+    blank_top classes r n p few n-in (above_is (superclass classes (Prog n)) p (sym is ∙ up)) blank (get_or tops p 0)
+    (are.each p (above_there classes n p o up is))
+
+-- it has no superinterface where none comes once
+pub none_own : (xs : List ClassId) → each_once [] xs ≡ [] → xs ≡ []
+unfolding each_once
+none_own [] none = refl
+none_own (x ∷ xs) none = absurd cc
+
+empty_if : (xs : List ClassId) → (length xs == 0) ≡ true → xs ≡ []
+empty_if [] h = refl
+empty_if (x ∷ xs) h = absurd (let e = eqb-true (length (x ∷ xs)) 0 h in omega (arith, e))
+
+pub own_empty : (own met : List ClassId) (b : Bool) → met ≡ each_once [] own → b ≡ (length met == 0) → b ≡ true
+    → own ≡ []
+own_empty own met b are is said = none_own own (sym are ∙ empty_if met (sym is ∙ said))
+
+-- a class has no member that isn't there
+past_none : {X : Type 0} (f : X → Bool) (xs : List X) (k : ℕ) → length xs ≤ k
+    → option_map_or f (slice_get xs k) false ≡ false
+past_none f [] k over = refl
+past_none f (x ∷ xs) zero over = absurd (omega (arith, over))
+past_none f (x ∷ xs) (suc k) over = past_none f xs k (omega (arith, over))
+
+pub all_no_method : (classes : List Class) (n count : ℕ)
+    → ((k : ℕ) → k < count → is_instance_method classes (record { class = Prog n; index = k }) ≡ false)
+    → length (rows_in classes (Prog n)) ≤ count → HasNoMethod classes n
+all_no_method classes n count none all k =
+    ⊎_elim (λ low. none k low)
+    (λ over. past_none is_instance_row (rows_in classes (Prog n)) k (omega (arith, all, over)))
+    (cases_lt k count)
+
+pub one_no_method : (classes : List Class) (n k : ℕ) (b : Bool)
+    → ((j : ℕ) → j < k → is_instance_method classes (record { class = Prog n; index = j }) ≡ false)
+    → b ≡ is_instance_method classes (record { class = Prog n; index = k }) → b ≡ false
+    → (j : ℕ) → j < k + 1 → is_instance_method classes (record { class = Prog n; index = j }) ≡ false
+one_no_method classes n k b none is other j lt =
+    ⊎_elim (λ low. none j low)
+    (λ over. let e : j ≡ k = omega (arith, over, lt) in
+    ap (λ i. is_instance_method classes (record { class = Prog n; index = i })) e ∙ sym is ∙ other)
+    (cases_lt j k)

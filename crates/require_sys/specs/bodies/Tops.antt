@@ -1,0 +1,34 @@
+-- A class above another one in which the same methods run.
+use Rattle.std.specs.Prelude.{◌≡◌, ◌<◌, ℕ, false, List, [], length, slice_index_or}
+use Rattle.std.specs.List.{filter_map}
+use Rattle.class_model.specs.declared.class.Class.{Class}
+use Rattle.class_pool.specs.Found.{is_instance_method}
+use Rattle.class_pool.specs.Resolution.{is_interface_in}
+use Rattle.class_pool.specs.Walk.{own_superinterfaces}
+use Rattle.class_pool.specs.declared.id.ClassId.TheVariants.{Prog}
+use Rattle.require_sys.specs.Requires.{instance_methods, library_supers, methods_above}
+use Rattle.require_sys.specs.bodies.Selecting.{called_item, pair_with}
+
+-- no member of a class is an instance method
+abbrev pub HasNoMethod : List Class → ℕ → Type 0
+HasNoMethod classes n = (k : ℕ) → is_instance_method classes (record { class = Prog n; index = k }) ≡ false
+
+-- a class has neither instance methods nor superinterfaces itself, and the class above it is no interface
+pub record IsBlank (classes : List Class) (n p : ℕ) : Type 0 where
+  pub own : own_superinterfaces classes (Prog n) ≡ []
+  pub methods : HasNoMethod classes n
+  pub above : is_interface_in classes (Prog p) ≡ false
+
+-- in two classes the same methods run, where the library calls those that it knows, and where those of the program are
+-- called
+pub record IsTop (classes : List Class) (n top : ℕ) : Type 0 where
+  pub there : top < length classes
+  pub called : filter_map (called_item classes n) (instance_methods classes (library_supers classes (Prog n)))
+      ≡ filter_map (called_item classes top) (instance_methods classes (library_supers classes (Prog top)))
+  pub pairs : (own : ℕ) → filter_map (pair_with classes own n) (methods_above classes (Prog n))
+      ≡ filter_map (pair_with classes own top) (methods_above classes (Prog top))
+
+-- for each class there is such a class
+pub record AreTops (classes : List Class) (tops : List ℕ) : Type 0 where
+  pub count : length tops ≡ length classes
+  pub each : (n : ℕ) → n < length classes → IsTop classes n (slice_index_or tops n 0)
