@@ -75,6 +75,10 @@ OutputProfile files fault = IsFault files (set.Rule fault)
 abbrev pub entry_place : MethodWitness → Place
 entry_place e = record { class = dotted e.class; member = Some (described_text e.name e.ty (read_method e.ty)) }
 
+-- the first entry of a witness, if it has one
+abbrev pub stray_entry : Witness → Option Place
+stray_entry witness = first_place (λ (e : MethodWitness). Some (entry_place e)) witness.methods
+
 -- ---- the other clauses: the first place of each, if it holds
 
 -- the new names of each class of the input and of its members
@@ -108,7 +112,7 @@ module _ (input output : List Class) (mapping : Mapping) (rules : Rules) where
 
   -- the witness has an entry: as long as no code is edited there is nothing to be told of one
   abbrev pub WitnessStray : Witness → Option Place → Type 0
-  WitnessStray witness found = found ≡ first_place (λ (e : MethodWitness). Some (entry_place e)) witness.methods
+  WitnessStray witness found = found ≡ stray_entry witness
 
   -- an act of the witness isn't allowed: as long as there is no entry there is no act
   abbrev pub EditIllegal : Witness → Option Place → Type 0

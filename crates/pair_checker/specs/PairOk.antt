@@ -16,18 +16,19 @@ use Rattle.pair_checker.specs.declared.answer.Clause.{Clause}
 use Rattle.pair_checker.specs.declared.answer.Clause.TheVariants as clause
 use Rattle.pair_checker.specs.declared.answer.No.{No}
 
+-- of the clauses that hold of an output this is the first, and this is the first place at which it holds
+pub record IsFirst (input output : List Class) (mapping : Mapping) (rules : Rules) (witness : Witness) (clause : Clause)
+    (place : Place) : Type 0 where
+  pub holds : Finds input output mapping rules witness clause (Some place)
+  pub before : (earlier : Clause) → number earlier < number clause
+      → Finds input output mapping rules witness earlier None
+
 module _ (input : List Class) (files : List FileAt) (mapping : Mapping) (rules : Rules) (witness : Witness) where
   -- the files of the output are taken as a set of classes, and no clause holds of it
   pub record PairOk : Type 0 where
     pub output : List Class
     pub accepted : IsAccepted files output
     pub none : (clause : Clause) → Finds input output mapping rules witness clause None
-
-  -- of the clauses that hold of an output this is the first, and this is the first place at which it holds
-  pub record IsFirst (output : List Class) (clause : Clause) (place : Place) : Type 0 where
-    pub holds : Finds input output mapping rules witness clause (Some place)
-    pub before : (earlier : Clause) → number earlier < number clause
-        → Finds input output mapping rules witness earlier None
 
   -- why a pair is refused: a file of the output is no class file, and no place is named; or the files break a rule of
   -- sets of classes; or they are taken, and another clause holds
@@ -37,7 +38,7 @@ module _ (input : List Class) (files : List FileAt) (mapping : Mapping) (rules :
     by_profile : (fault : RuleFault) → OutputProfile files fault
         → no ≡ record { clause = clause.OutputProfile; class = Some fault.class; member = fault.member } → IsNo no
     by_clause : (output : List Class) → IsAccepted files output → (clause : Clause) (place : Place)
-        → IsFirst output clause place
+        → IsFirst input output mapping rules witness clause place
         → no ≡ record { clause = clause; class = Some place.class; member = place.member } → IsNo no
 
   -- a pair is taken, or why it isn't

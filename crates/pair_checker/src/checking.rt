@@ -1,13 +1,13 @@
 // Whether an output belongs to an input.
-ghost use Rattle.std.specs.Prelude.{◌≡◌, ◌<◌, Ok, IfOk, length, map};
+ghost use Rattle.std.specs.Prelude.{◌≡◌, ◌<◌, Ok, Some, None, IfOk, length, map};
 ghost use Rattle.std.specs.List.{sum_by};
 ghost use Rattle.tree_io.specs.Below.{IsAscending};
 ghost use Rattle.mark_core.specs.Valid.{Valid};
 ghost use Rattle.mark_core.specs.declared.system.System.{System};
 ghost use Rattle.require_sys.specs.Required.{required, system_due};
-ghost use Rattle.pair_clauses.specs.Closing.{lined_items};
 ghost use Rattle.pair_checker.specs.Clauses.{given_names};
 ghost use Rattle.pair_checker.specs.PairOk.{Checks};
+ghost use Rattle.pair_checker.specs.bodies.Lining.{AreLines};
 ghost use Rattle.pair_checker.specs.bodies.Matching.{Matches, ReadsOutput};
 
 use crate::answer::{Clause, No};
@@ -130,8 +130,7 @@ fn check_set(
 ) -> Result<(), Or<No>>
     requires required { sys.now ≡ required input.now told.now.rules.now }
     requires valid { Valid sys.now }
-    ensures { (files : List FileAt) → Matches input.now output.now told.now.mapping.now told.now.rules.now
-        told.now.witness.now files result }
+    ensures { Matches input.now output.now told.now.mapping.now told.now.rules.now told.now.witness.now result }
 {
     let names = NewNames::of(alloc, told.mapping)?;
     let given = given_names(alloc, input, &names)?;
@@ -172,7 +171,12 @@ fn check_lined(
     told: &Told<'_>,
     sys: &System,
     lines: &Lines<'_>,
-) -> Result<(), Or<No>> {
+) -> Result<(), Or<No>>
+    requires required { sys.now ≡ required input.now told.now.rules.now }
+    requires valid { Valid sys.now }
+    requires lines { AreLines lines.now told.now.mapping.now input.now }
+    ensures { Matches input.now output.now told.now.mapping.now told.now.rules.now told.now.witness.now result }
+{
     let fixed = fixed_names(alloc, told.rules, input)?;
     let filter = attribute_filter(alloc, told.rules)?;
     let pair = Pair {

@@ -1,7 +1,12 @@
 // The clauses of a pair whose output was read, and the first that holds.
-ghost use Rattle.std.specs.Prelude.{◌≡◌, [], IfOk, map};
-ghost use Rattle.pair_checker.specs.Clauses.{EditIllegal, Finds, WitnessStray, entry_place};
-ghost use Rattle.pair_checker.specs.bodies.Matching.{Finding, IsRead};
+ghost use Rattle.std.specs.Prelude.{◌≡◌, Some, IfOk};
+ghost use Rattle.keep_rules.specs.declared.rules.Rules.{Rules};
+ghost use Rattle.mark_core.specs.Valid.{Valid};
+ghost use Rattle.class_pool.specs.Count.{item_count};
+ghost use Rattle.pair_checker.specs.Clauses.{Finds, entry_place, stray_entry};
+ghost use Rattle.pair_clauses.specs.Codes as coded;
+ghost use Rattle.pair_clauses.specs.Members as members;
+ghost use Rattle.pair_checker.specs.bodies.Matching.{IsRead, Matches};
 
 use crate::answer::{Clause, No};
 use attribute_filter::AttributeFilter;
@@ -53,7 +58,12 @@ const CLAUSES: [Clause; 9] = [
 ];
 
 /// The first clause that holds, with its first place.
-pub(crate) fn check_clauses(alloc: Global, pair: &Pair<'_>) -> Result<(), Or<No>> {
+pub(crate) fn check_clauses(alloc: Global, pair: &Pair<'_>) -> Result<(), Or<No>>
+    requires valid { Valid pair.now.sys.now }
+    requires items { pair.now.sys.now.n ≡ item_count pair.now.input.now }
+    ensures { (rules : Rules) → IsRead pair.now rules → Matches pair.now.input.now pair.now.output.now
+        pair.now.mapping.now rules pair.now.witness.now result }
+{
     for clause in CLAUSES {
         if let Some(place) = place_of(alloc, pair, clause)? {
             return Err(Or::Fault(no_at(clause, place)));
@@ -62,7 +72,9 @@ pub(crate) fn check_clauses(alloc: Global, pair: &Pair<'_>) -> Result<(), Or<No>
     Ok(())
 }
 
-fn no_at(clause: Clause, place: Place) -> No {
+fn no_at(clause: Clause, place: Place) -> No
+    ensures { result ≡ record { clause = clause; class = Some place.class; member = place.member } }
+{
     No {
         clause,
         class: Some(place.class),
@@ -71,7 +83,12 @@ fn no_at(clause: Clause, place: Place) -> No {
 }
 
 /// The first place of a clause, if it holds.
-fn place_of(alloc: Global, pair: &Pair<'_>, clause: Clause) -> M<Option<Place>> {
+fn place_of(alloc: Global, pair: &Pair<'_>, clause: Clause) -> M<Option<Place>>
+    requires valid { Valid pair.now.sys.now }
+    requires items { pair.now.sys.now.n ≡ item_count pair.now.input.now }
+    ensures { (rules : Rules) → IsRead pair.now rules → IfOk result (Finds pair.now.input.now pair.now.output.now
+        pair.now.mapping.now rules pair.now.witness.now clause) }
+{
     match clause {
         Clause::OutputFormat | Clause::OutputProfile => Ok(None),
         Clause::MapShape => shape_fault(alloc, pair.input, pair.output, pair.mapping),
@@ -86,7 +103,10 @@ fn place_of(alloc: Global, pair: &Pair<'_>, clause: Clause) -> M<Option<Place>> 
     }
 }
 
-fn members_place(alloc: Global, pair: &Pair<'_>) -> M<Option<Place>> {
+fn members_place(alloc: Global, pair: &Pair<'_>) -> M<Option<Place>>
+    ensures { IfOk result (members.MemberDiffers pair.now.names.now pair.now.filter.now pair.now.input.now
+        pair.now.given.now pair.now.output.now) }
+{
     member_differs(
         alloc,
         pair.names,
@@ -97,7 +117,10 @@ fn members_place(alloc: Global, pair: &Pair<'_>) -> M<Option<Place>> {
     )
 }
 
-fn codes_place(alloc: Global, pair: &Pair<'_>) -> M<Option<Place>> {
+fn codes_place(alloc: Global, pair: &Pair<'_>) -> M<Option<Place>>
+    ensures { IfOk result (coded.CodeDiffers pair.now.names.now pair.now.filter.now pair.now.input.now
+        pair.now.given.now pair.now.output.now) }
+{
     code_differs(
         alloc,
         pair.names,
@@ -109,14 +132,18 @@ fn codes_place(alloc: Global, pair: &Pair<'_>) -> M<Option<Place>> {
 }
 
 /// The first entry of a witness: there may be none.
-fn stray_entry(alloc: Global, witness: &Witness) -> M<Option<Place>> {
+fn stray_entry(alloc: Global, witness: &Witness) -> M<Option<Place>>
+    ensures { IfOk result (λ found. found ≡ stray_entry witness.now) }
+{
     match witness.methods.as_slice() {
         [entry, ..] => Ok(Some(entry_place(alloc, entry)?)),
         [] => Ok(None),
     }
 }
 
-fn entry_place(alloc: Global, entry: &MethodWitness) -> M<Place> {
+fn entry_place(alloc: Global, entry: &MethodWitness) -> M<Place>
+    ensures { IfOk result (λ place. place ≡ entry_place entry.now) }
+{
     let class = name_text(alloc, &entry.class)?;
     let member = described_text(alloc, &entry.name, &entry.ty)?;
     Ok(Place {

@@ -1,5 +1,5 @@
 -- A pair that was read, and what is found of it (only the proof of check_pair needs it).
-use Rattle.std.specs.Prelude.{◌≡◌, ◌<◌, ℕ, List, ◌∷◌, [], Option, Some, None, Result, Ok, Err}
+use Rattle.std.specs.Prelude.{◌≡◌, ◌⊎◌, List, ◌∷◌, [], Some, None, Result, Ok, Err}
 use Rattle.std.specs.List.{AllByRecursion}
 use Rattle.jv_base.specs.declared.outcome.Or.{Or}
 use Rattle.jv_base.specs.declared.outcome.Or.TheVariants as or
@@ -51,9 +51,9 @@ module _ (input output : List Class) (mapping : Mapping) (rules : Rules) (witnes
   Pass clauses = AllByRecursion (λ clause. Finds input output mapping rules witness clause None) clauses
 
   -- no clause holds of an output that was read, or which is the first
-  abbrev pub Matches : List FileAt → Result (Unit {0}) (Or No) → Type 0
-  Matches files (Ok done) = (clause : Clause) → Finds input output mapping rules witness clause None
-  Matches files (Err (or.Fault no)) = (clause : Clause) × (place : Place)
-      × IsFirst input files mapping rules witness output clause place
+  abbrev pub Matches : Result (Unit {0}) (Or No) → Type 0
+  Matches (Ok done) = (clause : Clause) → Finds input output mapping rules witness clause None
+  Matches (Err (or.Fault no)) = (clause : Clause) × (place : Place)
+      × IsFirst input output mapping rules witness clause place
       × (no ≡ record { clause = clause; class = Some place.class; member = place.member })
-  Matches files (Err or.OutOfMemory) = Unit {0}
+  Matches (Err or.OutOfMemory) = Unit {0}
