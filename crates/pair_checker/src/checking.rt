@@ -28,6 +28,7 @@ use tree_io::FileAt;
 use witness_file::Witness;
 
 /// By what an output is said to belong to an input.
+#[derive(Clone, Copy)]
 pub struct Told<'a> {
     /// What classes and members are called in the output.
     pub mapping: &'a Mapping,
@@ -144,6 +145,7 @@ fn check_set(
 }
 
 /// What lines of a mapping give to the classes of an input.
+#[derive(Clone, Copy)]
 struct Lines<'a> {
     names: &'a NewNames<'a>,
     /// The new names of each class and of its members.

@@ -7,5 +7,5 @@ mod laws;
 mod matching;
 
 pub use answer::{Clause, No};
-pub use checking::{check_pair, check_required};
+pub use checking::{Told, check_pair, check_required};
 pub use laws::pairs_have_one_answer;

@@ -25,6 +25,7 @@ use std::alloc::Global;
 use witness_file::{MethodWitness, Witness};
 
 /// A pair that was read, with what its clauses ask for, made once.
+#[derive(Clone, Copy)]
 pub(crate) struct Pair<'a> {
     pub(crate) input: &'a ClassSet,
     pub(crate) output: &'a ClassSet,

@@ -35,6 +35,7 @@ pub fn fixed_fault(
 }
 
 /// The names that stay, by their kind; none where each does.
+#[derive(Clone, Copy)]
 struct Kinds<'a> {
     classes: Option<&'a TakenSet>,
     fields: Option<&'a TakenSet>,
