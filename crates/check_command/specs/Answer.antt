@@ -44,7 +44,7 @@ absent_by (BadRules fault) = []
 absent_by (Format path fault) = []
 absent_by (Profile fault) = []
 absent_by (Limit quantity) = []
-absent_by (No no) = []
+absent_by (No answer) = []
 absent_by (BadMapping fault) = []
 absent_by (BadWitness fault) = []
 

@@ -113,12 +113,18 @@ directories_due files from to = directory_due files from
 
 -- ---- all that is read
 
+-- the class files of both directories, behind the others
+abbrev pub with_directories : Files → Rules → Texts → Result Found Stop
+with_directories files rules texts = directories_due files rules.in_dir rules.out_dir
+    >>= (λ directories. Ok (record { rules = rules; texts = texts; directories = directories }))
+
+-- the mapping and the witness, and the class files of both directories, behind the config
+abbrev pub with_texts : Files → CheckFiles → Rules → Result Found Stop
+with_texts files named rules = texts_due files rules.mapping named.witness >>= with_directories files rules
+
 -- the config, the mapping and the witness, and the class files of both directories, or the first refusal
 abbrev pub found_due : Files → CheckFiles → Result Found Stop
-found_due files named = config_due files named
-    >>= (λ rules. texts_due files rules.mapping named.witness
-    >>= (λ texts. directories_due files rules.in_dir rules.out_dir
-    >>= (λ directories. Ok (record { rules = rules; texts = texts; directories = directories }))))
+found_due files named = config_due files named >>= with_texts files named
 
 -- ---- what is said of it
 
@@ -148,9 +154,9 @@ pub data IsRefused (found : Found) (refusal : Refusal) : Type 0 where
   by_seeds : (classes : List Class) → IsAccepted found.directories.input classes → (sys : Requirements)
       → system_due classes found.rules ≡ Ok sys → keeps_nothing found.rules sys ≡ true
       → refusal ≡ BadRules nothing_kept → IsRefused found refusal
-  by_pair : (classes : List Class) (sys : Requirements) → IsInput found classes sys → (no : Answer)
-      → IsNo classes found.directories.output found.texts.mapping found.rules found.texts.witness no
-      → refusal ≡ No no → IsRefused found refusal
+  by_pair : (classes : List Class) (sys : Requirements) → IsInput found classes sys → (answer : Answer)
+      → IsNo classes found.directories.output found.texts.mapping found.rules found.texts.witness answer
+      → refusal ≡ No answer → IsRefused found refusal
 
 -- what `check CONFIG WITNESS` is to say: that the pair is one, or a refusal
 abbrev pub IsDue : Files → CheckFiles → Result (Unit {0}) Refusal → Type 0

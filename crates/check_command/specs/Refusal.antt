@@ -40,8 +40,8 @@ quantity_limit (quantity.System what) = counted_limit what
 
 -- a pair that doesn't belong together: the first clause that holds, with its class and its member
 abbrev pub no_line : Answer → List ℕ
-no_line no = codes "error 9 no " ++ (clause_name no.clause ++ (codes " " ++ (named_or_dash no.class ++ (codes " "
-    ++ (named_or_dash no.member ++ codes "\n")))))
+no_line answer = codes "error 9 no " ++ (clause_name answer.clause ++ (codes " " ++ (named_or_dash answer.class ++ (codes " "
+    ++ (named_or_dash answer.member ++ codes "\n")))))
 
 -- the line of a refusal
 abbrev pub refusal_line : Refusal → List ℕ
@@ -50,7 +50,7 @@ refusal_line (BadRules fault) = rules_line fault
 refusal_line (Format path fault) = format_line path fault
 refusal_line (Profile fault) = profile_line fault
 refusal_line (Limit q) = limit_line (quantity_name q) (quantity_limit q)
-refusal_line (No no) = no_line no
+refusal_line (No answer) = no_line answer
 refusal_line (BadMapping fault) = map_line fault
 refusal_line (BadWitness fault) = wit_line fault
 
@@ -69,7 +69,7 @@ refusal_status (BadRules fault) = 3
 refusal_status (Format path fault) = 4
 refusal_status (Profile fault) = 5
 refusal_status (Limit q) = 6
-refusal_status (No no) = 9
+refusal_status (No answer) = 9
 refusal_status (BadMapping fault) = 11
 refusal_status (BadWitness fault) = 11
 

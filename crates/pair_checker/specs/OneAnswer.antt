@@ -11,11 +11,11 @@ use Rattle.pair_checker.specs.declared.answer.No.{No}
 
 -- a pair that is taken isn't refused
 abbrev pub NotBoth : Type 0
-NotBoth = (input : List Class) (files : List FileAt) (mapping : Mapping) (rules : Rules) (witness : Witness) (no : No)
-    → PairOk input files mapping rules witness → IsNo input files mapping rules witness no → ⊥
+NotBoth = (input : List Class) (files : List FileAt) (mapping : Mapping) (rules : Rules) (witness : Witness) (answer : No)
+    → PairOk input files mapping rules witness → IsNo input files mapping rules witness answer → ⊥
 
 -- two answers by which the same pair is refused are the same
 abbrev pub IsOneNo : Type 0
 IsOneNo = (input : List Class) (files : List FileAt) (mapping : Mapping) (rules : Rules) (witness : Witness)
-    (no other : No) → IsNo input files mapping rules witness no → IsNo input files mapping rules witness other
-    → no ≡ other
+    (answer other : No) → IsNo input files mapping rules witness answer → IsNo input files mapping rules witness other
+    → answer ≡ other

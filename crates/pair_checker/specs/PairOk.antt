@@ -32,17 +32,17 @@ module _ (input : List Class) (files : List FileAt) (mapping : Mapping) (rules :
 
   -- why a pair is refused: a file of the output is no class file, and no place is named; or the files break a rule of
   -- sets of classes; or they are taken, and another clause holds
-  pub data IsNo (no : No) : Type 0 where
+  pub data IsNo (answer : No) : Type 0 where
     by_format : OutputFormat files
-        → no ≡ record { clause = clause.OutputFormat; class = None; member = None } → IsNo no
+        → answer ≡ record { clause = clause.OutputFormat; class = None; member = None } → IsNo answer
     by_profile : (fault : RuleFault) → OutputProfile files fault
-        → no ≡ record { clause = clause.OutputProfile; class = Some fault.class; member = fault.member } → IsNo no
+        → answer ≡ record { clause = clause.OutputProfile; class = Some fault.class; member = fault.member } → IsNo answer
     by_clause : (output : List Class) → IsAccepted files output → (clause : Clause) (place : Place)
         → IsFirst input output mapping rules witness clause place
-        → no ≡ record { clause = clause; class = Some place.class; member = place.member } → IsNo no
+        → answer ≡ record { clause = clause; class = Some place.class; member = place.member } → IsNo answer
 
   -- a pair is taken, or why it isn't
   abbrev pub Checks : Result (Unit {0}) (Or No) → Type 0
   Checks (Ok done) = PairOk
-  Checks (Err (or.Fault no)) = IsNo no
+  Checks (Err (or.Fault answer)) = IsNo answer
   Checks (Err or.OutOfMemory) = Unit {0}

@@ -1,12 +1,12 @@
 // The clauses of a pair whose output was read, and the first that holds.
-ghost use Rattle.std.specs.Prelude.{◌≡◌, Some, IfOk};
+ghost use Rattle.std.specs.Prelude.{◌≡◌, IfOk};
 ghost use Rattle.keep_rules.specs.declared.rules.Rules.{Rules};
 ghost use Rattle.mark_core.specs.Valid.{Valid};
 ghost use Rattle.class_pool.specs.Count.{item_count};
 ghost use Rattle.pair_checker.specs.Clauses.{Finds, entry_place, stray_entry};
 ghost use Rattle.pair_clauses.specs.Codes as coded;
 ghost use Rattle.pair_clauses.specs.Members as members;
-ghost use Rattle.pair_checker.specs.bodies.Matching.{IsRead, Matches};
+ghost use Rattle.pair_checker.specs.bodies.Matching.{IsRead, Matches, Tests, no_at};
 
 use crate::answer::{Clause, No};
 use attribute_filter::AttributeFilter;
@@ -45,19 +45,6 @@ pub(crate) struct Pair<'a> {
     pub(crate) sys: &'a System,
 }
 
-/// The clauses that are tested of a pair that was read, in their order.
-const CLAUSES: [Clause; 9] = [
-    Clause::MapShape,
-    Clause::FixedName,
-    Clause::Package,
-    Clause::SeedLost,
-    Clause::NotClosed,
-    Clause::MemberDiffers,
-    Clause::WitnessStray,
-    Clause::EditIllegal,
-    Clause::CodeDiffers,
-];
-
 /// The first clause that holds, with its first place.
 pub(crate) fn check_clauses(alloc: Global, pair: &Pair<'_>) -> Result<(), Or<No>>
     requires valid { Valid pair.now.sys.now }
@@ -65,16 +52,38 @@ pub(crate) fn check_clauses(alloc: Global, pair: &Pair<'_>) -> Result<(), Or<No>
     ensures { (rules : Rules) → IsRead pair.now rules → Matches pair.now.input.now pair.now.output.now
         pair.now.mapping.now rules pair.now.witness.now result }
 {
-    for clause in CLAUSES {
-        if let Some(place) = place_of(alloc, pair, clause)? {
-            return Err(Or::Fault(no_at(clause, place)));
-        }
+    let clauses = [
+        Clause::MapShape,
+        Clause::FixedName,
+        Clause::Package,
+        Clause::SeedLost,
+        Clause::NotClosed,
+        Clause::MemberDiffers,
+        Clause::WitnessStray,
+        Clause::EditIllegal,
+        Clause::CodeDiffers,
+    ];
+    test_clauses(alloc, pair, &clauses)
+}
+
+/// The first of these clauses that holds, with its first place.
+fn test_clauses(alloc: Global, pair: &Pair<'_>, clauses: &[Clause]) -> Result<(), Or<No>>
+    requires valid { Valid pair.now.sys.now }
+    requires items { pair.now.sys.now.n ≡ item_count pair.now.input.now }
+    ensures { (rules : Rules) → IsRead pair.now rules → Tests pair.now.input.now pair.now.output.now
+        pair.now.mapping.now rules pair.now.witness.now clauses.now result }
+{
+    let [clause, rest @ ..] = clauses else {
+        return Ok(());
+    };
+    match place_of(alloc, pair, *clause)? {
+        Some(place) => Err(Or::Fault(no_at(*clause, place))),
+        None => test_clauses(alloc, pair, rest),
     }
-    Ok(())
 }
 
 fn no_at(clause: Clause, place: Place) -> No
-    ensures { result ≡ record { clause = clause; class = Some place.class; member = place.member } }
+    ensures { result ≡ no_at clause place }
 {
     No {
         clause,

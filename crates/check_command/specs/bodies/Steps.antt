@@ -69,8 +69,8 @@ JudgesSystem (Err OutOfMemory) found classes = Unit {0}
 abbrev pub JudgesPair : Result (Unit {0}) Stop → Found → List Class → Type 0
 JudgesPair (Ok done) found classes =
     PairOk classes found.directories.output found.texts.mapping found.rules found.texts.witness
-JudgesPair (Err (Refused refusal)) found classes = (no : Answer) × (refusal ≡ No no)
-    × IsNo classes found.directories.output found.texts.mapping found.rules found.texts.witness no
+JudgesPair (Err (Refused refusal)) found classes = (answer : Answer) × (refusal ≡ No answer)
+    × IsNo classes found.directories.output found.texts.mapping found.rules found.texts.witness answer
 JudgesPair (Err Device) found classes = ⊥
 JudgesPair (Err OutOfMemory) found classes = Unit {0}
 

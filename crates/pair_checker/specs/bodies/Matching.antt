@@ -31,6 +31,10 @@ pub record IsRead (pair : Pair) (rules : Rules) : Type 0 where
   pub filter : pair.filter.now ≡ filter_of rules
   pub sys : pair.sys.now ≡ required pair.input.now rules
 
+-- the answer at the first place of a clause
+abbrev pub no_at : Clause → Place → No
+no_at clause place = record { clause = clause; class = Some place.class; member = place.member }
+
 -- the clauses that are tested of a pair that was read, in their order
 abbrev pub tested : List Clause
 tested = clause.MapShape ∷ (clause.FixedName ∷ (clause.Package ∷ (clause.SeedLost ∷ (clause.NotClosed
@@ -39,21 +43,29 @@ tested = clause.MapShape ∷ (clause.FixedName ∷ (clause.Package ∷ (clause.S
 -- the files of an output are a set of classes, or why they are none
 abbrev pub ReadsOutput : Result (List Class) (Or No) → List FileAt → Type 0
 ReadsOutput (Ok output) files = IsAccepted files output
-ReadsOutput (Err (or.Fault no)) files =
-    (OutputFormat files × (no ≡ record { clause = clause.OutputFormat; class = None; member = None }))
+ReadsOutput (Err (or.Fault answer)) files =
+    (OutputFormat files × (answer ≡ record { clause = clause.OutputFormat; class = None; member = None }))
     ⊎ ((fault : RuleFault) × OutputProfile files fault
-    × (no ≡ record { clause = clause.OutputProfile; class = Some fault.class; member = fault.member }))
+    × (answer ≡ record { clause = clause.OutputProfile; class = Some fault.class; member = fault.member }))
 ReadsOutput (Err or.OutOfMemory) files = Unit {0}
 
 module _ (input output : List Class) (mapping : Mapping) (rules : Rules) (witness : Witness) where
-  -- none of these clauses holds
-  abbrev pub Pass : List Clause → Type 0
-  Pass clauses = AllByRecursion (λ clause. Finds input output mapping rules witness clause None) clauses
+  -- the first of these clauses that holds, with its first place
+  abbrev pub FirstAmong : List Clause → No → Type 0
+  FirstAmong [] answer = ⊥
+  FirstAmong (clause ∷ clauses) answer =
+      ((place : Place) × Finds input output mapping rules witness clause (Some place) × (answer ≡ no_at clause place))
+      ⊎ (Finds input output mapping rules witness clause None × FirstAmong clauses answer)
+
+  -- none of these clauses holds, or which is the first
+  abbrev pub Tests : List Clause → Result (Unit {0}) (Or No) → Type 0
+  Tests clauses (Ok done) = AllByRecursion (λ c. Finds input output mapping rules witness c None) clauses
+  Tests clauses (Err (or.Fault answer)) = FirstAmong clauses answer
+  Tests clauses (Err or.OutOfMemory) = Unit {0}
 
   -- no clause holds of an output that was read, or which is the first
   abbrev pub Matches : Result (Unit {0}) (Or No) → Type 0
   Matches (Ok done) = (clause : Clause) → Finds input output mapping rules witness clause None
-  Matches (Err (or.Fault no)) = (clause : Clause) × (place : Place)
-      × IsFirst input output mapping rules witness clause place
-      × (no ≡ record { clause = clause; class = Some place.class; member = place.member })
+  Matches (Err (or.Fault answer)) = (clause : Clause) × (place : Place)
+      × IsFirst input output mapping rules witness clause place × (answer ≡ no_at clause place)
   Matches (Err or.OutOfMemory) = Unit {0}
