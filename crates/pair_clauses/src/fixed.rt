@@ -99,7 +99,7 @@ fn fixed_field(
     names: &[Option<Name>],
 ) -> M<Option<Place>>
     ensures { IfOk result (λ found. found
-        ≡ first_place (field_fault (is_among (option_copied fixed)) class.now) (zip class.now.fields names.now)) }
+        ≡ first_place (field_fault (is_among (option_copied fixed.entry)) class.now) (zip class.now.fields names.now)) }
 {
     for index in 0..class.fields.len() {
         let Some(new) = names.get(index) else {
@@ -120,7 +120,7 @@ fn fixed_method(
     names: &[Option<Name>],
 ) -> M<Option<Place>>
     ensures { IfOk result (λ found. found
-        ≡ first_place (method_fault (is_among (option_copied fixed)) class.now) (zip class.now.methods names.now)) }
+        ≡ first_place (method_fault (is_among (option_copied fixed.entry)) class.now) (zip class.now.methods names.now)) }
 {
     for index in 0..class.methods.len() {
         let Some(new) = names.get(index) else {
@@ -136,7 +136,7 @@ fn fixed_method(
 
 /// A fixed name has another new one, or another name has one that is fixed.
 fn is_renamed(fixed: Option<&TakenSet>, old: &Name, new: &Option<Name>) -> bool
-    ensures { result ≡ is_renamed (is_among (option_copied fixed)) old.now new.now }
+    ensures { result ≡ is_renamed (is_among (option_copied fixed.entry)) old.now new.now }
 {
     match new {
         Some(new) => is_misnamed(fixed, old, new),
@@ -145,7 +145,7 @@ fn is_renamed(fixed: Option<&TakenSet>, old: &Name, new: &Option<Name>) -> bool
 }
 
 fn is_misnamed(fixed: Option<&TakenSet>, old: &Name, new: &Name) -> bool
-    ensures { result ≡ is_misnamed (is_among (option_copied fixed)) old.now new.now }
+    ensures { result ≡ is_misnamed (is_among (option_copied fixed.entry)) old.now new.now }
 {
     if is_among(fixed, old) {
         *old != *new
@@ -156,7 +156,7 @@ fn is_misnamed(fixed: Option<&TakenSet>, old: &Name, new: &Name) -> bool
 
 /// A name is among those that stay; where none are given each one is.
 fn is_among(fixed: Option<&TakenSet>, name: &Name) -> bool
-    ensures { result ≡ is_among (option_copied fixed) name.now }
+    ensures { result ≡ is_among (option_copied fixed.entry) name.now }
 {
     match fixed {
         Some(taken) => taken.has(name),
