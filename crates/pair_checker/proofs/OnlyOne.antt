@@ -24,6 +24,7 @@ use Rattle.pair_checker.specs.declared.answer.Clause.{Clause}
 use Rattle.pair_checker.specs.declared.answer.Clause.TheVariants as clause
 use Rattle.pair_checker.specs.declared.answer.No.{No}
 use Rattle.pair_checker.proofs.InOrder.{order, same_some, stands_at}
+use Rattle.pair_checker.proofs.Reading.{profile_no}
 
 -- two clauses with one number are the same
 same_clause : (c d : Clause) → number c ≡ number d → c ≡ d
@@ -78,9 +79,6 @@ same_rule a b h = cc
 
 not_alike : (path : List ℕ) (fault : _) (told : RuleFault) → Format path fault ≡ Rule told → ⊥
 not_alike path fault told h = absurd cc
-
-abbrev profile_no : RuleFault → No
-profile_no fault = record { clause = clause.OutputProfile; class = Some fault.class; member = fault.member }
 
 -- ---- the laws
 

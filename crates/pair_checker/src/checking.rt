@@ -146,12 +146,12 @@ fn check_set(
 
 /// What lines of a mapping give to the classes of an input.
 #[derive(Clone, Copy)]
-struct Lines<'a> {
-    names: &'a NewNames<'a>,
+struct Lines<'l, 'm> {
+    names: &'l NewNames<'m>,
     /// The new names of each class and of its members.
-    given: &'a [ClassNames],
+    given: &'l [ClassNames],
     /// Whether each item has a line.
-    lined: &'a [bool],
+    lined: &'l [bool],
 }
 
 /// The new names of each class of a set and of its members.
@@ -172,7 +172,7 @@ fn check_lined(
     output: &ClassSet,
     told: &Told<'_>,
     sys: &System,
-    lines: &Lines<'_>,
+    lines: &Lines<'_, '_>,
 ) -> Result<(), Or<No>>
     requires required { sys.now ≡ required input.now told.now.rules.now }
     requires valid { Valid sys.now }

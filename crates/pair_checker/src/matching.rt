@@ -26,13 +26,13 @@ use witness_file::{MethodWitness, Witness};
 
 /// A pair that was read, with what its clauses ask for, made once.
 #[derive(Clone, Copy)]
-pub(crate) struct Pair<'a> {
+pub(crate) struct Pair<'a, 'm> {
     pub(crate) input: &'a ClassSet,
     pub(crate) output: &'a ClassSet,
     pub(crate) mapping: &'a Mapping,
     pub(crate) witness: &'a Witness,
     /// The names that the mapping gives.
-    pub(crate) names: &'a NewNames<'a>,
+    pub(crate) names: &'a NewNames<'m>,
     /// Those of each class of the input and of its members.
     pub(crate) given: &'a [ClassNames],
     /// Whether each item of the input has a line.
@@ -46,7 +46,7 @@ pub(crate) struct Pair<'a> {
 }
 
 /// The first clause that holds, with its first place.
-pub(crate) fn check_clauses(alloc: Global, pair: &Pair<'_>) -> Result<(), Or<No>>
+pub(crate) fn check_clauses(alloc: Global, pair: &Pair<'_, '_>) -> Result<(), Or<No>>
     requires valid { Valid pair.now.sys.now }
     requires items { pair.now.sys.now.n ≡ item_count pair.now.input.now }
     ensures { (rules : Rules) → IsRead pair.now rules → Matches pair.now.input.now pair.now.output.now
@@ -67,7 +67,7 @@ pub(crate) fn check_clauses(alloc: Global, pair: &Pair<'_>) -> Result<(), Or<No>
 }
 
 /// The first of these clauses that holds, with its first place.
-fn test_clauses(alloc: Global, pair: &Pair<'_>, clauses: &[Clause]) -> Result<(), Or<No>>
+fn test_clauses(alloc: Global, pair: &Pair<'_, '_>, clauses: &[Clause]) -> Result<(), Or<No>>
     requires valid { Valid pair.now.sys.now }
     requires items { pair.now.sys.now.n ≡ item_count pair.now.input.now }
     ensures { (rules : Rules) → IsRead pair.now rules → Tests pair.now.input.now pair.now.output.now
@@ -93,7 +93,7 @@ fn no_at(clause: Clause, place: Place) -> No
 }
 
 /// The first place of a clause, if it holds.
-fn place_of(alloc: Global, pair: &Pair<'_>, clause: Clause) -> M<Option<Place>>
+fn place_of(alloc: Global, pair: &Pair<'_, '_>, clause: Clause) -> M<Option<Place>>
     requires valid { Valid pair.now.sys.now }
     requires items { pair.now.sys.now.n ≡ item_count pair.now.input.now }
     ensures { (rules : Rules) → IsRead pair.now rules → IfOk result (Finds pair.now.input.now pair.now.output.now
@@ -113,7 +113,7 @@ fn place_of(alloc: Global, pair: &Pair<'_>, clause: Clause) -> M<Option<Place>>
     }
 }
 
-fn members_place(alloc: Global, pair: &Pair<'_>) -> M<Option<Place>>
+fn members_place(alloc: Global, pair: &Pair<'_, '_>) -> M<Option<Place>>
     ensures { IfOk result (members.MemberDiffers pair.now.names.now pair.now.filter.now pair.now.input.now
         pair.now.given.now pair.now.output.now) }
 {
@@ -127,7 +127,7 @@ fn members_place(alloc: Global, pair: &Pair<'_>) -> M<Option<Place>>
     )
 }
 
-fn codes_place(alloc: Global, pair: &Pair<'_>) -> M<Option<Place>>
+fn codes_place(alloc: Global, pair: &Pair<'_, '_>) -> M<Option<Place>>
     ensures { IfOk result (coded.CodeDiffers pair.now.names.now pair.now.filter.now pair.now.input.now
         pair.now.given.now pair.now.output.now) }
 {
