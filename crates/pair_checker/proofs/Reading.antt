@@ -1,5 +1,5 @@
 -- An output that is read, and one that isn't.
-use Rattle.std.proofs.Common.{◌≡◌, List, Some, Result, Ok, Err, inl, inr, refl, subst}
+use Rattle.std.proofs.Common.{◌≡◌, List, Some, Result, Ok, Err, inl, inr, subst}
 use Rattle.jv_base.specs.declared.outcome.Or.{Or}
 use Rattle.jv_base.specs.declared.outcome.Or.TheVariants as or
 use Rattle.tree_io.specs.declared.file_at.FileAt.{FileAt}

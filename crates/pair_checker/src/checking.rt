@@ -14,7 +14,7 @@ use crate::answer::{Clause, No};
 use crate::matching::{Pair, check_clauses};
 use attribute_filter::attribute_filter;
 use class_pool::ClassSet;
-use jv_base::{Items, M, Or};
+use jv_base::{Bytes, Items, M, Or};
 use keep_rules::Rules;
 use mapping_file::Mapping;
 use mark_core::System;
@@ -90,13 +90,32 @@ fn read_output(alloc: Global, files: &Items<FileAt>) -> Result<ClassSet, Or<No>>
     requires short { sum_by (λ f. length f.bytes) files.now < 4294967295 }
     ensures { ReadsOutput result files.now }
 {
-    let files = files.clone()?;
+    let files = copied(alloc, files.as_slice())?;
     match read_set(alloc, files) {
         Ok(set) => Ok(set),
         Err(Or::Fault(SetFault::Format(..))) => Err(Or::Fault(no_class_file())),
         Err(Or::Fault(SetFault::Rule(fault))) => Err(Or::Fault(no_set(fault))),
         Err(Or::OutOfMemory) => Err(Or::OutOfMemory),
     }
+}
+
+/// Copies of files.
+fn copied(alloc: Global, files: &[FileAt]) -> M<Items<FileAt>>
+    ensures { IfOk result (λ copies. copies ≡ files.now) }
+{
+    let mut copies = Items::new(alloc);
+    for file in files {
+        copies.push(copied_file(alloc, file)?)?;
+    }
+    Ok(copies)
+}
+
+fn copied_file(alloc: Global, file: &FileAt) -> M<FileAt>
+    ensures { IfOk result (λ copy. copy ≡ file.now) }
+{
+    let path = file.path.clone()?;
+    let bytes = Bytes::from_vec(file.bytes.as_slice().to_vec(alloc)?);
+    Ok(FileAt { path, bytes })
 }
 
 /// A file is no class file; no place is named.
