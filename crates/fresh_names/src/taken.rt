@@ -43,7 +43,7 @@ impl TakenSet {
 
     /// Whether a name is among them. It takes no memory, and the same time however many there are.
     #[tactic(auto, using(crate::proofs::Reserved::taken_parts))]
-    pub(crate) fn has(&self, name: &Name) -> bool
+    pub fn has(&self, name: &Name) -> bool
         ensures { result ≡ is_taken self.now name.now }
     {
         let is_fixed = self.names.contains(name);

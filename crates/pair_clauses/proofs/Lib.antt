@@ -3,7 +3,8 @@ pub mod OneFinding
 pub mod OnePlace
 mod Searching
 mod SeenLaw
+mod Fixing
 mod Needed
 mod Standing
 mod Unlike
-mod Zipped
+pub mod Zipped

@@ -1,4 +1,5 @@
 -- Definitions that the proofs of bodies alone need.
+pub mod FixedKinds
 pub mod Lines
 pub mod Seen
 pub mod Standing

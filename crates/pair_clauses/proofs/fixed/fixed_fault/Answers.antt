@@ -1,31 +1,10 @@
-use Rattle.std.proofs.Common.{sym, ◌∙◌, arith}
-use Rattle.pair_clauses.specs.FixedNames.{fixed_in}
-use Rattle.pair_clauses.proofs.Zipped.{beyond, first_done, first_ends, first_found, first_unfound, got}
+use Rattle.std.proofs.Common.{◌≡◌, ◌∙◌, subst}
+use Rattle.std.specs.Prelude.{IfOk}
+use Rattle.pair_clauses.specs.FixedNames.{Fixed, fixed_fault}
+use Rattle.pair_clauses.proofs.Fixing.{same_fixed}
 use Rattle.pair_clauses.proofs.fixed.fixed_fault.Goals as goal
 
-pub returns-in_default : goal.returns-in_default
-returns-in_default c =
-    sym (first_ends fixed_in c.args.input.now c.args.given.now c.loop-number.number
-    (beyond c.args.given.now c.loop-number.number c.in_default.ensures.lookup.3))
-    ∙ c.loop-number.invariant
-
 pub returns : goal.returns
-returns c =
-    sym (first_done fixed_in c.args.input.now c.args.given.now c.loop-number.number (beyond c.args.input.now _ (omega arith)))
-    ∙ c.loop-number.invariant
-
-pub returns-then-is_some : goal.returns-then-is_some
-returns-then-is_some c =
-    let names = c.in-Some.names.now in
-    let read = got c.args.given.now c.loop-number.number names c.in-Some.ensures.lookup.3.0 c.in-Some.ensures.lookup.1 in
-    first_found fixed_in c.args.input.now c.args.given.now c.loop-number.number c.class.result.now names
-    c.in_ok-found.found c.class.ensures.is read c.in_ok-found.ensures
-    (sym c.is_some.ensures ∙ c.if-is_some.true) ∙ c.loop-number.invariant
-
-pub loop-number-preserved : goal.loop-number-preserved
-loop-number-preserved c =
-    let names = c.in-Some.names.now in
-    let read = got c.args.given.now c.loop-number.number names c.in-Some.ensures.lookup.3.0 c.in-Some.ensures.lookup.1 in
-    first_unfound fixed_in c.args.input.now c.args.given.now c.loop-number.number c.class.result.now names
-    c.in_ok-found.found c.class.ensures.is read c.in_ok-found.ensures
-    (sym c.is_some.ensures ∙ c.if-is_some.false) ∙ c.loop-number.invariant
+returns c = λ rules are. subst
+    (λ (f : Fixed). IfOk c.fixed_among.result (λ found. found ≡ fixed_fault f c.args.input.now c.args.given.now))
+    (c.kinds_of.ensures ∙ same_fixed rules c.args.input.now c.args.fixed.now are) c.fixed_among.ensures

@@ -1,0 +1,76 @@
+-- What is found of each clause, of a pair that was read.
+use Rattle.std.proofs.Common.{◌≡◌, ℕ, List, Bool, Option, Some, None, Result, subst}
+use Rattle.std.specs.Prelude.{IfOk}
+use Rattle.mark_core.specs.declared.system.System.{System}
+use Rattle.class_model.specs.declared.class.Class.{Class}
+use Rattle.keep_rules.specs.declared.rules.Rules.{Rules}
+use Rattle.attribute_filter.specs.KeptAttributes.{filter_of}
+use Rattle.attribute_filter.specs.declared.filter.AttributeFilter.{AttributeFilter}
+use Rattle.require_sys.specs.Required.{required}
+use Rattle.mapping_file.specs.declared.mapping.Mapping.{Mapping}
+use Rattle.new_names.specs.declared.class_names.ClassNames.{ClassNames}
+use Rattle.rename_map.specs.Names.{AreFixed}
+use Rattle.pair_clauses.specs.Closing.{lacking, lined_items, lost_seed, place_of_item}
+use Rattle.pair_clauses.specs.Codes as coded
+use Rattle.pair_clauses.specs.FixedNames.{fixed_by, fixed_fault, package_fault}
+use Rattle.pair_clauses.specs.Members as members
+use Rattle.pair_clauses.specs.declared.place.Place.{Place}
+use Rattle.pair_checker.specs.Clauses.{CodeDiffers, FixedName, MemberDiffers, NotClosed, Package, SeedLost, given_names}
+use Rattle.pair_checker.specs.bodies.Matching.{IsRead}
+use Rattle.pair_checker.specs.declared.matching.Pair.{Pair}
+
+module _ {E : Type 0} (pair : Pair) (rules : Rules) (is : IsRead pair rules) (r : Result (Option Place) E) where
+  pub found_fixed : ((all : Rules) → AreFixed all pair.input.now pair.fixed.now
+      → IfOk r (λ found. found ≡ fixed_fault (fixed_by all pair.input.now) pair.input.now pair.given.now))
+      → IfOk r (FixedName pair.input.now pair.output.now pair.mapping.now rules)
+  found_fixed h = subst
+      (λ (g : List ClassNames). IfOk r (λ found. found ≡ fixed_fault (fixed_by rules pair.input.now) pair.input.now g))
+      is.given (h rules is.fixed)
+
+  pub found_package : IfOk r (λ found. found ≡ package_fault pair.input.now pair.given.now)
+      → IfOk r (Package pair.input.now pair.output.now pair.mapping.now rules)
+  found_package h = subst (λ (g : List ClassNames). IfOk r (λ found. found ≡ package_fault pair.input.now g)) is.given h
+
+  pub found_seed : IfOk r (λ found. found ≡ place_of_item pair.input.now (lost_seed pair.sys.now pair.lined.now))
+      → IfOk r (SeedLost pair.input.now pair.output.now pair.mapping.now rules)
+  found_seed h = subst
+      (λ (s : System). IfOk r (λ found. found
+      ≡ place_of_item pair.input.now (lost_seed s (lined_items (given_names pair.mapping.now pair.input.now)))))
+      is.sys
+      (subst (λ (l : List Bool). IfOk r (λ found. found ≡ place_of_item pair.input.now (lost_seed pair.sys.now l)))
+      is.lined h)
+
+  pub found_open : IfOk r (λ found. found ≡ place_of_item pair.input.now (lacking pair.sys.now pair.lined.now))
+      → IfOk r (NotClosed pair.input.now pair.output.now pair.mapping.now rules)
+  found_open h = subst
+      (λ (s : System). IfOk r (λ found. found
+      ≡ place_of_item pair.input.now (lacking s (lined_items (given_names pair.mapping.now pair.input.now)))))
+      is.sys
+      (subst (λ (l : List Bool). IfOk r (λ found. found ≡ place_of_item pair.input.now (lacking pair.sys.now l)))
+      is.lined h)
+
+  pub found_member : IfOk r (members.MemberDiffers pair.names.now pair.filter.now pair.input.now pair.given.now
+      pair.output.now)
+      → IfOk r (MemberDiffers pair.input.now pair.output.now pair.mapping.now rules)
+  found_member h = subst
+      (λ (g : List ClassNames). IfOk r (members.MemberDiffers pair.mapping.now (filter_of rules) pair.input.now g pair.output.now))
+      is.given
+      (subst
+      (λ (f : AttributeFilter). IfOk r (members.MemberDiffers pair.mapping.now f pair.input.now pair.given.now pair.output.now))
+      is.filter
+      (subst
+      (λ (m : Mapping). IfOk r (members.MemberDiffers m pair.filter.now pair.input.now pair.given.now pair.output.now))
+      is.names h))
+
+  pub found_code : IfOk r (coded.CodeDiffers pair.names.now pair.filter.now pair.input.now pair.given.now
+      pair.output.now)
+      → IfOk r (CodeDiffers pair.input.now pair.output.now pair.mapping.now rules pair.witness.now)
+  found_code h = subst
+      (λ (g : List ClassNames). IfOk r (coded.CodeDiffers pair.mapping.now (filter_of rules) pair.input.now g pair.output.now))
+      is.given
+      (subst
+      (λ (f : AttributeFilter). IfOk r (coded.CodeDiffers pair.mapping.now f pair.input.now pair.given.now pair.output.now))
+      is.filter
+      (subst
+      (λ (m : Mapping). IfOk r (coded.CodeDiffers m pair.filter.now pair.input.now pair.given.now pair.output.now))
+      is.names h))

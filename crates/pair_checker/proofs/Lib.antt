@@ -1,0 +1,6 @@
+mod Clausal
+mod InOrder
+mod Mapped
+mod OnlyOne
+mod Reading
+pub mod SystemDue

@@ -1,0 +1,4 @@
+pub mod Clauses
+pub mod PairOk
+pub mod OneAnswer
+pub mod bodies

@@ -1,0 +1,163 @@
+// The clauses of a pair whose output was read, and the first that holds.
+ghost use Rattle.std.specs.Prelude.{◌≡◌, IfOk};
+ghost use Rattle.keep_rules.specs.declared.rules.Rules.{Rules};
+ghost use Rattle.mark_core.specs.Valid.{Valid};
+ghost use Rattle.class_pool.specs.Count.{item_count};
+ghost use Rattle.pair_checker.specs.Clauses.{Finds, entry_place, stray_entry};
+ghost use Rattle.pair_clauses.specs.Codes as coded;
+ghost use Rattle.pair_clauses.specs.Members as members;
+ghost use Rattle.pair_checker.specs.bodies.Matching.{IsRead, Matches, Tests, no_at};
+
+use crate::answer::{Clause, No};
+use attribute_filter::AttributeFilter;
+use class_pool::ClassSet;
+use fresh_names::TakenNames;
+use jv_base::{M, Or};
+use mapping_file::Mapping;
+use mark_core::System;
+use new_names::{ClassNames, NewNames};
+use pair_clauses::{
+    Place, closed_fault, code_differs, described_text, fixed_fault, member_differs, package_fault,
+    seed_fault, shape_fault,
+};
+use report_text::name_text;
+use std::alloc::Global;
+use witness_file::{MethodWitness, Witness};
+
+/// A pair that was read, with what its clauses ask for, made once.
+#[derive(Clone, Copy)]
+pub(crate) struct Pair<'a, 'm> {
+    pub(crate) input: &'a ClassSet,
+    pub(crate) output: &'a ClassSet,
+    pub(crate) mapping: &'a Mapping,
+    pub(crate) witness: &'a Witness,
+    /// The names that the mapping gives.
+    pub(crate) names: &'a NewNames<'m>,
+    /// Those of each class of the input and of its members.
+    pub(crate) given: &'a [ClassNames],
+    /// Whether each item of the input has a line.
+    pub(crate) lined: &'a [bool],
+    /// The names that are fixed, where not all are.
+    pub(crate) fixed: &'a Option<TakenNames>,
+    /// The attributes that are kept.
+    pub(crate) filter: &'a AttributeFilter,
+    /// What has to be kept of the input.
+    pub(crate) sys: &'a System,
+}
+
+/// The first clause that holds, with its first place.
+pub(crate) fn check_clauses(alloc: Global, pair: &Pair<'_, '_>) -> Result<(), Or<No>>
+    requires valid { Valid pair.now.sys.now }
+    requires items { pair.now.sys.now.n ≡ item_count pair.now.input.now }
+    ensures { (rules : Rules) → IsRead pair.now rules → Matches pair.now.input.now pair.now.output.now
+        pair.now.mapping.now rules pair.now.witness.now result }
+{
+    let clauses = [
+        Clause::MapShape,
+        Clause::FixedName,
+        Clause::Package,
+        Clause::SeedLost,
+        Clause::NotClosed,
+        Clause::MemberDiffers,
+        Clause::WitnessStray,
+        Clause::EditIllegal,
+        Clause::CodeDiffers,
+    ];
+    test_clauses(alloc, pair, &clauses)
+}
+
+/// The first of these clauses that holds, with its first place.
+fn test_clauses(alloc: Global, pair: &Pair<'_, '_>, clauses: &[Clause]) -> Result<(), Or<No>>
+    requires valid { Valid pair.now.sys.now }
+    requires items { pair.now.sys.now.n ≡ item_count pair.now.input.now }
+    ensures { (rules : Rules) → IsRead pair.now rules → Tests pair.now.input.now pair.now.output.now
+        pair.now.mapping.now rules pair.now.witness.now clauses.now result }
+{
+    let [clause, rest @ ..] = clauses else {
+        return Ok(());
+    };
+    match place_of(alloc, pair, *clause)? {
+        Some(place) => Err(Or::Fault(no_at(*clause, place))),
+        None => test_clauses(alloc, pair, rest),
+    }
+}
+
+fn no_at(clause: Clause, place: Place) -> No
+    ensures { result ≡ no_at clause place }
+{
+    No {
+        clause,
+        class: Some(place.class),
+        member: place.member,
+    }
+}
+
+/// The first place of a clause, if it holds.
+fn place_of(alloc: Global, pair: &Pair<'_, '_>, clause: Clause) -> M<Option<Place>>
+    requires valid { Valid pair.now.sys.now }
+    requires items { pair.now.sys.now.n ≡ item_count pair.now.input.now }
+    ensures { (rules : Rules) → IsRead pair.now rules → IfOk result (Finds pair.now.input.now pair.now.output.now
+        pair.now.mapping.now rules pair.now.witness.now clause) }
+{
+    match clause {
+        Clause::OutputFormat | Clause::OutputProfile => Ok(None),
+        Clause::MapShape => shape_fault(alloc, pair.input, pair.output, pair.mapping),
+        Clause::FixedName => fixed_fault(alloc, pair.fixed, pair.input, pair.given),
+        Clause::Package => package_fault(alloc, pair.input, pair.given),
+        Clause::SeedLost => seed_fault(alloc, pair.input, pair.lined, pair.sys),
+        Clause::NotClosed => closed_fault(alloc, pair.input, pair.lined, pair.sys),
+        Clause::MemberDiffers => members_place(alloc, pair),
+        Clause::WitnessStray => stray_entry(alloc, pair.witness),
+        Clause::EditIllegal => Ok(None),
+        Clause::CodeDiffers => codes_place(alloc, pair),
+    }
+}
+
+fn members_place(alloc: Global, pair: &Pair<'_, '_>) -> M<Option<Place>>
+    ensures { IfOk result (members.MemberDiffers pair.now.names.now pair.now.filter.now pair.now.input.now
+        pair.now.given.now pair.now.output.now) }
+{
+    member_differs(
+        alloc,
+        pair.names,
+        pair.filter,
+        pair.input,
+        pair.given,
+        pair.output,
+    )
+}
+
+fn codes_place(alloc: Global, pair: &Pair<'_, '_>) -> M<Option<Place>>
+    ensures { IfOk result (coded.CodeDiffers pair.now.names.now pair.now.filter.now pair.now.input.now
+        pair.now.given.now pair.now.output.now) }
+{
+    code_differs(
+        alloc,
+        pair.names,
+        pair.filter,
+        pair.input,
+        pair.given,
+        pair.output,
+    )
+}
+
+/// The first entry of a witness: there may be none.
+fn stray_entry(alloc: Global, witness: &Witness) -> M<Option<Place>>
+    ensures { IfOk result (λ found. found ≡ stray_entry witness.now) }
+{
+    match witness.methods.as_slice() {
+        [entry, ..] => Ok(Some(entry_place(alloc, entry)?)),
+        [] => Ok(None),
+    }
+}
+
+fn entry_place(alloc: Global, entry: &MethodWitness) -> M<Place>
+    ensures { IfOk result (λ place. place ≡ entry_place entry.now) }
+{
+    let class = name_text(alloc, &entry.class)?;
+    let member = described_text(alloc, &entry.name, &entry.ty)?;
+    Ok(Place {
+        class,
+        member: Some(member),
+    })
+}
