@@ -29,6 +29,8 @@ pub checked_same : CheckedPairsDoTheSame
 checked_same files input written mapping rules witness readable accepted then_readable pair entries are =
     let taken = are_taken files input readable accepted in
     let then_taken = are_taken written pair.output then_readable pair.accepted in
-    let both = is_pair input written mapping rules witness pair in
-    (pair_same input pair.output mapping rules taken then_taken both entries
-    (entries_kept input pair.output mapping rules taken both entries are), pair.accepted.typed)
+    let both = is_pair input written mapping rules witness pair in (
+      pair_same input pair.output mapping rules taken then_taken both entries
+          (entries_kept input pair.output mapping rules taken both entries are),
+      pair.accepted.typed,
+    )
