@@ -9,8 +9,8 @@ use Rattle.jv_base.specs.declared.types.Base.TheVariants as base
 use Rattle.jv_base.specs.declared.types.FieldType.{FieldType}
 use Rattle.jvm_model.specs.Heap.{Array, Builder, Instance, Object, Str, World}
 use Rattle.jvm_model.specs.Program.{View}
-use Rattle.jvm_model.specs.Same.{Alike, Corr, CorrEnd, FrameCorr, LineCorr, Names, ObjectCorr, Renamed, Same}
-use Rattle.jvm_model.specs.Same.{ToldCorr, WorldCorr, base_name, chain, line_of, own_names, type_name}
+use Rattle.jvm_model.specs.Same.{Alike, Corr, CorrEnd, FrameCorr, InStep, LineCorr, Names, ObjectCorr, Renamed, Same}
+use Rattle.jvm_model.specs.Same.{SameSteps, ToldCorr, WorldCorr, base_name, chain, line_of, own_names, type_name}
 use Rattle.jvm_model.specs.State.{Frame, HasReturned, HasThrown, Running, State, Status, WentWrong, frames, status}
 use Rattle.jvm_model.specs.Step.{run, start}
 use Rattle.jvm_model.specs.Value.{Key}
@@ -175,12 +175,37 @@ told_of WentWrong m a b h = h
 pub end_of : (v w : View) (m : Names) (s t : State) → Corr v w m s t → CorrEnd m s t
 end_of v w m s t h = record { ending = h.ending; told = told_of (status s) m s.world t.world h.world }
 
-pub alike_by_side : (v w : View) (m : Names) (a b : State)
-    → ((n : ℕ) → (status (run v a n) ≡ WentWrong) ⊎ Corr v w m (run v a n) (run w b n)) → Alike v w m a b
+pub alike_by_side : (v w : View) (m : Names) (a b : State) → InStep v w m a b → Alike v w m a b
 alike_by_side v w m a b h = record {
   as_far = λ n ok. (n, omega arith, ⊎_elim (λ bad. absurd (ok bad)) (λ c. end_of v w m _ _ c) (h n));
   no_further = λ n. ⊎_elim (λ bad. inr (n, bad)) (λ c. inl (n, omega arith, c)) (h n);
 }
+
+pub steps_same : (v w : View) (m : Names) (xs : List Key) → SameSteps v w m xs → Same v w m xs
+steps_same v w m xs h x e =
+    let y = h x e in
+    (y.0, y.1, λ heap plain args. alike_by_side v w m _ _ (y.2 heap plain args))
+
+in_step_trans : (u v w : View) (m n : Names) (a b c : State) → InStep u v m a b → InStep v w n b c
+    → InStep u w (chain m n) a c
+in_step_trans u v w m n a b c h k i =
+    ⊎_elim
+    (λ bad. inl bad)
+    (λ x. ⊎_elim
+    (λ bad. absurd (x.ending.1 (sym x.ending.0 ∙ bad)))
+    (λ y. inr (corr_trans u v w m n _ _ _ x y))
+    (k i))
+    (h i)
+
+pub steps_trans : (u v w : View) (m n : Names) (xs ys : List Key) → Renamed m xs ys → SameSteps u v m xs
+    → SameSteps v w n ys → SameSteps u w (chain m n) xs
+steps_trans u v w m n xs ys to h k x e =
+    let y = h x e in
+    let z = k y.0 (to x y.0 e y.1) in (
+      z.0,
+      ap (option_and_then n.method) y.1 ∙ z.1,
+      λ heap plain args. in_step_trans u v w m n _ _ _ (y.2 heap plain args) (z.2 heap plain args),
+    )
 
 -- ---- a program and itself
 
@@ -240,11 +265,13 @@ is_wrong (HasReturned o) = inr (λ e. cc)
 is_wrong (HasThrown n) = inr (λ e. cc)
 is_wrong WentWrong = inl refl
 
-pub same_refl : (v : View) (xs : List Key) → Same v v own_names xs
-same_refl v xs x i = (
+pub steps_refl : (v : View) (xs : List Key) → SameSteps v v own_names xs
+steps_refl v xs x i = (
   x,
   refl,
-  λ heap plain args. alike_by_side v v own_names _ _
-      (λ n. ⊎_elim (λ bad. inl bad) (λ ok. inr (corr_refl v _ ok))
-      (is_wrong (status (run v (start v x heap args) n)))),
+  λ heap plain args n. ⊎_elim (λ bad. inl bad) (λ ok. inr (corr_refl v _ ok))
+      (is_wrong (status (run v (start v x heap args) n))),
 )
+
+pub same_refl : (v : View) (xs : List Key) → Same v v own_names xs
+same_refl v xs = steps_same v v own_names xs (steps_refl v xs)

@@ -23,7 +23,8 @@ use Rattle.jvm_model.specs.Local.{Local, Moves, Wants, Ends, Tosses, Stuck, by_i
 use Rattle.jvm_model.specs.Local.{handles, with_stack}
 use Rattle.jvm_model.specs.Mapped.{CodeMap, HandlerMap, InsMap, Mapped, Mapping, OptionCorr}
 use Rattle.jvm_model.specs.Program.{View}
-use Rattle.jvm_model.specs.Same.{AreKept, Corr, FrameCorr, LineCorr, ObjectCorr, Same, WorldCorr, base_name, line_at}
+use Rattle.jvm_model.specs.Same.{AreKept, Corr, FrameCorr, LineCorr, ObjectCorr, Same, SameSteps, WorldCorr}
+use Rattle.jvm_model.specs.Same.{base_name, line_at}
 use Rattle.jvm_model.specs.Start.{ArePlain, is_plain_base, is_plain_object}
 use Rattle.jvm_model.specs.State.{AfterCall, AfterClinit, AfterFirst, AfterInit, Body, Completes, Control, Frame}
 use Rattle.jvm_model.specs.State.{Initialises}
@@ -38,7 +39,7 @@ use Rattle.jvm_model.proofs.Answering.{instance_same}
 use Rattle.jvm_model.proofs.Answering.{one_more, same_length}
 use Rattle.jvm_model.proofs.Asking.{LocalMap, local_map, sort_map}
 use Rattle.jvm_model.proofs.Codes.{wrong_stays}
-use Rattle.jvm_model.proofs.Compose.{alike_by_side, is_wrong, there_is}
+use Rattle.jvm_model.proofs.Compose.{is_wrong, steps_same, there_is}
 use Rattle.jvm_model.proofs.Keys.{set_class_agrees, set_key_agrees, texts_agree, zip_get}
 
 module _ (m : Mapping) (v w : View) (is : Mapped m v w) where
@@ -531,11 +532,10 @@ module _ (m : Mapping) (v w : View) (is : Mapped m v w) where
     waits = ((y, refl, e), tt);
   }
 
+  pub mapped_steps : (entries : List Key) → AreKept m.names entries → SameSteps v w m.names entries
+  mapped_steps entries kept x i =
+      let y = there_is (m.names.method x) (kept x i) in
+      (y.0, y.1, λ heap plain args n. sides _ _ (run_map _ _ (start_map x y.0 y.1 heap plain args) n))
+
   pub mapped_same : (entries : List Key) → AreKept m.names entries → Same v w m.names entries
-  mapped_same entries kept x i =
-      let y = there_is (m.names.method x) (kept x i) in (
-        y.0,
-        y.1,
-        λ heap plain args. alike_by_side v w m.names _ _
-            (λ n. sides _ _ (run_map _ _ (start_map x y.0 y.1 heap plain args) n)),
-      )
+  mapped_same entries kept = steps_same v w m.names entries (mapped_steps entries kept)

@@ -105,12 +105,23 @@ pub record Alike (v w : View) (names : Names) (a b : State) : Type 0 where
   pub no_further : (k : ℕ)
       → ((n : ℕ) × (k ≤ n) × Corr v w names (run v a n) (run w b k)) ⊎ ((n : ℕ) × (status (run v a n) ≡ WentWrong))
 
+-- From two states the second program is, after each number of steps, where the first one is, unless the first has gone
+-- wrong by then.
+abbrev pub InStep : View → View → Names → State → State → Type 0
+InStep v w names a b = (n : ℕ) → (status (run v a n) ≡ WentWrong) ⊎ Corr v w names (run v a n) (run w b n)
+
 -- Each of these entries has a new name, and from there the second program does what the first does from the entry,
 -- whatever heap of strings and arrays and whatever arguments they are given (the project's own).
 abbrev pub Same : View → View → Names → List Key → Type 0
 Same v w names entries = (entry : Key) → Contains entries entry
     → (entry' : Key) × (names.method entry ≡ Some entry') × ((heap : List Object) → ArePlain heap → (args : List Value)
     → Alike v w names (start v entry heap args) (start w entry' heap args))
+
+-- The same at equal numbers of steps: each step of the first program is one of the second (the project's own).
+abbrev pub SameSteps : View → View → Names → List Key → Type 0
+SameSteps v w names entries = (entry : Key) → Contains entries entry
+    → (entry' : Key) × (names.method entry ≡ Some entry') × ((heap : List Object) → ArePlain heap → (args : List Value)
+    → InStep v w names (start v entry heap args) (start w entry' heap args))
 
 -- each of these methods has a new name, so is kept
 abbrev pub AreKept : Names → List Key → Type 0

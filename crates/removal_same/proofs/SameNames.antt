@@ -9,9 +9,10 @@ use Rattle.class_pool.specs.declared.id.ClassId.{ClassId}
 use Rattle.class_pool.specs.declared.id.MemberAt.{MemberAt}
 use Rattle.member_shrink.specs.Shrunk.{is_marked, shrunk}
 use Rattle.set_image.specs.Image.{Image}
-use Rattle.jvm_model.specs.Same.{AreKept, Names, Same}
+use Rattle.jvm_model.specs.Same.{AreKept, Names, SameSteps}
 use Rattle.jvm_model.specs.Value.{Key}
-use Rattle.jvm_model.proofs.Side.{mapped_same}
+use Rattle.jvm_model.proofs.Compose.{steps_same}
+use Rattle.jvm_model.proofs.Side.{mapped_steps}
 use Rattle.set_view.specs.ViewOf.{key_at, member_of, view_of}
 use Rattle.view_image.specs.ImageNames.{mapping, names, new_class, new_key}
 use Rattle.view_image.proofs.Naming.{class_name, member_is}
@@ -24,7 +25,7 @@ use Rattle.taken_set.specs.TakenSet.{IsTaken}
 use Rattle.taken_set.proofs.Proper.{is_proper}
 use Rattle.removal_image.proofs.Marked.{image, selected_kept}
 use Rattle.removal_same.specs.KeptNames.{kept_key, kept_names}
-use Rattle.removal_same.specs.Laws.{RemovalKeepsSame}
+use Rattle.removal_same.specs.Laws.{RemovalKeepsSame, RemovalKeepsSteps}
 use Rattle.removal_same.proofs.ImageView.{image_view, key_same}
 
 module _ (classes : List Class) (rules : KeptByRules) (marks : List Bool)
@@ -70,12 +71,17 @@ module _ (classes : List Class) (rules : KeptByRules) (marks : List Bool)
     method = λ k. key_names k j;
   }
 
-pub removal_same : RemovalKeepsSame
-removal_same classes rules marks taken closed entries kept =
+pub removal_steps : RemovalKeepsSteps
+removal_steps classes rules marks taken closed entries kept =
     let i = image classes rules marks closed taken in
     let same = same_names classes rules marks closed taken in
-    subst (λ (n : Names). Same (view_of classes) (view_of (shrunk classes marks)) n entries) same
-    (mapped_same (mapping classes (shrunk classes marks) i) (view_of classes) (view_of (shrunk classes marks))
+    subst (λ (n : Names). SameSteps (view_of classes) (view_of (shrunk classes marks)) n entries) same
+    (mapped_steps (mapping classes (shrunk classes marks) i) (view_of classes) (view_of (shrunk classes marks))
     (view_same classes (shrunk classes marks) i (is_proper classes taken)
     (selected_kept classes rules marks closed taken) (image_view classes rules marks closed taken)) entries
     (subst (λ (n : Names). AreKept n entries) (sym same) kept))
+
+pub removal_same : RemovalKeepsSame
+removal_same classes rules marks taken closed entries kept =
+    steps_same (view_of classes) (view_of (shrunk classes marks)) (kept_names classes marks) entries
+    (removal_steps classes rules marks taken closed entries kept)

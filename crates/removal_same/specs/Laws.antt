@@ -2,7 +2,7 @@
 use Rattle.std.specs.Prelude.{Bool, List}
 use Rattle.mark_core.specs.Marks.{Closed, set_of}
 use Rattle.class_model.specs.declared.class.Class.{Class}
-use Rattle.jvm_model.specs.Same.{AreKept, Same}
+use Rattle.jvm_model.specs.Same.{AreKept, Same, SameSteps}
 use Rattle.jvm_model.specs.Value.{Key}
 use Rattle.member_shrink.specs.Shrunk.{shrunk}
 use Rattle.require_sys.specs.Requires.{requires}
@@ -17,3 +17,10 @@ RemovalKeepsSame = (classes : List Class) (rules : KeptByRules) (marks : List Bo
     → Closed (requires classes rules) (set_of marks) → (entries : List Key)
     → AreKept (kept_names classes marks) entries
     → Same (view_of classes) (view_of (shrunk classes marks)) (kept_names classes marks) entries
+
+-- the same at equal numbers of steps
+abbrev pub RemovalKeepsSteps : Type 0
+RemovalKeepsSteps = (classes : List Class) (rules : KeptByRules) (marks : List Bool) → IsTaken classes
+    → Closed (requires classes rules) (set_of marks) → (entries : List Key)
+    → AreKept (kept_names classes marks) entries
+    → SameSteps (view_of classes) (view_of (shrunk classes marks)) (kept_names classes marks) entries

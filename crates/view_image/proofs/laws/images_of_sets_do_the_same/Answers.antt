@@ -1,8 +1,11 @@
-use Rattle.jvm_model.proofs.Side.{mapped_same}
+use Rattle.jvm_model.proofs.Side.{mapped_same, mapped_steps}
 use Rattle.set_view.specs.ViewOf.{view_of}
 use Rattle.view_image.proofs.Views.{view_same}
 use Rattle.view_image.specs.ImageNames.{mapping}
 use Rattle.view_image.proofs.laws.images_of_sets_do_the_same.Goals as goal
 
 pub returns : goal.returns
-returns c = λ a b i p rule told. mapped_same (mapping a b i) (view_of a) (view_of b) (view_same a b i p rule told)
+returns c = record {
+  same = λ a b i p rule told. mapped_same (mapping a b i) (view_of a) (view_of b) (view_same a b i p rule told);
+  steps = λ a b i p rule told. mapped_steps (mapping a b i) (view_of a) (view_of b) (view_same a b i p rule told);
+}
