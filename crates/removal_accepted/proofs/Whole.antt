@@ -59,8 +59,10 @@ module _ (classes : List Class) (rules : KeptByRules) (marks : List Bool)
 pub files_built : (classes : List Class) (rules : KeptByRules) (marks : List Bool) (filter : AttributeFilter)
     → (taken : IsTaken classes) → Closed (requires classes rules) (is_marked marks) → IfSome filter.source_name IsUtf8
     → Builds (Ok (left_and_filtered filter classes marks))
-    (map (λ (file : NamedClass). let f : NamedClass = record { path = file.path; class = filtered filter file.class } in f)
-    (files_left taken.files marks))
+    (map (λ (file : NamedClass). let f : NamedClass = record {
+      path = file.path;
+      class = filtered filter file.class;
+    } in f) (files_left taken.files marks))
 unfolding built_left
 files_built classes rules marks filter taken closed utf8 =
     built_again filter utf8 (shrunk classes marks) (built_left classes rules marks closed taken)

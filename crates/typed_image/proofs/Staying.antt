@@ -115,8 +115,9 @@ frame_stays f =
     ap (λ (tys : List VType). let g : FrameAt = record f {
       frame = record { locals = tys; stack = map (renamed_vtype same_names) f.frame.stack };
     } in g) (map_stays (renamed_vtype same_names) vtype_stays f.frame.locals)
-    ∙ ap (λ (tys : List VType). let g : FrameAt = record f { frame = record { locals = f.frame.locals; stack = tys } } in g)
-    (map_stays (renamed_vtype same_names) vtype_stays f.frame.stack)
+    ∙ ap (λ (tys : List VType). let g : FrameAt = record f {
+      frame = record { locals = f.frame.locals; stack = tys };
+    } in g) (map_stays (renamed_vtype same_names) vtype_stays f.frame.stack)
 
 -- an instruction of another line of the source, if one is told
 abbrev pub relined : (Ins → Option ℕ) → Ins → Ins
