@@ -13,9 +13,13 @@ use Rattle.attribute_filter.specs.declared.filter.AttributeFilter.{AttributeFilt
 use Rattle.require_sys.specs.Requires.{requires}
 use Rattle.require_sys.specs.declared.kept.KeptByRules.{KeptByRules}
 use Rattle.taken_set.specs.TakenSet.{IsTaken}
+use Rattle.jvm_model.specs.Same.{AreKept, Same}
+use Rattle.jvm_model.specs.Value.{Key}
+use Rattle.set_view.specs.ViewOf.{view_of}
 use Rattle.set_read.specs.Accepted.{AreRead, IsAccepted}
 use Rattle.removal_builds.specs.FilesLeft.{files_left}
 use Rattle.removal_accepted.specs.Laws.{left_and_filtered}
+use Rattle.removal_same.specs.KeptNames.{kept_names}
 
 -- what `read_set` asks of files: their paths ascend, and they have together fewer than 2^32 - 1 bytes
 pub record AreReadable (files : List FileAt) : Type 0 where
@@ -44,3 +48,11 @@ LeftIsAccepted = (files : List FileAt) (classes : List Class) (rules : KeptByRul
     → IfSome filter.source_name IsUtf8 → (written : List FileAt)
     → AreRead written (files_left_and_filtered filter accepted.named marks)
     → IsAccepted written (left_and_filtered filter classes marks)
+
+-- and it does what the set does, from each entry that is kept, each name that is kept standing for itself
+abbrev pub LeftDoesTheSame : Type 0
+LeftDoesTheSame = (files : List FileAt) (classes : List Class) (rules : KeptByRules) (marks : List Bool)
+    (filter : AttributeFilter) → AreReadable files → IsAccepted files classes
+    → Closed (requires classes rules) (set_of marks) → (entries : List Key)
+    → AreKept (kept_names classes marks) entries
+    → Same (view_of classes) (view_of (left_and_filtered filter classes marks)) (kept_names classes marks) entries

@@ -13,7 +13,7 @@ use Rattle.std.proofs.lemmas.Option.{slice_get-map}
 use Rattle.jv_base.specs.Names.{is_text}
 use Rattle.jv_base.specs.declared.types.Base.{Base}
 use Rattle.jv_base.specs.declared.types.Base.TheVariants as base
-use Rattle.class_model.specs.Flags.{acc_abstract, acc_private, acc_protected, acc_public, acc_static, has}
+use Rattle.class_model.specs.Flags.{acc_abstract, acc_private, acc_protected, acc_public, acc_static, has, is_init}
 use Rattle.class_model.specs.declared.class.Class.{Class}
 use Rattle.lib_table.specs.Lookups as table
 use Rattle.lib_table.specs.declared.class.LibKind.TheVariants.{Open}
@@ -29,7 +29,7 @@ use Rattle.class_pool.specs.Resolution.{is_member_accessible, is_open, is_protec
 use Rattle.class_pool.specs.Resolution.{maximally_specific, method_found, object_method, only_one}
 use Rattle.class_pool.specs.Resolution.{superinterface_methods}
 use Rattle.class_pool.specs.Selection.{first_instance, may_be_overridden, may_override, overrides, overriding}
-use Rattle.class_pool.specs.Selection.{overriding_from, selected, with_nearest}
+use Rattle.class_pool.specs.Selection.{overriding_from, selected, selected_special, with_nearest}
 use Rattle.class_pool.specs.Walk.{highest, own_superinterfaces, same_class, superclasses_from, superinterfaces}
 use Rattle.class_pool.specs.Walk.{upwards, walked}
 use Rattle.class_pool.specs.declared.id.ClassId.{ClassId}
@@ -59,7 +59,7 @@ position_map {X} f p xs =
     prefix_of : (xs : List X) → position_or_len p (map f xs) ≡ position_or_len (λ x. p (f x)) xs
     prefix_of xs = prefix_map f (λ y. not (p y)) xs
 
-map_map : {X Y Z : Type 0} (f : X → Y) (g : Y → Z) (h : X → Z) → ((x : X) → g (f x) ≡ h x) → (xs : List X)
+pub map_map : {X Y Z : Type 0} (f : X → Y) (g : Y → Z) (h : X → Z) → ((x : X) → g (f x) ≡ h x) → (xs : List X)
     → map g (map f xs) ≡ map h xs
 map_map f g h same [] = refl
 map_map {X} {Y} {Z} f g h same (x ∷ xs) =
@@ -120,7 +120,7 @@ module _ (filter_by : AttributeFilter) (a : List Class) where
   pub is_interface_in_is : is_interface_in b ≡ is_interface_in a
   is_interface_in_is = λ i x. is_interface_kind (kind_in_is i x)
 
-  name_of_at : (x : ClassId) → name_of b x ≡ name_of a x
+  pub name_of_at : (x : ClassId) → name_of b x ≡ name_of a x
   name_of_at (Prog n) = told (λ c. c.name) [] (λ c. refl) n
   name_of_at (Lib id) = refl
 
@@ -309,6 +309,11 @@ module _ (filter_by : AttributeFilter) (a : List Class) where
   pub selected_is : selected b ≡ selected a
   selected_is = λ i x m. cond (is_interface_in_is i m.class) (first_instance_is i x (named_at_is i m))
       (first (overriding_from_is i x m))
+
+  pub selected_special_is : selected_special b ≡ selected_special a
+  selected_special_is = λ i from named m. cond (is_init (named_at_is i m).0) (Some m)
+      (cond (same_class from named) (first_instance_is i from (named_at_is i m))
+      (option_and_then (λ above. first_instance_is i above (named_at_is i m)) (superclass_is i from)))
 
   -- ---- references (JVMS 5.4.3)
 

@@ -64,7 +64,7 @@ module _ (filter_by : AttributeFilter) (a : List Class) where
   class_of_by d (base.Class cn) name text f = λ i. cond (d == 0) (alike.class_named_is filter_by a i cn) None
   class_of_by d ty name text f = refl
 
-  class_of_is : class_of b ≡ class_of a
+  pub class_of_is : class_of b ≡ class_of a
   class_of_is = λ i r. class_of_by r.class.dims r.class.base r.name r.ty r.of_interface i
 
   static_kinds_is : static_kinds b ≡ static_kinds a
