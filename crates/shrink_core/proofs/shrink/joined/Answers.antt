@@ -12,4 +12,4 @@ returns-in-Ok-clause-joined c = λ due is.
 
 pub returns-in-Err-Fault-clause-joined : goal.returns-in-Err-Fault-clause-joined
 returns-in-Err-Fault-clause-joined c = λ due is.
-    (c.in-Err-Fault.field-0.0, rw c.in-Err-Fault.field-0-is at (c.in-Err-Fault.ensures due is), refl)
+    (c.in-Err-Fault.field-0-0, rw c.in-Err-Fault.field-0-is at (c.in-Err-Fault.ensures due is), refl)
