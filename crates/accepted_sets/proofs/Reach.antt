@@ -127,14 +127,13 @@ module _ (classes : List Class) (n : ℕ) where
 
   has_test : n < count → HasTest classes n
   has_test there =
-      let found = close count (λ y. false) (λ y is. absurd cc) (omega arith) in
-      (
+      let found = close count (λ y. false) (λ y is. absurd cc) (omega arith) in (
         found.0,
         λ m within. (
           λ is. found.1 m is,
           λ proper. proper (lifted found.0)
-          (All-from_recursion (In found.0) (direct classes (Prog n)) found.2.0)
-          (closed found.0 found.2.1),
+              (All-from_recursion (In found.0) (direct classes (Prog n)) found.2.0)
+              (closed found.0 found.2.1),
         ),
       )
     where

@@ -5,11 +5,9 @@ use Rattle.class_write.specs.SpellingLaws.{IsWritable}
 use Rattle.class_model.specs.WellFormed.{IsWellFormed}
 use Rattle.class_model.specs.declared.class.Class.{Class}
 use Rattle.class_pool.specs.Count.{item_count}
-use Rattle.class_pool.specs.Faults.{classes_of}
 use Rattle.class_pool.specs.Supertypes.{NoCycle}
 use Rattle.set_read.proofs.Few.{ascending_kept, few_items}
 use Rattle.set_read.proofs.Writable.{accepted_are_writable}
-use Rattle.taken_set.specs.TakenSet.{IsTaken}
 use Rattle.removal_accepted.proofs.Whole.{files_built, taken_left, typed_left}
 use Rattle.accepted_sets.specs.Laws.{AcceptedAreTaken, LeftIsAccepted, files_left_and_filtered}
 use Rattle.accepted_sets.proofs.Reach.{acyclic_ranks}

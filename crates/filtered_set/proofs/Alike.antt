@@ -2,7 +2,7 @@
 -- the definition of which it says so, as an equation of functions, and goes the definition's way.
 use Rattle.std.proofs.Common.{◌≡◌, ℕ, zero, suc, ◌+◌, not, ◌&&◌, ◌||◌, Bool, true, false, cond, List, [], ◌∷◌, ◌++◌}
 use Rattle.std.proofs.Common.{length}
-use Rattle.std.proofs.Common.{map, nat_lt, Option, Some, None, Result, Ok, Err, slice_get, refl, sym, ap, ◌∙◌, codes}
+use Rattle.std.proofs.Common.{map, nat_lt, Option, Some, None, Result, Ok, Err, slice_get, refl, ap, ◌∙◌, codes}
 use Rattle.std.proofs.Common.{filter}
 use Rattle.std.specs.Prelude.{◌==◌}
 use Rattle.std.specs.Bool.{beq}
@@ -13,16 +13,12 @@ use Rattle.std.proofs.lemmas.Option.{slice_get-map}
 use Rattle.jv_base.specs.Names.{is_text}
 use Rattle.jv_base.specs.declared.types.Base.{Base}
 use Rattle.jv_base.specs.declared.types.Base.TheVariants as base
-use Rattle.class_model.specs.Flags.{acc_abstract, acc_private, acc_protected, acc_public, acc_static, has, is_init}
+use Rattle.class_model.specs.Flags.{acc_abstract, acc_private, acc_protected, acc_public, acc_static, has}
 use Rattle.class_model.specs.declared.class.Class.{Class}
-use Rattle.class_model.specs.declared.class.Field.{Field}
-use Rattle.class_model.specs.declared.class.Method.{Method}
-use Rattle.class_model.specs.declared.op.MemberRef.{MemberRef}
 use Rattle.lib_table.specs.Lookups as table
-use Rattle.lib_table.specs.declared.class.LibKind.{LibKind}
 use Rattle.lib_table.specs.declared.class.LibKind.TheVariants.{Open}
-use Rattle.class_pool.specs.Found.{MemberRow, NameAndType, declared_by, declared_in, field_row, has_flag}
-use Rattle.class_pool.specs.Found.{is_instance_method, is_instance_row, is_private_member, is_static_member, method_row}
+use Rattle.class_pool.specs.Found.{MemberRow, declared_by, declared_in, field_row, has_flag}
+use Rattle.class_pool.specs.Found.{is_instance_method, is_instance_row, method_row}
 use Rattle.class_pool.specs.Found.{name_of, named_at, package_of, row_at, rows_in, same_member, same_package}
 use Rattle.class_pool.specs.Hierarchy.{class_named, interfaces, is_interface_kind, kind_in, kind_of, or_found}
 use Rattle.class_pool.specs.Hierarchy.{superclass, superclass_of}
@@ -30,10 +26,10 @@ use Rattle.class_pool.specs.Members.{declared_at, is_field, is_method, member_na
 use Rattle.class_pool.specs.Resolution.{chosen, class_method_found, field_found, first, interface_method_found}
 use Rattle.class_pool.specs.Resolution.{is_class_accessible, is_class_below, is_interface_in, is_maximally_specific}
 use Rattle.class_pool.specs.Resolution.{is_member_accessible, is_open, is_protected_accessible, is_public_class}
-use Rattle.class_pool.specs.Resolution.{is_subinterface, maximally_specific, method_found, object_method, only_one}
+use Rattle.class_pool.specs.Resolution.{maximally_specific, method_found, object_method, only_one}
 use Rattle.class_pool.specs.Resolution.{superinterface_methods}
 use Rattle.class_pool.specs.Selection.{first_instance, may_be_overridden, may_override, overrides, overriding}
-use Rattle.class_pool.specs.Selection.{overriding_from, selected, selected_special, with_nearest}
+use Rattle.class_pool.specs.Selection.{overriding_from, selected, with_nearest}
 use Rattle.class_pool.specs.Walk.{highest, own_superinterfaces, same_class, superclasses_from, superinterfaces}
 use Rattle.class_pool.specs.Walk.{upwards, walked}
 use Rattle.class_pool.specs.declared.id.ClassId.{ClassId}
@@ -197,7 +193,7 @@ module _ (filter_by : AttributeFilter) (a : List Class) where
       by (Some n) = refl
       by None =
           ap (λ (n : ℕ). option_map (λ k. n + k)
-              (position (is_method name ty) (map (method_filtered filter_by) c.methods)))
+          (position (is_method name ty) (map (method_filtered filter_by) c.methods)))
           (length-map c.fields (field_filtered filter_by))
           ∙ ap (option_map (λ k. length c.fields + k))
           (position_map (method_filtered filter_by) (is_method name ty) c.methods)

@@ -1,11 +1,11 @@
 -- A set that is taken is taken without optional attributes, where no rule is broken that Exceptions doesn't break.
 use Rattle.std.proofs.Common.{◌≡◌, ◌<◌, ◌≤◌, ℕ, zero, suc, ◌+◌, not, ◌&&◌, ◌||◌, Bool, true, false, cond, List, []}
 use Rattle.std.proofs.Common.{◌∷◌, ◌++◌, length, map}
-use Rattle.std.proofs.Common.{Option, Some, None, Result, Ok, Err, slice_get, refl, sym, ap, subst, ◌∙◌, codes, is_lt}
+use Rattle.std.proofs.Common.{Option, Some, None, Result, Ok, slice_get, refl, sym, ap, subst, ◌∙◌, codes, is_lt}
 use Rattle.std.specs.Prelude.{IfSome}
 use Rattle.std.specs.Cmp.Lexicographic.{slice_cmp}
-use Rattle.std.specs.List.{All, AllByRecursion, AllPairs, cons_option, flat_map, list_any, sum_by}
-use Rattle.std.specs.Option.{is_none, option_map, option_map_or}
+use Rattle.std.specs.List.{All, AllByRecursion, cons_option, flat_map, list_any}
+use Rattle.std.specs.Option.{is_none, option_map_or}
 use Rattle.std.specs.Ordering.{nat_cmp}
 use Rattle.std.specs.Str.{IsUtf8}
 use Rattle.std.proofs.lemmas.List.{length-map}
@@ -18,8 +18,7 @@ use Rattle.class_model.specs.declared.class.Class.{Class}
 use Rattle.class_model.specs.declared.class.Method.{Method}
 use Rattle.lib_table.specs.Library.{library}
 use Rattle.class_pool.specs.Count.{item_count, items_of}
-use Rattle.class_pool.specs.Faults.{Ascends, Builds, classes_of, fault_of, first_fault, is_super_missing}
-use Rattle.class_pool.specs.Faults.{is_super_wrong}
+use Rattle.class_pool.specs.Faults.{Ascends, Builds, classes_of, fault_of, first_fault}
 use Rattle.class_pool.specs.Faults.{name_fault, name_faults, super_fault, super_faults, then_super_faults}
 use Rattle.class_pool.specs.Hierarchy.{IsClass, is_interface_kind, is_open_kind}
 use Rattle.class_pool.specs.Ranks.{HasRanks}
@@ -163,8 +162,7 @@ module _ (filter_by : AttributeFilter) (utf8 : IfSome filter_by.source_name IsUt
     -- the files, with those attributes alone, make the set
     pub built_again : (h : IsBuilt a) → Builds (Ok b) (map file_filtered h.files)
     built_again h =
-        let same : b ≡ classes_of (map file_filtered h.files) = ap (map new) h.built.2 ∙ classes_same h.files in
-        (
+        let same : b ≡ classes_of (map file_filtered h.files) = ap (map new) h.built.2 ∙ classes_same h.files in (
           first_are (map file_filtered h.files) b (names_same h.files ∙ h.names) (supers_same a ∙ h.supers) same,
           subst NoCycle same (none_cyclic b (ranks_again h.ranks)),
           same,

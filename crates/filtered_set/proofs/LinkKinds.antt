@@ -24,24 +24,22 @@ use Rattle.class_model.specs.declared.code.Code.{Code}
 use Rattle.class_model.specs.declared.code.Ins.{Ins}
 use Rattle.class_model.specs.declared.frame.VType.{VType}
 use Rattle.class_model.specs.declared.frame.VType.TheVariants as vtype
-use Rattle.class_model.specs.declared.op.MemberRef.{MemberRef}
 use Rattle.class_model.specs.declared.op.Op.{Op}
 use Rattle.class_model.specs.declared.op.Op.TheVariants as op
 use Rattle.class_pool.specs.Found.{role_at}
 use Rattle.class_pool.specs.Walk.{same_class}
 use Rattle.class_pool.specs.declared.id.ClassId.{ClassId}
 use Rattle.class_pool.specs.declared.id.ClassId.TheVariants.{Prog, Lib}
-use Rattle.class_pool.specs.declared.id.MemberAt.{MemberAt}
 use Rattle.link_check.specs.Links.{is_callable_role}
 use Rattle.link_check.specs.Profile.{base_kinds, body_kinds, call_kinds, changed_kinds, class_kinds, class_of}
 use Rattle.link_check.specs.Profile.{code_kinds}
-use Rattle.link_check.specs.Profile.{declaration_kinds, field_kinds, field_text_kinds, frame_kinds, handler_kinds}
-use Rattle.link_check.specs.Profile.{implementing_kinds, init_kinds, is_abstract_class, is_of_library, kinds_of_class}
+use Rattle.link_check.specs.Profile.{field_kinds, field_text_kinds, frame_kinds, handler_kinds}
+use Rattle.link_check.specs.Profile.{implementing_kinds, is_abstract_class, is_of_library, kinds_of_class}
 use Rattle.link_check.specs.Profile.{kinds_of_field, kinds_of_method, left_out_at, made_kinds, may_be_overridden_role}
 use Rattle.link_check.specs.Profile.{member_kinds, method_text_kinds, method_type_kinds, methods_of, name_kinds}
 use Rattle.link_check.specs.Profile.{new_kinds}
 use Rattle.link_check.specs.Profile.{no_init_kinds, op_kinds, overridden_kinds, overriding_kinds, selected_kinds}
-use Rattle.link_check.specs.Profile.{special_class_kinds, special_kinds, static_kinds, super_kinds, type_kinds, unless}
+use Rattle.link_check.specs.Profile.{special_class_kinds, static_kinds, type_kinds, unless}
 use Rattle.link_check.specs.Profile.{used_kinds, verification_kinds, written_kinds}
 use Rattle.link_check.specs.Taken.{BreaksNoRule}
 use Rattle.link_check.specs.declared.fault.ProfileKind.{ProfileKind}

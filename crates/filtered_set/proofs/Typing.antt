@@ -34,7 +34,7 @@ use Rattle.class_rename.specs.Names.{same_names}
 use Rattle.set_image.specs.Image.{Image, if_kept}
 use Rattle.attribute_filter.specs.Filtered.{code_kept, filtered, method_filtered, without_lines}
 use Rattle.attribute_filter.specs.declared.filter.AttributeFilter.{AttributeFilter}
-use Rattle.type_verifier.specs.Environment.{Environment, in_constructor}
+use Rattle.type_verifier.specs.Environment.{Environment}
 use Rattle.type_verifier.specs.Members.{is_class_type, is_early_field, is_guarded, is_guarded_field, is_guarded_method}
 use Rattle.type_verifier.specs.Rules.{told_type}
 use Rattle.type_verifier.specs.Verified.{AreTyped, IsTypedMethod, environment}

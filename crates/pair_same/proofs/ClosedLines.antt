@@ -1,10 +1,9 @@
 -- Where neither SeedLost nor NotClosed finds a place, the items with lines are closed for the requirements.
-use Rattle.std.proofs.Common.{◌≡◌, ◌<◌, ◌≤◌, ℕ, zero, suc, ◌+◌, not, ◌&&◌, Bool, true, false, cond, List, [], ◌∷◌, ◌++◌}
+use Rattle.std.proofs.Common.{◌≡◌, ◌<◌, ℕ, zero, suc, ◌+◌, not, ◌&&◌, Bool, true, false, cond, List, [], ◌∷◌, ◌++◌}
 use Rattle.std.proofs.Common.{length, map, Option, Some, None, slice_get, get_or, refl, sym, ap, subst, ◌∙◌, arith}
 use Rattle.std.proofs.Common.{length-append, ⊎_elim}
 use Rattle.std.specs.Prelude.{IsTrue, IfSome, min}
 use Rattle.std.specs.List.{All, AllByRecursion, enumerate_from, filter, find, flat_map, fold}
-use Rattle.std.specs.Option.{option_and_then}
 use Rattle.std.proofs.Math.Nat.{min-le_left}
 use Rattle.std.proofs.lemmas.List.{get_or_past, length-map}
 use Rattle.std.proofs.lemmas.List.Elements.{All-from_recursion, recursion_from_All}
@@ -15,8 +14,6 @@ use Rattle.mark_core.specs.Valid.{Valid}
 use Rattle.mark_core.specs.declared.system.Pair.{Pair}
 use Rattle.mark_core.specs.declared.system.System.{System}
 use Rattle.class_model.specs.declared.class.Class.{Class}
-use Rattle.class_model.specs.declared.class.Field.{Field}
-use Rattle.class_model.specs.declared.class.Method.{Method}
 use Rattle.class_pool.specs.Count.{item_count, items_of}
 use Rattle.keep_rules.specs.declared.rules.Rules.{Rules}
 use Rattle.require_sys.specs.Required.{required}
@@ -26,7 +23,6 @@ use Rattle.new_names.specs.declared.class_names.ClassNames.{ClassNames}
 use Rattle.pair_clauses.specs.Closing.{closed_fault, has_line, lacking, least, lesser, lined_items, lost_seed, needed}
 use Rattle.pair_clauses.specs.Closing.{needed_by, needed_together, place_of_item, seed_fault}
 use Rattle.pair_clauses.specs.Places.{item_places, place_of_field, place_of_method, places_in}
-use Rattle.pair_clauses.specs.declared.place.Place.{Place}
 use Rattle.pair_same.proofs.Tables.{turned}
 
 -- ---- searches that find nothing
@@ -51,7 +47,8 @@ find_some P test (x ∷ xs) h = by (test x) (find_some P test xs h.1)
     by true r = h.0
     by false r = r
 
-filter_none : {X : Type 0} (test : X → Bool) (xs : List X) → filter test xs ≡ [] → AllByRecursion (λ x. test x ≡ false) xs
+filter_none : {X : Type 0} (test : X → Bool) (xs : List X) → filter test xs ≡ []
+    → AllByRecursion (λ x. test x ≡ false) xs
 filter_none test [] h = tt
 filter_none {X} test (x ∷ xs) h = by (test x) refl h (filter_none test xs)
   where
@@ -66,7 +63,8 @@ filter_all : {X : Type 0} (P : X → Type 0) (test : X → Bool) (xs : List X) �
 filter_all P test [] h = tt
 filter_all P test (x ∷ xs) h = by (test x) (filter_all P test xs h.1)
   where
-    by : (b : Bool) → AllByRecursion P (filter test xs) → AllByRecursion P (cond b (x ∷ filter test xs) (filter test xs))
+    by : (b : Bool) → AllByRecursion P (filter test xs)
+        → AllByRecursion P (cond b (x ∷ filter test xs) (filter test xs))
     by true r = (h.0, r)
     by false r = r
 
@@ -97,7 +95,8 @@ there : (classes : List Class) (k : ℕ) → k < item_count classes
     → None ≡ place_of_item classes (Some k) → ⊥
 there classes k low h =
     let long = places_count classes in
-    ⊎_elim (λ p. let q : None ≡ Some p.0 = h ∙ p.2 in cc) (λ p. let past = p.0 in absurd (omega (arith, low, long, past)))
+    ⊎_elim (λ p. let q : None ≡ Some p.0 = h ∙ p.2 in cc) (λ p. let past = p.0 in absurd (omega
+    (arith, low, long, past)))
     (slice_get_cases (item_places classes) k).1
 
 -- ---- the requirements
@@ -107,7 +106,8 @@ flat_all : {X Y : Type 0} (P : Y → Type 0) (Q : X → Type 0) (g : X → List 
 flat_all P Q g each [] h = tt
 flat_all {X} {Y} P Q g each (x ∷ xs) h = both (g x) (each x h.0) (flat_all P Q g each xs h.1)
   where
-    both : (ys : List Y) → AllByRecursion P ys → AllByRecursion P (flat_map g xs) → AllByRecursion P (ys ++ flat_map g xs)
+    both : (ys : List Y) → AllByRecursion P ys → AllByRecursion P (flat_map g xs)
+        → AllByRecursion P (ys ++ flat_map g xs)
     both [] a b = b
     both (y ∷ ys) a b = (a.0, both ys a.1 b)
 

@@ -1,20 +1,14 @@
 -- An entry is a seed, and seeds have lines.
-use Rattle.std.proofs.Common.{◌≡◌, ℕ, Bool, true, false, cond, List, Option, Some, None, refl, sym, ap, subst, ◌∙◌}
-use Rattle.std.specs.Prelude.{IfSome, IsSome, IsTrue}
-use Rattle.std.specs.List.{All, Contains}
+use Rattle.std.proofs.Common.{◌≡◌, Bool, true, false, cond, List, Some, None, refl, sym, ap, subst, ◌∙◌}
+use Rattle.std.specs.Prelude.{IsSome, IsTrue}
 use Rattle.std.specs.Option.{option_map_or}
 use Rattle.std.proofs.lemmas.List.Elements.{All-contains}
 use Rattle.class_model.specs.declared.class.Class.{Class}
-use Rattle.class_pool.specs.Found.{IsMember, declared_in}
-use Rattle.class_pool.specs.Hierarchy.{class_named}
-use Rattle.class_pool.specs.declared.id.ClassId.{ClassId}
-use Rattle.class_pool.specs.declared.id.MemberAt.{MemberAt}
 use Rattle.keep_rules.specs.declared.rules.Rules.{Rules}
 use Rattle.mapping_file.specs.declared.mapping.Mapping.{Mapping}
 use Rattle.new_names.specs.NewNames.{names_of}
 use Rattle.mark_core.specs.Marks.{set_of}
 use Rattle.jvm_model.specs.Value.{Key}
-use Rattle.set_view.specs.ViewOf.{member_of}
 use Rattle.view_image.proofs.Naming.{member_is}
 use Rattle.require_sys.specs.Required.{kept_by_rules, required}
 use Rattle.shrunk_image.specs.Keeping.{is_member_kept}
@@ -24,7 +18,7 @@ use Rattle.renamed_same.specs.NewKeys.{kept_key, new_key}
 use Rattle.pair_same.specs.Entries.{IsEntry}
 use Rattle.pair_same.specs.Laws.{EntriesHaveLines}
 use Rattle.pair_same.specs.Pairs.{IsPair}
-use Rattle.pair_same.proofs.Expected.{closed, lined, names}
+use Rattle.pair_same.proofs.Expected.{closed, lined}
 
 module _ (input output : List Class) (mapping : Mapping) (rules : Rules) (taken : IsTaken input)
     (pair : IsPair input output mapping rules) where

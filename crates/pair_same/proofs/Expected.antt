@@ -1,13 +1,12 @@
 -- What the clauses MemberDiffers and CodeDiffers give: each class of the output is the class of the input with the
 -- members that have lines, under the new names, and so are the codes.
-use Rattle.std.proofs.Common.{◌≡◌, ◌≤◌, ◌<◌, ℕ, zero, suc, ◌+◌, nat_lt, ◌||◌, Bool, true, false, cond, List, [], ◌∷◌}
+use Rattle.std.proofs.Common.{◌≡◌, ◌≤◌, ℕ, suc, ◌+◌, nat_lt, ◌||◌, Bool, true, false, cond, List, [], ◌∷◌}
 use Rattle.std.proofs.Common.{map}
 use Rattle.std.proofs.Common.{length, Option, Some, None, slice_get, get_or, refl, sym, ap, subst, ◌∙◌, arith}
 use Rattle.std.specs.Prelude.{is_some}
-use Rattle.std.specs.List.{AllByRecursion, AllZip, cons_option, filter_map, flat_map, position, zip}
-use Rattle.std.specs.Map.{lookup}
+use Rattle.std.specs.List.{AllByRecursion, AllZip, cons_option, filter_map, zip}
 use Rattle.std.specs.Option.{option_and_then, option_map, option_map_or, unwrap_or}
-use Rattle.std.proofs.lemmas.Bool.{and_parts, le-ltb, ltb-false}
+use Rattle.std.proofs.lemmas.Bool.{and_parts, ltb-false}
 use Rattle.std.proofs.lemmas.List.Quantifiers.{position-Some}
 use Rattle.std.proofs.lemmas.Option.{same_Some, slice_get-get_or}
 use Rattle.jv_base.specs.Names.{is_text}
@@ -24,25 +23,26 @@ use Rattle.attribute_filter.specs.declared.filter.AttributeFilter.{AttributeFilt
 use Rattle.keep_rules.specs.declared.rules.Rules.{Rules}
 use Rattle.require_sys.specs.Required.{kept_by_rules, required}
 use Rattle.mark_core.specs.Marks.{Closed, set_of}
-use Rattle.member_shrink.specs.Shrunk.{chosen, is_marked, shrunk}
+use Rattle.member_shrink.specs.Shrunk.{is_marked, shrunk}
 use Rattle.shrunk_image.proofs.Classes.{f}
 use Rattle.shrunk_image.proofs.Kept.{as_filter, kept_of}
 use Rattle.class_rename.specs.Names as class_rename
-use Rattle.class_rename.specs.Renamed.{renamed_handler, renamed_ins, renamed_op}
+use Rattle.class_rename.specs.Renamed.{renamed_ins}
 use Rattle.mapping_file.specs.declared.mapping.MapClass.{MapClass}
 use Rattle.mapping_file.specs.declared.mapping.MapField.{MapField}
 use Rattle.mapping_file.specs.declared.mapping.MapMethod.{MapMethod}
 use Rattle.mapping_file.specs.declared.mapping.Mapping.{Mapping}
 use Rattle.new_names.specs.NewNames.{all_field_names, all_method_names, class_line, class_lines, field_in, field_lines}
-use Rattle.new_names.specs.NewNames.{field_names, is_same, method_in, method_lines, method_names, names_given, names_of}
+use Rattle.new_names.specs.NewNames.{field_names, is_same, method_in, method_lines, method_names, names_given}
+use Rattle.new_names.specs.NewNames.{names_of}
 use Rattle.new_names.specs.NewNames.{NameAndType, new_class, new_field, new_method}
 use Rattle.new_names.specs.declared.class_names.ClassNames.{ClassNames}
 use Rattle.jvm_model.specs.Mapped.{OptionCorr}
 use Rattle.jvm_model.specs.Same.{LineCorr}
-use Rattle.pair_clauses.specs.Codes.{AreSameCodes, ClassCodeDiffers, IsSameBody, IsSameCode}
+use Rattle.pair_clauses.specs.Codes.{AreSameCodes, ClassCodeDiffers, IsSameBody}
 use Rattle.pair_clauses.specs.Finding.{FirstOf, FirstUnlike}
 use Rattle.pair_clauses.specs.Members.{ClassDiffers, IsSameClass, IsSameField, IsSameMethod, LinedDiffers, NewField}
-use Rattle.pair_clauses.specs.Members.{NewMethod, expected_fields, expected_methods, further_fault, new_one, with_name}
+use Rattle.pair_clauses.specs.Members.{NewMethod, expected_fields, expected_methods, new_one, with_name}
 use Rattle.pair_clauses.specs.Places.{class_place, place_of_field, place_of_method}
 use Rattle.pair_clauses.specs.Shape.{number_of}
 use Rattle.pair_clauses.specs.declared.place.Place.{Place}
@@ -112,7 +112,11 @@ module _ (names : class_rename.Names) where
   instructions_new (x ∷ xs) (y ∷ ys) e =
       let first : renamed_ins names x ≡ y = cc in
       let rest : map (renamed_ins names) xs ≡ ys = cc in (
-        record { op = sym (ap (λ (i : Ins). i.op) first); line = at_line x.line y.line (ap (λ (i : Ins). i.line) first) },
+        record {
+          op = sym (ap (λ (i : Ins). i.op) first);
+          line = at_line x.line y.line (ap (λ
+              (i : Ins). i.line) first);
+        },
         instructions_new xs ys rest,
       )
     where
@@ -134,7 +138,8 @@ module _ (names : class_rename.Names) where
         lines_gone xs ys rest,
       )
 
-code_new : (mapping : Mapping) (filter : AttributeFilter) (a b : Option Code) → AreSameCodes mapping (code_kept filter a) b
+code_new : (mapping : Mapping) (filter : AttributeFilter) (a b : Option Code)
+    → AreSameCodes mapping (code_kept filter a) b
     → OptionCorr (IsNewCode (names_of mapping)) a b
 code_new mapping filter a b h = by filter.line_numbers a b h
   where
@@ -236,7 +241,8 @@ module _ (input output : List Class) (mapping : Mapping) (rules : Rules) (taken 
       (λ (l : MapClass). AllByRecursion (IsFound fields_table) (field_names l.fields)
       × AllByRecursion (IsFound methods_table) (method_names l.methods)) mapping.classes lines.each
       (all_both (λ (l : MapClass). AllByRecursion (IsFound fields_table) (field_names l.fields))
-      (λ (l : MapClass). AllByRecursion (IsFound methods_table) (method_names l.methods)) mapping.classes fields methods))
+      (λ (l : MapClass). AllByRecursion (IsFound methods_table)
+      (method_names l.methods)) mapping.classes fields methods))
 
   -- the line of a class
   pub line_of : (name : List ℕ) (l : MapClass) → class_line mapping name ≡ Some l → GoodLine l × (l.old ≡ name)
@@ -373,8 +379,10 @@ module _ (input output : List Class) (mapping : Mapping) (rules : Rules) (taken 
       let few_methods = ltb-false (length methods) (length o.out.methods) more.1 in
       record {
         class = all.0;
-        fields = unlike_none (IsSameField mapping) (λ (e : NewField). place_of_field c e.0) fields o.out.fields all.1.0 few;
-        methods = unlike_none (IsSameMethod mapping (filter_of rules)) (λ (e : NewMethod). place_of_method c e.0) methods
+        fields = unlike_none (IsSameField mapping) (λ
+            (e : NewField). place_of_field c e.0) fields o.out.fields all.1.0 few;
+        methods = unlike_none (IsSameMethod mapping (filter_of rules)) (λ
+            (e : NewMethod). place_of_method c e.0) methods
             o.out.methods all.1.1.0 few_methods;
         bodies = unlike_none (IsSameBody mapping (filter_of rules)) (λ (e : NewMethod). place_of_method c e.0) methods
             o.out.methods codes few_methods;
@@ -415,12 +423,13 @@ module _ (input output : List Class) (mapping : Mapping) (rules : Rules) (taken 
       omega arith in
       ap (is_marked lined) item ∙ method_lined mapping input n c at k x there
 
-  methods_new : (n : ℕ) (c : Class) → slice_get input n ≡ Some c → (o : NewOne c)
+  pub methods_new : (n : ℕ) (c : Class) → slice_get input n ≡ Some c → (o : NewOne c)
       → AllZip (IsNewMethod names) (f input lined n c).methods o.out.methods
   methods_new n c at o =
       subst (λ (t : List Method). AllZip (IsNewMethod names) t o.out.methods)
       (sym (as_filter (is_marked lined) (λ k x. x) (method_item n c) c.methods))
-      (expected_kept (new_method mapping c) (is_marked lined) (IsSameMethod mapping (filter_of rules)) (IsNewMethod names)
+      (expected_kept (new_method mapping c) (is_marked lined) (IsSameMethod mapping (filter_of rules))
+      (IsNewMethod names)
       (λ x new y e h. record {
         name = sym h.name ∙ sym (method_name x.name new (method_text x.ty) (method_found c x new e));
         ty = sym h.ty;

@@ -4,7 +4,6 @@ use Rattle.std.proofs.Common.{sym, ap}
 use Rattle.std.proofs.Common.{subst, ◌∙◌}
 use Rattle.std.specs.List.{AllByRecursion}
 use Rattle.std.specs.Option.{unwrap_or}
-use Rattle.std.proofs.lemmas.Option.{same_Some}
 use Rattle.jv_base.specs.Names.{is_text}
 use Rattle.pair_clauses.specs.FixedNames.{is_misnamed}
 use Rattle.pair_same.proofs.Tables.{IsFound, Names, by_old, looked, one_old, same_text, text_itself, turned}

@@ -1,7 +1,6 @@
 -- Which items have lines, item by item.
-use Rattle.std.proofs.Common.{◌≡◌, ◌<◌, ℕ, zero, suc, ◌+◌, Bool, true, false, List, [], ◌∷◌, ◌++◌, length, map, take}
-use Rattle.std.proofs.Common.{Option}
-use Rattle.std.proofs.Common.{Some, None, slice_get, get_or, refl, sym, ap, ◌∙◌, arith, length-append}
+use Rattle.std.proofs.Common.{◌≡◌, ◌<◌, ℕ, zero, suc, ◌+◌, Bool, false, List, [], ◌∷◌, ◌++◌, length, map, take}
+use Rattle.std.proofs.Common.{Some, slice_get, get_or, refl, ap, ◌∙◌, arith, length-append}
 use Rattle.std.specs.Prelude.{is_some}
 use Rattle.std.specs.List.{flat_map}
 use Rattle.std.specs.Option.{option_map}
@@ -16,7 +15,6 @@ use Rattle.class_pool.specs.Items.{class_item}
 use Rattle.member_shrink.specs.Shrunk.{is_marked}
 use Rattle.mapping_file.specs.declared.mapping.Mapping.{Mapping}
 use Rattle.new_names.specs.NewNames.{names_given, new_class, new_field, new_method}
-use Rattle.new_names.specs.declared.class_names.ClassNames.{ClassNames}
 use Rattle.pair_clauses.specs.Closing.{lined_in, lined_items}
 use Rattle.pair_same.specs.Pairs.{given_names}
 
@@ -81,7 +79,8 @@ module _ (mapping : Mapping) (input : List Class) where
   module _ (n : ℕ) (c : Class) (is : slice_get input n ≡ Some c) where
     item_at : (k : ℕ) → k < items_of c → is_marked marks (class_item input n + k) ≡ get_or (lined c) k false
     item_at k low =
-        ap (λ (t : List Bool). get_or t (class_item input n + k) false) (flat_of_map lined_in (names_given mapping) input)
+        ap (λ (t : List Bool). get_or t (class_item input n + k) false) (flat_of_map lined_in
+        (names_given mapping) input)
         ∙ flat_at lined count input n c k is low
 
     pub class_lined : is_marked marks (class_item input n) ≡ is_some (new_class mapping c.name)

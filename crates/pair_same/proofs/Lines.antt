@@ -3,19 +3,18 @@
 use Rattle.std.proofs.Common.{◌≡◌, ℕ, ◌||◌, not, Bool, true, false, cond, List, [], ◌∷◌, ◌++◌, map, Option, Some}
 use Rattle.std.proofs.Common.{None, refl}
 use Rattle.std.proofs.Common.{sym, ap, subst, ◌∙◌}
-use Rattle.std.specs.Prelude.{is_some}
 use Rattle.std.specs.List.{AllByRecursion, flat_map, list_any}
 use Rattle.std.specs.Map.{lookup}
 use Rattle.std.specs.Option.{option_or}
 use Rattle.std.proofs.lemmas.List.{map-append}
-use Rattle.std.proofs.lemmas.Option.{same_Some}
 use Rattle.jv_base.specs.Names.{is_text}
 use Rattle.class_model.specs.declared.class.Class.{Class}
 use Rattle.mapping_file.specs.declared.mapping.MapClass.{MapClass}
 use Rattle.mapping_file.specs.declared.mapping.MapField.{MapField}
 use Rattle.mapping_file.specs.declared.mapping.MapMethod.{MapMethod}
 use Rattle.mapping_file.specs.declared.mapping.Mapping.{Mapping}
-use Rattle.new_names.specs.NewNames.{all_field_names, all_method_names, class_lines, field_names, is_same, method_names}
+use Rattle.new_names.specs.NewNames.{all_field_names, all_method_names, class_lines, field_names, is_same}
+use Rattle.new_names.specs.NewNames.{method_names}
 use Rattle.pair_clauses.specs.Finding.{first_place}
 use Rattle.pair_clauses.specs.Places.{class_place, field_place, method_place, place_if}
 use Rattle.pair_clauses.specs.Shape.{clashes, field_fault, field_named, fields_fault, has_class, has_member}
@@ -96,7 +95,8 @@ module _ (input : List Class) (class : List ℕ) (before : Names) where
       → fields_fault input class before own (l ∷ ls) ≡ None
       → (field_wrong own l ≡ false) × (fields_fault input class before (own ++ l ∷ []) ls ≡ None)
   field_step own l ls h =
-      let s = first_none (field_fault input class before own l) (fields_fault input class before (own ++ l ∷ []) ls) h in
+      let s = first_none (field_fault input class before own l) (fields_fault input class before
+      (own ++ l ∷ []) ls) h in
       (no_place (field_wrong own l) (field_place class l.ty l.old) s.0, s.1)
 
   abbrev method_wrong : List MapMethod → MapMethod → Bool

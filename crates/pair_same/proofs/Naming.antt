@@ -1,29 +1,28 @@
 -- The names that a pair's mapping gives keep apart all that is there: what the clauses MapShape, FixedName and Package
 -- give.
-use Rattle.std.proofs.Common.{◌≡◌, ◌⊎◌, inl, inr, ⊎_elim, ◌<◌, ℕ, zero, suc, ◌+◌, nat_eq, not, ◌&&◌, ◌||◌, Bool, true}
+use Rattle.std.proofs.Common.{◌≡◌, ◌⊎◌, inl, inr, ⊎_elim, ◌<◌, ℕ, zero, suc, ◌+◌, not, ◌&&◌, ◌||◌, Bool, true}
 use Rattle.std.proofs.Common.{false}
 use Rattle.std.proofs.Common.{cond, List, [], ◌∷◌, ◌++◌, length, map, Option, Some, None, slice_get, get_or, refl}
 use Rattle.std.proofs.Common.{sym, ap}
 use Rattle.std.proofs.Common.{subst, ◌∙◌, arith, codes}
 use Rattle.std.specs.Bool.{beq}
 use Rattle.std.specs.Prelude.{IfSome, IsTrue, is_some}
-use Rattle.std.specs.List.{AllByRecursion, AllZip, filter, flat_map, list_any, position, starts_with, zip}
+use Rattle.std.specs.List.{AllByRecursion, AllZip, flat_map, list_any, position, zip}
 use Rattle.std.specs.Map.{lookup}
 use Rattle.std.specs.Option.{option_and_then, option_map, option_map_or, option_or, unwrap_or}
 use Rattle.std.proofs.lemmas.Bool.{and_parts}
 use Rattle.std.proofs.lemmas.List.Quantifiers.{position-Some}
-use Rattle.std.proofs.lemmas.Option.{same_Some, slice_get-get_or, slice_get-map, slice_get_within}
+use Rattle.std.proofs.lemmas.Option.{same_Some, slice_get-get_or, slice_get-map}
 use Rattle.jv_base.specs.Names.{is_class_name, is_member_name, is_name_byte, is_text}
 use Rattle.jv_base.specs.Types.{field_text, method_text}
 use Rattle.lib_table.specs.Library.{LibraryClass, LibraryMember, library}
 use Rattle.lib_table.specs.Lookups as table
-use Rattle.lib_table.specs.declared.class.LibKind.{LibKind}
 use Rattle.class_model.specs.Flags.{is_init, is_interface}
 use Rattle.class_model.specs.WellFormed.{IsGoodField}
 use Rattle.class_model.specs.declared.class.Class.{Class}
 use Rattle.class_model.specs.declared.class.Field.{Field}
 use Rattle.class_model.specs.declared.class.Method.{Method}
-use Rattle.class_pool.specs.Found.{MemberRow, field_row, library_row, method_row, name_of, package_of, rows_in}
+use Rattle.class_pool.specs.Found.{MemberRow, field_row, library_row, method_row, package_of, rows_in}
 use Rattle.class_pool.specs.Hierarchy.{IsClass, class_named, or_found}
 use Rattle.class_pool.specs.Items.{class_item}
 use Rattle.class_pool.specs.Members.{declared_at, is_field, is_method, member_named, or_method}
@@ -51,27 +50,24 @@ use Rattle.pair_clauses.specs.Places.{class_place, place_if, place_of_field, pla
 use Rattle.pair_clauses.specs.Shape.{field_named, has_class, has_member, method_named, number_of}
 use Rattle.pair_clauses.specs.declared.place.Place.{Place}
 use Rattle.rename_map.specs.Fixed.{names_that_stay}
-use Rattle.require_sys.specs.Required.{kept_by_rules}
 use Rattle.require_sys.proofs.Parts.{all_map}
-use Rattle.shrunk_image.proofs.Classes.{f}
 use Rattle.shrunk_image.proofs.Kept.{as_filter}
 use Rattle.taken_set.specs.TakenSet.{IsTaken}
 use Rattle.taken_set.proofs.LibraryRows.{library_name}
 use Rattle.taken_set.proofs.Members.{row_parts}
-use Rattle.taken_set.proofs.Names.{class_found, library_named as library_class_named}
+use Rattle.taken_set.proofs.Names.{library_named as library_class_named}
 use Rattle.taken_set.proofs.Rows.{all_at, all_from}
 use Rattle.removal_links.proofs.Places.{origin}
 use Rattle.view_image.proofs.Naming.{class_name}
-use Rattle.renamed_image.specs.Renaming.{FindsItsClasses, IsMemberName, IsNamedBy, IsNewField, KeepsNamesApart}
+use Rattle.renamed_image.specs.Renaming.{IsMemberName, IsNewField, KeepsNamesApart}
 use Rattle.renamed_image.specs.Renaming.{is_known, is_library_name}
-use Rattle.renamed_image.specs.Naming.{library_rows_of}
 use Rattle.renamed_image.proofs.Declared.{any_of, library_at}
 use Rattle.renamed_image.proofs.Descriptors.{field_is_none, method_is_one}
 use Rattle.renamed_image.specs.Renaming.{is_method_text}
 use Rattle.pair_same.specs.Pairs.{IsPair, given_names}
-use Rattle.pair_same.proofs.Expected.{GoodLine, all_good, becomes, closed, each_all, field_found, fields_table, left}
+use Rattle.pair_same.proofs.Expected.{GoodLine, all_good, becomes, each_all, field_found, fields_table, left}
 use Rattle.pair_same.proofs.Expected.{line_of}
-use Rattle.pair_same.proofs.Expected.{lined, mapped_all, method_found, methods_table, names, new_of, numbered_class}
+use Rattle.pair_same.proofs.Expected.{lined, mapped_all, method_found, methods_table, names, numbered_class}
 use Rattle.pair_same.proofs.Expected.{place}
 use Rattle.pair_same.proofs.Expected.{renamed, some_of, some_under, zip_given}
 use Rattle.pair_same.proofs.Fixing as fixing
@@ -91,7 +87,8 @@ flat_from : {X Y : Type 0} (P : Y → Type 0) (g : X → List Y) (xs : List X)
 flat_from P g [] h = tt
 flat_from {X} {Y} P g (x ∷ xs) h = both (g x) h.0 (flat_from P g xs h.1)
   where
-    both : (ys : List Y) → AllByRecursion P ys → AllByRecursion P (flat_map g xs) → AllByRecursion P (ys ++ flat_map g xs)
+    both : (ys : List Y) → AllByRecursion P ys → AllByRecursion P (flat_map g xs)
+        → AllByRecursion P (ys ++ flat_map g xs)
     both [] a b = b
     both (y ∷ ys) a b = (a.0, both ys a.1 b)
 
@@ -113,7 +110,7 @@ found_at test [] k e = absurd cc
 found_at test (x ∷ xs) k e =
     let p = position-Some test (x ∷ xs) k x e in (get_or (x ∷ xs) k x, slice_get-get_or (x ∷ xs) k x p.0, p.1)
 
-zip_at : {A B : Type 0} (R : A → B → Type 0) (xs : List A) (ys : List B) (k : ℕ) (x : A) → AllZip R xs ys
+pub zip_at : {A B : Type 0} (R : A → B → Type 0) (xs : List A) (ys : List B) (k : ℕ) (x : A) → AllZip R xs ys
     → slice_get xs k ≡ Some x → (y : B) × (slice_get ys k ≡ Some y) × R x y
 zip_at R [] ys k x z e = absurd cc
 zip_at R (a ∷ xs) [] k x z e = absurd z
@@ -169,7 +166,8 @@ no_init name h = by (is_text name (codes "<init>")) refl
     by false e = refl
 
 -- a member of the library has a name of its kind
-library_name_taken : (classes : List Class) (id k : ℕ) (row : MemberRow) → slice_get (rows_in classes (Lib id)) k ≡ Some row
+library_name_taken : (classes : List Class) (id k : ℕ) (row : MemberRow)
+    → slice_get (rows_in classes (Lib id)) k ≡ Some row
     → is_taken (library_names row.is_method) row.named.0 ≡ true
 library_name_taken classes id k row at =
     let c = library_at id k row at in
@@ -181,7 +179,8 @@ library_name_taken classes id k row at =
     (ap (λ (b : Bool). beq m.0.is_method b) kind ∙ same_bool m.0.is_method)
     (ap (is_text m.0.name) name ∙ text_itself m.0.name) in
     library_named row.is_method row.named.0
-    ∙ any_of (λ (x : LibraryClass). list_any test x.members) library id c.0 c.1 (any_of test c.0.members k m.0 m.1 passes)
+    ∙ any_of (λ (x : LibraryClass). list_any test x.members) library id c.0 c.1
+    (any_of test c.0.members k m.0 m.1 passes)
   where
     same_bool : (b : Bool) → beq b b ≡ true
     same_bool true = refl
@@ -222,7 +221,8 @@ module _ (input output : List Class) (mapping : Mapping) (rules : Rules) (taken 
       let here = all_at (λ (c : Class). fixed_in fixed (c, names_given mapping c) ≡ None) input n c
       (zip_given (λ (p : Class × ClassNames). fixed_in fixed p ≡ None) (names_given mapping) input
       (all_first (fixed_in fixed) (zip input (given_names mapping input)) (sym pair.fixed))) at in
-      let members = first_none (place_if (is_renamed fixed.class c.name (new_class mapping c.name)) (class_place c.name))
+      let members = first_none (place_if (is_renamed fixed.class c.name (new_class mapping c.name))
+      (class_place c.name))
       (option_or (first_place (field_fault fixed.field c) (zip c.fields (map (new_field mapping c) c.fields)))
       (first_place (method_fault fixed.method c) (zip c.methods (map (new_method mapping c) c.methods)))) here in
       first_none (first_place (field_fault fixed.field c) (zip c.fields (map (new_field mapping c) c.fields)))
@@ -243,7 +243,8 @@ module _ (input output : List Class) (mapping : Mapping) (rules : Rules) (taken 
       → is_misnamed fixed.method x.name new ≡ false
   method_right n c at k x there new is =
       let one = all_at (λ (x : Method). method_fault fixed.method c (x, new_method mapping c x) ≡ None) c.methods k x
-      (zip_given (λ (p : Method × Option (List ℕ)). method_fault fixed.method c p ≡ None) (new_method mapping c) c.methods
+      (zip_given (λ (p : Method × Option (List ℕ)). method_fault fixed.method c p ≡ None)
+      (new_method mapping c) c.methods
       (all_first (method_fault fixed.method c) (zip c.methods (map (new_method mapping c) c.methods))
       (fixed_at n c at).1)) there in
       sym (ap (is_renamed fixed.method x.name) is)
@@ -272,7 +273,8 @@ module _ (input output : List Class) (mapping : Mapping) (rules : Rules) (taken 
   field_line_right : (l : MapClass) → GoodLine input output mapping rules taken pair l → (k : ℕ) (m : MapField)
       → slice_get l.fields k ≡ Some m → is_misnamed fixed.field m.old m.new ≡ false
   field_line_right l good k m at =
-      let has = all_at (λ (x : MapField). has_member input l.old (field_named x) ≡ true) l.fields k m good.line.fields at in
+      let has = all_at (λ (x : MapField). has_member input l.old
+      (field_named x) ≡ true) l.fields k m good.line.fields at in
       let d = declared_of l good (field_named m) has in
       by d.0 d.1 d.2 d.3 (position (is_field m.old (field_text m.ty)) d.1.fields) refl d.4
     where
@@ -295,12 +297,14 @@ module _ (input output : List Class) (mapping : Mapping) (rules : Rules) (taken 
           let passes : test (m.old, field_text m.ty) ≡ true =
           and_both (is_text m.old x.0.name) (is_text (field_text m.ty) (field_text x.0.ty))
           (ap (is_text m.old) same ∙ text_itself m.old) parts.1 in
-          let new = some_of (field_in l x.0) (lookup_some test (field_lines l.fields) k ((m.old, field_text m.ty), m.new)
+          let new = some_of (field_in l x.0) (lookup_some test (field_lines l.fields) k
+          ((m.old, field_text m.ty), m.new)
           (slice_get-map (λ (y : MapField). ((y.old, field_text y.ty), y.new)) l.fields k
           ∙ ap (option_map (λ (y : MapField). ((y.old, field_text y.ty), y.new))) at) passes) in
           let given : new_field mapping c x.0 ≡ Some new.0 = ap (option_and_then (λ l. field_in l x.0)) class ∙ new.1 in
           let found = field_found input output mapping rules taken pair c x.0 new.0 given in
-          let own = all_at (λ (y : MapField). IsFound (fields_table input output mapping rules taken pair) (y.old, y.new))
+          let own = all_at (λ (y : MapField). IsFound (fields_table input output mapping rules taken pair)
+          (y.old, y.new))
           l.fields k m (all_map (IsFound (fields_table input output mapping rules taken pair))
           (λ (y : MapField). (y.old, y.new)) l.fields good.fields) at in
           let one : new.0 ≡ m.new = same_Some new.0 m.new (sym found.old
@@ -339,7 +343,8 @@ module _ (input output : List Class) (mapping : Mapping) (rules : Rules) (taken 
           ((m.old, method_text m.ty), m.new)
           (slice_get-map (λ (y : MapMethod). ((y.old, method_text y.ty), y.new)) l.methods k
           ∙ ap (option_map (λ (y : MapMethod). ((y.old, method_text y.ty), y.new))) at) passes) in
-          let given : new_method mapping c x.0 ≡ Some new.0 = ap (option_and_then (λ l. method_in l x.0)) class ∙ new.1 in
+          let given : new_method mapping c x.0 ≡ Some new.0 = ap (option_and_then (λ l. method_in l x.0)) class
+          ∙ new.1 in
           let found = method_found input output mapping rules taken pair c x.0 new.0 given in
           let own = all_at
           (λ (y : MapMethod). IsFound (methods_table input output mapping rules taken pair) (y.old, y.new))
@@ -489,7 +494,8 @@ module _ (input output : List Class) (mapping : Mapping) (rules : Rules) (taken 
       by (Lib id) k row at kind name =
           ap is_init (fixing.fixed_stays (fields_table input output mapping rules taken pair) fixed.field fields_right a
           (field_fixed a (ap (is_taken (library_names false)) (sym name)
-          ∙ ap (λ (b : Bool). is_taken (library_names b) row.named.0) (sym kind) ∙ library_name_taken rest id k row at)))
+          ∙ ap (λ (b : Bool). is_taken (library_names b) row.named.0) (sym kind)
+          ∙ library_name_taken rest id k row at)))
       by (Prog j) k row at kind name =
           let d = program_row k row j at in
           ⊎_elim
@@ -573,7 +579,8 @@ module _ (input output : List Class) (mapping : Mapping) (rules : Rules) (taken 
           ∙ h.0.line.new) in
           sym g.1 ∙ ap (λ (l : MapClass). l.old) lines ∙ h.1
 
-  package_stays : (j : ℕ) (d : Class) → slice_get rest j ≡ Some d → package_of (new_names.class d.name) ≡ package_of d.name
+  package_stays : (j : ℕ) (d : Class) → slice_get rest j ≡ Some d
+      → package_of (new_names.class d.name) ≡ package_of d.name
   package_stays j d at =
       let b = becomes input output mapping rules taken pair j d at in
       let c = b.class in
@@ -607,7 +614,8 @@ module _ (input output : List Class) (mapping : Mapping) (rules : Rules) (taken 
         library_method = λ id k row at kind. fixing.fixed_stays methods fixed.method methods_right row.named.0
             (library_method_fixed row.named.0 (ap (λ (b : Bool). is_taken (library_names b) row.named.0) (sym kind)
             ∙ library_name_taken rest id k row at));
-        one_field = λ a b h k e. fixing.one_name fields fixed.field fields_right a b (field_given a h) (field_given b k) e;
+        one_field = λ a b h k e. fixing.one_name fields fixed.field fields_right a b (field_given a h)
+            (field_given b k) e;
         one_method = λ a b d h k e. fixing.one_name methods fixed.method methods_right a b (method_given a h)
             (method_given b k) e;
         init_field = init_of_fields;

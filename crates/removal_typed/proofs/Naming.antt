@@ -1,7 +1,7 @@
 -- What closed marks keep of the classes that a method names.
-use Rattle.std.proofs.Common.{◌≡◌, ◌<◌, ℕ, zero, suc, Bool, true, false, cond, List, [], ◌∷◌, ◌++◌, length, Option}
+use Rattle.std.proofs.Common.{◌≡◌, ℕ, Bool, true, false, cond, List, [], ◌∷◌, ◌++◌, Option}
 use Rattle.std.proofs.Common.{Some}
-use Rattle.std.proofs.Common.{None, Result, Ok, Err, slice_get, nat_eq, refl, sym, ap, subst, ◌∙◌, arith, codes}
+use Rattle.std.proofs.Common.{None, Result, Ok, Err, nat_eq, refl, sym, subst, codes}
 use Rattle.std.specs.Prelude.{IfSome, ◌==◌}
 use Rattle.std.specs.List.{AllByRecursion, cons_option, flat_map, starts_with}
 use Rattle.std.specs.Option.{option_map, option_map_or}
@@ -17,11 +17,10 @@ use Rattle.class_model.specs.declared.code.Handler.{Handler}
 use Rattle.class_model.specs.declared.frame.FrameAt.{FrameAt}
 use Rattle.class_model.specs.declared.frame.VType.{VType}
 use Rattle.class_model.specs.declared.frame.VType.TheVariants as vtype
-use Rattle.lib_table.specs.Library.{library}
 use Rattle.lib_table.specs.Lookups as table
 use Rattle.class_pool.specs.Hierarchy.{IsClass, class_named}
 use Rattle.class_pool.specs.declared.id.ClassId.{ClassId}
-use Rattle.class_pool.specs.declared.id.ClassId.TheVariants.{Prog, Lib}
+use Rattle.class_pool.specs.declared.id.ClassId.TheVariants.{Lib}
 use Rattle.class_pool.proofs.Declaring.{named_there}
 use Rattle.class_rename.specs.Names.{same_names}
 use Rattle.member_shrink.specs.Shrunk.{is_marked, shrunk}
@@ -34,7 +33,7 @@ use Rattle.set_image.specs.Image.{Image}
 use Rattle.shrunk_image.specs.Keeping.{is_class_kept}
 use Rattle.shrunk_image.proofs.Classes.{kept_from, named_moved}
 use Rattle.taken_set.specs.TakenSet.{IsTaken}
-use Rattle.taken_set.proofs.Names.{class_found, library_named}
+use Rattle.taken_set.proofs.Names.{library_named}
 use Rattle.type_verifier.specs.Rules.{told_type}
 use Rattle.removal_image.proofs.Marked.{image}
 use Rattle.removal_image.proofs.Wanted.{AllIn, In, name_kept}

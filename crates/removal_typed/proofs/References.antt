@@ -5,13 +5,11 @@ use Rattle.std.proofs.Common.{Result, Ok, Err, slice_get, refl, sym, ap, subst, 
 use Rattle.std.specs.Prelude.{IfSome, ◌==◌}
 use Rattle.std.specs.Cmp.Lexicographic.{same_text}
 use Rattle.std.specs.List.{cons_option, flat_map}
-use Rattle.std.specs.Option.{option_map, option_map_or}
-use Rattle.std.proofs.lemmas.Bool.{and_parts}
+use Rattle.std.specs.Option.{option_map_or}
 use Rattle.jv_base.specs.Descriptors.{read_field, read_method}
 use Rattle.jv_base.specs.Names.{is_text}
 use Rattle.jv_base.specs.declared.types.Base.{Base}
 use Rattle.jv_base.specs.declared.types.Base.TheVariants as base
-use Rattle.jv_base.specs.declared.types.FieldType.{FieldType}
 use Rattle.mark_core.specs.Marks.{Closed}
 use Rattle.class_model.specs.WellFormed.{IsGoodOp}
 use Rattle.class_model.specs.declared.class.Class.{Class}
@@ -27,7 +25,7 @@ use Rattle.class_pool.specs.Walk.{highest, own_superinterfaces, upwards}
 use Rattle.class_pool.specs.declared.id.ClassId.{ClassId}
 use Rattle.class_pool.specs.declared.id.ClassId.TheVariants.{Prog}
 use Rattle.class_pool.specs.declared.id.MemberAt.{MemberAt}
-use Rattle.link_check.specs.Links.{callable, is_callable_role, linked_field, linked_method, resolved_field}
+use Rattle.link_check.specs.Links.{callable, is_callable_role, linked_field, linked_method}
 use Rattle.link_check.specs.Links.{resolved_method}
 use Rattle.link_check.specs.Profile.{call_kinds, class_of, field_kinds, field_text_kinds, member_kinds}
 use Rattle.link_check.specs.Profile.{method_text_kinds}
@@ -37,7 +35,6 @@ use Rattle.link_check.specs.declared.fault.LinkKind.TheVariants as link
 use Rattle.link_check.specs.declared.fault.ProfileKind.{ProfileKind}
 use Rattle.link_check.specs.declared.fault.ProfileKind.TheVariants.{WrongKind}
 use Rattle.class_rename.specs.Names.{same_names}
-use Rattle.class_rename.specs.Renamed.{renamed_field_ref, renamed_method_ref}
 use Rattle.member_shrink.specs.Shrunk.{is_marked, shrunk}
 use Rattle.require_sys.specs.Requires.{Item, field_ref_wants, method_ref_wants, op_wants, requires, special_wants}
 use Rattle.require_sys.specs.declared.kept.KeptByRules.{KeptByRules}

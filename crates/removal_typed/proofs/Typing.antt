@@ -1,6 +1,5 @@
 -- Each method that is left is typed, as it was.
-use Rattle.std.proofs.Common.{◌≡◌, ℕ, zero, suc, ◌+◌, Bool, true, false, List, [], ◌∷◌, ◌++◌, length, Option, Some}
-use Rattle.std.proofs.Common.{None}
+use Rattle.std.proofs.Common.{◌≡◌, ℕ, zero, suc, ◌+◌, Bool, true, List, [], ◌∷◌, ◌++◌, length, Option, Some}
 use Rattle.std.proofs.Common.{slice_get}
 use Rattle.std.proofs.Common.{refl, sym, ap, subst, ◌∙◌, arith}
 use Rattle.std.specs.Prelude.{IfSome}
@@ -15,7 +14,6 @@ use Rattle.class_model.specs.declared.code.Code.{Code}
 use Rattle.class_model.specs.declared.code.Ins.{Ins}
 use Rattle.class_pool.specs.Items.{class_item}
 use Rattle.class_pool.specs.declared.id.ClassId.TheVariants.{Prog}
-use Rattle.class_pool.specs.declared.id.MemberAt.{MemberAt}
 use Rattle.link_check.specs.Profile.{body_kinds, code_kinds, declaration_kinds, frame_kinds, handler_kinds, op_kinds}
 use Rattle.link_check.specs.Profile.{overriding_kinds}
 use Rattle.link_check.proofs.Taken.{links_taken}
@@ -24,13 +22,12 @@ use Rattle.member_shrink.specs.Shrunk.{is_marked, shrunk}
 use Rattle.require_sys.specs.Requires.{Item, code_wants, op_wants, requires}
 use Rattle.require_sys.specs.declared.kept.KeptByRules.{KeptByRules}
 use Rattle.require_sys.proofs.Parts.{all_left}
-use Rattle.shrunk_image.specs.Keeping.{is_class_kept, rank}
-use Rattle.shrunk_image.proofs.Classes.{f, p}
+use Rattle.shrunk_image.specs.Keeping.{is_class_kept}
+use Rattle.shrunk_image.proofs.Classes.{f}
 use Rattle.shrunk_image.proofs.Kept.{as_filter}
 use Rattle.taken_set.specs.TakenSet.{IsTaken}
 use Rattle.taken_set.proofs.Rows.{none_left}
-use Rattle.type_verifier.specs.Typed.{Typed}
-use Rattle.type_verifier.specs.Verified.{AreTyped, IsTypedAt, IsTypedMethod, environment}
+use Rattle.type_verifier.specs.Verified.{AreTyped, IsTypedMethod}
 use Rattle.removal_image.proofs.Wanted.{AllIn, In, wants_of_code, wants_of_method}
 use Rattle.removal_links.proofs.Instructions.{left}
 use Rattle.removal_links.proofs.Left.{stays}

@@ -1,15 +1,13 @@
 -- Whether a name and a descriptor are those of a member that is there, as a test.
 use Rattle.std.proofs.Common.{◌≡◌, inl, inr, ◌⊎◌, ⊎_elim, ℕ, zero, suc, ◌&&◌, ◌||◌, Bool, true, false, List, [], ◌∷◌}
-use Rattle.std.proofs.Common.{◌++◌, map, slice_get, Option, Some, None, refl, sym, ap, subst, ◌∙◌, arith, length}
-use Rattle.std.specs.Prelude.{IfSome, codes, is_some, slice_index_or}
-use Rattle.std.specs.Option.{option_map, option_map_or}
-use Rattle.std.specs.List.{AllByRecursion, list_any}
+use Rattle.std.proofs.Common.{◌++◌, map, slice_get, Option, Some, None, refl, sym, ap, subst, ◌∙◌, arith}
+use Rattle.std.specs.Prelude.{codes, is_some, slice_index_or}
+use Rattle.std.specs.Option.{option_map_or}
+use Rattle.std.specs.List.{list_any}
 use Rattle.std.proofs.lemmas.Bool.{and_parts}
-use Rattle.std.proofs.lemmas.Option.{same_Some, slice_get-map}
-use Rattle.std.proofs.lemmas.List.{get_or_past}
+use Rattle.std.proofs.lemmas.Option.{same_Some}
 use Rattle.jv_base.specs.Names.{is_text}
-use Rattle.jv_base.specs.Types.{IsFieldType, IsMethodType, argument_words, field_text, method_text, result_text}
-use Rattle.jv_base.specs.declared.types.FieldType.{FieldType}
+use Rattle.jv_base.specs.Types.{IsFieldType, IsMethodType, argument_words, method_text, result_text}
 use Rattle.jv_base.specs.declared.types.MethodType.{MethodType}
 use Rattle.jv_base.proofs.Equality.{text_Decides}
 use Rattle.lib_table.specs.Library.{LibraryClass, class, library}

@@ -36,7 +36,7 @@ use Rattle.view_image.proofs.Naming.{class_name}
 use Rattle.class_rename.specs.Names.{Names}
 use Rattle.renamed_form.specs.Form.{IsKnownMethodType, IsKnownType}
 use Rattle.renamed_image.specs.Naming.{is_class_there, is_declared, is_member_there, is_row, new_named}
-use Rattle.renamed_image.specs.Renaming.{FindsItsClasses, IsNewClass, IsNewField, IsNewMethod, IsRenamedSet}
+use Rattle.renamed_image.specs.Renaming.{FindsItsClasses, IsNewField, IsNewMethod, IsRenamedSet}
 use Rattle.renamed_image.specs.Renaming.{IsMemberName, KeepsNamesApart, NamesKnownTypes, is_known, is_library_name}
 use Rattle.renamed_image.specs.Renaming.{placed, placed_member, renamed_named}
 use Rattle.renamed_image.proofs.Declared.{row_declared, test_of, tested}

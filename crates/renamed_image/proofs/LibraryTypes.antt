@@ -1,14 +1,12 @@
 -- What is computed of the descriptors of the library's members: each spells a type of classes in packages of the
 -- library.
-use Rattle.std.proofs.Common.{◌≡◌, inl, inr, ◌⊎◌, ◌<◌, ◌≤◌, ⊎_elim, ℕ, zero, suc, ◌&&◌, not, Bool, true, false, cond}
+use Rattle.std.proofs.Common.{◌≡◌, ◌⊎◌, ◌<◌, ◌≤◌, ⊎_elim, ℕ, zero, suc, ◌&&◌, Bool, true, false, cond}
 use Rattle.std.proofs.Common.{List, [], ◌∷◌, map, slice_get, Option, Some, None, Result, Ok, Err, refl, sym, ap, subst}
 use Rattle.std.proofs.Common.{◌∙◌, length}
 use Rattle.std.specs.Prelude.{IfSome}
-use Rattle.std.specs.Bool.{beq}
-use Rattle.std.specs.Option.{option_map}
 use Rattle.std.specs.List.{AllByRecursion, list_all}
 use Rattle.std.proofs.lemmas.Bool.{and_parts, cases_lt}
-use Rattle.std.proofs.lemmas.Option.{same_Some, slice_get-map}
+use Rattle.std.proofs.lemmas.Option.{same_Some}
 use Rattle.jv_base.specs.Descriptors.{grown, read_field, read_method}
 use Rattle.jv_base.specs.Names.{is_class_name, is_member_name, is_name_byte, is_primitive_or_void, part_after}
 use Rattle.jv_base.specs.Types.{IsFieldType, IsMethodType, argument_words, field_text, method_text, words_of}
@@ -26,12 +24,10 @@ use Rattle.lib_table.specs.declared.class.LibKind.{LibKind}
 use Rattle.class_model.specs.declared.class.Class.{Class}
 use Rattle.class_pool.specs.Found.{MemberRow, library_row, rows_in}
 use Rattle.class_pool.specs.bodies.Graph.{library_ids}
-use Rattle.class_pool.specs.declared.id.ClassId.{ClassId}
 use Rattle.class_pool.specs.declared.id.ClassId.TheVariants.{Lib}
 use Rattle.renamed_form.specs.Form.{IsKnownMethodType, IsKnownType}
 use Rattle.renamed_image.specs.Renaming.{is_library_name}
 use Rattle.taken_set.proofs.LibraryRows.{at_row, past_last}
-use Rattle.taken_set.proofs.Rows.{all_at}
 
 -- the descriptor spells a type of known classes: of a method, or with false of a field
 abbrev pub IsDescribed : (List ℕ → Bool) → Bool → List ℕ → Type 0

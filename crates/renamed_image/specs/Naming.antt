@@ -1,5 +1,5 @@
 -- What names and what is there under new names, as tests on the classes (the project's own).
-use Rattle.std.specs.Prelude.{ℕ, ◌&&◌, ◌||◌, Bool, true, List, ◌++◌, map, Option, Some, None, codes, slice_get, is_some}
+use Rattle.std.specs.Prelude.{◌&&◌, ◌||◌, Bool, true, List, ◌++◌, map, Option, Some, None, codes, slice_get, is_some}
 use Rattle.std.specs.Prelude.{if◌then◌else◌}
 use Rattle.std.specs.List.{list_any}
 use Rattle.jv_base.specs.Names.{is_text}

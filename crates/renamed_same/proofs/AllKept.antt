@@ -2,17 +2,16 @@
 use Rattle.std.proofs.Common.{◌≡◌, ◌<◌, ◌≤◌, ℕ, zero, suc, ◌+◌, Bool, true, false, cond, List, [], ◌∷◌, length, map}
 use Rattle.std.proofs.Common.{take, Option}
 use Rattle.std.proofs.Common.{Some, None, slice_get, get_or, refl, sym, ap, subst, ◌∙◌, arith}
-use Rattle.std.specs.Prelude.{IsTrue, replicate}
+use Rattle.std.specs.Prelude.{IsTrue}
 use Rattle.std.specs.List.{All, AllByRecursion, AllZip}
 use Rattle.std.specs.Option.{option_map}
 use Rattle.std.proofs.lemmas.List.{get_or-replicate}
 use Rattle.std.proofs.lemmas.List.Elements.{All-from_recursion, recursion_from_All}
 use Rattle.std.proofs.lemmas.List.Sums.{sum_by-cons}
-use Rattle.std.proofs.lemmas.Option.{same_Some, slice_get_cases, slice_get_within}
+use Rattle.std.proofs.lemmas.Option.{same_Some, slice_get_within}
 use Rattle.mark_core.specs.Marks.{Closed, needs_of, set_of}
 use Rattle.mark_core.specs.Valid.{Valid}
 use Rattle.mark_core.specs.declared.system.Pair.{Pair}
-use Rattle.mark_core.specs.declared.system.System.{System}
 use Rattle.class_model.specs.declared.class.Class.{Class}
 use Rattle.class_model.specs.declared.class.Field.{Field}
 use Rattle.class_model.specs.declared.class.Method.{Method}
@@ -34,10 +33,8 @@ use Rattle.shrunk_image.proofs.Classes.{f, p}
 use Rattle.shrunk_image.proofs.Kept.{as_filter, kept_of}
 use Rattle.renamed_image.specs.Renaming.{IsNewClass, IsNewField, IsNewMethod, IsRenamedSet, KeepsNamesApart}
 use Rattle.renamed_same.specs.Laws.{RenamedKeepsSame, all_marks}
-use Rattle.renamed_same.specs.Laws.{IsLeftUnderNames}
 use Rattle.renamed_same.specs.NewCodes.{HasNewCode, HasNewCodes, IsNewCode, IsNewIns}
 use Rattle.renamed_same.proofs.NewSame.{new_same}
-use Rattle.taken_set.specs.TakenSet.{IsTaken}
 
 -- ---- items
 
@@ -98,9 +95,10 @@ module _ (classes : List Class) where
       as_filter (p classes marks) (f classes marks) 0 classes
       ∙ kept_all (p classes marks) (f classes marks) 0 classes (λ k c at.
       let plain : k ≡ 0 + k = omega arith in
-      let room = item_room classes k c at in
-      (sym (ap (p classes marks) plain) ∙ marked (class_item classes k) (omega (arith, room)),
-      sym (ap (λ (j : ℕ). f classes marks j c) plain) ∙ class_whole k c at))
+      let room = item_room classes k c at in (
+        sym (ap (p classes marks) plain) ∙ marked (class_item classes k) (omega (arith, room)),
+        sym (ap (λ (j : ℕ). f classes marks j c) plain) ∙ class_whole k c at,
+      ))
 
   -- ---- and closed for the requirements of no rule
 

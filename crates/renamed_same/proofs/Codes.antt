@@ -1,17 +1,14 @@
 -- An instruction of a kept method names what is kept, so it stands for itself under the new names.
-use Rattle.std.proofs.Common.{◌≡◌, ℕ, not, ◌&&◌, length, Bool, true, false, cond, List, [], ◌∷◌, ◌++◌, map, Option}
+use Rattle.std.proofs.Common.{◌≡◌, ℕ, ◌&&◌, length, Bool, true, false, cond, List, [], ◌∷◌, ◌++◌, map, Option}
 use Rattle.std.proofs.Common.{Some, None, Ok, refl, sym, ap, subst, ◌∙◌}
-use Rattle.std.specs.Prelude.{IfSome, ◌==◌, codes, if◌then◌else◌}
+use Rattle.std.specs.Prelude.{IfSome, ◌==◌, if◌then◌else◌}
 use Rattle.std.specs.List.{AllByRecursion, AllZip, cons_option, flat_map}
 use Rattle.std.specs.Option.{option_and_then, option_map, option_map_or}
 use Rattle.std.proofs.lemmas.Bool.{eqb-true}
-use Rattle.jv_base.specs.Descriptors.{read_field, read_method}
-use Rattle.jv_base.specs.Names.{is_text}
+use Rattle.jv_base.specs.Descriptors.{read_field}
 use Rattle.jv_base.specs.declared.types.Base.{Base}
 use Rattle.jv_base.specs.declared.types.Base.TheVariants as base
 use Rattle.jv_base.specs.declared.types.FieldType.{FieldType}
-use Rattle.mark_core.specs.Marks.{Closed}
-use Rattle.class_model.specs.Opcodes.{array_type_of}
 use Rattle.class_model.specs.WellFormed.{IsFieldReference, IsGoodOp, IsMethodReference}
 use Rattle.class_model.specs.declared.class.Class.{Class}
 use Rattle.class_model.specs.declared.code.Code.{Code}
@@ -37,7 +34,7 @@ use Rattle.link_check.specs.Profile.{no_init_kinds, op_kinds, special_class_kind
 use Rattle.set_image.specs.Image.{Image}
 use Rattle.jvm_model.specs.Mapped.{CodeMap, HandlerMap, InsMap, Mapping, OptionCorr, op_map}
 use Rattle.jvm_model.specs.Same as same
-use Rattle.jvm_model.specs.Same.{LineCorr, base_name, type_name}
+use Rattle.jvm_model.specs.Same.{base_name, type_name}
 use Rattle.jvm_model.specs.Types.{class_type}
 use Rattle.view_image.specs.ImageNames as image_names
 use Rattle.view_image.specs.ImageNames.{found_ref, mapping, new_class, new_ref, new_special, renamed_ref}
@@ -150,7 +147,12 @@ module _ (classes : List Class) (rules : KeptByRules) (marks : List Bool) (names
         ∙ ap (λ (t : Bool). cond t
         (option_map (renamed_ref classes out image_of r c) (new_named names rest (r.name, r.ty))) None) l
         ∙ ap (option_map (renamed_ref classes out image_of r c)) given
-        ∙ ap (λ (t : FieldType). Some (record { class = t; name = named.0; ty = named.1; of_interface = r.of_interface }))
+        ∙ ap (λ (t : FieldType). Some (record {
+          class = t;
+          name = named.0;
+          ty = named.1;
+          of_interface = r.of_interface;
+        }))
         class
 
     found_new : (r : MemberRef) (named : NameAndType) (found : ClassId → Option MemberAt) (c : ClassId) (m : MemberAt)
@@ -198,8 +200,10 @@ module _ (classes : List Class) (rules : KeptByRules) (marks : List Bool) (names
         let marked : All (OfMember m.member ∷ []) = subst (λ o. All (resolved_wants classes o)) m.callable parts.2 in
         let stands = field_stand classes rules marks new.closed taken n r m.member l in
         let kept = found_kept classes rules marks new.closed (r.name, r.ty) m.member stands marked.0 in
-        found_new r (names.field r.name, renamed_field_text names r.ty) (fields_of classes r) l.class m.member l.class_is
-        l.member_is (base_kept classes rules marks new.closed (r.class.dims == 0) r.class.base l.class l.class_is parts.0)
+        found_new r (names.field r.name, renamed_field_text names r.ty)
+        (fields_of classes r) l.class m.member l.class_is
+        l.member_is (base_kept classes rules marks new.closed
+        (r.class.dims == 0) r.class.base l.class l.class_is parts.0)
         kept (names_given r m.member stands kept ∙ ap (λ (t : NameAndType). Some t) (as_field r good))
 
     method_ref_new : (static : Bool) (r : MemberRef) → IsMethodReference r → All (method_ref_wants classes n r)
@@ -207,7 +211,8 @@ module _ (classes : List Class) (rules : KeptByRules) (marks : List Bool) (names
     method_ref_new static r good all none =
         let c = called classes rules marks new.closed taken n static r all none in
         let stands = method_stand classes rules marks new.closed taken n r c.member c.link in
-        found_new r (names.method r.name r.ty, renamed_method_text names r.ty) (methods_of classes r) c.link.class c.member
+        found_new r (names.method r.name r.ty, renamed_method_text names r.ty)
+        (methods_of classes r) c.link.class c.member
         c.link.class_is c.link.member_is c.class_kept c.member_kept
         (names_given r c.member stands c.member_kept ∙ ap (λ (t : NameAndType). Some t) (as_method r good))
 

@@ -1,11 +1,9 @@
 -- An image of an image is an image.
-use Rattle.std.proofs.Common.{◌≡◌, ℕ, Bool, true, false, cond, List, [], ◌∷◌, map, Option, Some, None, refl, sym, ap}
-use Rattle.std.proofs.Common.{subst}
+use Rattle.std.proofs.Common.{◌≡◌, Bool, true, false, cond, List, [], ◌∷◌, map, Option, Some, None, refl, ap}
 use Rattle.std.proofs.Common.{◌∙◌, codes}
-use Rattle.std.specs.Prelude.{IfSome}
 use Rattle.std.specs.Option.{option_and_then, option_map}
 use Rattle.class_model.specs.declared.class.Class.{Class}
-use Rattle.class_pool.specs.Found.{NameAndType, declared_in, named_at}
+use Rattle.class_pool.specs.Found.{NameAndType, declared_in}
 use Rattle.class_pool.specs.Hierarchy.{class_named, interfaces, superclass}
 use Rattle.class_pool.specs.declared.id.ClassId.{ClassId}
 use Rattle.class_pool.specs.declared.id.MemberAt.{MemberAt}
@@ -33,7 +31,8 @@ module _ (a b c : List Class) (i : Image a b) (j : Image b c)
   renamed n = option_and_then j.renamed (i.renamed n)
 
   both_kept : (o : Option MemberAt) → option_and_then (if_kept j.kept_member j.moved_member)
-      (option_and_then (if_kept i.kept_member i.moved_member) o) ≡ option_and_then (if_kept i.kept_member moved_member) o
+      (option_and_then (if_kept i.kept_member i.moved_member) o) ≡ option_and_then
+      (if_kept i.kept_member moved_member) o
   both_kept None = refl
   both_kept (Some m) = by (i.kept_member m) refl
     where

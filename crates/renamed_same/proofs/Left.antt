@@ -1,15 +1,13 @@
 -- What is left of a set finds its classes, and names types of classes that are there.
-use Rattle.std.proofs.Common.{◌≡◌, ◌<◌, ℕ, zero, suc, ◌+◌, ◌||◌, not, Bool, true, false, cond, List, [], ◌∷◌, ◌++◌}
+use Rattle.std.proofs.Common.{◌≡◌, ℕ, ◌+◌, ◌||◌, not, Bool, true, false, List, [], ◌∷◌, ◌++◌}
 use Rattle.std.proofs.Common.{length}
-use Rattle.std.proofs.Common.{map, Option, Some, None, slice_get, refl, sym, ap, subst, ◌∙◌, arith}
-use Rattle.std.specs.Prelude.{IfSome, is_some, codes}
+use Rattle.std.proofs.Common.{Option, Some, None, slice_get, refl, sym, ap, subst, ◌∙◌, arith}
+use Rattle.std.specs.Prelude.{IfSome, is_some}
 use Rattle.std.specs.List.{AllByRecursion, cons_option, flat_map}
 use Rattle.std.specs.Option.{option_map, option_map_or}
-use Rattle.std.proofs.lemmas.Bool.{lt-ltb}
 use Rattle.std.proofs.lemmas.Option.{slice_get_within}
 use Rattle.jv_base.specs.Types.{IsFieldType, IsMethodType}
 use Rattle.jv_base.specs.declared.types.Base.{Base}
-use Rattle.jv_base.specs.declared.types.Base.TheVariants as base
 use Rattle.jv_base.specs.declared.types.FieldType.{FieldType}
 use Rattle.lib_table.specs.Lookups as table
 use Rattle.mark_core.specs.Marks.{Closed}
@@ -28,7 +26,6 @@ use Rattle.class_pool.proofs.Declaring.{named_there}
 use Rattle.link_check.specs.Profile.{base_kinds, body_kinds, class_kinds, code_kinds, declaration_kinds}
 use Rattle.link_check.specs.Profile.{implementing_kinds}
 use Rattle.link_check.specs.Profile.{left_out_at, method_type_kinds, name_kinds, overriding_kinds, type_kinds, unless}
-use Rattle.link_check.specs.declared.fault.ProfileKind.{ProfileKind}
 use Rattle.link_check.specs.declared.fault.ProfileKind.TheVariants.{LeftOutFlag}
 use Rattle.link_check.proofs.Taken.{links_taken}
 use Rattle.link_check.specs.Taken.{BreaksNoRule}
@@ -38,7 +35,7 @@ use Rattle.require_sys.specs.declared.kept.KeptByRules.{KeptByRules}
 use Rattle.require_sys.proofs.Closing.{class_in, field_in}
 use Rattle.require_sys.proofs.Parts.{all_left}
 use Rattle.shrunk_image.specs.Keeping.{class_place, is_class_kept}
-use Rattle.shrunk_image.proofs.Classes.{class_at, f, kept_from, name_same, named_moved}
+use Rattle.shrunk_image.proofs.Classes.{f, kept_from, named_moved}
 use Rattle.shrunk_image.proofs.Kept.{as_filter}
 use Rattle.taken_set.specs.TakenSet.{IsTaken}
 use Rattle.taken_set.proofs.Names.{class_found, library_named}
@@ -68,7 +65,8 @@ module _ (classes : List Class) (n : ℕ) where
       let parts = none_left (name_kinds classes n name) (flat_map (name_kinds classes n) names) none in
       (name_there name parts.0, names_there names parts.1)
 
-  base_there : (ty : FieldType) (b : Base) → ty.base ≡ b → base_kinds classes n b ≡ [] → IsKnownType (is_known classes) ty
+  base_there : (ty : FieldType) (b : Base) → ty.base ≡ b → base_kinds classes n b ≡ []
+      → IsKnownType (is_known classes) ty
   base_there ty b e none name same =
       let none_named : name_kinds classes n name ≡ [] = ap (base_kinds classes n) (sym same ∙ e) ∙ none in
       ap (λ (t : Bool). is_library_name name || t) (name_there name none_named) ∙ or_true (is_library_name name)
@@ -182,7 +180,8 @@ module _ (classes : List Class) (rules : KeptByRules) (marks : List Bool)
         let none = (none_left (left_out_at c.left_out (Some o.k)) (type_kinds classes s.n x.ty)
         (right.field s.n c o.k x s.there here)).1 in
         let wants = (field_in classes rules (is_marked marks) closed s.n c s.there o.k x here o.passes).1 in
-        let good = all_at (IsGoodField (is_interface c.flags.0)) c.fields o.k x (taken.formed s.n c s.there).fields here in (
+        let good = all_at (IsGoodField (is_interface c.flags.0)) c.fields o.k x
+        (taken.formed s.n c s.there).fields here in (
           good.typed,
           type_there out place x.ty
               (base_left classes rules marks closed taken s.n s.own x.ty.base wants none),
@@ -225,7 +224,8 @@ module _ (classes : List Class) (rules : KeptByRules) (marks : List Bool)
     super_class = λ j d at. (supers_there j d at).0;
     interfaces = λ j d at. (supers_there j d at).1;
     fields = λ j d at.
-        subst (λ (x : Class). AllByRecursion (λ (y : Field). IsFieldType y.ty × IsKnownType (is_known out) y.ty) x.fields)
+        subst (λ (x : Class). AllByRecursion (λ (y : Field). IsFieldType y.ty × IsKnownType
+        (is_known out) y.ty) x.fields)
         (sym (s j d at).is)
         (all_from (λ (y : Field). IsFieldType y.ty × IsKnownType (is_known out) y.ty) (new j d at).fields
         (field_there j d at));

@@ -1,7 +1,7 @@
 -- A descriptor under new names asks for the same operands, and stores the same (JVMS 4.3).
-use Rattle.std.proofs.Common.{◌≡◌, ℕ, ℤ, ◌==◌, Bool, true, false, List, [], ◌∷◌, map, Option, Some, None, Result, Ok}
+use Rattle.std.proofs.Common.{◌≡◌, ℕ, ℤ, ◌==◌, true, false, List, [], ◌∷◌, map, Some, None, Result, Ok}
 use Rattle.std.proofs.Common.{Err}
-use Rattle.std.proofs.Common.{refl, sym, ap, subst, ◌∙◌}
+use Rattle.std.proofs.Common.{refl, sym, ap, ◌∙◌}
 use Rattle.std.specs.Prelude.{IsTrue, if◌then◌else◌}
 use Rattle.std.specs.Option.{option_map, option_map_or}
 use Rattle.std.specs.Result.{result_ok}
@@ -19,7 +19,7 @@ use Rattle.class_rename.specs.Names.{Names}
 use Rattle.class_rename.specs.Renamed.{renamed_base, renamed_method_type, renamed_type}
 use Rattle.jvm_model.specs.Types.{kind_of, kind_of_base, narrowed, stored}
 use Rattle.jvm_model.specs.Value.{Value, Int, Long, Null, Ref, Lit}
-use Rattle.view_image.specs.ImageView.{LikeDescriptors, stored_by}
+use Rattle.view_image.specs.ImageView.{LikeDescriptors}
 use Rattle.renamed_form.proofs.Spelled.{method_type_spelled, type_spelled}
 use Rattle.renamed_image.specs.Renaming.{is_method_text}
 use Rattle.renamed_image.proofs.Descriptors.{field_is_none, method_is_one}

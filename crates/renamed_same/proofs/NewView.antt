@@ -1,10 +1,10 @@
 -- What a set owes what is left of it under new names, so that they do the same.
-use Rattle.std.proofs.Common.{◌≡◌, ◌+◌, ◌++◌, ℕ, nat_eq, ◌&&◌, Bool, true, false, cond, List, [], length, map, Option}
+use Rattle.std.proofs.Common.{◌≡◌, ◌+◌, ℕ, nat_eq, Bool, true, false, cond, List, [], length, Option}
 use Rattle.std.proofs.Common.{Some}
-use Rattle.std.proofs.Common.{None, slice_get, refl, sym, ap, subst, ◌∙◌, codes}
-use Rattle.std.specs.Prelude.{IfSome, is_some}
-use Rattle.std.specs.List.{AllByRecursion, starts_with}
-use Rattle.std.specs.Option.{option_and_then, option_map, option_map_or}
+use Rattle.std.proofs.Common.{None, refl, sym, ap, subst, ◌∙◌, codes}
+use Rattle.std.specs.Prelude.{is_some}
+use Rattle.std.specs.List.{starts_with}
+use Rattle.std.specs.Option.{option_and_then, option_map_or}
 use Rattle.std.proofs.lemmas.Bool.{and_parts}
 use Rattle.jv_base.specs.Types.{field_text, method_text}
 use Rattle.lib_table.specs.Lookups as table
@@ -17,7 +17,7 @@ use Rattle.class_pool.specs.declared.id.ClassId.{ClassId}
 use Rattle.class_pool.specs.declared.id.ClassId.TheVariants.{Prog, Lib}
 use Rattle.class_pool.specs.declared.id.MemberAt.{MemberAt}
 use Rattle.class_rename.specs.Names.{Names}
-use Rattle.class_rename.specs.Renamed.{renamed_method_text, renamed_method_type, renamed_type}
+use Rattle.class_rename.specs.Renamed.{renamed_method_type, renamed_type}
 use Rattle.link_check.specs.Profile.{is_of_library}
 use Rattle.member_shrink.specs.Shrunk.{is_marked}
 use Rattle.set_image.specs.Image.{if_kept}
@@ -93,7 +93,8 @@ module _ (classes : List Class) (rules : KeptByRules) (marks : List Bool) (names
   library_member m h = by m.class m.index h
     where
       by : (x : ClassId) (k : ℕ) → is_of_library x ≡ true
-          → key_at out (moved_member (record { class = x; index = k })) ≡ key_at classes (record { class = x; index = k })
+          → key_at out (moved_member (record { class = x; index = k })) ≡ key_at classes
+          (record { class = x; index = k })
       by (Lib id) k h = refl
       by (Prog n) k h = absurd cc
 
@@ -172,7 +173,8 @@ module _ (classes : List Class) (rules : KeptByRules) (marks : List Bool) (names
       let of_code : AllIn classes rules marks new.closed (code_wants classes found.n code) =
       subst (λ o. AllIn classes rules marks new.closed (option_map_or (code_wants classes found.n) o [])) found.code_is
       wants.code in
-      subst (λ (y : ClassId). CodeMap (new_refs classes rules marks names place out taken new) (name_of classes y) code d)
+      subst (λ (y : ClassId). CodeMap (new_refs classes rules marks names place out taken new)
+      (name_of classes y) code d)
       (sym found.class_is)
       (code_new classes rules marks names place out taken new found.n (name_of classes (Prog found.n)) found.method.name
       code d (class_found classes taken (Prog found.n) there) renamed

@@ -1,7 +1,7 @@
 -- What rules do with the words of frames, under new names.
 use Rattle.std.proofs.Common.{◌≡◌, ℕ, zero, suc, ◌+◌, ◌-◌, not, ◌&&◌, ◌||◌, Bool, true, false, cond, List, [], ◌∷◌}
 use Rattle.std.proofs.Common.{◌++◌, length, map}
-use Rattle.std.proofs.Common.{Option, Some, None, Ok, Err, Result, slice_get, slice_set, refl, sym, ap, subst, ◌∙◌}
+use Rattle.std.proofs.Common.{Option, Some, None, Ok, Err, slice_get, slice_set, refl, sym, ap, subst, ◌∙◌}
 use Rattle.std.specs.Prelude.{◌==◌, nat_le, IfSome}
 use Rattle.std.specs.List.{AllByRecursion, list_any}
 use Rattle.std.specs.Option.{option_and_then, option_map, option_map_or}
@@ -24,16 +24,16 @@ use Rattle.set_image.specs.Image.{Image}
 use Rattle.set_image.proofs.MappedLists.{all_append}
 use Rattle.type_verifier.specs.Assignable.{is_assignable, is_reference}
 use Rattle.type_verifier.specs.Effects.{Checked, Split, all_popped, counted, counted_from, cut_before, doubled, dropped}
-use Rattle.type_verifier.specs.Effects.{element, gives, is_category_1, is_copy, loaded, loaded_from, made, one_word}
+use Rattle.type_verifier.specs.Effects.{element, is_category_1, is_copy, loaded, loaded_from, made, one_word}
 use Rattle.type_verifier.specs.Effects.{or_operand, popped, popped_from, pushed, put_below, put_local, read_from}
-use Rattle.type_verifier.specs.Effects.{reference_read, second_word, split_words, stored, stored_from, substituted}
+use Rattle.type_verifier.specs.Effects.{second_word, split_words, stored, stored_from, substituted}
 use Rattle.type_verifier.specs.Effects.{swapped, top_behind, two_words, with_stack, words_of_kind}
 use Rattle.type_verifier.specs.Rules.{Wanted, Assignable, AnyArray, OrThis, Reference, SmallArray, array_wanted}
 use Rattle.type_verifier.specs.Rules.{is_small_array, meets, moved}
 use Rattle.type_verifier.specs.declared.fault.TypeKind.{TypeKind}
 use Rattle.type_verifier.specs.declared.fault.TypeKind.TheVariants.{Local, Operand, Uninit}
 use Rattle.type_verifier.specs.declared.frame.TypeFrame.{TypeFrame}
-use Rattle.typed_image.specs.Named.{IsTypeNamed, IsVTypeNamed, KeepsKnownNames}
+use Rattle.typed_image.specs.Named.{IsTypeNamed, KeepsKnownNames}
 use Rattle.typed_image.proofs.Assigning.{AllNamed, FrameNamed, VTypeNamed, all_renamed, assignable}
 use Rattle.typed_image.proofs.Assigning.{renamed_types_frame, words_same}
 
@@ -504,5 +504,10 @@ module _ (names : Names) (a b : List Class) (i : Image a b) (stay : KeepsKnownNa
 
       by : (t : Bool) → Follows (cond t (Err Uninit) (Ok after)) (cond t (Err Uninit) (Ok (frame after)))
       by true = tt
-      by false = (refl, (substituted_named (vtype.Uninit at) (new_copies at) vtype.Top f.locals tt named.0,
-          (tt, named.1)))
+      by false = (
+        refl,
+        (
+          substituted_named (vtype.Uninit at) (new_copies at) vtype.Top f.locals tt named.0,
+          (tt, named.1),
+        ),
+      )

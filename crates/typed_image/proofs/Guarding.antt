@@ -1,8 +1,8 @@
 -- The rules look at a member that is kept as they did.
-use Rattle.std.proofs.Common.{◌≡◌, ℕ, not, ◌&&◌, Bool, true, false, is_some, List, Option, Some, None, Ok, refl, sym}
+use Rattle.std.proofs.Common.{◌≡◌, ℕ, not, ◌&&◌, Bool, true, false, is_some, Option, Some, None, Ok, refl, sym}
 use Rattle.std.proofs.Common.{ap, ◌∙◌}
 use Rattle.std.specs.Prelude.{IfSome}
-use Rattle.std.specs.Option.{option_and_then, option_map}
+use Rattle.std.specs.Option.{option_map}
 use Rattle.class_model.specs.Flags.{acc_protected, acc_static}
 use Rattle.class_model.specs.declared.op.MemberRef.{MemberRef}
 use Rattle.class_pool.specs.Found.{NameAndType, declared_in, is_protected_member, is_static_member, same_package}
@@ -10,7 +10,7 @@ use Rattle.class_pool.specs.Members.{declared_at}
 use Rattle.class_pool.specs.declared.id.ClassId.{ClassId}
 use Rattle.class_pool.specs.declared.id.ClassId.TheVariants.{Prog}
 use Rattle.class_pool.specs.declared.id.MemberAt.{MemberAt}
-use Rattle.set_image.specs.Image.{Image, if_kept}
+use Rattle.set_image.specs.Image.{Image}
 use Rattle.set_image.proofs.MappedLists.{option_moved}
 use Rattle.type_verifier.specs.Environment.{Environment, in_constructor}
 use Rattle.type_verifier.specs.Members.{is_class_type, is_early_field, is_guarded}
@@ -59,7 +59,7 @@ module _ (a b : Environment) (i : Image a.classes b.classes) (own : i.kept (Prog
       → is_early_field b s ≡ is_early_field a r
   early_moved r s e constructor same kept =
       ap (λ (t : Bool). t && is_class_type b.class.name s.class && is_some
-          (declared_at b.classes (Prog b.own) s.name s.ty))
+      (declared_at b.classes (Prog b.own) s.name s.ty))
       constructor
       ∙ ap (λ (t : Bool). in_constructor a && t && is_some (declared_at b.classes (Prog b.own) s.name s.ty)) same
       ∙ by (in_constructor a) (is_class_type a.class.name r.class) kept

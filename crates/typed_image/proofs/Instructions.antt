@@ -1,12 +1,11 @@
 -- The rule of an instruction under new names, family by family.
-use Rattle.std.proofs.Common.{◌≡◌, ℕ, zero, suc, ◌+◌, Bool, true, false, cond, List, [], ◌∷◌, ◌++◌, map, reverse}
+use Rattle.std.proofs.Common.{◌≡◌, ℕ, zero, suc, Bool, true, false, cond, List, [], ◌∷◌, map, reverse}
 use Rattle.std.proofs.Common.{replicate}
 use Rattle.std.proofs.Common.{Option, Some, None, refl, sym, ap, subst, ◌∙◌}
-use Rattle.std.specs.Prelude.{IfSome, codes}
+use Rattle.std.specs.Prelude.{IfSome}
 use Rattle.std.specs.List.{AllByRecursion}
 use Rattle.std.specs.Option.{option_map}
-use Rattle.jv_base.specs.Descriptors.{read_field, read_method}
-use Rattle.jv_base.specs.declared.types.Base.{Base}
+use Rattle.jv_base.specs.Descriptors.{read_field}
 use Rattle.jv_base.specs.declared.types.Base.TheVariants as base
 use Rattle.jv_base.specs.declared.types.FieldType.{FieldType}
 use Rattle.jv_base.specs.declared.types.MethodType.{MethodType}
@@ -34,7 +33,7 @@ use Rattle.type_verifier.specs.Members.{is_early_field, is_guarded_field, is_gua
 use Rattle.type_verifier.specs.Rules.{Wanted, Assignable, OrThis, Rule, Takes, Uses, Initialises, arguments, array_load}
 use Rattle.type_verifier.specs.Rules.{array_store, binary, conversion, field_read, field_type, field_write, method_type}
 use Rattle.type_verifier.specs.Rules.{number, object_call, returned, rule_of, shift, special_call, static_call}
-use Rattle.type_verifier.specs.Rules.{static_read, static_write, told_type, wanted_arguments, written_receiver}
+use Rattle.type_verifier.specs.Rules.{static_read, static_write, told_type, written_receiver}
 use Rattle.type_verifier.specs.declared.frame.TypeFrame.{TypeFrame}
 use Rattle.type_verifier.proofs.Lists.{map_reversed, reverse_cons}
 use Rattle.typed_image.specs.Named.{IsCodeNamed, IsFieldNamed, IsMethodNamed, IsMethodTypeNamed, IsOpNamed, IsTypeNamed}
@@ -156,7 +155,7 @@ module _ (names : Names) (a b : Environment) (i : Image a.classes b.classes) (st
       → field_write b (renamed_field_ref names r) (new ty) ≡ rule (field_write a r ty)
   write_renamed r h ty =
       ap (λ (t : Bool). Uses (Assignable (new ty) ∷ [])
-          (written_receiver b (renamed_field_ref names r)) t None) h.guarded
+      (written_receiver b (renamed_field_ref names r)) t None) h.guarded
       ∙ ap (λ (t : Bool). Uses (Assignable (new ty) ∷ []) (cond t (OrThis (renamed_type names r.class))
       (Assignable (vtype.Object (renamed_type names r.class)))) (is_guarded_field a r) None) h.early
       ∙ ap (λ (w : Wanted). Uses (Assignable (new ty) ∷ []) w (is_guarded_field a r) None)

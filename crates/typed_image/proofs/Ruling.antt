@@ -1,58 +1,50 @@
 -- What rules do with frames in a method under new names, and which rule an instruction has.
 use Rattle.std.proofs.Common.{◌≡◌, ℕ, zero, suc, ◌+◌, ◌-◌, not, ◌&&◌, Bool, true, false, cond, List, [], ◌∷◌, length}
 use Rattle.std.proofs.Common.{map}
-use Rattle.std.proofs.Common.{Option, Some, None, Ok, Err, Result, nat_lt, reverse, replicate, slice_get, refl, sym, ap}
+use Rattle.std.proofs.Common.{Option, Some, None, Ok, Err, Result, nat_lt, slice_get, refl, sym, ap}
 use Rattle.std.proofs.Common.{subst, ◌∙◌}
-use Rattle.std.specs.Prelude.{◌==◌, nat_le, IfSome, codes}
-use Rattle.std.specs.List.{AllByRecursion, sum_by}
-use Rattle.std.specs.Option.{option_and_then, option_map, option_map_or}
+use Rattle.std.specs.Prelude.{◌==◌, nat_le, IfSome}
+use Rattle.std.specs.List.{AllByRecursion}
+use Rattle.std.specs.Option.{option_and_then, option_map}
 use Rattle.std.proofs.lemmas.List.{length-map}
 use Rattle.std.proofs.lemmas.List.Sums.{sum_by-cons}
 use Rattle.std.proofs.lemmas.Option.{slice_get-map}
-use Rattle.jv_base.specs.Descriptors.{read_field, read_method}
 use Rattle.jv_base.specs.Outcome.{◌>>=◌}
 use Rattle.jv_base.specs.declared.types.Base.{Base}
 use Rattle.jv_base.specs.declared.types.Base.TheVariants as base
 use Rattle.jv_base.specs.declared.types.FieldType.{FieldType}
 use Rattle.jv_base.specs.declared.types.MethodType.{MethodType}
-use Rattle.class_model.specs.Flags.{is_init}
 use Rattle.class_model.specs.Frames.{base_vtype, vtype_of, words_of_type, words_of_types}
 use Rattle.class_model.specs.declared.code.Ins.{Ins}
 use Rattle.class_model.specs.declared.frame.VType.{VType}
 use Rattle.class_model.specs.declared.frame.VType.TheVariants as vtype
-use Rattle.class_model.specs.declared.op.Elem.{Elem}
 use Rattle.class_model.specs.declared.op.Elem.TheVariants as elem
 use Rattle.class_model.specs.declared.op.Kind.{Kind}
 use Rattle.class_model.specs.declared.op.Kind.TheVariants as kind
-use Rattle.class_model.specs.declared.op.MemberRef.{MemberRef}
-use Rattle.class_model.specs.declared.op.Num.{Num}
-use Rattle.class_model.specs.declared.op.Num.TheVariants as num
 use Rattle.class_model.specs.declared.op.Op.{Op}
 use Rattle.class_model.specs.declared.op.Op.TheVariants as op
 use Rattle.class_rename.specs.Names.{Names}
-use Rattle.class_rename.specs.Renamed.{renamed_base, renamed_field_ref, renamed_method_ref}
-use Rattle.class_rename.specs.Renamed.{renamed_method_type, renamed_op, renamed_type, renamed_vtype}
+use Rattle.class_rename.specs.Renamed.{renamed_base}
+use Rattle.class_rename.specs.Renamed.{renamed_op, renamed_type, renamed_vtype}
 use Rattle.set_image.specs.Image.{Image}
 use Rattle.type_verifier.specs.Assignable.{class_type, is_assignable}
 use Rattle.type_verifier.specs.Effects.{Checked, acted, all_popped, all_words_wanted, class_made_at}
 use Rattle.type_verifier.specs.Effects.{constructor_returned}
 use Rattle.type_verifier.specs.Effects.{doubled, dropped, given_words, gives, guarded_use, has_depth, has_room}
-use Rattle.type_verifier.specs.Effects.{if_ruled}
-use Rattle.type_verifier.specs.Effects.{initialised, is_copy, is_returned_by, loaded, made, made_class, new_initialised}
-use Rattle.type_verifier.specs.Effects.{object_initialised, or_operand, popped, read_from, reference_read, result_taken}
-use Rattle.type_verifier.specs.Effects.{ruled, stepped, stored, substituted, swapped, taken_words, this_initialised}
+use Rattle.type_verifier.specs.Effects.{initialised, is_copy, is_returned_by, made_class, new_initialised}
+use Rattle.type_verifier.specs.Effects.{object_initialised, popped, read_from, result_taken}
+use Rattle.type_verifier.specs.Effects.{ruled, substituted, swapped, taken_words, this_initialised}
 use Rattle.type_verifier.specs.Effects.{used_from}
 use Rattle.type_verifier.specs.Effects.{with_stack, words_given, words_wanted}
 use Rattle.type_verifier.specs.Environment.{Environment, in_constructor, own_type}
 use Rattle.type_verifier.specs.Members.{is_class_base, is_class_type, is_own_or_super}
-use Rattle.type_verifier.specs.Rules.{Wanted, Assignable, OrThis, Reference, array_wanted, class_of, meets, object}
-use Rattle.type_verifier.specs.Rules.{rule_of}
+use Rattle.type_verifier.specs.Rules.{Wanted, Assignable, array_wanted, class_of, meets}
 use Rattle.type_verifier.specs.Rules.{Rule, Takes, Loads, Stores, Counts, Drops, Doubles, Swaps, ReadsReference, Makes}
 use Rattle.type_verifier.specs.Rules.{Returns, Uses, Initialises}
 use Rattle.type_verifier.specs.declared.fault.TypeKind.{TypeKind}
 use Rattle.type_verifier.specs.declared.fault.TypeKind.TheVariants.{Depth, Local, Operand, Protected, Uninit}
 use Rattle.type_verifier.specs.declared.frame.TypeFrame.{TypeFrame}
-use Rattle.typed_image.specs.Named.{IsBaseNamed, IsCodeNamed, IsNamed, IsOpNamed, IsTypeNamed, IsVTypeNamed}
+use Rattle.typed_image.specs.Named.{IsCodeNamed, IsNamed, IsOpNamed, IsTypeNamed}
 use Rattle.typed_image.specs.Named.{KeepsKnownNames, renamed_at}
 use Rattle.typed_image.proofs.Assigning.{AllNamed, FrameNamed, VTypeNamed, all_renamed, assignable, renamed_types_frame}
 use Rattle.typed_image.proofs.Assigning.{and, both, either, text_kept, words_same}
@@ -153,7 +145,7 @@ module _ (names : Names) (a b : Environment) (i : Image a.classes b.classes) (st
       ≡ has_room a.code.max_stack a.code.max_locals (taken_words r) (given_words r) f
   room_same r f =
       ap (λ (n : ℕ). has_room n b.code.max_locals (taken_words (renamed_rule r)) (given_words (renamed_rule r))
-          (frame f))
+      (frame f))
       c.code.max_stack
       ∙ ap (λ (n : ℕ). has_room a.code.max_stack n (taken_words (renamed_rule r)) (given_words (renamed_rule r))
       (frame f))

@@ -19,7 +19,7 @@ use Rattle.class_model.specs.declared.frame.VType.TheVariants as vtype
 use Rattle.class_model.specs.declared.op.MemberRef.{MemberRef}
 use Rattle.class_model.specs.declared.op.Op.{Op}
 use Rattle.class_model.specs.declared.op.Op.TheVariants as op
-use Rattle.class_rename.specs.Names.{Names, same_names}
+use Rattle.class_rename.specs.Names.{same_names}
 use Rattle.class_rename.specs.Renamed.{field_text_of, method_text_of, renamed_base, renamed_field_ref}
 use Rattle.class_rename.specs.Renamed.{renamed_field_text}
 use Rattle.class_rename.specs.Renamed.{renamed_frame, renamed_handler, renamed_method_ref, renamed_method_text}
@@ -139,7 +139,7 @@ lines_stay old new line stack locals ins handlers frames = record {
     each [] = refl
     each (j ∷ js) =
         ap (λ (o : Op). let k : Ins = record { op = o; line = line j } in k ∷ map (relined line) js)
-            (sym (op_stays j.op))
+        (sym (op_stays j.op))
         ∙ ap (λ (t : List Ins). renamed_at same_names line j ∷ t) (each js)
 
 -- a code is itself under names that stay

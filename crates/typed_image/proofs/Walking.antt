@@ -1,7 +1,7 @@
 -- A code under new names is typed in the image, by the same frames under new names.
 use Rattle.std.proofs.Common.{◌≡◌, ℕ, zero, suc, ◌+◌, ◌-◌, not, ◌&&◌, ◌||◌, Bool, true, false, cond, List, [], ◌∷◌}
 use Rattle.std.proofs.Common.{◌++◌}
-use Rattle.std.proofs.Common.{length, map, reverse, replicate, nat_eq, nat_lt, Option, Some, None, Ok, Result, IsTrue}
+use Rattle.std.proofs.Common.{length, map, reverse, replicate, nat_eq, nat_lt, Option, Some, None}
 use Rattle.std.proofs.Common.{refl, sym, ap, subst, ◌∙◌}
 use Rattle.std.specs.Prelude.{◌==◌, IfSome, codes}
 use Rattle.std.specs.List.{AllByRecursion, find, flat_map, list_all, list_any}
@@ -12,7 +12,6 @@ use Rattle.jv_base.specs.declared.types.FieldType.{FieldType}
 use Rattle.jv_base.specs.declared.types.MethodType.{MethodType}
 use Rattle.class_model.specs.Flags.{is_static}
 use Rattle.class_model.specs.Frames.{initial_locals, this_type, vtype_of}
-use Rattle.class_model.specs.declared.code.Code.{Code}
 use Rattle.class_model.specs.declared.code.Handler.{Handler}
 use Rattle.class_model.specs.declared.code.Ins.{Ins}
 use Rattle.class_model.specs.declared.frame.FrameAt.{FrameAt}
@@ -25,7 +24,7 @@ use Rattle.class_rename.specs.Renamed.{renamed_frame, renamed_handler, renamed_o
 use Rattle.class_rename.specs.Renamed.{renamed_type, renamed_vtype}
 use Rattle.set_image.specs.Image.{Image}
 use Rattle.set_image.proofs.MappedLists.{all_append}
-use Rattle.type_verifier.specs.Assignable.{is_assignable, is_frame_assignable}
+use Rattle.type_verifier.specs.Assignable.{is_assignable}
 use Rattle.type_verifier.specs.Effects.{Checked, stepped, with_stack}
 use Rattle.type_verifier.specs.Environment.{Environment, declared_frame_at, goes_elsewhere, initial_frame, is_entered}
 use Rattle.type_verifier.specs.Environment.{targets}

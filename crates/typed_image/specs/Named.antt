@@ -1,6 +1,6 @@
 -- What a method names, where a set has an image under new names: the classes of its types, and the members that it uses
 -- (the project's own: what has to be kept, so that a code is typed in the image as it was).
-use Rattle.std.specs.Prelude.{◌≡◌, ℕ, true, List, map, Option, Some, None, IfSome, codes}
+use Rattle.std.specs.Prelude.{◌≡◌, ℕ, true, List, map, Option, IfSome, codes}
 use Rattle.std.specs.List.{AllByRecursion}
 use Rattle.std.specs.Option.{option_map}
 use Rattle.jv_base.specs.Descriptors.{read_field, read_method}
