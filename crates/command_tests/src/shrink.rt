@@ -908,7 +908,7 @@ fn other_words_are_refused(rt: HostRuntime) -> Result<(), Fail> {
         ["shrink", CONFIG, ""].as_slice(),
         &["shrink", CONFIG],
         &["shrink", CONFIG, "wit.txt", "wit.txt"],
-        &["gen", "5", "out"],
+        &["check", CONFIG, "wit.txt"],
         &["shrink", "/", "wit.txt"],
         &["shrink", CONFIG, "a//b"],
         &["shrink", CONFIG, "../wit.txt"],

@@ -9,7 +9,6 @@ const ABOUT: &str = "Shrinks class files in the manner of ProGuard, and turns st
 // The commands that can be run, an example, and what their statuses say.
 const COMMANDS: &str = "Commands:
   shrink CONFIG WITNESS   writes the classes that CONFIG keeps, as its options say
-  check CONFIG WITNESS    says whether what was written belongs to what CONFIG reads
   retrace MAPPING TRACE   prints TRACE with the old names of MAPPING in place of the new ones
   --version               alone, prints the version
 
@@ -18,12 +17,11 @@ them empty, . or .. . docs/MANUAL.md has the options of a config and every messa
 
 Example:
   cixorradde shrink examples/app/shrink.pro out.wit
-  cixorradde check examples/app/shrink.pro out.wit
   cixorradde retrace map.txt trace.txt
 
 Status: 0 done, 1 faulty words, 2 a file isn't there, 3 faulty config, 4 no class file, 5 a class
 that breaks a rule, 6 a limit passed, 7 a device failed, 8 a file below the output directory,
-9 a pair that isn't one, 10 memory was wanting, 11 faulty mapping or witness.";
+10 memory was wanting, 11 faulty mapping.";
 
 /// The text of `--help`: usage, options with their defaults, each command that can be run in a line, and an example.
 pub fn help_text(alloc: Global) -> M<String> {

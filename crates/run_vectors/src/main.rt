@@ -1,11 +1,9 @@
 //! Whole runs of the command in memory, one for each line of standard input: says what the run kept, wrote and said.
 //!
-//! A line is `kept CONFIG FILES`, `names CONFIG FILES`, `check CONFIG MAPPING WITNESS FILES` or
-//! `retrace MAPPING TRACE`; the README tells how texts and files are written, and what is answered. The status is that of
-//! `line_answers`.
+//! A line is `kept CONFIG FILES`, `names CONFIG FILES` or `retrace MAPPING TRACE`; the README tells how texts and files
+//! are written, and what is answered. The status is that of `line_answers`.
 #![tactic(auto)]
 
-mod checked;
 mod kept;
 mod named;
 mod running;
@@ -22,7 +20,6 @@ use std::thread::Threads;
 fn answer<Rt: Threads + Sync>(rt: &Rt, alloc: Global, line: &[u8]) -> M<Option<Text>> {
     let (word, row) = first_word(line);
     match word {
-        b"check" => checked::answer(rt, alloc, row),
         b"kept" => kept::answer(rt, alloc, row),
         b"names" => named::answer(rt, alloc, row),
         b"retrace" => traced::answer(rt, alloc, row),

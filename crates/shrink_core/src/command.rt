@@ -12,7 +12,6 @@ ghost use Rattle.shrink_core.specs.declared.refusal.Stop.TheVariants.{Refused};
 use crate::refusal::{Refusal, Stop, refusal_line, refusal_status};
 use crate::shrink::shrink;
 use crate::words::CommandFiles;
-use check_command::{CheckFiles, check_files};
 use command_output::{say_device, say_line, say_no_memory, say_text};
 use command_words::{Command, read_command};
 use jv_base::{Items, Text};
@@ -78,7 +77,7 @@ fn refuse_words<S: Sink>(out: &mut S) -> u8
     say_line(1, b"error 1 words\n", out)
 }
 
-// Runs the command that words ask for; `gen` can't be run yet.
+// Runs the command that words ask for; `check` and `gen` can't be run yet.
 fn run_asked<T: Tree, S: Sink>(alloc: Global, command: Command, tree: &mut T, out: &mut S) -> u8
     ensures refused { result ≡ 1 → is_there (Some command) ≡ false }
     ensures words { is_there (Some command) ≡ false → result ≡ 1 }
@@ -96,16 +95,14 @@ fn run_asked<T: Tree, S: Sink>(alloc: Global, command: Command, tree: &mut T, ou
             run_shrink(alloc, &CommandFiles { config, witness }, tree, out)
         }
         Command::Retrace { mapping, trace } => retrace_files(alloc, &mapping, &trace, tree, out),
-        Command::Check { config, witness } => {
-            check_files(alloc, &CheckFiles { config, witness }, tree, out)
-        }
+        Command::Check { .. } => refuse_words(out),
         Command::Gen { .. } => refuse_words(out),
     }
 }
 
 /// Runs a command and answers the status with which the program ends. The words are read by `read_command` of
-/// `command_words`; `gen` can't be run yet. `check CONFIG WITNESS` is done by `check_files` of `check_command`, and
-/// `retrace MAPPING TRACE` by `retrace_files` of `retrace_command`; they tell their statuses.
+/// `command_words`; `check` and `gen` can't be run yet. `retrace MAPPING TRACE` is done by `retrace_files` of
+/// `retrace_command`, which tells its statuses.
 ///
 /// `shrink CONFIG OUTWIT` reads the config and the class files of the directory that it names, keeps what its rules
 /// keep, gives it new names, and writes the classes that are left to another directory. CONFIG and OUTWIT are paths: an
