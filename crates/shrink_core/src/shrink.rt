@@ -73,12 +73,7 @@ fn due_plan<T: Tree>(alloc: Global, named: &CommandFiles, tree: &mut T) -> Resul
 }
 
 /// The plan for a set, by rules.
-fn plan_of(
-    alloc: Global,
-    named: &CommandFiles,
-    rules: &Rules,
-    set: ClassSet,
-) -> Result<Plan, Stop>
+fn plan_of(alloc: Global, named: &CommandFiles, rules: &Rules, set: ClassSet) -> Result<Plan, Stop>
     requires writable { AllByRecursion IsWritable set }
     requires linked { IsLinked set }
     ensures planned { Finds result (IsPlan rules.now set named.now.witness) (RefusesPlan rules.now set named.now.witness) }
