@@ -1,0 +1,3 @@
+mod Endings
+mod Judging
+mod StepByStep

@@ -1,0 +1,4 @@
+pub mod Answer
+pub mod Due
+pub mod Refusal
+pub mod bodies

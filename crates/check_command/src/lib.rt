@@ -1,0 +1,10 @@
+//! The command `check`: whether an output belongs to an input, from files to a sink.
+#![tactic(auto)]
+
+mod checking;
+mod command;
+mod finding;
+mod refusal;
+
+pub use command::check_files;
+pub use finding::CheckFiles;
