@@ -14,6 +14,7 @@ mod AloneLaw
 mod SupersLaw
 mod TopsLaw
 mod Looking
+mod OpenAbove
 mod There
 mod Referring
 mod Membering

@@ -1,31 +1,63 @@
 -- How the classes are found in which the same methods run.
-use Rattle.std.proofs.Common.{◌≡◌, ℕ, zero, suc, ◌+◌, ◌<◌, ◌≤◌, ◌==◌, Bool, true, false, List, [], ◌∷◌, ◌++◌, length, get_or}
+use Rattle.std.proofs.Common.{◌≡◌, ℕ, zero, suc, ◌+◌, ◌-◌, ◌<◌, ◌≤◌, ◌==◌, ◌||◌, Bool, true, false, List, [], ◌∷◌, ◌++◌}
+use Rattle.std.proofs.Common.{length, get_or, lit<}
 use Rattle.std.proofs.Common.{set, slice_get, Option, Some, None, IfSome, refl, sym, ap, subst, ◌∙◌, arith, eqb}
 use Rattle.std.proofs.Common.{get_or-set_same, get_or-set_other, length-set, ⊎_elim}
+use Rattle.std.specs.List.{list_any}
 use Rattle.std.specs.Option.{option_map_or}
 use Rattle.std.proofs.lemmas.Bool.{cases_lt, eq-eqb, eqb-true}
 use Rattle.class_model.specs.declared.class.Class.{Class}
 use Rattle.class_pool.specs.Found.{is_instance_method, is_instance_row, rows_in}
 use Rattle.class_pool.specs.Hierarchy.{IsClass, superclass}
 use Rattle.class_pool.specs.Ranks.{HasRanks}
-use Rattle.class_pool.specs.Walk.{each_once}
+use Rattle.class_pool.specs.Resolution.{is_class_below}
+use Rattle.class_pool.specs.Walk.{each_once, highest, same_class, upwards}
 use Rattle.class_pool.specs.declared.id.ClassId.{ClassId}
 use Rattle.class_pool.specs.declared.id.ClassId.TheVariants.{Lib, Prog}
 use Rattle.class_pool.proofs.Declaring.{superclass_there}
+use Rattle.class_pool.proofs.EachOnce.{same_itself}
+use Rattle.link_check.proofs.Climbing.{upwards_step}
 use Rattle.std.proofs.lemmas.Option.{same_Some}
 use Rattle.require_sys.specs.Requires.{is_program}
 use Rattle.require_sys.specs.bodies.Supers.{program_number}
-use Rattle.require_sys.specs.bodies.Tops.{AreTops, HasNoMethod, IsBlank, IsTop}
-use Rattle.require_sys.proofs.TopsLaw.{blank_top, top_itself}
+use Rattle.require_sys.specs.bodies.Tops.{AreAbove, AreGiven, AreRuns, AreTops, HasNoMethod, IsBlank}
+use Rattle.require_sys.specs.bodies.Tops.{IsRun, IsTop}
+use Rattle.require_sys.proofs.TopsLaw.{bare_run, blank_top, run_itself, top_itself}
 
 -- each class for itself
-pub own_are : (classes : List Class) (tops : List ℕ) (k : ℕ) → length tops ≡ k → length classes ≤ k → k ≤ length classes
-    → ((n : ℕ) → n < k → get_or tops n 0 ≡ n) → AreTops classes tops
-own_are classes tops k count low high each = record {
+pub own_are : (numbers : List ℕ) (bound k : ℕ) → length numbers ≡ k → bound ≤ k → k ≤ bound
+    → ((n : ℕ) → n < k → get_or numbers n 0 ≡ n) → AreGiven (λ n x. x ≡ n) bound numbers
+own_are numbers bound k count low high each = record {
   count = omega (arith, count, low, high);
-  each = λ n lt.
-      subst (λ (t : ℕ). IsTop classes n t) (sym (each n (omega (arith, lt, low)))) (top_itself classes n lt);
+  each = λ n lt. each n (omega (arith, lt, low));
 }
+
+own_given : (Is : ℕ → ℕ → Type 0) (bound : ℕ) (numbers : List ℕ) → ((n : ℕ) → n < bound → Is n n)
+    → AreGiven (λ n x. x ≡ n) bound numbers → AreGiven Is bound numbers
+own_given Is bound numbers itself own = record {
+  count = own.count;
+  each = λ n lt. subst (Is n) (sym (own.each n lt)) (itself n lt);
+}
+
+pub own_tops : (classes : List Class) (numbers : List ℕ) → AreGiven (λ n x. x ≡ n) (length classes) numbers
+    → AreTops classes numbers
+own_tops classes numbers own = own_given (IsTop classes) (length classes) numbers (top_itself classes) own
+
+pub own_runs : (classes : List Class) (numbers : List ℕ) → AreGiven (λ n x. x ≡ n) (length classes) numbers
+    → AreRuns classes numbers
+own_runs classes numbers own = own_given (IsRun classes) (length classes) numbers (run_itself classes) own
+
+above_itself : (classes : List Class) (n : ℕ) → is_class_below classes (Prog n) (Prog n) ≡ true
+above_itself classes n =
+    ap (list_any (same_class (Prog n))) (upwards_step highest classes (Prog n) (lit< tt))
+    ∙ ap (λ b. b || list_any (same_class (Prog n)) (option_map_or (upwards (highest - 1) classes)
+    (superclass classes (Prog n)) [])) (same_itself (Prog n))
+
+pub own_above : (classes : List Class) (numbers : List ℕ) → AreGiven (λ n x. x ≡ n) (length classes) numbers
+    → AreAbove classes numbers
+own_above classes numbers own =
+    own_given (λ n k. is_class_below classes (Prog k) (Prog n) ≡ true) (length classes) numbers
+    (λ n lt. above_itself classes n) own
 
 -- one more number
 pub own_more : (tops new : List ℕ) (k : ℕ) → length tops ≡ k → ((n : ℕ) → n < k → get_or tops n 0 ≡ n)
@@ -54,26 +86,52 @@ own_more tops new k count each put n lt =
         ap (λ i. get_or (xs ++ j ∷ []) i 0) e ∙ last xs j ∙ sym long ∙ sym e)
         (cases_lt m j)
 
-put_here : (classes : List Class) (old : List ℕ) (i t n : ℕ) (b : Bool) → AreTops classes old → i < length classes
-    → IsTop classes i t → eqb n i ≡ b → n < length classes → IsTop classes n (get_or (set old i t) n 0)
-put_here classes old i t n true are i-in top same n-in =
+put_here : (Is : ℕ → ℕ → Type 0) (bound : ℕ) (old : List ℕ) (i t n : ℕ) (b : Bool) → AreGiven Is bound old
+    → i < bound → Is i t → eqb n i ≡ b → n < bound → Is n (get_or (set old i t) n 0)
+put_here Is bound old i t n true are i-in one same n-in =
     let count = are.count in
     let e : i ≡ n = sym (eqb-true n i same) in
-    subst (λ (m : ℕ). IsTop classes m (get_or (set old i t) m 0)) e
-    (subst (λ (u : ℕ). IsTop classes i u) (sym (get_or-set_same old i t 0 (omega (arith, i-in, count)))) top)
-put_here classes old i t n false are i-in top other n-in =
-    subst (λ (u : ℕ). IsTop classes n u)
+    subst (λ (m : ℕ). Is m (get_or (set old i t) m 0)) e
+    (subst (λ (u : ℕ). Is i u) (sym (get_or-set_same old i t 0 (omega (arith, i-in, count)))) one)
+put_here Is bound old i t n false are i-in one other n-in =
+    subst (λ (u : ℕ). Is n u)
     (sym (get_or-set_other old i n t 0 (λ e. absurd (let h = eq-eqb n i e in cc)))) (are.each n n-in)
+
+-- one number is put
+given_put : (Is : ℕ → ℕ → Type 0) (bound : ℕ) (old new : List ℕ) (i t : ℕ) → AreGiven Is bound old → i < bound
+    → Is i t → new ≡ set old i t → AreGiven Is bound new
+given_put Is bound old new i t are i-in one put =
+    subst (AreGiven Is bound) (sym put)
+    (record {
+      count = length-set old i t ∙ are.count;
+      each = λ n n-in. put_here Is bound old i t n (eqb n i) are i-in one refl n-in;
+    })
 
 -- one class is found
 pub top_put : (classes : List Class) (old new : List ℕ) (i t : ℕ) → AreTops classes old → i < length classes
     → IsTop classes i t → new ≡ set old i t → AreTops classes new
-top_put classes old new i t are i-in top put =
-    subst (AreTops classes) (sym put)
-    (record {
-      count = length-set old i t ∙ are.count;
-      each = λ n n-in. put_here classes old i t n (eqb n i) are i-in top refl n-in;
-    })
+top_put classes old new i t are i-in top put = given_put (IsTop classes) (length classes) old new i t are i-in top put
+
+pub run_put : (classes : List Class) (old new : List ℕ) (i t : ℕ) → AreRuns classes old → i < length classes
+    → IsRun classes i t → new ≡ set old i t → AreRuns classes new
+run_put classes old new i t are i-in run put = given_put (IsRun classes) (length classes) old new i t are i-in run put
+
+pub above_put : (classes : List Class) (old new : List ℕ) (i t : ℕ) → AreAbove classes old → i < length classes
+    → is_class_below classes (Prog t) (Prog i) ≡ true → new ≡ set old i t → AreAbove classes new
+above_put classes old new i t are i-in above put =
+    given_put (λ n k. is_class_below classes (Prog k) (Prog n) ≡ true) (length classes) old new i t are i-in above put
+
+-- a class of a list is among it
+pub among_at : (xs : List ClassId) (i : ℕ) (x : ClassId) → i < length xs → x ≡ get_or xs i x
+    → list_any (same_class x) xs ≡ true
+among_at [] i x lt is = absurd (omega (arith, lt))
+among_at (y ∷ ys) zero x lt is =
+    ap (λ b. b || list_any (same_class x) ys) (ap (same_class x) (sym is) ∙ same_itself x)
+among_at (y ∷ ys) (suc i) x lt is = by (same_class x y) (among_at ys i x (omega (arith, lt)) is)
+  where
+    by : (b : Bool) → list_any (same_class x) ys ≡ true → (b || list_any (same_class x) ys) ≡ true
+    by true h = refl
+    by false h = h
 
 pub above_is : (o : Option ClassId) (n : ℕ) → Some n ≡ program_number o → o ≡ Some (Prog n)
 above_is (Some (Prog m)) n is = ap (λ k. Some (Prog k)) (sym (same_Some n m is))
@@ -98,6 +156,15 @@ pub top_above : (classes : List Class) (r : HasRanks classes) (tops : List ℕ) 
     → IsTop classes n (get_or tops p 0)
 top_above classes r tops n p o few n-in are up is blank =
     blank_top classes r n p few n-in (above_is (superclass classes (Prog n)) p (sym is ∙ up)) blank (get_or tops p 0)
+    (are.each p (above_there classes n p o up is))
+
+-- where the class has no instance method
+pub run_above : (classes : List Class) (r : HasRanks classes) (runs : List ℕ) (n p : ℕ) (o : Option ℕ)
+    → length classes ≤ 4294967295 → n < length classes → AreRuns classes runs
+    → o ≡ program_number (superclass classes (Prog n)) → o ≡ Some p → HasNoMethod classes n
+    → IsRun classes n (get_or runs p 0)
+run_above classes r runs n p o few n-in are up is none =
+    bare_run classes r n p few n-in (above_is (superclass classes (Prog n)) p (sym is ∙ up)) none (get_or runs p 0)
     (are.each p (above_there classes n p o up is))
 
 -- it has no superinterface where none comes once

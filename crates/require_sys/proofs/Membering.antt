@@ -2,9 +2,9 @@
 use Rattle.std.proofs.Common.{◌≡◌, ℕ, zero, suc, ◌+◌, ◌<◌, ◌≤◌, Bool, true, false, not, cond, List, [], ◌∷◌, ◌++◌}
 use Rattle.std.proofs.Common.{length, map}
 use Rattle.std.proofs.Common.{get_or, take, slice_get, Option, Some, refl, sym, ap, subst, ◌∙◌, arith, append-nil}
-use Rattle.std.proofs.Common.{nat_lt}
+use Rattle.std.proofs.Common.{nat_lt, ◌==◌}
 use Rattle.std.specs.List.{cons_option, enumerate_from, filter, filter_map, flat_map}
-use Rattle.std.proofs.lemmas.Bool.{ltb-true}
+use Rattle.std.proofs.lemmas.Bool.{eqb-true, ltb-true}
 use Rattle.std.proofs.lemmas.List.{length-map, map_push}
 use Rattle.std.proofs.lemmas.List.Concat.{flat_map-append}
 use Rattle.std.proofs.lemmas.List.Elements.{filter-append, filter_map-append}
@@ -101,6 +101,24 @@ pairs_more classes n t xs i x old now new lt at so_far one =
     subst (λ (ps : List Pair). AddsPairs old ps new) (sym (one_above (pairs_in classes n t) xs i x lt at))
     (both_pairs old now new (flat_map (pairs_in classes n t) (map Prog (take i xs)))
     (pairs_in classes n t (Prog x)) so_far one)
+
+taken : (xs : List ℕ) (i : ℕ) → length xs ≤ i → take i xs ≡ xs
+taken [] zero over = refl
+taken [] (suc i) over = refl
+taken (x ∷ xs) zero over = absurd (omega (arith, over))
+taken (x ∷ xs) (suc i) over = ap (λ t. x ∷ t) (taken xs i (omega (arith, over)))
+
+pub pairs_all : (classes : List Class) (n t : ℕ) (xs : List ℕ) (i : ℕ) (old new : Pairs) → length xs ≤ i
+    → AddsPairs old (flat_map (pairs_in classes n t) (map Prog (take i xs))) new
+    → AddsPairs old (flat_map (pairs_in classes n t) (map Prog xs)) new
+pairs_all classes n t xs i old new over all =
+    subst (λ (ys : List ℕ). AddsPairs old (flat_map (pairs_in classes n t) (map Prog ys)) new) (taken xs i over) all
+
+pub none_above : {Y : Type 0} (g : ClassId → List Y) (xs : List ℕ) (b : Bool) → b ≡ (length xs == 0) → b ≡ true
+    → [] ≡ flat_map g (map Prog xs)
+none_above g [] b is none = refl
+none_above g (x ∷ xs) b is none =
+    absurd (let e = eqb-true (length (x ∷ xs)) 0 (sym is ∙ none) in omega (arith, e))
 
 pub class_is : (classes : List Class) (n t : ℕ) (c : Class) (numbers : List ℕ) → is_interface c.flags.0 ≡ false
     → IsTop classes n t → map Prog numbers ≡ program_supers classes (Prog t)

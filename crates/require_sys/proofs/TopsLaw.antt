@@ -32,7 +32,7 @@ use Rattle.require_sys.specs.Requires.{class_number, methods_above, pair_from, p
 use Rattle.class_pool.specs.Items.{item_of}
 use Rattle.require_sys.specs.bodies.Selecting.{called_item, pair_with, pairs_in}
 use Rattle.require_sys.specs.bodies.Supers.{is_library}
-use Rattle.require_sys.specs.bodies.Tops.{IsBlank, IsTop}
+use Rattle.require_sys.specs.bodies.Tops.{HasNoMethod, IsBlank, IsRun, IsTop}
 use Rattle.require_sys.proofs.Meeting.{library_once}
 use Rattle.require_sys.proofs.SupersLaw.{flat_filtered, flat_of}
 
@@ -81,19 +81,17 @@ none_mapped f q x (e ∷ es) h = by (q here) (none_mapped f q x es h)
 member_same : (m : MemberAt) → same_member m m ≡ true
 member_same m = (member_Decides m m).1 refl
 
--- ---- one class and its superclass
+-- ---- a class without instance methods, and its superclass
 
 module _ (classes : List Class) (r : HasRanks classes) (n p : ℕ) (few : length classes ≤ 4294967295)
-    (n-in : n < length classes) (super : superclass classes (Prog n) ≡ Some (Prog p)) (blank : IsBlank classes n p)
-  where
-    up : superclasses_from classes (Prog n) ≡ Prog n ∷ superclasses_from classes (Prog p)
-    up =
-        let most = r.most (Prog n) n-in in
-        superclasses_next classes r.rank (Prog n) r.falls n-in (omega (arith, count, most, few))
-        ∙ ap (λ o. Prog n ∷ option_map_or (superclasses_from classes) o []) super
+    (n-in : n < length classes) (super : superclass classes (Prog n) ≡ Some (Prog p)) where
+  chain_up : superclasses_from classes (Prog n) ≡ Prog n ∷ superclasses_from classes (Prog p)
+  chain_up =
+      let most = r.most (Prog n) n-in in
+      superclasses_next classes r.rank (Prog n) r.falls n-in (omega (arith, count, most, few))
+      ∙ ap (λ o. Prog n ∷ option_map_or (superclasses_from classes) o []) super
 
-    -- ---- what runs
-
+  module _ (methods : HasNoMethod classes n) where
     -- the class declares no instance method
     own_not : (named : NameAndType) (o : Option MemberAt) → declared_in classes named (Prog n) ≡ o
         → IfSome o (λ x. is_instance_method classes x ≡ false)
@@ -101,7 +99,7 @@ module _ (classes : List Class) (r : HasRanks classes) (n p : ℕ) (few : length
     own_not named (Some x) is =
         ap (λ c. is_instance_method classes (record { class = c; index = x.index }))
         (declared_class classes named (Prog n) x is)
-        ∙ blank.methods x.index
+        ∙ methods x.index
 
     find_later : (o : Option MemberAt) (ms : List MemberAt) → IfSome o (λ x. is_instance_method classes x ≡ false)
         → find (is_instance_method classes) (cons_option o ms) ≡ find (is_instance_method classes) ms
@@ -125,19 +123,41 @@ module _ (classes : List Class) (r : HasRanks classes) (n p : ℕ) (few : length
         ∙ ap (λ b. if (b && not (is_private_member classes x) && not (is_interface_in classes x.class)) && any
         then x ∷ over else over) none
 
-    selected_up : (m : MemberAt) → is_instance_method classes m ≡ true
+    bare_selected : (m : MemberAt) → is_instance_method classes m ≡ true
         → selected classes (Prog n) m ≡ selected classes (Prog p) m
-    selected_up m one =
+    bare_selected m one =
         let named : NameAndType = named_at classes m in
         let own : Option MemberAt = declared_in classes named (Prog n) in
         let none = own_not named own refl in
         let rest : List MemberAt = declared_by classes named (superclasses_from classes (Prog p)) in
         let interface : first_instance classes (Prog n) named ≡ first_instance classes (Prog p) named =
-        ap (λ cs. find (is_instance_method classes) (declared_by classes named cs)) up ∙ find_later own rest none in
+        ap (λ cs. find (is_instance_method classes) (declared_by classes named cs)) chain_up ∙ find_later own rest none in
         let class : first (overriding_from classes (Prog n) m) ≡ first (overriding_from classes (Prog p) m) =
-        ap (λ cs. first (overriding classes m (declared_by classes named cs))) up
+        ap (λ cs. first (overriding classes m (declared_by classes named cs))) chain_up
         ∙ ap first (overriding_later m own rest one none) in
         λ i. if is_interface_in classes m.class then interface i else class i
+
+    pub bare_run : (t : ℕ) → IsRun classes p t → IsRun classes n t
+    bare_run t run = record {
+      there = run.there;
+      same = λ m one. bare_selected m one ∙ run.same m one;
+    }
+
+-- a class for itself
+pub run_itself : (classes : List Class) (n : ℕ) → n < length classes → IsRun classes n n
+run_itself classes n n-in = record { there = n-in; same = λ m one. refl }
+
+-- ---- a class without superinterfaces of its own too
+
+module _ (classes : List Class) (r : HasRanks classes) (n p : ℕ) (few : length classes ≤ 4294967295)
+    (n-in : n < length classes) (super : superclass classes (Prog n) ≡ Some (Prog p)) (blank : IsBlank classes n p)
+  where
+    up : superclasses_from classes (Prog n) ≡ Prog n ∷ superclasses_from classes (Prog p)
+    up = chain_up classes r n p few n-in super
+
+    selected_up : (m : MemberAt) → is_instance_method classes m ≡ true
+        → selected classes (Prog n) m ≡ selected classes (Prog p) m
+    selected_up = bare_selected classes r n p few n-in super blank.methods
 
     -- ---- where the library calls
 

@@ -10,3 +10,4 @@ pub mod Supers
 pub mod Alone
 pub mod Known
 pub mod Tops
+pub mod Overriding

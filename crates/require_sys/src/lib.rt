@@ -14,6 +14,7 @@ mod named;
 mod needs;
 mod numbered;
 mod pairs;
+mod receiver;
 mod seeds;
 mod supers;
 mod system;

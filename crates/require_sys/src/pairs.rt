@@ -1,19 +1,24 @@
 // What a class and a method above it need together.
-ghost use Rattle.std.specs.Prelude.{◌≡◌, ◌+◌, ◌<◌, [], IfOk, OnOk, Some, if◌then◌else◌, length, map, slice_get};
+ghost use Rattle.std.specs.Prelude.{◌≡◌, ◌+◌, ◌<◌, [], IfOk, OnOk, Some, if◌then◌else◌, length, map, slice_get, true};
 ghost use Rattle.std.specs.List.{All, cons_option, flat_map};
-ghost use Rattle.class_pool.specs.Found.{IsMember, IsMethod, same_member};
+ghost use Rattle.class_pool.specs.Found.{IsMember, is_instance_method};
+ghost use Rattle.class_pool.specs.Hierarchy.{IsClass};
+ghost use Rattle.class_pool.specs.Resolution.{is_class_below};
+ghost use Rattle.class_pool.specs.Walk.{superclasses_from};
 ghost use Rattle.class_pool.specs.declared.id.ClassId.TheVariants.{Prog};
 ghost use Rattle.require_sys.specs.Requires.{class_pairs, is_inheritable, pair_of};
 ghost use Rattle.require_sys.specs.bodies.Counting.{AddsPairs, HasPairs};
 ghost use Rattle.require_sys.specs.bodies.Selecting.{all_pairs, pair_with, pairs_in};
+ghost use Rattle.require_sys.specs.bodies.Tops.{AreAbove};
 
 use crate::limits::Counted;
 use crate::numbered::Numbered;
-use crate::supers::{is_interface, program_supers};
+use crate::receiver::Receiver;
+use crate::supers::{is_interface, is_same_member, program_supers, superclasses_of};
+use crate::tops::own_numbers;
 use class_model::Class;
 use class_pool::{ClassId, ClassSet, MemberAt};
 use jv_base::{Items, M};
-use link_check::select;
 use mark_core::Pair;
 use std::alloc::Global;
 
@@ -49,70 +54,133 @@ pub(crate) fn pairs_of(alloc: Global, numbered: &Numbered) -> M<Pairs>
         pairs: Items::new(alloc),
         count: 0,
     };
+    let mut below = own_numbers(alloc, set)?;
     for number in 0..set.len() {
-        add_class(alloc, numbered, number, set.class(number), &mut pairs)?;
+        let class = set.class(number);
+        add_class(alloc, numbered, &mut below, number, class, &mut pairs)?;
     }
     Ok(pairs)
 }
 
-/// The pairs of a class; no object is of an interface.
+/// The pairs of a class; no object is of an interface. The table has for each class one that it is or is above.
 fn add_class(
     alloc: Global,
     numbered: &Numbered,
+    below: &mut Vec<u32>,
     number: u32,
     class: &Class,
     pairs: &mut Pairs,
 ) -> M<()>
+    requires below { AreAbove numbered.now.set.now below.old.items }
     requires there { slice_get numbered.now.set.now number ≡ Some class.now }
-    ensures { OnOk result (AddsPairs pairs.old (class_pairs numbered.now.set.now (number, class.now)) pairs.new) }
+    ensures pairs { OnOk result (AddsPairs pairs.old (class_pairs numbered.now.set.now (number, class.now)) pairs.new) }
+    ensures below { OnOk result (AreAbove numbered.now.set.now below.new.items) }
 {
     if is_interface(class) {
         return Ok(());
     }
     let top = numbered.top(number);
     let supers = program_supers(alloc, numbered.set, top)?;
-    add_above(numbered, number, top, supers.as_slice(), pairs)
+    add_above(
+        alloc,
+        numbered,
+        below,
+        number,
+        top,
+        supers.as_slice(),
+        pairs,
+    )
 }
 
 /// Those of a class with the methods of these classes above it. The same methods run in another one, its top.
-fn add_above(numbered: &Numbered, number: u32, top: u32, supers: &[u32], pairs: &mut Pairs) -> M<()>
+fn add_above(
+    alloc: Global,
+    numbered: &Numbered,
+    below: &mut Vec<u32>,
+    number: u32,
+    top: u32,
+    supers: &[u32],
+    pairs: &mut Pairs,
+) -> M<()>
+    requires below { AreAbove numbered.now.set.now below.old.items }
     requires there { number < length numbered.now.set.now }
     requires top { top < length numbered.now.set.now }
     requires supers { All (λ k. k < length numbered.now.set.now) supers.now }
-    ensures { OnOk result (AddsPairs pairs.old (flat_map (pairs_in numbered.now.set.now number top)
+    ensures pairs { OnOk result (AddsPairs pairs.old (flat_map (pairs_in numbered.now.set.now number top)
+        (map Prog supers.now)) pairs.new) }
+    ensures below { OnOk result (AreAbove numbered.now.set.now below.new.items) }
+{
+    if supers.is_empty() {
+        return Ok(());
+    }
+    let run = numbered.run(top);
+    let chain = superclasses_of(alloc, numbered.set, run)?;
+    mark_above(numbered.set, below, run, chain.as_slice());
+    let receiver = Receiver::new(numbered, top, run, chain.as_slice(), below.as_slice());
+    add_each(&receiver, number, supers, pairs)
+}
+
+/// Notes of a class and its superclasses that they are above it.
+fn mark_above(set: &ClassSet, below: &mut Vec<u32>, number: u32, chain: &[ClassId])
+    requires below { AreAbove set.now below.old.items }
+    requires there { number < length set.now }
+    requires chain { chain.now ≡ superclasses_from set.now (Prog number) }
+    requires classes { All (IsClass set.now) chain.now }
+    ensures { AreAbove set.now below.new.items }
+{
+    for class in chain {
+        mark_class(set, below, number, class);
+    }
+}
+
+fn mark_class(set: &ClassSet, below: &mut Vec<u32>, number: u32, class: &ClassId)
+    requires below { AreAbove set.now below.old.items }
+    requires there { IsClass set.now class.now }
+    requires above { is_class_below set.now (Prog number) class.now ≡ true }
+    ensures { AreAbove set.now below.new.items }
+{
+    let _count = set.len();
+    if let ClassId::Prog(above) = class {
+        below[*above as usize] = number;
+    }
+}
+
+fn add_each(receiver: &Receiver, number: u32, supers: &[u32], pairs: &mut Pairs) -> M<()>
+    requires there { number < length receiver.now.numbered.now.set.now }
+    requires supers { All (λ k. k < length receiver.now.numbered.now.set.now) supers.now }
+    ensures { OnOk result (AddsPairs pairs.old
+        (flat_map (pairs_in receiver.now.numbered.now.set.now number receiver.now.class)
         (map Prog supers.now)) pairs.new) }
 {
     for above in supers {
-        add_of(numbered, number, top, above, pairs)?;
+        add_of(receiver, number, above, pairs)?;
     }
     Ok(())
 }
 
-fn add_of(numbered: &Numbered, number: u32, top: u32, above: &u32, pairs: &mut Pairs) -> M<()>
-    requires there { number < length numbered.now.set.now }
-    requires top { top < length numbered.now.set.now }
-    requires above { above.now < length numbered.now.set.now }
+fn add_of(receiver: &Receiver, number: u32, above: &u32, pairs: &mut Pairs) -> M<()>
+    requires there { number < length receiver.now.numbered.now.set.now }
+    requires above { above.now < length receiver.now.numbered.now.set.now }
     ensures { OnOk result (AddsPairs pairs.old
-        (pairs_in numbered.now.set.now number top (Prog above.now)) pairs.new) }
+        (pairs_in receiver.now.numbered.now.set.now number receiver.now.class (Prog above.now)) pairs.new) }
 {
-    let class = numbered.set.class(*above);
-    add_methods(numbered, number, top, *above, class, pairs)
+    let class = receiver.numbered.set.class(*above);
+    add_methods(receiver, number, *above, class, pairs)
 }
 
 /// Those of a class with the methods of one class above it.
 fn add_methods(
-    numbered: &Numbered,
+    receiver: &Receiver,
     number: u32,
-    top: u32,
     above: u32,
     class: &Class,
     pairs: &mut Pairs,
 ) -> M<()>
-    requires there { number < length numbered.now.set.now }
-    requires top { top < length numbered.now.set.now }
-    requires above { slice_get numbered.now.set.now above ≡ Some class.now }
+    requires there { number < length receiver.now.numbered.now.set.now }
+    requires above { slice_get receiver.now.numbered.now.set.now above ≡ Some class.now }
     requires few { length class.now.fields + length class.now.methods < 4294967295 }
-    ensures { OnOk result (AddsPairs pairs.old (pairs_in numbered.now.set.now number top (Prog above)) pairs.new) }
+    ensures { OnOk result (AddsPairs pairs.old
+        (pairs_in receiver.now.numbered.now.set.now number receiver.now.class (Prog above)) pairs.new) }
 {
     let count = class.fields.len() + class.methods.len();
     for index in 0..count as u32 {
@@ -120,24 +188,24 @@ fn add_methods(
             class: ClassId::Prog(above),
             index,
         };
-        add_member(numbered, number, top, &m, pairs)?;
+        add_member(receiver, number, &m, pairs)?;
     }
     Ok(())
 }
 
 /// That of a class with a member above it, if this is a method that may be inherited.
-fn add_member(numbered: &Numbered, number: u32, top: u32, m: &MemberAt, pairs: &mut Pairs) -> M<()>
-    requires there { number < length numbered.now.set.now }
-    requires top { top < length numbered.now.set.now }
-    requires member { IsMember numbered.now.set.now m.now }
+fn add_member(receiver: &Receiver, number: u32, m: &MemberAt, pairs: &mut Pairs) -> M<()>
+    requires there { number < length receiver.now.numbered.now.set.now }
+    requires member { IsMember receiver.now.numbered.now.set.now m.now }
     ensures { OnOk result (AddsPairs pairs.old
-        (if is_inheritable numbered.now.set.now m.now
-        then cons_option (pair_with numbered.now.set.now number top m.now) [] else []) pairs.new) }
+        (if is_inheritable receiver.now.numbered.now.set.now m.now
+        then cons_option (pair_with receiver.now.numbered.now.set.now number receiver.now.class m.now) [] else [])
+        pairs.new) }
 {
-    if !is_inheritable(numbered.set, m) {
+    if !is_inheritable(receiver.numbered.set, m) {
         return Ok(());
     }
-    pairs.add(pair_with(numbered, number, top, m))
+    pairs.add(pair_with(receiver, number, m))
 }
 
 /// Whether a member is an instance method that isn't private.
@@ -150,15 +218,14 @@ fn is_inheritable(set: &ClassSet, m: &MemberAt) -> bool
 
 /// What a class and a method above it need together: the method that runs where that one is called on an object of
 /// the class, where it is another one of the program.
-fn pair_with(numbered: &Numbered, number: u32, top: u32, m: &MemberAt) -> Option<Pair>
-    requires there { number < length numbered.now.set.now }
-    requires top { top < length numbered.now.set.now }
-    requires member { IsMember numbered.now.set.now m.now }
-    requires method { IsMethod numbered.now.set.now m.now }
-    ensures { result ≡ pair_with numbered.now.set.now number top m.now }
+fn pair_with(receiver: &Receiver, number: u32, m: &MemberAt) -> Option<Pair>
+    requires there { number < length receiver.now.numbered.now.set.now }
+    requires member { IsMember receiver.now.numbered.now.set.now m.now }
+    requires method { is_instance_method receiver.now.numbered.now.set.now m.now ≡ true }
+    ensures { result ≡ pair_with receiver.now.numbered.now.set.now number receiver.now.class m.now }
 {
-    match &select(numbered.set, ClassId::Prog(top), *m) {
-        Some(selected) => pair_of(numbered, number, m, selected),
+    match &receiver.selected(m) {
+        Some(selected) => pair_of(receiver.numbered, number, m, selected),
         None => None,
     }
 }
@@ -176,10 +243,4 @@ fn pair_of(numbered: &Numbered, number: u32, m: &MemberAt, selected: &MemberAt) 
     let derived = numbered.item_of(*selected)?;
     let one = numbered.class_item(number);
     Some(Pair { one, two, derived })
-}
-
-fn is_same_member(one: &MemberAt, other: &MemberAt) -> bool
-    ensures { result ≡ same_member one.now other.now }
-{
-    one.class == other.class && one.index == other.index
 }

@@ -2,6 +2,7 @@
 ghost use Rattle.std.specs.Prelude.{◌≡◌, ◌&&◌, ◌<◌, [], ◌∷◌, ◌++◌, IfOk, OnOk, length, map, not};
 ghost use Rattle.std.specs.List.{All, cons_option, filter, filter_map, flat_map, list_any};
 ghost use Rattle.class_model.specs.Flags.{is_interface};
+ghost use Rattle.class_pool.specs.Found.{same_member};
 ghost use Rattle.class_pool.specs.Hierarchy.{IsClass, superclass};
 ghost use Rattle.class_pool.specs.Walk.{each_once, same_class, superclasses_from};
 ghost use Rattle.class_pool.specs.declared.id.ClassId.TheVariants.{Prog};
@@ -10,7 +11,7 @@ ghost use Rattle.require_sys.specs.bodies.Supers.{is_library, is_new, other_numb
 
 use bitflags::Flags;
 use class_model::Class;
-use class_pool::{ClassId, ClassSet};
+use class_pool::{ClassId, ClassSet, MemberAt};
 use jv_base::{Access, M};
 use std::alloc::Global;
 
@@ -51,7 +52,7 @@ pub(crate) fn superclass_number(set: &ClassSet, number: u32) -> Option<u32>
 }
 
 /// A class and its superclasses, the nearest first.
-fn superclasses_of(alloc: Global, set: &ClassSet, number: u32) -> M<Vec<ClassId>>
+pub(crate) fn superclasses_of(alloc: Global, set: &ClassSet, number: u32) -> M<Vec<ClassId>>
     requires { number < length set.now }
     ensures { IfOk result (λ ids. ids.items ≡ superclasses_from set.now (Prog number)) }
 {
@@ -169,6 +170,12 @@ pub(crate) fn is_same_class(one: &ClassId, other: &ClassId) -> bool
     ensures { result ≡ same_class one.now other.now }
 {
     one == other
+}
+
+pub(crate) fn is_same_member(one: &MemberAt, other: &MemberAt) -> bool
+    ensures { result ≡ same_member one.now other.now }
+{
+    one.class == other.class && one.index == other.index
 }
 
 /// Whether a class is an interface, of which there is no object.

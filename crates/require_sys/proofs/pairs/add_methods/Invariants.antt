@@ -9,6 +9,7 @@ use Rattle.require_sys.proofs.pairs.add_methods.Given as goal
 
 abbrev pub invariant-loop-index : goal.invariant-loop-index
 invariant-loop-index l = AddsPairs l.fn.pairs
-    (filter_map (pair_with l.numbered.set.now l.number l.top) (filter (is_inheritable l.numbered.set.now)
+    (filter_map (pair_with l.receiver.numbered.now.set.now l.number l.receiver.class)
+    (filter (is_inheritable l.receiver.numbered.now.set.now)
     (map (λ p. record { class = Prog l.above; index = p.0 })
-    (enumerate_from 0 (take l.index (rows_in l.numbered.set.now (Prog l.above))))))) l.pairs
+    (enumerate_from 0 (take l.index (rows_in l.receiver.numbered.now.set.now (Prog l.above))))))) l.pairs

@@ -3,6 +3,6 @@ use Rattle.require_sys.proofs.tops.own_numbers.Given as goal
 
 abbrev pub invariant-loop-number : goal.invariant-loop-number
 invariant-loop-number l = record {
-  count : length l.tops.items ≡ l.number;
-  each : (k : ℕ) → k < l.number → get_or l.tops.items k 0 ≡ k;
+  count : length l.numbers.items ≡ l.number;
+  each : (k : ℕ) → k < l.number → get_or l.numbers.items k 0 ≡ k;
 }

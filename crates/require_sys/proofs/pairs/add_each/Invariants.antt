@@ -3,8 +3,9 @@ use Rattle.std.specs.List.{flat_map}
 use Rattle.class_pool.specs.declared.id.ClassId.TheVariants.{Prog}
 use Rattle.require_sys.specs.bodies.Counting.{AddsPairs}
 use Rattle.require_sys.specs.bodies.Selecting.{pairs_in}
-use Rattle.require_sys.proofs.pairs.add_above.Given as goal
+use Rattle.require_sys.proofs.pairs.add_each.Given as goal
 
 abbrev pub invariant-loop-above : goal.invariant-loop-above
 invariant-loop-above l = AddsPairs l.fn.pairs
-    (flat_map (pairs_in l.numbered.set.now l.number l.top) (map Prog (take l.above-index l.supers))) l.pairs
+    (flat_map (pairs_in l.receiver.numbered.now.set.now l.number l.receiver.class)
+    (map Prog (take l.above-index l.supers))) l.pairs
