@@ -2,7 +2,7 @@
 use Rattle.std.proofs.Common.{◌≡◌, ◌⊎◌, ◌<◌, ℕ, suc, ◌+◌, Bool, true, false, not, ◌&&◌, ◌||◌, ◌==◌, nat_eq, nat_le}
 use Rattle.std.proofs.Common.{nat_lt}
 use Rattle.std.proofs.Common.{List, [], ◌∷◌, ◌++◌, length, get_or, take, drop, Option, Some, None, inl, inr, refl, sym}
-use Rattle.std.proofs.Common.{ap, subst, ◌∙◌, arith, ⊎_elim}
+use Rattle.std.proofs.Common.{ap, subst, ◌∙◌, arith, set, ⊎_elim}
 use Rattle.std.proofs.Common.{below_more, length-append}
 use Rattle.std.proofs.lemmas.Bool.{cases_eq}
 use Rattle.std.specs.Prelude.{slice_get, slice_index_or}
@@ -11,7 +11,8 @@ use Rattle.std.specs.List.{find, list_all, list_any}
 use Rattle.std.specs.Option.{option_and_then, option_map, option_map_or}
 use Rattle.std.proofs.lemmas.Bool.{le-leb, leb-true, lt-ltb, ltb-true}
 use Rattle.std.proofs.lemmas.Bool.Decides.{eqb_tells, leb_tells}
-use Rattle.std.proofs.lemmas.List.{get_or_append_left, get_or_default, get_or_past, take-append-drop}
+use Rattle.std.proofs.lemmas.List.{get_or-set_other, get_or-set_same, get_or_append_left, get_or_default, get_or_past}
+use Rattle.std.proofs.lemmas.List.{length-set, take-append-drop}
 use Rattle.std.proofs.lemmas.List.Folds.{list_all_at}
 use Rattle.std.proofs.lemmas.List.Sums.{list_all-from_AllPass}
 use Rattle.std.proofs.lemmas.Option.{get_or_from_slice_get, slice_get-get_or, slice_get_within}
@@ -27,7 +28,7 @@ use Rattle.type_verifier.specs.Assignable.{is_assignable}
 use Rattle.type_verifier.specs.Environment.{Environment, declared_frame_at}
 use Rattle.type_verifier.specs.Frames.{declared_frame, expanded}
 use Rattle.type_verifier.specs.Walk.{covers, satisfies, satisfies_handlers}
-use Rattle.type_verifier.specs.bodies.Asked.{AreAsked, AreAskedBefore, IsStoodFor, StandsFor, covers_behind}
+use Rattle.type_verifier.specs.bodies.Asked.{AreAsked, AreAskedBefore, IsStoodFor, StandsFor, StandsForPlace, covers_behind}
 use Rattle.type_verifier.specs.bodies.Asked.{covers_first}
 use Rattle.type_verifier.specs.bodies.Asked.{handler_at, locals_at, no_handler, satisfies_behind, satisfies_first}
 use Rattle.type_verifier.specs.bodies.Asked.{IsUncovered, satisfies_if_behind}
@@ -82,6 +83,68 @@ module _ (code : Code) (numbers : List ℕ) (n : ℕ) (h : AreAskedBefore code n
         omega (arith, long),
         subst (λ (m : ℕ). StandsFor code (handler_at code m) (handler_at code n)) (sym seam) itself,
       )
+
+  -- one in place of another one that it stands for
+  asked_set : n < length code.handlers → (at : ℕ) → at < length numbers
+      → StandsFor code (handler_at code n) (handler_at code (get_or numbers at 0))
+      → AreAskedBefore code (n + 1) (set numbers at n)
+  asked_set within at lt so = record {
+    there = λ i less. there i less (cases_eq i at);
+    each = below_more (IsStoodFor code (set numbers at n)) n (λ k less. still k (h.each k less) (cases_eq (h.each k less).0 at)) last;
+  }
+    where
+      long : length (set numbers at n) ≡ length numbers
+      long = length-set numbers at n
+
+      same : get_or (set numbers at n) at 0 ≡ n
+      same = get_or-set_same numbers at n 0 lt
+
+      there : (i : ℕ) → i < length (set numbers at n) → (i ≡ at) ⊎ (i ≡ at → ⊥)
+          → get_or (set numbers at n) i 0 < length code.handlers
+      there i less (inl e) =
+          let is = ap (λ (k : ℕ). get_or (set numbers at n) k 0) e ∙ same in omega (arith, is, within)
+      there i less (inr ne) =
+          let is = get_or-set_other numbers at i n 0 ne in
+          let was = h.there i (omega (arith, less, long)) in
+          omega (arith, is, was)
+
+      through : (one other third : Handler) → StandsFor code one other → StandsFor code other third
+          → StandsFor code one third
+      through one other third a b =
+          let from = a.from in
+          let to = a.to in
+          let other_from = b.from in
+          let other_to = b.to in
+          record {
+            from = omega (arith, from, other_from);
+            to = omega (arith, to, other_to);
+            locals = a.locals ∙ b.locals;
+          }
+
+      new : (k : ℕ) → StandsFor code (handler_at code n) (handler_at code k) → IsStoodFor code (set numbers at n) k
+      new k s = (
+        at,
+        omega (arith, lt, long),
+        subst (λ (m : ℕ). StandsFor code (handler_at code m) (handler_at code k)) (sym same) s,
+      )
+
+      still : (k : ℕ) (s : IsStoodFor code numbers k) → (s.0 ≡ at) ⊎ (s.0 ≡ at → ⊥) → IsStoodFor code (set numbers at n) k
+      still k s (inl e) = new k (through (handler_at code n) (handler_at code (get_or numbers at 0)) (handler_at code k) so
+          (subst (λ (i : ℕ). StandsFor code (handler_at code (get_or numbers i 0)) (handler_at code k)) e s.2))
+      still k s (inr ne) = (
+        s.0,
+        (let less = s.1 in omega (arith, less, long)),
+        subst (λ (m : ℕ). StandsFor code (handler_at code m) (handler_at code k))
+            (sym (get_or-set_other numbers at s.0 n 0 ne)) s.2,
+      )
+
+      last : IsStoodFor code (set numbers at n) n
+      last = new n (record { from = omega arith; to = omega arith; locals = refl })
+
+  pub asked_instead : (at : ℕ) (new : List ℕ) → n < length code.handlers → StandsForPlace code numbers n at
+      → new ≡ set numbers at n → AreAskedBefore code (n + 1) new
+  asked_instead at new within so put =
+      subst (AreAskedBefore code (n + 1)) (sym put) (asked_set within at so.within so.stands)
 
   pub asked_more : (new : List ℕ) → n < length code.handlers → new ≡ numbers ++ n ∷ [] → AreAskedBefore code (n + 1) new
   asked_more new within put = subst (AreAskedBefore code (n + 1)) (sym put) (asked_put within)
@@ -211,6 +274,27 @@ module _ (env : Environment) (at : ℕ) (f : TypeFrame) where
       → true ≡ satisfies_first env at f
   first_none none = sym (none_first env.code.handlers none)
 
+  -- where it holds of each that it is asked of, it holds of all
+  pub all_behind : ((n : ℕ) → n < length env.code.handlers → covers_behind at (handler_at env.code n) ≡ true
+      → satisfies env f (handler_at env.code n) ≡ true) → satisfies_behind env at f ≡ true
+  all_behind each = list_all-from_AllPass (λ h. not (covers_behind at h) || satisfies env f h) env.code.handlers
+      (λ n d lt. subst (λ (h : Handler). (not (covers_behind at h) || satisfies env f h) ≡ true)
+      (get_or_default env.code.handlers n no_handler d lt) (by n lt (covers_behind at (handler_at env.code n)) refl))
+    where
+      by : (n : ℕ) → n < length env.code.handlers → (b : Bool) → covers_behind at (handler_at env.code n) ≡ b
+          → (not (covers_behind at (handler_at env.code n)) || satisfies env f (handler_at env.code n)) ≡ true
+      by n lt true e = ap (λ (b : Bool). not b || satisfies env f (handler_at env.code n)) e ∙ each n lt e
+      by n lt false e = ap (λ (b : Bool). not b || satisfies env f (handler_at env.code n)) e
+
+  -- where all hold that cover the one before too, those are left that cover it as the first
+  pub first_left : satisfies_behind env at f ≡ true → satisfies_first env at f ≡ satisfies_handlers env at f
+  first_left behind = sym (parted ∙ ap (λ (t : Bool). satisfies_first env at f && t) behind
+      ∙ and_true (satisfies_first env at f))
+    where
+      and_true : (b : Bool) → (b && true) ≡ b
+      and_true true = refl
+      and_true false = refl
+
 -- ---- instructions that no handler covers
 
 -- where one is covered, it is by one that stands for all
@@ -265,26 +349,14 @@ module _ (env : Environment) (at : ℕ) (c : Changed) (f : TypeFrame) (s : IsSin
   known_numbered n h is cov = known_behind n h (slice_get_within env.code.handlers n h is)
       (sym (get_or_from_slice_get env.code.handlers n h h is)) cov
 
-  -- where it holds of each that it is asked of, it holds of all
-  all_behind : ((n : ℕ) → n < length env.code.handlers → covers_behind at (handler_at env.code n) ≡ true
-      → satisfies env f (handler_at env.code n) ≡ true) → satisfies_behind env at f ≡ true
-  all_behind each = list_all-from_AllPass (λ h. not (covers_behind at h) || satisfies env f h) env.code.handlers
-      (λ n d lt. subst (λ (h : Handler). (not (covers_behind at h) || satisfies env f h) ≡ true)
-      (get_or_default env.code.handlers n no_handler d lt) (by n lt (covers_behind at (handler_at env.code n)) refl))
-    where
-      by : (n : ℕ) → n < length env.code.handlers → (b : Bool) → covers_behind at (handler_at env.code n) ≡ b
-          → (not (covers_behind at (handler_at env.code n)) || satisfies env f (handler_at env.code n)) ≡ true
-      by n lt true e = ap (λ (b : Bool). not b || satisfies env f (handler_at env.code n)) e ∙ each n lt e
-      by n lt false e = ap (λ (b : Bool). not b || satisfies env f (handler_at env.code n)) e
-
-  known_of : (n : ℕ) → n < length env.code.handlers → covers_behind at (handler_at env.code n) ≡ true
+  pub known_of : (n : ℕ) → n < length env.code.handlers → covers_behind at (handler_at env.code n) ≡ true
       → IsKnown env (handler_at env.code n) c f
   known_of n lt cov = known_behind n (handler_at env.code n) lt
       (get_or_default env.code.handlers n no_handler (handler_at env.code n) lt) cov
 
   -- nothing changed
   pub behind_still : c.from ≡ c.to → true ≡ satisfies_behind env at f
-  behind_still e = sym (all_behind (λ n lt cov.
+  behind_still e = sym (all_behind env at f (λ n lt cov.
       let k = known_of n lt cov in
       same_satisfies env k.0 f (handler_at env.code n) (unchanged env c k.0 f e k.2) ∙ k.1))
 
@@ -346,7 +418,7 @@ module _ (env : Environment) (at : ℕ) (c : Changed) (f : TypeFrame) (s : IsSin
   pub behind_holds : (numbers : List ℕ) → AreAsked env.code numbers
       → ((i : ℕ) → i < length numbers → satisfies_if_behind env at f (handler_at env.code (get_or numbers i 0)) ≡ true)
       → true ≡ satisfies_behind env at f
-  behind_holds numbers asked each = sym (all_behind (λ n lt cov.
+  behind_holds numbers asked each = sym (all_behind env at f (λ n lt cov.
       let stood = asked.each n lt in
       let m = get_or numbers stood.0 0 in
       let one = handler_at env.code m in

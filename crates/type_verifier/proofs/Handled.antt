@@ -31,7 +31,7 @@ not_true : (a : Bool) → not a ≡ true → a ≡ false
 not_true true h = absurd cc
 not_true false h = refl
 
-is_true : (b : Bool) → IsTrue b → b ≡ true
+pub is_true : (b : Bool) → IsTrue b → b ≡ true
 is_true b h = h
 
 -- ---- lists that are related in part
@@ -98,13 +98,13 @@ module _ (env : Environment) where
       ap (λ (locals : List VType). looks_at locals g.marked h) s.0 ∙ ap (λ (marked : Bool). looks_at f.locals marked h) s.1
 
   -- the parts of a handler that is satisfied
-  record Parts (f : TypeFrame) (h : Handler) : Type 0 where
-    free : f.marked ≡ false
-    caught : is_assignable env.classes (caught_type h) throwable ≡ true
-    entry : nat_lt h.entry (length env.code.ins) ≡ true
-    fits : fits_declared env (with_stack f (caught_type h ∷ [])) (declared_frame_at env h.entry) ≡ true
+  pub record Parts (f : TypeFrame) (h : Handler) : Type 0 where
+    pub free : f.marked ≡ false
+    pub caught : is_assignable env.classes (caught_type h) throwable ≡ true
+    pub entry : nat_lt h.entry (length env.code.ins) ≡ true
+    pub fits : fits_declared env (with_stack f (caught_type h ∷ [])) (declared_frame_at env h.entry) ≡ true
 
-  parts : (f : TypeFrame) (h : Handler) → satisfies env f h ≡ true → Parts f h
+  pub parts : (f : TypeFrame) (h : Handler) → satisfies env f h ≡ true → Parts f h
   parts f h s =
       let a = all_three (not f.marked) (is_assignable env.classes (caught_type h) throwable)
       (fits_at env (with_stack f (caught_type h ∷ [])) h.entry) s in
@@ -133,7 +133,7 @@ module _ (env : Environment) where
       (ap (λ (d : Option TypeFrame). fits_declared env (with_stack f (caught_type h ∷ [])) d) none)
 
   -- the locals of the frame before fit, and what is caught does
-  fits_before : (h : Handler) (b d : TypeFrame) → Parts b h → declared_frame_at env h.entry ≡ Some d
+  pub fits_before : (h : Handler) (b d : TypeFrame) → Parts b h → declared_frame_at env h.entry ≡ Some d
       → (pointwise (is_assignable env.classes) b.locals d.locals ≡ true)
       × (pointwise (is_item_assignable env.classes) (caught_type h ∷ []) d.stack ≡ true)
   fits_before h b d p some =
@@ -198,11 +198,11 @@ module _ (env : Environment) where
           let t : nat_eq a b ≡ true = eq-eqb a b e in
           absurd cc
 
-  implied : (a b : Bool) → (not a || b) ≡ true → a ≡ true → b ≡ true
+  pub implied : (a b : Bool) → (not a || b) ≡ true → a ≡ true → b ≡ true
   implied true b h e = h
   implied false b h e = absurd cc
 
-  holds_at : (p : Handler → Bool) (hs : List Handler) (i : ℕ) (d : Handler) → list_all p hs ≡ true → i < length hs
+  pub holds_at : (p : Handler → Bool) (hs : List Handler) (i : ℕ) (d : Handler) → list_all p hs ≡ true → i < length hs
       → p (get_or hs i d) ≡ true
   holds_at p hs i d all lt = told (p (get_or hs i d)) refl
     where

@@ -30,7 +30,7 @@ same_field_type one other d b =
     ap (λ (n : ℕ). let t : FieldType = record { dims = n; base = one.base } in t) d
     ∙ ap (λ (x : Base). let t : FieldType = record { dims = other.dims; base = x } in t) b
 
-same_type : (one other : VType) → is_same_type one other ≡ true → one ≡ other
+pub same_type : (one other : VType) → is_same_type one other ≡ true → one ≡ other
 unfolding is_same_type
 same_type vtype.Top vtype.Top h = refl
 same_type vtype.Int vtype.Int h = refl

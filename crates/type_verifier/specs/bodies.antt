@@ -1,5 +1,6 @@
 -- Definitions that the proofs of bodies alone need.
 pub mod Asked
+pub mod Chained
 pub mod Changes
 pub mod Declared
 pub mod FirstFaults
@@ -8,6 +9,7 @@ pub mod Known
 pub mod Longs
 pub mod Marking
 pub mod Marks
+pub mod Noting
 pub mod Places
 pub mod Pops
 pub mod Same

@@ -1,8 +1,9 @@
 // Which handlers are asked about locals that change. One stands for another one that covers no more instructions, and
 // where it begins the same locals are declared.
-ghost use Rattle.std.specs.Prelude.{◌≡◌, ◌<◌, IfOk, IsTrue, None, length, slice_index_or};
+ghost use Rattle.std.specs.Prelude.{◌≡◌, ◌<◌, ◌+◌, IfOk, IfSome, IsTrue, None, length, slice_index_or};
 ghost use Rattle.class_model.specs.FrameLists.{frame_numbered};
-ghost use Rattle.type_verifier.specs.bodies.Asked.{AreAsked, AreThere, IsStoodFor, StandsFor, locals_at};
+ghost use Rattle.type_verifier.specs.bodies.Asked.{AreAsked, AreAskedBefore, AreThere, IsStoodFor, StandsFor, StandsForPlace};
+ghost use Rattle.type_verifier.specs.bodies.Asked.{locals_at};
 ghost use Rattle.type_verifier.specs.bodies.Marks.{AreNumbers};
 
 use crate::same::are_same_types;
@@ -17,11 +18,36 @@ pub(crate) fn asked_of(alloc: Global, code: &Code, numbers: &[Option<usize>]) ->
 {
     let mut asked = Vec::new(alloc);
     for number in 0..code.handlers.len() {
-        if !is_stood_for(alloc, code, numbers, asked.as_slice(), number)? {
-            asked.push(number)?;
-        }
+        put_asked(alloc, code, numbers, &mut asked, number)?;
     }
     Ok(asked)
+}
+
+/// Puts a handler behind these, or in place of the last of them if it stands for that, where the last doesn't stand for
+/// it.
+fn put_asked(
+    alloc: Global,
+    code: &Code,
+    numbers: &[Option<usize>],
+    asked: &mut Vec<usize>,
+    number: usize,
+) -> M<()>
+    requires numbers { AreNumbers code.now.frames (length code.now.ins) numbers.now }
+    requires number { number < length code.now.handlers }
+    requires asked { AreAskedBefore code.now number asked.old.items }
+    ensures { IfOk result (λ _. AreAskedBefore code.now (number + 1) asked.new.items) }
+{
+    let stood = is_stood_for(alloc, code, numbers, asked.as_slice(), number)?;
+    if stood {
+        return Ok(());
+    }
+    let place = place_stood_for(alloc, code, numbers, asked.as_slice(), number)?;
+    if let Some(at) = place {
+        asked[at] = number;
+        return Ok(());
+    }
+    asked.push(number)?;
+    Ok(())
 }
 
 /// Whether the last of these handlers stands for another one.
@@ -43,6 +69,32 @@ fn is_stood_for(
     }
     let last = &code.handlers[asked[count - 1]];
     stands_for(alloc, code, numbers, last, &code.handlers[number])
+}
+
+/// The place of the last of these handlers, if another one stands for it.
+fn place_stood_for(
+    alloc: Global,
+    code: &Code,
+    numbers: &[Option<usize>],
+    asked: &[usize],
+    number: usize,
+) -> M<Option<usize>>
+    requires numbers { AreNumbers code.now.frames (length code.now.ins) numbers.now }
+    requires there { AreThere code.now asked.now }
+    requires number { number < length code.now.handlers }
+    ensures { IfOk result (λ place. IfSome place (StandsForPlace code.now asked.now number)) }
+{
+    let count = asked.len();
+    if count == 0 {
+        return Ok(None);
+    }
+    let at = count - 1;
+    let last = &code.handlers[asked[at]];
+    if stands_for(alloc, code, numbers, &code.handlers[number], last)? {
+        Ok(Some(at))
+    } else {
+        Ok(None)
+    }
 }
 
 fn stands_for(

@@ -1,15 +1,17 @@
 // Whether frames fit where handlers begin (JVMS 4.10.1.6).
 //
 // Handlers look at the locals and the flag alone. So where these are the same as at the previous instruction, which
-// satisfied its handlers, only handlers that didn't cover that one are looked at; and behind a store those that stand
-// for the others are looked at, in the words that it may have changed.
-ghost use Rattle.std.specs.Prelude.{◌≡◌, ◌<◌, ◌∷◌, ◌⊎◌, [], false, length, IfOk, Some};
+// satisfied its handlers, only handlers that didn't cover that one are looked at. Where some words may have changed,
+// and it is noted that the types that they hold fit, again only those are looked at; else those that stand for the
+// others are looked at in these words.
+ghost use Rattle.std.specs.Prelude.{◌≡◌, ◌<◌, ◌+◌, ◌∷◌, ◌⊎◌, [], false, length, IfOk, IsTrue, Some};
 ghost use Rattle.std.specs.Cmp.Lexicographic.{pointwise};
 ghost use Rattle.type_verifier.specs.Assignable.{is_assignable, is_frame_assignable};
 ghost use Rattle.type_verifier.specs.Effects.{with_stack};
 ghost use Rattle.type_verifier.specs.Walk.{caught_type, covers, fits_at, satisfies, satisfies_handlers};
 ghost use Rattle.type_verifier.specs.bodies.Asked.{IsUncovered, covers_behind, covers_first, handler_at};
-ghost use Rattle.type_verifier.specs.bodies.Asked.{satisfies_behind, satisfies_first, satisfies_if_behind};
+ghost use Rattle.type_verifier.specs.bodies.Asked.{satisfies_behind, satisfies_first, satisfies_if_behind, satisfies_if_first};
+ghost use Rattle.type_verifier.specs.bodies.Noting.{AreFitting};
 ghost use Rattle.type_verifier.specs.bodies.Places.{ArePlaces};
 ghost use Rattle.type_verifier.specs.bodies.Seen.{seen};
 ghost use Rattle.type_verifier.specs.bodies.Since.{AreElse, IsKnown, IsSince};
@@ -18,6 +20,7 @@ use crate::assignability::{are_assignable, assignable, is_stack_assignable};
 use crate::changed::Changed;
 use crate::declared::look_up;
 use crate::environment::Env;
+use crate::fitting::{Fitting, go_on, is_told};
 use crate::frame::TypeFrame;
 use crate::hierarchy::Hierarchy;
 use crate::places::Places;
@@ -27,9 +30,55 @@ use class_model::{Handler, VType};
 use jv_base::M;
 use std::alloc::Global;
 
-/// Whether the frame before an instruction satisfies each handler that covers it, by what changed since the previous
-/// one.
+/// Whether the frame before an instruction satisfies each handler that covers it, by what is noted and what changed
+/// since the previous one. If it does, what it has is noted.
 pub(crate) fn satisfies_handlers(
+    alloc: Global,
+    env: &Env,
+    places: &Places,
+    fitting: &mut Fitting,
+    frame: &TypeFrame,
+    since: Option<Changed>,
+    at: u32,
+) -> M<bool>
+    requires places { ArePlaces env.now.code.now places.now }
+    requires instruction { at < length env.now.code.now.ins }
+    requires since { IsSince (seen env.now) at since frame.now }
+    requires fitting { AreFitting (seen env.now) at fitting.old }
+    ensures ok { IfOk result (λ ok. ok ≡ satisfies_handlers (seen env.now) at frame.now) }
+    ensures fitting { IfOk result (λ ok. IsTrue ok → AreFitting (seen env.now) (at + 1) fitting.new) }
+{
+    if !are_satisfied(alloc, env, places, fitting, frame, since, at)? {
+        return Ok(false);
+    }
+    go_on(env, places, fitting, frame, since, at)?;
+    Ok(true)
+}
+
+fn are_satisfied(
+    alloc: Global,
+    env: &Env,
+    places: &Places,
+    fitting: &Fitting,
+    frame: &TypeFrame,
+    since: Option<Changed>,
+    at: u32,
+) -> M<bool>
+    requires places { ArePlaces env.now.code.now places.now }
+    requires instruction { at < length env.now.code.now.ins }
+    requires since { IsSince (seen env.now) at since frame.now }
+    requires fitting { AreFitting (seen env.now) at fitting.now }
+    ensures { IfOk result (λ ok. ok ≡ satisfies_handlers (seen env.now) at frame.now) }
+{
+    if is_told(fitting, frame, since) {
+        satisfies_first(alloc, env, places, frame, at)
+    } else {
+        ask_handlers(alloc, env, places, frame, since, at)
+    }
+}
+
+/// The same by the handlers.
+fn ask_handlers(
     alloc: Global,
     env: &Env,
     places: &Places,
@@ -175,15 +224,37 @@ fn satisfies_first(alloc: Global, env: &Env, places: &Places, frame: &TypeFrame,
     requires instruction { at < length env.now.code.now.ins }
     ensures { IfOk result (λ ok. ok ≡ satisfies_first (seen env.now) at frame.now) }
 {
-    if !places.is_first_covered(at as usize) {
-        return Ok(true);
-    }
-    for handler in env.code.handlers.as_slice() {
-        if covers_first(at, handler) && !satisfies(alloc, env, places, frame, handler)? {
+    let chain = places.covered();
+    let mut next = chain.first_at(at as usize);
+    while let Some(number) = next {
+        if !satisfies_if_first(alloc, env, places, frame, at, number)? {
             return Ok(false);
         }
+        next = chain.next_of(number);
     }
     Ok(true)
+}
+
+/// The same of the handler of a number.
+fn satisfies_if_first(
+    alloc: Global,
+    env: &Env,
+    places: &Places,
+    frame: &TypeFrame,
+    at: u32,
+    number: usize,
+) -> M<bool>
+    requires places { ArePlaces env.now.code.now places.now }
+    requires there { number < length env.now.code.now.handlers }
+    ensures { IfOk result (λ ok.
+        ok ≡ satisfies_if_first (seen env.now) at frame.now (handler_at env.now.code.now number)) }
+{
+    let handler = &env.code.handlers[number];
+    if covers_first(at, handler) {
+        satisfies(alloc, env, places, frame, handler)
+    } else {
+        Ok(true)
+    }
 }
 
 fn covers_first(at: u32, handler: &Handler) -> bool

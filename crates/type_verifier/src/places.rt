@@ -1,13 +1,15 @@
 // What is declared at the instructions of a code, and which of them are entered (JVMS 4.10.1.6).
 ghost use Rattle.std.specs.Prelude.{◌≡◌, ◌<◌, nat_eq, false, IfOk, IfSome, None, Some, length, option_copied, slice_get};
 ghost use Rattle.std.specs.Prelude.{slice_index_or};
+ghost use Rattle.std.specs.Option.{is_some};
 ghost use Rattle.type_verifier.specs.declared.frame.TypeFrame.{TypeFrame};
 ghost use Rattle.type_verifier.specs.Environment.{targets};
 ghost use Rattle.type_verifier.specs.bodies.Places.{ArePlaces};
-ghost use Rattle.type_verifier.specs.bodies.Marking.{is_among, is_begun, is_case, is_first_covered, is_target};
-ghost use Rattle.type_verifier.specs.bodies.Marks.{AreFirstCovered, AreKept, AreNumbers, IsEntered, Marks, declared_numbered};
+ghost use Rattle.type_verifier.specs.bodies.Marking.{is_among, is_begun, is_case, is_target};
+ghost use Rattle.type_verifier.specs.bodies.Marks.{AreKept, AreNumbers, IsEntered, Marks, declared_numbered};
 
 use crate::asked::asked_of;
+use crate::chain::{Chain, chain_of};
 use crate::frame::TypeFrame;
 use crate::framing::declared_frame;
 use class_model::{Case, Code, Frames, Handler, Ins, Op};
@@ -21,13 +23,13 @@ const KEPT_WORDS: usize = 4_194_304;
 const SPARE_WORDS: usize = 262_144;
 
 /// For each instruction of a code the number of the frame that is declared there, whether it is a target or begins a
-/// handler, and whether some handler covers it as the first one; frames that are compared again, and handlers that are
+/// handler, and which handlers cover it as the first one; frames that are compared again, and handlers that are
 /// asked about locals that change.
 #[derive(Drop)]
 pub(crate) struct Places {
     frames: Vec<Option<usize>>,
     entered: Vec<bool>,
-    covered: Vec<bool>,
+    covered: Chain,
     /// By the numbers of the frames.
     kept: Vec<Option<TypeFrame>>,
     /// The numbers of the handlers that are asked about locals that change.
@@ -39,7 +41,7 @@ pub(crate) fn places_of(alloc: Global, code: &Code) -> M<Places>
 {
     let frames = frame_numbers(alloc, &code.frames, code.ins.len())?;
     let entered = entered_of(alloc, code)?;
-    let covered = covered_of(alloc, code)?;
+    let covered = chain_of(alloc, code.handlers.as_slice(), code.ins.len())?;
     let asked = asked_of(alloc, code, frames.as_slice())?;
     let kept = frames_compared(alloc, code, entered.as_slice(), asked.as_slice())?;
     Ok(Places {
@@ -148,15 +150,6 @@ fn entered_of(alloc: Global, code: &Code) -> M<Vec<bool>>
     Ok(entered)
 }
 
-/// The instructions that handlers cover as the first ones.
-fn covered_of(alloc: Global, code: &Code) -> M<Vec<bool>>
-    ensures { IfOk result (λ covered. AreFirstCovered code.now covered.items) }
-{
-    let mut covered = vec![in alloc; false; code.ins.len()]?;
-    mark_covered(covered.as_mut_slice(), code.handlers.as_slice());
-    Ok(covered)
-}
-
 /// Marks the targets of instructions.
 fn mark_instructions(entered: &mut [bool], ins: &[Ins])
     ensures { Marks entered.old entered.new (is_target ins.now) }
@@ -172,15 +165,6 @@ fn mark_handlers(entered: &mut [bool], handlers: &[Handler])
 {
     for handler in handlers {
         mark(entered, handler.entry);
-    }
-}
-
-/// Marks what handlers cover as the first.
-fn mark_covered(covered: &mut [bool], handlers: &[Handler])
-    ensures { Marks covered.old covered.new (is_first_covered handlers.now) }
-{
-    for handler in handlers {
-        mark(covered, handler.from);
     }
 }
 
@@ -251,10 +235,17 @@ impl Places {
 
     /// Whether some handler covers an instruction as the first one.
     pub(crate) fn is_first_covered(&self, at: usize) -> bool
-        requires { at < length self.now.covered.items }
-        ensures { result ≡ slice_index_or self.now.covered.items at false }
+        requires { at < length self.now.covered.first.items }
+        ensures { result ≡ is_some (slice_index_or self.now.covered.first.items at None) }
     {
-        self.covered[at]
+        self.covered.first_at(at).is_some()
+    }
+
+    /// The handlers by the instructions that they cover as the first ones.
+    pub(crate) fn covered(&self) -> &Chain
+        ensures { result.now ≡ self.now.covered }
+    {
+        &self.covered
     }
 
     /// The frame of a number, if it is kept.

@@ -8,7 +8,7 @@ ghost use Rattle.type_verifier.specs.bodies.Same.{is_same_base, is_same_type};
 use class_model::VType;
 use jv_base::Base;
 
-fn is_same_type(one: &VType, other: &VType) -> bool
+pub(crate) fn is_same_type(one: &VType, other: &VType) -> bool
     ensures { result ≡ is_same_type one.now other.now }
 {
     match (one, other) {

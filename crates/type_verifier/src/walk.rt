@@ -1,11 +1,12 @@
 // The walk over a code, which keeps one frame (JVMS 4.10.1.6).
-ghost use Rattle.std.specs.Prelude.{◌≡◌, ◌<◌, Some, IfOk, IsTrue, length, map};
+ghost use Rattle.std.specs.Prelude.{◌≡◌, ◌<◌, ◌+◌, Some, IfOk, IsTrue, length, map};
 ghost use Rattle.std.specs.List.{list_all};
 ghost use Rattle.jv_base.specs.Outcome.{IsDue};
 ghost use Rattle.class_model.specs.declared.op.Case.{Case};
 ghost use Rattle.type_verifier.specs.Assignable.{is_frame_assignable};
 ghost use Rattle.type_verifier.specs.bodies.Changes.{ArrivesOr, FlowsOr, GoesOn, flow};
 ghost use Rattle.type_verifier.specs.Environment.{declared_frame_at, goes_elsewhere};
+ghost use Rattle.type_verifier.specs.bodies.Noting.{AreFitting};
 ghost use Rattle.type_verifier.specs.bodies.Places.{ArePlaces};
 ghost use Rattle.type_verifier.specs.bodies.Seen.{seen};
 ghost use Rattle.type_verifier.specs.bodies.Since.{IsSame, IsSince};
@@ -16,6 +17,7 @@ use crate::assignability::{are_assignable, is_stack_assignable};
 use crate::changed::{Changed, since_after, since_there};
 use crate::declared::{look_up, make};
 use crate::environment::Env;
+use crate::fitting::Fitting;
 use crate::frame::TypeFrame;
 use crate::framing::initial_frame;
 use crate::handlers::satisfies_handlers;
@@ -52,11 +54,22 @@ fn walk(
     let Ok(count) = u32::try_from(env.code.ins.len()) else {
         return Err(Or::OutOfMemory);
     };
+    let mut fitting = Fitting::new(alloc);
     let mut flows = true;
     let mut since = None;
     for at in 0..count {
         let op = &env.code.ins[at as usize].op;
-        flows = go_on(alloc, env, places, frame, flows, since, at, op)?;
+        flows = go_on(
+            alloc,
+            env,
+            places,
+            &mut fitting,
+            frame,
+            flows,
+            since,
+            at,
+            op,
+        )?;
         since = since_after(flows, op);
     }
     if flows {
@@ -81,6 +94,7 @@ fn go_on(
     alloc: Global,
     env: &Env,
     places: &Places,
+    fitting: &mut Fitting,
     frame: &mut TypeFrame,
     flows: bool,
     since: Option<Changed>,
@@ -91,9 +105,11 @@ fn go_on(
     requires places { ArePlaces env.now.code.now places.now }
     requires instruction { at < length env.now.code.now.ins }
     requires since { IsSince (seen env.now) at since frame.old }
-    ensures { GoesOn (seen env.now) at result frame.new op.now (flow flows frame.old) }
+    requires fitting { AreFitting (seen env.now) at fitting.old }
+    ensures flow { GoesOn (seen env.now) at result frame.new op.now (flow flows frame.old) }
+    ensures fitting { IfOk result (λ _. AreFitting (seen env.now) (at + 1) fitting.new) }
 {
-    match pass_instruction(alloc, env, places, frame, flows, since, at, op) {
+    match pass_instruction(alloc, env, places, fitting, frame, flows, since, at, op) {
         Ok(flows) => Ok(flows),
         Err(Or::Fault(kind)) => Err(Or::Fault(fault(env, at, kind))),
         Err(Or::OutOfMemory) => Err(Or::OutOfMemory),
@@ -105,6 +121,7 @@ fn pass_instruction(
     alloc: Global,
     env: &Env,
     places: &Places,
+    fitting: &mut Fitting,
     frame: &mut TypeFrame,
     flows: bool,
     since: Option<Changed>,
@@ -115,10 +132,21 @@ fn pass_instruction(
     requires places { ArePlaces env.now.code.now places.now }
     requires instruction { at < length env.now.code.now.ins }
     requires since { IsSince (seen env.now) at since frame.old }
-    ensures { FlowsOr result frame.new (at_instruction (seen env.now) at op.now (flow flows frame.old)) }
+    requires fitting { AreFitting (seen env.now) at fitting.old }
+    ensures flow { FlowsOr result frame.new (at_instruction (seen env.now) at op.now (flow flows frame.old)) }
+    ensures fitting { IfOk result (λ _. AreFitting (seen env.now) (at + 1) fitting.new) }
 {
     let same = arrive(alloc, env, places, frame, flows, at)?;
-    pass(alloc, env, places, frame, since_there(same, since), at, op)
+    pass(
+        alloc,
+        env,
+        places,
+        fitting,
+        frame,
+        since_there(same, since),
+        at,
+        op,
+    )
 }
 
 /// Goes over an instruction by the frame before it.
@@ -126,6 +154,7 @@ fn pass(
     alloc: Global,
     env: &Env,
     places: &Places,
+    fitting: &mut Fitting,
     frame: &mut TypeFrame,
     since: Option<Changed>,
     at: u32,
@@ -135,9 +164,11 @@ fn pass(
     requires places { ArePlaces env.now.code.now places.now }
     requires instruction { at < length env.now.code.now.ins }
     requires since { IsSince (seen env.now) at since frame.old }
-    ensures { FlowsOr result frame.new (instruction_checked (seen env.now) at op.now frame.old) }
+    requires fitting { AreFitting (seen env.now) at fitting.old }
+    ensures flow { FlowsOr result frame.new (instruction_checked (seen env.now) at op.now frame.old) }
+    ensures fitting { IfOk result (λ _. AreFitting (seen env.now) (at + 1) fitting.new) }
 {
-    let satisfies = satisfies_handlers(alloc, env, places, frame, since, at)?;
+    let satisfies = satisfies_handlers(alloc, env, places, fitting, frame, since, at)?;
     step(alloc, env, frame, at, op)?;
     if !fits_targets(alloc, env, places, frame, op)? {
         return Err(Or::Fault(TypeKind::Mismatch));

@@ -40,6 +40,11 @@ abbrev pub IsStoodFor : Code → List ℕ → ℕ → Type 0
 IsStoodFor code numbers n =
     (i : ℕ) × (i < length numbers) × StandsFor code (handler_at code (get_or numbers i 0)) (handler_at code n)
 
+-- the handler of a number stands for the one at a place of these
+pub record StandsForPlace (code : Code) (numbers : List ℕ) (n at : ℕ) : Type 0 where
+  pub within : at < length numbers
+  pub stands : StandsFor code (handler_at code n) (handler_at code (get_or numbers at 0))
+
 -- these stand for the handlers before a number
 pub record AreAskedBefore (code : Code) (count : ℕ) (numbers : List ℕ) : Type 0 where
   pub there : AreThere code numbers
@@ -64,9 +69,13 @@ abbrev pub covers_behind : ℕ → Handler → Bool
 covers_behind at h = nat_lt h.from at && nat_lt at h.to
 
 module _ (env : Environment) where
+  -- a frame satisfies the handler, if that covers the instruction as the first
+  abbrev pub satisfies_if_first : ℕ → TypeFrame → Handler → Bool
+  satisfies_if_first at f h = not (covers_first at h) || satisfies env f h
+
   -- a frame satisfies each handler that covers the instruction as the first
   abbrev pub satisfies_first : ℕ → TypeFrame → Bool
-  satisfies_first at f = list_all (λ h. not (covers_first at h) || satisfies env f h) env.code.handlers
+  satisfies_first at f = list_all (satisfies_if_first at f) env.code.handlers
 
   -- a frame satisfies the handler, if that covers the instruction and the one before
   abbrev pub satisfies_if_behind : ℕ → TypeFrame → Handler → Bool

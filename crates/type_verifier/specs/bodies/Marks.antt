@@ -7,7 +7,6 @@ use Rattle.class_model.specs.declared.frame.FrameAt.{FrameAt}
 use Rattle.type_verifier.specs.declared.frame.TypeFrame.{TypeFrame}
 use Rattle.type_verifier.specs.Environment.{is_entered}
 use Rattle.type_verifier.specs.Frames.{declared_frame}
-use Rattle.type_verifier.specs.bodies.Marking.{is_first_covered}
 
 -- places that pass are marked, beside those that were
 pub record Marks (old new : List Bool) (passes : ℕ → Bool) : Type 0 where
@@ -25,11 +24,6 @@ pub record AreNumbers (frames : List FrameAt) (count : ℕ) (numbers : List (Opt
 pub record IsEntered (code : Code) (entered : List Bool) : Type 0 where
   pub long : length entered ≡ length code.ins
   pub marked : (at : ℕ) → at < length code.ins → slice_index_or entered at false ≡ is_entered code at
-
--- each instruction is marked where some handler covers it as the first
-pub record AreFirstCovered (code : Code) (covered : List Bool) : Type 0 where
-  pub long : length covered ≡ length code.ins
-  pub marked : (at : ℕ) → at < length code.ins → slice_index_or covered at false ≡ is_first_covered code.handlers at
 
 -- the frame of a number among those that are declared
 abbrev pub declared_numbered : Code → ℕ → Option TypeFrame

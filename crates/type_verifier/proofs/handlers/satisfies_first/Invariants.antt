@@ -1,12 +1,10 @@
-use Rattle.std.proofs.Common.{◌≡◌, drop}
-use Rattle.std.specs.Prelude.{not, ◌||◌}
-use Rattle.std.specs.List.{list_all}
-use Rattle.type_verifier.specs.bodies.Asked.{covers_first}
+use Rattle.std.proofs.Common.{◌-◌, length}
+use Rattle.type_verifier.specs.bodies.Chained.{IsSatisfiedBefore, count_before}
 use Rattle.type_verifier.specs.bodies.Seen.{seen}
-use Rattle.type_verifier.specs.Walk.{satisfies}
 use Rattle.type_verifier.proofs.handlers.satisfies_first.Given as goal
 
-abbrev pub invariant-loop-handler : goal.invariant-loop-handler
-invariant-loop-handler l =
-    list_all (λ h. not (covers_first l.at h) || satisfies (seen l.env) l.frame h) (drop l.handler-index l.env.code.now.handlers)
-    ≡ list_all (λ h. not (covers_first l.at h) || satisfies (seen l.env) l.frame h) l.env.code.now.handlers
+abbrev pub invariant-loop-next : goal.invariant-loop-next
+invariant-loop-next l = IsSatisfiedBefore (seen l.env) l.at l.frame l.next
+
+abbrev pub decreases-loop-next : goal.decreases-loop-next
+decreases-loop-next l = length l.env.code.now.handlers - count_before l.env.code.now.handlers l.next

@@ -1,4 +1,4 @@
-use Rattle.std.proofs.Common.{◌≡◌, ◌≤◌, ◌+◌, ◌-◌, subst, ℕ, Bool, List, length, Some, Err, Result, sym, ap, ◌∙◌, arith}
+use Rattle.std.proofs.Common.{◌≡◌, ◌≤◌, ◌+◌, ◌-◌, subst, ℕ, Bool, List, length, Some, Err, Result, refl, sym, ap, ◌∙◌, arith}
 use Rattle.std.proofs.lemmas.Option.{get_or_from_slice_get, slice_get_within}
 use Rattle.std.proofs.lemmas.Result.{err_from_is_err_and}
 use Rattle.class_model.specs.declared.code.Ins.{Ins}
@@ -10,8 +10,12 @@ use Rattle.type_verifier.specs.bodies.Since.{IsSince}
 use Rattle.type_verifier.proofs.Changing.{since_more}
 use Rattle.type_verifier.specs.Walk.{fault_at}
 use Rattle.type_verifier.specs.bodies.Walked.{ended, walked}
+use Rattle.type_verifier.proofs.Telling.{fitting_begun}
 use Rattle.type_verifier.proofs.Walking.{walk_ends, walk_fails, walk_more}
 use Rattle.type_verifier.proofs.walk.walk.Goals as goal
+
+pub loop-at-init : goal.loop-at-init
+loop-at-init c = (refl, tt, fitting_begun (seen c.args.env.now) c.new-fitting.result c.new-fitting.ensures.count c.new-fitting.ensures.noted)
 
 pub returns-in_err-flows : goal.returns-in_err-flows
 returns-in_err-flows c =
@@ -23,7 +27,7 @@ returns-in_err-flows c =
     (walk_fails (seen c.args.env.now) ins at i (flow c.loop-at.flows c.loop-at.frame) c.go_on.new.frame
     c.in_err-flows.field-0.0 (walked (seen c.args.env.now) 0 (Some c.args.frame.now) ins)
     (slice_get_within ins at i c.index.ensures) (sym (get_or_from_slice_get ins at i i c.index.ensures))
-    c.in_err-flows.ensures c.loop-at.invariant.0)
+    c.in_err-flows.ensures.flow c.loop-at.invariant.0)
 
 pub loop-at-preserved : goal.loop-at-preserved
 loop-at-preserved c =
@@ -35,9 +39,10 @@ loop-at-preserved c =
       walk_more (seen c.args.env.now) ins at i old (flow flows c.go_on.new.frame)
           (walked (seen c.args.env.now) 0 (Some c.args.frame.now) ins)
           (slice_get_within ins at i c.index.ensures) (sym (get_or_from_slice_get ins at i i c.index.ensures))
-          c.in_ok-flows.ensures c.loop-at.invariant.0,
+          c.in_ok-flows.ensures.flow c.loop-at.invariant.0,
       subst (λ since. IsSince (seen c.args.env.now) (at + 1) since c.go_on.new.frame) (sym c.since_after-since.ensures)
-          (since_more (seen c.args.env.now) at i.op old flows c.go_on.new.frame c.in_ok-flows.ensures),
+          (since_more (seen c.args.env.now) at i.op old flows c.go_on.new.frame c.in_ok-flows.ensures.flow),
+      c.in_ok-flows.ensures.fitting,
     )
 
 pub returns-then-flows : goal.returns-then-flows

@@ -3,7 +3,7 @@ use Rattle.std.proofs.lemmas.Bool.{eqb-true}
 use Rattle.type_verifier.specs.bodies.Seen.{seen}
 use Rattle.type_verifier.specs.bodies.Since.{IsSince}
 use Rattle.type_verifier.proofs.Handled.{nothing_new}
-use Rattle.type_verifier.proofs.handlers.satisfies_handlers.Goals as goal
+use Rattle.type_verifier.proofs.handlers.ask_handlers.Goals as goal
 
 pub returns-then-not-is_first_covered : goal.returns-then-not-is_first_covered
 returns-then-not-is_first_covered c =

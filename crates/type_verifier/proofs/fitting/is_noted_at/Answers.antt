@@ -1,0 +1,7 @@
+use Rattle.type_verifier.proofs.Noting.{noted_at}
+use Rattle.type_verifier.proofs.fitting.is_noted_at.Goals as goal
+
+pub returns-then-found-word : goal.returns-then-found-word
+returns-then-found-word c =
+    noted_at c.args.noted.now c.args.place c.args.word c.in-Some.found.now c.args.ty.now c.is_same_type.result
+    c.in-Some.ensures c.if-found-word.true c.is_same_type.ensures
