@@ -6,3 +6,4 @@ pub mod Marks
 pub mod Catching
 pub mod Coming
 pub mod Starting
+pub mod Keeping

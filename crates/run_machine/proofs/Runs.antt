@@ -1,12 +1,38 @@
--- A run that has ended stays as it is.
-use Rattle.std.proofs.Common.{◌≡◌, ◌∙◌, ◌+◌, ◌-◌, ◌≤◌, ℕ, zero, suc, Bool, true, false, List, Option, ap, arith, refl, sym}
+-- Runs by their first step, and a run that has ended.
+use Rattle.std.proofs.Common.{◌≡◌, ◌∙◌, ℕ, zero, suc, true, false, List, None, Some, ap, refl, sym}
+use Rattle.class_model.specs.declared.code.Code.{Code}
 use Rattle.jvm_model.specs.Heap.{World}
-use Rattle.jvm_model.specs.Initialisation.{state}
+use Rattle.jvm_model.specs.Initialisation.{frame, state}
+use Rattle.jvm_model.specs.Local.{local}
 use Rattle.jvm_model.specs.Program.{View}
-use Rattle.jvm_model.specs.State.{Completes, Control, Initialises, Prepares, Returned, Runs, State, Threw, Unwinds, Wait}
+use Rattle.jvm_model.specs.State.{Body, Completes, Control, Initialises, Prepares, Returned, Runs, State, Threw, Unwinds, Wait}
 use Rattle.jvm_model.specs.State.{Wrong}
-use Rattle.jvm_model.specs.Step.{next, run, step}
+use Rattle.jvm_model.specs.Step.{next, on_local, run, run_frame, step}
+use Rattle.jvm_model.specs.Value.{Key}
 use Rattle.run_machine.specs.bodies.Ended.{has_ended}
+
+-- the first step, and then the others
+first : (v : View) (s : State) (n : ℕ) → run v s (suc n) ≡ run v (step v s) n
+first v s zero = refl
+first v s (suc n) = ap (step v) (first v s n)
+
+-- a step is done, and the others are left
+pub onward : (v : View) (s t : State) (n k : ℕ) → n ≡ suc k → t ≡ step v s → run v t k ≡ run v s n
+onward v s t n k is e = ap (λ (x : State). run v x k) e ∙ sym (first v s k) ∙ sym (ap (run v s) is)
+
+-- the same of an instruction of a frame, by the code of its method
+pub instructed : (v : View) (w : World) (ws : List Wait) (m m' : Key) (b : Body) (code : Code) (t : State) (n k : ℕ)
+    → n ≡ suc k → Some code ≡ v.code m' → m ≡ m' → t ≡ on_local v.shape w m b ws (local code b)
+    → run v t k ≡ run v (state w (Runs (frame m b)) ws) n
+instructed v w ws m m' b code t n k is found same does =
+    onward v (state w (Runs (frame m b)) ws) t n k is
+    (does ∙ ap (run_frame v.shape w m b ws) (found ∙ ap v.code (sym same)))
+
+-- the same of a frame of a method without a code
+pub without_code : (v : View) (w : World) (ws : List Wait) (m : Key) (b : Body) (n k : ℕ) → n ≡ suc k
+    → None ≡ v.code m → run v (state w Wrong ws) k ≡ run v (state w (Runs (frame m b)) ws) n
+without_code v w ws m b n k is missing =
+    onward v (state w (Runs (frame m b)) ws) (state w Wrong ws) n k is (ap (run_frame v.shape w m b ws) missing)
 
 next_stays : (v : View) (w : World) (ws : List Wait) (c : Control) → has_ended c ≡ true → next v w ws c ≡ state w c ws
 next_stays v w ws (Runs f) h = let k : false ≡ true = h in absurd cc
@@ -21,14 +47,7 @@ next_stays v w ws Wrong h = refl
 stays : (v : View) (s : State) → has_ended s.control ≡ true → step v s ≡ s
 stays v s e = next_stays v s.world s.waits s.control e
 
-more : (v : View) (s : State) (n k : ℕ) → has_ended (run v s n).control ≡ true → run v s (k + n) ≡ run v s n
-more v s n zero e = let i : zero + n ≡ n = omega arith in ap (run v s) i
-more v s n (suc k) e = let i : suc k + n ≡ suc (k + n) = omega arith in
-    ap (run v s) i ∙ ap (step v) (more v s n k e) ∙ stays v (run v s n) e
-
--- so it is after any number of steps that are left
-pub ended_stays : (v : View) (s t : State) (n m : ℕ) → t ≡ run v s n → has_ended t.control ≡ true → n ≤ m → t ≡ run v s m
-ended_stays v s t n m is e le =
-    let same : run v s (m - n + n) ≡ run v s n = more v s n (m - n) (rw (sym is) e) in
-    let whole : m - n + n ≡ m = omega (arith, le) in
-    is ∙ sym same ∙ ap (run v s) whole
+-- a run that has ended stays as it is
+pub rests : (v : View) (s : State) (n : ℕ) → has_ended s.control ≡ true → run v s n ≡ s
+rests v s zero e = refl
+rests v s (suc n) e = ap (step v) (rests v s n e) ∙ stays v s e

@@ -4,3 +4,4 @@ pub mod Firsts
 pub mod Constants
 pub mod Asked
 pub mod Ended
+pub mod Going

@@ -4,6 +4,7 @@
 mod answers;
 mod asking;
 mod constants;
+mod going;
 mod initialising;
 mod inits;
 mod pile;

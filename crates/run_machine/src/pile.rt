@@ -1,5 +1,5 @@
 // A list that grows and shrinks at one end.
-ghost use Rattle.std.specs.Prelude.{◌≡◌, [], ◌∷◌, OnOk, reverse};
+ghost use Rattle.std.specs.Prelude.{◌≡◌, [], ◌∷◌, OnOk, length, reverse};
 ghost use Rattle.run_machine.specs.bodies.Piles.{Takes};
 
 use jv_base::{Items, M};
@@ -53,6 +53,13 @@ impl<T: Drop> Pile<T> {
         ensures { Takes result self.old self.new }
     {
         self.items.pop()
+    }
+
+    /// How many items it has.
+    pub fn len(&self) -> usize
+        ensures { result ≡ length self.now }
+    {
+        self.items.len()
     }
 
     /// The items, the first one last.

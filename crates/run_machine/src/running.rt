@@ -12,7 +12,7 @@ ghost use Rattle.run_heap.specs.Worlds.{object_of, world_of};
 ghost use Rattle.run_machine.specs.bodies.Ended.{has_ended};
 ghost use Rattle.run_machine.specs.States.{control_of, program, state_at, state_of, status_of};
 
-use crate::stepping::next;
+use crate::stepping::advance;
 use crate::{Control, Pile, Rest, State, Status, Wait};
 use jv_base::{Items, M, Text};
 use run_heap::{Fields, Instance, Key, Object, Shapes, World, class_of};
@@ -132,7 +132,6 @@ fn has_ended(control: &Control) -> bool
     )
 }
 
-#[tactic(auto, using(crate::proofs::Runs::ended_stays))]
 fn run_rest<S: Shapes>(
     alloc: Global,
     shapes: &S,
@@ -145,11 +144,14 @@ fn run_rest<S: Shapes>(
         (state_at (S.shape shapes.now) rest.old control) steps) }
 {
     let mut control = control;
-    for _ in 0..steps {
+    let mut left = steps;
+    while left > 0 {
         if has_ended(&control) {
             return Ok(control);
         }
-        control = next(alloc, shapes, rest, control)?;
+        let ran = advance(alloc, shapes, rest, control, left)?;
+        control = ran.control;
+        left = ran.left;
     }
     Ok(control)
 }

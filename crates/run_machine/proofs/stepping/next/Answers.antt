@@ -1,4 +1,4 @@
-use Rattle.std.proofs.Common.{◌≡◌}
+use Rattle.std.proofs.Common.{◌≡◌, false, true}
 use Rattle.std.proofs.lemmas.Result.{IfOk-weaker}
 use Rattle.jvm_model.specs.Initialisation.{complete}
 use Rattle.jvm_model.specs.Program.{Shape}
@@ -13,3 +13,6 @@ returns-in-Completes g c = rw c.in-Completes.is (IfOk-weaker _
     ≡ complete (whole p c.args.rest.now) c.in-Completes.class (waits_of c.args.rest.now.waits))
     (λ k. state_at (g.S.Shapes.shape c.args.shapes.now) c.complete.new.rest k ≡ next (program (g.S.Shapes.shape c.args.shapes.now) (g.S.Shapes.code_of c.args.shapes.now)) (whole (g.S.Shapes.shape c.args.shapes.now) c.args.rest.now) (waits_of c.args.rest.now.waits) (Completes c.in-Completes.class))
     (λ k h. h (g.S.Shapes.shape c.args.shapes.now)) c.complete.ensures)
+
+pub returns-in-Runs : goal.returns-in-Runs
+returns-in-Runs g c = let k : true ≡ false = rw c.in-Runs.is at c.requires in absurd cc
