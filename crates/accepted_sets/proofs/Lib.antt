@@ -1,3 +1,0 @@
-pub mod Reach
-pub mod Taken
-pub mod Doing

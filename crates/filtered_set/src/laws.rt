@@ -1,9 +1,0 @@
-//! What stays of a set where optional attributes are taken away.
-ghost use Rattle.filtered_set.specs.Laws.{FilteringKeepsTaken, FilteringKeepsTyped};
-
-/// A set that is taken is taken without some of its optional attributes, and each method that is typed is typed. It
-/// does nothing.
-pub fn filtering_keeps_accepted()
-    ensures taken { FilteringKeepsTaken }
-    ensures typed { FilteringKeepsTyped }
-{}

@@ -1,0 +1,5 @@
+use Rattle.image_laws.proofs.TypedImage.Walking.{is_typed}
+use Rattle.image_laws.proofs.typed_image.images_keep_typed.Goals as goal
+
+pub returns : goal.returns
+returns c = is_typed

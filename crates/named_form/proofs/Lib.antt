@@ -1,6 +1,0 @@
-mod Apart
-mod Fronts
-mod Picked
-mod Kept
-mod Same
-pub mod Written

@@ -1,0 +1,6 @@
+pub mod Apart
+pub mod Fronts
+pub mod Picked
+pub mod Kept
+pub mod Same
+pub mod Written

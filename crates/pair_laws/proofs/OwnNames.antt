@@ -1,0 +1,5 @@
+pub mod Commuting
+pub mod Told
+pub mod Ordered
+pub mod Apart
+pub mod Named

@@ -1,0 +1,265 @@
+-- Names that are given in their order keep apart what is there.
+use Rattle.std.proofs.Common.{◌≡◌, ◌⊎◌, inl, inr, ⊎_elim, ℕ, zero, suc, ◌-◌, ◌||◌, Bool, true, false, List}
+use Rattle.std.proofs.Common.{[], ◌∷◌, length, map, take, flat_map, Option, Some, None, slice_get, codes}
+use Rattle.std.proofs.Common.{refl, sym, ap, subst, ◌∙◌, arith}
+use Rattle.std.specs.Prelude.{is_some}
+use Rattle.std.specs.List.{position, suffix_len}
+use Rattle.std.specs.Option.{option_map}
+use Rattle.std.proofs.lemmas.List.{length-take-le}
+use Rattle.std.proofs.lemmas.List.Quantifiers.{position-Some}
+use Rattle.std.proofs.lemmas.Option.{same_Some, slice_get-map}
+use Rattle.std.proofs.Math.Seq.{take-take}
+use Rattle.jv_base.specs.Names.{is_member_name, is_text}
+use Rattle.lib_table.specs.Library.{LibraryClass, class, library}
+use Rattle.lib_table.specs.Lookups as table
+use Rattle.lib_table.specs.declared.class.LibKind.TheVariants.{Open}
+use Rattle.class_model.specs.Flags.{is_init}
+use Rattle.class_model.specs.WellFormed.{IsName}
+use Rattle.class_model.specs.declared.class.Class.{Class}
+use Rattle.class_model.specs.declared.class.Field.{Field}
+use Rattle.class_model.specs.declared.class.Method.{Method}
+use Rattle.class_pool.specs.Found.{MemberRow, package_of, rows_in}
+use Rattle.class_pool.specs.Hierarchy.{or_found}
+use Rattle.class_pool.specs.declared.id.ClassId.{ClassId}
+use Rattle.class_pool.specs.declared.id.ClassId.TheVariants.{Prog, Lib}
+use Rattle.image_laws.proofs.TakenSet.LibraryRows.{library_name, name_found}
+use Rattle.image_laws.proofs.TakenSet.Members.{row_parts}
+use Rattle.class_rename.specs.Names.{Names, same_names}
+use Rattle.fresh_names.specs.Fresh.{is_taken}
+use Rattle.fresh_names.specs.Given.{class_names, field_names, front_of, given_name, method_names, no_front}
+use Rattle.fresh_names.specs.Laws.{IsNamed}
+use Rattle.fresh_names.specs.Reserved.{library_names, reserved}
+use Rattle.fresh_names.specs.declared.taken.Named.TheVariants as named
+use Rattle.fresh_names.proofs.Fronts.{is_within}
+use Rattle.fresh_names.proofs.Reserved.{taken_parts}
+use Rattle.fresh_names.proofs.Tables.{classes_differ, fronts_stay, members_differ, taken_stay}
+use Rattle.rename_map.specs.Fixed.{Stay}
+use Rattle.rename_map.specs.Names.{given_beside}
+use Rattle.pair_laws.specs.RenamedForm.Form.{KeepsForm}
+use Rattle.pair_laws.specs.RenamedImage.Renaming.{IsMemberName, KeepsNamesApart, is_known}
+use Rattle.pair_laws.proofs.RenamedImage.Declared.{any_of}
+use Rattle.pair_laws.proofs.RenamedImage.MemberNames.{found_at, library_name_taken, no_init, or_right}
+use Rattle.pair_laws.proofs.RenamedImage.MemberNames.{program_row}
+use Rattle.pair_laws.proofs.PairSame.Tables.{same_text, text_itself}
+use Rattle.pair_laws.proofs.NamedForm.Fronts.{front_java, is_java}
+use Rattle.pair_laws.proofs.NamedForm.Kept.{NoneJava, no_name}
+use Rattle.pair_laws.proofs.RenamedForm.Given.{other_stays}
+
+-- ---- lists
+
+-- the name of an element is among all names
+pub name_among : {A : Type 0} (name : A → List ℕ) (xs : List A) (k : ℕ) (x : A) → slice_get xs k ≡ Some x
+    → is_taken (map name xs) (name x) ≡ true
+name_among name xs k x at =
+    any_of (is_text (name x)) (map name xs) k (name x) (slice_get-map name xs k ∙ ap (option_map name) at)
+    (text_itself (name x))
+
+-- what is among the names of one class is among those of all
+pub among_all : (f : Class → List (List ℕ)) (classes : List Class) (k : ℕ) (c : Class) → slice_get classes k ≡ Some c
+    → (a : List ℕ) → is_taken (f c) a ≡ true → is_taken (flat_map f classes) a ≡ true
+among_all f [] k c at a h = absurd cc
+among_all f (d ∷ ds) zero c at a h =
+    taken_parts (f d) (flat_map f ds) a
+    ∙ ap (λ (e : Class). is_taken (f e) a || is_taken (flat_map f ds) a) (same_Some d c at)
+    ∙ ap (λ (b : Bool). b || is_taken (flat_map f ds) a) h
+among_all f (d ∷ ds) (suc k) c at a h =
+    taken_parts (f d) (flat_map f ds) a
+    ∙ or_right (is_taken (f d) a) (is_taken (flat_map f ds) a) (among_all f ds k c at a h)
+
+-- ---- packages
+
+-- the package of a name, by its front
+package_by_front : (name : List ℕ) → package_of name ≡ take (length (front_of name) - 1) (front_of name)
+package_by_front name =
+    let m = length name - suffix_len is_within name in
+    let long = length-take-le m name (omega arith) in
+    let last : length (front_of name) - 1 ≡ m - 1 = omega (arith, long) in
+    sym (ap (λ (k : ℕ). take k (front_of name)) last ∙ take-take (m - 1) m name (omega arith))
+
+-- it stays
+pub package_stays : (taken names : List (List ℕ)) (a : List ℕ)
+    → package_of (given_name front_of taken names a) ≡ package_of a
+package_stays taken names a =
+    package_by_front (given_name front_of taken names a)
+    ∙ ap (λ (front : List ℕ). take (length front - 1) front) (fronts_stay taken names a)
+    ∙ sym (package_by_front a)
+
+-- ---- names of members
+
+-- ---- names of classes
+
+-- a name of the library's table is in a package of the library
+library_java : (name : List ℕ) (id : ℕ) → table.class_named name ≡ Some id → is_java name ≡ true
+library_java name id is =
+    let within = position-Some (λ (c : LibraryClass). is_text c.name name) library id (class [] Open None [] []) is in
+    ap is_java (sym (name_found name id is)) ∙ (library_name id within.0).0
+
+module _ (classes : List Class) where
+  -- a known name is one of the library, or of a class
+  known_cases : (a : List ℕ) → is_known classes a ≡ true
+      → (is_java a ≡ true) ⊎ (is_taken (class_names classes) a ≡ true)
+  known_cases a h = by (is_java a) refl h
+    where
+      at : (o : Option ℕ) → position (λ (c : Class). is_text a c.name) classes ≡ o → (l : Option ℕ)
+          → table.class_named a ≡ l → is_some (or_found o (option_map Lib l)) ≡ true
+          → (is_java a ≡ true) ⊎ (is_taken (class_names classes) a ≡ true)
+      at (Some k) e l f h =
+          let found = found_at (λ (c : Class). is_text a c.name) classes k e in
+          inr (ap (is_taken (class_names classes)) (same_text a found.0.name found.2)
+          ∙ name_among (λ (c : Class). c.name) classes k found.0 found.1)
+      at None e (Some id) f h = inl (library_java a id f)
+      at None e None f h = absurd cc
+
+      by : (b : Bool) → is_java a ≡ b
+          → (b || is_some (or_found (position (λ (c : Class). is_text a c.name) classes)
+          (option_map Lib (table.class_named a)))) ≡ true
+          → (is_java a ≡ true) ⊎ (is_taken (class_names classes) a ≡ true)
+      by true e h = inl e
+      by false e h = at (position (λ (c : Class). is_text a c.name) classes) refl (table.class_named a) refl h
+
+-- ---- names that are given
+
+-- fields of these have names of members
+abbrev pub AreFieldNames : List Class → Type 0
+AreFieldNames classes = (j : ℕ) (d : Class) → slice_get classes j ≡ Some d → (k : ℕ) (x : Field)
+    → slice_get d.fields k ≡ Some x → IsName is_member_name x.name
+
+module _ (stay : Stay) (classes : List Class) (form : KeepsForm (given_beside stay classes))
+    (fields_reserved : (a : List ℕ) → is_taken (reserved named.Field) a ≡ true → is_taken stay.fields a ≡ true)
+    (methods_reserved : (a : List ℕ) → is_taken (reserved named.Method) a ≡ true → is_taken stay.methods a ≡ true)
+    (none : NoneJava classes) (good : AreFieldNames classes) where
+  abbrev names : Names
+  names = given_beside stay classes
+
+  library_class : (name : List ℕ) → is_java name ≡ true → names.class name ≡ name
+  library_class name java =
+      other_stays front_of stay.classes (class_names classes) name (no_name classes name none java)
+
+  -- no class is renamed to a name of the library
+  not_java : (a b : List ℕ) → is_java a ≡ true → is_taken (class_names classes) b ≡ true
+      → names.class a ≡ names.class b → ⊥
+  not_java a b java there same =
+      let front : front_of b ≡ front_of a =
+      sym (fronts_stay stay.classes (class_names classes) b)
+      ∙ ap front_of (sym same ∙ library_class a java) in
+      let w : true ≡ false = sym there ∙ no_name classes b none (front_java a b java front) in
+      cc
+
+  one_class : (a b : List ℕ) → is_known classes a ≡ true → is_known classes b ≡ true
+      → names.class a ≡ names.class b → a ≡ b
+  one_class a b h k same = by (known_cases classes a h) (known_cases classes b k)
+    where
+      by : (is_java a ≡ true) ⊎ (is_taken (class_names classes) a ≡ true)
+          → (is_java b ≡ true) ⊎ (is_taken (class_names classes) b ≡ true) → a ≡ b
+      by (inl x) (inl y) = sym (library_class a x) ∙ same ∙ library_class b y
+      by (inl x) (inr y) = absurd (not_java a b x y same)
+      by (inr x) (inl y) = absurd (not_java b a y x (sym same))
+      by (inr x) (inr y) = classes_differ stay.classes (class_names classes) a b (inr x) (inr y) same
+
+  library_field_stays : (id k : ℕ) (row : MemberRow) → slice_get (rows_in classes (Lib id)) k ≡ Some row
+      → row.is_method ≡ false → is_taken stay.fields row.named.0 ≡ true
+  library_field_stays id k row at kind =
+      fields_reserved row.named.0
+      (ap (λ (b : Bool). is_taken (library_names b) row.named.0) (sym kind) ∙ library_name_taken classes id k row at)
+
+  library_method_stays : (id k : ℕ) (row : MemberRow) → slice_get (rows_in classes (Lib id)) k ≡ Some row
+      → row.is_method ≡ true → is_taken stay.methods row.named.0 ≡ true
+  library_method_stays id k row at kind =
+      methods_reserved row.named.0
+      (taken_parts (codes "<init>" ∷ (codes "<clinit>" ∷ [])) (library_names true) row.named.0
+      ∙ or_right (is_taken (codes "<init>" ∷ (codes "<clinit>" ∷ [])) row.named.0)
+      (is_taken (library_names true) row.named.0)
+      (ap (λ (b : Bool). is_taken (library_names b) row.named.0) (sym kind) ∙ library_name_taken classes id k row at))
+
+  -- what holds of the name of each field, or what is of the library, holds of each name of fields
+  by_field : (P : List ℕ → Type 0) → ((a : List ℕ) → is_taken stay.fields a ≡ true → P a)
+      → ((j : ℕ) (d : Class) → slice_get classes j ≡ Some d → (k : ℕ) (x : Field) → slice_get d.fields k ≡ Some x
+      → P x.name)
+      → (a : List ℕ) → IsMemberName classes false a → P a
+  by_field P fixed own a (inr h) = absurd (let w = h.0 in cc)
+  by_field P fixed own a (inl h) = by h.class h.index h.row h.at h.kind h.name_is
+    where
+      by : (x : ClassId) (k : ℕ) (row : MemberRow) → slice_get (rows_in classes x) k ≡ Some row
+          → row.is_method ≡ false → row.named.0 ≡ a → P a
+      by (Lib id) k row at kind name =
+          subst P name (fixed row.named.0 (library_field_stays id k row at kind))
+      by (Prog j) k row at kind name =
+          let d = program_row classes k row j at in
+          ⊎_elim
+          (λ p. subst P (sym (ap (λ (r : MemberRow). r.named.0) p.2) ∙ name) (own j d.0 d.1 k p.0 p.1))
+          (λ p. absurd (let w : true ≡ false = sym (ap (λ (r : MemberRow). r.is_method) p.4) ∙ kind in cc))
+          (row_parts d.0.fields d.0.methods k row d.2)
+
+  -- the same of methods
+  by_method : (P : List ℕ → Type 0) → ((a : List ℕ) → is_taken stay.methods a ≡ true → P a)
+      → ((j : ℕ) (d : Class) → slice_get classes j ≡ Some d → (k : ℕ) (x : Method) → slice_get d.methods k ≡ Some x
+      → P x.name)
+      → (a : List ℕ) → IsMemberName classes true a → P a
+  by_method P fixed own a (inr h) =
+      subst P (sym h.1) (fixed (codes "<clinit>") (methods_reserved (codes "<clinit>") refl))
+  by_method P fixed own a (inl h) = by h.class h.index h.row h.at h.kind h.name_is
+    where
+      by : (x : ClassId) (k : ℕ) (row : MemberRow) → slice_get (rows_in classes x) k ≡ Some row
+          → row.is_method ≡ true → row.named.0 ≡ a → P a
+      by (Lib id) k row at kind name =
+          subst P name (fixed row.named.0 (library_method_stays id k row at kind))
+      by (Prog j) k row at kind name =
+          let d = program_row classes k row j at in
+          ⊎_elim
+          (λ p. absurd (let w : false ≡ true = sym (ap (λ (r : MemberRow). r.is_method) p.2) ∙ kind in cc))
+          (λ p. subst P (sym (ap (λ (r : MemberRow). r.named.0) p.4) ∙ name) (own j d.0 d.1 p.0 p.1 p.3))
+          (row_parts d.0.fields d.0.methods k row d.2)
+
+  -- names of members stay, or get new names
+  field_named : (a : List ℕ) → IsMemberName classes false a → IsNamed stay.fields (field_names classes) a
+  field_named = by_field (IsNamed stay.fields (field_names classes)) (λ a h. inl h)
+      (λ j d at k x there. inr (among_all (λ (c : Class). map (λ (f : Field). f.name) c.fields) classes j d at x.name
+      (name_among (λ (f : Field). f.name) d.fields k x there)))
+
+  method_named : (a : List ℕ) → IsMemberName classes true a → IsNamed stay.methods (method_names classes) a
+  method_named = by_method (IsNamed stay.methods (method_names classes)) (λ a h. inl h)
+      (λ j d at k x there. inr (among_all (λ (c : Class). map (λ (m : Method). m.name) c.methods) classes j d at x.name
+      (name_among (λ (m : Method). m.name) d.methods k x there)))
+
+  init_of_fields : (a : List ℕ) → IsMemberName classes false a → is_init (names.field a) ≡ is_init a
+  init_of_fields = by_field (λ a. is_init (names.field a) ≡ is_init a)
+      (λ a h. ap is_init (taken_stay no_front stay.fields (field_names classes) a h))
+      (λ j d at k x there.
+      let own = good j d at k x there in
+      no_init (names.field x.name) (form.field_name x.name own).1 ∙ sym (no_init x.name own.1))
+
+  pub given_apart : KeepsNamesApart (given_beside stay classes) classes
+  given_apart = record {
+    library_class = library_class;
+    class_name = form.class_name;
+    one_class = one_class;
+    packages = λ n c at. package_stays stay.classes (class_names classes) c.name;
+    library_field = λ id k row at kind.
+        taken_stay no_front stay.fields (field_names classes) row.named.0 (library_field_stays id k row at kind);
+    library_method = λ id k row at kind.
+        taken_stay no_front stay.methods (method_names classes) row.named.0 (library_method_stays id k row at kind);
+    one_field = λ a b h k same.
+        members_differ stay.fields (field_names classes) a b (field_named a h) (field_named b k) same;
+    one_method = λ a b descriptor h k same.
+        members_differ stay.methods (method_names classes) a b (method_named a h) (method_named b k) same;
+    init_field = init_of_fields;
+    init_method = λ a descriptor h. form.init a descriptor;
+    clinit = taken_stay no_front stay.methods (method_names classes) (codes "<clinit>")
+        (methods_reserved (codes "<clinit>") refl);
+  }
+
+-- without obfuscation all names stay
+pub same_apart : (classes : List Class) → KeepsNamesApart same_names classes
+same_apart classes = record {
+  library_class = λ name java. refl;
+  class_name = λ name h. h;
+  one_class = λ a b h k same. same;
+  packages = λ n c at. refl;
+  library_field = λ id k row at kind. refl;
+  library_method = λ id k row at kind. refl;
+  one_field = λ a b h k same. same;
+  one_method = λ a b descriptor h k same. same;
+  init_field = λ a h. refl;
+  init_method = λ a descriptor h. refl;
+  clinit = refl;
+}

@@ -1,0 +1,146 @@
+-- The new names of a set that is taken are names of their kind, and keep apart what is kept.
+use Rattle.std.proofs.Common.{◌≡◌, ℕ, ◌+◌, ◌||◌, Bool, true, false, cond, List, [], ◌∷◌, ◌++◌, map}
+use Rattle.std.proofs.Common.{codes, refl, ap, subst, ◌∙◌}
+use Rattle.std.specs.List.{AllByRecursion}
+use Rattle.jv_base.specs.Names.{is_member_name}
+use Rattle.mark_core.specs.Marks.{Closed}
+use Rattle.class_model.specs.WellFormed.{IsGoodField, IsName}
+use Rattle.class_model.specs.Flags.{is_interface}
+use Rattle.class_model.specs.declared.class.Class.{Class}
+use Rattle.class_model.specs.declared.class.Field.{Field}
+use Rattle.class_model.specs.declared.class.Method.{Method}
+use Rattle.class_pool.specs.Items.{class_item}
+use Rattle.class_rename.specs.Names.{same_names}
+use Rattle.attribute_filter.specs.Filtered.{field_filtered, filtered, method_filtered}
+use Rattle.attribute_filter.specs.KeptAttributes.{filter_of}
+use Rattle.attribute_filter.specs.declared.filter.AttributeFilter.{AttributeFilter}
+use Rattle.fresh_names.specs.Fresh.{is_taken}
+use Rattle.fresh_names.specs.Given.{class_names, field_names, front_of, given_name, method_names, no_front}
+use Rattle.fresh_names.specs.Reserved.{reserved}
+use Rattle.fresh_names.specs.declared.taken.Named.TheVariants as named
+use Rattle.fresh_names.proofs.Reserved.{taken_parts}
+use Rattle.keep_rules.specs.declared.rules.Rules.{Rules}
+use Rattle.member_shrink.specs.Shrunk.{is_marked, shrunk}
+use Rattle.member_shrink.proofs.Picked.{all_mapped}
+use Rattle.pair_laws.proofs.NamedForm.Kept.{NoneJava, no_name, none_java}
+use Rattle.pair_laws.proofs.NamedForm.Picked.{all_at, all_picked_at}
+use Rattle.pair_laws.proofs.NamedForm.Same.{same_form}
+use Rattle.pair_laws.proofs.NamedForm.Written.{has_reserved, taken_of}
+use Rattle.rename_map.specs.Fixed.{Stay, names_that_stay}
+use Rattle.rename_map.specs.Names.{given_beside}
+use Rattle.rename_map.proofs.Stays.{reserved_method_stays}
+use Rattle.pair_laws.specs.RenamedForm.Form.{KeepsForm}
+use Rattle.pair_laws.proofs.RenamedForm.Given.{given_form}
+use Rattle.pair_laws.specs.RenamedImage.Renaming.{KeepsNamesApart}
+use Rattle.require_sys.specs.Required.{kept_by_rules, required}
+use Rattle.image_laws.specs.TakenSet.TakenSet.{IsTaken}
+use Rattle.pair_laws.specs.OwnNames.Laws.{NewNamesKeepForm, NewNamesStayApart, kept_of}
+use Rattle.pair_laws.proofs.OwnNames.Apart.{AreFieldNames, given_apart, same_apart}
+use Rattle.pair_laws.proofs.OwnNames.Ordered.{linked_of}
+
+-- ---- the filter changes no name
+
+module _ (filter : AttributeFilter) where
+  field_names_stay : (fs : List Field) → map (λ (f : Field). f.name) (map (field_filtered filter) fs)
+      ≡ map (λ (f : Field). f.name) fs
+  field_names_stay [] = refl
+  field_names_stay (f ∷ fs) = ap (λ (t : List (List ℕ)). f.name ∷ t) (field_names_stay fs)
+
+  method_names_stay : (ms : List Method) → map (λ (m : Method). m.name) (map (method_filtered filter) ms)
+      ≡ map (λ (m : Method). m.name) ms
+  method_names_stay [] = refl
+  method_names_stay (m ∷ ms) = ap (λ (t : List (List ℕ)). m.name ∷ t) (method_names_stay ms)
+
+  classes_stay : (kept : List Class) → class_names (map (filtered filter) kept) ≡ class_names kept
+  classes_stay [] = refl
+  classes_stay (c ∷ cs) = ap (λ (t : List (List ℕ)). c.name ∷ t) (classes_stay cs)
+
+  fields_stay : (kept : List Class) → field_names (map (filtered filter) kept) ≡ field_names kept
+  fields_stay [] = refl
+  fields_stay (c ∷ cs) = λ i. field_names_stay c.fields i ++ fields_stay cs i
+
+  methods_stay : (kept : List Class) → method_names (map (filtered filter) kept) ≡ method_names kept
+  methods_stay [] = refl
+  methods_stay (c ∷ cs) = λ i. method_names_stay c.methods i ++ methods_stay cs i
+
+  -- nor what is given
+  given_stay : (stay : Stay) (kept : List Class)
+      → given_beside stay (map (filtered filter) kept) ≡ given_beside stay kept
+  given_stay stay kept = λ i. record {
+    class = given_name front_of stay.classes (classes_stay kept i);
+    field = given_name no_front stay.fields (fields_stay kept i);
+    method = λ name descriptor. given_name no_front stay.methods (methods_stay kept i) name;
+  }
+
+  java_stays : (kept : List Class) → NoneJava kept → NoneJava (map (filtered filter) kept)
+  java_stays [] none = tt
+  java_stays (c ∷ cs) none = (none.0, java_stays cs none.1)
+
+-- ---- names of fields
+
+-- fields of a class have names of members
+abbrev HasFieldNames : Class → Type 0
+HasFieldNames c = AllByRecursion (λ (f : Field). IsName is_member_name f.name) c.fields
+
+module _ (classes : List Class) (marks : List Bool) (rules : Rules) (taken : IsTaken classes)
+    (closed : Closed (required classes rules) (is_marked marks)) where
+  abbrev kept : List Class
+  kept = shrunk classes marks
+
+  abbrev stay : Stay
+  stay = names_that_stay rules classes
+
+  abbrev filter : AttributeFilter
+  filter = filter_of rules
+
+  kept_named : AllByRecursion HasFieldNames kept
+  kept_named = all_picked_at (λ n. is_marked marks (class_item classes n)) _ HasFieldNames 0 classes
+      (λ k c at passes.
+      all_picked_at (is_marked marks) (λ (e : ℕ × Field). e.1) (λ (f : Field). IsName is_member_name f.name)
+      (class_item classes (0 + k) + 1) c.fields
+      (λ j f there h.
+      (all_at (IsGoodField (is_interface c.flags.0)) c.fields j f (taken.formed k c at).fields there).name))
+
+  left_named : AllByRecursion HasFieldNames (kept_of classes marks rules)
+  left_named = all_mapped HasFieldNames HasFieldNames (filtered filter)
+      (λ c all. all_mapped (λ (f : Field). IsName is_member_name f.name) (λ (f : Field). IsName is_member_name f.name)
+      (field_filtered filter) (λ f h. h) c.fields all)
+      kept kept_named
+
+  good : AreFieldNames (kept_of classes marks rules)
+  good j d at k x there =
+      all_at (λ (f : Field). IsName is_member_name f.name) d.fields k x
+      (all_at HasFieldNames (kept_of classes marks rules) j d left_named at) there
+
+  none : NoneJava kept
+  none = none_java classes (kept_by_rules classes rules) marks (linked_of classes taken) closed
+
+  fields_reserved : (a : List ℕ) → is_taken (reserved named.Field) a ≡ true → is_taken stay.fields a ≡ true
+  fields_reserved a h = taken_parts _ (reserved named.Field) a ∙ or_right _ (is_taken (reserved named.Field) a) h
+    where
+      or_right : (b c : Bool) → c ≡ true → (b || c) ≡ true
+      or_right true c h = refl
+      or_right false c h = h
+
+  form_of : (cs : List Class) → NoneJava cs → KeepsForm (given_beside stay cs)
+  form_of cs none =
+      given_form (taken_of stay) cs (has_reserved rules classes) (no_name cs (codes "java/lang/String") none refl)
+
+  form_by : (obfuscate : Bool) → KeepsForm (cond obfuscate (given_beside stay kept) same_names)
+  form_by true = form_of kept none
+  form_by false = same_form
+
+  apart_by : (obfuscate : Bool)
+      → KeepsNamesApart (cond obfuscate (given_beside stay kept) same_names) (kept_of classes marks rules)
+  apart_by true =
+      subst (λ names. KeepsNamesApart names (kept_of classes marks rules)) (given_stay filter stay kept)
+      (given_apart stay (kept_of classes marks rules)
+      (form_of (kept_of classes marks rules) (java_stays filter kept none)) fields_reserved
+      (reserved_method_stays rules classes) (java_stays filter kept none) good)
+  apart_by false = same_apart (kept_of classes marks rules)
+
+pub keep_form : NewNamesKeepForm
+keep_form classes marks rules taken closed = form_by classes marks rules taken closed rules.obfuscate
+
+pub stay_apart : NewNamesStayApart
+stay_apart classes marks rules taken closed = apart_by classes marks rules taken closed rules.obfuscate

@@ -1,0 +1,5 @@
+pub mod Left
+pub mod Written
+pub mod Own
+pub mod Found
+pub mod WordTexts

@@ -1,0 +1,13 @@
+pub mod Orders
+pub mod Placed
+pub mod Types
+pub mod References
+pub mod Codes
+pub mod Implementing
+pub mod Rules
+pub mod Formed
+pub mod Setting
+pub mod Ranks
+pub mod Built
+pub mod Known
+pub mod Whole

@@ -1,0 +1,4 @@
+pub mod Naming
+pub mod References
+pub mod Typing
+pub mod Taken

@@ -1,0 +1,5 @@
+use Rattle.pair_laws.proofs.NamedForm.Written.{all_written}
+use Rattle.pair_laws.proofs.named_form.kept_are_all_written.Goals as goal
+
+pub returns : goal.returns
+returns c = all_written

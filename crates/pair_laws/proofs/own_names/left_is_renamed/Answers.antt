@@ -1,0 +1,5 @@
+use Rattle.pair_laws.proofs.OwnNames.Ordered.{left_ascends, left_renamed}
+use Rattle.pair_laws.proofs.own_names.left_is_renamed.Goals as goal
+
+pub returns : goal.returns
+returns c = record { all = left_renamed; order = left_ascends }

@@ -1,0 +1,5 @@
+use Rattle.pair_laws.proofs.OwnNames.Named.{keep_form, stay_apart}
+use Rattle.pair_laws.proofs.own_names.new_names_stay_apart.Goals as goal
+
+pub returns : goal.returns
+returns c = record { form = keep_form; apart = stay_apart }

@@ -1,0 +1,5 @@
+use Rattle.pair_laws.proofs.OwnShape.Fits.{mapping_fits}
+use Rattle.pair_laws.proofs.own_shape.own_mapping_fits.Goals as goal
+
+pub returns : goal.returns
+returns c = mapping_fits

@@ -1,0 +1,5 @@
+use Rattle.pair_laws.proofs.RenamedForm.GivenWritable.{given_writable}
+use Rattle.pair_laws.proofs.renamed_form.given_names_are_writable.Goals as goal
+
+pub returns : goal.returns
+returns c = given_writable

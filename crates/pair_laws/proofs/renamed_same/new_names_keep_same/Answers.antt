@@ -1,0 +1,5 @@
+use Rattle.pair_laws.proofs.RenamedSame.NewSame.{new_same}
+use Rattle.pair_laws.proofs.renamed_same.new_names_keep_same.Goals as goal
+
+pub returns : goal.returns
+returns c = new_same

@@ -1,0 +1,5 @@
+use Rattle.pair_laws.proofs.RenamedSame.AllKept.{renamed_same}
+use Rattle.pair_laws.proofs.renamed_same.renaming_keeps_same.Goals as goal
+
+pub returns : goal.returns
+returns c = renamed_same

@@ -1,0 +1,14 @@
+pub mod FilesFound
+pub mod RenamedForm
+pub mod NamedForm
+pub mod RenamedImage
+pub mod RenamedSame
+pub mod RenamedTaken
+pub mod RenamedTyped
+pub mod PairSame
+pub mod PairTrace
+pub mod PairSound
+pub mod OwnNames
+pub mod OwnShape
+pub mod OwnLines
+pub mod OwnPairs

@@ -1,0 +1,29 @@
+-- A trace of the output tells, with old names, what the input does, as a statement on all pairs (the project's own).
+use Rattle.std.specs.Prelude.{◌≡◌, ℕ, List, IsSome}
+use Rattle.std.specs.List.{AllZip}
+use Rattle.class_model.specs.declared.class.Class.{Class}
+use Rattle.keep_rules.specs.declared.rules.Rules.{Rules}
+use Rattle.mapping_file.specs.declared.mapping.Mapping.{Mapping}
+use Rattle.jvm_model.specs.Same.{Corr}
+use Rattle.jvm_model.specs.State.{Frame, State, frames}
+use Rattle.set_view.specs.ViewOf.{view_of}
+use Rattle.retrace_core.specs.OldNames.{source_of}
+use Rattle.retrace_core.specs.Retraced.{line_retraced}
+use Rattle.image_laws.specs.TakenSet.TakenSet.{IsTaken}
+use Rattle.pair_laws.specs.PairSame.Laws.{pair_names}
+use Rattle.pair_laws.specs.PairSame.Pairs.{IsPair}
+use Rattle.pair_laws.specs.PairTrace.FrameLines.{IsNumber, IsSource, frame_line}
+
+-- the line of a frame of the output, with old names, is that of the frame of the input, at the same number and with the
+-- source file that its class suggests
+abbrev pub IsRetraced : List Class → Mapping → Frame → Frame → Type 0
+IsRetraced input mapping f g = IsSome ((view_of input).code f.method) → (source number : List ℕ) → IsSource source
+    → IsNumber number → line_retraced mapping (frame_line g.method number source)
+    ≡ frame_line f.method number (source_of f.method.class)
+
+-- so it is of all frames of methods with codes, one by one, wherever both are in step
+abbrev pub FramesRetrace : Type 0
+FramesRetrace = (input output : List Class) (mapping : Mapping) (rules : Rules) → IsTaken input → IsTaken output
+    → IsPair input output mapping rules → (s t : State)
+    → Corr (view_of input) (view_of output) (pair_names input mapping) s t
+    → AllZip (IsRetraced input mapping) (frames s) (frames t)

@@ -1,0 +1,2 @@
+pub mod NewSet
+pub mod Laws

@@ -1,0 +1,23 @@
+//! What holds of a set and of what is written of it.
+ghost use Rattle.pair_laws.specs.OwnPairs.Laws.{OwnFilesAreBelow, OwnFilesAreFound, OwnFilesArePaired};
+ghost use Rattle.pair_laws.specs.OwnPairs.Laws.{OwnIsAccepted, OwnPairs};
+
+/// The files that `shrink_set` makes of a set that is taken, by closed marks, are taken as a set; and with its mapping
+/// and a witness without an entry `check_pair` takes them for the files of the set. It does nothing.
+pub fn own_pairs_are_taken()
+    ensures accepted { OwnIsAccepted }
+    ensures pair { OwnPairs }
+{}
+
+/// So what is written does what the set does, from each entry, names read through the mapping, and each of its methods
+/// is typed. It does nothing.
+pub fn own_files_are_paired()
+    ensures { OwnFilesArePaired }
+{}
+
+/// The files that are written lie below the output directory; and where no file lay there before, they are the class
+/// files that are found there. It does nothing.
+pub fn own_files_are_found()
+    ensures below { OwnFilesAreBelow }
+    ensures found { OwnFilesAreFound }
+{}

@@ -1,4 +1,0 @@
-//! An input and an output of which no clause of a pair holds do the same.
-#![tactic(auto)]
-
-pub mod laws;

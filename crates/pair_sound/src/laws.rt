@@ -1,8 +1,0 @@
-//! What an answer of the check promises.
-ghost use Rattle.pair_sound.specs.Laws.{CheckedPairsDoTheSame};
-
-/// Where `check_pair` takes a pair whose input files are taken as a set, the output does what the input does, and is
-/// typed. It does nothing.
-pub fn checked_pairs_do_the_same()
-    ensures { CheckedPairsDoTheSame }
-{}

@@ -1,5 +1,0 @@
-use Rattle.removal_accepted.proofs.Whole.{taken_left, typed_left}
-use Rattle.removal_accepted.proofs.laws.filtered_removal_keeps_accepted.Goals as goal
-
-pub returns : goal.returns
-returns c = record { taken = taken_left; typed = typed_left }

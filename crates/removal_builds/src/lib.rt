@@ -1,4 +1,0 @@
-//! What closed marks leave of a set of classes is built again.
-#![tactic(auto)]
-
-pub mod laws;

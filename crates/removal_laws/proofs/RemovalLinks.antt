@@ -1,0 +1,5 @@
+pub mod Instructions
+pub mod Implementing
+pub mod Overriding
+pub mod Places
+pub mod Left

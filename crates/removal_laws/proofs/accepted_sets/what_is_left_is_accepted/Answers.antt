@@ -1,0 +1,5 @@
+use Rattle.removal_laws.proofs.AcceptedSets.Taken.{left_accepted}
+use Rattle.removal_laws.proofs.accepted_sets.what_is_left_is_accepted.Goals as goal
+
+pub returns : goal.returns
+returns c = left_accepted

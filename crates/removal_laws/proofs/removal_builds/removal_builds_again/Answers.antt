@@ -1,0 +1,5 @@
+use Rattle.removal_laws.proofs.RemovalBuilds.Again.{built_again}
+use Rattle.removal_laws.proofs.removal_builds.removal_builds_again.Goals as goal
+
+pub returns : goal.returns
+returns c = built_again

@@ -1,0 +1,5 @@
+use Rattle.removal_laws.proofs.RemovalLinks.Left.{links_left}
+use Rattle.removal_laws.proofs.removal_links.removal_keeps_links.Goals as goal
+
+pub returns : goal.returns
+returns c = links_left

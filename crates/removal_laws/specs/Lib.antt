@@ -1,0 +1,9 @@
+pub mod RemovalImage
+pub mod RemovalSame
+pub mod RemovalLinks
+pub mod RemovalBuilds
+pub mod RemovalTyped
+pub mod FilteredSet
+pub mod FilteredSame
+pub mod RemovalAccepted
+pub mod AcceptedSets

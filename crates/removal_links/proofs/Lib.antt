@@ -1,5 +1,0 @@
-pub mod Instructions
-mod Implementing
-mod Overriding
-pub mod Places
-pub mod Left

@@ -1,5 +1,0 @@
-use Rattle.renamed_form.proofs.Formed.{counts_fit, formed}
-use Rattle.renamed_form.proofs.laws.renamed_is_well_formed.Goals as goal
-
-pub returns : goal.returns
-returns c = λ names k form apart h few. (formed names form k apart h, counts_fit names form k h few)

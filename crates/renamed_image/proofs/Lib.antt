@@ -1,5 +1,0 @@
-pub mod Rows
-pub mod LibraryTypes
-pub mod Descriptors
-pub mod Declared
-pub mod Join

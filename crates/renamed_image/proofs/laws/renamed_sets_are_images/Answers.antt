@@ -1,9 +1,0 @@
-use Rattle.std.proofs.Common.{refl}
-use Rattle.renamed_image.proofs.Join.{renamed_image}
-use Rattle.renamed_image.proofs.laws.renamed_sets_are_images.Goals as goal
-
-pub returns : goal.returns
-returns c = λ names place xs ys found found_new known apart moved. (
-  renamed_image names place xs ys found found_new known apart moved,
-  record { kept = refl; moved = refl; kept_member = refl; moved_member = refl; renamed = refl },
-)

@@ -1,6 +1,0 @@
-pub mod Flags
-pub mod LibraryRows
-pub mod Rows
-pub mod Proper
-pub mod Names
-pub mod Members
