@@ -23,11 +23,11 @@ pub enum Clause {
     NotClosed,
     /// A class of the output isn't the one of the input with its kept members under new names.
     MemberDiffers,
-    /// An entry of the witness isn't one of a kept method.
+    /// The witness has an entry: nothing is edited yet.
     WitnessStray,
-    /// An edit of the witness isn't allowed.
+    /// An edit of the witness isn't allowed: this holds of no pair yet.
     EditIllegal,
-    /// A code of the output isn't the one of the input after its edits under new names.
+    /// A code of the output isn't the one of the input under new names.
     CodeDiffers,
 }
 

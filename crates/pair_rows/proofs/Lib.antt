@@ -1,0 +1,6 @@
+mod Required
+mod Names
+mod Alike
+mod Files
+mod Sets
+mod Answered
