@@ -1,3 +1,4 @@
+mod OneDue
 mod Endings
 mod Judging
 mod StepByStep

@@ -1,4 +1,5 @@
 pub mod Answer
 pub mod Due
+pub mod OneDue
 pub mod Refusal
 pub mod bodies

@@ -4,7 +4,9 @@
 mod checking;
 mod command;
 mod finding;
+mod laws;
 mod refusal;
 
 pub use command::check_files;
 pub use finding::CheckFiles;
+pub use laws::one_answer;

@@ -3,6 +3,10 @@
 #![tactic(auto)]
 
 #[cfg(test)]
+mod check;
+#[cfg(test)]
 mod retrace;
+#[cfg(test)]
+mod runs;
 #[cfg(test)]
 mod shrink;

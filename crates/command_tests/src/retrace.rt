@@ -1,11 +1,6 @@
-use crate::shrink::{Row, files_of, numbers, words_of};
-use jv_base::M;
-use shrink_core::run;
-use std::alloc::Global;
-use std::process::Abort;
+use crate::runs::{Asked, expect};
+use crate::shrink::Row;
 use std::test::Fail;
-use std::thread::Threads;
-use tree_io::{MemorySink, MemoryTree, OpenGate};
 
 const MAPPING: &[u8] = b"demo.Helper -> demo.a:
     10:10:int twice(int) -> a
@@ -28,16 +23,6 @@ hello demo.a
 ";
 
 const WORDS: &[&str] = &["retrace", "map.txt", "trace.txt"];
-
-// Words, the files there are, the calls of the tree and of the sink that fail, the status, and what is said.
-type Asked<'a> = (
-    &'a [&'a str],
-    &'a [Row<'a>],
-    &'a [u64],
-    &'a [u64],
-    u8,
-    &'a str,
-);
 
 const BOTH: &[Row<'static>] = &[("map.txt", MAPPING), ("trace.txt", TRACE)];
 
@@ -86,17 +71,6 @@ const RUNS: &[Asked<'static>] = &[
     (WORDS, BOTH, &[1], &[], 7, "error 7 device\n"),
     (WORDS, BOTH, &[], &[0], 7, "error 7 device\n"),
 ];
-
-fn expect(rt: &(impl Abort + Threads + Sync), alloc: Global, asked: &Asked<'_>) -> M<()> {
-    let (words, files, tree_fails, sink_fails, status, said) = *asked;
-    let words = words_of(alloc, words)?;
-    let mut tree = MemoryTree::new(alloc, files_of(alloc, files)?, numbers(alloc, tree_fails)?)?;
-    let mut out = MemorySink::new(alloc, numbers(alloc, sink_fails)?)?;
-    let ended = run(rt, alloc, &words, &mut tree, &mut out, &OpenGate);
-    assert_eq!(rt; ended, status, "{said}");
-    assert!(rt; out.written() == said.as_bytes(), "{said}");
-    Ok(())
-}
 
 #[test]
 fn traces_get_old_names_or_the_first_refusal(rt: HostRuntime) -> Result<(), Fail> {

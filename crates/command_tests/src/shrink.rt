@@ -9,7 +9,7 @@ use tree_io::{FileAt, MemorySink, MemoryTree, OpenGate, Tree};
 // ---- class files, each in its canonical spelling where nothing else is said
 
 // `Main` with `static int f(int)`, which calls `g(int)`, and then `g(int)` and `h(int)`.
-const MAIN: &[u8] = b"\xCA\xFE\xBA\xBE\0\0\0\x34\0\x0C\
+pub(crate) const MAIN: &[u8] = b"\xCA\xFE\xBA\xBE\0\0\0\x34\0\x0C\
 \x01\0\x04Main\x07\0\x01\x01\0\x10java/lang/Object\x07\0\x03\x01\0\x01f\x01\0\x04(I)I\x01\0\x04Code\x01\0\x01g\
 \x0C\0\x08\0\x06\x0A\0\x02\0\x09\x01\0\x01h\
 \0\x21\0\x02\0\x04\0\0\0\0\0\x03\
@@ -18,7 +18,7 @@ const MAIN: &[u8] = b"\xCA\xFE\xBA\xBE\0\0\0\x34\0\x0C\
 \0\x09\0\x0B\0\x06\0\x01\0\x07\0\0\0\x0F\0\x01\0\x01\0\0\0\x03\0\x1A\xAC\0\0\0\0\0\0";
 
 // The same without `h`, and with `g` as `a`.
-const MAIN_F_A: &[u8] = b"\xCA\xFE\xBA\xBE\0\0\0\x34\0\x0B\
+pub(crate) const MAIN_F_A: &[u8] = b"\xCA\xFE\xBA\xBE\0\0\0\x34\0\x0B\
 \x01\0\x04Main\x07\0\x01\x01\0\x10java/lang/Object\x07\0\x03\x01\0\x01f\x01\0\x04(I)I\x01\0\x04Code\x01\0\x01a\
 \x0C\0\x08\0\x06\x0A\0\x02\0\x09\
 \0\x21\0\x02\0\x04\0\0\0\0\0\x02\
@@ -26,7 +26,7 @@ const MAIN_F_A: &[u8] = b"\xCA\xFE\xBA\xBE\0\0\0\x34\0\x0B\
 \0\x09\0\x08\0\x06\0\x01\0\x07\0\0\0\x0F\0\x01\0\x01\0\0\0\x03\x1A\x74\xAC\0\0\0\0\0\0";
 
 // The same with `g` alone.
-const MAIN_G: &[u8] = b"\xCA\xFE\xBA\xBE\0\0\0\x34\0\x08\
+pub(crate) const MAIN_G: &[u8] = b"\xCA\xFE\xBA\xBE\0\0\0\x34\0\x08\
 \x01\0\x04Main\x07\0\x01\x01\0\x10java/lang/Object\x07\0\x03\x01\0\x01g\x01\0\x04(I)I\x01\0\x04Code\
 \0\x21\0\x02\0\x04\0\0\0\0\0\x01\
 \0\x09\0\x05\0\x06\0\x01\0\x07\0\0\0\x0F\0\x01\0\x01\0\0\0\x03\x1A\x74\xAC\0\0\0\0\0\0";
@@ -238,12 +238,12 @@ const DEMO_A_CALLS_B: &[u8] =
 \0\0\x01\0\x08\0\x05\0\x06\0\x01\0\x07\0\0\0\x10\0\0\0\0\0\0\0\x04\xB8\0\x0C\xB1\0\0\0\0\0\0";
 
 // No class file.
-const MAGIC: &[u8] = b"\xCA\xFE\xBA\xBE";
+pub(crate) const MAGIC: &[u8] = b"\xCA\xFE\xBA\xBE";
 
 // ---- configs
 
 // The config that keeps `f(int)` of `Main`.
-const KEEP_F: &[u8] = b"-injars in\n-outjars out/\n-printmapping map.txt\n\
+pub(crate) const KEEP_F: &[u8] = b"-injars in\n-outjars out/\n-printmapping map.txt\n\
 -keep class Main { static int f(int); }\n";
 
 // The config that keeps a method that `Main` doesn't have, and `g(int)`.
@@ -908,7 +908,9 @@ fn other_words_are_refused(rt: HostRuntime) -> Result<(), Fail> {
         ["shrink", CONFIG, ""].as_slice(),
         &["shrink", CONFIG],
         &["shrink", CONFIG, "wit.txt", "wit.txt"],
-        &["check", CONFIG, "wit.txt"],
+        &["gen", "1", "in"],
+        &["check", CONFIG],
+        &["check", CONFIG, "wit.txt/"],
         &["shrink", "/", "wit.txt"],
         &["shrink", CONFIG, "a//b"],
         &["shrink", CONFIG, "../wit.txt"],

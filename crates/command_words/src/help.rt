@@ -4,11 +4,13 @@ use clap::Command;
 use jv_base::M;
 use std::alloc::Global;
 
-const ABOUT: &str = "Shrinks class files in the manner of ProGuard, and turns stack traces back.";
+const ABOUT: &str =
+    "Shrinks class files in the manner of ProGuard, checks what was shrunk, and turns traces back.";
 
 // The commands that can be run, an example, and what their statuses say.
 const COMMANDS: &str = "Commands:
   shrink CONFIG WITNESS   writes the classes that CONFIG keeps, as its options say
+  check CONFIG WITNESS    prints ok where CONFIG's output belongs to its input, or why it doesn't
   retrace MAPPING TRACE   prints TRACE with the old names of MAPPING in place of the new ones
   --version               alone, prints the version
 
@@ -17,11 +19,12 @@ them empty, . or .. . docs/MANUAL.md has the options of a config and every messa
 
 Example:
   cixorradde shrink examples/app/shrink.pro out.wit
+  cixorradde check examples/app/shrink.pro out.wit
   cixorradde retrace map.txt trace.txt
 
 Status: 0 done, 1 faulty words, 2 a file isn't there, 3 faulty config, 4 no class file, 5 a class
-that breaks a rule, 6 a limit passed, 7 a device failed, 8 a file below the output directory,
-10 memory was wanting, 11 faulty mapping.";
+that breaks a rule, 6 a limit passed, 7 a device failed, 8 a file below the output directory, 9 an
+output that doesn't belong to its input, 10 memory was wanting, 11 faulty mapping or witness.";
 
 /// The text of `--help`: usage, options with their defaults, each command that can be run in a line, and an example.
 pub fn help_text(alloc: Global) -> M<String> {

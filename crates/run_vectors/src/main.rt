@@ -1,9 +1,11 @@
 //! Whole runs of the command in memory, one for each line of standard input: says what the run kept, wrote and said.
 //!
-//! A line is `kept CONFIG FILES`, `names CONFIG FILES` or `retrace MAPPING TRACE`; the README tells how texts and files
-//! are written, and what is answered. The status is that of `line_answers`.
+//! A line is `kept CONFIG FILES`, `names CONFIG FILES`, `written CONFIG FILES`, `check CONFIG MAPPING WITNESS FILES` or
+//! `retrace MAPPING TRACE`; the README tells how texts and files are written, and what is answered. The status is that
+//! of `line_answers`.
 #![tactic(auto)]
 
+mod checked;
 mod kept;
 mod named;
 mod running;
@@ -22,6 +24,8 @@ fn answer<Rt: Threads + Sync>(rt: &Rt, alloc: Global, line: &[u8]) -> M<Option<T
     match word {
         b"kept" => kept::answer(rt, alloc, row),
         b"names" => named::answer(rt, alloc, row),
+        b"check" => checked::answer(rt, alloc, row),
+        b"written" => checked::written_answer(rt, alloc, row),
         b"retrace" => traced::answer(rt, alloc, row),
         _ => Ok(None),
     }

@@ -70,6 +70,17 @@ fn below_input(alloc: Global, file: LineFile) -> M<FileAt> {
     })
 }
 
+/// The file of a text of a row; none where it is of another form.
+pub fn text_file(alloc: Global, path: &str, text: &[u8]) -> M<Option<FileAt>> {
+    match unescaped(alloc, text)? {
+        Some(bytes) => Ok(Some(FileAt {
+            path: Text::from_str(alloc, path)?,
+            bytes: Bytes::from_vec(bytes),
+        })),
+        None => Ok(None),
+    }
+}
+
 /// A run of the command on a command line and files.
 pub fn run_words<Rt: Threads + Sync>(
     rt: &Rt,
@@ -77,12 +88,28 @@ pub fn run_words<Rt: Threads + Sync>(
     line: [&str; 3],
     files: Items<FileAt>,
 ) -> M<Ran> {
+    let tree = MemoryTree::new(alloc, files, Items::new(alloc))?;
+    run_over(rt, alloc, line, tree)
+}
+
+/// A run of the command on a command line and a tree, as another run may have left it.
+pub fn run_over<Rt: Threads + Sync>(
+    rt: &Rt,
+    alloc: Global,
+    line: [&str; 3],
+    tree: MemoryTree,
+) -> M<Ran> {
+    let words = words_of(alloc, line)?;
+    let mut tree = tree;
+    let mut out = MemorySink::new(alloc, Items::new(alloc))?;
+    let status = run(rt, alloc, &words, &mut tree, &mut out, &OpenGate);
+    Ok(Ran { status, tree, out })
+}
+
+fn words_of(alloc: Global, line: [&str; 3]) -> M<Items<Text>> {
     let mut words = Items::new(alloc);
     for word in line {
         words.push(Text::from_str(alloc, word)?)?;
     }
-    let mut tree = MemoryTree::new(alloc, files, Items::new(alloc))?;
-    let mut out = MemorySink::new(alloc, Items::new(alloc))?;
-    let status = run(rt, alloc, &words, &mut tree, &mut out, &OpenGate);
-    Ok(Ran { status, tree, out })
+    Ok(words)
 }

@@ -1,7 +1,7 @@
 // What a run of `retrace` said.
-use crate::running::run_words;
-use jv_base::{Bytes, Items, M, Text};
-use line_answers::{first_word, push_escaped, unescaped};
+use crate::running::{run_words, text_file};
+use jv_base::{Items, M, Text};
+use line_answers::{first_word, push_escaped};
 use std::alloc::Global;
 use std::thread::Threads;
 use tree_io::FileAt;
@@ -39,24 +39,14 @@ fn fault_answer(alloc: Global, said: &[u8]) -> M<Option<Text>> {
 // The mapping and the trace of a row.
 fn files_of(alloc: Global, row: &[u8]) -> M<Option<Items<FileAt>>> {
     let (mapping, trace) = first_word(row);
-    let Some(mapping) = file_of(alloc, "map.txt", mapping)? else {
+    let Some(mapping) = text_file(alloc, "map.txt", mapping)? else {
         return Ok(None);
     };
-    let Some(trace) = file_of(alloc, "trace.txt", trace)? else {
+    let Some(trace) = text_file(alloc, "trace.txt", trace)? else {
         return Ok(None);
     };
     let mut files = Items::new(alloc);
     files.push(mapping)?;
     files.push(trace)?;
     Ok(Some(files))
-}
-
-fn file_of(alloc: Global, path: &str, text: &[u8]) -> M<Option<FileAt>> {
-    match unescaped(alloc, text)? {
-        Some(bytes) => Ok(Some(FileAt {
-            path: Text::from_str(alloc, path)?,
-            bytes: Bytes::from_vec(bytes),
-        })),
-        None => Ok(None),
-    }
 }

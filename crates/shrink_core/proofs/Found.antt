@@ -22,6 +22,7 @@ use Rattle.shrink_core.specs.Answer as answer
 use Rattle.shrink_core.specs.Answer.{Refuses, StopsSo, Writes, StopsBefore}
 use Rattle.keep_rules.specs.declared.rules.Rules.{Rules}
 use Rattle.shrink_core.proofs.OneConfig.{config_found}
+use Rattle.shrink_core.proofs.Paired.{due_pairs}
 use Rattle.shrink_core.specs.declared.words.CommandFiles.{CommandFiles}
 use Rattle.shrink_core.specs.declared.shrink.Plan.{Plan}
 use Rattle.shrink_core.specs.declared.refusal.Refusal.{Refusal}
@@ -282,6 +283,7 @@ wrote_all : (named : CommandFiles) (plan : Plan) (es fs : List Event)
 wrote_all named plan es fs p q = record {
   did = did_both es fs p.0 q.0;
   due = due_before named plan es fs p;
+  pair = λ old new run. due_pairs old named plan (due_before named plan es fs p old new run);
   put = left_after es fs (λ old new. new ≡ output.put_all old plan.files) p.0.wrote q.1;
 }
 

@@ -11,7 +11,7 @@ use Rattle.conf_words.proofs.Parsed.{words_law}
 use Rattle.keep_rules.specs.declared.fault.RuleFault.{RuleFault}
 use Rattle.keep_rules.specs.declared.rules.Rules.{Rules}
 use Rattle.keep_rules.proofs.Gathering.{law}
-use Rattle.shrink_core.specs.Config.{IsConfig, config_read, rules_of}
+use Rattle.command_texts.specs.Config.{IsConfig, config_read, rules_of}
 use Rattle.shrink_core.specs.OneConfig.{IsOneConfig, ReadsItsConfig}
 
 -- ---- what is read is so

@@ -25,14 +25,15 @@ use Rattle.set_shrink.specs.declared.shrunk.ShrunkSet.{ShrunkSet}
 use Rattle.set_shrink.proofs.OneShrunk.{not_both_shrunk, one_limit, one_shrunk}
 use Rattle.keep_rules.specs.declared.fault.RuleFault.{RuleFault}
 use Rattle.keep_rules.specs.declared.rules.Rules.{Rules}
-use Rattle.shrink_core.specs.Config.{IsConfig, config_read}
+use Rattle.command_texts.specs.Config.{IsConfig, config_read}
 use Rattle.shrink_core.specs.Due.{HasBytes, HasConfig, HasInput, HasSet, IsDue, IsEmpty, IsPlan}
-use Rattle.shrink_core.specs.Due.{by_config, by_input, by_output, by_plan, keeps_nothing}
+use Rattle.shrink_core.specs.Due.{by_config, by_input, by_output, by_plan}
 use Rattle.shrink_core.specs.Due.{by_format, by_text, by_seeds, by_system}
 use Rattle.shrink_core.specs.Due.{RefusesConfig, RefusesInput, RefusesOutput, RefusesPlan}
 use Rattle.shrink_core.specs.OneDue.{IsOneDue}
 use Rattle.shrink_core.specs.Refusal.{quantity_of}
-use Rattle.shrink_core.specs.RuleText.{nothing_kept}
+use Rattle.command_texts.proofs.OneStep.{IsOne, Then, no_err, one_value, same_err, same_ok, then_one}
+use Rattle.command_texts.specs.RuleText.{keeps_nothing, nothing_kept}
 use Rattle.shrink_core.specs.Summary.{summary_text}
 use Rattle.shrink_core.specs.declared.words.CommandFiles.{CommandFiles}
 use Rattle.shrink_core.specs.declared.shrink.Plan.{Plan}
@@ -43,35 +44,6 @@ use Rattle.shrink_core.specs.declared.refusal.Refusal.TheVariants.{NoConfig, Bad
 use Rattle.shrink_core.specs.declared.refusal.Refusal.TheVariants.{Limit}
 use Rattle.shrink_core.proofs.OneConfig.{config_only, one_config}
 use Rattle.shrink_core.proofs.SameMarks.{same_marks}
-
--- ---- one at most
-
-abbrev IsOne : {X : Type 0} → (X → Type 0) → Type 0
-IsOne {X} R = (one other : X) → R one → R other → one ≡ other
-
-same_ok : {V X : Type 0} (x y : V) → (let R : Result V X = Ok x in R) ≡ Ok y → x ≡ y
-same_ok x y h = cc
-
-same_err : {V X : Type 0} (x y : X) → (let R : Result V X = Err x in R) ≡ Err y → x ≡ y
-same_err x y h = cc
-
-no_err : {V X : Type 0} (x : V) (y : X) → (let R : Result V X = Ok x in R) ≡ Err y → ⊥
-no_err x y h = absurd cc
-
--- a step is refused, or another one follows it
-abbrev Then : {A B : Type 0} → (Result A Refusal → Type 0) → (A → Result B Refusal → Type 0) → Result B Refusal → Type 0
-Then {A} First Next z = ((refusal : Refusal) × First (Err refusal) × (z ≡ Err refusal))
-    ⊎ ((x : A) × First (Ok x) × Next x z)
-
-then_one : {A B : Type 0} (First : Result A Refusal → Type 0) (Next : A → Result B Refusal → Type 0) → IsOne First
-    → ((x : A) → IsOne (Next x)) → IsOne (Then First Next)
-then_one First Next first next one other (inl h) (inl k) =
-    h.2 ∙ (ap Err (same_err h.0 k.0 (first (Err h.0) (Err k.0) h.1 k.1)) ∙ sym k.2)
-then_one First Next first next one other (inl h) (inr k) = absurd (no_err k.0 h.0 (first (Ok k.0) (Err h.0) k.1 h.1))
-then_one First Next first next one other (inr h) (inl k) = absurd (no_err h.0 k.0 (first (Ok h.0) (Err k.0) h.1 k.1))
-then_one {A} First Next first next one other (inr h) (inr k) =
-    let same : h.0 ≡ k.0 = same_ok h.0 k.0 (first (Ok h.0) (Ok k.0) h.1 k.1) in
-    next k.0 one other (subst (λ (x : A). Next x one) same h.2) k.2
 
 -- ---- the config
 
@@ -274,11 +246,6 @@ one_taken files directory (Err refusal) (Err other) h k =
 
 -- ---- the plan
 
--- a step whose answer is a value
-one_value : {A : Type 0} (due : Result A Refusal) → IsOne (λ z. z ≡ due)
-one_value due one other h k = h ∙ sym k
-
--- the system of requirements, or the limit that it passes
 abbrev system_told : Result System TooMany → Result System Refusal
 system_told (Ok sys) = Ok sys
 system_told (Err many) = Err (Limit (quantity.System many.what))

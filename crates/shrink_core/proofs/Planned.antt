@@ -9,7 +9,7 @@ use Rattle.class_pool.specs.Count.{item_count}
 use Rattle.keep_rules.specs.declared.rules.Rules.{Rules}
 use Rattle.list_texts.specs.declared.limit.TooLong.{TooLong}
 use Rattle.class_pool.specs.Supertypes.{NoCycle}
-use Rattle.named_form.specs.Laws.{IsLinked}
+use Rattle.pair_laws.specs.NamedForm.Laws.{IsLinked}
 use Rattle.require_sys.specs.Required.{required, system_due}
 use Rattle.set_read.specs.Accepted.{IsAccepted}
 use Rattle.set_read.proofs.Few.{ascending_kept}

@@ -18,7 +18,7 @@ use Rattle.set_read.specs.declared.fault.SetFault.{SetFault}
 use Rattle.set_read.specs.declared.fault.SetFault.TheVariants as set
 use Rattle.keep_rules.specs.declared.fault.RuleFault.{RuleFault}
 use Rattle.keep_rules.specs.declared.rules.Rules.{Rules}
-use Rattle.shrink_core.specs.Config.{config_read}
+use Rattle.command_texts.specs.Config.{config_read}
 use Rattle.shrink_core.specs.Due.{HasConfig, HasSet, IsDue, IsEmpty, IsPlan, RefusesConfig, RefusesInput, RefusesPlan}
 use Rattle.shrink_core.specs.Due.{by_config, by_input, by_output, by_plan}
 use Rattle.shrink_core.specs.SomeDue.{HoldBytes, IsSomeDue}

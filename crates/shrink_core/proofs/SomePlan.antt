@@ -16,9 +16,9 @@ use Rattle.set_shrink.specs.declared.shrunk.ShrunkSet.{ShrunkSet}
 use Rattle.attribute_filter.specs.KeptAttributes.{filter_of}
 use Rattle.mapping_file.specs.declared.mapping.Mapping.{Mapping}
 use Rattle.rename_map.specs.MappingOf.{mapping_of}
-use Rattle.shrink_core.specs.Due.{IsKept, IsPlan, RefusesPlan, by_format, by_text, by_seeds, by_system, keeps_nothing}
+use Rattle.shrink_core.specs.Due.{IsKept, IsPlan, RefusesPlan, by_format, by_text, by_seeds, by_system}
 use Rattle.shrink_core.specs.Refusal.{quantity_of}
-use Rattle.shrink_core.specs.RuleText.{nothing_kept}
+use Rattle.command_texts.specs.RuleText.{keeps_nothing, nothing_kept}
 use Rattle.shrink_core.specs.Summary.{summary_text}
 use Rattle.keep_rules.specs.declared.rules.Rules.{Rules}
 use Rattle.shrink_core.specs.declared.refusal.Refusal.{Refusal}

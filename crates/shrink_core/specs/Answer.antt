@@ -14,6 +14,7 @@ use Rattle.tree_io.specs.declared.file_at.FileAt.{FileAt}
 use Rattle.class_files.specs.Output.{put_all, StopsAt, StopsWithin}
 use Rattle.command_output.specs.Output.{FailsSo, Hands, LacksSo, Output, Outside, Puts}
 use Rattle.shrink_core.specs.Due.{IsDue}
+use Rattle.shrink_core.specs.OwnPair.{IsOwnPair}
 use Rattle.shrink_core.specs.Refusal as refusal
 use Rattle.shrink_core.specs.declared.shrink.Plan.{Plan}
 use Rattle.shrink_core.specs.declared.words.CommandFiles.{CommandFiles}
@@ -66,10 +67,11 @@ pub record Unwritten (calls : List Event) : Type 0 where
   pub same : (old new : Files) → Run calls old new → new ≡ old
 
 -- the calls were to write the files of a plan and nothing else, in their order, and found each file that they read; of
--- any files that they fit the plan is the one that is due, and its files were put
+-- any files that they fit the plan is the one that is due, its files are a pair with what was read, and they were put
 pub record Writes (plan : Plan) (named : CommandFiles) (calls : List Event) : Type 0 where
   pub did : Did plan.files [] calls
   pub due : (old new : Files) → Run calls old new → IsDue old named (Ok plan)
+  pub pair : (old new : Files) → Run calls old new → IsOwnPair old named plan
   pub put : (old new : Files) → Run calls old new → new ≡ put_all old plan.files
 
 -- the calls wrote nothing, and found no file to read just where the refusal says so; of any files that they fit it is

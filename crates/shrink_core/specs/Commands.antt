@@ -5,10 +5,12 @@ use Rattle.command_words.specs.declared.command.Command.{Command}
 use Rattle.command_words.specs.declared.command.Command.TheVariants.{Shrink, Check, Retrace, Gen}
 use Rattle.retrace_command.specs.Answer as retrace
 use Rattle.shrink_core.specs.Answer.{Ended}
+use Rattle.shrink_core.specs.Checked.{Checked}
 
--- words ask for a command that can be run; `check` and `gen` can't be run yet
+-- words ask for a command that can be run; `gen` can't be run yet
 abbrev pub is_there : Option Command → Bool
 is_there (Some (Shrink config witness)) = true
+is_there (Some (Check config witness)) = true
 is_there (Some (Retrace mapping trace)) = true
 is_there _ = false
 
@@ -22,6 +24,8 @@ pub record SaysAtOnce (due : ℕ) (line : List ℕ) (status : ℕ) (before after
 abbrev pub Does : Option Command → ℕ → Outside → Outside → Type 0
 Does (Some (Shrink config witness)) status before after =
     Ended (record { config = config; witness = witness }) status before after
+Does (Some (Check config witness)) status before after =
+    Checked (record { config = config; witness = witness }) status before after
 Does (Some (Retrace mapping trace)) status before after = retrace.Ended mapping trace status before after
 Does _ status before after = SaysAtOnce 1 (codes "error 1 words\n") status before after
 

@@ -1,7 +1,9 @@
 -- What a command is to do on told files (the project's own: what the command promises).
-use Rattle.std.specs.Prelude.{◌≡◌, ◌≤◌, ◌<◌, ℕ, Bool, true, false, ◌&&◌, ◌==◌, List, [], ◌++◌, length, Some, None}
+use Rattle.std.specs.Prelude.{◌≡◌, ◌≤◌, ◌<◌, ℕ, Bool, true, false, List, [], ◌++◌, length, Some, None}
 use Rattle.std.specs.Prelude.{Result, Ok, Err}
 use Rattle.std.specs.FinMap.{get, keys}
+use Rattle.command_texts.specs.Config.{IsConfig, config_read}
+use Rattle.command_texts.specs.RuleText.{keeps_nothing, nothing_kept}
 use Rattle.tree_io.specs.Below.{paths_below}
 use Rattle.tree_io.specs.Files.{Files}
 use Rattle.tree_io.specs.declared.file_at.FileAt.{FileAt}
@@ -20,9 +22,7 @@ use Rattle.set_read.specs.declared.fault.SetFault.TheVariants as set
 use Rattle.set_shrink.specs.ShrunkSet.{IsShrunk, PassesLimit}
 use Rattle.set_shrink.specs.Texts.{texts_due}
 use Rattle.set_shrink.specs.declared.shrunk.ShrunkSet.{ShrunkSet}
-use Rattle.shrink_core.specs.Config.{IsConfig, config_read}
 use Rattle.shrink_core.specs.Refusal.{quantity_of}
-use Rattle.shrink_core.specs.RuleText.{nothing_kept}
 use Rattle.shrink_core.specs.Summary.{summary_text}
 use Rattle.shrink_core.specs.declared.words.CommandFiles.{CommandFiles}
 use Rattle.shrink_core.specs.declared.shrink.Plan.{Plan}
@@ -55,10 +55,6 @@ abbrev pub HasSet : Files → List ℕ → List Class → Type 0
 HasSet files directory classes = (inputs : List FileAt) × HasInput files directory inputs × IsAccepted inputs classes
 
 -- ---- what is kept
-
--- nothing is kept, though what isn't kept goes: the system has no seeds
-abbrev pub keeps_nothing : Rules → System → Bool
-keeps_nothing rules sys = rules.shrink && (length sys.seeds == 0)
 
 -- what is kept of the classes, as a truth value for each item: the least set that has all that the system of
 -- requirements asks for, which passes no limit and keeps something

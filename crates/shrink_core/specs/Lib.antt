@@ -1,10 +1,10 @@
 pub mod Commands
-pub mod Config
 pub mod OneConfig
 pub mod Summary
-pub mod RuleText
 pub mod Refusal
 pub mod Due
+pub mod OwnPair
+pub mod Checked
 pub mod Answer
 pub mod OneDue
 pub mod SomeMarks

@@ -2,7 +2,7 @@
 -- the definitions).
 use Rattle.std.specs.Prelude.{◌≡◌, ◌↔◌, ℕ, List, Ok}
 use Rattle.keep_rules.specs.declared.rules.Rules.{Rules}
-use Rattle.shrink_core.specs.Config.{IsConfig, config_read}
+use Rattle.command_texts.specs.Config.{IsConfig, config_read}
 
 -- rules are read exactly where the bytes are such a config
 abbrev pub ReadsItsConfig : Type 0

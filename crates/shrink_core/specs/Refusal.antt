@@ -1,14 +1,10 @@
 -- The stops of a command, each with its status and its line (the project's own: what the command says).
-use Rattle.std.specs.Prelude.{ℕ, List, ◌++◌, Option, Some, None, codes}
-use Rattle.std.specs.Fmt.{decimal}
-use Rattle.format_reading.specs.declared.fault.FormatFault.{FormatFault}
+use Rattle.std.specs.Prelude.{ℕ, List, ◌++◌, codes}
 use Rattle.class_model.specs.declared.limit.WriteLimit.{WriteLimit}
 use Rattle.class_model.specs.declared.limit.WriteLimit.TheVariants as limit
-use Rattle.report_text.specs.Kinds.{format_name}
+use Rattle.command_texts.specs.Lines.{absent_line, format_line, limit_line, profile_line}
+use Rattle.command_texts.specs.RuleText.{rules_line}
 use Rattle.require_sys.specs.Required.{counted_limit, counted_name}
-use Rattle.set_read.specs.Accepted.{rule_name}
-use Rattle.set_read.specs.declared.fault.RuleFault.{RuleFault}
-use Rattle.shrink_core.specs.RuleText.{rules_line}
 use Rattle.shrink_core.specs.declared.quantity.Quantity.{Quantity}
 use Rattle.shrink_core.specs.declared.quantity.Quantity.TheVariants.{Config, Files, Classes, Input, Pool, Utf8, Code}
 use Rattle.shrink_core.specs.declared.quantity.Quantity.TheVariants.{Table, Branch, Attribute, System, Text}
@@ -61,37 +57,19 @@ quantity_of (limit.AttributeTooLong length) = Attribute
 
 -- ---- lines
 
--- a file that is no class file
-abbrev pub format_line : List ℕ → FormatFault → List ℕ
-format_line path fault =
-    codes "error 4 format " ++
-    (path ++ (codes " " ++ (decimal fault.offset ++ (codes " " ++ (format_name fault.kind ++ codes "\n")))))
-
--- the text of a member, `-` where there is none
-abbrev pub member_word : Option (List ℕ) → List ℕ
-member_word None = codes "-"
-member_word (Some member) = member
-
--- a class that breaks a rule
-abbrev pub profile_line : RuleFault → List ℕ
-profile_line fault =
-    codes "error 5 profile " ++
-    (fault.class ++ (codes " " ++ (member_word fault.member ++
-    (codes " " ++ (rule_name fault.kind ++ codes "\n")))))
-
--- a quantity that passes its limit
-abbrev pub limit_line : Quantity → List ℕ
-limit_line q = codes "error 6 limit " ++ (quantity_name q ++ (codes " " ++ (decimal (quantity_limit q) ++ codes "\n")))
+-- a file below the directory to which classes are to be written
+abbrev pub not_empty_line : List ℕ → List ℕ
+not_empty_line directory = codes "error 8 not-empty " ++ (directory ++ codes "\n")
 
 -- the line of a refusal, where the config stands at this path
 abbrev pub refusal_line : List ℕ → Refusal → List ℕ
-refusal_line config NoConfig = codes "error 2 absent " ++ (config ++ codes "\n")
+refusal_line config NoConfig = absent_line config
 refusal_line config (BadRules fault) = rules_line fault
-refusal_line config (NotEmpty directory) = codes "error 8 not-empty " ++ (directory ++ codes "\n")
-refusal_line config (Gone path) = codes "error 2 absent " ++ (path ++ codes "\n")
+refusal_line config (NotEmpty directory) = not_empty_line directory
+refusal_line config (Gone path) = absent_line path
 refusal_line config (Format path fault) = format_line path fault
 refusal_line config (Profile fault) = profile_line fault
-refusal_line config (Limit quantity) = limit_line quantity
+refusal_line config (Limit q) = limit_line (quantity_name q) (quantity_limit q)
 
 -- the line of a stop
 abbrev pub line_of : List ℕ → Stop → List ℕ

@@ -5,6 +5,7 @@ ghost use Rattle.tree_io.specs.Runs.{memory_faults};
 ghost use Rattle.command_output.specs.Output.{SaysLine, outside, output};
 ghost use Rattle.command_words.specs.Words.{commanded};
 ghost use Rattle.shrink_core.specs.Answer.{Ended};
+ghost use Rattle.shrink_core.specs.Checked.{Checked};
 ghost use Rattle.shrink_core.specs.Commands.{Does, Ran, is_there};
 ghost use Rattle.shrink_core.specs.bodies.Steps.{Says};
 ghost use Rattle.shrink_core.specs.declared.refusal.Stop.TheVariants.{Refused};
@@ -12,6 +13,7 @@ ghost use Rattle.shrink_core.specs.declared.refusal.Stop.TheVariants.{Refused};
 use crate::refusal::{Refusal, Stop, refusal_line, refusal_status};
 use crate::shrink::shrink;
 use crate::words::CommandFiles;
+use check_command::{CheckFiles, check_files};
 use command_output::{say_device, say_line, say_no_memory, say_text};
 use command_words::{Command, read_command};
 use jv_base::{Items, Text};
@@ -68,6 +70,21 @@ fn run_shrink<T: Tree, S: Sink>(
     }
 }
 
+// Runs `check` on its files.
+fn run_check<T: Tree, S: Sink>(alloc: Global, named: &CheckFiles, tree: &mut T, out: &mut S) -> u8
+    ensures words { result ≢ 1 }
+    ensures memory { memory_faults (T.log tree.old) < memory_faults (T.log tree.new) → result ≡ 10 }
+    ensures device { result ≡ 7 → Rose (T.faults tree.old) (T.faults tree.new)
+        ⊎ Rose (S.faults out.old) (S.faults out.new) }
+    ensures ended { Checked named.now result
+        (outside (T.files tree.old) (T.faults tree.old) (T.log tree.old)
+        (output (S.written out.old) (S.faults out.old) (S.log out.old)))
+        (outside (T.files tree.new) (T.faults tree.new) (T.log tree.new)
+        (output (S.written out.new) (S.faults out.new) (S.log out.new))) }
+{
+    check_files(alloc, named, tree, out)
+}
+
 // Refuses words that ask for no command that can be run.
 fn refuse_words<S: Sink>(out: &mut S) -> u8
     ensures { SaysLine 1 (codes "error 1 words\n") result
@@ -77,7 +94,7 @@ fn refuse_words<S: Sink>(out: &mut S) -> u8
     say_line(1, b"error 1 words\n", out)
 }
 
-// Runs the command that words ask for; `check` and `gen` can't be run yet.
+// Runs the command that words ask for; `gen` can't be run yet.
 fn run_asked<T: Tree, S: Sink>(alloc: Global, command: Command, tree: &mut T, out: &mut S) -> u8
     ensures refused { result ≡ 1 → is_there (Some command) ≡ false }
     ensures words { is_there (Some command) ≡ false → result ≡ 1 }
@@ -94,15 +111,17 @@ fn run_asked<T: Tree, S: Sink>(alloc: Global, command: Command, tree: &mut T, ou
         Command::Shrink { config, witness } => {
             run_shrink(alloc, &CommandFiles { config, witness }, tree, out)
         }
+        Command::Check { config, witness } => {
+            run_check(alloc, &CheckFiles { config, witness }, tree, out)
+        }
         Command::Retrace { mapping, trace } => retrace_files(alloc, &mapping, &trace, tree, out),
-        Command::Check { .. } => refuse_words(out),
         Command::Gen { .. } => refuse_words(out),
     }
 }
 
 /// Runs a command and answers the status with which the program ends. The words are read by `read_command` of
-/// `command_words`; `check` and `gen` can't be run yet. `retrace MAPPING TRACE` is done by `retrace_files` of
-/// `retrace_command`, which tells its statuses.
+/// `command_words`; `gen` can't be run yet. `check CONFIG WITNESS` is done by `check_files` of `check_command`, and
+/// `retrace MAPPING TRACE` by `retrace_files` of `retrace_command`, which tell their statuses.
 ///
 /// `shrink CONFIG OUTWIT` reads the config and the class files of the directory that it names, keeps what its rules
 /// keep, gives it new names, and writes the classes that are left to another directory. CONFIG and OUTWIT are paths: an

@@ -1,7 +1,10 @@
-// What holds of what is due, and of what is kept.
+// What holds of what is due, of what is kept, and of a pair that `check` takes.
+ghost use Rattle.pair_laws.specs.PairSound.Laws.{CheckedFramesRetrace};
+ghost use Rattle.shrink_core.specs.Checked.{OkDoesTheSame};
 ghost use Rattle.shrink_core.specs.LeftFiles.{LeavesTold};
 ghost use Rattle.shrink_core.specs.OneConfig.{IsOneConfig, ReadsItsConfig};
 ghost use Rattle.shrink_core.specs.OneDue.{IsOneDue};
+ghost use Rattle.shrink_core.specs.OwnPair.{DueIsOwnPair};
 ghost use Rattle.shrink_core.specs.SomeDue.{IsSomeDue};
 ghost use Rattle.shrink_core.specs.SomeMarks.{AreSomeMarks};
 
@@ -27,6 +30,13 @@ pub fn some_due()
     ensures { IsSomeDue }
 {}
 
+/// What is due to be written for told files is a pair with what is read of them, of which no clause of `check` holds;
+/// so from each entry it does what the input does, names read through the mapping, and each of its methods is typed. It
+/// does nothing.
+pub fn what_is_due_is_a_pair()
+    ensures { DueIsOwnPair }
+{}
+
 /// Each valid system has a least closed set. So the definition of what is kept of a set always names something.
 pub fn some_marks()
     ensures { AreSomeMarks }
@@ -37,4 +47,16 @@ pub fn some_marks()
 /// the first files of the plan that is due, and after 7 the same, while the path of the next file may hold any bytes.
 pub fn told_files_are_left_as_due()
     ensures { LeavesTold }
+{}
+
+/// Where `check_pair` takes a pair whose input files are taken as a set, the frames of the output, told with old names,
+/// are those of the input, wherever both are in step. It does nothing.
+pub fn frames_retrace()
+    ensures { CheckedFramesRetrace }
+{}
+
+/// Of files at which `check` has to say `ok`, what stands below the output directory does what stands below the input
+/// directory does, and is typed. It does nothing.
+pub fn what_is_ok_does_the_same()
+    ensures { OkDoesTheSame }
 {}

@@ -1,13 +1,12 @@
 // Why a command ends without its result, and what is said then.
-ghost use Rattle.std.specs.Prelude.{◌≡◌, ◌++◌, IfOk, codes};
-ghost use Rattle.shrink_core.specs.Refusal.{limit_line, format_line, profile_line, refusal_line, refusal_status};
+ghost use Rattle.std.specs.Prelude.{◌≡◌, IfOk};
+ghost use Rattle.shrink_core.specs.Refusal.{not_empty_line, refusal_line, refusal_status};
 ghost use Rattle.shrink_core.specs.declared.refusal.Stop.TheVariants.{OutOfMemory as no_memory};
 
 use crate::quantity::Quantity;
-use crate::rule_text::rules_line;
+use command_texts::{absent_line, format_line, limit_line, profile_line, rules_line};
 use format_reading::FormatFault;
 use jv_base::{M, OutOfMemory, Text};
-use report_text::format_name;
 use set_read::RuleFault;
 use std::alloc::{AllocError, Global};
 
@@ -74,55 +73,21 @@ pub fn refusal_line(alloc: Global, config: &Text, refusal: &Refusal) -> M<Text>
     ensures { IfOk result (λ line. line ≡ refusal_line config.now refusal.now) }
 {
     match refusal {
-        Refusal::NoConfig => path_line(alloc, "error 2 absent ", config),
+        Refusal::NoConfig => absent_line(alloc, config),
         Refusal::BadRules(fault) => rules_line(alloc, fault),
-        Refusal::NotEmpty(directory) => path_line(alloc, "error 8 not-empty ", directory),
-        Refusal::Gone(path) => path_line(alloc, "error 2 absent ", path),
+        Refusal::NotEmpty(directory) => not_empty_line(alloc, directory),
+        Refusal::Gone(path) => absent_line(alloc, path),
         Refusal::Format(path, fault) => format_line(alloc, path, fault),
         Refusal::Profile(fault) => profile_line(alloc, fault),
-        Refusal::Limit(quantity) => limit_line(alloc, *quantity),
+        Refusal::Limit(quantity) => limit_line(alloc, quantity.name(), quantity.limit()),
     }
 }
 
-/// A line that ends in a path.
-fn path_line(alloc: Global, front: &str, path: &Text) -> M<Text>
-    ensures { IfOk result (λ line. line ≡ front.now ++ (path.now ++ codes "\n")) }
+/// The line of a file below the directory to which classes are to be written.
+fn not_empty_line(alloc: Global, directory: &Text) -> M<Text>
+    ensures { IfOk result (λ line. line ≡ not_empty_line directory.now) }
 {
-    let path = path.as_str();
-    Ok(Text::from_string(alloc, format!(in alloc; "{front}{path}\n")?)?)
-}
-
-/// The line of a file that is no class file.
-fn format_line(alloc: Global, path: &Text, fault: &FormatFault) -> M<Text>
-    ensures { IfOk result (λ line. line ≡ format_line path.now fault.now) }
-{
-    let path = path.as_str();
-    let offset = fault.offset;
-    let kind = format_name(fault.kind);
-    let line = format!(in alloc; "error 4 format {path} {offset} {kind}\n")?;
-    Ok(Text::from_string(alloc, line)?)
-}
-
-/// The line of a class that breaks a rule.
-fn profile_line(alloc: Global, fault: &RuleFault) -> M<Text>
-    ensures { IfOk result (λ line. line ≡ profile_line fault.now) }
-{
-    let class = fault.class.as_str();
-    let member = match &fault.member {
-        Some(member) => member.as_str(),
-        None => "-",
-    };
-    let kind = fault.kind.name();
-    let line = format!(in alloc; "error 5 profile {class} {member} {kind}\n")?;
-    Ok(Text::from_string(alloc, line)?)
-}
-
-/// The line of a quantity that passes its limit.
-fn limit_line(alloc: Global, quantity: Quantity) -> M<Text>
-    ensures { IfOk result (λ line. line ≡ limit_line quantity) }
-{
-    let name = quantity.name();
-    let limit = quantity.limit();
-    let line = format!(in alloc; "error 6 limit {name} {limit}\n")?;
+    let directory = directory.as_str();
+    let line = format!(in alloc; "error 8 not-empty {directory}\n")?;
     Ok(Text::from_string(alloc, line)?)
 }

@@ -8,25 +8,25 @@ ghost use Rattle.jv_base.specs.Outcome.{IsDue};
 ghost use Rattle.tree_io.specs.declared.file_at.FileAt.{FileAt as FileValue};
 ghost use Rattle.class_write.specs.SpellingLaws.{IsWritable};
 ghost use Rattle.list_texts.specs.declared.limit.TooLong.{TooLong as LongText};
-ghost use Rattle.named_form.specs.Laws.{IsLinked};
+ghost use Rattle.pair_laws.specs.NamedForm.Laws.{IsLinked};
 ghost use Rattle.set_shrink.specs.Texts.{texts_beside};
 ghost use Rattle.class_pool.specs.Count.{item_count};
-ghost use Rattle.shrink_core.specs.Due.{IsKept, IsPlan, IsRefused, IsResult, RefusesPlan, keeps_nothing};
+ghost use Rattle.shrink_core.specs.Due.{IsKept, IsPlan, IsRefused, IsResult, RefusesPlan};
 ghost use Rattle.shrink_core.specs.bodies.Steps.{Finds, Joins, MarksOf, Shrinks, missed};
 
 use crate::finding::{check_empty, find_config, find_set};
 use crate::quantity::{Quantity, quantity_of};
 use crate::refusal::{Refusal, Stop};
-use crate::rule_text::nothing_kept;
 use crate::summary::summary_text;
 use crate::words::CommandFiles;
 use class_files::write_files;
 use class_pool::ClassSet;
+use command_texts::{keeps_nothing, nothing_kept};
 use jv_base::{Items, M, Or, Text};
 use keep_rules::Rules;
 use list_texts::TooLong;
 use mark_core::{System, plain_marks};
-use named_form::kept_can_be_written;
+use pair_laws::named_form::kept_can_be_written;
 use require_sys::system_of;
 use set_shrink::{ShrunkSet, lists_of, shrink_set, texts_of};
 use std::alloc::Global;
@@ -103,17 +103,10 @@ fn least_marks(alloc: Global, rules: &Rules, sys: &System) -> Result<Items<bool>
     requires valid { Valid sys.now }
     ensures { MarksOf result rules.now sys.now }
 {
-    if lacks_seeds(rules, sys) {
+    if keeps_nothing(rules, sys) {
         return Err(Stop::Refused(Refusal::BadRules(nothing_kept())));
     }
     Ok(plain_marks(alloc, sys)?)
-}
-
-/// Whether nothing is kept, though what isn't kept goes.
-fn lacks_seeds(rules: &Rules, sys: &System) -> bool
-    ensures { result ≡ keeps_nothing rules.now sys.now }
-{
-    rules.shrink && sys.seeds.is_empty()
 }
 
 // ---- what is written

@@ -11,13 +11,12 @@ use Rattle.set_read.specs.declared.fault.SetFault.TheVariants as set
 use Rattle.list_texts.specs.declared.limit.TooLong.{TooLong}
 use Rattle.set_shrink.specs.declared.shrunk.ShrunkSet.{ShrunkSet}
 use Rattle.command_output.specs.Output.{Output, SaysLine}
+use Rattle.command_texts.specs.Config.{config_read}
+use Rattle.command_texts.specs.RuleText.{keeps_nothing, nothing_kept}
 use Rattle.shrink_core.specs.Answer.{StopsSo, Writes, absent_by}
 use Rattle.keep_rules.specs.declared.rules.Rules.{Rules}
 use Rattle.mark_core.specs.Marks.{Marks}
 use Rattle.mark_core.specs.declared.system.System.{System}
-use Rattle.shrink_core.specs.Config.{config_read}
-use Rattle.shrink_core.specs.Due.{keeps_nothing}
-use Rattle.shrink_core.specs.RuleText.{nothing_kept}
 use Rattle.shrink_core.specs.Refusal.{status_of, line_of}
 use Rattle.shrink_core.specs.Summary.{summary_text}
 use Rattle.shrink_core.specs.declared.quantity.Quantity.TheVariants as quantity
