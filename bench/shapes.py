@@ -52,6 +52,12 @@ def chain(n):
         yield File(f'p/C{i:05}', f'p/C{i + 1:05}' if i + 1 < n else OBJECT)
 
 
+def deep(n):
+    """The classes of `classes` in chains of 50, each with the one before it as its superclass, whose methods it overrides."""
+    for i, file in enumerate(classes(n)):
+        yield File(f'p/C{i:05}', f'p/C{i - 1:05}' if i % 50 else OBJECT, fields=file.fields, methods=file.methods)
+
+
 def overriding(n, methods=1):
     """The same, each with a method that overrides the one above."""
     for i in range(n):
@@ -207,6 +213,49 @@ def differing(n):
     return storing(n, [(1 + k % 254, 1 + k // 254) for k in range(n)], lambda k: 0)
 
 
+def ending(n):
+    """The same with the same locals, each of which covers a store more than the one before."""
+    return storing(n, [()] * n, lambda k: 2 * (n - 1 - k))
+
+
+def making(n):
+    """N handlers, each of which covers N instructions that make an object."""
+    def make(pool):
+        made = b'\xbb' + struct.pack('>H', pool.of_class('p/A')) + b'\x57'
+        body = INTS + made * n + b'\xb1'
+        table = [(len(INTS), len(body), len(body) + k, 0) for k in range(n)]
+        rows = handler_frames(pool, body, [()] * n)
+        return code_attribute(1, LOCALS, body + b'\xbf' * n, table, [stack_map(pool, rows)])
+    yield File('p/A', methods=[raw(make)])
+
+
+def framing(n):
+    """N handlers, each of which covers N frames: what is in the last local is forgotten, and it is stored to again."""
+    def make(pool):
+        body = INTS + (b'\0\x03\x36' + bytes([LOCALS - 1]) + b'\0') * (n // 2) + b'\xb1'
+        first = b'\xff' + struct.pack('>HH', len(INTS), LOCALS - 1) + b'\x01' * (LOCALS - 1) + b'\0\0'
+        rows = [first] + [b'\xfc\0\3\1', b'\xfa\0\0'] * (n // 2)
+        rows = rows[:-1] + list(handler_frames(pool, b'\0', [(LOCALS - 1,)] * n))
+        table = [(len(INTS), len(body), len(body) + k, 0) for k in range(n)]
+        return code_attribute(1, LOCALS, body + b'\xbf' * n, table, [stack_map(pool, rows)])
+    yield File('p/A', methods=[raw(make)])
+
+
+def wanting(n):
+    """A chain of N classes; N handlers that want one each in a local, and cover N stores of the lowest and of null."""
+    yield from chain(n)
+
+    def make(pool):
+        classes = [b'\x07' + struct.pack('>H', pool.of_class(f'p/C{k:05}')) for k in range(n)]
+        thrown = b'\x07' + struct.pack('>H', pool.of_class('java/lang/Throwable'))
+        body = b'\x01\x4c' + b'\x2a\x4c\x01\x4c' * (n // 2) + b'\xb1'
+        rows = [b'\xff' + struct.pack('>HH', 0 if k else len(body), 2) + b'\0' + ty + b'\0\1' + thrown
+                for k, ty in enumerate(classes)]
+        table = [(2, len(body), len(body) + k, 0) for k in range(n)]
+        return code_attribute(1, 2, body + b'\xbf' * n, table, [stack_map(pool, rows)])
+    yield File('p/A', methods=[raw(make, descriptor='(Lp/C00000;)V')])
+
+
 def deep_frames(n):
     """A chain of N classes, and N frames into which the lowest flows where the topmost is wanted."""
     yield from chain(n)
@@ -286,13 +335,13 @@ def colliding(n):
     yield File('p/A', methods=[body(name=name) for name in colliding_names(n)])
 
 
-USUAL = [classes, chain, overriding, implementing, interfaces, extending, calls]
-HOSTILE = [strings, long_calls, handlers, throws, descriptors, long_arguments, frames, full_frames, branches, covering, changing, beginning, differing, deep_frames, tall, overriding_twenty, overloads, two_overloads, colliding]
+USUAL = [classes, deep, chain, overriding, implementing, interfaces, extending, calls]
+HOSTILE = [strings, long_calls, handlers, throws, descriptors, long_arguments, frames, full_frames, branches, covering, changing, beginning, differing, ending, making, framing, wanting, deep_frames, tall, overriding_twenty, overloads, two_overloads, colliding]
 SIZES = {
     'classes': [2000, 4000, 8000], 'calls': [4000, 8000, 16000], 'strings': [8000, 16000], 'long_calls': [5000, 10000, 20000],
     'handlers': [16000, 32000, 65000], 'throws': [16000, 32000, 65000], 'descriptors': [5000, 10000, 20000],
     'long_arguments': [5000, 10000, 20000], 'frames': [2500, 5000, 10000, 20000],
-    'full_frames': [8000, 16000, 32000], 'branches': [2000, 4000, 8000], 'covering': [500, 1000, 2000, 4000], 'changing': [1000, 2000, 4000], 'beginning': [2000, 4000, 8000], 'differing': [500, 1000, 2000], 'deep_frames': [1000, 2000, 4000], 'tall': [500, 1000, 2000],
+    'full_frames': [8000, 16000, 32000], 'branches': [2000, 4000, 8000], 'covering': [500, 1000, 2000, 4000], 'changing': [1000, 2000, 4000], 'beginning': [2000, 4000, 8000], 'differing': [500, 1000, 2000], 'ending': [1000, 2000, 4000], 'making': [1000, 2000, 4000], 'framing': [1000, 2000, 4000], 'wanting': [1000, 2000, 4000], 'deep_frames': [1000, 2000, 4000], 'tall': [500, 1000, 2000],
     'overriding_twenty': [1000, 2000, 4000], 'overloads': [15000, 30000, 60000], 'two_overloads': [5000, 10000, 20000],
     'colliding': [5000, 10000, 20000],
 }
