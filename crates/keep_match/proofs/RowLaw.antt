@@ -112,9 +112,9 @@ any_step bs i b e =
     let at = value_at bs i b (sym e) in
     at_drop_more (list_any (λ c. c)) bs i b at.0 ∙ ap (λ (c : Bool). c || list_any (λ d. d) (drop (i + 1) bs)) at.1
 
-pub row_starts : (row kept : List Bool) → 0 < length row → set row 0 true ≡ or_each row (so_far 0 kept)
+pub row_starts : (bits kept : List Bool) → 0 < length bits → set bits 0 true ≡ or_each bits (so_far 0 kept)
 row_starts [] kept lt = absurd (omega arith)
-row_starts (x ∷ row) kept lt = λ i. sym (or_true x) i ∷ sym (or_none row) i
+row_starts (x ∷ bits) kept lt = λ i. sym (or_true x) i ∷ sym (or_none bits) i
 
 length_mapped : {A : Type 0} (f : A → Bool) (xs : List A) → length (map f xs) ≡ length xs
 length_mapped f [] = refl

@@ -101,15 +101,7 @@ g_told = refl
 before_map_shape : NoneBefore output stray_line unedited clause.MapShape
 before_map_shape clause.OutputFormat lt = refl
 before_map_shape clause.OutputProfile lt = refl
-before_map_shape clause.MapShape lt = absurd (omega (arith, lt))
-before_map_shape clause.FixedName lt = absurd (omega (arith, lt))
-before_map_shape clause.Package lt = absurd (omega (arith, lt))
-before_map_shape clause.SeedLost lt = absurd (omega (arith, lt))
-before_map_shape clause.NotClosed lt = absurd (omega (arith, lt))
-before_map_shape clause.MemberDiffers lt = absurd (omega (arith, lt))
-before_map_shape clause.WitnessStray lt = absurd (omega (arith, lt))
-before_map_shape clause.EditIllegal lt = absurd (omega (arith, lt))
-before_map_shape clause.CodeDiffers lt = absurd (omega (arith, lt))
+before_map_shape c lt = absurd (omega (arith, lt))
 
 first_map_shape : IsFirst input output stray_line rules unedited clause.MapShape method_k
 first_map_shape = record { holds = k_stray; before = before_map_shape }
@@ -121,14 +113,7 @@ before_fixed_name : NoneBefore output kept_renamed unedited clause.FixedName
 before_fixed_name clause.OutputFormat lt = refl
 before_fixed_name clause.OutputProfile lt = refl
 before_fixed_name clause.MapShape lt = shaped_renamed
-before_fixed_name clause.FixedName lt = absurd (omega (arith, lt))
-before_fixed_name clause.Package lt = absurd (omega (arith, lt))
-before_fixed_name clause.SeedLost lt = absurd (omega (arith, lt))
-before_fixed_name clause.NotClosed lt = absurd (omega (arith, lt))
-before_fixed_name clause.MemberDiffers lt = absurd (omega (arith, lt))
-before_fixed_name clause.WitnessStray lt = absurd (omega (arith, lt))
-before_fixed_name clause.EditIllegal lt = absurd (omega (arith, lt))
-before_fixed_name clause.CodeDiffers lt = absurd (omega (arith, lt))
+before_fixed_name c lt = absurd (omega (arith, lt))
 
 first_fixed_name : IsFirst input output kept_renamed rules unedited clause.FixedName method_f
 first_fixed_name = record { holds = f_renamed; before = before_fixed_name }
@@ -141,13 +126,7 @@ before_other_package clause.OutputFormat lt = refl
 before_other_package clause.OutputProfile lt = refl
 before_other_package clause.MapShape lt = shaped_moved
 before_other_package clause.FixedName lt = names_stay_moved
-before_other_package clause.Package lt = absurd (omega (arith, lt))
-before_other_package clause.SeedLost lt = absurd (omega (arith, lt))
-before_other_package clause.NotClosed lt = absurd (omega (arith, lt))
-before_other_package clause.MemberDiffers lt = absurd (omega (arith, lt))
-before_other_package clause.WitnessStray lt = absurd (omega (arith, lt))
-before_other_package clause.EditIllegal lt = absurd (omega (arith, lt))
-before_other_package clause.CodeDiffers lt = absurd (omega (arith, lt))
+before_other_package c lt = absurd (omega (arith, lt))
 
 first_other_package : IsFirst input output_moved moved rules unedited clause.Package class_b
 first_other_package = record { holds = b_gone; before = before_other_package }
@@ -161,12 +140,7 @@ before_seed_lost clause.OutputProfile lt = refl
 before_seed_lost clause.MapShape lt = shaped_without_f
 before_seed_lost clause.FixedName lt = names_stay_without_f
 before_seed_lost clause.Package lt = packages_stay_without_f
-before_seed_lost clause.SeedLost lt = absurd (omega (arith, lt))
-before_seed_lost clause.NotClosed lt = absurd (omega (arith, lt))
-before_seed_lost clause.MemberDiffers lt = absurd (omega (arith, lt))
-before_seed_lost clause.WitnessStray lt = absurd (omega (arith, lt))
-before_seed_lost clause.EditIllegal lt = absurd (omega (arith, lt))
-before_seed_lost clause.CodeDiffers lt = absurd (omega (arith, lt))
+before_seed_lost c lt = absurd (omega (arith, lt))
 
 first_seed_lost : IsFirst input output lost rules unedited clause.SeedLost method_f
 first_seed_lost = record { holds = f_lost; before = before_seed_lost }
@@ -181,11 +155,7 @@ before_not_closed clause.MapShape lt = shaped_without_g
 before_not_closed clause.FixedName lt = names_stay_without_g
 before_not_closed clause.Package lt = packages_stay_without_g
 before_not_closed clause.SeedLost lt = no_seed_lost_without_g
-before_not_closed clause.NotClosed lt = absurd (omega (arith, lt))
-before_not_closed clause.MemberDiffers lt = absurd (omega (arith, lt))
-before_not_closed clause.WitnessStray lt = absurd (omega (arith, lt))
-before_not_closed clause.EditIllegal lt = absurd (omega (arith, lt))
-before_not_closed clause.CodeDiffers lt = absurd (omega (arith, lt))
+before_not_closed c lt = absurd (omega (arith, lt))
 
 first_not_closed : IsFirst input output needed_lost rules unedited clause.NotClosed method_g
 first_not_closed = record { holds = g_lost; before = before_not_closed }
@@ -201,10 +171,7 @@ before_member_differs clause.FixedName lt = names_stay
 before_member_differs clause.Package lt = packages_stay
 before_member_differs clause.SeedLost lt = no_seed_lost
 before_member_differs clause.NotClosed lt = closed
-before_member_differs clause.MemberDiffers lt = absurd (omega (arith, lt))
-before_member_differs clause.WitnessStray lt = absurd (omega (arith, lt))
-before_member_differs clause.EditIllegal lt = absurd (omega (arith, lt))
-before_member_differs clause.CodeDiffers lt = absurd (omega (arith, lt))
+before_member_differs c lt = absurd (omega (arith, lt))
 
 first_member_differs : IsFirst input output_hidden mapping rules unedited clause.MemberDiffers method_g
 first_member_differs = record { holds = g_hidden; before = before_member_differs }
@@ -221,9 +188,7 @@ before_witness_stray clause.Package lt = packages_stay
 before_witness_stray clause.SeedLost lt = no_seed_lost
 before_witness_stray clause.NotClosed lt = closed
 before_witness_stray clause.MemberDiffers lt = members_alike
-before_witness_stray clause.WitnessStray lt = absurd (omega (arith, lt))
-before_witness_stray clause.EditIllegal lt = absurd (omega (arith, lt))
-before_witness_stray clause.CodeDiffers lt = absurd (omega (arith, lt))
+before_witness_stray c lt = absurd (omega (arith, lt))
 
 first_witness_stray : IsFirst input output mapping rules edited clause.WitnessStray method_g
 first_witness_stray = record { holds = g_told; before = before_witness_stray }

@@ -53,7 +53,20 @@ are_bytes (b ∷ bs) e (suc i) = are_bytes bs (rest_fits (nat_lt b 256) (fit bs)
 
 -- ---- files
 
-old_a_read : class_read file_of_old_a.bytes ≡ Ok old_a
+-- what the reader gives for each file
+record AreRead : Type 0 where
+  old_a : class_read file_of_old_a.bytes ≡ Ok old_a
+  old_b : class_read file_of_old_b.bytes ≡ Ok old_b
+  a : class_read file_of_a.bytes ≡ Ok (new_a (codes "p/a"))
+  a_moved : class_read file_of_a_moved.bytes ≡ Ok (new_a (codes "q/a"))
+  b : class_read file_of_b.bytes ≡ Ok new_b
+  b_moved : class_read file_of_b_moved.bytes ≡ Ok b_moved
+  b_hidden : class_read file_of_b_hidden.bytes ≡ Ok b_hidden
+  b_longer : class_read file_of_b_longer.bytes ≡ Ok b_longer
+  orphan : class_read file_of_orphan.bytes ≡ Ok orphan
+  cut : class_read cut_file.bytes ≡ Err (fault 2 Cut)
+
+are_read : AreRead
 unfolding lib.Utf8.encode part_after is_primitive_or_void is_name_byte is_member_name is_method_name is_class_name walk
     base_text field_text result_text method_text words_of argument_words byte_taken read_mutf8 grown read_field
     read_method utf16_chars u1 u2 u4 bytes lead bind give here of_result settle part many text_of names_right class_at
@@ -62,130 +75,45 @@ unfolding lib.Utf8.encode part_after is_primitive_or_void is_name_byte is_member
     read_frames_behind read_frames attributes exceptions line_number_table read_handlers read_code field_type_at
     method_type_at read_field_info read_fields read_method_info read_methods read_head read_all_fields read_all_methods
     read_interfaces read_class_file class_read
-old_a_read = refl
+are_read = record {
+  old_a = refl;
+  old_b = refl;
+  a = refl;
+  a_moved = refl;
+  b = refl;
+  b_moved = refl;
+  b_hidden = refl;
+  b_longer = refl;
+  orphan = refl;
+  cut = refl;
+}
 
 pub old_a_spelled : File file_of_old_a.bytes old_a
-old_a_spelled = class_read-found file_of_old_a.bytes old_a (are_bytes file_of_old_a.bytes refl) old_a_read
-
-old_b_read : class_read file_of_old_b.bytes ≡ Ok old_b
-unfolding lib.Utf8.encode part_after is_primitive_or_void is_name_byte is_member_name is_method_name is_class_name walk
-    base_text field_text result_text method_text words_of argument_words byte_taken read_mutf8 grown read_field
-    read_method utf16_chars u1 u2 u4 bytes lead bind give here of_result settle part many text_of names_right class_at
-    optional_class_at type_at fieldref_at methodref_at interface_methodref_at read_pool slots slot read_entry
-    all_name_right op_of match_offsets read_instruction until_end ops_from read_type read_row read_frame
-    read_frames_behind read_frames attributes exceptions line_number_table read_handlers read_code field_type_at
-    method_type_at read_field_info read_fields read_method_info read_methods read_head read_all_fields read_all_methods
-    read_interfaces read_class_file class_read
-old_b_read = refl
+old_a_spelled = class_read-found file_of_old_a.bytes old_a (are_bytes file_of_old_a.bytes refl) are_read.old_a
 
 pub old_b_spelled : File file_of_old_b.bytes old_b
-old_b_spelled = class_read-found file_of_old_b.bytes old_b (are_bytes file_of_old_b.bytes refl) old_b_read
-
-a_read : class_read file_of_a.bytes ≡ Ok (new_a (codes "p/a"))
-unfolding lib.Utf8.encode part_after is_primitive_or_void is_name_byte is_member_name is_method_name is_class_name walk
-    base_text field_text result_text method_text words_of argument_words byte_taken read_mutf8 grown read_field
-    read_method utf16_chars u1 u2 u4 bytes lead bind give here of_result settle part many text_of names_right class_at
-    optional_class_at type_at fieldref_at methodref_at interface_methodref_at read_pool slots slot read_entry
-    all_name_right op_of match_offsets read_instruction until_end ops_from read_type read_row read_frame
-    read_frames_behind read_frames attributes exceptions line_number_table read_handlers read_code field_type_at
-    method_type_at read_field_info read_fields read_method_info read_methods read_head read_all_fields read_all_methods
-    read_interfaces read_class_file class_read
-a_read = refl
+old_b_spelled = class_read-found file_of_old_b.bytes old_b (are_bytes file_of_old_b.bytes refl) are_read.old_b
 
 pub a_spelled : File file_of_a.bytes (new_a (codes "p/a"))
-a_spelled = class_read-found file_of_a.bytes (new_a (codes "p/a")) (are_bytes file_of_a.bytes refl) a_read
-
-a_moved_read : class_read file_of_a_moved.bytes ≡ Ok (new_a (codes "q/a"))
-unfolding lib.Utf8.encode part_after is_primitive_or_void is_name_byte is_member_name is_method_name is_class_name walk
-    base_text field_text result_text method_text words_of argument_words byte_taken read_mutf8 grown read_field
-    read_method utf16_chars u1 u2 u4 bytes lead bind give here of_result settle part many text_of names_right class_at
-    optional_class_at type_at fieldref_at methodref_at interface_methodref_at read_pool slots slot read_entry
-    all_name_right op_of match_offsets read_instruction until_end ops_from read_type read_row read_frame
-    read_frames_behind read_frames attributes exceptions line_number_table read_handlers read_code field_type_at
-    method_type_at read_field_info read_fields read_method_info read_methods read_head read_all_fields read_all_methods
-    read_interfaces read_class_file class_read
-a_moved_read = refl
+a_spelled = class_read-found file_of_a.bytes (new_a (codes "p/a")) (are_bytes file_of_a.bytes refl) are_read.a
 
 pub a_moved_spelled : File file_of_a_moved.bytes (new_a (codes "q/a"))
-a_moved_spelled = class_read-found file_of_a_moved.bytes (new_a (codes "q/a")) (are_bytes file_of_a_moved.bytes refl) a_moved_read
-
-b_read : class_read file_of_b.bytes ≡ Ok new_b
-unfolding lib.Utf8.encode part_after is_primitive_or_void is_name_byte is_member_name is_method_name is_class_name walk
-    base_text field_text result_text method_text words_of argument_words byte_taken read_mutf8 grown read_field
-    read_method utf16_chars u1 u2 u4 bytes lead bind give here of_result settle part many text_of names_right class_at
-    optional_class_at type_at fieldref_at methodref_at interface_methodref_at read_pool slots slot read_entry
-    all_name_right op_of match_offsets read_instruction until_end ops_from read_type read_row read_frame
-    read_frames_behind read_frames attributes exceptions line_number_table read_handlers read_code field_type_at
-    method_type_at read_field_info read_fields read_method_info read_methods read_head read_all_fields read_all_methods
-    read_interfaces read_class_file class_read
-b_read = refl
+a_moved_spelled = class_read-found file_of_a_moved.bytes (new_a (codes "q/a")) (are_bytes file_of_a_moved.bytes refl) are_read.a_moved
 
 pub b_spelled : File file_of_b.bytes new_b
-b_spelled = class_read-found file_of_b.bytes new_b (are_bytes file_of_b.bytes refl) b_read
-
-b_moved_read : class_read file_of_b_moved.bytes ≡ Ok b_moved
-unfolding lib.Utf8.encode part_after is_primitive_or_void is_name_byte is_member_name is_method_name is_class_name walk
-    base_text field_text result_text method_text words_of argument_words byte_taken read_mutf8 grown read_field
-    read_method utf16_chars u1 u2 u4 bytes lead bind give here of_result settle part many text_of names_right class_at
-    optional_class_at type_at fieldref_at methodref_at interface_methodref_at read_pool slots slot read_entry
-    all_name_right op_of match_offsets read_instruction until_end ops_from read_type read_row read_frame
-    read_frames_behind read_frames attributes exceptions line_number_table read_handlers read_code field_type_at
-    method_type_at read_field_info read_fields read_method_info read_methods read_head read_all_fields read_all_methods
-    read_interfaces read_class_file class_read
-b_moved_read = refl
+b_spelled = class_read-found file_of_b.bytes new_b (are_bytes file_of_b.bytes refl) are_read.b
 
 pub b_moved_spelled : File file_of_b_moved.bytes b_moved
-b_moved_spelled = class_read-found file_of_b_moved.bytes b_moved (are_bytes file_of_b_moved.bytes refl) b_moved_read
-
-b_hidden_read : class_read file_of_b_hidden.bytes ≡ Ok b_hidden
-unfolding lib.Utf8.encode part_after is_primitive_or_void is_name_byte is_member_name is_method_name is_class_name walk
-    base_text field_text result_text method_text words_of argument_words byte_taken read_mutf8 grown read_field
-    read_method utf16_chars u1 u2 u4 bytes lead bind give here of_result settle part many text_of names_right class_at
-    optional_class_at type_at fieldref_at methodref_at interface_methodref_at read_pool slots slot read_entry
-    all_name_right op_of match_offsets read_instruction until_end ops_from read_type read_row read_frame
-    read_frames_behind read_frames attributes exceptions line_number_table read_handlers read_code field_type_at
-    method_type_at read_field_info read_fields read_method_info read_methods read_head read_all_fields read_all_methods
-    read_interfaces read_class_file class_read
-b_hidden_read = refl
+b_moved_spelled = class_read-found file_of_b_moved.bytes b_moved (are_bytes file_of_b_moved.bytes refl) are_read.b_moved
 
 pub b_hidden_spelled : File file_of_b_hidden.bytes b_hidden
-b_hidden_spelled = class_read-found file_of_b_hidden.bytes b_hidden (are_bytes file_of_b_hidden.bytes refl) b_hidden_read
-
-b_longer_read : class_read file_of_b_longer.bytes ≡ Ok b_longer
-unfolding lib.Utf8.encode part_after is_primitive_or_void is_name_byte is_member_name is_method_name is_class_name walk
-    base_text field_text result_text method_text words_of argument_words byte_taken read_mutf8 grown read_field
-    read_method utf16_chars u1 u2 u4 bytes lead bind give here of_result settle part many text_of names_right class_at
-    optional_class_at type_at fieldref_at methodref_at interface_methodref_at read_pool slots slot read_entry
-    all_name_right op_of match_offsets read_instruction until_end ops_from read_type read_row read_frame
-    read_frames_behind read_frames attributes exceptions line_number_table read_handlers read_code field_type_at
-    method_type_at read_field_info read_fields read_method_info read_methods read_head read_all_fields read_all_methods
-    read_interfaces read_class_file class_read
-b_longer_read = refl
+b_hidden_spelled = class_read-found file_of_b_hidden.bytes b_hidden (are_bytes file_of_b_hidden.bytes refl) are_read.b_hidden
 
 pub b_longer_spelled : File file_of_b_longer.bytes b_longer
-b_longer_spelled = class_read-found file_of_b_longer.bytes b_longer (are_bytes file_of_b_longer.bytes refl) b_longer_read
-
-orphan_read : class_read file_of_orphan.bytes ≡ Ok orphan
-unfolding lib.Utf8.encode part_after is_primitive_or_void is_name_byte is_member_name is_method_name is_class_name walk
-    base_text field_text result_text method_text words_of argument_words byte_taken read_mutf8 grown read_field
-    read_method utf16_chars u1 u2 u4 bytes lead bind give here of_result settle part many text_of names_right class_at
-    optional_class_at type_at fieldref_at methodref_at interface_methodref_at read_pool slots slot read_entry
-    all_name_right op_of match_offsets read_instruction until_end ops_from read_type read_row read_frame
-    read_frames_behind read_frames attributes exceptions line_number_table read_handlers read_code field_type_at
-    method_type_at read_field_info read_fields read_method_info read_methods read_head read_all_fields read_all_methods
-    read_interfaces read_class_file class_read
-orphan_read = refl
+b_longer_spelled = class_read-found file_of_b_longer.bytes b_longer (are_bytes file_of_b_longer.bytes refl) are_read.b_longer
 
 pub orphan_spelled : File file_of_orphan.bytes orphan
-orphan_spelled = class_read-found file_of_orphan.bytes orphan (are_bytes file_of_orphan.bytes refl) orphan_read
+orphan_spelled = class_read-found file_of_orphan.bytes orphan (are_bytes file_of_orphan.bytes refl) are_read.orphan
 
 pub cut_unread : class_read cut_file.bytes ≡ Err (fault 2 Cut)
-unfolding lib.Utf8.encode part_after is_primitive_or_void is_name_byte is_member_name is_method_name is_class_name walk
-    base_text field_text result_text method_text words_of argument_words byte_taken read_mutf8 grown read_field
-    read_method utf16_chars u1 u2 u4 bytes lead bind give here of_result settle part many text_of names_right class_at
-    optional_class_at type_at fieldref_at methodref_at interface_methodref_at read_pool slots slot read_entry
-    all_name_right op_of match_offsets read_instruction until_end ops_from read_type read_row read_frame
-    read_frames_behind read_frames attributes exceptions line_number_table read_handlers read_code field_type_at
-    method_type_at read_field_info read_fields read_method_info read_methods read_head read_all_fields read_all_methods
-    read_interfaces read_class_file class_read
-cut_unread = refl
+cut_unread = are_read.cut

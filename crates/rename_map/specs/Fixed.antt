@@ -53,22 +53,22 @@ method_tells told.Classes m = method_type_classes m.ty
 
 -- the name of the class, if it is marked (the project's own: the order of marks)
 abbrev pub class_marked : List Bool → Class → List (List ℕ)
-class_marked row c = if is_marked row 0 then c.name ∷ [] else []
+class_marked marks c = if is_marked marks 0 then c.name ∷ [] else []
 
 -- what its marked fields tell
 abbrev pub fields_marked : Told → List Bool → Class → List (List ℕ)
-fields_marked asked row c = flat_map (field_tells asked) (chosen row 1 c.fields)
+fields_marked asked marks c = flat_map (field_tells asked) (chosen marks 1 c.fields)
 
 -- what its marked methods tell
 abbrev pub methods_marked : Told → List Bool → Class → List (List ℕ)
-methods_marked asked row c = flat_map (method_tells asked) (chosen row (1 + length c.fields) c.methods)
+methods_marked asked marks c = flat_map (method_tells asked) (chosen marks (1 + length c.fields) c.methods)
 
 -- what is chosen of a class and its members
 abbrev pub marked : Chosen → List Bool → Class → List (List ℕ)
-marked choose.Class row c = class_marked row c
-marked choose.Described row c = fields_marked told.Classes row c ++ methods_marked told.Classes row c
-marked choose.Fields row c = fields_marked told.Names row c
-marked choose.Methods row c = methods_marked told.Names row c
+marked choose.Class marks c = class_marked marks c
+marked choose.Described marks c = fields_marked told.Classes marks c ++ methods_marked told.Classes marks c
+marked choose.Fields marks c = fields_marked told.Names marks c
+marked choose.Methods marks c = methods_marked told.Names marks c
 
 -- the same of all classes, with a list of marks for each
 abbrev pub of_each : Chosen → List (List Bool) → List Class → List (List ℕ)
