@@ -5,7 +5,7 @@ ghost use Rattle.format_reading.specs.Reader.{Reads, u2, item};
 ghost use Rattle.class_model.specs.Lookups.{good_text_at};
 ghost use Rattle.class_model.specs.MemberTypes.{field_type_at, method_type_at};
 ghost use Rattle.class_model.specs.Members.{has_room_for_this, is_initial_type};
-ghost use Rattle.jv_base.specs.Types.{words_of, argument_words};
+ghost use Rattle.jv_base.specs.Types.{argument_words};
 ghost use Rattle.class_read.specs.bodies.Seen.{shown};
 ghost use Rattle.known_pool.specs.bodies.Texts.{obeys};
 
@@ -13,7 +13,7 @@ use crate::faults::fault;
 use crate::flags::{are_initial_flags, is_static};
 use crate::lookups::{good_text_at, test, text_at};
 use format_reading::{FormatFault, FormatKind};
-use jv_base::{Base, Cursor, FieldType, MethodType, Name};
+use jv_base::{Cursor, MethodType, Name, argument_words};
 use known_pool::{DescribedField, DescribedMethod, KnownPool, KnownText, TextRule};
 
 /// A name that obeys a rule.
@@ -56,30 +56,6 @@ pub fn read_field_type<'a>(
         Ok(ty) => Ok(ty),
         Err(kind) => Err(fault(at, kind)),
     }
-}
-
-// How many words an argument takes (JVMS 4.3.3).
-#[tactic(auto, unfolding(jv_base::specs::Types::words_of))]
-fn words_of(ty: &FieldType) -> u32
-    ensures { result ≡ words_of ty.now }
-{
-    match ty.base {
-        Base::Long | Base::Double if ty.dims == 0 => 2,
-        _ => 1,
-    }
-}
-
-// How many words the arguments take, `this` aside (JVMS 4.3.3).
-#[tactic(auto, unfolding(jv_base::specs::Types::argument_words))]
-fn argument_words(args: &[FieldType]) -> u32
-    requires { argument_words args.now ≤ 255 }
-    ensures { result ≡ argument_words args.now }
-{
-    let mut words = 0;
-    for ty in args {
-        words += words_of(ty);
-    }
-    words
 }
 
 // A method that isn't static has at most 254 argument words, since `this` counts as one (JVMS 4.3.3).

@@ -16,8 +16,8 @@ ghost use Rattle.jv_base.specs.Longest.{IfFault, IsLongest};
 ghost use Rattle.jv_base.specs.Names.{is_class_name};
 ghost use Rattle.jv_base.specs.Outcome.{IsDue};
 ghost use Rattle.jv_base.specs.Types.{base_text, field_text, IsFieldType, IsMethodType, method_text, result_text};
-ghost use Rattle.jv_base.specs.Types.{words_of};
 
+use crate::arguments::words_of;
 use crate::names::part_after;
 use crate::{Base, FieldType, Items, M, MethodType, Name, Or, Text, is_class_name};
 use std::alloc::Global;
@@ -144,7 +144,7 @@ fn push_class(text: &mut String, name: &Name) -> M<()>
 }
 
 /// The most words that the arguments of a method may take (JVMS 4.3.3).
-const MOST_WORDS: u16 = 255;
+const MOST_WORDS: u32 = 255;
 
 /// What is begun of a field type.
 #[derive(Clone, Copy)]
@@ -185,7 +185,7 @@ enum MethodPart {
 #[derive(Drop)]
 struct Parameters {
     types: Items<FieldType>,
-    words: u16,
+    words: u32,
 }
 
 #[derive(Drop)]
@@ -447,18 +447,6 @@ fn with_parameter(parameters: Parameters, ty: FieldType) -> M<Option<MethodRead>
         Parameters { types, words },
         MethodPart::Parameter(Begun::Brackets(0)),
     ))
-}
-
-/// How many words an argument takes (JVMS 4.3.3).
-#[tactic(auto, unfolding(crate::specs::Types::words_of))]
-fn words_of(ty: &FieldType) -> u16
-    ensures words { result ≡ words_of ty.now }
-    ensures few { result ≤ 2 }
-{
-    match ty.base {
-        Base::Long | Base::Double if ty.dims == 0 => 2,
-        _ => 1,
-    }
 }
 
 fn returned_step(

@@ -3,6 +3,7 @@
 #![tactic(auto)]
 
 mod access;
+mod arguments;
 mod cursor;
 mod descriptors;
 mod external_form;
@@ -16,6 +17,7 @@ mod types;
 mod utf16;
 
 pub use access::Access;
+pub use arguments::{argument_words, words_of};
 pub use cursor::{Cursor, End};
 pub use descriptors::{BadDescriptor, field_text, method_text, read_field_type, read_method_type};
 pub use external_form::{external, read_external};

@@ -1,6 +1,6 @@
 // A reference to a member, with the count that invokeinterface has for it (JVMS 4.4.2, 6.5).
 ghost use Rattle.std.specs.Prelude.{◌≡◌, ◌≤◌, ◌+◌, IfOk, map, option_map};
-ghost use Rattle.jv_base.specs.Types.{argument_words, words_of};
+ghost use Rattle.jv_base.specs.Types.{argument_words};
 ghost use Rattle.jv_base.specs.declared.types.MethodType.{MethodType};
 ghost use Rattle.class_model.specs.InstructionMeaning.{count_of};
 ghost use Rattle.class_model.specs.Lookups.{method_type_of, reference_of};
@@ -9,7 +9,7 @@ ghost use Rattle.known_pool.specs.Members.{member_in, named_reference};
 use crate::text_pool::TextPool;
 use crate::texts::{KnownText, method_type_of};
 use class_model::{Entry, MemberRef};
-use jv_base::{Base, FieldType, Items, M, Shared, Text};
+use jv_base::{FieldType, Items, M, Shared, Text, argument_words};
 use std::alloc::Global;
 use std::marker::Model;
 
@@ -49,31 +49,6 @@ impl KnownMember {
 }
 
 // ---- the count of invokeinterface
-
-#[tactic(auto, unfolding(jv_base::specs::Types::words_of))]
-fn words_of(ty: &FieldType) -> u32
-    ensures value { result ≡ words_of ty.now }
-    ensures most { result ≤ 2 }
-{
-    if ty.dims == 0 && matches!(ty.base, Base::Long | Base::Double) {
-        2
-    } else {
-        1
-    }
-}
-
-// How many words the arguments take (JVMS 4.3.3).
-#[tactic(auto, unfolding(jv_base::specs::Types::argument_words))]
-fn argument_words(args: &[FieldType]) -> u32
-    requires { argument_words args.now ≤ 255 }
-    ensures { result ≡ argument_words args.now }
-{
-    let mut words = 0;
-    for ty in args {
-        words += words_of(ty);
-    }
-    words
-}
 
 /// The count that invokeinterface has for a method: its argument words with the object's.
 pub fn count_of(alloc: Global, method: &MemberRef) -> M<Option<u32>>

@@ -2,7 +2,7 @@
 ghost use Rattle.std.specs.Prelude.{◌≡◌, ℕ, ◌+◌, ◌<◌, ◌≤◌, [], ◌∷◌, ◌++◌, length, Some, IfOk, nat_le};
 ghost use Rattle.std.specs.Option.{option_map};
 ghost use Rattle.jv_base.specs.Types as descriptor;
-ghost use Rattle.jv_base.specs.Types.{argument_words, words_of};
+ghost use Rattle.jv_base.specs.Types.{argument_words};
 ghost use Rattle.text_lines.specs.Members.{arguments_of, class_of, class_of_type, method_type, method_type_of};
 ghost use Rattle.text_lines.specs.Members.{result_of, type_of};
 ghost use Rattle.text_lines.specs.Shared.{IsPushed, KeepsTold};
@@ -11,6 +11,7 @@ use crate::cut;
 use crate::table::{Told, Trees, keep_value, kept_value, no_values};
 use jv_base::{
     Base, FieldType, Items, M, MethodType, Name, Or, OutOfMemory, Text, method_text, read_external,
+    words_of,
 };
 use std::alloc::Global;
 use std::collections::BTreeSet;
@@ -233,15 +234,4 @@ fn fit_in_words(args: &[FieldType]) -> bool
         }
     }
     true
-}
-
-#[tactic(auto, unfolding(jv_base::specs::Types::words_of))]
-fn words_of(ty: &FieldType) -> u32
-    ensures is { result ≡ words_of ty.now }
-    ensures few { result ≤ 2 }
-{
-    match ty.base {
-        Base::Long | Base::Double if ty.dims == 0 => 2,
-        _ => 1,
-    }
 }
