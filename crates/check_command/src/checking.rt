@@ -3,7 +3,6 @@ ghost use Rattle.std.specs.Prelude.{◌≡◌, ◌≤◌, List, IsErrOf, Ok, IfO
 ghost use Rattle.mark_core.specs.Valid.{Valid};
 ghost use Rattle.tree_io.specs.Count.{Rose};
 ghost use Rattle.tree_io.specs.Runs.{AddsCalls};
-ghost use Rattle.class_files.specs.Input.{path_in};
 ghost use Rattle.tree_io.specs.declared.file_at.FileAt.{FileAt};
 ghost use Rattle.set_read.specs.Accepted.{IsAccepted};
 ghost use Rattle.require_sys.specs.Required.{system_due};
@@ -11,9 +10,10 @@ ghost use Rattle.check_command.specs.bodies.Steps.{AreClassFiles, Checks, Judges
 
 use crate::finding::{CheckFiles, Directories, Found, Texts, find};
 use crate::refusal::{Quantity, Refusal, Stop};
+use class_files::path_in;
 use class_pool::ClassSet;
 use command_texts::{keeps_nothing, nothing_kept};
-use jv_base::{Items, M, Or, Text};
+use jv_base::{Items, Or, Text};
 use keep_rules::Rules;
 use mark_core::System;
 use pair_checker::{Told, check_required};
@@ -65,14 +65,6 @@ fn input_set(alloc: Global, directory: &Text, files: Items<FileAt>) -> Result<Cl
         Err(Or::Fault(SetFault::Rule(fault))) => Err(Stop::Refused(Refusal::Profile(fault))),
         Err(Or::OutOfMemory) => Err(Stop::OutOfMemory),
     }
-}
-
-/// The path of a file below a directory.
-fn path_in(alloc: Global, directory: &Text, below: &Text) -> M<Text>
-    ensures { IfOk result (λ path. path ≡ path_in directory.now below.now) }
-{
-    let (directory, below) = (directory.as_str(), below.as_str());
-    Ok(Text::from_string(alloc, format!(in alloc; "{directory}/{below}")?)?)
 }
 
 /// Whether the output belongs to an input that is a set of classes.

@@ -175,7 +175,7 @@ fn read_file<T: Tree>(
 }
 
 /// The path of a file below a directory.
-fn path_in(alloc: Global, directory: &Text, path: &Text) -> M<Text>
+pub fn path_in(alloc: Global, directory: &Text, path: &Text) -> M<Text>
     ensures { IfOk result (λ full. full ≡ path_in directory.now path.now) }
 {
     let (directory, path) = (directory.as_str(), path.as_str());

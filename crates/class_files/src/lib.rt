@@ -4,5 +4,5 @@
 mod input;
 mod output;
 
-pub use input::{InputFault, read_files};
+pub use input::{InputFault, path_in, read_files};
 pub use output::write_files;

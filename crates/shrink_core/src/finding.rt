@@ -4,7 +4,7 @@ ghost use Rattle.std.specs.List.{AllByRecursion};
 ghost use Rattle.tree_io.specs.Below.{IsAscending};
 ghost use Rattle.tree_io.specs.Count.{Rose};
 ghost use Rattle.tree_io.specs.Runs.{AddsCalls, Sees};
-ghost use Rattle.class_files.specs.Input.{path_in, total};
+ghost use Rattle.class_files.specs.Input.{total};
 ghost use Rattle.class_write.specs.SpellingLaws.{IsWritable};
 ghost use Rattle.pair_laws.specs.NamedForm.Laws.{IsLinked};
 ghost use Rattle.shrink_core.specs.Due.{HasBytes, HasConfig, HasSet, IsEmpty, RefusesConfig, RefusesInput};
@@ -14,10 +14,10 @@ ghost use Rattle.shrink_core.specs.bodies.Steps.{ConfigOf, Finds, ReadsSet, inpu
 use crate::quantity::Quantity;
 use crate::refusal::{Refusal, Stop};
 use crate::words::CommandFiles;
-use class_files::{InputFault, read_files};
+use class_files::{InputFault, path_in, read_files};
 use class_pool::ClassSet;
 use command_texts::read_config;
-use jv_base::{Bytes, Items, M, Or, Text};
+use jv_base::{Bytes, Items, Or, Text};
 use keep_rules::Rules;
 use set_read::{SetFault, read_set};
 use std::alloc::Global;
@@ -143,12 +143,4 @@ fn set_of(alloc: Global, directory: &Text, files: Items<FileAt>) -> Result<Class
         Err(Or::Fault(SetFault::Rule(fault))) => Err(Stop::Refused(Refusal::Profile(fault))),
         Err(Or::OutOfMemory) => Err(Stop::OutOfMemory),
     }
-}
-
-/// The path of a file below a directory.
-fn path_in(alloc: Global, directory: &Text, below: &Text) -> M<Text>
-    ensures { IfOk result (λ path. path ≡ path_in directory.now below.now) }
-{
-    let (directory, below) = (directory.as_str(), below.as_str());
-    Ok(Text::from_string(alloc, format!(in alloc; "{directory}/{below}")?)?)
 }
