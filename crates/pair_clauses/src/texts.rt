@@ -2,11 +2,11 @@
 ghost use Rattle.std.specs.Prelude.{◌≡◌, ◌++◌, codes, IfOk, OnOk, string_bytes};
 ghost use Rattle.std.specs.List.{flat_map};
 ghost use Rattle.jv_base.specs.Descriptors.{read_method};
-ghost use Rattle.jv_base.specs.External.{external_text};
 ghost use Rattle.text_lines.specs.Members.{arguments_text, method_text, result_text};
 ghost use Rattle.pair_clauses.specs.Places.{described_text, field_text};
 
-use jv_base::{FieldType, M, MethodType, Name, Or, OutOfMemory, Text, external, read_method_type};
+use jv_base::{FieldType, M, MethodType, Name, Or, OutOfMemory, Text, read_method_type};
+use report_text::{push_type, push_types};
 use std::alloc::Global;
 
 /// A field, as `int x`.
@@ -76,27 +76,5 @@ fn push_arguments(alloc: Global, text: &mut String, types: &[FieldType]) -> M<()
     text.push_str("(")?;
     push_types(alloc, text, types)?;
     text.push_str(")")?;
-    Ok(())
-}
-
-fn push_types(alloc: Global, text: &mut String, types: &[FieldType]) -> M<()>
-    ensures { OnOk result (string_bytes text.new ≡ string_bytes text.old ++ arguments_text types.now) }
-{
-    let [first, rest @ ..] = types else {
-        return Ok(());
-    };
-    push_type(alloc, text, first)?;
-    for ty in rest {
-        text.push_str(",")?;
-        push_type(alloc, text, ty)?;
-    }
-    Ok(())
-}
-
-fn push_type(alloc: Global, text: &mut String, ty: &FieldType) -> M<()>
-    ensures { OnOk result (string_bytes text.new ≡ string_bytes text.old ++ external_text ty.now) }
-{
-    let spelled = external(alloc, ty)?;
-    text.push_str(spelled.as_str())?;
     Ok(())
 }

@@ -74,7 +74,8 @@ fn types_text(alloc: Global, types: &[FieldType]) -> M<String>
     Ok(text)
 }
 
-fn push_types(alloc: Global, text: &mut String, types: &[FieldType]) -> M<()>
+/// Appends the types with commas between them.
+pub fn push_types(alloc: Global, text: &mut String, types: &[FieldType]) -> M<()>
     ensures { OnOk result (string_bytes text.new ≡ string_bytes text.old ++ join_by external_text (codes ",") types.now) }
 {
     let [first, rest @ ..] = types else {
@@ -88,7 +89,8 @@ fn push_types(alloc: Global, text: &mut String, types: &[FieldType]) -> M<()>
     Ok(())
 }
 
-fn push_type(alloc: Global, text: &mut String, ty: &FieldType) -> M<()>
+/// Appends a type as Java source spells it.
+pub fn push_type(alloc: Global, text: &mut String, ty: &FieldType) -> M<()>
     ensures { OnOk result (string_bytes text.new ≡ string_bytes text.old ++ external_text ty.now) }
 {
     let spelled = external(alloc, ty)?;
