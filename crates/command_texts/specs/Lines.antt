@@ -5,12 +5,10 @@ use Rattle.format_reading.specs.declared.fault.FormatFault.{FormatFault}
 use Rattle.report_text.specs.Kinds.{format_name}
 use Rattle.set_read.specs.Accepted.{rule_name}
 use Rattle.set_read.specs.declared.fault.RuleFault.{RuleFault}
+use Rattle.mapping_file.specs.KindNames.{map_kind_name}
 use Rattle.mapping_file.specs.declared.mapping.MapFault.{MapFault}
-use Rattle.mapping_file.specs.declared.mapping.MapKind.{MapKind}
-use Rattle.mapping_file.specs.declared.mapping.MapKind.TheVariants as map
+use Rattle.witness_file.specs.KindNames.{wit_kind_name}
 use Rattle.witness_file.specs.declared.witness.WitFault.{WitFault}
-use Rattle.witness_file.specs.declared.witness.WitKind.{WitKind}
-use Rattle.witness_file.specs.declared.witness.WitKind.TheVariants as wit
 
 -- ---- files
 
@@ -44,27 +42,14 @@ profile_line fault =
 
 -- ---- texts
 
--- the name of a kind of fault of a mapping
-abbrev pub map_kind : MapKind → List ℕ
-map_kind map.NotUtf8 = codes "NotUtf8"
-map_kind map.BadLine = codes "BadLine"
-map_kind map.NoClass = codes "NoClass"
-map_kind map.Repeated = codes "Repeated"
-
--- the name of a kind of fault of a witness
-abbrev pub wit_kind : WitKind → List ℕ
-wit_kind wit.NotUtf8 = codes "NotUtf8"
-wit_kind wit.BadLine = codes "BadLine"
-wit_kind wit.BadOrder = codes "BadOrder"
-
 -- a line of a text that is outside its grammar, and why
 abbrev pub text_line : ℕ → List ℕ → List ℕ
 text_line line kind = codes "error 11 text " ++ (decimal line ++ (codes " " ++ (kind ++ codes "\n")))
 
 -- the first fault of a mapping's text
 abbrev pub map_line : MapFault → List ℕ
-map_line f = text_line f.line (map_kind f.kind)
+map_line f = text_line f.line (map_kind_name f.kind)
 
 -- the first fault of a witness's text
 abbrev pub wit_line : WitFault → List ℕ
-wit_line f = text_line f.line (wit_kind f.kind)
+wit_line f = text_line f.line (wit_kind_name f.kind)

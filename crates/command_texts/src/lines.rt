@@ -4,11 +4,11 @@ ghost use Rattle.command_texts.specs.Lines as line;
 
 use format_reading::FormatFault;
 use jv_base::{M, Text};
-use mapping_file::{MapFault, MapKind};
+use mapping_file::MapFault;
 use report_text::format_name;
 use set_read::RuleFault;
 use std::alloc::Global;
-use witness_file::{WitFault, WitKind};
+use witness_file::WitFault;
 
 // ---- files
 
@@ -69,14 +69,14 @@ pub fn name_or_dash(name: &Option<Text>) -> &str
 pub fn map_line(alloc: Global, fault: MapFault) -> M<Text>
     ensures { IfOk result (λ text. text ≡ line.map_line fault) }
 {
-    text_line(alloc, fault.line, map_kind(fault.kind))
+    text_line(alloc, fault.line, fault.kind.name())
 }
 
 /// The first fault of a witness's text.
 pub fn wit_line(alloc: Global, fault: WitFault) -> M<Text>
     ensures { IfOk result (λ text. text ≡ line.wit_line fault) }
 {
-    text_line(alloc, fault.line, wit_kind(fault.kind))
+    text_line(alloc, fault.line, fault.kind.name())
 }
 
 fn text_line(alloc: Global, number: u32, kind: &str) -> M<Text>
@@ -84,25 +84,4 @@ fn text_line(alloc: Global, number: u32, kind: &str) -> M<Text>
 {
     let text = format!(in alloc; "error 11 text {number} {kind}\n")?;
     Ok(Text::from_string(alloc, text)?)
-}
-
-fn map_kind(kind: MapKind) -> &'static str
-    ensures { result.now ≡ line.map_kind kind }
-{
-    match kind {
-        MapKind::NotUtf8 => "NotUtf8",
-        MapKind::BadLine => "BadLine",
-        MapKind::NoClass => "NoClass",
-        MapKind::Repeated => "Repeated",
-    }
-}
-
-fn wit_kind(kind: WitKind) -> &'static str
-    ensures { result.now ≡ line.wit_kind kind }
-{
-    match kind {
-        WitKind::NotUtf8 => "NotUtf8",
-        WitKind::BadLine => "BadLine",
-        WitKind::BadOrder => "BadOrder",
-    }
 }

@@ -1,3 +1,4 @@
+pub mod KindNames
 pub mod Texts
 pub mod Options
 pub mod Reader

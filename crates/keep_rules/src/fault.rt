@@ -1,6 +1,8 @@
 // Where and why words are no config.
 ghost use Rattle.std.specs.Prelude.{◌≡◌};
+ghost use Rattle.std.specs.Option.{option_copied};
 ghost use Rattle.jv_base.specs.declared.outcome.Or.TheVariants.{Fault};
+ghost use Rattle.keep_rules.specs.KindNames.{rule_name, rule_option};
 
 use jv_base::{Or, Text};
 
@@ -40,6 +42,41 @@ pub enum RuleKind {
     NotUtf8,
     /// A quote isn't closed on its line, which is found before the words are read.
     QuoteOpen,
+}
+
+impl RuleKind {
+    /// Its name, as it stands in the texts of faults.
+    pub fn name(&self) -> &'static str
+        ensures { result.now ≡ rule_name self.now }
+    {
+        match self {
+            RuleKind::UnknownOption => "UnknownOption",
+            RuleKind::BadClassSpec => "BadClassSpec",
+            RuleKind::BadMemberSpec => "BadMemberSpec",
+            RuleKind::BadValue(_) => "BadValue",
+            RuleKind::MissingName => "MissingName",
+            RuleKind::MissingOption(_) => "MissingOption",
+            RuleKind::Repeated(_) => "Repeated",
+            RuleKind::SamePath => "SamePath",
+            RuleKind::LeftOut(_) => "LeftOut",
+            RuleKind::NothingKept => "NothingKept",
+            RuleKind::NotUtf8 => "NotUtf8",
+            RuleKind::QuoteOpen => "QuoteOpen",
+        }
+    }
+
+    /// The option that it has, if it has one.
+    pub fn option(&self) -> Option<&Text>
+        ensures { option_copied result ≡ rule_option self.now }
+    {
+        match self {
+            RuleKind::BadValue(option) => Some(option),
+            RuleKind::MissingOption(option) => Some(option),
+            RuleKind::Repeated(option) => Some(option),
+            RuleKind::LeftOut(option) => Some(option),
+            _ => None,
+        }
+    }
 }
 
 impl From<RuleFault> for Or<RuleFault> {

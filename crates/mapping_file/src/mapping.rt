@@ -1,6 +1,7 @@
 // What a mapping file tells.
 ghost use Rattle.std.specs.Prelude.{◌≡◌};
 ghost use Rattle.jv_base.specs.declared.outcome.Or.TheVariants.{Fault};
+ghost use Rattle.mapping_file.specs.KindNames.{map_kind_name};
 
 use jv_base::{FieldType, Items, MethodType, Name, Or};
 
@@ -55,6 +56,20 @@ pub enum MapKind {
     NoClass,
     /// A class's line has the old or the new name of a class before.
     Repeated,
+}
+
+impl MapKind {
+    /// Its name, as it stands in the texts of faults.
+    pub fn name(self) -> &'static str
+        ensures { result.now ≡ map_kind_name self }
+    {
+        match self {
+            MapKind::NotUtf8 => "NotUtf8",
+            MapKind::BadLine => "BadLine",
+            MapKind::NoClass => "NoClass",
+            MapKind::Repeated => "Repeated",
+        }
+    }
 }
 
 /// The first line, from 1, that no mapping file has there.

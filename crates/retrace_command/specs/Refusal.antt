@@ -1,9 +1,8 @@
 -- The refusals of the command, each with its status and its line (the project's own: what the command says).
 use Rattle.std.specs.Prelude.{ℕ, List, ◌++◌, codes}
 use Rattle.std.specs.Fmt.{decimal}
+use Rattle.mapping_file.specs.KindNames.{map_kind_name}
 use Rattle.mapping_file.specs.declared.mapping.MapFault.{MapFault}
-use Rattle.mapping_file.specs.declared.mapping.MapKind.{MapKind}
-use Rattle.mapping_file.specs.declared.mapping.MapKind.TheVariants.{NotUtf8, BadLine, NoClass, Repeated}
 use Rattle.retrace_command.specs.declared.refusal.Quantity.{Quantity}
 use Rattle.retrace_command.specs.declared.refusal.Quantity.TheVariants as quantity
 use Rattle.retrace_command.specs.declared.refusal.Refusal.{Refusal}
@@ -20,16 +19,9 @@ quantity_name quantity.Trace = codes "trace"
 abbrev pub limit_line : Quantity → List ℕ
 limit_line q = codes "error 6 limit " ++ (quantity_name q ++ codes " 67108864\n")
 
--- the name of a kind of fault of a mapping
-abbrev pub kind_name : MapKind → List ℕ
-kind_name NotUtf8 = codes "NotUtf8"
-kind_name BadLine = codes "BadLine"
-kind_name NoClass = codes "NoClass"
-kind_name Repeated = codes "Repeated"
-
 -- the first fault of a mapping's text
 abbrev pub text_line : MapFault → List ℕ
-text_line f = codes "error 11 text " ++ (decimal f.line ++ (codes " " ++ (kind_name f.kind ++ codes "\n")))
+text_line f = codes "error 11 text " ++ (decimal f.line ++ (codes " " ++ (map_kind_name f.kind ++ codes "\n")))
 
 -- the line of a refusal
 abbrev pub refusal_line : Refusal → List ℕ

@@ -1,10 +1,10 @@
 // Why the command is refused, and what is said then.
 ghost use Rattle.std.specs.Prelude.{◌≡◌, ◌++◌, IfOk, codes};
-ghost use Rattle.retrace_command.specs.Refusal.{kind_name, limit_line, quantity_name, refusal_line, refusal_status, text_line};
+ghost use Rattle.retrace_command.specs.Refusal.{limit_line, quantity_name, refusal_line, refusal_status, text_line};
 ghost use Rattle.retrace_command.specs.declared.refusal.Stop.TheVariants.{OutOfMemory as no_memory};
 
 use jv_base::{M, OutOfMemory, Text};
-use mapping_file::{MapFault, MapKind};
+use mapping_file::MapFault;
 use std::alloc::{AllocError, Global};
 
 /// The bytes that are counted and have a limit.
@@ -103,18 +103,7 @@ fn text_line(alloc: Global, fault: MapFault) -> M<Text>
     ensures { IfOk result (λ line. line ≡ text_line fault) }
 {
     let number = fault.line;
-    let kind = kind_name(fault.kind);
+    let kind = fault.kind.name();
     let line = format!(in alloc; "error 11 text {number} {kind}\n")?;
     Ok(Text::from_string(alloc, line)?)
-}
-
-fn kind_name(kind: MapKind) -> &'static str
-    ensures { result.now ≡ kind_name kind }
-{
-    match kind {
-        MapKind::NotUtf8 => "NotUtf8",
-        MapKind::BadLine => "BadLine",
-        MapKind::NoClass => "NoClass",
-        MapKind::Repeated => "Repeated",
-    }
 }

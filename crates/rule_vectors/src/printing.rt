@@ -1,6 +1,6 @@
 // Rules and faults in words.
 use jv_base::{Items, Text};
-use keep_rules::{ClassSpec, Filter, Keep, KeepKind, MemberSpec, RuleFault, RuleKind, Rules};
+use keep_rules::{ClassSpec, Filter, Keep, KeepKind, MemberSpec, RuleFault, Rules};
 use line_answers::push_listed;
 use std::alloc::{AllocError, Global};
 
@@ -8,39 +8,12 @@ use std::alloc::{AllocError, Global};
 pub fn fault_text(alloc: Global, fault: &RuleFault) -> Result<String, AllocError> {
     let line = fault.line;
     let mut text = format!(in alloc; "rules {line} ")?;
-    text.push_str(kind_name(&fault.kind))?;
-    if let Some(option) = option_of(&fault.kind) {
+    text.push_str(fault.kind.name())?;
+    if let Some(option) = fault.kind.option() {
         text.push_str(" ")?;
         push_listed(&mut text, option.as_bytes())?;
     }
     Ok(text)
-}
-
-fn kind_name(kind: &RuleKind) -> &'static str {
-    match kind {
-        RuleKind::UnknownOption => "UnknownOption",
-        RuleKind::BadClassSpec => "BadClassSpec",
-        RuleKind::BadMemberSpec => "BadMemberSpec",
-        RuleKind::BadValue(_) => "BadValue",
-        RuleKind::MissingName => "MissingName",
-        RuleKind::MissingOption(_) => "MissingOption",
-        RuleKind::Repeated(_) => "Repeated",
-        RuleKind::SamePath => "SamePath",
-        RuleKind::LeftOut(_) => "LeftOut",
-        RuleKind::NothingKept => "NothingKept",
-        RuleKind::NotUtf8 => "NotUtf8",
-        RuleKind::QuoteOpen => "QuoteOpen",
-    }
-}
-
-fn option_of(kind: &RuleKind) -> Option<&Text> {
-    match kind {
-        RuleKind::BadValue(option) => Some(option),
-        RuleKind::MissingOption(option) => Some(option),
-        RuleKind::Repeated(option) => Some(option),
-        RuleKind::LeftOut(option) => Some(option),
-        _ => None,
-    }
 }
 
 /// `ok`, and each part of the rules as `NAME=VALUE`.

@@ -2,14 +2,13 @@
 ghost use Rattle.std.specs.Prelude.{◌≡◌, ◌<◌, IfOk, length};
 ghost use Rattle.mapping_file.specs.MapReading.{read_mapping};
 ghost use Rattle.witness_file.specs.WitnessReading.{read_witness};
-ghost use Rattle.text_vectors.specs.Answers.{fault_answer, map_kind_name, mapping_answer, ok_answer, retrace_answer};
-ghost use Rattle.text_vectors.specs.Answers.{wit_kind_name, witness_answer};
+ghost use Rattle.text_vectors.specs.Answers.{fault_answer, mapping_answer, ok_answer, retrace_answer, witness_answer};
 
 use jv_base::{M, Or, OutOfMemory};
-use mapping_file::{MapKind, read_mapping, write_mapping};
+use mapping_file::{read_mapping, write_mapping};
 use retrace_core::retrace;
 use std::alloc::Global;
-use witness_file::{WitKind, read_witness, write_witness};
+use witness_file::{read_witness, write_witness};
 
 /// How the mapping that a text stands for is written, or the text's first fault.
 pub(crate) fn mapping_answer(alloc: Global, bytes: &[u8]) -> M<Vec<u8>>
@@ -18,7 +17,7 @@ pub(crate) fn mapping_answer(alloc: Global, bytes: &[u8]) -> M<Vec<u8>>
 {
     match read_mapping(alloc, bytes) {
         Ok(map) => ok_answer(alloc, write_mapping(alloc, &map)?.as_slice()),
-        Err(Or::Fault(fault)) => fault_answer(alloc, fault.line, map_kind_name(fault.kind)),
+        Err(Or::Fault(fault)) => fault_answer(alloc, fault.line, fault.kind.name()),
         Err(Or::OutOfMemory) => Err(OutOfMemory),
     }
 }
@@ -30,7 +29,7 @@ pub(crate) fn witness_answer(alloc: Global, bytes: &[u8]) -> M<Vec<u8>>
 {
     match read_witness(alloc, bytes) {
         Ok(w) => ok_answer(alloc, write_witness(alloc, &w)?.as_slice()),
-        Err(Or::Fault(fault)) => fault_answer(alloc, fault.line, wit_kind_name(fault.kind)),
+        Err(Or::Fault(fault)) => fault_answer(alloc, fault.line, fault.kind.name()),
         Err(Or::OutOfMemory) => Err(OutOfMemory),
     }
 }
@@ -42,7 +41,7 @@ pub(crate) fn retrace_answer(alloc: Global, bytes: &[u8], trace: &[u8]) -> M<Vec
 {
     match read_mapping(alloc, bytes) {
         Ok(map) => ok_answer(alloc, retrace(alloc, &map, trace)?.as_slice()),
-        Err(Or::Fault(fault)) => fault_answer(alloc, fault.line, map_kind_name(fault.kind)),
+        Err(Or::Fault(fault)) => fault_answer(alloc, fault.line, fault.kind.name()),
         Err(Or::OutOfMemory) => Err(OutOfMemory),
     }
 }
@@ -60,25 +59,4 @@ fn fault_answer(alloc: Global, line: u32, kind: &str) -> M<Vec<u8>>
     ensures { IfOk result (λ answer. answer.items ≡ fault_answer line kind.now) }
 {
     Ok(format!(in alloc; "{line} {kind}")?.into_bytes())
-}
-
-fn map_kind_name(kind: MapKind) -> &'static str
-    ensures { result.now ≡ map_kind_name kind }
-{
-    match kind {
-        MapKind::NotUtf8 => "NotUtf8",
-        MapKind::BadLine => "BadLine",
-        MapKind::NoClass => "NoClass",
-        MapKind::Repeated => "Repeated",
-    }
-}
-
-fn wit_kind_name(kind: WitKind) -> &'static str
-    ensures { result.now ≡ wit_kind_name kind }
-{
-    match kind {
-        WitKind::NotUtf8 => "NotUtf8",
-        WitKind::BadLine => "BadLine",
-        WitKind::BadOrder => "BadOrder",
-    }
 }

@@ -1,3 +1,4 @@
+pub mod KindNames
 pub mod LineReading
 pub mod MethodTable
 pub mod WitnessLines

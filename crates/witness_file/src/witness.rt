@@ -1,6 +1,7 @@
 // What a witness tells.
 ghost use Rattle.std.specs.Prelude.{◌≡◌};
 ghost use Rattle.jv_base.specs.declared.outcome.Or.TheVariants.{Fault};
+ghost use Rattle.witness_file.specs.KindNames.{wit_kind_name};
 
 use code_edit::MethodEdits;
 use jv_base::{Items, Name, Or, Text};
@@ -29,6 +30,19 @@ pub enum WitKind {
     BadLine,
     /// A step or a method stands twice, or behind one that comes after it.
     BadOrder,
+}
+
+impl WitKind {
+    /// Its name, as it stands in the texts of faults.
+    pub fn name(self) -> &'static str
+        ensures { result.now ≡ wit_kind_name self }
+    {
+        match self {
+            WitKind::NotUtf8 => "NotUtf8",
+            WitKind::BadLine => "BadLine",
+            WitKind::BadOrder => "BadOrder",
+        }
+    }
 }
 
 /// The first line, from 1, that no witness has there. Where the text ends too soon it is the line behind its last.
