@@ -11,3 +11,4 @@ pub mod PassedOver
 pub mod ClassAttributes
 pub mod CodeAttributes
 pub mod Codes
+pub mod Classes

@@ -1,5 +1,5 @@
 // The class of a whole class file (JVMS 4.1).
-#![tactic(auto, unfolding(format_reading::specs::Reader::bind, format_reading::specs::Reader::give, class_model::specs::ReadingClass::read_class_file, crate::specs::Classes::behind_flags, crate::specs::Classes::behind_names))]
+#![tactic(auto, unfolding(format_reading::specs::Reader::bind, format_reading::specs::Reader::give, class_model::specs::ReadingClass::read_class_file, crate::specs::bodies::Classes::behind_flags, crate::specs::bodies::Classes::behind_names))]
 
 ghost use Rattle.std.specs.Prelude.{◌≡◌, ◌<◌, length, Ok, IfOk};
 ghost use Rattle.jv_base.specs.Outcome.{IsDue};
@@ -7,7 +7,7 @@ ghost use Rattle.format_reading.specs.Reader.{ReadsOr};
 ghost use Rattle.class_model.specs.declared.class.Class.{Class};
 ghost use Rattle.class_model.specs.ClassFile.{File};
 ghost use Rattle.class_model.specs.ReadingClass.{read_class_file, class_read};
-ghost use Rattle.class_read.specs.Classes.{behind_flags, behind_names, class_named};
+ghost use Rattle.class_read.specs.bodies.Classes.{behind_flags, behind_names, class_named};
 
 use crate::attributes::{interfaces, read_class as read_class_name};
 use crate::class_attributes::{SeenOfClass, read_class_attributes};
@@ -65,7 +65,7 @@ fn read_class_file(alloc: Global, cursor: &mut Cursor) -> Result<Class, Or<Forma
     behind_flags(alloc, &pool, flags, cursor)
 }
 
-#[tactic(auto, unfolding(format_reading::specs::Reader::bind, format_reading::specs::Reader::give, crate::specs::Classes::behind_flags))]
+#[tactic(auto, unfolding(format_reading::specs::Reader::bind, format_reading::specs::Reader::give, crate::specs::bodies::Classes::behind_flags))]
 fn behind_flags(
     alloc: Global,
     pool: &KnownPool,
@@ -85,7 +85,7 @@ fn behind_flags(
     behind_names(alloc, pool, flags, names, cursor)
 }
 
-#[tactic(auto, unfolding(format_reading::specs::Reader::bind, format_reading::specs::Reader::give, crate::specs::Classes::behind_names))]
+#[tactic(auto, unfolding(format_reading::specs::Reader::bind, format_reading::specs::Reader::give, crate::specs::bodies::Classes::behind_names))]
 fn behind_names(
     alloc: Global,
     pool: &KnownPool,

@@ -14,7 +14,7 @@ use Rattle.conf_words.specs.Pieces.{Piece, comment, spelled, kind_of, ends_line,
 use Rattle.conf_words.specs.Pieces.{word_of, lines_of, word_before}
 use Rattle.conf_words.specs.Pieces.{line_end, blank, mark, quoted, plain}
 use Rattle.conf_words.specs.Reading.{words_at, with_words, piece_of, quoted_in}
-use Rattle.conf_words.specs.Seen.{Parts, parts_of, parts_at}
+use Rattle.conf_words.specs.bodies.Seen.{Parts, parts_of, parts_at}
 use Rattle.conf_words.proofs.Runs.{length_before}
 use Rattle.conf_words.proofs.Cutting.{ascii_end, ascii_line_end, cut_at, cut_first, found_at, found_none}
 use Rattle.conf_words.proofs.Begins.{begins, some_byte, by_kind, no_line_feed, not_ten, hash}

@@ -1,4 +1,4 @@
 pub mod Pieces
 pub mod Reading
 pub mod Laws
-pub mod Seen
+pub mod bodies

@@ -6,7 +6,7 @@ ghost use Rattle.std.specs.Str.{IsCharBoundary};
 ghost use Rattle.conf_words.specs.declared.kinds.Kind.TheVariants.{Quote};
 ghost use Rattle.conf_words.specs.Pieces.{ends_word, ends_line, ends_quote, kind_of};
 ghost use Rattle.conf_words.specs.Reading.{quoted_in};
-ghost use Rattle.conf_words.specs.Seen.{parts_seen, parts_of, parts_at};
+ghost use Rattle.conf_words.specs.bodies.Seen.{parts_seen, parts_of, parts_at};
 
 use crate::kinds::{Kind, ends_word, kind_of};
 

@@ -15,7 +15,7 @@ use Rattle.class_pool.specs.Walk.{upwards}
 use Rattle.class_pool.specs.Found.{name_of}
 use Rattle.class_pool.specs.Hierarchy.{superclass}
 use Rattle.class_pool.proofs.EachOnce.{same_is}
-use Rattle.keep_match.specs.Above.{is_met_at, is_other_met, upwards_if}
+use Rattle.keep_match.specs.bodies.Above.{is_met_at, is_other_met, upwards_if}
 use Rattle.keep_match.specs.Matches.{matches_class_name}
 
 -- ---- lists in which each stands once

@@ -9,7 +9,7 @@ use Rattle.class_model.specs.declared.class.Field.{Field}
 use Rattle.class_model.specs.declared.class.Method.{Method}
 use Rattle.keep_rules.specs.declared.rules.Keep.{Keep}
 use Rattle.keep_match.specs.Asked.{are_asked, asks_class, asks_field, asks_members, asks_method}
-use Rattle.keep_match.specs.Marks.{HasRows, row_at}
+use Rattle.keep_match.specs.bodies.Marks.{HasRows, row_at}
 use Rattle.keep_match.specs.Matches.{matches_class, matches_field, matches_method}
 use Rattle.keep_match.specs.Seeds.{are_kept, keeps_class, keeps_field, keeps_method, places_of_true}
 use Rattle.keep_match.specs.bodies.AsKeeps.{as_keep, as_keeps}

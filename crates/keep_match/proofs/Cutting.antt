@@ -5,7 +5,7 @@ use Rattle.std.proofs.lemmas.Bool.{eqb-false, eqb-true, ne_eqb}
 use Rattle.std.specs.List.{AllByRecursion}
 use Rattle.keep_match.specs.declared.piece.Piece.{Piece}
 use Rattle.keep_match.specs.declared.piece.Piece.TheVariants.{Character, One, Part, Any}
-use Rattle.keep_match.specs.Scan.{IsNotAny, IsSingle}
+use Rattle.keep_match.specs.bodies.Scan.{IsNotAny, IsSingle}
 use Rattle.keep_match.specs.Wildcards.{Begins, HasNoDot, IsPart}
 
 -- ---- lists

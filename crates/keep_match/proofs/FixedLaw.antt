@@ -11,7 +11,7 @@ use Rattle.keep_rules.specs.declared.rules.KeepKind.{KeepKind}
 use Rattle.keep_rules.specs.declared.rules.KeepKind.TheVariants as kind
 use Rattle.keep_rules.specs.declared.rules.MemberSpec.{MemberSpec}
 use Rattle.keep_match.specs.Fixed.{are_fixed, fixes_class, fixes_field, fixes_method, fixes_names}
-use Rattle.keep_match.specs.Marks.{HasRows, row_at}
+use Rattle.keep_match.specs.bodies.Marks.{HasRows, row_at}
 use Rattle.keep_match.specs.Matches.{matches_class, matches_field, matches_method}
 use Rattle.keep_match.specs.Seeds.{are_kept, are_members_met, keeps_class, keeps_classes, keeps_field, keeps_method}
 use Rattle.keep_match.specs.bodies.AsFixing.{as_fixing, as_fixings, kind_of}

@@ -13,7 +13,7 @@ use Rattle.jv_base.specs.External.{dotted, swapped}
 use Rattle.jv_base.proofs.Swapping.{swapped_char}
 use Rattle.keep_match.specs.declared.piece.Piece.{Piece}
 use Rattle.keep_match.specs.declared.piece.Piece.TheVariants.{Any, Character, One, Part}
-use Rattle.keep_match.specs.Marks.{is_wildcard}
+use Rattle.keep_match.specs.bodies.Marks.{is_wildcard}
 use Rattle.keep_match.specs.Wildcards.{is_cut, piece_of, pieces, shown, wild_class}
 
 -- ---- pieces

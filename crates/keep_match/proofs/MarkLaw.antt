@@ -9,8 +9,8 @@ use Rattle.class_model.specs.declared.class.Class.{Class}
 use Rattle.keep_rules.specs.declared.rules.Filter.{Filter}
 use Rattle.keep_rules.specs.declared.rules.Keep.{Keep}
 use Rattle.keep_match.specs.Filters.{accepts}
-use Rattle.keep_match.specs.Marks.{AreAdded, AreLiteral, AreMarked, AreNames, AreRows, HasRows, IsDone, IsMarking, IsNamed}
-use Rattle.keep_match.specs.Marks.{IsNumber, IsPut, IsUnnamed, marked, members_kept, or_each, row_at}
+use Rattle.keep_match.specs.bodies.Marks.{AreAdded, AreLiteral, AreMarked, AreNames, AreRows, HasRows, IsDone, IsMarking, IsNamed}
+use Rattle.keep_match.specs.bodies.Marks.{IsNumber, IsPut, IsUnnamed, marked, members_kept, or_each, row_at}
 use Rattle.class_pool.specs.Count.{items_of}
 use Rattle.keep_match.specs.Matches.{matches_but_name, matches_class, matches_class_name}
 use Rattle.keep_match.specs.Seeds.{are_kept, are_members_met, keeps_class, keeps_classes}

@@ -16,7 +16,7 @@ use Rattle.class_model.specs.declared.class.Class.{Class}
 use Rattle.class_pool.proofs.Distinct.{position_next}
 use Rattle.keep_rules.specs.declared.rules.Filter.{Filter}
 use Rattle.keep_match.specs.Filters.{accepts}
-use Rattle.keep_match.specs.Marks.{AreLiteral, AreNames, IsLiteral, IsNumber, IsUnnamed, is_wildcard}
+use Rattle.keep_match.specs.bodies.Marks.{AreLiteral, AreNames, IsLiteral, IsNumber, IsUnnamed, is_wildcard}
 use Rattle.keep_match.specs.Matches.{matches_class_name}
 use Rattle.keep_match.specs.Wildcards.{wild_class}
 use Rattle.keep_match.proofs.Filtering.{accepts_is, decided}

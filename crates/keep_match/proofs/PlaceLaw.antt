@@ -10,7 +10,7 @@ use Rattle.std.proofs.lemmas.List.Sums.{sum_by-cons}
 use Rattle.class_model.specs.declared.class.Class.{Class}
 use Rattle.class_pool.specs.Count.{item_count, items_of}
 use Rattle.keep_rules.specs.declared.rules.Keep.{Keep}
-use Rattle.keep_match.specs.Marks.{HasRows, row_at}
+use Rattle.keep_match.specs.bodies.Marks.{HasRows, row_at}
 use Rattle.keep_match.specs.Seeds.{are_kept, places_of_true}
 use Rattle.keep_match.proofs.RowLaw.{kept_width}
 

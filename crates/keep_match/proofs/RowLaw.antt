@@ -11,7 +11,7 @@ use Rattle.class_model.specs.declared.class.Method.{Method}
 use Rattle.class_pool.specs.Count.{items_of}
 use Rattle.keep_rules.specs.declared.rules.Keep.{Keep}
 use Rattle.keep_rules.specs.declared.rules.MemberSpec.{MemberSpec}
-use Rattle.keep_match.specs.Marks.{marked, members_kept, or_each}
+use Rattle.keep_match.specs.bodies.Marks.{marked, members_kept, or_each}
 use Rattle.keep_match.specs.Matches.{matches_field, matches_method}
 use Rattle.keep_match.specs.Seeds.{are_kept, keeps_class, keeps_field, keeps_method}
 

@@ -6,9 +6,9 @@ use Rattle.std.proofs.lemmas.Bool.{eqb-true, eqb-false, eq-eqb, not-true, not-fa
 use Rattle.std.specs.List.{AllByRecursion}
 use Rattle.keep_match.specs.declared.piece.Piece.{Piece}
 use Rattle.keep_match.specs.declared.piece.Piece.TheVariants.{Character, One, Part, Any}
-use Rattle.keep_match.specs.Scan.{EndsBlock, EndsSection, Fails, IsBehindDot, IsBlock, IsNotAny, IsPassed, IsPassedAny}
-use Rattle.keep_match.specs.Scan.{IsPlain}
-use Rattle.keep_match.specs.Scan.{IsRead, IsSame, IsSingle, IsStep, IsStepToBlock, IsStepToSection, allows, is_star}
+use Rattle.keep_match.specs.bodies.Scan.{EndsBlock, EndsSection, Fails, IsBehindDot, IsBlock, IsNotAny, IsPassed, IsPassedAny}
+use Rattle.keep_match.specs.bodies.Scan.{IsPlain}
+use Rattle.keep_match.specs.bodies.Scan.{IsRead, IsSame, IsSingle, IsStep, IsStepToBlock, IsStepToSection, allows, is_star}
 use Rattle.keep_match.specs.Wildcards.{Begins, HasNoDot, IsPart}
 use Rattle.keep_match.proofs.Cutting.{all_append, all_front, any_more, begins_append, begins_split, determined}
 use Rattle.keep_match.proofs.Cutting.{dominated, dot_cases, first_dot, later, one_of, part_more}

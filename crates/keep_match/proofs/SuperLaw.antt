@@ -20,7 +20,7 @@ use Rattle.class_pool.proofs.Directs.{direct_valid}
 use Rattle.class_pool.proofs.EachOnce.{same_is}
 use Rattle.class_pool.proofs.Walking.{first_of, rest_of, superclasses_next}
 use Rattle.class_pool.proofs.Within.{all_flat, up_first}
-use Rattle.keep_match.specs.Above.{is_met_at}
+use Rattle.keep_match.specs.bodies.Above.{is_met_at}
 use Rattle.keep_match.specs.Matches.{matches_class_name}
 use Rattle.keep_match.proofs.AboveLaw.{above_is, any_same, met_is, supers_is}
 

@@ -1,12 +1,9 @@
 pub mod Wildcards
-pub mod Scan
 pub mod Filters
 pub mod FlagWords
 pub mod TypePatterns
 pub mod Matches
-pub mod Above
 pub mod Seeds
 pub mod Asked
 pub mod Fixed
-pub mod Marks
 pub mod bodies

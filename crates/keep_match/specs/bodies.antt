@@ -1,3 +1,6 @@
 -- Definitions that the proofs of bodies alone need.
 pub mod AsKeeps
 pub mod AsFixing
+pub mod Above
+pub mod Marks
+pub mod Scan

@@ -7,7 +7,7 @@ ghost use Rattle.std.specs.List.{All};
 ghost use Rattle.class_pool.specs.declared.id.ClassId.TheVariants.{Prog};
 ghost use Rattle.class_pool.specs.Found.{name_of};
 ghost use Rattle.class_pool.specs.Hierarchy.{superclass};
-ghost use Rattle.keep_match.specs.Above.{AreKnown, is_met_at, known_at};
+ghost use Rattle.keep_match.specs.bodies.Above.{AreKnown, is_met_at, known_at};
 ghost use Rattle.keep_match.specs.Matches.{is_above_met, matches_class_name};
 
 use crate::class_spec::{has_above, is_met_at, name_of};

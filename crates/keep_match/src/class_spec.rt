@@ -5,7 +5,7 @@ ghost use Rattle.class_pool.specs.declared.id.ClassId.TheVariants.{Prog};
 ghost use Rattle.class_pool.specs.Found.{name_of};
 ghost use Rattle.class_pool.specs.Hierarchy.{IsClass};
 ghost use Rattle.class_pool.specs.Walk.{same_class, supers};
-ghost use Rattle.keep_match.specs.Above.{AreKnown, is_met_at, is_other_met};
+ghost use Rattle.keep_match.specs.bodies.Above.{AreKnown, is_met_at, is_other_met};
 ghost use Rattle.keep_match.specs.Matches.{class_matches, is_kind_met, matches_but_name, matches_class};
 ghost use Rattle.keep_match.specs.Matches.{matches_class_name};
 

@@ -2,7 +2,7 @@
 ghost use Rattle.std.specs.Prelude.{◌≡◌, true, not, [], ◌∷◌, ◌++◌, IfOk, IfSome, IsTrue, MatchOption, length};
 ghost use Rattle.jv_base.specs.Names.{is_text};
 ghost use Rattle.std.specs.List.{list_any};
-ghost use Rattle.keep_match.specs.Marks.{AreLiteral, AreNames, IsLiteral, IsNumber, IsUnnamed, is_wildcard};
+ghost use Rattle.keep_match.specs.bodies.Marks.{AreLiteral, AreNames, IsLiteral, IsNumber, IsUnnamed, is_wildcard};
 
 use class_pool::ClassSet;
 use indexmap::IndexSet;

@@ -1,7 +1,7 @@
 // Patterns and texts, read from left to right.
 ghost use Rattle.std.specs.Prelude.{◌≡◌, ℕ, ◌<◌, List, [], ◌∷◌, IfSome, MatchOption, length};
 ghost use Rattle.std.specs.Str.{chars};
-ghost use Rattle.keep_match.specs.Scan.{allows, is_star};
+ghost use Rattle.keep_match.specs.bodies.Scan.{allows, is_star};
 ghost use Rattle.keep_match.specs.Wildcards.{piece_of, pieces, shown};
 
 /// A piece of a pattern.

@@ -3,7 +3,7 @@ ghost use Rattle.std.specs.Prelude.{◌≡◌, ◌+◌, ◌<◌, ◌∷◌, Some
 ghost use Rattle.std.specs.Prelude.{if◌then◌else◌};
 ghost use Rattle.std.specs.List.{list_all, list_any};
 ghost use Rattle.class_pool.specs.Count.{items_of};
-ghost use Rattle.keep_match.specs.Marks.{members_kept, or_each};
+ghost use Rattle.keep_match.specs.bodies.Marks.{members_kept, or_each};
 ghost use Rattle.keep_match.specs.Matches.{matches_field, matches_method, members_matched};
 ghost use Rattle.keep_match.specs.Seeds.{are_members_met, has_match};
 

@@ -5,10 +5,10 @@ ghost use Rattle.report_text.specs.Spelled.{class_text};
 ghost use Rattle.std.specs.List.{All, flat_map};
 ghost use Rattle.class_model.specs.declared.class.Class.{Class};
 ghost use Rattle.class_pool.specs.Count.{item_count, items_of};
-ghost use Rattle.keep_match.specs.Above.{AreKnown};
+ghost use Rattle.keep_match.specs.bodies.Above.{AreKnown};
 ghost use Rattle.keep_match.specs.Filters.{accepts};
-ghost use Rattle.keep_match.specs.Marks.{AreAdded, AreLiteral, AreMarked, AreNames, AreRows, HasRows, IsNamed};
-ghost use Rattle.keep_match.specs.Marks.{IsPut, members_kept, or_each};
+ghost use Rattle.keep_match.specs.bodies.Marks.{AreAdded, AreLiteral, AreMarked, AreNames, AreRows, HasRows, IsNamed};
+ghost use Rattle.keep_match.specs.bodies.Marks.{IsPut, members_kept, or_each};
 ghost use Rattle.keep_match.specs.Matches.{matches_but_name, matches_class_name};
 ghost use Rattle.keep_match.specs.Seeds.{are_members_met, keeps_classes, places_of_true, seeds_of};
 

@@ -14,9 +14,9 @@ use Rattle.jv_base.specs.Names.{is_text}
 use Rattle.jv_base.specs.declared.outcome.Or.{Or}
 use Rattle.jv_base.specs.declared.outcome.Or.TheVariants.{Fault, OutOfMemory}
 use Rattle.jv_base.proofs.Equality.{text_Decides}
-use Rattle.text_lines.specs.Steps.{ChangesOr}
+use Rattle.text_lines.specs.bodies.Steps.{ChangesOr}
 use Rattle.mapping_file.specs.MapReading.{added, all_classes, begun, in_last, with_field, with_method}
-use Rattle.mapping_file.specs.NameTable.{TellsNames}
+use Rattle.mapping_file.specs.bodies.NameTable.{TellsNames}
 use Rattle.mapping_file.specs.declared.line.MapLine.TheVariants as line
 use Rattle.mapping_file.specs.declared.mapping.MapClass.{MapClass}
 use Rattle.mapping_file.specs.declared.mapping.MapField.{MapField}

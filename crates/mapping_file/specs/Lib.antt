@@ -4,5 +4,4 @@ pub mod MapLines
 pub mod MapReading
 pub mod Mappings
 pub mod Limited
-pub mod NameTable
 pub mod bodies

@@ -4,7 +4,7 @@ ghost use Rattle.std.specs.BTreeSet.{Updates, contains};
 ghost use Rattle.std.specs.Cmp.Lexicographic.{slice_cmp};
 ghost use Rattle.std.specs.Ordering.{nat_cmp};
 ghost use Rattle.mapping_file.specs.MapReading.{begun, has_name};
-ghost use Rattle.mapping_file.specs.NameTable.{TellsNames};
+ghost use Rattle.mapping_file.specs.bodies.NameTable.{TellsNames};
 ghost use Rattle.mapping_file.specs.declared.mapping.MapClass.{MapClass};
 
 use jv_base::{M, Name};

@@ -1,14 +1,14 @@
 // Reading a mapping file line by line.
 ghost use Rattle.std.specs.Prelude.{◌≡◌, ◌<◌, length, Some, IfOk, OnOk, Ok};
 ghost use Rattle.jv_base.specs.Outcome.{IsDue};
-ghost use Rattle.text_lines.specs.Steps.{ChangesOr};
+ghost use Rattle.text_lines.specs.bodies.Steps.{ChangesOr};
 ghost use Rattle.mapping_file.specs.MapReading.{IsFirstFault, added, all_classes, begun, nothing, read_mapping, step};
 ghost use Rattle.text_lines.specs.Lines.{read_lines};
 ghost use Rattle.std.specs.Str.Lines.{lines};
 ghost use Rattle.jv_base.specs.declared.outcome.Or.TheVariants.{Fault};
 ghost use Rattle.mapping_file.specs.declared.line.MapLine.TheVariants as line;
 ghost use Rattle.mapping_file.specs.Mappings.{IsOneMapping, Reading};
-ghost use Rattle.mapping_file.specs.NameTable.{TellsNames};
+ghost use Rattle.mapping_file.specs.bodies.NameTable.{TellsNames};
 ghost use Rattle.mapping_file.specs.declared.mapping.Mapping.{Mapping};
 
 use crate::line::{MapLine, line_of};

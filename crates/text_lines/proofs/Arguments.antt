@@ -7,7 +7,7 @@ use Rattle.std.proofs.lemmas.List.{append-nil, length-append}
 use Rattle.jv_base.specs.declared.types.FieldType.{FieldType}
 use Rattle.text_lines.specs.Cut.{◌>>=◌, cut, Lacks, parts_copied}
 use Rattle.text_lines.specs.Members.{arguments_of, type_of, types_of}
-use Rattle.text_lines.specs.Shared.{IsPushed}
+use Rattle.text_lines.specs.bodies.Shared.{IsPushed}
 use Rattle.text_lines.proofs.Parts.{cut_some, cut_not}
 
 -- the parts between commas

@@ -8,7 +8,7 @@ use Rattle.jv_base.specs.Outcome.{◌>>=◌, FaultIs}
 use Rattle.jv_base.specs.declared.outcome.Or.{Or}
 use Rattle.jv_base.specs.declared.outcome.Or.TheVariants.{Fault, OutOfMemory}
 use Rattle.text_lines.specs.Lines.{at_line, is_passed_over, item_added, line_read, line_step, read_lines}
-use Rattle.text_lines.specs.Steps.{ChangesOr}
+use Rattle.text_lines.specs.bodies.Steps.{ChangesOr}
 
 -- ---- a line
 

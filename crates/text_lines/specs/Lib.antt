@@ -3,5 +3,4 @@ pub mod Faults
 pub mod Lines
 pub mod Members
 pub mod Numbers
-pub mod Shared
-pub mod Steps
+pub mod bodies

@@ -5,7 +5,7 @@ ghost use Rattle.jv_base.specs.Types as descriptor;
 ghost use Rattle.jv_base.specs.Types.{argument_words};
 ghost use Rattle.text_lines.specs.Members.{arguments_of, class_of, class_of_type, method_type, method_type_of};
 ghost use Rattle.text_lines.specs.Members.{result_of, type_of};
-ghost use Rattle.text_lines.specs.Shared.{IsPushed, KeepsTold};
+ghost use Rattle.text_lines.specs.bodies.Shared.{IsPushed, KeepsTold};
 
 use crate::cut;
 use crate::table::{Told, Trees, keep_value, kept_value, no_values};

@@ -1,6 +1,6 @@
 // Values that texts tell, each kept once.
 ghost use Rattle.std.specs.Prelude.{ℕ, List, IfOk, IfSome};
-ghost use Rattle.text_lines.specs.Shared.{HasTold, KeepsTold};
+ghost use Rattle.text_lines.specs.bodies.Shared.{HasTold, KeepsTold};
 
 use jv_base::M;
 use std::alloc::Global;

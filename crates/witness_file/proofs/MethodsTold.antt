@@ -15,10 +15,10 @@ use Rattle.jv_base.specs.Names.{is_text}
 use Rattle.jv_base.specs.Outcome.{◌>>=◌}
 use Rattle.jv_base.specs.declared.outcome.Or.{Or}
 use Rattle.jv_base.specs.declared.outcome.Or.TheVariants.{Fault, OutOfMemory}
-use Rattle.text_lines.specs.Steps.{ChangesOr}
+use Rattle.text_lines.specs.bodies.Steps.{ChangesOr}
 use Rattle.text_lines.proofs.ReadLines.{bind_ok}
 use Rattle.code_edit.specs.declared.act.Act.{Act}
-use Rattle.witness_file.specs.MethodTable.{Names, TellsMethods, names_order, text_order}
+use Rattle.witness_file.specs.bodies.MethodTable.{Names, TellsMethods, names_order, text_order}
 use Rattle.witness_file.specs.WitnessReading.{act_added, added, added_behind, added_first, all_methods, closed, in_last, method_begun, step_begun}
 use Rattle.witness_file.specs.Witnesses.{has_method, is_method}
 use Rattle.witness_file.specs.declared.line.WitnessLine.{WitnessLine}

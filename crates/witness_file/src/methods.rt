@@ -1,7 +1,7 @@
 // The methods that were read.
 ghost use Rattle.std.specs.Prelude.{◌≡◌, true, List, ◌++◌, not, IfOk, OnOk, codes};
 ghost use Rattle.std.specs.BTreeSet.{Updates};
-ghost use Rattle.witness_file.specs.MethodTable.{TellsMethods, names_order};
+ghost use Rattle.witness_file.specs.bodies.MethodTable.{TellsMethods, names_order};
 ghost use Rattle.witness_file.specs.Witnesses.{has_method, is_before};
 ghost use Rattle.witness_file.specs.declared.witness.MethodWitness.{MethodWitness};
 

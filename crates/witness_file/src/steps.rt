@@ -1,7 +1,7 @@
 // The steps of a method, as they are read.
 ghost use Rattle.std.specs.Prelude.{◌≡◌, None, OnOk, IfOk, slice_get};
 ghost use Rattle.std.specs.Option.{option_map};
-ghost use Rattle.text_lines.specs.Steps.{ChangesOr};
+ghost use Rattle.text_lines.specs.bodies.Steps.{ChangesOr};
 ghost use Rattle.code_edit.specs.Acts.{step_passes};
 ghost use Rattle.witness_file.specs.WitnessReading.{act_added, all_steps, awaits_act, closed, empty_step, padded};
 ghost use Rattle.witness_file.specs.WitnessReading.{some_step, step_begun};

@@ -4,7 +4,7 @@ use Rattle.std.proofs.lemmas.List.{append-nil}
 use Rattle.conf_words.specs.declared.splitting.Word.{Word}
 use Rattle.conf_words.specs.declared.splitting.WordFault.{WordFault}
 use Rattle.conf_words.specs.Reading.{words_at, with_words}
-use Rattle.conf_words.specs.Seen.{parts_seen}
+use Rattle.conf_words.specs.bodies.Seen.{parts_seen}
 use Rattle.conf_words.proofs.Parsed.{with_both, nothing_read}
 use Rattle.conf_words.proofs.Seeing.{step, step_open}
 use Rattle.conf_words.proofs.splitting.words_in.Goals as goal

@@ -1,5 +1,5 @@
 use Rattle.std.proofs.Common.{◌≡◌, Some, length}
-use Rattle.keep_match.specs.Above.{AreKnown}
+use Rattle.keep_match.specs.bodies.Above.{AreKnown}
 use Rattle.keep_match.proofs.above.know.Given as goal
 
 abbrev pub invariant-loop-at : goal.invariant-loop-at

@@ -1,5 +1,5 @@
 use Rattle.std.proofs.Common.{◌≡◌, Some, length}
-use Rattle.keep_match.specs.Above.{AreKnown}
+use Rattle.keep_match.specs.bodies.Above.{AreKnown}
 use Rattle.keep_match.proofs.above.known_of_all.Given as goal
 
 abbrev pub invariant-loop-number : goal.invariant-loop-number

@@ -1,7 +1,7 @@
 use Rattle.std.proofs.Common.{◌∙◌, List, Bool, ap, arith, length, subst}
 use Rattle.std.specs.List.{flat_map}
 use Rattle.keep_rules.specs.declared.rules.Keep.{Keep}
-use Rattle.keep_match.specs.Marks.{HasRows}
+use Rattle.keep_match.specs.bodies.Marks.{HasRows}
 use Rattle.keep_match.specs.bodies.AsKeeps.{as_keeps}
 use Rattle.keep_match.proofs.AskedLaw.{asked_further}
 use Rattle.keep_match.proofs.PlaceLaw.{rows_fit}

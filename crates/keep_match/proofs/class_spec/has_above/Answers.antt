@@ -6,7 +6,7 @@ use Rattle.class_pool.specs.declared.id.ClassId.TheVariants.{Prog}
 use Rattle.class_pool.specs.Hierarchy.{IsClass}
 use Rattle.class_pool.specs.Walk.{superclasses_from}
 use Rattle.class_pool.proofs.Declaring.{superclass_there}
-use Rattle.keep_match.specs.Above.{is_met_at, upwards_if}
+use Rattle.keep_match.specs.bodies.Above.{is_met_at, upwards_if}
 use Rattle.keep_match.proofs.AboveLaw.{above_is, walk_end, walk_here, walk_on}
 use Rattle.keep_match.proofs.class_spec.has_above.Goals as goal
 

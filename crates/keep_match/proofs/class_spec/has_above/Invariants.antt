@@ -4,7 +4,7 @@ use Rattle.std.specs.List.{list_any}
 use Rattle.class_pool.specs.declared.id.ClassId.TheVariants.{Prog}
 use Rattle.class_pool.specs.Hierarchy.{IsClass}
 use Rattle.class_pool.specs.Walk.{superclasses_from}
-use Rattle.keep_match.specs.Above.{is_met_at, upwards_if}
+use Rattle.keep_match.specs.bodies.Above.{is_met_at, upwards_if}
 use Rattle.keep_match.proofs.class_spec.has_above.Given as goal
 
 abbrev pub invariant-loop-left : goal.invariant-loop-left

@@ -1,6 +1,6 @@
 use Rattle.std.proofs.Common.{◌≡◌, drop}
 use Rattle.std.specs.List.{list_any}
-use Rattle.keep_match.specs.Above.{is_other_met}
+use Rattle.keep_match.specs.bodies.Above.{is_other_met}
 use Rattle.keep_match.proofs.class_spec.is_one_met.Given as goal
 
 abbrev pub invariant-loop-id : goal.invariant-loop-id

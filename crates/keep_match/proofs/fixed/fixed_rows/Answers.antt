@@ -1,6 +1,6 @@
 use Rattle.std.proofs.Common.{◌∙◌, List, Bool, ap, subst}
 use Rattle.keep_rules.specs.declared.rules.Keep.{Keep}
-use Rattle.keep_match.specs.Marks.{HasRows}
+use Rattle.keep_match.specs.bodies.Marks.{HasRows}
 use Rattle.keep_match.specs.bodies.AsFixing.{as_fixings}
 use Rattle.keep_match.proofs.FixedLaw.{rows_fixed}
 use Rattle.keep_match.proofs.fixed.fixed_rows.Goals as goal

@@ -1,4 +1,4 @@
-use Rattle.keep_match.specs.Marks.{AreNames}
+use Rattle.keep_match.specs.bodies.Marks.{AreNames}
 use Rattle.keep_match.proofs.named.names_of.Given as goal
 
 abbrev pub invariant-loop-number : goal.invariant-loop-number

@@ -1,6 +1,6 @@
 use Rattle.std.proofs.Common.{◌∙◌, arith}
 use Rattle.std.proofs.lemmas.List.{length-set}
-use Rattle.keep_match.specs.Marks.{members_kept}
+use Rattle.keep_match.specs.bodies.Marks.{members_kept}
 use Rattle.keep_match.proofs.RowLaw.{kept_length, next_length, row_more, row_starts}
 use Rattle.keep_match.proofs.rows.mark_row.Goals as goal
 

@@ -1,5 +1,5 @@
 use Rattle.std.proofs.Common.{◌≡◌, length}
-use Rattle.keep_match.specs.Marks.{members_kept, or_each}
+use Rattle.keep_match.specs.bodies.Marks.{members_kept, or_each}
 use Rattle.keep_match.proofs.RowLaw.{so_far}
 use Rattle.keep_match.proofs.rows.mark_row.Given as goal
 

@@ -2,7 +2,7 @@ use Rattle.std.proofs.Common.{length}
 use denote.Text.{Utf8}
 use denote.Shadow.{shadow}
 use Rattle.std.specs.Str.{chars}
-use Rattle.keep_match.specs.Scan.{IsPassedAny}
+use Rattle.keep_match.specs.bodies.Scan.{IsPassedAny}
 use Rattle.keep_match.specs.Wildcards.{pieces, shown}
 use Rattle.keep_match.proofs.scan.behind_any.Given as goal
 

@@ -1,7 +1,7 @@
 use Rattle.std.proofs.Common.{◌≤◌, length}
 use denote.Text.{Utf8}
 use denote.Shadow.{shadow}
-use Rattle.keep_match.specs.Scan.{IsPlain}
+use Rattle.keep_match.specs.bodies.Scan.{IsPlain}
 use Rattle.keep_match.specs.Wildcards.{shown}
 use Rattle.keep_match.proofs.scan.behind_dot.Given as goal
 

@@ -2,7 +2,7 @@ use Rattle.std.proofs.Common.{length}
 use denote.Text.{Utf8}
 use denote.Shadow.{shadow}
 use Rattle.std.specs.Str.{chars}
-use Rattle.keep_match.specs.Scan.{IsPassed}
+use Rattle.keep_match.specs.bodies.Scan.{IsPassed}
 use Rattle.keep_match.specs.Wildcards.{pieces, shown}
 use Rattle.keep_match.proofs.scan.behind_part.Given as goal
 

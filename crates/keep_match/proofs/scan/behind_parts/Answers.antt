@@ -1,6 +1,6 @@
 use Rattle.std.proofs.Common.{arith}
 use Rattle.keep_match.proofs.Scanning.{block_more}
-use Rattle.keep_match.specs.Scan.{pieces_at}
+use Rattle.keep_match.specs.bodies.Scan.{pieces_at}
 use Rattle.keep_match.proofs.scan.behind_parts.Goals as goal
 
 pub loop-rest-preserved : goal.loop-rest-preserved

@@ -1,6 +1,6 @@
 use Rattle.std.proofs.Common.{◌≤◌, length}
 use Rattle.std.specs.Str.{chars}
-use Rattle.keep_match.specs.Scan.{IsRead, IsSingle, pieces_at, text_at}
+use Rattle.keep_match.specs.bodies.Scan.{IsRead, IsSingle, pieces_at, text_at}
 use Rattle.keep_match.specs.Wildcards.{pieces, shown}
 use Rattle.keep_match.proofs.scan.behind_singles.Given as goal
 

@@ -1,6 +1,6 @@
 use Rattle.std.proofs.Common.{length}
 use Rattle.std.specs.Str.{chars}
-use Rattle.keep_match.specs.Scan.{IsSame, pieces_at, text_at}
+use Rattle.keep_match.specs.bodies.Scan.{IsSame, pieces_at, text_at}
 use Rattle.keep_match.specs.Wildcards.{pieces, shown}
 use Rattle.keep_match.proofs.scan.is_cut.Given as goal
 

@@ -1,5 +1,5 @@
 use Rattle.std.proofs.Common.{◌∙◌, ◌∷◌, refl, sym, true}
-use Rattle.keep_match.specs.Marks.{members_kept, or_each}
+use Rattle.keep_match.specs.bodies.Marks.{members_kept, or_each}
 use Rattle.keep_match.proofs.MarkLaw.{class_kept, put_kept, put_none, row_lent, row_width}
 use Rattle.keep_match.proofs.seeds.mark_class.Goals as goal
 

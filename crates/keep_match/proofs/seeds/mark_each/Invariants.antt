@@ -1,5 +1,5 @@
 use Rattle.std.proofs.Common.{◌<◌, ℕ}
-use Rattle.keep_match.specs.Marks.{IsDone, IsMarking}
+use Rattle.keep_match.specs.bodies.Marks.{IsDone, IsMarking}
 use Rattle.keep_match.proofs.seeds.mark_each.Given as goal
 
 abbrev pub invariant-loop-number : goal.invariant-loop-number

@@ -1,4 +1,4 @@
-use Rattle.keep_match.specs.Marks.{IsMarking}
+use Rattle.keep_match.specs.bodies.Marks.{IsMarking}
 use Rattle.keep_match.proofs.MarkLaw.{AreDone}
 use Rattle.keep_match.proofs.seeds.mark_named.Given as goal
 

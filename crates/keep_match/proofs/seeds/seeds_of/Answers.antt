@@ -1,7 +1,7 @@
 use Rattle.std.proofs.Common.{◌∙◌, List, Bool, ap, arith, length, subst}
 use Rattle.std.specs.List.{flat_map}
 use Rattle.keep_rules.specs.declared.rules.Keep.{Keep}
-use Rattle.keep_match.specs.Marks.{HasRows}
+use Rattle.keep_match.specs.bodies.Marks.{HasRows}
 use Rattle.keep_match.specs.Seeds.{places_of_true}
 use Rattle.keep_match.proofs.PlaceLaw.{ok_further, rows_fit, seeds_are, seeds_below}
 use Rattle.keep_match.proofs.seeds.seeds_of.Goals as goal

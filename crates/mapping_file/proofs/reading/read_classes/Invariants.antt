@@ -2,7 +2,7 @@ use Rattle.std.proofs.Common.{◌≡◌, ◌+◌, ◌≤◌, length}
 use Rattle.std.specs.Str.Lines.{lines}
 use Rattle.text_lines.specs.Lines.{read_lines}
 use Rattle.mapping_file.specs.MapReading.{all_classes, nothing, step}
-use Rattle.mapping_file.specs.NameTable.{TellsNames}
+use Rattle.mapping_file.specs.bodies.NameTable.{TellsNames}
 use Rattle.mapping_file.proofs.reading.read_classes.Given as goal
 
 abbrev pub invariant-loop-line : goal.invariant-loop-line

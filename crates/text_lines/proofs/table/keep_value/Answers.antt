@@ -1,6 +1,6 @@
 use Rattle.std.proofs.Common.{arith, sym, subst}
 use Rattle.std.proofs.lemmas.List.Elements.{All-get_or, All-set}
-use Rattle.text_lines.specs.Shared.{HasTold}
+use Rattle.text_lines.specs.bodies.Shared.{HasTold}
 use Rattle.text_lines.proofs.table.keep_value.Goals as goal
 
 pub returns : goal.returns

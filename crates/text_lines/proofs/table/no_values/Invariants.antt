@@ -1,4 +1,4 @@
-use Rattle.text_lines.specs.Shared.{KeepsTold}
+use Rattle.text_lines.specs.bodies.Shared.{KeepsTold}
 use Rattle.text_lines.proofs.table.no_values.Given as goal
 
 abbrev pub invariant-loop : goal.invariant-loop

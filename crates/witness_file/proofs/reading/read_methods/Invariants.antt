@@ -2,7 +2,7 @@ use Rattle.std.proofs.Common.{◌≡◌, ◌+◌, ◌≤◌, length}
 use Rattle.std.specs.Str.Lines.{lines}
 use Rattle.text_lines.specs.Lines.{read_lines}
 use Rattle.witness_file.specs.WitnessReading.{all_methods, nothing, step}
-use Rattle.witness_file.specs.MethodTable.{TellsMethods}
+use Rattle.witness_file.specs.bodies.MethodTable.{TellsMethods}
 use Rattle.witness_file.proofs.reading.read_methods.Given as goal
 
 abbrev pub invariant-loop-line : goal.invariant-loop-line
