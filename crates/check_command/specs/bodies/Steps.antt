@@ -1,4 +1,4 @@
--- What steps of the command have found (only its proofs need it).
+-- What steps of the command have found (only the proofs of the command need it).
 use Rattle.std.specs.Prelude.{◌≡◌, ◌⊎◌, ◌≤◌, ℕ, true, false, map, List, [], Option, Some, None, Result, Ok, Err}
 use Rattle.tree_io.specs.Below.{IsAscending}
 use Rattle.tree_io.specs.Files.{Files}
