@@ -25,3 +25,4 @@ pub mod ObjectLaws
 pub mod Declaring
 pub mod Distinct
 pub mod Among
+pub mod Climbing

@@ -1,12 +1,12 @@
 -- The list of supertypes has just the proper supertypes.
-use Rattle.std.proofs.Common.{append_assoc, ◌≡◌, ⊎_elim, ℕ, zero, suc, ◌+◌, ◌-◌, ◌<◌, ◌≤◌, ◌⊎◌, inl, inr, Bool, true}
+use Rattle.std.proofs.Common.{◌≡◌, ⊎_elim, ℕ, zero, suc, ◌+◌, ◌<◌, ◌≤◌, ◌⊎◌, inl, inr, Bool, true}
 use Rattle.std.proofs.Common.{false, ◌||◌, ◌↔◌, IsTrue, nat_lt, List, [], ◌∷◌, ◌++◌, length, get_or, take, Option, Some}
 use Rattle.std.proofs.Common.{None, refl, sym, ap, subst, ◌∙◌, arith}
 use Rattle.std.specs.Prelude.{IfSome}
 use Rattle.std.specs.List.{All, Contains, cons_option, flat_map, list_any, remove}
 use Rattle.std.specs.Option.{option_map_or}
 use Rattle.std.proofs.lemmas.Bool.{both_ways, ltb-true, lt-ltb, or_cases}
-use Rattle.std.proofs.lemmas.List.{append-nil, flat_map_more, get_or-append-add, take_more}
+use Rattle.std.proofs.lemmas.List.{flat_map_more, take_more}
 use Rattle.std.proofs.lemmas.List.Folds.{list_any-append}
 use Rattle.std.proofs.lemmas.List.Elements.{All-append, All-cons, All-nil, All-weaker}
 use Rattle.class_model.specs.declared.class.Class.{Class}
@@ -26,8 +26,7 @@ use Rattle.class_pool.proofs.Among.{any_once}
 use Rattle.class_pool.proofs.EachOnce.{bool_cases, same_is, same_itself}
 use Rattle.class_pool.proofs.FillingLaws.{below_all, once_then}
 use Rattle.class_pool.proofs.Directs.{class_cases, direct_valid, none_above, proper_direct, proper_on}
-use Rattle.class_pool.proofs.Walking.{Falls, first_of, interfaces_fall, interfaces_valid, no_rank, rest_of, up_same}
-use Rattle.class_pool.proofs.Walking.{up_unfolded}
+use Rattle.class_pool.proofs.Walking.{Falls, first_of, interfaces_fall, interfaces_valid, no_rank, rest_of}
 use Rattle.class_pool.proofs.Within.{In, all_flat, in_contains, in_first, in_flat, in_left, in_next, in_right}
 use Rattle.class_pool.proofs.Within.{left_false, of_one, once_differ, once_in, once_new, supers_are}
 
@@ -378,91 +377,15 @@ any_below classes a b =
         (sym (list_any-append (same_class b) (own_superinterfaces classes c)
         (flat_map (own_superinterfaces classes) cs)))
 
-no_levels : (classes : List Class) (o : Option ClassId) → option_map_or (upwards 0 classes) o [] ≡ []
-unfolding upwards
-no_levels classes None = refl
-no_levels classes (Some d) = refl
-
--- a chain of so many steps as there are classes has all superclasses
-pub whole_chain : (classes : List Class) (r : HasRanks classes) (a : ClassId) (steps : ℕ) → length classes ≤ 4294967295
-    → IsClass classes a → steps ≡ length library + length classes
-    → upwards (steps + 1) classes a ≡ superclasses_from classes a
-whole_chain classes r a steps few a-in is =
-    let most = r.most a a-in in
-    up_same classes r.rank r.falls (steps + 1) highest a a-in (omega (arith, most, is))
-    (omega (arith, most, few, count))
-
--- one step upwards
-pub climb_step : (classes : List Class) (b c : ClassId) (n : ℕ) → 0 < n
-    → list_any (is_self_or_own classes b) (upwards n classes c)
-    ≡ (is_self_or_own classes b c
-    || list_any (is_self_or_own classes b) (option_map_or (upwards (n - 1) classes) (superclass classes c) []))
-climb_step classes b c zero some = absurd (omega (arith, some))
-climb_step classes b c (suc n) some =
-    let less : n ≡ suc n - 1 = omega arith in
-    ap (list_any (is_self_or_own classes b)) (up_unfolded n classes c)
-    ∙ ap (λ (k : ℕ). is_self_or_own classes b c
-    || list_any (is_self_or_own classes b) (option_map_or (upwards k classes) (superclass classes c) [])) less
-
-pub climb_end : (classes : List Class) (b : ClassId) (n : ℕ) (o : Option ClassId) → n ≡ 0
-    → list_any (is_self_or_own classes b) (option_map_or (upwards n classes) o []) ≡ false
-climb_end classes b n o none =
-    ap (λ (k : ℕ). list_any (is_self_or_own classes b) (option_map_or (upwards k classes) o [])) none
-    ∙ ap (list_any (is_self_or_own classes b)) (no_levels classes o)
-
--- what a walk of so many steps as there are classes finds
-pub climbed : (classes : List Class) (r : HasRanks classes) (h : HasObject classes) (a b : ClassId) (steps : ℕ)
-    (x : Bool) → length classes ≤ 4294967295 → IsClass classes a → steps ≡ length library + length classes
-    → list_any (is_self_or_own classes b) (upwards (steps + 1) classes a) ≡ x → IsTrue x ↔ Sub classes a b
-climbed classes r h a b steps x few a-in is found =
-    subst (λ (t : Bool). IsTrue t ↔ Sub classes a b)
-    (sym (any_below classes a b)
-    ∙ ap (list_any (is_self_or_own classes b)) (sym (whole_chain classes r a steps few a-in is))
-    ∙ found)
+-- what a walk over the class and its superclasses finds
+pub climbed : (classes : List Class) (r : HasRanks classes) (h : HasObject classes) (a b : ClassId) (x : Bool)
+    → length classes ≤ 4294967295 → IsClass classes a
+    → list_any (is_self_or_own classes b) (superclasses_from classes a) ≡ x → IsTrue x ↔ Sub classes a b
+climbed classes r h a b x few a-in found =
+    subst (λ (t : Bool). IsTrue t ↔ Sub classes a b) (sym (any_below classes a b) ∙ found)
     (below_sub classes r h a b few a-in)
 
 -- ---- how the list is made
-
-pub chain_first : (classes : List Class) (steps : ℕ) (a : ClassId) (ids : List ClassId) → ids ≡ a ∷ []
-    → ids ++ option_map_or (upwards (steps - 0) classes) (superclass classes (get_or ids 0 a)) []
-    ≡ upwards (steps + 1) classes a
-chain_first classes steps a ids is =
-    let all : steps - 0 ≡ steps = omega arith in
-    let one : suc steps ≡ steps + 1 = omega arith in
-    ap (λ (t : List ClassId). t ++ option_map_or (upwards (steps - 0) classes)
-    (superclass classes (get_or t 0 a)) []) is
-    ∙ ap (λ (n : ℕ). a ∷ option_map_or (upwards n classes) (superclass classes a) []) all
-    ∙ sym (up_unfolded steps classes a)
-    ∙ ap (λ (n : ℕ). upwards n classes a) one
-
-pub chain_more : (classes : List Class) (steps i : ℕ) (x y above : ClassId) (ids new whole : List ClassId) → i < steps
-    → superclass classes x ≡ Some above → y ≡ above → new ≡ ids ++ above ∷ []
-    → ids ++ option_map_or (upwards (steps - i) classes) (superclass classes x) [] ≡ whole
-    → new ++ option_map_or (upwards (steps - (i + 1)) classes) (superclass classes y) [] ≡ whole
-chain_more classes steps i x y above ids new whole within is last put before =
-    let left : suc (steps - (i + 1)) ≡ steps - i = omega (arith, within) in
-    let rest : List ClassId = option_map_or (upwards (steps - (i + 1)) classes) (superclass classes above) [] in
-    ap (λ (t : List ClassId). t ++ option_map_or (upwards (steps - (i + 1)) classes) (superclass classes y) []) put
-    ∙ ap (λ (z : ClassId). (ids ++ above ∷ []) ++ option_map_or (upwards (steps - (i + 1)) classes)
-    (superclass classes z) []) last
-    ∙ append_assoc ids (above ∷ []) rest
-    ∙ ap (λ (t : List ClassId). ids ++ t) (sym (up_unfolded (steps - (i + 1)) classes above))
-    ∙ ap (λ (n : ℕ). ids ++ upwards n classes above) left
-    ∙ ap (λ (o : Option ClassId). ids ++ option_map_or (upwards (steps - i) classes) o []) (sym is)
-    ∙ before
-
-pub chain_top : (classes : List Class) (n : ℕ) (x : ClassId) (ids whole : List ClassId) → superclass classes x ≡ None
-    → ids ++ option_map_or (upwards n classes) (superclass classes x) [] ≡ whole → ids ≡ whole
-chain_top classes n x ids whole is h = sym (append-nil ids)
-    ∙ ap (λ (o : Option ClassId). ids ++ option_map_or (upwards n classes) o []) (sym is) ∙ h
-
-pub chain_full : (classes : List Class) (n : ℕ) (x : ClassId) (ids whole : List ClassId) → n ≡ 0
-    → ids ++ option_map_or (upwards n classes) (superclass classes x) [] ≡ whole → ids ≡ whole
-chain_full classes n x ids whole none h =
-    sym (append-nil ids)
-    ∙ ap (λ (t : List ClassId). ids ++ t) (sym (no_levels classes (superclass classes x)))
-    ∙ ap (λ (k : ℕ). ids ++ option_map_or (upwards k classes) (superclass classes x) []) (sym none)
-    ∙ h
 
 pub lists_more : (lists : List (List ClassId)) (s xs : List ClassId) (i : ℕ) (d : ClassId) (ids new : List ClassId)
     → i < length xs → ids ≡ s ++ each_once s (flat_map (list_at lists) (take i xs))
@@ -488,13 +411,6 @@ supers_met classes lists a up none one two own a-in up-is none-is one-is two-is 
 
 pub without_first : (a : ClassId) (xs ids : List ClassId) → ids ≡ a ∷ xs → remove ids 0 ≡ xs
 without_first a xs ids is = ap (λ (t : List ClassId). remove t 0) is
-
-pub pushed_last : (ids new : List ClassId) (above d : ClassId) (n : ℕ) → length ids ≡ n + 1 → new ≡ ids ++ above ∷ []
-    → get_or new (n + 1) d ≡ above
-pushed_last ids new above d n long put =
-    let place : n + 1 ≡ length ids + 0 = omega (arith, long) in
-    ap (λ (t : List ClassId). get_or t (n + 1) d) put ∙ ap (λ (k : ℕ). get_or (ids ++ above ∷ []) k d) place
-    ∙ get_or-append-add ids (above ∷ []) 0 d
 
 pub chain_below : (classes : List Class) (a : ClassId) (n : ℕ) (ids : List ClassId) → IsClass classes a
     → ids ≡ superclasses_from classes a → n ≡ length library + length classes → All (IsBelow n) ids

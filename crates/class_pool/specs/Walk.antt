@@ -1,6 +1,6 @@
 -- The supertypes of a class as lists (JLS 4.10.2; JVMS 5.4.3.2, 5.4.3.3). A list has a bound that no set reaches, so
 -- that walks in two sets can be compared; in a set without cycles nothing stands further up.
-use Rattle.std.specs.Prelude.{ℕ, zero, suc, ◌^◌, Bool, false, ◌==◌, if◌then◌else◌, List, [], ◌∷◌, ◌++◌}
+use Rattle.std.specs.Prelude.{ℕ, zero, suc, ◌^◌, Bool, false, ◌==◌, if◌then◌else◌, List, [], ◌∷◌, ◌++◌, Option}
 use Rattle.std.specs.List.{flat_map, list_any}
 use Rattle.std.specs.Option.{option_map_or}
 use Rattle.class_model.specs.declared.class.Class.{Class}
@@ -39,6 +39,10 @@ walked (suc n) classes is = flat_map (λ i. i ∷ walked n classes (interfaces c
 -- a class and its superclasses, the nearest first (JVMS 5.4.3.2, 5.4.3.3)
 abbrev pub superclasses_from : List Class → ClassId → List ClassId
 superclasses_from classes c = upwards highest classes c
+
+-- from a class, if there is one, upwards: the class and its superclasses, the nearest first (JVMS 5.4.3.2, 5.4.3.3)
+abbrev pub superclasses_up : List Class → Option ClassId → List ClassId
+superclasses_up classes next = option_map_or (superclasses_from classes) next []
 
 -- the direct superinterfaces of a class in their order, each followed by its own superinterfaces; one stands as often
 -- as it is met (JVMS 5.4.3.2)

@@ -4,11 +4,15 @@
 mod fault;
 mod hierarchy;
 mod id;
+mod known;
 mod rows;
 mod set;
+mod upwards;
 
 pub use fault::{NamedClass, PoolFault, PoolKind};
 pub use hierarchy::building::build;
 pub use id::{ClassId, MemberAt};
+pub use known::{known_at, superclass_number, unknown_from};
 pub use rows::computed_links;
 pub use set::ClassSet;
+pub use upwards::Superclasses;

@@ -24,6 +24,7 @@ use crate::hierarchy::supers::supers_of;
 use crate::id::{has_class, is_same_class};
 use crate::set::lookup::ClassesByName;
 use crate::set::members::MemberIndex;
+use crate::upwards::{Superclasses, superclasses_of};
 use class_model::Class;
 use jv_base::{Items, M, Name, Text};
 use lib_table::{LibId, lib_member, lib_super};
@@ -129,16 +130,12 @@ impl ClassSet {
         requires above { IsClass self.now b }
         ensures { IsTrue result ↔ Sub self.now a b }
     {
-        let steps = self.library.len() + self.len() as usize;
-        let mut next = Some(a);
-        for _ in 0..steps + 1 {
-            let Some(class) = &next else {
-                return false;
-            };
-            if self.is_self_or_own(class, &b) {
+        let _ = &self.classes;
+        let _count = self.len();
+        for class in Superclasses::of(self, a) {
+            if self.is_self_or_own(&class, &b) {
                 return true;
             }
-            next = self.super_of(*class);
         }
         false
     }
@@ -183,8 +180,16 @@ impl ClassSet {
         ensures order { IfOk result (λ ids. ids ≡ supers self.now id) }
         ensures are { IfOk result (IsSupers self.now id) }
     {
+        let chain = superclasses_of(alloc, self, &id)?;
         let superinterfaces = &self.superinterfaces;
-        supers_of(alloc, &self.classes, &self.library, superinterfaces, id)
+        supers_of(
+            alloc,
+            &self.classes,
+            &self.library,
+            superinterfaces,
+            &id,
+            chain.as_slice(),
+        )
     }
 
     /// The number of the member that the class declares with a name and a descriptor (JVMS 4.3). A program class has

@@ -1,7 +1,6 @@
 -- Supertypes whose names are matched, over the list of supertypes and in a walk.
 use Rattle.std.proofs.Common.{◌≡◌, ℕ, Bool, true, false, not, ◌&&◌, ◌||◌, cond, List, [], ◌∷◌, ◌++◌, refl, sym, ap, ◌∙◌}
-use Rattle.std.proofs.Common.{◌-◌, ◌<◌, ◌≤◌, zero, suc, Option, Some, None, arith, length, drop}
-use Rattle.std.specs.Option.{option_map_or}
+use Rattle.std.proofs.Common.{◌≤◌, length, drop}
 use Rattle.std.proofs.lemmas.Bool.{and_right}
 use Rattle.std.proofs.lemmas.List.{at_drop_all}
 use Rattle.std.proofs.Math.Bool.{or-false}
@@ -11,11 +10,9 @@ use Rattle.class_model.specs.declared.class.Class.{Class}
 use Rattle.class_pool.specs.declared.id.ClassId.{ClassId}
 use Rattle.class_pool.specs.declared.id.ClassId.TheVariants.{Prog}
 use Rattle.class_pool.specs.Walk.{each_once, own_superinterfaces, same_class, superclasses_from, superinterfaces, supers}
-use Rattle.class_pool.specs.Walk.{upwards}
 use Rattle.class_pool.specs.Found.{name_of}
-use Rattle.class_pool.specs.Hierarchy.{superclass}
 use Rattle.class_pool.proofs.EachOnce.{same_is}
-use Rattle.keep_match.specs.bodies.Above.{is_met_at, is_other_met, upwards_if}
+use Rattle.keep_match.specs.bodies.Above.{is_met_at, is_other_met}
 use Rattle.keep_match.specs.Matches.{matches_class_name}
 
 -- ---- lists in which each stands once
@@ -115,36 +112,6 @@ module _ (pattern : List ℕ) (classes : List Class) (n : ℕ) where
   pub own_once : (ids : List ClassId)
       → list_any (is_other_met pattern classes n) (each_once [] ids) ≡ list_any (is_other_met pattern classes n) ids
   own_once ids = any_once (is_other_met pattern classes n) [] ids
-
--- ---- the walk
-
-upwards_first : (k : ℕ) (classes : List Class) (c : ClassId) → 0 < k
-    → upwards k classes c ≡ c ∷ upwards_if (k - 1) classes (superclass classes c)
-unfolding upwards
-upwards_first zero classes c lt = absurd (omega arith)
-upwards_first (suc k) classes c lt =
-    let e : k ≡ suc k - 1 = omega arith in
-    ap (λ (j : ℕ). c ∷ option_map_or (upwards j classes) (superclass classes c) []) e
-
-upwards_zero : (k : ℕ) (classes : List Class) (c : ClassId) → k ≡ 0 → upwards k classes c ≡ []
-unfolding upwards
-upwards_zero k classes c e = ap (λ (j : ℕ). upwards j classes c) e
-
-module _ (test : ClassId → Bool) (classes : List Class) (k : ℕ) (due : Bool) where
-  pub walk_here : (c : ClassId) → 0 < k → list_any test (upwards_if k classes (Some c)) ≡ due → true ≡ test c → true ≡ due
-  walk_here c lt h e =
-      ap (λ (t : Bool). t || list_any test (upwards_if (k - 1) classes (superclass classes c))) e
-      ∙ sym (ap (list_any test) (upwards_first k classes c lt)) ∙ h
-
-  pub walk_on : (c : ClassId) → 0 < k → list_any test (upwards_if k classes (Some c)) ≡ due → false ≡ test c
-      → list_any test (upwards_if (k - 1) classes (superclass classes c)) ≡ due
-  walk_on c lt h e =
-      ap (λ (t : Bool). t || list_any test (upwards_if (k - 1) classes (superclass classes c))) e
-      ∙ sym (ap (list_any test) (upwards_first k classes c lt)) ∙ h
-
-  pub walk_end : (o : Option ClassId) → k ≡ 0 → list_any test (upwards_if k classes o) ≡ due → false ≡ due
-  walk_end None e h = h
-  walk_end (Some c) e h = sym (ap (list_any test) (upwards_zero k classes c e)) ∙ h
 
 pub any_fails : (test : ClassId → Bool) (xs : List ClassId) (i : ℕ) → length xs ≤ i
     → list_any test (drop i xs) ≡ list_any test xs → false ≡ list_any test xs

@@ -1,19 +1,17 @@
-// Which classes have a class above them whose name a specification matches, found once for each class.
-//
-// A class is looked at when its superclass is known. In which order that comes is not proved: what isn't known is
-// looked for in all superclasses, and only speed rests on it.
-ghost use Rattle.std.specs.Prelude.{◌≡◌, ◌<◌, ◌||◌, IfOk, IfSome, Some, length};
+// Which classes have a class above them whose name a specification matches, found once for each class (`known` of
+// `class_pool`).
+ghost use Rattle.std.specs.Prelude.{◌≡◌, ◌<◌, ◌||◌, IfOk, Some, length};
 ghost use Rattle.std.specs.List.{All};
 ghost use Rattle.class_pool.specs.declared.id.ClassId.TheVariants.{Prog};
 ghost use Rattle.class_pool.specs.Found.{name_of};
 ghost use Rattle.class_pool.specs.Hierarchy.{superclass};
-ghost use Rattle.keep_match.specs.bodies.Above.{AreKnown, is_met_at, known_at};
+ghost use Rattle.keep_match.specs.bodies.Above.{AreKnown, is_met_at};
 ghost use Rattle.keep_match.specs.Matches.{is_above_met, matches_class_name};
 
 use crate::class_spec::{has_above, is_met_at, name_of};
 use crate::filter::matches_class_name;
 use crate::named::are_literal;
-use class_pool::{ClassId, ClassSet};
+use class_pool::{ClassId, ClassSet, known_at, superclass_number, unknown_from};
 use jv_base::{M, Text};
 use keep_rules::ClassSpec;
 use std::alloc::Global;
@@ -47,25 +45,6 @@ fn known_of_all(alloc: Global, pattern: &Text, set: &ClassSet) -> M<Vec<Option<b
     Ok(known)
 }
 
-/// The class and its superclasses in the set up to the first one that is known.
-fn unknown_from(alloc: Global, set: &ClassSet, known: &[Option<bool>], number: u32) -> M<Vec<u32>>
-    requires there { number < length set.now }
-    ensures { IfOk result (λ unknown. All (λ n. n < length set.now) unknown.items) }
-{
-    let mut unknown = Vec::new(alloc);
-    let mut next = Some(ClassId::Prog(number));
-    for _ in 0..set.len() {
-        match next {
-            Some(ClassId::Prog(class)) if known_at(known, class).is_none() => {
-                unknown.push(class)?;
-                next = set.super_of(ClassId::Prog(class));
-            }
-            _ => return Ok(unknown),
-        }
-    }
-    Ok(unknown)
-}
-
 /// Looks at these classes, the last one first.
 fn know(pattern: &Text, set: &ClassSet, known: &mut Vec<Option<bool>>, numbers: &[u32])
     requires there { All (λ n. n < length set.now) numbers.now }
@@ -97,17 +76,6 @@ fn has_above_by(pattern: &Text, set: &ClassSet, known: &[Option<bool>], number: 
     }
 }
 
-/// The number of the superclass; one of the library has none.
-fn superclass_number(set: &ClassSet, number: u32) -> Option<u32>
-    requires there { number < length set.now }
-    ensures { IfSome result (λ above. superclass set.now (Prog number) ≡ Some (Prog above)) }
-{
-    match set.super_of(ClassId::Prog(number)) {
-        Some(ClassId::Prog(above)) => Some(above),
-        _ => None,
-    }
-}
-
 /// The same, where the superclass and what is known of it are given.
 fn is_met_by(pattern: &Text, set: &ClassSet, number: u32, above: u32, is_met: bool) -> bool
     requires there { number < length set.now }
@@ -129,15 +97,6 @@ fn is_met_next(pattern: &Text, set: &ClassSet, number: u32, above: u32) -> bool
 {
     matches_class_name(pattern, name_of(set, &ClassId::Prog(above)))
         || is_met_at(pattern, set, number, &ClassId::Prog(number))
-}
-
-fn known_at(known: &[Option<bool>], number: u32) -> Option<bool>
-    ensures { result ≡ known_at known.now number }
-{
-    match known.get(number as usize) {
-        Some(one) => *one,
-        None => None,
-    }
 }
 
 /// Whether the name of a class above this one is matched, if a specification asks for one.

@@ -14,13 +14,10 @@ use crate::filter::{accepts_class, matches_class_name};
 use crate::flag_word::{FlagsOf, flags_met};
 use bitflags::Flags;
 use class_model::Class;
-use class_pool::{ClassId, ClassSet};
+use class_pool::{ClassId, ClassSet, Superclasses};
 use jv_base::{Access, M, Text};
 use keep_rules::ClassSpec;
 use lib_table::lib_name;
-
-/// More than any set has classes, those of the library with them.
-const HIGHEST: u64 = 1 << 33;
 
 /// Whether a class specification matches the class of a number, its members aside (ProGuard manual, "Class
 /// Specifications"). A set that was read has no enums, so `enum` matches none.
@@ -74,19 +71,13 @@ fn is_kind_met(kind: &str, flags: Access) -> bool
 /// superinterfaces; no memory is taken.
 pub(crate) fn has_above(pattern: &Text, set: &ClassSet, number: u32) -> bool
     requires { number < length set.now }
-    ensures { result ≡ list_any (λ id. matches_class_name pattern.now (name_of set.now id)) (supers set.now (Prog number)) }
+    ensures { result ≡ list_any (λ id. matches_class_name pattern.now (name_of set.now id))
+        (supers set.now (Prog number)) }
 {
-    let mut next = Some(ClassId::Prog(number));
-    let mut left = HIGHEST;
-    while left > 0 {
-        let Some(class) = &next else {
-            return false;
-        };
-        if is_met_at(pattern, set, number, class) {
+    for class in Superclasses::of(set, ClassId::Prog(number)) {
+        if is_met_at(pattern, set, number, &class) {
             return true;
         }
-        next = set.super_of(*class);
-        left -= 1;
     }
     false
 }

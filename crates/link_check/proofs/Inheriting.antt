@@ -35,7 +35,7 @@ use Rattle.link_check.specs.bodies.Inherited.{running_kinds_of, start_at}
 use Rattle.link_check.specs.Links.{is_callable_role}
 use Rattle.link_check.specs.Profile.{least, may_be_overridden_role, methods_of, overridden_kinds, overriding_kinds}
 use Rattle.link_check.specs.Profile.{selected_kinds, unless}
-use Rattle.link_check.specs.bodies.Walks.{superclasses_up}
+use Rattle.class_pool.specs.Walk.{superclasses_up}
 use Rattle.class_pool.proofs.Declaring.{superclass_there}
 use Rattle.link_check.proofs.Least.{least_empty}
 use Rattle.link_check.proofs.Likes.{like_is_method}

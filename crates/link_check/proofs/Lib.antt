@@ -9,7 +9,6 @@ mod Once
 mod Walks
 pub mod Alike
 pub mod Choosing
-pub mod Climbing
 pub mod ComputedProfile
 pub mod Interfaces
 pub mod Linking

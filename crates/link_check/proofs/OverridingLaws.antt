@@ -22,7 +22,7 @@ use Rattle.class_pool.specs.Walk.{highest, same_class, superclasses_from, upward
 use Rattle.link_check.specs.bodies.Overriding.{alike_from, has_open_override, is_among, overrides_openly}
 use Rattle.link_check.specs.bodies.Overriding.{overrides_where}
 use Rattle.class_pool.proofs.Declaring.{declared_named}
-use Rattle.link_check.proofs.Climbing.{upwards_step}
+use Rattle.class_pool.proofs.Climbing.{upwards_step}
 use Rattle.std.proofs.lemmas.Option.{same_Some}
 use Rattle.std.proofs.lemmas.Bool.{or_parts, or_right}
 

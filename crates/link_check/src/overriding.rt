@@ -11,9 +11,8 @@ pub mod inherited;
 pub mod overridden;
 
 use crate::references::access::is_class_below;
-use crate::references::supertypes::Superclasses;
 use crate::rules::member_uses::is_same;
-use class_pool::{ClassId, ClassSet, MemberAt};
+use class_pool::{ClassId, ClassSet, MemberAt, Superclasses};
 
 /// Whether a method overrides one that its class or a superclass declares with its name and descriptor, or is it. Other
 /// classes are looked at only where it may override some method, but not this one by itself.

@@ -6,4 +6,4 @@ pub mod running;
 pub mod selection;
 pub mod special;
 pub mod superinterface_methods;
-pub mod supertypes;
+pub mod superinterfaces;

@@ -24,7 +24,7 @@ use Rattle.require_sys.specs.bodies.Selecting.{called_item}
 use Rattle.require_sys.specs.bodies.Wanting.{Wanted, wanting}
 use Rattle.lib_table.specs.Lookups.{super_of}
 use Rattle.class_pool.proofs.EachOnce.{same_is}
-use Rattle.link_check.proofs.Climbing.{upwards_step}
+use Rattle.class_pool.proofs.Climbing.{upwards_step}
 use Rattle.require_sys.proofs.Gathering.{nothing}
 
 abbrev IsOfLibrary : MemberAt → Type 0

@@ -16,7 +16,7 @@ use Rattle.class_pool.specs.declared.id.ClassId.{ClassId}
 use Rattle.class_pool.specs.declared.id.ClassId.TheVariants.{Lib, Prog}
 use Rattle.class_pool.proofs.Declaring.{superclass_there}
 use Rattle.class_pool.proofs.EachOnce.{same_itself}
-use Rattle.link_check.proofs.Climbing.{upwards_step}
+use Rattle.class_pool.proofs.Climbing.{upwards_step}
 use Rattle.std.proofs.lemmas.Option.{same_Some}
 use Rattle.require_sys.specs.Requires.{is_program}
 use Rattle.require_sys.specs.bodies.Supers.{program_number}

@@ -19,7 +19,7 @@ use Rattle.class_pool.proofs.Among.{any_once}
 use Rattle.class_pool.proofs.EachOnce.{once_append, once_none, once_one, once_twice}
 use Rattle.class_pool.proofs.FillingLaws.{own_valid}
 use Rattle.class_pool.proofs.SupersLaws.{chain_valid}
-use Rattle.link_check.proofs.Climbing.{upwards_none, upwards_step}
+use Rattle.class_pool.proofs.Climbing.{upwards_none, upwards_step}
 use Rattle.require_sys.specs.Requires.{is_program, library_supers}
 use Rattle.require_sys.specs.bodies.Supers.{is_library, is_new, other_number, own_once}
 use Rattle.require_sys.specs.bodies.Wanting.{has}

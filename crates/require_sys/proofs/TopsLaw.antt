@@ -25,7 +25,7 @@ use Rattle.lib_table.proofs.Computed.{count}
 use Rattle.class_pool.proofs.EachOnce.{same_is, same_itself}
 use Rattle.class_pool.proofs.Walking.{superclasses_next}
 use Rattle.link_check.specs.bodies.Overriding.{alike_from}
-use Rattle.link_check.proofs.Climbing.{upwards_step}
+use Rattle.class_pool.proofs.Climbing.{upwards_step}
 use Rattle.link_check.proofs.OverridingLaws.{alike_none, declared_class, first_none, member_Decides}
 use Rattle.require_sys.specs.Requires.{OfMember, instance_methods, is_inheritable, library_supers, members_of}
 use Rattle.require_sys.specs.Requires.{class_number, methods_above, pair_from, pair_of, program_supers}

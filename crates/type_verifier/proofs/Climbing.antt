@@ -197,10 +197,6 @@ far_same classes n floor step far known other le to under =
 
 -- ---- heights
 
--- classes upwards from this one, if there is one
-abbrev pub upwards_if : ℕ → List Class → Option ClassId → List ClassId
-upwards_if n classes c = option_map_or (upwards n classes) c []
-
 up_long : (n : ℕ) (classes : List Class) (c : ClassId) → length (upwards n classes c) ≤ n
 unfolding upwards
 up_long zero classes c = omega arith
@@ -225,52 +221,29 @@ one_higher classes c h is = at (height classes c) (height_bound classes c) is
 none_yet : (n : ℕ) → 0 + n ≡ n
 none_yet n = omega arith
 
-pub counted_none : (classes : List Class) (c : ClassId)
-    → 0 + length (upwards_if 8589934592 classes (Some c)) ≡ height classes c
+pub counted_none : (classes : List Class) (c : ClassId) (left : List ClassId) → left ≡ superclasses_from classes c
+    → 0 + length left ≡ height classes c
 unfolding height
-counted_none classes c = none_yet (length (upwards_if 8589934592 classes (Some c)))
+counted_none classes c left is = none_yet (length left) ∙ ap length is
 
-pub counted_more : (classes : List Class) (c : ClassId) (next above : Option ClassId) (bound h due : ℕ) → h < bound
-    → next ≡ Some c → above ≡ superclass classes c → h + length (upwards_if (bound - h) classes next) ≡ due
-    → (h + 1) + length (upwards_if (bound - (h + 1)) classes above) ≡ due
-counted_more classes c next above bound h due less is up so_far =
-    let one : bound - h ≡ suc (bound - (h + 1)) = omega (arith, less) in
-    let long : length (upwards_if (bound - h) classes next)
-    ≡ suc (length (upwards_if (bound - (h + 1)) classes above)) =
-    ap (λ (o : Option ClassId). length (upwards_if (bound - h) classes o)) is
-    ∙ ap (λ (k : ℕ). length (upwards k classes c)) one
-    ∙ ap length (up_unfolded (bound - (h + 1)) classes c)
-    ∙ ap (λ (o : Option ClassId). suc (length (upwards_if (bound - (h + 1)) classes o))) (sym up) in
-    by (length (upwards_if (bound - h) classes next)) (length (upwards_if (bound - (h + 1)) classes above)) long so_far
+pub counted_more : (c : ClassId) (left further : List ClassId) (h due : ℕ) → left ≡ c ∷ further → h + length left ≡ due
+    → (h + 1) + length further ≡ due
+counted_more c left further h due is so_far = by (length left) (length further) (ap length is) so_far
   where
     by : (x y : ℕ) → x ≡ suc y → h + x ≡ due → (h + 1) + y ≡ due
     by x y e f = omega (arith, e, f)
 
-pub counted_end : (classes : List Class) (next : Option ClassId) (bound h due : ℕ) → bound ≤ h
-    → h + length (upwards_if (bound - h) classes next) ≡ due → h ≡ due
-counted_end classes next bound h due le so_far = by (length (upwards_if (bound - h) classes next))
-    (ap (λ (k : ℕ). length (upwards_if k classes next)) none ∙ ends next) so_far
-  where
-    none : bound - h ≡ 0
-    none = omega (arith, le)
-
-    ends : (o : Option ClassId) → length (upwards_if 0 classes o) ≡ 0
-    ends None = refl
-    ends (Some c) = by_none (length (upwards 0 classes c)) (up_long 0 classes c)
-      where
-        by_none : (n : ℕ) → n ≤ 0 → n ≡ 0
-        by_none n le = omega (arith, le)
-
-    by : (x : ℕ) → x ≡ 0 → h + x ≡ due → h ≡ due
-    by x e f = omega (arith, e, f)
-
-pub counted_over : (classes : List Class) (next : Option ClassId) (left h due : ℕ) → next ≡ None
-    → h + length (upwards_if left classes next) ≡ due → h ≡ due
-counted_over classes next left h due e so_far =
-    by (length (upwards_if left classes next)) (ap (λ (o : Option ClassId). length (upwards_if left classes o)) e) so_far
+pub counted_all : (left : List ClassId) (h due : ℕ) → left ≡ [] → h + length left ≡ due → h ≡ due
+counted_all left h due is so_far = by (length left) (ap length is) so_far
   where
     by : (x : ℕ) → x ≡ 0 → h + x ≡ due → h ≡ due
     by x e f = omega (arith, e, f)
+
+pub count_low : (classes : List Class) (c : ClassId) (h more : ℕ) → h + more ≡ height classes c → h ≤ 8589934592
+count_low classes c h more is = by (height classes c) (height_bound classes c) is
+  where
+    by : (due : ℕ) → due ≤ 8589934592 → h + more ≡ due → h ≤ 8589934592
+    by due le e = omega (arith, le, e)
 
 -- ---- the table
 

@@ -2,8 +2,7 @@
 //
 // Of each class it is known how many stand from it upwards, and a class above it to which a walk may go at once. Which
 // one that is isn't proved, and only speed rests on it: it is chosen so that a walk takes a number of steps in the
-// order of the logarithm of the height. Nor is proved in which order classes are looked at; one of which nothing is
-// known is looked for by its superclasses.
+// order of the logarithm of the height. Nor is proved in which order classes are looked at (`known` of `class_pool`).
 ghost use Rattle.std.specs.Prelude.{◌≡◌, ◌≤◌, ◌<◌, IfOk, IfSome, None, Some, length, slice_index_or};
 ghost use Rattle.std.specs.List.{All};
 ghost use Rattle.class_pool.specs.declared.id.ClassId.{ClassId};
@@ -12,14 +11,11 @@ ghost use Rattle.class_pool.specs.Hierarchy.{IsClass, class_named, superclass};
 ghost use Rattle.class_pool.specs.Resolution.{is_class_below, is_interface_in};
 ghost use Rattle.type_verifier.specs.bodies.Steps.{AreSteps, IsFar, IsFloor, IsStep, height};
 
-use class_pool::{ClassId, ClassSet};
+use class_pool::{ClassId, ClassSet, Superclasses, known_at, superclass_number, unknown_from};
 use jv_base::{M, Name};
 use link_check::is_class_below;
 use std::alloc::Global;
 use std::marker::Model;
-
-/// More than any set has classes, those of the library with them.
-const HIGHEST: u64 = 1 << 33;
 
 /// What is known of a class of the set.
 #[derive(Clone, Copy)]
@@ -114,7 +110,7 @@ fn is_below_program(set: &ClassSet, steps: &[Option<Step>], from: u32, to: u32) 
     requires steps { AreSteps set.now steps.now }
     ensures { result ≡ is_class_below set.now (Prog from) (Prog to) }
 {
-    match step_at(steps, to) {
+    match known_at(steps, to) {
         Some(step) => is_below_at(set, steps, from, to, step.height),
         None => is_class_below(set, ClassId::Prog(from), ClassId::Prog(to)),
     }
@@ -142,7 +138,7 @@ fn is_met(set: &ClassSet, steps: &[Option<Step>], from: u32, to: u32, floor: u64
 {
     set.has_ranks();
     let _count = set.len();
-    match step_at(steps, from) {
+    match known_at(steps, from) {
         Some(step) if step.height <= floor => from == to,
         _ => is_class_below(set, ClassId::Prog(from), ClassId::Prog(to)),
     }
@@ -185,11 +181,11 @@ fn next(set: &ClassSet, steps: &[Option<Step>], at: u32, floor: u64) -> Option<u
     ensures same { IfSome result (λ next. (to : ClassId) → IsFloor set.now floor to
         → is_class_below set.now (Prog next) to ≡ is_class_below set.now (Prog at) to) }
 {
-    let step = step_at(steps, at)?;
+    let step = known_at(steps, at)?;
     if step.height <= floor {
         return None;
     }
-    let far = step_at(steps, step.far)?;
+    let far = known_at(steps, step.far)?;
     if floor <= far.height && far.height < step.height {
         Some(step.far)
     } else {
@@ -211,26 +207,6 @@ fn next_above(set: &ClassSet, at: u32, floor: u64, over: u64) -> Option<u32>
     superclass_number(set, at)
 }
 
-/// The number of the superclass; one of the library has none.
-fn superclass_number(set: &ClassSet, number: u32) -> Option<u32>
-    requires there { number < length set.now }
-    ensures { IfSome result (λ above. superclass set.now (Prog number) ≡ Some (Prog above)) }
-{
-    match set.super_of(ClassId::Prog(number)) {
-        Some(ClassId::Prog(above)) => Some(above),
-        _ => None,
-    }
-}
-
-fn step_at(steps: &[Option<Step>], number: u32) -> Option<Step>
-    ensures { result ≡ slice_index_or steps.now number None }
-{
-    match steps.get(number as usize) {
-        Some(step) => *step,
-        None => None,
-    }
-}
-
 // ---- what is known of each class
 
 /// What is known of each class of a set, by its number.
@@ -243,25 +219,6 @@ pub(crate) fn steps_of(alloc: Global, set: &ClassSet) -> M<Vec<Option<Step>>>
         know(set, &mut steps, unknown.as_slice());
     }
     Ok(steps)
-}
-
-/// The class and its superclasses in the set up to the first one that is known.
-fn unknown_from(alloc: Global, set: &ClassSet, steps: &[Option<Step>], number: u32) -> M<Vec<u32>>
-    requires there { number < length set.now }
-    ensures { IfOk result (λ unknown. All (λ n. n < length set.now) unknown.items) }
-{
-    let mut unknown = Vec::new(alloc);
-    let mut next = Some(ClassId::Prog(number));
-    for _ in 0..set.len() {
-        match next {
-            Some(ClassId::Prog(class)) if step_at(steps, class).is_none() => {
-                unknown.push(class)?;
-                next = set.super_of(ClassId::Prog(class));
-            }
-            _ => return Ok(unknown),
-        }
-    }
-    Ok(unknown)
 }
 
 /// Looks at these classes, the last one first.
@@ -288,7 +245,7 @@ fn step_of(set: &ClassSet, steps: &[Option<Step>], number: u32) -> Step
     let Some(above) = superclass_number(set, number) else {
         return first_step(set, number);
     };
-    match step_at(steps, above) {
+    match known_at(steps, above) {
         Some(step) => step_below(set, steps, number, above, step),
         None => first_step(set, number),
     }
@@ -310,12 +267,7 @@ fn height_of(set: &ClassSet, class: ClassId) -> u64
     ensures { result ≡ height set.now class }
 {
     let mut height = 0;
-    let mut next = Some(class);
-    while height < HIGHEST {
-        let Some(class) = next else {
-            return height;
-        };
-        next = set.super_of(class);
+    for _ in Superclasses::of(set, class) {
         height += 1;
     }
     height
@@ -358,8 +310,8 @@ fn far_twice(set: &ClassSet, steps: &[Option<Step>], above: u32, step: Step) -> 
     ensures { IfSome result (IsFar set.now above) }
 {
     let _count = set.len();
-    let one = step_at(steps, step.far)?;
-    let two = step_at(steps, one.far)?;
+    let one = known_at(steps, step.far)?;
+    let two = known_at(steps, one.far)?;
     if step.height.saturating_sub(one.height) == one.height.saturating_sub(two.height) {
         Some(one.far)
     } else {

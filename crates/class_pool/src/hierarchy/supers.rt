@@ -8,7 +8,7 @@ ghost use Rattle.class_pool.specs.bodies.Lists.{AreOwn, list_at};
 ghost use Rattle.class_pool.specs.Ranks.{HasObject, HasRanks};
 ghost use Rattle.class_pool.specs.bodies.Marked.{IsBelow};
 ghost use Rattle.class_pool.specs.Supers.{IsSupers};
-ghost use Rattle.class_pool.specs.Walk.{each_once, supers, upwards};
+ghost use Rattle.class_pool.specs.Walk.{each_once, superclasses_from, supers};
 
 use crate::ClassId;
 use crate::hierarchy::graph::number;
@@ -18,52 +18,32 @@ use jv_base::{Items, M};
 use lib_table::LibId;
 use std::alloc::Global;
 
-/// The supertypes of a class without the class itself: its superclasses upwards, then the superinterfaces that each of
-/// these classes has itself, each once, where it is met first.
+/// The supertypes of a class without the class itself, by the chain of it and its superclasses: those upwards, then the
+/// superinterfaces that each of these classes has itself, each once, where it is met first.
 pub(crate) fn supers_of(
     alloc: Global,
     classes: &ClassesByName,
     library: &Items<LibId>,
     superinterfaces: &Items<Items<ClassId>>,
-    id: ClassId,
+    id: &ClassId,
+    chain: &[ClassId],
 ) -> M<Items<ClassId>>
     requires library { library.now ≡ library_ids }
     requires ranks { HasRanks classes.now }
     requires object { HasObject classes.now }
     requires own { AreOwn classes.now superinterfaces.now }
-    requires there { IsClass classes.now id }
-    ensures order { IfOk result (λ ids. ids ≡ supers classes.now id) }
-    ensures are { IfOk result (IsSupers classes.now id) }
+    requires there { IsClass classes.now id.now }
+    requires chain { chain.now ≡ superclasses_from classes.now id.now }
+    ensures order { IfOk result (λ ids. ids ≡ supers classes.now id.now) }
+    ensures are { IfOk result (IsSupers classes.now id.now) }
 {
     let count = library.len() + classes.len() as usize;
-    let chain = superclasses_of(alloc, classes, count, &id)?;
     let mut met = Met::new(alloc, count)?;
-    met.meet_all(library, chain.as_slice())?;
-    meet_lists(library, superinterfaces, &mut met, chain.as_slice())?;
+    met.meet_all(library, chain)?;
+    meet_lists(library, superinterfaces, &mut met, chain)?;
     let mut ids = met.take(alloc, library).into_vec();
     ids.remove(0);
     Ok(Items::from_vec(ids))
-}
-
-/// A class and its superclasses, the nearest first, up to so many steps.
-fn superclasses_of(
-    alloc: Global,
-    classes: &ClassesByName,
-    steps: usize,
-    id: &ClassId,
-) -> M<Items<ClassId>>
-    requires { IsClass classes.now id.now }
-    ensures { IfOk result (λ ids. ids ≡ upwards (steps + 1) classes.now id.now) }
-{
-    let mut ids = Items::new(alloc);
-    ids.push(*id)?;
-    for number in 0..steps {
-        match classes.super_of(ids[number]) {
-            Some(above) => ids.push(above)?,
-            None => return Ok(ids),
-        }
-    }
-    Ok(ids)
 }
 
 /// Meets those of the list of each of these classes.

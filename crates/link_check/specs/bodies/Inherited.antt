@@ -13,7 +13,7 @@ use Rattle.class_pool.specs.Walk.{superclasses_from, superinterfaces}
 use Rattle.link_check.specs.declared.fault.ProfileKind.{ProfileKind}
 use Rattle.link_check.specs.declared.overriding.inherited.Known.{Known}
 use Rattle.link_check.specs.Profile.{methods_of, selected_kinds}
-use Rattle.link_check.specs.bodies.Walks.{superclasses_up}
+use Rattle.class_pool.specs.Walk.{superclasses_up}
 
 abbrev pub has_final_method : Class → Bool
 has_final_method c = list_any (λ m. has acc_final m.flags.0) c.methods

@@ -1,6 +1,6 @@
 -- What is met where the superinterfaces of a class and of its superclasses are looked through (JVMS 5.4.3.3): of each
 -- class those that it has itself come each once (only the proofs of check_links and resolve_method need it).
-use Rattle.std.specs.Prelude.{ℕ, Bool, not, ◌&&◌, List, [], Option, Result, Ok, Err, if◌then◌else◌}
+use Rattle.std.specs.Prelude.{ℕ, Bool, not, ◌&&◌, List, [], Result, Ok, Err, if◌then◌else◌}
 use Rattle.std.specs.List.{filter, flat_map}
 use Rattle.std.specs.Option.{option_map_or}
 use Rattle.class_model.specs.declared.class.Class.{Class}
@@ -12,10 +12,6 @@ use Rattle.class_pool.specs.Resolution.{is_class_accessible, is_maximally_specif
 use Rattle.class_pool.specs.Walk.{each_once, own_superinterfaces, superclasses_from}
 use Rattle.link_check.specs.declared.fault.LinkKind.{LinkKind}
 use Rattle.link_check.specs.declared.fault.LinkKind.TheVariants.{Unresolved, Inaccessible}
-
--- from a class, if there is one, upwards: the class and its superclasses, the nearest first
-abbrev pub superclasses_up : List Class → Option ClassId → List ClassId
-superclasses_up classes next = option_map_or (superclasses_from classes) next []
 
 -- the superinterfaces that a class has itself, each once
 abbrev pub each_superinterface : List Class → ClassId → List ClassId

@@ -9,17 +9,16 @@ ghost use Rattle.class_pool.specs.Walk.{own_superinterfaces};
 ghost use Rattle.class_pool.specs.declared.id.ClassId.TheVariants.{Prog};
 ghost use Rattle.link_check.specs.bodies.Inherited.{AreKnown, running_kinds, running_kinds_of};
 ghost use Rattle.link_check.specs.Profile.{implementing_kinds, least, methods_of, selected_kinds};
-ghost use Rattle.link_check.specs.bodies.Walks.{superclasses_up};
+ghost use Rattle.class_pool.specs.Walk.{superclasses_up};
 
 use crate::ProfileKind;
 use crate::overriding::inherited::{Known, fits_in, program_number};
 use crate::references::selection::select;
-use crate::references::supertypes::Superclasses;
 use crate::rules::kind_order::lesser;
 use crate::rules::member_uses::role_kind;
 use bitflags::Flags;
 use class_model::Class;
-use class_pool::{ClassId, ClassSet, MemberAt};
+use class_pool::{ClassId, ClassSet, MemberAt, Superclasses};
 use jv_base::Access;
 
 /// What is wrong with the methods that run where those of the program's superinterfaces of a class are called; an

@@ -1,7 +1,4 @@
-// What the classes of a set have from the classes above them, found once for each class.
-//
-// A class is looked at when its superclass is known. In which order that comes is not proved: what isn't known is
-// looked for in all superclasses, and only speed rests on it.
+// What the classes of a set have from the classes above them, found once for each class (`known` of `class_pool`).
 ghost use Rattle.std.specs.Prelude.{◌≡◌, ◌<◌, IfOk, IfSome, IsTrue, None, Some, false, length, slice_index_or};
 ghost use Rattle.class_pool.specs.declared.id.ClassId.TheVariants.{Prog};
 ghost use Rattle.std.specs.List.{All};
@@ -9,10 +6,9 @@ ghost use Rattle.std.specs.Option.{option_map_or};
 ghost use Rattle.link_check.specs.bodies.Inherited.{AreKnown, Fits, IsKnown, IsStart, has_final_method, start_at};
 
 use crate::overriding::implemented::running_kind;
-use crate::references::supertypes::Superclasses;
 use bitflags::Flags;
 use class_model::Class;
-use class_pool::{ClassId, ClassSet};
+use class_pool::{ClassId, ClassSet, known_at, unknown_from};
 use jv_base::{Access, M};
 use std::alloc::Global;
 
@@ -38,21 +34,6 @@ pub(crate) fn known_of_all(alloc: Global, set: &ClassSet) -> M<Vec<Option<Known>
         know(set, &mut known, unknown.as_slice());
     }
     Ok(known)
-}
-
-/// The class and its superclasses in the set up to the first one that is known.
-fn unknown_from(alloc: Global, set: &ClassSet, known: &[Option<Known>], number: u32) -> M<Vec<u32>>
-    requires there { number < length set.now }
-    ensures { IfOk result (λ unknown. All (λ n. n < length set.now) unknown.items) }
-{
-    let mut unknown = Vec::new(alloc);
-    for class in Superclasses::of(set, ClassId::Prog(number)) {
-        match class {
-            ClassId::Prog(number) if known_at(known, number).is_none() => unknown.push(number)?,
-            _ => return Ok(unknown),
-        }
-    }
-    Ok(unknown)
 }
 
 /// Looks at these classes, the last one first.
@@ -123,15 +104,6 @@ fn fits(set: &ClassSet, known: &[Option<Known>], number: u32) -> bool
 {
     !set.class(number).flags.contains(Access::INTERFACE)
         && running_kind(set, known, number).is_none()
-}
-
-fn known_at(known: &[Option<Known>], number: u32) -> Option<Known>
-    ensures { result ≡ slice_index_or known.now number None }
-{
-    match known.get(number as usize) {
-        Some(one) => *one,
-        None => None,
-    }
 }
 
 /// Where the methods of a class begin to look for those that they override.

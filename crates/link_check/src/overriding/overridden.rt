@@ -15,10 +15,9 @@ ghost use Rattle.link_check.specs.declared.fault.ProfileKind.TheVariants.{LeftOu
 use crate::ProfileKind;
 use crate::overriding::inherited::{Known, start_in};
 use crate::references::selection::overrides;
-use crate::references::supertypes::Superclasses;
 use crate::rules::kind_order::{lesser, unless};
 use crate::rules::member_uses::is_same_class;
-use class_pool::{ClassId, ClassSet, MemberAt};
+use class_pool::{ClassId, ClassSet, MemberAt, Superclasses};
 use lib_table::Role;
 
 /// What is wrong with the methods that a method of the class with a number overrides. Superclasses are looked at from

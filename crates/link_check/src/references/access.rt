@@ -5,8 +5,7 @@ ghost use Rattle.class_pool.specs.Hierarchy.{IsClass};
 ghost use Rattle.class_pool.specs.Resolution.{is_class_accessible, is_class_below, is_member_accessible};
 ghost use Rattle.class_pool.specs.Resolution.{is_protected_accessible};
 
-use crate::references::supertypes::Superclasses;
-use class_pool::{ClassId, ClassSet, MemberAt};
+use class_pool::{ClassId, ClassSet, MemberAt, Superclasses};
 
 /// Whether a class is accessible to another: it is public or of the same run-time package.
 pub(crate) fn is_class_accessible(set: &ClassSet, from: ClassId, class: ClassId) -> bool

@@ -8,8 +8,7 @@ ghost use Rattle.class_pool.specs.Resolution.{method_found, object_method};
 ghost use Rattle.class_pool.specs.Walk.{superclasses_from};
 
 use crate::references::superinterface_methods::superinterface_method;
-use crate::references::supertypes::Superclasses;
-use class_pool::{ClassId, ClassSet, MemberAt};
+use class_pool::{ClassId, ClassSet, MemberAt, Superclasses};
 use jv_base::{Name, Text};
 
 /// The field that is found for a class: its own, else of its superinterfaces, else the same of its superclass (JVMS

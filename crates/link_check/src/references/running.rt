@@ -11,10 +11,9 @@ ghost use Rattle.class_pool.specs.bodies.Supers.{is_self_or_own};
 
 use crate::references::selection::select;
 use crate::references::special::first_instance_up;
-use crate::references::supertypes::Superclasses;
 use crate::rules::member_uses::{is_same, is_same_class};
 use class_model::MemberRef;
-use class_pool::{ClassId, ClassSet, MemberAt};
+use class_pool::{ClassId, ClassSet, MemberAt, Superclasses};
 
 /// Whether a class is another one or one of its supertypes is, by the walk over its supertypes (JLS 4.10.2). Takes no
 /// memory.

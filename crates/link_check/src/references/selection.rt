@@ -11,9 +11,8 @@ use crate::overriding::{
     has_open_override, is_declared_from, is_first_like, may_be_overridden, may_override,
     overrides_above,
 };
-use crate::references::supertypes::Superclasses;
 use crate::rules::member_uses::is_same;
-use class_pool::{ClassId, ClassSet, MemberAt};
+use class_pool::{ClassId, ClassSet, MemberAt, Superclasses};
 
 /// The method that runs where an object of a class is the receiver of a call of a method (JVMS 6.5.invokevirtual,
 /// 6.5.invokeinterface); none where no method fits. Takes no memory.

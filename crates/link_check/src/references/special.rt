@@ -8,13 +8,12 @@ ghost use Rattle.class_pool.specs.Selection.{selected_special};
 ghost use Rattle.class_pool.specs.declared.id.ClassId.TheVariants.{Prog};
 ghost use Rattle.link_check.specs.Links.{resolved_method};
 ghost use Rattle.link_check.specs.Profile.{class_of};
-ghost use Rattle.link_check.specs.bodies.Walks.{superclasses_up};
+ghost use Rattle.class_pool.specs.Walk.{superclasses_up};
 
-use crate::references::supertypes::Superclasses;
 use crate::rules::calls::class_of;
 use crate::rules::member_uses::is_same_class;
 use class_model::MemberRef;
-use class_pool::{ClassId, ClassSet, MemberAt};
+use class_pool::{ClassId, ClassSet, MemberAt, Superclasses};
 
 /// The method that an instruction invokespecial of a class runs, whose reference means a method (JVMS
 /// 6.5.invokespecial); none where no method fits. The class is told by its number. Takes no memory.

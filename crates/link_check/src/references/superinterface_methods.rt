@@ -8,7 +8,7 @@ ghost use Rattle.class_pool.specs.Resolution.{chosen, first, is_maximally_specif
 ghost use Rattle.class_pool.specs.Resolution.{maximally_specific, superinterface_methods};
 ghost use Rattle.link_check.specs.bodies.Walks.{candidates, is_candidate, methods_met, open_methods};
 
-use crate::references::supertypes::Superinterfaces;
+use crate::references::superinterfaces::Superinterfaces;
 use crate::rules::member_uses::is_same;
 use class_pool::{ClassId, ClassSet, MemberAt};
 use jv_base::{Name, Text};

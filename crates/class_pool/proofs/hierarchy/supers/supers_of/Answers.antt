@@ -6,9 +6,9 @@ use Rattle.class_pool.specs.declared.id.ClassId.{ClassId}
 use Rattle.class_pool.specs.bodies.Lists.{list_at}
 use Rattle.class_pool.specs.bodies.Marked.{Classes}
 use Rattle.class_pool.specs.Supers.{IsSupers}
-use Rattle.class_pool.specs.Walk.{each_once, superclasses_from, supers}
+use Rattle.class_pool.specs.Walk.{each_once, supers}
 use Rattle.class_pool.proofs.Graphing.{library_length}
-use Rattle.class_pool.proofs.SupersLaws.{chain_below, lists_below, supers_met, supers_proper, whole_chain}
+use Rattle.class_pool.proofs.SupersLaws.{chain_below, lists_below, supers_met, supers_proper}
 use Rattle.class_pool.proofs.SupersLaws.{without_first}
 use Rattle.class_pool.proofs.hierarchy.supers.supers_of.Goals as goal
 
@@ -23,10 +23,8 @@ meet_all-requires-clause-below c =
     let few : length c.args.classes.now ≤ 4294967295 = omega (arith, c.len-2.ensures) in
     let total : c.len.result + c.len-2.result
     ≡ length library + length c.args.classes.now = omega (arith, long, c.len.ensures, c.len-2.ensures) in
-    chain_below c.args.classes.now c.args.id c.in_ok-met.met.count c.as_slice.result.now c.requires.there
-    (c.as_slice.ensures ∙ c.in_ok-chain.ensures
-    ∙ whole_chain c.args.classes.now c.requires.ranks c.args.id
-    (c.len.result + c.len-2.result) few c.requires.there total)
+    chain_below c.args.classes.now c.args.id.now c.in_ok-met.met.count c.args.chain.now c.requires.there
+    c.requires.chain
     (ap (λ (m : Classes). m.count) c.in_ok-met.ensures ∙ total)
 
 pub meet_lists-requires-clause-count : goal.meet_lists-requires-clause-count
@@ -50,10 +48,8 @@ meet_lists-requires-clause-below c =
     let few : length c.args.classes.now ≤ 4294967295 = omega (arith, c.len-2.ensures) in
     let total : c.len.result + c.len-2.result
     ≡ length library + length c.args.classes.now = omega (arith, long, c.len.ensures, c.len-2.ensures) in
-    chain_below c.args.classes.now c.args.id c.meet_all.new.self.count c.as_slice-2.result.now c.requires.there
-    (c.as_slice-2.ensures ∙ c.in_ok-chain.ensures
-    ∙ whole_chain c.args.classes.now c.requires.ranks c.args.id
-    (c.len.result + c.len-2.result) few c.requires.there total)
+    chain_below c.args.classes.now c.args.id.now c.meet_all.new.self.count c.args.chain.now c.requires.there
+    c.requires.chain
     (c.meet_all.ensures.count ∙ ap (λ (m : Classes). m.count) c.in_ok-met.ensures ∙ total)
 
 pub remove-requires : goal.remove-requires
@@ -62,23 +58,17 @@ remove-requires c =
     let few : length c.args.classes.now ≤ 4294967295 = omega (arith, c.len-2.ensures) in
     let total : c.len.result + c.len-2.result
     ≡ length library + length c.args.classes.now = omega (arith, long, c.len.ensures, c.len-2.ensures) in
-    let up : List ClassId = c.in_ok-chain.chain in
-    let up-is : up ≡ superclasses_from c.args.classes.now c.args.id =
-    c.in_ok-chain.ensures ∙ whole_chain c.args.classes.now c.requires.ranks c.args.id
-    (c.len.result + c.len-2.result) few c.requires.there total in
+    let up : List ClassId = c.args.chain.now in
     let one : c.meet_all.new.self.ids ≡ c.in_ok-met.met.ids ++ each_once c.in_ok-met.met.ids up =
-    c.in_ok-meet_all.ensures.ids
-    ∙ ap (λ (t : List ClassId). c.in_ok-met.met.ids ++ each_once c.in_ok-met.met.ids t) c.as_slice.ensures in
+    c.in_ok-meet_all.ensures.ids in
     let two : c.meet_lists.new.met.ids
     ≡ c.meet_all.new.self.ids ++ each_once c.meet_all.new.self.ids
     (flat_map (list_at c.args.superinterfaces.now) up) =
-    c.in_ok-meet_lists.ensures
-    ∙ ap (λ (t : List ClassId). c.meet_all.new.self.ids ++ each_once c.meet_all.new.self.ids
-    (flat_map (list_at c.args.superinterfaces.now) t)) c.as_slice-2.ensures in
-    let ids : c.into_vec-ids.result.items ≡ c.args.id ∷ supers c.args.classes.now c.args.id =
+    c.in_ok-meet_lists.ensures in
+    let ids : c.into_vec-ids.result.items ≡ c.args.id.now ∷ supers c.args.classes.now c.args.id.now =
     c.into_vec-ids.ensures ∙ c.take.ensures.ids
-    ∙ supers_met c.args.classes.now c.args.superinterfaces.now c.args.id up c.in_ok-met.met.ids c.meet_all.new.self.ids
-    c.meet_lists.new.met.ids c.requires.own c.requires.there up-is
+    ∙ supers_met c.args.classes.now c.args.superinterfaces.now c.args.id.now up c.in_ok-met.met.ids c.meet_all.new.self.ids
+    c.meet_lists.new.met.ids c.requires.own c.requires.there c.requires.chain
     (ap (λ (m : Classes). m.ids) c.in_ok-met.ensures) one two in
     let some = ap length ids in
     omega (arith, some, c.into_vec-ids.result.ok)
@@ -89,26 +79,20 @@ returns-clause-order c =
     let few : length c.args.classes.now ≤ 4294967295 = omega (arith, c.len-2.ensures) in
     let total : c.len.result + c.len-2.result
     ≡ length library + length c.args.classes.now = omega (arith, long, c.len.ensures, c.len-2.ensures) in
-    let up : List ClassId = c.in_ok-chain.chain in
-    let up-is : up ≡ superclasses_from c.args.classes.now c.args.id =
-    c.in_ok-chain.ensures ∙ whole_chain c.args.classes.now c.requires.ranks c.args.id
-    (c.len.result + c.len-2.result) few c.requires.there total in
+    let up : List ClassId = c.args.chain.now in
     let one : c.meet_all.new.self.ids ≡ c.in_ok-met.met.ids ++ each_once c.in_ok-met.met.ids up =
-    c.in_ok-meet_all.ensures.ids
-    ∙ ap (λ (t : List ClassId). c.in_ok-met.met.ids ++ each_once c.in_ok-met.met.ids t) c.as_slice.ensures in
+    c.in_ok-meet_all.ensures.ids in
     let two : c.meet_lists.new.met.ids
     ≡ c.meet_all.new.self.ids ++ each_once c.meet_all.new.self.ids
     (flat_map (list_at c.args.superinterfaces.now) up) =
-    c.in_ok-meet_lists.ensures
-    ∙ ap (λ (t : List ClassId). c.meet_all.new.self.ids ++ each_once c.meet_all.new.self.ids
-    (flat_map (list_at c.args.superinterfaces.now) t)) c.as_slice-2.ensures in
-    let ids : c.into_vec-ids.result.items ≡ c.args.id ∷ supers c.args.classes.now c.args.id =
+    c.in_ok-meet_lists.ensures in
+    let ids : c.into_vec-ids.result.items ≡ c.args.id.now ∷ supers c.args.classes.now c.args.id.now =
     c.into_vec-ids.ensures ∙ c.take.ensures.ids
-    ∙ supers_met c.args.classes.now c.args.superinterfaces.now c.args.id up c.in_ok-met.met.ids c.meet_all.new.self.ids
-    c.meet_lists.new.met.ids c.requires.own c.requires.there up-is
+    ∙ supers_met c.args.classes.now c.args.superinterfaces.now c.args.id.now up c.in_ok-met.met.ids c.meet_all.new.self.ids
+    c.meet_lists.new.met.ids c.requires.own c.requires.there c.requires.chain
     (ap (λ (m : Classes). m.ids) c.in_ok-met.ensures) one two in
     c.from_vec.ensures ∙ c.remove.ensures.items
-    ∙ without_first c.args.id (supers c.args.classes.now c.args.id) c.into_vec-ids.result.items ids
+    ∙ without_first c.args.id.now (supers c.args.classes.now c.args.id.now) c.into_vec-ids.result.items ids
 
 pub returns-clause-are : goal.returns-clause-are
 returns-clause-are c =
@@ -116,26 +100,20 @@ returns-clause-are c =
     let few : length c.args.classes.now ≤ 4294967295 = omega (arith, c.len-2.ensures) in
     let total : c.len.result + c.len-2.result
     ≡ length library + length c.args.classes.now = omega (arith, long, c.len.ensures, c.len-2.ensures) in
-    let up : List ClassId = c.in_ok-chain.chain in
-    let up-is : up ≡ superclasses_from c.args.classes.now c.args.id =
-    c.in_ok-chain.ensures ∙ whole_chain c.args.classes.now c.requires.ranks c.args.id
-    (c.len.result + c.len-2.result) few c.requires.there total in
+    let up : List ClassId = c.args.chain.now in
     let one : c.meet_all.new.self.ids ≡ c.in_ok-met.met.ids ++ each_once c.in_ok-met.met.ids up =
-    c.in_ok-meet_all.ensures.ids
-    ∙ ap (λ (t : List ClassId). c.in_ok-met.met.ids ++ each_once c.in_ok-met.met.ids t) c.as_slice.ensures in
+    c.in_ok-meet_all.ensures.ids in
     let two : c.meet_lists.new.met.ids
     ≡ c.meet_all.new.self.ids ++ each_once c.meet_all.new.self.ids
     (flat_map (list_at c.args.superinterfaces.now) up) =
-    c.in_ok-meet_lists.ensures
-    ∙ ap (λ (t : List ClassId). c.meet_all.new.self.ids ++ each_once c.meet_all.new.self.ids
-    (flat_map (list_at c.args.superinterfaces.now) t)) c.as_slice-2.ensures in
-    let ids : c.into_vec-ids.result.items ≡ c.args.id ∷ supers c.args.classes.now c.args.id =
+    c.in_ok-meet_lists.ensures in
+    let ids : c.into_vec-ids.result.items ≡ c.args.id.now ∷ supers c.args.classes.now c.args.id.now =
     c.into_vec-ids.ensures ∙ c.take.ensures.ids
-    ∙ supers_met c.args.classes.now c.args.superinterfaces.now c.args.id up c.in_ok-met.met.ids c.meet_all.new.self.ids
-    c.meet_lists.new.met.ids c.requires.own c.requires.there up-is
+    ∙ supers_met c.args.classes.now c.args.superinterfaces.now c.args.id.now up c.in_ok-met.met.ids c.meet_all.new.self.ids
+    c.meet_lists.new.met.ids c.requires.own c.requires.there c.requires.chain
     (ap (λ (m : Classes). m.ids) c.in_ok-met.ensures) one two in
-    let is : c.from_vec.result ≡ supers c.args.classes.now c.args.id =
+    let is : c.from_vec.result ≡ supers c.args.classes.now c.args.id.now =
     c.from_vec.ensures ∙ c.remove.ensures.items
-    ∙ without_first c.args.id (supers c.args.classes.now c.args.id) c.into_vec-ids.result.items ids in
-    subst (IsSupers c.args.classes.now c.args.id) (sym is)
-    (supers_proper c.args.classes.now c.requires.ranks c.requires.object c.args.id few c.requires.there)
+    ∙ without_first c.args.id.now (supers c.args.classes.now c.args.id.now) c.into_vec-ids.result.items ids in
+    subst (IsSupers c.args.classes.now c.args.id.now) (sym is)
+    (supers_proper c.args.classes.now c.requires.ranks c.requires.object c.args.id.now few c.requires.there)

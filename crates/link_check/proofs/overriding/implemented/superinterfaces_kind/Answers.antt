@@ -7,7 +7,7 @@ use Rattle.class_pool.specs.Walk.{own_superinterfaces}
 use Rattle.link_check.specs.declared.fault.ProfileKind.{ProfileKind}
 use Rattle.link_check.specs.bodies.Inherited.{running_kinds_of}
 use Rattle.link_check.specs.Profile.{least}
-use Rattle.link_check.specs.bodies.Walks.{superclasses_up}
+use Rattle.class_pool.specs.Walk.{superclasses_up}
 use Rattle.link_check.proofs.Walks.{flat_flat, gathered_all, gathered_more}
 use Rattle.link_check.proofs.overriding.implemented.superinterfaces_kind.Goals as goal
 

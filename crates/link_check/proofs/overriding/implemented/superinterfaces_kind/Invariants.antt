@@ -2,7 +2,7 @@ use Rattle.std.specs.List.{All, flat_map}
 use Rattle.class_pool.specs.Hierarchy.{IsClass}
 use Rattle.class_pool.specs.Walk.{own_superinterfaces}
 use Rattle.link_check.specs.bodies.Inherited.{running_kinds_of}
-use Rattle.link_check.specs.bodies.Walks.{superclasses_up}
+use Rattle.class_pool.specs.Walk.{superclasses_up}
 use Rattle.link_check.proofs.Walks.{Gathered}
 use Rattle.link_check.proofs.overriding.implemented.superinterfaces_kind.Given as goal
 

@@ -4,7 +4,7 @@ use Rattle.class_pool.specs.declared.id.ClassId.{ClassId}
 use Rattle.class_pool.specs.Hierarchy.{IsClass}
 use Rattle.link_check.specs.bodies.Inherited.{start_at}
 use Rattle.link_check.specs.Profile.{least}
-use Rattle.link_check.specs.bodies.Walks.{superclasses_up}
+use Rattle.class_pool.specs.Walk.{superclasses_up}
 use Rattle.link_check.proofs.Inheriting.{overridden_from, overridden_in, start_known}
 use Rattle.link_check.proofs.Walks.{gathered_all, gathered_more, gathered_none}
 use Rattle.link_check.proofs.overriding.overridden.overriding_kind.Goals as goal

@@ -1,7 +1,7 @@
 use Rattle.std.specs.List.{All}
 use Rattle.class_pool.specs.Hierarchy.{IsClass}
 use Rattle.link_check.specs.bodies.Inherited.{start_at}
-use Rattle.link_check.specs.bodies.Walks.{superclasses_up}
+use Rattle.class_pool.specs.Walk.{superclasses_up}
 use Rattle.link_check.proofs.Inheriting.{overridden_in}
 use Rattle.link_check.proofs.Walks.{Gathered}
 use Rattle.link_check.proofs.overriding.overridden.overriding_kind.Given as goal

@@ -1,5 +1,5 @@
 use Rattle.std.proofs.Common.{Some}
-use Rattle.link_check.specs.bodies.Walks.{superclasses_up}
+use Rattle.class_pool.specs.Walk.{superclasses_up}
 use Rattle.link_check.proofs.Alone.{instance_named}
 use Rattle.link_check.proofs.references.running.select_special_for.Goals as goal
 

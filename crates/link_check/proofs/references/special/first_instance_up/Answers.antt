@@ -3,7 +3,7 @@ use Rattle.std.specs.List.{find}
 use Rattle.std.proofs.lemmas.List.Elements.{All-rest}
 use Rattle.class_pool.specs.Found.{declared_by, is_instance_method}
 use Rattle.class_pool.specs.Hierarchy.{IsClass}
-use Rattle.link_check.specs.bodies.Walks.{superclasses_up}
+use Rattle.class_pool.specs.Walk.{superclasses_up}
 use Rattle.link_check.proofs.Upwards.{find_here, find_on}
 use Rattle.link_check.proofs.references.special.first_instance_up.Goals as goal
 

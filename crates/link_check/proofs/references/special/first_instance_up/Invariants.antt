@@ -2,7 +2,7 @@ use Rattle.std.proofs.Common.{◌≡◌}
 use Rattle.std.specs.List.{All, find}
 use Rattle.class_pool.specs.Found.{declared_by, is_instance_method}
 use Rattle.class_pool.specs.Hierarchy.{IsClass}
-use Rattle.link_check.specs.bodies.Walks.{superclasses_up}
+use Rattle.class_pool.specs.Walk.{superclasses_up}
 use Rattle.link_check.proofs.references.special.first_instance_up.Given as goal
 
 abbrev pub invariant-loop-class : goal.invariant-loop-class

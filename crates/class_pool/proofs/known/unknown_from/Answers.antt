@@ -1,10 +1,10 @@
 use Rattle.std.proofs.Common.{◌≡◌, ◌<◌, ◌++◌, [], ◌∷◌, length, subst, sym}
 use Rattle.std.proofs.lemmas.List.Elements.{All-head, All-push, All-rest, All-same}
 use Rattle.class_pool.specs.Hierarchy.{IsClass}
-use Rattle.link_check.proofs.overriding.inherited.unknown_from.Goals as goal
+use Rattle.class_pool.proofs.known.unknown_from.Goals as goal
 
 pub loop-class-preserved : goal.loop-class-preserved
-loop-class-preserved c =
+loop-class-preserved g c =
     let put : c.push.new.self.items
     ≡ c.loop-class.unknown.items ++ c.in-Prog.number ∷ [] = c.in_ok-push-in-Prog.ensures.items in
     let class-in : IsClass c.args.set.now c.in-Some.class =

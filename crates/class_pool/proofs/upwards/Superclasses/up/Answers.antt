@@ -1,5 +1,5 @@
-use Rattle.link_check.proofs.Climbing.{up_there, upwards_there}
-use Rattle.link_check.proofs.references.supertypes.Superclasses.up.Goals as goal
+use Rattle.class_pool.proofs.Climbing.{up_there, upwards_there}
+use Rattle.class_pool.proofs.upwards.Superclasses.up.Goals as goal
 
 pub returns-clause-there : goal.returns-clause-there
 returns-clause-there c = up_there 8589934592 c.args.set.now

@@ -2,7 +2,7 @@ use Rattle.std.proofs.Common.{◌≡◌}
 use Rattle.std.specs.List.{All}
 use Rattle.class_pool.specs.Hierarchy.{IsClass}
 use Rattle.link_check.specs.bodies.Walks.{superinterfaces_of}
-use Rattle.link_check.proofs.references.supertypes.next_interfaces.Given as goal
+use Rattle.link_check.proofs.references.superinterfaces.next_interfaces.Given as goal
 
 abbrev pub invariant-loop-class : goal.invariant-loop-class
 invariant-loop-class l = record {

@@ -2,7 +2,7 @@ use Rattle.std.proofs.Common.{◌∙◌, sym}
 use Rattle.std.proofs.lemmas.List.Elements.{All-rest}
 use Rattle.class_pool.specs.Hierarchy.{IsClass}
 use Rattle.link_check.proofs.Passing.{class_skipped}
-use Rattle.link_check.proofs.references.supertypes.next_interfaces.Goals as goal
+use Rattle.link_check.proofs.references.superinterfaces.next_interfaces.Goals as goal
 
 pub returns-then-not-is_empty-2-clause-later : goal.returns-then-not-is_empty-2-clause-later
 returns-then-not-is_empty-2-clause-later c =

@@ -1,6 +1,6 @@
 use Rattle.std.proofs.lemmas.List.Elements.{All-rest}
 use Rattle.class_pool.specs.Hierarchy.{IsClass}
-use Rattle.link_check.proofs.references.supertypes.SuperinterfacesIterator.next.Goals as goal
+use Rattle.link_check.proofs.references.superinterfaces.SuperinterfacesIterator.next.Goals as goal
 
 pub invariant_of-self-2 : goal.invariant_of-self-2
 invariant_of-self-2 c = (

@@ -1,8 +1,8 @@
 use Rattle.std.proofs.Common.{◌≡◌, ◌∙◌, [], sym, ap}
 use Rattle.std.specs.Option.{option_map_or}
 use Rattle.class_pool.specs.Walk.{upwards}
-use Rattle.link_check.proofs.Climbing.{goes, upwards_none, yields}
-use Rattle.link_check.proofs.references.supertypes.SuperclassesIterator.next.Goals as goal
+use Rattle.class_pool.proofs.Climbing.{goes, upwards_none, yields}
+use Rattle.class_pool.proofs.upwards.SuperclassesIterator.next.Goals as goal
 
 pub returns-then-self-eq0-clause-steps : goal.returns-then-self-eq0-clause-steps
 returns-then-self-eq0-clause-steps c =
