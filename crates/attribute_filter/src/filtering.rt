@@ -1,6 +1,7 @@
 // Classes with the optional attributes that are kept.
 ghost use Rattle.std.specs.Prelude.{◌≡◌, ◌&&◌, IfOk, OnOk, map};
-ghost use Rattle.attribute_filter.specs.Filtered.{code_kept, field_filtered, filtered, members_filtered, method_filtered};
+ghost use Rattle.attribute_filter.specs.Filtered.{code_kept, field_filtered, filtered, members_filtered};
+ghost use Rattle.attribute_filter.specs.Filtered.{method_filtered};
 ghost use Rattle.attribute_filter.specs.Filtered.{source_filtered, source_kept, source_named, throws_kept};
 ghost use Rattle.attribute_filter.specs.Filtered.{without_line, without_lines};
 

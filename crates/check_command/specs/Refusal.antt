@@ -40,7 +40,8 @@ quantity_limit (quantity.System what) = counted_limit what
 
 -- a pair that doesn't belong together: the first clause that holds, with its class and its member
 abbrev pub no_line : Answer → List ℕ
-no_line answer = codes "error 9 no " ++ (clause_name answer.clause ++ (codes " " ++ (named_or_dash answer.class ++ (codes " "
+no_line answer = codes "error 9 no " ++ (clause_name answer.clause
+    ++ (codes " " ++ (named_or_dash answer.class ++ (codes " "
     ++ (named_or_dash answer.member ++ codes "\n")))))
 
 -- the line of a refusal

@@ -6,7 +6,8 @@ ghost use Rattle.tree_io.specs.Runs.{AddsCalls};
 ghost use Rattle.tree_io.specs.declared.file_at.FileAt.{FileAt};
 ghost use Rattle.set_read.specs.Accepted.{IsAccepted};
 ghost use Rattle.require_sys.specs.Required.{system_due};
-ghost use Rattle.check_command.specs.bodies.Steps.{AreClassFiles, Checks, Judges, JudgesInput, JudgesPair, JudgesSystem};
+ghost use Rattle.check_command.specs.bodies.Steps.{AreClassFiles, Checks, Judges, JudgesInput, JudgesPair};
+ghost use Rattle.check_command.specs.bodies.Steps.{JudgesSystem};
 
 use crate::finding::{CheckFiles, Directories, Found, Texts, find};
 use crate::refusal::{Quantity, Refusal, Stop};

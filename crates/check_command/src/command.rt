@@ -54,11 +54,11 @@ fn say_stop<S: Sink>(alloc: Global, stop: &Stop, out: &mut S) -> u8
 /// | 11 | where the mapping or the witness is outside its grammar | `error 11 text LINE KIND` |
 ///
 /// The config is looked at first; then the file of `-printmapping` and that of the witness, and then their texts; then
-/// the class files below the directory of `-injars` and those below that of `-outjars`; then the input as `shrink` looks
-/// at it; and last the pair. CLAUSE is the first clause that holds, CLASS and MEMBER its first place, `-` where none is
-/// named. Limits: `config`, `mapping`, `witness` and `input` (the class files of a directory together) 67,108,864 bytes,
-/// `files` 65,536 and `classes` 20,000 below a directory, `items` 1,048,576, `needs` and `pairs` 16,777,216. No file
-/// changes.
+/// the class files below the directory of `-injars` and those below that of `-outjars`; then the input as `shrink`
+/// looks at it; and last the pair. CLAUSE is the first clause that holds, CLASS and MEMBER its first place, `-` where
+/// none is named. Limits: `config`, `mapping`, `witness` and `input` (the class files of a directory together)
+/// 67,108,864 bytes, `files` 65,536 and `classes` 20,000 below a directory, `items` 1,048,576, `needs` and `pairs`
+/// 16,777,216. No file changes.
 pub fn check_files<T: Tree, S: Sink>(
     alloc: Global,
     named: &CheckFiles,

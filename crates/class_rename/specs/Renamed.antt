@@ -1,4 +1,5 @@
--- A class under new names: each place where a class, a field or a method is named (JVMS 4). Texts of a program are none.
+-- A class under new names: each place where a class, a field or a method is named (JVMS 4). Texts of a program are
+-- none.
 use Rattle.std.specs.Prelude.{ℕ, List, map, option_map, Result, Ok, Err}
 use Rattle.jv_base.specs.Descriptors.{read_field, read_method}
 use Rattle.jv_base.specs.Types.{field_text, method_text}
@@ -52,10 +53,18 @@ module _ (names : Names) where
   -- ---- instructions (JVMS 6.5)
 
   abbrev pub renamed_field_ref : MemberRef → MemberRef
-  renamed_field_ref r = record r { class = renamed_type r.class; name = names.field r.name; ty = renamed_field_text r.ty }
+  renamed_field_ref r = record r {
+    class = renamed_type r.class;
+    name = names.field r.name;
+    ty = renamed_field_text r.ty;
+  }
 
   abbrev pub renamed_method_ref : MemberRef → MemberRef
-  renamed_method_ref r = record r { class = renamed_type r.class; name = names.method r.name r.ty; ty = renamed_method_text r.ty }
+  renamed_method_ref r = record r {
+    class = renamed_type r.class;
+    name = names.method r.name r.ty;
+    ty = renamed_method_text r.ty;
+  }
 
   abbrev pub renamed_op : Op → Op
   renamed_op (op.GetStatic r) = op.GetStatic (renamed_field_ref r)
@@ -87,7 +96,9 @@ module _ (names : Names) where
   renamed_vtype other = other
 
   abbrev pub renamed_frame : FrameAt → FrameAt
-  renamed_frame f = record f { frame = record { locals = map renamed_vtype f.frame.locals; stack = map renamed_vtype f.frame.stack } }
+  renamed_frame f = record f {
+    frame = record { locals = map renamed_vtype f.frame.locals; stack = map renamed_vtype f.frame.stack };
+  }
 
   abbrev pub renamed_code : Code → Code
   renamed_code code = record code {

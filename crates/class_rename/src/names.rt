@@ -23,7 +23,11 @@ impl Model for NewNames {
 
     ghost Value = { Tables };
 
-    ghost view = { λ n. record { classes = n.classes.entries; fields = n.fields.entries; methods = n.methods.entries } };
+    ghost view = { λ n. record {
+      classes = n.classes.entries;
+      fields = n.fields.entries;
+      methods = n.methods.entries;
+    } };
 }
 
 impl NewNames {

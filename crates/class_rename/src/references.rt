@@ -203,7 +203,11 @@ fn reference_of(
     name: Name,
     ty: Text,
 ) -> M<Shared<MemberRef>>
-    ensures { IfOk result (λ new. new ≡ record r.now { class = renamed_type (names_in names.now) r.now.class; name = name; ty = ty }) }
+    ensures { IfOk result (λ new. new ≡ record r.now {
+      class = renamed_type (names_in names.now) r.now.class;
+      name = name;
+      ty = ty;
+    }) }
 {
     let class = renamed_type(names, &r.class)?;
     let new = MemberRef {

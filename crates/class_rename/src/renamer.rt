@@ -17,8 +17,8 @@ use jv_base::{M, Shared, Text};
 use std::alloc::Global;
 use std::marker::Model;
 
-/// New names, which contracts see alone. Each descriptor and each reference is renamed once, and all places that name it
-/// share what becomes of it: else many references to one long descriptor would take its length as often.
+/// New names, which contracts see alone. Each descriptor and each reference is renamed once, and all places that name
+/// it share what becomes of it: else many references to one long descriptor would take its length as often.
 #[derive(Drop)]
 pub(crate) struct Renamer<'a> {
     names: &'a NewNames,
@@ -164,7 +164,8 @@ fn known_method_text(
 
 /// Keeps what became of a text, and gives it back.
 fn remember(table: &mut IndexMap<Text, Text>, text: &Text, new: Text) -> M<Text>
-    ensures entries { table.new.entries ≡ (if is_ok result then insert_entry (pointwise nat_eq) table.old.entries text.now new
+    ensures entries { table.new.entries ≡ (if is_ok result
+        then insert_entry (pointwise nat_eq) table.old.entries text.now new
         else table.old.entries) }
     ensures same { IfOk result (λ kept. kept ≡ new) }
 {
@@ -173,7 +174,8 @@ fn remember(table: &mut IndexMap<Text, Text>, text: &Text, new: Text) -> M<Text>
 }
 
 fn put(table: &mut IndexMap<Text, Text>, text: &Text, new: &Text) -> M<()>
-    ensures { table.new.entries ≡ (if is_ok result then insert_entry (pointwise nat_eq) table.old.entries text.now new.now
+    ensures { table.new.entries ≡ (if is_ok result
+        then insert_entry (pointwise nat_eq) table.old.entries text.now new.now
         else table.old.entries) }
 {
     let (text, new) = (text.clone()?, new.clone()?);

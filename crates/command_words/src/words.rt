@@ -72,7 +72,8 @@ fn said_in(alloc: Global, matches: &ArgMatches<'_>) -> M<Option<Command>>
 }
 
 fn two_operands<'m, 'a>(matches: &'m ArgMatches<'a>) -> Option<(&'a str, &'a str)>
-    ensures { option_map (λ p. (p.0.now, p.1.now)) result ≡ two_in (all_of (codes "operands") (rows_of (found_of matches.now))) }
+    ensures { option_map (λ p. (p.0.now, p.1.now)) result
+        ≡ two_in (all_of (codes "operands") (rows_of (found_of matches.now))) }
 {
     match matches.get_strs("operands") {
         Some(operands) => both_of(operands),

@@ -1,7 +1,8 @@
 -- What a config's text is made of: blanks, comments and words (ProGuard manual, "Usage": blanks separate words, `#`
 -- begins a comment, and a text in quotes is a word; that a line feed alone ends a line, a comment and a quote's line,
 -- and that a quote or a `#` ends the word before it, is the project's own).
-use Rattle.std.specs.Prelude.{◌≡◌, ℕ, ◌+◌, Bool, true, false, not, ◌||◌, ◌==◌, if◌then◌else◌, List, [], ◌∷◌, ◌++◌, Option}
+use Rattle.std.specs.Prelude.{◌≡◌, ℕ, ◌+◌, Bool, true, false, not, ◌||◌, ◌==◌, if◌then◌else◌, List, [], ◌∷◌, ◌++◌}
+use Rattle.std.specs.Prelude.{Option}
 use Rattle.std.specs.Prelude.{Some, None, IsTrue}
 use Rattle.std.specs.List.{list_all, flat_map}
 use Rattle.conf_words.specs.declared.splitting.Word.{Word}

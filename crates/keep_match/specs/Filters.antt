@@ -20,7 +20,8 @@ accepts_attribute filters name = accepts (λ pattern. wild pattern name) filters
 
 -- a word for access (JVMS 4.5, 4.6)
 abbrev pub is_access_word : List ℕ → Bool
-is_access_word word = is_text word (codes "public") || is_text word (codes "protected") || is_text word (codes "private")
+is_access_word word = is_text word (codes "public") || is_text word (codes "protected")
+    || is_text word (codes "private")
 
 -- a flag for access that is asked for (ProGuard manual, "Class Specifications")
 abbrev pub asks_access : Filter → Bool

@@ -38,11 +38,13 @@ fixes_class what classes n c k = fixes_names what k && matches_class k.spec clas
 
 -- by a rule names of a field of the class stay (ProGuard manual, "Keep Options")
 abbrev pub fixes_field : Fixes → List Class → ℕ → Class → Field → Keep → Bool
-fixes_field what classes n c f k = fixes_class what classes n c k && list_any (λ spec. matches_field spec f) k.spec.members
+fixes_field what classes n c f k = fixes_class what classes n c k
+    && list_any (λ spec. matches_field spec f) k.spec.members
 
 -- by a rule names of a method of the class stay (ProGuard manual, "Keep Options")
 abbrev pub fixes_method : Fixes → List Class → ℕ → Class → Method → Keep → Bool
-fixes_method what classes n c m k = fixes_class what classes n c k && list_any (λ spec. matches_method spec m) k.spec.members
+fixes_method what classes n c m k = fixes_class what classes n c k
+    && list_any (λ spec. matches_method spec m) k.spec.members
 
 -- for a class, its fields and its methods, whether names of it stay by a rule (ProGuard manual, "Keep Options")
 abbrev pub are_fixed : Fixes → List Keep → List Class → ℕ × Class → List Bool

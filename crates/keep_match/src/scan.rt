@@ -4,7 +4,8 @@
 ghost use Rattle.std.specs.Prelude.{◌≡◌, ◌≤◌, ◌<◌, ◌↔◌, [], ◌∷◌, IfSome, IsTrue, MatchOption, length};
 ghost use Rattle.std.specs.Str.{chars};
 ghost use Rattle.keep_match.specs.declared.piece.Piece.TheVariants.{Any, Part};
-ghost use Rattle.keep_match.specs.bodies.Scan.{EndsBlock, Fails, IsBehindDot, IsBlock, IsSame, IsStepToBlock, IsStepToSection};
+ghost use Rattle.keep_match.specs.bodies.Scan.{EndsBlock, Fails, IsBehindDot, IsBlock, IsSame, IsStepToBlock};
+ghost use Rattle.keep_match.specs.bodies.Scan.{IsStepToSection};
 ghost use Rattle.keep_match.specs.bodies.Scan.{pieces_at, text_at};
 ghost use Rattle.keep_match.specs.Wildcards.{Begins, HasNoDot, pieces, shown};
 

@@ -14,7 +14,8 @@ use Rattle.keep_rules.specs.declared.rules.Rules.{Rules}
 use Rattle.keep_rules.specs.declared.keeping.Modifiers.{Modifiers}
 use Rattle.keep_rules.specs.declared.texts.Part.{Part}
 use Rattle.keep_rules.specs.declared.texts.Part.TheVariants.{Class, Member}
-use Rattle.keep_rules.specs.Texts.{Filtered, Attributes, is_filter, filter_of, is_flag, is_part, is_option, is_class_kind}
+use Rattle.keep_rules.specs.Texts.{Filtered, Attributes, is_filter, filter_of, is_flag, is_part, is_option}
+use Rattle.keep_rules.specs.Texts.{is_class_kind}
 use Rattle.keep_rules.specs.Texts.{names_above, is_any_member, is_constructor}
 use Rattle.keep_rules.specs.Texts as texts
 use Rattle.keep_rules.specs.Options.{is_ignored}
@@ -63,7 +64,8 @@ abbrev pub IsNoFlag : List ℕ → Type 0
 IsNoFlag word = is_flag Member word ≡ false
 
 -- `*`, `<fields>` or `<methods>`
-pub record AnyMember (words : List (List ℕ)) (ty : Option (List ℕ)) (name : List ℕ) (args : Option (List (List ℕ))) : Type 0
+pub record AnyMember (words : List (List ℕ)) (ty : Option (List ℕ)) (name : List ℕ) (args : Option (List (List ℕ)))
+    : Type 0
   where
     pub spelled : words ≡ name ∷ []
     pub known : IsTrue (is_any_member name)
@@ -86,7 +88,8 @@ pub record Constructor (names : List Filter) (words : List (List ℕ)) (ty : Opt
   pub takes : args ≡ Some types
 
 -- `type name`, or `type name(types)`
-pub record Typed (words : List (List ℕ)) (ty : Option (List ℕ)) (name : List ℕ) (args : Option (List (List ℕ))) : Type 0 where
+pub record Typed (words : List (List ℕ)) (ty : Option (List ℕ)) (name : List ℕ) (args : Option (List (List ℕ)))
+    : Type 0 where
   pub first : List ℕ
   pub parameters : List (List ℕ)
   pub spelled : words ≡ first ∷ name ∷ parameters
@@ -199,7 +202,8 @@ IsValue option words value = words ≡ option ∷ value ∷ []
 
 -- an option and a directory, which may have a `/` at its end
 abbrev pub IsDirectory : List ℕ → List (List ℕ) → List ℕ → Type 0
-IsDirectory option words directory = (value : List ℕ) × IsValue option words value × (directory_in value ≡ Some directory)
+IsDirectory option words directory = (value : List ℕ) × IsValue option words value
+    × (directory_in value ≡ Some directory)
 
 -- an option and a file
 abbrev pub IsFile : List ℕ → List (List ℕ) → List ℕ → Type 0

@@ -1,6 +1,7 @@
 -- Reading the words of an option from left to right, with the first fault that is met (the project's own: ProGuard's
 -- manual has no order of faults).
-use Rattle.std.specs.Prelude.{◌≡◌, ℕ, Bool, true, false, List, [], ◌∷◌, ◌++◌, Option, Some, None, Result, Ok, Err, if◌then◌else◌}
+use Rattle.std.specs.Prelude.{◌≡◌, ℕ, Bool, true, false, List, [], ◌∷◌, ◌++◌, Option, Some, None, Result, Ok, Err}
+use Rattle.std.specs.Prelude.{if◌then◌else◌}
 use Rattle.std.specs.Borrow.{Bor}
 use Rattle.jv_base.specs.declared.outcome.Or.{Or}
 use Rattle.jv_base.specs.declared.outcome.Or.TheVariants.{Fault, OutOfMemory}

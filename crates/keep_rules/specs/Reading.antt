@@ -8,7 +8,8 @@ use Rattle.path_text.specs.Path.{directory_in, file_in, is_below}
 use Rattle.conf_words.specs.declared.splitting.Word.{Word}
 use Rattle.keep_rules.specs.declared.fault.RuleFault.{RuleFault}
 use Rattle.keep_rules.specs.declared.fault.RuleKind.{RuleKind}
-use Rattle.keep_rules.specs.declared.fault.RuleKind.TheVariants.{BadValue, MissingName, Repeated, UnknownOption, LeftOut}
+use Rattle.keep_rules.specs.declared.fault.RuleKind.TheVariants.{BadValue, MissingName, Repeated, UnknownOption}
+use Rattle.keep_rules.specs.declared.fault.RuleKind.TheVariants.{LeftOut}
 use Rattle.keep_rules.specs.declared.fault.RuleKind.TheVariants.{MissingOption, SamePath}
 use Rattle.keep_rules.specs.declared.rules.Filter.{Filter}
 use Rattle.keep_rules.specs.declared.rules.KeepKind.{KeepKind}

@@ -15,7 +15,8 @@ use Rattle.keep_rules.specs.declared.keeping.Modifiers.{Modifiers}
 use Rattle.keep_rules.specs.declared.specifications.Form.{Form as Seen}
 use Rattle.keep_rules.specs.declared.texts.Part.TheVariants.{Class, Member}
 use Rattle.keep_rules.specs.Texts.{is_class_kind, names_above, is_any_member, is_constructor, is_part, passing}
-use Rattle.keep_rules.specs.Reader.{Ahead, ahead, fault, Reader, bind, give, item, expected, mark, if_next, if_ahead, if_end, ◌>>=◌}
+use Rattle.keep_rules.specs.Reader.{Ahead, ahead, fault, Reader, bind, give, item, expected, mark, if_next, if_ahead}
+use Rattle.keep_rules.specs.Reader.{if_end, ◌>>=◌}
 use Rattle.keep_rules.specs.Texts.{Classes}
 use Rattle.keep_rules.specs.Filtering.{flags, list, is_comma, filters}
 

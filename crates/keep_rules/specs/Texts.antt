@@ -8,7 +8,8 @@ use Rattle.keep_rules.specs.declared.rules.Filter.{Filter}
 use Rattle.keep_rules.specs.declared.texts.Part.{Part}
 use Rattle.keep_rules.specs.declared.texts.Part.TheVariants.{Class, Member}
 use Rattle.keep_rules.specs.declared.fault.RuleKind.{RuleKind}
-use Rattle.keep_rules.specs.declared.fault.RuleKind.TheVariants.{BadClassSpec, BadMemberSpec, BadValue, LeftOut, MissingName}
+use Rattle.keep_rules.specs.declared.fault.RuleKind.TheVariants.{BadClassSpec, BadMemberSpec, BadValue, LeftOut}
+use Rattle.keep_rules.specs.declared.fault.RuleKind.TheVariants.{MissingName}
 
 -- a text begins with this byte
 abbrev pub begins_with : ℕ → List ℕ → Bool

@@ -1,6 +1,7 @@
 // The options of a config (ProGuard manual, "Usage").
 ghost use Rattle.std.specs.Prelude.{◌≡◌};
-ghost use Rattle.keep_rules.specs.Options.{inert_setting, is_ignored, is_left_out, keep_setting, plain_setting, setting_of};
+ghost use Rattle.keep_rules.specs.Options.{inert_setting, is_ignored, is_left_out, keep_setting, plain_setting};
+ghost use Rattle.keep_rules.specs.Options.{setting_of};
 
 use crate::KeepKind;
 

@@ -4,8 +4,10 @@ ghost use Rattle.std.specs.List.{list_any, position, position_or_len};
 ghost use Rattle.jv_base.specs.Names.{is_text};
 ghost use Rattle.jv_base.specs.Outcome.{IsDue};
 ghost use Rattle.keep_rules.specs.Reader.{IsFault, fault};
-ghost use Rattle.keep_rules.specs.Reading.{before_texts, begins_so, blank, dirs_meet, files_of, finished, has_twice, is_inside, needed};
-ghost use Rattle.keep_rules.specs.Reading.{options_read, paths_meet, rules_read, sections_of, whole_rules, word_is_option};
+ghost use Rattle.keep_rules.specs.Reading.{before_texts, begins_so, blank, dirs_meet, files_of, finished, has_twice};
+ghost use Rattle.keep_rules.specs.Reading.{is_inside, needed};
+ghost use Rattle.keep_rules.specs.Reading.{options_read, paths_meet, rules_read, sections_of, whole_rules};
+ghost use Rattle.keep_rules.specs.Reading.{word_is_option};
 ghost use Rattle.keep_rules.specs.declared.fault.RuleKind.TheVariants.{MissingOption};
 
 use crate::draft::Draft;

@@ -1,8 +1,10 @@
 // The words of a config by what they may be (ProGuard manual, "Usage", "Filters", "Class Specifications").
 ghost use Rattle.std.specs.Prelude.{◌≡◌, IfOk};
 ghost use Rattle.std.specs.List.{list_any};
-ghost use Rattle.keep_rules.specs.Texts.{begins_at, filter_of, is_any_member, is_class_flag, is_class_kind, is_constructor};
-ghost use Rattle.keep_rules.specs.Texts.{is_flag, is_flag_of, is_mark, is_name, is_option, is_own_flag, is_part, is_pattern};
+ghost use Rattle.keep_rules.specs.Texts.{begins_at, filter_of, is_any_member, is_class_flag, is_class_kind};
+ghost use Rattle.keep_rules.specs.Texts.{is_constructor};
+ghost use Rattle.keep_rules.specs.Texts.{is_flag, is_flag_of, is_mark, is_name, is_option, is_own_flag, is_part};
+ghost use Rattle.keep_rules.specs.Texts.{is_pattern};
 ghost use Rattle.keep_rules.specs.Texts.{last_part, names_above, without_not};
 
 use crate::Filter;

@@ -20,8 +20,8 @@ use report_text::class_text;
 use std::alloc::Global;
 
 /// A list of seeds: for each of these items a line, in the order of the set, which has the name of a class, or behind
-/// it `: ` and a member (ProGuard manual, "-printseeds"). The error is that the list has more bytes than the limit; then
-/// no more of it is made.
+/// it `: ` and a member (ProGuard manual, "-printseeds"). The error is that the list has more bytes than the limit;
+/// then no more of it is made.
 pub fn seeds_text(
     alloc: Global,
     set: &ClassSet,

@@ -64,7 +64,8 @@ fn push_class(
 ) -> Result<(), Or<TooLong>>
     requires few { length class.now.fields + length class.now.methods < 4294967295 }
     requires within { item + items_of class.now ≤ length marks.now }
-    ensures { Appends result limit (string_bytes out.old) (class_usage marks.now item class.now) (string_bytes out.new) }
+    ensures { Appends result limit (string_bytes out.old) (class_usage marks.now item class.now)
+        (string_bytes out.new) }
 {
     if marks[item] {
         push_kept_class(alloc, out, class, marks, item + 1, limit)

@@ -79,7 +79,8 @@ said (field_parts ty old new) = do
   where_true (is_member_name old && is_member_name new) (line.Field (record { ty = t; old = old; new = new }))
 said (method_parts lines ret old args new) = do
   t ← method_type_of ret args
-  where_true (is_method_name old && is_method_name new) (line.Method (record { lines = lines; ty = t; old = old; new = new }))
+  where_true (is_method_name old && is_method_name new)
+      (line.Method (record { lines = lines; ty = t; old = old; new = new }))
 
 -- what a line says, if it is one of a mapping file
 unfoldable pub line_of : List ℕ → Option MapLine

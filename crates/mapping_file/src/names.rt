@@ -30,8 +30,10 @@ impl ClassNames {
 
     /// Puts the names of a class, and answers whether no class has one of them yet.
     pub(crate) fn put(&mut self, old: &Name, new: &Name) -> M<bool>
-        ensures is_new { (classes : List MapClass) → TellsNames self.old classes → IfOk result (λ is_new. is_new ≡ not (has_name classes old.now new.now)) }
-        ensures put { (classes : List MapClass) → TellsNames self.old classes → OnOk result (TellsNames self.new (classes ++ begun old.now new.now ∷ [])) }
+        ensures is_new { (classes : List MapClass) → TellsNames self.old classes
+            → IfOk result (λ is_new. is_new ≡ not (has_name classes old.now new.now)) }
+        ensures put { (classes : List MapClass) → TellsNames self.old classes
+            → OnOk result (TellsNames self.new (classes ++ begun old.now new.now ∷ [])) }
     {
         let is_new_before = put_name(&mut self.before, old)?;
         let is_new_after = put_name(&mut self.after, new)?;

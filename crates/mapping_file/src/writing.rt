@@ -41,7 +41,8 @@ fn push_class_lines(out: &mut Vec<u8>, class: &MapClass) -> M<()>
     push_method_lines(out, class.methods.as_slice())
 }
 
-/// The text of a mapping, if it has at most so many bytes; no more is made of a longer one than its first line too many.
+/// The text of a mapping, if it has at most so many bytes; no more is made of a longer one than its first line too
+/// many.
 pub fn write_mapping_within(alloc: Global, map: &Mapping, limit: usize) -> M<Option<Bytes>>
     ensures { IfOk result (λ text. text ≡ text_within limit map.now) }
 {

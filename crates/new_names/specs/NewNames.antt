@@ -1,5 +1,5 @@
--- What a mapping calls classes and members (ProGuard manual, "ReTrace", the mapping file): a line tells the old name and
--- the new one. Of several lines for one class or member the first counts (the project's own).
+-- What a mapping calls classes and members (ProGuard manual, "ReTrace", the mapping file): a line tells the old name
+-- and the new one. Of several lines for one class or member the first counts (the project's own).
 use Rattle.std.specs.Prelude.{ℕ, List, map, ◌&&◌, Bool, Option}
 use Rattle.std.specs.List.{flat_map}
 use Rattle.std.specs.Map.{lookup}

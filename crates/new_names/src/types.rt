@@ -1,6 +1,7 @@
 // Types, and whether they are others under new names (JVMS 4.3).
 ghost use Rattle.std.specs.Prelude.{◌≡◌, ◌↔◌, IfOk, IsTrue, List, ℕ, map, option_map};
-ghost use Rattle.class_rename.specs.Renamed.{renamed_base, renamed_field_text, renamed_method_text, renamed_method_type};
+ghost use Rattle.class_rename.specs.Renamed.{renamed_base, renamed_field_text, renamed_method_text};
+ghost use Rattle.class_rename.specs.Renamed.{renamed_method_type};
 ghost use Rattle.class_rename.specs.Renamed.{renamed_type};
 ghost use Rattle.jv_base.specs.declared.types.Base.TheVariants as base;
 ghost use Rattle.new_names.specs.NewNames.{names_of};

@@ -120,7 +120,8 @@ module _ (input output : List Class) (mapping : Mapping) (rules : Rules) where
 
   -- a code of the output isn't the input's own under the new names
   abbrev pub CodeDiffers : Witness → Option Place → Type 0
-  CodeDiffers witness found = codes_of.CodeDiffers mapping (filter_of rules) input (given_names mapping input) output found
+  CodeDiffers witness found =
+      codes_of.CodeDiffers mapping (filter_of rules) input (given_names mapping input) output found
 
   -- the first place of a clause; an output that was read as a set of classes doesn't fail by its files
   abbrev pub Finds : Witness → Clause → Option Place → Type 0

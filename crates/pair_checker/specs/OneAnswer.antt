@@ -11,7 +11,8 @@ use Rattle.pair_checker.specs.declared.answer.No.{No}
 
 -- a pair that is taken isn't refused
 abbrev pub NotBoth : Type 0
-NotBoth = (input : List Class) (files : List FileAt) (mapping : Mapping) (rules : Rules) (witness : Witness) (answer : No)
+NotBoth = (input : List Class) (files : List FileAt) (mapping : Mapping) (rules : Rules) (witness : Witness)
+    (answer : No)
     → PairOk input files mapping rules witness → IsNo input files mapping rules witness answer → ⊥
 
 -- two answers by which the same pair is refused are the same

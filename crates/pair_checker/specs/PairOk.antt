@@ -36,7 +36,8 @@ module _ (input : List Class) (files : List FileAt) (mapping : Mapping) (rules :
     by_format : OutputFormat files
         → answer ≡ record { clause = clause.OutputFormat; class = None; member = None } → IsNo answer
     by_profile : (fault : RuleFault) → OutputProfile files fault
-        → answer ≡ record { clause = clause.OutputProfile; class = Some fault.class; member = fault.member } → IsNo answer
+        → answer ≡ record { clause = clause.OutputProfile; class = Some fault.class; member = fault.member }
+        → IsNo answer
     by_clause : (output : List Class) → IsAccepted files output → (clause : Clause) (place : Place)
         → IsFirst input output mapping rules witness clause place
         → answer ≡ record { clause = clause; class = Some place.class; member = place.member } → IsNo answer

@@ -1,6 +1,7 @@
--- The clauses SeedLost and NotClosed: what has to be kept has a line (ProGuard manual, "Keep Options"; the project's own:
--- what an item needs, and what two items need together).
-use Rattle.std.specs.Prelude.{ℕ, Bool, false, not, ◌&&◌, List, [], ◌∷◌, ◌++◌, map, fold, min, Option, Some, None, is_some}
+-- The clauses SeedLost and NotClosed: what has to be kept has a line (ProGuard manual, "Keep Options"; the project's
+-- own: what an item needs, and what two items need together).
+use Rattle.std.specs.Prelude.{ℕ, Bool, false, not, ◌&&◌, List, [], ◌∷◌, ◌++◌, map, fold, min, Option, Some, None}
+use Rattle.std.specs.Prelude.{is_some}
 use Rattle.std.specs.Prelude.{slice_get, slice_index_or, if◌then◌else◌}
 use Rattle.std.specs.List.{enumerate_from, filter, find, flat_map}
 use Rattle.std.specs.Option.{option_and_then}

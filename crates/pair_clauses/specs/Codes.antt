@@ -1,5 +1,5 @@
--- The clause CodeDiffers: each code of the output is the code of the input under new names, in instructions, handlers and
--- lines, where these are kept (JVMS 4.7.3, 4.7.12). Sizes and frames aren't compared.
+-- The clause CodeDiffers: each code of the output is the code of the input under new names, in instructions, handlers
+-- and lines, where these are kept (JVMS 4.7.3, 4.7.12). Sizes and frames aren't compared.
 use Rattle.std.specs.Prelude.{◌≡◌, List, map, Option, Some, None}
 use Rattle.std.specs.List.{zip}
 use Rattle.class_model.specs.declared.class.Class.{Class}

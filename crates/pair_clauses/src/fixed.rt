@@ -120,7 +120,8 @@ fn fixed_method(
     names: &[Option<Name>],
 ) -> M<Option<Place>>
     ensures { IfOk result (λ found. found
-        ≡ first_place (method_fault (is_among (option_copied fixed.entry)) class.now) (zip class.now.methods names.now)) }
+        ≡ first_place (method_fault (is_among (option_copied fixed.entry)) class.now)
+        (zip class.now.methods names.now)) }
 {
     for index in 0..class.methods.len() {
         let Some(new) = names.get(index) else {

@@ -1,5 +1,6 @@
 -- Paths: an optional `/`, and then segments joined by `/` (the project's own: one form of each path).
-use Rattle.std.specs.Prelude.{◌≡◌, ℕ, ◌+◌, take, drop, Bool, false, not, ◌&&◌, ◌==◌, List, [], ◌∷◌, length, Option, Some, None}
+use Rattle.std.specs.Prelude.{◌≡◌, ℕ, ◌+◌, take, drop, Bool, false, not, ◌&&◌, ◌==◌, List, [], ◌∷◌, length, Option}
+use Rattle.std.specs.Prelude.{Some, None}
 use Rattle.std.specs.Prelude.{if◌then◌else◌, codes, nat_eq}
 use Rattle.std.specs.List.{list_all, slice_split}
 use Rattle.std.specs.Cmp.Lexicographic.{pointwise}

@@ -2,7 +2,8 @@
 ghost use Rattle.std.specs.Prelude.{◌≡◌, ◌<◌, IfSome, IfNone, IsTrue, drop, false, length, position};
 ghost use Rattle.std.specs.Option.{option_copied};
 ghost use Rattle.path_text.specs.Path.{EndsFirst, is_slash, is_segment, are_segments, without_root, is_path};
-ghost use Rattle.path_text.specs.Path.{begins_with_slash, without_slash, directory_in, file_in, is_below, stands_in_front};
+ghost use Rattle.path_text.specs.Path.{begins_with_slash, without_slash, directory_in, file_in, is_below};
+ghost use Rattle.path_text.specs.Path.{stands_in_front};
 
 fn is_segment(segment: &[u8]) -> bool
     ensures { result ≡ is_segment segment.now }
@@ -80,7 +81,8 @@ pub fn file_in(word: &str) -> Option<&str>
 
 // What stands behind a directory at the front of a path.
 fn rest_after<'a>(path: &'a [u8], directory: &[u8]) -> Option<&'a [u8]>
-    ensures found { IfSome result (λ rest. IsTrue (stands_in_front path.now directory.now) × (rest.now ≡ drop (length directory.now) path.now)) }
+    ensures found { IfSome result (λ rest. IsTrue (stands_in_front path.now directory.now)
+        × (rest.now ≡ drop (length directory.now) path.now)) }
     ensures none { IfNone result (stands_in_front path.now directory.now ≡ false) }
 {
     path.strip_prefix(directory)

@@ -98,7 +98,8 @@ fn add_chosen<T: Tells>(
     members: &[T],
 ) -> M<()>
     requires { first + length members.now < 4294967296 }
-    ensures { OnOk result (Adds names.old.keys (flat_map (T.tells told) (chosen row.now first members.now)) names.new.keys) }
+    ensures { OnOk result (Adds names.old.keys (flat_map (T.tells told) (chosen row.now first members.now))
+        names.new.keys) }
 {
     let mut item = first;
     for member in members {

@@ -76,7 +76,8 @@ fn types_text(alloc: Global, types: &[FieldType]) -> M<String>
 
 /// Appends the types with commas between them.
 pub fn push_types(alloc: Global, text: &mut String, types: &[FieldType]) -> M<()>
-    ensures { OnOk result (string_bytes text.new ≡ string_bytes text.old ++ join_by external_text (codes ",") types.now) }
+    ensures { OnOk result (string_bytes text.new ≡ string_bytes text.old
+        ++ join_by external_text (codes ",") types.now) }
 {
     let [first, rest @ ..] = types else {
         return Ok(());

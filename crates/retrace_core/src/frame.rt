@@ -6,7 +6,8 @@ ghost use Rattle.std.specs.Str.{is_utf8};
 ghost use Rattle.jv_base.specs.Names.{is_method_name};
 ghost use Rattle.text_lines.specs.Lines.{is_blank};
 ghost use Rattle.text_lines.specs.Numbers.{are_digits};
-ghost use Rattle.retrace_core.specs.Frames.{class_and_method, closed, frame_behind, frame_of, lacks_end, number_from, number_in, number_of, numbered};
+ghost use Rattle.retrace_core.specs.Frames.{class_and_method, closed, frame_behind, frame_of, lacks_end, number_from};
+ghost use Rattle.retrace_core.specs.Frames.{number_in, number_of, numbered};
 ghost use Rattle.retrace_core.specs.bodies.Parts.{frame_shown, two_shown};
 
 use crate::cutting::{behind, last_place_of, place_of};

@@ -25,8 +25,8 @@ pub(crate) struct OldClass<'a> {
     pub(crate) methods: OldMethods<'a>,
 }
 
-/// Classes by their new names, with dots. A number by which most names are told apart says in which tree one stands, and
-/// order finds it there, so no choice of names makes a look-up slow.
+/// Classes by their new names, with dots. A number by which most names are told apart says in which tree one stands,
+/// and order finds it there, so no choice of names makes a look-up slow.
 pub(crate) type OldClasses<'a> = Vec<Tree<'a>>;
 
 type Tree<'a> = BTreeMap<Vec<u8>, OldClass<'a>>;

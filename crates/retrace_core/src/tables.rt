@@ -52,7 +52,8 @@ fn keep<'a>(table: &mut OldMethods<'a>, new: &'a [u8], old: &'a [u8]) -> M<()>
 
 /// The old name of the first method with a new name, if a method has it.
 pub(crate) fn old_name<'a>(table: &OldMethods<'a>, name: &[u8]) -> Option<&'a [u8]>
-    ensures { option_map (λ v. v.now) result ≡ option_map (λ v. v.now) (kept_in (λ k. k.now) table.now.entries name.now) }
+    ensures { option_map (λ v. v.now) result
+        ≡ option_map (λ v. v.now) (kept_in (λ k. k.now) table.now.entries name.now) }
 {
     table.get(name).copied()
 }

@@ -116,7 +116,8 @@ fn push_frame(
     frame: &FrameParts<'_>,
 ) -> M<()>
     ensures { (m : Mapping) → TellsClasses table.now.items m.classes → OnOk result (out.new.items
-        ≡ out.old.items ++ frame_retraced line.now (frame_shown frame.now) (class_named m.classes frame.now.class.now)) }
+        ≡ out.old.items
+        ++ frame_retraced line.now (frame_shown frame.now) (class_named m.classes frame.now.class.now)) }
 {
     match class_named(table, frame.class) {
         Some(class) => push_old_frame(out, frame, class),

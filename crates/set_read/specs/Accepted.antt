@@ -1,5 +1,6 @@
 -- Which class files are taken as a set, and why others aren't (the project's own: which files the command takes).
-use Rattle.std.specs.Prelude.{◌≡◌, ◌⊎◌, ℕ, List, ◌∷◌, ◌++◌, slice_get, Option, Some, None, Result, Ok, Err, ◌+◌, length, codes}
+use Rattle.std.specs.Prelude.{◌≡◌, ◌⊎◌, ℕ, List, ◌∷◌, ◌++◌, slice_get, Option, Some, None, Result, Ok, Err, ◌+◌, length}
+use Rattle.std.specs.Prelude.{codes}
 use Rattle.std.specs.List.{AllByRecursion, AllZip}
 use Rattle.jv_base.specs.External.{dotted}
 use Rattle.jv_base.specs.declared.outcome.Or.{Or}

@@ -3,8 +3,8 @@ ghost use Rattle.set_shrink.specs.Order.{OrderKeepsAll};
 ghost use Rattle.set_shrink.specs.OneShrunk.{IsOneLimit, IsOneShrunk, NotBothShrunk};
 ghost use Rattle.set_shrink.specs.Writable.{FilteredIsWritable, ShrunkAreWritable};
 
-/// Of the same set, for the same marks and rules, one thing at most is written: the same files with the same counts, or else one
-/// limit of the format is passed first, and never both.
+/// Of the same set, for the same marks and rules, one thing at most is written: the same files with the same counts, or
+/// else one limit of the format is passed first, and never both.
 pub fn one_shrunk_set()
     ensures set { IsOneShrunk }
     ensures limit { IsOneLimit }

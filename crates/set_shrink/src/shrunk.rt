@@ -36,8 +36,8 @@ pub struct ShrunkSet {
 /// members under the new names that the rules leave to be given (ProGuard manual, "Usage": obfuscation), and with those
 /// optional attributes that the rules keep, in its canonical spelling (JVMS 4). What is kept is marked, one mark for
 /// each item: each class of the set in its order, then its fields, then its methods. Each kept class can be written
-/// under its new names. The error is the first limit of the format that a kept class passes (JVMS 4.11), in the order of
-/// the files.
+/// under its new names. The error is the first limit of the format that a kept class passes (JVMS 4.11), in the order
+/// of the files.
 pub fn shrink_set(
     alloc: Global,
     set: ClassSet,

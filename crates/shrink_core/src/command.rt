@@ -125,8 +125,8 @@ fn run_asked<T: Tree, S: Sink>(alloc: Global, command: Command, tree: &mut T, ou
 ///
 /// `shrink CONFIG OUTWIT` reads the config and the class files of the directory that it names, keeps what its rules
 /// keep, gives it new names, and writes the classes that are left to another directory. CONFIG and OUTWIT are paths: an
-/// optional `/`, and then segments joined by `/`, none of them empty, `.` or `..`. OUTWIT gets the witness, which is the
-/// one line `witness 1`, since nothing is optimised yet.
+/// optional `/`, and then segments joined by `/`, none of them empty, `.` or `..`. OUTWIT gets the witness, which is
+/// the one line `witness 1`, since nothing is optimised yet.
 ///
 /// A config has options as ProGuard has them (`read_rules` of `keep_rules`): `-injars IN`, `-outjars OUT` and
 /// `-printmapping MAP`, which have to be there, and others. IN, OUT and MAP are paths; one `/` at the end of a
@@ -138,7 +138,8 @@ fn run_asked<T: Tree, S: Sink>(alloc: Global, command: Command, tree: &mut T, ou
 /// LineNumberTable, Synthetic and Deprecated those that `-keepattributes` keeps, or all under `-dontobfuscate`. Names
 /// that the rules don't keep become short ones (`names_of` of `rename_map`), and each class is written at the path of
 /// its new name. Behind the classes the mapping goes to MAP, a list of what the rules keep to the file of
-/// `-printseeds`, one of what is dropped to the file of `-printusage`, where these are given, and the witness to OUTWIT.
+/// `-printseeds`, one of what is dropped to the file of `-printusage`, where these are given, and the witness to
+/// OUTWIT.
 ///
 /// | Status | Comes | Text |
 /// |---|---|---|

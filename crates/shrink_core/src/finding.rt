@@ -38,7 +38,8 @@ pub fn find_config<T: Tree>(
     ensures later { T.faults tree.old ≤ T.faults tree.new }
     ensures device { IsErrOf result Stop.Device → Rose (T.faults tree.old) (T.faults tree.new) }
     ensures seen { AddsCalls (T.log tree.old) (T.log tree.new) (T.files tree.old) (T.files tree.new)
-        (Sees (missed named.now.config result) (λ fs. Finds result (HasConfig fs named.now) (RefusesConfig fs named.now))) }
+        (Sees (missed named.now.config result)
+        (λ fs. Finds result (HasConfig fs named.now) (RefusesConfig fs named.now))) }
 {
     let bytes = config_bytes(alloc, named, tree)?;
     config_in(alloc, bytes.as_slice(), &named.witness)

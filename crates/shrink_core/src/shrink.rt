@@ -76,7 +76,8 @@ fn due_plan<T: Tree>(alloc: Global, named: &CommandFiles, tree: &mut T) -> Resul
 fn plan_of(alloc: Global, named: &CommandFiles, rules: &Rules, set: ClassSet) -> Result<Plan, Stop>
     requires writable { AllByRecursion IsWritable set }
     requires linked { IsLinked set }
-    ensures planned { Finds result (IsPlan rules.now set named.now.witness) (RefusesPlan rules.now set named.now.witness) }
+    ensures planned { Finds result (IsPlan rules.now set named.now.witness)
+        (RefusesPlan rules.now set named.now.witness) }
     ensures device { IsErrOf result Stop.Device → ⊥ }
 {
     let marks = marks_of(alloc, rules, &set)?;
@@ -87,7 +88,8 @@ fn plan_of(alloc: Global, named: &CommandFiles, rules: &Rules, set: ClassSet) ->
 
 /// For each item of a set whether rules keep it.
 fn marks_of(alloc: Global, rules: &Rules, set: &ClassSet) -> Result<Items<bool>, Stop>
-    ensures kept { (witness : List ℕ) → Finds result (IsKept rules.now set.now) (RefusesPlan rules.now set.now witness) }
+    ensures kept { (witness : List ℕ)
+        → Finds result (IsKept rules.now set.now) (RefusesPlan rules.now set.now witness) }
     ensures count { IfOk result (λ marks. length marks ≡ item_count set.now) }
     ensures device { IsErrOf result Stop.Device → ⊥ }
 {
@@ -124,7 +126,8 @@ fn kept_plan(
     requires linked { IsLinked set }
     requires count { length marks.now ≡ item_count set }
     requires kept { IsKept rules.now set marks.now }
-    ensures planned { Finds result (IsPlan rules.now set named.now.witness) (RefusesPlan rules.now set named.now.witness) }
+    ensures planned { Finds result (IsPlan rules.now set named.now.witness)
+        (RefusesPlan rules.now set named.now.witness) }
     ensures device { IsErrOf result Stop.Device → ⊥ }
 {
     kept_can_be_written();

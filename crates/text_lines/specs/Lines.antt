@@ -57,8 +57,10 @@ at_line fault n (Err kind) = Err (fault n kind)
 
 -- what the line of a number makes of what was read before it. Its kinds of fault are those of a line that isn't in
 -- UTF-8 and of one that spells no item; an item may be one that can't be added
-abbrev pub line_step : {X S K F : Type 0} → (ℕ → K → F) → K → K → (List ℕ → Option X) → (X → S → Result S K) → ℕ → List ℕ → S → Result S F
-line_step fault not_utf8 bad_line item_of add n line s = at_line fault n (line_read not_utf8 (λ l t. item_added bad_line add (item_of l) t) line s)
+abbrev pub line_step : {X S K F : Type 0} → (ℕ → K → F) → K → K → (List ℕ → Option X) → (X → S → Result S K) → ℕ
+    → List ℕ → S → Result S F
+line_step fault not_utf8 bad_line item_of add n line s =
+    at_line fault n (line_read not_utf8 (λ l t. item_added bad_line add (item_of l) t) line s)
 
 -- what lines make of what was read before them, or the first fault; the first of them has this number
 unfoldable pub read_lines : {S F : Type 0} → (ℕ → List ℕ → S → Result S F) → ℕ → List (List ℕ) → S → Result S F

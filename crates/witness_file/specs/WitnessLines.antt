@@ -16,7 +16,8 @@ use Rattle.witness_file.specs.declared.line.WitnessLine.TheVariants as line
 unfoldable pub act_text : Act → List ℕ
 act_text (act.Drop from to) = codes "drop " ++ (decimal from ++ (codes " " ++ decimal to))
 act_text (act.Fact from to slot value) =
-    codes "fact " ++ (decimal from ++ (codes " " ++ (decimal to ++ (codes " " ++ (decimal slot ++ (codes " " ++ signed_decimal value))))))
+    codes "fact " ++ (decimal from ++ (codes " " ++ (decimal to
+        ++ (codes " " ++ (decimal slot ++ (codes " " ++ signed_decimal value))))))
 act_text (act.Fold at to) = codes "fold " ++ (decimal at ++ (codes " " ++ decimal to))
 act_text (act.Cut at) = codes "cut " ++ decimal at
 act_text (act.Aim at which to) =
@@ -30,7 +31,8 @@ member_text name (Err e) descriptor = name ++ descriptor
 
 -- `method class type name(types)`
 abbrev pub method_line_text : List ℕ → List ℕ → List ℕ → List ℕ
-method_line_text class name ty = codes "method " ++ (dotted class ++ (codes " " ++ member_text name (read_method ty) ty))
+method_line_text class name ty = codes "method " ++ (dotted class
+    ++ (codes " " ++ member_text name (read_method ty) ty))
 
 -- the text of a line, without its end
 unfoldable pub line_text : WitnessLine → List ℕ
@@ -68,7 +70,8 @@ IsLine (line.Act a) = IsAct a
 
 -- a fact whose value 0 is spelled with a sign
 abbrev pub signed_zero_text : ℕ → ℕ → ℕ → List ℕ
-signed_zero_text from to slot = codes "fact " ++ (decimal from ++ (codes " " ++ (decimal to ++ (codes " " ++ (decimal slot ++ codes " -0")))))
+signed_zero_text from to slot = codes "fact " ++ (decimal from
+    ++ (codes " " ++ (decimal to ++ (codes " " ++ (decimal slot ++ codes " -0")))))
 
 -- the text is the line's spelling; a value 0 may have a sign
 abbrev pub IsTextOf : List ℕ → WitnessLine → Type 0

@@ -1,6 +1,7 @@
 -- The witness that a text stands for, read line by line, or the first line at fault (the project's own;
 -- docs/WITNESS.md).
-use Rattle.std.specs.Prelude.{◌≡◌, ◌⊎◌, ℕ, ◌+◌, ◌-◌, Bool, true, false, not, ◌||◌, ◌==◌, nat_le, List, [], ◌++◌, ◌∷◌, length, map, take, drop}
+use Rattle.std.specs.Prelude.{◌≡◌, ◌⊎◌, ℕ, ◌+◌, ◌-◌, Bool, true, false, not, ◌||◌, ◌==◌, nat_le, List, [], ◌++◌, ◌∷◌}
+use Rattle.std.specs.Prelude.{length, map, take, drop}
 use Rattle.std.specs.Prelude.{slice_get, Option, Some, None, Result, Ok, Err, if◌then◌else◌}
 use Rattle.std.specs.Option.{option_map, option_to_list}
 use Rattle.std.specs.Str.Lines.{lines}
@@ -83,7 +84,10 @@ abbrev pub step_begun : ℕ → MethodRead → Result MethodRead WitKind
 step_begun number m =
     if awaits_act m.step then Err BadLine
     else if nat_le number (length (all_steps m)) then Err BadOrder
-    else Ok (record m { steps = padded (number - 1) (all_steps m); step = option_map empty_step (slice_get step_passes (number - 1)) })
+    else Ok (record m {
+      steps = padded (number - 1) (all_steps m);
+      step = option_map empty_step (slice_get step_passes (number - 1));
+    })
 
 -- a step as one that may be there
 abbrev pub some_step : Result PassEdits WitKind → Result (Option PassEdits) WitKind
@@ -105,7 +109,8 @@ added_behind line.Head r = Err BadLine
 added_behind (line.Method class name ty) r = with_method class name ty r
 added_behind (line.Step number) r = in_last r.last (step_begun number) >>= (λ m. Ok (record r { last = m }))
 added_behind (line.Act a) r =
-    in_last r.last (λ m. act_added a m.step >>= (λ s. Ok (record m { step = Some s }))) >>= (λ m. Ok (record r { last = m }))
+    in_last r.last (λ m. act_added a m.step >>= (λ s. Ok (record m { step = Some s })))
+        >>= (λ m. Ok (record r { last = m }))
 
 -- the first line tells the version
 abbrev pub added_first : WitnessLine → WitnessRead → Result WitnessRead WitKind

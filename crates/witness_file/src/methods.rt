@@ -14,7 +14,8 @@ pub(crate) type MethodNames = BTreeSet<((Name, Name), Text)>;
 
 /// Puts a method, and answers whether it wasn't there.
 pub(crate) fn put_method(table: &mut MethodNames, class: &Name, name: &Name, ty: &Text) -> M<bool>
-    ensures is_new { (methods : List MethodWitness) → TellsMethods table.old methods → IfOk result (λ is_new. is_new ≡ not (has_method methods class.now name.now ty.now)) }
+    ensures is_new { (methods : List MethodWitness) → TellsMethods table.old methods
+        → IfOk result (λ is_new. is_new ≡ not (has_method methods class.now name.now ty.now)) }
     ensures put { OnOk result (Updates names_order table.old table.new ((class.now, name.now), ty.now) true) }
 {
     let names = (class.clone()?, name.clone()?);

@@ -6,8 +6,10 @@ ghost use Rattle.jv_base.specs.declared.outcome.Or.TheVariants.{Fault};
 ghost use Rattle.text_lines.specs.Lines.{read_lines};
 ghost use Rattle.text_lines.specs.bodies.Steps.{ChangesOr};
 ghost use Rattle.witness_file.specs.bodies.MethodTable.{TellsMethods};
-ghost use Rattle.witness_file.specs.WitnessReading.{IsFirstFault, added, added_behind, all_methods, awaits_more, awaits_step};
-ghost use Rattle.witness_file.specs.WitnessReading.{is_too_early, method_begun, nothing, read_witness, step, with_method};
+ghost use Rattle.witness_file.specs.WitnessReading.{IsFirstFault, added, added_behind, all_methods, awaits_more};
+ghost use Rattle.witness_file.specs.WitnessReading.{awaits_step};
+ghost use Rattle.witness_file.specs.WitnessReading.{is_too_early, method_begun, nothing, read_witness, step};
+ghost use Rattle.witness_file.specs.WitnessReading.{with_method};
 ghost use Rattle.witness_file.specs.Witnesses.{IsOneWitness, Reading};
 ghost use Rattle.witness_file.specs.declared.line.WitnessLine.TheVariants as line;
 ghost use Rattle.witness_file.specs.declared.witness.Witness.{Witness};
@@ -224,7 +226,10 @@ fn is_too_early(alloc: Global, last: &Option<MethodRead>, class: &Name) -> M<boo
 
 // Begins a method without steps.
 fn begin_method(alloc: Global, read: &mut WitnessRead, class: Name, name: Name, ty: Text) -> M<()>
-    ensures { OnOk result (read.new ≡ record read.old { before = all_methods read.old; last = Some (method_begun class name ty) }) }
+    ensures { OnOk result (read.new ≡ record read.old {
+      before = all_methods read.old;
+      last = Some (method_begun class name ty);
+    }) }
 {
     let method = MethodRead {
         class,

@@ -17,7 +17,8 @@ use text_lines::{push_class, push_method, push_number};
 /// The text of a witness: the version, and for each method its line and those of its steps with acts.
 pub fn write_witness(alloc: Global, w: &Witness) -> M<Bytes>
     ensures written { IfOk result (λ bytes. bytes ≡ witness_text w.now) }
-    ensures read_back { IsWitness w.now → AreTexts w.now.methods → IfOk result (λ bytes. read_witness bytes ≡ Ok w.now) }
+    ensures read_back { IsWitness w.now → AreTexts w.now.methods
+        → IfOk result (λ bytes. read_witness bytes ≡ Ok w.now) }
     ensures again { (text : List ℕ) → Reading text w.now → IfOk result (λ bytes. read_witness bytes ≡ Ok w.now) }
 {
     let mut out = Vec::new(alloc);
@@ -33,7 +34,8 @@ fn push_witness(alloc: Global, out: &mut Vec<u8>, w: &Witness) -> M<()>
 }
 
 fn push_methods(alloc: Global, out: &mut Vec<u8>, methods: &[MethodWitness]) -> M<()>
-    ensures { OnOk result (out.new.items ≡ out.old.items ++ flat_map (λ m. flat_map ended_line (method_lines m)) methods.now) }
+    ensures { OnOk result (out.new.items ≡ out.old.items
+        ++ flat_map (λ m. flat_map ended_line (method_lines m)) methods.now) }
 {
     for method in methods {
         push_method_lines(alloc, out, method)?;
@@ -49,7 +51,8 @@ fn push_method_lines(alloc: Global, out: &mut Vec<u8>, method: &MethodWitness) -
 }
 
 fn push_method_line(alloc: Global, out: &mut Vec<u8>, method: &MethodWitness) -> M<()>
-    ensures { OnOk result (out.new.items ≡ out.old.items ++ (method_line_text method.now.class method.now.name method.now.ty ++ 10 ∷ [])) }
+    ensures { OnOk result (out.new.items ≡ out.old.items
+        ++ (method_line_text method.now.class method.now.name method.now.ty ++ 10 ∷ [])) }
 {
     out.extend_from_slice(b"method ")?;
     push_class(out, &method.class)?;
@@ -61,7 +64,8 @@ fn push_method_line(alloc: Global, out: &mut Vec<u8>, method: &MethodWitness) ->
 
 // A method by its descriptor. A descriptor of 4 GiB is want of memory.
 fn push_member(alloc: Global, out: &mut Vec<u8>, method: &MethodWitness) -> M<()>
-    ensures { OnOk result (out.new.items ≡ out.old.items ++ member_text method.now.name (read_method method.now.ty) method.now.ty) }
+    ensures { OnOk result (out.new.items ≡ out.old.items
+        ++ member_text method.now.name (read_method method.now.ty) method.now.ty) }
 {
     if method.ty.len() >= u32::MAX as usize {
         return Err(OutOfMemory);

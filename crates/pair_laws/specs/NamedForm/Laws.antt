@@ -1,5 +1,5 @@
--- What is kept of a set can be written under its new names, and all of it is, as statements on all sets, rules and marks
--- (the project's own).
+-- What is kept of a set can be written under its new names, and all of it is, as statements on all sets, rules and
+-- marks (the project's own).
 use Rattle.std.specs.Prelude.{◌≡◌, Bool, List, IsPermutation, Ok}
 use Rattle.std.specs.List.{AllByRecursion}
 use Rattle.mark_core.specs.Marks.{Closed, set_of}

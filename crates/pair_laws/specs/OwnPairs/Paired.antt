@@ -1,4 +1,5 @@
--- Class files below a directory are a pair with a set (the project's own: what somebody can rely on who reads them again).
+-- Class files below a directory are a pair with a set (the project's own: what somebody can rely on who reads them
+-- again).
 use Rattle.std.specs.Prelude.{List}
 use Rattle.tree_io.specs.declared.file_at.FileAt.{FileAt}
 use Rattle.pair_laws.specs.FilesFound.Below.{AreBelow}

@@ -28,7 +28,8 @@ WritesOne (Ok f) class directory = IsFileOf directory class f
 WritesOne (Err (Fault limit)) class directory = class_written class ≡ Err limit
 WritesOne (Err OutOfMemory) class directory = Unit {0}
 
--- the files of classes under new names, in the order of their paths, and the mapping; or the first limit that one passes
+-- the files of classes under new names, in the order of their paths, and the mapping; or the first limit that one
+-- passes
 abbrev pub WritesNamed : Result NamedFiles (Or WriteLimit) → Names → List Class → Rules → Type 0
 WritesNamed (Ok written) names kept rules =
     AreFilesOf rules.out_dir (map (filtered (filter_of rules)) (in_order (map (renamed names) kept))) written.files
