@@ -155,7 +155,8 @@ module _ (pool : List PoolConstant) where
 
   -- an attribute that is written (JVMS 4.7)
   abbrev pub attribute : Bool → List ℕ → List ℕ → List AttributeInfo
-  attribute written name info = if written then record { attribute_name_index = text_index name; info = info } ∷ [] else []
+  attribute written name info = if written then record { attribute_name_index = text_index name; info = info } ∷ []
+      else []
 
   -- Synthetic and then Deprecated, both without contents (JVMS 4.7.8, 4.7.15)
   abbrev pub mark_attributes : Bool → Bool → List AttributeInfo

@@ -65,7 +65,8 @@ impl Model for SeenOfMethod {
 
     ghost Value = { MethodSeen };
 
-    ghost view = { λ s. record { body = s.body; throws = s.throws; synthetic = s.synthetic; deprecated = s.deprecated } };
+    ghost view = { λ s.
+        record { body = s.body; throws = s.throws; synthetic = s.synthetic; deprecated = s.deprecated } };
 }
 
 /// A method, its signature, and what is left out in it.

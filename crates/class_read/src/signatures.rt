@@ -147,7 +147,8 @@ fn push_signature(
     signature: Signature,
 ) -> M<()>
     requires { Knows before.old.items keys.old.keys }
-    ensures before { before.new.items ≡ (if is_ok result then before.old.items ++ signature ∷ [] else before.old.items) }
+    ensures before { before.new.items ≡ (if is_ok result then before.old.items
+        ++ signature ∷ [] else before.old.items) }
     ensures keys { Knows before.new.items keys.new.keys }
 {
     let key = key_copy(&signature)?;
@@ -162,7 +163,8 @@ fn push_key(
 ) -> M<()>
     requires knows { Knows before.old.items keys.old.keys }
     requires key { key ≡ key_of signature }
-    ensures before { before.new.items ≡ (if is_ok result then before.old.items ++ signature ∷ [] else before.old.items) }
+    ensures before { before.new.items ≡ (if is_ok result then before.old.items
+        ++ signature ∷ [] else before.old.items) }
     ensures keys { Knows before.new.items keys.new.keys }
 {
     let count = before.len();

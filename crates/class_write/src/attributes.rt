@@ -22,7 +22,8 @@ pub fn put_attribute(
 ) -> M<()>
     requires pool { length pool.now + 1 < 2 ^ 16 }
     requires info { written ≡ true → length info.now < 2 ^ 32 }
-    ensures { OnOk result (out.new.items ≡ out.old.items ++ flat_map attribute_info (canonical.attribute pool.now written name.now info.now)) }
+    ensures { OnOk result (out.new.items ≡ out.old.items
+        ++ flat_map attribute_info (canonical.attribute pool.now written name.now info.now)) }
 {
     if !written {
         return Ok(());
@@ -50,7 +51,8 @@ pub fn put_marks(
     out: &mut Vec<u8>,
 ) -> M<()>
     requires { length pool.now + 1 < 2 ^ 16 }
-    ensures { OnOk result (out.new.items ≡ out.old.items ++ flat_map attribute_info (canonical.mark_attributes pool.now synthetic deprecated)) }
+    ensures { OnOk result (out.new.items ≡ out.old.items
+        ++ flat_map attribute_info (canonical.mark_attributes pool.now synthetic deprecated)) }
 {
     put_attribute(alloc, pool, synthetic, "Synthetic", &[], out)?;
     put_attribute(alloc, pool, deprecated, "Deprecated", &[], out)
@@ -64,7 +66,8 @@ pub fn put_constant_value(
     out: &mut Vec<u8>,
 ) -> M<()>
     requires { length pool.now + 1 < 2 ^ 16 }
-    ensures { OnOk result (out.new.items ≡ out.old.items ++ flat_map attribute_info (canonical.constant_attributes pool.now constant.now)) }
+    ensures { OnOk result (out.new.items ≡ out.old.items
+        ++ flat_map attribute_info (canonical.constant_attributes pool.now constant.now)) }
 {
     match constant {
         Some(value) => {
@@ -83,7 +86,8 @@ pub fn put_source(
     out: &mut Vec<u8>,
 ) -> M<()>
     requires { length pool.now + 1 < 2 ^ 16 }
-    ensures { OnOk result (out.new.items ≡ out.old.items ++ flat_map attribute_info (canonical.source_attributes pool.now source.now)) }
+    ensures { OnOk result (out.new.items ≡ out.old.items
+        ++ flat_map attribute_info (canonical.source_attributes pool.now source.now)) }
 {
     match source {
         Some(units) => {
@@ -102,7 +106,8 @@ pub fn put_class_indices(
     out: &mut Vec<u8>,
 ) -> M<()>
     requires { length pool.now + 1 < 2 ^ 16 }
-    ensures { OnOk result (out.new.items ≡ out.old.items ++ flat_map (λ name. to_be_bytes w16 (canonical.class_index pool.now name)) names.now) }
+    ensures { OnOk result (out.new.items ≡ out.old.items
+        ++ flat_map (λ name. to_be_bytes w16 (canonical.class_index pool.now name)) names.now) }
 {
     for name in names {
         put_u2(out, class_index(alloc, pool, name)?)?;
@@ -120,7 +125,8 @@ pub fn put_exceptions(
     requires pool { length pool.now + 1 < 2 ^ 16 }
     requires count { length throws.now < 2 ^ 16 }
     ensures { OnOk result (out.new.items ≡ out.old.items ++ flat_map attribute_info
-        (canonical.attribute pool.now (canonical.is_some_item throws.now) (codes "Exceptions") (canonical.exceptions pool.now throws.now))) }
+        (canonical.attribute pool.now (canonical.is_some_item throws.now) (codes "Exceptions")
+        (canonical.exceptions pool.now throws.now))) }
 {
     let mut info = Vec::new(alloc);
     put_u2(&mut info, throws.len() as u16)?;

@@ -51,7 +51,8 @@ fn put_handler(
 ) -> M<()>
     requires pool { length pool.now + 1 < 2 ^ 16 }
     requires places { All IsOffset places.now }
-    ensures { OnOk result (out.new.items ≡ out.old.items ++ exception_info (canonical.handler_raw pool.now places.now handler.now)) }
+    ensures { OnOk result (out.new.items ≡ out.old.items
+        ++ exception_info (canonical.handler_raw pool.now places.now handler.now)) }
 {
     put_u2(out, place_at(places, handler.from as usize))?;
     put_u2(out, place_at(places, handler.to as usize))?;
@@ -91,7 +92,8 @@ fn put_row(place: u16, line: u16, out: &mut Vec<u8>) -> M<()>
 
 /// The row of an instruction at a place, behind one with the line before, if it has one (JVMS 4.7.12).
 fn put_line_row(before: Option<u16>, place: u16, line: Option<u16>, out: &mut Vec<u8>) -> M<()>
-    ensures { OnOk result (out.new.items ≡ out.old.items ++ flat_map line_number (canonical.line_row before place line)) }
+    ensures { OnOk result (out.new.items ≡ out.old.items
+        ++ flat_map line_number (canonical.line_row before place line)) }
 {
     match (before, line) {
         (_, None) => Ok(()),
@@ -108,7 +110,8 @@ fn put_line_row(before: Option<u16>, place: u16, line: Option<u16>, out: &mut Ve
 
 fn put_line_rows(places: &[u32], ins: &[Ins], out: &mut Vec<u8>) -> M<()>
     requires { All IsOffset places.now }
-    ensures { OnOk result (out.new.items ≡ out.old.items ++ flat_map line_number (canonical.line_rows None places.now ins.now)) }
+    ensures { OnOk result (out.new.items ≡ out.old.items
+        ++ flat_map line_number (canonical.line_rows None places.now ins.now)) }
 {
     let mut before = None;
     for (number, instruction) in ins.iter().enumerate() {
@@ -122,7 +125,8 @@ fn put_line_rows(places: &[u32], ins: &[Ins], out: &mut Vec<u8>) -> M<()>
 pub fn line_table(alloc: Global, places: &[u32], ins: &[Ins]) -> M<Vec<u8>>
     requires places { All IsOffset places.now }
     requires count { length (canonical.line_rows None [] ins.now) < 2 ^ 16 }
-    ensures table { IfOk result (λ table. table.items ≡ canonical.line_table [] (canonical.line_rows None places.now ins.now)) }
+    ensures table { IfOk result (λ table. table.items
+        ≡ canonical.line_table [] (canonical.line_rows None places.now ins.now)) }
     ensures short { IfOk result (λ table. length table.items < 2 ^ 20) }
 {
     let mut table = Vec::new(alloc);

@@ -57,7 +57,8 @@ impl Slots {
 // One more, with those before it that are missing.
 fn push_behind(slots: &mut Vec<Option<usize>>, number: usize, index: usize) -> M<()>
     requires { length slots.old.items ≤ number }
-    ensures kept { OnOk result ((n : ℕ) → slot slots.new.items n ≡ (if number == n then Some index else slot slots.old.items n)) }
+    ensures kept { OnOk result ((n : ℕ) → slot slots.new.items n
+        ≡ (if number == n then Some index else slot slots.old.items n)) }
     ensures unchanged { OnErr result ((n : ℕ) → slot slots.new.items n ≡ slot slots.old.items n) }
 {
     slots.resize(number, None)?;

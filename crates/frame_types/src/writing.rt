@@ -98,7 +98,8 @@ fn put_counted_types(
 // ---- forms
 
 fn put_same(delta: u16, out: &mut Vec<u8>) -> M<()>
-    ensures { OnOk result (out.new.items ≡ out.old.items ++ stack_map_frame (canonical.row [] [] delta canonical.same)) }
+    ensures { OnOk result (out.new.items ≡ out.old.items
+        ++ stack_map_frame (canonical.row [] [] delta canonical.same)) }
 {
     if delta < 64 {
         return put(out, &[delta as u8]);

@@ -33,7 +33,8 @@ is_method_name name = is_member_name name || is_text name (codes "<init>") || is
 -- (JLS 3.9; that it names no class is the project's own)
 unfoldable pub is_primitive_or_void : List ℕ → Bool
 is_primitive_or_void text = list_any (is_text text)
-    (codes "boolean" ∷ codes "byte" ∷ codes "char" ∷ codes "short" ∷ codes "int" ∷ codes "long" ∷ codes "float" ∷ codes "double" ∷ codes "void" ∷ [])
+    (codes "boolean" ∷ codes "byte" ∷ codes "char" ∷ codes "short" ∷ codes "int" ∷ codes "long" ∷ codes "float"
+    ∷ codes "double" ∷ codes "void" ∷ [])
 
 -- the parts of a name between its separators, `/` (JVMS 4.2.1)
 abbrev pub name_parts : List ℕ → List (List ℕ)

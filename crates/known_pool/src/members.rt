@@ -88,7 +88,8 @@ fn described(
     name: &Text,
     descriptor: &KnownText,
 ) -> M<KnownMember>
-    ensures { IfOk result (λ member. member ≡ record { class = class; name = name.now; ty = descriptor.now; of_interface = of_interface }) }
+    ensures { IfOk result (λ member. member
+        ≡ record { class = class; name = name.now; ty = descriptor.now; of_interface = of_interface }) }
 {
     let reference = MemberRef {
         class,

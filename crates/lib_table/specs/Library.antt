@@ -37,7 +37,8 @@ class name kind super_name interfaces members =
 
 -- a method that isn't static (JVMS 4.6)
 abbrev pub method : Role → List ℕ → List ℕ → LibraryMember
-method role name descriptor = record { name = name; descriptor = descriptor; is_method = true; is_static = false; role = role }
+method role name descriptor =
+    record { name = name; descriptor = descriptor; is_method = true; is_static = false; role = role }
 
 -- an instance initialisation method, which a program may call (JVMS 2.9)
 abbrev pub constructor : List ℕ → LibraryMember
@@ -45,11 +46,13 @@ constructor descriptor = method Callable (codes "<init>") descriptor
 
 -- a static method, which a program may call (JVMS 4.6)
 abbrev pub static_method : List ℕ → List ℕ → LibraryMember
-static_method name descriptor = record { name = name; descriptor = descriptor; is_method = true; is_static = true; role = Callable }
+static_method name descriptor =
+    record { name = name; descriptor = descriptor; is_method = true; is_static = true; role = Callable }
 
 -- a static field, which a program may name (JVMS 4.5)
 abbrev pub static_field : List ℕ → List ℕ → LibraryMember
-static_field name descriptor = record { name = name; descriptor = descriptor; is_method = false; is_static = true; role = Callable }
+static_field name descriptor =
+    record { name = name; descriptor = descriptor; is_method = false; is_static = true; role = Callable }
 
 -- of an exception that is made without a message, or with one (JVMS 2.9)
 abbrev pub two_constructors : List LibraryMember

@@ -62,7 +62,8 @@ rank_of LeftOutMember = 7
 
 -- the kinds in the order in which they count
 abbrev pub all_kinds : List ProfileKind
-all_kinds = LeftOutFlag ∷ LeftOutConstant ∷ LeftOutOpcode ∷ LeftOutType ∷ Unresolved ∷ Inaccessible ∷ WrongKind ∷ LeftOutMember ∷ []
+all_kinds = LeftOutFlag ∷ LeftOutConstant ∷ LeftOutOpcode ∷ LeftOutType ∷ Unresolved ∷ Inaccessible ∷ WrongKind
+    ∷ LeftOutMember ∷ []
 
 -- of several kinds the first one in that order
 unfoldable pub least : List ProfileKind → Option ProfileKind

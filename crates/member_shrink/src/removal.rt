@@ -35,7 +35,8 @@ fn keep_class(
     item: usize,
 ) -> M<()>
     requires { item + items_of class ≤ length marks.now }
-    ensures { OnOk result (kept.new ≡ (if is_marked marks.now item then kept.old ++ with_marked_members marks.now item class ∷ [] else kept.old)) }
+    ensures { OnOk result (kept.new ≡ (if is_marked marks.now item then kept.old
+        ++ with_marked_members marks.now item class ∷ [] else kept.old)) }
 {
     if marks[item] {
         kept.push(with_marked_members(alloc, class, marks, item)?)?;

@@ -26,5 +26,6 @@ pub trait Sink {
     fn put(&mut self, bytes: &[u8]) -> Result<(), PutFault>
         ensures log { log self.new ≡ log self.old ++ Put bytes.now result ∷ [] }
         ensures later { faults self.old ≤ faults self.new }
-        ensures takes { Takes result bytes.now (written self.old) (written self.new) (faults self.old) (faults self.new) };
+        ensures takes { Takes result bytes.now (written self.old) (written self.new) (faults self.old)
+            (faults self.new) };
 }

@@ -1,6 +1,7 @@
 -- What a rule makes of a frame, or the first thing that is wrong (JVMS 4.10.1.7, 4.10.1.8, 4.10.1.9). The order in
 -- which faults are told is the project's own: Depth, Local, Operand, Protected, Uninit.
-use Rattle.std.specs.Prelude.{ℕ, ◌+◌, ◌-◌, Bool, true, false, not, ◌&&◌, ◌==◌, nat_le, nat_lt, List, [], ◌∷◌, ◌++◌, length}
+use Rattle.std.specs.Prelude.{ℕ, ◌+◌, ◌-◌, Bool, true, false, not, ◌&&◌, ◌==◌, nat_le, nat_lt, List, [], ◌∷◌, ◌++◌}
+use Rattle.std.specs.Prelude.{length}
 use Rattle.std.specs.Prelude.{map, slice_get, slice_set, Option, Some, None, Result, Ok, Err, if◌then◌else◌}
 use Rattle.std.specs.List.{list_any, sum_by}
 use Rattle.std.specs.Option.{option_map, option_map_or, option_and_then}
@@ -155,7 +156,8 @@ module _ (classes : List Class) where
   abbrev pub stored_from : Wanted → ℕ → TypeFrame → List VType → Checked
   stored_from wanted slot f [] = Err Operand
   stored_from wanted slot f (ty ∷ stack) =
-      if meets classes wanted ty then Ok (record { locals = put_local slot ty f.locals; stack = stack; marked = f.marked })
+      if meets classes wanted ty
+      then Ok (record { locals = put_local slot ty f.locals; stack = stack; marked = f.marked })
       else Err Operand
 
   -- the words of the value are locals (JVMS 4.10.1.7, storeIsTypeSafe)

@@ -4,7 +4,8 @@ ghost use Rattle.class_model.specs.Frames.{words_of_type};
 ghost use Rattle.class_model.specs.declared.frame.VType.TheVariants as vtype;
 ghost use Rattle.type_verifier.specs.bodies.Changes.{After, AfterOr};
 ghost use Rattle.type_verifier.specs.Effects.{all_popped, element, popped, read_from, ruled};
-ghost use Rattle.type_verifier.specs.Rules.{AnyArray, Assignable, ReadsReference, Takes, array_load, array_of, array_of_base};
+ghost use Rattle.type_verifier.specs.Rules.{AnyArray, Assignable, ReadsReference, Takes, array_load, array_of};
+ghost use Rattle.type_verifier.specs.Rules.{array_of_base};
 ghost use Rattle.type_verifier.specs.Rules.{array_store, array_wanted, element_moved};
 ghost use Rattle.type_verifier.specs.bodies.Seen.{seen};
 
@@ -101,7 +102,8 @@ fn load_number(
     elem: Elem,
     given: VType,
 ) -> Result<(), Or<TypeKind>>
-    ensures { AfterOr result frame.new (ruled (seen env.now) 0 (Takes (Assignable vtype.Int ∷ array_wanted elem ∷ []) (Some given)) frame.old) }
+    ensures { AfterOr result frame.new
+        (ruled (seen env.now) 0 (Takes (Assignable vtype.Int ∷ array_wanted elem ∷ []) (Some given)) frame.old) }
 {
     check_room(env.code, frame, 2, words_of(&given))?;
     take_number(env.set, frame, Num::Int)?;
@@ -154,7 +156,8 @@ pub(crate) fn make_numbers(
     frame: &mut TypeFrame,
     base: &Base,
 ) -> Result<(), Or<TypeKind>>
-    ensures { AfterOr result frame.new (ruled (seen env.now) 0 (Takes (Assignable vtype.Int ∷ []) (Some (array_of_base base.now))) frame.old) }
+    ensures { AfterOr result frame.new
+        (ruled (seen env.now) 0 (Takes (Assignable vtype.Int ∷ []) (Some (array_of_base base.now))) frame.old) }
 {
     let array = VType::Object(FieldType {
         dims: 1,
@@ -169,7 +172,8 @@ pub(crate) fn make_array(
     frame: &mut TypeFrame,
     ty: &FieldType,
 ) -> Result<(), Or<TypeKind>>
-    ensures { AfterOr result frame.new (ruled (seen env.now) 0 (Takes (Assignable vtype.Int ∷ []) (Some (array_of ty.now))) frame.old) }
+    ensures { AfterOr result frame.new
+        (ruled (seen env.now) 0 (Takes (Assignable vtype.Int ∷ []) (Some (array_of ty.now))) frame.old) }
 {
     let array = array_of(ty)?;
     compute(env, frame, &[Num::Int], Some(array))
@@ -182,7 +186,8 @@ pub(crate) fn make_arrays(
     ty: &FieldType,
     dimensions: u8,
 ) -> Result<(), Or<TypeKind>>
-    ensures { AfterOr result frame.new (ruled (seen env.now) 0 (Takes (replicate dimensions (Assignable vtype.Int)) (Some (vtype.Object ty.now))) frame.old) }
+    ensures { AfterOr result frame.new (ruled (seen env.now) 0
+        (Takes (replicate dimensions (Assignable vtype.Int)) (Some (vtype.Object ty.now))) frame.old) }
 {
     let array = VType::Object(ty.clone()?);
     check_room(env.code, frame, usize::from(dimensions), 1)?;

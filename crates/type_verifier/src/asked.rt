@@ -2,7 +2,8 @@
 // where it begins the same locals are declared.
 ghost use Rattle.std.specs.Prelude.{◌≡◌, ◌<◌, ◌+◌, IfOk, IfSome, IsTrue, None, length, slice_index_or};
 ghost use Rattle.class_model.specs.FrameLists.{frame_numbered};
-ghost use Rattle.type_verifier.specs.bodies.Asked.{AreAsked, AreAskedBefore, AreThere, IsStoodFor, StandsFor, StandsForPlace};
+ghost use Rattle.type_verifier.specs.bodies.Asked.{AreAsked, AreAskedBefore, AreThere, IsStoodFor, StandsFor};
+ghost use Rattle.type_verifier.specs.bodies.Asked.{StandsForPlace};
 ghost use Rattle.type_verifier.specs.bodies.Asked.{locals_at};
 ghost use Rattle.type_verifier.specs.bodies.Marks.{AreNumbers};
 

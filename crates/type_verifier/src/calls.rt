@@ -9,7 +9,8 @@ ghost use Rattle.type_verifier.specs.bodies.Changes.{After, AfterOr};
 ghost use Rattle.type_verifier.specs.Effects.{all_popped, all_words_wanted, if_ruled, popped, ruled, used_from};
 ghost use Rattle.type_verifier.specs.Environment.{own_type};
 ghost use Rattle.type_verifier.specs.Members.{is_guarded_method};
-ghost use Rattle.type_verifier.specs.Rules.{Assignable, Initialises, Uses, arguments, method_type, object_call, returned};
+ghost use Rattle.type_verifier.specs.Rules.{Assignable, Initialises, Uses, arguments, method_type, object_call};
+ghost use Rattle.type_verifier.specs.Rules.{returned};
 ghost use Rattle.type_verifier.specs.Rules.{special_call, static_call, wanted_arguments};
 ghost use Rattle.type_verifier.specs.bodies.Seen.{seen};
 
@@ -37,7 +38,8 @@ pub(crate) fn call_static(
     frame: &mut TypeFrame,
     r: &MemberRef,
 ) -> Result<(), Or<TypeKind>>
-    ensures { AfterOr result frame.new (if_ruled (seen env.now) 0 (option_map static_call (method_type r.now)) frame.old) }
+    ensures { AfterOr result frame.new
+        (if_ruled (seen env.now) 0 (option_map static_call (method_type r.now)) frame.old) }
 {
     match method_type(alloc, r)? {
         Some(ty) => call_typed_static(env, frame, &ty),
@@ -64,7 +66,8 @@ pub(crate) fn call_on_object(
     r: &MemberRef,
 ) -> Result<(), Or<TypeKind>>
     requires there { env.now.own < length env.now.set.now }
-    ensures { AfterOr result frame.new (if_ruled (seen env.now) 0 (option_map (object_call (seen env.now) r.now) (method_type r.now)) frame.old) }
+    ensures { AfterOr result frame.new
+        (if_ruled (seen env.now) 0 (option_map (object_call (seen env.now) r.now) (method_type r.now)) frame.old) }
 {
     match method_type(alloc, r)? {
         Some(ty) => call_typed(env, frame, r, &ty),
@@ -98,7 +101,8 @@ pub(crate) fn call_special(
     r: &MemberRef,
 ) -> Result<(), Or<TypeKind>>
     requires there { env.now.own < length env.now.set.now }
-    ensures { AfterOr result frame.new (if_ruled (seen env.now) 0 (option_map (special_call (seen env.now) r.now) (method_type r.now)) frame.old) }
+    ensures { AfterOr result frame.new
+        (if_ruled (seen env.now) 0 (option_map (special_call (seen env.now) r.now) (method_type r.now)) frame.old) }
 {
     match method_type(alloc, r)? {
         Some(ty) => call_typed_special(env, frame, r, &ty),
@@ -129,7 +133,8 @@ fn call_constructor(
     ty: &MethodType,
 ) -> Result<(), Or<TypeKind>>
     requires there { env.now.own < length env.now.set.now }
-    ensures { AfterOr result frame.new (ruled (seen env.now) 0 (Initialises (arguments ty.now) r.now.class (is_guarded_method (seen env.now) r.now)) frame.old) }
+    ensures { AfterOr result frame.new (ruled (seen env.now) 0
+        (Initialises (arguments ty.now) r.now.class (is_guarded_method (seen env.now) r.now)) frame.old) }
 {
     check_room(env.code, frame, words_with_object(ty.args.as_slice())?, 0)?;
     take_arguments(env.set, frame, ty.args.as_slice())?;
@@ -138,7 +143,8 @@ fn call_constructor(
 
 /// Calls a method that is no constructor on an object of the own class.
 fn call_own(env: &Env, frame: &mut TypeFrame, ty: &MethodType) -> Result<(), Or<TypeKind>>
-    ensures { AfterOr result frame.new (ruled (seen env.now) 0 (Uses (arguments ty.now) (Assignable (own_type (seen env.now))) false (returned ty.now)) frame.old) }
+    ensures { AfterOr result frame.new (ruled (seen env.now) 0
+        (Uses (arguments ty.now) (Assignable (own_type (seen env.now))) false (returned ty.now)) frame.old) }
 {
     let given = returned(ty)?;
     let taken = words_with_object(ty.args.as_slice())?;
@@ -150,7 +156,8 @@ fn call_own(env: &Env, frame: &mut TypeFrame, ty: &MethodType) -> Result<(), Or<
 }
 
 fn take_own(env: &Env, frame: &mut TypeFrame) -> Result<(), Or<TypeKind>>
-    ensures { AfterOr result frame.new (used_from (seen env.now) (Assignable (own_type (seen env.now))) false frame.old frame.old.stack) }
+    ensures { AfterOr result frame.new
+        (used_from (seen env.now) (Assignable (own_type (seen env.now))) false frame.old frame.old.stack) }
 {
     let own = env.own_type()?;
     take(env.set, frame, &own)?;

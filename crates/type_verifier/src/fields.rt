@@ -26,7 +26,8 @@ pub(crate) fn read_static(
     frame: &mut TypeFrame,
     r: &MemberRef,
 ) -> Result<(), Or<TypeKind>>
-    ensures { AfterOr result frame.new (if_ruled (seen env.now) 0 (option_map static_read (field_type r.now)) frame.old) }
+    ensures { AfterOr result frame.new
+        (if_ruled (seen env.now) 0 (option_map static_read (field_type r.now)) frame.old) }
 {
     match field_type(alloc, r)? {
         Some(ty) => compute(env, frame, &[], Some(ty)),
@@ -41,7 +42,8 @@ pub(crate) fn write_static(
     frame: &mut TypeFrame,
     r: &MemberRef,
 ) -> Result<(), Or<TypeKind>>
-    ensures { AfterOr result frame.new (if_ruled (seen env.now) 0 (option_map static_write (field_type r.now)) frame.old) }
+    ensures { AfterOr result frame.new
+        (if_ruled (seen env.now) 0 (option_map static_write (field_type r.now)) frame.old) }
 {
     match field_type(alloc, r)? {
         Some(ty) => convert(env, frame, &ty, None),
@@ -57,7 +59,8 @@ pub(crate) fn read_field(
     r: &MemberRef,
 ) -> Result<(), Or<TypeKind>>
     requires there { env.now.own < length env.now.set.now }
-    ensures { AfterOr result frame.new (if_ruled (seen env.now) 0 (option_map (field_read (seen env.now) r.now) (field_type r.now)) frame.old) }
+    ensures { AfterOr result frame.new
+        (if_ruled (seen env.now) 0 (option_map (field_read (seen env.now) r.now) (field_type r.now)) frame.old) }
 {
     match field_type(alloc, r)? {
         Some(ty) => read_typed(env, frame, r, ty),
@@ -88,7 +91,8 @@ pub(crate) fn write_field(
     r: &MemberRef,
 ) -> Result<(), Or<TypeKind>>
     requires there { env.now.own < length env.now.set.now }
-    ensures { AfterOr result frame.new (if_ruled (seen env.now) 0 (option_map (field_write (seen env.now) r.now) (field_type r.now)) frame.old) }
+    ensures { AfterOr result frame.new
+        (if_ruled (seen env.now) 0 (option_map (field_write (seen env.now) r.now) (field_type r.now)) frame.old) }
 {
     match field_type(alloc, r)? {
         Some(ty) => write_typed(env, frame, r, &ty),

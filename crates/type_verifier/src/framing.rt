@@ -139,7 +139,8 @@ pub(crate) fn initial_frame(alloc: Global, env: &Env) -> M<TypeFrame>
 }
 
 fn initial_locals(alloc: Global, env: &Env) -> M<Vec<VType>>
-    ensures { IfOk result (λ locals. locals.items ≡ initial_locals env.now.class.now.name (is_static env.now.method.now.flags.0) env.now.method.now.name env.now.method.now.ty) }
+    ensures { IfOk result (λ locals. locals.items ≡ initial_locals env.now.class.now.name
+        (is_static env.now.method.now.flags.0) env.now.method.now.name env.now.method.now.ty) }
 {
     let mut locals = Vec::new(alloc);
     if !env.method.flags.contains(Access::STATIC) {

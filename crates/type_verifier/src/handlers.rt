@@ -10,7 +10,8 @@ ghost use Rattle.type_verifier.specs.Assignable.{is_assignable, is_frame_assigna
 ghost use Rattle.type_verifier.specs.Effects.{with_stack};
 ghost use Rattle.type_verifier.specs.Walk.{caught_type, covers, fits_at, satisfies, satisfies_handlers};
 ghost use Rattle.type_verifier.specs.bodies.Asked.{IsUncovered, covers_behind, covers_first, handler_at};
-ghost use Rattle.type_verifier.specs.bodies.Asked.{satisfies_behind, satisfies_first, satisfies_if_behind, satisfies_if_first};
+ghost use Rattle.type_verifier.specs.bodies.Asked.{satisfies_behind, satisfies_first, satisfies_if_behind};
+ghost use Rattle.type_verifier.specs.bodies.Asked.{satisfies_if_first};
 ghost use Rattle.type_verifier.specs.bodies.Noting.{AreFitting};
 ghost use Rattle.type_verifier.specs.bodies.Places.{ArePlaces};
 ghost use Rattle.type_verifier.specs.bodies.Seen.{seen};

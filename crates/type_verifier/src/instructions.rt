@@ -111,7 +111,8 @@ fn convert_number(env: &Env, frame: &mut TypeFrame, op: ConvOp) -> Result<(), Or
 
 /// checkcast.
 fn cast(env: &Env, frame: &mut TypeFrame, ty: &FieldType) -> Result<(), Or<TypeKind>>
-    ensures { AfterOr result frame.new (ruled (seen env.now) 0 (Takes (Assignable object ∷ []) (Some (vtype.Object ty.now))) frame.old) }
+    ensures { AfterOr result frame.new
+        (ruled (seen env.now) 0 (Takes (Assignable object ∷ []) (Some (vtype.Object ty.now))) frame.old) }
 {
     let given = VType::Object(ty.clone()?);
     convert(env, frame, env.known.object(), Some(given))

@@ -2,7 +2,8 @@
 ghost use Rattle.std.specs.Prelude.{◌≡◌, IfOk, option_copied};
 ghost use Rattle.type_verifier.specs.Assignable.{is_assignable};
 ghost use Rattle.type_verifier.specs.bodies.Changes.{AfterOr};
-ghost use Rattle.type_verifier.specs.Effects.{class_made_at, made, made_class, new_initialised, object_initialised, ruled};
+ghost use Rattle.type_verifier.specs.Effects.{class_made_at, made, made_class, new_initialised, object_initialised};
+ghost use Rattle.type_verifier.specs.Effects.{ruled};
 ghost use Rattle.type_verifier.specs.Effects.{this_initialised};
 ghost use Rattle.type_verifier.specs.Environment.{own_type};
 ghost use Rattle.type_verifier.specs.Members.{is_class_base, is_class_type, is_own_or_super};
@@ -122,7 +123,8 @@ fn initialise_new(
     class: &FieldType,
     guarded: bool,
 ) -> Result<(), Or<TypeKind>>
-    ensures { AfterOr result frame.new (new_initialised (seen env.now) at class.now guarded (class_made_at env.now.code.now at) frame.old frame.old.stack) }
+    ensures { AfterOr result frame.new (new_initialised (seen env.now) at class.now guarded
+        (class_made_at env.now.code.now at) frame.old frame.old.stack) }
 {
     let Some(name) = class_made_at(env.code, at) else {
         return Err(Or::Fault(TypeKind::Uninit));

@@ -5,7 +5,8 @@ ghost use Rattle.std.specs.Prelude.{◌≡◌, ◌∷◌, [], None, OnOk, if◌t
 ghost use Rattle.class_model.specs.declared.frame.VType.TheVariants as vtype;
 ghost use Rattle.type_verifier.specs.bodies.Changes.{After, AfterOr};
 ghost use Rattle.type_verifier.specs.Effects.{all_popped, gives, popped, ruled};
-ghost use Rattle.type_verifier.specs.Rules.{AnyArray, Assignable, Reference, SmallArray, Takes, is_array, is_small_array};
+ghost use Rattle.type_verifier.specs.Rules.{AnyArray, Assignable, Reference, SmallArray, Takes, is_array};
+ghost use Rattle.type_verifier.specs.Rules.{is_small_array};
 ghost use Rattle.type_verifier.specs.Rules.{meets, wanted_number};
 ghost use Rattle.type_verifier.specs.bodies.Seen.{seen};
 
@@ -127,7 +128,8 @@ pub(crate) fn take_references(
     frame: &mut TypeFrame,
     two: bool,
 ) -> Result<(), Or<TypeKind>>
-    ensures { AfterOr result frame.new (ruled (seen env.now) 0 (Takes (if two then Reference ∷ Reference ∷ [] else Reference ∷ []) None) frame.old) }
+    ensures { AfterOr result frame.new
+        (ruled (seen env.now) 0 (Takes (if two then Reference ∷ Reference ∷ [] else Reference ∷ []) None) frame.old) }
 {
     let words = if two { 2 } else { 1 };
     check_room(env.code, frame, words, 0)?;

@@ -1,5 +1,6 @@
 // What is declared at the instructions of a code, and which of them are entered (JVMS 4.10.1.6).
-ghost use Rattle.std.specs.Prelude.{◌≡◌, ◌<◌, nat_eq, false, IfOk, IfSome, None, Some, length, option_copied, slice_get};
+ghost use Rattle.std.specs.Prelude.{◌≡◌, ◌<◌, nat_eq, false, IfOk, IfSome, None, Some, length, option_copied};
+ghost use Rattle.std.specs.Prelude.{slice_get};
 ghost use Rattle.std.specs.Prelude.{slice_index_or};
 ghost use Rattle.std.specs.Option.{is_some};
 ghost use Rattle.type_verifier.specs.declared.frame.TypeFrame.{TypeFrame};

@@ -28,7 +28,8 @@ pub(crate) fn use_object(
     or_this: bool,
     guarded: bool,
 ) -> Result<(), Or<TypeKind>>
-    ensures { AfterOr result frame.new (used_from (seen env.now) (if or_this then OrThis class.now else Assignable (vtype.Object class.now)) guarded frame.old frame.old.stack) }
+    ensures { AfterOr result frame.new (used_from (seen env.now)
+        (if or_this then OrThis class.now else Assignable (vtype.Object class.now)) guarded frame.old frame.old.stack) }
 {
     match frame.stack.pop() {
         Some(ty) if is_receiver(env.set, class, or_this, &ty) => check_guard(env, guarded, &ty),
@@ -37,7 +38,8 @@ pub(crate) fn use_object(
 }
 
 fn is_receiver(set: &Hierarchy, class: &FieldType, or_this: bool, ty: &VType) -> bool
-    ensures { result ≡ meets set.now (if or_this then OrThis class.now else Assignable (vtype.Object class.now)) ty.now }
+    ensures { result ≡ meets set.now (if or_this then OrThis class.now
+        else Assignable (vtype.Object class.now)) ty.now }
 {
     match ty {
         VType::UninitThis => or_this,

@@ -10,7 +10,8 @@ ghost use Rattle.type_verifier.specs.bodies.Noting.{AreFitting};
 ghost use Rattle.type_verifier.specs.bodies.Places.{ArePlaces};
 ghost use Rattle.type_verifier.specs.bodies.Seen.{seen};
 ghost use Rattle.type_verifier.specs.bodies.Since.{IsSame, IsSince};
-ghost use Rattle.type_verifier.specs.Walk.{arrived, at_instruction, fault_at, fits_at, fits_targets, instruction_checked};
+ghost use Rattle.type_verifier.specs.Walk.{arrived, at_instruction, fault_at, fits_at, fits_targets};
+ghost use Rattle.type_verifier.specs.Walk.{instruction_checked};
 ghost use Rattle.type_verifier.specs.bodies.Walked.{code_checked, walked};
 
 use crate::assignability::{are_assignable, is_stack_assignable};
@@ -202,7 +203,8 @@ fn arrive(
 ) -> Result<bool, Or<TypeKind>>
     requires places { ArePlaces env.now.code.now places.now }
     requires instruction { at < length env.now.code.now.ins }
-    ensures after { ArrivesOr result frame.new (arrived (seen env.now) at (flow flows frame.old) (declared_frame_at (seen env.now) at)) }
+    ensures after { ArrivesOr result frame.new
+        (arrived (seen env.now) at (flow flows frame.old) (declared_frame_at (seen env.now) at)) }
     ensures same { IfOk result (λ same. IsTrue same → IsSame frame.old frame.new) }
 {
     match make(alloc, env, places, at as usize)? {
@@ -300,7 +302,8 @@ fn fits_cases(
     cases: &[Case],
 ) -> M<bool>
     requires places { ArePlaces env.now.code.now places.now }
-    ensures { IfOk result (λ fits. fits ≡ list_all (fits_at (seen env.now) frame.now) (map (λ (c : Case). c.to) cases.now)) }
+    ensures { IfOk result (λ fits. fits ≡ list_all (fits_at (seen env.now) frame.now)
+        (map (λ (c : Case). c.to) cases.now)) }
 {
     for case in cases {
         if !fits_at(alloc, env, places, frame, case.to)? {

@@ -1,5 +1,6 @@
 -- Chains of the handlers that cover the same instruction as the first one (only the proof of the walk needs it).
-use Rattle.std.specs.Prelude.{◌≡◌, ◌<◌, ◌≤◌, ◌+◌, ℕ, false, true, nat_eq, List, length, Option, None, get_or, slice_index_or, IfSome}
+use Rattle.std.specs.Prelude.{◌≡◌, ◌<◌, ◌≤◌, ◌+◌, ℕ, false, true, nat_eq, List, length, Option, None, get_or}
+use Rattle.std.specs.Prelude.{slice_index_or, IfSome}
 use Rattle.std.specs.Option.{is_some, option_map_or}
 use Rattle.class_model.specs.declared.code.Handler.{Handler}
 use Rattle.type_verifier.specs.declared.chain.Chain.{Chain}
@@ -26,7 +27,8 @@ pub record IsFirstFrom (handlers : List Handler) (from at : ℕ) (number : Optio
   pub none : (n : ℕ) → from ≤ n → n < count_before handlers number → nat_eq at (from_of handlers n) ≡ false
   pub covering : IsCovering handlers at number
 
--- of the handlers from one on, each instruction has the first that covers it as the first one, and each of them the next
+-- of the handlers from one on, each instruction has the first that covers it as the first one, and each of them the
+-- next
 pub record IsChainFrom (handlers : List Handler) (from count : ℕ) (firsts nexts : List (Option ℕ)) : Type 0 where
   pub long : length firsts ≡ count
   pub numbers : length nexts ≡ length handlers

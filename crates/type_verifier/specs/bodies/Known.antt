@@ -9,7 +9,8 @@ use Rattle.type_verifier.specs.Rules.{array_of, array_of_base, object, string, t
 abbrev pub objects : VType
 objects = array_of (class_type (codes "java/lang/Object"))
 
-pub record AreKnown (object_type string_type throwable_type object_array int_array long_array char_array short_array : VType) : Type 0 where
+pub record AreKnown (object_type string_type throwable_type object_array int_array long_array char_array
+    short_array : VType) : Type 0 where
   pub object : object_type ≡ object
   pub string : string_type ≡ string
   pub throwable : throwable_type ≡ throwable

@@ -1,5 +1,6 @@
 -- Tables of what is declared at instructions, and which are entered (only the proof of the walk needs it).
-use Rattle.std.specs.Prelude.{◌≡◌, ◌<◌, ℕ, Bool, false, ◌||◌, List, length, Option, Some, None, slice_get, slice_index_or, drop, ◌==◌}
+use Rattle.std.specs.Prelude.{◌≡◌, ◌<◌, ℕ, Bool, false, ◌||◌, List, length, Option, Some, None, slice_get}
+use Rattle.std.specs.Prelude.{slice_index_or, drop, ◌==◌}
 use Rattle.std.specs.List.{find}
 use Rattle.std.specs.Option.{option_and_then, option_map}
 use Rattle.class_model.specs.declared.code.Code.{Code}
@@ -18,7 +19,8 @@ pub record Marks (old new : List Bool) (passes : ℕ → Bool) : Type 0 where
 pub record AreNumbers (frames : List FrameAt) (count : ℕ) (numbers : List (Option ℕ)) : Type 0 where
   pub long : length numbers ≡ count
   pub first : (at : ℕ) → at < count
-      → option_and_then (slice_get frames) (slice_index_or numbers at None) ≡ find (λ (f : FrameAt). f.index == at) frames
+      → option_and_then (slice_get frames) (slice_index_or numbers at None)
+      ≡ find (λ (f : FrameAt). f.index == at) frames
 
 -- each instruction is marked where it is entered
 pub record IsEntered (code : Code) (entered : List Bool) : Type 0 where

@@ -1,5 +1,6 @@
 -- Types that are noted to fit in the locals where handlers begin (only the proof of the walk needs it).
-use Rattle.std.specs.Prelude.{◌≡◌, ◌<◌, ◌≤◌, ◌⊎◌, ℕ, ◌-◌, true, false, IfSome, IsTrue, List, length, get_or, Option, Some, None}
+use Rattle.std.specs.Prelude.{◌≡◌, ◌<◌, ◌≤◌, ◌⊎◌, ℕ, ◌-◌, true, false, IfSome, IsTrue, List, length, get_or, Option}
+use Rattle.std.specs.Prelude.{Some, None}
 use Rattle.class_model.specs.declared.class.Class.{Class}
 use Rattle.class_model.specs.declared.code.Handler.{Handler}
 use Rattle.class_model.specs.declared.frame.VType.{VType}
@@ -57,7 +58,8 @@ AreTold noted doubt types = (word : ℕ) → doubt.from ≤ word → word < doub
 
 -- the types of a frame are noted in all words in which it may fail
 abbrev pub IsTold : Fitting → TypeFrame → Option Changed → Type 0
-IsTold fitting f since = (doubt : Changed) × IsInDoubt fitting f since doubt × AreTold fitting.noted.items doubt f.locals
+IsTold fitting f since = (doubt : Changed) × IsInDoubt fitting f since doubt
+    × AreTold fitting.noted.items doubt f.locals
 
 -- ---- what it means
 

@@ -1,5 +1,6 @@
 -- What of the locals changed since handlers were satisfied (only the proof of the walk needs it).
-use Rattle.std.specs.Prelude.{◌≡◌, ◌<◌, ◌≤◌, ℕ, ◌+◌, ◌-◌, Bool, true, IsTrue, List, Option, Some, None, length, take, drop}
+use Rattle.std.specs.Prelude.{◌≡◌, ◌<◌, ◌≤◌, ℕ, ◌+◌, ◌-◌, Bool, true, IsTrue, List, Option, Some, None, length, take}
+use Rattle.std.specs.Prelude.{drop}
 use Rattle.std.specs.Prelude.{if◌then◌else◌}
 use Rattle.std.specs.Cmp.Lexicographic.{pointwise}
 use Rattle.class_model.specs.declared.code.Handler.{Handler}
