@@ -15,11 +15,11 @@ use Rattle.check_command.specs.Answer.{text_failed, text_without_memory}
 use Rattle.check_command.specs.bodies.Steps.{Says}
 use Rattle.check_command.specs.declared.finding.CheckFiles.{CheckFiles}
 use Rattle.check_command.specs.declared.refusal.Refusal.{Refusal}
-use Rattle.check_command.specs.declared.refusal.Stop.{Stop}
-use Rattle.check_command.specs.declared.refusal.Stop.TheVariants.{Refused, Device, OutOfMemory}
+use Rattle.command_output.specs.declared.stop.Stop.{Stop}
+use Rattle.command_output.specs.declared.stop.Stop.TheVariants.{Refused, Device, OutOfMemory}
 
 -- the command stopped
-abbrev pub no_answer : Stop → Result (Unit {0}) Stop
+abbrev pub no_answer : Stop Refusal → Result (Unit {0}) (Stop Refusal)
 no_answer stop = Err stop
 
 -- the pair is one, and this was said
@@ -41,7 +41,7 @@ unsaid refusal named x y a b p = made_so (StopsSo (Refused refusal) named) (Stop
     (λ calls s. s.0.wrote) p
 
 -- the command stopped before
-pub ended_before : (stop : Stop) (named : CheckFiles) (status : ℕ) (x y : Option Files) (f f2 : ℕ) (a b : List Event)
+pub ended_before : (stop : Stop Refusal) (named : CheckFiles) (status : ℕ) (x y : Option Files) (f f2 : ℕ) (a b : List Event)
     (old new : Output)
     → (IsErrOf (no_answer stop) Device → Rose f f2) → AddsCalls a b x y (StopsSo stop named)
     → Says stop status old new

@@ -23,8 +23,8 @@ use Rattle.check_command.specs.declared.finding.Found.{Found}
 use Rattle.check_command.specs.declared.refusal.Quantity.TheVariants as quantity
 use Rattle.check_command.specs.declared.refusal.Refusal.{Refusal}
 use Rattle.check_command.specs.declared.refusal.Refusal.TheVariants.{BadRules, Format, Limit, No, Profile}
-use Rattle.check_command.specs.declared.refusal.Stop.{Stop}
-use Rattle.check_command.specs.declared.refusal.Stop.TheVariants.{Refused}
+use Rattle.command_output.specs.declared.stop.Stop.{Stop}
+use Rattle.command_output.specs.declared.stop.Stop.TheVariants.{Refused}
 
 -- ---- the input
 
@@ -138,13 +138,13 @@ due_follows files named (Ok done) h = inr (h.0, h.1, h.2)
 due_follows files named (Err refusal) (inl h) = inl (refusal, h, refl)
 due_follows files named (Err refusal) (inr h) = inr (h.0, h.1, h.2)
 
-same_found : (r : Result Found Stop) (x y : Found) → r ≡ Ok x → r ≡ Ok y → x ≡ y
+same_found : (r : Result Found (Stop Refusal)) (x y : Found) → r ≡ Ok x → r ≡ Ok y → x ≡ y
 same_found r x y h k = cc
 
-same_refusal : (r : Result Found Stop) (x y : Refusal) → r ≡ Err (Refused x) → r ≡ Err (Refused y) → x ≡ y
+same_refusal : (r : Result Found (Stop Refusal)) (x y : Refusal) → r ≡ Err (Refused x) → r ≡ Err (Refused y) → x ≡ y
 same_refusal r x y h k = cc
 
-found_or_refused : (r : Result Found Stop) (x : Found) (y : Refusal) → r ≡ Ok x → r ≡ Err (Refused y) → ⊥
+found_or_refused : (r : Result Found (Stop Refusal)) (x : Found) (y : Refusal) → r ≡ Ok x → r ≡ Err (Refused y) → ⊥
 found_or_refused r x y h k = absurd cc
 
 one_followed : NotBoth → IsOneNo → (files : Files) (named : CheckFiles) → IsOne (Follows files named)

@@ -30,8 +30,8 @@ use Rattle.check_command.specs.declared.finding.Texts.{Texts}
 use Rattle.check_command.specs.declared.refusal.Refusal.{Refusal}
 use Rattle.check_command.specs.declared.refusal.Refusal.TheVariants.{Absent, BadRules, Format, Profile, Limit, No}
 use Rattle.check_command.specs.declared.refusal.Refusal.TheVariants.{BadMapping, BadWitness}
-use Rattle.check_command.specs.declared.refusal.Stop.{Stop}
-use Rattle.check_command.specs.declared.refusal.Stop.TheVariants.{Refused, Device, OutOfMemory}
+use Rattle.command_output.specs.declared.stop.Stop.{Stop}
+use Rattle.command_output.specs.declared.stop.Stop.TheVariants.{Refused, Device, OutOfMemory}
 
 -- ---- one step after another
 
@@ -46,22 +46,22 @@ lacks : (P Q : Files → Type 0) (a b : List Event) (x y : Option Files) → Add
     → AddsCalls a b x y (Sees None Q)
 lacks P Q a b x y p = made_so (Sees (Some []) P) (Sees None Q) a b x y (λ calls s. s.0.wrote) p
 
-module _ {A B : Type 0} (d : Files → Result A Stop) (f : Files → A → Result B Stop) where
+module _ {A B : Type 0} (d : Files → Result A (Stop Refusal)) (f : Files → A → Result B (Stop Refusal)) where
   -- the first step stopped
-  pub first_stops : (s : Stop) (a b : List Event) (x y : Option Files) → Finds {A = A} (Err s) d a b x y
+  pub first_stops : (s : Stop Refusal) (a b : List Event) (x y : Option Files) → Finds {A = A} (Err s) d a b x y
       → Finds {A = B} (Err s) (λ fs. d fs >>= f fs) a b x y
   first_stops (Refused r) a b x y p =
       weaken (absent_by r) (λ fs. d fs ≡ Err (Refused r)) (λ fs. (d fs >>= f fs) ≡ Err (Refused r)) a b x y
-      (λ fs h. ap (λ (e : Result A Stop). e >>= f fs) h) p
+      (λ fs h. ap (λ (e : Result A (Stop Refusal)). e >>= f fs) h) p
   first_stops Device a b x y p = p
   first_stops OutOfMemory a b x y p = p
 
   -- the first step found something, and the second one came to its end
-  pub then_finds : (m : A) (r : Result B Stop) (a b c : List Event) (x y z : Option Files) → Finds (Ok m) d a b x y
+  pub then_finds : (m : A) (r : Result B (Stop Refusal)) (a b c : List Event) (x y z : Option Files) → Finds (Ok m) d a b x y
       → Finds r (λ fs. f fs m) b c y z → Finds r (λ fs. d fs >>= f fs) a c x z
   then_finds m r a b c x y z p q =
       made_sees (missed r) (λ fs. d fs ≡ Ok m) (λ fs. Told r (f fs m)) (λ fs. Told r (d fs >>= f fs)) a b c x y z
-      (λ fs e h. subst (λ (v : Result A Stop). Told r (v >>= f fs)) (sym e) h) p q
+      (λ fs e h. subst (λ (v : Result A (Stop Refusal)). Told r (v >>= f fs)) (sym e) h) p q
 
 -- ---- a step that asks nothing of the tree
 
@@ -69,18 +69,18 @@ module _ {A B : Type 0} (d : Files → Result A Stop) (f : Files → A → Resul
 abbrev pub NamesNone : Refusal → Type 0
 NamesNone r = absent_by r ≡ []
 
-module _ {A B : Type 0} (d : Files → Result A Stop) (g : A → Result B Stop) (m : A) (a b : List Event) (x y : Option Files)
+module _ {A B : Type 0} (d : Files → Result A (Stop Refusal)) (g : A → Result B (Stop Refusal)) (m : A) (a b : List Event) (x y : Option Files)
     (found : Finds (Ok m) d a b x y) where
-  pub then_told : (r : Result B Stop) → ((refusal : Refusal) → g m ≡ Err (Refused refusal) → NamesNone refusal)
+  pub then_told : (r : Result B (Stop Refusal)) → ((refusal : Refusal) → g m ≡ Err (Refused refusal) → NamesNone refusal)
       → Told r (g m) → Finds r (λ fs. d fs >>= g) a b x y
   then_told (Ok v) none h =
       weaken [] (λ fs. d fs ≡ Ok m) (λ fs. (d fs >>= g) ≡ Ok v) a b x y
-      (λ fs e. ap (λ (o : Result A Stop). o >>= g) e ∙ h) found
+      (λ fs e. ap (λ (o : Result A (Stop Refusal)). o >>= g) e ∙ h) found
   then_told (Err (Refused refusal)) none h =
       subst (λ (paths : List (List ℕ)). AddsCalls a b x y (Sees (Some paths) (λ fs. (d fs >>= g) ≡ Err (Refused refusal))))
       (sym (none refusal h))
       (weaken [] (λ fs. d fs ≡ Ok m) (λ fs. (d fs >>= g) ≡ Err (Refused refusal)) a b x y
-      (λ fs e. ap (λ (o : Result A Stop). o >>= g) e ∙ h) found)
+      (λ fs e. ap (λ (o : Result A (Stop Refusal)). o >>= g) e ∙ h) found)
   then_told (Err Device) none h = weaken [] (λ fs. d fs ≡ Ok m) (λ fs. Unit {0}) a b x y (λ fs e. tt) found
   then_told (Err OutOfMemory) none h = lacks (λ fs. d fs ≡ Ok m) (λ fs. Unit {0}) a b x y found
 
@@ -89,7 +89,7 @@ module _ {A B : Type 0} (d : Files → Result A Stop) (g : A → Result B Stop) 
 abbrev pub no_files : InputFault → Result (List FileAt) InputFault
 no_files e = Err e
 
-abbrev pub stopped_files : InputFault → Result (List FileAt) Stop
+abbrev pub stopped_files : InputFault → Result (List FileAt) (Stop Refusal)
 stopped_files e = Err (input_stop e)
 
 -- a limit that they pass, or a file that isn't there
@@ -127,7 +127,7 @@ none_named found refusal (by_system classes accepted many due is) = ap absent_by
 none_named found refusal (by_seeds classes accepted sys due nothing is) = ap absent_by is
 none_named found refusal (by_pair classes sys input answer is_no is) = ap absent_by is
 
-pub checked : (named : CheckFiles) (found : Found) (r : Result (Unit {0}) Stop) (a b : List Event) (x y : Option Files)
+pub checked : (named : CheckFiles) (found : Found) (r : Result (Unit {0}) (Stop Refusal)) (a b : List Event) (x y : Option Files)
     → Finds (Ok found) (λ fs. found_due fs named) a b x y → Judges r found → AddsCalls a b x y (Checks r named)
 checked named found (Ok done) a b x y p h =
     weaken [] (λ fs. found_due fs named ≡ Ok found) (λ fs. IsDue fs named (Ok tt)) a b x y (λ fs e. (found, e, h)) p
@@ -139,10 +139,10 @@ checked named found (Err (Refused refusal)) a b x y p h =
 checked named found (Err Device) a b x y p h = absurd h
 checked named found (Err OutOfMemory) a b x y p h = lacks (λ fs. found_due fs named ≡ Ok found) (λ fs. Unit {0}) a b x y p
 
-abbrev pub not_found : Stop → Result Found Stop
+abbrev pub not_found : Stop Refusal → Result Found (Stop Refusal)
 not_found s = Err s
 
-pub stopped_before : (named : CheckFiles) (s : Stop) (a b : List Event) (x y : Option Files)
+pub stopped_before : (named : CheckFiles) (s : Stop Refusal) (a b : List Event) (x y : Option Files)
     → Finds (not_found s) (λ fs. found_due fs named) a b x y → AddsCalls a b x y (StopsSo s named)
 stopped_before named (Refused refusal) a b x y p =
     weaken (absent_by refusal) (λ fs. found_due fs named ≡ Err (Refused refusal)) (λ fs. IsDue fs named (Err refusal))
@@ -159,7 +159,7 @@ rules_none (Err fault) refusal h = let e : BadRules fault ≡ refusal = cc in ap
 
 texts_none_in : (r : Result NewNames MapFault) (s : Result Edits WitFault) (refusal : Refusal)
     → (or_bad_mapping r >>= (λ mapping. or_bad_witness s
-    >>= (λ witness. (let R : Result Texts Stop = Ok (record { mapping = mapping; witness = witness }) in R))))
+    >>= (λ witness. (let R : Result Texts (Stop Refusal) = Ok (record { mapping = mapping; witness = witness }) in R))))
     ≡ Err (Refused refusal) → NamesNone refusal
 texts_none_in (Err fault) s refusal h = let e : BadMapping fault ≡ refusal = cc in ap absent_by (sym e)
 texts_none_in (Ok mapping) (Err fault) refusal h = let e : BadWitness fault ≡ refusal = cc in ap absent_by (sym e)
@@ -168,6 +168,6 @@ texts_none_in (Ok mapping) (Ok witness) refusal h = absurd cc
 pub texts_none : (map wit : List ℕ) (refusal : Refusal) → texts_in map wit ≡ Err (Refused refusal) → NamesNone refusal
 texts_none map wit refusal h = texts_none_in (read_mapping map) (read_witness wit) refusal h
 
-pub ok_none : {A : Type 0} (v : A) (refusal : Refusal) → (let R : Result A Stop = Ok v in R) ≡ Err (Refused refusal)
+pub ok_none : {A : Type 0} (v : A) (refusal : Refusal) → (let R : Result A (Stop Refusal) = Ok v in R) ≡ Err (Refused refusal)
     → NamesNone refusal
 ok_none v refusal h = absurd cc

@@ -11,8 +11,8 @@ use Rattle.check_command.specs.declared.finding.CheckFiles.{CheckFiles}
 use Rattle.check_command.specs.declared.refusal.Refusal.{Refusal}
 use Rattle.check_command.specs.declared.refusal.Refusal.TheVariants.{Absent, BadRules, Format, Profile, Limit, No}
 use Rattle.check_command.specs.declared.refusal.Refusal.TheVariants.{BadMapping, BadWitness}
-use Rattle.check_command.specs.declared.refusal.Stop.{Stop}
-use Rattle.check_command.specs.declared.refusal.Stop.TheVariants.{Refused, Device, OutOfMemory}
+use Rattle.command_output.specs.declared.stop.Stop.{Stop}
+use Rattle.command_output.specs.declared.stop.Stop.TheVariants.{Refused, Device, OutOfMemory}
 
 -- what is said where the output belongs to the input
 abbrev pub ok_text : List ℕ
@@ -21,7 +21,7 @@ ok_text = codes "ok\n"
 -- it was said; or the command stopped before; or the device failed or memory was wanting at the text
 pub data Ending : Type 0 where
   said : Ending
-  stopped : Stop → Ending
+  stopped : Stop Refusal → Ending
   text_failed : Ending
   text_without_memory : Ending
 
@@ -53,7 +53,7 @@ abbrev pub Reads : CheckFiles → List Event → Type 0
 Reads named calls = Sees (Some []) (λ files. IsDue files named (Ok tt)) calls
 
 -- a refusal that is due was found; or the device failed, or memory was wanting, while the files were read
-abbrev pub StopsSo : Stop → CheckFiles → List Event → Type 0
+abbrev pub StopsSo : Stop Refusal → CheckFiles → List Event → Type 0
 StopsSo (Refused refusal) named calls = Sees (Some (absent_by refusal)) (λ files. IsDue files named (Err refusal)) calls
 StopsSo Device named calls = Sees (Some []) (λ files. Unit {0}) calls
 StopsSo OutOfMemory named calls = Sees None (λ files. Unit {0}) calls

@@ -38,59 +38,59 @@ use Rattle.check_command.specs.declared.refusal.Quantity.TheVariants as quantity
 use Rattle.check_command.specs.declared.refusal.Refusal.{Refusal}
 use Rattle.check_command.specs.declared.refusal.Refusal.TheVariants.{Absent, BadRules, Format, Profile, Limit, No}
 use Rattle.check_command.specs.declared.refusal.Refusal.TheVariants.{BadMapping, BadWitness}
-use Rattle.check_command.specs.declared.refusal.Stop.{Stop}
-use Rattle.check_command.specs.declared.refusal.Stop.TheVariants.{Refused, Device, OutOfMemory}
+use Rattle.command_output.specs.declared.stop.Stop.{Stop}
+use Rattle.command_output.specs.declared.stop.Stop.TheVariants.{Refused, Device, OutOfMemory}
 
 -- ---- files
 
 -- the bytes of a file, which is there and has at most 64 MiB
-abbrev pub bytes_in : Quantity → List ℕ → Option (List ℕ) → Result (List ℕ) Stop
+abbrev pub bytes_in : Quantity → List ℕ → Option (List ℕ) → Result (List ℕ) (Stop Refusal)
 bytes_in q path None = Err (Refused (Absent path))
 bytes_in q path (Some bytes) = if nat_le (length bytes) 67108864 then Ok bytes else Err (Refused (Limit q))
 
 -- those of a told file
-abbrev pub file_due : Files → Quantity → List ℕ → Result (List ℕ) Stop
+abbrev pub file_due : Files → Quantity → List ℕ → Result (List ℕ) (Stop Refusal)
 file_due files q path = bytes_in q path (get files path)
 
 -- ---- the config
 
 -- the rules of a config, or its first fault
-abbrev pub or_bad_rules : Result Rules RuleFault → Result Rules Stop
+abbrev pub or_bad_rules : Result Rules RuleFault → Result Rules (Stop Refusal)
 or_bad_rules (Ok rules) = Ok rules
 or_bad_rules (Err fault) = Err (Refused (BadRules fault))
 
 -- the rules of the config that is named
-abbrev pub config_due : Files → CheckFiles → Result Rules Stop
+abbrev pub config_due : Files → CheckFiles → Result Rules (Stop Refusal)
 config_due files named = file_due files quantity.Config named.config
     >>= (λ bytes. or_bad_rules (config_read bytes named.witness))
 
 -- ---- the mapping and the witness
 
 -- the mapping of a text, or its first fault
-abbrev pub or_bad_mapping : Result NewNames MapFault → Result NewNames Stop
+abbrev pub or_bad_mapping : Result NewNames MapFault → Result NewNames (Stop Refusal)
 or_bad_mapping (Ok mapping) = Ok mapping
 or_bad_mapping (Err fault) = Err (Refused (BadMapping fault))
 
 -- the witness of a text, or its first fault
-abbrev pub or_bad_witness : Result Edits WitFault → Result Edits Stop
+abbrev pub or_bad_witness : Result Edits WitFault → Result Edits (Stop Refusal)
 or_bad_witness (Ok witness) = Ok witness
 or_bad_witness (Err fault) = Err (Refused (BadWitness fault))
 
 -- both of their texts
-abbrev pub texts_in : List ℕ → List ℕ → Result Texts Stop
+abbrev pub texts_in : List ℕ → List ℕ → Result Texts (Stop Refusal)
 texts_in map wit = or_bad_mapping (read_mapping map)
     >>= (λ mapping. or_bad_witness (read_witness wit)
     >>= (λ witness. Ok (record { mapping = mapping; witness = witness })))
 
 -- both of told files, which are looked at before either text is
-abbrev pub texts_due : Files → List ℕ → List ℕ → Result Texts Stop
+abbrev pub texts_due : Files → List ℕ → List ℕ → Result Texts (Stop Refusal)
 texts_due files mapping witness = file_due files quantity.Mapping mapping
     >>= (λ map. file_due files quantity.Witness witness >>= (λ wit. texts_in map wit))
 
 -- ---- the class files of both directories
 
 -- why a command stops where class files aren't given; of told files each that is listed is there
-abbrev pub input_stop : InputFault → Stop
+abbrev pub input_stop : InputFault → Stop Refusal
 input_stop input.TooManyFiles = Refused (Limit quantity.Files)
 input_stop input.TooManyClasses = Refused (Limit quantity.Classes)
 input_stop input.TooLong = Refused (Limit quantity.Input)
@@ -98,32 +98,32 @@ input_stop (input.Absent path) = Refused (Absent path)
 input_stop input.Failed = Device
 input_stop input.OutOfMemory = OutOfMemory
 
-abbrev pub or_input_stop : Result (List FileAt) InputFault → Result (List FileAt) Stop
+abbrev pub or_input_stop : Result (List FileAt) InputFault → Result (List FileAt) (Stop Refusal)
 or_input_stop (Ok files) = Ok files
 or_input_stop (Err fault) = Err (input_stop fault)
 
 -- the class files below a directory
-abbrev pub directory_due : Files → List ℕ → Result (List FileAt) Stop
+abbrev pub directory_due : Files → List ℕ → Result (List FileAt) (Stop Refusal)
 directory_due files directory = or_input_stop (input_due files directory)
 
 -- those below the input directory, and then those below the output directory
-abbrev pub directories_due : Files → List ℕ → List ℕ → Result Directories Stop
+abbrev pub directories_due : Files → List ℕ → List ℕ → Result Directories (Stop Refusal)
 directories_due files from to = directory_due files from
     >>= (λ input. directory_due files to >>= (λ output. Ok (record { input = input; output = output })))
 
 -- ---- all that is read
 
 -- the class files of both directories, behind the others
-abbrev pub with_directories : Files → Rules → Texts → Result Found Stop
+abbrev pub with_directories : Files → Rules → Texts → Result Found (Stop Refusal)
 with_directories files rules texts = directories_due files rules.in_dir rules.out_dir
     >>= (λ directories. Ok (record { rules = rules; texts = texts; directories = directories }))
 
 -- the mapping and the witness, and the class files of both directories, behind the config
-abbrev pub with_texts : Files → CheckFiles → Rules → Result Found Stop
+abbrev pub with_texts : Files → CheckFiles → Rules → Result Found (Stop Refusal)
 with_texts files named rules = texts_due files rules.mapping named.witness >>= with_directories files rules
 
 -- the config, the mapping and the witness, and the class files of both directories, or the first refusal
-abbrev pub found_due : Files → CheckFiles → Result Found Stop
+abbrev pub found_due : Files → CheckFiles → Result Found (Stop Refusal)
 found_due files named = config_due files named >>= with_texts files named
 
 -- ---- what is said of it

@@ -11,8 +11,8 @@ use Rattle.check_command.specs.declared.refusal.Quantity.TheVariants as quantity
 use Rattle.check_command.specs.declared.refusal.Refusal.{Refusal}
 use Rattle.check_command.specs.declared.refusal.Refusal.TheVariants.{Absent, BadRules, Format, Profile, Limit, No}
 use Rattle.check_command.specs.declared.refusal.Refusal.TheVariants.{BadMapping, BadWitness}
-use Rattle.check_command.specs.declared.refusal.Stop.{Stop}
-use Rattle.check_command.specs.declared.refusal.Stop.TheVariants.{Refused, Device, OutOfMemory}
+use Rattle.command_output.specs.declared.stop.Stop.{Stop}
+use Rattle.command_output.specs.declared.stop.Stop.TheVariants.{Refused, Device, OutOfMemory}
 
 -- ---- quantities
 
@@ -56,7 +56,7 @@ refusal_line (BadMapping fault) = map_line fault
 refusal_line (BadWitness fault) = wit_line fault
 
 -- the line of a stop
-abbrev pub line_of : Stop → List ℕ
+abbrev pub line_of : Stop Refusal → List ℕ
 line_of (Refused refusal) = refusal_line refusal
 line_of Device = codes "error 7 device\n"
 line_of OutOfMemory = codes "error 10 memory\n"
@@ -75,7 +75,7 @@ refusal_status (BadMapping fault) = 11
 refusal_status (BadWitness fault) = 11
 
 -- the status of a stop
-abbrev pub status_of : Stop → ℕ
+abbrev pub status_of : Stop Refusal → ℕ
 status_of (Refused refusal) = refusal_status refusal
 status_of Device = 7
 status_of OutOfMemory = 10

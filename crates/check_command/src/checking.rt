@@ -10,9 +10,10 @@ ghost use Rattle.check_command.specs.bodies.Steps.{AreClassFiles, Checks, Judges
 ghost use Rattle.check_command.specs.bodies.Steps.{JudgesSystem};
 
 use crate::finding::{CheckFiles, Directories, Found, Texts, find};
-use crate::refusal::{Quantity, Refusal, Stop};
+use crate::refusal::{Quantity, Refusal};
 use class_files::path_in;
 use class_pool::ClassSet;
+use command_output::Stop;
 use command_texts::{keeps_nothing, nothing_kept};
 use jv_base::{Items, Or, Text};
 use keep_rules::Rules;
@@ -24,7 +25,7 @@ use std::alloc::Global;
 use tree_io::{FileAt, Tree};
 
 /// Reads what the config names, and answers whether the output belongs to the input.
-pub fn check<T: Tree>(alloc: Global, named: &CheckFiles, tree: &mut T) -> Result<(), Stop>
+pub fn check<T: Tree>(alloc: Global, named: &CheckFiles, tree: &mut T) -> Result<(), Stop<Refusal>>
     ensures files { T.files tree.new ≡ T.files tree.old }
     ensures device { IsErrOf result Stop.Device → Rose (T.faults tree.old) (T.faults tree.new) }
     ensures asked { AddsCalls (T.log tree.old) (T.log tree.new) (T.files tree.old) (T.files tree.new)
@@ -35,7 +36,7 @@ pub fn check<T: Tree>(alloc: Global, named: &CheckFiles, tree: &mut T) -> Result
 }
 
 /// Whether the output belongs to the input, of what was read.
-fn judge(alloc: Global, found: Found) -> Result<(), Stop>
+fn judge(alloc: Global, found: Found) -> Result<(), Stop<Refusal>>
     requires input { AreClassFiles found.directories.input }
     requires output { AreClassFiles found.directories.output }
     ensures judged { Judges result found }
@@ -52,7 +53,11 @@ fn judge(alloc: Global, found: Found) -> Result<(), Stop>
 }
 
 /// The class files below the input directory as a set of classes.
-fn input_set(alloc: Global, directory: &Text, files: Items<FileAt>) -> Result<ClassSet, Stop>
+fn input_set(
+    alloc: Global,
+    directory: &Text,
+    files: Items<FileAt>,
+) -> Result<ClassSet, Stop<Refusal>>
     requires { AreClassFiles files }
     ensures judged { JudgesInput result directory.now files }
     ensures device { IsErrOf result Stop.Device → ⊥ }
@@ -75,7 +80,7 @@ fn judge_set(
     texts: &Texts,
     output: &Items<FileAt>,
     set: &ClassSet,
-) -> Result<(), Stop>
+) -> Result<(), Stop<Refusal>>
     requires output { AreClassFiles output.now }
     ensures judged { (input : List FileAt) → IsAccepted input set.now → Judges result (record {
       rules = rules.now;
@@ -89,7 +94,7 @@ fn judge_set(
 }
 
 /// What has to be kept of the input, where the rules keep something.
-fn requirements(alloc: Global, rules: &Rules, set: &ClassSet) -> Result<System, Stop>
+fn requirements(alloc: Global, rules: &Rules, set: &ClassSet) -> Result<System, Stop<Refusal>>
     ensures judged { JudgesSystem result rules.now set.now }
     ensures device { IsErrOf result Stop.Device → ⊥ }
     ensures valid { IfOk result Valid }
@@ -114,7 +119,7 @@ fn judge_pair(
     output: &Items<FileAt>,
     set: &ClassSet,
     sys: &System,
-) -> Result<(), Stop>
+) -> Result<(), Stop<Refusal>>
     requires output { AreClassFiles output.now }
     requires due { system_due set.now rules.now ≡ Ok sys.now }
     requires valid { Valid sys.now }

@@ -5,12 +5,12 @@ ghost use Rattle.tree_io.specs.Runs.{memory_faults};
 ghost use Rattle.command_output.specs.Output.{outside, output};
 ghost use Rattle.check_command.specs.Answer.{Ended};
 ghost use Rattle.check_command.specs.bodies.Steps.{Says};
-ghost use Rattle.check_command.specs.declared.refusal.Stop.TheVariants.{Refused};
+ghost use Rattle.command_output.specs.declared.stop.Stop.TheVariants.{Refused};
 
 use crate::checking::check;
 use crate::finding::CheckFiles;
-use crate::refusal::{Refusal, Stop, refusal_line, refusal_status};
-use command_output::{say_device, say_line, say_no_memory, say_text};
+use crate::refusal::{Refusal, refusal_line, refusal_status};
+use command_output::{Stop, say_device, say_line, say_no_memory, say_text};
 use std::alloc::Global;
 use tree_io::{Sink, Tree};
 
@@ -25,7 +25,7 @@ fn say_refusal<S: Sink>(alloc: Global, refusal: &Refusal, out: &mut S) -> u8
     }
 }
 
-fn say_stop<S: Sink>(alloc: Global, stop: &Stop, out: &mut S) -> u8
+fn say_stop<S: Sink>(alloc: Global, stop: &Stop<Refusal>, out: &mut S) -> u8
     ensures { Says stop.now result
         (output (S.written out.old) (S.faults out.old) (S.log out.old))
         (output (S.written out.new) (S.faults out.new) (S.log out.new)) }

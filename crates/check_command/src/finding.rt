@@ -8,8 +8,9 @@ ghost use Rattle.check_command.specs.Due.{config_due, directories_due, directory
 ghost use Rattle.check_command.specs.Due.{or_bad_mapping, or_bad_rules, or_bad_witness, texts_due, texts_in};
 ghost use Rattle.check_command.specs.bodies.Steps.{AreClassFiles, Finds, Told};
 
-use crate::refusal::{Quantity, Refusal, Stop};
+use crate::refusal::{Quantity, Refusal};
 use class_files::{InputFault, read_files};
+use command_output::Stop;
 use command_texts::read_config;
 use jv_base::{Bytes, Items, Or, Text};
 use keep_rules::Rules;
@@ -51,7 +52,11 @@ pub struct Directories {
 }
 
 /// What the command reads: the config, the mapping and the witness, and the class files of both directories.
-pub fn find<T: Tree>(alloc: Global, named: &CheckFiles, tree: &mut T) -> Result<Found, Stop>
+pub fn find<T: Tree>(
+    alloc: Global,
+    named: &CheckFiles,
+    tree: &mut T,
+) -> Result<Found, Stop<Refusal>>
     ensures files { T.files tree.new ≡ T.files tree.old }
     ensures later { T.faults tree.old ≤ T.faults tree.new }
     ensures device { IsErrOf result Stop.Device → Rose (T.faults tree.old) (T.faults tree.new) }
@@ -76,7 +81,7 @@ fn read_bytes<T: Tree>(
     path: &Text,
     quantity: Quantity,
     tree: &mut T,
-) -> Result<Bytes, Stop>
+) -> Result<Bytes, Stop<Refusal>>
     ensures files { T.files tree.new ≡ T.files tree.old }
     ensures later { T.faults tree.old ≤ T.faults tree.new }
     ensures device { IsErrOf result Stop.Device → Rose (T.faults tree.old) (T.faults tree.new) }
@@ -96,7 +101,11 @@ fn read_bytes<T: Tree>(
 // ---- the config
 
 /// The rules of the config that is named.
-fn find_config<T: Tree>(alloc: Global, named: &CheckFiles, tree: &mut T) -> Result<Rules, Stop>
+fn find_config<T: Tree>(
+    alloc: Global,
+    named: &CheckFiles,
+    tree: &mut T,
+) -> Result<Rules, Stop<Refusal>>
     ensures files { T.files tree.new ≡ T.files tree.old }
     ensures later { T.faults tree.old ≤ T.faults tree.new }
     ensures device { IsErrOf result Stop.Device → Rose (T.faults tree.old) (T.faults tree.new) }
@@ -107,7 +116,7 @@ fn find_config<T: Tree>(alloc: Global, named: &CheckFiles, tree: &mut T) -> Resu
     config_in(alloc, bytes.as_slice(), &named.witness)
 }
 
-fn config_in(alloc: Global, bytes: &[u8], witness: &Text) -> Result<Rules, Stop>
+fn config_in(alloc: Global, bytes: &[u8], witness: &Text) -> Result<Rules, Stop<Refusal>>
     requires { length bytes.now < 4294967295 }
     ensures told { Told result (or_bad_rules (config_read bytes.now witness.now)) }
     ensures device { IsErrOf result Stop.Device → ⊥ }
@@ -127,7 +136,7 @@ fn find_texts<T: Tree>(
     mapping: &Text,
     witness: &Text,
     tree: &mut T,
-) -> Result<Texts, Stop>
+) -> Result<Texts, Stop<Refusal>>
     ensures files { T.files tree.new ≡ T.files tree.old }
     ensures later { T.faults tree.old ≤ T.faults tree.new }
     ensures device { IsErrOf result Stop.Device → Rose (T.faults tree.old) (T.faults tree.new) }
@@ -139,7 +148,7 @@ fn find_texts<T: Tree>(
     texts_in(alloc, map.as_slice(), wit.as_slice())
 }
 
-fn texts_in(alloc: Global, map: &[u8], wit: &[u8]) -> Result<Texts, Stop>
+fn texts_in(alloc: Global, map: &[u8], wit: &[u8]) -> Result<Texts, Stop<Refusal>>
     requires map { length map.now < 4294967295 }
     requires wit { length wit.now < 4294967295 }
     ensures told { Told result (texts_in map.now wit.now) }
@@ -150,7 +159,7 @@ fn texts_in(alloc: Global, map: &[u8], wit: &[u8]) -> Result<Texts, Stop>
     Ok(Texts { mapping, witness })
 }
 
-fn mapping_in(alloc: Global, bytes: &[u8]) -> Result<Mapping, Stop>
+fn mapping_in(alloc: Global, bytes: &[u8]) -> Result<Mapping, Stop<Refusal>>
     requires { length bytes.now < 4294967295 }
     ensures told { Told result (or_bad_mapping (read_mapping bytes.now)) }
     ensures device { IsErrOf result Stop.Device → ⊥ }
@@ -162,7 +171,7 @@ fn mapping_in(alloc: Global, bytes: &[u8]) -> Result<Mapping, Stop>
     }
 }
 
-fn witness_in(alloc: Global, bytes: &[u8]) -> Result<Witness, Stop>
+fn witness_in(alloc: Global, bytes: &[u8]) -> Result<Witness, Stop<Refusal>>
     requires { length bytes.now < 4294967295 }
     ensures told { Told result (or_bad_witness (read_witness bytes.now)) }
     ensures device { IsErrOf result Stop.Device → ⊥ }
@@ -182,7 +191,7 @@ fn find_directories<T: Tree>(
     from: &Text,
     to: &Text,
     tree: &mut T,
-) -> Result<Directories, Stop>
+) -> Result<Directories, Stop<Refusal>>
     ensures files { T.files tree.new ≡ T.files tree.old }
     ensures later { T.faults tree.old ≤ T.faults tree.new }
     ensures device { IsErrOf result Stop.Device → Rose (T.faults tree.old) (T.faults tree.new) }
@@ -197,7 +206,11 @@ fn find_directories<T: Tree>(
 }
 
 /// The class files below a directory.
-fn find_files<T: Tree>(alloc: Global, directory: &Text, tree: &mut T) -> Result<Items<FileAt>, Stop>
+fn find_files<T: Tree>(
+    alloc: Global,
+    directory: &Text,
+    tree: &mut T,
+) -> Result<Items<FileAt>, Stop<Refusal>>
     ensures files { T.files tree.new ≡ T.files tree.old }
     ensures later { T.faults tree.old ≤ T.faults tree.new }
     ensures device { IsErrOf result Stop.Device → Rose (T.faults tree.old) (T.faults tree.new) }
@@ -212,7 +225,7 @@ fn find_files<T: Tree>(alloc: Global, directory: &Text, tree: &mut T) -> Result<
 }
 
 /// Why a command stops where class files aren't given.
-fn input_stop(fault: InputFault) -> Stop
+fn input_stop(fault: InputFault) -> Stop<Refusal>
     ensures { result ≡ input_stop fault }
 {
     match fault {

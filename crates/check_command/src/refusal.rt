@@ -1,19 +1,18 @@
 // Why the command is refused, and what is said then.
 ghost use Rattle.std.specs.Prelude.{◌≡◌, IfOk};
 ghost use Rattle.check_command.specs.Refusal.{no_line, quantity_limit, quantity_name, refusal_line, refusal_status};
-ghost use Rattle.check_command.specs.declared.refusal.Stop.TheVariants.{OutOfMemory as no_memory};
 
 use command_texts::{
     absent_line, format_line, limit_line, map_line, name_or_dash, profile_line, rules_line,
     wit_line,
 };
 use format_reading::FormatFault;
-use jv_base::{M, OutOfMemory, Text};
+use jv_base::{M, Text};
 use keep_rules::RuleFault;
 use mapping_file::MapFault;
 use pair_checker::No;
 use require_sys::Counted;
-use std::alloc::{AllocError, Global};
+use std::alloc::Global;
 use witness_file::WitFault;
 
 /// A counted quantity with a limit.
@@ -84,31 +83,6 @@ pub enum Refusal {
     BadMapping(MapFault),
     /// The witness's text has this first fault.
     BadWitness(WitFault),
-}
-
-/// Why the command ends without its result.
-#[derive(Drop)]
-pub enum Stop {
-    Refused(Refusal),
-    /// A device failed.
-    Device,
-    OutOfMemory,
-}
-
-impl From<AllocError> for Stop {
-    ghost from_gives = { λ _ stop. stop ≡ no_memory };
-
-    fn from(_: AllocError) -> Self {
-        Stop::OutOfMemory
-    }
-}
-
-impl From<OutOfMemory> for Stop {
-    ghost from_gives = { λ _ stop. stop ≡ no_memory };
-
-    fn from(_: OutOfMemory) -> Self {
-        Stop::OutOfMemory
-    }
 }
 
 /// The status of a refusal.

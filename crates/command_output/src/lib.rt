@@ -2,5 +2,7 @@
 #![tactic(auto)]
 
 mod saying;
+mod stop;
 
 pub use saying::{say_device, say_line, say_no_memory, say_text};
+pub use stop::Stop;

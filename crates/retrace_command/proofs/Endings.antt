@@ -15,11 +15,11 @@ use Rattle.retrace_command.specs.Answer.{text_without_memory}
 use Rattle.retrace_command.specs.Due.{retrace_due}
 use Rattle.retrace_command.specs.bodies.Steps.{Finds, Says}
 use Rattle.retrace_command.specs.declared.refusal.Refusal.{Refusal}
-use Rattle.retrace_command.specs.declared.refusal.Stop.{Stop}
-use Rattle.retrace_command.specs.declared.refusal.Stop.TheVariants.{Refused, Device, OutOfMemory}
+use Rattle.command_output.specs.declared.stop.Stop.{Stop}
+use Rattle.command_output.specs.declared.stop.Stop.TheVariants.{Refused, Device, OutOfMemory}
 
 -- no text was found
-abbrev pub no_text : Stop → Result (List ℕ) Stop
+abbrev pub no_text : Stop Refusal → Result (List ℕ) (Stop Refusal)
 no_text stop = Err stop
 
 -- a text was found and said
@@ -41,7 +41,7 @@ unsaid refusal mapping trace x y a b p = made_so (StopsSo (Refused refusal) mapp
     (λ calls s. s.0.wrote) p
 
 -- no text was found
-pub ended_before : (stop : Stop) (mapping trace : List ℕ) (status : ℕ) (x y : Option Files) (f f2 : ℕ) (a b : List Event)
+pub ended_before : (stop : Stop Refusal) (mapping trace : List ℕ) (status : ℕ) (x y : Option Files) (f f2 : ℕ) (a b : List Event)
     (old new : Output)
     → (IsErrOf (no_text stop) Device → Rose f f2) → Finds (no_text stop) (λ fs. retrace_due fs mapping trace) a b x y
     → Says stop status old new

@@ -15,15 +15,15 @@ use Rattle.retrace_command.specs.bodies.Steps.{Finds, Told, missed}
 use Rattle.retrace_command.specs.declared.refusal.Quantity.TheVariants as quantity
 use Rattle.retrace_command.specs.declared.refusal.Refusal.{Refusal}
 use Rattle.retrace_command.specs.declared.refusal.Refusal.TheVariants.{Absent, Limit, BadMapping}
-use Rattle.retrace_command.specs.declared.refusal.Stop.{Stop}
-use Rattle.retrace_command.specs.declared.refusal.Stop.TheVariants.{Refused, Device, OutOfMemory}
+use Rattle.command_output.specs.declared.stop.Stop.{Stop}
+use Rattle.command_output.specs.declared.stop.Stop.TheVariants.{Refused, Device, OutOfMemory}
 
 -- a text is found, or a stop
 abbrev Found : Type 0
 Found = Result (List ℕ) Refusal
 
 -- what is due behind a first text, where the second step stops
-stopped_there : (s : Stop) (m : List ℕ) (d1 d2 : Found) (f : List ℕ → List ℕ → Found) → d1 ≡ Ok m → Told {A = List ℕ} (Err s) d2
+stopped_there : (s : Stop Refusal) (m : List ℕ) (d1 d2 : Found) (f : List ℕ → List ℕ → Found) → d1 ≡ Ok m → Told {A = List ℕ} (Err s) d2
     → Told {A = List ℕ} (Err s) (d1 >>= (λ k. d2 >>= f k))
 stopped_there (Refused r) m d1 d2 f e h = ap (λ (x : Found). x >>= (λ k. d2 >>= f k)) e ∙ ap (λ (x : Found). x >>= f m) h
 stopped_there Device m d1 d2 f e h = tt
@@ -36,7 +36,7 @@ both_there m t d1 d2 f due e k h =
     ap (λ (x : Found). x >>= (λ n. d2 >>= f n)) e ∙ ap (λ (x : Found). x >>= f m) k ∙ h
 
 -- the mapping was read, and the trace wasn't
-pub second_stops : (mapping trace : List ℕ) (s : Stop) (m : List ℕ) (a b c : List Event) (x y z : Option Files)
+pub second_stops : (mapping trace : List ℕ) (s : Stop Refusal) (m : List ℕ) (a b c : List Event) (x y z : Option Files)
     → Finds {A = List ℕ} (Ok m) (λ fs. file_due fs quantity.Mapping mapping) a b x y
     → Finds {A = List ℕ} (Err s) (λ fs. file_due fs quantity.Trace trace) b c y z
     → Finds {A = List ℕ} (Err s) (λ fs. retrace_due fs mapping trace) a c x z
@@ -62,7 +62,7 @@ both_read mapping trace m t due a b c x y z p q h =
     (λ fs e k. both_there m t (file_due fs quantity.Mapping mapping) (file_due fs quantity.Trace trace) text_due due e k h) p q
 
 -- both were read, and the text was made of them or wasn't
-pub all_found : (mapping trace m t : List ℕ) (r : Result (List ℕ) Stop) (a b c : List Event) (x y z : Option Files)
+pub all_found : (mapping trace m t : List ℕ) (r : Result (List ℕ) (Stop Refusal)) (a b c : List Event) (x y z : Option Files)
     → Finds {A = List ℕ} (Ok m) (λ fs. file_due fs quantity.Mapping mapping) a b x y
     → Finds {A = List ℕ} (Ok t) (λ fs. file_due fs quantity.Trace trace) b c y z → Told r (text_due m t)
     → Finds r (λ fs. retrace_due fs mapping trace) a c x z

@@ -10,13 +10,13 @@ use Rattle.retrace_command.specs.Refusal.{line_of}
 use Rattle.retrace_command.specs.Refusal as refusal
 use Rattle.retrace_command.specs.declared.refusal.Refusal.{Refusal}
 use Rattle.retrace_command.specs.declared.refusal.Refusal.TheVariants.{Absent, Limit, BadMapping}
-use Rattle.retrace_command.specs.declared.refusal.Stop.{Stop}
-use Rattle.retrace_command.specs.declared.refusal.Stop.TheVariants.{Refused, Device, OutOfMemory}
+use Rattle.command_output.specs.declared.stop.Stop.{Stop}
+use Rattle.command_output.specs.declared.stop.Stop.TheVariants.{Refused, Device, OutOfMemory}
 
 -- the text was said; or the command stopped before; or the device failed or memory was wanting at the text
 pub data Ending : Type 0 where
   said : List ℕ → Ending
-  stopped : Stop → Ending
+  stopped : Stop Refusal → Ending
   text_failed : List ℕ → Ending
   text_without_memory : List ℕ → Ending
 
@@ -43,7 +43,7 @@ abbrev pub Reads : List ℕ → List ℕ → List ℕ → List Event → Type 0
 Reads mapping trace text calls = Sees (Some []) (λ files. retrace_due files mapping trace ≡ Ok text) calls
 
 -- a refusal that is due was found; or the device failed, or memory was wanting, while the files were read
-abbrev pub StopsSo : Stop → List ℕ → List ℕ → List Event → Type 0
+abbrev pub StopsSo : Stop Refusal → List ℕ → List ℕ → List Event → Type 0
 StopsSo (Refused refusal) mapping trace calls = Sees (Some (absent_by refusal))
     (λ files. retrace_due files mapping trace ≡ Err refusal) calls
 StopsSo Device mapping trace calls = Sees (Some []) (λ files. Unit {0}) calls

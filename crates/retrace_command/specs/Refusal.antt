@@ -7,8 +7,8 @@ use Rattle.retrace_command.specs.declared.refusal.Quantity.{Quantity}
 use Rattle.retrace_command.specs.declared.refusal.Quantity.TheVariants as quantity
 use Rattle.retrace_command.specs.declared.refusal.Refusal.{Refusal}
 use Rattle.retrace_command.specs.declared.refusal.Refusal.TheVariants.{Absent, Limit, BadMapping}
-use Rattle.retrace_command.specs.declared.refusal.Stop.{Stop}
-use Rattle.retrace_command.specs.declared.refusal.Stop.TheVariants.{Refused, Device, OutOfMemory}
+use Rattle.command_output.specs.declared.stop.Stop.{Stop}
+use Rattle.command_output.specs.declared.stop.Stop.TheVariants.{Refused, Device, OutOfMemory}
 
 -- the word for a quantity
 abbrev pub quantity_name : Quantity → List ℕ
@@ -30,7 +30,7 @@ refusal_line (Limit q) = limit_line q
 refusal_line (BadMapping f) = text_line f
 
 -- the line of a stop
-abbrev pub line_of : Stop → List ℕ
+abbrev pub line_of : Stop Refusal → List ℕ
 line_of (Refused refusal) = refusal_line refusal
 line_of Device = codes "error 7 device\n"
 line_of OutOfMemory = codes "error 10 memory\n"
@@ -42,7 +42,7 @@ refusal_status (Limit q) = 6
 refusal_status (BadMapping f) = 11
 
 -- the status of a stop
-abbrev pub status_of : Stop → ℕ
+abbrev pub status_of : Stop Refusal → ℕ
 status_of (Refused refusal) = refusal_status refusal
 status_of Device = 7
 status_of OutOfMemory = 10

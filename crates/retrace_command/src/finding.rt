@@ -4,7 +4,8 @@ ghost use Rattle.tree_io.specs.Count.{Rose};
 ghost use Rattle.retrace_command.specs.Due.{file_due, retrace_due, text_due};
 ghost use Rattle.retrace_command.specs.bodies.Steps.{Finds, Told};
 
-use crate::refusal::{Quantity, Refusal, Stop};
+use crate::refusal::{Quantity, Refusal};
+use command_output::Stop;
 use jv_base::{Bytes, Or, Text};
 use mapping_file::read_mapping;
 use retrace_core::retrace;
@@ -20,7 +21,7 @@ pub fn find_text<T: Tree>(
     mapping: &Text,
     trace: &Text,
     tree: &mut T,
-) -> Result<Bytes, Stop>
+) -> Result<Bytes, Stop<Refusal>>
     ensures files { T.files tree.new ≡ T.files tree.old }
     ensures device { IsErrOf result Stop.Device → Rose (T.faults tree.old) (T.faults tree.new) }
     ensures found { Finds result (λ fs. retrace_due fs mapping.now trace.now)
@@ -36,7 +37,7 @@ fn read_bytes<T: Tree>(
     path: &Text,
     quantity: Quantity,
     tree: &mut T,
-) -> Result<Bytes, Stop>
+) -> Result<Bytes, Stop<Refusal>>
     ensures files { T.files tree.new ≡ T.files tree.old }
     ensures later { T.faults tree.old ≤ T.faults tree.new }
     ensures device { IsErrOf result Stop.Device → Rose (T.faults tree.old) (T.faults tree.new) }
@@ -53,7 +54,7 @@ fn read_bytes<T: Tree>(
     }
 }
 
-fn text_of(alloc: Global, map: &[u8], trace: &[u8]) -> Result<Bytes, Stop>
+fn text_of(alloc: Global, map: &[u8], trace: &[u8]) -> Result<Bytes, Stop<Refusal>>
     requires { length map.now < 4294967295 }
     ensures told { Told result (text_due map.now trace.now) }
     ensures device { IsErrOf result Stop.Device → ⊥ }

@@ -1,11 +1,10 @@
 // Why the command is refused, and what is said then.
 ghost use Rattle.std.specs.Prelude.{◌≡◌, ◌++◌, IfOk, codes};
 ghost use Rattle.retrace_command.specs.Refusal.{limit_line, quantity_name, refusal_line, refusal_status, text_line};
-ghost use Rattle.retrace_command.specs.declared.refusal.Stop.TheVariants.{OutOfMemory as no_memory};
 
-use jv_base::{M, OutOfMemory, Text};
+use jv_base::{M, Text};
 use mapping_file::MapFault;
-use std::alloc::{AllocError, Global};
+use std::alloc::Global;
 
 /// The bytes that are counted and have a limit.
 #[derive(Clone, Copy)]
@@ -25,31 +24,6 @@ pub enum Refusal {
     Limit(Quantity),
     /// The mapping's text has this first fault.
     BadMapping(MapFault),
-}
-
-/// Why the command ends without its result.
-#[derive(Drop)]
-pub enum Stop {
-    Refused(Refusal),
-    /// A device failed.
-    Device,
-    OutOfMemory,
-}
-
-impl From<AllocError> for Stop {
-    ghost from_gives = { λ _ stop. stop ≡ no_memory };
-
-    fn from(_: AllocError) -> Self {
-        Stop::OutOfMemory
-    }
-}
-
-impl From<OutOfMemory> for Stop {
-    ghost from_gives = { λ _ stop. stop ≡ no_memory };
-
-    fn from(_: OutOfMemory) -> Self {
-        Stop::OutOfMemory
-    }
 }
 
 /// The status of a refusal.

@@ -15,8 +15,8 @@ use Rattle.check_command.specs.declared.finding.CheckFiles.{CheckFiles}
 use Rattle.check_command.specs.declared.finding.Directories.{Directories}
 use Rattle.check_command.specs.declared.finding.Found.{Found}
 use Rattle.check_command.specs.declared.finding.Texts.{Texts}
-use Rattle.check_command.specs.declared.refusal.Stop.{Stop}
-use Rattle.check_command.specs.declared.refusal.Stop.TheVariants.{Refused, Device, OutOfMemory}
+use Rattle.command_output.specs.declared.stop.Stop.{Stop}
+use Rattle.command_output.specs.declared.stop.Stop.TheVariants.{Refused, Device, OutOfMemory}
 use Rattle.check_command.specs.declared.refusal.Refusal.{Refusal}
 use Rattle.check_command.specs.declared.refusal.Refusal.TheVariants.{Absent, BadRules, Format, Profile, Limit, No}
 use Rattle.check_command.specs.declared.refusal.Refusal.TheVariants.{BadMapping, BadWitness}
@@ -52,7 +52,7 @@ pub record AreBoth (found : Directories) : Type 0 where
   pub output : AreReadable found.output
 
 -- the class files of both
-abbrev both : List FileAt → List FileAt → Result Directories Stop
+abbrev both : List FileAt → List FileAt → Result Directories (Stop Refusal)
 both input output = Ok (record { input = input; output = output })
 
 directories_readable : (files : Files) (from to : List ℕ) (found : Directories)
@@ -68,7 +68,7 @@ directories_readable files from to found h =
 -- ---- all that is read
 
 -- what was read, with these directories
-abbrev all : Rules → Texts → Directories → Result Found Stop
+abbrev all : Rules → Texts → Directories → Result Found (Stop Refusal)
 all rules texts directories = Ok (record { rules = rules; texts = texts; directories = directories })
 
 with_directories_readable : (files : Files) (rules : Rules) (texts : Texts) (found : Found)
@@ -115,7 +115,7 @@ no_refusal (No answer) h = omega (arith, h)
 no_refusal (BadMapping fault) h = omega (arith, h)
 no_refusal (BadWitness fault) h = omega (arith, h)
 
-no_stop : (stop : Stop) → status_of stop ≡ 0 → ⊥
+no_stop : (stop : Stop Refusal) → status_of stop ≡ 0 → ⊥
 no_stop (Refused refusal) h = no_refusal refusal h
 no_stop Device h = omega (arith, h)
 no_stop OutOfMemory h = omega (arith, h)

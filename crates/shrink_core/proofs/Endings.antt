@@ -13,8 +13,8 @@ use Rattle.tree_io.proofs.Runs.{made_so}
 use Rattle.shrink_core.specs.declared.shrink.Plan.{Plan}
 use Rattle.shrink_core.specs.declared.words.CommandFiles.{CommandFiles}
 use Rattle.shrink_core.specs.declared.refusal.Refusal.{Refusal}
-use Rattle.shrink_core.specs.declared.refusal.Stop.{Stop}
-use Rattle.shrink_core.specs.declared.refusal.Stop.TheVariants.{Refused, Device, OutOfMemory}
+use Rattle.command_output.specs.declared.stop.Stop.{Stop}
+use Rattle.command_output.specs.declared.stop.Stop.TheVariants.{Refused, Device, OutOfMemory}
 use Rattle.command_output.specs.Output.{Outside, Output, SaysText, outside}
 use Rattle.shrink_core.specs.Answer.{Ended, Ending, LeavesSo, StopsSo, Writes}
 use Rattle.shrink_core.specs.Answer.{done, status_of, stopped, summary_failed, summary_without_memory}
@@ -41,7 +41,7 @@ unsaid refusal named x y a b left = made_so (StopsSo (Refused refusal) named) (S
     (λ calls p. inl p.unwritten) left
 
 -- a run that stopped before
-pub ended_before : (stop : Stop) (named : CommandFiles) (status : ℕ) (x y : Option Files) (f f2 : ℕ) (a b : List Event)
+pub ended_before : (stop : Stop Refusal) (named : CommandFiles) (status : ℕ) (x y : Option Files) (f f2 : ℕ) (a b : List Event)
     (old new : Output)
     → (IsErrOf (no_plan stop) Device → Rose f f2) → AddsCalls a b x y (StopsSo stop named)
     → Says named.config stop status old new

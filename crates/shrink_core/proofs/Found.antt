@@ -28,8 +28,8 @@ use Rattle.shrink_core.specs.declared.shrink.Plan.{Plan}
 use Rattle.shrink_core.specs.declared.refusal.Refusal.{Refusal}
 use Rattle.shrink_core.specs.declared.refusal.Refusal.TheVariants.{NoConfig, BadRules, NotEmpty, Gone, Format, Profile}
 use Rattle.shrink_core.specs.declared.refusal.Refusal.TheVariants.{Limit}
-use Rattle.shrink_core.specs.declared.refusal.Stop.{Stop}
-use Rattle.shrink_core.specs.declared.refusal.Stop.TheVariants.{Refused, Device, OutOfMemory}
+use Rattle.command_output.specs.declared.stop.Stop.{Stop}
+use Rattle.command_output.specs.declared.stop.Stop.TheVariants.{Refused, Device, OutOfMemory}
 use Rattle.shrink_core.specs.Due.{HasBytes, HasConfig, HasSet, IsDue, IsEmpty, IsPlan, IsResult, IsRefused}
 use Rattle.shrink_core.specs.Due.{RefusesConfig, RefusesInput, RefusesOutput, RefusesPlan}
 use Rattle.shrink_core.specs.Due.{by_config, by_output, by_input, by_plan}
@@ -37,7 +37,7 @@ use Rattle.shrink_core.specs.Due.{by_format, by_text, by_seeds, by_system}
 use Rattle.shrink_core.specs.bodies.Steps.{ConfigOf, Finds, ReadsSet, StopsAs, input_stop, missed, missed_by}
 
 -- where a step was refused, what follows it is refused so
-carried : (stop : Stop) (Refuses After : Refusal → Type 0) → ((refusal : Refusal) → Refuses refusal → After refusal)
+carried : (stop : Stop Refusal) (Refuses After : Refusal → Type 0) → ((refusal : Refusal) → Refuses refusal → After refusal)
     → StopsAs stop Refuses → StopsAs stop After
 carried (Refused refusal) Refuses After so found = so refusal found
 carried Device Refuses After so found = tt
@@ -56,7 +56,7 @@ weaken absent P Q a b x y so p = made_so (Sees absent P) (Sees absent Q) a b x y
 -- ---- the config
 
 -- what the bytes of a file are is what stands there
-pub config_seen : (named : CommandFiles) (bytes : List ℕ) (r : Result Rules Stop) (a b : List Event)
+pub config_seen : (named : CommandFiles) (bytes : List ℕ) (r : Result Rules (Stop Refusal)) (a b : List Event)
     (x y : Option Files)
     → AddsCalls a b x y (Sees (Some []) (λ files. HasBytes files named.config bytes)) → ConfigOf r bytes named.witness
     → AddsCalls a b x y (Sees (missed named.config r)
@@ -99,7 +99,7 @@ absent_not_due files directory path h =
 abbrev pub no_files : InputFault → Result (List FileAt) InputFault
 no_files fault = Err fault
 
-abbrev pub no_set : InputFault → Result (List Class) Stop
+abbrev pub no_set : InputFault → Result (List Class) (Stop Refusal)
 no_set fault = Err (input_stop fault)
 
 -- why a command stops where class files aren't given
@@ -118,7 +118,7 @@ stop_seen config directory fault.Failed a b x y p = p
 stop_seen config directory fault.OutOfMemory a b x y p = p
 
 -- the set of class files that were found
-pub set_seen : (config directory : List ℕ) (inputs : List FileAt) (r : Result (List Class) Stop) (a b : List Event)
+pub set_seen : (config directory : List ℕ) (inputs : List FileAt) (r : Result (List Class) (Stop Refusal)) (a b : List Event)
     (x y : Option Files)
     → AddsCalls a b x y (Sees (Some []) (λ files. input_due files directory ≡ Ok inputs)) → ReadsSet r directory inputs
     → AddsCalls a b x y (Sees (missed config r)
@@ -154,13 +154,13 @@ Emptied named rules files = HasConfig files named rules × IsEmpty files rules.o
 abbrev pub Taken : CommandFiles → Rules → List Class → Files → Type 0
 Taken named rules classes files = Emptied named rules files × HasSet files rules.in_dir classes
 
-abbrev pub no_plan : Stop → Result Plan Stop
+abbrev pub no_plan : Stop Refusal → Result Plan (Stop Refusal)
 no_plan stop = Err stop
 
-abbrev pub Planned : Result Plan Stop → CommandFiles → Files → Type 0
+abbrev pub Planned : Result Plan (Stop Refusal) → CommandFiles → Files → Type 0
 Planned r named files = Finds r (IsResult files named) (IsRefused files named)
 
-pub refused_by_config : (named : CommandFiles) (stop : Stop) (a b : List Event) (x y : Option Files)
+pub refused_by_config : (named : CommandFiles) (stop : Stop Refusal) (a b : List Event) (x y : Option Files)
     → AddsCalls a b x y (Sees (missed_by named.config stop) (λ files. StopsAs stop (RefusesConfig files named)))
     → AddsCalls a b x y (Sees (missed_by named.config stop) (Planned (no_plan stop) named))
 refused_by_config named stop a b x y p =
@@ -168,7 +168,7 @@ refused_by_config named stop a b x y p =
     (Planned (no_plan stop) named) a b x y
     (λ files. carried stop (RefusesConfig files named) (IsRefused files named) (λ refusal r. by_config r)) p
 
-pub refused_by_output : (named : CommandFiles) (rules : Rules) (stop : Stop) (a b c : List Event)
+pub refused_by_output : (named : CommandFiles) (rules : Rules) (stop : Stop Refusal) (a b c : List Event)
     (x y z : Option Files)
     → AddsCalls a b x y (Sees (Some []) (Configured named rules))
     → AddsCalls b c y z (Sees (missed_by named.config stop) (λ files. StopsAs stop (RefusesOutput files rules.out_dir)))
@@ -187,7 +187,7 @@ emptied named rules a b c x y z has p =
     made_sees (Some []) (Configured named rules) (λ files. IsEmpty files rules.out_dir)
     (Emptied named rules) a b c x y z (λ files there empty. (there, empty)) has p
 
-pub refused_by_input : (named : CommandFiles) (rules : Rules) (stop : Stop) (a b c : List Event)
+pub refused_by_input : (named : CommandFiles) (rules : Rules) (stop : Stop Refusal) (a b c : List Event)
     (x y z : Option Files)
     → AddsCalls a b x y (Sees (Some []) (Emptied named rules))
     → AddsCalls b c y z (Sees (missed_by named.config stop) (λ files. StopsAs stop (RefusesInput files rules.in_dir)))
@@ -215,7 +215,7 @@ none_missed rules classes witness config refusal (by_format marks kept limit pas
 none_missed rules classes witness config refusal (by_text marks kept shrunk is_shrunk long listed is) =
     ap (answer.absent_by config) is
 
-pub planned : (named : CommandFiles) (rules : Rules) (classes : List Class) (r : Result Plan Stop) (a b : List Event)
+pub planned : (named : CommandFiles) (rules : Rules) (classes : List Class) (r : Result Plan (Stop Refusal)) (a b : List Event)
     (x y : Option Files)
     → AddsCalls a b x y (Sees (Some []) (Taken named rules classes))
     → Finds r (IsPlan rules classes named.witness) (RefusesPlan rules classes named.witness)
@@ -243,7 +243,7 @@ planned named rules classes (Err OutOfMemory) a b x y has is = lacks (Taken name
 -- ---- the writing
 
 -- no plan was made
-pub stopped_before : (named : CommandFiles) (stop : Stop) (calls : List Event)
+pub stopped_before : (named : CommandFiles) (stop : Stop Refusal) (calls : List Event)
     → Sees (missed_by named.config stop) (Planned (no_plan stop) named) calls → StopsSo stop named calls
 stopped_before named (Refused refusal) calls p = record {
   did = p.0;
@@ -254,7 +254,7 @@ stopped_before named Device calls p =
     (p.0.had_memory, inl (record { wrote = p.0.wrote; same = λ old new. unchanged calls old new p.0.wrote }))
 stopped_before named OutOfMemory calls p = inl (record { wrote = p; same = λ old new. unchanged calls old new p })
 
-pub stopped_seen : (named : CommandFiles) (stop : Stop) (a b : List Event) (x y : Option Files)
+pub stopped_seen : (named : CommandFiles) (stop : Stop Refusal) (a b : List Event) (x y : Option Files)
     → AddsCalls a b x y (Sees (missed_by named.config stop) (Planned (no_plan stop) named))
     → AddsCalls a b x y (StopsSo stop named)
 stopped_seen named stop a b x y p = made_so (Sees (missed_by named.config stop) (Planned (no_plan stop) named))
@@ -287,7 +287,7 @@ wrote_all named plan es fs p q = record {
   put = left_after es fs (λ old new. new ≡ output.put_all old plan.files) p.0.wrote q.1;
 }
 
-abbrev pub stop_of : WriteFault → Stop
+abbrev pub stop_of : WriteFault → Stop Refusal
 stop_of written.Failed = Device
 stop_of written.OutOfMemory = OutOfMemory
 

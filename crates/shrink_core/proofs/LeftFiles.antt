@@ -8,8 +8,9 @@ use Rattle.class_files.specs.Output.{StopsWithin}
 use Rattle.shrink_core.specs.Answer.{LeavesSo, StopsBefore, StopsSo, Unwritten, WritesUntil}
 use Rattle.shrink_core.specs.Answer.{done, stopped, summary_failed, summary_without_memory, Ending}
 use Rattle.shrink_core.specs.LeftFiles.{Leaves, LeavesSome, LeavesStopped, LeavesTold}
-use Rattle.shrink_core.specs.declared.refusal.Stop.{Stop}
-use Rattle.shrink_core.specs.declared.refusal.Stop.TheVariants.{Refused, Device, OutOfMemory}
+use Rattle.shrink_core.specs.declared.refusal.Refusal.{Refusal}
+use Rattle.command_output.specs.declared.stop.Stop.{Stop}
+use Rattle.command_output.specs.declared.stop.Stop.TheVariants.{Refused, Device, OutOfMemory}
 use Rattle.shrink_core.specs.declared.words.CommandFiles.{CommandFiles}
 
 -- calls that wrote nothing, or files up to one of them
@@ -21,7 +22,7 @@ left_some named Left calls old new run (inr some) =
     inr (some.plan, some.number, some.next, some.due old new run, some.left old new run)
 
 -- a run that stopped
-left_stopped : (named : CommandFiles) (stop : Stop) (calls : List Event) (old new : Files) → Run calls old new
+left_stopped : (named : CommandFiles) (stop : Stop Refusal) (calls : List Event) (old new : Files) → Run calls old new
     → StopsSo stop named calls → LeavesStopped named stop old new
 left_stopped named (Refused refusal) calls old new run h = (h.due old new run, h.unwritten.same old new run)
 left_stopped named Device calls old new run h = left_some named StopsWithin calls old new run h.1

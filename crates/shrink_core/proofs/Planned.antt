@@ -19,27 +19,28 @@ use Rattle.set_shrink.specs.Texts.{texts_due}
 use Rattle.set_shrink.specs.declared.shrunk.ShrunkSet.{ShrunkSet}
 use Rattle.shrink_core.specs.Due.{IsKept, IsPlan, RefusesPlan, by_text, by_seeds}
 use Rattle.shrink_core.specs.bodies.Steps.{Finds, Joins, MarksOf}
-use Rattle.shrink_core.specs.declared.refusal.Stop.{Stop}
-use Rattle.shrink_core.specs.declared.refusal.Stop.TheVariants.{Device, OutOfMemory, Refused}
+use Rattle.shrink_core.specs.declared.refusal.Refusal.{Refusal}
+use Rattle.command_output.specs.declared.stop.Stop.{Stop}
+use Rattle.command_output.specs.declared.stop.Stop.TheVariants.{Device, OutOfMemory, Refused}
 use Rattle.shrink_core.specs.declared.shrink.Plan.{Plan}
 use Rattle.shrink_core.proofs.SomeSystem.{due_counted, due_is}
 
 -- ---- what is kept
 
 module _ (rules : Rules) (classes : List Class) (sys : System) (due : system_due classes rules ≡ Ok sys) where
-  pub kept_by_system : (r : Result (List Bool) Stop) → MarksOf r rules sys
+  pub kept_by_system : (r : Result (List Bool) (Stop Refusal)) → MarksOf r rules sys
       → (witness : List ℕ) → Finds r (IsKept rules classes) (RefusesPlan rules classes witness)
   kept_by_system (Ok marks) h witness = record { sys = sys; due = due; some = h.0; least = h.1 }
   kept_by_system (Err (Refused refusal)) h witness = by_seeds sys due h.0 h.1
   kept_by_system (Err Device) h witness = absurd h
   kept_by_system (Err OutOfMemory) h witness = tt
 
-  pub counted_by_system : (r : Result (List Bool) Stop) → MarksOf r rules sys
+  pub counted_by_system : (r : Result (List Bool) (Stop Refusal)) → MarksOf r rules sys
       → IfOk r (λ marks. length marks ≡ item_count classes)
   counted_by_system (Ok marks) h = h.1.count ∙ due_counted classes rules sys due
   counted_by_system (Err stop) h = tt
 
-  pub no_device : (r : Result (List Bool) Stop) → MarksOf r rules sys → IsErrOf r Device → ⊥
+  pub no_device : (r : Result (List Bool) (Stop Refusal)) → MarksOf r rules sys → IsErrOf r Device → ⊥
   no_device (Ok marks) h is = absurd cc
   no_device (Err (Refused refusal)) h is = absurd cc
   no_device (Err Device) h is = h
@@ -65,7 +66,7 @@ linked_set inputs classes ascending taken = record {
 
 module _ (rules : Rules) (classes : List Class) (marks : List Bool) (kept : IsKept rules classes marks)
     (shrunk : ShrunkSet) (is_shrunk : IsShrunk classes marks rules shrunk) where
-  pub planned_with : (witness : List ℕ) (r : Result Plan Stop)
+  pub planned_with : (witness : List ℕ) (r : Result Plan (Stop Refusal))
       → Joins r shrunk (texts_due shrunk.mapping classes marks rules witness)
       → Finds r (IsPlan rules classes witness) (RefusesPlan rules classes witness)
   planned_with witness (Ok plan) h = record {
@@ -82,7 +83,7 @@ module _ (rules : Rules) (classes : List Class) (marks : List Bool) (kept : IsKe
   planned_with witness (Err Device) h = tt
   planned_with witness (Err OutOfMemory) h = tt
 
-pub joined_device : (shrunk : ShrunkSet) (due : Result (List FileAt) TooLong) (r : Result Plan Stop)
+pub joined_device : (shrunk : ShrunkSet) (due : Result (List FileAt) TooLong) (r : Result Plan (Stop Refusal))
     → Joins r shrunk due → IsErrOf r Device → ⊥
 joined_device shrunk due (Ok plan) h is = absurd cc
 joined_device shrunk due (Err (Refused refusal)) h is = absurd cc

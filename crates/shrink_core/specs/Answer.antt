@@ -21,14 +21,14 @@ use Rattle.shrink_core.specs.declared.words.CommandFiles.{CommandFiles}
 use Rattle.shrink_core.specs.declared.refusal.Refusal.{Refusal}
 use Rattle.shrink_core.specs.declared.refusal.Refusal.TheVariants.{NoConfig, BadRules, NotEmpty, Gone, Format, Profile}
 use Rattle.shrink_core.specs.declared.refusal.Refusal.TheVariants.{Limit}
-use Rattle.shrink_core.specs.declared.refusal.Stop.{Stop}
-use Rattle.shrink_core.specs.declared.refusal.Stop.TheVariants.{Refused, Device, OutOfMemory}
+use Rattle.command_output.specs.declared.stop.Stop.{Stop}
+use Rattle.command_output.specs.declared.stop.Stop.TheVariants.{Refused, Device, OutOfMemory}
 
 -- the plan was done; or the command stopped before; or its files were written, and the summary's device failed or
 -- memory was wanting for it
 pub data Ending : Type 0 where
   done : Plan → Ending
-  stopped : Stop → Ending
+  stopped : Stop Refusal → Ending
   summary_failed : Plan → Ending
   summary_without_memory : Plan → Ending
 
@@ -98,7 +98,7 @@ StopsBefore files n next old new = new ≡ put_all old (take n files)
 
 -- a refusal; or the device failed, before the first file was written or at one of them; or memory was wanting, before
 -- it or at one of them
-abbrev pub StopsSo : Stop → CommandFiles → List Event → Type 0
+abbrev pub StopsSo : Stop Refusal → CommandFiles → List Event → Type 0
 StopsSo (Refused refusal) named calls = Refuses refusal named calls
 StopsSo Device named calls = (without_memory calls ≡ []) × (Unwritten calls ⊎ WritesUntil named calls StopsWithin)
 StopsSo OutOfMemory named calls = Unwritten calls ⊎ WritesUntil named calls StopsBefore

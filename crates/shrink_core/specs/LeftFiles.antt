@@ -7,8 +7,9 @@ use Rattle.command_output.specs.Output.{Outside}
 use Rattle.shrink_core.specs.Answer.{Ended, Ending, StopsBefore}
 use Rattle.shrink_core.specs.Answer.{done, status_of, stopped, summary_failed, summary_without_memory}
 use Rattle.shrink_core.specs.Due.{IsDue}
-use Rattle.shrink_core.specs.declared.refusal.Stop.{Stop}
-use Rattle.shrink_core.specs.declared.refusal.Stop.TheVariants.{Refused, Device, OutOfMemory}
+use Rattle.shrink_core.specs.declared.refusal.Refusal.{Refusal}
+use Rattle.command_output.specs.declared.stop.Stop.{Stop}
+use Rattle.command_output.specs.declared.stop.Stop.TheVariants.{Refused, Device, OutOfMemory}
 use Rattle.shrink_core.specs.declared.shrink.Plan.{Plan}
 use Rattle.shrink_core.specs.declared.words.CommandFiles.{CommandFiles}
 
@@ -22,7 +23,7 @@ LeavesSome named Left old new = (new ≡ old)
     ⊎ ((plan : Plan) × (number : ℕ) × (next : FileAt) × IsDue old named (Ok plan) × Left plan.files number next old new)
 
 -- a refusal was due, and nothing has changed; or it stopped before a file or at it
-abbrev pub LeavesStopped : CommandFiles → Stop → Files → Files → Type 0
+abbrev pub LeavesStopped : CommandFiles → Stop Refusal → Files → Files → Type 0
 LeavesStopped named (Refused refusal) old new = IsDue old named (Err refusal) × (new ≡ old)
 LeavesStopped named Device old new = LeavesSome named StopsWithin old new
 LeavesStopped named OutOfMemory old new = LeavesSome named StopsBefore old new

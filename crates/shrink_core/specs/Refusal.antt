@@ -11,8 +11,8 @@ use Rattle.shrink_core.specs.declared.quantity.Quantity.TheVariants.{Table, Bran
 use Rattle.shrink_core.specs.declared.refusal.Refusal.{Refusal}
 use Rattle.shrink_core.specs.declared.refusal.Refusal.TheVariants.{NoConfig, BadRules, NotEmpty, Gone, Format, Profile}
 use Rattle.shrink_core.specs.declared.refusal.Refusal.TheVariants.{Limit}
-use Rattle.shrink_core.specs.declared.refusal.Stop.{Stop}
-use Rattle.shrink_core.specs.declared.refusal.Stop.TheVariants.{Refused, Device, OutOfMemory}
+use Rattle.command_output.specs.declared.stop.Stop.{Stop}
+use Rattle.command_output.specs.declared.stop.Stop.TheVariants.{Refused, Device, OutOfMemory}
 
 -- ---- quantities
 
@@ -72,7 +72,7 @@ refusal_line config (Profile fault) = profile_line fault
 refusal_line config (Limit q) = limit_line (quantity_name q) (quantity_limit q)
 
 -- the line of a stop
-abbrev pub line_of : List ℕ → Stop → List ℕ
+abbrev pub line_of : List ℕ → Stop Refusal → List ℕ
 line_of config (Refused refusal) = refusal_line config refusal
 line_of config Device = codes "error 7 device\n"
 line_of config OutOfMemory = codes "error 10 memory\n"
@@ -90,7 +90,7 @@ refusal_status (Profile fault) = 5
 refusal_status (Limit quantity) = 6
 
 -- the status of a stop
-abbrev pub status_of : Stop → ℕ
+abbrev pub status_of : Stop Refusal → ℕ
 status_of (Refused refusal) = refusal_status refusal
 status_of Device = 7
 status_of OutOfMemory = 10

@@ -8,13 +8,13 @@ ghost use Rattle.shrink_core.specs.Answer.{Ended};
 ghost use Rattle.shrink_core.specs.Checked.{Checked};
 ghost use Rattle.shrink_core.specs.Commands.{Does, Ran, is_there};
 ghost use Rattle.shrink_core.specs.bodies.Steps.{Says};
-ghost use Rattle.shrink_core.specs.declared.refusal.Stop.TheVariants.{Refused};
+ghost use Rattle.command_output.specs.declared.stop.Stop.TheVariants.{Refused};
 
-use crate::refusal::{Refusal, Stop, refusal_line, refusal_status};
+use crate::refusal::{Refusal, refusal_line, refusal_status};
 use crate::shrink::shrink;
 use crate::words::CommandFiles;
 use check_command::{CheckFiles, check_files};
-use command_output::{say_device, say_line, say_no_memory, say_text};
+use command_output::{Stop, say_device, say_line, say_no_memory, say_text};
 use command_words::{Command, read_command};
 use jv_base::{Items, Text};
 use retrace_command::retrace_files;
@@ -35,7 +35,7 @@ fn say_refusal<S: Sink>(alloc: Global, config: &Text, refusal: &Refusal, out: &m
 }
 
 // Says why a command ends without its result, and answers the status.
-fn say<S: Sink>(alloc: Global, config: &Text, stop: &Stop, out: &mut S) -> u8
+fn say<S: Sink>(alloc: Global, config: &Text, stop: &Stop<Refusal>, out: &mut S) -> u8
     ensures { Says config.now stop.now result
         (output (S.written out.old) (S.faults out.old) (S.log out.old))
         (output (S.written out.new) (S.faults out.new) (S.log out.new)) }

@@ -12,10 +12,11 @@ ghost use Rattle.shrink_core.specs.Due.{RefusesOutput};
 ghost use Rattle.shrink_core.specs.bodies.Steps.{ConfigOf, Finds, ReadsSet, input_stop, missed};
 
 use crate::quantity::Quantity;
-use crate::refusal::{Refusal, Stop};
+use crate::refusal::Refusal;
 use crate::words::CommandFiles;
 use class_files::{InputFault, path_in, read_files};
 use class_pool::ClassSet;
+use command_output::Stop;
 use command_texts::read_config;
 use jv_base::{Bytes, Items, Or, Text};
 use keep_rules::Rules;
@@ -33,7 +34,7 @@ pub fn find_config<T: Tree>(
     alloc: Global,
     named: &CommandFiles,
     tree: &mut T,
-) -> Result<Rules, Stop>
+) -> Result<Rules, Stop<Refusal>>
     ensures files { T.files tree.new ≡ T.files tree.old }
     ensures later { T.faults tree.old ≤ T.faults tree.new }
     ensures device { IsErrOf result Stop.Device → Rose (T.faults tree.old) (T.faults tree.new) }
@@ -46,7 +47,11 @@ pub fn find_config<T: Tree>(
 }
 
 /// The bytes of the config that a command names.
-fn config_bytes<T: Tree>(alloc: Global, named: &CommandFiles, tree: &mut T) -> Result<Bytes, Stop>
+fn config_bytes<T: Tree>(
+    alloc: Global,
+    named: &CommandFiles,
+    tree: &mut T,
+) -> Result<Bytes, Stop<Refusal>>
     ensures files { T.files tree.new ≡ T.files tree.old }
     ensures later { T.faults tree.old ≤ T.faults tree.new }
     ensures device { IsErrOf result Stop.Device → Rose (T.faults tree.old) (T.faults tree.new) }
@@ -65,7 +70,7 @@ fn config_bytes<T: Tree>(alloc: Global, named: &CommandFiles, tree: &mut T) -> R
 }
 
 /// The rules that bytes give, where the witness goes to this file.
-fn config_in(alloc: Global, bytes: &[u8], witness: &Text) -> Result<Rules, Stop>
+fn config_in(alloc: Global, bytes: &[u8], witness: &Text) -> Result<Rules, Stop<Refusal>>
     requires { length bytes.now < 4294967295 }
     ensures { ConfigOf result bytes.now witness.now }
 {
@@ -79,7 +84,11 @@ fn config_in(alloc: Global, bytes: &[u8], witness: &Text) -> Result<Rules, Stop>
 // ---- the output directory
 
 /// Whether no file lies below a directory.
-pub fn check_empty<T: Tree>(alloc: Global, directory: &Text, tree: &mut T) -> Result<(), Stop>
+pub fn check_empty<T: Tree>(
+    alloc: Global,
+    directory: &Text,
+    tree: &mut T,
+) -> Result<(), Stop<Refusal>>
     ensures files { T.files tree.new ≡ T.files tree.old }
     ensures later { T.faults tree.old ≤ T.faults tree.new }
     ensures device { IsErrOf result Stop.Device → Rose (T.faults tree.old) (T.faults tree.new) }
@@ -98,7 +107,11 @@ pub fn check_empty<T: Tree>(alloc: Global, directory: &Text, tree: &mut T) -> Re
 // ---- the input directory
 
 /// The set of the class files below a directory. Each class can be written, and no rule for links is broken.
-pub fn find_set<T: Tree>(alloc: Global, directory: &Text, tree: &mut T) -> Result<ClassSet, Stop>
+pub fn find_set<T: Tree>(
+    alloc: Global,
+    directory: &Text,
+    tree: &mut T,
+) -> Result<ClassSet, Stop<Refusal>>
     ensures files { T.files tree.new ≡ T.files tree.old }
     ensures later { T.faults tree.old ≤ T.faults tree.new }
     ensures device { IsErrOf result Stop.Device → Rose (T.faults tree.old) (T.faults tree.new) }
@@ -114,7 +127,7 @@ pub fn find_set<T: Tree>(alloc: Global, directory: &Text, tree: &mut T) -> Resul
 }
 
 /// Why a command stops where class files aren't given.
-fn input_stop(fault: InputFault) -> Stop
+fn input_stop(fault: InputFault) -> Stop<Refusal>
     ensures { result ≡ input_stop fault }
 {
     match fault {
@@ -128,7 +141,7 @@ fn input_stop(fault: InputFault) -> Stop
 }
 
 /// The set of class files that lie below a directory.
-fn set_of(alloc: Global, directory: &Text, files: Items<FileAt>) -> Result<ClassSet, Stop>
+fn set_of(alloc: Global, directory: &Text, files: Items<FileAt>) -> Result<ClassSet, Stop<Refusal>>
     requires ascending { IsAscending (map (λ f. f.path) files) }
     requires short { total files ≤ 67108864 }
     ensures read { ReadsSet result directory.now files }

@@ -1,14 +1,13 @@
-// Why a command ends without its result, and what is said then.
+// Why a command is refused, and what is said then.
 ghost use Rattle.std.specs.Prelude.{◌≡◌, IfOk};
 ghost use Rattle.shrink_core.specs.Refusal.{not_empty_line, refusal_line, refusal_status};
-ghost use Rattle.shrink_core.specs.declared.refusal.Stop.TheVariants.{OutOfMemory as no_memory};
 
 use crate::quantity::Quantity;
 use command_texts::{absent_line, format_line, limit_line, profile_line, rules_line};
 use format_reading::FormatFault;
-use jv_base::{M, OutOfMemory, Text};
+use jv_base::{M, Text};
 use set_read::RuleFault;
-use std::alloc::{AllocError, Global};
+use std::alloc::Global;
 
 /// Why a command is refused.
 #[derive(Drop)]
@@ -27,31 +26,6 @@ pub enum Refusal {
     Profile(RuleFault),
     /// A quantity passes its limit.
     Limit(Quantity),
-}
-
-/// Why a command ends without its result.
-#[derive(Drop)]
-pub enum Stop {
-    Refused(Refusal),
-    /// A device failed.
-    Device,
-    OutOfMemory,
-}
-
-impl From<AllocError> for Stop {
-    ghost from_gives = { λ _ stop. stop ≡ no_memory };
-
-    fn from(_: AllocError) -> Self {
-        Stop::OutOfMemory
-    }
-}
-
-impl From<OutOfMemory> for Stop {
-    ghost from_gives = { λ _ stop. stop ≡ no_memory };
-
-    fn from(_: OutOfMemory) -> Self {
-        Stop::OutOfMemory
-    }
 }
 
 /// The status of a refusal.

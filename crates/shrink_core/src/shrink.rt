@@ -16,11 +16,12 @@ ghost use Rattle.shrink_core.specs.bodies.Steps.{Finds, Joins, MarksOf, Shrinks,
 
 use crate::finding::{check_empty, find_config, find_set};
 use crate::quantity::{Quantity, quantity_of};
-use crate::refusal::{Refusal, Stop};
+use crate::refusal::Refusal;
 use crate::summary::summary_text;
 use crate::words::CommandFiles;
 use class_files::write_files;
 use class_pool::ClassSet;
+use command_output::Stop;
 use command_texts::{keeps_nothing, nothing_kept};
 use jv_base::{Items, M, Or, Text};
 use keep_rules::Rules;
@@ -44,7 +45,11 @@ pub struct Plan {
 
 /// Reads the class files of the input directory, and writes what the config keeps of them below the output directory
 /// under new names, the mapping, the lists that the config asks for, and the witness.
-pub fn shrink<T: Tree>(alloc: Global, named: &CommandFiles, tree: &mut T) -> Result<Plan, Stop>
+pub fn shrink<T: Tree>(
+    alloc: Global,
+    named: &CommandFiles,
+    tree: &mut T,
+) -> Result<Plan, Stop<Refusal>>
     ensures later { T.faults tree.old ≤ T.faults tree.new }
     ensures device { IsErrOf result Stop.Device → Rose (T.faults tree.old) (T.faults tree.new) }
     ensures ended { AddsCalls (T.log tree.old) (T.log tree.new) (T.files tree.old) (T.files tree.new)
@@ -59,7 +64,11 @@ pub fn shrink<T: Tree>(alloc: Global, named: &CommandFiles, tree: &mut T) -> Res
 }
 
 /// The plan that is due.
-fn due_plan<T: Tree>(alloc: Global, named: &CommandFiles, tree: &mut T) -> Result<Plan, Stop>
+fn due_plan<T: Tree>(
+    alloc: Global,
+    named: &CommandFiles,
+    tree: &mut T,
+) -> Result<Plan, Stop<Refusal>>
     ensures files { T.files tree.new ≡ T.files tree.old }
     ensures later { T.faults tree.old ≤ T.faults tree.new }
     ensures device { IsErrOf result Stop.Device → Rose (T.faults tree.old) (T.faults tree.new) }
@@ -73,7 +82,12 @@ fn due_plan<T: Tree>(alloc: Global, named: &CommandFiles, tree: &mut T) -> Resul
 }
 
 /// The plan for a set, by rules.
-fn plan_of(alloc: Global, named: &CommandFiles, rules: &Rules, set: ClassSet) -> Result<Plan, Stop>
+fn plan_of(
+    alloc: Global,
+    named: &CommandFiles,
+    rules: &Rules,
+    set: ClassSet,
+) -> Result<Plan, Stop<Refusal>>
     requires writable { AllByRecursion IsWritable set }
     requires linked { IsLinked set }
     ensures planned { Finds result (IsPlan rules.now set named.now.witness)
@@ -87,7 +101,7 @@ fn plan_of(alloc: Global, named: &CommandFiles, rules: &Rules, set: ClassSet) ->
 // ---- what is kept
 
 /// For each item of a set whether rules keep it.
-fn marks_of(alloc: Global, rules: &Rules, set: &ClassSet) -> Result<Items<bool>, Stop>
+fn marks_of(alloc: Global, rules: &Rules, set: &ClassSet) -> Result<Items<bool>, Stop<Refusal>>
     ensures kept { (witness : List ℕ)
         → Finds result (IsKept rules.now set.now) (RefusesPlan rules.now set.now witness) }
     ensures count { IfOk result (λ marks. length marks ≡ item_count set.now) }
@@ -101,7 +115,7 @@ fn marks_of(alloc: Global, rules: &Rules, set: &ClassSet) -> Result<Items<bool>,
 }
 
 /// For each item whether a system marks it, if rules keep something by it.
-fn least_marks(alloc: Global, rules: &Rules, sys: &System) -> Result<Items<bool>, Stop>
+fn least_marks(alloc: Global, rules: &Rules, sys: &System) -> Result<Items<bool>, Stop<Refusal>>
     requires valid { Valid sys.now }
     ensures { MarksOf result rules.now sys.now }
 {
@@ -121,7 +135,7 @@ fn kept_plan(
     rules: &Rules,
     set: ClassSet,
     marks: &Items<bool>,
-) -> Result<Plan, Stop>
+) -> Result<Plan, Stop<Refusal>>
     requires writable { AllByRecursion IsWritable set }
     requires linked { IsLinked set }
     requires count { length marks.now ≡ item_count set }
@@ -146,7 +160,7 @@ fn joined(
     rules: &Rules,
     shrunk: ShrunkSet,
     lists: Result<Items<FileAt>, Or<TooLong>>,
-) -> Result<Plan, Stop>
+) -> Result<Plan, Stop<Refusal>>
     ensures joined { (due : Result (List FileValue) LongText) → IsDue lists due
         → Joins result shrunk (texts_beside shrunk.mapping due rules.now named.now.witness) }
     ensures device { IsErrOf result Stop.Device → ⊥ }
@@ -159,7 +173,11 @@ fn joined(
 }
 
 /// The plan of what is written of a set, with texts.
-fn with_summary(alloc: Global, shrunk: ShrunkSet, texts: Items<FileAt>) -> Result<Plan, Stop>
+fn with_summary(
+    alloc: Global,
+    shrunk: ShrunkSet,
+    texts: Items<FileAt>,
+) -> Result<Plan, Stop<Refusal>>
     ensures joined { Joins result shrunk (Ok texts) }
     ensures device { IsErrOf result Stop.Device → ⊥ }
 {

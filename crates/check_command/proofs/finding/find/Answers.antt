@@ -7,12 +7,13 @@ use Rattle.check_command.specs.Due.{config_due, directories_due, texts_due, with
 use Rattle.check_command.specs.declared.finding.Directories.{Directories}
 use Rattle.check_command.specs.declared.finding.Found.{Found}
 use Rattle.check_command.specs.declared.finding.Texts.{Texts}
-use Rattle.check_command.specs.declared.refusal.Stop.{Stop}
+use Rattle.check_command.specs.declared.refusal.Refusal.{Refusal}
+use Rattle.command_output.specs.declared.stop.Stop.{Stop}
 use Rattle.check_command.proofs.StepByStep.{first_stops, ok_none, then_finds, then_told}
 use Rattle.check_command.proofs.finding.find.Goals as goal
 
 -- all that is read
-abbrev all : Rules → Texts → Directories → Result Found Stop
+abbrev all : Rules → Texts → Directories → Result Found (Stop Refusal)
 all rules texts directories = Ok (record { rules = rules; texts = texts; directories = directories })
 
 pub returns-in_err-rules-clause-found : goal.returns-in_err-rules-clause-found

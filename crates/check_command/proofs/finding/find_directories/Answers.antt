@@ -5,12 +5,13 @@ use Rattle.tree_io.specs.Files.{Files}
 use Rattle.tree_io.specs.declared.file_at.FileAt.{FileAt}
 use Rattle.check_command.specs.Due.{directory_due}
 use Rattle.check_command.specs.declared.finding.Directories.{Directories}
-use Rattle.check_command.specs.declared.refusal.Stop.{Stop}
+use Rattle.check_command.specs.declared.refusal.Refusal.{Refusal}
+use Rattle.command_output.specs.declared.stop.Stop.{Stop}
 use Rattle.check_command.proofs.StepByStep.{first_stops, ok_none, then_finds, then_told}
 use Rattle.check_command.proofs.finding.find_directories.Goals as goal
 
 -- both
-abbrev both : List FileAt → List FileAt → Result Directories Stop
+abbrev both : List FileAt → List FileAt → Result Directories (Stop Refusal)
 both input output = Ok (record { input = input; output = output })
 
 pub returns-in_err-input-clause-found : goal.returns-in_err-input-clause-found
