@@ -20,7 +20,7 @@ use Rattle.clap.specs.declared.parser.matches.Found.{Found}
 use Rattle.clap.proofs.OnLiterals.{clap_on_literals}
 use Rattle.clap.proofs.WalkLemmas.{find_row}
 use Rattle.command_words.specs.CommandLine.{command_line}
-use Rattle.command_words.specs.Words.{asked, commanded, said_in, two_in, where_taken}
+use Rattle.command_words.specs.Words.{command_named, commanded, said_in, two_in, where_taken}
 use Rattle.std.proofs.Common.{codes}
 
 -- all values of an argument, by the rows
@@ -48,7 +48,7 @@ is_simple_line = refl
 
 -- what is said where there is a name and two operands
 pub said_both : (rows : List Row) (name : Text) (operands : Text × Text) → first_of (codes "command") rows ≡ Some name
-    → two_in (all_of (codes "operands") rows) ≡ Some operands → said_in rows ≡ asked name operands.0 operands.1
+    → two_in (all_of (codes "operands") rows) ≡ Some operands → said_in rows ≡ command_named name operands.0 operands.1
 said_both rows name operands n o = rw (n, o) refl
 
 -- where there is no name

@@ -49,8 +49,8 @@ abbrev pub gen_asked : List ℕ → List ℕ → Option Command
 gen_asked first second = gen_by (gen_number first) (directory_in second)
 
 -- the command of this name with its two operands
-unfoldable pub asked : List ℕ → List ℕ → List ℕ → Option Command
-asked name first second =
+unfoldable pub command_named : List ℕ → List ℕ → List ℕ → Option Command
+command_named name first second =
     if is_text name (codes "shrink") then shrink_asked (both_files first second)
     else if is_text name (codes "check") then check_asked (both_files first second)
     else if is_text name (codes "retrace") then retrace_asked (both_files first second)
@@ -68,7 +68,7 @@ two_in None = None
 
 -- a command with two operands
 abbrev pub asked_with : Option (List ℕ) → Option (List ℕ × List ℕ) → Option Command
-asked_with (Some name) (Some operands) = asked name operands.0 operands.1
+asked_with (Some name) (Some operands) = command_named name operands.0 operands.1
 asked_with _ _ = None
 
 -- what clap's matches say

@@ -1,7 +1,7 @@
 // What the words of a command line ask for.
 ghost use Rattle.std.specs.Prelude.{◌≡◌, ◌≢◌, None, IfOk, OnOk, codes, map, option_map};
 ghost use Rattle.clap.specs.Words.{all_of, found_of, kind_of, rows_of};
-ghost use Rattle.command_words.specs.Words.{asked, both_files, check_asked, commanded, gen_asked, gen_number};
+ghost use Rattle.command_words.specs.Words.{command_named, both_files, check_asked, commanded, gen_asked, gen_number};
 ghost use Rattle.command_words.specs.Words.{both_in, retrace_asked, said_in, shrink_asked, two_in};
 ghost use Rattle.command_words.specs.bodies.Reads.{Reads};
 
@@ -66,7 +66,7 @@ fn said_in(alloc: Global, matches: &ArgMatches<'_>) -> M<Option<Command>>
         return Ok(None);
     };
     match two_operands(matches) {
-        Some((first, second)) => asked(alloc, name, first, second),
+        Some((first, second)) => command_named(alloc, name, first, second),
         None => Ok(None),
     }
 }
@@ -90,9 +90,9 @@ fn both_of<'a>(operands: &[&'a str]) -> Option<(&'a str, &'a str)>
     }
 }
 
-#[tactic(auto, unfolding(crate::specs::Words::asked))]
-fn asked(alloc: Global, name: &str, first: &str, second: &str) -> M<Option<Command>>
-    ensures { IfOk result (λ command. command ≡ asked name.now first.now second.now) }
+#[tactic(auto, unfolding(crate::specs::Words::command_named))]
+fn command_named(alloc: Global, name: &str, first: &str, second: &str) -> M<Option<Command>>
+    ensures { IfOk result (λ command. command ≡ command_named name.now first.now second.now) }
 {
     if name == "shrink" {
         shrink_asked(alloc, first, second)

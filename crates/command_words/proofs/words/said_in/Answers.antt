@@ -14,7 +14,7 @@ returns-in_default c =
 pub returns-in-Some-two_operands : goal.returns-in-Some-two_operands
 returns-in-Some-two_operands c =
     let rows = rows_of (found_of c.args.matches.now) in
-    answers c.asked.result _ _ c.asked.ensures (sym (said_both rows c.in-Some.name.now (c.in-Some-two_operands.first.now, c.in-Some-two_operands.second.now)
+    answers c.command_named.result _ _ c.command_named.ensures (sym (said_both rows c.in-Some.name.now (c.in-Some-two_operands.first.now, c.in-Some-two_operands.second.now)
     (sym (ap (option_map (λ s. s.now)) (sym c.in-Some.is) ∙ c.get_str.ensures ∙ first_value-rows (found_of c.args.matches.now) (codes "command")))
     (sym (ap (option_map (λ p. (p.0.now, p.1.now))) (sym c.in-Some-two_operands.is) ∙ c.two_operands.ensures))))
 
