@@ -1,14 +1,12 @@
 -- How the command ends.
-use Rattle.std.proofs.Common.{◌≡◌, ◌<◌, ℕ, List, [], ◌++◌, length, Option, Some, None, Result, Ok, Err, refl, ap, ◌∙◌, inl, inr, arith}
+use Rattle.std.proofs.Common.{◌≡◌, ◌<◌, ℕ, List, ◌++◌, Option, Some, None, Ok, refl, inl, inr, arith}
 use Rattle.std.specs.Prelude.{IsErrOf}
-use Rattle.std.proofs.lemmas.List.{append-nil}
-use Rattle.std.proofs.lemmas.List.Elements.{filter-append}
 use Rattle.tree_io.specs.Count.{Rose}
-use Rattle.tree_io.specs.Event.{files_to_write, wants_memory, without_memory}
+use Rattle.tree_io.specs.Event.{files_to_write}
 use Rattle.tree_io.specs.Files.{Files}
 use Rattle.tree_io.specs.Runs.{AddsCalls, Sees, memory_faults}
 use Rattle.tree_io.specs.declared.event.Event.{Event}
-use Rattle.tree_io.proofs.Runs.{made_so}
+use Rattle.tree_io.proofs.Runs.{made_so, same_count}
 use Rattle.command_output.specs.Output.{Output, Outside, SaysText, outside}
 use Rattle.check_command.specs.Answer.{AsksSo, Ended, Ending, Reads, StopsSo, ok_text, said, status_of, stopped}
 use Rattle.check_command.specs.Answer.{text_failed, text_without_memory}
@@ -17,10 +15,7 @@ use Rattle.check_command.specs.declared.finding.CheckFiles.{CheckFiles}
 use Rattle.check_command.specs.declared.refusal.Refusal.{Refusal}
 use Rattle.command_output.specs.declared.stop.Stop.{Stop}
 use Rattle.command_output.specs.declared.stop.Stop.TheVariants.{Refused, Device, OutOfMemory}
-
--- the command stopped
-abbrev pub no_answer : Stop Refusal → Result (Unit {0}) (Stop Refusal)
-no_answer stop = Err stop
+use Rattle.check_command.proofs.Judging.{no_answer}
 
 -- the pair is one, and this was said
 pub finished : (named : CheckFiles) (status : ℕ) (x y : Option Files) (f f2 : ℕ) (a b : List Event) (old new : Output)
@@ -48,20 +43,16 @@ pub ended_before : (stop : Stop Refusal) (named : CheckFiles) (status : ℕ) (x 
     → Ended named status (outside x f a old) (outside y f2 b new)
 ended_before (Refused refusal) named status x y f f2 a b old new rose found (inl done) =
     (stopped (Refused refusal), record { answered = done.0; blamed = tt; asked = found; said = done.1 })
-ended_before (Refused refusal) named status x y f f2 a b old new rose found (inr done) =
-    (stopped OutOfMemory, record { answered = done.0; blamed = tt; asked = unsaid refusal named x y a b found; said = done.1 })
+ended_before (Refused refusal) named status x y f f2 a b old new rose found (inr done) = (
+  stopped OutOfMemory,
+  record { answered = done.0; blamed = tt; asked = unsaid refusal named x y a b found; said = done.1 },
+)
 ended_before Device named status x y f f2 a b old new rose found done =
     (stopped Device, record { answered = done.0; blamed = rose refl; asked = found; said = done.1 })
 ended_before OutOfMemory named status x y f f2 a b old new rose found done =
     (stopped OutOfMemory, record { answered = done.0; blamed = tt; asked = found; said = done.1 })
 
 -- ---- memory
-
--- calls for which memory was never wanting don't raise the count
-same_count : (a b calls : List Event) → b ≡ a ++ calls → without_memory calls ≡ [] → memory_faults b ≡ memory_faults a
-same_count a b calls is none =
-    ap memory_faults is ∙ ap length (filter-append wants_memory a calls
-    ∙ ap (λ (l : List Event). without_memory a ++ l) none ∙ append-nil (without_memory a))
 
 -- where the count rose, the answer says so
 lacked : (ending : Ending) (named : CheckFiles) (status : ℕ) (a b calls : List Event) → b ≡ a ++ calls
@@ -80,4 +71,5 @@ lacked (stopped OutOfMemory) named status a b calls is asked answered rose = ans
 pub answers_memory : (named : CheckFiles) (status : ℕ) (before after : Outside) → Ended named status before after
     → memory_faults before.calls < memory_faults after.calls → status ≡ 10
 answers_memory named status before after ended rose =
-    lacked ended.0 named status before.calls after.calls ended.1.asked.0 ended.1.asked.1 ended.1.asked.3 ended.1.answered rose
+    lacked ended.0 named status before.calls after.calls ended.1.asked.0 ended.1.asked.1 ended.1.asked.3
+    ended.1.answered rose

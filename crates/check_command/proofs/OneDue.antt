@@ -1,5 +1,6 @@
 -- One thing at most is due of told files: that the pair is one, or one refusal.
-use Rattle.std.proofs.Common.{◌≡◌, ◌⊎◌, inl, inr, ℕ, Bool, true, false, List, Result, Ok, Err, refl, sym, ap, subst, ◌∙◌}
+use Rattle.std.proofs.Common.{◌≡◌, ◌⊎◌, inl, inr, ℕ, Bool, true, false, List, Result, Ok, Err, refl, sym, ap, subst}
+use Rattle.std.proofs.Common.{◌∙◌}
 use Rattle.tree_io.specs.Files.{Files}
 use Rattle.class_files.specs.Input.{path_in}
 use Rattle.class_model.specs.declared.class.Class.{Class}
@@ -16,7 +17,8 @@ use Rattle.command_texts.specs.RuleText.{keeps_nothing, nothing_kept}
 use Rattle.pair_checker.specs.PairOk.{IsNo, PairOk}
 use Rattle.pair_checker.specs.declared.answer.No.{No as Answer}
 use Rattle.pair_checker.specs.OneAnswer.{IsOneNo, NotBoth}
-use Rattle.check_command.specs.Due.{IsDue, IsPair, IsRefused, by_format, by_pair, by_profile, by_seeds, by_system, found_due}
+use Rattle.check_command.specs.Due.{IsDue, IsPair, IsRefused, by_format, by_pair, by_profile, by_seeds, by_system}
+use Rattle.check_command.specs.Due.{found_due}
 use Rattle.check_command.specs.OneDue.{IsOneDue}
 use Rattle.check_command.specs.declared.finding.CheckFiles.{CheckFiles}
 use Rattle.check_command.specs.declared.finding.Found.{Found}
@@ -106,7 +108,11 @@ judged_by_steps found (Err refusal) (by_format below fault is told) =
     inl (refusal, (set.Format below fault, is, told), refl)
 judged_by_steps found (Err refusal) (by_profile fault is told) = inl (refusal, (set.Rule fault, is, told), refl)
 judged_by_steps found (Err refusal) (by_system classes accepted many due told) =
-    inr (classes, accepted, inl (Limit (quantity.System many.what), ap (system_told found.rules) (sym due), ap Err told))
+    inr (
+      classes,
+      accepted,
+      inl (Limit (quantity.System many.what), ap (system_told found.rules) (sym due), ap Err told),
+    )
 judged_by_steps found (Err refusal) (by_seeds classes accepted sys due nothing told) = inr (
   classes,
   accepted,
@@ -121,8 +127,10 @@ judged_by_steps found (Err refusal) (by_pair classes sys input answer refused to
 one_judged : NotBoth → IsOneNo → (found : Found) → IsOne (Judges found)
 one_judged either one_no found one other h k =
     then_one (Takes found) _ (one_taken found)
-    (λ classes. then_one (λ z. z ≡ system_told found.rules (system_due classes found.rules)) (λ sys. Pairs found classes)
-    (one_value (system_told found.rules (system_due classes found.rules))) (λ sys. one_pair either one_no found classes))
+    (λ classes. then_one (λ z. z ≡ system_told found.rules (system_due classes found.rules))
+    (λ sys. Pairs found classes)
+    (one_value (system_told found.rules (system_due classes found.rules)))
+    (λ sys. one_pair either one_no found classes))
     one other (judged_by_steps found one h) (judged_by_steps found other k)
 
 -- ---- the law

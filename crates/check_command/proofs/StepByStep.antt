@@ -1,5 +1,6 @@
 -- What is found, step by step.
-use Rattle.std.proofs.Common.{◌≡◌, ℕ, List, [], ◌∷◌, Option, Some, None, Result, Ok, Err, inl, inr, refl, sym, ap, subst, ◌∙◌}
+use Rattle.std.proofs.Common.{◌≡◌, ℕ, List, [], ◌∷◌, Option, Some, None, Result, Ok, Err, inl, inr, refl, sym, ap}
+use Rattle.std.proofs.Common.{subst, ◌∙◌}
 use Rattle.tree_io.specs.Event.{files_to_write}
 use Rattle.tree_io.specs.Files.{Files}
 use Rattle.tree_io.specs.Runs.{AddsCalls, Sees}
@@ -10,6 +11,7 @@ use Rattle.class_files.specs.Input.{FindsDue, input_due}
 use Rattle.class_files.specs.Input as input
 use Rattle.class_files.specs.declared.input.InputFault.{InputFault}
 use Rattle.class_files.specs.declared.input.InputFault.TheVariants as fault
+use Rattle.class_files.proofs.Totals.{no_files}
 use Rattle.jv_base.specs.Outcome.{◌>>=◌}
 use Rattle.keep_rules.specs.declared.fault.RuleFault.{RuleFault}
 use Rattle.keep_rules.specs.declared.rules.Rules.{Rules}
@@ -20,9 +22,9 @@ use Rattle.witness_file.specs.WitnessReading.{read_witness}
 use Rattle.witness_file.specs.declared.witness.WitFault.{WitFault}
 use Rattle.witness_file.specs.declared.witness.Witness.{Witness as Edits}
 use Rattle.check_command.specs.Answer.{StopsSo, absent_by}
-use Rattle.check_command.specs.Due.{IsDue, IsPair, IsRefused, by_format, by_pair, by_profile, by_seeds, by_system, directory_due}
-use Rattle.check_command.specs.Due.{found_due, input_stop, or_bad_mapping, or_bad_rules, or_bad_witness, or_input_stop}
-use Rattle.check_command.specs.Due.{texts_in}
+use Rattle.check_command.specs.Due.{IsDue, IsPair, IsRefused, by_format, by_pair, by_profile, by_seeds, by_system}
+use Rattle.check_command.specs.Due.{directory_due, found_due, input_stop, or_bad_mapping, or_bad_rules, or_bad_witness}
+use Rattle.check_command.specs.Due.{or_input_stop, texts_in}
 use Rattle.check_command.specs.bodies.Steps.{Checks, Finds, Judges, Told, missed}
 use Rattle.check_command.specs.declared.finding.CheckFiles.{CheckFiles}
 use Rattle.check_command.specs.declared.finding.Found.{Found}
@@ -39,7 +41,8 @@ use Rattle.command_output.specs.declared.stop.Stop.TheVariants.{Refused, Device,
 weaken : (absent : List (List ℕ)) (P Q : Files → Type 0) (a b : List Event) (x y : Option Files)
     → ((fs : Files) → P fs → Q fs) → AddsCalls a b x y (Sees (Some absent) P) → AddsCalls a b x y (Sees (Some absent) Q)
 weaken absent P Q a b x y so p =
-    made_so (Sees (Some absent) P) (Sees (Some absent) Q) a b x y (λ calls s. (s.0, λ old new run. so old (s.1 old new run))) p
+    made_so (Sees (Some absent) P) (Sees (Some absent) Q) a b x y
+    (λ calls s. (s.0, λ old new run. so old (s.1 old new run))) p
 
 -- memory was wanting behind what is known
 lacks : (P Q : Files → Type 0) (a b : List Event) (x y : Option Files) → AddsCalls a b x y (Sees (Some []) P)
@@ -69,7 +72,8 @@ module _ {A B : Type 0} (d : Files → Result A (Stop Refusal)) (f : Files → A
 abbrev pub NamesNone : Refusal → Type 0
 NamesNone r = absent_by r ≡ []
 
-module _ {A B : Type 0} (d : Files → Result A (Stop Refusal)) (g : A → Result B (Stop Refusal)) (m : A) (a b : List Event) (x y : Option Files)
+module _ {A B : Type 0} (d : Files → Result A (Stop Refusal)) (g : A → Result B (Stop Refusal)) (m : A)
+    (a b : List Event) (x y : Option Files)
     (found : Finds (Ok m) d a b x y) where
   pub then_told : (r : Result B (Stop Refusal)) → ((refusal : Refusal) → g m ≡ Err (Refused refusal) → NamesNone refusal)
       → Told r (g m) → Finds r (λ fs. d fs >>= g) a b x y
@@ -77,7 +81,8 @@ module _ {A B : Type 0} (d : Files → Result A (Stop Refusal)) (g : A → Resul
       weaken [] (λ fs. d fs ≡ Ok m) (λ fs. (d fs >>= g) ≡ Ok v) a b x y
       (λ fs e. ap (λ (o : Result A (Stop Refusal)). o >>= g) e ∙ h) found
   then_told (Err (Refused refusal)) none h =
-      subst (λ (paths : List (List ℕ)). AddsCalls a b x y (Sees (Some paths) (λ fs. (d fs >>= g) ≡ Err (Refused refusal))))
+      subst (λ (paths : List (List ℕ)). AddsCalls a b x y
+      (Sees (Some paths) (λ fs. (d fs >>= g) ≡ Err (Refused refusal))))
       (sym (none refusal h))
       (weaken [] (λ fs. d fs ≡ Ok m) (λ fs. (d fs >>= g) ≡ Err (Refused refusal)) a b x y
       (λ fs e. ap (λ (o : Result A (Stop Refusal)). o >>= g) e ∙ h) found)
@@ -85,9 +90,6 @@ module _ {A B : Type 0} (d : Files → Result A (Stop Refusal)) (g : A → Resul
   then_told (Err OutOfMemory) none h = lacks (λ fs. d fs ≡ Ok m) (λ fs. Unit {0}) a b x y found
 
 -- ---- the class files of a directory
-
-abbrev pub no_files : InputFault → Result (List FileAt) InputFault
-no_files e = Err e
 
 abbrev pub stopped_files : InputFault → Result (List FileAt) (Stop Refusal)
 stopped_files e = Err (input_stop e)
@@ -137,7 +139,8 @@ checked named found (Err (Refused refusal)) a b x y p h =
     (weaken [] (λ fs. found_due fs named ≡ Ok found) (λ fs. IsDue fs named (Err refusal)) a b x y
     (λ fs e. inr (found, e, h)) p)
 checked named found (Err Device) a b x y p h = absurd h
-checked named found (Err OutOfMemory) a b x y p h = lacks (λ fs. found_due fs named ≡ Ok found) (λ fs. Unit {0}) a b x y p
+checked named found (Err OutOfMemory) a b x y p h =
+    lacks (λ fs. found_due fs named ≡ Ok found) (λ fs. Unit {0}) a b x y p
 
 abbrev pub not_found : Stop Refusal → Result Found (Stop Refusal)
 not_found s = Err s

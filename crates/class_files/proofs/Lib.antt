@@ -1,2 +1,2 @@
 mod Puts
-mod Totals
+pub mod Totals

@@ -104,8 +104,10 @@ each_is : (n : ℕ) (entries : List Entry) (pool : List PoolConstant) (ins : Lis
     → AllByRecursion (λ (i : Ins). IsOpValue i.op) ins → AreSaid entries pool ins
     → AllByRecursion (λ (i : Ins). IsWritable n entries pool i.op) ins
 each_is n entries pool [] good words values said = tt
-each_is n entries pool (i ∷ ins) good words values said =
-    (record { good = good.0; words = words.0; value = values.0; said = said.0 }, each_is n entries pool ins good.1 words.1 values.1 said.1)
+each_is n entries pool (i ∷ ins) good words values said = (
+  record { good = good.0; words = words.0; value = values.0; said = said.0 },
+  each_is n entries pool ins good.1 words.1 values.1 said.1,
+)
 
 -- the instructions as they are written
 abbrev pub infos : List PoolConstant → List Ins → List Info

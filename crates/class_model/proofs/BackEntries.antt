@@ -86,7 +86,8 @@ name_back ty (is, inr class) = by (eqb ty.dims 0) refl
     by : (b : Bool) → eqb ty.dims 0 ≡ b → named_type (type_name ty) ≡ Some ty
     by true h =
         let one : ty
-        ≡ record { dims = 0; base = base.Class class.0 } = λ i. record { dims = eqb-true ty.dims 0 h i; base = class.1 i } in
+        ≡ record { dims = 0; base = base.Class class.0 } =
+        λ i. record { dims = eqb-true ty.dims 0 h i; base = class.1 i } in
         let named : is_class_name class.0 ≡ true = subst (λ (b : Base). IsBase b) class.1 is.named in
         subst (λ (t : FieldType). named_type (type_name t) ≡ Some t) (sym one) (class_back_at class.0 named)
     by false h = ap named_type (array_name ty ty.base h)
@@ -99,16 +100,16 @@ bracket_utf8 : IsUtf8 (91 ∷ [])
 unfolding lib.Utf8.encode
 bracket_utf8 = (91 ∷ [], (refl, refl))
 
-class_utf8 : IsUtf8 (codes "L")
+pub class_utf8 : IsUtf8 (codes "L")
 unfolding lib.Utf8.encode
 class_utf8 = (codes "L", (refl, refl))
 
-end_utf8 : IsUtf8 (codes ";")
+pub end_utf8 : IsUtf8 (codes ";")
 unfolding lib.Utf8.encode
 end_utf8 = (codes ";", (refl, refl))
 
 -- the brackets are a text
-brackets_utf8 : (n : ℕ) → IsUtf8 (replicate n 91)
+pub brackets_utf8 : (n : ℕ) → IsUtf8 (replicate n 91)
 brackets_utf8 zero = IsUtf8-nil
 brackets_utf8 (suc n) = IsUtf8-append (91 ∷ []) (replicate n 91) bracket_utf8 (brackets_utf8 n)
 
@@ -127,7 +128,7 @@ base_utf8 base.Float h = (codes "F", (refl, refl))
 base_utf8 base.Double h = (codes "D", (refl, refl))
 
 -- a descriptor's
-field_utf8 : (ty : FieldType) → IsBaseValue ty.base → IsUtf8 (field_text ty)
+pub field_utf8 : (ty : FieldType) → IsBaseValue ty.base → IsUtf8 (field_text ty)
 unfolding field_text
 field_utf8 ty h = IsUtf8-append (replicate ty.dims 91) (base_text ty.base) (brackets_utf8 ty.dims) (base_utf8 ty.base h)
 
@@ -136,7 +137,7 @@ either_utf8 true one other h k = h
 either_utf8 false one other h k = k
 
 -- the name in a constant's
-name_utf8 : (ty : FieldType) (b : Base) → IsBaseValue b → IsUtf8 (field_text ty) → IsUtf8 (type_name_of_base ty b)
+pub name_utf8 : (ty : FieldType) (b : Base) → IsBaseValue b → IsUtf8 (field_text ty) → IsUtf8 (type_name_of_base ty b)
 name_utf8 ty (base.Class name) h k = either_utf8 (eqb ty.dims 0) name (field_text ty) h k
 name_utf8 ty base.Boolean h k = k
 name_utf8 ty base.Byte h k = k

@@ -42,7 +42,7 @@ field_back entries index r says is value = reference_back entries fieldref_in (�
     (λ a b. refl) index r says is.0.class value is.1
 
 -- the constant of a method, by whether it is one of an interface
-abbrev constant_by : Bool → MemberRef → PoolConstant
+abbrev pub constant_by : Bool → MemberRef → PoolConstant
 constant_by b r = cond b (InterfaceMethodref (units_of (type_name r.class)) (units_of r.name) (units_of r.ty))
     (Methodref (units_of (type_name r.class)) (units_of r.name) (units_of r.ty))
 
@@ -78,7 +78,8 @@ method_back : (opcode : ℕ) (entries : List Entry) (index : ℕ) (r : MemberRef
     → (r.of_interface ≡ true → takes_interface_method opcode ≡ true)
     → Says entries index (methodref r) → IsMethodReference r → IsReferenceValue r
     → method_named opcode entries index ≡ Some r
-method_back opcode entries index r takes says is value = method_by r.of_interface opcode entries index r refl takes says is value
+method_back opcode entries index r takes says is value =
+    method_by r.of_interface opcode entries index r refl takes says is value
 
 -- ---- instructions
 
@@ -87,7 +88,8 @@ module _ (aim : ℤ → Result ℕ FormatKind) (entries : List Entry) (at : ℕ)
   operand_back : (opcode index : ℕ) (o : Op) → opcode < 256 → begun entries at opcode ≡ Ok (member entries opcode)
       → index < 2 ^ 16 → member_op opcode entries index ≡ Some o → IsBack aim entries at (MemberOperand opcode index) o
   unfolding op_of
-  operand_back opcode index o lt e fits h = record { read = read_member entries at opcode index o lt e fits h; meant = ap (due bad.BadOperand) h }
+  operand_back opcode index o lt e fits h =
+      record { read = read_member entries at opcode index o lt e fits h; meant = ap (due bad.BadOperand) h }
 
   -- the constant of the field, behind its parts
   said_field : (r : MemberRef) → AllByRecursion (IsSaid entries pool) (field_constants r)

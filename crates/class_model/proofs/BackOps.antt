@@ -88,8 +88,10 @@ module _ (n : ℕ) (aim : ℤ → Result ℕ FormatKind) (entries : List Entry) 
       (omega arith) refl refl (i.found to w.good) i.branch
   op_back (op.Goto to) w i = branch_back aim entries place at 0xA7 op.Goto to (omega arith) refl refl
       (i.found to w.good) i.branch
-  op_back (op.TableSwitch low other cases) w i = table_back n aim entries place at i.found i.near low other cases w.good w.value
-  op_back (op.LookupSwitch other cases) w i = lookup_back n aim entries place at i.found i.near other cases w.good w.value i.few
+  op_back (op.TableSwitch low other cases) w i =
+      table_back n aim entries place at i.found i.near low other cases w.good w.value
+  op_back (op.LookupSwitch other cases) w i =
+      lookup_back n aim entries place at i.found i.near other cases w.good w.value i.few
   op_back (op.Return k) w i = plain_back aim entries at _ (op.Return k) (is_return k)
   op_back (op.GetStatic r) w i = on_field aim entries at pool 0xB2 op.GetStatic r
       (omega arith) refl refl w.said w.good w.value
@@ -118,4 +120,5 @@ module _ (n : ℕ) (aim : ℤ → Result ℕ FormatKind) (entries : List Entry) 
       (omega arith) refl refl refl refl w.said w.good w.value
   op_back (op.InstanceOf ty) w i = of_type_back aim entries at pool 0xC1 op.InstanceOf ty
       (omega arith) refl refl refl refl w.said w.good w.value
-  op_back (op.MultiNewArray ty dimensions) w i = multi_back aim entries at pool ty dimensions w.said w.good.0 w.good.1 w.good.2 w.value
+  op_back (op.MultiNewArray ty dimensions) w i =
+      multi_back aim entries at pool ty dimensions w.said w.good.0 w.good.1 w.good.2 w.value

@@ -9,7 +9,7 @@ use Rattle.jv_base.specs.Utf16.{units_of}
 use Rattle.class_model.specs.declared.pool.Entry.{Entry}
 use Rattle.class_model.specs.declared.constant.PoolConstant.{PoolConstant}
 use Rattle.class_model.specs.declared.constant.PoolConstant.TheVariants.{Utf8, Integer, Long, SecondOfLong, Class, Str}
-use Rattle.class_model.specs.declared.constant.PoolConstant.TheVariants.{NameAndType, Methodref, InterfaceMethodref}
+use Rattle.class_model.specs.declared.constant.PoolConstant.TheVariants.{NameAndType}
 use Rattle.class_model.specs.declared.code.Ins.{Ins}
 use Rattle.class_model.specs.declared.op.MemberRef.{MemberRef}
 use Rattle.class_model.specs.declared.op.Op.{Op}
@@ -20,6 +20,7 @@ use Rattle.class_model.specs.CanonicalCode.{op_constants, is_short, is_lconst}
 use Rattle.class_model.specs.Says.{IsSaid, AreSaid}
 use Rattle.class_model.specs.bodies.PoolEntries.{entry_of, entries_of, Has}
 use Rattle.class_model.proofs.BackSame.{same_is, same_self}
+use Rattle.class_model.proofs.BackMembers.{constant_by}
 
 -- ---- where a constant is
 
@@ -126,22 +127,17 @@ module _ (pool : List PoolConstant) (count : length pool + 1 < 2 ^ 16) where
         (_, _, at_index pool (fieldref r) has, class.1, names.1),
       )) h
 
-  -- a method's, by whether it is one of an interface
-  abbrev method_of : Bool → MemberRef → PoolConstant
-  method_of b r = cond b (InterfaceMethodref (units_of (type_name r.class)) (units_of r.name) (units_of r.ty))
-      (Methodref (units_of (type_name r.class)) (units_of r.name) (units_of r.ty))
-
-  method_by : (b : Bool) (r : MemberRef) → HasAll (with_parts r (method_of b r))
-      → SaysAll (with_parts r (method_of b r))
-  method_by true r h = parts_said r (method_of true r)
+  method_by : (b : Bool) (r : MemberRef) → HasAll (with_parts r (constant_by b r))
+      → SaysAll (with_parts r (constant_by b r))
+  method_by true r h = parts_said r (constant_by true r)
       (λ class names has. (
-        index_fits pool (method_of true r) count,
-        (_, _, at_index pool (method_of true r) has, class.1, names.1),
+        index_fits pool (constant_by true r) count,
+        (_, _, at_index pool (constant_by true r) has, class.1, names.1),
       )) h
-  method_by false r h = parts_said r (method_of false r)
+  method_by false r h = parts_said r (constant_by false r)
       (λ class names has. (
-        index_fits pool (method_of false r) count,
-        (_, _, at_index pool (method_of false r) has, class.1, names.1),
+        index_fits pool (constant_by false r) count,
+        (_, _, at_index pool (constant_by false r) has, class.1, names.1),
       )) h
 
   method_said : (r : MemberRef) → HasAll (with_parts r (methodref r)) → SaysAll (with_parts r (methodref r))

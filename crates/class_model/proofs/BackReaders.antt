@@ -89,3 +89,13 @@ all_below (n ∷ ns) at h = ((h.0, refl), all_below ns (at + length (to_be_bytes
 pub gets_many : (n : ℕ) (ns : List ℕ) → length ns ≡ n → AllByRecursion (λ n. n < 2 ^ 32) ns
     → Gets (many n u4) (flat_map (to_be_bytes w32) ns) ns
 gets_many n ns e h = gets_of ns ns (many_exact n u4_exact) (λ at. (e, all_below ns at h))
+
+-- several values, one behind the other
+pub gets_each : {A : Type 0} (r : FormatReader A) (spelled : A → List ℕ) (xs : List A)
+    → AllByRecursion (λ x. Gets r (spelled x) x) xs → Gets (many (length xs) r) (flat_map spelled xs) xs
+unfolding many
+gets_each r spelled [] all = gets_give []
+gets_each r spelled (x ∷ xs) all =
+    gets_bind r (λ first. bind (many (length xs) r) (λ others. give (first ∷ others))) (spelled x)
+    (flat_map spelled xs) x (x ∷ xs) all.0
+    (gets_map (many (length xs) r) (λ others. x ∷ others) (flat_map spelled xs) xs (gets_each r spelled xs all.1))

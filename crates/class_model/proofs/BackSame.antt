@@ -1,8 +1,8 @@
 -- Constants that the canonical spelling takes as one are one.
-use Rattle.std.proofs.Common.{◌≡◌, Bool, true, ◌&&◌, ℤ, List, refl, ap}
+use Rattle.std.proofs.Common.{◌≡◌, true, ℤ, List, refl, ap}
 use Rattle.std.specs.Ordering.{int_eq}
 use Rattle.std.specs.Cmp.{signed_Decides}
-use Rattle.std.proofs.lemmas.Bool.{and_parts}
+use Rattle.std.proofs.lemmas.Bool.{and_parts, and_from}
 use Rattle.jv_base.proofs.Equality.{text_Decides}
 use Rattle.class_model.specs.declared.constant.PoolConstant.{PoolConstant}
 use Rattle.class_model.specs.declared.constant.PoolConstant.TheVariants.{Utf8, Integer, Long, SecondOfLong, Class, Str}
@@ -45,9 +45,6 @@ same_is (InterfaceMethodref a b c) (InterfaceMethodref d e f) h =
     λ i. InterfaceMethodref (text_is a d p.0 i) (text_is b e q.0 i) (text_is c f q.1 i)
 same_is _ _ h = absurd cc
 
-two_self : (p q : Bool) → p ≡ true → q ≡ true → (p && q) ≡ true
-two_self p q h k = rw (h, k) refl
-
 pub same_self : (a : PoolConstant) → same a a ≡ true
 same_self (Utf8 a) = text_self a
 same_self (Integer a) = number_self a
@@ -55,7 +52,7 @@ same_self (Long a) = number_self a
 same_self (SecondOfLong a) = number_self a
 same_self (Class a) = text_self a
 same_self (Str a) = text_self a
-same_self (NameAndType a b) = two_self _ _ (text_self a) (text_self b)
-same_self (Fieldref a b c) = two_self _ _ (text_self a) (two_self _ _ (text_self b) (text_self c))
-same_self (Methodref a b c) = two_self _ _ (text_self a) (two_self _ _ (text_self b) (text_self c))
-same_self (InterfaceMethodref a b c) = two_self _ _ (text_self a) (two_self _ _ (text_self b) (text_self c))
+same_self (NameAndType a b) = and_from _ _ (text_self a) (text_self b)
+same_self (Fieldref a b c) = and_from _ _ (text_self a) (and_from _ _ (text_self b) (text_self c))
+same_self (Methodref a b c) = and_from _ _ (text_self a) (and_from _ _ (text_self b) (text_self c))
+same_self (InterfaceMethodref a b c) = and_from _ _ (text_self a) (and_from _ _ (text_self b) (text_self c))

@@ -108,7 +108,8 @@ pub few_is : (pool : List PoolConstant) (place : ℕ → ℕ) (at : ℕ) (o : Op
     → length (info_bytes (op_info pool place at o)) < 2 ^ 16 → HasFewCases o
 few_is pool place at (op.LookupSwitch other cases) h =
     let pairs = map
-    (λ (c : Case). let m : MatchOffset = record { key = cast_unsigned w32 c.key; offset = far pool place at c.to } in m) cases in
+    (λ (c : Case). let m : MatchOffset = record { key = cast_unsigned w32 c.key; offset = far pool place at c.to } in
+    m) cases in
     let long = pairs_long pairs in
     let count = to_be_bytes w32 (length pairs) in
     let rest = flat_map match_offset pairs in

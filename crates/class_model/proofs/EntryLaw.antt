@@ -376,6 +376,10 @@ tag_leads room tag =
     leads_left_out room tag (left_out_length tag) refl free
     (λ c e h. let b = of_tag tag c e h in rw (f1, f3, f5, f7, f8, f9, f10, f11, f12) at b)))))))))))
 
+-- a number of one byte, spelled
+pub one_byte : (n : ℕ) → n < 256 → (rest : List ℕ) → to_be_bytes w8 n ++ rest ≡ n ∷ rest
+one_byte n lt rest = ap (λ (k : ℕ). k ∷ rest) (omega (arith, lt))
+
 -- an entry is read exactly where it is spelled
 pub entry_exact : (room : Bool) → Exact (read_entry room) (Spells cp_info (λ _ c e. IsConstant c e × HasRoom room e))
 unfolding read_entry
@@ -391,9 +395,6 @@ entry_exact room = as_raw cp_info _ (λ w. w.1) (λ c. (tag_of c, c))
     ))
     (lead_exact (tagged room) contents_of (λ tag at c e. RoomBehind room tag at c e) u1_exact (tag_leads room))
   where
-    one_byte : (tag : ℕ) → tag < 256 → (rest : List ℕ) → to_be_bytes w8 tag ++ rest ≡ tag ∷ rest
-    one_byte tag lt rest = ap (λ (k : ℕ). k ∷ rest) (omega (arith, lt))
-
     left_out_below : (tag n : ℕ) → left_out_length tag ≡ Some n → tag < 256
     left_out_below tag n h = one (eqb tag 4) (eqb tag 6) (eqb tag 15) (eqb tag 16)
         (eqb tag 18) refl refl refl refl refl h

@@ -211,7 +211,8 @@ Seen pool static ty all seen out = Chain (ConstantOnce pool static ty) seen.cons
 field_steps : (pool : List Entry) (static : Bool) (ty : FieldType) (at : ℕ) (all : List AttributeInfo)
     (seen out : FieldSeen) → AllByRecursion (IsAttribute pool) all → Seen pool static ty all seen out
     → Steps pool (FieldDoes pool static ty) at all seen out
-field_steps pool static ty at [] seen out each h = λ i. record { constant = h.0 i; synthetic = h.1 i; deprecated = h.2 i }
+field_steps pool static ty at [] seen out each h =
+    λ i. record { constant = h.0 i; synthetic = h.1 i; deprecated = h.2 i }
 field_steps pool static ty at (a ∷ rest) seen out each h =
     by (is_text units (codes "ConstantValue")) (is_text units (codes "Synthetic"))
     (is_text units (codes "Deprecated")) refl refl refl

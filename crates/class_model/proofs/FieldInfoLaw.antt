@@ -9,6 +9,7 @@ use Rattle.jv_base.specs.Types.{field_text, IsFieldType}
 use Rattle.jv_base.specs.declared.types.FieldType.{FieldType}
 use Rattle.jv_base.specs.Descriptors.{read_field}
 use Rattle.jv_base.proofs.FieldLaw.{read_field-found, read_field-only}
+use Rattle.jv_base.proofs.Results.{then_ok}
 use Rattle.format_reading.specs.declared.fault.FormatKind.{FormatKind}
 use Rattle.format_reading.specs.declared.fault.FormatKind.TheVariants as bad
 use Rattle.format_reading.specs.Reader.{FormatReader, u2, item, bind, give}
@@ -26,7 +27,7 @@ use Rattle.class_model.specs.MemberTypes.{field_type_at}
 use Rattle.class_model.specs.ReadingAttributes.{counted_attributes}
 use Rattle.class_model.specs.ReadingMembers.{Signature, same_signature, fresh, FieldSeen, no_field_attribute}
 use Rattle.class_model.specs.ReadingMembers.{known_of_field, field_of, read_field_info, read_fields}
-use Rattle.class_model.proofs.NameLaw.{HaveUnits, then_ok, text_at_found, text_at_only, good_found, good_only, due_is}
+use Rattle.class_model.proofs.NameLaw.{HaveUnits, text_at_found, text_at_only, good_found, good_only, due_is}
 use Rattle.class_model.proofs.NameLaw.{value_is}
 use Rattle.class_model.proofs.ConstantLaw.{AllNameRight}
 use Rattle.class_model.proofs.FieldAttributeLaw.{AreFieldAttributes, field_attributes_exact, constants_found}
@@ -280,14 +281,14 @@ module _ (pool : List Entry) (in_interface : Bool) (before : List Signature) (un
 
 -- ---- the fields
 
--- the first structure, where there is one
-abbrev first_of : List MemberInfo → MemberInfo
-first_of [] = record { access_flags = 0; name_index = 0; descriptor_index = 0; attributes = [] }
-first_of (raw ∷ raws) = raw
+-- the first structure, where there is one, and the others
+abbrev pub first_raw : List MemberInfo → MemberInfo
+first_raw [] = record { access_flags = 0; name_index = 0; descriptor_index = 0; attributes = [] }
+first_raw (raw ∷ raws) = raw
 
-abbrev others_of : List MemberInfo → List MemberInfo
-others_of [] = []
-others_of (raw ∷ raws) = raws
+abbrev pub other_raws : List MemberInfo → List MemberInfo
+other_raws [] = []
+other_raws (raw ∷ raws) = raws
 
 -- so many fields, each unlike all before it
 pub fields_exact : (pool : List Entry) (in_interface : Bool) → HaveUnits pool → AllNameRight pool
@@ -311,7 +312,7 @@ fields_exact pool in_interface units right zero before = as_raw (flat_map member
     none [] (f ∷ fs) len z = absurd z
     none (raw ∷ raws) fields len z = absurd (omega (arith, len))
 fields_exact pool in_interface units right (suc n) before = as_raw (flat_map member_info) _ (λ w. w.0 ∷ w.1)
-    (λ raws. (first_of raws, others_of raws))
+    (λ raws. (first_raw raws, other_raws raws))
     (λ at w fields h.
     let first = h.0 in
     let rest = h.2 in
@@ -335,12 +336,12 @@ fields_exact pool in_interface units right (suc n) before = as_raw (flat_map mem
     some : (raws : List MemberInfo) (fields : List Field) → length raws ≡ suc n
         → AllZip (IsField pool in_interface) raws fields
         → AreNew field_signature FieldsDiffer fields_apart fields_told before fields
-        → (flat_map member_info raws ≡ member_info (first_of raws) ++ flat_map member_info (others_of raws))
+        → (flat_map member_info raws ≡ member_info (first_raw raws) ++ flat_map member_info (other_raws raws))
         × ((first : Field × Signature)
-        × (IsField pool in_interface (first_of raws) first.0 × (first.1 ≡ field_signature first.0)
+        × (IsField pool in_interface (first_raw raws) first.0 × (first.1 ≡ field_signature first.0)
         × IsNew before first.1)
         × ((others : List Field)
-        × ((length (others_of raws) ≡ n) × AllZip (IsField pool in_interface) (others_of raws) others
+        × ((length (other_raws raws) ≡ n) × AllZip (IsField pool in_interface) (other_raws raws) others
         × AreNew field_signature FieldsDiffer fields_apart fields_told (first.1 ∷ before) others)
         × (fields ≡ first.0 ∷ others)))
     some [] fields len z new = absurd (omega (arith, len))

@@ -1,8 +1,9 @@
 -- The class with a field and a method is well formed.
-use Rattle.std.proofs.Common.{ℕ, ◌<◌, List, [], ◌∷◌, refl, arith, zero, suc}
+use Rattle.std.proofs.Common.{ℕ, ◌<◌, List, refl, arith, zero, suc}
 use Rattle.std.specs.Prelude.{codes, IsUtf8, AllPairs, false, IsSome, slice_index_or}
 use Rattle.jv_base.specs.Names.{is_primitive_or_void, is_name_byte, is_member_name, is_method_name, is_class_name}
 use Rattle.jv_base.specs.Types.{words_of, argument_words}
+use Rattle.jv_base.proofs.Lists.{no_pairs}
 use Rattle.class_model.specs.declared.code.Ins.{Ins}
 use Rattle.class_model.specs.Members.{FieldsDiffer, MethodsDiffer}
 use Rattle.class_model.specs.WellFormed.{IsGoodField, IsGoodMethod, IsGoodCode, LinesGoOn, Ascend}
@@ -35,10 +36,6 @@ has_line (suc (suc (suc (suc (suc (suc k)))))) d h = absurd (omega (arith, h))
 
 lines_go_on : AllPairs LinesGoOn code_of_t.ins
 lines_go_on i j d h k one = has_line j d k
-
--- one alone has no pairs
-no_pairs : {X : Type 0} (R : X → X → Type 0) (x : X) → AllPairs R (x ∷ [])
-no_pairs R x i j d h k = absurd (omega (arith, h, k))
 
 field_is : IsGoodField false field_of_t
 unfolding is_name_byte is_member_name

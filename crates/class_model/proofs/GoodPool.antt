@@ -2,10 +2,11 @@
 use Rattle.std.proofs.Common.{ℕ, List}
 use Rattle.std.proofs.Common.{sym, ap, subst, ◌∙◌}
 use Rattle.std.specs.Prelude.{slice_get}
+use Rattle.jv_base.proofs.Lists.{all_at}
 use Rattle.class_model.specs.declared.pool.Entry.{Entry}
 use Rattle.class_model.specs.ConstantPool.{CpInfo, IsPool, numbered, NamesRight}
 use Rattle.class_model.proofs.NameLaw.{HaveUnits}
-use Rattle.class_model.proofs.PoolLaw.{have_units, all_units, all_at, at_places}
+use Rattle.class_model.proofs.PoolLaw.{have_units, all_units, at_places}
 use Rattle.class_model.proofs.ConstantLaw.{AllNameRight}
 
 -- a pool is good for all that it leads to

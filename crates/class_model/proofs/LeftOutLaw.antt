@@ -4,7 +4,7 @@ use Rattle.std.proofs.Common.{◌++◌, length, Option, Some, None, Result, Ok, 
 use Rattle.std.specs.Prelude.{is_some, slice_get, option_map}
 use Rattle.std.specs.Int.{w16, w32, to_be_bytes, cast_signed}
 use Rattle.std.specs.List.{flat_map}
-use Rattle.std.proofs.lemmas.Bool.{eqb-true, or_right}
+use Rattle.std.proofs.lemmas.Bool.{eqb-true, or_right, not-true}
 use Rattle.format_reading.specs.Reader.{part}
 use Rattle.format_reading.specs.Spelling.{Spells, AllStand}
 use Rattle.format_reading.specs.declared.fault.FormatKind.{FormatKind}
@@ -114,17 +114,13 @@ load_found pool index h = by (slice_get pool index) refl h
 load_only : (pool : List Entry) (index : ℕ) → IsLeftOutLoad pool index → is_left_out_at (slice_get pool index) ≡ true
 load_only pool index h = ap is_left_out_at h.1 ∙ h.2
 
-not_true : (b : Bool) → not b ≡ true → b ≡ false
-not_true false h = refl
-not_true true h = absurd cc
-
 -- the kind of an opcode that is left out
 opcode_kind : (c : ℕ) → is_left_out_opcode c ≡ true → left_out_kind c ≡ kind.Opcode
 unfolding all_below
 opcode_kind c h =
     let small : c < 256 = none_small c (or_right (eqb c 0xBA) (is_left_out_opcode c) h) in
     let other : (between 0x12 0x14 c || eqb c 0xBA)
-    ≡ false = not_true (between 0x12 0x14 c || eqb c 0xBA)
+    ≡ false = not-true (between 0x12 0x14 c || eqb c 0xBA)
     (implied (is_left_out_opcode c) _
     (below_at 256 (λ n. cond (is_left_out_opcode n) (not (between 0x12 0x14 n
     || eqb n 0xBA)) true) c small refl) h) in

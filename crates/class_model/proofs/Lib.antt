@@ -53,6 +53,7 @@ mod BackExample
 pub mod BackConstants
 pub mod BackPaired
 pub mod TypesAbove
+pub mod FirstOfTwo
 pub mod Tops
 mod RowsHeld
 mod Built

@@ -2,7 +2,7 @@
 -- 4.4.2).
 use Rattle.std.proofs.Common.{◌≡◌, inl, inr, ℕ, ◌^◌, ◌<◌, Bool, true, false, cond, eqb, List}
 use Rattle.std.proofs.Common.{Option, Some, None, Ok, refl, sym, ap, subst, ◌∙◌, arith}
-use Rattle.std.specs.Prelude.{slice_get, option_and_then, option_map}
+use Rattle.std.specs.Prelude.{slice_get, option_and_then}
 use Rattle.std.proofs.lemmas.Bool.{eqb-false}
 use Rattle.jv_base.specs.Outcome.{◌>>=◌}
 use Rattle.jv_base.specs.Mutf8.{IsUnits}
@@ -13,6 +13,8 @@ use Rattle.jv_base.specs.declared.types.FieldType.{FieldType}
 use Rattle.jv_base.specs.declared.types.MethodType.{MethodType}
 use Rattle.jv_base.proofs.FieldLaw.{read_field-found}
 use Rattle.jv_base.proofs.MethodLaw.{read_method-found, read_method-only}
+use Rattle.jv_base.proofs.Options.{both_there}
+use Rattle.jv_base.proofs.Results.{then_ok}
 use Rattle.format_reading.specs.declared.fault.FormatKind.TheVariants as bad
 use Rattle.class_model.specs.declared.pool.Entry.{Entry}
 use Rattle.class_model.specs.declared.op.MemberRef.{MemberRef}
@@ -22,15 +24,7 @@ use Rattle.class_model.specs.Lookups.{due, test, value_of, text_of, field_type_o
 use Rattle.class_model.specs.Lookups.{named_type, class_at, type_at, text_there, reference, reference_of, reference_at}
 use Rattle.class_model.proofs.TextLaw.{text_found}
 use Rattle.class_model.proofs.BackEntries.{text_back, array_back}
-use Rattle.class_model.proofs.NameLaw.{HaveUnits, then_ok, due_is, test_is, value_is, both_there}
-
--- ---- steps
-
--- what was made of something that is there
-pub mapped : {A B : Type 0} (f : A → B) (o : Option A) (y : B) → option_map f o ≡ Some y
-    → (x : A) × (o ≡ Some x) × (f x ≡ y)
-mapped f (Some x) y h = (x, refl, cc)
-mapped f None y h = absurd cc
+use Rattle.class_model.proofs.NameLaw.{HaveUnits, due_is, test_is, value_is}
 
 -- ---- types
 
@@ -131,7 +125,8 @@ reference_is : (of_interface : Bool) (class : Option FieldType) (name ty : Optio
     → reference of_interface class name ty ≡ Some r
     → (class ≡ Some r.class) × (name ≡ Some r.name) × (ty ≡ Some r.ty) × (r.of_interface ≡ of_interface)
 reference_is of_interface (Some c) (Some n) (Some t) r h =
-    let is : (let m : MemberRef = record { class = c; name = n; ty = t; of_interface = of_interface } in m) ≡ r = cc in (
+    let is : (let m : MemberRef = record { class = c; name = n; ty = t; of_interface = of_interface } in m) ≡ r =
+    cc in (
       ap (λ (m : MemberRef). Some m.class) is,
       ap (λ (m : MemberRef). Some m.name) is,
       ap
@@ -155,7 +150,13 @@ reference_found refers_in of_interface pool index r fit small h =
         indices = a.0;
         entry = a.1;
         class = type_found pool a.0.0 r.class fit c.0;
-        name_and_type = record { indices = b.0; entry = b.1; name_text = there_found pool b.0.0 r.name fit c.1; descriptor_text = there_found pool b.0.1 r.ty fit c.2 };
+        name_and_type =
+            record {
+              indices = b.0;
+              entry = b.1;
+              name_text = there_found pool b.0.0 r.name fit c.1;
+              descriptor_text = there_found pool b.0.1 r.ty fit c.2;
+            };
       },
       c.3,
     )

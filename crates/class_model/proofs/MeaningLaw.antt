@@ -9,6 +9,8 @@ use Rattle.jv_base.specs.Outcome.{◌>>=◌}
 use Rattle.jv_base.specs.Types.{argument_words}
 use Rattle.jv_base.specs.declared.types.FieldType.{FieldType}
 use Rattle.jv_base.specs.declared.types.MethodType.{MethodType}
+use Rattle.jv_base.proofs.Options.{mapped}
+use Rattle.jv_base.proofs.Results.{same_ok, then_ok}
 use Rattle.format_reading.specs.declared.fault.FormatKind.{FormatKind}
 use Rattle.format_reading.specs.declared.fault.FormatKind.TheVariants as bad
 use Rattle.class_model.specs.declared.pool.Entry.{Entry}
@@ -25,8 +27,8 @@ use Rattle.class_model.specs.InstructionMeaning.{op_of_operand, loaded, loaded_w
 use Rattle.class_model.specs.InstructionMeaning.{all_aimed}
 use Rattle.class_model.specs.InstructionMeaning.{cases_aimed, count_of, op_of}
 use Rattle.class_model.specs.ReadingCode.{is_count, count_at, are_dimensions}
-use Rattle.class_model.proofs.NameLaw.{HaveUnits, then_ok, due_is}
-use Rattle.class_model.proofs.LookupLaw.{mapped, type_found, type_only, method_found, method_only}
+use Rattle.class_model.proofs.NameLaw.{HaveUnits, due_is}
+use Rattle.class_model.proofs.LookupLaw.{type_found, type_only, method_found, method_only}
 use Rattle.class_model.proofs.OperandLaw.{loaded_found, loaded_only, wide_found, wide_only, member_found, member_only}
 use Rattle.class_model.proofs.OperandLaw.{interface_found, interface_only, class_op_found, class_op_only}
 use Rattle.class_model.proofs.SwitchLaw.{le_found, le_only, count_found, count_only, ascending_found, ascending_only}
@@ -36,10 +38,6 @@ use Rattle.class_model.proofs.InstructionRead.{IsRight}
 use Rattle.class_model.proofs.InstructionOnly.{wide_load}
 
 -- ---- invokeinterface and multianewarray
-
--- a value that was given
-given_is : {A X : Type 0} (x y : A) → (let R : Result A X = Ok x in R) ≡ Ok y → x ≡ y
-given_is x y h = cc
 
 -- the count that a descriptor tells
 count_is : (t : Option MethodType) (n : ℕ)
@@ -197,8 +195,8 @@ pub op_found : (Leads : ℤ → ℕ → Type 0) (aim : ℤ → Result ℕ Format
     → op_of aim pool at info ≡ Ok o → IsOp Leads pool at info o
 unfolding op_of
 op_found Leads aim pool at (Plain c) o fit leads r h = due_is bad.BadOperand (plain_op c) o h
-op_found Leads aim pool at (Bipush byte) o fit leads r h = (r, sym (given_is _ o h))
-op_found Leads aim pool at (Sipush short) o fit leads r h = (r, sym (given_is _ o h))
+op_found Leads aim pool at (Bipush byte) o fit leads r h = (r, sym (same_ok _ o h))
+op_found Leads aim pool at (Sipush short) o fit leads r h = (r, sym (same_ok _ o h))
 op_found Leads aim pool at (Ldc index) o fit leads r h =
     (r.0, loaded_found pool index o (due_is bad.BadOperand (loaded pool index) o h))
 op_found Leads aim pool at (LdcWide c index) o fit leads r h =
@@ -207,8 +205,8 @@ op_found Leads aim pool at (Local c index) o fit leads r h =
     (r.0, due_is bad.BadOperand (option_map (λ make. make index) (local_op c)) o h)
 op_found Leads aim pool at (WideLocal c index) o fit leads r h =
     (r.0, due_is bad.BadOperand (option_map (λ make. make index) (local_op c)) o h)
-op_found Leads aim pool at (Iinc index const) o fit leads r h = (r.0, r.1, sym (given_is _ o h))
-op_found Leads aim pool at (WideIinc index const) o fit leads r h = (r.0, r.1, sym (given_is _ o h))
+op_found Leads aim pool at (Iinc index const) o fit leads r h = (r.0, r.1, sym (same_ok _ o h))
+op_found Leads aim pool at (WideIinc index const) o fit leads r h = (r.0, r.1, sym (same_ok _ o h))
 op_found Leads aim pool at (Branch c branch) o fit leads r h =
     let t = then_ok (aim (branch_target at (cast_signed w16 branch))) (λ to. op_of_operand (branch_op c) to) o h in (
       r.0,
@@ -219,7 +217,7 @@ op_found Leads aim pool at (Branch c branch) o fit leads r h =
     )
 op_found Leads aim pool at (GotoWide branch) o fit leads r h =
     let t = then_ok (aim (branch_target at (cast_signed w32 branch))) (λ to. op_of_operand (Some op.Goto) to) o h in
-    (t.0, (r, leads (branch_target at (cast_signed w32 branch)) t.0 t.1), sym (given_is (op.Goto t.0) o t.2))
+    (t.0, (r, leads (branch_target at (cast_signed w32 branch)) t.0 t.1), sym (same_ok (op.Goto t.0) o t.2))
 op_found Leads aim pool at (TableSwitch pad default low high offsets) o fit leads r h =
     let t = then_ok (aimed aim at default)
     (λ other. all_aimed aim at offsets >>= (λ cases. Ok (op.TableSwitch (cast_signed w32 low) other cases))) o h in
@@ -235,7 +233,7 @@ op_found Leads aim pool at (TableSwitch pad default low high offsets) o fit lead
       other_leads = (r.default_fits, leads (branch_target at (cast_signed w32 default)) t.0 t.1);
       cases = c.0;
       cases_lead = targets_found Leads aim at leads offsets c.0 r.offsets_fit c.1;
-      is = sym (given_is _ o c.2);
+      is = sym (same_ok _ o c.2);
     }
 op_found Leads aim pool at (LookupSwitch pad default pairs) o fit leads r h =
     let t = then_ok (aimed aim at default)
@@ -250,7 +248,7 @@ op_found Leads aim pool at (LookupSwitch pad default pairs) o fit leads r h =
       cases = c.0;
       cases_lead = lead;
       ascending = ascending_found Leads at None pairs c.0 lead r.ascending;
-      is = sym (given_is _ o c.2);
+      is = sym (same_ok _ o c.2);
     }
 op_found Leads aim pool at (MemberOperand c index) o fit leads r h = member_found pool c index o fit r.0
     (due_is bad.BadOperand (member_op c pool index) o h)

@@ -9,6 +9,7 @@ use Rattle.jv_base.specs.Outcome.{◌>>=◌}
 use Rattle.jv_base.specs.Names.{is_method_name}
 use Rattle.jv_base.specs.Types.{method_text, IsMethodType}
 use Rattle.jv_base.specs.declared.types.MethodType.{MethodType}
+use Rattle.jv_base.proofs.Results.{then_ok}
 use Rattle.format_reading.specs.declared.fault.FormatKind.{FormatKind}
 use Rattle.format_reading.specs.declared.fault.FormatKind.TheVariants as bad
 use Rattle.format_reading.specs.Reader.{FormatReader, u2, item, bind, give, settle}
@@ -38,13 +39,13 @@ use Rattle.class_model.specs.ReadingCodeAttribute.{Body, is_there, read_code}
 use Rattle.class_model.specs.ReadingMembers.{Signature, same_signature, fresh, MethodSeen, MethodRead}
 use Rattle.class_model.specs.ReadingMembers.{no_method_attribute, known_of_method, body_of, method_of, throws_of}
 use Rattle.class_model.specs.ReadingMembers.{read_method_info, read_methods}
-use Rattle.class_model.proofs.NameLaw.{HaveUnits, then_ok, test_is, text_at_found, text_at_only, good_found, good_only}
+use Rattle.class_model.proofs.NameLaw.{HaveUnits, test_is, text_at_found, text_at_only, good_found, good_only}
 use Rattle.class_model.proofs.NameLaw.{due_is}
 use Rattle.class_model.proofs.LookupLaw.{method_found, method_only}
 use Rattle.class_model.proofs.AttributeLaw.{text}
 use Rattle.class_model.proofs.SeenLaw.{Chain}
 use Rattle.class_model.proofs.MethodAttributeLaw.{OneCode, AreMethodAttributes, method_attributes_exact}
-use Rattle.class_model.proofs.FieldInfoLaw.{index_then, table, passed_is, new_is}
+use Rattle.class_model.proofs.FieldInfoLaw.{index_then, table, passed_is, new_is, first_raw, other_raws}
 use Rattle.class_model.proofs.FreshLaw.{IsNew, AreNew, method_signature, methods_apart, methods_told}
 
 -- ---- the type of a method
@@ -450,7 +451,8 @@ module _ (pool : List Entry) (in_interface : Bool) (class : List ℕ) (units : H
       none [] [] (k ∷ ks) len m = absurd m
       none [] (x ∷ xs) kinds len m = absurd m
       none (raw ∷ raws) methods kinds len m = absurd (omega (arith, len))
-  methods_exact (suc n) before = as_raw (flat_map member_info) _ (λ w. w.0 ∷ w.1) (λ raws. (head_of raws, tail_of raws))
+  methods_exact (suc n) before =
+      as_raw (flat_map member_info) _ (λ w. w.0 ∷ w.1) (λ raws. (first_raw raws, other_raws raws))
       (λ at w y h.
       let first = h.0 in
       let rest = h.2 in
@@ -464,11 +466,11 @@ module _ (pool : List Entry) (in_interface : Bool) (class : List ℕ) (units : H
       ))
       (λ at raws y h.
       let c = cons_of n before raws y h in
-      let head-is : head_of raws ≡ c.0 = ap head_of c.2 in
-      let tail-is : tail_of raws ≡ c.1 = ap tail_of c.2 in (
+      let head-is : first_raw raws ≡ c.0 = ap first_raw c.2 in
+      let tail-is : other_raws raws ≡ c.1 = ap other_raws c.2 in (
         ap (flat_map member_info) c.2 ∙ flat_map-cons member_info c.0 c.1
             ∙ ap (λ (t : List ℕ). t ++ flat_map member_info c.1) (ap member_info (sym head-is))
-            ∙ ap (λ (t : List MemberInfo). member_info (head_of raws) ++ flat_map member_info t) (sym tail-is),
+            ∙ ap (λ (t : List MemberInfo). member_info (first_raw raws) ++ flat_map member_info t) (sym tail-is),
         (
           c.3.0,
           subst (λ (raw : MemberInfo). IsMethod pool in_interface class raw c.3.0.0 c.3.0.2
@@ -488,11 +490,3 @@ module _ (pool : List Entry) (in_interface : Bool) (class : List ℕ) (units : H
       (method_info_exact before)
       (λ first. map_exact (λ (others : MethodsRead). let z : MethodsRead =
       (first.0 ∷ others.0, first.2 ∷ others.1) in z) (methods_exact n (first.1 ∷ before))))
-    where
-      head_of : List MemberInfo → MemberInfo
-      head_of [] = record { access_flags = 0; name_index = 0; descriptor_index = 0; attributes = [] }
-      head_of (raw ∷ raws) = raw
-
-      tail_of : List MemberInfo → List MemberInfo
-      tail_of [] = []
-      tail_of (raw ∷ raws) = raws

@@ -12,6 +12,8 @@ use Rattle.jv_base.specs.Descriptors.{read_field, read_method}
 use Rattle.jv_base.specs.declared.types.FieldType.{FieldType}
 use Rattle.jv_base.proofs.FieldLaw.{read_field-found, read_field-only}
 use Rattle.jv_base.proofs.MethodLaw.{read_method-found, read_method-only}
+use Rattle.jv_base.proofs.Results.{then_ok}
+use Rattle.jv_base.proofs.Options.{some_there, both_there}
 use Rattle.format_reading.specs.declared.fault.FormatKind.{FormatKind}
 use Rattle.format_reading.specs.declared.fault.FormatKind.TheVariants as bad
 use Rattle.class_model.specs.declared.pool.Entry.{Entry}
@@ -27,12 +29,6 @@ use Rattle.class_model.proofs.BackEntries.{text_back}
 
 -- ---- a value, or a kind of fault
 
--- a step that did not fail
-pub then_ok : {A B X : Type 0} (r : Result A X) (f : A → Result B X) (y : B) → (r >>= f) ≡ Ok y
-    → (x : A) × (r ≡ Ok x) × (f x ≡ Ok y)
-then_ok (Ok x) f y h = (x, refl, h)
-then_ok (Err e) f y h = absurd cc
-
 -- a value that had to be there
 pub due_is : {A : Type 0} (kind : FormatKind) (o : Option A) (x : A) → due kind o ≡ Ok x → o ≡ Some x
 due_is kind (Some y) x h = let e : y ≡ x = cc in ap (λ v. Some v) e
@@ -47,17 +43,6 @@ test_is kind false u h = absurd cc
 pub value_is : {A X : Type 0} (r : Result A X) (x : A) → value_of r ≡ Some x → r ≡ Ok x
 value_is (Ok y) x h = let e : y ≡ x = cc in ap (λ v. Ok v) e
 value_is (Err e) x h = absurd cc
-
--- something is there
-some_is : {A : Type 0} (o : Option A) → is_some o ≡ true → (x : A) × (o ≡ Some x)
-some_is (Some x) h = (x, refl)
-some_is None h = absurd cc
-
--- a step over something that is there
-pub both_there : {A B : Type 0} (f : A → Option B) (o : Option A) (y : B) → option_and_then f o ≡ Some y
-    → (x : A) × (o ≡ Some x) × (f x ≡ Some y)
-both_there f (Some x) y h = (x, refl, h)
-both_there f None y h = absurd cc
 
 -- ---- texts
 
@@ -101,7 +86,7 @@ good_only pool kind passes index text h good = rw (h.1, text_back text h.0, good
 -- a field descriptor is read
 field_found : (text : List ℕ) → is_field_text text ≡ true → IsFieldText text
 field_found text h =
-    let s = some_is (field_type_of text) h in
+    let s = some_there (field_type_of text) h in
     let f = read_field-found text s.0 (value_is (read_field text) s.0 s.1) in
     (s.0, f.0, sym f.1)
 
@@ -111,7 +96,7 @@ field_only text h = ap (λ r. is_some (value_of r)) (read_field-only text h.0 (h
 -- a method descriptor is read
 method_found : (text : List ℕ) → is_method_text text ≡ true → IsMethodText text
 method_found text h =
-    let s = some_is (method_type_of text) h in
+    let s = some_there (method_type_of text) h in
     let f = read_method-found text s.0 (value_is (read_method text) s.0 s.1) in
     (s.0, f.0, sym f.1)
 
@@ -215,7 +200,7 @@ class_found : (pool : List Entry) (index : ℕ) → HaveUnits pool → names_rig
 unfolding names_right
 class_found pool index fit h =
     let a = then_ok (text_at bad.BadName pool index) (λ text. test bad.BadName (is_some (named_type text))) tt h in
-    let t = some_is (named_type a.0) (test_is bad.BadName (is_some (named_type a.0)) tt a.2) in
+    let t = some_there (named_type a.0) (test_is bad.BadName (is_some (named_type a.0)) tt a.2) in
     (a.0, text_at_found pool bad.BadName index a.0 fit a.1, (named_found a.0 t.0 t.1).0)
 
 -- a name and type names right
@@ -317,11 +302,14 @@ names_found pool (entry.Str i) fit all h =
     (a.0, due_is bad.BadIndex (units_at pool i) a.0 a.1)
 names_found pool (entry.NameAndType i j) fit all h = name_and_type_found pool i j fit h
 names_found pool
-    (entry.Field i j) fit all h = reference_found pool is_member_name is_field_text IsFieldText i j fit all field_found h
+    (entry.Field i j) fit all h =
+    reference_found pool is_member_name is_field_text IsFieldText i j fit all field_found h
 names_found pool
-    (entry.Method i j) fit all h = reference_found pool is_method_name is_method_text IsMethodText i j fit all method_found h
+    (entry.Method i j) fit all h =
+    reference_found pool is_method_name is_method_text IsMethodText i j fit all method_found h
 names_found pool
-    (entry.InterfaceMethod i j) fit all h = reference_found pool is_method_name is_method_text IsMethodText i j fit all method_found h
+    (entry.InterfaceMethod i j) fit all h =
+    reference_found pool is_method_name is_method_text IsMethodText i j fit all method_found h
 names_found pool (entry.Utf8 units) fit all h = tt
 names_found pool (entry.Integer n) fit all h = tt
 names_found pool (entry.Long n) fit all h = tt

@@ -5,6 +5,7 @@ use Rattle.std.specs.Prelude.{ℤ, slice_get, is_some, option_and_then, option_m
 use Rattle.std.proofs.lemmas.Bool.{eqb-true, eq-eqb}
 use Rattle.std.proofs.lemmas.Bool.Decides.{nat_tests}
 use Rattle.jv_base.specs.declared.types.FieldType.{FieldType}
+use Rattle.jv_base.proofs.Options.{mapped, both_there}
 use Rattle.class_model.specs.declared.pool.Entry.{Entry}
 use Rattle.class_model.specs.declared.pool.Entry.TheVariants as entry
 use Rattle.class_model.specs.declared.op.MemberRef.{MemberRef}
@@ -19,8 +20,8 @@ use Rattle.class_model.specs.Instructions.{Makes, IsLoaded, IsLoadedLong, IsMemb
 use Rattle.class_model.specs.InstructionMeaning.{or_else, int_in, loaded, long_in, loaded_wide, method_named}
 use Rattle.class_model.specs.InstructionMeaning.{member_made, member_op, can_be_operand, of_type, class_op}
 use Rattle.class_model.specs.ReadingCode.{is_left_out_at}
-use Rattle.class_model.proofs.NameLaw.{HaveUnits, value_is, both_there}
-use Rattle.class_model.proofs.LookupLaw.{mapped, type_found, type_only, class_found, class_only, reference_found}
+use Rattle.class_model.proofs.NameLaw.{HaveUnits, value_is}
+use Rattle.class_model.proofs.LookupLaw.{type_found, type_only, class_found, class_only, reference_found}
 use Rattle.class_model.proofs.LookupLaw.{reference_only}
 
 -- ---- constants

@@ -1,11 +1,12 @@
 -- The constant pool is read exactly where it is spelled (JVMS 4.1, 4.4).
-use Rattle.std.proofs.Common.{◌≡◌, ℕ, zero, suc, ◌+◌, ◌-◌, Bool, true, false, cond, List, [], ◌∷◌, ◌++◌, length, map}
+use Rattle.std.proofs.Common.{◌≡◌, ℕ, ◌+◌, ◌-◌, Bool, true, false, cond, List, [], ◌∷◌, ◌++◌, length, map}
 use Rattle.std.proofs.Common.{Some, None, Result, Ok, Err, refl, sym, ap, subst, ◌∙◌, arith}
 use Rattle.std.specs.Prelude.{slice_get}
 use Rattle.std.specs.Int.{w16, to_be_bytes}
 use Rattle.std.specs.List.{AllByRecursion, AllZip, flat_map}
 use Rattle.std.proofs.lemmas.List.{append-nil, length-map}
 use Rattle.jv_base.specs.Mutf8.{IsUnits}
+use Rattle.jv_base.proofs.Lists.{all_at}
 use Rattle.format_reading.specs.declared.fault.FormatKind.{FormatKind}
 use Rattle.format_reading.specs.Reader.{bind, give, of_result}
 use Rattle.format_reading.specs.Spelling.{Spells}
@@ -83,13 +84,6 @@ of_places P (e ∷ es) h = by (takes_two e) h (of_places P es)
         → (AllByRecursion P (flat_map places_of es) → AllByRecursion P es) → AllByRecursion P (e ∷ es)
     by true h others = (h.0, others h.1.1)
     by false h others = (h.0, others h.1)
-
--- what holds of all holds of the one at an index
-pub all_at : {A : Type 0} (P : A → Type 0) (xs : List A) (index : ℕ) (x : A) → AllByRecursion P xs
-    → slice_get xs index ≡ Some x → P x
-all_at P [] index x h is = absurd cc
-all_at P (y ∷ ys) zero x h is = subst P (let e : y ≡ x = cc in e) h.0
-all_at P (y ∷ ys) (suc index) x h is = all_at P ys index x h.1 is
 
 -- the same fact told of each
 all_other : {A : Type 0} (P Q : A → Type 0) (xs : List A) → ((x : A) → P x → Q x) → AllByRecursion P xs

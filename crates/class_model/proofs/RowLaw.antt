@@ -17,6 +17,7 @@ use Rattle.class_model.specs.Frames.{FullFrame, counted_types, stack_map_frame}
 use Rattle.class_model.specs.ReadingFrames.{object_info, uninitialized_info, type_begun, read_type, one_item}
 use Rattle.class_model.specs.ReadingFrames.{one_item_extended, chop, same_extended, append, full, row_begun, at_row}
 use Rattle.class_model.specs.ReadingFrames.{read_row}
+use Rattle.class_model.proofs.EntryLaw.{one_byte}
 
 -- ---- types
 
@@ -96,9 +97,6 @@ tag_leads tag =
     (give_exact (TagInfo tag)))
     (λ e6 at t y h. let i = tag_is h.0 tag h.2.0 (eqb-false tag 7 e7) (eqb-false tag 8 e8) h.2.1 in absurd
     (let k : 6 < tag = leb-false tag 6 e6 in omega (arith, i.1, k)))))
-
-one_byte : (n : ℕ) → n < 256 → (rest : List ℕ) → to_be_bytes w8 n ++ rest ≡ n ∷ rest
-one_byte n lt rest = ap (λ (k : ℕ). k ∷ rest) (omega (arith, lt))
 
 type_is : (info : VerificationTypeInfo) → verification_type_info info ≡ tag_of info ∷ behind_tag info
 type_is (TagInfo tag) = refl

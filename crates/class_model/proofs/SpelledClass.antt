@@ -1,6 +1,6 @@
 -- The bytes of the class with a field and a method spell it.
 use Rattle.std.proofs.Common.{◌≡◌, ℕ, ◌<◌, Bool, true, false, List, [], ◌∷◌, refl, arith, inl, zero, suc}
-use Rattle.std.specs.Prelude.{pos, codes, None, AllPairs, length, nat_lt}
+use Rattle.std.specs.Prelude.{pos, codes, None, length, nat_lt}
 use Rattle.std.specs.List.{list_all}
 use Rattle.std.specs.Str.{chars}
 use Rattle.std.proofs.lemmas.Bool.{ltb-true, and_parts}
@@ -8,6 +8,7 @@ use Rattle.jv_base.specs.Utf16.{units_of}
 use Rattle.jv_base.specs.Mutf8.{unit_bytes, mutf8, IsUnits}
 use Rattle.jv_base.specs.Names.{is_primitive_or_void, is_name_byte, is_member_name, is_method_name, is_class_name}
 use Rattle.jv_base.specs.Types.{base_text, field_text, result_text, method_text, words_of, argument_words}
+use Rattle.jv_base.proofs.Lists.{no_pairs}
 use Rattle.class_model.specs.declared.pool.Entry.{Entry}
 use Rattle.class_model.specs.declared.pool.Entry.TheVariants as entry
 use Rattle.class_model.specs.declared.frame.VType.TheVariants as vtype
@@ -316,10 +317,6 @@ method_is = record {
 }
 
 -- ---- the class
-
--- one alone has no pairs
-no_pairs : {X : Type 0} (R : X → X → Type 0) (x : X) → AllPairs R (x ∷ [])
-no_pairs R x i j d h k = absurd (omega (arith, h, k))
 
 class_is : IsClass raw class_t pool
 unfolding is_primitive_or_void is_name_byte is_member_name is_class_name

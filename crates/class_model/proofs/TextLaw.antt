@@ -1,7 +1,6 @@
 -- Units are read as a text exactly where they are those of the text.
 use Rattle.std.proofs.Common.{◌≡◌, ℕ, suc, ◌+◌, ◌-◌, ◌*◌, ◌<◌, ◌≤◌, Bool, true, false, cond, ◌&&◌, leb, ltb, List, []}
 use Rattle.std.proofs.Common.{◌∷◌, ◌++◌, Option, Some, None, refl, sym, ap, ap₂, subst, ◌∙◌, arith, IsUtf8}
-use Rattle.std.specs.Prelude.{option_map}
 use Rattle.std.specs.List.{flat_map}
 use Rattle.std.specs.Str.{chars, encode_utf8_all, all_scalars}
 use Rattle.std.specs.Char.Escape.{encode_utf16}
@@ -12,6 +11,7 @@ use Rattle.std.proofs.lemmas.Bool.{leb-true, leb-false, ltb-true, ltb-false, le-
 use Rattle.std.proofs.lemmas.Str.{chars-encodes}
 use Rattle.jv_base.specs.Mutf8.{IsUnits}
 use Rattle.jv_base.specs.Utf16.{units_of}
+use Rattle.jv_base.proofs.Options.{mapped}
 use Rattle.class_model.specs.Lookups.{with_first, all_there, text_of}
 
 -- the characters of units, where each surrogate has its partner
@@ -105,12 +105,6 @@ characters (u ∷ v ∷ us) cs fit h = by (is_high_surrogate u && is_low_surroga
         subst (λ (t : List ℕ). AreCharacters (u ∷ v ∷ us) t) (sym f.4)
         (subst (λ (c : ℕ). AreCharacters (u ∷ v ∷ us) (c ∷ f.1)) (sym a.0)
         (with_char (u ∷ []) (v ∷ us) f.1 u (one_unit u (fit 0)) a.1 (behind_one f.1 f.3)))
-
--- a text that was found
-mapped : {A B : Type 0} (f : A → B) (o : Option A) (y : B) → option_map f o ≡ Some y
-    → (x : A) × (o ≡ Some x) × (f x ≡ y)
-mapped f (Some x) y h = (x, refl, let e : f x ≡ y = cc in e)
-mapped f None y h = absurd cc
 
 -- what is read as a text is its units
 pub text_found : (units text : List ℕ) → IsUnits units → text_of units ≡ Some text

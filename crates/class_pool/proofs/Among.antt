@@ -1,13 +1,13 @@
 -- Classes and members that are one, and lists that have them.
-use Rattle.std.proofs.Common.{◌≡◌, ◌∙◌, ◌||◌, Bool, true, false, cond, List, [], ◌∷◌, refl, sym, ap}
+use Rattle.std.proofs.Common.{◌≡◌, eqb, ◌∙◌, ◌&&◌, ◌||◌, Bool, true, false, cond, List, [], ◌∷◌, refl, sym, ap}
 use Rattle.std.specs.List.{list_any}
-use Rattle.std.proofs.lemmas.Bool.{eqb-true, and_parts}
+use Rattle.std.proofs.lemmas.Bool.{eq-eqb, eqb-true, and_parts}
 use Rattle.class_pool.specs.declared.id.ClassId.{ClassId}
 use Rattle.class_pool.specs.declared.id.MemberAt.{MemberAt}
 use Rattle.class_pool.specs.Found.{same_member}
 use Rattle.class_pool.specs.Walk.{each_once, same_class}
-use Rattle.class_pool.proofs.EachOnce.{same_is}
-use Rattle.std.proofs.Math.Bool.{or-true}
+use Rattle.class_pool.proofs.EachOnce.{same_is, same_itself}
+use Rattle.std.proofs.Math.Bool.{or-true, or-false}
 
 pub member_is : (m n : MemberAt) → same_member m n ≡ true → m ≡ n
 member_is m n h =
@@ -15,6 +15,9 @@ member_is m n h =
     let c : m.class ≡ n.class = same_is m.class n.class parts.0 in
     let k : m.index ≡ n.index = eqb-true m.index n.index parts.1 in
     λ j. record { class = c j; index = k j }
+
+pub member_itself : (m : MemberAt) → same_member m m ≡ true
+member_itself m = ap (λ b. b && eqb m.index m.index) (same_itself m.class) ∙ eq-eqb m.index m.index refl
 
 -- a class stands in a list where it stood in it more than once
 pub among_once : (c : ClassId) (seen xs : List ClassId) → list_any (same_class c) xs ≡ true
@@ -39,10 +42,6 @@ among_once c seen (x ∷ xs) e new =
         ap (λ (u : Bool). same_class c x || u)
         (r (x ∷ seen) e (ap (λ (u : Bool). u || list_any (same_class c) seen) b ∙ new))
         ∙ or-true (same_class c x)
-
-or_false : (x : Bool) → (x || false) ≡ x
-or_false true = refl
-or_false false = refl
 
 any_met : (c : ClassId) (seen xs : List ClassId)
     → (list_any (same_class c) (each_once seen xs) || list_any (same_class c) seen)
@@ -82,4 +81,4 @@ any_met c seen (x ∷ xs) =
 pub any_once : (c : ClassId) (xs : List ClassId)
     → list_any (same_class c) (each_once [] xs) ≡ list_any (same_class c) xs
 any_once c xs =
-    sym (or_false (list_any (same_class c) (each_once [] xs))) ∙ any_met c [] xs ∙ or_false (list_any (same_class c) xs)
+    sym (or-false (list_any (same_class c) (each_once [] xs))) ∙ any_met c [] xs ∙ or-false (list_any (same_class c) xs)

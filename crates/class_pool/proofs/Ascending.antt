@@ -11,7 +11,7 @@ use Rattle.class_pool.specs.declared.fault.NamedClass.{NamedClass}
 abbrev pub IsLess : List NamedClass → ℕ → ℕ → NamedClass → Type 0
 IsLess files i j d = is_lt (slice_cmp nat_cmp (get_or files i d).path (get_or files j d).path) ≡ true
 
-less : (o : Ordering) → is_lt o ≡ true → o ≡ Less
+pub less : (o : Ordering) → is_lt o ≡ true → o ≡ Less
 less Less h = refl
 less Equal h = absurd cc
 less Greater h = absurd cc

@@ -1,5 +1,5 @@
 -- Cycles, by marks and by ranks.
-use Rattle.std.proofs.Common.{◌≡◌, ⊎_elim, ℕ, ◌<◌, ◌≤◌, Bool, true, false, Result, Ok, Err, inl, inr, IsTrue, nat_lt}
+use Rattle.std.proofs.Common.{◌≡◌, ⊎_elim, ℕ, ◌<◌, ◌≤◌, Bool, Result, Ok, Err, inl, inr, IsTrue, nat_lt}
 use Rattle.std.proofs.Common.{List, ◌∷◌}
 use Rattle.std.proofs.Common.{length, slice_get, Option, Some, None, IfSome, sym, ap, subst, ◌∙◌, arith}
 use Rattle.std.specs.Prelude.{OnOk}
@@ -138,10 +138,6 @@ ranked classes sys ranks h falls = has_ranks classes (rank_of ranks) most low
 -- where ranks fall, there is no cycle
 pub none_cyclic : (classes : List Class) → HasRanks classes → NoCycle classes
 none_cyclic classes ranks n within cyclic = not_itself classes ranks (Prog n) within cyclic
-
-pub not_both : (b : Bool) → b ≡ true → b ≡ false → ⊥
-not_both true is other = absurd cc
-not_both false is other = absurd cc
 
 -- what is due where the first two rounds have no fault
 pub first_are : (files : List NamedClass) (set : List Class) → name_faults files ≡ Ok tt → super_faults set ≡ Ok tt

@@ -1,17 +1,17 @@
 -- A member that a class declares with a name and a descriptor is there, and has them; and a class that is named is
 -- there.
-use Rattle.std.proofs.Common.{◌≡◌, ℕ, zero, suc, ◌+◌, ◌<◌, Bool, true, false, cond, List, [], ◌∷◌, ◌++◌, length}
-use Rattle.std.proofs.Common.{map, get_or, slice_get, Option, Some, None, refl, sym, ap, ◌∙◌, arith, ◌⊎◌, ⊎_elim, inl}
+use Rattle.std.proofs.Common.{◌≡◌, ℕ, suc, ◌+◌, ◌<◌, Bool, true, false, cond, List, [], ◌∷◌, ◌++◌, length}
+use Rattle.std.proofs.Common.{map, slice_get, Option, Some, None, refl, sym, ap, ◌∙◌, arith, ◌⊎◌, ⊎_elim, inl}
 use Rattle.std.proofs.Common.{inr}
 use Rattle.std.specs.Prelude.{IfSome, if◌then◌else◌}
 use Rattle.std.specs.List.{All, cons_option, enumerate_from, find, position}
 use Rattle.std.specs.Option.{option_and_then, option_map, option_map_or}
 use Rattle.std.proofs.lemmas.List.Elements.{All-cons, All-head, All-nil, All-tail}
-use Rattle.std.proofs.lemmas.List.Quantifiers.{position-Some}
-use Rattle.std.proofs.lemmas.Option.{same_Some, slice_get-get_or, slice_get-map}
+use Rattle.std.proofs.lemmas.Option.{same_Some, slice_get-map}
 use Rattle.jv_base.specs.Names.{is_text}
 use Rattle.jv_base.specs.Types.{field_text, method_text}
 use Rattle.jv_base.proofs.Equality.{text_Decides}
+use Rattle.jv_base.proofs.Lists.{got_in_front, placed}
 use Rattle.class_model.specs.declared.class.Class.{Class}
 use Rattle.class_model.specs.declared.class.Field.{Field}
 use Rattle.class_model.specs.declared.class.Method.{Method}
@@ -29,17 +29,7 @@ use Rattle.class_pool.specs.Members.{declared_at, is_field, is_method, member_na
 use Rattle.class_pool.proofs.Naming.{number_below}
 use Rattle.std.proofs.lemmas.Bool.{and_parts}
 use Rattle.class_pool.proofs.ToldMembers.{declared_below}
-
-placed : {X : Type 0} (p : X → Bool) (xs : List X) (n : ℕ) → position p xs ≡ Some n
-    → (x : X) × (slice_get xs n ≡ Some x) × (p x ≡ true)
-placed p [] n is = absurd cc
-placed p (x ∷ xs) n is = let h = position-Some p (x ∷ xs) n x is in
-    (get_or (x ∷ xs) n x, slice_get-get_or (x ∷ xs) n x h.0, h.1)
-
-in_front : {X : Type 0} (xs ys : List X) (n : ℕ) (x : X) → slice_get xs n ≡ Some x → slice_get (xs ++ ys) n ≡ Some x
-in_front [] ys n x is = absurd cc
-in_front (y ∷ xs) ys zero x is = is
-in_front (y ∷ xs) ys (suc n) x is = in_front xs ys n x is
+use Rattle.class_pool.proofs.Directs.{super_below}
 
 behind : {X Y : Type 0} (f : Y → X) (xs : List Y) (ys : List X) (n : ℕ)
     → slice_get (map f xs ++ ys) (length xs + n) ≡ slice_get ys n
@@ -88,7 +78,7 @@ member_placed k named (Some i) n at is =
     let h = placed (is_field named.0 named.1) k.fields i at in (
       field_row h.0,
       ap (slice_get (map field_row k.fields ++ map method_row k.methods)) (sym (same_Some _ _ is))
-          ∙ in_front (map field_row k.fields) (map method_row k.methods) i (field_row h.0)
+          ∙ got_in_front (map field_row k.fields) (map method_row k.methods) i (field_row h.0)
           (slice_get-map field_row k.fields i ∙ ap (option_map field_row) h.1),
       named_field h.0 named h.2,
     )
@@ -244,12 +234,8 @@ and_then_there : (classes : List Class) (o : Option Class)
 and_then_there classes (Some c) = named_there classes c.super_name
 and_then_there classes None = tt
 
-library_super : (o : Option (List ℕ)) (n : ℕ) → option_and_then table.class_named o ≡ Some n → n < length library
-library_super (Some name) n is = class_below name n is
-library_super None n is = absurd cc
-
 -- the direct superclass is there
 pub superclass_there : (classes : List Class) (c : ClassId) → IfSome (superclass classes c) (IsClass classes)
 superclass_there classes (Prog n) = and_then_there classes _
 superclass_there classes (Lib id) = library_there classes (table.super_of id)
-    (library_super (table.class_at id).super_name)
+    (super_below (table.class_at id).super_name)

@@ -73,7 +73,7 @@ library_valid classes [] = All-nil (IsClass classes)
 library_valid classes (name ∷ names) = one_step classes (table.class_named name) (filter_map table.class_named names)
     (λ n is. class_below name n is) (library_valid classes names)
 
-super_below : (o : Option (List ℕ)) (n : ℕ) → option_and_then table.class_named o ≡ Some n → n < length library
+pub super_below : (o : Option (List ℕ)) (n : ℕ) → option_and_then table.class_named o ≡ Some n → n < length library
 super_below None n is = absurd cc
 super_below (Some name) n is = class_below name n is
 

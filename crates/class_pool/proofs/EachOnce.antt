@@ -4,6 +4,7 @@ use Rattle.std.proofs.Common.{List, [], ◌∷◌, ◌++◌, length, take, get_o
 use Rattle.std.specs.List.{list_any}
 use Rattle.std.proofs.lemmas.Bool.{eqb-true, eq-eqb}
 use Rattle.std.proofs.lemmas.List.{append-nil, take_more}
+use Rattle.jv_base.proofs.Tests.{or_swap, or_more}
 use Rattle.class_pool.specs.declared.id.ClassId.{ClassId}
 use Rattle.class_pool.specs.declared.id.ClassId.TheVariants.{Prog, Lib}
 use Rattle.class_pool.specs.Walk.{each_once, same_class}
@@ -24,12 +25,6 @@ same_itself (Lib m) = eq-eqb m m refl
 
 cond_same : (p q : Bool) (a b c d : List ClassId) → p ≡ q → a ≡ c → b ≡ d → cond p a b ≡ cond q c d
 cond_same p q a b c d h i j = cc
-
-or_swap : (p q r : Bool) → (p || (q || r)) ≡ (q || (p || r))
-or_swap true true r = refl
-or_swap true false r = refl
-or_swap false true r = refl
-or_swap false false r = refl
 
 any_middle : (c x : ClassId) (s t : List ClassId)
     → list_any (same_class c) ((x ∷ s) ++ t) ≡ list_any (same_class c) (s ++ x ∷ t)
@@ -74,10 +69,6 @@ within_more c x s t seen h is =
     (λ other. h (sym (ap (λ (b : Bool). b || list_any (same_class c) t) other) ∙ is))
     (bool_cases (same_class c x))
 
-both_more : (p q r : Bool) → (q ≡ true → r ≡ true) → (p || q) ≡ true → (p || r) ≡ true
-both_more true q r h is = refl
-both_more false q r h is = h is
-
 -- leaving out what was seen, in two steps
 pub once_drop : (xs s t : List ClassId)
     → ((c : ClassId) → list_any (same_class c) t ≡ true → list_any (same_class c) s ≡ true)
@@ -101,7 +92,7 @@ once_drop (x ∷ xs) s t h =
     ap (λ (b : Bool). cond b (each_once s (each_once (x ∷ t) xs)) (x ∷ each_once (x ∷ s) (each_once (x ∷ t) xs))) unseen
     ∙ ap (λ (ys : List ClassId). x ∷ ys)
     (once_drop xs (x ∷ s) (x ∷ t)
-    (λ c is. both_more (same_class c x) (list_any (same_class c) t) (list_any (same_class c) s) (h c) is))
+    (λ c is. or_more (same_class c x) (list_any (same_class c) t) (list_any (same_class c) s) (h c) is))
     ∙ sym (ap (λ (b : Bool). cond b (each_once s xs) (x ∷ each_once (x ∷ s) xs)) unseen))
     (bool_cases (list_any (same_class x) s)))
     (bool_cases (list_any (same_class x) t))

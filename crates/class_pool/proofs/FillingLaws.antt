@@ -6,9 +6,10 @@ use Rattle.std.specs.List.{All, filter_map, flat_map, list_all, list_any}
 use Rattle.std.proofs.lemmas.Bool.{both_ways, cases_eq, and_parts}
 use Rattle.std.proofs.lemmas.List.{flat_map_more, get_or_default, get_or-set_other, get_or-set_same, length-set}
 use Rattle.std.proofs.lemmas.List.{take_all, take_more}
-use Rattle.std.proofs.lemmas.List.Elements.{All-append, All-cons, All-head, All-nil, All-set, All-tail, All-weaker}
+use Rattle.std.proofs.lemmas.List.Elements.{All-cons, All-head, All-nil, All-set, All-tail, All-weaker}
 use Rattle.std.proofs.lemmas.List.Elements.{filter_map-append}
 use Rattle.std.proofs.lemmas.Option.{get_or_from_slice_get}
+use Rattle.jv_base.proofs.Lists.{all_flat}
 use Rattle.class_model.specs.declared.class.Class.{Class}
 use Rattle.lib_table.specs.Library.{library}
 use Rattle.lib_table.specs.Lookups.{interfaces_of}
@@ -119,18 +120,12 @@ once_all P (x ∷ xs) s h =
       | false ↦ All-cons P x (each_once (x ∷ s) xs) (All-head P x xs h) (once_all P xs (x ∷ s) (All-tail P x xs h))
     ]
 
-flat_all : (P : ClassId → Type 0) (f : ClassId → List ClassId) (is : List ClassId) → All (λ i. All P (f i)) is
-    → All P (flat_map f is)
-flat_all P f [] h = All-nil P
-flat_all P f (i ∷ is) h = All-append P (f i) (flat_map f is) (All-head (λ j. All P (f j)) i is h)
-    (flat_all P f is (All-tail (λ j. All P (f j)) i is h))
-
 walked_valid : (classes : List Class) (n : ℕ) (is : List ClassId) → All (IsClass classes) is
     → All (IsClass classes) (walked n classes is)
 unfolding walked
 walked_valid classes zero is h = All-nil (IsClass classes)
 walked_valid classes (suc n) is h =
-    flat_all (IsClass classes) (λ i. i ∷ walked n classes (interfaces classes i)) is
+    all_flat (IsClass classes) (λ i. i ∷ walked n classes (interfaces classes i)) is
     (λ k d within.
     let i = get_or is k d in
     All-cons (IsClass classes) i (walked n classes (interfaces classes i)) (h k d within)

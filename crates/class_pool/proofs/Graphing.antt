@@ -8,6 +8,7 @@ use Rattle.std.proofs.lemmas.Bool.{cases_lt, leb-true}
 use Rattle.std.proofs.lemmas.List.{take_more, take_all, get_or_past, map-append}
 use Rattle.std.proofs.lemmas.List.Elements.{filter_map-append}
 use Rattle.std.proofs.lemmas.List.FromFn.{get_or-range_with_len, length-range_with_len}
+use Rattle.jv_base.proofs.Lists.{length-filter_map}
 use Rattle.class_model.specs.declared.class.Class.{Class}
 use Rattle.lib_table.specs.Library.{LibraryClass, class, library}
 use Rattle.lib_table.specs.declared.class.LibKind.TheVariants.{Open}
@@ -46,15 +47,6 @@ library_more names i d ids grown name within before is put =
 few_named : list_all (λ c. nat_le (length c.interfaces) 3) library ≡ true
 unfolding library
 few_named = refl
-
-length-filter_map : {X Y : Type 0} (f : X → Option Y) (xs : List X) → length (filter_map f xs) ≤ length xs
-length-filter_map f [] = omega arith
-length-filter_map f (x ∷ xs) = length-cons (f x) (filter_map f xs) xs x (length-filter_map f xs)
-  where
-    length-cons : {X Y : Type 0} (o : Option Y) (ys : List Y) (xs : List X) (x : X) → length ys ≤ length xs
-        → length (cons_option o ys) ≤ length (x ∷ xs)
-    length-cons None ys xs x h = omega (arith, h)
-    length-cons (Some y) ys xs x h = omega (arith, h)
 
 pub few_interfaces : (id : ℕ) → length (interfaces_of id) ≤ 3
 few_interfaces id =

@@ -1,20 +1,21 @@
 -- Methods of one name and one descriptor.
 use Rattle.std.proofs.Common.{◌≡◌, ℕ, zero, suc, ◌+◌, ◌-◌, ◌<◌, ◌≤◌, ◌==◌, ◌++◌, ◌&&◌, ◌||◌, not, Bool, true, false}
-use Rattle.std.proofs.Common.{cond, nat_lt, IsTrue, List, [], ◌∷◌, length, map, get_or, take, replicate, slice_get}
+use Rattle.std.proofs.Common.{cond, nat_lt, IsTrue, List, [], ◌∷◌, length, map, replicate, slice_get}
 use Rattle.std.proofs.Common.{Option, Some, None, refl, sym, ap, subst, ◌∙◌, arith}
-use Rattle.std.specs.Bool.{Decides, one_answer}
 use Rattle.std.specs.List.{list_all, position, prefix_len}
 use Rattle.std.specs.Option.{option_and_then, option_map, option_map_or}
 use Rattle.std.proofs.lemmas.Bool.{le-ltb, and_parts}
-use Rattle.std.proofs.lemmas.List.{length-map, map-append, take_more}
+use Rattle.std.proofs.lemmas.List.{length-map}
 use Rattle.std.proofs.lemmas.Option.{same_Some, slice_get-map}
+use Rattle.std.proofs.Math.Bool.{and-false}
 use Rattle.jv_base.specs.Names.{is_text}
 use Rattle.jv_base.specs.Types.{base_text, field_text, method_text}
 use Rattle.jv_base.specs.declared.types.Base.{Base}
 use Rattle.jv_base.specs.declared.types.Base.TheVariants.{Boolean, Byte, Char, Short, Int, Long, Float, Double}
 use Rattle.jv_base.specs.declared.types.Base.TheVariants.{Class as class_base}
 use Rattle.jv_base.specs.declared.types.FieldType.{FieldType}
-use Rattle.jv_base.proofs.Equality.{text_Decides}
+use Rattle.jv_base.proofs.Equality.{text_Decides, text_sym}
+use Rattle.jv_base.proofs.Tests.{false_where}
 use Rattle.class_model.specs.declared.class.Class.{Class}
 use Rattle.class_model.specs.declared.class.Field.{Field}
 use Rattle.class_model.specs.declared.class.Method.{Method}
@@ -27,12 +28,6 @@ use Rattle.class_pool.specs.declared.id.ClassId.{ClassId}
 use Rattle.class_pool.specs.declared.id.ClassId.TheVariants.{Prog, Lib}
 use Rattle.class_pool.specs.Found.{IsMethod, MemberRow, field_row, library_row, method_row, named_at}
 use Rattle.class_pool.specs.Members.{declared_at, is_field, is_method, member_named, or_method}
-
-pub map_more : {X Y : Type 0} (f : X → Y) (xs : List X) (i : ℕ) (x : X) → i < length xs → x ≡ get_or xs i x
-    → map f (take i xs) ++ f x ∷ [] ≡ map f (take (i + 1) xs)
-map_more {X = X} f xs i x within is =
-    sym (map-append f (take i xs) (x ∷ []))
-    ∙ ap (map f) (sym (take_more xs i x within ∙ ap (λ (y : X). take i xs ++ y ∷ []) (sym is)))
 
 -- ---- methods by their rows
 
@@ -164,10 +159,6 @@ pub field_begins : (ty : FieldType) → begins (field_text ty) ≡ false
 unfolding field_text
 field_begins ty = brackets_begin ty.dims ty.base
 
-false_where : (b : Bool) {P : Type 0} → Decides b P → (P → ⊥) → b ≡ false
-false_where true d other = absurd (other (d.0 refl))
-false_where false d other = refl
-
 apart : true ≡ false → ⊥
 apart h = absurd cc
 
@@ -175,13 +166,9 @@ not_alike : (d t : List ℕ) → begins d ≡ true → begins t ≡ false → is
 not_alike d t opens shut = false_where (is_text d t) (text_Decides d t)
     (λ same. apart (sym opens ∙ ap begins same ∙ shut))
 
-never_both : (b : Bool) → (b && false) ≡ false
-never_both true = refl
-never_both false = refl
-
 not_field : (name d : List ℕ) (f : Field) → begins d ≡ true → is_field name d f ≡ false
 not_field name d f opens = ap (λ b. is_text f.name name && b) (not_alike d (field_text f.ty) opens (field_begins f.ty))
-    ∙ never_both (is_text f.name name)
+    ∙ and-false (is_text f.name name)
 
 methods_begin : list_all (λ c. list_all (λ m. not m.is_method || begins m.descriptor) c.members) library ≡ true
 unfolding library
@@ -202,10 +189,6 @@ library_begins id at m within is method =
     (holds_at
     (λ c. list_all (λ x. not x.is_method || begins x.descriptor) c.members) library id _ methods_begin within) is in
     sym (ap (λ b. not b || begins m.descriptor) method) ∙ one
-
-text_sym : (a b : List ℕ) → is_text a b ≡ is_text b a
-text_sym a b = one_answer (is_text a b) (is_text b a) (text_Decides a b)
-    (let d = text_Decides b a in (λ h. sym (d.0 h), λ e. d.1 (sym e)))
 
 like_is : (m : LibraryMember) (x : Method) → m.is_method ≡ true
     → table.is_method x.name (method_text x.ty) (Some m) ≡ is_method m.name m.descriptor x

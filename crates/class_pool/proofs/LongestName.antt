@@ -1,6 +1,6 @@
 -- A name that is longer than all names is none of them.
-use Rattle.std.proofs.Common.{◌≡◌, ℕ, ◌+◌, ◌<◌, ◌≤◌, Bool, true, false, cond, List, [], ◌∷◌, length, get_or, Some, None, max}
-use Rattle.std.proofs.Common.{refl, sym, ap, subst, ◌∙◌, arith, nat_lt, Option, ◌⊎◌, ⊎_elim}
+use Rattle.std.proofs.Common.{◌≡◌, ℕ, ◌+◌, ◌<◌, ◌≤◌, Bool, true, false, cond, List, [], ◌∷◌, length, get_or, Some, None}
+use Rattle.std.proofs.Common.{max, refl, sym, ap, subst, ◌∙◌, arith, nat_lt, Option, ◌⊎◌, ⊎_elim}
 use Rattle.std.specs.List.{All, position, position_or_len}
 use Rattle.std.proofs.lemmas.Bool.Decides.{nat_tests}
 use Rattle.std.proofs.lemmas.List.{get_or_default}
@@ -14,7 +14,9 @@ differs : (name other : List ℕ) (longest : ℕ) → length other ≤ longest �
 differs name other longest most long = by (is_text name other) refl
   where
     by : (b : Bool) → is_text name other ≡ b → is_text name other ≡ false
-    by true e = let same = ap (λ (t : List ℕ). length t) ((text_Decides name other).0 e) in absurd (omega (arith, same, most, long))
+    by true e =
+        let same = ap (λ (t : List ℕ). length t) ((text_Decides name other).0 e) in
+        absurd (omega (arith, same, most, long))
     by false e = e
 
 not_below : (n : ℕ) → nat_lt n n ≡ false

@@ -13,6 +13,8 @@ use Rattle.jv_base.specs.Types.{field_text, method_text}
 use Rattle.class_model.specs.declared.class.Class.{Class}
 use Rattle.class_model.specs.declared.class.Field.{Field}
 use Rattle.class_model.specs.declared.class.Method.{Method}
+use Rattle.class_model.specs.InstructionMeaning.{or_else}
+use Rattle.class_model.proofs.FirstOfTwo.{or_cond}
 use Rattle.class_pool.specs.bodies.ByName.{IsIndexOf, named_in}
 use Rattle.class_pool.specs.Members.{is_field, is_method, member_named, or_method}
 use Rattle.class_pool.specs.declared.set.members.MemberIndex.{MemberIndex}
@@ -24,20 +26,10 @@ abbrev pub first_below : (ℕ → Bool) → ℕ → Option ℕ → Option ℕ
 first_below test zero found = found
 first_below test (suc n) found = first_below test n (cond (test n) (Some n) found)
 
-abbrev or_else : Option ℕ → Option ℕ → Option ℕ
-or_else (Some n) other = Some n
-or_else None other = other
-
-else_step : (o : Option ℕ) (b : Bool) (n : ℕ) (found : Option ℕ)
-    → or_else o (cond b (Some n) found) ≡ or_else (or_else o (cond b (Some n) None)) found
-else_step (Some m) b n found = refl
-else_step None true n found = refl
-else_step None false n found = refl
-
 first_else : (q : ℕ → Bool) (n : ℕ) (found : Option ℕ) → first_below q n found ≡ or_else (first_below q n None) found
 first_else q zero found = refl
 first_else q (suc n) found =
-    first_else q n (cond (q n) (Some n) found) ∙ else_step (first_below q n None) (q n) n found
+    first_else q n (cond (q n) (Some n) found) ∙ or_cond (first_below q n None) (q n) n found
     ∙ ap (λ o. or_else o found) (sym (first_else q n (cond (q n) (Some n) None)))
 
 abbrev behind : ℕ → Option ℕ → Option ℕ

@@ -1,13 +1,13 @@
 -- Names, and numbers of classes.
-use Rattle.std.proofs.Common.{◌≡◌, ℕ, zero, suc, ◌+◌, ◌<◌, ◌||◌, Bool, true, false, List, [], ◌∷◌, ◌++◌, length, get_or}
+use Rattle.std.proofs.Common.{◌≡◌, ℕ, zero, suc, ◌+◌, ◌<◌, ◌||◌, Bool, false, List, [], ◌∷◌, ◌++◌, length, get_or}
 use Rattle.std.proofs.Common.{take, map, Some, refl, sym, ap, ◌∙◌, arith}
-use Rattle.std.specs.Bool.{Decides}
 use Rattle.std.specs.List.{position, list_any}
 use Rattle.std.proofs.lemmas.List.{take_more, length-take, length-map, get_or-map, get_or-take, map-append}
 use Rattle.std.proofs.lemmas.List.Quantifiers.{position-Some}
 use Rattle.indexmap.specs.IndexSet.{insert_key}
 use Rattle.jv_base.specs.Names.{is_text}
 use Rattle.jv_base.proofs.Equality.{text_Decides}
+use Rattle.jv_base.proofs.Tests.{false_where}
 use Rattle.class_model.specs.declared.class.Class.{Class}
 use Rattle.class_pool.specs.bodies.Faults.{NamesDiffer}
 use Rattle.lib_table.proofs.Classes.{position_map}
@@ -23,10 +23,6 @@ pub number_below : (classes : List Class) (name : List ℕ) (n : ℕ) → positi
     → n < length classes
 number_below (c ∷ classes) name n is = (position-Some (λ (x : Class). is_text name x.name) (c ∷ classes) n c is).0
 number_below [] name n is = absurd cc
-
-false_where : (b : Bool) {P : Type 0} → Decides b P → (P → ⊥) → b ≡ false
-false_where true d other = absurd (other (d.0 refl))
-false_where false d other = refl
 
 none_passes : {X : Type 0} (p : X → Bool) (xs : List X) (d : X) → ((k : ℕ) → k < length xs → p (get_or xs k d) ≡ false)
     → list_any p xs ≡ false

@@ -4,7 +4,7 @@ use Rattle.std.proofs.Common.{length, get_or, slice_get, codes, Option, Some, No
 use Rattle.std.proofs.Common.{subst, ◌∙◌, arith}
 use Rattle.std.specs.List.{All, cons_option, filter_map, list_all, list_any, position, starts_with}
 use Rattle.std.specs.Option.{is_none, option_and_then, option_map, option_map_or}
-use Rattle.std.proofs.lemmas.Bool.{both_ways, cases_lt, eqb-true, and_parts, or_parts}
+use Rattle.std.proofs.lemmas.Bool.{both_ways, cases_lt, eqb-true, and_parts, or_parts, not-false}
 use Rattle.std.proofs.lemmas.List.{get_or-map, get_or_past, length-map}
 use Rattle.std.proofs.lemmas.List.Elements.{All-cons, All-nil}
 use Rattle.std.proofs.lemmas.List.FromFn.{get_or-range_with_len, length-range_with_len}
@@ -38,7 +38,7 @@ object_name = codes "java/lang/Object"
 -- ---- the library
 
 -- what is computed for each row of the table
-at_row : (p : ℕ → Bool) (id : ℕ) → list_all p library_ids ≡ true → id < length library → p id ≡ true
+pub at_row : (p : ℕ → Bool) (id : ℕ) → list_all p library_ids ≡ true → id < length library → p id ≡ true
 at_row p id all within =
     let plain : 0 + id ≡ id = omega arith in
     let long = length-range_with_len 0 (length library) in
@@ -69,7 +69,7 @@ rows_above : list_all (λ id. list_all (λ i. is_first (table.super_of i)) (tabl
 unfolding library
 rows_above = refl
 
-when : (p q : Bool) → p ≡ true → (not p || q) ≡ true → q ≡ true
+pub when : (p q : Bool) → p ≡ true → (not p || q) ≡ true → q ≡ true
 when true q is h = h
 when false q is h = absurd cc
 
@@ -107,7 +107,7 @@ lib_interface classes id is =
 
 -- ---- the rounds
 
-free_name : (t s : Bool) (j k : PoolKind) → cond t (Some j) (cond s (Some k) None) ≡ None → s ≡ false
+pub free_name : (t s : Bool) (j k : PoolKind) → cond t (Some j) (cond s (Some k) None) ≡ None → s ≡ false
 free_name true s j k h = absurd cc
 free_name false true j k h = absurd cc
 free_name false false j k h = refl
@@ -195,7 +195,7 @@ prog_alone classes n right within none =
     (λ p. absurd (omega (arith, within, p.0)))
     (slice_get_cases classes n).1
 
-interface_flag : (c : Class) → is_interface_kind (kind_of c) ≡ true → is_interface c.flags.0 ≡ true
+pub interface_flag : (c : Class) → is_interface_kind (kind_of c) ≡ true → is_interface c.flags.0 ≡ true
 interface_flag c h = kind_step (is_interface c.flags.0) (has acc_final c.flags.0) h
   where
     kind_step : (p q : Bool) → is_interface_kind (cond p Interface (cond q Final Open)) ≡ true → p ≡ true
@@ -232,10 +232,6 @@ interface_object : (classes : List Class) (i : ClassId) → super_faults classes
 interface_object classes (Prog n) right object is = prog_interface classes n right object is
 interface_object classes (Lib id) right object is = lib_interface classes id is
 
-turned : (b : Bool) → not b ≡ false → b ≡ true
-turned true h = refl
-turned false h = absurd cc
-
 named_step : (classes : List Class) (o : Option ClassId) (rest : List ClassId) → super_faults classes ≡ Ok tt
     → class_named classes object_name ≡ Some (Lib 0)
     → option_map_or (λ id. not (is_interface_kind (kind_in classes id))) o false ≡ false
@@ -244,7 +240,7 @@ named_step : (classes : List Class) (o : Option ClassId) (rest : List ClassId) �
 named_step classes None rest right object h others = others
 named_step classes (Some i) rest right object h others =
     All-cons (λ j. superclass classes j ≡ Some (Lib 0)) i rest
-    (interface_object classes i right object (turned (is_interface_kind (kind_in classes i)) h)) others
+    (interface_object classes i right object (not-false (is_interface_kind (kind_in classes i)) h)) others
 
 named_above : (classes : List Class) (names : List (List ℕ)) → super_faults classes ≡ Ok tt
     → class_named classes object_name ≡ Some (Lib 0) → list_any (is_wrong_interface classes) names ≡ false

@@ -1,14 +1,16 @@
 -- The list of supertypes has just the proper supertypes.
-use Rattle.std.proofs.Common.{◌≡◌, ⊎_elim, ℕ, zero, suc, ◌+◌, ◌<◌, ◌≤◌, ◌⊎◌, inl, inr, Bool, true}
+use Rattle.std.proofs.Common.{append_assoc, ◌≡◌, ⊎_elim, ℕ, zero, suc, ◌+◌, ◌<◌, ◌≤◌, ◌⊎◌, inl, inr, Bool}
 use Rattle.std.proofs.Common.{false, ◌||◌, ◌↔◌, IsTrue, nat_lt, List, [], ◌∷◌, ◌++◌, length, get_or, take, Option, Some}
 use Rattle.std.proofs.Common.{None, refl, sym, ap, subst, ◌∙◌, arith}
 use Rattle.std.specs.Prelude.{IfSome}
 use Rattle.std.specs.List.{All, Contains, cons_option, flat_map, list_any, remove}
 use Rattle.std.specs.Option.{option_map_or}
-use Rattle.std.proofs.lemmas.Bool.{both_ways, ltb-true, lt-ltb, or_cases}
-use Rattle.std.proofs.lemmas.List.{flat_map_more, take_more}
+use Rattle.std.proofs.lemmas.Bool.{both_ways, ltb-true, lt-ltb, or_cases, or_parts}
+use Rattle.std.proofs.lemmas.List.{append-nil, flat_map_more, get_or-append-add, take_more}
 use Rattle.std.proofs.lemmas.List.Folds.{list_any-append}
 use Rattle.std.proofs.lemmas.List.Elements.{All-append, All-cons, All-nil, All-weaker}
+use Rattle.jv_base.proofs.Lists.{all_flat}
+use Rattle.jv_base.proofs.Tests.{or_pairs}
 use Rattle.class_model.specs.declared.class.Class.{Class}
 use Rattle.lib_table.specs.Library.{library}
 use Rattle.lib_table.proofs.Computed.{count}
@@ -27,8 +29,8 @@ use Rattle.class_pool.proofs.EachOnce.{bool_cases, same_is, same_itself}
 use Rattle.class_pool.proofs.FillingLaws.{below_all, once_then}
 use Rattle.class_pool.proofs.Directs.{class_cases, direct_valid, none_above, proper_direct, proper_on}
 use Rattle.class_pool.proofs.Walking.{Falls, first_of, interfaces_fall, interfaces_valid, no_rank, rest_of}
-use Rattle.class_pool.proofs.Within.{In, all_flat, in_contains, in_first, in_flat, in_left, in_next, in_right}
-use Rattle.class_pool.proofs.Within.{left_false, of_one, once_differ, once_in, once_new, supers_are}
+use Rattle.class_pool.proofs.Within.{In, in_contains, in_first, in_flat, in_left, in_next, in_right}
+use Rattle.class_pool.proofs.Within.{of_one, once_differ, once_in, once_new, supers_are}
 
 -- ---- each is a supertype
 
@@ -116,7 +118,7 @@ each_proper classes a a-in =
     (λ x h. (
       h.0.0,
       ⊎_elim
-          (λ same. absurd (both_ways (same_class x a) (left_false (same_class x a) false h.1)
+          (λ same. absurd (both_ways (same_class x a) (or_parts (same_class x a) false h.1).0
           (ap (λ (z : ClassId). same_class x z) (sym same) ∙ same_itself x)))
           (λ p. p)
           h.0.1,
@@ -357,12 +359,6 @@ any_below classes a b =
     any_at (superclasses_from classes a)
     ∙ sym (list_any-append (same_class b) (superclasses_from classes a) (superinterfaces classes a))
   where
-    swap : (p q r s : Bool) → ((p || q) || (r || s)) ≡ ((p || r) || (q || s))
-    swap true q r s = refl
-    swap false true true s = refl
-    swap false true false s = refl
-    swap false false r s = refl
-
     any_at : (cs : List ClassId) → list_any (is_self_or_own classes b) cs
         ≡ (list_any (same_class b) cs || list_any (same_class b) (flat_map (own_superinterfaces classes) cs))
     any_at [] = refl
@@ -371,7 +367,7 @@ any_below classes a b =
         (any_once b (own_superinterfaces classes c))
         ∙ ap (λ (t : Bool). (same_class b c || list_any (same_class b) (own_superinterfaces classes c)) || t)
         (any_at cs)
-        ∙ swap (same_class b c) (list_any (same_class b) (own_superinterfaces classes c))
+        ∙ or_pairs (same_class b c) (list_any (same_class b) (own_superinterfaces classes c))
         (list_any (same_class b) cs) (list_any (same_class b) (flat_map (own_superinterfaces classes) cs))
         ∙ ap (λ (t : Bool). (same_class b c || list_any (same_class b) cs) || t)
         (sym (list_any-append (same_class b) (own_superinterfaces classes c)

@@ -3,8 +3,8 @@ use Rattle.std.proofs.Common.{◌≡◌, ◌≢◌, ⊎_elim, ℕ, zero, suc, �
 use Rattle.std.proofs.Common.{length, get_or, refl, sym, ap, subst, ◌∙◌, arith}
 use Rattle.std.specs.List.{All, AllPairs, Contains, flat_map, list_any}
 use Rattle.std.specs.Option.{option_map_or}
-use Rattle.std.proofs.lemmas.Bool.{both_ways, or_cases, or_left, or_right}
-use Rattle.std.proofs.lemmas.List.Elements.{All-append, All-cons, All-head, All-nil, All-tail, All-weaker}
+use Rattle.std.proofs.lemmas.Bool.{both_ways, or_cases, or_left, or_right, or_parts}
+use Rattle.std.proofs.lemmas.List.Elements.{All-cons, All-head, All-nil, All-tail, All-weaker}
 use Rattle.std.proofs.lemmas.List.Elements.{Contains-append_left, Contains-append_right, Contains-push}
 use Rattle.std.proofs.lemmas.List.Folds.{list_any-append}
 use Rattle.std.proofs.lemmas.List.Kept.{AllPairs-cons}
@@ -60,12 +60,6 @@ in_contains x (y ∷ ys) is =
     Contains_first : (x : ClassId) (ys : List ClassId) → Contains (x ∷ ys) x
     Contains_first x ys = Contains-append_left (x ∷ []) ys x (Contains-push [] x)
 
-pub all_flat : (P : ClassId → Type 0) (f : ClassId → List ClassId) (is : List ClassId) → All (λ i. All P (f i)) is
-    → All P (flat_map f is)
-all_flat P f [] h = All-nil P
-all_flat P f (i ∷ is) h = All-append P (f i) (flat_map f is) (All-head (λ j. All P (f j)) i is h)
-    (all_flat P f is (All-tail (λ j. All P (f j)) i is h))
-
 -- ---- each once
 
 -- what each_once keeps is none of those seen
@@ -84,17 +78,9 @@ once_new P (x ∷ xs) s h =
     (cond b (each_once s xs) (x ∷ each_once (x ∷ s) xs))) (sym new)
     (All-cons (λ y. P y × (list_any (same_class y) s ≡ false)) x (each_once (x ∷ s) xs) (All-head P x xs h, new)
     (All-weaker (λ y. P y × (list_any (same_class y) (x ∷ s) ≡ false)) (λ y. P y × (list_any (same_class y) s ≡ false))
-    (λ y both. (both.0, right_false (same_class y x) (list_any (same_class y) s) both.1)) (each_once (x ∷ s) xs)
+    (λ y both. (both.0, (or_parts (same_class y x) (list_any (same_class y) s) both.1).1)) (each_once (x ∷ s) xs)
     (once_new P xs (x ∷ s) (All-tail P x xs h)))))
     (bool_cases (list_any (same_class x) s))
-  where
-    right_false : (p q : Bool) → (p || q) ≡ false → q ≡ false
-    right_false true q h = absurd cc
-    right_false false q h = h
-
-pub left_false : (p q : Bool) → (p || q) ≡ false → p ≡ false
-left_false true q h = absurd cc
-left_false false q h = refl
 
 pub once_differ : (xs s : List ClassId) → AllPairs (λ x y. x ≢ y) (each_once s xs)
 unfolding each_once
@@ -106,7 +92,7 @@ once_differ (x ∷ xs) s =
       | false ↦
           AllPairs-cons (λ y z. y ≢ z) x (each_once (x ∷ s) xs)
           (All-weaker (λ y. (Unit {0}) × (list_any (same_class y) (x ∷ s) ≡ false)) (λ y. x ≢ y)
-          (λ y both same. both_ways (same_class y x) (left_false (same_class y x) (list_any (same_class y) s) both.1)
+          (λ y both same. both_ways (same_class y x) (or_parts (same_class y x) (list_any (same_class y) s) both.1).0
           (ap (λ (z : ClassId). same_class y z) same ∙ same_itself y))
           (each_once (x ∷ s) xs) (once_new (λ _. Unit {0}) xs (x ∷ s) (λ k d within. tt)))
           (once_differ xs (x ∷ s))

@@ -9,6 +9,7 @@ use Rattle.std.proofs.lemmas.List.{length-append}
 use Rattle.std.proofs.lemmas.List.Concat.{flat_map-cons}
 use Rattle.std.proofs.lemmas.Iterator.Adapters.{position_from-zero}
 use Rattle.jv_base.specs.Outcome.{◌>>=◌}
+use Rattle.jv_base.proofs.Results.{then_ok}
 use Rattle.format_reading.specs.declared.fault.FormatKind.TheVariants as bad
 use Rattle.format_reading.specs.Reader.{FormatReader, u2, bind, give, item, settle, many}
 use Rattle.format_reading.specs.Spelling.{Spells, AllStand}
@@ -24,7 +25,7 @@ use Rattle.class_model.specs.Lookups.{due, class_at, optional_class_at}
 use Rattle.class_model.specs.ReadingCodeAttribute.{Places, places, begins, handler_places, handler, read_handler}
 use Rattle.class_model.specs.ReadingCodeAttribute.{read_handlers}
 use Rattle.class_model.proofs.BackSizes.{info_is_there}
-use Rattle.class_model.proofs.NameLaw.{HaveUnits, then_ok, due_is}
+use Rattle.class_model.proofs.NameLaw.{HaveUnits, due_is}
 use Rattle.class_model.proofs.LookupLaw.{class_found, class_only}
 use Rattle.class_model.proofs.CodeLaw.{begins_found, begins_only}
 

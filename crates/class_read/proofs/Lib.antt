@@ -9,7 +9,7 @@ mod KnownMethods
 mod MethodInfo
 mod MethodLoop
 mod KnownClass
-mod LineTable
+pub mod LineTable
 mod CodeEnd
 mod KnownCode
 mod CodeParts

@@ -9,6 +9,7 @@ use Rattle.frame_types.specs.bodies.Numbers.{found, first_of_two}
 use Rattle.class_model.specs.declared.op.Op.{Op}
 use Rattle.class_model.specs.declared.code.Ins.{Ins}
 use Rattle.class_model.specs.LineNumbers.{LineNumber, is_nearer, nearer, line_at}
+use Rattle.class_model.proofs.FirstOfTwo.{or_none}
 use Rattle.class_read.specs.bodies.Lines.{lined_by, lined, last_there, line_there, carried, past, offsets_up_to}
 
 -- ---- the line at an offset is that of a row that starts there, or the line at the offset before
@@ -76,7 +77,7 @@ apart n (row ∷ rows) here before line h =
     (next_by n here before line row (cases_order row.start_pc (suc n)) h)
 
 -- the line of a row
-abbrev number : Option LineNumber → Option ℕ
+abbrev pub number : Option LineNumber → Option ℕ
 number best = option_map (λ (row : LineNumber). row.line_number) best
 
 line_of : (n : ℕ) (here before : Option LineNumber) (line : Option ℕ) → Apart n here before line
@@ -104,10 +105,6 @@ first : (rows : List LineNumber) (best : Option LineNumber) (line : Option ℕ) 
 first [] best line h = h.0
 first (row ∷ rows) best line h = first rows (nearer 0 best row) (last_there 0 line row)
     (first_by best line row (cases_order row.start_pc 0) h)
-
-or_none : (o : Option ℕ) → first_of_two o None ≡ o
-or_none (Some x) = refl
-or_none None = refl
 
 -- the line at the offset before one
 abbrev line_before : List LineNumber → ℕ → Option ℕ

@@ -12,6 +12,7 @@ use Rattle.jv_base.specs.declared.outcome.Or.{Or}
 use Rattle.jv_base.specs.declared.outcome.Or.TheVariants.{Fault, OutOfMemory}
 use Rattle.jv_base.specs.declared.cursor.End.{End}
 use Rattle.jv_base.specs.Place.{Place, start, taken_at, after, cut_off, ended}
+use Rattle.jv_base.proofs.Results.{same_fault}
 use Rattle.format_reading.specs.Fault.{cut, fault, inside_of_kind}
 use Rattle.format_reading.specs.declared.fault.FormatFault.{FormatFault}
 use Rattle.format_reading.specs.declared.fault.FormatKind.{FormatKind}
@@ -209,9 +210,6 @@ starts_within : (end : ℕ) (infos : List Info) (r : Result (List Op) FormatFaul
     → TellsIn (λ g. g.offset ≤ end) r → with_starts infos r ≡ Err f → offset_told f ≤ end
 starts_within end infos (Ok ops) f h e = absurd cc
 starts_within end infos (Err g) f h e = subst (λ (x : CodeFault). offset_told x ≤ end) (same_fault _ f e) h
-  where
-    same_fault : (g f : CodeFault) → (let R : Result Decoded CodeFault = Err g in R) ≡ Err f → g ≡ f
-    same_fault g f h = cc
 
 read_within : (pool : List Entry) (bytes : List ℕ) (r : Result (CodeRead × Place) FormatFault) (f : CodeFault)
     → IsRead pool bytes r → as_decoded pool (without_place r) ≡ Err f → offset_told f ≤ length bytes

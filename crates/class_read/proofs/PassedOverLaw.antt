@@ -33,7 +33,13 @@ number_fits high low h l = omega (arith, h, l)
 
 -- eight bytes after eight bytes
 rows_of : List ℕ → List ExceptionInfo
-rows_of (a ∷ b ∷ c ∷ d ∷ e ∷ f ∷ g ∷ h ∷ rest) = record { start_pc = number a b; end_pc = number c d; handler_pc = number e f; catch_type = number g h } ∷ rows_of rest
+rows_of (a ∷ b ∷ c ∷ d ∷ e ∷ f ∷ g ∷ h ∷ rest) =
+    record {
+      start_pc = number a b;
+      end_pc = number c d;
+      handler_pc = number e f;
+      catch_type = number g h;
+    } ∷ rows_of rest
 rows_of _ = []
 
 -- the bytes of so many rows
@@ -67,7 +73,8 @@ rows_are (suc n) (a ∷ b ∷ c ∷ d ∷ e ∷ f ∷ g ∷ h ∷ rest) len fits
     let ff : f < 256 = fits 5 in
     let fg : g < 256 = fits 6 in
     let fh : h < 256 = fits 7 in
-    let row : ExceptionInfo = record { start_pc = number a b; end_pc = number c d; handler_pc = number e f; catch_type = number g h } in
+    let row : ExceptionInfo =
+    record { start_pc = number a b; end_pc = number c d; handler_pc = number e f; catch_type = number g h } in
     let first : exception_info row ≡ a ∷ b ∷ c ∷ d ∷ e ∷ f ∷ g ∷ h ∷ [] =
     ap₂ (λ (x y : List ℕ). x ++ y) (two_back a b fa fb)
     (ap₂ (λ (x y : List ℕ). x ++ y) (two_back c d fc fd)

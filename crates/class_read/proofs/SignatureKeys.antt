@@ -11,7 +11,8 @@ use Rattle.std.proofs.lemmas.List.Folds.{list_any-append}
 use Rattle.jv_base.specs.Names.{is_text}
 use Rattle.jv_base.proofs.Equality.{text_Decides, and_Decides}
 use Rattle.class_model.specs.ReadingMembers.{Signature, same_signature}
-use Rattle.class_read.specs.bodies.Signatures.{Marks, SignatureKey, Knows, key_of, marks_of, signature_of, same_key, same_marks}
+use Rattle.class_read.specs.bodies.Signatures.{Marks, SignatureKey, Knows, key_of, marks_of, signature_of, same_key}
+use Rattle.class_read.specs.bodies.Signatures.{same_marks}
 
 -- keys are one where their order doesn't tell them apart
 marks_cmp : Marks → Marks → Ordering
@@ -21,7 +22,8 @@ marks_cmp a b = ordering_then (ordering_then (ordering_then (nat_cmp a.0 b.0) (n
 marks_tied : (a b : Marks) → same_marks a b ≡ is_eq (marks_cmp a b)
 unfolding marks_cmp
 marks_tied a b =
-    both_tied _ _ (ordering_then (ordering_then (nat_cmp a.0 b.0) (nat_cmp a.1 b.1)) (nat_cmp a.2 b.2)) (nat_cmp a.3 b.3)
+    both_tied _ _ (ordering_then (ordering_then (nat_cmp a.0 b.0) (nat_cmp a.1 b.1)) (nat_cmp a.2 b.2))
+    (nat_cmp a.3 b.3)
     (both_tied _ _ (ordering_then (nat_cmp a.0 b.0) (nat_cmp a.1 b.1)) (nat_cmp a.2 b.2)
     (both_tied _ _ (nat_cmp a.0 b.0) (nat_cmp a.1 b.1) (unsigned_ties a.0 b.0) (unsigned_ties a.1 b.1))
     (unsigned_ties a.2 b.2)) (unsigned_ties a.3 b.3)
@@ -52,7 +54,8 @@ marks_Decides a b =
     (λ p q. two p q) (λ r. r.0) (λ r. r.1) in
     let second = and_Decides (nat_eq a.0 b.0 && nat_eq a.1 b.1) (nat_eq a.2 b.2) first (unsigned_Decides a.2 b.2)
     (λ p q. two p q) (λ r. r.0) (λ r. r.1) in
-    and_Decides ((nat_eq a.0 b.0 && nat_eq a.1 b.1) && nat_eq a.2 b.2) (nat_eq a.3 b.3) second (unsigned_Decides a.3 b.3)
+    and_Decides ((nat_eq a.0 b.0 && nat_eq a.1 b.1) && nat_eq a.2 b.2) (nat_eq a.3 b.3) second
+    (unsigned_Decides a.3 b.3)
     (λ p q i. (p.0.0 i, p.0.1 i, p.1 i, q i))
     (λ e. two (two (ap (λ (m : Marks). m.0) e) (ap (λ (m : Marks). m.1) e)) (ap (λ (m : Marks). m.2) e))
     (λ e. ap (λ (m : Marks). m.3) e)
@@ -63,7 +66,8 @@ key_Decides a b =
     (λ p q. two p q) (λ r. r.0) (λ r. r.1) in
     and_Decides (same_marks a.0 b.0 && is_text a.1 b.1) (is_text a.2 b.2) first (text_Decides a.2 b.2)
     (λ p q i. (p.0 i, p.1 i, q i))
-    (λ e. two (ap (λ (k : SignatureKey). k.0) e) (ap (λ (k : SignatureKey). k.1) e)) (λ e. ap (λ (k : SignatureKey). k.2) e)
+    (λ e. two (ap (λ (k : SignatureKey). k.0) e) (ap (λ (k : SignatureKey). k.1) e))
+    (λ e. ap (λ (k : SignatureKey). k.2) e)
 
 signature_Decides : (a b : Signature) → Decides (same_signature a b) (a ≡ b)
 signature_Decides a b = and_Decides _ _ (text_Decides a.0 b.0) (text_Decides a.1 b.1) (λ p q i. (p i, q i))

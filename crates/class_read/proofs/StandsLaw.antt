@@ -3,8 +3,9 @@ use Rattle.std.proofs.Common.{◌≡◌, ℕ, ◌-◌, ◌^◌, ◌<◌, ◌≤�
 use Rattle.std.proofs.Common.{length, map, take, Option, Some, None, pos, refl, sym, ap, subst, ◌∙◌, arith}
 use Rattle.std.specs.Prelude.{slice_get, option_map, position, nat_eq}
 use Rattle.std.specs.List.{AllZip}
-use Rattle.std.proofs.lemmas.Bool.{leb-true, leb-false, le-leb, ne_eqb}
-use Rattle.std.proofs.lemmas.Option.{slice_get-map}
+use Rattle.std.proofs.lemmas.Bool.{leb-true, leb-false, le-leb, ne_eqb, and_parts}
+use Rattle.std.proofs.lemmas.Option.{slice_get-map, same_Some}
+use Rattle.jv_base.proofs.Options.{mapped, both_there}
 use Rattle.format_reading.specs.declared.fault.FormatKind.TheVariants as bad
 use Rattle.class_model.specs.declared.pool.Entry.{Entry}
 use Rattle.class_model.specs.declared.code.Ins.{Ins}
@@ -21,15 +22,11 @@ use Rattle.class_model.specs.Frames.{IsVType, IsFrame, IsFrameAt, AreFrames}
 use Rattle.class_model.specs.Lookups.{due, type_at}
 use Rattle.class_model.specs.ReadingFrames.{Before, Written, is_new, only_new, type_of, types_of, written, written_by}
 use Rattle.class_model.specs.ReadingFrames.{fits, frame_at, frame_of, row_stands}
-use Rattle.class_model.proofs.NameLaw.{HaveUnits, due_is, both_there}
-use Rattle.class_model.proofs.LookupLaw.{mapped, type_found, type_only}
+use Rattle.class_model.proofs.NameLaw.{HaveUnits, due_is}
+use Rattle.class_model.proofs.LookupLaw.{type_found, type_only}
 use Rattle.class_model.proofs.CodeLaw.{op_in, begins_found, begins_only}
 use Rattle.class_model.proofs.RowLaw.{FitsType, FitTypes, FitsRow}
 use Rattle.class_read.proofs.FrameLaw.{AreRows}
-
--- something that is there is one thing
-one_thing : {A : Type 0} (x y : A) → (let o : Option A = Some x in o) ≡ Some y → x ≡ y
-one_thing x y h = cc
 
 module _ (pool : List Entry) (units : HaveUnits pool) (infos : List Info) (ins : List Ins) where
   -- where the instructions begin, and what they are
@@ -123,7 +120,7 @@ module _ (pool : List Entry) (units : HaveUnits pool) (infos : List Info) (ins :
       by true e g = (
         new_found n (slice_get ins n) refl (ap (is_new pool starts ops) (sym (slice_get-map op_in ins n))
             ∙ e),
-        sym (one_thing (vtype.Uninit n) ty g),
+        sym (same_Some (vtype.Uninit n) ty g),
       )
       by false e g = absurd cc
 
@@ -151,7 +148,7 @@ module _ (pool : List Entry) (units : HaveUnits pool) (infos : List Info) (ins :
   vtypes_found : (is : List VerificationTypeInfo) (types : List VType) → FitTypes is
       → types_of pool starts ops is ≡ Some types → AllZip (IsVType pool starts ins) is types
   vtypes_found [] types fit h = subst (λ (ts : List VType). AllZip (IsVType pool starts ins) [] ts)
-      (one_thing [] types h) tt
+      (same_Some [] types h) tt
   vtypes_found (i ∷ is) types fit h =
       let a = both_there (λ ty. option_map (λ types. ty ∷ types) (types_of pool starts ops is))
       (type_of pool starts ops i) types h in
@@ -168,14 +165,10 @@ module _ (pool : List Entry) (units : HaveUnits pool) (infos : List Info) (ins :
 
   -- ---- rows
 
-  both : (a b : Bool) → (a && b) ≡ true → (a ≡ true) × (b ≡ true)
-  both true b h = (refl, h)
-  both false b h = absurd cc
-
   -- what a row writes is what it stands for
   written_found : (before : List VType) (row : StackMapFrame) (w : Written) → FitsRow row
       → written_by pool starts ops before row ≡ Some w → IsFrame pool starts ins before row w.delta w.locals w.stack
-  written_found before (SameFrame t) w fit h = let is = one_thing (written pool starts ops t before []) w h in (
+  written_found before (SameFrame t) w fit h = let is = same_Some (written pool starts ops t before []) w h in (
     fit,
     sym (ap (λ (v : Written). v.delta) is),
     sym (ap (λ (v : Written). v.locals) is),
@@ -192,7 +185,8 @@ module _ (pool : List Entry) (units : HaveUnits pool) (infos : List Info) (ins :
             (vtypes_found (item ∷ []) m.0 (fit.2, tt) m.1),
       )
   written_found before (SameLocalsOneStackItemExtended delta item) w fit h =
-      let m = mapped (λ stack. written pool starts ops delta before stack) (types_of pool starts ops (item ∷ [])) w h in (
+      let m = mapped (λ stack. written pool starts ops delta before stack)
+      (types_of pool starts ops (item ∷ [])) w h in (
         fit.0,
         sym (ap (λ (v : Written). v.delta) m.2),
         sym (ap (λ (v : Written). v.locals) m.2),
@@ -205,7 +199,7 @@ module _ (pool : List Entry) (units : HaveUnits pool) (infos : List Info) (ins :
           → cond b (Some (written pool starts ops delta (take (length before - (251 - t)) before) [])) None ≡ Some w
           → IsFrame pool starts ins before (ChopFrame t delta) w.delta w.locals w.stack
       by true e g =
-          let is = one_thing (written pool starts ops delta (take (length before - (251 - t)) before) []) w g in (
+          let is = same_Some (written pool starts ops delta (take (length before - (251 - t)) before) []) w g in (
             rw (le-leb 248 t fit.0, le-leb t 250 fit.1) refl,
             fit.2,
             sym (ap (λ (v : Written). v.delta) is),
@@ -216,7 +210,7 @@ module _ (pool : List Entry) (units : HaveUnits pool) (infos : List Info) (ins :
                 (ap (λ (v : Written). v.stack) is),
           )
       by false e g = absurd cc
-  written_found before (SameFrameExtended delta) w fit h = let is = one_thing
+  written_found before (SameFrameExtended delta) w fit h = let is = same_Some
       (written pool starts ops delta before []) w h in (
         fit,
         sym (ap (λ (v : Written). v.delta) is),
@@ -322,13 +316,13 @@ module _ (pool : List Entry) (units : HaveUnits pool) (infos : List Info) (ins :
   row_fits : (before : List VType) (row : StackMapFrame) (delta : ℕ) (locals stack : List VType)
       → IsFrame pool starts ins before row delta locals stack → FitsRow row
   row_fits before (SameFrame t) delta locals stack h = h.0
-  row_fits before (SameLocalsOneStackItem t item) delta locals stack h = let b = both _ _ h.0 in
+  row_fits before (SameLocalsOneStackItem t item) delta locals stack h = let b = and_parts _ _ h.0 in
       (leb-true 64 t b.0, leb-true t 127 b.1, item_fits item stack h.3)
   row_fits before (SameLocalsOneStackItemExtended d item) delta locals stack h = (h.0, item_fits item stack h.3)
-  row_fits before (ChopFrame t d) delta locals stack h = let b = both _ _ h.0 in
+  row_fits before (ChopFrame t d) delta locals stack h = let b = and_parts _ _ h.0 in
       (leb-true 248 t b.0, leb-true t 250 b.1, h.1)
   row_fits before (SameFrameExtended d) delta locals stack h = h.0
-  row_fits before (AppendFrame t d is) delta locals stack h = let b = both _ _ h.0 in
+  row_fits before (AppendFrame t d is) delta locals stack h = let b = and_parts _ _ h.0 in
       (leb-true 252 t b.0, leb-true t 254 b.1, h.1, h.3, vtypes_fit is h.4 h.5.1)
   row_fits before (FullFrame d is ss) delta locals stack h =
       (h.0, h.2.0, vtypes_fit is locals h.2.1, h.3.0, vtypes_fit ss stack h.3.1)
@@ -359,7 +353,8 @@ module _ (pool : List Entry) (units : HaveUnits pool) (infos : List Info) (ins :
             → cond (a && b) (option_map (placed w (offset_behind before.offset w.delta))
             (position (nat_eq (offset_behind before.offset w.delta)) starts)) None ≡ Some (frame, next)
             → (offset : ℕ)
-            × IsFrameAt pool starts ins max_stack max_locals before.locals before.offset row frame next.locals offset × (next.offset ≡ Some offset)
+            × IsFrameAt pool starts ins max_stack max_locals before.locals before.offset row frame next.locals offset
+            × (next.offset ≡ Some offset)
         by w stands true true ea eb g =
             let offset = offset_behind before.offset w.delta in
             let m = mapped (placed w offset) (position (nat_eq offset) starts) (frame, next) g in
@@ -375,7 +370,8 @@ module _ (pool : List Entry) (units : HaveUnits pool) (infos : List Info) (ins :
             } in
             let both_are = subst
             (λ (z : FrameAt
-            × Before). IsFrameAt pool starts ins max_stack max_locals before.locals before.offset row z.0 z.1.locals offset × (z.1.offset ≡ Some offset)) m.2 (is, refl) in
+            × Before). IsFrameAt pool starts ins max_stack max_locals before.locals before.offset row z.0 z.1.locals
+            offset × (z.1.offset ≡ Some offset)) m.2 (is, refl) in
             (offset, both_are.0, both_are.1)
         by w stands true false ea eb g = absurd cc
         by w stands false b ea eb g = absurd cc

@@ -1,8 +1,8 @@
 -- Locals that end in no Top, and frames one after the other.
-use Rattle.std.proofs.Common.{◌≡◌, ℕ, zero, suc, ◌+◌, ◌-◌, ◌<◌, ◌≤◌, Bool, true, false, not, List, [], ◌∷◌, ◌++◌, length, map}
-use Rattle.std.proofs.Common.{Result, Ok, Err, OnOk}
+use Rattle.std.proofs.Common.{◌≡◌, ℕ, zero, suc, ◌+◌, ◌-◌, ◌<◌, ◌≤◌, false, List, [], ◌∷◌, ◌++◌, length, map}
 use Rattle.std.proofs.Common.{take, drop, slice_get, Option, Some, refl, sym, ap, ◌∙◌, arith, subst}
 use Rattle.std.proofs.lemmas.Option.{same_Some}
+use Rattle.std.proofs.lemmas.List.{length-map}
 use Rattle.class_model.specs.Frames.{before_cut, cut_tops, is_top}
 use Rattle.class_model.specs.FrameLists.{frame_numbered}
 use Rattle.class_model.specs.declared.frame.FrameAt.{FrameAt}
@@ -31,7 +31,8 @@ before_more (vtype.Object ty) next rest = refl
 before_more (vtype.Uninit n) next rest = refl
 
 -- a list whose last type is no Top ends in none
-pub cut_whole : (types : List VType) (n : ℕ) (last : VType) → length types ≡ suc n → slice_get (drop n types) 0 ≡ Some last
+pub cut_whole : (types : List VType) (n : ℕ) (last : VType) → length types ≡ suc n
+    → slice_get (drop n types) 0 ≡ Some last
     → is_top last ≡ false → cut_tops types ≡ types
 cut_whole [] n last count at is = absurd (omega (arith, count))
 cut_whole (ty ∷ []) zero last count at is =
@@ -48,7 +49,8 @@ cut_empty (ty ∷ types) is = absurd (omega (arith, is))
 module _ (names : Names) where
   -- a Top stays one under new names, and nothing else becomes one
   before_renamed : (ty : VType) (rest : List VType)
-      → before_cut (renamed_vtype names ty) (map (renamed_vtype names) rest) ≡ map (renamed_vtype names) (before_cut ty rest)
+      → before_cut (renamed_vtype names ty) (map (renamed_vtype names) rest)
+      ≡ map (renamed_vtype names) (before_cut ty rest)
   before_renamed vtype.Top [] = refl
   before_renamed vtype.Top (next ∷ rest) = refl
   before_renamed vtype.Int rest = refl
@@ -82,19 +84,6 @@ front_mapped f [] (suc k) = refl
 front_mapped f (x ∷ xs) zero = refl
 front_mapped f (x ∷ xs) (suc k) = ap (λ l. f x ∷ l) (front_mapped f xs k)
 
-pub length_mapped : {A B : Type 0} (f : A → B) (xs : List A) → length (map f xs) ≡ length xs
-length_mapped f [] = refl
-length_mapped f (x ∷ xs) = ap suc (length_mapped f xs)
-
-pub is_false : (b : Bool) → not b ≡ true → b ≡ false
-is_false false e = refl
-is_false true e = absurd cc
-
--- what follows from what is so after Ok
-pub then_ok : {T E P Q : Type 0} (r : Result T E) → (P → Q) → OnOk r P → OnOk r Q
-then_ok (Ok x) f h = f h
-then_ok (Err e) f h = tt
-
 -- a frame with new names
 pub frame_is : (names : Names) (f : FrameAt) (index : ℕ) (locals stack : List VType) → index ≡ f.index
     → locals ≡ map (renamed_vtype names) f.frame.locals → IsCut f → stack ≡ map (renamed_vtype names) f.frame.stack
@@ -109,7 +98,7 @@ pub locals_are : (names : Names) (before now built more : List VType) (len share
     → more ≡ map (renamed_vtype names) (drop shared now) → len ≡ length built
     → take (length built - (len - shared)) built ++ more ≡ map (renamed_vtype names) now
 locals_are names before now built more len shared is few same rest count =
-    let long : length built ≡ length before = ap length is ∙ length_mapped (renamed_vtype names) before in
+    let long : length built ≡ length before = ap length is ∙ length-map before (renamed_vtype names) in
     let kept : length built - (len - shared) ≡ shared = omega (arith, long, few, count) in
     (λ i. take (kept i) (is i) ++ rest i)
     ∙ ap (λ l. l ++ map (renamed_vtype names) (drop shared now)) (front_mapped (renamed_vtype names) before shared)

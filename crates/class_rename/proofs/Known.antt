@@ -1,5 +1,6 @@
 -- Tables of texts that were renamed before.
-use Rattle.std.proofs.Common.{◌≡◌, ℕ, Bool, true, false, cond, List, [], ◌∷◌, Option, Some, None, IfSome, IfOk, Result, Ok, Err, refl, sym, ap, ◌∙◌, subst}
+use Rattle.std.proofs.Common.{◌≡◌, ℕ, Bool, true, false, cond, List, [], ◌∷◌, Option, Some, None, IfSome, IfOk, Result}
+use Rattle.std.proofs.Common.{Ok, Err, refl, sym, ap, ◌∙◌, subst}
 use Rattle.std.specs.Prelude.{nat_eq}
 use Rattle.std.specs.Cmp.Lexicographic.{pointwise}
 use Rattle.std.specs.List.{AllByRecursion}
@@ -36,12 +37,14 @@ module _ (becomes : List ℕ → List ℕ) where
       on false same more = (known.0, more)
 
 -- what is found is what becomes of the text
-pub found_known : (becomes : List ℕ → List ℕ) (table : List (List ℕ × List ℕ)) (text new : List ℕ) → AreKnown becomes table
+pub found_known : (becomes : List ℕ → List ℕ) (table : List (List ℕ × List ℕ)) (text new : List ℕ)
+    → AreKnown becomes table
     → lookup (is_text text) table ≡ Some new → new ≡ becomes text
 found_known becomes table text new known found = found_each becomes table text new known.each found
 
 -- with one more, all are known
-pub more_known : (becomes : List ℕ → List ℕ) (table : List (List ℕ × List ℕ)) (text new : List ℕ) → AreKnown becomes table
+pub more_known : (becomes : List ℕ → List ℕ) (table : List (List ℕ × List ℕ)) (text new : List ℕ)
+    → AreKnown becomes table
     → new ≡ becomes text → AreKnown becomes (insert_entry (pointwise nat_eq) table text new)
 more_known becomes table text new known is = record { each = more_each becomes table text new known.each is }
 
@@ -53,7 +56,8 @@ found_if becomes table text (Some new) known is = found_known becomes table text
 
 -- whether or not one more was put in
 pub kept_known : (becomes : List ℕ → List ℕ) (table grown : List (List ℕ × List ℕ)) (text new : List ℕ) (b : Bool)
-    → grown ≡ cond b (insert_entry (pointwise nat_eq) table text new) table → AreKnown becomes table → new ≡ becomes text
+    → grown ≡ cond b (insert_entry (pointwise nat_eq) table text new) table → AreKnown becomes table
+    → new ≡ becomes text
     → AreKnown becomes grown
 kept_known becomes table grown text new true is known becoming =
     subst (AreKnown becomes) (sym is) (more_known becomes table text new known becoming)

@@ -13,6 +13,7 @@ use Rattle.jv_base.specs.declared.types.FieldType.{FieldType}
 use Rattle.jv_base.specs.declared.types.MethodType.{MethodType}
 use Rattle.jv_base.specs.declared.types.Base.{Base}
 use Rattle.jv_base.specs.declared.types.Base.TheVariants as base
+use Rattle.jv_base.proofs.Lists.{all_weaker}
 use Rattle.format_reading.specs.Spelling.{AllStand}
 use Rattle.class_model.specs.declared.pool.Entry.{Entry}
 use Rattle.class_model.specs.declared.code.Code.{Code}
@@ -39,7 +40,7 @@ use Rattle.class_model.proofs.NameLaw.{HaveUnits}
 use Rattle.class_model.proofs.ConstantLaw.{AllNameRight}
 use Rattle.class_write.specs.ClassValues.{IsFieldTypeValue, IsMethodTypeValue, IsInsValue, IsVTypeValue, IsFrameValue}
 use Rattle.class_write.specs.ClassValues.{IsCodeValue}
-use Rattle.class_write.proofs.SpelledLists.{all_both, all_map}
+use Rattle.class_write.proofs.SpelledLists.{all_both}
 use Rattle.class_write.proofs.FormedPool.{EntryFits, class_formed, type_formed}
 use Rattle.class_write.proofs.FormedOps.{IsFormed, op_formed}
 use Rattle.class_write.proofs.FormedPlaces.{line_fits, tables_fit, starts_long, stand_long, ends_from, ends_ascend}
@@ -171,16 +172,16 @@ module _ (pool : List Entry) (infos : List Info) (code : Code) (long : length (s
       (λ (l : List VType). words_of_types l ≤ words_of_types locals) (sym h.cut) (words_cut locals) in
       let good : IsGoodFrame code frame = record {
         index = let lt = slice_get_within starts frame.index offset h.index in omega (arith, lt, long);
-        locals = all_map Good (IsGoodType code.ins) (λ ty k. k.0) frame.frame.locals mine;
+        locals = all_weaker Good (IsGoodType code.ins) (λ ty k. k.0) frame.frame.locals mine;
         cut = ap cut_tops h.cut ∙ cut_again locals ∙ sym h.cut;
         locals_fit = omega (arith, words, h.locals_fit, locals_is);
-        stack = all_map Good (IsGoodType code.ins) (λ ty k. k.0) frame.frame.stack r.1;
+        stack = all_weaker Good (IsGoodType code.ins) (λ ty k. k.0) frame.frame.stack r.1;
         stack_fits = omega (arith, h.stack_fits, stack_is);
       } in
       let value : IsFrameValue frame = record {
-        locals = all_map Good IsVTypeValue
+        locals = all_weaker Good IsVTypeValue
             (λ ty k. k.1) frame.frame.locals mine;
-        stack = all_map Good IsVTypeValue
+        stack = all_weaker Good IsVTypeValue
             (λ ty k. k.1) frame.frame.stack r.1;
       } in
       ((good, value), r.0)
@@ -340,26 +341,29 @@ module _ (pool : List Entry) (units : HaveUnits pool) (right : AllNameRight pool
       let long : length (starts_of c.infos) ≡ n = starts_long c.infos 0 ∙ infos_many in
       let low = tables_fit (named pool (codes "LineNumberTable") raw.attributes) c.lines c.line_tables in
       let formed = ins_formed (starts_of c.infos) c.lines n long low c.infos code.ins 0 c.instructions in
-      let frames = frames_formed pool c.infos code long raw.max_stack raw.max_locals c.max_stack c.max_locals c.rows code.frames first None typed c.frames in
+      let frames =
+      frames_formed pool c.infos code long raw.max_stack raw.max_locals c.max_stack c.max_locals c.rows code.frames
+      first None typed c.frames in
       let size : length raw.code ≡ length (flat_map info_bytes c.infos) = ap length c.is in
       record {
         good = record {
           some = some_ins c.infos n infos_many (omega (arith, size, c.sizes.length_from));
-          instructions = all_map (Formed n) (λ (i : Ins). IsGoodOp n i.op) (λ i k. k.0.good) code.ins formed;
+          instructions = all_weaker (Formed n) (λ (i : Ins). IsGoodOp n i.op) (λ i k. k.0.good) code.ins formed;
           lines = lines_go_on pool (starts_of c.infos) c.lines c.infos code.ins c.instructions;
           handlers = handlers_formed pool c.infos code long
               (length raw.code) raw.exception_table code.handlers size c.handlers;
-          frames = all_map (λ (f : FrameAt). IsGoodFrame code f × IsFrameValue f) (IsGoodFrame code)
+          frames = all_weaker (λ (f : FrameAt). IsGoodFrame code f × IsFrameValue f) (IsGoodFrame code)
               (λ f k. k.0) code.frames frames;
-          ascending = frames_ascend pool c.infos code long raw.max_stack raw.max_locals c.rows code.frames first None c.frames;
+          ascending = frames_ascend pool c.infos code long raw.max_stack raw.max_locals c.rows code.frames first None
+              c.frames;
         };
         value = record {
           max_stack = omega (arith, c.max_stack, c.sizes.max_stack_fits);
           max_locals = omega (arith, c.max_locals, c.sizes.max_locals_fits);
-          ins = all_map (Formed n) IsInsValue
+          ins = all_weaker (Formed n) IsInsValue
               (λ i k. record { op = k.0.value; pushed = k.0.pushed; line = k.1 }) code.ins formed;
-          frames = all_map (λ (f : FrameAt). IsGoodFrame code f × IsFrameValue f) IsFrameValue
+          frames = all_weaker (λ (f : FrameAt). IsGoodFrame code f × IsFrameValue f) IsFrameValue
               (λ f k. k.1) code.frames frames;
         };
-        words = all_map (Formed n) (λ (i : Ins). HasFewWords i.op) (λ i k. k.0.words) code.ins formed;
+        words = all_weaker (Formed n) (λ (i : Ins). HasFewWords i.op) (λ i k. k.0.words) code.ins formed;
       }

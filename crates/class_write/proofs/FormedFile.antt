@@ -7,6 +7,8 @@ use Rattle.jv_base.specs.Mutf8.{IsUnits}
 use Rattle.jv_base.specs.Types.{argument_words}
 use Rattle.jv_base.specs.declared.access.Access.{Access}
 use Rattle.jv_base.specs.declared.types.FieldType.{FieldType}
+use Rattle.jv_base.proofs.Options.{both_there}
+use Rattle.jv_base.proofs.Lists.{all_at, all_weaker}
 use Rattle.class_model.specs.declared.pool.Entry.{Entry}
 use Rattle.class_model.specs.declared.pool.Entry.TheVariants as entry
 use Rattle.class_model.specs.declared.code.Code.{Code}
@@ -32,19 +34,17 @@ use Rattle.class_model.specs.Frames.{initial_locals}
 use Rattle.class_model.specs.ClassFile.{ClassFile, left_out_of_class, left_out_of_members, first_left_out, AreMethods}
 use Rattle.class_model.specs.ClassFile.{IsClass}
 use Rattle.class_model.specs.WellFormed.{IsClassName, HasFewWords, IsGoodCode, FitsField, IsGoodField, IsGoodMethod}
-use Rattle.class_model.proofs.NameLaw.{HaveUnits, both_there}
+use Rattle.class_model.proofs.NameLaw.{HaveUnits}
 use Rattle.class_model.proofs.ConstantLaw.{AllNameRight}
 use Rattle.class_model.proofs.GoodPool.{pool_units, pool_names}
 use Rattle.class_write.specs.ClassValues.{IsCodeValue, IsFieldConstant, IsFieldValue, IsMethodValue}
 use Rattle.class_write.specs.SpellingLaws.{IsWritable, SpelledIsWritable}
-use Rattle.class_write.proofs.SpelledLists.{all_map}
 use Rattle.class_write.proofs.FormedTexts.{field_value, method_value}
 use Rattle.class_write.proofs.FormedPool.{EntryFits, pool_fits, class_formed}
 use Rattle.class_write.proofs.FormedCode.{IsTypeOf, initial_formed, IsFormedCode, code_formed}
 use Rattle.class_write.proofs.FormedFlags.{meant_again, interface_meant, class_meant, left_out_meant}
 use Rattle.class_write.proofs.FormedFlags.{field_static_meant, field_meant, method_static_meant, native_meant}
 use Rattle.class_write.proofs.FormedFlags.{body_meant, method_meant, initial_meant, body_not_native}
-use Rattle.class_model.proofs.PoolLaw.{all_at}
 
 -- ---- flags
 
@@ -286,20 +286,20 @@ class_formed_of raw c pool h none =
         name = name;
         super_name = class_formed pool raw.super_class c.super_name h.super_name;
         interfaces = classes_formed pool raw.interfaces c.interfaces h.interfaces;
-        fields = all_map (λ (f : Field). IsGoodField in_interface f × IsFieldValue f) (IsGoodField in_interface)
+        fields = all_weaker (λ (f : Field). IsGoodField in_interface f × IsFieldValue f) (IsGoodField in_interface)
             (λ f k. k.0) c.fields fields;
         fields_differ = h.fields_differ;
-        methods = all_map (IsFormedMethod pool units right fits in_interface) (IsGoodMethod in_interface)
+        methods = all_weaker (IsFormedMethod pool units right fits in_interface) (IsGoodMethod in_interface)
             (λ m k. k.0) c.methods methods;
         methods_differ = h.methods_differ;
         source = source_formed pool units _ c.source h.source;
       };
-      counts = all_map (IsFormedMethod pool units right fits in_interface) (Words pool units right fits)
+      counts = all_weaker (IsFormedMethod pool units right fits in_interface) (Words pool units right fits)
           (λ m k. k.2) c.methods methods;
       value = record {
-        fields = all_map (λ (f : Field). IsGoodField in_interface f × IsFieldValue f) IsFieldValue
+        fields = all_weaker (λ (f : Field). IsGoodField in_interface f × IsFieldValue f) IsFieldValue
             (λ f k. k.1) c.fields fields;
-        methods = all_map (IsFormedMethod pool units right fits in_interface) IsMethodValue
+        methods = all_weaker (IsFormedMethod pool units right fits in_interface) IsMethodValue
             (λ m k. k.1) c.methods methods;
       };
     }

@@ -14,6 +14,8 @@ use Rattle.std.proofs.lemmas.List.FromFn.{get_or-range_with_len}
 use Rattle.jv_base.specs.Types.{argument_words, IsMethodType, method_text}
 use Rattle.jv_base.specs.declared.types.FieldType.{FieldType}
 use Rattle.jv_base.specs.declared.types.MethodType.{MethodType}
+use Rattle.jv_base.proofs.Options.{mapped, both_there}
+use Rattle.jv_base.proofs.Lists.{all_at}
 use Rattle.class_model.specs.declared.pool.Entry.{Entry}
 use Rattle.class_model.specs.declared.pool.Entry.TheVariants as entry
 use Rattle.class_model.specs.declared.op.MemberRef.{MemberRef}
@@ -35,15 +37,14 @@ use Rattle.class_model.specs.Instructions.{Makes, IsLoaded, IsLoadedLong, IsMemb
 use Rattle.class_model.specs.Instructions.{Begins}
 use Rattle.class_model.specs.WellFormed.{IsClassOrArray, IsFieldReference, IsMethodReference, IsGoodOp, HasFewWords}
 use Rattle.class_model.specs.OpValues.{IsReferenceValue, IsOpValue}
-use Rattle.class_model.proofs.NameLaw.{HaveUnits, both_there}
-use Rattle.class_model.proofs.LookupLaw.{mapped, method_only}
+use Rattle.class_model.proofs.NameLaw.{HaveUnits}
+use Rattle.class_model.proofs.LookupLaw.{method_only}
 use Rattle.class_model.proofs.ConstantLaw.{AllNameRight}
 use Rattle.class_model.proofs.BackNumbers.{short_fits}
 use Rattle.class_write.specs.ClassValues.{IsPushValue, IsFieldTypeValue}
 use Rattle.class_write.proofs.FormedPool.{EntryFits, class_formed, type_formed, field_formed, method_formed}
 use Rattle.class_write.proofs.FormedPool.{interface_formed}
 use Rattle.class_model.proofs.InstructionOnly.{none_alone}
-use Rattle.class_model.proofs.PoolLaw.{all_at}
 
 -- the instruction of a code of n is well formed, and its numbers and texts are in range
 pub record IsFormed (n : ℕ) (o : Op) : Type 0 where
@@ -394,7 +395,11 @@ module _ (pool : List Entry) (units : HaveUnits pool) (right : AllNameRight pool
   op_formed at (LookupSwitch pad default pairs) o h =
       let t = cases_below starts n at pairs h.cases long h.cases_lead in
       subst (λ (r : Op). IsFormed n r) (sym h.is) (record {
-        good = record { other_target = begins_below starts n _ h.other long h.other_leads.1; targets = t.0; ascending = h.ascending };
+        good = record {
+          other_target = begins_below starts n _ h.other long h.other_leads.1;
+          targets = t.0;
+          ascending = h.ascending;
+        };
         words = tt;
         value = t.1;
         pushed = tt;

@@ -12,6 +12,8 @@ use Rattle.jv_base.specs.Types.{IsFieldType}
 use Rattle.jv_base.specs.declared.types.FieldType.{FieldType}
 use Rattle.jv_base.specs.declared.types.Base.{Base}
 use Rattle.jv_base.specs.declared.types.Base.TheVariants as base
+use Rattle.jv_base.proofs.Options.{both_there}
+use Rattle.jv_base.proofs.Lists.{all_weaker}
 use Rattle.class_model.specs.declared.pool.Entry.{Entry}
 use Rattle.class_model.specs.declared.pool.Entry.TheVariants as entry
 use Rattle.class_model.specs.declared.op.MemberRef.{MemberRef}
@@ -27,9 +29,8 @@ use Rattle.class_model.specs.OpValues.{IsBaseValue, IsReferenceValue}
 use Rattle.class_model.proofs.ConstantLaw.{AllNameRight}
 use Rattle.class_model.proofs.BackEntries.{text_back}
 use Rattle.class_write.specs.ClassValues.{IsFieldTypeValue}
-use Rattle.class_write.proofs.SpelledLists.{all_if, all_whole, all_map}
+use Rattle.class_write.proofs.SpelledLists.{all_if, all_whole}
 use Rattle.class_write.proofs.FormedTexts.{field_value}
-use Rattle.class_model.proofs.NameLaw.{both_there}
 
 -- ---- numbers
 
@@ -61,7 +62,7 @@ constants_fit (k ∷ ks) (e ∷ es) h = (constant_fits k e h.0, constants_fit ks
 entries_fit : (es : List Entry) → AllByRecursion EntryFits es → AllByRecursion EntryFits (numbered es)
 entries_fit es h = (
   tt,
-  all_whole EntryFits places_of es (all_map EntryFits
+  all_whole EntryFits places_of es (all_weaker EntryFits
       (λ e. AllByRecursion EntryFits (places_of e))
       (λ e f. all_if EntryFits (takes_two e) (e ∷ entry.Gap ∷ []) (e ∷ []) (f, (tt, tt)) (f, tt)) es h),
 )
@@ -179,7 +180,10 @@ module _ (pool : List Entry) (right : AllNameRight pool) where
       → slice_get pool index ≡ Some e → interface_methodref_in e ≡ Some h.indices
       → IsReference is_method_name IsMethodText r × IsReferenceValue r
   interface_by
-      (entry.InterfaceMethod i j) index r h there e = referred is_method_name IsMethodText interface_methodref_in i j index r h (let s : (let two : ℕ × ℕ = (i, j) in two) ≡ h.indices = cc in s) (right index (entry.InterfaceMethod i j) there)
+      (entry.InterfaceMethod i j) index r h there e =
+      referred is_method_name IsMethodText interface_methodref_in i j index r h
+      (let s : (let two : ℕ × ℕ = (i, j) in two) ≡ h.indices = cc in s)
+      (right index (entry.InterfaceMethod i j) there)
   interface_by entry.Gap index r h there e = absurd cc
   interface_by (entry.Utf8 u) index r h there e = absurd cc
   interface_by (entry.Integer n) index r h there e = absurd cc

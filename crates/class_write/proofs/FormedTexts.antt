@@ -1,10 +1,10 @@
 -- The names of classes in a descriptor that is a text are texts.
-use Rattle.std.proofs.Common.{◌≡◌, ℕ, zero, suc, ◌<◌, List, [], ◌∷◌, ◌++◌, length, take, drop, get_or, Option, Some}
-use Rattle.std.proofs.Common.{None, refl, sym, ap, subst, append_assoc, arith}
+use Rattle.std.proofs.Common.{◌≡◌, ℕ, zero, suc, ◌<◌, List, [], ◌∷◌, ◌++◌, length, get_or, Option, Some}
+use Rattle.std.proofs.Common.{None, refl, sym, subst, append_assoc, arith}
 use Rattle.std.specs.Prelude.{IsUtf8, IfSome, codes, replicate}
 use Rattle.std.specs.Str.{IsCharBoundary}
 use Rattle.std.specs.List.{AllByRecursion, flat_map}
-use Rattle.std.proofs.lemmas.List.{length-append}
+use Rattle.std.proofs.lemmas.List.{length-append, drop_at, take_at}
 use Rattle.std.proofs.lemmas.Str.{IsUtf8-take, IsUtf8-drop, IsCharBoundary-at_seam, IsCharBoundary-from_take}
 use Rattle.std.proofs.lemmas.Str.{IsCharBoundary-before_ascii}
 use Rattle.jv_base.specs.Types.{base_text, field_text, result_text, method_text}
@@ -13,18 +13,11 @@ use Rattle.jv_base.specs.declared.types.MethodType.{MethodType}
 use Rattle.jv_base.specs.declared.types.Base.{Base}
 use Rattle.jv_base.specs.declared.types.Base.TheVariants as base
 use Rattle.class_model.specs.OpValues.{IsBaseValue}
-use Rattle.class_write.proofs.SpelledWanted.{brackets_utf8, class_utf8, end_utf8, open_utf8, close_utf8}
+use Rattle.class_model.proofs.BackEntries.{class_utf8, end_utf8, brackets_utf8}
+use Rattle.class_write.proofs.SpelledWanted.{open_utf8, close_utf8}
 use Rattle.class_write.specs.ClassValues.{IsFieldTypeValue, IsMethodTypeValue}
 
 -- ---- parts of a text
-
-take_first : (xs ys : List ℕ) → take (length xs) (xs ++ ys) ≡ xs
-take_first [] ys = refl
-take_first (x ∷ xs) ys = ap (λ (l : List ℕ). x ∷ l) (take_first xs ys)
-
-drop_first : (xs ys : List ℕ) → drop (length xs) (xs ++ ys) ≡ ys
-drop_first [] ys = refl
-drop_first (x ∷ xs) ys = drop_first xs ys
 
 there_first : (xs ys : List ℕ) → get_or (xs ++ ys) (length xs) 0 ≡ get_or ys 0 0
 there_first [] ys = refl
@@ -33,14 +26,14 @@ there_first (x ∷ xs) ys = there_first xs ys
 -- cut where both parts are texts
 cut : (xs ys : List ℕ) → IsUtf8 (xs ++ ys) → IsCharBoundary (xs ++ ys) (length xs) → IsUtf8 xs × IsUtf8 ys
 cut xs ys h b = (
-  subst (λ (l : List ℕ). IsUtf8 l) (take_first xs ys) (IsUtf8-take (xs ++ ys) (length xs) h b),
-  subst (λ (l : List ℕ). IsUtf8 l) (drop_first xs ys) (IsUtf8-drop (xs ++ ys) (length xs) h b),
+  subst (λ (l : List ℕ). IsUtf8 l) (take_at xs ys (length xs) refl) (IsUtf8-take (xs ++ ys) (length xs) h b),
+  subst (λ (l : List ℕ). IsUtf8 l) (drop_at xs ys (length xs) refl) (IsUtf8-drop (xs ++ ys) (length xs) h b),
 )
 
 pub utf8_behind : (xs ys : List ℕ) → IsUtf8 xs → IsUtf8 (xs ++ ys) → IsUtf8 ys
 utf8_behind xs ys front h =
     (cut xs ys h (IsCharBoundary-from_take (xs ++ ys) (length xs) h (omega (arith, length-append xs ys))
-    (subst (λ (l : List ℕ). IsUtf8 l) (sym (take_first xs ys)) front))).1
+    (subst (λ (l : List ℕ). IsUtf8 l) (sym (take_at xs ys (length xs) refl)) front))).1
 
 pub utf8_before : (xs ys : List ℕ) → IsUtf8 ys → IsUtf8 (xs ++ ys) → IsUtf8 xs
 utf8_before xs ys back h = (cut xs ys h (IsCharBoundary-at_seam (xs ++ ys) xs ys refl back)).0

@@ -1,8 +1,8 @@
 -- Codes with the places of their instructions.
-use Rattle.std.proofs.Common.{◌≡◌, ℕ, ◌+◌, ◌^◌, ◌<◌, ◌≤◌, Bool, true, false, cond, List, [], ◌∷◌, ◌++◌, length, take}
+use Rattle.std.proofs.Common.{◌≡◌, ℕ, ◌+◌, ◌^◌, ◌<◌, ◌≤◌, Bool, true, false, List, [], ◌∷◌, ◌++◌, length, take}
 use Rattle.std.proofs.Common.{Option, Some, Result, Ok, Err, refl, sym, ap, ◌∙◌, arith}
 use Rattle.std.specs.Prelude.{All, nat_lt, slice_index}
-use Rattle.std.specs.List.{flat_map, AllByRecursion}
+use Rattle.std.specs.List.{AllByRecursion}
 use Rattle.std.proofs.lemmas.Bool.{ltb-true}
 use Rattle.std.proofs.lemmas.List.{length-append}
 use Rattle.std.proofs.lemmas.List.Elements.{All-from_recursion}
@@ -12,7 +12,6 @@ use Rattle.jv_base.specs.declared.outcome.Or.{Or}
 use Rattle.jv_base.specs.declared.outcome.Or.TheVariants.{Fault, OutOfMemory}
 use Rattle.jv_base.specs.Outcome.{◌>>=◌, FaultIs}
 use Rattle.class_model.specs.declared.limit.WriteLimit.{WriteLimit}
-use Rattle.class_model.specs.declared.limit.WriteLimit.TheVariants.{CodeTooLong}
 use Rattle.class_model.specs.declared.constant.PoolConstant.{PoolConstant}
 use Rattle.class_model.specs.declared.constant.PoolConstant.TheVariants.{Integer, Long, Str}
 use Rattle.class_model.specs.declared.op.Op.{Op}
@@ -21,11 +20,13 @@ use Rattle.class_model.specs.declared.code.Code.{Code}
 use Rattle.class_model.specs.declared.code.Ins.{Ins}
 use Rattle.class_model.specs.InstructionStructure.{info_bytes}
 use Rattle.class_model.specs.CanonicalPool.{same, fieldref, methodref, class_constant, type_name}
-use Rattle.class_model.specs.CanonicalCode.{op_info, size_of, places_from, places, infos_from, code_bytes}
+use Rattle.class_model.specs.CanonicalCode.{op_info, size_of, places_from, places, code_bytes}
 use Rattle.class_model.specs.WriteLimits.{branches_fit, code_fits}
 use Rattle.class_model.proofs.BackSizes.{size_is}
 use Rattle.jv_ops.specs.declared.writing.encoding.Coded.{Coded}
 use Rattle.jv_ops.specs.Coded.{HasIndex, HasIndices, placed, coded}
+use Rattle.jv_ops.proofs.Ready.{fit}
+use Rattle.jv_ops.proofs.Ends.{bytes_from}
 use Rattle.class_write.specs.declared.placing.PlacedCode.{PlacedCode}
 use Rattle.class_write.specs.bodies.Placing.{placed_code, code_due}
 
@@ -67,24 +68,20 @@ module _ (pool : List PoolConstant) (few : length pool + 1 < 2 ^ 16) where
 -- ---- places
 
 module _ (pool : List PoolConstant) where
-  -- the bytes of instructions whose targets are at these places
-  abbrev bytes_from : List ℕ → ℕ → List Ins → List ℕ
-  bytes_from all at ins = flat_map info_bytes (infos_from pool all at ins)
-
   bytes_behind : (all : List ℕ) (at : ℕ) (i : Ins) (ins : List Ins)
-      → at + length (bytes_from all at (i ∷ ins))
-      ≡ at + size_of pool at i.op + length (bytes_from all (at + size_of pool at i.op) ins)
+      → at + length (bytes_from pool all at (i ∷ ins))
+      ≡ at + size_of pool at i.op + length (bytes_from pool all (at + size_of pool at i.op) ins)
   bytes_behind all at i ins =
       let info = op_info pool (slice_index all) at i.op in
       omega (
         arith,
         size_is pool (slice_index all) at i.op,
         length-append (info_bytes info)
-            (bytes_from all (at + size_of pool at i.op) ins),
+            (bytes_from pool all (at + size_of pool at i.op) ins),
       )
 
   last_is : (all : List ℕ) (at : ℕ) (ins : List Ins)
-      → take (length ins) (places_from pool at ins) ++ (at + length (bytes_from all at ins)) ∷ []
+      → take (length ins) (places_from pool at ins) ++ (at + length (bytes_from pool all at ins)) ∷ []
       ≡ places_from pool at ins
   last_is all at [] = ap (λ k. k ∷ []) (let e : at + 0 ≡ at = omega arith in e)
   last_is all at (i ∷ ins) =
@@ -97,10 +94,10 @@ module _ (pool : List PoolConstant) where
       → take (length ins) (places pool ins) ++ length (code_bytes pool all ins) ∷ [] ≡ places pool ins
   unfolding places code_bytes
   places_end all ins = ap (λ k. take (length ins) (places_from pool 0 ins) ++ k ∷ [])
-      (let e : length (bytes_from all 0 ins) ≡ 0
-      + length (bytes_from all 0 ins) = omega arith in e) ∙ last_is all 0 ins
+      (let e : length (bytes_from pool all 0 ins) ≡ 0
+      + length (bytes_from pool all 0 ins) = omega arith in e) ∙ last_is all 0 ins
 
-  all_short : (all : List ℕ) (n at : ℕ) (ins : List Ins) → at + length (bytes_from all at ins) < n
+  all_short : (all : List ℕ) (n at : ℕ) (ins : List Ins) → at + length (bytes_from pool all at ins) < n
       → AllByRecursion (λ place. place < n) (places_from pool at ins)
   all_short all n at [] lt = (omega arith, tt)
   all_short all n at (i ∷ ins) lt =
@@ -115,10 +112,6 @@ module _ (pool : List PoolConstant) where
       (all_short all n 0 ins (omega (arith, lt)))
 
 -- ---- the code
-
--- the same with what is tested, the length, the places and the branches as variables
-abbrev fit : Bool → ℕ → Result (Unit {0}) WriteLimit
-fit b n = cond b (Ok tt) (Err (CodeTooLong n))
 
 abbrev coded_as : Bool → ℕ → List ℕ → (List ℕ → Result (Unit {0}) WriteLimit) → (List ℕ → Coded)
     → Result Coded WriteLimit

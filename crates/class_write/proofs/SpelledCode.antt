@@ -5,6 +5,7 @@ use Rattle.std.specs.Prelude.{codes, IfSome, slice_index}
 use Rattle.std.specs.List.{AllByRecursion, flat_map, list_any}
 use Rattle.std.specs.Int.{w16, w32, to_be_bytes}
 use Rattle.std.proofs.lemmas.List.{length-map, length-append}
+use Rattle.jv_base.proofs.Lists.{all_weaker}
 use Rattle.class_model.specs.declared.constant.PoolConstant.{PoolConstant}
 use Rattle.class_model.specs.declared.code.Code.{Code}
 use Rattle.class_model.specs.declared.code.Ins.{Ins}
@@ -30,7 +31,7 @@ use Rattle.class_model.specs.CanonicalClass.{code_contents}
 use Rattle.class_model.specs.bodies.PoolEntries.{entries_of, Has}
 use Rattle.class_model.proofs.BackCode.{infos}
 use Rattle.class_write.specs.ClassValues.{IsInsValue}
-use Rattle.class_write.proofs.SpelledLists.{all_front, all_back, all_map, all_both}
+use Rattle.class_write.proofs.SpelledLists.{all_front, all_back, all_both}
 use Rattle.class_write.proofs.SpelledWanted.{HasAll}
 use Rattle.class_write.proofs.SpelledAttributes.{lines_units, map_units, named_left, named_right, named_this}
 use Rattle.class_write.proofs.SpelledAttributes.{named_other, few, attribute_is}
@@ -103,7 +104,7 @@ short_each (a ∷ others) =
     let parts = length-append head (size ++ a.info) in
     let inner = length-append size a.info in (
       omega (arith, whole, parts, inner),
-      all_map (λ (b : AttributeInfo). length b.info ≤ length rest)
+      all_weaker (λ (b : AttributeInfo). length b.info ≤ length rest)
           (λ (b : AttributeInfo). length b.info ≤ length (attribute_info a ++ rest))
           (λ b le. omega (arith, le, whole)) others (short_each others),
     )
@@ -215,7 +216,7 @@ module _ (pool : List PoolConstant) (first : List VType) (code : Code) (s : IsSp
   lengths =
       let raw = code_raw pool first all code in
       let le = attributes_short raw in
-      all_map (λ (a : AttributeInfo). length a.info ≤ length (flat_map attribute_info (xs ++ ys)))
+      all_weaker (λ (a : AttributeInfo). length a.info ≤ length (flat_map attribute_info (xs ++ ys)))
       (λ (a : AttributeInfo). length a.info < 2 ^ 32) (λ a k. omega (arith, k, le, s.short)) (xs ++ ys)
       (short_each (xs ++ ys))
 
@@ -258,7 +259,7 @@ module _ (pool : List PoolConstant) (first : List VType) (code : Code) (s : IsSp
       subst (λ (l : List AttributeInfo). AreLineTables l lines) (sym e)
       (table_is pool all lines few_lines
       (rows_fit pool all code.ins None 0 low
-      (all_map IsInsValue (λ (i : Ins). IfSome i.line (λ m. m < 2 ^ 16))
+      (all_weaker IsInsValue (λ (i : Ins). IfSome i.line (λ m. m < 2 ^ 16))
       (λ i v. v.line) code.ins s.written.value.ins)))
 
   map_by : (b : Bool) → is_some_item code.frames ≡ b

@@ -46,8 +46,9 @@ use Rattle.class_write.specs.ClassValues.{IsFieldValue, IsMethodValue, IsClassVa
 use Rattle.class_write.proofs.SpelledLists.{all_front, all_back, all_both, all_two, all_put}
 use Rattle.class_write.proofs.SpelledPool.{IsRight, pool_is}
 use Rattle.class_write.proofs.SpelledWanted.{HasAll, AllRight, text_right, class_right, type_right, string_right}
-use Rattle.class_write.proofs.SpelledWanted.{pushed_right, op_right, field_utf8, method_utf8}
+use Rattle.class_write.proofs.SpelledWanted.{pushed_right, op_right, method_utf8}
 use Rattle.class_model.proofs.BackCode.{both_passed}
+use Rattle.class_model.proofs.BackEntries.{field_utf8}
 use Rattle.class_write.proofs.Fitting.{count_ok}
 
 -- ---- names of attributes

@@ -17,6 +17,7 @@ use Rattle.jv_base.specs.declared.types.Base.{Base}
 use Rattle.jv_base.specs.declared.types.Base.TheVariants as base
 use Rattle.jv_base.proofs.Equality.{text_Decides}
 use Rattle.jv_base.proofs.FieldLaw.{read_field-only}
+use Rattle.jv_base.proofs.Lists.{all_weaker}
 use Rattle.class_model.specs.declared.constant.PoolConstant.{PoolConstant}
 use Rattle.class_model.specs.declared.constant.PoolConstant.TheVariants.{Class}
 use Rattle.class_model.specs.declared.code.Code.{Code}
@@ -40,12 +41,12 @@ use Rattle.class_model.specs.WellFormed.{IsClassName, IsGoodType, IsGoodFrame, A
 use Rattle.class_model.proofs.BackPool.{index_fits}
 use Rattle.class_model.proofs.BackCode.{infos}
 use Rattle.class_write.specs.ClassValues.{IsVTypeValue, IsFrameValue}
-use Rattle.class_write.proofs.SpelledLists.{all_front, all_back, all_two, all_map, all_each}
+use Rattle.class_write.proofs.SpelledLists.{all_front, all_back, all_two, all_each}
 use Rattle.class_write.proofs.SpelledPool.{IsTypeNamed, type_there}
 use Rattle.class_write.proofs.SpelledWanted.{HasAll}
 use Rattle.class_write.proofs.SpelledConstants.{types_of_form}
 use Rattle.class_write.proofs.SpelledInstructions.{IsWritten, begins_at, place_low, ascends}
-use Rattle.frame_types.proofs.BackGood.{fewer_than_words}
+use Rattle.frame_types.proofs.BackGood.{fewer_than_words, tail_pairs}
 
 -- ---- types that are the same
 
@@ -349,7 +350,7 @@ module _ (pool : List PoolConstant) (code : Code) (w : IsWritten pool code) wher
         stands = row_is before locals stack delta (delta_low previous frame.index is.0.index)
             (omega (arith, few, is.0.locals_fit, w.value.max_locals))
             (omega (arith, few_items, is.0.stack_fits, w.value.max_stack)) typed
-            (all_map IsGood IsTyped typed_by locals good_locals) stands;
+            (all_weaker IsGood IsTyped typed_by locals good_locals) stands;
         offset_is = offset_at previous frame.index is.0.index behind;
         index = begins_at pool code w frame.index is.0.index;
         cut = sym is.0.cut;
@@ -373,12 +374,9 @@ module _ (pool : List PoolConstant) (code : Code) (w : IsWritten pool code) wher
         slice_index all frame.index,
         frame_is before previous frame typed is.0 follow.0
             (all_front (Has pool) these (frame_constants locals frames) has),
-        frames_by frames locals (Some frame.index) (all_map IsGood IsTyped typed_by locals good_locals) is.1 follow.1
+        frames_by frames locals (Some frame.index) (all_weaker IsGood IsTyped typed_by locals good_locals) is.1 follow.1
             (all_back (Has pool) these (frame_constants locals frames) has),
       )
-
-  tail_pairs : (frame : FrameAt) (frames : List FrameAt) → AllPairs Ascend (frame ∷ frames) → AllPairs Ascend frames
-  tail_pairs frame frames pairs = λ i j d lt within. pairs (suc i) (suc j) d (omega (arith, lt)) (omega (arith, within))
 
   follow_on : (frame : FrameAt) (frames : List FrameAt) → AllPairs Ascend (frame ∷ frames)
       → Follow (Some frame.index) frames

@@ -7,6 +7,7 @@ use Rattle.std.specs.List.{AllByRecursion, AllZip, flat_map}
 use Rattle.std.proofs.lemmas.List.{length-append}
 use Rattle.std.proofs.lemmas.Option.{slice_get-get_or}
 use Rattle.jv_base.specs.Utf16.{units_of}
+use Rattle.jv_base.proofs.Lists.{all_weaker}
 use Rattle.format_reading.specs.Spelling.{AllStand}
 use Rattle.class_model.specs.declared.constant.PoolConstant.{PoolConstant}
 use Rattle.class_model.specs.declared.constant.PoolConstant.TheVariants.{Class}
@@ -32,7 +33,7 @@ use Rattle.class_model.proofs.BackPlaces.{begins, begins_are, begins_long, place
 use Rattle.class_model.proofs.BackCode.{op_in, infos}
 use Rattle.class_model.proofs.BackRead.{code_back, meant_back}
 use Rattle.class_write.specs.ClassValues.{IsInsValue, IsCodeValue}
-use Rattle.class_write.proofs.SpelledLists.{all_front, all_back, all_map, all_each}
+use Rattle.class_write.proofs.SpelledLists.{all_front, all_back, all_each}
 use Rattle.class_write.proofs.SpelledPool.{have_units, class_units_there}
 use Rattle.class_write.proofs.SpelledWanted.{HasAll, AllRight}
 use Rattle.class_write.proofs.SpelledBytes.{code_is_bytes}
@@ -104,7 +105,7 @@ module _ (pool : List PoolConstant) (code : Code) (w : IsWritten pool code) wher
   bytes = code_bytes pool all code.ins
 
   values : AllByRecursion (λ (i : Ins). IsOpValue i.op) code.ins
-  values = all_map IsInsValue (λ (i : Ins). IsOpValue i.op) (λ i v. v.op) code.ins w.value.ins
+  values = all_weaker IsInsValue (λ (i : Ins). IsOpValue i.op) (λ i v. v.op) code.ins w.value.ins
 
   writable : IsWritableCode (entries_of pool) pool code.ins
   writable = record {

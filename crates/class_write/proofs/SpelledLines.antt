@@ -1,10 +1,11 @@
 -- Rows of lines as they are written stand for the lines of the instructions (JVMS 4.7.12).
 use Rattle.std.proofs.Common.{◌≡◌, ℕ, suc, ◌+◌, ◌^◌, ◌<◌, ◌≤◌, Bool, true, false, not, cond, eqb, leb, List, [], ◌∷◌}
 use Rattle.std.proofs.Common.{◌++◌, length, map, get_or, Option, Some, None, refl, ap, ◌∙◌, arith, subst, sym}
-use Rattle.std.specs.Prelude.{codes, AllPairs, IfSome, IsSome, fold, option_map, slice_index}
+use Rattle.std.specs.Prelude.{codes, AllPairs, IfSome, IsSome, fold, slice_index}
 use Rattle.std.specs.List.{AllByRecursion}
 use Rattle.std.proofs.lemmas.Bool.{ne_eqb, eqb-true, le-leb, lt-leb}
 use Rattle.std.proofs.lemmas.List.{append-nil, length-append}
+use Rattle.class_read.proofs.LineTable.{number}
 use Rattle.class_model.specs.declared.constant.PoolConstant.{PoolConstant}
 use Rattle.class_model.specs.declared.code.Ins.{Ins}
 use Rattle.class_model.specs.declared.op.Op.{Op}
@@ -19,10 +20,6 @@ use Rattle.class_model.proofs.BackSizes.{info_is_there, size_is}
 use Rattle.class_model.proofs.BackPlaces.{begins}
 use Rattle.class_model.proofs.BackCode.{op_in}
 use Rattle.class_write.proofs.SpelledLists.{all_both}
-
--- the line of a row that was found
-abbrev line_of : Option LineNumber → Option ℕ
-line_of best = option_map (λ (row : LineNumber). row.line_number) best
 
 -- it lies at or before an offset
 abbrev IsBefore : Option LineNumber → ℕ → Type 0
@@ -84,14 +81,14 @@ abbrev GoesOn : Option ℕ → Option ℕ → Type 0
 GoesOn before line = IsSome before → IsSome line
 
 now_line : (best : Option LineNumber) (before : Option ℕ) (at : ℕ) (line : Option ℕ) → GoesOn before line
-    → line_of best ≡ before → line_of (now best before at line) ≡ line
+    → number best ≡ before → number (now best before at line) ≡ line
 now_line best None at None on h = h
 now_line best (Some b) at None on h = absurd (let e = on refl in cc)
 now_line best None at (Some line) on h = refl
 now_line best (Some b) at (Some line) on h = by (eqb b line) refl
   where
     by : (e : Bool) → eqb b line ≡ e
-        → line_of (cond (not e) (Some (record { start_pc = at; line_number = line })) best) ≡ Some line
+        → number (cond (not e) (Some (record { start_pc = at; line_number = line })) best) ≡ Some line
     by true e = h ∙ ap (λ (n : ℕ). Some n) (eqb-true b line e)
     by false e = refl
 
@@ -144,7 +141,7 @@ module _ (pool : List PoolConstant) (all : List ℕ) where
   IsFrom rows at best rest = (start : ℕ) → at ≤ start → fold (nearer start) None rows ≡ fold (nearer start) best rest
 
   lines_by : (rows : List LineNumber) (ins : List Ins) (n at : ℕ) (best : Option LineNumber) (before : Option ℕ)
-      → AreAt n at ins → Follow before ins → IsBefore best at → line_of best ≡ before
+      → AreAt n at ins → Follow before ins → IsBefore best at → number best ≡ before
       → IsFrom rows at best (line_rows_from before all n ins)
       → with_lines rows at (infos_from pool all at ins) (map op_in ins) ≡ ins
   lines_by rows [] n at best before are follow low is from = refl
@@ -160,7 +157,7 @@ module _ (pool : List PoolConstant) (all : List ℕ) where
       ∙ ap (λ (k : ℕ). fold (nearer start) best (line_row before k i.line ++ rest)) (at_first n at i ins are)
       ∙ row_counts best before at start i.line rest le low in
       let line : line_at rows at ≡ i.line =
-      ap line_of (here at (omega arith) ∙ rows_passed ins (n + 1) next at best_now i.line (at_rest n at i ins are)
+      ap number (here at (omega arith) ∙ rows_passed ins (n + 1) next at best_now i.line (at_rest n at i ins are)
       (omega (arith, some))) ∙ now_line best before at i.line follow.0 is in
       let others : with_lines rows next (infos_from pool all next ins) (map op_in ins) ≡ ins =
       lines_by rows ins (n + 1) next best_now i.line (at_rest n at i ins are) follow.1

@@ -16,12 +16,6 @@ module _ {A : Type 0} (P : A → Type 0) where
   all_both [] ys h k = k
   all_both (x ∷ xs) ys h k = (h.0, all_both xs ys h.1 k)
 
--- of all items what follows for each
-pub all_map : {A : Type 0} (P Q : A → Type 0) → ((x : A) → P x → Q x) → (xs : List A) → AllByRecursion P xs
-    → AllByRecursion Q xs
-all_map P Q f [] h = tt
-all_map P Q f (x ∷ xs) h = (f x h.0, all_map P Q f xs h.1)
-
 pub all_two : {A : Type 0} (P Q R : A → Type 0) → ((x : A) → P x → Q x → R x) → (xs : List A) → AllByRecursion P xs
     → AllByRecursion Q xs → AllByRecursion R xs
 all_two P Q R f [] h k = tt

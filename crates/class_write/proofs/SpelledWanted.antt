@@ -1,7 +1,7 @@
 -- The constants that a well-formed class wants stand with their parts in a pool that has them (JVMS 4.4).
-use Rattle.std.proofs.Common.{◌≡◌, inl, inr, ℕ, zero, suc, ◌<◌, Bool, true, false, cond, eqb}
+use Rattle.std.proofs.Common.{◌≡◌, inl, inr, ℕ, zero, suc, ◌<◌, Bool, true, false}
 use Rattle.std.proofs.Common.{List, [], ◌∷◌, ◌++◌, Option, Some, None, refl, arith}
-use Rattle.std.specs.Prelude.{IsUtf8, IfSome, codes, replicate}
+use Rattle.std.specs.Prelude.{IsUtf8, IfSome, codes}
 use Rattle.std.specs.Char.Escape.{encode_utf16}
 use Rattle.std.specs.Str.{chars, all_scalars}
 use Rattle.std.specs.List.{AllByRecursion, flat_map}
@@ -11,23 +11,24 @@ use Rattle.std.proofs.lemmas.Str.{IsUtf8-append, IsUtf8-nil, scalars-chars}
 use Rattle.jv_base.specs.Mutf8.{IsUnits}
 use Rattle.jv_base.specs.Utf16.{units_of}
 use Rattle.jv_base.specs.Names.{is_member_name, is_method_name}
-use Rattle.jv_base.specs.Types.{field_text, base_text, result_text, method_text}
+use Rattle.jv_base.specs.Types.{field_text, result_text, method_text}
 use Rattle.jv_base.specs.declared.types.FieldType.{FieldType}
 use Rattle.jv_base.specs.declared.types.MethodType.{MethodType}
-use Rattle.jv_base.specs.declared.types.Base.{Base}
 use Rattle.jv_base.specs.declared.types.Base.TheVariants as base
 use Rattle.class_model.specs.declared.constant.PoolConstant.{PoolConstant}
-use Rattle.class_model.specs.declared.constant.PoolConstant.TheVariants.{Integer, Methodref, InterfaceMethodref}
+use Rattle.class_model.specs.declared.constant.PoolConstant.TheVariants.{Integer}
 use Rattle.class_model.specs.declared.op.MemberRef.{MemberRef}
 use Rattle.class_model.specs.declared.op.Op.{Op}
 use Rattle.class_model.specs.declared.op.Op.TheVariants as op
 use Rattle.class_model.specs.ConstantPool.{IsFieldText, IsMethodText, class_type}
-use Rattle.class_model.specs.CanonicalPool.{type_name, type_name_of_base, text_constants, class_constants}
+use Rattle.class_model.specs.CanonicalPool.{type_name, text_constants, class_constants}
 use Rattle.class_model.specs.CanonicalPool.{string_constants, long_constants, with_parts, fieldref, methodref}
 use Rattle.class_model.specs.CanonicalCode.{is_short, is_lconst, pushed_constants, op_constants}
 use Rattle.class_model.specs.bodies.PoolEntries.{Has}
 use Rattle.class_model.specs.WellFormed.{IsClassName, IsClassOrArray, IsReference, IsGoodOp}
 use Rattle.class_model.specs.OpValues.{IsBaseValue, IsReferenceValue, IsOpValue}
+use Rattle.class_model.proofs.BackEntries.{field_utf8, name_utf8}
+use Rattle.class_model.proofs.BackMembers.{constant_by}
 use Rattle.class_write.specs.ClassValues.{IsPushValue, IsFieldTypeValue, IsMethodTypeValue}
 use Rattle.class_write.proofs.SpelledLists.{all_both, all_if}
 use Rattle.class_write.proofs.SpelledPool.{IsTypeNamed, AreNamed, IsDescriptor, HasParts, IsRight}
@@ -63,56 +64,6 @@ units_are text utf8 = each_unit (flat_map encode_utf16 (chars text))
     (chars_units (chars text) (scalars-chars text utf8))
 
 -- ---- texts of types
-
--- one byte below 128
-bracket_utf8 : IsUtf8 (91 ∷ [])
-unfolding lib.Utf8.encode
-bracket_utf8 = (91 ∷ [], (refl, refl))
-
-pub class_utf8 : IsUtf8 (codes "L")
-unfolding lib.Utf8.encode
-class_utf8 = (codes "L", (refl, refl))
-
-pub end_utf8 : IsUtf8 (codes ";")
-unfolding lib.Utf8.encode
-end_utf8 = (codes ";", (refl, refl))
-
-pub brackets_utf8 : (n : ℕ) → IsUtf8 (replicate n 91)
-brackets_utf8 zero = IsUtf8-nil
-brackets_utf8 (suc n) = IsUtf8-append (91 ∷ []) (replicate n 91) bracket_utf8 (brackets_utf8 n)
-
-base_utf8 : (b : Base) → IsBaseValue b → IsUtf8 (base_text b)
-unfolding base_text lib.Utf8.encode
-base_utf8 (base.Class name) h = IsUtf8-append (codes "L") (name ++ codes ";") class_utf8
-    (IsUtf8-append name (codes ";") h end_utf8)
-base_utf8 base.Boolean h = (codes "Z", (refl, refl))
-base_utf8 base.Byte h = (codes "B", (refl, refl))
-base_utf8 base.Char h = (codes "C", (refl, refl))
-base_utf8 base.Short h = (codes "S", (refl, refl))
-base_utf8 base.Int h = (codes "I", (refl, refl))
-base_utf8 base.Long h = (codes "J", (refl, refl))
-base_utf8 base.Float h = (codes "F", (refl, refl))
-base_utf8 base.Double h = (codes "D", (refl, refl))
-
--- a descriptor's
-pub field_utf8 : (ty : FieldType) → IsBaseValue ty.base → IsUtf8 (field_text ty)
-unfolding field_text
-field_utf8 ty h = IsUtf8-append (replicate ty.dims 91) (base_text ty.base) (brackets_utf8 ty.dims) (base_utf8 ty.base h)
-
-either_utf8 : (b : Bool) (one other : List ℕ) → IsUtf8 one → IsUtf8 other → IsUtf8 (cond b one other)
-either_utf8 true one other h k = h
-either_utf8 false one other h k = k
-
-name_utf8 : (ty : FieldType) (b : Base) → IsBaseValue b → IsUtf8 (field_text ty) → IsUtf8 (type_name_of_base ty b)
-name_utf8 ty (base.Class name) h k = either_utf8 (eqb ty.dims 0) name (field_text ty) h k
-name_utf8 ty base.Boolean h k = k
-name_utf8 ty base.Byte h k = k
-name_utf8 ty base.Char h k = k
-name_utf8 ty base.Short h k = k
-name_utf8 ty base.Int h k = k
-name_utf8 ty base.Long h k = k
-name_utf8 ty base.Float h k = k
-name_utf8 ty base.Double h k = k
 
 pub type_utf8 : (ty : FieldType) → IsBaseValue ty.base → IsUtf8 (type_name ty)
 type_utf8 ty h = name_utf8 ty ty.base h (field_utf8 ty h)
@@ -242,17 +193,12 @@ module _ (pool : List PoolConstant) where
   field_right r good value h = with_parts_right is_member_name IsFieldText r (fieldref r) as_method_name
       (λ t d. inl d) good value h (parts_are is_member_name IsFieldText r (fieldref r) good value h)
 
-  -- a method's, by whether it is one of an interface
-  abbrev method_of : Bool → MemberRef → PoolConstant
-  method_of b r = cond b (InterfaceMethodref (units_of (type_name r.class)) (units_of r.name) (units_of r.ty))
-      (Methodref (units_of (type_name r.class)) (units_of r.name) (units_of r.ty))
-
   method_by : (b : Bool) (r : MemberRef) → IsReference is_method_name IsMethodText r → IsReferenceValue r
-      → HasAll (with_parts r (method_of b r)) → AllRight (with_parts r (method_of b r))
-  method_by true r good value h = with_parts_right is_method_name IsMethodText r (method_of true r) (λ t n. n)
-      (λ t d. inr d) good value h (parts_are is_method_name IsMethodText r (method_of true r) good value h)
-  method_by false r good value h = with_parts_right is_method_name IsMethodText r (method_of false r) (λ t n. n)
-      (λ t d. inr d) good value h (parts_are is_method_name IsMethodText r (method_of false r) good value h)
+      → HasAll (with_parts r (constant_by b r)) → AllRight (with_parts r (constant_by b r))
+  method_by true r good value h = with_parts_right is_method_name IsMethodText r (constant_by true r) (λ t n. n)
+      (λ t d. inr d) good value h (parts_are is_method_name IsMethodText r (constant_by true r) good value h)
+  method_by false r good value h = with_parts_right is_method_name IsMethodText r (constant_by false r) (λ t n. n)
+      (λ t d. inr d) good value h (parts_are is_method_name IsMethodText r (constant_by false r) good value h)
 
   method_right : (r : MemberRef) → IsReference is_method_name IsMethodText r → IsReferenceValue r
       → HasAll (with_parts r (methodref r)) → AllRight (with_parts r (methodref r))

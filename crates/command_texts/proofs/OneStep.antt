@@ -1,15 +1,10 @@
 -- Steps of which one thing at most comes: a step is refused, or another one follows it.
 use Rattle.std.proofs.Common.{◌≡◌, ◌⊎◌, inl, inr, Result, Ok, Err, sym, ap, subst, ◌∙◌}
+use Rattle.jv_base.proofs.Results.{same_ok, same_fault}
 
 -- one value at most is so
 abbrev pub IsOne : {X : Type 0} → (X → Type 0) → Type 0
 IsOne {X} R = (one other : X) → R one → R other → one ≡ other
-
-pub same_ok : {V X : Type 0} (x y : V) → (let R : Result V X = Ok x in R) ≡ Ok y → x ≡ y
-same_ok x y h = cc
-
-pub same_err : {V X : Type 0} (x y : X) → (let R : Result V X = Err x in R) ≡ Err y → x ≡ y
-same_err x y h = cc
 
 pub no_err : {V X : Type 0} (x : V) (y : X) → (let R : Result V X = Ok x in R) ≡ Err y → ⊥
 no_err x y h = absurd cc
@@ -25,7 +20,7 @@ Then {A} {B} {X} First Next z = ((refusal : X) × First (Err refusal) × (z ≡ 
 pub then_one : {A B X : Type 0} (First : Result A X → Type 0) (Next : A → Result B X → Type 0) → IsOne First
     → ((x : A) → IsOne (Next x)) → IsOne (Then First Next)
 then_one First Next first next one other (inl h) (inl k) =
-    h.2 ∙ (ap Err (same_err h.0 k.0 (first (Err h.0) (Err k.0) h.1 k.1)) ∙ sym k.2)
+    h.2 ∙ (ap Err (same_fault h.0 k.0 (first (Err h.0) (Err k.0) h.1 k.1)) ∙ sym k.2)
 then_one First Next first next one other (inl h) (inr k) = absurd (no_err k.0 h.0 (first (Ok k.0) (Err h.0) k.1 h.1))
 then_one First Next first next one other (inr h) (inl k) = absurd (no_err h.0 k.0 (first (Ok h.0) (Err k.0) h.1 k.1))
 then_one {A} First Next first next one other (inr h) (inr k) =

@@ -1,5 +1,6 @@
 -- What clap answers, by the definition of the command line.
-use Rattle.std.proofs.Common.{◌≡◌, ◌≢◌, ◌⊎◌, ℕ, Bool, true, false, List, [], ◌∷◌, Option, Some, None, Result, Ok, Err, refl, sym, ap, subst, ◌∙◌, inl, inr}
+use Rattle.std.proofs.Common.{◌≡◌, ◌≢◌, ◌⊎◌, ℕ, Bool, true, false, List, [], ◌∷◌, Option, Some, None, Result, Ok, Err}
+use Rattle.std.proofs.Common.{refl, sym, ap, subst, ◌∙◌, inl, inr, codes}
 use Rattle.std.specs.Prelude.{IfOk, OnOk}
 use Rattle.jv_base.specs.declared.outcome.OutOfMemory.{OutOfMemory}
 use Rattle.clap.specs.declared.parser.matches.ArgMatches.{ArgMatches}
@@ -21,13 +22,14 @@ use Rattle.clap.proofs.OnLiterals.{clap_on_literals}
 use Rattle.clap.proofs.WalkLemmas.{find_row}
 use Rattle.command_words.specs.CommandLine.{command_line}
 use Rattle.command_words.specs.Words.{command_named, commanded, said_in, two_in, where_taken}
-use Rattle.std.proofs.Common.{codes}
 
 -- all values of an argument, by the rows
 pub all_values : (f : Found) (id : Text) → option_map raw_values (matched_of f id) ≡ all_of id (rows_of f)
-all_values f id = go (find (λ (e : Entry). bytes_eq e.0.now id) f.entries.items) ∙ ap (option_map (λ (r : Row). r.values)) (sym (find_row f.entries.items id))
+all_values f id = go (find (λ (e : Entry). bytes_eq e.0.now id) f.entries.items)
+    ∙ ap (option_map (λ (r : Row). r.values)) (sym (find_row f.entries.items id))
   where
-    go : (o : Option Entry) → option_map raw_values (option_map (λ e. e.1) o) ≡ option_map (λ (r : Row). r.values) (option_map row_of o)
+    go : (o : Option Entry)
+        → option_map raw_values (option_map (λ e. e.1) o) ≡ option_map (λ (r : Row). r.values) (option_map row_of o)
     go None = refl
     go (Some e) = refl
 
@@ -61,7 +63,8 @@ pub said_not_two : (rows : List Row) (name : Text) → first_of (codes "command"
 said_not_two rows name n o = rw (n, o) refl
 
 -- the words are taken
-pub taken_says : (words : List Text) (rows : List Row) → fault_of command_line words ≡ [] → rows ≡ matches_of command_line words
+pub taken_says : (words : List Text) (rows : List Row) → fault_of command_line words ≡ []
+    → rows ≡ matches_of command_line words
     → said_in rows ≡ commanded words
 unfolding commanded
 taken_says words rows f r = ap said_in r ∙ ap (λ k. where_taken k (said_in (matches_of command_line words))) (sym f)
@@ -76,35 +79,46 @@ refused_says words f = by (fault_of command_line words) f
     by (x ∷ xs) f = refl
 
 -- words that clap took
-pub reads_ok : (app : App) (words : List Text) (r : Result ArgMatches Error) (m : ArgMatches) → r ≡ Ok m → app ≡ command_line
-    → (is_simple_and_free app ≡ true → FailsBy (fault_of app words) r) → IfOk r (HasMatchesOf app words) → Reads words (Some m)
+pub reads_ok : (app : App) (words : List Text) (r : Result ArgMatches Error) (m : ArgMatches) → r ≡ Ok m
+    → app ≡ command_line
+    → (is_simple_and_free app ≡ true → FailsBy (fault_of app words) r) → IfOk r (HasMatchesOf app words)
+    → Reads words (Some m)
 reads_ok app words r m is e k h =
-    let none : fault_of app words ≡ [] = subst (λ (x : Result ArgMatches Error). FailsBy (fault_of app words) x) is (k (ap is_simple_and_free e ∙ is_plain)) in
-    let rows = subst (λ (x : Result ArgMatches Error). IfOk x (HasMatchesOf app words)) is h (ap is_simple e ∙ is_simple_line) in
+    let none : fault_of app words ≡ [] =
+    subst (λ (x : Result ArgMatches Error). FailsBy (fault_of app words) x) is
+    (k (ap is_simple_and_free e ∙ is_plain)) in
+    let rows = subst (λ (x : Result ArgMatches Error). IfOk x (HasMatchesOf app words)) is h
+    (ap is_simple e ∙ is_simple_line) in
     (ap (λ (a : App). fault_of a words) (sym e) ∙ none, rows.0 ∙ ap (λ (a : App). matches_of a words) e)
 
 -- words that clap refused
-pub reads_err : (app : App) (words : List Text) (r : Result ArgMatches Error) (f : Error) → r ≡ Err f → app ≡ command_line
+pub reads_err : (app : App) (words : List Text) (r : Result ArgMatches Error) (f : Error) → r ≡ Err f
+    → app ≡ command_line
     → (is_simple_and_free app ≡ true → FailsBy (fault_of app words) r) → kind_of f ≢ kind.OutOfMemory → Reads words None
 reads_err app words r f is e k other =
-    let has : HasKind (fault_of app words) f = subst (λ (x : Result ArgMatches Error). FailsBy (fault_of app words) x) is (k (ap is_simple_and_free e ∙ is_plain)) in
+    let has : HasKind (fault_of app words) f =
+    subst (λ (x : Result ArgMatches Error). FailsBy (fault_of app words) x) is
+    (k (ap is_simple_and_free e ∙ is_plain)) in
     λ none. has_fault (fault_of app words) f has other (ap (λ (a : App). fault_of a words) e ∙ none)
 
 -- no matches, where memory wasn't wanting
-pub refused_reads : {P : Type 0} (words : List Text) (r : Result (Option ArgMatches) OutOfMemory) → IfOk r (λ m. m ≡ None) → OnOk r P
+pub refused_reads : {P : Type 0} (words : List Text) (r : Result (Option ArgMatches) OutOfMemory)
+    → IfOk r (λ m. m ≡ None) → OnOk r P
     → (P → Reads words None) → IfOk r (Reads words)
 refused_reads words (Ok m) n p f = subst (Reads words) (sym n) (f p)
 refused_reads words (Err e) n p f = tt
 
 -- what is said of words that were taken
-pub taken_said : (words texts : List Text) (m : Option ArgMatches) (n : ArgMatches) → m ≡ Some n → texts ≡ words → Reads texts m
+pub taken_said : (words texts : List Text) (m : Option ArgMatches) (n : ArgMatches) → m ≡ Some n → texts ≡ words
+    → Reads texts m
     → said_in (rows_of (found_of n)) ≡ commanded words
 taken_said words texts m n is same reads =
     let read : Reads texts (Some n) = subst (Reads texts) is reads in
     taken_says texts (rows_of (found_of n)) read.0 read.1 ∙ ap commanded same
 
 -- what is said of words that were refused
-pub refused_said : (words texts : List Text) (m : Option ArgMatches) → m ≡ None → texts ≡ words → Reads texts m → None ≡ commanded words
+pub refused_said : (words texts : List Text) (m : Option ArgMatches) → m ≡ None → texts ≡ words → Reads texts m
+    → None ≡ commanded words
 refused_said words texts m is same reads = refused_says texts (subst (Reads texts) is reads) ∙ ap commanded same
 
 -- an answer by another value that is the same

@@ -1,15 +1,17 @@
 -- The piece with which a text begins.
-use Rattle.std.proofs.Common.{◌≡◌, ℕ, ◌<◌, ◌||◌, Bool, true, false, cond, List, [], ◌∷◌, ◌++◌}
+use Rattle.std.proofs.Common.{◌≡◌, ℕ, ◌<◌, Bool, true, false, cond, List, [], ◌∷◌, ◌++◌}
 use Rattle.std.proofs.Common.{length, drop, get_or, Option, Some, None, refl, sym, ap, subst, ◌∙◌}
 use Rattle.std.proofs.Common.{append_assoc, arith, eqb}
 use Rattle.std.specs.Prelude.{IsTrue}
 use Rattle.std.specs.List.{before_first, position_or_len}
-use Rattle.std.proofs.lemmas.Bool.{eqb-true, eq-eqb}
+use Rattle.std.proofs.lemmas.Bool.{eqb-true, eq-eqb, or_right}
 use Rattle.std.proofs.lemmas.List.{drop_at}
+use Rattle.std.proofs.lemmas.Option.{same_Some, cond_some}
+use Rattle.jv_base.proofs.Options.{none_by}
 use Rattle.conf_words.specs.declared.kinds.Kind.{Kind}
 use Rattle.conf_words.specs.declared.kinds.Kind.TheVariants.{LineEnd, Blank, Hash, Mark, Quote, Plain}
-use Rattle.conf_words.specs.Pieces.{Piece, line_end, blank, comment, mark, quoted, plain, spelled, kind_of, Lacks, stops}
-use Rattle.conf_words.specs.Pieces.{StandsBefore, ends_of, ends_word, ends_line, ends_quote}
+use Rattle.conf_words.specs.Pieces.{Piece, line_end, blank, comment, mark, quoted, plain, spelled, kind_of, Lacks}
+use Rattle.conf_words.specs.Pieces.{stops, StandsBefore, ends_of, ends_word, ends_line, ends_quote}
 use Rattle.conf_words.specs.Reading.{piece_of, piece_by, quoted_in}
 use Rattle.conf_words.proofs.Runs.{lacks_before, stops_behind, both, front_is, length_before, lacks_both}
 
@@ -95,17 +97,6 @@ some_byte (plain (b ∷ text)) rest h = omega arith
 
 -- ---- what is read begins the text
 
-some_is : {A : Type 0} (x y : A) → Some x ≡ Some y → x ≡ y
-some_is x y e = cc
-
-if_some : {A : Type 0} (b : Bool) (x y : A) → cond b (Some x) None ≡ Some y → (b ≡ true) × (x ≡ y)
-if_some true x y h = (refl, cc)
-if_some false x y h = absurd cc
-
-if_none : {A : Type 0} (b : Bool) (x : A) → cond b (Some x) None ≡ None → b ≡ false
-if_none true x h = absurd cc
-if_none false x h = refl
-
 -- a text whose first byte is a quote begins with it
 first_quote : (text : List ℕ) (quote : ℕ) → ends_line quote ≡ false → get_or text 0 10 ≡ quote
     → (rest : List ℕ) × (text ≡ quote ∷ rest)
@@ -117,7 +108,7 @@ quoted_begins : (quote : ℕ) (text : List ℕ) (piece : Piece) → kind_of quot
     → (rest : List ℕ) × Begins (quote ∷ text) piece rest
 quoted_begins quote text piece k h =
     let inside : List ℕ = before_first (ends_quote quote) text in
-    let o = if_some _ _ _ h in
+    let o = cond_some _ _ _ h in
     let f = first_quote (drop (length inside) text) quote (no_line_feed quote k) (eqb-true _ _ o.0) in
     let whole : text ≡ inside ++ (quote ∷ f.0) = both (ends_quote quote) text
     ∙ ap (λ (n : ℕ). inside ++ drop n text) (length_before (ends_quote quote) text)
@@ -134,18 +125,18 @@ begins_by : (kind : Kind) (b : ℕ) (text : List ℕ) (piece : Piece) → kind_o
     → piece_by kind b text ≡ Some piece → (rest : List ℕ) × Begins (b ∷ text) piece rest
 begins_by LineEnd b text piece k h = (
   text,
-  subst (λ (p : Piece). Begins (b ∷ text) p text) (some_is line_end piece h)
+  subst (λ (p : Piece). Begins (b ∷ text) p text) (same_Some line_end piece h)
       (record { whole = ap (λ (n : ℕ). n ∷ text) (line_feed b k); stands = tt }),
 )
 begins_by Blank b text piece k h = (
   text,
-  subst (λ (p : Piece). Begins (b ∷ text) p text) (some_is (blank b) piece h)
+  subst (λ (p : Piece). Begins (b ∷ text) p text) (same_Some (blank b) piece h)
       (record { whole = refl; stands = k }),
 )
 begins_by Hash b text piece k h =
     let rest : List ℕ = drop (position_or_len ends_line text) text in (
       rest,
-      subst (λ (p : Piece). Begins (b ∷ text) p rest) (some_is (comment (before_first ends_line text)) piece h)
+      subst (λ (p : Piece). Begins (b ∷ text) p rest) (same_Some (comment (before_first ends_line text)) piece h)
           (record {
             whole = ap (λ (n : ℕ). n ∷ text) (hash b k) ∙ ap (λ (t : List ℕ). 35 ∷ t) (both ends_line text);
             stands = (lacks_before ends_line text, stops_behind ends_line text);
@@ -153,14 +144,14 @@ begins_by Hash b text piece k h =
     )
 begins_by Mark b text piece k h = (
   text,
-  subst (λ (p : Piece). Begins (b ∷ text) p text) (some_is (mark b) piece h)
+  subst (λ (p : Piece). Begins (b ∷ text) p text) (same_Some (mark b) piece h)
       (record { whole = refl; stands = k }),
 )
 begins_by Quote b text piece k h = quoted_begins b text piece k h
 begins_by Plain b text piece k h =
     let rest : List ℕ = drop (position_or_len ends_word text) text in (
       rest,
-      subst (λ (p : Piece). Begins (b ∷ text) p rest) (some_is (plain (b ∷ before_first ends_word text)) piece h)
+      subst (λ (p : Piece). Begins (b ∷ text) p rest) (same_Some (plain (b ∷ before_first ends_word text)) piece h)
           (record {
             whole = ap (λ (t : List ℕ). b ∷ t) (both ends_word text);
             stands = (rw (ap ends_of k) (lacks_before ends_word text), stops_behind ends_word text);
@@ -194,7 +185,7 @@ open_by Quote b text k h =
       opened = k;
       not_closed = lacks_before (ends_quote b) text;
       line_ends = line_by rest b (stops_behind (ends_quote b) text)
-          (ap (λ (n : ℕ). eqb (get_or (drop n text) 0 10) b) (length_before (ends_quote b) text) ∙ if_none _ _ h);
+          (ap (λ (n : ℕ). eqb (get_or (drop n text) 0 10) b) (length_before (ends_quote b) text) ∙ none_by _ _ h);
     }
 open_by Plain b text k h = absurd cc
 
@@ -214,7 +205,8 @@ stops_at : (quote : ℕ) (rest : List ℕ) → IsTrue (stops (ends_quote quote) 
 stops_at quote rest = rw (eq-eqb quote quote refl) refl
 
 -- a piece is told by the kind of its first byte
-pub by_kind : (kind : Kind) (b : ℕ) (text : List ℕ) (piece : Piece) → kind_of b ≡ kind → piece_by kind b text ≡ Some piece
+pub by_kind : (kind : Kind) (b : ℕ) (text : List ℕ) (piece : Piece) → kind_of b ≡ kind
+    → piece_by kind b text ≡ Some piece
     → piece_of b text ≡ Some piece
 unfolding piece_of
 by_kind kind b text piece k h = rw k h
@@ -242,14 +234,11 @@ told (plain (b ∷ text)) rest h =
     by_kind Plain b (text ++ rest) (plain (b ∷ text)) (plain_by (kind_of b) k.0)
     (ap (λ (t : List ℕ). Some (plain (b ∷ t))) (front_is ends_word text rest k.1 h.1))
 
-or_true : (a b : Bool) → b ≡ true → (a || b) ≡ true
-or_true true b h = refl
-or_true false b h = h
-
 -- a quote ends where its line ends
-stops_with_line : (quote : ℕ) (behind : List ℕ) → IsTrue (stops ends_line behind) → IsTrue (stops (ends_quote quote) behind)
+stops_with_line : (quote : ℕ) (behind : List ℕ) → IsTrue (stops ends_line behind)
+    → IsTrue (stops (ends_quote quote) behind)
 stops_with_line quote [] s = refl
-stops_with_line quote (b ∷ behind) s = or_true (eqb b quote) (ends_line b) s
+stops_with_line quote (b ∷ behind) s = or_right (eqb b quote) (ends_line b) s
 
 -- at the end of a line stands a line feed, or nothing
 line_feed_at : (behind : List ℕ) → IsTrue (stops ends_line behind) → get_or behind 0 10 ≡ 10
@@ -264,7 +253,13 @@ pub told_open : (quote : ℕ) (inside behind : List ℕ) → kind_of quote ≡ Q
     → IsTrue (stops ends_line behind) → piece_of quote (inside ++ behind) ≡ None
 unfolding piece_of
 told_open quote inside behind k h s =
-    let front : before_first (ends_quote quote) (inside ++ behind) ≡ inside = front_is (ends_quote quote) inside behind h
+    let front : before_first (ends_quote quote) (inside ++ behind) ≡ inside =
+    front_is (ends_quote quote) inside behind h
     (stops_with_line quote behind s) in
-    rw k (rw (front, drop_at inside behind (length inside) refl, line_feed_at behind s, not_ten quote (no_line_feed quote k))
+    rw k (rw (
+      front,
+      drop_at inside behind (length inside) refl,
+      line_feed_at behind s,
+      not_ten quote (no_line_feed quote k),
+    )
     refl)

@@ -1,12 +1,14 @@
 -- Where a text may be cut: at the bytes that end a word, which are all of ASCII.
-use Rattle.std.proofs.Common.{◌≡◌, ℕ, ◌≤◌, ◌<◌, Bool, true, false, cond, not, List, [], ◌∷◌}
-use Rattle.std.proofs.Common.{length, get_or, Some, None, refl, sym, ap, ◌∙◌, arith, inl, inr}
+use Rattle.std.proofs.Common.{◌≡◌, ℕ, ◌≤◌, ◌<◌, Bool, true, false, not, List, [], ◌∷◌}
+use Rattle.std.proofs.Common.{length, get_or, Some, None, sym, ap, ◌∙◌, arith, inl, inr}
 use Rattle.std.specs.Prelude.{slice_get}
 use Rattle.std.specs.List.{position, position_or_len}
 use Rattle.std.specs.Str.{IsUtf8, IsCharBoundary}
 use Rattle.std.proofs.lemmas.Bool.{eqb-true, ltb-true, ltb-false, cases_lt}
 use Rattle.std.proofs.lemmas.List.Sums.{passes_at_first, prefix_len-le-length}
 use Rattle.std.proofs.lemmas.Str.{IsCharBoundary-before_ascii, IsCharBoundary-after_ascii}
+use Rattle.std.proofs.lemmas.Option.{cond_some}
+use Rattle.jv_base.proofs.Options.{none_by}
 use Rattle.conf_words.specs.declared.kinds.Kind.{Kind}
 use Rattle.conf_words.specs.declared.kinds.Kind.TheVariants.{Plain}
 use Rattle.conf_words.specs.Pieces.{kind_of, ends_of, ends_word, ends_line}
@@ -20,22 +22,16 @@ plain_of b h = grind arith
 pub ascii_end : (b : ℕ) → ends_word b ≡ true → b < 128
 ascii_end b e = elim (cases_lt b 128) [
   | inl lt ↦ lt
-  | inr le ↦ absurd (let k : ends_of (kind_of b) ≡ ends_of Plain = ap ends_of (plain_of b le) in let no : true ≡ false = sym e ∙ k in cc)
+  | inr le ↦ absurd
+      (let k : ends_of (kind_of b) ≡ ends_of Plain = ap ends_of (plain_of b le) in let no : true ≡ false = sym e
+      ∙ k in cc)
 ]
-
-some_by : (b : Bool) (n at : ℕ) → cond b (Some n) None ≡ Some at → (b ≡ true) × (n ≡ at)
-some_by true n at h = (refl, cc)
-some_by false n at h = absurd cc
-
-none_by : (b : Bool) (n : ℕ) → cond b (Some n) None ≡ None → b ≡ false
-none_by true n h = absurd cc
-none_by false n h = refl
 
 -- where a byte was found
 pub found_at : (p : ℕ → Bool) (text : List ℕ) (at : ℕ) → position p text ≡ Some at
     → (at ≡ position_or_len p text) × (at < length text) × (p (get_or text at 0) ≡ true)
 found_at p text at h =
-    let s = some_by _ _ at h in
+    let s = cond_some _ _ at h in
     let lt : position_or_len p text < length text = ltb-true _ _ s.0 in
     (sym s.1, omega (arith, lt, s.1), ap (λ (n : ℕ). p (get_or text n 0)) (sym s.1) ∙ passes_at_first p text 0 lt)
 

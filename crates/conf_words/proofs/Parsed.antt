@@ -9,8 +9,9 @@ use Rattle.conf_words.specs.declared.splitting.Word.{Word}
 use Rattle.conf_words.specs.declared.splitting.WordFault.{WordFault}
 use Rattle.conf_words.specs.declared.splitting.WordFault.TheVariants.{QuoteOpen, NotUtf8}
 use Rattle.conf_words.specs.declared.kinds.Kind.TheVariants.{Quote}
-use Rattle.conf_words.specs.Pieces.{Piece, spelled, kind_of, Lacks, stops, StandsBefore, StandBefore, ends_line, ends_quote}
-use Rattle.conf_words.specs.Pieces.{word_of, lines_of, word_before, words_of, line_behind, HasWords, LeavesOpen}
+use Rattle.conf_words.specs.Pieces.{Piece, spelled, kind_of, Lacks, stops, StandsBefore, StandBefore, ends_line}
+use Rattle.conf_words.specs.Pieces.{ends_quote, word_of, lines_of, word_before, words_of, line_behind, HasWords}
+use Rattle.conf_words.specs.Pieces.{LeavesOpen}
 use Rattle.conf_words.specs.Reading.{words_at, with_words, piece_of}
 use Rattle.conf_words.proofs.Begins.{StaysOpen, begins, opens, some_byte, front_piece, told, told_open}
 
@@ -31,7 +32,8 @@ first_read line b text piece rest h e = rw (h, words_at)
     (passed (length (spelled piece) - 1) (line + lines_of piece) text ∙ ap (words_at 0 (line + lines_of piece)) e))
 
 -- a quote that stays open
-pub first_open : (line b : ℕ) (text : List ℕ) → piece_of b text ≡ None → words_at 0 line (b ∷ text) ≡ Err (QuoteOpen line)
+pub first_open : (line b : ℕ) (text : List ℕ) → piece_of b text ≡ None
+    → words_at 0 line (b ∷ text) ≡ Err (QuoteOpen line)
 unfolding words_at
 first_open line b text h = rw (h, words_at) refl
 
@@ -49,11 +51,14 @@ piece_read line (b ∷ text) piece rest h e lt =
     first_read line b text piece rest h same
 
 -- words before words before others
-pub with_both : (a b : List Word) (read : Result (List Word) WordFault) → with_words a (with_words b read) ≡ with_words (a ++ b) read
-with_both a b (Ok ws) = ap (λ (w : List Word). let R : Result (List Word) WordFault = Ok w in R) (sym (append_assoc a b ws))
+pub with_both : (a b : List Word) (read : Result (List Word) WordFault)
+    → with_words a (with_words b read) ≡ with_words (a ++ b) read
+with_both a b (Ok ws) =
+    ap (λ (w : List Word). let R : Result (List Word) WordFault = Ok w in R) (sym (append_assoc a b ws))
 with_both a b (Err f) = refl
 
-before_is : (text : Option (List ℕ)) (line : ℕ) (words : List Word) → word_before text line [] ++ words ≡ word_before text line words
+before_is : (text : Option (List ℕ)) (line : ℕ) (words : List Word)
+    → word_before text line [] ++ words ≡ word_before text line words
 before_is None line words = refl
 before_is (Some text) line words = refl
 
@@ -181,7 +186,8 @@ only : (text : List ℕ) (words : List Word) → HasWords text words → words_a
 only text words h = ap (words_at 0 1) (h.spelled_so ∙ sym (append-nil (flat_map spelled h.pieces)))
     ∙ pieces_read h.pieces 1 [] h.apart
     ∙ ap (with_words (words_of 1 h.pieces)) (nothing_read (line_behind 1 h.pieces))
-    ∙ ap (λ (w : List Word). let R : Result (List Word) WordFault = Ok w in R) (append-nil (words_of 1 h.pieces) ∙ sym h.are)
+    ∙ ap (λ (w : List Word). let R : Result (List Word) WordFault = Ok w in R)
+    (append-nil (words_of 1 h.pieces) ∙ sym h.are)
 
 pub words_law : (text : List ℕ) (words : List Word) → (words_at 0 1 text ≡ Ok words) ↔ HasWords text words
 words_law text words = (found text words, only text words)

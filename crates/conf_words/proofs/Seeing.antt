@@ -1,5 +1,5 @@
 -- What the code sees of a piece is what the piece is.
-use Rattle.std.proofs.Common.{◌≡◌, ℕ, zero, suc, ◌+◌, ◌≤◌, ◌<◌, ◌||◌, Bool, true, false, List, [], ◌∷◌}
+use Rattle.std.proofs.Common.{◌≡◌, ℕ, zero, suc, ◌+◌, ◌≤◌, ◌<◌, true, List, [], ◌∷◌}
 use Rattle.std.proofs.Common.{length, drop, get_or, Option, Some, None, Err, refl, sym, ap, subst, ◌∙◌}
 use Rattle.std.proofs.Common.{arith, eqb}
 use Rattle.std.specs.Prelude.{slice_get, option_map}
@@ -8,6 +8,7 @@ use Rattle.std.specs.Str.{IsUtf8, IsCharBoundary}
 use Rattle.std.proofs.lemmas.Bool.{eqb-true}
 use Rattle.std.proofs.lemmas.List.{drop_at, drop_all, length-append}
 use Rattle.std.proofs.lemmas.Str.{IsUtf8-drop}
+use Rattle.jv_base.proofs.Tests.{or_by}
 use Rattle.conf_words.specs.declared.splitting.WordFault.TheVariants.{QuoteOpen}
 use Rattle.conf_words.specs.declared.kinds.Kind.TheVariants.{Hash, Quote}
 use Rattle.conf_words.specs.Pieces.{Piece, comment, spelled, kind_of, ends_line, ends_quote, ends_of}
@@ -21,10 +22,6 @@ use Rattle.conf_words.proofs.Begins.{begins, some_byte, by_kind, no_line_feed, n
 use Rattle.conf_words.proofs.Parsed.{piece_read, first_open}
 
 -- ---- quotes
-
-or_by : (a b : Bool) (P : Type 0) → (a ≡ true → P) → (b ≡ true → P) → (a || b) ≡ true → P
-or_by true b P f g h = f refl
-or_by false b P f g h = g h
 
 quote_ascii : (quote : ℕ) → kind_of quote ≡ Quote → quote < 128
 quote_ascii quote k = ascii_end quote (ap ends_of k)
@@ -40,7 +37,10 @@ pub open_to_end : (quote : ℕ) (text : List ℕ) → kind_of quote ≡ Quote �
 open_to_end quote text k h =
     let len : length text ≡ length (before_first (ends_quote quote) text) = found_none (ends_quote quote) text h
     ∙ length_before (ends_quote quote) text in
-    rw (drop_all (length (before_first (ends_quote quote) text)) text (omega (arith, len)), not_ten quote (no_line_feed quote k))
+    rw (
+      drop_all (length (before_first (ends_quote quote) text)) text (omega (arith, len)),
+      not_ten quote (no_line_feed quote k),
+    )
     refl
 
 -- the text inside a quote may be cut where the quote ends
@@ -58,7 +58,8 @@ pub cut_behind : (quote : ℕ) (inside : List ℕ) (at : ℕ) → IsUtf8 inside 
     → position (ends_quote quote) inside ≡ Some at → get_or inside at 0 ≡ quote → IsCharBoundary (drop at inside) 1
 cut_behind quote inside at u k h e =
     let f = found_at (ends_quote quote) inside at h in
-    cut_first (drop at inside) quote (IsUtf8-drop inside at u (cut_quote quote inside at k h)) (get_is inside at quote f.1 e)
+    cut_first (drop at inside) quote (IsUtf8-drop inside at u (cut_quote quote inside at k h))
+    (get_is inside at quote f.1 e)
     (quote_ascii quote k)
 
 -- ---- comments

@@ -5,10 +5,7 @@ use Rattle.std.specs.Prelude.{is_some}
 use Rattle.std.specs.List.{position_from, position_or_len, list_any}
 use Rattle.std.specs.Option.{unwrap_or}
 use Rattle.class_model.specs.InstructionMeaning.{or_else}
-
-or_none : (o : Option ℕ) → or_else o None ≡ o
-or_none (Some x) = refl
-or_none None = refl
+use Rattle.class_model.proofs.FirstOfTwo.{or_none}
 
 push_by : (b c : Bool) (i n m : ℕ) (one other : Option ℕ) → n ≡ m → one ≡ or_else other (cond c (Some n) None)
     → cond b (Some i) one ≡ or_else (cond b (Some i) other) (cond c (Some m) None)
@@ -48,7 +45,8 @@ pub any_is : {K : Type 0} (t : K → Bool) (i : ℕ) (ks : List K) → is_some (
 any_is t i [] = refl
 any_is t i (k ∷ ks) = any_by (t k) i (position_from t (i + 1) ks) (list_any t ks) (any_is t (i + 1) ks)
 
-below_by : (b : Bool) (i n l : ℕ) (found : Option ℕ) → Some n ≡ cond b (Some i) found → (Some n ≡ found → n < (i + 1) + l)
+below_by : (b : Bool) (i n l : ℕ) (found : Option ℕ) → Some n ≡ cond b (Some i) found
+    → (Some n ≡ found → n < (i + 1) + l)
     → n < i + suc l
 below_by true i n l found h f = let e : n ≡ i = ap (λ (o : Option ℕ). unwrap_or o 0) h in omega (arith, e)
 below_by false i n l found h f = let e = f h in omega (arith, e)
@@ -57,7 +55,8 @@ below_by false i n l found h f = let e = f h in omega (arith, e)
 pub first_below : {K : Type 0} (t : K → Bool) (i : ℕ) (ks : List K) (n : ℕ) → Some n ≡ position_from t i ks
     → n < i + length ks
 first_below t i [] n h = absurd cc
-first_below t i (k ∷ ks) n h = below_by (t k) i n (length ks) (position_from t (i + 1) ks) h (first_below t (i + 1) ks n)
+first_below t i (k ∷ ks) n h =
+    below_by (t k) i n (length ks) (position_from t (i + 1) ks) h (first_below t (i + 1) ks n)
 
 -- the places of things that a test tells apart, the first of them at a number
 module _ {K : Type 0} (E : K → K → Bool) (decides : (a b : K) → Decides (E a b) (a ≡ b)) (from : ℕ) where

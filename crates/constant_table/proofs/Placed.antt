@@ -1,8 +1,8 @@
 -- Texts with the numbers of their places.
-use Rattle.std.proofs.Common.{◌≡◌, ℕ, ◌+◌, ◌<◌, Bool, true, false, cond, List, [], ◌∷◌, ◌++◌, length, Option, Some}
+use Rattle.std.proofs.Common.{◌≡◌, ℕ, ◌+◌, ◌<◌, true, false, cond, List, [], ◌∷◌, ◌++◌, length, Option, Some}
 use Rattle.std.proofs.Common.{None}
-use Rattle.std.proofs.Common.{Result, Ok, Err, Decides, refl, sym, ap, subst, ◌∙◌, arith}
-use Rattle.std.specs.Prelude.{is_some, is_ok, IfOk}
+use Rattle.std.proofs.Common.{Result, Ok, Err, refl, sym, ap, subst, ◌∙◌, arith}
+use Rattle.std.specs.Prelude.{is_some, is_ok}
 use Rattle.std.specs.Ordering.{is_eq, nat_cmp}
 use Rattle.std.specs.Cmp.Lexicographic.{slice_cmp, texts_ties, nat_list_eq_equiv}
 use Rattle.std.specs.List.{position_from, list_any, IsDistinct}
@@ -12,7 +12,6 @@ use Rattle.std.proofs.lemmas.Map.Keys.{IsDistinct-push}
 use Rattle.std.proofs.lemmas.List.{append-nil}
 use Rattle.jv_base.proofs.Equality.{text_Decides}
 use Rattle.class_model.specs.CanonicalPool.{same_text}
-use Rattle.constant_table.specs.declared.key.Key.{Key}
 use Rattle.constant_table.specs.bodies.Keys.{number_of, AreKeysOf}
 use Rattle.constant_table.specs.bodies.Texts.{ArePlaces, Grows, HasNumber}
 use Rattle.constant_table.proofs.Indexed.{index_is, any_is, first_below, indexed_new}

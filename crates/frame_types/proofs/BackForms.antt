@@ -152,7 +152,8 @@ module _ (entries : List Entry) (constants : List PoolConstant) (starts : List �
       → AllByRecursion Known locals → AllByRecursion Known stack
       → Stands before delta (canonical.full locals stack) locals stack
   full_stands before locals stack delta lt locals_short stack_short known_locals known_stack = record {
-    is_read = full_back entries constants starts ops delta locals stack lt locals_short stack_short known_locals known_stack;
+    is_read = full_back entries constants starts ops delta locals stack lt locals_short stack_short known_locals
+        known_stack;
     writes = ap (option_and_then (λ (ls : List VType). option_map
         (λ (ss : List VType). written entries starts ops delta ls ss)
         (types_of entries starts ops (map (type_info constants starts) stack)))) (types_known locals known_locals)

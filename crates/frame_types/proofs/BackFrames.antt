@@ -6,13 +6,13 @@ use Rattle.std.specs.Prelude.{option_and_then, slice_index}
 use Rattle.std.specs.Int.{w16, to_be_bytes}
 use Rattle.std.specs.List.{AllByRecursion, flat_map}
 use Rattle.std.proofs.lemmas.Bool.{le-leb, leb-true, eq-eqb, and_parts}
-use Rattle.std.proofs.lemmas.List.{append-nil, drop_all, take-append-drop, length-drop}
+use Rattle.std.proofs.lemmas.List.{take-append-drop, length-drop}
 use Rattle.jv_base.specs.Place.{Place, start, after}
 use Rattle.format_reading.specs.Reader.{u2, bind, give, here, settle}
 use Rattle.format_reading.specs.declared.fault.FormatFault.{FormatFault}
 use Rattle.format_reading.specs.declared.fault.FormatKind.{FormatKind}
 use Rattle.format_reading.specs.declared.fault.FormatKind.TheVariants as bad
-use Rattle.format_reading.proofs.Exact.{Takes, bind_is}
+use Rattle.format_reading.proofs.Exact.{bind_is}
 use Rattle.class_model.specs.Lookups.{due}
 use Rattle.class_model.specs.declared.pool.Entry.{Entry}
 use Rattle.class_model.specs.declared.op.Op.{Op}
@@ -28,12 +28,12 @@ use Rattle.class_model.specs.ReadingFrames.{Before, Written, written, frame_of, 
 use Rattle.class_model.specs.ReadingFrames.{read_frames_behind, read_frames}
 use Rattle.frame_types.specs.ReadBack.{IsKnownType, IsKnownFrame, IsBehind, Follow, FramesAreReadBack}
 use Rattle.frame_types.specs.Table.{whole}
-use Rattle.frame_types.proofs.Spelled.{Gives, gives_nothing, gives_then, gives_last, gives_u2}
 use Rattle.frame_types.proofs.Sameness.{same_types_are}
 use Rattle.frame_types.proofs.Counting.{rows_counted}
 use Rattle.frame_types.proofs.BackRows.{row_is_read}
 use Rattle.frame_types.proofs.BackForms.{Stands, same_stands, item_stands, chop_stands, append_stands, full_stands}
-use Rattle.class_model.proofs.BackRead.{give_is, here_is}
+use Rattle.class_model.proofs.BackRead.{give_is, here_is, takes_all}
+use Rattle.class_model.proofs.BackReaders.{Gets, gets_give, gets_bind, gets_map, gets_u2}
 
 -- a delta leads back to its offset
 offset_back : (constants : List PoolConstant) (starts : List ℕ) (previous : Option ℕ) (offset : ℕ)
@@ -174,7 +174,7 @@ module _ (entries : List Entry) (constants : List PoolConstant) (starts : List �
 
     frame_back : (before : Before) (frame : FrameAt) → KnownFrame frame
         → IsBehind entries constants starts ops before.offset (slice_index starts frame.index)
-        → Gives (read_frame entries starts ops max_stack max_locals before) (stack_map_frame (row_for before frame))
+        → Gets (read_frame entries starts ops max_stack max_locals before) (stack_map_frame (row_for before frame))
         (false, frame, as_before frame)
     unfolding read_frame
     frame_back before frame known behind p q taken =
@@ -200,14 +200,14 @@ module _ (entries : List Entry) (constants : List PoolConstant) (starts : List �
 
     frames_back : (frames : List FrameAt) (before : Before) → AllByRecursion KnownFrame frames
         → Follow entries constants starts ops before.offset frames
-        → Gives (read_frames_behind entries starts ops max_stack max_locals (length frames) before)
+        → Gets (read_frames_behind entries starts ops max_stack max_locals (length frames) before)
         (flat_map stack_map_frame
         (rows constants starts before.locals before.offset frames)) (false, frames)
     unfolding read_frames_behind
-    frames_back [] before known follow = gives_nothing (false, [])
+    frames_back [] before known follow = gets_give (false, [])
     frames_back (frame ∷ frames) before known follow =
         let others = frames_back frames (as_before frame) known.1 follow.1 in
-        gives_then (read_frame entries starts ops max_stack max_locals before)
+        gets_bind (read_frame entries starts ops max_stack max_locals before)
         (λ (first : Bool × FrameAt × Before). bind
         (read_frames_behind entries starts ops max_stack max_locals (length frames) first.2)
         (λ (rest : Bool × List FrameAt). give (first.0 || rest.0, first.1 ∷ rest.1)))
@@ -215,7 +215,7 @@ module _ (entries : List Entry) (constants : List PoolConstant) (starts : List �
         (flat_map stack_map_frame (rows constants starts frame.frame.locals (Some
         (slice_index starts frame.index)) frames)) (false, frame, as_before frame) (false, frame ∷ frames)
         (frame_back before frame known.0 follow.0)
-        (gives_last (read_frames_behind entries starts ops max_stack max_locals (length frames) (as_before frame))
+        (gets_map (read_frames_behind entries starts ops max_stack max_locals (length frames) (as_before frame))
         (λ (rest : Bool
         × List FrameAt). (let P : Bool × List FrameAt = (false || rest.0, frame ∷ rest.1) in P)) _
         (false, frames) others)
@@ -224,7 +224,7 @@ module _ (entries : List Entry) (constants : List PoolConstant) (starts : List �
     table_back : (first : List VType) (frames : List FrameAt) → length frames < 2 ^ 16
         → AllByRecursion KnownFrame frames
         → Follow entries constants starts ops None frames
-        → Gives (read_frames entries starts ops max_stack max_locals first)
+        → Gets (read_frames entries starts ops max_stack max_locals first)
         (stack_map_table (rows constants starts first None frames))
         (false, frames)
     unfolding read_frames
@@ -232,23 +232,13 @@ module _ (entries : List Entry) (constants : List PoolConstant) (starts : List �
         let rs = rows constants starts first None frames in
         let n : length rs ≡ length frames = rows_counted constants starts first None frames in
         let before : Before = record { locals = first; offset = None } in
-        gives_then u2 (λ k. read_frames_behind entries starts ops max_stack max_locals k before)
+        gets_bind u2 (λ k. read_frames_behind entries starts ops max_stack max_locals k before)
         (to_be_bytes w16 (length rs))
         (flat_map stack_map_frame rs) (length rs) (false, frames)
-        (gives_u2 (length rs) (subst (λ (k : ℕ). k < 2 ^ 16) (sym n) short))
-        (subst (λ (k : ℕ). Gives (read_frames_behind entries starts ops max_stack max_locals k before)
+        (gets_u2 (length rs) (subst (λ (k : ℕ). k < 2 ^ 16) (sym n) short))
+        (subst (λ (k : ℕ). Gets (read_frames_behind entries starts ops max_stack max_locals k before)
         (flat_map stack_map_frame rs)
         (let P : Bool × List FrameAt = (false, frames) in P)) (sym n) (frames_back frames before known follow))
-
--- a text stands whole at its own start
-whole_text : (text : List ℕ) → Takes (start text) text (after (length text) (start text))
-whole_text text =
-    let n : 0 + length text ≡ length text = omega arith in
-    record {
-      parts = sym (ap (λ (k : ℕ). text ++ drop k text) n
-          ∙ ap (λ (rest : List ℕ). text ++ rest) (drop_all (length text) text (omega arith)) ∙ append-nil text);
-      moved = refl;
-    }
 
 at_end : (text : List ℕ) → eqb (0 + length text) (length text) ≡ true
 at_end text = eq-eqb _ _ (omega arith)
@@ -259,5 +249,5 @@ frames_read_back entries constants starts ops max_stack max_locals first frames 
     let text = stack_map_table (rows constants starts first None frames) in
     let given = table_back entries constants starts ops max_stack max_locals first frames short known follow
     (start text) (after
-    (length text) (start text)) (whole_text text) in
+    (length text) (start text)) (takes_all text) in
     ap whole given ∙ rw (at_end text) refl

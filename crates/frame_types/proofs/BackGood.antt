@@ -82,7 +82,7 @@ fewer_than_words (ty ∷ types) =
 -- ---- frames of a code
 
 -- each is behind the one before
-tail_pairs : (frame : FrameAt) (frames : List FrameAt) → AllPairs Ascend (frame ∷ frames) → AllPairs Ascend frames
+pub tail_pairs : (frame : FrameAt) (frames : List FrameAt) → AllPairs Ascend (frame ∷ frames) → AllPairs Ascend frames
 tail_pairs frame frames pairs = λ i j d lt within. pairs (suc i) (suc j) d (omega (arith, lt)) (omega (arith, within))
 
 module _ (entries : List Entry) (constants : List PoolConstant) (starts : List ℕ) (code : Code) where

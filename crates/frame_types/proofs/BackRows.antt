@@ -20,42 +20,41 @@ use Rattle.class_model.specs.Frames.{SameFrameExtended, AppendFrame, FullFrame, 
 use Rattle.class_model.specs.Frames.{stack_map_frame}
 use Rattle.class_model.specs.ReadingFrames as reading
 use Rattle.class_model.specs.ReadingFrames.{read_type, type_begun, read_row, row_begun, at_row}
+use Rattle.class_model.proofs.BackReaders.{Gets, gets_give, gets_bind, gets_map, gets_lead, gets_u1, gets_u2, gets_each}
 use Rattle.frame_types.specs.ReadBack.{IsKnownType}
-use Rattle.frame_types.proofs.Spelled.{Gives, gives_nothing, gives_then, gives_last, gives_lead, gives_byte, gives_u2}
-use Rattle.frame_types.proofs.Spelled.{gives_many}
 
 -- ---- types
 
-tag_back : (tag : ℕ) → tag < 256 → type_begun tag ≡ Ok (give (TagInfo tag)) → Gives read_type (tag ∷ []) (TagInfo tag)
+tag_back : (tag : ℕ) → tag < 256 → type_begun tag ≡ Ok (give (TagInfo tag)) → Gets read_type (tag ∷ []) (TagInfo tag)
 unfolding read_type
-tag_back tag lt begins = gives_lead u1 type_begun (give (TagInfo tag)) (tag ∷ []) [] tag (TagInfo tag)
-    (gives_byte tag lt) begins
-    (gives_nothing (TagInfo tag))
+tag_back tag lt begins = gets_lead u1 type_begun (tag ∷ []) [] tag (give (TagInfo tag)) (TagInfo tag)
+    (gets_u1 tag lt) begins
+    (gets_give (TagInfo tag))
 
 object_back : (index : ℕ) → index < 2 ^ 16
-    → Gives read_type (verification_type_info (ObjectInfo index)) (ObjectInfo index)
+    → Gets read_type (verification_type_info (ObjectInfo index)) (ObjectInfo index)
 unfolding read_type
 object_back index lt =
-    gives_lead u1 type_begun reading.object_info (7 ∷ []) (to_be_bytes w16 index) 7 (ObjectInfo index)
-    (gives_byte 7 (omega arith)) refl
-    (gives_last u2 (λ i. ObjectInfo i) (to_be_bytes w16 index) index (gives_u2 index lt))
+    gets_lead u1 type_begun (7 ∷ []) (to_be_bytes w16 index) 7 reading.object_info (ObjectInfo index)
+    (gets_u1 7 (omega arith)) refl
+    (gets_map u2 (λ i. ObjectInfo i) (to_be_bytes w16 index) index (gets_u2 index lt))
 
 uninitialized_back : (offset : ℕ) → offset < 2 ^ 16
-    → Gives read_type (verification_type_info (UninitializedInfo offset))
+    → Gets read_type (verification_type_info (UninitializedInfo offset))
     (UninitializedInfo offset)
 unfolding read_type
 uninitialized_back offset lt =
-    gives_lead u1 type_begun reading.uninitialized_info (8 ∷ []) (to_be_bytes w16 offset) 8 (UninitializedInfo offset)
-    (gives_byte 8
+    gets_lead u1 type_begun (8 ∷ []) (to_be_bytes w16 offset) 8 reading.uninitialized_info (UninitializedInfo offset)
+    (gets_u1 8
     (omega arith)) refl
-    (gives_last u2 (λ i. UninitializedInfo i) (to_be_bytes w16 offset) offset (gives_u2 offset lt))
+    (gets_map u2 (λ i. UninitializedInfo i) (to_be_bytes w16 offset) offset (gets_u2 offset lt))
 
 -- a row with its bytes
 abbrev pub IsReadRow : StackMapFrame → Type 0
-IsReadRow r = Gives (lead u1 row_begun) (stack_map_frame r) r
+IsReadRow r = Gets (lead u1 row_begun) (stack_map_frame r) r
 
 -- the faults of a row stand at its first byte; here is none
-pub row_is_read : (r : StackMapFrame) → IsReadRow r → Gives read_row (stack_map_frame r) r
+pub row_is_read : (r : StackMapFrame) → IsReadRow r → Gets read_row (stack_map_frame r) r
 unfolding read_row
 row_is_read r given p q t = ap (at_row p.at) (given p q t)
 
@@ -64,7 +63,7 @@ module _ (entries : List Entry) (constants : List PoolConstant) (starts : List �
   abbrev Known : VType → Type 0
   Known ty = IsKnownType entries constants starts ops ty
 
-  type_back : (ty : VType) → Known ty → Gives read_type (verification_type_info (type_info constants starts ty))
+  type_back : (ty : VType) → Known ty → Gets read_type (verification_type_info (type_info constants starts ty))
       (type_info constants starts ty)
   type_back vtype.Top known = tag_back 0 (omega arith) refl
   type_back vtype.Int known = tag_back 1 (omega arith) refl
@@ -75,7 +74,7 @@ module _ (entries : List Entry) (constants : List PoolConstant) (starts : List �
   type_back (vtype.Uninit n) known = uninitialized_back _ known.0.offset
 
   each_back : (types : List VType) → AllByRecursion Known types
-      → AllByRecursion (λ (i : VerificationTypeInfo). Gives read_type (verification_type_info i) i)
+      → AllByRecursion (λ (i : VerificationTypeInfo). Gets read_type (verification_type_info i) i)
       (map (type_info constants starts) types)
   each_back [] known = tt
   each_back (ty ∷ types) known = (type_back ty known.0, each_back types known.1)
@@ -83,13 +82,13 @@ module _ (entries : List Entry) (constants : List PoolConstant) (starts : List �
   -- so many of them, one behind the other
   types_back : (types : List VType) (n : ℕ) → n ≡ length (map (type_info constants starts) types)
       → AllByRecursion Known types
-      → Gives (many n read_type) (flat_map verification_type_info (map (type_info constants starts) types)) (map
+      → Gets (many n read_type) (flat_map verification_type_info (map (type_info constants starts) types)) (map
       (type_info constants starts) types)
   types_back types n counted known =
-      subst (λ (k : ℕ). Gives (many k read_type)
+      subst (λ (k : ℕ). Gets (many k read_type)
       (flat_map verification_type_info (map (type_info constants starts) types)) (map
       (type_info constants starts) types)) (sym counted)
-      (gives_many read_type verification_type_info (map (type_info constants starts) types) (each_back types known))
+      (gets_each read_type verification_type_info (map (type_info constants starts) types) (each_back types known))
 
   -- ---- forms
 
@@ -98,14 +97,14 @@ module _ (entries : List Entry) (constants : List PoolConstant) (starts : List �
   same_by delta true short lt =
       let le : delta ≤ 63 = leb-true _ _ short in
       let least : delta < 256 = omega (arith, le) in
-      gives_lead u1 row_begun (give (SameFrame delta)) (delta ∷ []) [] delta (SameFrame delta) (gives_byte delta least)
+      gets_lead u1 row_begun (delta ∷ []) [] delta (give (SameFrame delta)) (SameFrame delta) (gets_u1 delta least)
       (rw short refl)
-      (gives_nothing (SameFrame delta))
+      (gets_give (SameFrame delta))
   same_by delta false long lt =
-      gives_lead u1 row_begun reading.same_extended (251 ∷ []) (to_be_bytes w16 delta) 251 (SameFrameExtended delta)
-      (gives_byte 251
+      gets_lead u1 row_begun (251 ∷ []) (to_be_bytes w16 delta) 251 reading.same_extended (SameFrameExtended delta)
+      (gets_u1 251
       (omega arith)) refl
-      (gives_last u2 (λ d. SameFrameExtended d) (to_be_bytes w16 delta) delta (gives_u2 delta lt))
+      (gets_map u2 (λ d. SameFrameExtended d) (to_be_bytes w16 delta) delta (gets_u2 delta lt))
 
   pub same_back : (delta : ℕ) → delta < 2 ^ 16 → IsReadRow (row constants starts delta canonical.same)
   same_back delta lt = same_by delta (leb delta 63) refl lt
@@ -118,21 +117,21 @@ module _ (entries : List Entry) (constants : List PoolConstant) (starts : List �
       let le : delta ≤ 63 = leb-true _ _ short in
       let above : leb (64 + delta) 63 ≡ false = lt-leb (64 + delta) 63 (omega arith) in
       let below : leb (64 + delta) 127 ≡ true = le-leb (64 + delta) 127 (omega (arith, le)) in
-      gives_lead u1 row_begun (reading.one_item (64 + delta)) ((64 + delta) ∷ []) (verification_type_info
-      (type_info constants starts item)) (64 + delta)
+      gets_lead u1 row_begun ((64 + delta) ∷ []) (verification_type_info
+      (type_info constants starts item)) (64 + delta) (reading.one_item (64 + delta))
       (SameLocalsOneStackItem (64 + delta) (type_info constants starts item))
-      (gives_byte (64 + delta) (omega (arith, le))) (rw
+      (gets_u1 (64 + delta) (omega (arith, le))) (rw
       (above, below) refl)
-      (gives_last read_type (λ i. SameLocalsOneStackItem (64 + delta) i) _ (type_info constants starts item)
+      (gets_map read_type (λ i. SameLocalsOneStackItem (64 + delta) i) _ (type_info constants starts item)
       (type_back item known))
   item_by delta item false long lt known =
-      gives_lead u1 row_begun reading.one_item_extended (247 ∷ []) (to_be_bytes w16 delta ++ verification_type_info
-      (type_info constants starts item)) 247
-      (SameLocalsOneStackItemExtended delta (type_info constants starts item)) (gives_byte 247 (omega arith)) refl
-      (gives_then u2 (λ d. bind read_type (λ i. give (SameLocalsOneStackItemExtended d i))) (to_be_bytes w16 delta)
+      gets_lead u1 row_begun (247 ∷ []) (to_be_bytes w16 delta ++ verification_type_info
+      (type_info constants starts item)) 247 reading.one_item_extended
+      (SameLocalsOneStackItemExtended delta (type_info constants starts item)) (gets_u1 247 (omega arith)) refl
+      (gets_bind u2 (λ d. bind read_type (λ i. give (SameLocalsOneStackItemExtended d i))) (to_be_bytes w16 delta)
       (verification_type_info (type_info constants starts item)) delta
-      (SameLocalsOneStackItemExtended delta (type_info constants starts item)) (gives_u2 delta lt)
-      (gives_last read_type (λ i. SameLocalsOneStackItemExtended delta i) _ (type_info constants starts item)
+      (SameLocalsOneStackItemExtended delta (type_info constants starts item)) (gets_u2 delta lt)
+      (gets_map read_type (λ i. SameLocalsOneStackItemExtended delta i) _ (type_info constants starts item)
       (type_back item known)))
 
   pub item_back : (delta : ℕ) (item : VType) → delta < 2 ^ 16 → Known item
@@ -143,10 +142,10 @@ module _ (entries : List Entry) (constants : List PoolConstant) (starts : List �
       → delta < 2 ^ 16
       → IsReadRow (ChopFrame frame_type delta)
   chop_of frame_type delta byte begins lt =
-      gives_lead u1 row_begun (reading.chop frame_type) (frame_type ∷ []) (to_be_bytes w16 delta) frame_type
+      gets_lead u1 row_begun (frame_type ∷ []) (to_be_bytes w16 delta) frame_type (reading.chop frame_type)
       (ChopFrame frame_type delta)
-      (gives_byte frame_type byte) begins
-      (gives_last u2 (λ d. ChopFrame frame_type d) (to_be_bytes w16 delta) delta (gives_u2 delta lt))
+      (gets_u1 frame_type byte) begins
+      (gets_map u2 (λ d. ChopFrame frame_type d) (to_be_bytes w16 delta) delta (gets_u2 delta lt))
 
   pub chop_back : (delta gone : ℕ) → 1 ≤ gone → gone ≤ 3 → delta < 2 ^ 16
       → IsReadRow (row constants starts delta (canonical.chop gone))
@@ -163,14 +162,14 @@ module _ (entries : List Entry) (constants : List PoolConstant) (starts : List �
       → IsReadRow (AppendFrame frame_type delta (map (type_info constants starts) types))
   append_of frame_type delta types byte begins counted lt known =
       let infos = map (type_info constants starts) types in
-      gives_lead u1 row_begun (reading.append frame_type) (frame_type ∷ [])
-      (to_be_bytes w16 delta ++ flat_map verification_type_info infos) frame_type
-      (AppendFrame frame_type delta infos) (gives_byte frame_type byte) begins
-      (gives_then u2 (λ d. bind (many (frame_type - 251) read_type) (λ l. give (AppendFrame frame_type d l)))
+      gets_lead u1 row_begun (frame_type ∷ []) (to_be_bytes w16 delta ++ flat_map verification_type_info infos)
+      frame_type (reading.append frame_type)
+      (AppendFrame frame_type delta infos) (gets_u1 frame_type byte) begins
+      (gets_bind u2 (λ d. bind (many (frame_type - 251) read_type) (λ l. give (AppendFrame frame_type d l)))
       (to_be_bytes w16 delta)
       (flat_map verification_type_info infos) delta
-      (AppendFrame frame_type delta infos) (gives_u2 delta lt)
-      (gives_last (many (frame_type - 251) read_type) (λ l. AppendFrame frame_type delta l)
+      (AppendFrame frame_type delta infos) (gets_u2 delta lt)
+      (gets_map (many (frame_type - 251) read_type) (λ l. AppendFrame frame_type delta l)
       (flat_map verification_type_info infos) infos
       (types_back types (frame_type - 251) counted known)))
 
@@ -198,27 +197,27 @@ module _ (entries : List Entry) (constants : List PoolConstant) (starts : List �
       let m_short : m < 2 ^ 16 = subst (λ (k : ℕ). k < 2 ^ 16)
       (sym (length-map stack (type_info constants starts))) stack_short in
       let all = FullFrame delta ls ss in
-      let stack_given = gives_then u2 (λ k. bind (many k read_type) (λ s. give (FullFrame delta ls s)))
+      let stack_given = gets_bind u2 (λ k. bind (many k read_type) (λ s. give (FullFrame delta ls s)))
       (to_be_bytes w16 m)
-      (flat_map verification_type_info ss) m all (gives_u2 m m_short)
-      (gives_last (many m read_type) (λ s. FullFrame delta ls s) (flat_map verification_type_info ss) ss
+      (flat_map verification_type_info ss) m all (gets_u2 m m_short)
+      (gets_map (many m read_type) (λ s. FullFrame delta ls s) (flat_map verification_type_info ss) ss
       (types_back stack m refl known_stack)) in
-      let locals_given = gives_then u2
+      let locals_given = gets_bind u2
       (λ k. bind (many k read_type) (λ l. bind u2 (λ j. bind (many j read_type) (λ s. give
       (FullFrame delta l s))))) (to_be_bytes w16 n)
-      (flat_map verification_type_info ls ++ counted_types ss) n all (gives_u2 n n_short)
-      (gives_then (many n read_type) (λ l. bind u2 (λ j. bind (many j read_type) (λ s. give (FullFrame delta l s))))
+      (flat_map verification_type_info ls ++ counted_types ss) n all (gets_u2 n n_short)
+      (gets_bind (many n read_type) (λ l. bind u2 (λ j. bind (many j read_type) (λ s. give (FullFrame delta l s))))
       (flat_map verification_type_info ls) (counted_types ss) ls all
       (types_back locals n refl known_locals) stack_given) in
       let grouped : to_be_bytes w16 n ++ (flat_map verification_type_info ls ++ counted_types ss)
       ≡ counted_types ls ++ counted_types ss =
       sym (append_assoc (to_be_bytes w16 n) (flat_map verification_type_info ls) (counted_types ss)) in
-      gives_lead u1 row_begun reading.full (255 ∷ [])
-      (to_be_bytes w16 delta ++ (counted_types ls ++ counted_types ss)) 255 all
-      (gives_byte 255 (omega arith)) refl
-      (gives_then u2 (λ d. bind u2 (λ k. bind (many k read_type) (λ l. bind u2 (λ j. bind (many j read_type) (λ s. give
+      gets_lead u1 row_begun (255 ∷ []) (to_be_bytes w16 delta ++ (counted_types ls ++ counted_types ss))
+      255 reading.full all
+      (gets_u1 255 (omega arith)) refl
+      (gets_bind u2 (λ d. bind u2 (λ k. bind (many k read_type) (λ l. bind u2 (λ j. bind (many j read_type) (λ s. give
       (FullFrame d l s)))))) (to_be_bytes w16 delta)
-      (counted_types ls ++ counted_types ss) delta all (gives_u2 delta lt)
-      (subst (λ (t : List ℕ). Gives
+      (counted_types ls ++ counted_types ss) delta all (gets_u2 delta lt)
+      (subst (λ (t : List ℕ). Gets
       (bind u2 (λ k. bind (many k read_type) (λ l. bind u2 (λ j. bind (many j read_type) (λ s. give
       (FullFrame delta l s)))))) t all) grouped locals_given))

@@ -1,5 +1,5 @@
 -- Reading rows one behind the other, as a loop does.
-use Rattle.std.proofs.Common.{◌≡◌, ℕ, suc, ◌-◌, ◌+◌, ◌≤◌, ◌<◌, Bool, true, false, ◌||◌, List, [], ◌∷◌, ◌++◌, Result, Ok}
+use Rattle.std.proofs.Common.{◌≡◌, ℕ, suc, ◌-◌, ◌+◌, ◌≤◌, ◌<◌, Bool, false, ◌||◌, List, [], ◌∷◌, ◌++◌, Result, Ok}
 use Rattle.std.proofs.Common.{Err, Option, Some, None, refl, sym, ap, ◌∙◌, append_assoc, arith}
 use Rattle.std.proofs.lemmas.List.{append-nil}
 use Rattle.jv_base.specs.Place.{Place}
@@ -14,7 +14,7 @@ use Rattle.class_model.specs.ReadingFrames.{Before, read_frame, read_frames_behi
 use Rattle.class_model.specs.Frames.{StackMapFrame, names_float}
 use Rattle.class_model.specs.FrameLists.{Built}
 use Rattle.frame_types.specs.bodies.Before.{built_of, onto, read_onto, row_read}
-use Rattle.std.proofs.Math.Bool.{or-false}
+use Rattle.std.proofs.Math.Bool.{or-false, or_assoc}
 
 -- rows with their frames: whether one names a float or a double, and the frames
 abbrev pub Rows : Type 0
@@ -62,16 +62,13 @@ stands_onto front built at None h = absurd cc
 
 -- ---- rows
 
-or_assoc : (a b c : Bool) → (a || (b || c)) ≡ ((a || b) || c)
-or_assoc true b c = refl
-or_assoc false b c = refl
-
 regroup : (floats : Bool) (front : List FrameAt) (float : Bool) (frame : FrameAt) (read : Rows)
     → joined floats front (joined float (frame ∷ []) read) ≡ joined (floats || float) (front ++ frame ∷ []) read
 regroup floats front float frame (Ok x) =
     let frames : front ++ (frame ∷ x.0.1) ≡ (front ++ frame ∷ []) ++ x.0.1 = simp append_assoc refl in
     ap (λ (fs : List FrameAt). let R : Rows = Ok ((floats || (float || x.0.0), fs), x.1) in R) frames
-    ∙ ap (λ (b : Bool). let R : Rows = Ok ((b, (front ++ frame ∷ []) ++ x.0.1), x.1) in R) (or_assoc floats float x.0.0)
+    ∙ ap (λ (b : Bool). let R : Rows = Ok ((b, (front ++ frame ∷ []) ++ x.0.1), x.1) in R)
+    (sym (or_assoc floats float x.0.0))
 regroup floats front float frame (Err f) = refl
 
 first_read : (at : ℕ) (row : Bool × FrameAt × Before) (read : Rows)

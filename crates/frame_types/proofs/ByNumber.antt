@@ -1,7 +1,7 @@
 -- Frames that are written by their numbers, each behind the one before (JVMS 4.7.4).
-use Rattle.std.proofs.Common.{◌≡◌, ℕ, suc, ◌+◌, ◌<◌, ◌≤◌, List, [], ◌∷◌, ◌++◌, length, drop, Option, Some, None, refl}
+use Rattle.std.proofs.Common.{◌≡◌, ℕ, suc, ◌+◌, ◌<◌, ◌≤◌, List, [], ◌∷◌, ◌++◌, length, drop, Option, Some}
 use Rattle.std.proofs.Common.{sym, ap, ◌∙◌}
-use Rattle.std.proofs.Common.{add-one, append_assoc, arith}
+use Rattle.std.proofs.Common.{append_assoc, arith}
 use Rattle.std.specs.Prelude.{slice_index}
 use Rattle.std.specs.List.{flat_map}
 use Rattle.std.proofs.lemmas.List.{append-nil, drop_more, drop_all}
@@ -9,7 +9,7 @@ use Rattle.class_model.specs.declared.constant.PoolConstant.{PoolConstant}
 use Rattle.class_model.specs.declared.frame.VType.{VType}
 use Rattle.class_model.specs.declared.frame.FrameAt.{FrameAt}
 use Rattle.class_model.specs.FrameLists.{no_frame, frame_numbered}
-use Rattle.class_model.specs.Frames.{StackMapFrame, stack_map_frame}
+use Rattle.class_model.specs.Frames.{stack_map_frame}
 use Rattle.class_model.specs.CanonicalFrames.{Form, form_of, row, rows, delta_to, types_written, type_constants}
 use Rattle.class_model.specs.CanonicalFrames.{frame_constants}
 use Rattle.frame_types.specs.Forms.{locals_before}

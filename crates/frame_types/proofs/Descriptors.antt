@@ -1,5 +1,5 @@
 -- Types have different descriptors where they differ.
-use Rattle.std.proofs.Common.{◌≡◌, ◌↔◌, ℕ, zero, suc, ◌+◌, ◌-◌, Bool, true, false, cond, eqb, List, [], ◌∷◌, ◌++◌}
+use Rattle.std.proofs.Common.{◌≡◌, ◌↔◌, ℕ, zero, suc, ◌+◌, ◌-◌, Bool, cond, eqb, List, [], ◌∷◌, ◌++◌}
 use Rattle.std.proofs.Common.{length, take, IsTrue, Option, Some, None, refl, sym, ap, ◌∙◌, arith}
 use Rattle.std.proofs.lemmas.List.{length_push, take_at}
 use Rattle.std.specs.Prelude.{option_map, replicate}
@@ -9,6 +9,7 @@ use Rattle.jv_base.specs.declared.types.Base.{Base}
 use Rattle.jv_base.specs.declared.types.Base.TheVariants as base
 use Rattle.jv_base.specs.declared.types.FieldType.{FieldType}
 use Rattle.jv_base.proofs.Equality.{text_Decides}
+use Rattle.jv_base.proofs.Tests.{same_test}
 
 -- the base type whose descriptor begins with a letter, the rest behind it
 base_of : ℕ → List ℕ → Option Base
@@ -68,12 +69,6 @@ type_is one other h =
     ≡ (other.dims, other.base) = parts_are _ _ (sym (told one)
     ∙ ap (parts_of 0) h ∙ told other) in
     ap (λ (p : ℕ × Base). let T : FieldType = record { dims = p.0; base = p.1 } in T) parts
-
-same_test : (a b : Bool) → (a ≡ true → b ≡ true) → (b ≡ true → a ≡ true) → a ≡ b
-same_test true true f g = refl
-same_test true false f g = sym (f refl)
-same_test false true f g = g refl
-same_test false false f g = refl
 
 -- a test of types is the one of their descriptors
 pub same_text : (equal : Bool) (one other : FieldType) → (IsTrue equal ↔ (one ≡ other))

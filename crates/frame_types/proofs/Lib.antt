@@ -4,7 +4,6 @@ mod Loops
 mod Behind
 mod Descriptors
 mod Counting
-mod Spelled
 mod Sameness
 mod Changes
 pub mod ByNumber

@@ -1,7 +1,6 @@
 -- Types of a row one behind the other, as a loop goes through them.
-use Rattle.std.proofs.Common.{◌≡◌, ℕ, ◌+◌, ◌<◌, true, false, List, [], ◌∷◌, ◌++◌, length, map, take, drop, get_or}
-use Rattle.std.proofs.Common.{Option, Some, None, refl, sym, ap, ◌∙◌}
-use Rattle.std.proofs.lemmas.List.{take_more}
+use Rattle.std.proofs.Common.{ℕ, List, ◌++◌, map, drop}
+use Rattle.std.proofs.Common.{Option, Some, None}
 use Rattle.class_model.specs.declared.pool.Entry.{Entry}
 use Rattle.class_model.specs.declared.op.Op.{Op}
 use Rattle.class_model.specs.declared.frame.VType.{VType}

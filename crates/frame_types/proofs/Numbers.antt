@@ -1,21 +1,12 @@
 -- The table of the numbers of instructions.
-use Rattle.std.proofs.Common.{◌≡◌, ℕ, ◌+◌, ◌<◌, ◌≤◌, Bool, true, false, cond, eqb, List, ◌∷◌}
-use Rattle.std.proofs.Common.{length, get_or, drop, Option, Some, None, add-one, drop-cons, refl, sym, ap, ◌∙◌}
+use Rattle.std.proofs.Common.{◌≡◌, ℕ, ◌+◌, ◌<◌, ◌≤◌, eqb, List, ◌∷◌}
+use Rattle.std.proofs.Common.{length, get_or, drop, Option, None, add-one, drop-cons, refl, sym, ap, ◌∙◌}
 use Rattle.std.specs.Prelude.{nat_eq, position}
 use Rattle.std.proofs.lemmas.List.{drop_all}
 use Rattle.std.proofs.lemmas.Iterator.Adapters.{position_from-zero}
 use Rattle.std.specs.List.{position_from}
+use Rattle.class_model.proofs.FirstOfTwo.{or_none, or_cond}
 use Rattle.frame_types.specs.bodies.Numbers.{found, noted, first_of_two}
-
-or_none : (o : Option ℕ) → first_of_two o None ≡ o
-or_none (Some x) = refl
-or_none None = refl
-
-or_cond : (o : Option ℕ) (b : Bool) (k : ℕ) (rest : Option ℕ)
-    → first_of_two o (cond b (Some k) rest) ≡ first_of_two (first_of_two o (cond b (Some k) None)) rest
-or_cond (Some x) b k rest = refl
-or_cond None true k rest = refl
-or_cond None false k rest = refl
 
 -- one more start was noted
 pub goes_on : (before after total : Option ℕ) (offset i : ℕ) (starts : List ℕ) (d : ℕ) → i < length starts

@@ -1,14 +1,14 @@
 -- What is found in tables.
-use Rattle.std.proofs.Common.{◌≡◌, ℕ, ◌+◌, Bool, true, false, cond, ◌||◌, List, [], ◌∷◌, ◌++◌, Option, Some, None, is_some}
-use Rattle.std.proofs.Common.{refl, sym, ap, ◌∙◌}
+use Rattle.std.proofs.Common.{◌≡◌, ℕ, ◌+◌, Bool, true, false, cond, ◌||◌, List, [], ◌∷◌, ◌++◌, Option, Some, None}
+use Rattle.std.proofs.Common.{is_some, refl, sym, ap, ◌∙◌}
 use Rattle.std.specs.Prelude.{nat_eq}
 use Rattle.std.specs.Cmp.Lexicographic.{pointwise}
 use Rattle.std.specs.Map.{lookup}
 use Rattle.indexmap.specs.IndexMap.{insert_entry}
 use Rattle.jv_base.specs.Names.{is_text}
+use Rattle.jv_base.proofs.Equality.{same_text, text_is}
 use Rattle.fresh_names.specs.Fresh.{fresh, given, is_taken, next_free}
 use Rattle.fresh_names.specs.bodies.Giving.{after}
-use Rattle.fresh_names.proofs.Once.{same_text, text_is}
 
 -- what is there, else something else that may be there
 abbrev pub or_first : {V : Type 0} → Option V → Option V → Option V
@@ -23,24 +23,28 @@ module _ {V : Type 0} where
   lookup_last test (d ∷ es) e = on (test d.0) (lookup_last test es e)
     where
       on : (b : Bool) → lookup test (es ++ e ∷ []) ≡ or_first (lookup test es) (cond (test e.0) (Some e.1) None)
-          → cond b (Some d.1) (lookup test (es ++ e ∷ [])) ≡ or_first (cond b (Some d.1) (lookup test es)) (cond (test e.0) (Some e.1) None)
+          → cond b (Some d.1) (lookup test (es ++ e ∷ []))
+          ≡ or_first (cond b (Some d.1) (lookup test es)) (cond (test e.0) (Some e.1) None)
       on true rest = refl
       on false rest = rest
 
   -- after an entry was put in
   pub lookup_inserted : (es : List (List ℕ × V)) (x : List ℕ) (v : V) (a : List ℕ)
-      → lookup (is_text a) (insert_entry (pointwise nat_eq) es x v) ≡ cond (is_text a x) (Some v) (lookup (is_text a) es)
+      → lookup (is_text a) (insert_entry (pointwise nat_eq) es x v)
+      ≡ cond (is_text a x) (Some v) (lookup (is_text a) es)
   lookup_inserted [] x v a = refl
   lookup_inserted (e ∷ es) x v a = on (pointwise nat_eq x e.0) refl (lookup_inserted es x v a)
     where
-      both : (b c : Bool) → c ≡ b → cond c (Some v) (lookup (is_text a) es) ≡ cond b (Some v) (cond c (Some e.1) (lookup (is_text a) es))
+      both : (b c : Bool) → c ≡ b
+          → cond c (Some v) (lookup (is_text a) es) ≡ cond b (Some v) (cond c (Some e.1) (lookup (is_text a) es))
       both true true e = refl
       both false false e = refl
       both true false e = absurd cc
       both false true e = absurd cc
 
       apart : (b c : Bool) → is_text a x ≡ b → is_text a e.0 ≡ c → is_text x e.0 ≡ false
-          → cond c (Some e.1) (cond b (Some v) (lookup (is_text a) es)) ≡ cond b (Some v) (cond c (Some e.1) (lookup (is_text a) es))
+          → cond c (Some e.1) (cond b (Some v) (lookup (is_text a) es))
+          ≡ cond b (Some v) (cond c (Some e.1) (lookup (is_text a) es))
       apart true false p q r = refl
       apart false true p q r = refl
       apart false false p q r = refl
@@ -49,7 +53,8 @@ module _ {V : Type 0} where
           cc)
 
       on : (b : Bool) → pointwise nat_eq x e.0 ≡ b
-          → lookup (is_text a) (insert_entry (pointwise nat_eq) es x v) ≡ cond (is_text a x) (Some v) (lookup (is_text a) es)
+          → lookup (is_text a) (insert_entry (pointwise nat_eq) es x v)
+          ≡ cond (is_text a x) (Some v) (lookup (is_text a) es)
           → lookup (is_text a) (cond b ((e.0, v) ∷ es) (e ∷ insert_entry (pointwise nat_eq) es x v))
           ≡ cond (is_text a x) (Some v) (cond (is_text a e.0) (Some e.1) (lookup (is_text a) es))
       on true is rest = both (is_text a x) (is_text a e.0) (ap (is_text a) (sym (same_text x e.0 is)))
@@ -79,8 +84,10 @@ module _ (front : List ℕ) (taken : List (List ℕ)) where
   given_found n [] a = refl
   given_found n (x ∷ xs) a = on (is_text a x) (given_found (next_free front taken n + 1) xs a)
     where
-      on : (b : Bool) → is_some (lookup (is_text a) (given front taken (next_free front taken n + 1) xs)) ≡ is_taken xs a
-          → is_some (cond b (Some (fresh front (next_free front taken n))) (lookup (is_text a) (given front taken (next_free front taken n + 1) xs)))
+      on : (b : Bool)
+          → is_some (lookup (is_text a) (given front taken (next_free front taken n + 1) xs)) ≡ is_taken xs a
+          → is_some (cond b (Some (fresh front (next_free front taken n)))
+          (lookup (is_text a) (given front taken (next_free front taken n + 1) xs)))
           ≡ (b || is_taken xs a)
       on true rest = refl
       on false rest = rest

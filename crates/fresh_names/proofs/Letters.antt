@@ -7,7 +7,7 @@ use Rattle.std.specs.Int.{is_in_range}
 use Rattle.std.specs.List.{list_all}
 use Rattle.std.specs.Str.{IsAscii}
 use Rattle.std.proofs.Math.Seq.{get_or-append_seam, take-append-add}
-use Rattle.std.proofs.lemmas.Bool.{eqb-true, le-leb, leb-true}
+use Rattle.std.proofs.lemmas.Bool.{eqb-true, le-leb, leb-true, and_parts}
 use Rattle.std.proofs.lemmas.List.{length-append}
 use Rattle.std.proofs.lemmas.List.Folds.{list_all-append}
 use Rattle.std.proofs.lemmas.Str.{IsCharBoundary-after_ascii, IsUtf8-append, IsUtf8-from_ascii, IsUtf8-nil, IsUtf8-take}
@@ -23,21 +23,17 @@ use Rattle.fresh_names.proofs.Fronts.{front_cases}
 abbrev pub is_letter : ℕ → Bool
 is_letter b = is_in_range 97 122 b
 
-both : (a b : Bool) → (a && b) ≡ true → (a ≡ true) × (b ≡ true)
-both true b h = (refl, h)
-both false b h = absurd cc
-
 letter_is : (n : ℕ) → n < 26 → is_letter (letter n) ≡ true
 letter_is n few =
     (λ i. le-leb 97 (97 + n) (omega arith) i && nat_le (97 + n) 122) ∙ le-leb (97 + n) 122 (omega (arith, few))
 
 low : (b : ℕ) → is_letter b ≡ true → b < 128
-low b is = let h = leb-true b 122 (both (nat_le 97 b) (nat_le b 122) is).1 in omega (arith, h)
+low b is = let h = leb-true b 122 (and_parts (nat_le 97 b) (nat_le b 122) is).1 in omega (arith, h)
 
 no_slash : (b : ℕ) → is_letter b ≡ true → (e : Bool) → (b == 47) ≡ e → e ≡ false
 no_slash b is false e = refl
 no_slash b is true e = absurd (
-    let h = leb-true 97 b (both (nat_le 97 b) (nat_le b 122) is).0 in
+    let h = leb-true 97 b (and_parts (nat_le 97 b) (nat_le b 122) is).0 in
     let same = eqb-true b 47 e in
     omega (arith, h, same))
 
@@ -94,8 +90,8 @@ name_some n = on (nat_lt n 26)
 
 ascii : (xs : List ℕ) → list_all is_letter xs ≡ true → IsAscii xs
 ascii [] all i = omega arith
-ascii (x ∷ xs) all zero = low x (both (is_letter x) (list_all is_letter xs) all).0
-ascii (x ∷ xs) all (suc i) = ascii xs (both (is_letter x) (list_all is_letter xs) all).1 i
+ascii (x ∷ xs) all zero = low x (and_parts (is_letter x) (list_all is_letter xs) all).0
+ascii (x ∷ xs) all (suc i) = ascii xs (and_parts (is_letter x) (list_all is_letter xs) all).1 i
 
 pub name_utf8 : (n : ℕ) → IsUtf8 (name_at n)
 name_utf8 n = IsUtf8-from_ascii (name_at n) (ascii (name_at n) (name_letters n))
@@ -103,7 +99,7 @@ name_utf8 n = IsUtf8-from_ascii (name_at n) (ascii (name_at n) (name_letters n))
 bytes_of_name : (xs : List ℕ) → list_all is_letter xs ≡ true → list_all is_name_byte xs ≡ true
 bytes_of_name [] all = refl
 bytes_of_name (x ∷ xs) all =
-    let h = both (is_letter x) (list_all is_letter xs) all in
+    let h = and_parts (is_letter x) (list_all is_letter xs) all in
     λ i. byte_of_name x h.0 i && bytes_of_name xs h.1 i
 
 -- a name of a field, or of a method
@@ -118,7 +114,7 @@ whole : (xs : List ℕ) (c : Bool) → list_all is_letter xs ≡ true → (c || 
 whole [] true all some = refl
 whole [] false all some = absurd cc
 whole (x ∷ xs) c all some =
-    let h = both (is_letter x) (list_all is_letter xs) all in
+    let h = and_parts (is_letter x) (list_all is_letter xs) all in
     ap (λ (s : Bool). cond s (c && parts_whole false xs) (is_name_byte x && parts_whole true xs))
     (no_slash x h.0 (x == 47) refl)
     ∙ (λ i. byte_of_name x h.0 i && whole xs true h.1 refl i)

@@ -1,26 +1,12 @@
 -- Names each once, and names that pass a test.
-use Rattle.std.proofs.Common.{◌≡◌, ℕ, Bool, true, false, cond, not, ◌||◌, List, [], ◌∷◌, ◌++◌, filter, refl, sym, ap, ◌∙◌}
+use Rattle.std.proofs.Common.{◌≡◌, ℕ, Bool, true, false, cond, not, ◌||◌, List, [], ◌∷◌, ◌++◌, filter, refl, sym, ap}
+use Rattle.std.proofs.Common.{◌∙◌}
 use Rattle.std.proofs.lemmas.List.{append-nil}
 use Rattle.std.proofs.lemmas.List.Elements.{filter-append}
 use Rattle.jv_base.specs.Names.{is_text}
-use Rattle.jv_base.proofs.Equality.{text_Decides}
+use Rattle.jv_base.proofs.Equality.{same_text, text_sym}
 use Rattle.fresh_names.specs.Fresh.{is_taken}
 use Rattle.fresh_names.specs.Given.{olds, once}
-
-pub same_text : (a b : List ℕ) → is_text a b ≡ true → a ≡ b
-same_text a b is = (text_Decides a b).0 is
-
-pub text_is : (a b : List ℕ) → a ≡ b → is_text a b ≡ true
-text_is a b same = (text_Decides a b).1 same
-
-pub symmetric : (a b : List ℕ) → is_text a b ≡ is_text b a
-symmetric a b = on (is_text a b) refl (is_text b a) refl
-  where
-    on : (c : Bool) → is_text a b ≡ c → (d : Bool) → is_text b a ≡ d → c ≡ d
-    on true e true f = refl
-    on false e false f = refl
-    on true e false f = absurd (let w : true ≡ false = sym (text_is b a (sym (same_text a b e))) ∙ f in cc)
-    on false e true f = absurd (let w : true ≡ false = sym (text_is a b (sym (same_text b a f))) ∙ e in cc)
 
 -- a name that passes is among those that pass where it is among all
 pub kept_taken : (q : List ℕ → Bool) (a : List ℕ) (xs : List (List ℕ)) → q a ≡ true
@@ -49,13 +35,14 @@ once_taken (x ∷ xs) a = on (is_text a x) refl (once_taken xs a)
         ap (λ (c : Bool). c || is_taken (filter (λ y. not (is_text x y)) (once xs)) a) e
         ∙ sym (ap (λ (c : Bool). c || is_taken xs a) e)
     on false e rest = ap (λ (c : Bool). is_text a x || c)
-        (kept_taken (λ y. not (is_text x y)) a (once xs) (ap not (symmetric x a ∙ e)) ∙ rest)
+        (kept_taken (λ y. not (is_text x y)) a (once xs) (ap not (text_sym x a ∙ e)) ∙ rest)
 
 pub one_kept : (q : List ℕ → Bool) (x : List ℕ) (b : Bool) → q x ≡ b → filter q (x ∷ []) ≡ cond b (x ∷ []) []
 one_kept q x b e = ap (λ (c : Bool). cond c (x ∷ []) []) e
 
 -- one name more
-pub once_more : (xs : List (List ℕ)) (x : List ℕ) → once (xs ++ x ∷ []) ≡ cond (is_taken xs x) (once xs) (once xs ++ x ∷ [])
+pub once_more : (xs : List (List ℕ)) (x : List ℕ)
+    → once (xs ++ x ∷ []) ≡ cond (is_taken xs x) (once xs) (once xs ++ x ∷ [])
 unfolding once
 once_more [] x = refl
 once_more (y ∷ ys) x =
@@ -64,18 +51,19 @@ once_more (y ∷ ys) x =
   where
     on : (b : Bool) → is_text x y ≡ b → (c : Bool)
         → y ∷ filter (λ z. not (is_text y z)) (cond c (once ys) (once ys ++ x ∷ []))
-        ≡ cond (b || c) (y ∷ filter (λ z. not (is_text y z)) (once ys)) (y ∷ (filter (λ z. not (is_text y z)) (once ys) ++ x ∷ []))
+        ≡ cond (b || c) (y ∷ filter (λ z. not (is_text y z)) (once ys))
+        (y ∷ (filter (λ z. not (is_text y z)) (once ys) ++ x ∷ []))
     on true e true = refl
     on false e true = refl
     on true e false = ap (λ (l : List (List ℕ)). y ∷ l)
         (filter-append (λ z. not (is_text y z)) (once ys) (x ∷ [])
         ∙ ap (λ (l : List (List ℕ)). filter (λ z. not (is_text y z)) (once ys) ++ l)
-        (one_kept (λ z. not (is_text y z)) x false (ap not (symmetric y x ∙ e)))
+        (one_kept (λ z. not (is_text y z)) x false (ap not (text_sym y x ∙ e)))
         ∙ append-nil (filter (λ z. not (is_text y z)) (once ys)))
     on false e false = ap (λ (l : List (List ℕ)). y ∷ l)
         (filter-append (λ z. not (is_text y z)) (once ys) (x ∷ [])
         ∙ ap (λ (l : List (List ℕ)). filter (λ z. not (is_text y z)) (once ys) ++ l)
-        (one_kept (λ z. not (is_text y z)) x true (ap not (symmetric y x ∙ e))))
+        (one_kept (λ z. not (is_text y z)) x true (ap not (text_sym y x ∙ e))))
 
 module _ (taken done : List (List ℕ)) (x : List ℕ) where
   -- the names with one more: where it is taken, where it isn't

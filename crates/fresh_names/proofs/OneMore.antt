@@ -1,20 +1,22 @@
 -- One name more is given.
 use Rattle.std.proofs.Common.{◌≡◌, ℕ, ◌+◌, Bool, true, false, cond, ◌||◌, List, [], ◌∷◌, ◌++◌, Option, Some, None}
-use Rattle.std.proofs.Common.{is_some, map, flat_map, length, get_or, take, ◌<◌, Result, Ok, Err, OnOk, refl, sym, ap, ◌∙◌, subst}
+use Rattle.std.proofs.Common.{is_some, map, Result, OnOk, refl, sym, ap, ◌∙◌, subst}
 use Rattle.std.specs.Prelude.{nat_eq}
 use Rattle.std.specs.Cmp.Lexicographic.{pointwise}
 use Rattle.std.specs.Map.{lookup}
-use Rattle.std.proofs.lemmas.List.{append-nil, map-append, take_more}
-use Rattle.std.proofs.lemmas.Grind.{flat_map-append}
+use Rattle.std.proofs.lemmas.List.{append-nil}
 use Rattle.std.proofs.lemmas.List.Elements.{filter-append}
+use Rattle.std.proofs.lemmas.Result.{on_ok_weaker}
+use Rattle.std.proofs.lemmas.Bool.{or_parts}
 use Rattle.indexmap.specs.IndexMap.{insert_entry}
 use Rattle.jv_base.specs.Names.{is_text}
+use Rattle.jv_base.proofs.Equality.{same_text, text_is}
 use Rattle.class_rename.specs.Names.{new_name, or_else}
 use Rattle.fresh_names.specs.Fresh.{fresh, given, is_taken, next_free}
 use Rattle.fresh_names.specs.Given.{given_name, olds, once, with_front}
 use Rattle.fresh_names.specs.bodies.Giving.{IsGiven, after, number_of}
 use Rattle.fresh_names.proofs.Found.{after_last, given_found, given_last, lookup_inserted, lookup_last, or_first}
-use Rattle.fresh_names.proofs.Once.{kept_taken, olds_new, olds_taken, olds_there, one_kept, same_text, text_is}
+use Rattle.fresh_names.proofs.Once.{kept_taken, olds_new, olds_taken, olds_there, one_kept}
 
 module _ (front : List ℕ → List ℕ) (taken done : List (List ℕ)) where
   -- nothing is given yet
@@ -42,7 +44,8 @@ module _ (front : List ℕ → List ℕ) (taken done : List (List ℕ)) where
       → IsGiven front taken (done ++ x ∷ []) table next
   same_olds table next x same g = record {
     found = λ a. g.found a
-        ∙ ap (λ (l : List (List ℕ)). lookup (is_text a) (given (front a) taken 0 (with_front front (front a) l))) (sym same);
+        ∙ ap (λ (l : List (List ℕ)). lookup (is_text a) (given (front a) taken 0 (with_front front (front a) l)))
+        (sym same);
     counted = λ p. g.counted p ∙ ap (λ (l : List (List ℕ)). after p taken 0 (with_front front p l)) (sym same);
   }
 
@@ -62,20 +65,13 @@ kept_first : (o : Option (List ℕ)) → o ≡ or_first o None
 kept_first None = refl
 kept_first (Some v) = refl
 
-left : (b c : Bool) → (b || c) ≡ false → b ≡ false
-left false c e = refl
-left true c e = absurd cc
-
-right : (b c : Bool) → (b || c) ≡ false → c ≡ false
-right false c e = e
-right true c e = absurd cc
-
 none_of : (o : Option (List ℕ)) → is_some o ≡ false → o ≡ None
 none_of None e = refl
 none_of (Some v) e = absurd cc
 
 -- another name gets the next that is free in its front
-module _ (front : List ℕ → List ℕ) (taken done : List (List ℕ)) (table : List (List ℕ × List ℕ)) (next : List (List ℕ × ℕ))
+module _ (front : List ℕ → List ℕ) (taken done : List (List ℕ)) (table : List (List ℕ × List ℕ))
+    (next : List (List ℕ × ℕ))
     (x : List ℕ) (isnt : (is_taken taken x || is_some (lookup (is_text x) table)) ≡ false)
     (g : IsGiven front taken done table next) where
   abbrev number : List ℕ → ℕ
@@ -93,10 +89,10 @@ module _ (front : List ℕ → List ℕ) (taken done : List (List ℕ)) (table :
   with_x p = with_front front p (olds taken (done ++ x ∷ []))
 
   unnamed : is_some (lookup (is_text x) table) ≡ false
-  unnamed = right (is_taken taken x) (is_some (lookup (is_text x) table)) isnt
+  unnamed = (or_parts (is_taken taken x) (is_some (lookup (is_text x) table)) isnt).1
 
   more : olds taken (done ++ x ∷ []) ≡ olds taken done ++ x ∷ []
-  more = olds_new taken done x (left (is_taken taken x) (is_some (lookup (is_text x) table)) isnt)
+  more = olds_new taken done x (or_parts (is_taken taken x) (is_some (lookup (is_text x) table)) isnt).0
       (sym (table_taken front taken done table next g x) ∙ unnamed)
 
   more_fronts : (p : List ℕ) (b : Bool) → is_text p (front x) ≡ b → with_x p ≡ before p ++ cond b (x ∷ []) []
@@ -116,10 +112,13 @@ module _ (front : List ℕ → List ℕ) (taken done : List (List ℕ)) (table :
       ∙ lookup_last (is_text a) (given (front a) taken 0 (before (front a)))
       (x, fresh (front a) (next_free (front a) taken (after (front a) taken 0 (before (front a)))))
       ∙ ap (λ (o : Option (List ℕ)). or_first o (cond (is_text a x)
-      (Some (fresh (front a) (next_free (front a) taken (after (front a) taken 0 (before (front a)))))) None)) (sym (g.found a))
-      ∙ ap (λ (n : ℕ). or_first (lookup (is_text a) table) (cond (is_text a x) (Some (fresh (front a) (next_free (front a) taken n))) None))
+      (Some (fresh (front a) (next_free (front a) taken (after (front a) taken 0 (before (front a)))))) None))
+      (sym (g.found a))
+      ∙ ap (λ (n : ℕ). or_first (lookup (is_text a) table)
+      (cond (is_text a x) (Some (fresh (front a) (next_free (front a) taken n))) None))
       (sym (g.counted (front a)))
-      ∙ ap (λ (p : List ℕ). or_first (lookup (is_text a) table) (cond (is_text a x) (Some (fresh p (number p))) None)) same
+      ∙ ap (λ (p : List ℕ). or_first (lookup (is_text a) table)
+      (cond (is_text a x) (Some (fresh p (number p))) None)) same
 
   -- a name of another one
   there : (a : List ℕ) → is_text (front a) (front x) ≡ false
@@ -170,47 +169,29 @@ module _ (front : List ℕ → List ℕ) (taken done : List (List ℕ)) (table :
         ∙ count_by p (is_text p (front x)) refl;
   }
 
--- what follows from what is so after Ok
-then_ok : {T E P Q : Type 0} (r : Result T E) → (P → Q) → OnOk r P → OnOk r Q
-then_ok (Ok x) f h = f h
-then_ok (Err e) f h = tt
-
 -- a name is given by steps
-pub given_by_steps : {T E : Type 0} (front_of : List ℕ → List ℕ) (taken done : List (List ℕ)) (table grown : List (List ℕ × List ℕ))
+pub given_by_steps : {T E : Type 0} (front_of : List ℕ → List ℕ) (taken done : List (List ℕ))
+    (table grown : List (List ℕ × List ℕ))
     (next later : List (List ℕ × ℕ)) (front x new : List ℕ) (number behind : ℕ) (r : Result T E) → front_of x ≡ front
     → (is_taken taken x || is_some (lookup (is_text x) table)) ≡ false
     → number ≡ next_free front taken (number_of next front) → new ≡ fresh front number → behind ≡ number + 1
     → grown ≡ insert_entry (pointwise nat_eq) table x new
     → OnOk r (later ≡ insert_entry (pointwise nat_eq) next front behind)
     → IsGiven front_of taken done table next → OnOk r (IsGiven front_of taken (done ++ x ∷ []) grown later)
-given_by_steps front_of taken done table grown next later front x new number behind r same isnt next_is new_is behind_is grows counts g =
-    then_ok r (λ counted.
+given_by_steps front_of taken done table grown next later front x new number behind r same isnt next_is new_is
+    behind_is grows counts g =
+    on_ok_weaker r (λ counted.
     subst (λ (n : List (List ℕ × ℕ)). IsGiven front_of taken (done ++ x ∷ []) grown n)
     (ap (λ (p : List ℕ). insert_entry (pointwise nat_eq) next p (next_free p taken (number_of next p) + 1)) same
     ∙ ap (λ (n : ℕ). insert_entry (pointwise nat_eq) next front (n + 1)) (sym next_is)
     ∙ ap (insert_entry (pointwise nat_eq) next front) (sym behind_is) ∙ sym counted)
     (subst (λ (t : List (List ℕ × List ℕ)). IsGiven front_of taken (done ++ x ∷ []) t
-    (insert_entry (pointwise nat_eq) next (front_of x) (next_free (front_of x) taken (number_of next (front_of x)) + 1)))
+    (insert_entry (pointwise nat_eq) next (front_of x)
+    (next_free (front_of x) taken (number_of next (front_of x)) + 1)))
     (ap (λ (p : List ℕ). insert_entry (pointwise nat_eq) table x (fresh p (next_free p taken (number_of next p)))) same
     ∙ ap (λ (n : ℕ). insert_entry (pointwise nat_eq) table x (fresh front n)) (sym next_is)
     ∙ ap (insert_entry (pointwise nat_eq) table x) (sym new_is) ∙ sym grows)
     (gives front_of taken done table next x isnt g))) counts
-
--- one element more
-pub mapped_more : {A B : Type 0} (f : A → B) (xs : List A) (i : ℕ) (x : A) → i < length xs → x ≡ get_or xs i x
-    → map f (take i xs) ++ f x ∷ [] ≡ map f (take (i + 1) xs)
-mapped_more f xs i x below is =
-    ap (λ y. map f (take i xs) ++ f y ∷ []) is
-    ∙ sym (map-append f (take i xs) (get_or xs i x ∷ []))
-    ∙ ap (map f) (sym (take_more xs i x below))
-
-pub flat_more : {A B : Type 0} (f : A → List B) (xs : List A) (i : ℕ) (x : A) → i < length xs → x ≡ get_or xs i x
-    → flat_map f (take i xs) ++ f x ≡ flat_map f (take (i + 1) xs)
-flat_more f xs i x below is =
-    ap (λ y. flat_map f (take i xs) ++ f y) is
-    ∙ ap (λ l. flat_map f (take i xs) ++ l) (sym (append-nil (f (get_or xs i x))))
-    ∙ sym (flat_map-append f (take i xs) (get_or xs i x ∷ []))
-    ∙ ap (flat_map f) (sym (take_more xs i x below))
 
 -- the names of a slice of what a class has
 pub same_done : {A : Type 0} (name : A → List ℕ) (done : List (List ℕ)) (slice parts : List A) (whole : List (List ℕ))

@@ -4,15 +4,16 @@ use Rattle.std.proofs.Common.{◌∷◌, slice_get, Option, Some, None, refl, sy
 use Rattle.std.specs.List.{list_any}
 use Rattle.std.specs.Map.{lookup}
 use Rattle.std.proofs.lemmas.Option.{same_Some}
+use Rattle.std.proofs.lemmas.Bool.{not-true}
 use Rattle.jv_base.specs.Names.{is_text}
-use Rattle.jv_base.proofs.Equality.{text_Decides}
+use Rattle.jv_base.proofs.Equality.{text_Decides, same_text, text_is}
 use Rattle.fresh_names.specs.Fresh.{fresh, given, is_taken, next_free}
 use Rattle.fresh_names.proofs.Free.{given_free, given_once}
 use Rattle.class_rename.specs.Names.{new_name, or_else}
 use Rattle.fresh_names.specs.Given.{front_of, given_name, no_front, olds, with_front}
 use Rattle.fresh_names.specs.Laws.{FrontsStay, IsNamed, NamesDiffer, TakenStay}
 use Rattle.fresh_names.proofs.Fronts.{fresh_front}
-use Rattle.fresh_names.proofs.Once.{kept_taken, once_taken, same_text, text_is}
+use Rattle.fresh_names.proofs.Once.{kept_taken, once_taken}
 
 -- an entry that is looked up stands somewhere
 entry_step : (a : List ℕ) (e : List ℕ × List ℕ) (table : List (List ℕ × List ℕ)) (v : List ℕ) (b : Bool)
@@ -168,10 +169,6 @@ given_cases front taken names a = on (lookup (is_text a) (given (front a) taken 
     mine : List (List ℕ)
     mine = with_front front (front a) (olds taken names)
 
-    no : (b : Bool) → not b ≡ true → b ≡ false
-    no true h = absurd cc
-    no false h = refl
-
     on : (o : Option (List ℕ)) → lookup (is_text a) (given (front a) taken 0 mine) ≡ o
         → (or_else o a ≡ a)
         ⊎ ((n : ℕ) × (or_else o a ≡ fresh (front a) n) × (is_taken taken (fresh (front a) n) ≡ false)
@@ -184,7 +181,14 @@ given_cases front taken names a = on (lookup (is_text a) (given (front a) taken 
         (given_one (front a) taken 0 mine a v e) in
         let two = passes_of (λ b. not (is_taken taken b)) a names
         (sym (once_taken (filter (λ b. not (is_taken taken b)) names) a) ∙ one.1) in
-        inr (free.0, sym h.4 ∙ free.2, ap (is_taken taken) (sym free.2) ∙ free.3, no (is_taken taken a) two.0, two.1)
+        inr (
+          free.0,
+          sym h.4 ∙ free.2,
+          ap (is_taken taken) (sym free.2)
+              ∙ free.3,
+          not-true (is_taken taken a) two.0,
+          two.1,
+        )
 
 -- each stays in its front
 pub fronts_stay : FrontsStay

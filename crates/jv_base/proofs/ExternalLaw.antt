@@ -5,8 +5,9 @@ use Rattle.std.proofs.Common.{append_assoc, arith, ne_eqb}
 use Rattle.std.specs.Prelude.{nat_eq, nat_lt, codes}
 use Rattle.std.specs.List.{list_any, repeat}
 use Rattle.std.proofs.lemmas.List.{append-nil, map-append}
-use Rattle.std.proofs.lemmas.Bool.{eqb-true, and_parts, or_parts}
+use Rattle.std.proofs.lemmas.Bool.{eqb-true, and_parts, or_parts, not-true}
 use Rattle.std.proofs.lemmas.Bool.Decides.{nat_tests}
+use Rattle.std.proofs.lemmas.Option.{cond_some}
 use Rattle.jv_base.specs.Descriptors.{typed, bad_descriptor}
 use Rattle.jv_base.specs.External.{SpellsExternal, External, word, opened, closed, dotted, swapped, word_text}
 use Rattle.jv_base.specs.External.{external_text, keyword_base, or_class, word_base, word_on, word_opened, word_byte}
@@ -21,7 +22,7 @@ use Rattle.jv_base.specs.declared.types.Base.TheVariants.{Boolean, Byte, Char, S
 use Rattle.jv_base.specs.declared.types.FieldType.{FieldType}
 use Rattle.jv_base.proofs.Equality.{text_Decides}
 use Rattle.jv_base.proofs.FieldLaw.{bad_err, bad_ok, class_parts, front_empty, front_more, front_whole, goes_in}
-use Rattle.jv_base.proofs.FieldLaw.{IsNameFront, letters, guarded}
+use Rattle.jv_base.proofs.FieldLaw.{IsNameFront, letters}
 use Rattle.jv_base.proofs.Naming.{class_name_is}
 use Rattle.jv_base.proofs.Swapping.{repeat_push}
 use Rattle.jv_base.proofs.WalkLaw.{nothing_more, walk_found, walk_longest}
@@ -60,7 +61,7 @@ word_is text base h = by (keyword_base text) refl h
   where
     by : (o : Option Base) → keyword_base text ≡ o → or_class text o ≡ Some base → IsWordOf text base
     by (Some other) e k = keyword_is text base (e ∙ k)
-    by None e k = let p = guarded (is_class_name text) (Class text) base k in subst (IsWordOf text) p.1 (p.0, refl)
+    by None e k = let p = cond_some (is_class_name text) (Class text) base k in subst (IsWordOf text) p.1 (p.0, refl)
 
 skip : (text first : List ℕ) (others : List (List ℕ)) → list_any (is_text text) (first ∷ others) ≡ false
     → (is_text text first ≡ false) × (list_any (is_text text) others ≡ false)
@@ -107,11 +108,7 @@ class_word : (text : List ℕ) → is_class_name text ≡ true → word_base tex
 unfolding word_base
 class_word text h =
     let p = and_parts (parts_whole false text) (not (is_primitive_or_void text)) (sym (class_name_is text) ∙ h) in
-    rw (not_one text (negated (is_primitive_or_void text) p.1), h) refl
-  where
-    negated : (b : Bool) → not b ≡ true → b ≡ false
-    negated true k = absurd cc
-    negated false k = refl
+    rw (not_one text (not-true (is_primitive_or_void text) p.1), h) refl
 
 keyword_word : (text : List ℕ) (base : Base) → keyword_base text ≡ Some base → word_base text ≡ Some base
 unfolding word_base
@@ -186,7 +183,7 @@ unfolding external_byte
 keeps (word text in_part) q b so_far h k = word_keeps text in_part (nat_eq b 91)
     (nat_eq b 47) q b so_far h.0 h.1 refl refl k
 keeps (opened dims base) q b so_far h k =
-    let p = guarded (nat_eq b 93) (closed (dims + 1) base) q k in
+    let p = cond_some (nat_eq b 93) (closed (dims + 1) base) q k in
     let room = h.1 in
     subst (λ (x : External). ExternalReads x (so_far ++ b ∷ [])) p.1 (
       h.0,
@@ -196,7 +193,7 @@ keeps (opened dims base) q b so_far h k =
           ∙ one_more dims base,
     )
 keeps (closed dims base) q b so_far h k =
-    let p = guarded (nat_eq b 91 && nat_lt dims 255) (opened dims base) q k in
+    let p = cond_some (nat_eq b 91 && nat_lt dims 255) (opened dims base) q k in
     let tests = and_parts (nat_eq b 91) (nat_lt dims 255) p.0 in
     let room : dims < 255 = grind (arith, nat_tests, tests.1) in
     subst (λ (x : External). ExternalReads x (so_far ++ b ∷ [])) p.1 (
@@ -279,7 +276,7 @@ name_byte_is : (in_part then_part : Bool) (b : ℕ) → nat_eq b 47 ≡ false �
 unfolding part_after
 name_byte_is in_part then_part b other h =
     let k : cond (is_name_byte b) (Some true) None ≡ Some then_part = rw other at h in
-    let p = guarded (is_name_byte b) true then_part k in (
+    let p = cond_some (is_name_byte b) true then_part k in (
       ne_eqb b 91 (λ e. let n : is_name_byte b ≡ false = rw e bracket_is_none in let y = p.0 in cc),
       ne_eqb b 46
           (λ e. let n : is_name_byte b ≡ false = rw e dot_is_none in let y = p.0 in cc),
@@ -322,7 +319,8 @@ record IsRead (base : Base) : Type 0 where
 
 keyword_read : (text : List ℕ) (base : Base) → parts_whole false text ≡ true → word_text base ≡ dotted text
     → keyword_base text ≡ Some base → IsRead base
-keyword_read text base parts said found = record { text = text; parts = parts; said = said; found = keyword_word text base found }
+keyword_read text base parts said found =
+    record { text = text; parts = parts; said = said; found = keyword_word text base found }
 
 is_read : (base : Base) → IsBase base → IsRead base
 unfolding word_text keyword_base is_name_byte

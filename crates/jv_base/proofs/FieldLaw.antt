@@ -5,8 +5,9 @@ use Rattle.std.proofs.Common.{append_assoc, arith, ne_eqb}
 use Rattle.std.specs.Prelude.{nat_eq, nat_lt, replicate, codes}
 use Rattle.std.specs.Cmp.Lexicographic.{unequal}
 use Rattle.std.proofs.lemmas.List.{append-nil, length-append, replicate-append-replicate}
-use Rattle.std.proofs.lemmas.Bool.{eqb-true}
+use Rattle.std.proofs.lemmas.Bool.{eqb-true, and_parts}
 use Rattle.std.proofs.lemmas.Bool.Decides.{nat_tests}
+use Rattle.std.proofs.lemmas.Option.{cond_some}
 use Rattle.jv_base.specs.Descriptors.{SpellsField, typed, letter_base, Begun, brackets, name, Grown, more, whole}
 use Rattle.jv_base.specs.Descriptors.{letter_grown, name_on, grown, FieldRead, field_begun, field_whole, field_on}
 use Rattle.jv_base.specs.Descriptors.{field_byte, field_end, bad_descriptor, read_field}
@@ -96,10 +97,6 @@ abbrev pub FitsGrown : Begun → ℕ → Grown → Type 0
 FitsGrown s b (more next) = CanBegin next × (begun_text next ≡ begun_text s ++ b ∷ [])
 FitsGrown s b (whole ty) = IsFieldType ty × (field_text ty ≡ begun_text s ++ b ∷ [])
 
-pub guarded : {A : Type 0} (b : Bool) (x y : A) → cond b (Some x) None ≡ Some y → (b ≡ true) × (x ≡ y)
-guarded true x y h = (refl, cc)
-guarded false x y h = absurd cc
-
 -- the letter of a base type is its text
 abbrev IsLetterOf : ℕ → Base → Type 0
 IsLetterOf b base = IsBase base × (base_text base ≡ b ∷ [])
@@ -154,7 +151,7 @@ brackets_fit dims b o few h = at_bracket (nat_eq b 91) refl h
         (cond (nat_eq b 76) (Some (more (name dims [] false))) (letter_grown dims (letter_base b))) ≡ Some o
         → FitsGrown (brackets dims) b o
     at_bracket true is k =
-        let p = guarded (nat_lt dims 255) (more (brackets (dims + 1))) o k in
+        let p = cond_some (nat_lt dims 255) (more (brackets (dims + 1))) o k in
         let below : dims < 255 = grind (arith, nat_tests, p.0) in
         subst (FitsGrown (brackets dims) b) p.1 (omega arith, bracket_more dims b (eqb-true b 91 is))
     at_bracket false is k = at_name (nat_eq b 76) refl k
@@ -179,7 +176,7 @@ name_fits dims text in_part b o few front h = at_end (nat_eq b 59) refl h
         → cond t (cond (is_class_name text) (Some (whole (typed dims (Class text)))) None)
         (name_on dims (text ++ b ∷ []) (part_after in_part b)) ≡ Some o → FitsGrown (name dims text in_part) b o
     at_end true is k =
-        let p = guarded (is_class_name text) (whole (typed dims (Class text))) o k in
+        let p = cond_some (is_class_name text) (whole (typed dims (Class text))) o k in
         subst (FitsGrown (name dims text in_part) b) p.1 (
           record { dimensions = few; named = p.0 },
           ap (λ (n : ℕ). replicate dims 91 ++ 76 ∷ (text ++ n ∷ [])) (sym (eqb-true b 59 is))
@@ -299,11 +296,8 @@ path_name (b ∷ bs) dims text in_part h valid =
     inr (name dims (text ++ b ∷ []) g.0, one, subst P (sym whole_) deep valid)
 
 pub class_parts : (text : List ℕ) → is_class_name text ≡ true → parts_whole false text ≡ true
-class_parts text h = first (parts_whole false text) (not (is_primitive_or_void text)) (sym (class_name_is text) ∙ h)
-  where
-    first : (a b : Bool) → (a && b) ≡ true → a ≡ true
-    first true b h = refl
-    first false b h = h
+class_parts text h =
+    (and_parts (parts_whole false text) (not (is_primitive_or_void text)) (sym (class_name_is text) ∙ h)).0
 
 path_base : (dims : ℕ) (base : Base) → IsBase base → Path (brackets dims) (base_text base) (typed dims base)
 unfolding grown base_text

@@ -3,10 +3,14 @@ pub mod Due
 pub mod Equality
 pub mod ExternalLaw
 pub mod FieldLaw
+pub mod Lists
 pub mod MethodLaw
 pub mod Naming
+pub mod Options
 pub mod Places
+pub mod Results
 pub mod Swapping
+pub mod Tests
 pub mod Utf16Text
 pub mod WalkLaw
 pub mod Walking

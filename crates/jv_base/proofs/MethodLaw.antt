@@ -7,6 +7,8 @@ use Rattle.std.proofs.lemmas.List.{append-nil}
 use Rattle.std.proofs.lemmas.List.Concat.{flat_map-append}
 use Rattle.std.proofs.lemmas.Bool.{eqb-true, and_parts}
 use Rattle.std.proofs.lemmas.Bool.Decides.{nat_tests}
+use Rattle.std.proofs.Math.Bool.{and-false}
+use Rattle.std.proofs.lemmas.Option.{cond_some}
 use Rattle.jv_base.specs.Descriptors.{SpellsMethod, Begun, brackets, name, Grown, more, whole, grown, MethodPart}
 use Rattle.jv_base.specs.Descriptors.{before, parameter, returned, behind, MethodRead, is_fresh, parameter_on}
 use Rattle.jv_base.specs.Descriptors.{parameter_byte, returned_on, returned_byte, part_byte, method_byte, part_end}
@@ -18,7 +20,6 @@ use Rattle.jv_base.specs.declared.descriptors.BadDescriptor.{BadDescriptor}
 use Rattle.jv_base.specs.declared.types.FieldType.{FieldType}
 use Rattle.jv_base.specs.declared.types.MethodType.{MethodType}
 use Rattle.jv_base.proofs.FieldLaw.{bad_err, bad_ok, begun_text, CanBegin, goes_whole, grown_fits, Path, path_field}
-use Rattle.jv_base.proofs.FieldLaw.{guarded}
 use Rattle.jv_base.proofs.WalkLaw.{nothing_more, walk_found, walk_longest}
 use Rattle.jv_base.proofs.Words.{no_words, words_more}
 
@@ -94,7 +95,7 @@ parameter_keeps args s (Some (more next)) m b so_far are can room text h k =
     (are, f.0, λ e. room, longer (texts args) (begun_text s) (begun_text next) b so_far f.1 text)
 parameter_keeps args s (Some (whole ty)) m b so_far are can room text h k =
     let f = grown_fits s b (whole ty) can h in
-    let p = guarded (nat_le (argument_words (args ++ ty ∷ [])) 255)
+    let p = cond_some (nat_le (argument_words (args ++ ty ∷ [])) 255)
     (at_part (args ++ ty ∷ []) (parameter (brackets 0))) m k in
     let few : argument_words (args ++ ty ∷ []) ≤ 255 = grind (arith, nat_tests, p.0) in
     let said : so_far ++ b ∷ []
@@ -183,7 +184,7 @@ returned_step args s false m b so_far are can text v k = returned_keeps args s
 part_keeps : (args : List FieldType) (part : MethodPart) (m : MethodRead) (b : ℕ) (so_far : List ℕ)
     → PartReads args part so_far → part_byte args part b ≡ Some m → MethodReads m (so_far ++ b ∷ [])
 part_keeps args before m b so_far r k =
-    let p = guarded (nat_eq b 40) (at_part args (parameter (brackets 0))) m k in
+    let p = cond_some (nat_eq b 40) (at_part args (parameter (brackets 0))) m k in
     let none : argument_words args ≡ 0 = ap argument_words r.0 ∙ no_words in
     let all : AllByRecursion IsFieldType args = subst (λ (xs : List FieldType). AllByRecursion IsFieldType xs)
     (sym r.0) tt in
@@ -300,11 +301,7 @@ not_closing (name dims text in_part) b o h = refl
 not_closing (brackets dims) b o h = by (nat_eq b 41) refl
   where
     by : (t : Bool) → nat_eq b 41 ≡ t → (nat_eq dims 0 && t) ≡ false
-    by false e = and_false (nat_eq dims 0)
-      where
-        and_false : (a : Bool) → (a && false) ≡ false
-        and_false true = refl
-        and_false false = refl
+    by false e = and-false (nat_eq dims 0)
     by true e = let none : grown (brackets dims) b ≡ None = rw (eqb-true b 41 e) refl in absurd cc
 
 not_voiding : (s : Begun) (b : ℕ) (o : Grown) → grown s b ≡ Some o → (is_fresh s && nat_eq b 86) ≡ false
@@ -313,11 +310,7 @@ not_voiding (name dims text in_part) b o h = refl
 not_voiding (brackets dims) b o h = by (nat_eq b 86) refl
   where
     by : (t : Bool) → nat_eq b 86 ≡ t → (nat_eq dims 0 && t) ≡ false
-    by false e = and_false (nat_eq dims 0)
-      where
-        and_false : (a : Bool) → (a && false) ≡ false
-        and_false true = refl
-        and_false false = refl
+    by false e = and-false (nat_eq dims 0)
     by true e = let none : grown (brackets dims) b ≡ None = rw (eqb-true b 86 e) refl in absurd cc
 
 room_left : (fresh : Bool) (words : ℕ) → words < 255 → (fresh && nat_le 255 words) ≡ false

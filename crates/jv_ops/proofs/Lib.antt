@@ -10,9 +10,9 @@ pub mod ReadWhole
 pub mod ReadGrammar
 pub mod BackDecoded
 mod Lengths
-mod Ends
+pub mod Ends
 mod Counts
-mod Ready
+pub mod Ready
 mod Branches
 mod Onward
 mod Saying

@@ -5,6 +5,7 @@ use Rattle.std.proofs.Common.{arith}
 use Rattle.std.specs.Prelude.{nat_eq, ℤ, pos, negsuc}
 use Rattle.class_model.specs.InstructionMeaning.{or_else, aim_at}
 use Rattle.class_model.specs.Lookups.{due}
+use Rattle.class_model.proofs.FirstOfTwo.{or_none, or_cond}
 use Rattle.format_reading.specs.declared.fault.FormatKind.TheVariants as bad
 use Rattle.std.proofs.lemmas.Bool.{eqb-true, eq-eqb}
 use Rattle.std.proofs.lemmas.List.{drop_all}
@@ -40,10 +41,6 @@ found_other (x ∷ xs) zero number (suc n) other = refl
 found_other (x ∷ xs) (suc m) number zero other = refl
 found_other (x ∷ xs) (suc m) number (suc n) other = found_other xs m number n (λ e. other (ap suc e))
 
-or_none : (o : Option ℕ) → or_else o None ≡ o
-or_none (Some x) = refl
-or_none None = refl
-
 noted_new : (b : Bool) (table new : List (Option ℕ)) (start number offset : ℕ) → eqb offset start ≡ b
     → found table start ≡ None → found new start ≡ Some number
     → ((offset ≡ start → ⊥) → found new offset ≡ found table offset)
@@ -77,12 +74,6 @@ is_kept table start number offset x some = kept_by (eqb offset start) (found tab
 abbrev pub number_from : ℕ → ℕ → List Placed → Option ℕ
 number_from offset k [] = None
 number_from offset k (p ∷ ps) = cond (eqb offset p.at) (Some k) (number_from offset (k + 1) ps)
-
-or_cond : (o : Option ℕ) (b : Bool) (k : ℕ) (rest : Option ℕ)
-    → or_else o (cond b (Some k) rest) ≡ or_else (or_else o (cond b (Some k) None)) rest
-or_cond (Some x) b k rest = refl
-or_cond None true k rest = refl
-or_cond None false k rest = refl
 
 -- one more start was noted
 pub goes_on : (before after total : Option ℕ) (offset i : ℕ) (ps : List Placed) (d : Placed) → i < length ps

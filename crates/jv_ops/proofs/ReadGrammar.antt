@@ -1,5 +1,6 @@
 -- What is decoded is exactly what the bytes of the code stand for.
 use Rattle.std.proofs.Common.{◌≡◌, ℕ, List, subst, Result, Ok, Err, refl, sym, ap, ◌∙◌}
+use Rattle.jv_base.proofs.Results.{same_fault}
 use Rattle.format_reading.specs.declared.fault.FormatFault.{FormatFault}
 use Rattle.format_reading.specs.declared.fault.FormatKind.{FormatKind}
 use Rattle.format_reading.specs.declared.fault.FormatKind.TheVariants as bad
@@ -62,9 +63,6 @@ other_fault : (pool : List Entry) (bytes : List ℕ) (offset : ℕ) (kind : Form
 other_fault pool bytes offset bad.BadOpcode = tt
 other_fault pool bytes offset bad.BadOperand = tt
 other_fault pool bytes offset _ = tt
-
-same_fault : (f g : CodeFault) → (let R : Result Decoded CodeFault = Err f in R) ≡ Err g → f ≡ g
-same_fault f g h = cc
 
 target_fault : (pool : List Entry) (bytes : List ℕ) (infos : List Info) (r : Result (List Op) FormatFault)
     (f : CodeFault) → with_starts infos r ≡ Err f → ToldLeftOut pool bytes f

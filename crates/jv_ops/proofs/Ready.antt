@@ -18,7 +18,7 @@ use Rattle.class_model.specs.WellFormed.{IsGoodOp}
 use Rattle.jv_ops.specs.Coded.{placed}
 
 -- the same with what is tested, the length and the places as variables
-abbrev fit : Bool → ℕ → Result (Unit {0}) WriteLimit
+abbrev pub fit : Bool → ℕ → Result (Unit {0}) WriteLimit
 fit b n = cond b (Ok tt) (Err (CodeTooLong n))
 
 abbrev tested : Bool → ℕ → List ℕ → Result (List ℕ) WriteLimit

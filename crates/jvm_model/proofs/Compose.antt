@@ -7,6 +7,7 @@ use Rattle.std.specs.Option.{option_and_then}
 use Rattle.jv_base.specs.declared.types.Base.{Base}
 use Rattle.jv_base.specs.declared.types.Base.TheVariants as base
 use Rattle.jv_base.specs.declared.types.FieldType.{FieldType}
+use Rattle.jv_base.proofs.Options.{both_there}
 use Rattle.jvm_model.specs.Heap.{Array, Builder, Instance, Object, Str, World}
 use Rattle.jvm_model.specs.Program.{View}
 use Rattle.jvm_model.specs.Same.{Alike, Corr, CorrEnd, FrameCorr, InStep, LineCorr, Names, ObjectCorr, Renamed, Same}
@@ -17,11 +18,6 @@ use Rattle.jvm_model.specs.Value.{Key}
 use Rattle.std.specs.Prelude.{IsSome, option_map}
 
 -- ---- names
-
-pub then_some : {A B : Type 0} (f : A → Option B) (o : Option A) (z : B) → option_and_then f o ≡ Some z
-    → (y : A) × (o ≡ Some y) × (f y ≡ Some z)
-then_some f None z e = cc
-then_some f (Some y) z e = (y, refl, e)
 
 pub there_is : {A : Type 0} (o : Option A) → IsSome o → (x : A) × (o ≡ Some x)
 there_is None h = absurd cc
@@ -76,7 +72,7 @@ object_trans m n (Instance class fields message cause) b c h k =
       r.1,
       r.2,
       ap (option_and_then n.class) h.3 ∙ r.3,
-      λ x z e. let y = then_some n.field (m.field x) z e in r.4 y.0 z y.2 ∙ h.4 x y.0 y.1,
+      λ x z e. let y = both_there n.field (m.field x) z e in r.4 y.0 z y.2 ∙ h.4 x y.0 y.1,
     )
 object_trans m n (Array component values) b c h k =
     let r = subst (λ o. ObjectCorr n o c) h.1 k in
@@ -87,8 +83,8 @@ object_trans m n (Builder units) b c h k = subst (λ o. ObjectCorr n o c) h k
 world_trans : (m n : Names) (a b c : World) → WorldCorr m a b → WorldCorr n b c → WorldCorr (chain m n) a c
 world_trans m n a b c h k = record {
   heap = zip_trans _ _ _ (object_trans m n) a.heap b.heap c.heap h.heap k.heap;
-  statics = λ x z e. let y = then_some n.field (m.field x) z e in k.statics y.0 z y.2 ∙ h.statics x y.0 y.1;
-  inits = λ x z e. let y = then_some n.class (m.class x) z e in k.inits y.0 z y.2 ∙ h.inits x y.0 y.1;
+  statics = λ x z e. let y = both_there n.field (m.field x) z e in k.statics y.0 z y.2 ∙ h.statics x y.0 y.1;
+  inits = λ x z e. let y = both_there n.class (m.class x) z e in k.inits y.0 z y.2 ∙ h.inits x y.0 y.1;
   printed = k.printed ∙ h.printed;
 }
 
@@ -227,7 +223,7 @@ own_base base.Long = refl
 own_base base.Float = refl
 own_base base.Double = refl
 
-own_type : (ty : FieldType) → type_name own_names ty ≡ Some ty
+pub own_type : (ty : FieldType) → type_name own_names ty ≡ Some ty
 own_type ty = ap (option_map (typed ty)) (own_base ty.base)
 
 object_refl : (o : Object) → ObjectCorr own_names o o

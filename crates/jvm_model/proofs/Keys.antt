@@ -9,7 +9,7 @@ use Rattle.jv_base.proofs.Equality.{and_Decides, text_Decides}
 use Rattle.jvm_model.specs.Mapped.{OptionCorr}
 use Rattle.jvm_model.specs.Value.{Key, same_key, set_class, set_key}
 
-key_Decides : (a b : Key) → Decides (same_key a b) (a ≡ b)
+pub key_Decides : (a b : Key) → Decides (same_key a b) (a ≡ b)
 key_Decides a b =
     and_Decides {P = (a.class ≡ b.class) × (a.name ≡ b.name)} _ _
     (and_Decides _ _ (text_Decides a.class b.class) (text_Decides a.name b.name) (λ p q. (p, q)) (λ r. r.0) (λ r. r.1))

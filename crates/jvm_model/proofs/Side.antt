@@ -4,6 +4,7 @@ use Rattle.std.proofs.Common.{inl, inr, refl, sym, ap, ◌∙◌, subst, ⊎_eli
 use Rattle.std.specs.Prelude.{codes, cond, nat_le, nat_lt, option_map, slice_get, if◌then◌else◌}
 use Rattle.std.specs.List.{AllZip, find}
 use Rattle.std.specs.Option.{option_and_then, option_map_or}
+use Rattle.std.proofs.lemmas.Bool.{and_parts}
 use Rattle.jv_base.specs.Names.{is_text}
 use Rattle.jv_base.proofs.Equality.{text_Decides}
 use Rattle.jv_base.specs.declared.types.Base.{Base}
@@ -505,14 +506,9 @@ module _ (m : Mapping) (v w : View) (is : Mapped m v w) where
   plain_object (Str units) e = refl
   plain_object (Builder units) e = absurd cc
 
-  both : (x y : Bool) → (x && y) ≡ true → (x ≡ true) × (y ≡ true)
-  both true true e = (refl, refl)
-  both true false e = absurd cc
-  both false y e = absurd cc
-
   plain_heap : (heap : List Object) → ArePlain heap → AllZip (ObjectCorr m.names) heap heap
   plain_heap [] h = tt
-  plain_heap (o ∷ os) h = let x = both _ _ h in (plain_object o x.0, plain_heap os x.1)
+  plain_heap (o ∷ os) h = let x = and_parts _ _ h in (plain_object o x.0, plain_heap os x.1)
 
   start_map : (x y : Key) → Methods x y → (heap : List Object) → ArePlain heap → (args : List Value)
       → StateMap (start v x heap args) (start w y heap args)

@@ -6,10 +6,12 @@ use Rattle.std.proofs.lemmas.List.{at_drop_all}
 use Rattle.std.proofs.Math.Bool.{or-false}
 use Rattle.std.specs.List.{flat_map, list_any}
 use Rattle.std.proofs.lemmas.List.Folds.{list_any-append}
+use Rattle.jv_base.proofs.Tests.{or_pairs}
 use Rattle.class_model.specs.declared.class.Class.{Class}
 use Rattle.class_pool.specs.declared.id.ClassId.{ClassId}
 use Rattle.class_pool.specs.declared.id.ClassId.TheVariants.{Prog}
-use Rattle.class_pool.specs.Walk.{each_once, own_superinterfaces, same_class, superclasses_from, superinterfaces, supers}
+use Rattle.class_pool.specs.Walk.{each_once, own_superinterfaces, same_class, superclasses_from, superinterfaces}
+use Rattle.class_pool.specs.Walk.{supers}
 use Rattle.class_pool.specs.Found.{name_of}
 use Rattle.class_pool.proofs.EachOnce.{same_is}
 use Rattle.keep_match.specs.bodies.Above.{is_met_at, is_other_met}
@@ -66,15 +68,8 @@ any_flat test f [] = refl
 any_flat test f (x ∷ xs) =
     list_any-append test (f x) (flat_map f xs) ∙ ap (λ (t : Bool). list_any test (f x) || t) (any_flat test f xs)
 
-or_pairs : (a b c d : Bool) → ((a || b) || (c || d)) ≡ ((a || c) || (b || d))
-or_pairs true b true d = refl
-or_pairs true b false d = refl
-or_pairs false true true d = refl
-or_pairs false true false d = refl
-or_pairs false false true d = refl
-or_pairs false false false d = refl
-
-any_both : {A : Type 0} (p q : A → Bool) (xs : List A) → (list_any p xs || list_any q xs) ≡ list_any (λ x. p x || q x) xs
+any_both : {A : Type 0} (p q : A → Bool) (xs : List A)
+    → (list_any p xs || list_any q xs) ≡ list_any (λ x. p x || q x) xs
 any_both p q [] = refl
 any_both p q (x ∷ xs) =
     or_pairs (p x) (list_any p xs) (q x) (list_any q xs) ∙ ap (λ (t : Bool). (p x || q x) || t) (any_both p q xs)

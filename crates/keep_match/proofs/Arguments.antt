@@ -6,7 +6,8 @@ use Rattle.std.proofs.lemmas.List.{at_drop_all, at_drop_more}
 use Rattle.jv_base.specs.declared.types.FieldType.{FieldType}
 use Rattle.keep_match.specs.TypePatterns.{match_each, matches_type}
 
-pub lengths_differ : (ps : List (List ℕ)) (tys : List FieldType) → (length ps ≡ length tys → ⊥) → match_each ps tys ≡ false
+pub lengths_differ : (ps : List (List ℕ)) (tys : List FieldType) → (length ps ≡ length tys → ⊥)
+    → match_each ps tys ≡ false
 unfolding match_each
 lengths_differ [] [] h = absurd (h refl)
 lengths_differ [] (ty ∷ tys) h = refl

@@ -59,7 +59,8 @@ asked_row classes n c keeps =
     λ i. map (λ f. field_asked classes n c keeps f i) c.fields ++ map
     (λ m. method_asked classes n c keeps m i) c.methods
 
-pub map_is : {Y : Type 0} (g : List Bool → Y) (f : ℕ × Class → Y) (k : ℕ) (classes : List Class) (rows : List (List Bool))
+pub map_is : {Y : Type 0} (g : List Bool → Y) (f : ℕ × Class → Y) (k : ℕ) (classes : List Class)
+    (rows : List (List Bool))
     → length rows ≡ length classes
     → ((n : ℕ) (c : Class) → slice_get classes n ≡ Some c → g (row_at rows n) ≡ f (k + n, c))
     → map g rows ≡ map f (enumerate_from k classes)

@@ -3,23 +3,13 @@ use Rattle.std.proofs.Common.{◌≡◌, ◌≢◌, ◌<◌, ℕ, ◌+◌, Bool,
 use Rattle.std.proofs.Common.{◌∙◌, subst, arith, append_assoc, ◌⊎◌, inl, inr}
 use Rattle.std.proofs.lemmas.Bool.{eqb-false, eqb-true, ne_eqb}
 use Rattle.std.specs.List.{AllByRecursion}
+use Rattle.jv_base.proofs.Lists.{all_append, heads, tails}
 use Rattle.keep_match.specs.declared.piece.Piece.{Piece}
 use Rattle.keep_match.specs.declared.piece.Piece.TheVariants.{Character, One, Part, Any}
 use Rattle.keep_match.specs.bodies.Scan.{IsNotAny, IsSingle}
 use Rattle.keep_match.specs.Wildcards.{Begins, HasNoDot, IsPart}
 
 -- ---- lists
-
-heads : {A : Type 0} (x y : A) (xs ys : List A) → x ∷ xs ≡ y ∷ ys → x ≡ y
-heads x y xs ys h = cc
-
-tails : {A : Type 0} (x y : A) (xs ys : List A) → x ∷ xs ≡ y ∷ ys → xs ≡ ys
-tails x y xs ys h = cc
-
-pub all_append : {A : Type 0} (P : A → Type 0) (xs ys : List A) → AllByRecursion P xs → AllByRecursion P ys
-    → AllByRecursion P (xs ++ ys)
-all_append P [] ys h k = k
-all_append P (x ∷ xs) ys h k = (h.0, all_append P xs ys h.1 k)
 
 pub all_front : {A : Type 0} (P : A → Type 0) (xs ys : List A) → AllByRecursion P (xs ++ ys) → AllByRecursion P xs
 all_front P [] ys h = tt

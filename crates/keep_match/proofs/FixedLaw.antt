@@ -1,8 +1,9 @@
 -- What rules match whose names stay, by the rows of the rules that stand for them.
-use Rattle.std.proofs.Common.{◌≡◌, ℕ, ◌+◌, Bool, true, false, not, ◌&&◌, List, [], ◌∷◌, ◌++◌, map, slice_get, Some, Result, Ok, Err}
-use Rattle.std.proofs.Common.{refl, sym, ap, ◌∙◌, arith}
+use Rattle.std.proofs.Common.{◌≡◌, ℕ, ◌+◌, Bool, true, false, not, ◌&&◌, List, [], ◌∷◌, ◌++◌, map, slice_get, Some}
+use Rattle.std.proofs.Common.{Result, Ok, Err, refl, sym, ap, ◌∙◌, arith}
 use Rattle.std.specs.Prelude.{IfOk}
 use Rattle.std.specs.List.{enumerate_from, list_any}
+use Rattle.std.proofs.Math.Bool.{and_assoc}
 use Rattle.class_model.specs.declared.class.Class.{Class}
 use Rattle.class_model.specs.declared.class.Field.{Field}
 use Rattle.class_model.specs.declared.class.Method.{Method}
@@ -28,7 +29,8 @@ members true m r = refl
 members false m r = refl
 
 by_kind : (k : Keep) (specs : List MemberSpec) (c : Class) (t m : Bool) (of : KeepKind)
-    → (t && ((keeps_classes (record k { kind = kind_of of; allow_shrinking = false }) && m) && are_members_met (kind_of of) specs c))
+    → (t && ((keeps_classes (record k { kind = kind_of of; allow_shrinking = false }) && m) && are_members_met
+    (kind_of of) specs c))
     ≡ ((t && m) && are_members_met of specs c)
 by_kind k specs c t m kind.Keep = no_members t m
 by_kind k specs c t m kind.Members = no_members t m
@@ -37,25 +39,24 @@ by_kind k specs c t m kind.WithMembers = members t m (are_members_met kind.WithM
 behind : (a b r : Bool) → a ≡ b → (a && r) ≡ (b && r)
 behind a b r same = ap (λ (x : Bool). x && r) same
 
-regroup : (a b c : Bool) → (a && (b && c)) ≡ ((a && b) && c)
-regroup true b c = refl
-regroup false b c = refl
-
 module _ (what : Fixes) (classes : List Class) (n : ℕ) (c : Class) where
-  class_same : (k : Keep) → (fixes_names what k && keeps_class classes n c (as_fixing k)) ≡ fixes_class what classes n c k
+  class_same : (k : Keep)
+      → (fixes_names what k && keeps_class classes n c (as_fixing k)) ≡ fixes_class what classes n c k
   unfolding keeps_class fixes_class
   class_same k = by_kind k k.spec.members c (fixes_names what k) (matches_class k.spec classes n c) k.kind
 
   field_same : (f : Field) (k : Keep)
       → (fixes_names what k && keeps_field classes n c f (as_fixing k)) ≡ fixes_field what classes n c f k
   field_same f k =
-      regroup (fixes_names what k) (keeps_class classes n c (as_fixing k)) (list_any (λ spec. matches_field spec f) k.spec.members)
+      sym (and_assoc (fixes_names what k) (keeps_class classes n c (as_fixing k))
+      (list_any (λ spec. matches_field spec f) k.spec.members))
       ∙ ap (λ (x : Bool). x && list_any (λ spec. matches_field spec f) k.spec.members) (class_same k)
 
   method_same : (m : Method) (k : Keep)
       → (fixes_names what k && keeps_method classes n c m (as_fixing k)) ≡ fixes_method what classes n c m k
   method_same m k =
-      regroup (fixes_names what k) (keeps_class classes n c (as_fixing k)) (list_any (λ spec. matches_method spec m) k.spec.members)
+      sym (and_assoc (fixes_names what k) (keeps_class classes n c (as_fixing k))
+      (list_any (λ spec. matches_method spec m) k.spec.members))
       ∙ ap (λ (x : Bool). x && list_any (λ spec. matches_method spec m) k.spec.members) (class_same k)
 
   class_fixed : (keeps : List Keep)
@@ -76,16 +77,19 @@ module _ (what : Fixes) (classes : List Class) (n : ℕ) (c : Class) where
       any_of (fixes_names what) (keeps_method classes n c m) as_fixing keeps
       ∙ (λ i. list_any (λ k. method_same m k i) keeps)
 
-  row_fixed : (keeps : List Keep) → are_kept (as_fixings what keeps) classes (n, c) ≡ are_fixed what keeps classes (n, c)
+  row_fixed : (keeps : List Keep)
+      → are_kept (as_fixings what keeps) classes (n, c) ≡ are_fixed what keeps classes (n, c)
   row_fixed keeps =
-      λ i. class_fixed keeps i ∷ (map (λ f. field_fixed keeps f i) c.fields ++ map (λ m. method_fixed keeps m i) c.methods)
+      λ i. class_fixed keeps i ∷
+      (map (λ f. field_fixed keeps f i) c.fields ++ map (λ m. method_fixed keeps m i) c.methods)
 
 rows_same : (rows : List (List Bool)) → map (λ (row : List Bool). row) rows ≡ rows
 rows_same [] = refl
 rows_same (row ∷ rows) = ap (λ (rest : List (List Bool)). row ∷ rest) (rows_same rows)
 
 pub rows_fixed : (what : Fixes) (classes : List Class) (keeps : List Keep) (rows : List (List Bool))
-    → HasRows classes (as_fixings what keeps) rows → rows ≡ map (are_fixed what keeps classes) (enumerate_from 0 classes)
+    → HasRows classes (as_fixings what keeps) rows
+    → rows ≡ map (are_fixed what keeps classes) (enumerate_from 0 classes)
 rows_fixed what classes keeps rows h =
     sym (rows_same rows)
     ∙ map_is (λ row. row) (are_fixed what keeps classes) 0 classes rows h.count (λ n c is.

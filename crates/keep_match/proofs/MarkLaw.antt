@@ -5,12 +5,14 @@ use Rattle.std.proofs.Common.{inl, inr, get_or-set_other, get_or-set_same, lengt
 use Rattle.std.proofs.lemmas.Bool.{cases_eq}
 use Rattle.std.proofs.lemmas.List.{length-set, set-get_or, take_more}
 use Rattle.std.proofs.lemmas.Option.{slice_get-get_or}
+use Rattle.jv_base.proofs.Lists.{found_at}
 use Rattle.class_model.specs.declared.class.Class.{Class}
 use Rattle.keep_rules.specs.declared.rules.Filter.{Filter}
 use Rattle.keep_rules.specs.declared.rules.Keep.{Keep}
 use Rattle.keep_match.specs.Filters.{accepts}
-use Rattle.keep_match.specs.bodies.Marks.{AreAdded, AreLiteral, AreMarked, AreNames, AreRows, HasRows, IsDone, IsMarking, IsNamed}
-use Rattle.keep_match.specs.bodies.Marks.{IsNumber, IsPut, IsUnnamed, marked, members_kept, or_each, row_at}
+use Rattle.keep_match.specs.bodies.Marks.{AreAdded, AreLiteral, AreMarked, AreNames, AreRows, HasRows, IsDone}
+use Rattle.keep_match.specs.bodies.Marks.{IsMarking, IsNamed, IsNumber, IsPut, IsUnnamed, marked, members_kept, or_each}
+use Rattle.keep_match.specs.bodies.Marks.{row_at}
 use Rattle.class_pool.specs.Count.{items_of}
 use Rattle.keep_match.specs.Matches.{matches_but_name, matches_class, matches_class_name}
 use Rattle.keep_match.specs.Seeds.{are_kept, are_members_met, keeps_class, keeps_classes}
@@ -160,7 +162,8 @@ added_none classes k now m off = record {
 }
 
 pub added_named : (classes : List Class) (k : Keep) (now new : List (List Bool)) (name : List ℕ) (m : ℕ)
-    → IsNumber classes name m → AreAdded classes k now new (λ n. n ≡ m) → AreAdded classes k now new (IsNamed classes name)
+    → IsNumber classes name m → AreAdded classes k now new (λ n. n ≡ m)
+    → AreAdded classes k now new (IsNamed classes name)
 added_named classes k now new name m number h = record {
   marking = h.marking;
   stays = h.stays;
@@ -255,7 +258,8 @@ rules_all classes ks i rows le h = subst (λ (js : List Keep). HasRows classes j
 
 -- ---- rows without marks
 
-front_at : (rows : List (List Bool)) (r : List Bool) (n : ℕ) → n < length rows → row_at (rows ++ (r ∷ [])) n ≡ row_at rows n
+front_at : (rows : List (List Bool)) (r : List Bool) (n : ℕ) → n < length rows
+    → row_at (rows ++ (r ∷ [])) n ≡ row_at rows n
 front_at [] r n lt = absurd (omega arith)
 front_at (x ∷ rows) r zero lt = refl
 front_at (x ∷ rows) r (suc n) lt = front_at rows r n (omega arith)
@@ -309,18 +313,14 @@ put_none classes k old n c at off d at_d =
 
 -- ---- what calls tell
 
-get_there : {A : Type 0} (xs : List A) (n : ℕ) → n < length xs → (x : A) × (slice_get xs n ≡ Some x)
-get_there [] n lt = absurd (omega arith)
-get_there (x ∷ xs) zero lt = (x, refl)
-get_there (x ∷ xs) (suc n) lt = get_there xs n (omega arith)
-
 pub value_there : {A : Type 0} (xs ys : List A) (n : ℕ) (x : A) → xs ≡ ys → n < length xs → x ≡ get_or xs n x
     → slice_get ys n ≡ Some x
 value_there xs ys n x e lt is =
     ap (λ (zs : List _). slice_get zs n) (sym e) ∙ slice_get-get_or xs n x lt ∙ ap Some (sym is)
 
 module _ (classes : List Class) (k : Keep) (m : ℕ) (d : Class) (name : List ℕ) (names : List Filter)
-    (at : slice_get classes m ≡ Some d) (on : keeps_classes k ≡ true) (e : name ≡ d.name) (f : names ≡ k.spec.names) where
+    (at : slice_get classes m ≡ Some d) (on : keeps_classes k ≡ true) (e : name ≡ d.name)
+    (f : names ≡ k.spec.names) where
   said_of : (b : Bool) → b ≡ accepts (λ pattern. matches_class_name pattern name) names → (c : Class)
       → slice_get classes m ≡ Some c → accepts (λ pattern. matches_class_name pattern c.name) k.spec.names ≡ b
   said_of b said c is =
@@ -339,7 +339,7 @@ module _ (classes : List Class) (k : Keep) (m : ℕ) (d : Class) (name : List �
 pub added_found : (classes : List Class) (k : Keep) (now new : List (List Bool)) (name : List ℕ) (m : ℕ)
     → IsNumber classes name m → IsPut classes k now new m → AreAdded classes k now new (IsNamed classes name)
 added_found classes k now new name m number put =
-    let d = get_there classes m number.there in
+    let d = found_at classes m number.there in
     added_named classes k now new name m number (added_put classes k now new m d.0 d.1 number.there put)
 
 pub each_all : (classes : List Class) (k : Keep) (old new : List (List Bool)) (i : ℕ) → length classes ≤ i

@@ -1,16 +1,18 @@
 -- The classes that patterns without wildcards name.
 use Rattle.std.proofs.Common.{◌≡◌, ℕ, ◌+◌, ◌<◌, zero, suc, Bool, true, false, not, ◌||◌, cond, List, [], ◌∷◌, ◌++◌}
-use Rattle.std.proofs.Common.{length, map, take, get_or, slice_get, Option, Some, None, refl, sym, ap, ◌∙◌, subst, arith, ◌⊎◌}
-use Rattle.std.proofs.Common.{inl, inr, codes}
+use Rattle.std.proofs.Common.{length, map, take, get_or, slice_get, Option, Some, None, refl, sym, ap, ◌∙◌, subst}
+use Rattle.std.proofs.Common.{arith, ◌⊎◌, inl, inr, codes}
 use Rattle.std.specs.List.{list_any, position}
 use Rattle.std.specs.Option.{MatchOption, option_map}
 use Rattle.std.specs.Str.{IsUtf8, chars}
-use Rattle.std.proofs.lemmas.Bool.{cases_eq, cases_order, not-true, or_cases, or_left, or_parts, or_right}
+use Rattle.std.proofs.lemmas.Bool.{cases_eq, cases_order, not-true, or_cases, or_parts, or_right}
 use Rattle.std.proofs.lemmas.List.{length-map, map-append, take_more}
 use Rattle.std.proofs.lemmas.List.Quantifiers.{position-Some}
 use Rattle.std.proofs.lemmas.Option.{slice_get-get_or, slice_get-map}
 use Rattle.jv_base.specs.Names.{is_text}
 use Rattle.jv_base.proofs.Equality.{text_Decides}
+use Rattle.jv_base.proofs.Options.{one_value}
+use Rattle.jv_base.proofs.Lists.{any_where, any_at}
 use Rattle.report_text.specs.Spelled.{class_text}
 use Rattle.class_model.specs.declared.class.Class.{Class}
 use Rattle.class_pool.proofs.Distinct.{position_next}
@@ -45,9 +47,6 @@ take_whole : {A : Type 0} (xs : List A) → take (length xs) xs ≡ xs
 take_whole [] = refl
 take_whole (x ∷ xs) = ap (λ (t : List _). x ∷ t) (take_whole xs)
 
-one_value : {A : Type 0} (o : Option A) (x y : A) → o ≡ Some x → o ≡ Some y → x ≡ y
-one_value o x y h k = cc
-
 any_none : {A : Type 0} (p : A → Bool) (xs : List A) (n : ℕ) (x : A) → list_any p xs ≡ false → slice_get xs n ≡ Some x
     → p x ≡ false
 any_none p [] n x h at = absurd cc
@@ -55,21 +54,6 @@ any_none p (y ∷ xs) zero x h at =
     let same : y ≡ x = one_value (Some y) y x refl at in
     ap p (sym same) ∙ (or_parts (p y) (list_any p xs) h).0
 any_none p (y ∷ xs) (suc n) x h at = any_none p xs n x (or_parts (p y) (list_any p xs) h).1 at
-
-any_at : {A : Type 0} (p : A → Bool) (xs : List A) (n : ℕ) (x : A) → slice_get xs n ≡ Some x → p x ≡ true
-    → list_any p xs ≡ true
-any_at p [] n x at h = absurd cc
-any_at p (y ∷ xs) zero x at h =
-    let same : y ≡ x = one_value (Some y) y x refl at in or_left (p y) (list_any p xs) (ap p same ∙ h)
-any_at p (y ∷ xs) (suc n) x at h = or_right (p y) (list_any p xs) (any_at p xs n x at h)
-
-any_where : {A : Type 0} (p : A → Bool) (xs : List A) → list_any p xs ≡ true
-    → (n : ℕ) × (x : A) × (slice_get xs n ≡ Some x) × (p x ≡ true)
-any_where p [] h = absurd cc
-any_where p (y ∷ xs) h = elim (or_cases (p y) (list_any p xs) h) [
-  | inl e ↦ (0, y, refl, e)
-  | inr e ↦ let r = any_where p xs e in (suc r.0, r.1, r.2, r.3)
-]
 
 -- ---- names of classes
 
@@ -99,7 +83,8 @@ names_more classes n names more c h at u fresh e = record {
   differ = λ m k a b less lt at_a at_b same. other m k a b less lt at_a at_b same (cases_order k n);
 }
   where
-    text : (m : ℕ) (d : Class) → slice_get classes m ≡ Some d → (m ≡ n) ⊎ ((m < n) ⊎ (n < m)) → m < n + 1 → IsUtf8 d.name
+    text : (m : ℕ) (d : Class) → slice_get classes m ≡ Some d → (m ≡ n) ⊎ ((m < n) ⊎ (n < m)) → m < n + 1
+        → IsUtf8 d.name
     text m d at_d (inl same) lt =
         let one = one_value (slice_get classes n) c d at (ap (slice_get classes) (sym same) ∙ at_d) in
         subst (λ (x : Class). IsUtf8 x.name) one u
@@ -114,7 +99,8 @@ names_more classes n names more c h at u fresh e = record {
         let holds : is_text (class_text c) (class_text a) ≡ true =
         (text_Decides (class_text c) (class_text a)).1 equal in
         let below : m < n = omega arith in
-        let none = any_none (is_text (class_text c)) names m (class_text a) fresh (name_at classes n names h m a below at_a) in
+        let none = any_none (is_text (class_text c)) names m (class_text a) fresh
+        (name_at classes n names h m a below at_a) in
         let f : true ≡ false = sym holds ∙ none in cc
     other m k a b less lt at_a at_b same (inr (inl before)) = h.differ m k a b less before at_a at_b same
     other m k a b less lt at_a at_b same (inr (inr behind)) = absurd (omega arith)
@@ -151,7 +137,8 @@ position_finds p (y ∷ xs) (suc n) x at h =
     let k = either_some (p y) 0 (suc r.0) in
     (k.0, position_next p y xs ∙ ap (λ (o : Option ℕ). cond (p y) (Some 0) (option_map suc o)) r.1 ∙ k.1)
 
-module _ (classes : List Class) (names : List (List ℕ)) (name : List ℕ) (h : AreNames classes (length classes) names) where
+module _ (classes : List Class) (names : List (List ℕ)) (name : List ℕ)
+    (h : AreNames classes (length classes) names) where
   at_name : (m : ℕ) (c : Class) → slice_get classes m ≡ Some c → slice_get names m ≡ Some (class_text c)
   at_name m c at = name_at classes (length classes) names h m c (get_below classes m c at) at
 
@@ -175,7 +162,8 @@ module _ (classes : List Class) (names : List (List ℕ)) (name : List ℕ) (h :
           one_value (slice_get names n) (class_text c) x (at_name n c at) at_x ∙ sym ((text_Decides name x).0 holds)
 
       one : (m n : ℕ) (c : Class) → slice_get classes m ≡ Some c → class_text c ≡ name → (x : List ℕ)
-          → slice_get names n ≡ Some x → is_text name x ≡ true → n < length classes → (m ≡ n) ⊎ ((m < n) ⊎ (n < m)) → m ≡ n
+          → slice_get names n ≡ Some x → is_text name x ≡ true → n < length classes → (m ≡ n) ⊎ ((m < n) ⊎ (n < m))
+          → m ≡ n
       one m n c at same x at_x holds below (inl e) = e
       one m n c at same x at_x holds below (inr (inl less)) =
           let d = get_or classes n c in

@@ -11,7 +11,9 @@ use Rattle.keep_match.specs.TypePatterns.{ends_with_pair, without_pair, without_
 pub pair_taken : (s x : List ℕ) → StripsSuffix (FindsTextSuffix (codes "[]")) s x → without_pair s ≡ Some x
 pair_taken s x h =
     let two : h.0 ≡ 2 = h.1.0 in
-    let ends : true ≡ ends_with_pair s = ends_text true (codes "[]") s (h.0, h.1, omega (arith, h.3), subst (λ (n : ℕ). IsCharBoundary s (length s - n)) (sym two) h.1.2) in
+    let ends : true ≡ ends_with_pair s =
+    ends_text true (codes "[]") s
+    (h.0, h.1, omega (arith, h.3), subst (λ (n : ℕ). IsCharBoundary s (length s - n)) (sym two) h.1.2) in
     ap (λ (b : Bool). cond b (Some (take (length s - 2) s)) None) (sym ends)
     ∙ ap Some (ap (λ (n : ℕ). take (length s - n) s) (sym two) ∙ sym h.2)
 
@@ -27,7 +29,8 @@ pair_is s (Some x) h = sym (pair_taken s x.now h)
 
 -- ---- several pairs
 
-pairs_first : (n : ℕ) (s : List ℕ) → 0 < n → without_pairs n s ≡ option_and_then (without_pairs (n - 1)) (without_pair s)
+pairs_first : (n : ℕ) (s : List ℕ) → 0 < n
+    → without_pairs n s ≡ option_and_then (without_pairs (n - 1)) (without_pair s)
 unfolding without_pairs
 pairs_first zero s lt = absurd (omega arith)
 pairs_first (suc n) s lt =

@@ -1,6 +1,6 @@
 -- The places of marks.
-use Rattle.std.proofs.Common.{◌≡◌, ℕ, ◌+◌, ◌<◌, ◌≤◌, zero, suc, Bool, true, false, cond, List, [], ◌∷◌, ◌++◌, length, take}
-use Rattle.std.proofs.Common.{drop, get_or, slice_get, Some, refl, sym, ap, ◌∙◌, arith, subst, append_assoc}
+use Rattle.std.proofs.Common.{◌≡◌, ℕ, ◌+◌, ◌<◌, ◌≤◌, zero, suc, Bool, true, false, cond, List, [], ◌∷◌, ◌++◌, length}
+use Rattle.std.proofs.Common.{take, drop, get_or, slice_get, Some, refl, sym, ap, ◌∙◌, arith, subst, append_assoc}
 use Rattle.std.proofs.Common.{length-append, Result, Ok, Err}
 use Rattle.std.specs.Prelude.{IfOk}
 use Rattle.std.specs.List.{All, enumerate_from, flat_map}
@@ -45,7 +45,8 @@ places_below n (b ∷ bs) =
 -- ---- one place after the other
 
 pub place_first : (b : Bool) (row : List Bool) (i next : ℕ) → i < length row → get_or row i b ≡ b
-    → places_of_true (next + i) (drop i row) ≡ cond b ((next + i) ∷ []) [] ++ places_of_true (next + (i + 1)) (drop (i + 1) row)
+    → places_of_true (next + i) (drop i row) ≡ cond b ((next + i) ∷ []) []
+    ++ places_of_true (next + (i + 1)) (drop (i + 1) row)
 place_first b row i next lt is =
     let e : next + i + 1 ≡ next + (i + 1) = omega arith in
     at_drop_more (places_of_true (next + i)) row i b lt

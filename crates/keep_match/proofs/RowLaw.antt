@@ -1,10 +1,11 @@
 -- The marks of a class and its members.
 use Rattle.std.proofs.Common.{◌≡◌, ℕ, ◌+◌, ◌<◌, zero, suc, Bool, true, false, ◌&&◌, ◌||◌, cond, List, [], ◌∷◌, ◌++◌}
-use Rattle.std.proofs.Common.{drop, slice_get, Some, length, map, set, take, get_or, replicate, refl, sym, ap, ◌∙◌, arith, length-append}
+use Rattle.std.proofs.Common.{drop, slice_get, Some, length, map, set, take, get_or, replicate, refl, sym, ap, ◌∙◌}
+use Rattle.std.proofs.Common.{arith, length-append}
 use Rattle.std.specs.List.{list_any}
 use Rattle.std.proofs.lemmas.List.{at_drop_more, length-set, replicate-append-replicate, take_more}
 use Rattle.std.proofs.lemmas.List.Folds.{list_any-append}
-use Rattle.std.proofs.Math.Bool.{or-false}
+use Rattle.std.proofs.Math.Bool.{or-false, or-true}
 use Rattle.class_model.specs.declared.class.Class.{Class}
 use Rattle.class_model.specs.declared.class.Field.{Field}
 use Rattle.class_model.specs.declared.class.Method.{Method}
@@ -16,10 +17,6 @@ use Rattle.keep_match.specs.Matches.{matches_field, matches_method}
 use Rattle.keep_match.specs.Seeds.{are_kept, keeps_class, keeps_field, keeps_method}
 
 -- ---- one value or the other
-
-or_true : (b : Bool) → (b || true) ≡ true
-or_true true = refl
-or_true false = refl
 
 or_again : (b c : Bool) → ((b || c) || c) ≡ (b || c)
 or_again true c = refl
@@ -44,7 +41,7 @@ or_twice (x ∷ xs) (y ∷ ys) = λ i. or_again x y i ∷ or_twice xs ys i
 pub or_marks : (xs ys : List Bool) → length ys < length xs
     → set (or_each xs ys) (length ys) true ≡ or_each xs (ys ++ (true ∷ []))
 or_marks [] ys lt = absurd (omega arith)
-or_marks (x ∷ xs) [] lt = λ i. sym (or_true x) i ∷ sym (or_none xs) i
+or_marks (x ∷ xs) [] lt = λ i. sym (or-true x) i ∷ sym (or_none xs) i
 or_marks (x ∷ xs) (y ∷ ys) lt =
     ap (λ (zs : List Bool). (x || y) ∷ zs) (or_marks xs ys (omega arith))
 
@@ -75,7 +72,8 @@ so_far_length : (kept : List Bool) (n : ℕ) → n < length kept → length (so_
 so_far_length kept n lt = let e = length_front kept n lt in omega (arith, e)
 
 row_marks : (row kept : List Bool) (n : ℕ) (now : List Bool) → now ≡ or_each row (so_far n kept) → n < length kept
-    → length row ≡ 1 + length kept → get_or kept n true ≡ true → set now (1 + n) true ≡ or_each row (so_far (n + 1) kept)
+    → length row ≡ 1 + length kept → get_or kept n true ≡ true
+    → set now (1 + n) true ≡ or_each row (so_far (n + 1) kept)
 row_marks row kept n now h lt width is =
     let e = so_far_length kept n lt in
     ap (λ (r : List Bool). set r (1 + n) true) h
@@ -101,7 +99,8 @@ row_more row kept n now next true h width is e =
 row_more row kept n now next false h width is e =
     let at = value_at kept n false is in e ∙ row_stays row kept n now h at.0 at.1
 
-pub next_length : (now next : List Bool) (n : ℕ) (b : Bool) → next ≡ cond b (set now n true) now → length next ≡ length now
+pub next_length : (now next : List Bool) (n : ℕ) (b : Bool) → next ≡ cond b (set now n true) now
+    → length next ≡ length now
 next_length now next n true e = ap length e ∙ length-set now n true
 next_length now next n false e = ap length e
 
@@ -114,7 +113,7 @@ any_step bs i b e =
 
 pub row_starts : (bits kept : List Bool) → 0 < length bits → set bits 0 true ≡ or_each bits (so_far 0 kept)
 row_starts [] kept lt = absurd (omega arith)
-row_starts (x ∷ bits) kept lt = λ i. sym (or_true x) i ∷ sym (or_none bits) i
+row_starts (x ∷ bits) kept lt = λ i. sym (or-true x) i ∷ sym (or_none bits) i
 
 length_mapped : {A : Type 0} (f : A → Bool) (xs : List A) → length (map f xs) ≡ length xs
 length_mapped f [] = refl
@@ -175,7 +174,8 @@ module _ (classes : List Class) (n : ℕ) (c : Class) (ks : List Keep) (k : Keep
 
   -- by the rule's answer at the class
   by_answer : (b : Bool) → keeps_class classes n c k ≡ b → are_kept (ks ++ (k ∷ [])) classes (n, c)
-      ≡ cond b (or_each (are_kept ks classes (n, c)) (true ∷ members_kept k.spec.members c)) (are_kept ks classes (n, c))
+      ≡ cond b (or_each (are_kept ks classes (n, c)) (true ∷ members_kept k.spec.members c))
+      (are_kept ks classes (n, c))
   by_answer true e =
       let members = or_maps (λ (f : Field). list_any (keeps_field classes n c f) ks)
       (λ f. list_any (λ spec. matches_field spec f) k.spec.members) c.fields

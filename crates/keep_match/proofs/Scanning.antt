@@ -4,13 +4,14 @@ use Rattle.std.proofs.Common.{inl, inr, append_assoc, append-nil, Option, Some, 
 use Rattle.std.specs.Prelude.{MatchOption}
 use Rattle.std.proofs.lemmas.Bool.{eqb-true, eqb-false, eq-eqb, not-true, not-false}
 use Rattle.std.specs.List.{AllByRecursion}
+use Rattle.jv_base.proofs.Lists.{all_append}
 use Rattle.keep_match.specs.declared.piece.Piece.{Piece}
 use Rattle.keep_match.specs.declared.piece.Piece.TheVariants.{Character, One, Part, Any}
 use Rattle.keep_match.specs.bodies.Scan.{EndsBlock, EndsSection, Fails, IsBehindDot, IsBlock, IsNotAny, IsPassed, IsPassedAny}
 use Rattle.keep_match.specs.bodies.Scan.{IsPlain}
 use Rattle.keep_match.specs.bodies.Scan.{IsRead, IsSame, IsSingle, IsStep, IsStepToBlock, IsStepToSection, allows, is_star}
 use Rattle.keep_match.specs.Wildcards.{Begins, HasNoDot, IsPart}
-use Rattle.keep_match.proofs.Cutting.{all_append, all_front, any_more, begins_append, begins_split, determined}
+use Rattle.keep_match.proofs.Cutting.{all_front, any_more, begins_append, begins_split, determined}
 use Rattle.keep_match.proofs.Cutting.{dominated, dot_cases, first_dot, later, one_of, part_more}
 
 -- ---- what was read
@@ -157,7 +158,8 @@ passed_to_end ps x y h e fails k = by (h.only k)
         at (d ∷ part) f = let none : [] ≡ d ∷ (part ++ cut.1) = sym e ∙ f in cc
 
 -- what is left at the first place matches where what is left at a later one does
-block_only : (qs : List Piece) (b y z : List ℕ) → EndsBlock qs y → y ≡ b ++ z → HasNoDot b → Begins qs z [] → Begins qs y []
+block_only : (qs : List Piece) (b y z : List ℕ) → EndsBlock qs y → y ≡ b ++ z → HasNoDot b → Begins qs z []
+    → Begins qs y []
 block_only [] b y z end e n h = end
 block_only (Character c ∷ qs) b y z end e n h = absurd end
 block_only (One ∷ qs) b y z end e n h = absurd end
@@ -389,7 +391,8 @@ dot_here x y z c h e dot = record {
 
 pub plain_end : (x y : List ℕ) → IsPlain x y → y ≡ [] → HasNoDot x
 plain_end x y h e =
-    subst (λ (t : List ℕ). HasNoDot t) (sym (h.split ∙ ap (λ (t : List ℕ). h.front ++ t) e ∙ append-nil h.front)) h.plain
+    subst (λ (t : List ℕ). HasNoDot t)
+    (sym (h.split ∙ ap (λ (t : List ℕ). h.front ++ t) e ∙ append-nil h.front)) h.plain
 
 -- ---- what is known of an answer
 

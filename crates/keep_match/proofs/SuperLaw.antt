@@ -5,6 +5,7 @@ use Rattle.std.specs.Prelude.{IfSome}
 use Rattle.std.specs.List.{All, list_any}
 use Rattle.std.specs.Option.{option_map_or}
 use Rattle.std.proofs.lemmas.List.Elements.{All-append, All-cons, All-head, All-nil, All-tail, All-weaker}
+use Rattle.jv_base.proofs.Lists.{all_flat}
 use Rattle.class_model.specs.declared.class.Class.{Class}
 use Rattle.lib_table.proofs.Computed.{count}
 use Rattle.class_pool.specs.declared.id.ClassId.{ClassId}
@@ -19,7 +20,7 @@ use Rattle.class_pool.proofs.Declaring.{superclass_there}
 use Rattle.class_pool.proofs.Directs.{direct_valid}
 use Rattle.class_pool.proofs.EachOnce.{same_is}
 use Rattle.class_pool.proofs.Walking.{first_of, rest_of, superclasses_next}
-use Rattle.class_pool.proofs.Within.{all_flat, up_first}
+use Rattle.class_pool.proofs.Within.{up_first}
 use Rattle.keep_match.specs.bodies.Above.{is_met_at}
 use Rattle.keep_match.specs.Matches.{matches_class_name}
 use Rattle.keep_match.proofs.AboveLaw.{above_is, any_same, met_is, supers_is}

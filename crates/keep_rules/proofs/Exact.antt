@@ -1,10 +1,10 @@
 -- A reader takes exactly the texts of a relation: what that says, and the law of each reader.
-use Rattle.std.proofs.Common.{◌≡◌, ◌⊎◌, ℕ, ◌<◌, Bool, true, false, cond, ◌&&◌, List, [], ◌∷◌, ◌++◌, length}
-use Rattle.std.proofs.Common.{Result, Ok, Err, Option, Some, None, refl, sym, ap, subst, ◌∙◌, arith, codes, inl, inr, eqb}
+use Rattle.std.proofs.Common.{◌≡◌, ◌⊎◌, ℕ, ◌<◌, Bool, true, false, cond, List, [], ◌∷◌, ◌++◌, length}
+use Rattle.std.proofs.Common.{Result, Ok, Err, Option, Some, None, refl, sym, ap, subst, ◌∙◌, arith, codes, inl, inr}
 use Rattle.std.specs.Prelude.{map, IsTrue}
 use Rattle.std.specs.List.{list_all}
-use Rattle.std.proofs.lemmas.Bool.{eqb-true}
-use Rattle.jv_base.specs.Names.{is_text}
+use Rattle.std.proofs.lemmas.Bool.{and_parts}
+use Rattle.jv_base.proofs.Equality.{same_text}
 use Rattle.conf_words.specs.declared.splitting.Word.{Word}
 use Rattle.keep_rules.specs.declared.fault.RuleFault.{RuleFault}
 use Rattle.keep_rules.specs.declared.fault.RuleKind.{RuleKind}
@@ -13,8 +13,9 @@ use Rattle.keep_rules.specs.declared.rules.Filter.{Filter}
 use Rattle.keep_rules.specs.declared.texts.Part.{Part}
 use Rattle.keep_rules.specs.declared.keeping.Modifiers.{Modifiers}
 use Rattle.keep_rules.specs.Texts.{filter_of, is_flag}
-use Rattle.keep_rules.specs.Reader.{Ahead, ahead, fault, Reader, after_read, bind, give, first_word, next_word, settled, item}
-use Rattle.keep_rules.specs.Reader.{first_passes, next_passes, behind_first, passed, put_before, if_next, if_ahead, if_end, is_end}
+use Rattle.keep_rules.specs.Reader.{Ahead, ahead, fault, Reader, after_read, bind, give, first_word, next_word, settled}
+use Rattle.keep_rules.specs.Reader.{item, first_passes, next_passes, behind_first, passed, put_before, if_next}
+use Rattle.keep_rules.specs.Reader.{if_ahead, if_end, is_end}
 use Rattle.keep_rules.specs.Filtering.{flags, flags_of, list, list_of, is_comma}
 use Rattle.keep_rules.specs.Specifications.{modifiers, modifiers_of, modifier_of, modifier_in, with_modifier}
 use Rattle.keep_rules.specs.Grammar.{joined, behind_commas, Modify}
@@ -87,7 +88,8 @@ settled_ok line (Ok y) p x q h =
     (ap (λ (z : _ × Ahead). let R : Result _ RuleKind = Ok z.0 in R) e, ap (λ (z : _ × Ahead). z.1) e)
 settled_ok line (Err kind) p x q h = absurd cc
 
-item_found : {A : Type 0} (missing : RuleKind) (meaning : List ℕ → Result A RuleKind) (line : ℕ) (words : List Word) (x : A)
+item_found : {A : Type 0} (missing : RuleKind) (meaning : List ℕ → Result A RuleKind) (line : ℕ) (words : List Word)
+    (x : A)
     (q : Ahead) → after_read (λ word. settled word.line (meaning word.text)) (first_word missing line words) ≡ Ok (x, q)
     → (w : List ℕ) × (map text_of words ≡ w ∷ texts q) × (meaning w ≡ Ok x)
 item_found missing meaning line [] x q h = absurd cc
@@ -95,9 +97,11 @@ item_found missing meaning line (word ∷ words) x q h =
     let e = settled_ok word.line (meaning word.text) (ahead word.line words) x q h in
     (word.text, ap (λ (z : Ahead). word.text ∷ texts z) e.1, e.0)
 
-item_only : {A : Type 0} (missing : RuleKind) (meaning : List ℕ → Result A RuleKind) (line : ℕ) (words : List Word) (x : A)
+item_only : {A : Type 0} (missing : RuleKind) (meaning : List ℕ → Result A RuleKind) (line : ℕ) (words : List Word)
+    (x : A)
     (w : List ℕ) (rest : List (List ℕ)) → map text_of words ≡ w ∷ rest → meaning w ≡ Ok x
-    → (q : Ahead) × (after_read (λ word. settled word.line (meaning word.text)) (first_word missing line words) ≡ Ok (x, q))
+    → (q : Ahead)
+    × (after_read (λ word. settled word.line (meaning word.text)) (first_word missing line words) ≡ Ok (x, q))
     × (texts q ≡ rest)
 item_only missing meaning line [] x w rest h e = absurd cc
 item_only missing meaning line (word ∷ words) x w rest h e =
@@ -211,13 +215,16 @@ abbrev pub Ends : {A : Type 0} → (List (List ℕ) → A → List (List ℕ) �
 Ends g h [] x rest = g [] x rest
 Ends g h (w ∷ ws) x rest = h (w ∷ ws) x rest
 
-end_found : {A : Type 0} {r s : Reader A} {g h : List (List ℕ) → A → List (List ℕ) → Type 0} (line : ℕ) (words : List Word)
+end_found : {A : Type 0} {r s : Reader A} {g h : List (List ℕ) → A → List (List ℕ) → Type 0} (line : ℕ)
+    (words : List Word)
     (x : A) (q : Ahead) → Exact r g → Exact s h
-    → cond (is_end words) (r (ahead line words)) (s (ahead line words)) ≡ Ok (x, q) → Ends g h (map text_of words) x (texts q)
+    → cond (is_end words) (r (ahead line words)) (s (ahead line words)) ≡ Ok (x, q)
+    → Ends g h (map text_of words) x (texts q)
 end_found line [] x q a b k = a.found (ahead line []) x q k
 end_found line (word ∷ words) x q a b k = b.found (ahead line (word ∷ words)) x q k
 
-end_only : {A : Type 0} {r s : Reader A} {g h : List (List ℕ) → A → List (List ℕ) → Type 0} (line : ℕ) (words : List Word)
+end_only : {A : Type 0} {r s : Reader A} {g h : List (List ℕ) → A → List (List ℕ) → Type 0} (line : ℕ)
+    (words : List Word)
     (x : A) (rest : List (List ℕ)) → Exact r g → Exact s h → Ends g h (map text_of words) x rest
     → (q : Ahead) × (cond (is_end words) (r (ahead line words)) (s (ahead line words)) ≡ Ok (x, q)) × (texts q ≡ rest)
 end_only line [] x rest a b k = a.only (ahead line []) x rest k
@@ -266,7 +273,8 @@ one_more part w ws gs fs rest e f h = record {
 
 flags_found_by : (part : Part) (line : ℕ) (word : Word) (words : List Word) (b : Bool) (fs : List Filter) (q : Ahead)
     → is_flag part word.text ≡ b
-    → ((gs : List Filter) (r : Ahead) → flags_of part word.line words ≡ Ok (gs, r) → Flags part (map text_of words) gs (texts r))
+    → ((gs : List Filter) (r : Ahead) → flags_of part word.line words ≡ Ok (gs, r)
+    → Flags part (map text_of words) gs (texts r))
     → cond b (put_before (filter_of word.text) (flags_of part word.line words)) (Ok ([], ahead line (word ∷ words)))
     ≡ Ok (fs, q) → Flags part (map text_of (word ∷ words)) fs (texts q)
 flags_found_by part line word words true fs q e ih h =
@@ -293,10 +301,6 @@ flags_none part line (word ∷ words) rest h s =
     let e : is_flag part word.text ≡ false = ap (starts (is_flag part)) h ∙ s in
     (ahead line (word ∷ words), rw e refl, h)
 
-pub and_left : (a b : Bool) → (a && b) ≡ true → (a ≡ true) × (b ≡ true)
-and_left true b h = (refl, h)
-and_left false b h = absurd cc
-
 flag_first : (part : Part) (line : ℕ) (word : Word) (words : List Word) (w : List ℕ) (fs : List Filter) (q : Ahead)
     → word.text ≡ w → is_flag part w ≡ true → flags_of part word.line words ≡ Ok (fs, q)
     → flags_of part line (word ∷ words) ≡ Ok (filter_of w ∷ fs, q)
@@ -310,7 +314,7 @@ flags_only part line [] (w ∷ given) rest h a s = absurd cc
 flags_only part line (word ∷ words) (w ∷ given) rest h a s =
     let is : word.text ≡ w = cc in
     let others : map text_of words ≡ given ++ rest = cc in
-    let k = and_left (is_flag part w) (list_all (is_flag part) given) a in
+    let k = and_parts (is_flag part w) (list_all (is_flag part) given) a in
     let o = flags_only part word.line words given rest others k.1 s in
     (o.0, flag_first part line word words w (map filter_of given) o.0 is k.0 o.1, o.2)
 
@@ -324,15 +328,6 @@ flags_exact part = record {
 }
 
 -- ---- lists with commas
-
--- texts are one where the test says so
-pub text_is : (a b : List ℕ) → is_text a b ≡ true → a ≡ b
-text_is [] [] h = refl
-text_is [] (y ∷ b) h = absurd cc
-text_is (x ∷ a) [] h = absurd cc
-text_is (x ∷ a) (y ∷ b) h =
-    let k = and_left (eqb x y) (is_text a b) h in
-    ap (λ (n : ℕ). n ∷ a) (eqb-true x y k.0) ∙ ap (λ (l : List ℕ). y ∷ l) (text_is a b k.1)
 
 -- each word means the value at its place
 abbrev pub Mean : {A : Type 0} → (List ℕ → Result A RuleKind) → List (List ℕ) → List A → Type 0
@@ -351,7 +346,7 @@ pub record Listed {A : Type 0} (meaning : List ℕ → Result A RuleKind) (ws : 
   pub stop : starts is_comma rest ≡ false
 
 comma_is : (word : List ℕ) → is_comma word ≡ true → word ≡ codes ","
-comma_is word h = text_is word (codes ",") h
+comma_is word h = same_text word (codes ",") h
 
 -- one word
 listed_one : {A : Type 0} (meaning : List ℕ → Result A RuleKind) (w : List ℕ) (x : A) (rest : List (List ℕ))
@@ -410,7 +405,8 @@ listed_last meaning word (Ok x) ys q e h =
 listed_last meaning word (Err kind) ys q e h = absurd cc
 
 list_found : {A : Type 0} (missing : RuleKind) (meaning : List ℕ → Result A RuleKind) (line : ℕ) (words : List Word)
-    (ys : List A) (q : Ahead) → list_of missing meaning line words ≡ Ok (ys, q) → Listed meaning (map text_of words) ys (texts q)
+    (ys : List A) (q : Ahead) → list_of missing meaning line words ≡ Ok (ys, q)
+    → Listed meaning (map text_of words) ys (texts q)
 unfolding bind item next_word
 list_found missing meaning line [] ys q h = absurd cc
 list_found missing meaning line (word ∷ []) ys q h = listed_last meaning word (meaning word.text) ys q refl h
@@ -486,12 +482,14 @@ modified_more : (m more all : Modifiers) (comma w : List ℕ) (ws rest : List (L
     → with_modifier m w ≡ Some more → Modified more ws all rest → Modified m (comma ∷ w ∷ ws) all rest
 modified_more m more all comma w ws rest c e k = record {
   words = w ∷ k.words;
-  spelled = ap (λ (z : List ℕ). z ∷ w ∷ ws) (comma_is comma c) ∙ ap (λ (z : List (List ℕ)). codes "," ∷ w ∷ z) k.spelled;
+  spelled = ap (λ (z : List ℕ). z ∷ w ∷ ws) (comma_is comma c)
+      ∙ ap (λ (z : List (List ℕ)). codes "," ∷ w ∷ z) k.spelled;
   modify = (more, e, k.modify);
   stop = k.stop;
 }
 
-modifier_ok : (option : List ℕ) (d : Option Modifiers) (more : Modifiers) → modifier_in option d ≡ Ok more → d ≡ Some more
+modifier_ok : (option : List ℕ) (d : Option Modifiers) (more : Modifiers) → modifier_in option d ≡ Ok more
+    → d ≡ Some more
 modifier_ok option (Some m) more h = let e : m ≡ more = cc in ap (λ z. Some z) e
 modifier_ok option None more h = absurd cc
 
@@ -500,7 +498,8 @@ modified_found_by : (option : List ℕ) (m : Modifiers) (line : ℕ) (comma word
     → modifier_of option m word.text ≡ d
     → ((more n : Modifiers) (r : Ahead) → modifiers_of option more word.line words ≡ Ok (n, r)
     → Modified more (map text_of words) n (texts r))
-    → cond b (after_read (λ more _. modifiers_of option more word.line words) (settled word.line d (ahead word.line words)))
+    → cond b (after_read (λ more _. modifiers_of option more word.line words)
+    (settled word.line d (ahead word.line words)))
     (Ok (m, ahead line (comma ∷ word ∷ words))) ≡ Ok (all, q)
     → Modified m (map text_of (comma ∷ word ∷ words)) all (texts q)
 modified_found_by option m line comma word words true (Ok more) all q c e ih h =
@@ -512,7 +511,8 @@ modified_found_by option m line comma word words false d all q c e ih h =
     (ok_is (m, ahead line (comma ∷ word ∷ words)) (all, q) h) (not_modified m (map text_of (comma ∷ word ∷ words)) c)
 
 last_by : (m : Modifiers) (line : ℕ) (comma : Word) (b : Bool) (all : Modifiers) (q : Ahead) → is_comma comma.text ≡ b
-    → (let R : Result (Modifiers × Ahead) RuleFault = cond b (Err (fault comma.line MissingName)) (Ok (m, ahead line (comma ∷ []))) in R)
+    → (let R : Result (Modifiers × Ahead) RuleFault =
+    cond b (Err (fault comma.line MissingName)) (Ok (m, ahead line (comma ∷ []))) in R)
     ≡ Ok (all, q)
     → Modified m (comma.text ∷ []) all (texts q)
 last_by m line comma true all q c h = absurd cc
@@ -528,7 +528,8 @@ modified_found option m line [] all q h =
     (not_modified m [] refl)
 modified_found option m line (comma ∷ []) all q h = last_by m line comma (is_comma comma.text) all q refl h
 modified_found option m line (comma ∷ word ∷ words) all q h =
-    modified_found_by option m line comma word words (is_comma comma.text) (modifier_of option m word.text) all q refl refl
+    modified_found_by option m line comma word words (is_comma comma.text)
+    (modifier_of option m word.text) all q refl refl
     (λ more n r. modified_found option more word.line words n r) h
 
 modified_none : (option : List ℕ) (m : Modifiers) (line : ℕ) (words : List Word) (rest : List (List ℕ))
@@ -548,7 +549,8 @@ more_only : (option : List ℕ) (m more all : Modifiers) (line : ℕ) (comma wor
 unfolding bind item next_word
 more_only option m more all line comma word words w q c is e h = rw (c, is, e, h) refl
 
-modified_only : (option : List ℕ) (m : Modifiers) (line : ℕ) (words : List Word) (given : List (List ℕ)) (all : Modifiers)
+modified_only : (option : List ℕ) (m : Modifiers) (line : ℕ) (words : List Word) (given : List (List ℕ))
+    (all : Modifiers)
     (rest : List (List ℕ)) → map text_of words ≡ behind_commas given ++ rest → Modify m given all
     → starts is_comma rest ≡ false
     → (q : Ahead) × (modifiers_of option m line words ≡ Ok (all, q)) × (texts q ≡ rest)

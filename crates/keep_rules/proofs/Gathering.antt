@@ -4,7 +4,10 @@ use Rattle.std.proofs.Common.{Result, Ok, Err, Option, Some, None, refl, sym, ap
 use Rattle.std.specs.Prelude.{map, IsTrue, is_some, option_to_list}
 use Rattle.std.specs.List.{list_all, list_any, flat_map, filter_map, AllZip}
 use Rattle.std.proofs.lemmas.List.{append-nil}
+use Rattle.std.proofs.lemmas.Bool.{not-true, and_parts}
+use Rattle.std.proofs.Math.Bool.{and-false, and-true}
 use Rattle.jv_base.specs.Outcome as outcome
+use Rattle.jv_base.proofs.Results.{then_ok}
 use Rattle.conf_words.specs.declared.splitting.Word.{Word}
 use Rattle.keep_rules.specs.declared.fault.RuleFault.{RuleFault}
 use Rattle.keep_rules.specs.declared.fault.RuleKind.TheVariants.{SamePath}
@@ -14,16 +17,15 @@ use Rattle.keep_rules.specs.declared.rules.Rules.{Rules}
 use Rattle.keep_rules.specs.declared.draft.Draft.{Draft}
 use Rattle.keep_rules.specs.Texts.{is_option}
 use Rattle.keep_rules.specs.Reader.{fault, none_left}
-use Rattle.keep_rules.specs.Reading.{Section, Sections, word_before, sections_of, options_read, option_read, blank, needed}
-use Rattle.keep_rules.specs.Reading.{whole_rules, rules_of, apart, finished, rules_read, paths_meet}
+use Rattle.keep_rules.specs.Reading.{Section, Sections, word_before, sections_of, options_read, option_read, blank}
+use Rattle.keep_rules.specs.Reading.{needed, whole_rules, rules_of, apart, finished, rules_read, paths_meet}
 use Rattle.keep_rules.specs.Grammar.{in_order, Saying, in_dir, out_dir, mapping, seeds, usage, source_name, no_shrink}
-use Rattle.keep_rules.specs.Grammar.{no_optimise, no_obfuscate, keeps, nothing, Says, IsSection, in_dirs, out_dirs, mappings}
-use Rattle.keep_rules.specs.Grammar.{seed_files, usage_files, source_names, filters_of, keeps_of, stops_shrinking}
-use Rattle.keep_rules.specs.Grammar.{stops_optimising, stops_obfuscating, IsConfig}
+use Rattle.keep_rules.specs.Grammar.{no_optimise, no_obfuscate, keeps, nothing, Says, IsSection, in_dirs, out_dirs}
+use Rattle.keep_rules.specs.Grammar.{mappings, seed_files, usage_files, source_names, filters_of, keeps_of}
+use Rattle.keep_rules.specs.Grammar.{stops_shrinking, stops_optimising, stops_obfuscating, IsConfig}
 use Rattle.keep_rules.specs.Grammar as says
 use Rattle.keep_rules.specs.Laws.{text_of}
-use Rattle.keep_rules.proofs.Exact.{and_left}
-use Rattle.keep_rules.proofs.Sayings.{added, option_found, option_only}
+use Rattle.keep_rules.proofs.Sayings.{added, option_found, option_only, no_words}
 
 -- ---- sections
 
@@ -42,7 +44,7 @@ is_section (option ∷ values) = is_option option && list_all plain values
 
 section_is : (s : List (List ℕ)) → is_section s ≡ true → IsSection s
 section_is [] h = absurd cc
-section_is (option ∷ values) h = and_left (is_option option) (list_all plain values) h
+section_is (option ∷ values) h = and_parts (is_option option) (list_all plain values) h
 
 -- words as they are split
 record Split (words : List Word) (s : Sections) : Type 0 where
@@ -80,11 +82,8 @@ record SplitSo (s : Sections) (front : List (List ℕ)) (sections : List (List (
   pub front_is : map text_of s.front ≡ front
   pub sections_are : map texts_of s.sections ≡ sections
 
-not_option : (b : Bool) → not b ≡ true → b ≡ false
-not_option true h = absurd cc
-not_option false h = refl
-
-value_before : (word : Word) (b : Bool) (s : Sections) (f : List ℕ) (front : List (List ℕ)) (sections : List (List (List ℕ)))
+value_before : (word : Word) (b : Bool) (s : Sections) (f : List ℕ) (front : List (List ℕ))
+    (sections : List (List (List ℕ)))
     → b ≡ false → word.text ≡ f → SplitSo s front sections → SplitSo (word_before word b s) (f ∷ front) sections
 value_before word true s f front sections e t h = absurd cc
 value_before word false s f front sections e t h = record {
@@ -92,7 +91,8 @@ value_before word false s f front sections e t h = record {
   sections_are = h.sections_are;
 }
 
-option_before : (word : Word) (b : Bool) (s : Sections) (o : List ℕ) (values : List (List ℕ)) (sections : List (List (List ℕ)))
+option_before : (word : Word) (b : Bool) (s : Sections) (o : List ℕ) (values : List (List ℕ))
+    (sections : List (List (List ℕ)))
     → b ≡ true → word.text ≡ o → SplitSo s values sections → SplitSo (word_before word b s) [] ((o ∷ values) ∷ sections)
 option_before word false s o values sections e t h = absurd cc
 option_before word true s o values sections e t h = record {
@@ -116,9 +116,9 @@ split_so [] (w ∷ front) sections e f h = absurd cc
 split_so (word ∷ words) (w ∷ front) sections e f h =
     let t : word.text ≡ w = cc in
     let others : map text_of words ≡ front ++ in_order sections = cc in
-    let k = and_left (plain w) (list_all plain front) f in
+    let k = and_parts (plain w) (list_all plain front) f in
     value_before word (is_option word.text) (sections_of words) w front sections
-    (ap is_option t ∙ not_option (is_option w) k.0) t (split_so words front sections others k.1 h)
+    (ap is_option t ∙ not-true (is_option w) k.0) t (split_so words front sections others k.1 h)
 split_so (word ∷ words) [] [] e f h = absurd cc
 split_so (word ∷ words) [] ([] ∷ sections) e f h = absurd h.0
 split_so (word ∷ words) [] ((o ∷ values) ∷ sections) e f h =
@@ -143,11 +143,6 @@ record Said (d : Draft) (sections : List Section) (e : Draft) : Type 0 where
   pub sayings : List Saying
   pub each : AllZip Says (map texts_of sections) sayings
   pub folds : folded d sayings ≡ Some e
-
-then_ok : {A B : Type 0} (r : Result A RuleFault) (f : A → Result B RuleFault) (y : B) → outcome.◌>>=◌ r f ≡ Ok y
-    → (x : A) × (r ≡ Ok x) × (f x ≡ Ok y)
-then_ok (Ok x) f y h = (x, refl, h)
-then_ok (Err e) f y h = absurd cc
 
 said : (d : Draft) (sections : List Section) (e : Draft) → options_read d sections ≡ Ok e → Said d sections e
 unfolding options_read folded
@@ -189,14 +184,6 @@ record Comes (d : Draft) (ys : List Saying) (e : Draft) : Type 0 where
   pub attrs : e.attrs ≡ d.attrs ++ flat_map filters_of ys
   pub keeps : e.keeps ≡ d.keeps ++ filter_map keeps_of ys
 
-and_true : (b : Bool) → (b && true) ≡ b
-and_true true = refl
-and_true false = refl
-
-and_false : (b : Bool) → (b && false) ≡ false
-and_false true = refl
-and_false false = refl
-
 comes_none : (d e : Draft) → d ≡ e → Comes d [] e
 comes_none d e h = subst (Comes d []) h (record {
   in_dir = append-nil (option_to_list d.in_dir);
@@ -205,15 +192,16 @@ comes_none d e h = subst (Comes d []) h (record {
   seeds = append-nil (option_to_list d.seeds);
   usage = append-nil (option_to_list d.usage);
   source = append-nil (option_to_list d.source_name);
-  shrink = sym (and_true d.shrink);
-  optimise = sym (and_true d.optimise);
-  obfuscate = sym (and_true d.obfuscate);
+  shrink = sym (and-true d.shrink);
+  optimise = sym (and-true d.optimise);
+  obfuscate = sym (and-true d.obfuscate);
   attrs = sym (append-nil d.attrs);
   keeps = sym (append-nil d.keeps);
 })
 
 -- a slot that takes a value is empty
-free_by : (slot : Option (List ℕ)) (d e : Draft) → (let O : Option Draft = cond (is_some slot) None (Some d) in O) ≡ Some e
+free_by : (slot : Option (List ℕ)) (d e : Draft)
+    → (let O : Option Draft = cond (is_some slot) None (Some d) in O) ≡ Some e
     → (slot ≡ None) × (d ≡ e)
 free_by None d e h = (refl, cc)
 free_by (Some x) d e h = absurd cc
@@ -222,7 +210,8 @@ in_front : (slot : Option (List ℕ)) (x : List ℕ) (rest all : List (List ℕ)
     → option_to_list slot ++ x ∷ rest ≡ all
 in_front slot x rest all e h = ap (λ (o : Option (List ℕ)). option_to_list o ++ x ∷ rest) e ∙ h
 
-more_in_dir : (d e : Draft) (x : List ℕ) (ys : List Saying) → d.in_dir ≡ None → Comes (record d { in_dir = Some x }) ys e
+more_in_dir : (d e : Draft) (x : List ℕ) (ys : List Saying) → d.in_dir ≡ None
+    → Comes (record d { in_dir = Some x }) ys e
     → Comes d (in_dir x ∷ ys) e
 more_in_dir d e x ys f c = record {
   in_dir = in_front d.in_dir x _ _ f c.in_dir;
@@ -238,7 +227,8 @@ more_in_dir d e x ys f c = record {
   keeps = c.keeps;
 }
 
-more_out_dir : (d e : Draft) (x : List ℕ) (ys : List Saying) → d.out_dir ≡ None → Comes (record d { out_dir = Some x }) ys e
+more_out_dir : (d e : Draft) (x : List ℕ) (ys : List Saying) → d.out_dir ≡ None
+    → Comes (record d { out_dir = Some x }) ys e
     → Comes d (out_dir x ∷ ys) e
 more_out_dir d e x ys f c = record {
   in_dir = c.in_dir;
@@ -254,7 +244,8 @@ more_out_dir d e x ys f c = record {
   keeps = c.keeps;
 }
 
-more_mapping : (d e : Draft) (x : List ℕ) (ys : List Saying) → d.mapping ≡ None → Comes (record d { mapping = Some x }) ys e
+more_mapping : (d e : Draft) (x : List ℕ) (ys : List Saying) → d.mapping ≡ None
+    → Comes (record d { mapping = Some x }) ys e
     → Comes d (mapping x ∷ ys) e
 more_mapping d e x ys f c = record {
   in_dir = c.in_dir;
@@ -302,7 +293,8 @@ more_usage d e x ys f c = record {
   keeps = c.keeps;
 }
 
-more_source_name : (d e : Draft) (x : List ℕ) (ys : List Saying) → d.source_name ≡ None → Comes (record d { source_name = Some x }) ys e
+more_source_name : (d e : Draft) (x : List ℕ) (ys : List Saying) → d.source_name ≡ None
+    → Comes (record d { source_name = Some x }) ys e
     → Comes d (source_name x ∷ ys) e
 more_source_name d e x ys f c = record {
   in_dir = c.in_dir;
@@ -318,7 +310,8 @@ more_source_name d e x ys f c = record {
   keeps = c.keeps;
 }
 
-more_no_shrink : (d e : Draft) (ys : List Saying) → Comes (record d { shrink = false }) ys e → Comes d (no_shrink ∷ ys) e
+more_no_shrink : (d e : Draft) (ys : List Saying) → Comes (record d { shrink = false }) ys e
+    → Comes d (no_shrink ∷ ys) e
 more_no_shrink d e ys c = record {
   in_dir = c.in_dir;
   out_dir = c.out_dir;
@@ -326,14 +319,15 @@ more_no_shrink d e ys c = record {
   seeds = c.seeds;
   usage = c.usage;
   source = c.source;
-  shrink = c.shrink ∙ sym (and_false d.shrink);
+  shrink = c.shrink ∙ sym (and-false d.shrink);
   optimise = c.optimise;
   obfuscate = c.obfuscate;
   attrs = c.attrs;
   keeps = c.keeps;
 }
 
-more_no_optimise : (d e : Draft) (ys : List Saying) → Comes (record d { optimise = false }) ys e → Comes d (no_optimise ∷ ys) e
+more_no_optimise : (d e : Draft) (ys : List Saying) → Comes (record d { optimise = false }) ys e
+    → Comes d (no_optimise ∷ ys) e
 more_no_optimise d e ys c = record {
   in_dir = c.in_dir;
   out_dir = c.out_dir;
@@ -342,13 +336,14 @@ more_no_optimise d e ys c = record {
   usage = c.usage;
   source = c.source;
   shrink = c.shrink;
-  optimise = c.optimise ∙ sym (and_false d.optimise);
+  optimise = c.optimise ∙ sym (and-false d.optimise);
   obfuscate = c.obfuscate;
   attrs = c.attrs;
   keeps = c.keeps;
 }
 
-more_no_obfuscate : (d e : Draft) (ys : List Saying) → Comes (record d { obfuscate = false }) ys e → Comes d (no_obfuscate ∷ ys) e
+more_no_obfuscate : (d e : Draft) (ys : List Saying) → Comes (record d { obfuscate = false }) ys e
+    → Comes d (no_obfuscate ∷ ys) e
 more_no_obfuscate d e ys c = record {
   in_dir = c.in_dir;
   out_dir = c.out_dir;
@@ -358,7 +353,7 @@ more_no_obfuscate d e ys c = record {
   source = c.source;
   shrink = c.shrink;
   optimise = c.optimise;
-  obfuscate = c.obfuscate ∙ sym (and_false d.obfuscate);
+  obfuscate = c.obfuscate ∙ sym (and-false d.obfuscate);
   attrs = c.attrs;
   keeps = c.keeps;
 }
@@ -433,12 +428,16 @@ comes_more d e1 e (usage x) ys h c =
 comes_more d e1 e (source_name x) ys h c =
     let f = free_by d.source_name (record d { source_name = Some x }) e1 h in
     more_source_name d e x ys f.0 (subst (λ (z : Draft). Comes z ys e) (sym f.1) c)
-comes_more d e1 e no_shrink ys h c = more_no_shrink d e ys (subst (λ (z : Draft). Comes z ys e) (sym (some_draft _ e1 h)) c)
-comes_more d e1 e no_optimise ys h c = more_no_optimise d e ys (subst (λ (z : Draft). Comes z ys e) (sym (some_draft _ e1 h)) c)
-comes_more d e1 e no_obfuscate ys h c = more_no_obfuscate d e ys (subst (λ (z : Draft). Comes z ys e) (sym (some_draft _ e1 h)) c)
+comes_more d e1 e no_shrink ys h c =
+    more_no_shrink d e ys (subst (λ (z : Draft). Comes z ys e) (sym (some_draft _ e1 h)) c)
+comes_more d e1 e no_optimise ys h c =
+    more_no_optimise d e ys (subst (λ (z : Draft). Comes z ys e) (sym (some_draft _ e1 h)) c)
+comes_more d e1 e no_obfuscate ys h c =
+    more_no_obfuscate d e ys (subst (λ (z : Draft). Comes z ys e) (sym (some_draft _ e1 h)) c)
 comes_more d e1 e (says.attributes fs) ys h c =
     more_attributes d e fs ys (subst (λ (z : Draft). Comes z ys e) (sym (some_draft _ e1 h)) c)
-comes_more d e1 e (keeps k) ys h c = more_keeps d e k ys (subst (λ (z : Draft). Comes z ys e) (sym (some_draft _ e1 h)) c)
+comes_more d e1 e (keeps k) ys h c =
+    more_keeps d e k ys (subst (λ (z : Draft). Comes z ys e) (sym (some_draft _ e1 h)) c)
 comes_more d e1 e nothing ys h c = more_nothing d e ys (subst (λ (z : Draft). Comes z ys e) (sym (some_draft _ e1 h)) c)
 
 -- sayings that are folded come to the draft
@@ -475,9 +474,9 @@ draft_same d e c =
     let p3 = slot_same d.seeds e.seeds c.seeds in
     let p4 = slot_same d.usage e.usage c.usage in
     let p5 = slot_same d.source_name e.source_name c.source in
-    let p6 : d.shrink ≡ e.shrink = sym (c.shrink ∙ and_true d.shrink) in
-    let p7 : d.optimise ≡ e.optimise = sym (c.optimise ∙ and_true d.optimise) in
-    let p8 : d.obfuscate ≡ e.obfuscate = sym (c.obfuscate ∙ and_true d.obfuscate) in
+    let p6 : d.shrink ≡ e.shrink = sym (c.shrink ∙ and-true d.shrink) in
+    let p7 : d.optimise ≡ e.optimise = sym (c.optimise ∙ and-true d.optimise) in
+    let p8 : d.obfuscate ≡ e.obfuscate = sym (c.obfuscate ∙ and-true d.obfuscate) in
     let p9 : d.attrs ≡ e.attrs = sym (c.attrs ∙ append-nil d.attrs) in
     let p10 : d.keeps ≡ e.keeps = sym (c.keeps ∙ append-nil d.keeps) in
     λ i. record {
@@ -605,7 +604,8 @@ next_usage d e x ys c =
       };
     }
 
-next_source_name : (d e : Draft) (x : List ℕ) (ys : List Saying) → Comes d (source_name x ∷ ys) e → Next d (source_name x) ys e
+next_source_name : (d e : Draft) (x : List ℕ) (ys : List Saying) → Comes d (source_name x ∷ ys) e
+    → Next d (source_name x) ys e
 next_source_name d e x ys c =
     let f = slot_free d.source_name x _ e.source_name c.source in
     record {
@@ -637,7 +637,7 @@ next_no_shrink d e ys c = record {
     seeds = c.seeds;
     usage = c.usage;
     source = c.source;
-    shrink = c.shrink ∙ and_false d.shrink;
+    shrink = c.shrink ∙ and-false d.shrink;
     optimise = c.optimise;
     obfuscate = c.obfuscate;
     attrs = c.attrs;
@@ -657,7 +657,7 @@ next_no_optimise d e ys c = record {
     usage = c.usage;
     source = c.source;
     shrink = c.shrink;
-    optimise = c.optimise ∙ and_false d.optimise;
+    optimise = c.optimise ∙ and-false d.optimise;
     obfuscate = c.obfuscate;
     attrs = c.attrs;
     keeps = c.keeps;
@@ -677,7 +677,7 @@ next_no_obfuscate d e ys c = record {
     source = c.source;
     shrink = c.shrink;
     optimise = c.optimise;
-    obfuscate = c.obfuscate ∙ and_false d.obfuscate;
+    obfuscate = c.obfuscate ∙ and-false d.obfuscate;
     attrs = c.attrs;
     keeps = c.keeps;
   };
@@ -795,7 +795,8 @@ record Read (words : List Word) (witness : List ℕ) (rules : Rules) : Type 0 wh
 ok_rules : (a b : Rules) → (let R : Result Rules RuleFault = Ok a in R) ≡ Ok b → a ≡ b
 ok_rules a b h = cc
 
-read_ok : (words : List Word) (witness : List ℕ) (rules : Rules) → rules_read words witness ≡ Ok rules → Read words witness rules
+read_ok : (words : List Word) (witness : List ℕ) (rules : Rules) → rules_read words witness ≡ Ok rules
+    → Read words witness rules
 unfolding rules_read finished whole_rules
 read_ok words witness rules h =
     let a = then_ok (none_left {A = Unit {0}} tt (sections_of words).front) _ rules h in
@@ -817,7 +818,8 @@ read_ok words witness rules h =
       input = needed_ok _ _ _ i.1 ∙ ap (λ z. Some z) din;
       output = needed_ok _ _ _ o.1 ∙ ap (λ z. Some z) dout;
       maps = needed_ok _ _ _ m.1 ∙ ap (λ z. Some z) dmap;
-      are = sym (ap (λ (x : List ℕ). rules_of b.0 x o.0 m.0) din ∙ ap (λ (x : List ℕ). rules_of b.0 rules.in_dir x m.0) dout
+      are = sym (ap (λ (x : List ℕ). rules_of b.0 x o.0 m.0) din
+          ∙ ap (λ (x : List ℕ). rules_of b.0 rules.in_dir x m.0) dout
           ∙ ap (λ (x : List ℕ). rules_of b.0 rules.in_dir rules.out_dir x) dmap) ∙ whole;
       no_path = ap (λ (r : Rules). paths_meet r witness) (sym p.0) ∙ p.1;
     }
@@ -828,7 +830,7 @@ options_of [] [] a h = tt
 options_of [] (y ∷ ys) a h = absurd h
 options_of (s ∷ sections) [] a h = absurd h
 options_of (s ∷ sections) (y ∷ ys) a h =
-    let k = and_left (is_section s) (list_all is_section sections) a in
+    let k = and_parts (is_section s) (list_all is_section sections) a in
     ((section_is s k.0, h.0), options_of sections ys k.1 h.1)
 
 pub found : (words : List Word) (witness : List ℕ) (rules : Rules) → rules_read words witness ≡ Ok rules
@@ -841,7 +843,9 @@ found words witness rules h =
     record {
       sections = map texts_of (sections_of words).sections;
       sayings = d.sayings;
-      spelled = s.spelled ∙ ap (λ (l : List Word). map text_of l ++ in_order (map texts_of (sections_of words).sections)) r.nothing_before;
+      spelled = s.spelled
+          ∙ ap (λ (l : List Word). map text_of l
+          ++ in_order (map texts_of (sections_of words).sections)) r.nothing_before;
       options = options_of _ d.sayings s.each d.each;
       one_input = c.in_dir ∙ ap option_to_list r.input;
       one_output = c.out_dir ∙ ap option_to_list r.output;
@@ -882,11 +886,8 @@ sections_apart (s ∷ sections) [] h = absurd h
 sections_apart (s ∷ sections) (y ∷ ys) h =
     let o = sections_apart sections ys h.1 in ((h.0.0, o.0), (h.0.1, o.1))
 
-no_words : (words : List Word) → map text_of words ≡ [] → words ≡ []
-no_words [] h = refl
-no_words (word ∷ words) h = absurd cc
-
-finished_is : (witness : List ℕ) (rules : Rules) → paths_meet rules witness ≡ false → finished witness (draft_of rules) ≡ Ok rules
+finished_is : (witness : List ℕ) (rules : Rules) → paths_meet rules witness ≡ false
+    → finished witness (draft_of rules) ≡ Ok rules
 unfolding finished whole_rules
 finished_is witness rules h = rw h refl
 

@@ -1,6 +1,6 @@
 -- Loops that read words: what was read, before what is still to be read, is the whole.
-use Rattle.std.proofs.Common.{◌≡◌, ℕ, suc, ◌+◌, ◌≤◌, ◌<◌, ◌&&◌, Bool, true, false, cond, not, List, [], ◌∷◌, ◌++◌, length}
-use Rattle.std.proofs.Common.{take, drop, Result, Ok, Err, refl, sym, ap, subst, ◌∙◌, arith, codes}
+use Rattle.std.proofs.Common.{◌≡◌, ℕ, suc, ◌+◌, ◌≤◌, ◌<◌, ◌&&◌, Bool, true, false, cond, not, List, [], ◌∷◌, ◌++◌}
+use Rattle.std.proofs.Common.{length, take, drop, Result, Ok, Err, refl, sym, ap, subst, ◌∙◌, arith, codes}
 use Rattle.std.specs.Prelude.{IsTrue}
 use Rattle.std.specs.List.{position_or_len}
 use Rattle.std.proofs.lemmas.List.Sums.{prefix_len-le-length}
@@ -18,29 +18,34 @@ use Rattle.keep_rules.specs.declared.texts.Part.{Part}
 use Rattle.keep_rules.specs.declared.keeping.Modifiers.{Modifiers}
 use Rattle.keep_rules.specs.declared.draft.Draft.{Draft}
 use Rattle.keep_rules.specs.Texts.{filter_of, is_flag}
-use Rattle.keep_rules.specs.Reader.{Ahead, ReadsOr, next_word, item, first_passes, next_passes, passed, put_before, behind}
+use Rattle.keep_rules.specs.Reader.{Ahead, ReadsOr, next_word, item, first_passes, next_passes, passed, put_before}
+use Rattle.keep_rules.specs.Reader.{behind}
 use Rattle.keep_rules.specs.Filtering.{flags, list, is_comma}
 use Rattle.keep_rules.specs.Specifications.{modifiers, modifier_of, member, members}
 use Rattle.keep_rules.specs.Reading.{sections_of, word_is_option, begins_so, options_read}
 use Rattle.keep_rules.specs.Reading.{option_read}
-use Rattle.keep_rules.proofs.Steps.{behind_put, behind_end, flags_end, flags_on, ListOn, list_on, ModifiersOn, modifiers_on}
+use Rattle.keep_rules.proofs.Steps.{behind_put, behind_end, flags_end, flags_on, ListOn, list_on, ModifiersOn}
+use Rattle.keep_rules.proofs.Steps.{modifiers_on}
 use Rattle.keep_rules.proofs.Shorter.{item_takes, passed_takes, next_takes}
 use Rattle.keep_rules.proofs.MemberSteps.{member_takes, MembersOn, members_on, members_end}
 
 -- ---- lists with commas
 
 -- a list faults where its next item does
-pub list_err : {A : Type 0} (missing : RuleKind) (meaning : List ℕ → Result A RuleKind) (e : Or RuleFault) (new q : Ahead)
+pub list_err : {A : Type 0} (missing : RuleKind) (meaning : List ℕ → Result A RuleKind) (e : Or RuleFault)
+    (new q : Ahead)
     (front : List A) (p : Ahead) (total : Result (List A × Ahead) RuleFault)
     → ReadsOr {T = A} (Err e) new (item missing meaning p) → behind front (list missing meaning p) ≡ total
     → ReadsOr {T = List A} (Err e) q total
 list_err missing meaning OutOfMemory new q front p total h so_far = tt
 list_err missing meaning (Fault f) new q front p total h so_far =
-    let on : list missing meaning p ≡ Err f = subst (ListOn missing meaning (list missing meaning p)) h (list_on missing meaning p) in
+    let on : list missing meaning p ≡ Err f =
+    subst (ListOn missing meaning (list missing meaning p)) h (list_on missing meaning p) in
     sym so_far ∙ ap (behind front) on
 
 -- a list ends where no comma stands
-pub list_done : {A : Type 0} (missing : RuleKind) (meaning : List ℕ → Result A RuleKind) (front : List A) (p : Ahead) (x : A)
+pub list_done : {A : Type 0} (missing : RuleKind) (meaning : List ℕ → Result A RuleKind) (front : List A) (p : Ahead)
+    (x : A)
     (q : Ahead) (total : Result (List A × Ahead) RuleFault) → item missing meaning p ≡ Ok (x, q)
     → next_passes is_comma q ≡ false → behind front (list missing meaning p) ≡ total → total ≡ Ok (front ++ x ∷ [], q)
 list_done missing meaning front p x q total h c so_far =
@@ -48,7 +53,8 @@ list_done missing meaning front p x q total h c so_far =
     sym so_far ∙ ap (behind front) (on.0 c)
 
 -- it goes on behind a comma
-pub list_more : {A : Type 0} (missing : RuleKind) (meaning : List ℕ → Result A RuleKind) (front : List A) (p : Ahead) (x : A)
+pub list_more : {A : Type 0} (missing : RuleKind) (meaning : List ℕ → Result A RuleKind) (front : List A) (p : Ahead)
+    (x : A)
     (q : Ahead) (total : Result (List A × Ahead) RuleFault) → item missing meaning p ≡ Ok (x, q)
     → next_passes is_comma q ≡ true → behind front (list missing meaning p) ≡ total
     → behind (front ++ x ∷ []) (list missing meaning (passed q)) ≡ total
@@ -68,7 +74,8 @@ pub flags_more : (part : Part) (missing : RuleKind) (front : List Filter) (p : A
     → next_word missing p ≡ Ok (word, q) → behind front (flags part p) ≡ total
     → behind (front ++ filter_of word.text ∷ []) (flags part q) ≡ total
 flags_more part missing front p word q total n h so_far =
-    sym (behind_put front (filter_of word.text) (flags part q)) ∙ sym (ap (behind front) (flags_on part missing p word q n h))
+    sym (behind_put front (filter_of word.text) (flags part q))
+    ∙ sym (ap (behind front) (flags_on part missing p word q n h))
     ∙ so_far
 
 pub flags_done : (part : Part) (front : List Filter) (p : Ahead) (total : Result (List Filter × Ahead) RuleFault)
@@ -83,11 +90,13 @@ word_less missing p word q h = omega (arith, (next_takes missing).taken p word q
 
 pub modifiers_err : (option : List ℕ) (m : Modifiers) (e : Or RuleFault) (new q p : Ahead)
     (total : Result (Modifiers × Ahead) RuleFault) → next_passes is_comma p ≡ true
-    → ReadsOr {T = Modifiers} (Err e) new (item MissingName (modifier_of option m) (passed p)) → modifiers option m p ≡ total
+    → ReadsOr {T = Modifiers} (Err e) new (item MissingName (modifier_of option m) (passed p))
+    → modifiers option m p ≡ total
     → ReadsOr {T = Modifiers} (Err e) q total
 modifiers_err option m OutOfMemory new q p total c h so_far = tt
 modifiers_err option m (Fault f) new q p total c h so_far =
-    let on : modifiers option m p ≡ Err f = subst (ModifiersOn option (modifiers option m p)) h (modifiers_on option m p c) in
+    let on : modifiers option m p ≡ Err f =
+    subst (ModifiersOn option (modifiers option m p)) h (modifiers_on option m p c) in
     sym so_far ∙ on
 
 pub modifiers_more : (option : List ℕ) (m more : Modifiers) (p q : Ahead) (total : Result (Modifiers × Ahead) RuleFault)
@@ -128,7 +137,8 @@ members_more names front p x q total b h so_far =
 pub members_done : (names : List Filter) (front : List MemberSpec) (p : Ahead)
     (total : Result (List MemberSpec × Ahead) RuleFault) → next_passes is_brace p ≡ true
     → behind front (members names p) ≡ total → total ≡ Ok (front, passed p)
-members_done names front p total b so_far = sym so_far ∙ ap (behind front) (members_end names p b) ∙ behind_end front (passed p)
+members_done names front p total b so_far = sym so_far ∙ ap (behind front) (members_end names p b)
+    ∙ behind_end front (passed p)
 
 pub member_less : (names : List Filter) (p : Ahead) (x : MemberSpec) (q : Ahead) → member names p ≡ Ok (x, q)
     → length q.words < length p.words
@@ -167,7 +177,8 @@ pub record Cut (words : List Word) (n : ℕ) : Type 0 where
   pub sections_are : (sections_of words).sections ≡ (sections_of (drop n words)).sections
   pub begins : IsTrue (begins_so (drop n words))
 
-cut_by : (word : Word) (words : List Word) (b : Bool) → word_is_option word ≡ b → Cut words (position_or_len word_is_option words)
+cut_by : (word : Word) (words : List Word) (b : Bool) → word_is_option word ≡ b
+    → Cut words (position_or_len word_is_option words)
     → Cut (word ∷ words) (cond (not b) (1 + position_or_len word_is_option words) 0)
 unfolding sections_of
 cut_by word words true e c = record { front_is = rw e refl; sections_are = refl; begins = e }
@@ -188,7 +199,8 @@ cut (word ∷ words) = cut_by word words (word_is_option word) refl (cut words)
 -- an option with its values, and the options behind it
 pub section_first : (d : Draft) (option : Word) (words : List Word) → IsTrue (begins_so (option ∷ words))
     → options_read d (sections_of (option ∷ words)).sections
-    ≡ outcome.◌>>=◌ (option_read d option (sections_of words).front) (λ more. options_read more (sections_of words).sections)
+    ≡ outcome.◌>>=◌ (option_read d option (sections_of words).front)
+    (λ more. options_read more (sections_of words).sections)
 unfolding sections_of options_read
 section_first d option words h = rw h refl
 

@@ -36,7 +36,8 @@ arguments_take = if_next_takes _ (give_takes []) closed_takes
 
 any_take : Takes 0 any_arguments
 unfolding any_arguments
-any_take = if_next_takes _ (bind_takes {m = 0} {n = 0} arguments_take (λ types. give_takes (Some types))) (give_takes None)
+any_take = if_next_takes _ (bind_takes {m = 0} {n = 0} arguments_take (λ types. give_takes (Some types)))
+    (give_takes None)
 
 constructor_takes : Takes 0 constructor
 unfolding constructor
@@ -102,7 +103,8 @@ none_left : (names : List Filter) (line : ℕ) → member names (ahead line []) 
 unfolding member bind flags expected item next_word
 none_left names line = refl
 
-no_words_by : (n : ℕ) (names : List Filter) (line : ℕ) → members_in n names (ahead line []) ≡ Err (fault line BadMemberSpec)
+no_words_by : (n : ℕ) (names : List Filter) (line : ℕ)
+    → members_in n names (ahead line []) ≡ Err (fault line BadMemberSpec)
 unfolding members_in next_passes
 no_words_by zero names line = refl
 no_words_by (suc n) names line = step n names (ahead line []) ∙ ap (more_in n names) (none_left names line)
@@ -144,9 +146,11 @@ on_by n names p (Err f) e le h = step n names p ∙ rw h (ap (more_in n names) e
 
 members_on_by : (names : List Filter) (line : ℕ) (words : List Word) → next_passes is_brace (ahead line words) ≡ false
     → MembersOn names (members_in (length words) names (ahead line words)) (member names (ahead line words))
-members_on_by names line [] h = subst (MembersOn names (members_in 0 names (ahead line []))) (sym (none_left names line))
+members_on_by names line [] h =
+    subst (MembersOn names (members_in 0 names (ahead line []))) (sym (none_left names line))
     (no_words_by 0 names line)
-members_on_by names line (word ∷ words) h = on_by (length words) names (ahead line (word ∷ words)) _ refl (omega arith) h
+members_on_by names line (word ∷ words) h =
+    on_by (length words) names (ahead line (word ∷ words)) _ refl (omega arith) h
 
 -- a member, and then others
 pub members_on : (names : List Filter) (p : Ahead) → next_passes is_brace p ≡ false
@@ -160,6 +164,7 @@ members_end_by names line [] h = absurd (no_word line is_brace h)
 members_end_by names line (word ∷ words) h = step (length words) names (ahead line (word ∷ words)) ∙ rw h refl
 
 -- a brace closes them
-pub members_end : (names : List Filter) (p : Ahead) → next_passes is_brace p ≡ true → members names p ≡ Ok ([], passed p)
+pub members_end : (names : List Filter) (p : Ahead) → next_passes is_brace p ≡ true
+    → members names p ≡ Ok ([], passed p)
 unfolding members
 members_end names p h = members_end_by names p.line p.words h

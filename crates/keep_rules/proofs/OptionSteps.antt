@@ -1,5 +1,6 @@
 -- Options are read one by one.
-use Rattle.std.proofs.Common.{◌≡◌, ℕ, ◌<◌, Some, None, arith, List, [], ◌∷◌, length, take, drop, Result, Ok, Err, refl, sym, ap, ◌∙◌}
+use Rattle.std.proofs.Common.{◌≡◌, ℕ, ◌<◌, Some, None, arith, List, [], ◌∷◌, length, take, drop, Result, Ok, Err, refl}
+use Rattle.std.proofs.Common.{sym, ap, ◌∙◌}
 use Rattle.std.specs.Prelude.{IsTrue, slice_get}
 use Rattle.std.proofs.lemmas.List.{length-drop}
 use Rattle.std.specs.List.{position_or_len}
@@ -40,7 +41,8 @@ option_more d new option words values others total b v o h so_far =
     let one : option_read d option (sections_of words).front ≡ Ok new = ap (option_read d option) (sym same) ∙ h in
     ap (λ (ws : List Word). options_read new (sections_of ws).sections) o ∙ ap (options_read new) (sym c.sections_are)
     ∙ sym (section_first d option words b
-    ∙ ap (λ (r : Result Draft RuleFault). outcome.◌>>=◌ r (λ more. options_read more (sections_of words).sections)) one) ∙ so_far
+    ∙ ap (λ (r : Result Draft RuleFault). outcome.◌>>=◌ r
+    (λ more. options_read more (sections_of words).sections)) one) ∙ so_far
 
 -- what is left begins with an option
 pub begins_on : (words others : List Word) → others ≡ drop (position_or_len word_is_option words) words
@@ -50,43 +52,51 @@ begins_on words others o = ap begins_so o ∙ (cut words).begins
 -- no option is left
 pub option_done : (d : Draft) (rest : List Word) (total : Result Draft RuleFault) → rest ≡ []
     → options_read d (sections_of rest).sections ≡ total → total ≡ Ok d
-option_done d rest total e so_far = sym so_far ∙ ap (λ (ws : List Word). options_read d (sections_of ws).sections) e ∙ none_read d
+option_done d rest total e so_far = sym so_far ∙ ap (λ (ws : List Word). options_read d (sections_of ws).sections) e
+    ∙ none_read d
 
 -- ---- the config
 
 -- words before the first option
 pub rules_stray : (e : Or RuleFault) (words front : List Word) (witness : List ℕ)
-    → front ≡ take (position_or_len word_is_option words) words → FaultIs {V = Unit {0}} e (none_left {A = Unit {0}} tt front)
+    → front ≡ take (position_or_len word_is_option words) words
+    → FaultIs {V = Unit {0}} e (none_left {A = Unit {0}} tt front)
     → FaultIs {V = Rules} e (rules_read words witness)
 unfolding rules_read
 rules_stray OutOfMemory words front witness f h = tt
 rules_stray (Fault g) words front witness f h =
-    let one : none_left {A = Unit {0}} tt (sections_of words).front ≡ Err g = ap (none_left {A = Unit {0}} tt) ((cut words).front_is ∙ sym f) ∙ h in
+    let one : none_left {A = Unit {0}} tt (sections_of words).front ≡ Err g =
+    ap (none_left {A = Unit {0}} tt) ((cut words).front_is ∙ sym f) ∙ h in
     rw one refl
 
 -- an option at fault
 pub rules_err : (e : Or RuleFault) (words front sections : List Word) (witness : List ℕ)
-    → front ≡ take (position_or_len word_is_option words) words → sections ≡ drop (position_or_len word_is_option words) words
-    → none_left {A = Unit {0}} tt front ≡ Ok tt → FaultIs {V = Draft} e (options_read blank (sections_of sections).sections)
+    → front ≡ take (position_or_len word_is_option words) words
+    → sections ≡ drop (position_or_len word_is_option words) words
+    → none_left {A = Unit {0}} tt front ≡ Ok tt
+    → FaultIs {V = Draft} e (options_read blank (sections_of sections).sections)
     → FaultIs {V = Rules} e (rules_read words witness)
 unfolding rules_read
 rules_err OutOfMemory words front sections witness f s n h = tt
 rules_err (Fault g) words front sections witness f s n h =
     let c = cut words in
-    let one : none_left {A = Unit {0}} tt (sections_of words).front ≡ Ok tt = ap (none_left {A = Unit {0}} tt) (c.front_is ∙ sym f) ∙ n in
+    let one : none_left {A = Unit {0}} tt (sections_of words).front ≡ Ok tt =
+    ap (none_left {A = Unit {0}} tt) (c.front_is ∙ sym f) ∙ n in
     let two : options_read blank (sections_of words).sections ≡ Err g = ap (options_read blank) (c.sections_are
     ∙ ap (λ (ws : List Word). (sections_of ws).sections) (sym s)) ∙ h in
     rw (one, two) refl
 
 -- what was read is finished
 pub rules_done : (words front sections : List Word) (witness : List ℕ) (d : Draft)
-    → front ≡ take (position_or_len word_is_option words) words → sections ≡ drop (position_or_len word_is_option words) words
+    → front ≡ take (position_or_len word_is_option words) words
+    → sections ≡ drop (position_or_len word_is_option words) words
     → none_left {A = Unit {0}} tt front ≡ Ok tt → options_read blank (sections_of sections).sections ≡ Ok d
     → rules_read words witness ≡ finished witness d
 unfolding rules_read
 rules_done words front sections witness d f s n h =
     let c = cut words in
-    let one : none_left {A = Unit {0}} tt (sections_of words).front ≡ Ok tt = ap (none_left {A = Unit {0}} tt) (c.front_is ∙ sym f) ∙ n in
+    let one : none_left {A = Unit {0}} tt (sections_of words).front ≡ Ok tt =
+    ap (none_left {A = Unit {0}} tt) (c.front_is ∙ sym f) ∙ n in
     let two : options_read blank (sections_of words).sections ≡ Ok d = ap (options_read blank) (c.sections_are
     ∙ ap (λ (ws : List Word). (sections_of ws).sections) (sym s)) ∙ h in
     rw (one, two) refl
@@ -138,5 +148,6 @@ pub first_more : (d new : Draft) (rest : List Word) (option : Word) (values othe
     → others ≡ drop (position_or_len word_is_option (drop 1 rest)) (drop 1 rest)
     → option_read d option values ≡ Ok new → options_read d (sections_of rest).sections ≡ total
     → options_read new (sections_of others).sections ≡ total
-first_more d new rest option values others total f b v o h so_far = option_more d new option (drop 1 rest) values others total
+first_more d new rest option values others total f b v o h so_far =
+    option_more d new option (drop 1 rest) values others total
     (begins_whole rest option f b) v o h (so_far_whole d rest option total f so_far)

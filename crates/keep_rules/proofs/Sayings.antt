@@ -1,9 +1,12 @@
 -- What an option is read as is what its words say.
-use Rattle.std.proofs.Common.{◌≡◌, ◌⊎◌, ℕ, ◌<◌, Bool, true, false, cond, ◌||◌, List, [], ◌∷◌, ◌++◌}
-use Rattle.std.proofs.Common.{length, Result, Ok, Err, Option, Some, None, refl, sym, ap, subst, ◌∙◌, arith, codes, inl, inr}
+use Rattle.std.proofs.Common.{◌≡◌, ◌⊎◌, ℕ, ◌<◌, Bool, true, false, cond, List, [], ◌∷◌, ◌++◌, length, Result, Ok, Err}
+use Rattle.std.proofs.Common.{Option, Some, None, refl, sym, ap, subst, ◌∙◌, arith, codes, inl, inr}
 use Rattle.std.specs.Prelude.{map, IsTrue, is_some}
 use Rattle.jv_base.specs.Names.{is_text}
 use Rattle.jv_base.specs.Outcome as outcome
+use Rattle.jv_base.proofs.Equality.{same_text}
+use Rattle.jv_base.proofs.Results.{same_ok, then_ok}
+use Rattle.jv_base.proofs.Tests.{or_by}
 use Rattle.path_text.specs.Path.{is_path, file_in}
 use Rattle.conf_words.specs.declared.splitting.Word.{Word}
 use Rattle.keep_rules.specs.declared.fault.RuleFault.{RuleFault}
@@ -20,22 +23,24 @@ use Rattle.keep_rules.specs.declared.draft.Draft.{Draft}
 use Rattle.keep_rules.specs.declared.values.Value.{Value}
 use Rattle.keep_rules.specs.declared.values.Value.TheVariants.{Directory, File, AnyWord}
 use Rattle.keep_rules.specs.Texts.{Attributes}
-use Rattle.keep_rules.specs.Options.{setting_of, keep_setting, plain_setting, inert_setting, is_ignored, is_left_out, else_plain}
+use Rattle.keep_rules.specs.Options.{setting_of, keep_setting, plain_setting, inert_setting, is_ignored, is_left_out}
+use Rattle.keep_rules.specs.Options.{else_plain}
 use Rattle.keep_rules.specs.Reader.{Ahead, ahead, fault, Reader, item, none_left, ended, whole}
 use Rattle.keep_rules.specs.Filtering.{filter_in}
 use Rattle.keep_rules.specs.Specifications.{keep}
-use Rattle.keep_rules.specs.Reading.{value_in, valued, value_meant, every, attributes, once, left_off, without, with_attributes}
-use Rattle.keep_rules.specs.Reading.{with_keep, set, set_known, option_read}
-use Rattle.keep_rules.specs.Grammar.{joined, AreFilters, IsKeep, Saying, in_dir, out_dir, mapping, seeds, usage, source_name, no_shrink}
-use Rattle.keep_rules.specs.Grammar.{no_optimise, no_obfuscate, keeps, nothing, Says, SaysKeep, IsKeepOption, IsAttributes}
+use Rattle.keep_rules.specs.Reading.{value_in, valued, value_meant, every, attributes, once, left_off, without}
+use Rattle.keep_rules.specs.Reading.{with_attributes, with_keep, set, set_known, option_read}
+use Rattle.keep_rules.specs.Grammar.{joined, AreFilters, IsKeep, Saying, in_dir, out_dir, mapping, seeds, usage}
+use Rattle.keep_rules.specs.Grammar.{source_name, no_shrink, no_optimise, no_obfuscate, keeps, nothing, Says, SaysKeep}
+use Rattle.keep_rules.specs.Grammar.{IsKeepOption, IsAttributes}
 use Rattle.keep_rules.specs.Grammar as says
 use Rattle.keep_rules.specs.Laws.{text_of}
-use Rattle.keep_rules.proofs.Exact.{texts, Exact, give_exact, item_exact, Ends, if_end_exact, Listed, text_is}
+use Rattle.keep_rules.proofs.Exact.{texts, Exact, give_exact, item_exact, Ends, if_end_exact, Listed}
 use Rattle.keep_rules.proofs.Spelled.{filters_exact, filters_there, filters_back, keep_exact, keep_there, keep_back}
 
 -- ---- all words of an option
 
-no_words : (words : List Word) → map text_of words ≡ [] → words ≡ []
+pub no_words : (words : List Word) → map text_of words ≡ [] → words ≡ []
 no_words [] h = refl
 no_words (word ∷ words) h = absurd cc
 
@@ -68,17 +73,6 @@ whole_only {r = r} option values x e h =
     let o = e.only (ahead option.line values) x [] h in
     rw o.1 (ended_is x o.0 o.2)
 
--- ---- steps
-
--- a step that was done
-then_ok : {A B : Type 0} (d : Result A RuleFault) (f : A → Result B RuleFault) (y : B) → outcome.◌>>=◌ d f ≡ Ok y
-    → (x : A) × (d ≡ Ok x) × (f x ≡ Ok y)
-then_ok (Ok x) f y h = (x, refl, h)
-then_ok (Err e) f y h = absurd cc
-
-ok_same : {A E : Type 0} (x y : A) → (let R : Result A E = Ok x in R) ≡ Ok y → x ≡ y
-ok_same x y h = cc
-
 -- ---- values
 
 valued_ok : (option : List ℕ) (d : Option (List ℕ)) (x : List ℕ) → valued option d ≡ Ok x → d ≡ Some x
@@ -91,7 +85,8 @@ One value ws x = (w : List ℕ) × (ws ≡ w ∷ []) × (value_in value w ≡ So
 
 once_ok : (value : Value) (slot : Option (List ℕ)) (b : Bool) (option : Word) (values : List Word) (x : List ℕ)
     → is_some slot ≡ b
-    → cond b (Err (fault option.line (Repeated option.text))) (whole (item MissingName (value_meant option.text value)) option values)
+    → cond b (Err (fault option.line (Repeated option.text)))
+    (whole (item MissingName (value_meant option.text value)) option values)
     ≡ Ok x → (is_some slot ≡ false) × One value (map text_of values) x
 once_ok value slot true option values x e h = absurd cc
 once_ok value slot false option values x e h =
@@ -114,7 +109,8 @@ once_only value slot option values x e o = rw e
 
 -- filters, or none for all, as they are read
 abbrev Filters : List ℕ → List (List ℕ) → List Filter → List (List ℕ) → Type 0
-Filters option ws fs rest = Ends (λ us y vs. (y ≡ every ∷ []) × (us ≡ vs)) (Listed (filter_in (Attributes option))) ws fs rest
+Filters option ws fs rest =
+    Ends (λ us y vs. (y ≡ every ∷ []) × (us ≡ vs)) (Listed (filter_in (Attributes option))) ws fs rest
 
 attributes_exact : (option : List ℕ) → Exact (attributes option) (Filters option)
 unfolding attributes
@@ -124,7 +120,8 @@ attributes_exact option = if_end_exact (give_exact (every ∷ [])) (filters_exac
 abbrev AnyFilters : List ℕ → List (List ℕ) → List Filter → Type 0
 AnyFilters option ws fs = ((ws ≡ []) × (fs ≡ every ∷ [])) ⊎ AreFilters (Attributes option) ws fs
 
-any_there : (option : List ℕ) (ws : List (List ℕ)) (fs : List Filter) → Filters option ws fs [] → AnyFilters option ws fs
+any_there : (option : List ℕ) (ws : List (List ℕ)) (fs : List Filter) → Filters option ws fs []
+    → AnyFilters option ws fs
 any_there option [] fs h = inl (refl, h.0)
 any_there option (w ∷ ws) fs h = inr (filters_there (Attributes option) (w ∷ ws) fs h)
 
@@ -185,26 +182,26 @@ known_inert w t h = test (Known w) _ setting.Ignored t _ (λ e. e)
 known_plain : (w : List ℕ) (t : Setting) → plain_setting w ≡ Some t → Known w t
 unfolding plain_setting
 known_plain w t h =
-    test (Known w) _ setting.InDir t _ (text_is w (codes "-injars"))
-    (test (Known w) _ setting.OutDir t _ (text_is w (codes "-outjars"))
-    (test (Known w) _ setting.Mapping t _ (text_is w (codes "-printmapping"))
-    (test (Known w) _ setting.Seeds t _ (text_is w (codes "-printseeds"))
-    (test (Known w) _ setting.Usage t _ (text_is w (codes "-printusage"))
-    (test (Known w) _ setting.SourceName t _ (text_is w (codes "-renamesourcefileattribute"))
-    (test (Known w) _ (setting.Off Shrink) t _ (text_is w (codes "-dontshrink"))
-    (test (Known w) _ (setting.Off Optimise) t _ (text_is w (codes "-dontoptimize"))
-    (test (Known w) _ (setting.Off Obfuscate) t _ (text_is w (codes "-dontobfuscate"))
-    (test (Known w) _ setting.Attributes t _ (text_is w (codes "-keepattributes")) (known_inert w t)))))))))) h
+    test (Known w) _ setting.InDir t _ (same_text w (codes "-injars"))
+    (test (Known w) _ setting.OutDir t _ (same_text w (codes "-outjars"))
+    (test (Known w) _ setting.Mapping t _ (same_text w (codes "-printmapping"))
+    (test (Known w) _ setting.Seeds t _ (same_text w (codes "-printseeds"))
+    (test (Known w) _ setting.Usage t _ (same_text w (codes "-printusage"))
+    (test (Known w) _ setting.SourceName t _ (same_text w (codes "-renamesourcefileattribute"))
+    (test (Known w) _ (setting.Off Shrink) t _ (same_text w (codes "-dontshrink"))
+    (test (Known w) _ (setting.Off Optimise) t _ (same_text w (codes "-dontoptimize"))
+    (test (Known w) _ (setting.Off Obfuscate) t _ (same_text w (codes "-dontobfuscate"))
+    (test (Known w) _ setting.Attributes t _ (same_text w (codes "-keepattributes")) (known_inert w t)))))))))) h
 
 known_keep : (w : List ℕ) (t : Setting) → keep_setting w ≡ Some t → Known w t
 unfolding keep_setting
 known_keep w t h =
-    test (Known w) _ (setting.Keep Classes false) t _ (text_is w (codes "-keep"))
-    (test (Known w) _ (setting.Keep Members false) t _ (text_is w (codes "-keepclassmembers"))
-    (test (Known w) _ (setting.Keep WithMembers false) t _ (text_is w (codes "-keepclasseswithmembers"))
-    (test (Known w) _ (setting.Keep Classes true) t _ (text_is w (codes "-keepnames"))
-    (test (Known w) _ (setting.Keep Members true) t _ (text_is w (codes "-keepclassmembernames"))
-    (test (Known w) _ (setting.Keep WithMembers true) t _ (text_is w (codes "-keepclasseswithmembernames"))
+    test (Known w) _ (setting.Keep Classes false) t _ (same_text w (codes "-keep"))
+    (test (Known w) _ (setting.Keep Members false) t _ (same_text w (codes "-keepclassmembers"))
+    (test (Known w) _ (setting.Keep WithMembers false) t _ (same_text w (codes "-keepclasseswithmembers"))
+    (test (Known w) _ (setting.Keep Classes true) t _ (same_text w (codes "-keepnames"))
+    (test (Known w) _ (setting.Keep Members true) t _ (same_text w (codes "-keepclassmembernames"))
+    (test (Known w) _ (setting.Keep WithMembers true) t _ (same_text w (codes "-keepclasseswithmembernames"))
     (none_known (Known w) t)))))) h
 
 known_by : (w : List ℕ) (t : Setting) (d : Option Setting) → keep_setting w ≡ d → else_plain w d ≡ Some t → Known w t
@@ -256,15 +253,17 @@ file_by w x true e h = let k : w ≡ x = cc in (k, ap is_path (sym k) ∙ e)
 file_by w x false e h = absurd cc
 
 -- a value in a slot that was empty
-slot_found : (value : Value) (slot : Option (List ℕ)) (put : List ℕ → Draft) (option : Word) (values : List Word) (e : Draft)
+slot_found : (value : Value) (slot : Option (List ℕ)) (put : List ℕ → Draft) (option : Word) (values : List Word)
+    (e : Draft)
     → outcome.◌>>=◌ (once value slot option values) (λ v. Ok (put v)) ≡ Ok e
     → (x : List ℕ) × One value (map text_of values) x × (slotted slot (put x) ≡ Some e)
 slot_found value slot put option values e h =
     let o = then_ok (once value slot option values) (λ v. Ok (put v)) e h in
     let k = once_found value slot option values o.0 o.1 in
-    (o.0, k.1, rw k.0 (ap (λ (z : Draft). Some z) (ok_same (put o.0) e o.2)))
+    (o.0, k.1, rw k.0 (ap (λ (z : Draft). Some z) (same_ok (put o.0) e o.2)))
 
-slot_only : (value : Value) (slot : Option (List ℕ)) (put : List ℕ → Draft) (option : Word) (values : List Word) (e : Draft)
+slot_only : (value : Value) (slot : Option (List ℕ)) (put : List ℕ → Draft) (option : Word) (values : List Word)
+    (e : Draft)
     (x : List ℕ) → One value (map text_of values) x → slotted slot (put x) ≡ Some e
     → outcome.◌>>=◌ (once value slot option values) (λ v. Ok (put v)) ≡ Ok e
 slot_only value slot put option values e x o h =
@@ -275,7 +274,8 @@ file_is : (w x : List ℕ) → file_in w ≡ Some x → (w ≡ x) × IsTrue (is_
 file_is w x h = file_by w x (is_path w) refl h
 
 -- the words of an option by its name
-named : (option : Word) (values : List Word) (w : List ℕ) → option.text ≡ w → words_of option values ≡ w ∷ map text_of values
+named : (option : Word) (values : List Word) (w : List ℕ) → option.text ≡ w
+    → words_of option values ≡ w ∷ map text_of values
 named option values w e = ap (λ (v : List ℕ). v ∷ map text_of values) e
 
 -- one value is the words of an option
@@ -284,13 +284,16 @@ value_words : (option : Word) (values : List Word) (w x : List ℕ) → option.t
 value_words option values w x e h = named option values w e ∙ ap (λ (l : List (List ℕ)). w ∷ l) h
 
 keep_named : (kind : KeepKind) (shrinking : Bool) (option : Word) (values : List Word) (k : Keep)
-    → IsNamed option.text kind shrinking → IsKeep kind shrinking (map text_of values) k → SaysKeep (words_of option values) k
+    → IsNamed option.text kind shrinking → IsKeep kind shrinking (map text_of values) k
+    → SaysKeep (words_of option values) k
 keep_named Classes false option values k n h = inl (map text_of values, named option values _ n, h)
 keep_named Members false option values k n h = inr (inl (map text_of values, named option values _ n, h))
 keep_named WithMembers false option values k n h = inr (inr (inl (map text_of values, named option values _ n, h)))
 keep_named Classes true option values k n h = inr (inr (inr (inl (map text_of values, named option values _ n, h))))
-keep_named Members true option values k n h = inr (inr (inr (inr (inl (map text_of values, named option values _ n, h)))))
-keep_named WithMembers true option values k n h = inr (inr (inr (inr (inr (map text_of values, named option values _ n, h)))))
+keep_named Members true option values k n h =
+    inr (inr (inr (inr (inl (map text_of values, named option values _ n, h)))))
+keep_named WithMembers true option values k n h =
+    inr (inr (inr (inr (inr (map text_of values, named option values _ n, h)))))
 
 attributes_named : (option : Word) (values : List Word) (fs : List Filter) → option.text ≡ codes "-keepattributes"
     → AnyFilters option.text (map text_of values) fs → IsAttributes (words_of option values) fs
@@ -322,41 +325,87 @@ found_by setting.OutDir d option values e n h =
 found_by setting.Mapping d option values e n h =
     let o = slot_found File d.mapping (λ v. record d { mapping = Some v }) option values e h in
     let f = file_is o.1.0 o.0 o.1.2 in
-    record { saying = mapping o.0; says = (value_words option values _ o.0 n (o.1.1 ∙ ap (λ (w : List ℕ). w ∷ []) f.0), f.1); adds = o.2 }
+    record {
+      saying = mapping o.0;
+      says = (value_words option values _ o.0 n (o.1.1 ∙ ap (λ (w : List ℕ). w ∷ []) f.0), f.1);
+      adds = o.2;
+    }
 found_by setting.Seeds d option values e n h =
     let o = slot_found File d.seeds (λ v. record d { seeds = Some v }) option values e h in
     let f = file_is o.1.0 o.0 o.1.2 in
-    record { saying = seeds o.0; says = (value_words option values _ o.0 n (o.1.1 ∙ ap (λ (w : List ℕ). w ∷ []) f.0), f.1); adds = o.2 }
+    record {
+      saying = seeds o.0;
+      says = (value_words option values _ o.0 n (o.1.1 ∙ ap (λ (w : List ℕ). w ∷ []) f.0), f.1);
+      adds = o.2;
+    }
 found_by setting.Usage d option values e n h =
     let o = slot_found File d.usage (λ v. record d { usage = Some v }) option values e h in
     let f = file_is o.1.0 o.0 o.1.2 in
-    record { saying = usage o.0; says = (value_words option values _ o.0 n (o.1.1 ∙ ap (λ (w : List ℕ). w ∷ []) f.0), f.1); adds = o.2 }
+    record {
+      saying = usage o.0;
+      says = (value_words option values _ o.0 n (o.1.1 ∙ ap (λ (w : List ℕ). w ∷ []) f.0), f.1);
+      adds = o.2;
+    }
 found_by setting.SourceName d option values e n h =
     let o = slot_found AnyWord d.source_name (λ v. record d { source_name = Some v }) option values e h in
     let same : o.1.0 ≡ o.0 = cc in
-    record { saying = source_name o.0; says = value_words option values _ o.0 n (o.1.1 ∙ ap (λ (w : List ℕ). w ∷ []) same); adds = o.2 }
+    record {
+      saying = source_name o.0;
+      says = value_words option values _ o.0 n (o.1.1 ∙ ap (λ (w : List ℕ). w ∷ []) same);
+      adds = o.2;
+    }
 found_by (setting.Off Shrink) d option values e n h =
     let o = off_found Shrink d values e h in
-    record { saying = no_shrink; says = named option values _ n ∙ ap (λ (l : List (List ℕ)). codes "-dontshrink" ∷ l) o.0; adds = ap (λ (z : Draft). Some z) o.1 }
+    record {
+      saying = no_shrink;
+      says = named option values _ n
+          ∙ ap (λ (l : List (List ℕ)). codes "-dontshrink" ∷ l) o.0;
+      adds = ap (λ (z : Draft). Some z) o.1;
+    }
 found_by (setting.Off Optimise) d option values e n h =
     let o = off_found Optimise d values e h in
-    record { saying = no_optimise; says = named option values _ n ∙ ap (λ (l : List (List ℕ)). codes "-dontoptimize" ∷ l) o.0; adds = ap (λ (z : Draft). Some z) o.1 }
+    record {
+      saying = no_optimise;
+      says = named option values _ n
+          ∙ ap (λ (l : List (List ℕ)). codes "-dontoptimize" ∷ l) o.0;
+      adds = ap (λ (z : Draft). Some z) o.1;
+    }
 found_by (setting.Off Obfuscate) d option values e n h =
     let o = off_found Obfuscate d values e h in
-    record { saying = no_obfuscate; says = named option values _ n ∙ ap (λ (l : List (List ℕ)). codes "-dontobfuscate" ∷ l) o.0; adds = ap (λ (z : Draft). Some z) o.1 }
+    record {
+      saying = no_obfuscate;
+      says = named option values _ n
+          ∙ ap (λ (l : List (List ℕ)). codes "-dontobfuscate" ∷ l) o.0;
+      adds = ap (λ (z : Draft). Some z) o.1;
+    }
 found_by setting.Attributes d option values e n h =
     let o = then_ok (whole (attributes option.text) option values) _ e h in
-    let g = any_there option.text (map text_of values) o.0 (whole_found option values o.0 (attributes_exact option.text) o.1) in
-    record { saying = says.attributes o.0; says = attributes_named option values o.0 n g; adds = ap (λ (z : Draft). Some z) (ok_same _ e o.2) }
+    let g = any_there option.text (map text_of values) o.0
+    (whole_found option values o.0 (attributes_exact option.text) o.1) in
+    record {
+      saying = says.attributes o.0;
+      says = attributes_named option values o.0 n g;
+      adds = ap (λ (z : Draft). Some z) (same_ok _ e o.2);
+    }
 found_by (setting.Keep kind shrinking) d option values e n h =
     let o = then_ok (whole (keep kind shrinking option.text) option values) _ e h in
-    let g = keep_there kind shrinking (map text_of values) o.0 (whole_found option values o.0 (keep_exact kind shrinking option.text) o.1) in
-    record { saying = keeps o.0; says = keep_named kind shrinking option values o.0 n g; adds = ap (λ (z : Draft). Some z) (ok_same _ e o.2) }
+    let g = keep_there kind shrinking (map text_of values) o.0
+    (whole_found option values o.0 (keep_exact kind shrinking option.text) o.1) in
+    record {
+      saying = keeps o.0;
+      says = keep_named kind shrinking option values o.0 n g;
+      adds = ap (λ (z : Draft). Some z) (same_ok _ e o.2);
+    }
 found_by setting.Ignored d option values e n h =
-    record { saying = nothing; says = (option.text, map text_of values, refl, n); adds = ap (λ (z : Draft). Some z) (ok_same d e h) }
+    record {
+      saying = nothing;
+      says = (option.text, map text_of values, refl, n);
+      adds = ap (λ (z : Draft). Some z) (same_ok d e h);
+    }
 found_by setting.LeftOut d option values e n h = absurd cc
 
-known_found : (s : Option Setting) (d : Draft) (option : Word) (values : List Word) (e : Draft) → setting_of option.text ≡ s
+known_found : (s : Option Setting) (d : Draft) (option : Word) (values : List Word) (e : Draft)
+    → setting_of option.text ≡ s
     → set_known s d option values ≡ Ok e → Adds d (words_of option values) e
 known_found (Some s) d option values e k h = found_by s d option values e (known option.text s k) h
 known_found None d option values e k h = absurd cc
@@ -369,12 +418,14 @@ option_found d option values e h = known_found (setting_of option.text) d option
 
 -- ---- what words say is read
 
-by_setting : (s : Setting) (d : Draft) (option : Word) (values : List Word) (e : Draft) → setting_of option.text ≡ Some s
+by_setting : (s : Setting) (d : Draft) (option : Word) (values : List Word) (e : Draft)
+    → setting_of option.text ≡ Some s
     → set s d option values ≡ Ok e → option_read d option values ≡ Ok e
 unfolding option_read
 by_setting s d option values e k h = rw k h
 
-ok_draft : (d e : Draft) → (let O : Option Draft = Some d in O) ≡ Some e → (let R : Result Draft RuleFault = Ok d in R) ≡ Ok e
+ok_draft : (d e : Draft) → (let O : Option Draft = Some d in O) ≡ Some e
+    → (let R : Result Draft RuleFault = Ok d in R) ≡ Ok e
 ok_draft d e h = let k : d ≡ e = cc in ap (λ (z : Draft). let R : Result Draft RuleFault = Ok z in R) k
 
 first_is : (option : Word) (values : List Word) (w : List ℕ) (ws : List (List ℕ)) → words_of option values ≡ w ∷ ws
@@ -448,10 +499,6 @@ with_names_is : setting_of (codes "-keepclasseswithmembernames") ≡ Some (setti
 unfolding setting_of keep_setting
 with_names_is = refl
 
-or_by : (a b : Bool) (P : Type 0) → (a ≡ true → P) → (b ≡ true → P) → (a || b) ≡ true → P
-or_by true b P f g h = f refl
-or_by false b P f g h = g h
-
 -- the word is one of the options that change nothing
 inert : (w : List ℕ) → IsTrue (is_ignored w) → setting_of w ≡ Some setting.Ignored
 unfolding is_ignored setting_of keep_setting plain_setting
@@ -466,25 +513,29 @@ inert w h =
     (or_by _ (is_text w (codes "-verbose")) (P w)
     (or_by _ (is_text w (codes "-dontnote")) (P w)
     (or_by (is_text w (codes "-libraryjars")) (is_text w (codes "-dontwarn")) (P w)
-    (λ e. subst P (sym (text_is w _ e)) refl) (λ e. subst P (sym (text_is w _ e)) refl))
-    (λ e. subst P (sym (text_is w _ e)) refl))
-    (λ e. subst P (sym (text_is w _ e)) refl))
-    (λ e. subst P (sym (text_is w _ e)) refl))
-    (λ e. subst P (sym (text_is w _ e)) refl))
-    (λ e. subst P (sym (text_is w _ e)) refl))
-    (λ e. subst P (sym (text_is w _ e)) refl))
-    (λ e. subst P (sym (text_is w _ e)) refl))
-    (λ e. subst P (sym (text_is w _ e)) refl)) h
+    (λ e. subst P (sym (same_text w _ e)) refl) (λ e. subst P (sym (same_text w _ e)) refl))
+    (λ e. subst P (sym (same_text w _ e)) refl))
+    (λ e. subst P (sym (same_text w _ e)) refl))
+    (λ e. subst P (sym (same_text w _ e)) refl))
+    (λ e. subst P (sym (same_text w _ e)) refl))
+    (λ e. subst P (sym (same_text w _ e)) refl))
+    (λ e. subst P (sym (same_text w _ e)) refl))
+    (λ e. subst P (sym (same_text w _ e)) refl))
+    (λ e. subst P (sym (same_text w _ e)) refl)) h
 
-keep_only : (kind : KeepKind) (shrinking : Bool) (t : List ℕ) (d : Draft) (option : Word) (values : List Word) (e : Draft)
-    (k : Keep) → setting_of t ≡ Some (setting.Keep kind shrinking) → IsKeepOption t kind shrinking (words_of option values) k
-    → (let O : Option Draft = Some (record d { keeps = d.keeps ++ k ∷ [] }) in O) ≡ Some e → option_read d option values ≡ Ok e
+keep_only : (kind : KeepKind) (shrinking : Bool) (t : List ℕ) (d : Draft) (option : Word) (values : List Word)
+    (e : Draft)
+    (k : Keep) → setting_of t ≡ Some (setting.Keep kind shrinking)
+    → IsKeepOption t kind shrinking (words_of option values) k
+    → (let O : Option Draft = Some (record d { keeps = d.keeps ++ k ∷ [] }) in O) ≡ Some e
+    → option_read d option values ≡ Ok e
 unfolding set with_keep
 keep_only kind shrinking t d option values e k s h a =
     let f = first_is option values t h.0 h.1 in
     by_setting (setting.Keep kind shrinking) d option values e (setting_is option.text t _ f.0 s)
     (rw (whole_only option values k (keep_exact kind shrinking option.text)
-    (keep_back kind shrinking (map text_of values) k (subst (λ (l : List (List ℕ)). IsKeep kind shrinking l k) (sym f.1) h.2)))
+    (keep_back kind shrinking (map text_of values) k
+    (subst (λ (l : List (List ℕ)). IsKeep kind shrinking l k) (sym f.1) h.2)))
     (ok_draft _ e a))
 
 off_only : (step : Step) (t : List ℕ) (d : Draft) (option : Word) (values : List Word) (e : Draft)
@@ -522,7 +573,8 @@ filters_said option values fs (inr h) =
 
 attributes_only : (d : Draft) (option : Word) (values : List Word) (e : Draft) (fs : List Filter)
     → IsAttributes (words_of option values) fs
-    → (let O : Option Draft = Some (record d { attrs = d.attrs ++ fs }) in O) ≡ Some e → option_read d option values ≡ Ok e
+    → (let O : Option Draft = Some (record d { attrs = d.attrs ++ fs }) in O) ≡ Some e
+    → option_read d option values ≡ Ok e
 unfolding set with_attributes
 attributes_only d option values e fs h a =
     let f = filters_said option values fs h in
@@ -530,28 +582,38 @@ attributes_only d option values e fs h a =
     (rw (whole_only option values fs (attributes_exact option.text) (any_back option.text (map text_of values) fs f.1))
     (ok_draft _ e a))
 
-kept_only : (d : Draft) (option : Word) (values : List Word) (e : Draft) (k : Keep) → SaysKeep (words_of option values) k
-    → (let O : Option Draft = Some (record d { keeps = d.keeps ++ k ∷ [] }) in O) ≡ Some e → option_read d option values ≡ Ok e
+kept_only : (d : Draft) (option : Word) (values : List Word) (e : Draft) (k : Keep)
+    → SaysKeep (words_of option values) k
+    → (let O : Option Draft = Some (record d { keeps = d.keeps ++ k ∷ [] }) in O) ≡ Some e
+    → option_read d option values ≡ Ok e
 kept_only d option values e k (inl h) a = keep_only Classes false _ d option values e k keep_is h a
 kept_only d option values e k (inr (inl h)) a = keep_only Members false _ d option values e k members_is h a
 kept_only d option values e k (inr (inr (inl h))) a = keep_only WithMembers false _ d option values e k with_is h a
 kept_only d option values e k (inr (inr (inr (inl h)))) a = keep_only Classes true _ d option values e k names_is h a
-kept_only d option values e k (inr (inr (inr (inr (inl h))))) a = keep_only Members true _ d option values e k member_names_is h a
-kept_only d option values e k (inr (inr (inr (inr (inr h))))) a = keep_only WithMembers true _ d option values e k with_names_is h a
+kept_only d option values e k (inr (inr (inr (inr (inl h))))) a =
+    keep_only Members true _ d option values e k member_names_is h a
+kept_only d option values e k (inr (inr (inr (inr (inr h))))) a =
+    keep_only WithMembers true _ d option values e k with_names_is h a
 
 -- what the words of an option say is read
-pub option_only : (d : Draft) (option : Word) (values : List Word) (e : Draft) (y : Saying) → Says (words_of option values) y
+pub option_only : (d : Draft) (option : Word) (values : List Word) (e : Draft) (y : Saying)
+    → Says (words_of option values) y
     → added d y ≡ Some e → option_read d option values ≡ Ok e
 unfolding set
-option_only d option values e (in_dir x) h a = slot_said setting.InDir _ Directory d.in_dir (λ v. record d { in_dir = Some v }) d
+option_only d option values e (in_dir x) h a =
+    slot_said setting.InDir _ Directory d.in_dir (λ v. record d { in_dir = Some v }) d
     option values e h.0 x injars refl h.1 h.2 a
-option_only d option values e (out_dir x) h a = slot_said setting.OutDir _ Directory d.out_dir (λ v. record d { out_dir = Some v })
+option_only d option values e (out_dir x) h a =
+    slot_said setting.OutDir _ Directory d.out_dir (λ v. record d { out_dir = Some v })
     d option values e h.0 x outjars refl h.1 h.2 a
-option_only d option values e (mapping x) h a = slot_said setting.Mapping _ File d.mapping (λ v. record d { mapping = Some v }) d
+option_only d option values e (mapping x) h a =
+    slot_said setting.Mapping _ File d.mapping (λ v. record d { mapping = Some v }) d
     option values e x x printmapping refl h.0 (a_file x h.1) a
-option_only d option values e (seeds x) h a = slot_said setting.Seeds _ File d.seeds (λ v. record d { seeds = Some v }) d
+option_only d option values e (seeds x) h a =
+    slot_said setting.Seeds _ File d.seeds (λ v. record d { seeds = Some v }) d
     option values e x x printseeds refl h.0 (a_file x h.1) a
-option_only d option values e (usage x) h a = slot_said setting.Usage _ File d.usage (λ v. record d { usage = Some v }) d
+option_only d option values e (usage x) h a =
+    slot_said setting.Usage _ File d.usage (λ v. record d { usage = Some v }) d
     option values e x x printusage refl h.0 (a_file x h.1) a
 option_only d option values e (source_name x) h a = slot_said setting.SourceName _ AnyWord d.source_name
     (λ v. record d { source_name = Some v }) d option values e x x rename refl h refl a

@@ -36,7 +36,8 @@ unfolding give
 given_is x y p q h = let e = ok_is (x, p) (y, q) h in (ap (λ (z : _ × Ahead). z.0) e, ap (λ (z : _ × Ahead). z.1) e)
 
 pub give_takes : {A : Type 0} (x : A) → Takes 0 (give x)
-give_takes x = record { taken = λ p y q h. let e = (given_is x y p q h).1 in omega (arith, ap (λ (z : Ahead). length z.words) e) }
+give_takes x =
+    record { taken = λ p y q h. let e = (given_is x y p q h).1 in omega (arith, ap (λ (z : Ahead). length z.words) e) }
 
 -- fewer words at least
 pub fewer : {A : Type 0} {r : Reader A} (m n : ℕ) → n ≤ m → Takes m r → Takes n r
@@ -51,7 +52,8 @@ first_taken : (missing : RuleKind) (line : ℕ) (words : List Word) (word : Word
     → first_word missing line words ≡ Ok (word, q) → 1 + length q.words ≤ length words
 first_taken missing line [] word q h = absurd cc
 first_taken missing line (first ∷ words) word q h =
-    let e : ahead first.line words ≡ q = ap (λ (z : Word × Ahead). z.1) (ok_is (first, ahead first.line words) (word, q) h) in
+    let e : ahead first.line words ≡ q =
+    ap (λ (z : Word × Ahead). z.1) (ok_is (first, ahead first.line words) (word, q) h) in
     omega (arith, ap (λ (z : Ahead). length z.words) e)
 
 pub next_takes : (missing : RuleKind) → Takes 1 (next_word missing)
@@ -59,9 +61,14 @@ unfolding next_word
 next_takes missing = record { taken = λ p word q h. first_taken missing p.line p.words word q h }
 
 settled_takes : {A : Type 0} (line : ℕ) (d : Result A RuleKind) → Takes 0 (settled line d)
-settled_takes line d = record { taken = λ p x q h. let e = settled_is line d p x q h in omega (arith, ap (λ (z : Ahead). length z.words) e) }
+settled_takes line d =
+    record {
+      taken = λ p x q h. let e = settled_is line d p x q h in
+          omega (arith, ap (λ (z : Ahead). length z.words) e);
+    }
 
-pub item_takes : {A : Type 0} (missing : RuleKind) (meaning : List ℕ → Result A RuleKind) → Takes 1 (item missing meaning)
+pub item_takes : {A : Type 0} (missing : RuleKind) (meaning : List ℕ → Result A RuleKind)
+    → Takes 1 (item missing meaning)
 unfolding item
 item_takes missing meaning = bind_takes (next_takes missing) (λ word. settled_takes word.line (meaning word.text))
 
@@ -81,7 +88,8 @@ next_by n false r s p q x a b h = b.taken p x q h
 pub if_next_takes : {A : Type 0} {n : ℕ} {r s : Reader A} (test : List ℕ → Bool) → Takes n r → Takes n s
     → Takes n (if_next test r s)
 unfolding if_next
-if_next_takes {n = n} {r = r} {s = s} test a b = record { taken = λ p x q h. next_by n (next_passes test p) r s p q x a b h }
+if_next_takes {n = n} {r = r} {s = s} test a b =
+    record { taken = λ p x q h. next_by n (next_passes test p) r s p q x a b h }
 
 ahead_by : {A : Type 0} (n : ℕ) (b : Bool) (r s : Reader A) (p q : Ahead) (x : A) → Takes n r → Takes n s
     → cond b (r p) (s p) ≡ Ok (x, q) → n + length q.words ≤ length p.words
@@ -91,7 +99,8 @@ ahead_by n false r s p q x a b h = b.taken p x q h
 pub if_ahead_takes : {A : Type 0} {n : ℕ} {r s : Reader A} (test : List ℕ → Bool) → Takes n r → Takes n s
     → Takes n (if_ahead test r s)
 unfolding if_ahead
-if_ahead_takes {n = n} {r = r} {s = s} test a b = record { taken = λ p x q h. ahead_by n (next_passes test p) r s p q x a b h }
+if_ahead_takes {n = n} {r = r} {s = s} test a b =
+    record { taken = λ p x q h. ahead_by n (next_passes test p) r s p q x a b h }
 
 put_ok : {A : Type 0} (x : A) (d : Result (List A × Ahead) RuleFault) (ys : List A) (q : Ahead)
     → put_before x d ≡ Ok (ys, q) → (xs : List A) × (d ≡ Ok (xs, q))
@@ -107,7 +116,8 @@ flags_by : (part : Part) (line : ℕ) (word : Word) (words : List Word) (b : Boo
 flags_by part line word words true fs q ih h =
     let o = put_ok (filter_of word.text) (flags_of part word.line words) fs q h in omega (arith, ih o.0 q o.1)
 flags_by part line word words false fs q ih h =
-    let e : ahead line (word ∷ words) ≡ q = ap (λ (z : List Filter × Ahead). z.1) (ok_is ([], ahead line (word ∷ words)) (fs, q) h) in
+    let e : ahead line (word ∷ words) ≡ q =
+    ap (λ (z : List Filter × Ahead). z.1) (ok_is ([], ahead line (word ∷ words)) (fs, q) h) in
     omega (arith, ap (λ (z : Ahead). length z.words) e)
 
 flags_taken : (part : Part) (line : ℕ) (words : List Word) (fs : List Filter) (q : Ahead)
@@ -125,14 +135,16 @@ flags_takes part = record { taken = λ p fs q h. omega (arith, flags_taken part 
 -- what a list of words takes, with what is read behind it
 list_by : {A : Type 0} (missing : RuleKind) (meaning : List ℕ → Result A RuleKind) (line : ℕ) (word comma : Word)
     (words : List Word) (b : Bool) (d : Result A RuleKind) (xs : List A) (q : Ahead)
-    → ((ys : List A) (r : Ahead) → list_of missing meaning comma.line words ≡ Ok (ys, r) → length r.words ≤ length words)
+    → ((ys : List A) (r : Ahead) → list_of missing meaning comma.line words ≡ Ok (ys, r)
+    → length r.words ≤ length words)
     → after_read (λ x _. cond b (put_before x (list_of missing meaning comma.line words))
     (Ok (x ∷ [], ahead word.line (comma ∷ words)))) (settled word.line d (ahead word.line (comma ∷ words))) ≡ Ok (xs, q)
     → length q.words ≤ length (word ∷ comma ∷ words)
 list_by missing meaning line word comma words true (Ok x) xs q ih h =
     let o = put_ok x (list_of missing meaning comma.line words) xs q h in omega (arith, ih o.0 q o.1)
 list_by missing meaning line word comma words false (Ok x) xs q ih h =
-    let e : ahead word.line (comma ∷ words) ≡ q = ap (λ (z : List _ × Ahead). z.1) (ok_is (x ∷ [], ahead word.line (comma ∷ words)) (xs, q) h) in
+    let e : ahead word.line (comma ∷ words) ≡ q =
+    ap (λ (z : List _ × Ahead). z.1) (ok_is (x ∷ [], ahead word.line (comma ∷ words)) (xs, q) h) in
     omega (arith, ap (λ (z : Ahead). length z.words) e)
 list_by missing meaning line word comma words b (Err kind) xs q ih h = absurd cc
 
@@ -154,6 +166,8 @@ list_taken missing meaning line (word ∷ comma ∷ words) xs q h =
     list_by missing meaning line word comma words (is_comma comma.text) (meaning word.text) xs q
     (list_taken missing meaning comma.line words) h
 
-pub list_takes : {A : Type 0} (missing : RuleKind) (meaning : List ℕ → Result A RuleKind) → Takes 0 (list missing meaning)
+pub list_takes : {A : Type 0} (missing : RuleKind) (meaning : List ℕ → Result A RuleKind)
+    → Takes 0 (list missing meaning)
 unfolding list
-list_takes missing meaning = record { taken = λ p xs q h. omega (arith, list_taken missing meaning p.line p.words xs q h) }
+list_takes missing meaning =
+    record { taken = λ p xs q h. omega (arith, list_taken missing meaning p.line p.words xs q h) }

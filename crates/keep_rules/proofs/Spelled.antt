@@ -1,12 +1,14 @@
 -- Member specifications and class specifications are read as they are spelled.
-use Rattle.std.proofs.Common.{◌≡◌, ℕ, zero, suc, ◌+◌, ◌≤◌, ◌<◌, Bool, true, false, cond, ◌&&◌, ◌||◌, List, [], ◌∷◌, ◌++◌}
-use Rattle.std.proofs.Common.{length, Result, Ok, Err, Option, Some, None, refl, sym, ap, subst, ◌∙◌, arith, codes, inl, inr}
-use Rattle.std.proofs.Common.{append_assoc, eqb}
+use Rattle.std.proofs.Common.{◌≡◌, ℕ, zero, suc, ◌+◌, ◌≤◌, ◌<◌, Bool, true, false, cond, ◌&&◌, List, [], ◌∷◌, ◌++◌}
+use Rattle.std.proofs.Common.{length, Result, Ok, Err, Option, Some, None, refl, sym, ap, subst, ◌∙◌, arith, codes, inl}
+use Rattle.std.proofs.Common.{inr, append_assoc}
 use Rattle.std.specs.Prelude.{map, IsTrue}
 use Rattle.std.specs.List.{list_all, AllZip}
 use Rattle.std.proofs.lemmas.List.{append-nil}
-use Rattle.std.proofs.lemmas.Bool.{eq-eqb}
+use Rattle.std.proofs.lemmas.Bool.{and_parts, and_from}
 use Rattle.jv_base.specs.Names.{is_text}
+use Rattle.jv_base.proofs.Equality.{same_text, text_itself}
+use Rattle.jv_base.proofs.Tests.{or_by}
 use Rattle.keep_rules.specs.declared.fault.RuleFault.{RuleFault}
 use Rattle.keep_rules.specs.declared.fault.RuleKind.TheVariants.{MissingName, BadMemberSpec}
 use Rattle.keep_rules.specs.declared.rules.Filter.{Filter}
@@ -23,17 +25,18 @@ use Rattle.keep_rules.specs.Texts as texts_of
 use Rattle.keep_rules.specs.Reader.{Ahead, expected, mark, is_marked, next_passes, passed}
 use Rattle.keep_rules.specs.Reader.{put_before}
 use Rattle.keep_rules.specs.Filtering.{flags, is_comma, filters, filter_in}
-use Rattle.keep_rules.specs.Specifications.{Form, types, closed_types, arguments, any_arguments, constructor, typed, form_of}
-use Rattle.keep_rules.specs.Specifications.{member, members, in_braces, body, name_above, above, class_spec}
+use Rattle.keep_rules.specs.Specifications.{Form, types, closed_types, arguments, any_arguments, constructor, typed}
+use Rattle.keep_rules.specs.Specifications.{form_of, member, members, in_braces, body, name_above, above, class_spec}
 use Rattle.keep_rules.specs.Specifications.{without_parameters, or_constructor, keep, keep_of, unmodified}
 use Rattle.keep_rules.specs.Grammar.{in_order, joined, AreFilters, AnyArguments, IsNoFlag, AnyMember}
 use Rattle.keep_rules.specs.Grammar.{Constructor, Typed, IsForm, IsMember, InBraces, IsBody, AnyAbove}
 use Rattle.keep_rules.specs.Grammar.{IsClassSpec, IsKeep}
 use Rattle.keep_rules.proofs.Steps.{ok_is}
 use Rattle.keep_rules.proofs.MemberSteps.{member_takes, MembersOn, members_on, members_end}
-use Rattle.keep_rules.proofs.Exact.{texts, Exact, retold, give_exact, Both, bind_exact, item_exact, starts, starts_is, Next, if_next_exact}
-use Rattle.keep_rules.proofs.Exact.{Peeks, if_ahead_exact, Ends, if_end_exact, Flags, flags_exact, Mean, Listed, list_exact, text_is}
-use Rattle.keep_rules.proofs.Exact.{Modified, modifiers_exact, texts_passed, passed_is, put_found, and_left}
+use Rattle.keep_rules.proofs.Exact.{texts, Exact, retold, give_exact, Both, bind_exact, item_exact, starts, starts_is}
+use Rattle.keep_rules.proofs.Exact.{Next, if_next_exact, Peeks, if_ahead_exact, Ends, if_end_exact, Flags, flags_exact}
+use Rattle.keep_rules.proofs.Exact.{Mean, Listed, list_exact, Modified, modifiers_exact, texts_passed, passed_is}
+use Rattle.keep_rules.proofs.Exact.{put_found}
 
 -- ---- tests
 
@@ -46,17 +49,10 @@ and_none : (a b : Bool) → b ≡ false → (a && b) ≡ false
 and_none true b h = h
 and_none false b h = refl
 
-both_true : (a b : Bool) → a ≡ true → b ≡ true → (a && b) ≡ true
-both_true a b h k = rw h k
-
-text_same : (a : List ℕ) → is_text a a ≡ true
-text_same [] = refl
-text_same (x ∷ a) = both_true (eqb x x) (is_text a a) (eq-eqb x x refl) (text_same a)
-
 -- a test that one text doesn't pass tells another text from it
 other_by : (a b : List ℕ) (t : Bool) (test : List ℕ → Bool) → is_text a b ≡ t → test b ≡ false → test a ≡ true
     → is_text a b ≡ false
-other_by a b true test e fails h = absurd (let k : true ≡ false = sym h ∙ ap test (text_is a b e) ∙ fails in cc)
+other_by a b true test e fails h = absurd (let k : true ≡ false = sym h ∙ ap test (same_text a b e) ∙ fails in cc)
 other_by a b false test e fails h = e
 
 other : (a b : List ℕ) (test : List ℕ → Bool) → test b ≡ false → test a ≡ true → is_text a b ≡ false
@@ -77,8 +73,8 @@ mark_exact : (p : Part) (text : List ℕ) → Exact (mark p text) (λ ws x rest.
 unfolding mark
 mark_exact p text = retold _
     (λ ws x rest h. h.1 ∙ ap (λ (w : List ℕ). w ∷ rest)
-    (text_is h.0 text (test_by (is_text h.0 text) tt x (wrong (bad_in p) h.0) h.2).0))
-    (λ ws x rest h. (text, h, rw (text_same text) refl))
+    (same_text h.0 text (test_by (is_text h.0 text) tt x (wrong (bad_in p) h.0) h.2).0))
+    (λ ws x rest h. (text, h, rw (text_itself text) refl))
     (item_exact (missing_in p) (is_marked text (bad_in p)))
 
 -- ---- parameters
@@ -97,13 +93,16 @@ parts_mean [] (x ∷ xs) h = absurd h
 parts_mean (w ∷ ws) [] h = absurd h
 parts_mean (w ∷ ws) (x ∷ xs) h =
     let k = test_by (is_part w) w x (wrong BadMemberSpec w) h.0 in
-    let o = parts_mean ws xs h.1 in
-    (ap (λ (v : List ℕ). v ∷ ws) k.1 ∙ ap (λ (l : List (List ℕ)). x ∷ l) o.0, both_true (is_part w) (list_all is_part ws) k.0 o.1)
+    let o = parts_mean ws xs h.1 in (
+      ap (λ (v : List ℕ). v ∷ ws) k.1
+          ∙ ap (λ (l : List (List ℕ)). x ∷ l) o.0,
+      and_from (is_part w) (list_all is_part ws) k.0 o.1,
+    )
 
 mean_parts : (xs : List (List ℕ)) → IsTrue (list_all is_part xs) → Mean (passing is_part BadMemberSpec) xs xs
 mean_parts [] h = tt
 mean_parts (x ∷ xs) h =
-    let k = and_left (is_part x) (list_all is_part xs) h in (rw k.0 refl, mean_parts xs k.1)
+    let k = and_parts (is_part x) (list_all is_part xs) h in (rw k.0 refl, mean_parts xs k.1)
 
 types_exact : Exact types Types
 unfolding types
@@ -157,7 +156,7 @@ arguments_back : (ws types rest : List (List ℕ)) → Arguments ws types rest
     → Next (λ word. is_text word (codes ")")) (λ us y vs. (y ≡ []) × (us ≡ vs)) Closed ws types rest
 arguments_back ws [] rest h = inl (codes ")", rest, h.0, refl, (refl, refl))
 arguments_back ws (x ∷ xs) rest h =
-    let k = and_left (is_part x) (list_all is_part xs) h.1 in
+    let k = and_parts (is_part x) (list_all is_part xs) h.1 in
     inr (
       ap (starts (λ word. is_text word (codes ")"))) h.0
           ∙ first_joined x xs (codes ")" ∷ rest) (λ word. is_text word (codes ")"))
@@ -166,9 +165,10 @@ arguments_back ws (x ∷ xs) rest h =
     )
 
 arguments_there : (ws types rest : List (List ℕ))
-    → Next (λ word. is_text word (codes ")")) (λ us y vs. (y ≡ []) × (us ≡ vs)) Closed ws types rest → Arguments ws types rest
+    → Next (λ word. is_text word (codes ")")) (λ us y vs. (y ≡ []) × (us ≡ vs)) Closed ws types rest
+    → Arguments ws types rest
 arguments_there ws types rest (inl y) = (
-  y.2 ∙ ap (λ (w : List ℕ). w ∷ y.1) (text_is y.0 (codes ")") y.3)
+  y.2 ∙ ap (λ (w : List ℕ). w ∷ y.1) (same_text y.0 (codes ")") y.3)
       ∙ ap (λ (l : List (List ℕ)). codes ")" ∷ l) y.4.1
       ∙ ap (λ (l : List (List ℕ)). joined l ++ codes ")" ∷ rest) (sym y.4.0),
   ap (list_all is_part) y.4.0,
@@ -196,8 +196,9 @@ taken_there : (ws : List (List ℕ)) (args : Option (List (List ℕ))) (rest : L
 taken_there ws args rest (inl y) =
     let a = y.4 in
     subst (λ (z : Option (List (List ℕ))). MayTake ws z rest) (sym a.3.0) (
-      y.2 ∙ ap (λ (w : List ℕ). w ∷ y.1) (text_is y.0 (codes "(") y.3)
-          ∙ ap (λ (l : List (List ℕ)). codes "(" ∷ l) (a.2.0 ∙ ap (λ (l : List (List ℕ)). joined a.0 ++ codes ")" ∷ l) a.3.1),
+      y.2 ∙ ap (λ (w : List ℕ). w ∷ y.1) (same_text y.0 (codes "(") y.3)
+          ∙ ap (λ (l : List (List ℕ)). codes "(" ∷ l)
+          (a.2.0 ∙ ap (λ (l : List (List ℕ)). joined a.0 ++ codes ")" ∷ l) a.3.1),
       a.2.1,
     )
 taken_there ws args rest (inr n) =
@@ -259,7 +260,8 @@ member_raw names = bind_exact _ (flags_exact Member) (λ flags. bind_exact _ (ex
     (λ first. bind_exact _ (form_exact names first) (λ form. bind_exact _ (mark_exact Member (codes ";"))
     (λ _. give_exact _))))
 
-form_is : (ty ty' : Option (List ℕ)) (name name' : List ℕ) (args args' : Option (List (List ℕ))) → ty ≡ ty' → name ≡ name'
+form_is : (ty ty' : Option (List ℕ)) (name name' : List ℕ) (args args' : Option (List (List ℕ))) → ty ≡ ty'
+    → name ≡ name'
     → args ≡ args' → (let F : Form = (ty, name, args) in F) ≡ (ty', name', args')
 form_is ty ty' name name' args args' p q r i = (p i, q i, r i)
 
@@ -276,7 +278,8 @@ record Formed (names : List Filter) (ws : List (List ℕ)) (form : Form) (rest :
   pub is : IsForm names words form.0 form.1 form.2
 
 any_formed : (names : List Filter) (first : List ℕ) (ws : List (List ℕ)) (form : Form) (rest : List (List ℕ))
-    → starts (λ word. is_any_member first && is_text word (codes ";")) ws ≡ true → form ≡ (None, first, None) → ws ≡ rest
+    → starts (λ word. is_any_member first && is_text word (codes ";")) ws ≡ true → form ≡ (None, first, None)
+    → ws ≡ rest
     → Formed names (first ∷ ws) form rest
 any_formed names first ws form rest t f e =
     let k = passing_first _ ws t in
@@ -284,20 +287,22 @@ any_formed names first ws form rest t f e =
       words = first ∷ [];
       spelled = ap (λ (l : List (List ℕ)). first ∷ l) e;
       is = subst (λ (z : Form). IsForm names (first ∷ []) z.0 z.1 z.2) (sym f)
-          (inl (record { spelled = refl; known = (and_left _ _ k.3).0; no_type = refl; no_arguments = refl }));
+          (inl (record { spelled = refl; known = (and_parts _ _ k.3).0; no_type = refl; no_arguments = refl }));
     }
 
 makes_formed : (names : List Filter) (first w : List ℕ) (ws mid : List (List ℕ)) (form : Form) (rest : List (List ℕ))
-    → IsTrue (is_part first) → IsNoFlag first → ws ≡ w ∷ mid → (is_constructor names first && is_text w (codes "(")) ≡ true
+    → IsTrue (is_part first) → IsNoFlag first → ws ≡ w ∷ mid
+    → (is_constructor names first && is_text w (codes "(")) ≡ true
     → Makes mid form rest → Formed names (first ∷ ws) form rest
 makes_formed names first w ws mid form rest p n e t h =
-    let k = and_left _ _ t in
+    let k = and_parts _ _ t in
     let params : List (List ℕ) = codes "(" ∷ (joined h.0 ++ codes ")" ∷ []) in
-    let inside : mid ≡ (joined h.0 ++ codes ")" ∷ []) ++ rest = h.2.0 ∙ ap (λ (l : List (List ℕ)). joined h.0 ++ codes ")" ∷ l) h.3.1
+    let inside : mid ≡ (joined h.0 ++ codes ")" ∷ []) ++ rest = h.2.0
+    ∙ ap (λ (l : List (List ℕ)). joined h.0 ++ codes ")" ∷ l) h.3.1
     ∙ sym (append_assoc (joined h.0) (codes ")" ∷ []) rest) in
     record {
       words = first ∷ params;
-      spelled = ap (λ (l : List (List ℕ)). first ∷ l) (e ∙ ap (λ (v : List ℕ). v ∷ mid) (text_is w (codes "(") k.1)
+      spelled = ap (λ (l : List (List ℕ)). first ∷ l) (e ∙ ap (λ (v : List ℕ). v ∷ mid) (same_text w (codes "(") k.1)
           ∙ ap (λ (l : List (List ℕ)). codes "(" ∷ l) inside);
       is = subst (λ (z : Form). IsForm names (first ∷ params) z.0 z.1 z.2) (sym h.3.0) (inr (inl (record {
         first = first;
@@ -320,7 +325,8 @@ record Given (ws : List (List ℕ)) (args : Option (List (List ℕ))) (rest : Li
   pub spelled : ws ≡ words ++ rest
   pub is : AnyArguments words args
 
-given_by : (ws : List (List ℕ)) (args : Option (List (List ℕ))) (rest : List (List ℕ)) → MayTake ws args rest → Given ws args rest
+given_by : (ws : List (List ℕ)) (args : Option (List (List ℕ))) (rest : List (List ℕ)) → MayTake ws args rest
+    → Given ws args rest
 given_by ws None rest h = record { words = []; spelled = h.0; is = refl }
 given_by ws (Some types) rest h = record {
   words = codes "(" ∷ (joined types ++ codes ")" ∷ []);
@@ -366,7 +372,8 @@ record Fits (names : List Filter) (ws : List (List ℕ)) (m : MemberSpec) (rest 
 abbrev member_of : List Filter → Form → MemberSpec
 member_of flags form = record { flags = flags; ty = form.0; name = form.1; args = form.2 }
 
-member_there : (names : List Filter) (ws : List (List ℕ)) (m : MemberSpec) (rest : List (List ℕ)) → Reads names ws m rest
+member_there : (names : List Filter) (ws : List (List ℕ)) (m : MemberSpec) (rest : List (List ℕ))
+    → Reads names ws m rest
     → Fits names ws m rest
 member_there names ws m rest h =
     let flags = h.2 in
@@ -379,7 +386,8 @@ member_there names ws m rest h =
     record {
       part = flags.words ++ (f.words ++ codes ";" ∷ []);
       spelled = flags.spelled
-          ∙ ap (λ (l : List (List ℕ)). flags.words ++ l) (first.0 ∙ f.spelled ∙ ap (λ (l : List (List ℕ)). f.words ++ l) tail
+          ∙ ap (λ (l : List (List ℕ)). flags.words ++ l)
+          (first.0 ∙ f.spelled ∙ ap (λ (l : List (List ℕ)). f.words ++ l) tail
           ∙ sym (append_assoc f.words (codes ";" ∷ []) rest))
           ∙ sym (append_assoc flags.words (f.words ++ codes ";" ∷ []) rest);
       is = subst (IsMember names (flags.words ++ (f.words ++ codes ";" ∷ []))) (sym end.3.0) (record {
@@ -392,10 +400,6 @@ member_there names ws m rest h =
     }
 
 -- ---- and back
-
-or_by : (a b : Bool) (P : Type 0) → (a ≡ true → P) → (b ≡ true → P) → (a || b) ≡ true → P
-or_by true b P f g h = f refl
-or_by false b P f g h = g h
 
 star : IsNoFlag (codes "*")
 unfolding is_class_flag is_own_flag
@@ -413,9 +417,9 @@ methods = refl
 any_part : (w : List ℕ) → IsTrue (is_any_member w) → IsTrue (is_part w) × IsNoFlag w
 any_part w h = or_by _ (is_text w (codes "<methods>")) _
     (or_by (is_text w (codes "*")) (is_text w (codes "<fields>")) _
-    (λ e. rw (text_is w (codes "*") e) (refl, star))
-    (λ e. rw (text_is w (codes "<fields>") e) (refl, fields)))
-    (λ e. rw (text_is w (codes "<methods>") e) (refl, methods)) h
+    (λ e. rw (same_text w (codes "*") e) (refl, star))
+    (λ e. rw (same_text w (codes "<fields>") e) (refl, fields)))
+    (λ e. rw (same_text w (codes "<methods>") e) (refl, methods)) h
 
 -- the words of a form, as they are read
 record Splits (names : List Filter) (words : List (List ℕ)) (form : Form) (rest : List (List ℕ)) : Type 0 where
@@ -438,7 +442,7 @@ any_splits names words ty name args rest a =
       pattern = k.0;
       no_flag = k.1;
       are = inl (
-        both_true (is_any_member name) (is_text (codes ";") (codes ";")) a.known refl,
+        and_from (is_any_member name) (is_text (codes ";") (codes ";")) a.known refl,
         (form_is ty None name name args None a.no_type refl a.no_arguments, refl),
       );
     }
@@ -463,7 +467,7 @@ constructor_splits names words ty name args rest a =
           codes "(",
           joined a.types ++ codes ")" ∷ codes ";" ∷ rest,
           inside,
-          both_true (is_constructor names a.first) (is_text (codes "(") (codes "(")) a.known refl,
+          and_from (is_constructor names a.first) (is_text (codes "(") (codes "(")) a.known refl,
           (
             a.types,
             codes ";" ∷ rest,
@@ -495,7 +499,8 @@ typed_splits names words ty name args rest a = record {
   are = inr (
     and_none (is_any_member a.first) (is_text name (codes ";")) (other name (codes ";") is_part refl a.name_pattern),
     inr (
-      and_none (is_constructor names a.first) (is_text name (codes "(")) (other name (codes "(") is_part refl a.name_pattern),
+      and_none (is_constructor names a.first) (is_text name (codes "("))
+          (other name (codes "(") is_part refl a.name_pattern),
       (
         name,
         a.parameters ++ codes ";" ∷ rest,
@@ -555,7 +560,8 @@ abbrev is_brace : List ℕ → Bool
 is_brace word = is_text word (codes "}")
 
 -- members, and a closing brace
-pub record AllFit (names : List Filter) (ws : List (List ℕ)) (ms : List MemberSpec) (rest : List (List ℕ)) : Type 0 where
+pub record AllFit (names : List Filter) (ws : List (List ℕ)) (ms : List MemberSpec)
+    (rest : List (List ℕ)) : Type 0 where
   pub parts : List (List (List ℕ))
   pub spelled : ws ≡ in_order parts ++ codes "}" ∷ rest
   pub each : AllZip (IsMember names) parts ms
@@ -566,11 +572,13 @@ unfolding is_class_flag is_own_flag
 no_flag_brace = refl
 
 no_brace_by : (flags form rest : List (List ℕ)) (first : List ℕ) (more : List (List ℕ)) → form ≡ first ∷ more
-    → IsTrue (is_part first) → IsTrue (list_all (is_flag Member) flags) → starts is_brace (flags ++ (form ++ rest)) ≡ false
+    → IsTrue (is_part first) → IsTrue (list_all (is_flag Member) flags)
+    → starts is_brace (flags ++ (form ++ rest)) ≡ false
 no_brace_by [] form rest first more e p a = ap (λ (l : List (List ℕ)). starts is_brace (l ++ rest)) e
     ∙ other first (codes "}") is_part refl p
 no_brace_by (w ∷ flags) form rest first more e p a =
-    other w (codes "}") (is_flag Member) no_flag_brace (and_left (is_flag Member w) (list_all (is_flag Member) flags) a).0
+    other w (codes "}") (is_flag Member) no_flag_brace
+    (and_parts (is_flag Member w) (list_all (is_flag Member) flags) a).0
 
 no_brace : (names : List Filter) (part : List (List ℕ)) (m : MemberSpec) (rest : List (List ℕ)) → IsMember names part m
     → starts is_brace (part ++ rest) ≡ false
@@ -588,7 +596,7 @@ no_members names p ms q b h =
     let w = passed_is is_brace p (sym (starts_is is_brace p) ∙ b) in
     subst (λ (z : List MemberSpec × Ahead). AllFit names (texts p) z.0 (texts z.1)) e (record {
       parts = [];
-      spelled = w.1 ∙ ap (λ (v : List ℕ). v ∷ texts (passed p)) (text_is w.0 (codes "}") w.2);
+      spelled = w.1 ∙ ap (λ (v : List ℕ). v ∷ texts (passed p)) (same_text w.0 (codes "}") w.2);
       each = tt;
     })
 
@@ -644,7 +652,8 @@ members_only names (part ∷ parts) (m ∷ ms) p rest e a =
     let whole : texts p ≡ part ++ tail = e ∙ append_assoc part (in_order parts) (codes "}" ∷ rest) in
     let one = (member_exact names).only p m tail (record { part = part; spelled = whole; is = a.0 }) in
     let o = members_only names parts ms one.0 rest one.2 a.1 in
-    let b : next_passes is_brace p ≡ false = starts_is is_brace p ∙ ap (starts is_brace) whole ∙ no_brace names part m tail a.0 in
+    let b : next_passes is_brace p ≡ false = starts_is is_brace p ∙ ap (starts is_brace) whole
+    ∙ no_brace names part m tail a.0 in
     (o.0, more_only names p one.0 o.0 m ms b one.1 o.1, o.2)
 
 members_exact : (names : List Filter) → Exact (members names) (AllFit names)
@@ -691,7 +700,8 @@ body_there : (names : List Filter) (ws : List (List ℕ)) (ms : List MemberSpec)
 body_there names [] ms rest none h = inl (refl, h.0)
 body_there names (w ∷ ws) ms rest none h = inr (braces_there names (w ∷ ws) ms rest none h)
 
-braces_back : (names : List Filter) (ws : List (List ℕ)) (ms : List MemberSpec) → InBraces names ws ms → Bodied names ws ms []
+braces_back : (names : List Filter) (ws : List (List ℕ)) (ms : List MemberSpec) → InBraces names ws ms
+    → Bodied names ws ms []
 braces_back names [] ms h = absurd (let e = h.spelled in cc)
 braces_back names (w ∷ ws) ms h =
     let m = h.of_members in (
@@ -705,7 +715,8 @@ none_back : (names : List Filter) (ws : List (List ℕ)) (ms : List MemberSpec) 
     → Bodied names ws ms []
 none_back names ws ms e h = subst (λ (l : List (List ℕ)). Bodied names l ms []) (sym e) (h, refl)
 
-body_back : (names : List Filter) (ws : List (List ℕ)) (ms : List MemberSpec) → IsBody names ws ms → Bodied names ws ms []
+body_back : (names : List Filter) (ws : List (List ℕ)) (ms : List MemberSpec) → IsBody names ws ms
+    → Bodied names ws ms []
 body_back names ws ms (inl n) = none_back names ws ms n.0 n.1
 body_back names ws ms (inr b) = braces_back names ws ms b
 
@@ -767,7 +778,7 @@ filters_mean filtered (w ∷ ws) [] h = absurd h
 filters_mean filtered (w ∷ ws) (f ∷ fs) h =
     let k = test_by (is_filter filtered w) (filter_of w) f (bad_filter filtered w) h.0 in
     let o = filters_mean filtered ws fs h.1 in (
-      both_true (is_filter filtered w) (list_all (is_filter filtered) ws) k.0 o.0,
+      and_from (is_filter filtered w) (list_all (is_filter filtered) ws) k.0 o.0,
       ap (λ (g : Filter). g ∷ fs) (sym k.1) ∙ ap (λ (l : List Filter). filter_of w ∷ l) o.1,
     )
 
@@ -775,7 +786,8 @@ mean_filters : (filtered : Filtered) (ws : List (List ℕ)) → IsTrue (list_all
     → Mean (filter_in filtered) ws (map filter_of ws)
 mean_filters filtered [] h = tt
 mean_filters filtered (w ∷ ws) h =
-    let k = and_left (is_filter filtered w) (list_all (is_filter filtered) ws) h in (rw k.0 refl, mean_filters filtered ws k.1)
+    let k = and_parts (is_filter filtered w) (list_all (is_filter filtered) ws) h in
+    (rw k.0 refl, mean_filters filtered ws k.1)
 
 pub filters_exact : (filtered : Filtered) → Exact (filters filtered) (Listed (filter_in filtered))
 unfolding filters
@@ -810,7 +822,8 @@ class_there ws spec rest none h =
       above = over.words;
       body = h.3.3.3.1;
       spelled = flags.spelled ∙ ap (λ (l : List (List ℕ)). flags.words ++ l) (kind.0
-          ∙ ap (λ (l : List (List ℕ)). h.3.0 ∷ l) (names.spelled ∙ ap (λ (l : List (List ℕ)). joined names.words ++ l) over.spelled));
+          ∙ ap (λ (l : List (List ℕ)). h.3.0 ∷ l)
+          (names.spelled ∙ ap (λ (l : List (List ℕ)). joined names.words ++ l) over.spelled));
       flagged = record { each = flags.each; are = flags.are };
       of_kind = kind.1;
       named = record { patterns = names.words; spelled = refl; some = names.some; each = means.0; are = means.1 };
@@ -825,10 +838,10 @@ kind_by P a b c d w h =
     or_by _ (is_text w (codes "enum")) (P w)
     (or_by _ (is_text w (codes "!interface")) (P w)
     (or_by (is_text w (codes "class")) (is_text w (codes "interface")) (P w)
-    (λ e. subst P (sym (text_is w (codes "class") e)) a)
-    (λ e. subst P (sym (text_is w (codes "interface") e)) b))
-    (λ e. subst P (sym (text_is w (codes "!interface") e)) c))
-    (λ e. subst P (sym (text_is w (codes "enum") e)) d) h
+    (λ e. subst P (sym (same_text w (codes "class") e)) a)
+    (λ e. subst P (sym (same_text w (codes "interface") e)) b))
+    (λ e. subst P (sym (same_text w (codes "!interface") e)) c))
+    (λ e. subst P (sym (same_text w (codes "enum") e)) d) h
 
 -- a kind is no flag
 kind_no_flag : (w : List ℕ) → IsTrue (is_class_kind w) → is_flag Class w ≡ false
@@ -860,7 +873,8 @@ class_back : (ws : List (List ℕ)) (spec : ClassSpec) → IsClassSpec ws spec �
 class_back ws spec h =
     let n = h.named in
     let tail : List (List ℕ) = h.above ++ h.body in
-    let mean : Mean (filter_in texts_of.Classes) n.patterns spec.names = subst (Mean (filter_in texts_of.Classes) n.patterns)
+    let mean : Mean (filter_in texts_of.Classes) n.patterns spec.names =
+    subst (Mean (filter_in texts_of.Classes) n.patterns)
     (sym n.are) (mean_filters texts_of.Classes n.patterns n.each) in (
       spec.flags,
       spec.kind ∷ (h.names ++ tail),
@@ -901,7 +915,7 @@ flags_start : (flags : List (List ℕ)) (kind : List ℕ) (rest : List (List ℕ
     → IsTrue (is_class_kind kind) → starts is_comma (flags ++ kind ∷ rest) ≡ false
 flags_start [] kind rest a k = other kind (codes ",") is_class_kind no_comma_kind k
 flags_start (w ∷ flags) kind rest a k =
-    other w (codes ",") (is_flag Class) no_comma_flag (and_left (is_flag Class w) (list_all (is_flag Class) flags) a).0
+    other w (codes ",") (is_flag Class) no_comma_flag (and_parts (is_flag Class w) (list_all (is_flag Class) flags) a).0
 
 -- a class specification doesn't begin with a comma
 class_starts : (ws : List (List ℕ)) (spec : ClassSpec) → IsClassSpec ws spec → starts is_comma ws ≡ false
@@ -914,7 +928,8 @@ abbrev pub Kept : KeepKind → Bool → List (List ℕ) → Keep → List (List 
 Kept kind shrinking ws k rest = Both (Modified (unmodified shrinking)) (λ m. Both Classed
     (λ spec us y vs. (y ≡ keep_of kind m spec) × (us ≡ vs))) ws k rest
 
-pub keep_exact : (kind : KeepKind) (shrinking : Bool) (option : List ℕ) → Exact (keep kind shrinking option) (Kept kind shrinking)
+pub keep_exact : (kind : KeepKind) (shrinking : Bool) (option : List ℕ)
+    → Exact (keep kind shrinking option) (Kept kind shrinking)
 unfolding keep
 keep_exact kind shrinking option = bind_exact _ (modifiers_exact option (unmodified shrinking))
     (λ m. bind_exact _ class_exact (λ spec. give_exact (keep_of kind m spec)))

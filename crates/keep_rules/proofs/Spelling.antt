@@ -1,9 +1,11 @@
 -- Words by their bytes.
-use Rattle.std.proofs.Common.{◌≡◌, ◌≢◌, ℕ, zero, suc, ◌+◌, ◌≤◌, ◌<◌, ◌||◌, Bool, true, false, cond, List, [], ◌∷◌}
+use Rattle.std.proofs.Common.{◌≡◌, ◌≢◌, ℕ, zero, suc, ◌+◌, ◌≤◌, ◌<◌, Bool, true, false, cond, List, [], ◌∷◌}
 use Rattle.std.proofs.Common.{length, drop, get_or, not, Some, None, refl, ap, arith, eqb}
 use Rattle.std.specs.List.{list_any, position, position_or_len}
 use Rattle.std.proofs.lemmas.List.Sums.{prefix_len-le-length}
-use Rattle.std.proofs.lemmas.Bool.{eqb-true, eq-eqb, ltb-false, ltb-true}
+use Rattle.std.proofs.lemmas.Bool.{eqb-true, eq-eqb, ltb-false, ltb-true, or_right}
+use Rattle.std.proofs.lemmas.Option.{cond_some}
+use Rattle.jv_base.proofs.Options.{none_by}
 use Rattle.keep_rules.specs.Texts.{without_not, last_part}
 
 not_by : (b : ℕ) (word : List ℕ) (t : Bool) → eqb b 33 ≡ t → ((rest : List ℕ) → b ∷ word ≢ 33 ∷ rest)
@@ -37,14 +39,10 @@ unfolding last_part
 last_part_same [] h = refl
 last_part_same (b ∷ name) h = rw (no_dots (b ∷ name) h) refl
 
-or_true : (a b : Bool) → b ≡ true → (a || b) ≡ true
-or_true true b h = refl
-or_true false b h = h
-
 a_dot : (name : List ℕ) (at : ℕ) → at < length name → get_or name at 0 ≡ 46 → list_any is_dot name ≡ true
 a_dot [] at lt h = absurd (omega (arith, lt))
 a_dot (b ∷ name) zero lt h = rw (eq-eqb b 46 h) refl
-a_dot (b ∷ name) (suc at) lt h = or_true (is_dot b) (list_any is_dot name) (a_dot name at (omega (arith, lt)) h)
+a_dot (b ∷ name) (suc at) lt h = or_right (is_dot b) (list_any is_dot name) (a_dot name at (omega (arith, lt)) h)
 
 -- the last part stands behind the last dot
 pub last_part_is : (name : List ℕ) (at : ℕ) → at < length name → get_or name at 0 ≡ 46
@@ -60,18 +58,10 @@ last_part_is (b ∷ name) (suc at) lt h last =
 
 -- ---- places in a list
 
-none_by : (b : Bool) (n : ℕ) → cond b (Some n) None ≡ None → b ≡ false
-none_by true n h = absurd cc
-none_by false n h = refl
-
-some_by : (b : Bool) (n at : ℕ) → cond b (Some n) None ≡ Some at → (b ≡ true) × (n ≡ at)
-some_by true n at h = (refl, cc)
-some_by false n at h = absurd cc
-
 -- where something was found
 pub found_within : {X : Type 0} (p : X → Bool) (xs : List X) (at : ℕ) → position p xs ≡ Some at → at ≤ length xs
 found_within p xs at h =
-    let s = some_by _ _ at h in
+    let s = cond_some _ _ at h in
     omega (arith, s.1, ltb-true _ _ s.0)
 
 -- where nothing was found

@@ -56,7 +56,8 @@ flags_on_by : (part : Part) (missing : RuleKind) (line : ℕ) (words : List Word
 flags_on_by part missing line [] word q h e = absurd cc
 flags_on_by part missing line (first ∷ words) word q h e =
     let is = ok_is (first, ahead first.line words) (word, q) e in
-    subst (λ (z : Word × Ahead). flags_of part line (first ∷ words) ≡ put_before (filter_of z.0.text) (flags_of part z.1.line z.1.words))
+    subst (λ (z : Word × Ahead). flags_of part line (first ∷ words)
+    ≡ put_before (filter_of z.0.text) (flags_of part z.1.line z.1.words))
     is (rw h refl)
 
 -- a flag is read, and then others
@@ -118,7 +119,8 @@ list_by missing meaning line word (comma ∷ words) (Ok x) e = (
   λ h. list_two missing meaning line word comma words (Ok x) e ∙ rw h refl,
   λ h. list_two missing meaning line word comma words (Ok x) e ∙ rw h refl,
 )
-list_by missing meaning line word (comma ∷ words) (Err kind) e = list_two missing meaning line word comma words (Err kind) e
+list_by missing meaning line word (comma ∷ words) (Err kind) e =
+    list_two missing meaning line word comma words (Err kind) e
 
 list_on_by : {A : Type 0} (missing : RuleKind) (meaning : List ℕ → Result A RuleKind) (line : ℕ) (words : List Word)
     → ListOn missing meaning (list_of missing meaning line words) (item missing meaning (ahead line words))
@@ -134,7 +136,8 @@ list_on missing meaning p = list_on_by missing meaning p.line p.words
 
 -- ---- modifiers
 
-modifiers_end_by : (option : List ℕ) (m : Modifiers) (line : ℕ) (words : List Word) → first_passes is_comma words ≡ false
+modifiers_end_by : (option : List ℕ) (m : Modifiers) (line : ℕ) (words : List Word)
+    → first_passes is_comma words ≡ false
     → modifiers_of option m line words ≡ Ok (m, ahead line words)
 modifiers_end_by option m line [] h = refl
 modifiers_end_by option m line (comma ∷ []) h = rw h refl
@@ -153,13 +156,15 @@ ModifiersOn option read (Err f) = read ≡ Err f
 
 modifier_by : (option : List ℕ) (m : Modifiers) (line : ℕ) (comma word : Word) (words : List Word)
     (d : Result Modifiers RuleKind) → is_comma comma.text ≡ true → modifier_of option m word.text ≡ d
-    → ModifiersOn option (modifiers_of option m line (comma ∷ word ∷ words)) (settled word.line d (ahead word.line words))
+    → ModifiersOn option (modifiers_of option m line (comma ∷ word ∷ words))
+    (settled word.line d (ahead word.line words))
 unfolding modifiers bind item next_word
 modifier_by option m line comma word words (Ok more) h e = rw (h, e) refl
 modifier_by option m line comma word words (Err kind) h e = rw (h, e) refl
 
 modifiers_on_by : (option : List ℕ) (m : Modifiers) (line : ℕ) (words : List Word) → first_passes is_comma words ≡ true
-    → ModifiersOn option (modifiers_of option m line words) (item MissingName (modifier_of option m) (behind_first line words))
+    → ModifiersOn option (modifiers_of option m line words)
+    (item MissingName (modifier_of option m) (behind_first line words))
 unfolding bind item next_word
 modifiers_on_by option m line [] h = absurd cc
 modifiers_on_by option m line (comma ∷ []) h = rw h refl

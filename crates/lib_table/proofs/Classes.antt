@@ -21,7 +21,7 @@ use Rattle.lib_table.specs.bodies.Rows.{told_class, told_member}
 use Rattle.lib_table.proofs.Computed.{interfaces_there, few_members}
 use Rattle.std.proofs.lemmas.Bool.{and_parts}
 
-prefix_map : {X Y : Type 0} (f : X → Y) (p : Y → Bool) (xs : List X)
+pub prefix_map : {X Y : Type 0} (f : X → Y) (p : Y → Bool) (xs : List X)
     → prefix_len p (map f xs) ≡ prefix_len (λ x. p (f x)) xs
 prefix_map f p [] = refl
 prefix_map f p (x ∷ xs) = ap (λ n. cond (p (f x)) (1 + n) 0) (prefix_map f p xs)

@@ -1,6 +1,6 @@
 -- No method overrides a field; and what is selected has the name and the descriptor of what was found.
-use Rattle.std.proofs.Common.{◌≡◌, ◌∙◌, Bool, true, false, cond, not, ◌&&◌, ◌||◌, List, [], ◌∷◌, Option, Some, None, refl}
-use Rattle.std.proofs.Common.{sym, ap, subst}
+use Rattle.std.proofs.Common.{◌≡◌, ◌∙◌, Bool, true, false, cond, not, ◌&&◌, ◌||◌, List, [], ◌∷◌, Option, Some, None}
+use Rattle.std.proofs.Common.{refl, sym, ap, subst}
 use Rattle.std.specs.Prelude.{IfSome, if◌then◌else◌}
 use Rattle.std.specs.List.{AllByRecursion, find, list_any}
 use Rattle.std.specs.Option.{option_map_or}
@@ -8,9 +8,9 @@ use Rattle.class_model.specs.Flags.{is_init, is_static}
 use Rattle.class_model.specs.declared.class.Class.{Class}
 use Rattle.class_pool.specs.declared.id.ClassId.{ClassId}
 use Rattle.class_pool.specs.declared.id.MemberAt.{MemberAt}
-use Rattle.class_pool.specs.Found.{MemberRow, NameAndType, declared_by, declared_in, is_instance_method, is_instance_row}
-use Rattle.class_pool.specs.Found.{is_method_at, is_private_member, is_protected_member, is_public_member, named_at}
-use Rattle.class_pool.specs.Found.{row_at, same_member, same_package}
+use Rattle.class_pool.specs.Found.{MemberRow, NameAndType, declared_by, declared_in, is_instance_method}
+use Rattle.class_pool.specs.Found.{is_instance_row, is_method_at, is_private_member, is_protected_member}
+use Rattle.class_pool.specs.Found.{is_public_member, named_at, row_at, same_member, same_package}
 use Rattle.class_pool.specs.Resolution.{first, is_interface_in}
 use Rattle.class_pool.specs.Selection.{first_instance, may_be_overridden, may_override, overriding, overriding_from}
 use Rattle.class_pool.specs.Selection.{selected, with_nearest}

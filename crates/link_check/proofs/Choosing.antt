@@ -1,10 +1,9 @@
 -- Which one of the methods of superinterfaces is chosen.
-use Rattle.std.proofs.Common.{◌≡◌, ◌∙◌, ◌&&◌, not, Bool, true, false, cond, eqb, List, [], ◌∷◌, Option, Some, None}
+use Rattle.std.proofs.Common.{◌≡◌, ◌∙◌, ◌&&◌, not, Bool, true, false, cond, List, [], ◌∷◌, Option, Some, None}
 use Rattle.std.proofs.Common.{IfSome, refl, sym, ap}
 use Rattle.std.specs.Iterator.{YieldsFirst}
 use Rattle.std.specs.List.{All, filter, list_all, list_any}
 use Rattle.std.specs.Option.{option_and_then}
-use Rattle.std.proofs.lemmas.Bool.{eq-eqb}
 use Rattle.std.proofs.lemmas.List.Elements.{All-filter, All-head, All-same}
 use Rattle.class_model.specs.declared.class.Class.{Class}
 use Rattle.class_pool.specs.declared.id.ClassId.{ClassId}
@@ -19,7 +18,7 @@ use Rattle.link_check.proofs.Alike.{Alike, alike_any, alike_all, alike_filter, a
 use Rattle.link_check.proofs.Alike.{alike_flat_map, alike_once}
 use Rattle.class_pool.proofs.Declaring.{all_declared}
 use Rattle.link_check.proofs.Interfaces.{superinterfaces_there}
-use Rattle.class_pool.proofs.EachOnce.{same_itself}
+use Rattle.class_pool.proofs.Among.{member_itself}
 
 -- ---- the lists of what is met
 
@@ -42,9 +41,6 @@ subinterface_met classes a b = alike_any (same_class b) (superinterfaces_met cla
     (interfaces_alike classes a)
 
 -- ---- the only one
-
-member_itself : (m : MemberAt) → same_member m m ≡ true
-member_itself m = ap (λ b. b && eqb m.index m.index) (same_itself m.class) ∙ eq-eqb m.index m.index refl
 
 one_by_first : (classes : List Class) (xs : List MemberAt)
     → only_one classes xs ≡ option_and_then (λ m. cond (list_all (same_member m) xs) (Some m) None) (first xs)

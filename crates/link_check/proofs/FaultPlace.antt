@@ -1,5 +1,5 @@
 -- The place of the first fault is there.
-use Rattle.std.proofs.Common.{◌≡◌, ℕ, zero, suc, ◌+◌, ◌<◌, List, [], ◌∷◌, ◌++◌, length, Option, Some, None, IfSome}
+use Rattle.std.proofs.Common.{◌≡◌, ℕ, ◌+◌, ◌<◌, List, ◌++◌, length, Option, Some, None, IfSome}
 use Rattle.std.proofs.Common.{refl, sym, subst, ◌∙◌, arith}
 use Rattle.std.specs.List.{enumerate_from, filter_map, flat_map}
 use Rattle.std.specs.Option.{option_map, option_or}
@@ -13,44 +13,7 @@ use Rattle.link_check.specs.declared.fault.ProfileFault.{ProfileFault}
 use Rattle.link_check.specs.declared.fault.ProfileKind.{ProfileKind}
 use Rattle.link_check.specs.Profile.{IsPlace, fault_at, faults_of, kinds_of_class, kinds_of_field, kinds_of_method}
 use Rattle.link_check.specs.Profile.{least}
-use Rattle.link_check.proofs.First.{first_append, first_flat, first_option}
-
--- the element of a numbered list that gives the first result
-record From {X Y : Type 0} (h : ℕ × X → Option Y) (n : ℕ) (xs : List X) (y : Y) : Type 0 where
-  at : ℕ
-  number : ℕ
-  counted : number ≡ n + at
-  element : X
-  stands : slice_get xs at ≡ Some element
-  gives : h (number, element) ≡ Some y
-
-later : {X Y : Type 0} (h : ℕ × X → Option Y) (n : ℕ) (x : X) (xs : List X) (y : Y) → From h (n + 1) xs y
-    → From h n (x ∷ xs) y
-later h n x xs y f =
-    let e = f.counted in
-    record {
-      at = suc f.at;
-      number = f.number;
-      counted = omega
-          (arith, e);
-      element = f.element;
-      stands = f.stands;
-      gives = f.gives;
-    }
-
-one_from : {X Y : Type 0} (h : ℕ × X → Option Y) (n : ℕ) (x : X) (xs : List X) (y : Y) (o rest : Option Y)
-    → h (n, x) ≡ o → option_or o rest ≡ Some y
-    → (rest ≡ Some y → From h (n + 1) xs y) → From h n (x ∷ xs) y
-one_from h n x xs y (Some z) rest gives is others =
-    record { at = zero; number = n; counted = omega arith; element = x; stands = refl; gives = gives ∙ is }
-one_from h n x xs y None rest gives is others = later h n x xs y (others is)
-
-from_list : {X Y : Type 0} (h : ℕ × X → Option Y) (n : ℕ) (xs : List X) (y : Y)
-    → first (filter_map h (enumerate_from n xs)) ≡ Some y → From h n xs y
-from_list h n [] y is = absurd cc
-from_list h n (x ∷ xs) y is =
-    one_from h n x xs y (h (n, x)) (first (filter_map h (enumerate_from (n + 1) xs))) refl
-    (sym (first_option (h (n, x)) (filter_map h (enumerate_from (n + 1) xs))) ∙ is) (from_list h (n + 1) xs y)
+use Rattle.link_check.proofs.First.{first_append, first_flat, first_option, From, from_list}
 
 -- ---- faults
 

@@ -1,6 +1,6 @@
 -- The first fault of the elements of a list.
 use Rattle.std.proofs.Common.{◌≡◌, ℕ, ◌+◌, ◌<◌, ◌≤◌, true, false, List, [], ◌∷◌, ◌++◌, length, drop, Option, Some, None}
-use Rattle.std.proofs.Common.{refl, sym, ap, ◌∙◌, arith}
+use Rattle.std.proofs.Common.{refl, sym, ap, ◌∙◌, arith, zero, suc}
 use Rattle.std.specs.List.{cons_option, enumerate_from, filter_map, flat_map}
 use Rattle.std.specs.Option.{is_some, option_map, option_or}
 use Rattle.std.specs.Prelude.{slice_get}
@@ -75,6 +75,80 @@ pub first_over : {X Y : Type 0} (h : ℕ × X → Option Y) (n : ℕ) (xs : List
     → first_from h n xs i ≡ None
 first_over {X = X} {Y = Y} h n xs i over = ap (λ (ys : List X). first (filter_map h (enumerate_from (n + i) ys)))
     (drop_all i xs over)
+
+-- ---- the element of a numbered list that gives the first result
+
+-- those before it give none
+pub record From {X Y : Type 0} (h : ℕ × X → Option Y) (n : ℕ) (xs : List X) (y : Y) : Type 0 where
+  pub at : ℕ
+  pub number : ℕ
+  pub counted : number ≡ n + at
+  pub element : X
+  pub stands : slice_get xs at ≡ Some element
+  pub gives : h (number, element) ≡ Some y
+  pub before : (k i : ℕ) (x : X) → k ≡ n + i → i < at → slice_get xs i ≡ Some x → h (k, x) ≡ None
+
+none_before : {X Y : Type 0} (h : ℕ × X → Option Y) (n : ℕ) (x : X) (xs : List X) (at : ℕ) → h (n, x) ≡ None
+    → ((k i : ℕ) (z : X) → k ≡ n + 1 + i → i < at → slice_get xs i ≡ Some z → h (k, z) ≡ None)
+    → (k i : ℕ) (z : X) → k ≡ n + i → i < suc at → slice_get (x ∷ xs) i ≡ Some z → h (k, z) ≡ None
+none_before {X} h n x xs at none others k zero z e lt is =
+    let same : x ≡ z = cc in
+    let here : k ≡ n = omega (arith, e) in
+    ap (λ (m : ℕ). h (m, z)) here ∙ ap (λ (w : X). h (n, w)) (sym same) ∙ none
+none_before h n x xs at none others k (suc i) z e lt is = others k i z (omega (arith, e)) (omega (arith, lt)) is
+
+later : {X Y : Type 0} (h : ℕ × X → Option Y) (n : ℕ) (x : X) (xs : List X) (y : Y) → h (n, x) ≡ None
+    → From h (n + 1) xs y → From h n (x ∷ xs) y
+later h n x xs y none f =
+    let e = f.counted in
+    record {
+      at = suc f.at;
+      number = f.number;
+      counted = omega (arith, e);
+      element = f.element;
+      stands = f.stands;
+      gives = f.gives;
+      before = none_before h n x xs f.at none f.before;
+    }
+
+one_from : {X Y : Type 0} (h : ℕ × X → Option Y) (n : ℕ) (x : X) (xs : List X) (y : Y) (o : Option Y) (rest : List Y)
+    → h (n, x) ≡ o → first (cons_option o rest) ≡ Some y → (first rest ≡ Some y → From h (n + 1) xs y)
+    → From h n (x ∷ xs) y
+one_from h n x xs y (Some z) rest gives is others = record {
+  at = zero;
+  number = n;
+  counted = omega arith;
+  element = x;
+  stands = refl;
+  gives = gives ∙ is;
+  before = λ k i w e lt at. absurd (omega (arith, lt));
+}
+one_from h n x xs y None rest gives is others = later h n x xs y gives (others is)
+
+pub from_list : {X Y : Type 0} (h : ℕ × X → Option Y) (n : ℕ) (xs : List X) (y : Y)
+    → first (filter_map h (enumerate_from n xs)) ≡ Some y → From h n xs y
+from_list h n [] y is = absurd cc
+from_list h n (x ∷ xs) y is =
+    one_from h n x xs y (h (n, x)) (filter_map h (enumerate_from (n + 1) xs)) refl is (from_list h (n + 1) xs y)
+
+none_at : {X Y : Type 0} (h : ℕ × X → Option Y) (n : ℕ) (x : X) (o : Option Y) (rest : List Y) → h (n, x) ≡ o
+    → first (cons_option o rest) ≡ None → (h (n, x) ≡ None) × (first rest ≡ None)
+none_at h n x (Some z) rest gives is = absurd cc
+none_at h n x None rest gives is = (gives, is)
+
+-- where there is no first result none is given
+pub none_in : {X Y : Type 0} (h : ℕ × X → Option Y) (n : ℕ) (xs : List X)
+    → first (filter_map h (enumerate_from n xs)) ≡ None
+    → (k i : ℕ) (x : X) → k ≡ n + i → slice_get xs i ≡ Some x → h (k, x) ≡ None
+none_in h n [] none k i x e is = absurd cc
+none_in {X} h n (y ∷ ys) none k zero x e is =
+    let both = none_at h n y (h (n, y)) (filter_map h (enumerate_from (n + 1) ys)) refl none in
+    let same : y ≡ x = cc in
+    let here : k ≡ n = omega (arith, e) in
+    ap (λ (m : ℕ). h (m, x)) here ∙ ap (λ (z : X). h (n, z)) (sym same) ∙ both.0
+none_in h n (y ∷ ys) none k (suc i) x e is =
+    let both = none_at h n y (h (n, y)) (filter_map h (enumerate_from (n + 1) ys)) refl none in
+    none_in h (n + 1) ys both.1 k i x (omega (arith, e)) is
 
 -- ---- faults
 

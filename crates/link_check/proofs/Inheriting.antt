@@ -7,7 +7,8 @@ use Rattle.std.specs.List.{cons_option, find, flat_map, list_any}
 use Rattle.std.specs.Option.{option_map_or}
 use Rattle.std.proofs.lemmas.List.{append-nil}
 use Rattle.std.proofs.lemmas.List.Concat.{flat_map-append}
-use Rattle.std.proofs.lemmas.Bool.{eq-eqb, eqb-true}
+use Rattle.std.proofs.lemmas.Bool.{eq-eqb, eqb-true, or_parts}
+use Rattle.jv_base.proofs.Lists.{nil_parts}
 use Rattle.class_model.specs.Flags.{acc_final, has}
 use Rattle.class_model.specs.declared.class.Class.{Class}
 use Rattle.class_model.specs.declared.class.Field.{Field}
@@ -44,14 +45,6 @@ use Rattle.link_check.proofs.OverridingLaws.{class_Decides, declared_class}
 use Rattle.link_check.proofs.Walks.{flat_filter}
 
 -- ---- lists
-
-or_none : (a b : Bool) → (a || b) ≡ false → (a ≡ false) × (b ≡ false)
-or_none true b is = absurd cc
-or_none false b is = (refl, is)
-
-pub nil_parts : {A : Type 0} (xs ys : List A) → xs ++ ys ≡ [] → (xs ≡ []) × (ys ≡ [])
-nil_parts [] ys is = (refl, is)
-nil_parts (x ∷ xs) ys is = absurd cc
 
 -- where the one has nothing of each element, the other has nothing
 none_then : {X A B : Type 0} (f : X → List A) (g : X → List B) → ((x : X) → f x ≡ [] → g x ≡ []) → (xs : List X)
@@ -205,8 +198,9 @@ row_none : (rows : List MemberRow) (i : ℕ) → option_map_or (λ row. row.is_m
     → list_any (λ row. row.is_method && has acc_final row.flags) rows ≡ false
     → option_map_or (λ row. has acc_final row.flags) (slice_get rows i) false ≡ false
 row_none [] i is none = refl
-row_none (row ∷ rows) zero is none = row_here row is (or_none _ _ none).0
-row_none (row ∷ rows) (suc i) is none = row_none rows i is (or_none (row.is_method && has acc_final row.flags) _ none).1
+row_none (row ∷ rows) zero is none = row_here row is (or_parts _ _ none).0
+row_none (row ∷ rows) (suc i) is none =
+    row_none rows i is (or_parts (row.is_method && has acc_final row.flags) _ none).1
 
 final_none : (classes : List Class) (n : ℕ) (c : Class) (y : MemberAt) → slice_get classes n ≡ Some c
     → has_final_method c ≡ false → y.class ≡ Prog n
@@ -372,7 +366,3 @@ no_option (Some k) b some is = absurd cc
 pub fits_if : (classes : List Class) (n : ℕ) (o : Option ProfileKind) (b : Bool) → o ≡ least (running_kinds classes n)
     → is_some o ≡ not b → b ≡ true → Fits classes n
 fits_if classes n o b is some none = none_fits classes n o is (no_option o b some none)
-
-pub not_true : (b : Bool) → not b ≡ true → b ≡ false
-not_true true is = absurd cc
-not_true false is = refl

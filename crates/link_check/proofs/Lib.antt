@@ -1,10 +1,10 @@
 mod FaultPlace
-mod First
+pub mod First
 mod Frames
 mod Inheriting
 pub mod Least
 mod Likes
-mod Methods
+pub mod Methods
 mod Once
 mod Walks
 pub mod Alike

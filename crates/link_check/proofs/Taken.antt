@@ -5,6 +5,7 @@ use Rattle.std.specs.List.{cons_option, enumerate_from, filter_map, flat_map}
 use Rattle.std.specs.Option.{option_map}
 use Rattle.std.specs.Prelude.{slice_get}
 use Rattle.std.proofs.lemmas.Option.{same_Some}
+use Rattle.jv_base.proofs.Lists.{nil_parts}
 use Rattle.class_model.specs.declared.class.Class.{Class}
 use Rattle.class_model.specs.declared.class.Field.{Field}
 use Rattle.class_model.specs.declared.class.Method.{Method}
@@ -14,7 +15,6 @@ use Rattle.link_check.specs.declared.fault.ProfileKind.{ProfileKind}
 use Rattle.link_check.specs.Profile.{fault_at, faults_of, kinds_of_class, kinds_of_field, kinds_of_method, least}
 use Rattle.link_check.specs.Profile.{links_checked}
 use Rattle.link_check.specs.Taken.{BreaksNoRule}
-use Rattle.link_check.proofs.Inheriting.{nil_parts}
 use Rattle.link_check.proofs.Least.{least_empty}
 
 first_none : {A : Type 0} (xs : List A) → first xs ≡ None → xs ≡ []

@@ -1,17 +1,17 @@
 -- Lists that have a limit.
-use Rattle.std.proofs.Common.{◌≡◌, ◌≤◌, ◌<◌, ℕ, zero, suc, ◌+◌, Bool, cond, List, [], ◌∷◌, ◌++◌, length, take, Result, Ok, Err}
-use Rattle.std.proofs.Common.{refl, sym, ap, ◌∙◌, arith, length-append}
+use Rattle.std.proofs.Common.{◌≡◌, ◌≤◌, ◌<◌, ℕ, zero, suc, ◌+◌, Bool, cond, List, [], ◌∷◌, ◌++◌, length, take, Result}
+use Rattle.std.proofs.Common.{Ok, Err, refl, sym, ap, ◌∙◌, arith, length-append}
 use Rattle.std.specs.List.{enumerate_from, flat_map}
 use Rattle.std.proofs.lemmas.List.Concat.{flat_map-append}
 use Rattle.std.proofs.lemmas.Bool.{le-leb, lt-leb}
 use Rattle.jv_base.specs.Outcome.{FaultIs}
 use Rattle.jv_base.specs.declared.outcome.Or.{Or}
 use Rattle.jv_base.specs.declared.outcome.Or.TheVariants.{Fault, OutOfMemory}
+use Rattle.jv_base.proofs.Lists.{front_shorter, enumerate_from-append}
 use Rattle.class_model.specs.declared.class.Class.{Class}
 use Rattle.list_texts.specs.ItemTexts.{item_texts, item_texts_of, up_to}
 use Rattle.list_texts.specs.bodies.Appends.{Appends, IsShort}
 use Rattle.list_texts.specs.declared.limit.TooLong.{TooLong}
-use Rattle.list_texts.proofs.Numbered.{enumerate_from-append}
 
 abbrev text_if : ℕ → List ℕ → Bool → Result (List ℕ) TooLong
 text_if limit text short = cond short (Ok text) (Err (record { limit = limit }))
@@ -21,17 +21,6 @@ too_long limit text long = ap (text_if limit text) (lt-leb (length text) limit l
 
 pub short_enough : (limit : ℕ) (text : List ℕ) → length text ≤ limit → up_to limit text ≡ Ok text
 short_enough limit text short = ap (text_if limit text) (le-leb (length text) limit short)
-
--- what is made of the first elements is no longer than what is made of all
-pub front_shorter : {X : Type 0} (f : X → List ℕ) (xs : List X) (i : ℕ)
-    → length (flat_map f (take i xs)) ≤ length (flat_map f xs)
-front_shorter f xs zero = omega arith
-front_shorter f [] (suc i) = omega arith
-front_shorter f (x ∷ xs) (suc i) =
-    let front = length-append (f x) (flat_map f (take i xs)) in
-    let all = length-append (f x) (flat_map f xs) in
-    let rest = front_shorter f xs i in
-    omega (arith, front, all, rest)
 
 -- the same where the elements are numbered
 pub numbered_shorter : {X : Type 0} (f : ℕ × X → List ℕ) (k : ℕ) (xs : List X) (n : ℕ)

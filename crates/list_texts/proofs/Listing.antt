@@ -6,23 +6,16 @@ use Rattle.std.specs.Option.{option_map}
 use Rattle.std.proofs.lemmas.Bool.{cases_lt}
 use Rattle.std.proofs.lemmas.List.{length-map, length-take-le, take_all}
 use Rattle.std.proofs.lemmas.List.Concat.{flat_map-append}
-use Rattle.std.proofs.lemmas.List.Sums.{sum_by-cons, sum_by_push, sum_by-take-le}
+use Rattle.std.proofs.lemmas.List.Sums.{sum_by-cons}
 use Rattle.std.proofs.lemmas.Option.{slice_get-map, slice_get-get_or, slice_get_within}
+use Rattle.jv_base.proofs.Lists.{got_left, got_right, take_got, enumerate_from-append}
 use Rattle.class_model.specs.declared.class.Class.{Class}
 use Rattle.class_pool.specs.Count.{item_count, items_of}
 use Rattle.class_pool.specs.Items.{class_item}
 use Rattle.report_text.specs.Spelled.{field_text, member_texts, method_text}
 use Rattle.list_texts.specs.ItemTexts.{item_texts, item_texts_of, member_text_of}
-use Rattle.list_texts.proofs.Numbered.{enumerate_from-append, take_at}
 
 -- ---- numbers
-
-pub class_item-next : (classes : List Class) (n : ℕ) (c : Class) → slice_get classes n ≡ Some c
-    → class_item classes (n + 1) ≡ class_item classes n + items_of c
-class_item-next classes n c is = ap item_count (take_at classes n c is) ∙ sum_by_push items_of (take n classes) c
-
-pub class_item-le : (classes : List Class) (n : ℕ) → class_item classes n ≤ item_count classes
-class_item-le classes n = sum_by-take-le items_of classes n
 
 -- there is an item for each class before
 pub class_item-ge : (classes : List Class) (n : ℕ) → n ≤ length classes → n ≤ class_item classes n
@@ -75,17 +68,6 @@ pub item_there : (c : Class) (k : ℕ) → k < length c.fields + length c.method
 item_there c k lt = slice_get-map (member_text_of c) (member_texts c) k
     ∙ ap (option_map (member_text_of c)) (member_there c k lt)
 
-got_left : {X : Type 0} (xs ys : List X) (k : ℕ) → k < length xs → slice_get (xs ++ ys) k ≡ slice_get xs k
-got_left [] ys k low = absurd (omega (arith, low))
-got_left (x ∷ xs) ys zero low = refl
-got_left (x ∷ xs) ys (suc k) low = got_left xs ys k (omega (arith, low))
-
-got_right : {X : Type 0} (xs ys : List X) (k : ℕ) → slice_get (xs ++ ys) (length xs + k) ≡ slice_get ys k
-got_right [] ys k = let e : 0 + k ≡ k = omega arith in ap (slice_get ys) e
-got_right (x ∷ xs) ys k =
-    let e : suc (length xs) + k ≡ suc (length xs + k) = omega arith in
-    ap (slice_get (x ∷ (xs ++ ys))) e ∙ got_right xs ys k
-
 -- an item of a class in the list of all
 pub text_there : (classes : List Class) (n : ℕ) (c : Class) (k : ℕ) → slice_get classes n ≡ Some c → k < items_of c
     → slice_get (item_texts classes) (class_item classes n + k) ≡ slice_get (item_texts_of c) k
@@ -120,18 +102,20 @@ class_more f classes n c ys zs at is grown =
     ∙ ap (λ (t : List (List ℕ)). flat_map f (enumerate_from 0 (front ++ t))) (sym (append-nil (item_texts_of c)))
     ∙ ap (λ (t : List (List ℕ)). flat_map f (enumerate_from 0 t))
     (sym (flat_map-append item_texts_of (take n classes) (c ∷ [])))
-    ∙ ap (λ (t : List Class). flat_map f (enumerate_from 0 (item_texts t))) (sym (take_at classes n c at))
+    ∙ ap (λ (t : List Class). flat_map f (enumerate_from 0 (item_texts t))) (sym (take_got classes n c at))
 
 -- one more numbered class
 pub numbered_class_more : {Y : Type 0} (f : ℕ × Class → List Y) (classes : List Class) (n : ℕ) (c : Class)
     (ys zs : List Y) → slice_get classes n ≡ Some c → ys ≡ flat_map f (enumerate_from 0 (take n classes))
     → zs ≡ ys ++ f (n, c) → zs ≡ flat_map f (enumerate_from 0 (take (n + 1) classes))
 numbered_class_more f classes n c ys zs at is grown =
-    let long : length (take n classes) ≡ n = length-take-le n classes (omega (arith, slice_get_within classes n c at)) in
+    let long : length (take n classes) ≡ n =
+    length-take-le n classes (omega (arith, slice_get_within classes n c at)) in
     let place : 0 + length (take n classes) ≡ n = omega (arith, long) in
     grown ∙ ap (λ t. t ++ f (n, c)) is
     ∙ ap (λ t. flat_map f (enumerate_from 0 (take n classes)) ++ t) (sym (append-nil (f (n, c))))
     ∙ ap (λ (k : ℕ). flat_map f (enumerate_from 0 (take n classes)) ++ flat_map f ((k, c) ∷ [])) (sym place)
-    ∙ sym (flat_map-append f (enumerate_from 0 (take n classes)) (enumerate_from (0 + length (take n classes)) (c ∷ [])))
+    ∙ sym (flat_map-append f (enumerate_from 0 (take n classes))
+    (enumerate_from (0 + length (take n classes)) (c ∷ [])))
     ∙ ap (flat_map f) (sym (enumerate_from-append 0 (take n classes) (c ∷ [])))
-    ∙ ap (λ (t : List Class). flat_map f (enumerate_from 0 t)) (sym (take_at classes n c at))
+    ∙ ap (λ (t : List Class). flat_map f (enumerate_from 0 t)) (sym (take_got classes n c at))

@@ -6,6 +6,7 @@ use Rattle.std.proofs.Math.ListN.{set}
 use Rattle.std.proofs.lemmas.Bool.{eqb-true, eq-eqb}
 use Rattle.std.proofs.lemmas.List.{get_or-replicate, get_or-set_other, get_or-set_same, length-replicate, length-set}
 use Rattle.std.specs.List.{enumerate_from, flat_map}
+use Rattle.std.proofs.Math.Bool.{or-false, or-true}
 use Rattle.mark_core.specs.Marks.{set_of}
 use Rattle.class_model.specs.declared.class.Class.{Class}
 use Rattle.class_pool.specs.Count.{item_count}
@@ -25,11 +26,7 @@ lines_same classes items marks are =
     (ap (set_of marks) start ∙ are.each i (omega (arith, lt, all_counted classes)) ∙ ap (is_among items) (sym start)))
 
 among_push : (xs : List ℕ) (y x : ℕ) → is_among (xs ++ y ∷ []) x ≡ (is_among xs x || (x == y))
-among_push [] y x = or_false (x == y)
-  where
-    or_false : (b : Bool) → (b || false) ≡ b
-    or_false true = refl
-    or_false false = refl
+among_push [] y x = or-false (x == y)
 among_push (z ∷ xs) y x = by (x == z) (among_push xs y x)
   where
     by : (b : Bool) → is_among (xs ++ y ∷ []) x ≡ (is_among xs x || (x == y))
@@ -53,22 +50,14 @@ marks_more classes items marks y low are = record {
   each = λ x lt. by x lt (x == y) refl;
 }
   where
-    or_true : (b : Bool) → (b || true) ≡ true
-    or_true true = refl
-    or_true false = refl
-
-    or_false : (b : Bool) → (b || false) ≡ b
-    or_false true = refl
-    or_false false = refl
-
     by : (x : ℕ) → x < item_count classes → (b : Bool) → (x == y) ≡ b
         → get_or (set marks y true) x false ≡ is_among (items ++ y ∷ []) x
     by x lt true e =
         let same : x ≡ y = eqb-true x y e in
         ap (λ (k : ℕ). get_or (set marks y true) k false) same
         ∙ get_or-set_same marks y true false (omega (arith, low, are.count))
-        ∙ sym (among_push items y x ∙ ap (λ (b : Bool). is_among items x || b) e ∙ or_true (is_among items x))
+        ∙ sym (among_push items y x ∙ ap (λ (b : Bool). is_among items x || b) e ∙ or-true (is_among items x))
     by x lt false e =
         get_or-set_other marks y x true false (λ h. let q : true ≡ false = sym (eq-eqb x y h) ∙ e in absurd cc)
         ∙ are.each x lt
-        ∙ sym (among_push items y x ∙ ap (λ (b : Bool). is_among items x || b) e ∙ or_false (is_among items x))
+        ∙ sym (among_push items y x ∙ ap (λ (b : Bool). is_among items x || b) e ∙ or-false (is_among items x))

@@ -2,14 +2,8 @@
 use Rattle.std.proofs.Common.{◌≡◌, ℕ, zero, suc, ◌+◌, ◌<◌, List, [], ◌∷◌, ◌++◌, length, take}
 use Rattle.std.proofs.Common.{Some, slice_get, refl, sym, ap, ◌∙◌, arith, append_assoc, append-nil}
 use Rattle.std.specs.List.{enumerate_from, flat_map}
-use Rattle.std.proofs.lemmas.List.{take_more}
 use Rattle.std.proofs.lemmas.List.Concat.{flat_map-append}
-use Rattle.std.proofs.lemmas.Option.{slice_get_within, get_or_from_slice_get}
-
-pub take_at : {X : Type 0} (xs : List X) (i : ℕ) (x : X) → slice_get xs i ≡ Some x
-    → take (i + 1) xs ≡ take i xs ++ x ∷ []
-take_at xs i x is = take_more xs i x (slice_get_within xs i x is)
-    ∙ ap (λ y. take i xs ++ y ∷ []) (get_or_from_slice_get xs i x x is)
+use Rattle.jv_base.proofs.Lists.{take_got}
 
 -- an element with its number
 pub numbered_at : {X : Type 0} (s : ℕ) (xs : List X) (i : ℕ) (x : X) → slice_get xs i ≡ Some x
@@ -23,15 +17,6 @@ numbered_at s (y ∷ xs) (suc i) x is =
     let next : s + 1 + i ≡ s + suc i = omega arith in
     numbered_at (s + 1) xs i x is ∙ ap (λ (k : ℕ). Some (k, x)) next
 
-pub enumerate_from-append : {X : Type 0} (n : ℕ) (xs ys : List X)
-    → enumerate_from n (xs ++ ys) ≡ enumerate_from n xs ++ enumerate_from (n + length xs) ys
-enumerate_from-append {X} n [] ys = let same : n
-    ≡ n + length {A = X} [] = omega arith in ap (λ k. enumerate_from k ys) same
-enumerate_from-append n (x ∷ xs) ys =
-    let next : n + 1 + length xs ≡ n + length (x ∷ xs) = omega arith in
-    ap (λ t. (n, x) ∷ t) (enumerate_from-append (n + 1) xs ys)
-    ∙ ap (λ k. (n, x) ∷ (enumerate_from (n + 1) xs ++ enumerate_from k ys)) next
-
 -- one more piece behind others
 pub piece_more : {X Y : Type 0} (f : X → List Y) (xs : List X) (i : ℕ) (x : X) (old ys zs : List Y)
     → slice_get xs i ≡ Some x → ys ≡ old ++ flat_map f (take i xs) → zs ≡ ys ++ f x
@@ -40,7 +25,7 @@ piece_more f xs i x old ys zs at is grown =
     grown ∙ ap (λ t. t ++ f x) is ∙ append_assoc old (flat_map f (take i xs)) (f x)
     ∙ ap (λ t. old ++ (flat_map f (take i xs) ++ t)) (sym (append-nil (f x)))
     ∙ ap (λ t. old ++ t) (sym (flat_map-append f (take i xs) (x ∷ [])))
-    ∙ ap (λ t. old ++ flat_map f t) (sym (take_at xs i x at))
+    ∙ ap (λ t. old ++ flat_map f t) (sym (take_got xs i x at))
 
 -- the same where the pieces of numbered elements are made
 pub numbered_more : {X Y : Type 0} (f : ℕ × X → List Y) (s : ℕ) (xs : List X) (i : ℕ) (x : X) (old ys zs : List Y)

@@ -1,11 +1,12 @@
 -- Texts that are made up to a limit.
-use Rattle.std.proofs.Common.{◌≡◌, ◌⊎◌, inl, inr, ◌≤◌, ◌<◌, ℕ, zero, suc, ◌+◌, List, [], ◌∷◌, ◌++◌, length, take, Bool}
-use Rattle.std.proofs.Common.{Option, Some, None, Result, Ok, Err, OnOk, cond, refl, sym, ap, ◌∙◌, arith}
+use Rattle.std.proofs.Common.{◌≡◌, ◌⊎◌, inl, inr, ◌≤◌, ◌<◌, ℕ, ◌+◌, List, [], ◌∷◌, ◌++◌, length, take, Bool}
+use Rattle.std.proofs.Common.{Option, Some, None, Result, Ok, Err, OnOk, cond, sym, ap, ◌∙◌, arith}
 use Rattle.std.proofs.Common.{append_assoc, length-append, get_or, subst}
 use Rattle.std.specs.List.{flat_map}
 use Rattle.std.proofs.lemmas.Bool.{le-leb, lt-leb}
-use Rattle.std.proofs.lemmas.List.{take_more}
+use Rattle.std.proofs.lemmas.List.{take_more, append-nil}
 use Rattle.std.proofs.lemmas.List.Concat.{flat_map-append}
+use Rattle.jv_base.proofs.Lists.{front_shorter}
 use Rattle.mapping_file.specs.Limited.{text_within}
 use Rattle.mapping_file.specs.MapLines.{class_line_text, field_line_text, method_line_text}
 use Rattle.mapping_file.specs.Mappings.{class_lines, ended_line, mapping_text}
@@ -15,17 +16,6 @@ use Rattle.mapping_file.specs.declared.mapping.MapField.{MapField}
 use Rattle.mapping_file.specs.declared.mapping.MapMethod.{MapMethod}
 use Rattle.mapping_file.specs.declared.mapping.Mapping.{Mapping}
 use Rattle.mapping_file.proofs.Canonical.{class_text}
-
--- what is made of the first elements is no longer than what is made of all
-front_shorter : {X : Type 0} (f : X → List ℕ) (xs : List X) (i : ℕ)
-    → length (flat_map f (take i xs)) ≤ length (flat_map f xs)
-front_shorter f xs zero = omega arith
-front_shorter f [] (suc i) = omega arith
-front_shorter f (x ∷ xs) (suc i) =
-    let front = length-append (f x) (flat_map f (take i xs)) in
-    let all = length-append (f x) (flat_map f xs) in
-    let rest = front_shorter f xs i in
-    omega (arith, front, all, rest)
 
 -- two texts that are appended one after the other
 pub pushed_then : (limit : ℕ) (old text middle more new : List ℕ) → IsPushed limit old text middle
@@ -83,12 +73,8 @@ pushed_more f xs i x limit old middle new low is before one =
     let front : flat_map f (take (i + 1) xs) ≡ flat_map f (take i xs) ++ f x =
     ap (flat_map f) (take_more xs i x low ∙ ap (λ y. take i xs ++ y ∷ []) (sym is))
     ∙ flat_map-append f (take i xs) (x ∷ [])
-    ∙ ap (λ t. flat_map f (take i xs) ++ t) (append_none (f x)) in
+    ∙ ap (λ t. flat_map f (take i xs) ++ t) (append-nil (f x)) in
     rw front (pushed_then limit old (flat_map f (take i xs)) middle (f x) new before one)
-  where
-    append_none : (t : List ℕ) → t ++ [] ≡ t
-    append_none [] = refl
-    append_none (b ∷ bs) = ap (λ t. b ∷ t) (append_none bs)
 
 -- the lines of a class that are appended one after the other
 pub class_pushed_within : {T E : Type 0} (r : Result T E) (limit : ℕ) (c : MapClass) (fs : List MapField)
@@ -114,7 +100,8 @@ abbrev within : List ℕ → Bool → Option (List ℕ)
 within text short = cond short (Some text) None
 
 -- a text that passes the limit isn't made
-pub not_made : (limit : ℕ) (map : Mapping) (new : List ℕ) → IsPushed limit [] (mapping_text map) new → limit < length new
+pub not_made : (limit : ℕ) (map : Mapping) (new : List ℕ) → IsPushed limit [] (mapping_text map) new
+    → limit < length new
     → None ≡ text_within limit map
 not_made limit map new (inl all) past =
     let one = ap length all in

@@ -1,31 +1,32 @@
 -- A line says what it spells, and what it spells it says.
-use Rattle.std.proofs.Common.{◌≡◌, ◌≢◌, ℕ, ◌+◌, ◌<◌, ◌≤◌, ◌^◌, Bool, true, false, eqb, ◌&&◌, List, [], ◌∷◌, ◌++◌, length, Option}
-use Rattle.std.proofs.Common.{Some, None, refl, sym, ap, subst, ◌∙◌, append_assoc, arith, codes}
+use Rattle.std.proofs.Common.{◌≡◌, ◌≢◌, ℕ, ◌+◌, ◌<◌, ◌≤◌, ◌^◌, Bool, true, false, eqb, ◌&&◌, List, [], ◌∷◌, ◌++◌}
+use Rattle.std.proofs.Common.{length, Option, Some, None, refl, sym, ap, subst, ◌∙◌, append_assoc, arith, codes}
 use Rattle.std.specs.Prelude.{IfSome, IsTrue}
 use Rattle.std.specs.Fmt.{decimal}
-use Rattle.std.specs.List.{AllByRecursion, flat_map}
 use Rattle.std.proofs.lemmas.Bool.{and_parts, eqb-true}
 use Rattle.std.proofs.lemmas.List.{nil_from_length}
 use Rattle.jv_base.specs.External.{dotted, external_text}
 use Rattle.jv_base.specs.Names.{is_class_name, is_member_name, is_method_name, is_name_byte}
-use Rattle.jv_base.specs.Types.{IsFieldType, IsMethodType}
-use Rattle.jv_base.specs.declared.types.FieldType.{FieldType}
+use Rattle.jv_base.specs.Types.{IsMethodType}
 use Rattle.jv_base.specs.declared.types.MethodType.{MethodType}
 use Rattle.text_lines.specs.Cut.{◌>>=◌, where_true, cut, after, Lacks}
 use Rattle.text_lines.specs.Members.{arguments_text, class_of, method_text, method_type_of, result_text, type_of}
 use Rattle.text_lines.specs.Numbers.{number_below}
 use Rattle.text_lines.proofs.Numerals.{decimal_digits, number_found, number_only}
-use Rattle.text_lines.proofs.Parts.{after_is, after_none, after_some, cut_is, cut_lacks, cut_not, cut_some, lacks_append}
+use Rattle.text_lines.proofs.Parts.{after_is, after_none, after_some, cut_is, cut_lacks, cut_not, cut_some}
+use Rattle.text_lines.proofs.Parts.{lacks_append}
 use Rattle.text_lines.proofs.ReadLines.{Says}
-use Rattle.text_lines.proofs.Spelling.{class_found, class_only, method_type_found, method_type_only, then_some, type_found}
-use Rattle.text_lines.proofs.Spelling.{type_only, where_some}
-use Rattle.text_lines.proofs.Words.{IsResult, IsWord, class_some, class_word, digits_word, is_word_byte, member_word}
-use Rattle.text_lines.proofs.Words.{method_word}
+use Rattle.text_lines.proofs.Spelling.{class_found, class_only, method_type_found, method_type_only, then_some}
+use Rattle.text_lines.proofs.Spelling.{type_found, type_only, where_some}
+use Rattle.text_lines.proofs.Words.{IsWord, class_some, class_word, digits_word, is_word_byte, member_word}
+use Rattle.text_lines.proofs.Words.{method_word, returned_is}
 use Rattle.text_lines.proofs.Words.{result_word, type_word, word_lacks}
+use Rattle.text_lines.proofs.Arguments.{arguments_lack_byte}
 use Rattle.mapping_file.specs.LineReading.{Parts, class_line, class_parts, field_line, field_parts, line_of, line_parts}
-use Rattle.mapping_file.specs.LineReading.{lines_before, lines_between, member_line, method_line, method_parts, parts_of, said}
-use Rattle.mapping_file.specs.MapLines.{IsField, IsLine, IsMethod, IsRange, SpellsLine, class_line_text, field_line_text, line_text}
-use Rattle.mapping_file.specs.MapLines.{method_line_text, range_text}
+use Rattle.mapping_file.specs.LineReading.{lines_before, lines_between, member_line, method_line, method_parts}
+use Rattle.mapping_file.specs.LineReading.{parts_of, said}
+use Rattle.mapping_file.specs.MapLines.{IsField, IsLine, IsMethod, IsRange, SpellsLine, class_line_text}
+use Rattle.mapping_file.specs.MapLines.{field_line_text, line_text, method_line_text, range_text}
 use Rattle.mapping_file.specs.declared.line.MapLine.{MapLine}
 use Rattle.mapping_file.specs.declared.line.MapLine.TheVariants as line
 use Rattle.mapping_file.specs.declared.mapping.MapField.{MapField}
@@ -97,7 +98,8 @@ field_is body l h =
     let parts = field_line_found body p.0 p.1 in
     let s : said (field_parts parts.0 parts.1 parts.2) ≡ Some l = ap said (sym parts.3) ∙ p.2 in
     let t = then_some (type_of parts.0) _ l s in
-    let w = where_some (is_member_name parts.1 && is_member_name parts.2) (line.Field (record { ty = t.0; old = parts.1; new = parts.2 })) l t.2 in
+    let w = where_some (is_member_name parts.1 && is_member_name parts.2)
+    (line.Field (record { ty = t.0; old = parts.1; new = parts.2 })) l t.2 in
     let names = and_parts (is_member_name parts.1) (is_member_name parts.2) w.0 in
     let ty = type_found parts.0 t.0 t.1 in
     subst (λ (k : MapLine). SpellsLine (codes "    " ++ body) k) w.1 (
@@ -110,10 +112,12 @@ field_is body l h =
 abbrev HasLines : List ℕ → Option Range → List ℕ → Type 0
 HasLines text lines rest = IfSome lines IsRange × (text ≡ range_text lines ++ rest)
 
-lines_found : (text : List ℕ) (h : Option Range × List ℕ) → lines_before text (cut 58 text) ≡ Some h → HasLines text h.0 h.1
+lines_found : (text : List ℕ) (h : Option Range × List ℕ) → lines_before text (cut 58 text) ≡ Some h
+    → HasLines text h.0 h.1
 lines_found text h e =
     elim (cut 58 text) as (λ o. cut 58 text ≡ o → lines_before text o ≡ Some h → HasLines text h.0 h.1) [
-      | None ↦ λ c k. (let is : (None, text) ≡ h = cc in subst (λ (p : Option Range × List ℕ). HasLines text p.0 p.1) is (tt, refl))
+      | None ↦ λ c k.
+          (let is : (None, text) ≡ h = cc in subst (λ (p : Option Range × List ℕ). HasLines text p.0 p.1) is (tt, refl))
       | Some p ↦ λ c k. (
           let q = then_some (cut 58 p.1) _ h k in
           let f = then_some (number_below 65536 p.0) _ h q.2 in
@@ -135,7 +139,8 @@ lines_found text h e =
 method_line_found : (head behind : List ℕ) (p : Parts) → method_line head behind ≡ Some p
     → (lines : Option Range) × (ret : List ℕ) × (old : List ℕ) × (args : List ℕ) × (new : List ℕ)
     × (p ≡ method_parts lines ret old args new) × IfSome lines IsRange
-    × (head ++ 40 ∷ behind ≡ range_text lines ++ ((ret ++ (codes " " ++ (old ++ (codes "(" ++ (args ++ codes ")"))))) ++ (codes " -> " ++ new)))
+    × (head ++ 40 ∷ behind ≡ range_text lines
+    ++ ((ret ++ (codes " " ++ (old ++ (codes "(" ++ (args ++ codes ")"))))) ++ (codes " -> " ++ new)))
 method_line_found head behind p h =
     let a = then_some (lines_before head (cut 58 head)) _ p h in
     let b = then_some (cut 32 a.0.1) _ p a.2 in
@@ -153,7 +158,8 @@ method_line_found head behind p h =
       d.0,
       sym is,
       one.0,
-      whole (range_text a.0.0) b.0.0 b.0.1 c.0.0 d.0 head behind (one.1 ∙ ap (λ (t : List ℕ). range_text a.0.0 ++ t) two.0)
+      whole (range_text a.0.0) b.0.0 b.0.1 c.0.0 d.0 head behind
+          (one.1 ∙ ap (λ (t : List ℕ). range_text a.0.0 ++ t) two.0)
           (three.0 ∙ ap (λ (t : List ℕ). c.0.0 ++ 41 ∷ t) four),
     )
   where
@@ -173,29 +179,39 @@ method_is head behind l h =
     let m = method_line_found head behind p.0 p.1 in
     let s : said (method_parts m.0 m.1 m.2 m.3 m.4) ≡ Some l = ap said (sym m.5) ∙ p.2 in
     let t = then_some (method_type_of m.1 m.3) _ l s in
-    let w = where_some (is_method_name m.2 && is_method_name m.4) (line.Method (record { lines = m.0; ty = t.0; old = m.2; new = m.4 })) l t.2 in
+    let w = where_some (is_method_name m.2 && is_method_name m.4)
+    (line.Method (record { lines = m.0; ty = t.0; old = m.2; new = m.4 })) l t.2 in
     let names = and_parts (is_method_name m.2) (is_method_name m.4) w.0 in
     let ty = method_type_found m.1 m.3 t.0 t.1 in
     subst (λ (k : MapLine). SpellsLine (codes "    " ++ (head ++ 40 ∷ behind)) k) w.1 (
       record { lines = m.6; typed = ty.0; old = names.0; new = names.1 },
       ap (λ (u : List ℕ). codes "    " ++ u)
-          (m.7 ∙ ap (λ (u : List ℕ). range_text m.0 ++ ((u ++ (codes " " ++ (m.2 ++ (codes "(" ++ (m.3 ++ codes ")"))))) ++ (codes " -> " ++ m.4))) ty.1
-          ∙ ap (λ (u : List ℕ). range_text m.0 ++ ((result_text t.0.ret ++ (codes " " ++ (m.2 ++ (codes "(" ++ (u ++ codes ")"))))) ++ (codes " -> " ++ m.4))) ty.2),
+          (m.7 ∙ ap (λ (u : List ℕ). range_text m.0
+          ++ ((u ++ (codes " " ++ (m.2 ++ (codes "(" ++ (m.3 ++ codes ")"))))) ++ (codes " -> " ++ m.4))) ty.1
+          ∙ ap (λ (u : List ℕ). range_text m.0
+          ++ ((result_text t.0.ret ++ (codes " " ++ (m.2 ++ (codes "(" ++ (u ++ codes ")")))))
+          ++ (codes " -> " ++ m.4))) ty.2),
     )
 
-member_is : (body : List ℕ) (l : MapLine) → member_line body (cut 40 body) >>= said ≡ Some l → SpellsLine (codes "    " ++ body) l
+member_is : (body : List ℕ) (l : MapLine) → member_line body (cut 40 body) >>= said ≡ Some l
+    → SpellsLine (codes "    " ++ body) l
 member_is body l h =
-    elim (cut 40 body) as (λ o. cut 40 body ≡ o → member_line body o >>= said ≡ Some l → SpellsLine (codes "    " ++ body) l) [
+    elim (cut 40 body) as
+    (λ o. cut 40 body ≡ o → member_line body o >>= said ≡ Some l → SpellsLine (codes "    " ++ body) l) [
       | None ↦ λ e k. field_is body l k
-      | Some p ↦ λ e k. subst (λ (t : List ℕ). SpellsLine (codes "    " ++ t) l) (sym (cut_some 40 body p e).0) (method_is p.0 p.1 l k)
+      | Some p ↦ λ e k. subst (λ (t : List ℕ). SpellsLine (codes "    " ++ t) l) (sym (cut_some 40 body p e).0)
+          (method_is p.0 p.1 l k)
     ] refl h
 
 line_found : (text : List ℕ) (l : MapLine) → line_of text ≡ Some l → SpellsLine text l
 unfolding line_of parts_of
 line_found text l h =
-    elim (after (codes "    ") text) as (λ o. after (codes "    ") text ≡ o → line_parts text o >>= said ≡ Some l → SpellsLine text l) [
+    elim (after (codes "    ") text) as
+    (λ o. after (codes "    ") text ≡ o → line_parts text o >>= said ≡ Some l → SpellsLine text l) [
       | None ↦ λ e k. class_is text l k
-      | Some body ↦ λ e k. subst (λ (t : List ℕ). SpellsLine t l) (sym (after_some (codes "    ") text body e)) (member_is body l k)
+      | Some body ↦
+          λ e k. subst (λ (t : List ℕ). SpellsLine t l) (sym (after_some (codes "    ") text body e))
+          (member_is body l k)
     ] refl h
 
 -- ---- what is spelled so is read
@@ -215,21 +231,25 @@ class_read old new o n =
     let new_word = class_word new n in
     let a : after (codes "    ") (dotted old ++ (codes " -> " ++ (dotted new ++ codes ":"))) ≡ None
     = no_blanks (dotted old) (codes " -> " ++ (dotted new ++ codes ":")) old_word (class_some old o) in
-    let b : cut 32 (dotted old ++ (codes " -> " ++ (dotted new ++ codes ":"))) ≡ Some (dotted old, codes "-> " ++ (dotted new ++ codes ":"))
+    let b : cut 32 (dotted old ++ (codes " -> " ++ (dotted new ++ codes ":")))
+    ≡ Some (dotted old, codes "-> " ++ (dotted new ++ codes ":"))
     = cut_is 32 (dotted old) (codes "-> " ++ (dotted new ++ codes ":")) (word_lacks 32 (dotted old) refl old_word) in
     let c : after (codes "-> ") (codes "-> " ++ (dotted new ++ codes ":")) ≡ Some (dotted new ++ codes ":")
     = after_is (codes "-> ") (dotted new ++ codes ":") in
-    let d : cut 58 (dotted new ++ codes ":") ≡ Some (dotted new, []) = cut_is 58 (dotted new) [] (word_lacks 58 (dotted new) refl new_word) in
+    let d : cut 58 (dotted new ++ codes ":") ≡ Some (dotted new, []) =
+    cut_is 58 (dotted new) [] (word_lacks 58 (dotted new) refl new_word) in
     let e : class_of (dotted old) ≡ Some old = class_only (dotted old) old (o, refl) in
     let f : class_of (dotted new) ≡ Some new = class_only (dotted new) new (n, refl) in
-    let parts : class_line (dotted old ++ (codes " -> " ++ (dotted new ++ codes ":"))) ≡ Some (class_parts (dotted old) (dotted new))
+    let parts : class_line (dotted old ++ (codes " -> " ++ (dotted new ++ codes ":")))
+    ≡ Some (class_parts (dotted old) (dotted new))
     = rw (b, c, d) refl in
     rw (a, parts, e, f) refl
 
 -- the line of a member goes on behind its blanks
 member_read : (body : List ℕ) → line_of (codes "    " ++ body) ≡ member_line body (cut 40 body) >>= said
 unfolding line_of parts_of
-member_read body = ap (λ (o : Option (List ℕ)). line_parts (codes "    " ++ body) o >>= said) (after_is (codes "    ") body)
+member_read body =
+    ap (λ (o : Option (List ℕ)). line_parts (codes "    " ++ body) o >>= said) (after_is (codes "    ") body)
 
 field_read : (f : MapField) → IsField f → line_of (field_line_text f) ≡ Some (line.Field f)
 unfolding said is_name_byte
@@ -240,21 +260,26 @@ field_read f h =
     let new_word = member_word f.new h.new in
     let body = ty ++ (codes " " ++ (f.old ++ (codes " -> " ++ f.new))) in
     let open_ : Lacks 40 (ty ++ (codes " " ++ (f.old ++ (codes " -> " ++ f.new))))
-    = lacks_append 40 ty _ (word_lacks 40 ty refl ty_word) (lacks_append 40 (codes " ") _ ((λ e. absurd (omega (arith, e))), tt)
+    = lacks_append 40 ty _ (word_lacks 40 ty refl ty_word)
+    (lacks_append 40 (codes " ") _ ((λ e. absurd (omega (arith, e))), tt)
     (lacks_append 40 f.old _ (word_lacks 40 f.old refl old_word) (lacks_append 40 (codes " -> ") f.new
-    ((λ e. omega (arith, e)), ((λ e. omega (arith, e)), ((λ e. omega (arith, e)), ((λ e. omega (arith, e)), tt)))) (word_lacks 40 f.new refl new_word)))) in
+    ((λ e. omega (arith, e)), ((λ e. omega (arith, e)), ((λ e. omega (arith, e)), ((λ e. omega (arith, e)), tt))))
+    (word_lacks 40 f.new refl new_word)))) in
     let none : cut 40 (ty ++ (codes " " ++ (f.old ++ (codes " -> " ++ f.new)))) ≡ None = cut_lacks 40 _ open_ in
-    let a : cut 32 (ty ++ (codes " " ++ (f.old ++ (codes " -> " ++ f.new)))) ≡ Some (ty, f.old ++ (codes " -> " ++ f.new))
+    let a : cut 32 (ty ++ (codes " " ++ (f.old ++ (codes " -> " ++ f.new))))
+    ≡ Some (ty, f.old ++ (codes " -> " ++ f.new))
     = cut_is 32 ty (f.old ++ (codes " -> " ++ f.new)) (word_lacks 32 ty refl ty_word) in
     let b : cut 32 (f.old ++ (codes " -> " ++ f.new)) ≡ Some (f.old, codes "-> " ++ f.new)
     = cut_is 32 f.old (codes "-> " ++ f.new) (word_lacks 32 f.old refl old_word) in
     let c : after (codes "-> ") (codes "-> " ++ f.new) ≡ Some f.new = after_is (codes "-> ") f.new in
-    let parts : field_line (ty ++ (codes " " ++ (f.old ++ (codes " -> " ++ f.new)))) ≡ Some (field_parts ty f.old f.new) = rw (a, b, c) refl in
+    let parts : field_line (ty ++ (codes " " ++ (f.old ++ (codes " -> " ++ f.new))))
+    ≡ Some (field_parts ty f.old f.new) = rw (a, b, c) refl in
     let t : type_of ty ≡ Some f.ty = type_only ty f.ty (h.typed, refl) in
     let old_name : is_member_name f.old ≡ true = h.old in
     let new_name : is_member_name f.new ≡ true = h.new in
     member_read (ty ++ (codes " " ++ (f.old ++ (codes " -> " ++ f.new))))
-    ∙ ap (λ (o : Option (List ℕ × List ℕ)). member_line (ty ++ (codes " " ++ (f.old ++ (codes " -> " ++ f.new)))) o >>= said) none
+    ∙ ap (λ (o : Option (List ℕ × List ℕ)). member_line
+    (ty ++ (codes " " ++ (f.old ++ (codes " -> " ++ f.new)))) o >>= said) none
     ∙ ap (λ (o : Option Parts). o >>= said) parts ∙ rw (t, old_name, new_name) refl
 
 -- a number's digits
@@ -265,8 +290,11 @@ pub range_lacks_byte : (byte : ℕ) (lines : Option Range) → is_word_byte byte
     → Lacks byte (range_text lines)
 range_lacks_byte byte None none colon h = tt
 range_lacks_byte byte (Some r) none colon h =
-    lacks_append byte (decimal r.first) _ (word_lacks byte (decimal r.first) none (digits_are_word r.first h.0))
-    (colon, lacks_append byte (decimal r.last) (codes ":") (word_lacks byte (decimal r.last) none (digits_are_word r.last h.1)) (colon, tt))
+    lacks_append byte (decimal r.first) _ (word_lacks byte (decimal r.first) none (digits_are_word r.first h.0)) (
+      colon,
+      lacks_append byte (decimal r.last) (codes ":")
+          (word_lacks byte (decimal r.last) none (digits_are_word r.last h.1)) (colon, tt),
+    )
 
 lines_read : (lines : Option Range) (rest : List ℕ) → IfSome lines IsRange → Lacks 58 rest
     → lines_before (range_text lines ++ rest) (cut 58 (range_text lines ++ rest)) ≡ Some (lines, rest)
@@ -276,12 +304,16 @@ lines_read (Some r) rest h lacks =
     let whole : range_text (Some r) ++ rest ≡ decimal r.first ++ 58 ∷ (decimal r.last ++ 58 ∷ rest)
     = append_assoc (decimal r.first) (58 ∷ (decimal r.last ++ 58 ∷ [])) rest
     ∙ ap (λ (t : List ℕ). decimal r.first ++ 58 ∷ t) (append_assoc (decimal r.last) (58 ∷ []) rest) in
-    let a : cut 58 (decimal r.first ++ 58 ∷ (decimal r.last ++ 58 ∷ rest)) ≡ Some (decimal r.first, decimal r.last ++ 58 ∷ rest)
-    = cut_is 58 (decimal r.first) (decimal r.last ++ 58 ∷ rest) (word_lacks 58 (decimal r.first) refl (digits_are_word r.first h.0)) in
+    let a : cut 58 (decimal r.first ++ 58 ∷ (decimal r.last ++ 58 ∷ rest))
+    ≡ Some (decimal r.first, decimal r.last ++ 58 ∷ rest)
+    = cut_is 58 (decimal r.first) (decimal r.last ++ 58 ∷ rest)
+    (word_lacks 58 (decimal r.first) refl (digits_are_word r.first h.0)) in
     let b : cut 58 (decimal r.last ++ 58 ∷ rest) ≡ Some (decimal r.last, rest)
     = cut_is 58 (decimal r.last) rest (word_lacks 58 (decimal r.last) refl (digits_are_word r.last h.1)) in
-    let c : number_below 65536 (decimal r.first) ≡ Some r.first = number_only 65536 (decimal r.first) r.first (omega arith) (h.0, refl) in
-    let d : number_below 65536 (decimal r.last) ≡ Some r.last = number_only 65536 (decimal r.last) r.last (omega arith) (h.1, refl) in
+    let c : number_below 65536 (decimal r.first) ≡ Some r.first =
+    number_only 65536 (decimal r.first) r.first (omega arith) (h.0, refl) in
+    let d : number_below 65536 (decimal r.last) ≡ Some r.last =
+    number_only 65536 (decimal r.last) r.last (omega arith) (h.1, refl) in
     ap (λ (t : List ℕ). lines_before t (cut 58 t)) whole
     ∙ ap (lines_before (decimal r.first ++ 58 ∷ (decimal r.last ++ 58 ∷ rest))) a ∙ rw (b, c, d) refl
 
@@ -290,22 +322,6 @@ method_body : (lines ret old args new : List ℕ)
     → lines ++ ((ret ++ (codes " " ++ (old ++ (codes "(" ++ (args ++ codes ")"))))) ++ (codes " -> " ++ new))
     ≡ (lines ++ (ret ++ 32 ∷ old)) ++ 40 ∷ (args ++ 41 ∷ (codes " -> " ++ new))
 method_body lines ret old args new = simp append_assoc
-
-pub returned_is : (o : Option FieldType) → IfSome o IsFieldType → IsResult o
-returned_is None h = tt
-returned_is (Some ty) h = h
-
-types_lack : (byte : ℕ) (tys : List FieldType) → is_word_byte byte ≡ false → 44 ≢ byte → AllByRecursion IsFieldType tys
-    → Lacks byte (flat_map (λ ty. codes "," ++ external_text ty) tys)
-types_lack byte [] none comma h = tt
-types_lack byte (ty ∷ tys) none comma h =
-    (comma, lacks_append byte (external_text ty) _ (word_lacks byte (external_text ty) none (type_word ty h.0).0) (types_lack byte tys none comma h.1))
-
-pub arguments_lack_byte : (byte : ℕ) (tys : List FieldType) → is_word_byte byte ≡ false → 44 ≢ byte
-    → AllByRecursion IsFieldType tys → Lacks byte (arguments_text tys)
-arguments_lack_byte byte [] none comma h = tt
-arguments_lack_byte byte (ty ∷ tys) none comma h =
-    lacks_append byte (external_text ty) _ (word_lacks byte (external_text ty) none (type_word ty h.0).0) (types_lack byte tys none comma h.1)
 
 method_read : (m : MapMethod) → IsMethod m → line_of (method_line_text m) ≡ Some (line.Method m)
 unfolding said is_name_byte
@@ -319,28 +335,47 @@ method_read m h =
     let behind : List ℕ = arguments_text m.ty.args ++ 41 ∷ (codes " -> " ++ m.new) in
     let body = method_body (range_text m.lines) (result_text m.ty.ret) m.old (arguments_text m.ty.args) m.new in
     let open_ : Lacks 40 (range_text m.lines ++ (result_text m.ty.ret ++ 32 ∷ m.old))
-    = lacks_append 40 (range_text m.lines) _ (range_lacks_byte 40 m.lines refl (λ e. omega (arith, e)) h.lines) (lacks_append 40 (result_text m.ty.ret) (32 ∷ m.old) (word_lacks 40 (result_text m.ty.ret) refl ret_word)
+    = lacks_append 40 (range_text m.lines) _ (range_lacks_byte 40 m.lines refl (λ e. omega (arith, e)) h.lines)
+    (lacks_append 40 (result_text m.ty.ret) (32 ∷ m.old) (word_lacks 40 (result_text m.ty.ret) refl ret_word)
     ((λ e. omega (arith, e)), word_lacks 40 m.old refl old_word)) in
     let colon : Lacks 58 (result_text m.ty.ret ++ 32 ∷ m.old)
-    = lacks_append 58 (result_text m.ty.ret) (32 ∷ m.old) (word_lacks 58 (result_text m.ty.ret) refl ret_word) ((λ e. omega (arith, e)), word_lacks 58 m.old refl old_word) in
-    let a : cut 40 ((range_text m.lines ++ (result_text m.ty.ret ++ 32 ∷ m.old)) ++ 40 ∷ (arguments_text m.ty.args ++ 41 ∷ (codes " -> " ++ m.new)))
-    ≡ Some (range_text m.lines ++ (result_text m.ty.ret ++ 32 ∷ m.old), arguments_text m.ty.args ++ 41 ∷ (codes " -> " ++ m.new))
-    = cut_is 40 (range_text m.lines ++ (result_text m.ty.ret ++ 32 ∷ m.old)) (arguments_text m.ty.args ++ 41 ∷ (codes " -> " ++ m.new)) open_ in
-    let b : lines_before (range_text m.lines ++ (result_text m.ty.ret ++ 32 ∷ m.old)) (cut 58 (range_text m.lines ++ (result_text m.ty.ret ++ 32 ∷ m.old)))
-    ≡ Some (m.lines, result_text m.ty.ret ++ 32 ∷ m.old) = lines_read m.lines (result_text m.ty.ret ++ 32 ∷ m.old) h.lines colon in
+    = lacks_append 58 (result_text m.ty.ret) (32 ∷ m.old) (word_lacks 58 (result_text m.ty.ret) refl ret_word)
+    ((λ e. omega (arith, e)), word_lacks 58 m.old refl old_word) in
+    let a : cut 40
+    ((range_text m.lines ++ (result_text m.ty.ret ++ 32 ∷ m.old))
+    ++ 40 ∷ (arguments_text m.ty.args ++ 41 ∷ (codes " -> " ++ m.new)))
+    ≡ Some (
+      range_text m.lines ++ (result_text m.ty.ret ++ 32 ∷ m.old),
+      arguments_text m.ty.args ++ 41 ∷ (codes " -> " ++ m.new),
+    )
+    = cut_is 40 (range_text m.lines ++ (result_text m.ty.ret ++ 32 ∷ m.old))
+    (arguments_text m.ty.args ++ 41 ∷ (codes " -> " ++ m.new)) open_ in
+    let b : lines_before (range_text m.lines ++ (result_text m.ty.ret ++ 32 ∷ m.old))
+    (cut 58 (range_text m.lines ++ (result_text m.ty.ret ++ 32 ∷ m.old)))
+    ≡ Some (m.lines, result_text m.ty.ret ++ 32 ∷ m.old) =
+    lines_read m.lines (result_text m.ty.ret ++ 32 ∷ m.old) h.lines colon in
     let c : cut 32 (result_text m.ty.ret ++ 32 ∷ m.old) ≡ Some (result_text m.ty.ret, m.old)
     = cut_is 32 (result_text m.ty.ret) m.old (word_lacks 32 (result_text m.ty.ret) refl ret_word) in
-    let d : cut 41 (arguments_text m.ty.args ++ 41 ∷ (codes " -> " ++ m.new)) ≡ Some (arguments_text m.ty.args, codes " -> " ++ m.new)
-    = cut_is 41 (arguments_text m.ty.args) (codes " -> " ++ m.new) (arguments_lack_byte 41 m.ty.args refl (λ e. omega (arith, e)) h.typed.arguments) in
+    let d : cut 41 (arguments_text m.ty.args ++ 41 ∷ (codes " -> " ++ m.new))
+    ≡ Some (arguments_text m.ty.args, codes " -> " ++ m.new)
+    = cut_is 41 (arguments_text m.ty.args) (codes " -> " ++ m.new)
+    (arguments_lack_byte 41 m.ty.args refl (λ e. omega (arith, e)) h.typed.arguments) in
     let e : after (codes " -> ") (codes " -> " ++ m.new) ≡ Some m.new = after_is (codes " -> ") m.new in
-    let parts : method_line (range_text m.lines ++ (result_text m.ty.ret ++ 32 ∷ m.old)) (arguments_text m.ty.args ++ 41 ∷ (codes " -> " ++ m.new))
-    ≡ Some (method_parts m.lines (result_text m.ty.ret) m.old (arguments_text m.ty.args) m.new) = rw (b, c, d, e) refl in
-    let t : method_type_of (result_text m.ty.ret) (arguments_text m.ty.args) ≡ Some m.ty = method_type_only (result_text m.ty.ret) (arguments_text m.ty.args) m.ty h.typed refl refl in
+    let parts : method_line (range_text m.lines ++ (result_text m.ty.ret ++ 32 ∷ m.old))
+    (arguments_text m.ty.args ++ 41 ∷ (codes " -> " ++ m.new))
+    ≡ Some (method_parts m.lines (result_text m.ty.ret) m.old (arguments_text m.ty.args) m.new) =
+    rw (b, c, d, e) refl in
+    let t : method_type_of (result_text m.ty.ret) (arguments_text m.ty.args) ≡ Some m.ty =
+    method_type_only (result_text m.ty.ret) (arguments_text m.ty.args) m.ty h.typed refl refl in
     let old_name : is_method_name m.old ≡ true = h.old in
     let new_name : is_method_name m.new ≡ true = h.new in
     ap (λ (u : List ℕ). line_of (codes "    " ++ u)) body
-    ∙ member_read ((range_text m.lines ++ (result_text m.ty.ret ++ 32 ∷ m.old)) ++ 40 ∷ (arguments_text m.ty.args ++ 41 ∷ (codes " -> " ++ m.new)))
-    ∙ ap (λ (o : Option (List ℕ × List ℕ)). member_line ((range_text m.lines ++ (result_text m.ty.ret ++ 32 ∷ m.old)) ++ 40 ∷ (arguments_text m.ty.args ++ 41 ∷ (codes " -> " ++ m.new))) o >>= said) a
+    ∙ member_read
+    ((range_text m.lines ++ (result_text m.ty.ret ++ 32 ∷ m.old))
+    ++ 40 ∷ (arguments_text m.ty.args ++ 41 ∷ (codes " -> " ++ m.new)))
+    ∙ ap (λ (o : Option (List ℕ × List ℕ)). member_line
+    ((range_text m.lines ++ (result_text m.ty.ret ++ 32 ∷ m.old))
+    ++ 40 ∷ (arguments_text m.ty.args ++ 41 ∷ (codes " -> " ++ m.new))) o >>= said) a
     ∙ ap (λ (o : Option Parts). o >>= said) parts ∙ rw (t, old_name, new_name) refl
 
 line_only : (text : List ℕ) (l : MapLine) → SpellsLine text l → line_of text ≡ Some l

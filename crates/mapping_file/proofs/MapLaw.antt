@@ -1,5 +1,5 @@
 -- A text stands for the mapping that is read of it, and for no other; what is written stands for what was written.
-use Rattle.std.proofs.Common.{◌≡◌, ℕ, ◌+◌, Bool, true, false, not, cond, List, [], ◌∷◌, ◌++◌, length, map, Result, Ok, Err, refl, sym}
+use Rattle.std.proofs.Common.{◌≡◌, ℕ, ◌+◌, List, [], ◌∷◌, ◌++◌, length, map, Result, Ok, Err, refl, sym}
 use Rattle.std.proofs.Common.{ap, subst, ◌∙◌, append_assoc, arith}
 use Rattle.std.specs.List.{AllByRecursion, filter_map, flat_map}
 use Rattle.std.specs.Str.{IsUtf8}
@@ -8,15 +8,16 @@ use Rattle.std.proofs.lemmas.List.{append-nil}
 use Rattle.jv_base.specs.Outcome.{◌>>=◌, FaultIs}
 use Rattle.jv_base.specs.declared.outcome.Or.{Or}
 use Rattle.jv_base.specs.declared.outcome.Or.TheVariants.{Fault, OutOfMemory}
+use Rattle.jv_base.proofs.Lists.{all_append, all_split}
 use Rattle.text_lines.specs.Faults.{IsFirstAtFault}
-use Rattle.text_lines.specs.Lines.{AllSpell, AreSpelled, is_passed_over, item_added, line_read, read_lines, saying}
-use Rattle.text_lines.proofs.ReadLines.{bind_ok, lines_found, lines_only}
+use Rattle.text_lines.specs.Lines.{AllSpell, AreSpelled, item_added, line_read, read_lines, saying}
+use Rattle.text_lines.proofs.ReadLines.{bind_ok, lines_found, lines_only, saying_utf8}
 use Rattle.text_lines.proofs.Refused.{bind_err, kind_at, lines_refused, refused_anyway}
 use Rattle.mapping_file.specs.LineReading.{line_of}
 use Rattle.mapping_file.specs.MapLines.{IsLine, SpellsLine, line_text}
 use Rattle.mapping_file.specs.MapReading.{added, all_classes, fault, nothing, read_mapping, step}
-use Rattle.mapping_file.specs.Mappings.{AreApart, IsMapping, IsMember, IsTextLine, Reading, StandFor, TellClasses, TellMembers}
-use Rattle.mapping_file.specs.Mappings.{class_lines, field_in, mapping_text, method_in}
+use Rattle.mapping_file.specs.Mappings.{AreApart, IsMapping, IsMember, IsTextLine, Reading, StandFor, TellClasses}
+use Rattle.mapping_file.specs.Mappings.{TellMembers, class_lines, field_in, mapping_text, method_in}
 use Rattle.mapping_file.specs.declared.line.MapLine.{MapLine}
 use Rattle.mapping_file.specs.declared.line.MapLine.TheVariants as line
 use Rattle.mapping_file.specs.declared.mapping.MapClass.{MapClass}
@@ -28,14 +29,15 @@ use Rattle.mapping_file.specs.declared.mapping.Mapping.{Mapping}
 use Rattle.mapping_file.specs.declared.reading.ClassesRead.{ClassesRead}
 use Rattle.mapping_file.proofs.Canonical.{classes_tell, text_spells}
 use Rattle.mapping_file.proofs.LineLaw.{line_says}
-use Rattle.mapping_file.proofs.Told.{all_append, all_split, told_by, told_only}
+use Rattle.mapping_file.proofs.Told.{told_by, told_only}
 
 -- the mapping of classes
 abbrev of_classes : List MapClass → Mapping
 of_classes cs = record { classes = cs }
 
 -- lines that were read stand for what they told
-stand_found : (ls : List (List ℕ)) (r : ClassesRead) → read_lines step 1 ls nothing ≡ Ok r → StandFor ls (of_classes (all_classes r))
+stand_found : (ls : List (List ℕ)) (r : ClassesRead) → read_lines step 1 ls nothing ≡ Ok r
+    → StandFor ls (of_classes (all_classes r))
 stand_found ls r h =
     let found = lines_found fault NotUtf8 BadLine added line_says 1 ls nothing r h in
     let told = told_by found.0 r found.2 in
@@ -64,12 +66,14 @@ read_only text m h =
     rw s.1 (ap (λ (cs : List MapClass). let R : Result Mapping MapFault = Ok (of_classes cs) in R) s.2)
 
 -- the line that is told is the first at fault
-pub first_at_fault : (text : List ℕ) (f : MapFault) → read_mapping text ≡ Err f → IsFirstAtFault StandFor (lines text) f.line
+pub first_at_fault : (text : List ℕ) (f : MapFault) → read_mapping text ≡ Err f
+    → IsFirstAtFault StandFor (lines text) f.line
 unfolding read_mapping
 first_at_fault text f h =
     let e = bind_err (read_lines step 1 (lines text) nothing) (λ r. of_classes (all_classes r)) f h in
     let p = lines_refused step 1 (lines text) nothing f e in
-    let kind = kind_at fault (1 + length p.before) (line_read NotUtf8 (λ l t. item_added BadLine added (line_of l) t) p.line p.state) f p.refused in
+    let kind = kind_at fault (1 + length p.before)
+    (line_read NotUtf8 (λ l t. item_added BadLine added (line_of l) t) p.line p.state) f p.refused in
     let number : f.line ≡ 1 + length p.before = ap (λ (g : MapFault). g.line) kind.1 in
     record {
       before = p.before;
@@ -80,11 +84,14 @@ first_at_fault text f h =
       begins = (
         [],
         of_classes (all_classes p.state),
-        subst (λ (ls : List (List ℕ)). StandFor ls (of_classes (all_classes p.state))) (sym (append-nil p.before)) (stand_found p.before p.state p.read),
+        subst (λ (ls : List (List ℕ)). StandFor ls (of_classes (all_classes p.state))) (sym (append-nil p.before))
+            (stand_found p.before p.state p.read),
       );
       stops = λ more.
-          let lines_are : (p.before ++ p.line ∷ []) ++ more.0 ≡ p.before ++ p.line ∷ more.0 = append_assoc p.before (p.line ∷ []) more.0 in
-          let read = stand_only (p.before ++ p.line ∷ more.0) more.1 (subst (λ (ls : List (List ℕ)). StandFor ls more.1) lines_are more.2) in
+          let lines_are : (p.before ++ p.line ∷ []) ++ more.0 ≡ p.before ++ p.line ∷ more.0 =
+          append_assoc p.before (p.line ∷ []) more.0 in
+          let read = stand_only (p.before ++ p.line ∷ more.0) more.1
+          (subst (λ (ls : List (List ℕ)). StandFor ls more.1) lines_are more.2) in
           let refused = refused_anyway step 1 p.before p.line more.0 nothing p.state f p.read p.refused in
           absurd cc;
     }
@@ -99,14 +106,6 @@ written_back m h = read_only (mapping_text m) m (record {
   classes = classes_tell m.classes;
   apart = h.apart;
 })
-
-saying_utf8 : (ls : List (List ℕ)) → AllByRecursion IsUtf8 ls → AllByRecursion IsUtf8 (saying ls)
-saying_utf8 [] h = tt
-saying_utf8 (l ∷ ls) h = by (is_passed_over l) (saying_utf8 ls h.1)
-  where
-    by : (b : Bool) → AllByRecursion IsUtf8 (saying ls) → AllByRecursion IsUtf8 (cond (not b) (l ∷ saying ls) (saying ls))
-    by true more = more
-    by false more = (h.0, more)
 
 spelled_lines : (ls : List (List ℕ)) (xs : List MapLine) → AllByRecursion IsUtf8 ls → AllSpell SpellsLine ls xs
     → AllByRecursion IsTextLine xs
@@ -169,10 +168,12 @@ one_reading text m n h k = let p = read_only text m h in let q = read_only text 
 pub mapping_read : (text : List ℕ) (r : ClassesRead) (m : Mapping) → read_lines step 1 (lines text) nothing ≡ Ok r
     → m.classes ≡ all_classes r → read_mapping text ≡ Ok m
 unfolding read_mapping
-mapping_read text r m h e = rw h (ap (λ (cs : List MapClass). let R : Result Mapping MapFault = Ok (of_classes cs) in R) (sym e))
+mapping_read text r m h e =
+    rw h (ap (λ (cs : List MapClass). let R : Result Mapping MapFault = Ok (of_classes cs) in R) (sym e))
 
 -- the first line at fault
-pub mapping_refused : (text : List ℕ) (o : Or MapFault) → FaultIs o (read_lines step 1 (lines text) nothing) → FaultIs o (read_mapping text)
+pub mapping_refused : (text : List ℕ) (o : Or MapFault) → FaultIs o (read_lines step 1 (lines text) nothing)
+    → FaultIs o (read_mapping text)
 unfolding read_mapping
 mapping_refused text (Fault f) h = rw h refl
 mapping_refused text OutOfMemory h = tt

@@ -1,6 +1,6 @@
 -- What lines tell, added one by one, is what they tell together.
-use Rattle.std.proofs.Common.{◌≡◌, ◌≢◌, ℕ, Bool, true, false, cond, ◌||◌, List, [], ◌∷◌, ◌++◌, map, Option, Some, None, Result}
-use Rattle.std.proofs.Common.{Ok, Err, refl, sym, ap, subst, ◌∙◌, append_assoc, inl, inr}
+use Rattle.std.proofs.Common.{◌≡◌, ◌≢◌, ℕ, Bool, true, false, cond, ◌||◌, List, [], ◌∷◌, ◌++◌, map, Option, Some, None}
+use Rattle.std.proofs.Common.{Result, Ok, Err, refl, sym, ap, subst, ◌∙◌, append_assoc, inl, inr}
 use Rattle.std.specs.List.{AllByRecursion, cons_option, filter_map, list_any}
 use Rattle.std.specs.Option.{option_to_list}
 use Rattle.std.proofs.lemmas.Bool.{or_parts, cases_Bool}
@@ -8,9 +8,12 @@ use Rattle.std.proofs.lemmas.List.{append-nil}
 use Rattle.jv_base.specs.Names.{is_text}
 use Rattle.jv_base.specs.Outcome.{◌>>=◌}
 use Rattle.jv_base.proofs.Equality.{text_Decides}
+use Rattle.jv_base.proofs.Lists.{all_append, all_split}
 use Rattle.text_lines.proofs.ReadLines.{adds, bind_ok}
-use Rattle.mapping_file.specs.MapReading.{added, all_classes, begun, has_name, in_last, nothing, with_field, with_method}
-use Rattle.mapping_file.specs.Mappings.{AreApart, HasOtherNames, IsMember, TellClasses, TellMembers, field_in, method_in}
+use Rattle.mapping_file.specs.MapReading.{added, all_classes, begun, has_name, in_last, nothing, with_field}
+use Rattle.mapping_file.specs.MapReading.{with_method}
+use Rattle.mapping_file.specs.Mappings.{AreApart, HasOtherNames, IsMember, TellClasses, TellMembers, field_in}
+use Rattle.mapping_file.specs.Mappings.{method_in}
 use Rattle.mapping_file.specs.declared.line.MapLine.{MapLine}
 use Rattle.mapping_file.specs.declared.line.MapLine.TheVariants as line
 use Rattle.mapping_file.specs.declared.mapping.MapClass.{MapClass}
@@ -22,7 +25,8 @@ use Rattle.mapping_file.specs.declared.reading.ClassesRead.{ClassesRead}
 
 -- ---- lists
 
-pub filtered : {A B : Type 0} (f : A → Option B) (xs ys : List A) → filter_map f (xs ++ ys) ≡ filter_map f xs ++ filter_map f ys
+pub filtered : {A B : Type 0} (f : A → Option B) (xs ys : List A)
+    → filter_map f (xs ++ ys) ≡ filter_map f xs ++ filter_map f ys
 filtered f [] ys = refl
 filtered {A} {B} f (x ∷ xs) ys = by (f x) (filtered f xs ys)
   where
@@ -31,14 +35,6 @@ filtered {A} {B} f (x ∷ xs) ys = by (f x) (filtered f xs ys)
     by None h = h
     by (Some y) h = ap (λ (l : List B). y ∷ l) h
 
-pub all_append : {A : Type 0} (P : A → Type 0) (xs ys : List A) → AllByRecursion P xs → AllByRecursion P ys → AllByRecursion P (xs ++ ys)
-all_append P [] ys p q = q
-all_append P (x ∷ xs) ys p q = (p.0, all_append P xs ys p.1 q)
-
-pub all_split : {A : Type 0} (P : A → Type 0) (xs ys : List A) → AllByRecursion P (xs ++ ys) → AllByRecursion P xs × AllByRecursion P ys
-all_split P [] ys h = (tt, h)
-all_split P (x ∷ xs) ys h = let p = all_split P xs ys h.1 in ((h.0, p.0), p.1)
-
 -- ---- names
 
 -- no class has one of the names
@@ -46,7 +42,8 @@ abbrev HasNone : List MapClass → List ℕ → List ℕ → Type 0
 HasNone cs old new = AllByRecursion (λ (c : MapClass). (c.old ≢ old) × (c.new ≢ new)) cs
 
 other_text : (x y : List ℕ) → is_text x y ≡ false → y ≢ x
-other_text x y h e = let yes : is_text x y ≡ true = (text_Decides x y).1 (sym e) in let f : false ≡ true = sym h ∙ yes in absurd cc
+other_text x y h e =
+    let yes : is_text x y ≡ true = (text_Decides x y).1 (sym e) in let f : false ≡ true = sym h ∙ yes in absurd cc
 
 none_has : (cs : List MapClass) (old new : List ℕ) → list_any (λ (c : MapClass). is_text old c.old) cs ≡ false
     → list_any (λ (c : MapClass). is_text new c.new) cs ≡ false → HasNone cs old new
@@ -58,7 +55,8 @@ none_has (c ∷ cs) old new p q =
 
 has_none : (cs : List MapClass) (old new : List ℕ) → has_name cs old new ≡ false → HasNone cs old new
 has_none cs old new h =
-    let p = or_parts (list_any (λ (c : MapClass). is_text old c.old) cs) (list_any (λ (c : MapClass). is_text new c.new) cs) h in
+    let p = or_parts (list_any (λ (c : MapClass). is_text old c.old) cs)
+    (list_any (λ (c : MapClass). is_text new c.new) cs) h in
     none_has cs old new p.0 p.1
 
 not_text : (x y : List ℕ) → y ≢ x → is_text x y ≡ false
@@ -67,11 +65,13 @@ not_text x y h = elim (cases_Bool (is_text x y)) [
   | inr other ↦ other
 ]
 
-none_old : (cs : List MapClass) (old new : List ℕ) → HasNone cs old new → list_any (λ (c : MapClass). is_text old c.old) cs ≡ false
+none_old : (cs : List MapClass) (old new : List ℕ) → HasNone cs old new
+    → list_any (λ (c : MapClass). is_text old c.old) cs ≡ false
 none_old [] old new h = refl
 none_old (c ∷ cs) old new h = rw (not_text old c.old h.0.0) (none_old cs old new h.1)
 
-none_new : (cs : List MapClass) (old new : List ℕ) → HasNone cs old new → list_any (λ (c : MapClass). is_text new c.new) cs ≡ false
+none_new : (cs : List MapClass) (old new : List ℕ) → HasNone cs old new
+    → list_any (λ (c : MapClass). is_text new c.new) cs ≡ false
 none_new [] old new h = refl
 none_new (c ∷ cs) old new h = rw (not_text new c.new h.0.1) (none_new cs old new h.1)
 
@@ -84,7 +84,8 @@ apart_more [] d a n = (tt, tt)
 apart_more (c ∷ cs) d a n = (all_append (HasOtherNames c) cs (d ∷ []) a.0 (n.0, tt), apart_more cs d a.1 n.1)
 
 -- the last class with other members
-apart_last : (cs : List MapClass) (c d : MapClass) → d.old ≡ c.old → d.new ≡ c.new → AreApart (cs ++ c ∷ []) → AreApart (cs ++ d ∷ [])
+apart_last : (cs : List MapClass) (c d : MapClass) → d.old ≡ c.old → d.new ≡ c.new → AreApart (cs ++ c ∷ [])
+    → AreApart (cs ++ d ∷ [])
 apart_last [] c d o n a = (tt, tt)
 apart_last (b ∷ cs) c d o n a =
     let p = all_split (HasOtherNames b) cs (c ∷ []) a.0 in (
@@ -106,7 +107,8 @@ no_members old new = record { members = tt; fields = refl; methods = refl }
 -- of a class
 tell_class : (ls : List MapLine) (cs : List MapClass) (old new : List ℕ) → TellClasses ls cs
     → TellClasses (ls ++ line.Class old new ∷ []) (cs ++ begun old new ∷ [])
-tell_class ls [] old new t = ([], [], ap (λ (l : List MapLine). l ++ line.Class old new ∷ []) t, no_members old new, refl)
+tell_class ls [] old new t =
+    ([], [], ap (λ (l : List MapLine). l ++ line.Class old new ∷ []) t, no_members old new, refl)
 tell_class ls (c ∷ cs) old new t = (
   t.0,
   t.1 ++ line.Class old new ∷ [],
@@ -140,14 +142,16 @@ tell_member ls (b ∷ cs) c d x o n more t = (
   tell_member t.1 cs c d x o n more t.4,
 )
 
-one_field : (f : MapField) (c : MapClass) (ms : List MapLine) → TellMembers ms c → TellMembers (ms ++ line.Field f ∷ []) (with_field f c)
+one_field : (f : MapField) (c : MapClass) (ms : List MapLine) → TellMembers ms c
+    → TellMembers (ms ++ line.Field f ∷ []) (with_field f c)
 one_field f c ms t = record {
   members = all_append IsMember ms (line.Field f ∷ []) t.members (tt, tt);
   fields = filtered field_in ms (line.Field f ∷ []) ∙ ap (λ (l : List MapField). l ++ f ∷ []) t.fields;
   methods = filtered method_in ms (line.Field f ∷ []) ∙ append-nil (filter_map method_in ms) ∙ t.methods;
 }
 
-one_method : (m : MapMethod) (c : MapClass) (ms : List MapLine) → TellMembers ms c → TellMembers (ms ++ line.Method m ∷ []) (with_method m c)
+one_method : (m : MapMethod) (c : MapClass) (ms : List MapLine) → TellMembers ms c
+    → TellMembers (ms ++ line.Method m ∷ []) (with_method m c)
 one_method m c ms t = record {
   members = all_append IsMember ms (line.Method m ∷ []) t.members (tt, tt);
   fields = filtered field_in ms (line.Method m ∷ []) ∙ append-nil (filter_map field_in ms) ∙ t.fields;
@@ -160,7 +164,8 @@ pub record Tells (ls : List MapLine) (r : ClassesRead) : Type 0 where
   pub apart : AreApart (all_classes r)
 
 field_added : (ls : List MapLine) (before : List MapClass) (last : Option MapClass) (f : MapField) (s : ClassesRead)
-    → Tells ls (record { before = before; last = last }) → in_last before last (with_field f) ≡ Ok s → Tells (ls ++ line.Field f ∷ []) s
+    → Tells ls (record { before = before; last = last }) → in_last before last (with_field f) ≡ Ok s
+    → Tells (ls ++ line.Field f ∷ []) s
 field_added ls before None f s t h = absurd cc
 field_added ls before (Some c) f s t h =
     let is : record { before = before; last = Some (with_field f c) } ≡ s = cc in
@@ -170,7 +175,8 @@ field_added ls before (Some c) f s t h =
     })
 
 method_added : (ls : List MapLine) (before : List MapClass) (last : Option MapClass) (m : MapMethod) (s : ClassesRead)
-    → Tells ls (record { before = before; last = last }) → in_last before last (with_method m) ≡ Ok s → Tells (ls ++ line.Method m ∷ []) s
+    → Tells ls (record { before = before; last = last }) → in_last before last (with_method m) ≡ Ok s
+    → Tells (ls ++ line.Method m ∷ []) s
 method_added ls before None m s t h = absurd cc
 method_added ls before (Some c) m s t h =
     let is : record { before = before; last = Some (with_method m c) } ≡ s = cc in
@@ -179,7 +185,8 @@ method_added ls before (Some c) m s t h =
       apart = apart_last before c (with_method m c) refl refl t.apart;
     })
 
-class_added : (ls : List MapLine) (old new : List ℕ) (r s : ClassesRead) → Tells ls r → added (line.Class old new) r ≡ Ok s
+class_added : (ls : List MapLine) (old new : List ℕ) (r s : ClassesRead) → Tells ls r
+    → added (line.Class old new) r ≡ Ok s
     → Tells (ls ++ line.Class old new ∷ []) s
 class_added ls old new r s t h = by (has_name (all_classes r) old new) refl h
   where
@@ -194,13 +201,15 @@ class_added ls old new r s t h = by (has_name (all_classes r) old new) refl h
           apart = apart_more (all_classes r) (begun old new) t.apart (has_none (all_classes r) old new e);
         })
 
-one_added : (ls : List MapLine) (x : MapLine) (r s : ClassesRead) → Tells ls r → added x r ≡ Ok s → Tells (ls ++ x ∷ []) s
+one_added : (ls : List MapLine) (x : MapLine) (r s : ClassesRead) → Tells ls r → added x r ≡ Ok s
+    → Tells (ls ++ x ∷ []) s
 one_added ls (line.Class old new) r s t h = class_added ls old new r s t h
 one_added ls (line.Field f) r s t h = field_added ls r.before r.last f s t h
 one_added ls (line.Method m) r s t h = method_added ls r.before r.last m s t h
 
 all_added : (ls xs : List MapLine) (r s : ClassesRead) → Tells ls r → adds added xs r ≡ Ok s → Tells (ls ++ xs) s
-all_added ls [] r s t h = let is : r ≡ s = cc in subst (λ (l : List MapLine). Tells l s) (sym (append-nil ls)) (subst (Tells ls) is t)
+all_added ls [] r s t h =
+    let is : r ≡ s = cc in subst (λ (l : List MapLine). Tells l s) (sym (append-nil ls)) (subst (Tells ls) is t)
 all_added ls (x ∷ xs) r s t h =
     let b = bind_ok (added x r) (λ u. adds added xs u) s h in
     subst (λ (l : List MapLine). Tells l s) (append_assoc ls (x ∷ []) xs)
@@ -218,11 +227,17 @@ joined c fs ms = record { old = c.old; new = c.new; fields = c.fields ++ fs; met
 
 joined_field : (c : MapClass) (f : MapField) (fs : List MapField) (ms : List MapMethod)
     → joined (with_field f c) fs ms ≡ joined c (f ∷ fs) ms
-joined_field c f fs ms = ap (λ (l : List MapField). let C : MapClass = record { old = c.old; new = c.new; fields = l; methods = c.methods ++ ms } in C) (append_assoc c.fields (f ∷ []) fs)
+joined_field c f fs ms =
+    ap (λ (l : List MapField). let C : MapClass =
+    record { old = c.old; new = c.new; fields = l; methods = c.methods ++ ms } in C)
+    (append_assoc c.fields (f ∷ []) fs)
 
 joined_method : (c : MapClass) (m : MapMethod) (fs : List MapField) (ms : List MapMethod)
     → joined (with_method m c) fs ms ≡ joined c fs (m ∷ ms)
-joined_method c m fs ms = ap (λ (l : List MapMethod). let C : MapClass = record { old = c.old; new = c.new; fields = c.fields ++ fs; methods = l } in C) (append_assoc c.methods (m ∷ []) ms)
+joined_method c m fs ms =
+    ap (λ (l : List MapMethod). let C : MapClass =
+    record { old = c.old; new = c.new; fields = c.fields ++ fs; methods = l } in C)
+    (append_assoc c.methods (m ∷ []) ms)
 
 abbrev read_to : List MapClass → MapClass → Result ClassesRead MapKind
 read_to before c = Ok (record { before = before; last = Some c })
@@ -230,14 +245,24 @@ read_to before c = Ok (record { before = before; last = Some c })
 members_added : (before : List MapClass) (c : MapClass) (ls : List MapLine) → AllByRecursion IsMember ls
     → adds added ls (record { before = before; last = Some c })
     ≡ read_to before (joined c (filter_map field_in ls) (filter_map method_in ls))
-members_added before c [] h = ap (read_to before) (λ i. record { old = c.old; new = c.new; fields = sym (append-nil c.fields) i; methods = sym (append-nil c.methods) i })
+members_added before c [] h =
+    ap (read_to before)
+    (λ i. record {
+      old = c.old;
+      new = c.new;
+      fields = sym (append-nil c.fields) i;
+      methods = sym (append-nil c.methods) i;
+    })
 members_added before c (line.Class old new ∷ ls) h = absurd h.0
 members_added before c (line.Field f ∷ ls) h =
-    members_added before (with_field f c) ls h.1 ∙ ap (read_to before) (joined_field c f (filter_map field_in ls) (filter_map method_in ls))
+    members_added before (with_field f c) ls h.1
+    ∙ ap (read_to before) (joined_field c f (filter_map field_in ls) (filter_map method_in ls))
 members_added before c (line.Method m ∷ ls) h =
-    members_added before (with_method m c) ls h.1 ∙ ap (read_to before) (joined_method c m (filter_map field_in ls) (filter_map method_in ls))
+    members_added before (with_method m c) ls h.1
+    ∙ ap (read_to before) (joined_method c m (filter_map field_in ls) (filter_map method_in ls))
 
-adds_append : (xs ys : List MapLine) (r s : ClassesRead) → adds added xs r ≡ Ok s → adds added (xs ++ ys) r ≡ adds added ys s
+adds_append : (xs ys : List MapLine) (r s : ClassesRead) → adds added xs r ≡ Ok s
+    → adds added (xs ++ ys) r ≡ adds added ys s
 adds_append [] ys r s h = let is : r ≡ s = cc in ap (adds added ys) is
 adds_append (x ∷ xs) ys r s h =
     let b = bind_ok (added x r) (λ u. adds added xs u) s h in
@@ -252,20 +277,24 @@ class_whole : (c : MapClass) (ls : List MapLine) → TellMembers ls c
 class_whole c ls t = λ i. record { old = c.old; new = c.new; fields = t.fields i; methods = t.methods i }
 
 -- classes behind others
-classes_added : (ls : List MapLine) (cs : List MapClass) (r : ClassesRead) → TellClasses ls cs → AreApart (all_classes r ++ cs)
+classes_added : (ls : List MapLine) (cs : List MapClass) (r : ClassesRead) → TellClasses ls cs
+    → AreApart (all_classes r ++ cs)
     → (s : ClassesRead) × (adds added ls r ≡ Ok s) × (all_classes s ≡ all_classes r ++ cs)
 classes_added ls [] r t a = (r, ap (λ (l : List MapLine). adds added l r) t, sym (append-nil (all_classes r)))
 classes_added ls (c ∷ cs) r t a =
     let next : ClassesRead = record { before = all_classes r; last = Some c } in
     let first = class_begun c r (before_one (all_classes r) c cs a) in
-    let members : adds added t.0 (record { before = all_classes r; last = Some (begun c.old c.new) }) ≡ Ok (record { before = all_classes r; last = Some c })
-    = members_added (all_classes r) (begun c.old c.new) t.0 t.3.members ∙ ap (read_to (all_classes r)) (class_whole c t.0 t.3) in
+    let members : adds added t.0 (record { before = all_classes r; last = Some (begun c.old c.new) })
+    ≡ Ok (record { before = all_classes r; last = Some c })
+    = members_added (all_classes r) (begun c.old c.new) t.0 t.3.members
+    ∙ ap (read_to (all_classes r)) (class_whole c t.0 t.3) in
     let apart = subst AreApart (sym (append_assoc (all_classes r) (c ∷ []) cs)) a in
     let more = classes_added t.1 cs (record { before = all_classes r; last = Some c }) t.4 apart in (
       more.0,
       ap (λ (l : List MapLine). adds added l r) t.2
           ∙ ap (λ (o : Result ClassesRead MapKind). o >>= (λ u. adds added (t.0 ++ t.1) u)) first
-          ∙ adds_append t.0 t.1 (record { before = all_classes r; last = Some (begun c.old c.new) }) (record { before = all_classes r; last = Some c }) members
+          ∙ adds_append t.0 t.1 (record { before = all_classes r; last = Some (begun c.old c.new) })
+          (record { before = all_classes r; last = Some c }) members
           ∙ more.1,
       more.2 ∙ append_assoc (all_classes r) (c ∷ []) cs,
     )

@@ -1,15 +1,8 @@
 -- Two lists, compared from the first element on.
-use Rattle.std.proofs.Common.{◌≡◌, ◌<◌, ◌≤◌, ◌+◌, ℕ, suc, List, [], ◌∷◌, length, map, drop, get_or, refl, sym, ap, ◌∙◌, arith}
-use Rattle.std.proofs.Math.Seq.{drop-cons}
-use Rattle.std.proofs.lemmas.List.{drop_all}
+use Rattle.std.proofs.Common.{◌≡◌, ◌<◌, ◌≤◌, ◌+◌, ℕ, List, ◌∷◌, length, map, drop, get_or, sym, ap, ◌∙◌, arith}
+use Rattle.std.proofs.lemmas.List.{drop_all, length-map}
+use Rattle.jv_base.proofs.Lists.{rest_is}
 use Rattle.new_names.specs.bodies.Comparing.{IsLeft}
-
--- what is left at a place begins with the element there
-begins : {A : Type 0} (xs : List A) (i : ℕ) (x : A) → i < length xs → x ≡ get_or xs i x
-    → drop i xs ≡ x ∷ drop (i + 1) xs
-begins xs i x lt is =
-    let e : suc i ≡ i + 1 = omega arith in
-    drop-cons xs i x lt ∙ ap (λ (y : _). y ∷ drop (suc i) xs) (sym is) ∙ ap (λ (n : ℕ). x ∷ drop n xs) e
 
 -- the same elements, and then the same lists
 both : {B : Type 0} (x y : B) (xs ys : List B) → x ≡ y → xs ≡ ys → x ∷ xs ≡ y ∷ ys
@@ -18,8 +11,8 @@ both x y xs ys e f = ap (λ (z : _). z ∷ xs) e ∙ ap (λ (zs : List _). y ∷
 pub alike : {A B : Type 0} (f : A → B) (xs : List A) (ys : List B) (i : ℕ) (x : A) (y : B) → i < length xs
     → i < length ys → x ≡ get_or xs i x → y ≡ get_or ys i y → f x ≡ y → IsLeft f xs ys i → IsLeft f xs ys (i + 1)
 alike {A} {B} f xs ys i x y lx ly is_x is_y same left =
-    let bx = begins xs i x lx is_x in
-    let by = begins ys i y ly is_y in (
+    let bx = rest_is xs i x lx is_x in
+    let by = rest_is ys i y ly is_y in (
       (λ e. left.0 (ap (map f) bx ∙ both (f x) y (map f (drop (i + 1) xs)) (drop (i + 1) ys) same e ∙ sym by)),
       (λ e. let k : f x ∷ map f (drop (i + 1) xs) ≡ y ∷ drop (i + 1) ys = sym (ap (map f) bx) ∙ left.1 e ∙ by in cc),
     )
@@ -27,8 +20,8 @@ alike {A} {B} f xs ys i x y lx ly is_x is_y same left =
 pub unlike : {A B : Type 0} (f : A → B) (xs : List A) (ys : List B) (i : ℕ) (x : A) (y : B) → i < length xs
     → i < length ys → x ≡ get_or xs i x → y ≡ get_or ys i y → (f x ≡ y → ⊥) → IsLeft f xs ys i → map f xs ≡ ys → ⊥
 unlike {A} {B} f xs ys i x y lx ly is_x is_y other left e =
-    let bx = begins xs i x lx is_x in
-    let by = begins ys i y ly is_y in
+    let bx = rest_is xs i x lx is_x in
+    let by = rest_is ys i y ly is_y in
     let k : f x ∷ map f (drop (i + 1) xs) ≡ y ∷ drop (i + 1) ys = sym (ap (map f) bx) ∙ left.1 e ∙ by in
     let h : f x ≡ y = cc in
     other h
@@ -38,12 +31,8 @@ pub all_alike : {A B : Type 0} (f : A → B) (xs : List A) (ys : List B) (i : �
 all_alike f xs ys i all same left =
     left.0 (ap (map f) (drop_all i xs all) ∙ sym (drop_all i ys (omega arith)))
 
-length_map : {A B : Type 0} (f : A → B) (xs : List A) → length (map f xs) ≡ length xs
-length_map f [] = refl
-length_map f (x ∷ xs) = ap suc (length_map f xs)
-
 pub apart : {A B : Type 0} (f : A → B) (xs : List A) (ys : List B) → (length xs ≡ length ys → ⊥) → map f xs ≡ ys → ⊥
-apart f xs ys other e = other (sym (length_map f xs) ∙ ap length e)
+apart f xs ys other e = other (sym (length-map xs f) ∙ ap length e)
 
 pub all_left : {A B : Type 0} (f : A → B) (xs : List A) (ys : List B) → IsLeft f xs ys 0
 all_left f xs ys = ((λ e. e), (λ e. e))

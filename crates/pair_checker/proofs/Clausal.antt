@@ -53,10 +53,12 @@ module _ {E : Type 0} (pair : Pair) (rules : Rules) (is : IsRead pair rules) (r 
       pair.output.now)
       → IfOk r (MemberDiffers pair.input.now pair.output.now pair.mapping.now rules)
   found_member h = subst
-      (λ (g : List ClassNames). IfOk r (members.MemberDiffers pair.mapping.now (filter_of rules) pair.input.now g pair.output.now))
+      (λ (g : List ClassNames). IfOk r
+      (members.MemberDiffers pair.mapping.now (filter_of rules) pair.input.now g pair.output.now))
       is.given
       (subst
-      (λ (f : AttributeFilter). IfOk r (members.MemberDiffers pair.mapping.now f pair.input.now pair.given.now pair.output.now))
+      (λ (f : AttributeFilter). IfOk r
+      (members.MemberDiffers pair.mapping.now f pair.input.now pair.given.now pair.output.now))
       is.filter
       (subst
       (λ (m : Mapping). IfOk r (members.MemberDiffers m pair.filter.now pair.input.now pair.given.now pair.output.now))
@@ -66,10 +68,12 @@ module _ {E : Type 0} (pair : Pair) (rules : Rules) (is : IsRead pair rules) (r 
       pair.output.now)
       → IfOk r (CodeDiffers pair.input.now pair.output.now pair.mapping.now rules pair.witness.now)
   found_code h = subst
-      (λ (g : List ClassNames). IfOk r (coded.CodeDiffers pair.mapping.now (filter_of rules) pair.input.now g pair.output.now))
+      (λ (g : List ClassNames). IfOk r
+      (coded.CodeDiffers pair.mapping.now (filter_of rules) pair.input.now g pair.output.now))
       is.given
       (subst
-      (λ (f : AttributeFilter). IfOk r (coded.CodeDiffers pair.mapping.now f pair.input.now pair.given.now pair.output.now))
+      (λ (f : AttributeFilter). IfOk r
+      (coded.CodeDiffers pair.mapping.now f pair.input.now pair.given.now pair.output.now))
       is.filter
       (subst
       (λ (m : Mapping). IfOk r (coded.CodeDiffers m pair.filter.now pair.input.now pair.given.now pair.output.now))

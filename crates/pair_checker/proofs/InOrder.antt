@@ -1,8 +1,9 @@
 -- The first clause that holds, in the order of all of them.
-use Rattle.std.proofs.Common.{◌≡◌, ◌<◌, ℕ, zero, suc, List, [], ◌∷◌, take, slice_get, Option, Some, None, Result, Ok, Err}
-use Rattle.std.proofs.Common.{◌≤◌, ◌-◌, drop, get_or, length, inl, inr, refl, sym, ap, subst, arith}
+use Rattle.std.proofs.Common.{◌≡◌, ◌<◌, ℕ, zero, suc, List, [], ◌∷◌, take, slice_get, Option, Some, None, Result, Ok}
+use Rattle.std.proofs.Common.{Err, ◌≤◌, ◌-◌, drop, get_or, length, inl, inr, refl, sym, ap, subst, arith}
 use Rattle.std.proofs.lemmas.List.{take_all}
 use Rattle.std.specs.List.{AllByRecursion}
+use Rattle.std.proofs.lemmas.Option.{same_Some}
 use Rattle.jv_base.specs.declared.outcome.Or.{Or}
 use Rattle.jv_base.specs.declared.outcome.Or.TheVariants as or
 use Rattle.class_model.specs.declared.class.Class.{Class}
@@ -36,15 +37,12 @@ stands_at clause.WitnessStray = refl
 stands_at clause.EditIllegal = refl
 stands_at clause.CodeDiffers = refl
 
-pub same_some : {A : Type 0} (x y : A) → Some x ≡ Some y → x ≡ y
-same_some x y h = cc
-
 -- what holds of a front holds of each of its elements
 front_holds : {A : Type 0} (P : A → Type 0) (xs : List A) (n i : ℕ) (x : A) → AllByRecursion P (take n xs) → i < n
     → slice_get xs i ≡ Some x → P x
 front_holds P [] n i x h low at = absurd cc
 front_holds P (y ∷ ys) zero i x h low at = absurd omega (arith, low)
-front_holds P (y ∷ ys) (suc n) zero x h low at = subst P (same_some y x at) h.0
+front_holds P (y ∷ ys) (suc n) zero x h low at = subst P (same_Some y x at) h.0
 front_holds P (y ∷ ys) (suc n) (suc i) x h low at = front_holds P ys n i x h.1 (omega (arith, low)) at
 
 module _ (input output : List Class) (mapping : Mapping) (rules : Rules) (witness : Witness) where
@@ -85,12 +83,18 @@ module _ (input output : List Class) (mapping : Mapping) (rules : Rules) (witnes
   first_holds answer (inl f) = found_at answer clause.MapShape (refl, (refl, tt)) f
   first_holds answer (inr (a, inl f)) = found_at answer clause.FixedName (refl, (refl, (a, tt))) f
   first_holds answer (inr (a, inr (b, inl f))) = found_at answer clause.Package (refl, (refl, (a, (b, tt)))) f
-  first_holds answer (inr (a, inr (b, inr (d, inl f)))) = found_at answer clause.SeedLost (refl, (refl, (a, (b, (d, tt))))) f
-  first_holds answer (inr (a, inr (b, inr (d, inr (e, inl f))))) = found_at answer clause.NotClosed (refl, (refl, (a, (b, (d, (e, tt)))))) f
-  first_holds answer (inr (a, inr (b, inr (d, inr (e, inr (g, inl f)))))) = found_at answer clause.MemberDiffers (refl, (refl, (a, (b, (d, (e, (g, tt))))))) f
-  first_holds answer (inr (a, inr (b, inr (d, inr (e, inr (g, inr (h, inl f))))))) = found_at answer clause.WitnessStray (refl, (refl, (a, (b, (d, (e, (g, (h, tt)))))))) f
-  first_holds answer (inr (a, inr (b, inr (d, inr (e, inr (g, inr (h, inr (k, inl f)))))))) = found_at answer clause.EditIllegal (refl, (refl, (a, (b, (d, (e, (g, (h, (k, tt))))))))) f
-  first_holds answer (inr (a, inr (b, inr (d, inr (e, inr (g, inr (h, inr (k, inr (l, inl f))))))))) = found_at answer clause.CodeDiffers (refl, (refl, (a, (b, (d, (e, (g, (h, (k, (l, tt)))))))))) f
+  first_holds answer (inr (a, inr (b, inr (d, inl f)))) =
+      found_at answer clause.SeedLost (refl, (refl, (a, (b, (d, tt))))) f
+  first_holds answer (inr (a, inr (b, inr (d, inr (e, inl f))))) =
+      found_at answer clause.NotClosed (refl, (refl, (a, (b, (d, (e, tt)))))) f
+  first_holds answer (inr (a, inr (b, inr (d, inr (e, inr (g, inl f)))))) =
+      found_at answer clause.MemberDiffers (refl, (refl, (a, (b, (d, (e, (g, tt))))))) f
+  first_holds answer (inr (a, inr (b, inr (d, inr (e, inr (g, inr (h, inl f))))))) =
+      found_at answer clause.WitnessStray (refl, (refl, (a, (b, (d, (e, (g, (h, tt)))))))) f
+  first_holds answer (inr (a, inr (b, inr (d, inr (e, inr (g, inr (h, inr (k, inl f)))))))) =
+      found_at answer clause.EditIllegal (refl, (refl, (a, (b, (d, (e, (g, (h, (k, tt))))))))) f
+  first_holds answer (inr (a, inr (b, inr (d, inr (e, inr (g, inr (h, inr (k, inr (l, inl f))))))))) =
+      found_at answer clause.CodeDiffers (refl, (refl, (a, (b, (d, (e, (g, (h, (k, (l, tt)))))))))) f
   first_holds answer (inr (a, inr (b, inr (d, inr (e, inr (g, inr (h, inr (k, inr (l, inr (m, f)))))))))) = absurd f
 
   pub matches_by : (r : Result (Unit {0}) (Or No)) → Tests input output mapping rules witness tested r

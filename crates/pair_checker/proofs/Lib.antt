@@ -3,4 +3,3 @@ mod InOrder
 mod Mapped
 mod OnlyOne
 mod Reading
-pub mod SystemDue

@@ -1,5 +1,6 @@
 -- A list that is made by going over another one.
-use Rattle.std.proofs.Common.{◌≡◌, ◌+◌, ◌∙◌, ℕ, List, [], ◌∷◌, ◌++◌, None, Some, drop, map, slice_get, sym, ap, append_assoc}
+use Rattle.std.proofs.Common.{◌≡◌, ◌+◌, ◌∙◌, ℕ, List, [], ◌∷◌, ◌++◌, None, Some, drop, map, slice_get, sym, ap}
+use Rattle.std.proofs.Common.{append_assoc}
 use Rattle.std.proofs.lemmas.List.{append-nil}
 use Rattle.pair_clauses.proofs.Zipped.{drop_none, drop_some}
 

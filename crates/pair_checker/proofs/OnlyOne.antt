@@ -1,6 +1,8 @@
 -- The same pair has one answer.
-use Rattle.std.proofs.Common.{◌≡◌, ◌<◌, ℕ, List, slice_get, Option, Some, None, ⊎_elim, refl, sym, ap, subst, ◌∙◌, arith}
+use Rattle.std.proofs.Common.{◌≡◌, ◌<◌, ℕ, List, slice_get, Option, Some, None, ⊎_elim, refl, sym, ap, subst, ◌∙◌}
+use Rattle.std.proofs.Common.{arith}
 use Rattle.std.proofs.lemmas.Bool.{cases_lt}
+use Rattle.std.proofs.lemmas.Option.{same_Some}
 use Rattle.tree_io.specs.declared.file_at.FileAt.{FileAt}
 use Rattle.class_model.specs.declared.class.Class.{Class}
 use Rattle.set_read.specs.Accepted.{IsAccepted, IsFault}
@@ -23,12 +25,12 @@ use Rattle.pair_checker.specs.bodies.Matching.{no_at}
 use Rattle.pair_checker.specs.declared.answer.Clause.{Clause}
 use Rattle.pair_checker.specs.declared.answer.Clause.TheVariants as clause
 use Rattle.pair_checker.specs.declared.answer.No.{No}
-use Rattle.pair_checker.proofs.InOrder.{order, same_some, stands_at}
+use Rattle.pair_checker.proofs.InOrder.{order, stands_at}
 use Rattle.pair_checker.proofs.Reading.{profile_no}
 
 -- two clauses with one number are the same
 same_clause : (c d : Clause) → number c ≡ number d → c ≡ d
-same_clause c d h = same_some c d (sym (stands_at c) ∙ ap (slice_get order) h ∙ stands_at d)
+same_clause c d h = same_Some c d (sym (stands_at c) ∙ ap (slice_get order) h ∙ stands_at d)
 
 module _ (input output : List Class) (mapping : Mapping) (rules : Rules) (witness : Witness) where
   -- a clause has one first place at most
@@ -69,7 +71,7 @@ module _ (input output : List Class) (mapping : Mapping) (rules : Rules) (witnes
       → IsFirst input output mapping rules witness d q → no_at c p ≡ no_at d q
   same_at c d p q f g =
       let is = same_first c d p q f g in
-      let there : p ≡ q = same_some p q (same_place c d p q is f.holds g.holds) in
+      let there : p ≡ q = same_Some p q (same_place c d p q is f.holds g.holds) in
       ap (λ (x : Clause). no_at x p) is ∙ ap (no_at d) there
 
 -- ---- files
@@ -96,7 +98,8 @@ pub one_answer : IsOneNo
 one_answer input files mapping rules witness answer other (by_format f is) (by_format g is2) = is ∙ sym is2
 one_answer input files mapping rules witness answer other (by_format f is) (by_profile fault g is2) =
     absurd (not_alike f.0 f.1 fault (one_fault files (Format f.0 f.1) (Rule fault) f.2 g))
-one_answer input files mapping rules witness answer other (by_format f is) (by_clause output accepted c place first is2) =
+one_answer input files mapping rules witness answer other (by_format f is)
+    (by_clause output accepted c place first is2) =
     absurd (not_both files output (Format f.0 f.1) accepted f.2)
 one_answer input files mapping rules witness answer other (by_profile fault f is) (by_format g is2) =
     absurd (not_alike g.0 g.1 fault (one_fault files (Format g.0 g.1) (Rule fault) g.2 f))
@@ -104,7 +107,8 @@ one_answer input files mapping rules witness answer other (by_profile fault f is
     is ∙ ap profile_no (same_rule fault told (one_fault files (Rule fault) (Rule told) f g)) ∙ sym is2
 one_answer input files mapping rules witness answer other (by_profile fault f is)
     (by_clause output accepted c place first is2) = absurd (not_both files output (Rule fault) accepted f)
-one_answer input files mapping rules witness answer other (by_clause output accepted c place first is) (by_format g is2) =
+one_answer input files mapping rules witness answer other (by_clause output accepted c place first is)
+    (by_format g is2) =
     absurd (not_both files output (Format g.0 g.1) accepted g.2)
 one_answer input files mapping rules witness answer other (by_clause output accepted c place first is)
     (by_profile told g is2) = absurd (not_both files output (Rule told) accepted g)

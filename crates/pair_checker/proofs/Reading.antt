@@ -40,7 +40,8 @@ abbrev pub no_set : Or SetFault → Result (List Class) (Or SetFault)
 no_set e = Err e
 
 -- the fault of files, of which others are copies
-pub fault_of : (files copies : List FileAt) (e : Or SetFault) (fault told : SetFault) → copies ≡ files → e ≡ or.Fault fault
+pub fault_of : (files copies : List FileAt) (e : Or SetFault) (fault told : SetFault) → copies ≡ files
+    → e ≡ or.Fault fault
     → fault ≡ told → Reads (no_set e) copies → IsFault files told
 fault_of files copies e fault told same is that h =
     subst (IsFault files) that

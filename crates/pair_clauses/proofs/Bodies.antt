@@ -28,7 +28,8 @@ module _ (names : Names) where
   bare (i ∷ is) = ap (λ (xs : List Ins). renamed_ins names (without_line i) ∷ xs) (bare is)
 
 -- the parts of a code are alike, and so is the code
-pub same_code : (mapping : Mapping) (lines : Bool) (code out : Code) (old new : List Ins) → old ≡ code.ins → new ≡ out.ins
+pub same_code : (mapping : Mapping) (lines : Bool) (code out : Code) (old new : List Ins) → old ≡ code.ins
+    → new ≡ out.ins
     → map (renamed_handler (names_of mapping)) code.handlers ≡ out.handlers → (same : Bool)
     → (IsTrue same ↔ (map (mapped_ins_if (names_of mapping) lines) old ≡ new))
     → IsTrue same ↔ IsSameCode mapping (if lines then code else without_lines code) out
@@ -38,7 +39,8 @@ same_code mapping true code out old new eo en handlers same answer = (
         ∙ ap (map (mapped_ins_if (names_of mapping) true)) (sym eo) ∙ answer.0 t ∙ en;
     handlers = handlers;
   }),
-  (λ s. answer.1 (ap (map (mapped_ins_if (names_of mapping) true)) eo ∙ with_lines (names_of mapping) code.ins ∙ s.ins ∙ sym en)),
+  (λ s. answer.1
+      (ap (map (mapped_ins_if (names_of mapping) true)) eo ∙ with_lines (names_of mapping) code.ins ∙ s.ins ∙ sym en)),
 )
 same_code mapping false code out old new eo en handlers same answer = (
   (λ t. record {
@@ -46,7 +48,8 @@ same_code mapping false code out old new eo en handlers same answer = (
         ∙ ap (map (mapped_ins_if (names_of mapping) false)) (sym eo) ∙ answer.0 t ∙ en;
     handlers = handlers;
   }),
-  (λ s. answer.1 (ap (map (mapped_ins_if (names_of mapping) false)) eo ∙ bare (names_of mapping) code.ins ∙ s.ins ∙ sym en)),
+  (λ s. answer.1
+      (ap (map (mapped_ins_if (names_of mapping) false)) eo ∙ bare (names_of mapping) code.ins ∙ s.ins ∙ sym en)),
 )
 
 -- a method that is there has a body exactly where some method that is there has
@@ -63,7 +66,8 @@ kept_some : (filter : AttributeFilter) (code : Code)
     → Some (if filter.line_numbers then code else without_lines code) ≡ code_kept filter (Some code)
 kept_some filter code = by filter.line_numbers
   where
-    by : (b : Bool) → Some (if b then code else without_lines code) ≡ (if b then Some code else Some (without_lines code))
+    by : (b : Bool)
+        → Some (if b then code else without_lines code) ≡ (if b then Some code else Some (without_lines code))
     by true = refl
     by false = refl
 

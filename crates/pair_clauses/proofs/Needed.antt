@@ -1,5 +1,6 @@
 -- What items need that have lines: gone over from an item on, and that it is items.
-use Rattle.std.proofs.Common.{◌≡◌, ◌<◌, ◌≤◌, ◌+◌, ℕ, Bool, true, false, not, List, [], ◌∷◌, ◌++◌, Option, Some, None, fold, length, drop, slice_get, refl, sym, ap, subst, ◌∙◌, arith, append_assoc}
+use Rattle.std.proofs.Common.{◌≡◌, ◌<◌, ◌≤◌, ◌+◌, ℕ, Bool, true, false, not, List, [], ◌∷◌, ◌++◌, Option, Some, None}
+use Rattle.std.proofs.Common.{fold, length, drop, slice_get, refl, sym, ap, subst, ◌∙◌, arith, append_assoc}
 use Rattle.std.specs.Prelude.{◌&&◌, if◌then◌else◌}
 use Rattle.std.specs.List.{All, enumerate_from, filter, flat_map}
 use Rattle.std.specs.Option.{IfSome}
@@ -29,7 +30,8 @@ module _ (lined : List Bool) where
       → needed_from needs more i ≡ needed_by lined (i, x) ++ needed_from needs more (i + 1)
   needed_here needs more i x s =
       ap (λ (zs : List (List ℕ)). flat_map (needed_by lined) (enumerate_from i zs) ++ more) (drop_some needs i x s)
-      ∙ append_assoc (needed_by lined (i, x)) (flat_map (needed_by lined) (enumerate_from (i + 1) (drop (i + 1) needs))) more
+      ∙ append_assoc (needed_by lined (i, x))
+      (flat_map (needed_by lined) (enumerate_from (i + 1) (drop (i + 1) needs))) more
 
   -- an item more was gone over
   pub needs_on : (needs : List (List ℕ)) (more : List ℕ) (i : ℕ) (x : List ℕ) (least after : Option ℕ)
@@ -43,7 +45,8 @@ module _ (lined : List Bool) where
   -- all were
   pub needs_done : (needs : List (List ℕ)) (more : List ℕ) (i : ℕ) → length needs ≤ i → more ≡ needed_from needs more i
   needs_done needs more i all =
-      ap (λ (zs : List (List ℕ)). flat_map (needed_by lined) (enumerate_from i zs) ++ more) (sym (drop_none needs i (beyond needs i all)))
+      ap (λ (zs : List (List ℕ)). flat_map (needed_by lined) (enumerate_from i zs) ++ more)
+      (sym (drop_none needs i (beyond needs i all)))
 
   -- an item with a line, and one without
   pub needs_lined : (i : ℕ) (x : List ℕ) → has_line lined i ≡ true → x ≡ needed_by lined (i, x)
@@ -80,7 +83,8 @@ module _ (lined : List Bool) where
   -- where it has none, and where it has one or isn't needed
   pub after_lacking : (pair : Pair) (least after : Option ℕ) (lacks : Bool)
       → lacks ≡ (has_line lined pair.one && has_line lined pair.two && not (has_line lined pair.derived))
-      → after ≡ (if lacks then lesser least pair.derived else least) → after ≡ least_of least (needed_together lined pair)
+      → after ≡ (if lacks then lesser least pair.derived else least)
+      → after ≡ least_of least (needed_together lined pair)
   after_lacking pair least after lacks is e =
       e ∙ ap (λ (b : Bool). if b then lesser least pair.derived else least) is ∙ sym (together_lacks pair least)
 
@@ -107,7 +111,8 @@ module _ (lined : List Bool) where
         by true = All-cons (λ y. y < n) pair.derived [] below.2 (λ k d low. absurd (omega (arith, low)))
         by false = λ k d low. absurd (omega (arith, low))
 
-    pairs_below : (pairs : List Pair) → All (PairBelow n) pairs → All (λ y. y < n) (flat_map (needed_together lined) pairs)
+    pairs_below : (pairs : List Pair) → All (PairBelow n) pairs
+        → All (λ y. y < n) (flat_map (needed_together lined) pairs)
     pairs_below [] all = λ k d low. absurd (omega (arith, low))
     pairs_below (x ∷ xs) all = All-append (λ y. y < n) (needed_together lined x) (flat_map (needed_together lined) xs)
         (together_below x (All-head (PairBelow n) x xs all)) (pairs_below xs (All-tail (PairBelow n) x xs all))
@@ -126,10 +131,12 @@ module _ (lined : List Bool) where
   pub lacking_below : (sys : System) → Valid sys → IfSome (lacking sys lined) (λ y. y < sys.n)
   lacking_below sys valid = fold_below sys.n None (filter (λ x. not (has_line lined x)) (needed sys lined)) tt
       (All-filter (λ x. not (has_line lined x)) (λ y. y < sys.n) (needed sys lined)
-      (All-append (λ y. y < sys.n) (flat_map (needed_by lined) (enumerate_from 0 sys.needs)) (flat_map (needed_together lined) sys.pairs)
+      (All-append (λ y. y < sys.n) (flat_map (needed_by lined) (enumerate_from 0 sys.needs))
+      (flat_map (needed_together lined) sys.pairs)
       (items_below sys.n 0 sys.needs valid.2) (pairs_below sys.n sys.pairs valid.3)))
 
-  pub item_below : (sys : System) (item bound : ℕ) → Valid sys → sys.n ≡ bound → Some item ≡ lacking sys lined → item < bound
+  pub item_below : (sys : System) (item bound : ℕ) → Valid sys → sys.n ≡ bound → Some item ≡ lacking sys lined
+      → item < bound
   item_below sys item bound valid same is =
       let low : item < sys.n = subst (λ (o : Option ℕ). IfSome o (λ y. y < sys.n)) (sym is) (lacking_below sys valid) in
       omega (arith, low, same)

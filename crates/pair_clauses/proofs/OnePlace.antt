@@ -7,9 +7,9 @@ use Rattle.mapping_file.specs.declared.mapping.Mapping.{Mapping}
 use Rattle.new_names.specs.declared.class_names.ClassNames.{ClassNames}
 use Rattle.pair_clauses.specs.Codes.{ClassCodeDiffers, CodeDiffers, IsSameBody}
 use Rattle.pair_clauses.specs.Finding.{FirstUnlike, IsOne}
-use Rattle.pair_clauses.specs.Members.{ClassDiffers, IsSameClass, IsSameField, IsSameMethod, LinedDiffers, MemberDiffers}
-use Rattle.pair_clauses.specs.Members.{MethodsDiffer, NewField, NewMethod, expected_fields, expected_methods, further_fault}
-use Rattle.pair_clauses.specs.Members.{new_one}
+use Rattle.pair_clauses.specs.Members.{ClassDiffers, IsSameClass, IsSameField, IsSameMethod, LinedDiffers}
+use Rattle.pair_clauses.specs.Members.{MemberDiffers, MethodsDiffer, NewField, NewMethod, expected_fields}
+use Rattle.pair_clauses.specs.Members.{expected_methods, further_fault, new_one}
 use Rattle.pair_clauses.specs.Places.{class_place, place_of_field, place_of_method}
 use Rattle.pair_clauses.proofs.OneFinding.{one_equal, one_first, one_then, one_unless, one_unlike}
 

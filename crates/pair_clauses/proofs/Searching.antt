@@ -1,13 +1,14 @@
 -- One search behind another, and the first that is found of pairs from a place on.
-use Rattle.std.proofs.Common.{◌≡◌, ◌+◌, ℕ, Bool, true, false, List, [], Option, Some, None, is_some, drop, slice_get, refl, sym, subst, inl, inr}
-use Rattle.std.specs.Prelude.{◌||◌}
+use Rattle.std.proofs.Common.{◌≡◌, ◌+◌, ℕ, true, false, List, [], Option, Some, None, is_some, drop, slice_get, refl}
+use Rattle.std.proofs.Common.{sym, subst, inl, inr}
 use Rattle.std.specs.List.{zip}
 use Rattle.pair_clauses.specs.Finding.{FirstOf, Then}
 use Rattle.pair_clauses.specs.declared.place.Place.{Place}
 use Rattle.pair_clauses.proofs.Zipped.{zip_more}
 
 -- the first search finds it
-pub then_found : (Finds Next : Option Place → Type 0) (o : Option Place) → is_some o ≡ true → Finds o → Then Finds Next o
+pub then_found : (Finds Next : Option Place → Type 0) (o : Option Place) → is_some o ≡ true → Finds o
+    → Then Finds Next o
 then_found Finds Next None h f = absurd cc
 then_found Finds Next (Some p) h f = inl f
 
@@ -16,14 +17,11 @@ pub then_on : (Finds Next : Option Place → Type 0) → Finds None → (o : Opt
 then_on Finds Next none None n = (none, n)
 then_on Finds Next none (Some p) n = inr (none, n)
 
-pub either : (a b : Bool) → b ≡ true → (a || b) ≡ true
-either true b h = refl
-either false b h = h
-
 module _ {A B : Type 0} (Finds : A × B → Option Place → Type 0) (xs : List A) (ys : List B) where
   -- what is found behind this place is found of all
   abbrev pub FoundFrom : ℕ → Type 0
-  FoundFrom i = (found : Option Place) → FirstOf Finds (zip (drop i xs) (drop i ys)) found → FirstOf Finds (zip xs ys) found
+  FoundFrom i = (found : Option Place) → FirstOf Finds (zip (drop i xs) (drop i ys)) found
+      → FirstOf Finds (zip xs ys) found
 
   module _ (i : ℕ) (left : FoundFrom i) where
     pub from_done : [] ≡ zip (drop i xs) (drop i ys) → FirstOf Finds (zip xs ys) None

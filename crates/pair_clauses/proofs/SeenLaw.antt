@@ -1,10 +1,12 @@
 -- What tables have where one line more was put.
-use Rattle.std.proofs.Common.{◌≡◌, ℕ, Bool, true, false, cond, not, ◌||◌, List, [], ◌∷◌, ◌++◌, ◌⊎◌, inl, inr, map, Option, Some, None, refl, sym, ap, ◌∙◌}
+use Rattle.std.proofs.Common.{◌≡◌, ℕ, Bool, true, false, cond, not, ◌||◌, List, [], ◌∷◌, ◌++◌, ◌⊎◌, inl, inr, map}
+use Rattle.std.proofs.Common.{Option, Some, None, refl, sym, ap, ◌∙◌}
 use Rattle.std.specs.List.{list_any}
 use Rattle.std.specs.Map.{lookup}
 use Rattle.std.specs.Option.{option_or}
+use Rattle.std.proofs.lemmas.Bool.{not-false}
 use Rattle.jv_base.specs.Names.{is_text}
-use Rattle.jv_base.proofs.Equality.{text_Decides}
+use Rattle.jv_base.proofs.Equality.{same_text}
 use Rattle.mapping_file.specs.declared.mapping.MapClass.{MapClass}
 use Rattle.pair_clauses.specs.Shape.{is_other}
 
@@ -15,23 +17,18 @@ lookup_more test [] k v = refl
 lookup_more {K} {V} test (x ∷ xs) k v = by (test x.0) (lookup_more test xs k v)
   where
     by : (b : Bool) → lookup test (xs ++ (k, v) ∷ []) ≡ option_or (lookup test xs) (cond (test k) (Some v) None)
-        → cond b (Some x.1) (lookup test (xs ++ (k, v) ∷ [])) ≡ option_or (cond b (Some x.1) (lookup test xs)) (cond (test k) (Some v) None)
+        → cond b (Some x.1) (lookup test (xs ++ (k, v) ∷ []))
+        ≡ option_or (cond b (Some x.1) (lookup test xs)) (cond (test k) (Some v) None)
     by true e = refl
     by false e = e
 
-same_text : (a b : List ℕ) → is_text a b ≡ true → a ≡ b
-same_text a b h = (text_Decides a b).0 h
-
 agrees : (there : Option (List ℕ)) (new : List ℕ) → is_other there new ≡ false → (there ≡ None) ⊎ (there ≡ Some new)
 agrees None new h = inl refl
-agrees (Some old) new h = inr (ap Some (same_text old new (by (is_text old new) h)))
-  where
-    by : (b : Bool) → not b ≡ false → b ≡ true
-    by true e = refl
-    by false e = absurd cc
+agrees (Some old) new h = inr (ap Some (same_text old new (not-false (is_text old new) h)))
 
 -- the new name of the first pair, where a pair is put that has no other new name yet
-pub first_put : (pairs : List (List ℕ × List ℕ)) (old new : List ℕ) → is_other (lookup (λ k. is_text k old) pairs) new ≡ false
+pub first_put : (pairs : List (List ℕ × List ℕ)) (old new : List ℕ)
+    → is_other (lookup (λ k. is_text k old) pairs) new ≡ false
     → (name : List ℕ) → cond (is_text old name) (Some new) (lookup (λ k. is_text k name) pairs)
     ≡ lookup (λ k. is_text k name) (pairs ++ (old, new) ∷ [])
 first_put pairs old new none name =
@@ -45,18 +42,22 @@ first_put pairs old new none name =
     by true is None e = refl
     by true is (Some v) e = with_agreed (agrees (lookup (λ k. is_text k old) pairs) new none)
       where
-        with_agreed : (lookup (λ k. is_text k old) pairs ≡ None) ⊎ (lookup (λ k. is_text k old) pairs ≡ Some new) → Some new ≡ Some v
+        with_agreed : (lookup (λ k. is_text k old) pairs ≡ None) ⊎ (lookup (λ k. is_text k old) pairs ≡ Some new)
+            → Some new ≡ Some v
         with_agreed (inl missing) =
             let s : old ≡ name = same_text old name is in
-            let f : lookup (λ k. is_text k old) pairs ≡ Some v = ap (λ (t : List ℕ). lookup (λ k. is_text k t) pairs) s ∙ e in
+            let f : lookup (λ k. is_text k old) pairs ≡ Some v =
+            ap (λ (t : List ℕ). lookup (λ k. is_text k t) pairs) s ∙ e in
             absurd cc
         with_agreed (inr present) =
             let s : old ≡ name = same_text old name is in
-            let f : lookup (λ k. is_text k old) pairs ≡ Some v = ap (λ (t : List ℕ). lookup (λ k. is_text k t) pairs) s ∙ e in
+            let f : lookup (λ k. is_text k old) pairs ≡ Some v =
+            ap (λ (t : List ℕ). lookup (λ k. is_text k t) pairs) s ∙ e in
             sym present ∙ f
 
 -- what a table finds where a pair was put
-pub put_there : (pairs : List (List ℕ × List ℕ)) (old new key value : List ℕ) (there here : Option (List ℕ)) (name : List ℕ)
+pub put_there : (pairs : List (List ℕ × List ℕ)) (old new key value : List ℕ) (there here : Option (List ℕ))
+    (name : List ℕ)
     → is_other (lookup (λ k. is_text k old) pairs) new ≡ false → key ≡ old → value ≡ new
     → here ≡ cond (is_text key name) (Some value) there → there ≡ lookup (λ k. is_text k name) pairs
     → here ≡ lookup (λ k. is_text k name) (pairs ++ (old, new) ∷ [])
@@ -77,13 +78,9 @@ pub swapped_more : (pairs : List (List ℕ × List ℕ)) (old new name : List �
 swapped_more pairs old new name =
     ap (lookup (λ k. is_text k name)) (map_last (λ (p : List ℕ × List ℕ). (p.1, p.0)) pairs (old, new))
 
--- neither of two
-pub neither : (a b : Bool) → (a || b) ≡ false → (a ≡ false) × (b ≡ false)
-neither true b h = absurd cc
-neither false b h = (refl, h)
-
 -- a name among those of others
-pub any_map : {A B : Type 0} (test : B → Bool) (f : A → B) (xs : List A) → list_any test (map f xs) ≡ list_any (λ x. test (f x)) xs
+pub any_map : {A B : Type 0} (test : B → Bool) (f : A → B) (xs : List A)
+    → list_any test (map f xs) ≡ list_any (λ x. test (f x)) xs
 any_map test f [] = refl
 any_map test f (x ∷ xs) = ap (λ (b : Bool). test (f x) || b) (any_map test f xs)
 
@@ -100,7 +97,8 @@ unlined lines name there answer is e =
 
 -- a class that a set doesn't have, or a name that isn't new
 pub class_wrong : {A : Type 0} (has is_new wrong : Bool) (name_of : A → List ℕ) (name : List ℕ) (lines : List A)
-    → wrong ≡ (not has || not is_new) → is_new ≡ not (list_any (λ (seen : List ℕ). is_text seen name) (map name_of lines))
+    → wrong ≡ (not has || not is_new)
+    → is_new ≡ not (list_any (λ (seen : List ℕ). is_text seen name) (map name_of lines))
     → wrong ≡ (not has || list_any (λ (l : A). is_text (name_of l) name) lines)
 class_wrong has is_new wrong name_of name lines e f =
     e ∙ ap (λ (b : Bool). not has || b) (ap not f

@@ -1,8 +1,9 @@
 -- Where items stand among all.
 use Rattle.std.proofs.Common.{◌≡◌, ◌≤◌, ℕ, zero, suc, ◌+◌, ◌-◌, ◌<◌, List, [], ◌∷◌, ◌++◌, length, map, take, Some}
-use Rattle.std.proofs.Common.{slice_get, refl, ap, ◌∙◌, arith, length-append}
+use Rattle.std.proofs.Common.{slice_get, ap, ◌∙◌, arith, length-append}
 use Rattle.std.proofs.lemmas.List.{length-map}
 use Rattle.std.proofs.lemmas.List.Sums.{sum_by-cons}
+use Rattle.jv_base.proofs.Lists.{got_in_front, got_left, got_right, got_mapped}
 use Rattle.class_model.specs.declared.class.Class.{Class}
 use Rattle.class_model.specs.declared.class.Field.{Field}
 use Rattle.class_model.specs.declared.class.Method.{Method}
@@ -16,17 +17,6 @@ places_counted c =
     let methods = length-map c.methods (place_of_method c) in
     let both = length-append (map (place_of_field c) c.fields) (map (place_of_method c) c.methods) in
     omega (arith, fields, methods, both)
-
-pub got_left : {X : Type 0} (xs ys : List X) (k : ℕ) → k < length xs → slice_get (xs ++ ys) k ≡ slice_get xs k
-got_left [] ys k low = absurd (omega (arith, low))
-got_left (x ∷ xs) ys zero low = refl
-got_left (x ∷ xs) ys (suc k) low = got_left xs ys k (omega (arith, low))
-
-pub got_right : {X : Type 0} (xs ys : List X) (k : ℕ) → slice_get (xs ++ ys) (length xs + k) ≡ slice_get ys k
-got_right [] ys k = let e : 0 + k ≡ k = omega arith in ap (slice_get ys) e
-got_right (x ∷ xs) ys k =
-    let e : suc (length xs) + k ≡ suc (length xs + k) = omega arith in
-    ap (slice_get (x ∷ (xs ++ ys))) e ∙ got_right xs ys k
 
 -- an item of a class among all
 pub place_there : (classes : List Class) (n : ℕ) (c : Class) (k : ℕ) → slice_get classes n ≡ Some c → k < items_of c
@@ -47,30 +37,21 @@ place_there (d ∷ cs) (suc n) c k is low =
     ∙ got_right (places_in d) (item_places cs) (class_item cs n + k)
     ∙ place_there cs n c k is low
 
-got_map : {X Y : Type 0} (f : X → Y) (xs : List X) (k : ℕ) (x : X) → slice_get xs k ≡ Some x → slice_get (map f xs) k ≡ Some (f x)
-got_map f [] k x is = absurd cc
-got_map f (y ∷ ys) zero x is = let e : y ≡ x = cc in ap (λ (z : _). Some (f z)) e
-got_map f (y ∷ ys) (suc k) x is = got_map f ys k x is
-
-got_there : {X : Type 0} (xs ys : List X) (k : ℕ) (x : X) → slice_get xs k ≡ Some x → slice_get (xs ++ ys) k ≡ Some x
-got_there [] ys k x is = absurd cc
-got_there (y ∷ xs) ys zero x is = is
-got_there (y ∷ xs) ys (suc k) x is = got_there xs ys k x is
-
 -- the places of members of a class
 pub field_there : (c : Class) (k : ℕ) (f : Field) → slice_get c.fields k ≡ Some f
     → slice_get (places_in c) (k + 1) ≡ Some (place_of_field c f)
 field_there c k f is =
     let e : k + 1 ≡ suc k = omega arith in
     ap (slice_get (places_in c)) e
-    ∙ got_there (map (place_of_field c) c.fields) (map (place_of_method c) c.methods) k (place_of_field c f)
-    (got_map (place_of_field c) c.fields k f is)
+    ∙ got_in_front (map (place_of_field c) c.fields) (map (place_of_method c) c.methods) k (place_of_field c f)
+    (got_mapped (place_of_field c) c.fields k f is)
 
-pub method_there : (c : Class) (k n : ℕ) (m : Method) → n ≡ length c.fields → n ≤ k → slice_get c.methods (k - n) ≡ Some m
+pub method_there : (c : Class) (k n : ℕ) (m : Method) → n ≡ length c.fields → n ≤ k
+    → slice_get c.methods (k - n) ≡ Some m
     → slice_get (places_in c) (k + 1) ≡ Some (place_of_method c m)
 method_there c k n m fields behind is =
     let long = length-map c.fields (place_of_field c) in
     let e : k + 1 ≡ suc (length (map (place_of_field c) c.fields) + (k - n)) = omega (arith, fields, behind, long) in
     ap (slice_get (places_in c)) e
     ∙ got_right (map (place_of_field c) c.fields) (map (place_of_method c) c.methods) (k - n)
-    ∙ got_map (place_of_method c) c.methods (k - n) m is
+    ∙ got_mapped (place_of_method c) c.methods (k - n) m is

@@ -1,5 +1,6 @@
 -- The first of some elements that isn't like the one beside it, from a place on.
-use Rattle.std.proofs.Common.{◌≡◌, ◌≤◌, ◌+◌, ℕ, true, false, is_some, List, [], ◌∷◌, Option, Some, None, length, drop, slice_get, refl, sym, ap, subst, inl, inr, arith}
+use Rattle.std.proofs.Common.{◌≡◌, ◌≤◌, ◌+◌, ℕ, false, is_some, List, [], ◌∷◌, Option, Some, None, length, drop}
+use Rattle.std.proofs.Common.{slice_get, refl, sym, ap, subst, inl, inr, arith}
 use Rattle.std.specs.List.{filter_map, zip}
 use Rattle.pair_clauses.specs.Finding.{FirstUnlike}
 use Rattle.pair_clauses.specs.Members.{with_name}
@@ -13,8 +14,10 @@ module _ {A B : Type 0} (Alike : A → B → Type 0) (place : A → Place) where
   unlike_here x xs ys k other = by (slice_get ys k) refl
     where
       by : (o : Option B) → slice_get ys k ≡ o → FirstUnlike Alike place (x ∷ xs) (drop k ys) (Some (place x))
-      by None e = subst (λ (zs : List B). FirstUnlike Alike place (x ∷ xs) zs (Some (place x))) (sym (drop_none ys k e)) refl
-      by (Some y) e = subst (λ (zs : List B). FirstUnlike Alike place (x ∷ xs) zs (Some (place x))) (sym (drop_some ys k y e))
+      by None e = subst (λ (zs : List B). FirstUnlike Alike place (x ∷ xs) zs (Some (place x)))
+          (sym (drop_none ys k e)) refl
+      by (Some y) e =
+          subst (λ (zs : List B). FirstUnlike Alike place (x ∷ xs) zs (Some (place x))) (sym (drop_some ys k y e))
           (inl (other y e, refl))
 
   -- this one is like the one beside it
@@ -61,12 +64,14 @@ module _ {A B : Type 0} (Alike : A × List ℕ → B → Type 0) (place : A × L
   module _ (i k : ℕ) (left : FoundBehind i k) where
     pub found_unnamed : (x : A) → slice_get xs i ≡ Some x → slice_get new i ≡ Some None → FoundBehind (i + 1) k
     found_unnamed x sx sn = λ found rest. left found
-        (subst (λ (zs : List (A × List ℕ)). FirstUnlike Alike place zs (drop k ys) found) (unnamed_on xs new i x sx sn) rest)
+        (subst (λ (zs : List (A × List ℕ)). FirstUnlike Alike place zs (drop k ys) found)
+        (unnamed_on xs new i x sx sn) rest)
 
     pub found_alike : (x : A) (name : List ℕ) (y : B) → slice_get xs i ≡ Some x → slice_get new i ≡ Some (Some name)
         → slice_get ys k ≡ Some y → Alike (x, name) y → FoundBehind (i + 1) (k + 1)
     found_alike x name y sx sn sy same = λ found rest. left found
-        (subst (λ (zs : List (A × List ℕ)). FirstUnlike Alike place zs (drop k ys) found) (named_here xs new i x name sx sn)
+        (subst (λ (zs : List (A × List ℕ)). FirstUnlike Alike place zs (drop k ys) found)
+        (named_here xs new i x name sx sn)
         (alike_on Alike place (x, name) (named_from xs new (i + 1)) ys k y sy same found rest))
 
     pub found_unlike : (x : A) (name : List ℕ) → slice_get xs i ≡ Some x → slice_get new i ≡ Some (Some name)
@@ -98,11 +103,6 @@ counted_on xs new i k n x sx sn all =
 pub counted_all : {A : Type 0} (xs : List A) (new : List (Option (List ℕ))) (i k n : ℕ) → [] ≡ named_from xs new i
     → k + length (named_from xs new i) ≡ n → k ≡ n
 counted_all xs new i k n e all = let none = ap length e in omega (arith, none, all)
-
--- a name is there, or none is
-pub some_there : {A : Type 0} (o : Option A) → is_some o ≡ true → (x : A) × (o ≡ Some x)
-some_there None h = absurd cc
-some_there (Some x) h = (x, refl)
 
 pub none_there : {A : Type 0} (o : Option A) → is_some o ≡ false → o ≡ None
 none_there None h = refl

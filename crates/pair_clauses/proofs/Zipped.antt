@@ -1,6 +1,6 @@
 -- Lists beside one another, from a place on.
-use Rattle.std.proofs.Common.{◌≡◌, ◌<◌, ◌≤◌, ◌+◌, ℕ, zero, suc, Bool, true, false, List, [], ◌∷◌, Option, Some, None, is_some}
-use Rattle.std.proofs.Common.{length, drop, slice_get, get_or, refl, sym, ap, ◌∙◌, arith}
+use Rattle.std.proofs.Common.{◌≡◌, ◌<◌, ◌≤◌, ◌+◌, ℕ, zero, suc, Bool, true, false, List, [], ◌∷◌, Option, Some, None}
+use Rattle.std.proofs.Common.{is_some, length, drop, slice_get, get_or, refl, sym, ap, ◌∙◌, arith}
 use Rattle.std.specs.List.{zip}
 use Rattle.std.specs.Option.{option_or}
 use Rattle.pair_clauses.specs.Finding.{first_place}
@@ -69,7 +69,8 @@ beyond [] i h = refl
 beyond (x ∷ xs) zero h = absurd (omega arith)
 beyond (x ∷ xs) (suc i) h = beyond xs i (omega arith)
 
-module _ {A B : Type 0} (F : A × B → Option Place) (xs : List A) (ys : List B) (i : ℕ) (x : A) (y : B) (o : Option Place)
+module _ {A B : Type 0} (F : A × B → Option Place) (xs : List A) (ys : List B) (i : ℕ) (x : A) (y : B)
+    (o : Option Place)
     (sx : slice_get xs i ≡ Some x) (sy : slice_get ys i ≡ Some y) (is : o ≡ F (x, y)) where
   -- what is found here is the first
   pub first_found : is_some o ≡ true → o ≡ first_place F (zip (drop i xs) (drop i ys))

@@ -1,9 +1,9 @@
 -- The files of the outputs are read as their classes, computed.
-use Rattle.std.proofs.Common.{◌≡◌, ℕ, zero, suc, Bool, true, false, ◌&&◌, nat_lt, List, [], ◌∷◌, Ok, Err, refl, arith}
+use Rattle.std.proofs.Common.{◌≡◌, ℕ, zero, suc, Bool, true, nat_lt, List, [], ◌∷◌, Ok, Err, refl, arith}
 use Rattle.std.specs.Prelude.{codes}
 use Rattle.std.specs.Char.Utf16.{utf16_chars}
 use Rattle.std.specs.List.{list_all}
-use Rattle.std.proofs.lemmas.Bool.{ltb-true}
+use Rattle.std.proofs.lemmas.Bool.{ltb-true, and_parts}
 use Rattle.jv_base.specs.Decoding.{byte_taken, read_mutf8}
 use Rattle.jv_base.specs.Descriptors.{grown, read_field, read_method}
 use Rattle.jv_base.specs.Names.{is_class_name, is_member_name, is_method_name, is_name_byte, is_primitive_or_void}
@@ -38,18 +38,10 @@ use Rattle.pair_rows.specs.Examples.{file_of_orphan, new_a, new_b, old_a, old_b,
 abbrev fit : List ℕ → Bool
 fit bs = list_all (λ b. nat_lt b 256) bs
 
-first_fits : (b rest : Bool) → (b && rest) ≡ true → b ≡ true
-first_fits true rest e = refl
-first_fits false rest e = e
-
-rest_fits : (b rest : Bool) → (b && rest) ≡ true → rest ≡ true
-rest_fits true rest e = e
-rest_fits false rest e = absurd cc
-
 are_bytes : (bs : List ℕ) → fit bs ≡ true → AreBytes bs
 are_bytes [] e i = omega arith
-are_bytes (b ∷ bs) e zero = ltb-true b 256 (first_fits (nat_lt b 256) (fit bs) e)
-are_bytes (b ∷ bs) e (suc i) = are_bytes bs (rest_fits (nat_lt b 256) (fit bs) e) i
+are_bytes (b ∷ bs) e zero = ltb-true b 256 (and_parts (nat_lt b 256) (fit bs) e).0
+are_bytes (b ∷ bs) e (suc i) = are_bytes bs (and_parts (nat_lt b 256) (fit bs) e).1 i
 
 -- ---- files
 
@@ -98,7 +90,8 @@ pub a_spelled : File file_of_a.bytes (new_a (codes "p/a"))
 a_spelled = class_read-found file_of_a.bytes (new_a (codes "p/a")) (are_bytes file_of_a.bytes refl) are_read.a
 
 pub a_moved_spelled : File file_of_a_moved.bytes (new_a (codes "q/a"))
-a_moved_spelled = class_read-found file_of_a_moved.bytes (new_a (codes "q/a")) (are_bytes file_of_a_moved.bytes refl) are_read.a_moved
+a_moved_spelled =
+    class_read-found file_of_a_moved.bytes (new_a (codes "q/a")) (are_bytes file_of_a_moved.bytes refl) are_read.a_moved
 
 pub b_spelled : File file_of_b.bytes new_b
 b_spelled = class_read-found file_of_b.bytes new_b (are_bytes file_of_b.bytes refl) are_read.b
@@ -107,10 +100,12 @@ pub b_moved_spelled : File file_of_b_moved.bytes b_moved
 b_moved_spelled = class_read-found file_of_b_moved.bytes b_moved (are_bytes file_of_b_moved.bytes refl) are_read.b_moved
 
 pub b_hidden_spelled : File file_of_b_hidden.bytes b_hidden
-b_hidden_spelled = class_read-found file_of_b_hidden.bytes b_hidden (are_bytes file_of_b_hidden.bytes refl) are_read.b_hidden
+b_hidden_spelled =
+    class_read-found file_of_b_hidden.bytes b_hidden (are_bytes file_of_b_hidden.bytes refl) are_read.b_hidden
 
 pub b_longer_spelled : File file_of_b_longer.bytes b_longer
-b_longer_spelled = class_read-found file_of_b_longer.bytes b_longer (are_bytes file_of_b_longer.bytes refl) are_read.b_longer
+b_longer_spelled =
+    class_read-found file_of_b_longer.bytes b_longer (are_bytes file_of_b_longer.bytes refl) are_read.b_longer
 
 pub orphan_spelled : File file_of_orphan.bytes orphan
 orphan_spelled = class_read-found file_of_orphan.bytes orphan (are_bytes file_of_orphan.bytes refl) are_read.orphan

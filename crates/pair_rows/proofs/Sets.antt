@@ -79,7 +79,8 @@ two_accepted one other c d spelled_c spelled_d first above_c above_d linked type
 pub input_accepted : IsAccepted (file_of_old_a ∷ file_of_old_b ∷ []) input
 unfolding library upwards walked method_text result_text field_text base_text grown read_method walk least is_assignable
     rule_of code_walked
-input_accepted = two_accepted file_of_old_a file_of_old_b old_a old_b old_a_spelled old_b_spelled refl refl refl refl refl
+input_accepted =
+    two_accepted file_of_old_a file_of_old_b old_a old_b old_a_spelled old_b_spelled refl refl refl refl refl
 
 pub accepted : IsAccepted (file_of_a ∷ file_of_b ∷ []) output
 unfolding library upwards walked method_text result_text field_text base_text grown read_method walk least is_assignable

@@ -1,12 +1,9 @@
 -- Paths below a directory.
-use Rattle.std.proofs.Common.{◌≡◌, ℕ, ◌&&◌, Bool, true, false, List, [], ◌∷◌, length, take, drop, refl, sym, ap, ◌∙◌, eqb}
-use Rattle.std.proofs.Common.{nat_eq}
+use Rattle.std.proofs.Common.{◌≡◌, ℕ, ◌&&◌, Bool, true, false, List, [], ◌∷◌, length, take, drop, refl, sym, ap, ◌∙◌}
+use Rattle.std.proofs.Common.{eqb, nat_eq}
 use Rattle.std.specs.Cmp.Lexicographic.{pointwise}
+use Rattle.std.proofs.Math.Bool.{and_assoc}
 use Rattle.path_text.specs.Path.{is_below, begins_with_slash}
-
-both : (a b c : Bool) → (a && (b && c)) ≡ ((a && b) && c)
-both true b c = refl
-both false b c = refl
 
 -- the directory stands at the front, and then a `/`
 pub below_is : (path directory : List ℕ)
@@ -16,7 +13,8 @@ below_is [] [] = refl
 below_is (b ∷ path) [] = refl
 below_is [] (d ∷ directory) = refl
 below_is (b ∷ path) (d ∷ directory) = ap (λ (t : Bool). eqb b d && t) (below_is path directory)
-    ∙ both (eqb b d) (pointwise nat_eq (take (length directory) path) directory) (begins_with_slash (drop (length directory) path))
+    ∙ sym (and_assoc (eqb b d) (pointwise nat_eq (take (length directory) path) directory)
+    (begins_with_slash (drop (length directory) path)))
 
 -- by what was stripped
 pub below_rest : (path directory rest : List ℕ) (b : Bool)

@@ -1,10 +1,13 @@
 -- Texts with slashes.
-use Rattle.std.proofs.Common.{◌≡◌, ◌≢◌, ℕ, ◌+◌, ◌≤◌, ◌<◌, ◌&&◌, Bool, true, false, cond, not, List, [], ◌∷◌, ◌++◌}
+use Rattle.std.proofs.Common.{◌≡◌, ◌≢◌, ℕ, ◌+◌, ◌≤◌, ◌<◌, Bool, true, false, cond, not, List, [], ◌∷◌, ◌++◌}
 use Rattle.std.proofs.Common.{length, take, drop, Option, Some, None, refl, sym, ap, ◌∙◌, arith, eqb}
 use Rattle.std.specs.Prelude.{position, IfSome, IfNone}
 use Rattle.std.specs.List.{list_all, slice_split, onto_first, position_or_len}
 use Rattle.std.proofs.lemmas.Bool.{eqb-true, ltb-true, ltb-false}
 use Rattle.std.proofs.lemmas.List.Splits.{slice_split_first}
+use Rattle.std.proofs.Math.Bool.{and-true}
+use Rattle.std.proofs.lemmas.Option.{cond_some}
+use Rattle.jv_base.proofs.Options.{none_by}
 use Rattle.path_text.specs.Path.{is_slash, is_segment, EndsFirst, are_segments, without_slash}
 
 pub without_slash-append : (x : List ℕ) → without_slash (x ++ 47 ∷ []) ≡ x
@@ -27,19 +30,11 @@ without_slash_same (b ∷ c ∷ x) h = ap (λ (t : List ℕ). b ∷ t)
 
 -- ---- segments
 
-some_by : (b : Bool) (n at : ℕ) → cond b (Some n) None ≡ Some at → (b ≡ true) × (n ≡ at)
-some_by true n at h = (refl, cc)
-some_by false n at h = absurd cc
-
-none_by : (b : Bool) (n : ℕ) → cond b (Some n) None ≡ None → b ≡ false
-none_by true n h = absurd cc
-none_by false n h = refl
-
 -- the first segment ends at the first `/`
 pub first_segment : (text : List ℕ) (at : ℕ) → position is_slash text ≡ Some at → (at < length text) × EndsFirst text at
 unfolding are_segments
 first_segment text at h =
-    let s = some_by _ _ at h in
+    let s = cond_some _ _ at h in
     let lt : position_or_len is_slash text < length text = ltb-true _ _ s.0 in
     let parts : slice_split is_slash text
     ≡ take at text ∷ slice_split is_slash (drop (at + 1) text) = slice_split_first is_slash text 0 lt
@@ -57,10 +52,6 @@ one_part : (text : List ℕ) → length text ≤ position_or_len is_slash text �
 one_part [] le = refl
 one_part (x ∷ xs) le = part_by x xs (is_slash x) refl le (one_part xs)
 
-and_true : (b : Bool) → (b && true) ≡ b
-and_true true = refl
-and_true false = refl
-
 pub inside_or_none : (text : List ℕ) (r : Option ℕ) → r ≡ position is_slash text → IfSome r (λ at. at < length text)
 inside_or_none text None h = tt
 inside_or_none text (Some at) h = (first_segment text at (sym h)).0
@@ -73,7 +64,7 @@ first_or_none text (Some at) h = (first_segment text at (sym h)).1
 pub one_segment : (text : List ℕ) → position is_slash text ≡ None → are_segments text ≡ is_segment text
 unfolding are_segments
 one_segment text h = ap (list_all is_segment) (one_part text (ltb-false _ _ (none_by _ _ h)))
-    ∙ and_true (is_segment text)
+    ∙ and-true (is_segment text)
 
 pub only_or_some : (text : List ℕ) (r : Option ℕ) → r ≡ position is_slash text
     → IfNone r (are_segments text ≡ is_segment text)

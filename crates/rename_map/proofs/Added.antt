@@ -1,13 +1,14 @@
 -- Names that are added to others.
-use Rattle.std.proofs.Common.{◌≡◌, ℕ, zero, suc, ◌+◌, Bool, true, false, cond, ◌||◌, List, [], ◌∷◌, ◌++◌, map, filter, flat_map}
-use Rattle.std.proofs.Common.{◌<◌, get_or, take, slice_get, Some, length, refl, sym, ap, ◌∙◌, append_assoc, arith, subst}
+use Rattle.std.proofs.Common.{◌≡◌, ℕ, zero, suc, ◌+◌, Bool, true, false, cond, ◌||◌, List, [], ◌∷◌, ◌++◌, map, filter}
+use Rattle.std.proofs.Common.{flat_map, ◌<◌, get_or, take, slice_get, Some, length, refl, sym, ap, ◌∙◌, append_assoc}
+use Rattle.std.proofs.Common.{arith, subst}
 use Rattle.std.specs.List.{enumerate_from}
 use Rattle.std.proofs.lemmas.Option.{same_Some}
 use Rattle.jv_base.specs.Names.{is_text}
 use Rattle.jv_base.proofs.Equality.{text_Decides}
+use Rattle.jv_base.proofs.Lists.{flat_more}
 use Rattle.member_shrink.specs.Shrunk.{chosen, is_marked}
 use Rattle.fresh_names.specs.Fresh.{is_taken}
-use Rattle.fresh_names.proofs.OneMore.{flat_more}
 use Rattle.fresh_names.proofs.Reserved.{taken_parts}
 use Rattle.rename_map.specs.Names.{AreSame}
 use Rattle.rename_map.specs.bodies.Adding.{Adds}
@@ -32,7 +33,8 @@ adds_both old mid new xs ys one other = record {
       ∙ ap (λ (b : Bool). is_taken old a || b) (sym (taken_parts xs ys a));
 }
 
-was_there : (old : List (List ℕ)) (x : List ℕ) → is_taken old x ≡ true → (a : List ℕ) (c : Bool) → is_text a x ≡ c → (d : Bool)
+was_there : (old : List (List ℕ)) (x : List ℕ) → is_taken old x ≡ true → (a : List ℕ) (c : Bool) → is_text a x ≡ c
+    → (d : Bool)
     → is_taken old a ≡ d → d ≡ (d || (c || false))
 was_there old x there a true e true f = refl
 was_there old x there a false e true f = refl
@@ -45,7 +47,8 @@ was_there old x there a true e false f = absurd (
 pub adds_one : (old new : List (List ℕ)) (x : List ℕ) (b : Bool) → is_taken old x ≡ b → new ≡ cond b old (old ++ x ∷ [])
     → Adds old (x ∷ []) new
 adds_one old new x true there is = record {
-  each = λ a. ap (λ (l : List (List ℕ)). is_taken l a) is ∙ was_there old x there a (is_text a x) refl (is_taken old a) refl;
+  each = λ a. ap (λ (l : List (List ℕ)). is_taken l a) is
+      ∙ was_there old x there a (is_text a x) refl (is_taken old a) refl;
 }
 adds_one old new x false there is = record {
   each = λ a. ap (λ (l : List (List ℕ)). is_taken l a) is ∙ taken_parts old (x ∷ []) a;
@@ -60,7 +63,8 @@ behind_none (x ∷ l) = ap (λ (m : List (List ℕ)). x ∷ m) (behind_none l)
 -- what one more element tells
 numbered_more : {A : Type 0} (tells : ℕ × A → List (List ℕ)) (k : ℕ) (xs : List A) (i : ℕ) (x : A) → i < length xs
     → x ≡ get_or xs i x
-    → flat_map tells (enumerate_from k (take i xs)) ++ tells (k + i, x) ≡ flat_map tells (enumerate_from k (take (i + 1) xs))
+    → flat_map tells (enumerate_from k (take i xs)) ++ tells (k + i, x)
+    ≡ flat_map tells (enumerate_from k (take (i + 1) xs))
 numbered_more tells k [] i x below is = absurd (omega (arith, below))
 numbered_more tells k (y ∷ xs) zero x below is =
     let z : k + 0 ≡ k = omega arith in
@@ -76,7 +80,8 @@ numbered_more tells k (y ∷ xs) (suc i) x below is =
 
 -- marked elements, as elements of which each tells by its mark
 pub chosen_tell : {A : Type 0} (tells : A → List (List ℕ)) (row : List Bool) (k : ℕ) (xs : List A)
-    → flat_map tells (chosen row k xs) ≡ flat_map (λ (e : ℕ × A). cond (is_marked row e.0) (tells e.1) []) (enumerate_from k xs)
+    → flat_map tells (chosen row k xs)
+    ≡ flat_map (λ (e : ℕ × A). cond (is_marked row e.0) (tells e.1) []) (enumerate_from k xs)
 chosen_tell tells row k [] = refl
 chosen_tell {A = A} tells row k (x ∷ xs) = on (is_marked row k) (chosen_tell tells row (k + 1) xs)
   where
@@ -84,7 +89,8 @@ chosen_tell {A = A} tells row k (x ∷ xs) = on (is_marked row k) (chosen_tell t
         ≡ flat_map (λ (e : ℕ × A). cond (is_marked row e.0) (tells e.1) []) (enumerate_from (k + 1) xs)
         → flat_map tells (map (λ e. e.1) (cond b ((k, x) ∷ filter (λ e. is_marked row e.0) (enumerate_from (k + 1) xs))
         (filter (λ e. is_marked row e.0) (enumerate_from (k + 1) xs))))
-        ≡ cond b (tells x) [] ++ flat_map (λ (e : ℕ × A). cond (is_marked row e.0) (tells e.1) []) (enumerate_from (k + 1) xs)
+        ≡ cond b (tells x) []
+        ++ flat_map (λ (e : ℕ × A). cond (is_marked row e.0) (tells e.1) []) (enumerate_from (k + 1) xs)
     on true rest = ap (λ (l : List (List ℕ)). tells x ++ l) rest
     on false rest = rest
 
@@ -109,7 +115,8 @@ more_adds tells xs i x old mid new below is before one =
     subst (λ (l : List (List ℕ)). Adds old l new) (flat_more tells xs i x below is)
     (adds_both old mid new (flat_map tells (take i xs)) (tells x) before one)
 
-element_at : {A : Type 0} (xs : List A) (i : ℕ) (x : A) → slice_get xs i ≡ Some x → (i < length xs) × (x ≡ get_or xs i x)
+element_at : {A : Type 0} (xs : List A) (i : ℕ) (x : A) → slice_get xs i ≡ Some x
+    → (i < length xs) × (x ≡ get_or xs i x)
 element_at [] i x at = absurd cc
 element_at (y ∷ xs) zero x at = (omega arith, sym (same_Some y x at))
 element_at (y ∷ xs) (suc i) x at = let h = element_at xs i x at in (omega (arith, h.0), h.1)
@@ -133,7 +140,8 @@ numbered_adds tells xs i x old mid new more at is before one =
 -- reserved names behind those that were added
 pub one_stay : (names xs reserved : List (List ℕ)) → Adds [] xs names → AreSame (names ++ reserved) (xs ++ reserved)
 one_stay names xs reserved adds = λ a.
-    taken_parts names reserved a ∙ ap (λ (b : Bool). b || is_taken reserved a) (adds.each a) ∙ sym (taken_parts xs reserved a)
+    taken_parts names reserved a ∙ ap (λ (b : Bool). b || is_taken reserved a) (adds.each a)
+    ∙ sym (taken_parts xs reserved a)
 
 pub both_stay : (mid names xs ys reserved : List (List ℕ)) → Adds [] xs mid → Adds mid ys names
     → AreSame (names ++ reserved) (xs ++ (ys ++ reserved))

@@ -1,5 +1,6 @@
 -- Names that are given beside the same names.
-use Rattle.std.proofs.Common.{◌≡◌, ℕ, Bool, true, false, cond, not, List, filter, Option, Some, None, refl, sym, ap, ◌∙◌}
+use Rattle.std.proofs.Common.{◌≡◌, ℕ, Bool, true, false, cond, not, List, filter, Option, Some, None, refl, sym, ap}
+use Rattle.std.proofs.Common.{◌∙◌}
 use Rattle.class_model.specs.declared.class.Class.{Class}
 use Rattle.keep_rules.specs.declared.rules.Rules.{Rules}
 use Rattle.class_rename.specs.Names.{Names, new_name, same_names}
@@ -17,7 +18,8 @@ same_olds taken other names same = λ i. once (filter (λ a. not (same a i)) nam
 given_same : (front : List ℕ → List ℕ) (taken other names : List (List ℕ)) → AreSame taken other → (a : List ℕ)
     → given_name front taken names a ≡ given_name front other names a
 given_same front taken other names same a =
-    ap (λ (l : List (List ℕ)). new_name (given (front a) taken 0 (with_front front (front a) l)) a) (same_olds taken other names same)
+    ap (λ (l : List (List ℕ)). new_name (given (front a) taken 0 (with_front front (front a) l)) a)
+    (same_olds taken other names same)
     ∙ ap (λ (l : List (List ℕ × List ℕ)). new_name l a)
     (same_given (front a) taken other same 0 (with_front front (front a) (olds other names)))
 

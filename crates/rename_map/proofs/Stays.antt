@@ -1,5 +1,6 @@
 -- Names that are reserved stay, whatever the rules are.
-use Rattle.std.proofs.Common.{◌≡◌, ℕ, ◌||◌, Bool, true, false, List, ◌++◌, refl, ◌∙◌}
+use Rattle.std.proofs.Common.{◌≡◌, ℕ, true, List, ◌++◌, ◌∙◌}
+use Rattle.std.proofs.lemmas.Bool.{or_right}
 use Rattle.class_model.specs.declared.class.Class.{Class}
 use Rattle.keep_match.specs.Fixed.{fixed_rows}
 use Rattle.keep_match.specs.declared.fixed.Fixes.TheVariants as fixes
@@ -10,10 +11,6 @@ use Rattle.fresh_names.specs.declared.taken.Named.TheVariants as named
 use Rattle.fresh_names.proofs.Reserved.{taken_parts}
 use Rattle.rename_map.specs.declared.gathering.Chosen.TheVariants as choose
 use Rattle.rename_map.specs.Fixed.{names_that_stay, of_each}
-
-or_right : (b c : Bool) → c ≡ true → (b || c) ≡ true
-or_right true c h = refl
-or_right false c h = h
 
 behind : (front names : List (List ℕ)) (a : List ℕ) → is_taken names a ≡ true → is_taken (front ++ names) a ≡ true
 behind front names a h = taken_parts front names a ∙ or_right (is_taken front a) (is_taken names a) h

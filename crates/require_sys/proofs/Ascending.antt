@@ -4,6 +4,7 @@ use Rattle.std.proofs.Common.{refl, sym, ap, subst, ◌∙◌, arith, ◌⊎◌,
 use Rattle.std.specs.Prelude.{nat_lt}
 use Rattle.std.specs.List.{AllByRecursion}
 use Rattle.std.proofs.lemmas.Bool.{cases_order, eq-eqb, eqb-true, lt-ltb, le-ltb, ne_eqb}
+use Rattle.jv_base.proofs.Tests.{or_swap}
 use Rattle.require_sys.specs.Requires.{ascending, put}
 use Rattle.require_sys.specs.bodies.Wanting.{has}
 
@@ -100,12 +101,6 @@ has_put : (z x : ℕ) (ys : List ℕ) → has z (put x ys) ≡ ((z == x) || has 
 has_put z x [] = refl
 has_put z x (y ∷ ys) = by (nat_lt x y) (x == y) refl (has_put z x ys)
   where
-    turned : (a b c : Bool) → (a || (b || c)) ≡ (b || (a || c))
-    turned true true c = refl
-    turned true false c = refl
-    turned false true c = refl
-    turned false false c = refl
-
     twice : (a c : Bool) → (a || c) ≡ (a || (a || c))
     twice true c = refl
     twice false c = refl
@@ -116,7 +111,7 @@ has_put z x (y ∷ ys) = by (nat_lt x y) (x == y) refl (has_put z x ys)
     by false true e r =
         twice (z == y) (has z ys)
         ∙ ap (λ (k : ℕ). (z == k) || ((z == y) || has z ys)) (sym (eqb-true x y e))
-    by false false e r = ap (λ (b : Bool). (z == y) || b) r ∙ turned (z == y) (z == x) (has z ys)
+    by false false e r = ap (λ (b : Bool). (z == y) || b) r ∙ or_swap (z == y) (z == x) (has z ys)
 
 pub has_ascending : (z : ℕ) (xs : List ℕ) → has z (ascending xs) ≡ has z xs
 has_ascending z [] = refl

@@ -1,7 +1,6 @@
 -- What a closed set has with each class and each member.
 use Rattle.std.proofs.Common.{◌≡◌, ℕ, zero, suc, ◌+◌, ◌<◌, not, Bool, true, false, List, [], ◌∷◌, ◌++◌, length, map}
 use Rattle.std.proofs.Common.{take, Option, Some, None, slice_get, get_or, refl, sym, ap, subst, ◌∙◌, arith}
-use Rattle.std.proofs.Common.{length-append}
 use Rattle.std.specs.Prelude.{◌==◌, IfSome, IsTrue}
 use Rattle.std.specs.List.{All, AllByRecursion, cons_option, enumerate_from, flat_map}
 use Rattle.std.specs.Option.{option_and_then, option_map, option_map_or}
@@ -9,6 +8,7 @@ use Rattle.std.proofs.lemmas.Bool.{eqb-true}
 use Rattle.std.proofs.lemmas.List.{get_or_append_left, get_or-append-add, length-map}
 use Rattle.std.proofs.lemmas.List.FromFn.{length-enumerate_from}
 use Rattle.std.proofs.lemmas.List.Sums.{sum_by-cons}
+use Rattle.jv_base.proofs.Lists.{all_split}
 use Rattle.mark_core.specs.Marks.{Closed}
 use Rattle.class_model.specs.declared.class.Class.{Class}
 use Rattle.class_model.specs.declared.class.Field.{Field}
@@ -23,7 +23,8 @@ use Rattle.require_sys.specs.Requires.{Item, OfClass, ascending, called_wants, c
 use Rattle.require_sys.specs.Requires.{initialisation_wants, method_wants, name_wants, needs_of, number_of, numbers}
 use Rattle.require_sys.specs.Requires.{requires, rule_wants, super_wants}
 use Rattle.require_sys.specs.declared.kept.KeptByRules.{KeptByRules}
-use Rattle.require_sys.proofs.Parts.{all_ascending, all_filter, all_filter_map, all_left, all_option, from_all}
+use Rattle.require_sys.proofs.Parts.{all_ascending, all_filter, all_filter_map, all_option, from_all}
+use Rattle.require_sys.proofs.Numbering.{needs_long}
 
 -- the needs of an item of the n-th class are among those of that class
 needs_at : (g : ℕ × Class → List (List ℕ)) → ((n : ℕ) (c : Class) → length (g (n, c)) ≡ items_of c) → (s : ℕ)
@@ -98,22 +99,13 @@ module _ (classes : List Class) (kept : KeptByRules) (set : ℕ → Bool) where
   abbrev methods_at : ℕ → Class → List (List ℕ)
   methods_at n c = map (method_at n) (enumerate_from (length c.fields) c.methods)
 
-  counted : (n : ℕ) (c : Class) → length (class_needs classes kept (n, c)) ≡ items_of c
-  counted n c =
-      let fields = length-map (enumerate_from 0 c.fields) (field_at n) in
-      let methods = length-map (enumerate_from (length c.fields) c.methods) (method_at n) in
-      let numbered = length-enumerate_from 0 c.fields in
-      let others = length-enumerate_from (length c.fields) c.methods in
-      let both = length-append (fields_at n c) (methods_at n c) in
-      omega (arith, fields, methods, numbered, others, both)
-
   module _ (closed : Closed (requires classes kept) set) (n : ℕ) (c : Class) (is : slice_get classes n ≡ Some c) where
     at : (k : ℕ) → k < items_of c → set (class_item classes n + k) ≡ true
         → All (λ y. IsTrue (set y)) (get_or (class_needs classes kept (n, c)) k [])
     at k low h =
         let first : 0 + n ≡ n = omega arith in
         subst (λ t. All (λ y. IsTrue (set y)) t)
-        (needs_at (class_needs classes kept) counted 0 classes n c k is low
+        (needs_at (class_needs classes kept) (needs_long classes kept) 0 classes n c k is low
         ∙ ap (λ (i : ℕ). get_or (class_needs classes kept (i, c)) k []) first)
         (closed.needs (class_item classes n + k) h)
 
@@ -163,7 +155,7 @@ module _ (classes : List Class) (kept : KeptByRules) (set : ℕ → Bool) where
         → AllByRecursion ClassIn (classes_named classes names)
     names_in [] h = tt
     names_in (name ∷ names) h =
-        let parts = all_left (λ x. is_in classes set x ≡ true) (name_wants classes name)
+        let parts = all_split (λ x. is_in classes set x ≡ true) (name_wants classes name)
         (flat_map (name_wants classes) names) h in
         by (class_named classes name) parts.0 (names_in names parts.1)
       where
@@ -176,7 +168,7 @@ module _ (classes : List Class) (kept : KeptByRules) (set : ℕ → Bool) where
     pub supertypes_in : set (class_item classes n) ≡ true
         → IfSome (superclass classes (Prog n)) ClassIn × AllByRecursion ClassIn (interfaces classes (Prog n))
     supertypes_in h =
-        let wants = all_left (λ x. is_in classes set x ≡ true) (super_wants classes c)
+        let wants = all_split (λ x. is_in classes set x ≡ true) (super_wants classes c)
         (initialisation_wants classes n ++ (rule_wants classes kept n ++ called_wants classes n c)) (class_in h) in
         let parts = all_option ClassIn (class_named classes c.super_name) (classes_named classes c.interfaces)
         (names_in (c.super_name ∷ c.interfaces) wants.0) in (

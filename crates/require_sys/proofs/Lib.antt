@@ -21,3 +21,4 @@ mod Membering
 mod Limiting
 pub mod Validity
 pub mod AskedThere
+pub mod SystemDue

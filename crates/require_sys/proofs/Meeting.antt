@@ -5,9 +5,10 @@ use Rattle.std.proofs.Common.{append_assoc, append-nil}
 use Rattle.std.specs.List.{AllByRecursion, cons_option, filter, filter_map, flat_map, list_any}
 use Rattle.std.specs.Option.{option_map_or}
 use Rattle.std.proofs.lemmas.Bool.{eq-eqb, eqb-true}
-use Rattle.std.proofs.lemmas.List.Concat.{flat_map-append}
 use Rattle.std.proofs.lemmas.List.Elements.{filter-append, filter_map-append}
 use Rattle.std.proofs.lemmas.List.Folds.{list_any-append}
+use Rattle.std.proofs.Math.Bool.{and-false}
+use Rattle.jv_base.proofs.Lists.{all_append, flat_more}
 use Rattle.class_model.specs.declared.class.Class.{Class}
 use Rattle.class_pool.specs.Hierarchy.{IsClass, superclass}
 use Rattle.class_pool.specs.Supers.{is_below}
@@ -17,7 +18,7 @@ use Rattle.class_pool.specs.declared.id.ClassId.{ClassId}
 use Rattle.class_pool.specs.declared.id.ClassId.TheVariants.{Prog, Lib}
 use Rattle.class_pool.proofs.Among.{any_once}
 use Rattle.class_pool.proofs.EachOnce.{once_append, once_none, once_one, once_twice}
-use Rattle.class_pool.proofs.FillingLaws.{own_valid}
+use Rattle.class_pool.proofs.FillingLaws.{own_valid, once_then}
 use Rattle.class_pool.proofs.SupersLaws.{chain_valid}
 use Rattle.class_pool.proofs.Climbing.{upwards_none, upwards_step}
 use Rattle.require_sys.specs.Requires.{is_program, library_supers}
@@ -77,13 +78,6 @@ optional_more h xs i x old ys zs lt at is grown =
     ∙ ap (λ t. old ++ t) (sym (filter_map-append h (take i xs) (x ∷ [])))
     ∙ ap (λ t. old ++ filter_map h t) (sym (more_of xs i x lt at))
 
-flat_more : {X Y : Type 0} (g : X → List Y) (xs : List X) (i : ℕ) (x : X) → i < length xs → x ≡ get_or xs i x
-    → flat_map g (take i xs) ++ g x ≡ flat_map g (take (i + 1) xs)
-flat_more g xs i x lt at =
-    ap (λ t. flat_map g (take i xs) ++ t) (sym (append-nil (g x)))
-    ∙ sym (flat_map-append g (take i xs) (x ∷ []))
-    ∙ ap (flat_map g) (sym (more_of xs i x lt at))
-
 -- those of one more list
 pub list_more : {X Y Z : Type 0} (h : Y → Option Z) (g : X → List Y) (xs : List X) (i : ℕ) (x : X) (old ys zs : List Z)
     → i < length xs → x ≡ get_or xs i x → ys ≡ old ++ filter_map h (flat_map g (take i xs))
@@ -98,14 +92,6 @@ pub both_mapped : {X Y : Type 0} (h : X → Option Y) (xs zs : List X) (one two 
     → one ≡ [] ++ filter_map h xs → two ≡ one ++ filter_map h zs → two ≡ filter_map h (xs ++ zs)
 both_mapped h xs zs one two first second =
     second ∙ ap (λ t. t ++ filter_map h zs) first ∙ sym (filter_map-append h xs zs)
-
--- more classes, each once
-once_then : (s xs ys ids new : List ClassId) → ids ≡ s ++ each_once s xs → new ≡ ids ++ each_once ids ys
-    → new ≡ s ++ each_once s (xs ++ ys)
-once_then s xs ys ids new is more =
-    more ∙ ap (λ (t : List ClassId). t ++ each_once t ys) is
-    ∙ append_assoc s (each_once s xs) (each_once (s ++ each_once s xs) ys)
-    ∙ ap (λ (t : List ClassId). s ++ t) (sym (once_append xs ys s))
 
 only_new : (old : List ClassId) (id : ClassId)
     → each_once old (filter is_library (id ∷ [])) ≡ cond (is_new old id) (id ∷ []) []
@@ -175,17 +161,13 @@ module _ (own z : ℕ) where
       rest : List ℕ
       rest = filter_map (other_number own) ids
 
-      no_and : (b : Bool) → (b && false) ≡ false
-      no_and true = refl
-      no_and false = refl
-
       by : (s : Bool) → (n == own) ≡ s → (b : Bool) → (z == n) ≡ b → (o : Bool) → (own == z) ≡ o
           → has z rest ≡ (list_any (same_class (Prog z)) ids && not (own == z))
           → has z (cons_option (cond s None (Some n)) rest)
           ≡ ((b || list_any (same_class (Prog z)) ids) && not (own == z))
       by true e true f true g r =
           r ∙ ap (λ (t : Bool). list_any (same_class (Prog z)) ids && not t) g
-          ∙ no_and (list_any (same_class (Prog z)) ids) ∙ sym (ap not g)
+          ∙ and-false (list_any (same_class (Prog z)) ids) ∙ sym (ap not g)
       by true e true f false g r =
           absurd (let h = eq-eqb own z (sym (eqb-true z n f ∙ eqb-true n own e)) in cc)
       by true e false f o g r = r
@@ -219,22 +201,17 @@ below_met classes n y =
     (any_own classes y (superclasses_from classes (Prog n)))
     ∙ sym (list_any-append (same_class y) (superclasses_from classes (Prog n)) (superinterfaces classes (Prog n)))
 
-joined : {X : Type 0} (P : X → Type 0) (xs ys : List X) → AllByRecursion P xs → AllByRecursion P ys
-    → AllByRecursion P (xs ++ ys)
-joined P [] ys h k = k
-joined P (x ∷ xs) ys h k = (h.0, joined P xs ys h.1 k)
-
 own_met : (classes : List Class) (cs : List ClassId) → AllByRecursion (IsClass classes) (flat_map (own_once classes) cs)
 own_met classes [] = tt
 own_met classes (c ∷ cs) =
-    joined (IsClass classes) (own_once classes c) (flat_map (own_once classes) cs)
+    all_append (IsClass classes) (own_once classes c) (flat_map (own_once classes) cs)
     (from_all (IsClass classes) (own_once classes c) (own_valid classes c)) (own_met classes cs)
 
 pub met_there : (classes : List Class) (n : ℕ) → IsClass classes (Prog n)
     → AllByRecursion (IsClass classes) (superclasses_from classes (Prog n)
     ++ flat_map (own_once classes) (superclasses_from classes (Prog n)))
 met_there classes n n-in =
-    joined (IsClass classes) (superclasses_from classes (Prog n))
+    all_append (IsClass classes) (superclasses_from classes (Prog n))
     (flat_map (own_once classes) (superclasses_from classes (Prog n)))
     (from_all (IsClass classes) (superclasses_from classes (Prog n)) (chain_valid classes (Prog n) n-in))
     (own_met classes (superclasses_from classes (Prog n)))

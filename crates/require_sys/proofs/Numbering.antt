@@ -1,37 +1,28 @@
 -- The items of classes and members by their numbers.
 use Rattle.std.proofs.Common.{◌≡◌, ℕ, ◌+◌, ◌<◌, ◌≤◌, ◌⊎◌, inl, inr, Bool, true, false, List, [], ◌∷◌, ◌++◌, length}
-use Rattle.std.proofs.Common.{get_or, map, take, slice_get, Option, Some, None, All, refl, sym, ap, subst, ◌∙◌, arith}
+use Rattle.std.proofs.Common.{get_or, map, slice_get, Option, Some, None, All, refl, sym, ap, subst, ◌∙◌, arith}
 use Rattle.std.proofs.Common.{length-append}
 use Rattle.std.specs.Option.{option_map_or}
 use Rattle.std.proofs.Math.Seq.{get_or-append_seam}
 use Rattle.std.proofs.lemmas.Bool.{cases_lt}
-use Rattle.std.proofs.lemmas.List.{get_or_append_left, take_more}
+use Rattle.std.proofs.lemmas.List.{get_or_append_left, length-map}
 use Rattle.std.proofs.lemmas.List.Elements.{All-nil, All-cons}
-use Rattle.std.proofs.lemmas.List.Sums.{sum_by_push, sum_by-take-le}
 use Rattle.std.proofs.lemmas.Option.{slice_get_within, get_or_from_slice_get}
+use Rattle.std.specs.List.{enumerate_from}
+use Rattle.std.proofs.lemmas.List.FromFn.{length-enumerate_from}
 use Rattle.class_model.specs.declared.class.Class.{Class}
+use Rattle.class_model.specs.declared.class.Field.{Field}
+use Rattle.class_model.specs.declared.class.Method.{Method}
 use Rattle.class_pool.specs.Count.{items_of, item_count}
 use Rattle.class_pool.specs.Found.{field_row, IsMember, method_row, rows_in}
 use Rattle.class_pool.specs.declared.id.ClassId.TheVariants.{Prog}
 use Rattle.class_pool.specs.Items.{class_item}
 use Rattle.keep_match.specs.Seeds.{places_of_true}
 use Rattle.require_sys.specs.bodies.Starts.{AreStarts}
+use Rattle.require_sys.specs.Requires.{class_needs, field_wants, method_wants, needs_of}
+use Rattle.require_sys.specs.declared.kept.KeptByRules.{KeptByRules}
 use Rattle.class_pool.proofs.ToldMembers.{rows_counted}
-
--- one more element
-pub take_at : {X : Type 0} (xs : List X) (i : ℕ) (x : X) → slice_get xs i ≡ Some x
-    → take (i + 1) xs ≡ take i xs ++ x ∷ []
-take_at xs i x is = take_more xs i x (slice_get_within xs i x is)
-    ∙ ap (λ y. take i xs ++ y ∷ []) (get_or_from_slice_get xs i x x is)
-
--- the item of the next class
-pub class_item-next : (classes : List Class) (n : ℕ) (c : Class) → slice_get classes n ≡ Some c
-    → class_item classes (n + 1) ≡ class_item classes n + items_of c
-class_item-next classes n c is = ap item_count (take_at classes n c is) ∙ sum_by_push items_of (take n classes) c
-
--- no class stands behind the last item
-pub class_item-le : (classes : List Class) (n : ℕ) → class_item classes n ≤ item_count classes
-class_item-le classes n = sum_by-take-le items_of classes n
+use Rattle.class_pool.proofs.Counting.{class_item-next, class_item-le}
 
 below_in : (classes : List Class) (n index : ℕ) (c : Option Class) → slice_get classes n ≡ c
     → index < length (option_map_or (λ (d : Class). map field_row d.fields ++ map method_row d.methods) c [])
@@ -118,3 +109,20 @@ member_listed classes n members i k there all lt at = (
   there,
   subst (λ (x : ℕ). x < length (rows_in classes (Prog n))) (sym at) (all i k lt),
 )
+
+-- ---- the needs of the items of a class
+
+pub needs_long : (classes : List Class) (kept : KeptByRules) (n : ℕ) (c : Class)
+    → length (class_needs classes kept (n, c)) ≡ items_of c
+needs_long classes kept n c =
+    let of_field : ℕ × Field → List ℕ =
+    λ p. needs_of classes (class_item classes n + 1 + p.0) (field_wants classes n p.1) in
+    let of_method : ℕ × Method → List ℕ =
+    λ p. needs_of classes (class_item classes n + 1 + p.0) (method_wants classes n kept p.1) in
+    let fields = length-map (enumerate_from 0 c.fields) of_field in
+    let methods = length-map (enumerate_from (length c.fields) c.methods) of_method in
+    let numbered = length-enumerate_from 0 c.fields in
+    let others = length-enumerate_from (length c.fields) c.methods in
+    let both = length-append (map of_field (enumerate_from 0 c.fields))
+    (map of_method (enumerate_from (length c.fields) c.methods)) in
+    omega (arith, fields, methods, numbered, others, both)

@@ -1,10 +1,11 @@
 -- What holds of each element of a list that is made of others, holds of what those have.
-use Rattle.std.proofs.Common.{◌≡◌, ℕ, zero, suc, ◌+◌, Bool, true, false, cond, List, [], ◌∷◌, ◌++◌, map, Option, Some}
+use Rattle.std.proofs.Common.{◌≡◌, ℕ, zero, suc, ◌+◌, Bool, true, false, cond, List, [], ◌∷◌, map, Option, Some}
 use Rattle.std.proofs.Common.{None, slice_get, refl, sym, subst, arith}
 use Rattle.std.specs.Prelude.{◌==◌, ◌||◌, IfSome, nat_lt}
 use Rattle.std.specs.List.{All, AllByRecursion, cons_option, enumerate_from, filter, filter_map, flat_map, list_any}
 use Rattle.std.proofs.lemmas.Bool.{eqb-true}
 use Rattle.std.proofs.lemmas.List.Elements.{All-head, All-tail}
+use Rattle.jv_base.proofs.Lists.{all_split}
 use Rattle.class_pool.specs.declared.id.ClassId.{ClassId}
 use Rattle.class_pool.specs.Walk.{same_class}
 use Rattle.class_pool.proofs.EachOnce.{same_is}
@@ -13,11 +14,6 @@ use Rattle.require_sys.specs.Requires.{ascending, put}
 pub from_all : {X : Type 0} (P : X → Type 0) (xs : List X) → All P xs → AllByRecursion P xs
 from_all P [] h = tt
 from_all P (x ∷ xs) h = (All-head P x xs h, from_all P xs (All-tail P x xs h))
-
-pub all_left : {X : Type 0} (P : X → Type 0) (xs ys : List X) → AllByRecursion P (xs ++ ys)
-    → AllByRecursion P xs × AllByRecursion P ys
-all_left P [] ys h = (tt, h)
-all_left P (x ∷ xs) ys h = let rest = all_left P xs ys h.1 in ((h.0, rest.0), rest.1)
 
 pub all_map : {X Y : Type 0} (P : Y → Type 0) (f : X → Y) (xs : List X) → AllByRecursion P (map f xs)
     → AllByRecursion (λ x. P (f x)) xs
@@ -53,7 +49,7 @@ pub all_flat_map : {X Y : Type 0} (P : Y → Type 0) (f : X → List Y) (xs : Li
     → AllByRecursion (λ x. AllByRecursion P (f x)) xs
 all_flat_map P f [] h = tt
 all_flat_map P f (x ∷ xs) h =
-    let parts = all_left P (f x) (flat_map f xs) h in (parts.0, all_flat_map P f xs parts.1)
+    let parts = all_split P (f x) (flat_map f xs) h in (parts.0, all_flat_map P f xs parts.1)
 
 pub all_enumerated : {X : Type 0} (P : ℕ × X → Type 0) (n : ℕ) (xs : List X) (i : ℕ) (x : X)
     → AllByRecursion P (enumerate_from n xs) → slice_get xs i ≡ Some x → P (n + i, x)

@@ -4,6 +4,7 @@ use Rattle.std.proofs.Common.{Result, Ok, Err, drop, length, set, slice_get, sym
 use Rattle.std.specs.Prelude.{OnOk}
 use Rattle.std.proofs.lemmas.List.Elements.{All-get_or, All-set}
 use Rattle.std.proofs.lemmas.Option.{get_or_from_slice_get, slice_get_within}
+use Rattle.std.proofs.lemmas.List.{drop_at}
 use Rattle.class_model.specs.declared.class.Class.{Class}
 use Rattle.class_model.specs.declared.op.MemberRef.{MemberRef}
 use Rattle.require_sys.specs.Requires.{Item, numbers}
@@ -51,23 +52,20 @@ pub found_more : (w v : Wanted) (found : List ℕ) (f : List Class → List Item
 found_more w v found f is put =
     put ∙ ap (λ (t : List ℕ). record { classes = w.classes; numbers = w.numbers ++ t }) is
 
-behind_front : (xs ys : List ℕ) → drop (length xs) (xs ++ ys) ≡ ys
-behind_front [] ys = refl
-behind_front (x ∷ xs) ys = behind_front xs ys
-
 front_short : (xs ys : List ℕ) → length xs ≤ length (xs ++ ys)
 front_short [] ys = omega arith
 front_short (x ∷ xs) ys = let h = front_short xs ys in omega (arith, h)
 
 -- what was wanted last stands behind what was wanted before
-pub last_wanted : (w v : Wanted) (n : ℕ) (f : List Class → List Item) → n ≡ length w.numbers → v ≡ wanting w (f w.classes)
+pub last_wanted : (w v : Wanted) (n : ℕ) (f : List Class → List Item) → n ≡ length w.numbers
+    → v ≡ wanting w (f w.classes)
     → IsBehind n v.numbers (numbers v.classes (f v.classes))
 last_wanted w v n f count is =
     subst (λ (u : Wanted). IsBehind n u.numbers (numbers u.classes (f u.classes))) (sym is)
     (subst (λ (m : ℕ). IsBehind m (w.numbers ++ numbers w.classes (f w.classes)) (numbers w.classes (f w.classes)))
     (sym count) (record {
       within = front_short w.numbers (numbers w.classes (f w.classes));
-      are = behind_front w.numbers (numbers w.classes (f w.classes));
+      are = drop_at w.numbers (numbers w.classes (f w.classes)) (length w.numbers) refl;
     }))
 
 -- nothing more was wanted
@@ -83,7 +81,8 @@ pub text_put : (classes : List Class) (rows : List (Option TextRow)) (place star
     → All (λ o. IfSome o (IsTextRow classes)) (set rows place (Some (record { kind = k; text = own; numbers = found })))
 text_put classes rows place start k t own all given found are behind one copied same =
     All-set (λ o. IfSome o (IsTextRow classes)) rows place (Some (record { kind = k; text = own; numbers = found }))
-    (copied ∙ ap (drop start) one ∙ behind.are ∙ ap (λ (u : List ℕ). numbers classes (text_wants classes k u)) (sym same))
+    (copied ∙ ap (drop start) one ∙ behind.are
+    ∙ ap (λ (u : List ℕ). numbers classes (text_wants classes k u)) (sym same))
     are
 
 -- one more reference is remembered
@@ -95,5 +94,6 @@ pub row_put : (classes : List Class) (rows : List (Option Row)) (place start n :
 row_put classes rows place start n k r own all given found are behind one copied same =
     All-set (λ o. IfSome o (IsRow classes)) rows place
     (Some (record { from = n; kind = k; reference = own; numbers = found }))
-    (copied ∙ ap (drop start) one ∙ behind.are ∙ ap (λ (q : MemberRef). numbers classes (ref_wants classes n k q)) (sym same))
+    (copied ∙ ap (drop start) one ∙ behind.are
+    ∙ ap (λ (q : MemberRef). numbers classes (ref_wants classes n k q)) (sym same))
     are

@@ -12,6 +12,7 @@ use Rattle.class_model.specs.declared.frame.FrameAt.{FrameAt}
 use Rattle.class_model.specs.declared.frame.VType.{VType}
 use Rattle.class_model.specs.declared.class.Class.{Class}
 use Rattle.std.specs.Option.{option_map_or}
+use Rattle.std.proofs.Math.Bool.{or-true}
 use Rattle.class_model.specs.declared.class.Method.{Method}
 use Rattle.class_model.specs.declared.code.Code.{Code}
 use Rattle.class_model.specs.declared.code.Handler.{Handler}
@@ -61,12 +62,8 @@ module _ (classes : List Class) (x : ℕ) where
   or_left : (a b c : Bool) → c ≡ (a || b) → a ≡ true → c ≡ true
   or_left a b c is h = is ∙ ap (λ (t : Bool). t || b) h
 
-  or_true : (a : Bool) → (a || true) ≡ true
-  or_true true = refl
-  or_true false = refl
-
   or_right : (a b c : Bool) → c ≡ (a || b) → b ≡ true → c ≡ true
-  or_right a b c is h = is ∙ ap (λ (t : Bool). a || t) h ∙ or_true a
+  or_right a b c is h = is ∙ ap (λ (t : Bool). a || t) h ∙ or-true a
 
   never_both : {P : Type 0} → false ≡ true → P
   never_both h = absurd cc

@@ -1,6 +1,6 @@
 -- Numbers that are sorted and of which each is taken once.
-use Rattle.std.proofs.Common.{◌≡◌, ℕ, zero, suc, ◌<◌, ◌==◌, Bool, true, false, List, [], ◌∷◌, not}
-use Rattle.std.proofs.Common.{Result, Ok, Err, refl, sym, ap, ◌∙◌, arith}
+use Rattle.std.proofs.Common.{◌≡◌, ℕ, zero, suc, ◌<◌, ◌==◌, true, List, [], ◌∷◌, not}
+use Rattle.std.proofs.Common.{Result, Ok, Err, sym, ap, ◌∙◌, arith}
 use Rattle.std.specs.Prelude.{IfOk, nat_eq}
 use Rattle.std.specs.List.Retain.{DiffersFromLast, IsFiltered}
 use Rattle.std.proofs.lemmas.List.Filters.{dedup_is}
@@ -14,6 +14,7 @@ use Rattle.std.proofs.lemmas.List.Kept.{AllPairs-from_increasing, Contains-dedup
 use Rattle.std.proofs.lemmas.List.Sorted.{Contains-permutation, IsPermutation-sym}
 use Rattle.std.proofs.lemmas.Map.Keys.{IsStrictlyIncreasing-dedup}
 use Rattle.std.proofs.lemmas.Map.Views.{Contains-from_any, list_any-from_Contains}
+use Rattle.jv_base.proofs.Tests.{same_test}
 use Rattle.class_model.specs.declared.class.Class.{Class}
 use Rattle.require_sys.specs.Requires.{Item, ascending, needs_of, numbers}
 use Rattle.require_sys.specs.bodies.Wanting.{HasSame, Wanted, has, needs_from, wanting, wanting_nothing}
@@ -33,11 +34,6 @@ found x xs h = list_any-from_Contains nat_eq_equiv x xs h
 stands : (x : ℕ) (xs : List ℕ) → has x xs ≡ true → Contains xs x
 stands x xs h = Contains-from_any {eq = nat_eq} (λ a b e. eqb-true a b e) x xs h
 
-one_answer : (a b : Bool) → (a ≡ true → b ≡ true) → (b ≡ true → a ≡ true) → a ≡ b
-one_answer true b f g = sym (f refl)
-one_answer false true f g = g refl
-one_answer false false f g = refl
-
 pub sorted_once : (wants sorted once : List ℕ) → IsPermutation wants sorted → IsSorted nat_cmp sorted
     → once ≡ dedup eqb sorted → once ≡ ascending wants
 sorted_once wants sorted once perm sort is =
@@ -45,7 +41,7 @@ sorted_once wants sorted once perm sort is =
     (rising_from (dedup eqb sorted) (AllPairs-from_increasing (dedup eqb sorted)
     (IsStrictlyIncreasing-dedup sorted sort)))
     (rising_ascending wants)
-    (λ x. one_answer (has x (dedup eqb sorted)) (has x wants)
+    (λ x. same_test (has x (dedup eqb sorted)) (has x wants)
     (λ h. found x wants (Contains-permutation sorted wants x (IsPermutation-sym wants sorted perm)
     (Contains-from_dedup eqb sorted x (stands x (dedup eqb sorted) h))))
     (λ h. found x (dedup eqb sorted) (Contains-dedup_nat sorted x

@@ -7,8 +7,8 @@ use Rattle.std.proofs.lemmas.List.{map_push, take_more, length-take}
 use Rattle.std.proofs.lemmas.List.Concat.{flat_map-append}
 use Rattle.std.proofs.lemmas.List.Elements.{filter_map-append}
 use Rattle.std.proofs.lemmas.Option.{slice_get_within}
+use Rattle.jv_base.proofs.Lists.{take_got, enumerate_from-append}
 use Rattle.keep_match.specs.Seeds.{places_of_true}
-use Rattle.require_sys.proofs.Numbering.{take_at}
 
 one_of : {Y : Type 0} (y : Y) (r : Option Y) → r ≡ Some y → cons_option r [] ≡ y ∷ []
 one_of y None e = absurd cc
@@ -52,22 +52,12 @@ mapped f xs i x y old ys zs lt at is same grown =
     ∙ ap (λ t. old ++ t) (sym (map_push f (take i xs) x))
     ∙ ap (λ t. old ++ map f t) (sym (more_of xs i x lt at))
 
--- what the next element of a numbered list gives
-enumerate_from-append : {X : Type 0} (n : ℕ) (xs ys : List X)
-    → enumerate_from n (xs ++ ys) ≡ enumerate_from n xs ++ enumerate_from (n + length xs) ys
-enumerate_from-append {X} n [] ys = let same : n
-    ≡ n + length {A = X} [] = omega arith in ap (λ k. enumerate_from k ys) same
-enumerate_from-append n (x ∷ xs) ys =
-    let next : n + 1 + length xs ≡ n + length (x ∷ xs) = omega arith in
-    ap (λ t. (n, x) ∷ t) (enumerate_from-append (n + 1) xs ys)
-    ∙ ap (λ k. (n, x) ∷ (enumerate_from (n + 1) xs ++ enumerate_from k ys)) next
-
 numbered_more : {X : Type 0} (xs : List X) (i : ℕ) (x : X) → slice_get xs i ≡ Some x
     → enumerate_from 0 (take (i + 1) xs) ≡ enumerate_from 0 (take i xs) ++ (i, x) ∷ []
 numbered_more xs i x is =
     let within = slice_get_within xs i x is in
     let so_far : 0 + length (take i xs) ≡ i = omega (arith, length-take i xs, within) in
-    ap (enumerate_from 0) (take_at xs i x is) ∙ enumerate_from-append 0 (take i xs) (x ∷ [])
+    ap (enumerate_from 0) (take_got xs i x is) ∙ enumerate_from-append 0 (take i xs) (x ∷ [])
     ∙ ap (λ k. enumerate_from 0 (take i xs) ++ (k, x) ∷ []) so_far
 
 -- a numbered list with one more element
@@ -76,7 +66,7 @@ pub enumerated_more : {X : Type 0} (s : ℕ) (xs : List X) (i : ℕ) (x : X) →
 enumerated_more s xs i x is =
     let within = slice_get_within xs i x is in
     let so_far : s + length (take i xs) ≡ s + i = omega (arith, length-take i xs, within) in
-    ap (enumerate_from s) (take_at xs i x is) ∙ enumerate_from-append s (take i xs) (x ∷ [])
+    ap (enumerate_from s) (take_got xs i x is) ∙ enumerate_from-append s (take i xs) (x ∷ [])
     ∙ ap (λ k. enumerate_from s (take i xs) ++ (k, x) ∷ []) so_far
 
 pub numbered_given : {X Y : Type 0} (f : ℕ × X → List Y) (xs : List X) (i : ℕ) (x : X) (ys zs : List Y)
@@ -108,7 +98,7 @@ piece_given f xs i x ys zs at is grown =
     grown ∙ ap (λ t. t ++ f x) is
     ∙ ap (λ t. flat_map f (take i xs) ++ t) (sym (append-nil (f x)))
     ∙ sym (flat_map-append f (take i xs) (x ∷ []))
-    ∙ ap (flat_map f) (sym (take_at xs i x at))
+    ∙ ap (flat_map f) (sym (take_got xs i x at))
 
 pub place_given : (bs : List Bool) (i : ℕ) (b : Bool) (places grown : List ℕ) → i < length bs → get_or bs i false ≡ b
     → places ≡ places_of_true 0 (take i bs)

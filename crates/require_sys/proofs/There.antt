@@ -1,6 +1,6 @@
 -- What items want is there, so that each number that the system names is one of an item.
 use Rattle.std.proofs.Common.{◌≡◌, ℕ, ◌<◌, ◌&&◌, ◌||◌, Bool, true, false, cond, List, [], ◌∷◌, ◌++◌}
-use Rattle.std.proofs.Common.{length, map, Option, Some, None, Result, Ok, Err, refl}
+use Rattle.std.proofs.Common.{length, Option, Some, None, Result, Ok, Err, refl}
 use Rattle.std.specs.Prelude.{IfOk, IfSome, codes, slice_index_or}
 use Rattle.std.specs.List.{AllByRecursion, cons_option, filter_map, flat_map, list_any}
 use Rattle.std.specs.Option.{option_and_then, option_map, option_map_or}
@@ -10,6 +10,7 @@ use Rattle.jv_base.specs.declared.types.Base.TheVariants as base
 use Rattle.jv_base.specs.declared.types.FieldType.{FieldType}
 use Rattle.jv_base.specs.declared.types.MethodType.{MethodType}
 use Rattle.jv_base.specs.declared.descriptors.BadDescriptor.{BadDescriptor}
+use Rattle.jv_base.proofs.Lists.{all_append, all_mapped}
 use Rattle.class_model.specs.Flags.{is_init, is_interface}
 use Rattle.class_model.specs.declared.class.Class.{Class}
 use Rattle.class_model.specs.declared.class.Field.{Field}
@@ -52,15 +53,10 @@ use Rattle.require_sys.proofs.Parts.{from_all}
 
 -- ---- lists that are made of others
 
-pub each_left : {X : Type 0} (P : X → Type 0) (xs ys : List X) → AllByRecursion P xs → AllByRecursion P ys
-    → AllByRecursion P (xs ++ ys)
-each_left P [] ys h k = k
-each_left P (x ∷ xs) ys h k = (h.0, each_left P xs ys h.1 k)
-
 pub each_flat : {X Y : Type 0} (P : Y → Type 0) (f : X → List Y) (xs : List X) → ((x : X) → AllByRecursion P (f x))
     → AllByRecursion P (flat_map f xs)
 each_flat P f [] h = tt
-each_flat P f (x ∷ xs) h = each_left P (f x) (flat_map f xs) (h x) (each_flat P f xs h)
+each_flat P f (x ∷ xs) h = all_append P (f x) (flat_map f xs) (h x) (each_flat P f xs h)
 
 pub each_option : {X : Type 0} (P : X → Type 0) (o : Option X) (xs : List X) → IfSome o P → AllByRecursion P xs
     → AllByRecursion P (cons_option o xs)
@@ -71,11 +67,6 @@ pub each_given : {X Y : Type 0} (P : Y → Type 0) (f : X → Option Y) (xs : Li
     → AllByRecursion P (filter_map f xs)
 each_given P f [] h = tt
 each_given P f (x ∷ xs) h = each_option P (f x) (filter_map f xs) (h x) (each_given P f xs h)
-
-pub each_mapped : {X Y : Type 0} (P : Y → Type 0) (f : X → Y) (xs : List X) → AllByRecursion (λ x. P (f x)) xs
-    → AllByRecursion P (map f xs)
-each_mapped P f [] h = tt
-each_mapped P f (x ∷ xs) h = (h.0, each_mapped P f xs h.1)
 
 -- ---- items that are there
 
@@ -203,13 +194,13 @@ module _ (classes : List Class) where
   pub class_there : (kept : KeptByRules) → AreMembers classes kept.members → (n : ℕ) (c : Class)
       → AreThere classes (class_wants classes kept n c)
   class_there kept members n c =
-      each_left There (super_wants classes c)
+      all_append There (super_wants classes c)
       (initialisation_wants classes n ++ (rule_wants classes kept n ++ called_wants classes n c))
       (names_there (c.super_name ∷ c.interfaces))
-      (each_left There (initialisation_wants classes n) (rule_wants classes kept n ++ called_wants classes n c)
+      (all_append There (initialisation_wants classes n) (rule_wants classes kept n ++ called_wants classes n c)
       (init_there n)
-      (each_left There (rule_wants classes kept n) (called_wants classes n c)
-      (each_mapped There (λ k. OfMember (record { class = Prog n; index = k })) (slice_index_or kept.members n [])
+      (all_append There (rule_wants classes kept n) (called_wants classes n c)
+      (all_mapped There (λ k. OfMember (record { class = Prog n; index = k })) (slice_index_or kept.members n [])
       (from_all (λ k. k < length (rows_in classes (Prog n))) (slice_index_or kept.members n []) (members n)))
       (called_there n c)))
 
@@ -234,10 +225,10 @@ module _ (classes : List Class) where
 
     field_ref_there : (r : MemberRef) → AreThere classes (field_ref_wants classes n r)
     field_ref_there r =
-        each_left There (base_wants classes r.class.base)
+        all_append There (base_wants classes r.class.base)
         (field_text_wants classes (read_field r.ty) ++ resolved_wants classes (resolved_field classes (Prog n) r))
         (base_there r.class.base)
-        (each_left There (field_text_wants classes (read_field r.ty))
+        (all_append There (field_text_wants classes (read_field r.ty))
         (resolved_wants classes (resolved_field classes (Prog n) r)) (field_text_there (read_field r.ty))
         (resolved_there (resolved_field classes (Prog n) r)
         (field_has (MemberThere classes) classes (Prog n) r (declared_there (r.name, r.ty)))))
@@ -247,10 +238,10 @@ module _ (classes : List Class) where
 
     method_ref_there : (r : MemberRef) → AreThere classes (method_ref_wants classes n r)
     method_ref_there r =
-        each_left There (base_wants classes r.class.base)
+        all_append There (base_wants classes r.class.base)
         (method_text_wants classes (read_method r.ty) ++ resolved_wants classes (resolved_method classes (Prog n) r))
         (base_there r.class.base)
-        (each_left There (method_text_wants classes (read_method r.ty))
+        (all_append There (method_text_wants classes (read_method r.ty))
         (resolved_wants classes (resolved_method classes (Prog n) r)) (method_text_there (read_method r.ty))
         (resolved_there (resolved_method classes (Prog n) r) (method_there r)))
 
@@ -270,7 +261,7 @@ module _ (classes : List Class) where
     op_there (op.PutField r) = field_ref_there r
     op_there (op.InvokeVirtual r) = method_ref_there r
     op_there (op.InvokeSpecial r) =
-        each_left There (method_ref_wants classes n r)
+        all_append There (method_ref_wants classes n r)
         (special_wants classes n (class_of classes r) (resolved_method classes (Prog n) r)) (method_ref_there r)
         (special_wants_there (class_of classes r) (resolved_method classes (Prog n) r) (method_there r))
     op_there (op.InvokeStatic r) = method_ref_there r
@@ -298,10 +289,10 @@ module _ (classes : List Class) where
 
     code_there : (code : Code) → AreThere classes (code_wants classes n code)
     code_there code =
-        each_left There (flat_map (λ (i : Ins). op_wants classes n i.op) code.ins)
+        all_append There (flat_map (λ (i : Ins). op_wants classes n i.op) code.ins)
         (flat_map (handler_wants classes) code.handlers ++ flat_map (frame_wants classes) code.frames)
         (each_flat There (λ (i : Ins). op_wants classes n i.op) code.ins (λ i. op_there i.op))
-        (each_left There (flat_map (handler_wants classes) code.handlers)
+        (all_append There (flat_map (handler_wants classes) code.handlers)
         (flat_map (frame_wants classes) code.frames)
         (each_flat There (handler_wants classes) code.handlers handler_there)
         (each_flat There (frame_wants classes) code.frames frame_there))
@@ -317,10 +308,10 @@ module _ (classes : List Class) where
         → AreThere classes (method_wants classes n kept m)
     method_wants_there kept m lt = (
       lt,
-      each_left There (method_type_wants classes m.ty)
+      all_append There (method_type_wants classes m.ty)
           (throws_wants classes kept m ++ option_map_or (code_wants classes n) m.code [])
           (method_type_there m.ty)
-          (each_left There (throws_wants classes kept m) (option_map_or (code_wants classes n) m.code [])
+          (all_append There (throws_wants classes kept m) (option_map_or (code_wants classes n) m.code [])
           (throws_there kept m) (by m.code)),
     )
       where

@@ -1,7 +1,7 @@
 -- The system of a set is a valid one, and how many needs and pairs it may have at most.
 use Rattle.std.proofs.Common.{◌≡◌, ℕ, zero, suc, ◌+◌, ◌*◌, ◌<◌, ◌≤◌, ◌==◌, ◌&&◌, not, Bool, true, false, cond, List}
 use Rattle.std.proofs.Common.{[], ◌∷◌}
-use Rattle.std.proofs.Common.{inl, inr, ◌⊎◌, nat_lt, ◌++◌, All, length, map, slice_get, Option, Some, None, refl, ap}
+use Rattle.std.proofs.Common.{inl, inr, ◌⊎◌, nat_lt, All, length, map, slice_get, Option, Some, None, refl, ap}
 use Rattle.std.proofs.Common.{subst, ◌∙◌, arith, length-append}
 use Rattle.std.specs.Prelude.{IfSome}
 use Rattle.std.specs.List.{AllByRecursion, cons_option, enumerate_from, filter, filter_map, flat_map, range_with_len}
@@ -12,6 +12,9 @@ use Rattle.std.proofs.lemmas.List.FromFn.{length-enumerate_from}
 use Rattle.std.proofs.lemmas.List.Elements.{All-from_recursion}
 use Rattle.std.proofs.lemmas.List.Sums.{sum_by-cons}
 use Rattle.std.proofs.lemmas.Option.{slice_get_within}
+use Rattle.std.proofs.lemmas.Bool.{and_parts}
+use Rattle.link_check.proofs.Methods.{rows_count}
+use Rattle.jv_base.proofs.Lists.{all_append, found_at, length-filter_map, all_mapped}
 use Rattle.mark_core.specs.Valid.{PairBelow, Valid}
 use Rattle.mark_core.specs.declared.system.Pair.{Pair}
 use Rattle.class_model.specs.Flags.{is_interface}
@@ -21,14 +24,14 @@ use Rattle.class_model.specs.declared.class.Method.{Method}
 use Rattle.class_pool.specs.Count.{item_count, items_of}
 use Rattle.class_pool.specs.Supers.{is_below}
 use Rattle.class_pool.specs.Walk.{same_class}
-use Rattle.class_pool.proofs.ToldMembers.{rows_counted}
-use Rattle.class_pool.specs.Found.{MemberRow, field_row, is_instance_method, is_instance_row, method_row}
+use Rattle.class_pool.specs.Found.{MemberRow, is_instance_method, is_instance_row}
 use Rattle.class_pool.specs.Found.{is_private_member, row_at, rows_in, same_member}
 use Rattle.class_pool.specs.Items.{class_item, item_of}
 use Rattle.class_pool.specs.Selection.{selected}
 use Rattle.class_pool.specs.declared.id.ClassId.{ClassId}
 use Rattle.class_pool.specs.declared.id.ClassId.TheVariants.{Prog, Lib}
 use Rattle.class_pool.specs.declared.id.MemberAt.{MemberAt}
+use Rattle.class_pool.proofs.Counting.{classes_counted, class_item-next, class_item-le}
 use Rattle.require_sys.specs.Requires.{Item, OfClass, OfMember, ascending, class_needs, class_number, class_pairs}
 use Rattle.require_sys.specs.Requires.{class_wants, field_wants, is_inheritable, members_of, method_wants}
 use Rattle.require_sys.specs.Requires.{methods_above}
@@ -36,16 +39,11 @@ use Rattle.require_sys.specs.Requires.{needs_of, number_of, numbers, pair_from, 
 use Rattle.require_sys.specs.bodies.Asked.{AreMembers}
 use Rattle.require_sys.specs.declared.kept.KeptByRules.{KeptByRules}
 use Rattle.require_sys.proofs.Ascending.{Rising, rising_ascending}
-use Rattle.require_sys.proofs.Numbering.{class_item-le, class_item-next, member_below}
-use Rattle.require_sys.proofs.There.{AreThere, IsThere, MemberThere, class_there, each_left, each_mapped, each_option}
+use Rattle.require_sys.proofs.Numbering.{member_below, needs_long}
+use Rattle.require_sys.proofs.There.{AreThere, IsThere, MemberThere, class_there, each_option}
 use Rattle.require_sys.proofs.There.{field_there, method_wants_there, selected_there}
 
 -- ---- numbers of items
-
-found_at : {X : Type 0} (xs : List X) (k : ℕ) → k < length xs → (x : X) × (slice_get xs k ≡ Some x)
-found_at [] k h = absurd (omega (arith, h))
-found_at (x ∷ xs) zero h = (x, refl)
-found_at (x ∷ xs) (suc k) h = found_at xs k (omega (arith, h))
 
 class_below : (classes : List Class) (n : ℕ) → n < length classes → class_item classes n < item_count classes
 class_below classes n lt =
@@ -171,11 +169,11 @@ module _ (classes : List Class) (kept : KeptByRules) (members : AreMembers class
       (n, c))
   class_fine n c lt = (
     fine (class_item classes n) (class_wants classes kept n c) (class_there classes kept members n c),
-    each_left (IsFine classes) fields methods
-        (each_mapped (IsFine classes) of_field (enumerate_from 0 c.fields)
+    all_append (IsFine classes) fields methods
+        (all_mapped (IsFine classes) of_field (enumerate_from 0 c.fields)
         (each_of (λ p. IsFine classes (of_field p)) (enumerate_from 0 c.fields)
         (λ p. fine (class_item classes n + 1 + p.0) (field_wants classes n p.1) (field_there classes n p.1 lt))))
-        (each_mapped (IsFine classes) of_method (enumerate_from (length c.fields) c.methods)
+        (all_mapped (IsFine classes) of_method (enumerate_from (length c.fields) c.methods)
         (each_of (λ p. IsFine classes (of_method p)) (enumerate_from (length c.fields) c.methods)
         (λ p. fine (class_item classes n + 1 + p.0) (method_wants classes n kept p.1)
         (method_wants_there classes n kept p.1 lt)))),
@@ -197,23 +195,9 @@ module _ (classes : List Class) (kept : KeptByRules) (members : AreMembers class
       → AllByRecursion (IsFine classes) (flat_map (class_needs classes kept) (enumerate_from k cs))
   all_fine k [] h = tt
   all_fine k (c ∷ cs) h =
-      each_left (IsFine classes) (class_needs classes kept (k, c))
+      all_append (IsFine classes) (class_needs classes kept (k, c))
       (flat_map (class_needs classes kept) (enumerate_from (k + 1) cs))
       (class_fine k c (omega (arith, h))) (all_fine (k + 1) cs (omega (arith, h)))
-
-  class_long : (n : ℕ) (c : Class) → length (class_needs classes kept (n, c)) ≡ items_of c
-  class_long n c =
-      let of_field : ℕ × Field → List ℕ =
-      λ p. needs_of classes (class_item classes n + 1 + p.0) (field_wants classes n p.1) in
-      let of_method : ℕ × Method → List ℕ =
-      λ p. needs_of classes (class_item classes n + 1 + p.0) (method_wants classes n kept p.1) in
-      let fields = length-map (enumerate_from 0 c.fields) of_field in
-      let methods = length-map (enumerate_from (length c.fields) c.methods) of_method in
-      let numbered = length-enumerate_from 0 c.fields in
-      let others = length-enumerate_from (length c.fields) c.methods in
-      let both = length-append (map of_field (enumerate_from 0 c.fields))
-      (map of_method (enumerate_from (length c.fields) c.methods)) in
-      omega (arith, fields, methods, numbered, others, both)
 
 pub flat_long : {X : Type 0} (f : ℕ × Class → List X) → ((n : ℕ) (c : Class) → length (f (n, c)) ≡ items_of c)
     → (k : ℕ) (cs : List Class) → length (flat_map f (enumerate_from k cs)) ≡ item_count cs
@@ -232,10 +216,6 @@ most_needs m (xs ∷ lists) low h =
     let rest = most_needs m lists low h.1 in
     omega (arith, sum, rest, h.0, low)
 
-classes_few : (cs : List Class) → length cs ≤ item_count cs
-classes_few [] = omega arith
-classes_few (c ∷ cs) = let sum = sum_by-cons items_of c cs in let rest = classes_few cs in omega (arith, sum, rest)
-
 firsts : {X : Type 0} (P Q : X → Type 0) (xs : List X) → AllByRecursion (λ x. P x × Q x) xs → AllByRecursion P xs
 firsts P Q [] h = tt
 firsts P Q (x ∷ xs) h = (h.0.0, firsts P Q xs h.1)
@@ -252,18 +232,10 @@ needs_counted classes kept members few =
     let most = most_needs (item_count classes) lists few
     (seconds (λ xs. AllByRecursion (Below classes) xs) (λ xs. length xs ≤ item_count classes) lists
     (all_fine classes kept members 0 classes (omega arith))) in
-    let long = flat_long (class_needs classes kept) (class_long classes kept members) 0 classes in
+    let long = flat_long (class_needs classes kept) (needs_long classes kept) 0 classes in
     omega (arith, most, long, few)
 
 -- ---- pairs
-
-given_short : {X Y : Type 0} (f : X → Option Y) (xs : List X) → length (filter_map f xs) ≤ length xs
-given_short f [] = omega arith
-given_short {Y = Y} f (x ∷ xs) = by (f x) (filter_map f xs) (given_short f xs)
-  where
-    by : (o : Option Y) (ys : List Y) → length ys ≤ length xs → length (cons_option o ys) ≤ length (x ∷ xs)
-    by None ys h = omega (arith, h)
-    by (Some y) ys h = omega (arith, h)
 
 passed_short : {X : Type 0} (p : X → Bool) (xs : List X) → length (filter p xs) ≤ length xs
 passed_short p [] = omega arith
@@ -278,13 +250,6 @@ members_long : (classes : List Class) (x : ClassId) → length (members_of class
 members_long classes x =
     length-map (enumerate_from 0 (rows_in classes x)) (λ (p : ℕ × MemberRow). record { class = x; index = p.0 })
     ∙ length-enumerate_from 0 (rows_in classes x)
-
-pub rows_few : (classes : List Class) (n : ℕ) (c : Class) → slice_get classes n ≡ Some c
-    → length (rows_in classes (Prog n)) ≡ length c.fields + length c.methods
-rows_few classes n c is =
-    ap (λ (o : Option Class). length (option_map_or (λ (d : Class). map field_row d.fields
-    ++ map method_row d.methods) o []))
-    is ∙ rows_counted c
 
 above_short : (classes : List Class) (t : ClassId → Bool) (s : ℕ) (cs : List Class)
     → ((k : ℕ) (c : Class) → slice_get cs k ≡ Some c → slice_get classes (s + k) ≡ Some c)
@@ -304,7 +269,7 @@ above_short classes t s (c ∷ cs) at = by (t (Prog s)) (above_short classes t (
     by true h =
         let zeroth : s + 0 ≡ s = omega arith in
         let own = members_long classes (Prog s) in
-        let few = rows_few classes s c (subst (λ (j : ℕ). slice_get classes j ≡ Some c) zeroth (at 0 c refl)) in
+        let few = rows_count classes s c (subst (λ (j : ℕ). slice_get classes j ≡ Some c) zeroth (at 0 c refl)) in
         let both = length-append (members_of classes (Prog s)) (flat_map (members_of classes) rest) in
         let sum = sum_by-cons items_of c cs in
         omega (arith, h, own, few, both, sum)
@@ -320,7 +285,7 @@ module _ (classes : List Class) where
       by : (b : Bool) → length (cond b [] (filter_map with (methods_above classes (Prog n)))) ≤ item_count classes
       by true = omega arith
       by false =
-          let one = given_short with (methods_above classes (Prog n)) in
+          let one = length-filter_map with (methods_above classes (Prog n)) in
           let two = passed_short (is_inheritable classes) (flat_map (members_of classes) (program_supers classes
           (Prog n))) in
           let three = above_short classes (λ y. is_below classes (Prog n) y && not (same_class (Prog n) y)) 0 classes
@@ -342,7 +307,7 @@ module _ (classes : List Class) where
       → length (flat_map (class_pairs classes) (enumerate_from 0 classes)) < 18446744073709551616
   pairs_counted few =
       let most = pairs_short 0 classes few in
-      let low = classes_few classes in
+      let low = classes_counted classes in
       omega (arith, most, low, few)
 
   -- ---- a pair names items
@@ -354,10 +319,6 @@ module _ (classes : List Class) where
           → MemberThere classes m
       by None e k = absurd cc
       by (Some row) e k = slice_get_within (rows_in classes m.class) m.index row e
-
-  and_left : (a b : Bool) → (a && b) ≡ true → a ≡ true
-  and_left true b h = refl
-  and_left false b h = absurd cc
 
   from_below : (n : ℕ) (two derived : Option ℕ) → n < item_count classes → IfSome two (Below classes)
       → IfSome derived (Below classes) → IfSome (pair_from classes (Some n) two derived) (PairBelow
@@ -373,7 +334,8 @@ module _ (classes : List Class) where
   pair_below n m lt inherited = by (selected classes (Prog n) m) (selected_there classes (Prog n) m)
     where
       there : MemberThere classes m
-      there = instance_there m (and_left (is_instance_method classes m) (not (is_private_member classes m)) inherited)
+      there = instance_there m
+          (and_parts (is_instance_method classes m) (not (is_private_member classes m)) inherited).0
 
       other : (s : MemberAt) (b : Bool) → MemberThere classes s
           → IfSome (cond b None (pair_from classes (class_number classes (Prog n)) (item_of classes m)
@@ -417,7 +379,7 @@ module _ (classes : List Class) where
       → AllByRecursion (PairBelow (item_count classes)) (flat_map (class_pairs classes) (enumerate_from k cs))
   pairs_below k [] h = tt
   pairs_below k (c ∷ cs) h =
-      each_left (PairBelow (item_count classes)) (class_pairs classes (k, c))
+      all_append (PairBelow (item_count classes)) (class_pairs classes (k, c))
       (flat_map (class_pairs classes) (enumerate_from (k + 1) cs))
       (class_pairs_below k c (omega (arith, h))) (pairs_below (k + 1) cs (omega (arith, h)))
 
@@ -430,7 +392,7 @@ range_below s (suc n) m h = (omega (arith, h), range_below (s + 1) n m (omega (a
 pub system_valid : (classes : List Class) (kept : KeptByRules) → AreMembers classes kept.members
     → All (λ x. x < item_count classes) kept.seeds → Valid (requires classes kept)
 system_valid classes kept members seeds = (
-  flat_long (class_needs classes kept) (class_long classes kept members) 0 classes,
+  flat_long (class_needs classes kept) (needs_long classes kept) 0 classes,
   by kept.shrink,
   All-from_recursion (λ xs. All (λ x. x < item_count classes) xs) (requires classes kept).needs
       (turned (requires classes kept).needs

@@ -1,6 +1,6 @@
 -- The last place of a byte, found from left to right.
-use Rattle.std.proofs.Common.{◌≡◌, ℕ, ◌+◌, ◌<◌, Bool, true, false, List, ◌∷◌, length, drop, drop-cons, get_or, ◌≤◌, Option, Some, None, arith, refl, sym, ap, ◌∙◌}
-use Rattle.std.proofs.Common.{eqb, suc, inl, inr}
+use Rattle.std.proofs.Common.{◌≡◌, ℕ, ◌+◌, ◌<◌, Bool, true, false, List, ◌∷◌, length, drop, drop-cons, get_or, ◌≤◌}
+use Rattle.std.proofs.Common.{Option, Some, None, arith, refl, sym, ap, ◌∙◌, eqb, suc, inl, inr}
 use Rattle.std.specs.Prelude.{if◌then◌else◌}
 use Rattle.std.proofs.lemmas.Bool.{eq-eqb}
 use Rattle.std.proofs.lemmas.Bool.Decides.{eqb_tells}
@@ -25,9 +25,11 @@ cons_at xs j lt =
     drop-cons xs j 0 lt ∙ ap (λ (n : ℕ). get_or xs j 0 ∷ drop n xs) next
 
 -- the byte at this place was seen
-seen : (byte : ℕ) (text : List ℕ) (at : ℕ) (found : Option ℕ) (here : Bool) → at < length text → eqb (get_or text at 0) byte ≡ here
+seen : (byte : ℕ) (text : List ℕ) (at : ℕ) (found : Option ℕ) (here : Bool) → at < length text
+    → eqb (get_or text at 0) byte ≡ here
     → later at found (last_place_of byte (drop at text)) ≡ last_place_of byte text
-    → later (at + 1) (if here then Some at else found) (last_place_of byte (drop (at + 1) text)) ≡ last_place_of byte text
+    → later (at + 1) (if here then Some at else found) (last_place_of byte (drop (at + 1) text))
+    ≡ last_place_of byte text
 unfolding last_place_of
 seen byte text at found here lt is h =
     later_step at found (last_place_of byte (drop (at + 1) text)) here
@@ -42,7 +44,8 @@ pub seen_here : (byte : ℕ) (text : List ℕ) (at : ℕ) (found : Option ℕ) �
 seen_here byte text at found lt is h = seen byte text at found true lt (eq-eqb _ _ is) h
 
 -- it is another one
-pub seen_other : (byte : ℕ) (text : List ℕ) (at : ℕ) (found : Option ℕ) → at < length text → (get_or text at 0 ≡ byte → ⊥)
+pub seen_other : (byte : ℕ) (text : List ℕ) (at : ℕ) (found : Option ℕ) → at < length text
+    → (get_or text at 0 ≡ byte → ⊥)
     → later at found (last_place_of byte (drop at text)) ≡ last_place_of byte text
     → later (at + 1) found (last_place_of byte (drop (at + 1) text)) ≡ last_place_of byte text
 seen_other byte text at found lt other h = elim (eqb_tells (get_or text at 0) byte) [
@@ -54,4 +57,5 @@ seen_other byte text at found lt other h = elim (eqb_tells (get_or text at 0) by
 pub all_seen : (byte : ℕ) (text : List ℕ) (at : ℕ) (found : Option ℕ) → length text ≤ at
     → later at found (last_place_of byte (drop at text)) ≡ last_place_of byte text → found ≡ last_place_of byte text
 unfolding last_place_of
-all_seen byte text at found le h = sym (ap (λ (xs : List ℕ). later at found (last_place_of byte xs)) (drop_all at text le)) ∙ h
+all_seen byte text at found le h =
+    sym (ap (λ (xs : List ℕ). later at found (last_place_of byte xs)) (drop_all at text le)) ∙ h

@@ -1,9 +1,10 @@
 -- A trace, line by line.
 use Rattle.std.proofs.Common.{◌≡◌, ℕ, ◌+◌, ◌<◌, ◌≤◌, Bool, true, false, cond, eqb, ltb, List, [], ◌∷◌, ◌++◌, length}
 use Rattle.std.proofs.Common.{take, drop, Some, None, refl, sym, ap, ◌∙◌, arith, append_assoc}
-use Rattle.std.specs.List.{onto_first, position, position_or_len, slice_split}
+use Rattle.std.specs.List.{position, position_or_len, slice_split}
 use Rattle.std.proofs.lemmas.Bool.{ltb-true, ltb-false}
 use Rattle.std.proofs.lemmas.List.Splits.{slice_split_first, length-slice_split}
+use Rattle.text_lines.proofs.FirstLine.{one_part}
 use Rattle.mapping_file.specs.declared.mapping.Mapping.{Mapping}
 use Rattle.retrace_core.specs.Retraced.{ended_retraced, line_retraced, parts_retraced, retraced}
 
@@ -17,12 +18,14 @@ unfolding parts_retraced
 part_is_ended m x [] h = absurd (omega arith)
 part_is_ended m x (y ∷ more) h = refl
 
-first_at : (m : Mapping) (text : List ℕ) (at : ℕ) → position_or_len is_end text < length text → position_or_len is_end text ≡ at
+first_at : (m : Mapping) (text : List ℕ) (at : ℕ) → position_or_len is_end text < length text
+    → position_or_len is_end text ≡ at
     → retraced m text ≡ ended_retraced m (take at text) ++ retraced m (drop (at + 1) text)
 unfolding retraced
 first_at m text at lt e =
     ap (parts_retraced m) (slice_split_first is_end text 0 lt)
-    ∙ part_is_ended m (take (position_or_len is_end text) text) (slice_split is_end (drop (position_or_len is_end text + 1) text))
+    ∙ part_is_ended m (take (position_or_len is_end text) text)
+    (slice_split is_end (drop (position_or_len is_end text + 1) text))
     (omega (arith, length-slice_split is_end (drop (position_or_len is_end text + 1) text)))
     ∙ ap (λ (n : ℕ). ended_retraced m (take n text) ++ parts_retraced m (slice_split is_end (drop (n + 1) text))) e
 
@@ -31,23 +34,15 @@ pub first_retraced : (m : Mapping) (text : List ℕ) (at : ℕ) → position is_
     → retraced m text ≡ ended_retraced m (take at text) ++ retraced m (drop (at + 1) text)
 first_retraced m text at h =
     elim (ltb (position_or_len is_end text) (length text)) as
-    (λ b. ltb (position_or_len is_end text) (length text) ≡ b → cond b (Some (position_or_len is_end text)) None ≡ Some at
+    (λ b. ltb (position_or_len is_end text) (length text) ≡ b
+    → cond b (Some (position_or_len is_end text)) None ≡ Some at
     → retraced m text ≡ ended_retraced m (take at text) ++ retraced m (drop (at + 1) text)) [
       | true ↦ λ e k. first_at m text at (ltb-true _ _ e) cc
       | false ↦ λ e k. absurd cc
     ] refl h
 
-one_part : (text : List ℕ) → length text ≤ position_or_len is_end text → slice_split is_end text ≡ text ∷ []
-one_part [] h = refl
-one_part (b ∷ text) h =
-    elim (is_end b) as (λ t. is_end b ≡ t → length (b ∷ text) ≤ position_or_len is_end (b ∷ text)
-    → cond t ([] ∷ slice_split is_end text) (onto_first b (slice_split is_end text)) ≡ (b ∷ text) ∷ []) [
-      | true ↦ λ e k. (let zero_ : position_or_len is_end (b ∷ text) ≡ 0 = rw e refl in absurd (omega (arith, zero_, k)))
-      | false ↦ λ e k. (let more : position_or_len is_end (b ∷ text) ≡ 1 + position_or_len is_end text = rw e refl in
-          ap (onto_first b) (one_part text (omega (arith, more, k))))
-    ] refl h
-
-last_at : (m : Mapping) (text : List ℕ) → length text ≤ position_or_len is_end text → retraced m text ≡ line_retraced m text
+last_at : (m : Mapping) (text : List ℕ) → length text ≤ position_or_len is_end text
+    → retraced m text ≡ line_retraced m text
 unfolding retraced parts_retraced
 last_at m text h = ap (parts_retraced m) (one_part text h)
 

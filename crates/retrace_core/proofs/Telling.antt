@@ -1,5 +1,6 @@
 -- Tables that tell of texts, filled one by one.
-use Rattle.std.proofs.Common.{◌≡◌, ℕ, Bool, true, false, cond, List, [], ◌∷◌, ◌++◌, Option, Some, None, refl, sym, ap, subst, ◌∙◌}
+use Rattle.std.proofs.Common.{◌≡◌, ℕ, Bool, true, false, cond, List, [], ◌∷◌, ◌++◌, Option, Some, None, refl, sym, ap}
+use Rattle.std.proofs.Common.{subst, ◌∙◌}
 use Rattle.std.specs.BTreeMap.{insert_entry}
 use Rattle.std.specs.Cmp.Lexicographic.{slice_cmp}
 use Rattle.std.specs.List.{find}
@@ -12,31 +13,14 @@ use Rattle.std.proofs.lemmas.List.Folds.{find-append}
 use Rattle.std.proofs.lemmas.Map.Lookups.{exact_bytes}
 use Rattle.std.proofs.lemmas.Map.Text.{is_eq-slice_cmp}
 use Rattle.jv_base.specs.Names.{is_text}
-use Rattle.jv_base.proofs.Equality.{text_Decides}
+use Rattle.jv_base.proofs.Equality.{same_text, text_is, text_sym}
 use Rattle.std.specs.Borrow.{Bor}
 use Rattle.mapping_file.specs.declared.mapping.MapMethod.{MapMethod}
 use Rattle.retrace_core.specs.bodies.Tables.{Answers, IsOldName, Tells, is_key}
 
-same_text : (a b : List ℕ) → is_text a b ≡ true → a ≡ b
-same_text a b h = (text_Decides a b).0 h
-
-is_same : (a b : List ℕ) → a ≡ b → is_text a b ≡ true
-is_same a b h = (text_Decides a b).1 h
-
-turned_by : (a b : List ℕ) (s t : Bool) → is_text a b ≡ s → is_text b a ≡ t → s ≡ t
-turned_by a b true true h k = refl
-turned_by a b false false h k = refl
-turned_by a b true false h k =
-    let e : true ≡ false = sym (is_same b a (sym (same_text a b h))) ∙ k in absurd cc
-turned_by a b false true h k =
-    let e : false ≡ true = sym h ∙ is_same a b (sym (same_text b a k)) in absurd cc
-
-turned : (a b : List ℕ) → is_text a b ≡ is_text b a
-turned a b = turned_by a b (is_text a b) (is_text b a) refl refl
-
 -- a name is a key where it is its text
 key_is : (name key : List ℕ) → is_key name key ≡ is_text key name
-key_is name key = is_eq-slice_cmp name key ∙ turned name key
+key_is name key = is_eq-slice_cmp name key ∙ text_sym name key
 
 abbrev order : {K : Type 0} → (K → List ℕ) → K → K → Ordering
 order see x y = slice_cmp nat_cmp (see x) (see y)
@@ -46,7 +30,8 @@ abbrev Puts : {K V : Type 0} → (K → List ℕ) → List ℕ → K → V → L
 Puts see name k v new old = lookup (λ x. is_key name (see x)) new
     ≡ cond (is_text (see k) name) (Some v) (lookup (λ x. is_key name (see x)) old)
 
-both_found : {V : Type 0} (b t : Bool) (v w : V) (o : Option V) → b ≡ t → cond b (Some v) o ≡ cond t (Some v) (cond b (Some w) o)
+both_found : {V : Type 0} (b t : Bool) (v w : V) (o : Option V) → b ≡ t
+    → cond b (Some v) o ≡ cond t (Some v) (cond b (Some w) o)
 both_found true true v w o h = refl
 both_found false false v w o h = refl
 both_found true false v w o h = absurd cc
@@ -63,9 +48,12 @@ pub put_found : {K V : Type 0} (see : K → List ℕ) (k : K) (v : V) (es : List
 put_found see k v [] name = ap (λ (b : Bool). cond b (Some v) None) (key_is name (see k))
 put_found {K} {V} see k v (e ∷ es) name = by (slice_cmp nat_cmp (see k) (see e.0)) refl (put_found see k v es name)
   where
-    by : (o : Ordering) → slice_cmp nat_cmp (see k) (see e.0) ≡ o → Puts see name k v (insert_entry (order see) es k v) es
-        → Puts see name k v (match_ordering o ((k, v) ∷ e ∷ es) ((e.0, v) ∷ es) (e ∷ insert_entry (order see) es k v)) (e ∷ es)
-    by Less is more = ap (λ (b : Bool). cond b (Some v) (lookup (λ (x : K). is_key name (see x)) (e ∷ es))) (key_is name (see k))
+    by : (o : Ordering) → slice_cmp nat_cmp (see k) (see e.0) ≡ o
+        → Puts see name k v (insert_entry (order see) es k v) es
+        → Puts see name k v (match_ordering o ((k, v) ∷ e ∷ es) ((e.0, v) ∷ es) (e ∷ insert_entry (order see) es k v))
+        (e ∷ es)
+    by Less is more =
+        ap (λ (b : Bool). cond b (Some v) (lookup (λ (x : K). is_key name (see x)) (e ∷ es))) (key_is name (see k))
     by Equal is more =
         let same : see k ≡ see e.0 = exact_bytes (see k) (see e.0) is in
         both_found (is_key name (see e.0)) (is_text (see k) name) v e.1 (lookup (λ (x : K). is_key name (see x)) es)
@@ -77,7 +65,8 @@ put_found {K} {V} see k v (e ∷ es) name = by (slice_cmp nat_cmp (see k) (see e
       where
         apart : see k ≡ see e.0 → ⊥
         apart same =
-            let eq : is_eq (slice_cmp nat_cmp (see k) (see e.0)) ≡ true = is_eq-slice_cmp (see k) (see e.0) ∙ is_same _ _ same in
+            let eq : is_eq (slice_cmp nat_cmp (see k) (see e.0)) ≡ true = is_eq-slice_cmp (see k) (see e.0)
+            ∙ text_is _ _ same in
             let not_eq : is_eq (slice_cmp nat_cmp (see k) (see e.0)) ≡ false = ap is_eq is in
             let bad : true ≡ false = sym eq ∙ not_eq in absurd cc
 
@@ -94,9 +83,11 @@ module _ {V C : Type 0} (same : V → C → Type 0) (called : C → List ℕ) wh
       gone (Some x) h k = h
 
   -- one more that is called as one before is never the first
-  pub still_tells : (f : List ℕ → Option V) (cs : List C) (c : C) → Tells same called f cs → is_some (f (called c)) ≡ true
+  pub still_tells : (f : List ℕ → Option V) (cs : List C) (c : C) → Tells same called f cs
+      → is_some (f (called c)) ≡ true
       → Tells same called f (cs ++ c ∷ [])
-  still_tells f cs c h k = λ q. subst (Answers same (f q)) (sym (find-append (λ (d : C). is_text q (called d)) cs (c ∷ [])))
+  still_tells f cs c h k =
+      λ q. subst (Answers same (f q)) (sym (find-append (λ (d : C). is_text q (called d)) cs (c ∷ [])))
       (kept_at q c f (find (λ (d : C). is_text q (called d)) cs) (is_text q (called c)) refl (h q) k)
 
   more_at : (q : List ℕ) (c : C) (v : V) (f : List ℕ → Option V) (o : Option C) (b : Bool) → is_text q (called c) ≡ b
@@ -119,27 +110,30 @@ module _ {V C : Type 0} (same : V → C → Type 0) (called : C → List ℕ) wh
       → Tells same called g (cs ++ c ∷ [])
   tells_more f g cs name v c h absent key put s = λ q.
       let is : g q ≡ cond (is_text q (called c)) (Some v) (f q) =
-      put q ∙ ap (λ (b : Bool). cond b (Some v) (f q)) (turned name q ∙ ap (is_text q) key) in
+      put q ∙ ap (λ (b : Bool). cond b (Some v) (f q)) (text_sym name q ∙ ap (is_text q) key) in
       subst (λ (o : Option V). Answers same o (find (λ (d : C). is_text q (called d)) (cs ++ c ∷ []))) (sym is)
       (subst (Answers same (cond (is_text q (called c)) (Some v) (f q)))
       (sym (find-append (λ (d : C). is_text q (called d)) cs (c ∷ [])))
       (more_at q c v f (find (λ (d : C). is_text q (called d)) cs) (is_text q (called c)) refl (h q) absent s))
 
 -- what a table answers is of what is found
-pub answers_some : {V C : Type 0} (same : V → C → Type 0) (v : V) (o : Option V) (f : Option C) → Some v ≡ o → Answers same o f
+pub answers_some : {V C : Type 0} (same : V → C → Type 0) (v : V) (o : Option V) (f : Option C) → Some v ≡ o
+    → Answers same o f
     → (c : C) × (f ≡ Some c) × same v c
 answers_some same v (Some w) (Some c) is h = let e : w ≡ v = cc in (c, refl, subst (λ x. same x c) e h)
 answers_some same v (Some w) None is h = absurd h
 answers_some same v None f is h = absurd cc
 
 -- where it answers nothing, none is found
-pub answers_none : {V C : Type 0} (same : V → C → Type 0) (o : Option V) (f : Option C) → None ≡ o → Answers same o f → f ≡ None
+pub answers_none : {V C : Type 0} (same : V → C → Type 0) (o : Option V) (f : Option C) → None ≡ o → Answers same o f
+    → f ≡ None
 answers_none same None None is h = refl
 answers_none same None (Some c) is h = absurd h
 answers_none same (Some w) f is h = absurd cc
 
 -- the old name that a table answers
-pub old_some : (old name : List ℕ) (o : Option (Bor (List ℕ))) (f : Option MapMethod) → Some old ≡ option_map (λ v. v.now) o
+pub old_some : (old name : List ℕ) (o : Option (Bor (List ℕ))) (f : Option MapMethod)
+    → Some old ≡ option_map (λ v. v.now) o
     → Answers IsOldName o f → old ≡ unwrap_or (option_map (λ m. m.old) f) name
 old_some old name (Some v) (Some m) is h = let e : old ≡ v.now = cc in e ∙ h
 old_some old name (Some v) None is h = absurd h

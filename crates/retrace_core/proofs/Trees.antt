@@ -1,10 +1,10 @@
 -- Trees of which each text stands in one.
-use Rattle.std.proofs.Common.{◌≡◌, ◌≢◌, ℕ, ◌<◌, ◌+◌, ◌%◌, Bool, true, false, cond, List, [], ◌∷◌, length, get_or, set, Option, Some, None, refl, sym, ap, subst, ◌∙◌, inl, inr, arith}
+use Rattle.std.proofs.Common.{◌≡◌, ◌≢◌, ℕ, ◌<◌, ◌+◌, ◌%◌, Bool, true, false, cond, List, [], ◌∷◌, length, get_or, set}
+use Rattle.std.proofs.Common.{Option, Some, None, refl, sym, ap, subst, ◌∙◌, inl, inr, arith, ◌⊎◌, ◌≤◌, eqb, leb, suc}
+use Rattle.std.proofs.Common.{drop, drop-cons, Result, Ok, Err}
 use Rattle.std.specs.BTreeMap.{BTreeMap}
 use Rattle.std.specs.List.{slice_get}
 use Rattle.std.specs.declared.vec.Vec.{Vec}
-use Rattle.std.proofs.Common.{◌⊎◌, ◌≤◌, eqb, leb, suc, drop, drop-cons}
-use Rattle.std.proofs.Common.{Result, Ok, Err}
 use Rattle.std.specs.Borrow.{Bor}
 use Rattle.std.specs.List.{All}
 use Rattle.std.specs.Option.{is_some, option_copied}
@@ -15,7 +15,8 @@ use Rattle.std.proofs.lemmas.List.Elements.{All-get_or}
 use Rattle.std.proofs.lemmas.Option.{get_or_from_slice_get, slice_get-get_or, slice_get_past, slice_get_within}
 use Rattle.jv_base.specs.Names.{is_text}
 use Rattle.jv_base.proofs.Equality.{text_Decides}
-use Rattle.retrace_core.specs.bodies.Tables.{Answers, TellsClass, TellsClasses, found_in, kept_by, kept_in, mark_on, mark_with, place_in}
+use Rattle.retrace_core.specs.bodies.Tables.{Answers, TellsClass, TellsClasses, found_in, kept_by, kept_in, mark_on}
+use Rattle.retrace_core.specs.bodies.Tables.{mark_with, place_in}
 use Rattle.retrace_core.specs.declared.old_names.OldClass.{OldClass}
 
 -- what the number of a text is behind one byte more
@@ -29,12 +30,14 @@ mark_more mark text at all lt h =
     sym (ap (mark_with mark) cons) ∙ h
 
 -- behind all of its bytes
-pub mark_all : (mark : ℕ) (text : List ℕ) (at all : ℕ) → length text ≤ at → mark_with mark (drop at text) ≡ all → mark ≡ all
+pub mark_all : (mark : ℕ) (text : List ℕ) (at all : ℕ) → length text ≤ at → mark_with mark (drop at text) ≡ all
+    → mark ≡ all
 unfolding mark_with
 mark_all mark text at all le h = sym (ap (mark_with mark) (drop_all at text le)) ∙ h
 
 -- trees without an entry keep nothing
-nothing_kept : {A : Type 0} (trees : List (BTreeMap (Vec ℕ A) OldClass)) → All (λ t. t.entries ≡ []) trees → (q : List ℕ)
+nothing_kept : {A : Type 0} (trees : List (BTreeMap (Vec ℕ A) OldClass)) → All (λ t. t.entries ≡ []) trees
+    → (q : List ℕ)
     → found_in trees q ≡ None
 nothing_kept {A} trees empty q = by (slice_get trees at) refl
   where
@@ -44,14 +47,18 @@ nothing_kept {A} trees empty q = by (slice_get trees at) refl
     by : (o : Option (BTreeMap (Vec ℕ A) OldClass)) → slice_get trees at ≡ o → kept_by o q ≡ None
     by None is = refl
     by (Some t) is =
-        let none : t.entries ≡ [] = ap (λ (x : BTreeMap (Vec ℕ A) OldClass). x.entries) (sym (get_or_from_slice_get trees at t t is))
-        ∙ All-get_or (λ (x : BTreeMap (Vec ℕ A) OldClass). x.entries ≡ []) trees at t (slice_get_within trees at t is) empty in
+        let none : t.entries ≡ [] =
+        ap (λ (x : BTreeMap (Vec ℕ A) OldClass). x.entries) (sym (get_or_from_slice_get trees at t t is))
+        ∙ All-get_or (λ (x : BTreeMap (Vec ℕ A) OldClass). x.entries ≡ []) trees at t
+        (slice_get_within trees at t is) empty in
         ap (λ es. kept_in (λ k. k.items) es q) none
 
-pub empty_tells : {A : Type 0} (trees : List (BTreeMap (Vec ℕ A) OldClass)) → All (λ t. t.entries ≡ []) trees → TellsClasses trees []
+pub empty_tells : {A : Type 0} (trees : List (BTreeMap (Vec ℕ A) OldClass)) → All (λ t. t.entries ≡ []) trees
+    → TellsClasses trees []
 empty_tells trees empty = λ q. subst (λ o. Answers TellsClass o None) (sym (nothing_kept trees empty q)) tt
 
-not_same : (at other : ℕ) (count : ℕ) (name q : List ℕ) → at ≡ place_in count name → place_in count q ≢ at → is_text name q ≡ false
+not_same : (at other : ℕ) (count : ℕ) (name q : List ℕ) → at ≡ place_in count name → place_in count q ≢ at
+    → is_text name q ≡ false
 not_same at other count name q is apart = by (is_text name q) refl
   where
     by : (b : Bool) → is_text name q ≡ b → b ≡ false
@@ -59,13 +66,15 @@ not_same at other count name q is apart = by (is_text name q) refl
     by true e = absurd (apart (ap (place_in count) (sym ((text_Decides name q).0 e)) ∙ sym is))
 
 -- a text that is put in its tree is found, and all else is as before
-pub put_in_trees : {A : Type 0} (trees : List (BTreeMap (Vec ℕ A) OldClass)) (old new : BTreeMap (Vec ℕ A) OldClass) (at : ℕ)
+pub put_in_trees : {A : Type 0} (trees : List (BTreeMap (Vec ℕ A) OldClass)) (old new : BTreeMap (Vec ℕ A) OldClass)
+    (at : ℕ)
     (name : List ℕ) (v : OldClass) → at ≡ place_in (length trees) name → at < length trees → old ≡ get_or trees at old
     → ((q : List ℕ) → kept_in (λ k. k.items) new.entries q
     ≡ cond (is_text name q) (Some v) (kept_in (λ k. k.items) old.entries q))
     → (q : List ℕ) → found_in (set trees at new) q ≡ cond (is_text name q) (Some v) (found_in trees q)
 put_in_trees {A} trees old new at name v is within here put q =
-    ap (λ (n : ℕ). kept_by (slice_get (set trees at new) (place_in n q)) q) (length-set trees at new) ∙ by (eqb_tells p at)
+    ap (λ (n : ℕ). kept_by (slice_get (set trees at new) (place_in n q)) q) (length-set trees at new)
+    ∙ by (eqb_tells p at)
   where
     p : ℕ
     p = place_in (length trees) q
@@ -82,9 +91,11 @@ put_in_trees {A} trees old new at name v is within here put q =
         ∙ ap (λ (n : ℕ). cond (is_text name q) (Some v) (kept_by (slice_get trees n) q)) (sym same.1)
     by (inr apart) =
         ap (λ o. kept_by o q) (other (leb_tells (length trees) p))
-        ∙ ap (λ (b : Bool). cond b (Some v) (kept_by (slice_get trees p) q)) (sym (not_same at p (length trees) name q is apart.1))
+        ∙ ap (λ (b : Bool). cond b (Some v) (kept_by (slice_get trees p) q))
+        (sym (not_same at p (length trees) name q is apart.1))
       where
-        other : ((leb (length trees) p ≡ true) × (length trees ≤ p)) ⊎ ((leb (length trees) p ≡ false) × (p < length trees))
+        other : ((leb (length trees) p ≡ true) × (length trees ≤ p))
+            ⊎ ((leb (length trees) p ≡ false) × (p < length trees))
             → slice_get (set trees at new) p ≡ slice_get trees p
         other (inr lt) =
             slice_get-get_or (set trees at new) p new (subst (λ (n : ℕ). p < n) (sym (length-set trees at new)) lt.1)

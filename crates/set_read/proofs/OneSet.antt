@@ -5,6 +5,8 @@ use Rattle.std.specs.List.{AllByRecursion}
 use Rattle.std.proofs.lemmas.Bool.{cases_lt}
 use Rattle.std.proofs.lemmas.Option.{slice_get_within}
 use Rattle.jv_base.specs.declared.outcome.Or.TheVariants as or
+use Rattle.jv_base.proofs.Options.{one_value}
+use Rattle.jv_base.proofs.Lists.{heads, tails}
 use Rattle.tree_io.specs.declared.file_at.FileAt.{FileAt}
 use Rattle.format_reading.specs.declared.fault.FormatFault.{FormatFault}
 use Rattle.class_model.specs.ReadingClass.{class_read}
@@ -21,8 +23,8 @@ use Rattle.report_text.specs.Spelled.{class_text, member_texts}
 use Rattle.type_verifier.proofs.SetLaw.{one_set_fault, set_apart}
 use Rattle.type_verifier.specs.Verified.{AreTyped}
 use Rattle.type_verifier.specs.declared.fault.TypeFault.{TypeFault}
-use Rattle.set_read.specs.Accepted.{AreRead, BreaksClassRule, BreaksRule, IsClassFile, IsUnread, NamesMember, NamesMethod}
-use Rattle.set_read.specs.Accepted.{NamesPlace, Spells, named_pool_fault}
+use Rattle.set_read.specs.Accepted.{AreRead, BreaksClassRule, BreaksRule, IsClassFile, IsUnread, NamesMember}
+use Rattle.set_read.specs.Accepted.{NamesMethod, NamesPlace, Spells, named_pool_fault}
 use Rattle.set_read.specs.OneSet.{IsOneFault, IsOneSet, NotBoth}
 use Rattle.set_read.specs.declared.fault.RuleFault.{RuleFault}
 use Rattle.set_read.specs.declared.fault.SetFault.{SetFault}
@@ -35,9 +37,6 @@ same_fault r x y h k = cc
 
 no_fault : {V X : Type 0} (r : Result V X) (v : V) (x : X) → r ≡ Ok v → r ≡ Err x → ⊥
 no_fault r v x h k = absurd cc
-
-pub same_some : {X : Type 0} (o : Option X) (x y : X) → o ≡ Some x → o ≡ Some y → x ≡ y
-same_some o x y h k = cc
 
 -- ---- the classes of files
 
@@ -63,12 +62,6 @@ same_classes (f ∷ files) (n ∷ one) [] h k = absurd k
 -- a file at which reading ends with a fault spells no class
 spells_none : (f : FileAt) (fault : FormatFault) → class_read f.bytes ≡ Err fault → IsClassFile f → ⊥
 spells_none f fault h k = no_fault (class_read f.bytes) k.0 fault (class_read-only f.bytes k.0 k.1) h
-
-heads : {X : Type 0} (x y : X) (xs ys : List X) → x ∷ xs ≡ y ∷ ys → x ≡ y
-heads x y xs ys h = cc
-
-tails : {X : Type 0} (x y : X) (xs ys : List X) → x ∷ xs ≡ y ∷ ys → xs ≡ ys
-tails x y xs ys h = cc
 
 -- the first element that isn't of a kind is one
 first_one : {X : Type 0} (P : X → Type 0) (before : List X) (x : X) (after others : List X) (y : X) (rest : List X)
@@ -123,7 +116,7 @@ same_cycle classes fault other (n, c, at, is, cyclic, least) (m, d, there, named
     let number : n ≡ m = ⊎_elim (λ (low : n < m). absurd (first n low cyclic))
     (λ high. ⊎_elim (λ (low : m < n). absurd (least m low again)) (λ also. omega (arith, high, also)) (cases_lt m n))
     (cases_lt n m) in
-    let class : c ≡ d = same_some (slice_get classes m) c d (ap (slice_get classes) (sym number) ∙ at) there in
+    let class : c ≡ d = one_value (slice_get classes m) c d (ap (slice_get classes) (sym number) ∙ at) there in
     is ∙ (ap fault_of_cycle class ∙ sym named)
 
 -- a set of classes that has no fault has none
@@ -146,7 +139,7 @@ same_member : (c : Class) (number : Option ℕ) (one other : Option (List ℕ)) 
     → NamesMember c number other
     → one ≡ other
 same_member c None None None h k = refl
-same_member c (Some n) (Some one) (Some other) h k = ap Some (same_some (slice_get (member_texts c) n) one other h k)
+same_member c (Some n) (Some one) (Some other) h k = ap Some (one_value (slice_get (member_texts c) n) one other h k)
 same_member c None (Some one) other h k = absurd h
 same_member c None None (Some other) h k = absurd k
 same_member c (Some n) None other h k = absurd h
@@ -155,7 +148,7 @@ same_member c (Some n) (Some one) None h k = absurd k
 same_place : (classes : List Class) (fault : ProfileFault) (one other : RuleFault) → NamesPlace classes fault one
     → NamesPlace classes fault other → one ≡ other
 same_place classes fault one other h k =
-    let class : h.class ≡ k.class = same_some (slice_get classes fault.class) h.class k.class h.there k.there in
+    let class : h.class ≡ k.class = one_value (slice_get classes fault.class) h.class k.class h.there k.there in
     let name : one.class ≡ other.class = h.name ∙ (ap class_text class ∙ sym k.name) in
     let member : one.member ≡ other.member =
     same_member k.class fault.member one.member other.member
@@ -166,7 +159,7 @@ same_place classes fault one other h k =
 same_method : (classes : List Class) (fault : TypeFault) (one other : RuleFault) → NamesMethod classes fault one
     → NamesMethod classes fault other → one ≡ other
 same_method classes fault one other h k =
-    let class : h.class ≡ k.class = same_some (slice_get classes fault.class) h.class k.class h.there k.there in
+    let class : h.class ≡ k.class = one_value (slice_get classes fault.class) h.class k.class h.there k.there in
     let name : one.class ≡ other.class = h.name ∙ (ap class_text class ∙ sym k.name) in
     let member : one.member ≡ other.member =
     same_member k.class (Some (length k.class.fields + fault.method)) one.member other.member

@@ -1,8 +1,8 @@
 -- Each class of a set that is taken can be written.
-use Rattle.std.proofs.Common.{◌≡◌, ⊎_elim, ℕ, ◌+◌, ◌<◌, ◌≤◌, Bool, true, false, cond, not, eqb, List, [], ◌∷◌, ◌++◌}
+use Rattle.std.proofs.Common.{◌≡◌, ⊎_elim, ℕ, ◌+◌, ◌<◌, ◌≤◌, Bool, true, false, not, eqb, List, [], ◌∷◌, ◌++◌}
 use Rattle.std.proofs.Common.{length}
 use Rattle.std.proofs.Common.{Option, Some, None, Ok, refl, sym, ap, subst, ◌∙◌, arith}
-use Rattle.std.specs.List.{AllByRecursion, enumerate_from, filter_map, find, flat_map, list_any}
+use Rattle.std.specs.List.{AllByRecursion, enumerate_from, filter_map, flat_map}
 use Rattle.std.proofs.lemmas.Bool.{cases_lt, eq-eqb}
 use Rattle.tree_io.specs.declared.file_at.FileAt.{FileAt}
 use Rattle.class_model.specs.declared.class.Class.{Class}
@@ -18,7 +18,7 @@ use Rattle.class_write.specs.SpellingLaws.{IsWritable}
 use Rattle.class_write.proofs.FormedFile.{spelled_writable}
 use Rattle.link_check.specs.Profile.{all_kinds, declaration_kinds, fault_at, faults_of, kinds_of_class, kinds_of_field}
 use Rattle.link_check.specs.Profile.{kinds_of_method}
-use Rattle.link_check.specs.Profile.{left_out_at, links_checked, of_left, rank_of, unless}
+use Rattle.link_check.specs.Profile.{left_out_at, links_checked, of_left, unless}
 use Rattle.link_check.specs.declared.fault.ProfileFault.{ProfileFault}
 use Rattle.link_check.specs.declared.fault.ProfileKind.{ProfileKind}
 use Rattle.link_check.specs.declared.fault.ProfileKind.TheVariants.{LeftOutFlag, LeftOutConstant, LeftOutOpcode}
@@ -27,6 +27,7 @@ use Rattle.link_check.specs.declared.fault.ProfileKind.TheVariants.{Unresolved, 
 use Rattle.set_read.specs.Accepted.{AreRead, IsAccepted}
 use Rattle.set_read.proofs.Few.{as_long, as_many}
 use Rattle.link_check.proofs.Taken.{option_parts, no_kind}
+use Rattle.link_check.proofs.Least.{stands}
 
 -- ---- lists
 
@@ -37,18 +38,6 @@ front_empty (x ∷ xs) ys h = absurd cc
 back_empty : {X : Type 0} (xs ys : List X) → xs ++ ys ≡ [] → ys ≡ []
 back_empty [] ys h = h
 back_empty (x ∷ xs) ys h = absurd cc
-
--- where nothing is found, no element passes
-none_passes : {X : Type 0} (test : X → Bool) (xs : List X) → find test xs ≡ None
-    → AllByRecursion (λ x. test x ≡ false) xs
-none_passes test [] h = tt
-none_passes {X = X} test (x ∷ xs) h =
-    let parts = by (test x) (find test xs) h in
-    (parts.0, none_passes test xs parts.1)
-  where
-    by : (b : Bool) (rest : Option X) → cond b (Some x) rest ≡ None → (b ≡ false) × (rest ≡ None)
-    by true rest k = absurd cc
-    by false rest k = (refl, k)
 
 -- what holds where no result is given holds of the number of each element
 each_number : {X Y : Type 0} (h : ℕ × X → Option Y) (P : ℕ → Type 0) → ((m : ℕ) (x : X) → h (m, x) ≡ None → P m)
@@ -63,9 +52,6 @@ each_number h P holds n (x ∷ xs) none m low high =
     (cases_lt n m)
 
 -- ---- kinds
-
-abbrev stands : List ProfileKind → ProfileKind → Bool
-stands kinds k = list_any (λ (other : ProfileKind). eqb (rank_of k) (rank_of other)) kinds
 
 -- the first of some kinds is one of all kinds
 not_there : (k : ProfileKind) (ks : List ProfileKind) → AllByRecursion (λ j. stands (k ∷ ks) j ≡ false) all_kinds

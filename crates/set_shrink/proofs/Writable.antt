@@ -176,7 +176,8 @@ throws_by false throws h = tt
 
 pub field_good : (filter : AttributeFilter) (in_interface : Bool) (field : Field) → IsGoodField in_interface field
     → IsGoodField in_interface (field_filtered filter field)
-field_good filter in_interface field g = record { meant = g.meant; flags = g.flags; name = g.name; typed = g.typed; constant = g.constant }
+field_good filter in_interface field g =
+    record { meant = g.meant; flags = g.flags; name = g.name; typed = g.typed; constant = g.constant }
 
 pub method_good : (filter : AttributeFilter) (in_interface : Bool) (m : Method) → IsGoodMethod in_interface m
     → IsGoodMethod in_interface (method_filtered filter m)

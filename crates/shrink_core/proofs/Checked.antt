@@ -1,12 +1,12 @@
 -- Where `check` said `ok`, what was read is a pair that does the same.
-use Rattle.std.proofs.Common.{◌≡◌, ℕ, List, [], Some, Result, Ok, Err, refl, sym, ap, subst, ◌∙◌, arith}
+use Rattle.std.proofs.Common.{◌≡◌, ℕ, List, [], Some, Result, Ok, Err, sym, ap, subst, ◌∙◌, arith}
 use Rattle.jv_base.specs.Outcome.{◌>>=◌}
+use Rattle.jv_base.proofs.Results.{same_ok, then_ok}
 use Rattle.tree_io.specs.Files.{Files}
 use Rattle.tree_io.specs.declared.file_at.FileAt.{FileAt}
 use Rattle.class_files.specs.Input.{input_due}
 use Rattle.class_files.specs.declared.input.InputFault.{InputFault}
 use Rattle.keep_rules.specs.declared.rules.Rules.{Rules}
-use Rattle.command_texts.proofs.OneStep.{same_ok}
 use Rattle.pair_laws.proofs.PairSound.Sound.{pairs_do_the_same}
 use Rattle.pair_laws.specs.PairSound.Laws.{AreReadable, DoTheSame}
 use Rattle.check_command.specs.Due.{config_due, directories_due, directory_due, found_due, or_input_stop, texts_due}
@@ -28,12 +28,6 @@ use Rattle.tree_io.specs.Runs.{AddsCalls, Sees}
 use Rattle.tree_io.proofs.Runs.{made_so, sees_so}
 use Rattle.pair_laws.proofs.FilesFound.Readable.{readable}
 use Rattle.shrink_core.specs.Checked.{Checked, FoundDoTheSame, OkDoesTheSame}
-
--- what comes at the end of two steps has come of the first
-bound : {A B X : Type 0} (r : Result A X) (f : A → Result B X) (y : B) → (r >>= f) ≡ Ok y
-    → (x : A) × (r ≡ Ok x) × (f x ≡ Ok y)
-bound (Ok x) f y h = (x, refl, h)
-bound (Err e) f y h = absurd cc
 
 -- ---- the directories
 
@@ -58,8 +52,9 @@ both input output = Ok (record { input = input; output = output })
 directories_readable : (files : Files) (from to : List ℕ) (found : Directories)
     → directories_due files from to ≡ Ok found → AreBoth found
 directories_readable files from to found h =
-    let i = bound (directory_due files from) (λ (input : List FileAt). directory_due files to >>= both input) found h in
-    let o = bound (directory_due files to) (both i.0) found i.2 in
+    let i = then_ok (directory_due files from)
+    (λ (input : List FileAt). directory_due files to >>= both input) found h in
+    let o = then_ok (directory_due files to) (both i.0) found i.2 in
     subst AreBoth (same_ok (record { input = i.0; output = o.0 }) found o.2) (record {
       input = directory_readable files from i.0 i.1;
       output = directory_readable files to o.0 o.1;
@@ -74,7 +69,7 @@ all rules texts directories = Ok (record { rules = rules; texts = texts; directo
 with_directories_readable : (files : Files) (rules : Rules) (texts : Texts) (found : Found)
     → with_directories files rules texts ≡ Ok found → AreBoth found.directories
 with_directories_readable files rules texts found h =
-    let d = bound (directories_due files rules.in_dir rules.out_dir) (all rules texts) found h in
+    let d = then_ok (directories_due files rules.in_dir rules.out_dir) (all rules texts) found h in
     subst (λ (f : Found). AreBoth f.directories)
     (same_ok (record { rules = rules; texts = texts; directories = d.0 }) found d.2)
     (directories_readable files rules.in_dir rules.out_dir d.0 d.1)
@@ -82,13 +77,13 @@ with_directories_readable files rules texts found h =
 with_texts_readable : (files : Files) (named : CheckFiles) (rules : Rules) (found : Found)
     → with_texts files named rules ≡ Ok found → AreBoth found.directories
 with_texts_readable files named rules found h =
-    let t = bound (texts_due files rules.mapping named.witness) (with_directories files rules) found h in
+    let t = then_ok (texts_due files rules.mapping named.witness) (with_directories files rules) found h in
     with_directories_readable files rules t.0 found t.2
 
 found_readable : (files : Files) (named : CheckFiles) (found : Found) → found_due files named ≡ Ok found
     → AreBoth found.directories
 found_readable files named found h =
-    let c = bound (config_due files named) (with_texts files named) found h in
+    let c = then_ok (config_due files named) (with_texts files named) found h in
     with_texts_readable files named c.0 found c.2
 
 -- ---- the law

@@ -1,15 +1,12 @@
 -- What a run that ended has answered.
-use Rattle.std.proofs.Common.{◌≡◌, ◌<◌, ℕ, List, [], ◌++◌, length, Option, Some, None, refl, ap, ◌∙◌, inl}
+use Rattle.std.proofs.Common.{◌≡◌, ◌<◌, ℕ, List, ◌++◌, Option, Some, None, refl, inl}
 use Rattle.std.proofs.Common.{inr, arith}
 use Rattle.std.specs.Prelude.{IsErrOf}
-use Rattle.std.proofs.lemmas.List.{append-nil}
-use Rattle.std.proofs.lemmas.List.Elements.{filter-append}
 use Rattle.tree_io.specs.Count.{Rose}
-use Rattle.tree_io.specs.Event.{wants_memory, without_memory}
 use Rattle.tree_io.specs.Files.{Files}
 use Rattle.tree_io.specs.Runs.{AddsCalls, memory_faults}
 use Rattle.tree_io.specs.declared.event.Event.{Event}
-use Rattle.tree_io.proofs.Runs.{made_so}
+use Rattle.tree_io.proofs.Runs.{made_so, same_count}
 use Rattle.shrink_core.specs.declared.shrink.Plan.{Plan}
 use Rattle.shrink_core.specs.declared.words.CommandFiles.{CommandFiles}
 use Rattle.shrink_core.specs.declared.refusal.Refusal.{Refusal}
@@ -64,12 +61,6 @@ ended_before OutOfMemory named status x y f f2 a b old new rose left said =
     (stopped OutOfMemory, record { answered = said.0; blamed = tt; left = left; said = said.1 })
 
 -- ---- memory
-
--- calls for which memory was never wanting don't raise the count
-same_count : (a b calls : List Event) → b ≡ a ++ calls → without_memory calls ≡ [] → memory_faults b ≡ memory_faults a
-same_count a b calls is none =
-    ap memory_faults is ∙ ap length (filter-append wants_memory a calls
-    ∙ ap (λ (l : List Event). without_memory a ++ l) none ∙ append-nil (without_memory a))
 
 -- where the count rose, the answer says so
 lacked : (ending : Ending) (named : CommandFiles) (status : ℕ) (a b calls : List Event) → b ≡ a ++ calls

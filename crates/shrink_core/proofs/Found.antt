@@ -17,6 +17,7 @@ use Rattle.class_files.specs.Input as input
 use Rattle.class_files.specs.Output as output
 use Rattle.class_files.specs.declared.input.InputFault.{InputFault}
 use Rattle.class_files.specs.declared.input.InputFault.TheVariants as fault
+use Rattle.class_files.proofs.Totals.{no_files}
 use Rattle.class_model.specs.declared.class.Class.{Class}
 use Rattle.shrink_core.specs.Answer as answer
 use Rattle.shrink_core.specs.Answer.{Refuses, StopsSo, Writes, StopsBefore}
@@ -95,9 +96,6 @@ absent_not_due files directory path h =
     (nat_lt 20000 (length (class_paths files directory)))
     (nat_lt 67108864 (total (files_in files directory (class_paths files directory))))
     (files_in files directory (class_paths files directory)) path h
-
-abbrev pub no_files : InputFault → Result (List FileAt) InputFault
-no_files fault = Err fault
 
 abbrev pub no_set : InputFault → Result (List Class) (Stop Refusal)
 no_set fault = Err (input_stop fault)
@@ -211,7 +209,8 @@ none_missed : (rules : Rules) (classes : List Class) (witness config : List ℕ)
     → RefusesPlan rules classes witness refusal → answer.absent_by config refusal ≡ []
 none_missed rules classes witness config refusal (by_system many due is) = ap (answer.absent_by config) is
 none_missed rules classes witness config refusal (by_seeds sys due nothing is) = ap (answer.absent_by config) is
-none_missed rules classes witness config refusal (by_format marks kept limit passes is) = ap (answer.absent_by config) is
+none_missed rules classes witness config refusal (by_format marks kept limit passes is) =
+    ap (answer.absent_by config) is
 none_missed rules classes witness config refusal (by_text marks kept shrunk is_shrunk long listed is) =
     ap (answer.absent_by config) is
 

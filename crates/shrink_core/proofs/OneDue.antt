@@ -2,7 +2,9 @@
 use Rattle.std.proofs.Common.{◌≡◌, ◌⊎◌, inl, inr, ℕ, ◌<◌, Bool, true, false, cond, nat_lt, List, ◌++◌, length}
 use Rattle.std.proofs.Common.{Option, Some, None, Result, Ok, Err, refl, sym, ap, subst, ◌∙◌, arith}
 use Rattle.std.specs.FinMap.{get}
-use Rattle.std.proofs.lemmas.Bool.{lt-ltb, le-ltb}
+use Rattle.std.proofs.lemmas.Bool.{lt-ltb, le-ltb, both_ways}
+use Rattle.jv_base.proofs.Results.{same_ok, same_fault}
+use Rattle.jv_base.proofs.Options.{one_value as same_value}
 use Rattle.tree_io.specs.Files.{Files}
 use Rattle.tree_io.specs.declared.file_at.FileAt.{FileAt}
 use Rattle.class_files.specs.Input.{input_due, path_in}
@@ -13,7 +15,7 @@ use Rattle.class_model.specs.declared.limit.WriteLimit.{WriteLimit}
 use Rattle.set_read.specs.Accepted.{IsAccepted, IsFault}
 use Rattle.set_read.specs.declared.fault.SetFault.{SetFault}
 use Rattle.set_read.specs.declared.fault.SetFault.TheVariants as set
-use Rattle.set_read.proofs.OneSet.{not_both, one_fault, one_set, same_some}
+use Rattle.set_read.proofs.OneSet.{not_both, one_fault, one_set}
 use Rattle.list_texts.specs.declared.limit.TooLong.{TooLong as LongText}
 use Rattle.mark_core.specs.Marks.{Marks}
 use Rattle.mark_core.specs.declared.system.System.{System}
@@ -32,7 +34,7 @@ use Rattle.shrink_core.specs.Due.{by_format, by_text, by_seeds, by_system}
 use Rattle.shrink_core.specs.Due.{RefusesConfig, RefusesInput, RefusesOutput, RefusesPlan}
 use Rattle.shrink_core.specs.OneDue.{IsOneDue}
 use Rattle.shrink_core.specs.Refusal.{quantity_of}
-use Rattle.command_texts.proofs.OneStep.{IsOne, Then, no_err, one_value, same_err, same_ok, then_one}
+use Rattle.command_texts.proofs.OneStep.{IsOne, Then, no_err, one_value, then_one}
 use Rattle.command_texts.specs.RuleText.{keeps_nothing, nothing_kept}
 use Rattle.shrink_core.specs.Summary.{summary_text}
 use Rattle.shrink_core.specs.declared.words.CommandFiles.{CommandFiles}
@@ -104,7 +106,7 @@ config_refused files named (Limit quantity.Text) h = absurd h
 
 same_text : (files : Files) (path one other : List ℕ) → HasBytes files path one → get files path ≡ Some other
     → one ≡ other
-same_text files path one other h there = same_some (get files path) one other h.there there
+same_text files path one other h there = same_value (get files path) one other h.there there
 
 config_not_refused : (files : Files) (named : CommandFiles) (rules : Rules) (refusal : Refusal)
     → HasConfig files named rules → RefusesConfig files named refusal → ⊥
@@ -224,7 +226,7 @@ set_not_refused files directory classes refusal h (inr k) =
 
 one_refused : (files : Files) (directory : List ℕ) → IsOne (InputRefused files directory)
 one_refused files directory refusal other (inl h) (inl k) =
-    h.2 ∙ (ap (λ (fault : InputFault). Limit (passed_by fault)) (same_err h.0 k.0 (sym h.1 ∙ k.1)) ∙ sym k.2)
+    h.2 ∙ (ap (λ (fault : InputFault). Limit (passed_by fault)) (same_fault h.0 k.0 (sym h.1 ∙ k.1)) ∙ sym k.2)
 one_refused files directory refusal other (inl h) (inr k) = absurd (no_err k.0 h.0 (sym k.1 ∙ h.1))
 one_refused files directory refusal other (inr h) (inl k) = absurd (no_err h.0 k.0 (sym h.1 ∙ k.1))
 one_refused files directory refusal other (inr h) (inr k) =
@@ -255,13 +257,10 @@ abbrev Marked : Rules → System → Result (List Bool) Refusal → Type 0
 Marked rules sys (Ok marks) = (keeps_nothing rules sys ≡ false) × Marks sys marks
 Marked rules sys (Err refusal) = (keeps_nothing rules sys ≡ true) × (refusal ≡ BadRules nothing_kept)
 
-not_both_ways : (b : Bool) → b ≡ true → b ≡ false → ⊥
-not_both_ways b h k = absurd cc
-
 one_marked : (rules : Rules) (sys : System) → IsOne (Marked rules sys)
 one_marked rules sys (Ok marks) (Ok other) h k = ap Ok (same_marks sys marks other h.1 k.1)
-one_marked rules sys (Ok marks) (Err refusal) h k = absurd (not_both_ways (keeps_nothing rules sys) k.0 h.0)
-one_marked rules sys (Err refusal) (Ok marks) h k = absurd (not_both_ways (keeps_nothing rules sys) h.0 k.0)
+one_marked rules sys (Ok marks) (Err refusal) h k = absurd (both_ways (keeps_nothing rules sys) h.0 k.0)
+one_marked rules sys (Err refusal) (Ok marks) h k = absurd (both_ways (keeps_nothing rules sys) k.0 h.0)
 one_marked rules sys (Err refusal) (Err other) h k = ap Err (h.1 ∙ sym k.1)
 
 -- the class files of what is marked, or the limit of the format that they pass

@@ -11,6 +11,7 @@ use Rattle.list_texts.specs.declared.limit.TooLong.{TooLong}
 use Rattle.class_pool.specs.Supertypes.{NoCycle}
 use Rattle.pair_laws.specs.NamedForm.Laws.{IsLinked}
 use Rattle.require_sys.specs.Required.{required, system_due}
+use Rattle.require_sys.proofs.SystemDue.{due_is}
 use Rattle.set_read.specs.Accepted.{IsAccepted}
 use Rattle.set_read.proofs.Few.{ascending_kept}
 use Rattle.tree_io.specs.Below.{IsAscending}
@@ -23,7 +24,7 @@ use Rattle.shrink_core.specs.declared.refusal.Refusal.{Refusal}
 use Rattle.command_output.specs.declared.stop.Stop.{Stop}
 use Rattle.command_output.specs.declared.stop.Stop.TheVariants.{Device, OutOfMemory, Refused}
 use Rattle.shrink_core.specs.declared.shrink.Plan.{Plan}
-use Rattle.shrink_core.proofs.SomeSystem.{due_counted, due_is}
+use Rattle.shrink_core.proofs.SomeSystem.{due_counted}
 
 -- ---- what is kept
 
@@ -50,7 +51,7 @@ module _ (rules : Rules) (classes : List Class) (sys : System) (due : system_due
 pub kept_closed : (rules : Rules) (classes : List Class) (marks : List Bool) → IsKept rules classes marks
     → Closed (required classes rules) (set_of marks)
 kept_closed rules classes marks kept =
-    subst (λ (sys : System). Closed sys (set_of marks)) (sym (due_is classes rules kept.sys kept.due)) kept.least.closed
+    subst (λ (sys : System). Closed sys (set_of marks)) (due_is classes rules kept.sys kept.due) kept.least.closed
 
 -- a set that is taken was built and breaks no rule for links
 pub linked_set : (inputs : List FileAt) (classes : List Class)

@@ -3,7 +3,7 @@ use Rattle.std.proofs.Common.{◌≡◌, ◌⊎◌, inl, inr, ⊎_elim, ℕ, zer
 use Rattle.std.proofs.Common.{length, map}
 use Rattle.std.proofs.Common.{slice_get, Some, refl, ap, subst, ◌∙◌, arith}
 use Rattle.std.specs.Option.{option_map}
-use Rattle.std.proofs.lemmas.Bool.{cases_eq}
+use Rattle.std.proofs.lemmas.Bool.{cases_eq, both_ways}
 use Rattle.std.proofs.lemmas.List.{length-map}
 use Rattle.std.proofs.lemmas.Option.{get_or_from_slice_get, slice_get-map, slice_get_cases}
 use Rattle.mark_core.specs.Marks.{Marks, set_of}
@@ -15,7 +15,7 @@ use Rattle.class_pool.specs.Supertypes.{IsCyclic, NoCycle}
 use Rattle.class_pool.specs.declared.fault.PoolFault.{PoolFault}
 use Rattle.class_pool.specs.declared.fault.PoolKind.TheVariants.{Cycle}
 use Rattle.class_pool.proofs.Above.{above_below, valid}
-use Rattle.class_pool.proofs.CycleLaws.{marked_proper, not_both, proper_marked}
+use Rattle.class_pool.proofs.CycleLaws.{marked_proper, proper_marked}
 use Rattle.shrink_core.proofs.SomeMarks.{some_marks}
 
 -- ---- cycles
@@ -46,8 +46,8 @@ cyclic_by : (classes : List Class) (n : ℕ) (c : Class) → slice_get classes n
 cyclic_by classes n c is marks told true e =
     inl (marked_proper classes (hierarchy classes c) marks n n c (is_hierarchy classes c) is refl told e)
 cyclic_by classes n c is marks told false e =
-    inr (λ cyclic. not_both (set_of marks n)
-    (proper_marked classes (hierarchy classes c) marks n n c (is_hierarchy classes c) is refl told cyclic) e)
+    inr (λ cyclic. both_ways (set_of marks n) e
+    (proper_marked classes (hierarchy classes c) marks n n c (is_hierarchy classes c) is refl told cyclic))
 
 cyclic_or : (classes : List Class) (n : ℕ) (c : Class) → slice_get classes n ≡ Some c
     → IsCyclic classes n ⊎ (IsCyclic classes n → ⊥)

@@ -4,7 +4,7 @@ use Rattle.std.proofs.Common.{◌≡◌, ◌⊎◌, inl, inr, ⊎_elim, ℕ, zer
 use Rattle.std.proofs.Common.{List, [], ◌∷◌, length, replicate, get_or, set, refl, sym, ap, subst, ◌∙◌, arith}
 use Rattle.std.proofs.Common.{length-set}
 use Rattle.std.specs.List.{All, Contains, sum_by}
-use Rattle.std.proofs.lemmas.Bool.{cases_eq, cases_lt}
+use Rattle.std.proofs.lemmas.Bool.{cases_eq, cases_lt, both_ways}
 use Rattle.std.proofs.lemmas.List.{get_or_past, get_or-replicate, length-replicate}
 use Rattle.std.proofs.lemmas.List.Elements.{All-cons, All-nil, Contains-get_or}
 use Rattle.std.proofs.lemmas.List.Sums.{sum_by-set}
@@ -14,7 +14,6 @@ use Rattle.mark_core.specs.declared.system.Pair.{Pair}
 use Rattle.mark_core.specs.declared.system.System.{System}
 use Rattle.mark_core.proofs.Growing.{derived_due, needs_due}
 use Rattle.mark_core.proofs.Sets.{set_fresh}
-use Rattle.class_pool.proofs.CycleLaws.{not_both}
 use Rattle.shrink_core.specs.SomeMarks.{AreSomeMarks}
 
 -- ---- a test of each gives that it holds of all, or what the test gives where it doesn't
@@ -67,10 +66,10 @@ module _ (sys : System) (valid : Valid sys) (marks : List Bool) (count : length 
   needs_by x lt true e =
       ⊎_elim (λ all. inl (λ _. all)) inr
       (all_have (needs_of sys x) (valid.2 x [] (subst (λ k. x < k) (sym valid.0) lt)) (needs_due sys x (due x e)))
-  needs_by x lt false e = inl (λ is. absurd (not_both _ is e))
+  needs_by x lt false e = inl (λ is. absurd (both_ways _ e is))
 
   needs_past : (x : ℕ) → sys.n ≤ x → IsTrue (set_of marks x) → ⊥
-  needs_past x le is = not_both _ is (get_or_past marks x false (subst (λ k. k ≤ x) (sym count) le))
+  needs_past x le is = both_ways _ (get_or_past marks x false (subst (λ k. k ≤ x) (sym count) le)) is
 
   needs_have : ((x : ℕ) → IsTrue (set_of marks x) → All (λ y. IsTrue (set_of marks y)) (needs_of sys x))
       ⊎ Lacks sys marks
@@ -88,8 +87,8 @@ module _ (sys : System) (valid : Valid sys) (marks : List Bool) (count : length 
   pair_by pair below listed true true e f =
       ⊎_elim (λ is. inl (λ _ _. is)) inr
       (has pair.derived below.2 (derived_due sys pair listed (due pair.one e) (due pair.two f)))
-  pair_by pair below listed false c e f = inl (λ one two. absurd (not_both _ one e))
-  pair_by pair below listed true false e f = inl (λ one two. absurd (not_both _ two f))
+  pair_by pair below listed false c e f = inl (λ one two. absurd (both_ways _ e one))
+  pair_by pair below listed true false e f = inl (λ one two. absurd (both_ways _ f two))
 
   pairs_have : All (λ pair. IsTrue (set_of marks pair.one) → IsTrue (set_of marks pair.two)
       → IsTrue (set_of marks pair.derived)) sys.pairs
@@ -148,9 +147,9 @@ reach sys valid (suc fuel) marks count due le =
 none_marked : (n x : ℕ) → IsTrue (set_of (replicate n false) x) → ⊥
 none_marked n x is =
     ⊎_elim
-    (λ lt. not_both _ is (get_or-replicate n x false false lt))
-    (λ le. not_both _ is (get_or_past (replicate n false) x false
-    (subst (λ k. k ≤ x) (sym (length-replicate n false)) le)))
+    (λ lt. both_ways _ (get_or-replicate n x false false lt) is)
+    (λ le. both_ways _ (get_or_past (replicate n false) x false
+    (subst (λ k. k ≤ x) (sym (length-replicate n false)) le)) is)
     (cases_lt x n)
 
 pub some_marks : AreSomeMarks

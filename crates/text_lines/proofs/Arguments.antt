@@ -1,14 +1,17 @@
 -- Types that are read one by one, with a comma between two.
 use Rattle.std.proofs.Common.{◌≡◌, ◌≢◌, ℕ, ◌+◌, ◌<◌, Bool, true, false, cond, eqb, eq-eqb, List, [], ◌∷◌, ◌++◌, length}
-use Rattle.std.proofs.Common.{Option, Some, None, Bor, refl, sym, ap, subst, ◌∙◌, append_assoc, arith, ne_eqb}
-use Rattle.std.specs.List.{slice_split, onto_first}
+use Rattle.std.proofs.Common.{Option, Some, None, Bor, refl, sym, ap, subst, ◌∙◌, append_assoc, arith, ne_eqb, codes}
+use Rattle.std.specs.List.{slice_split, onto_first, AllByRecursion, flat_map}
 use Rattle.std.specs.Option.{option_map}
 use Rattle.std.proofs.lemmas.List.{append-nil, length-append}
 use Rattle.jv_base.specs.declared.types.FieldType.{FieldType}
+use Rattle.jv_base.specs.External.{external_text}
+use Rattle.jv_base.specs.Types.{IsFieldType}
 use Rattle.text_lines.specs.Cut.{◌>>=◌, cut, Lacks, parts_copied}
-use Rattle.text_lines.specs.Members.{arguments_of, type_of, types_of}
+use Rattle.text_lines.specs.Members.{arguments_of, type_of, types_of, arguments_text}
 use Rattle.text_lines.specs.bodies.Shared.{IsPushed}
-use Rattle.text_lines.proofs.Parts.{cut_some, cut_not}
+use Rattle.text_lines.proofs.Parts.{cut_some, cut_not, lacks_append}
+use Rattle.text_lines.proofs.Words.{is_word_byte, type_word, word_lacks}
 
 -- the parts between commas
 abbrev pub between : List ℕ → List (List ℕ)
@@ -35,7 +38,9 @@ one_more : (types new : List FieldType) (found : Option FieldType) (b : Bool) (o
     → option_map (λ tys. types ++ tys) (found >>= (λ ty. option_map (λ tys. ty ∷ tys) o))
     ≡ option_map (λ tys. new ++ tys) o
 one_more types new (Some ty) true None e h = refl
-one_more types new (Some ty) true (Some tys) e h = rw h (ap (λ (l : List FieldType). let r : Option (List FieldType) = Some l in r) (sym (append_assoc types (ty ∷ []) tys)))
+one_more types new (Some ty) true (Some tys) e h =
+    rw h (ap (λ (l : List FieldType). let r : Option (List FieldType) = Some l in r)
+    (sym (append_assoc types (ty ∷ []) tys)))
 one_more types new None true o e h = absurd h
 one_more types new found false o e h = absurd cc
 
@@ -46,7 +51,8 @@ no_more types new found false o e h = rw h refl
 no_more types new found true o e h = absurd cc
 
 first_of : (text first others : List ℕ) → cut 44 text ≡ Some (first, others) → between text ≡ first ∷ between others
-first_of text first others h = let parts = cut_some 44 text (first, others) h in ap between parts.0 ∙ split_first first others parts.1
+first_of text first others h =
+    let parts = cut_some 44 text (first, others) h in ap between parts.0 ∙ split_first first others parts.1
 
 -- a part was read
 pub goes_on : (text first others : List ℕ) (types new : List FieldType) (b : Bool) (total : Option (List FieldType))
@@ -68,7 +74,8 @@ last_of : (text : List ℕ) → cut 44 text ≡ None → between text ≡ text �
 last_of text h = split_none text (cut_not 44 text h)
 
 -- the last part was read
-pub ends : (text : List ℕ) (types new : List FieldType) (b : Bool) (total : Option (List FieldType)) → cut 44 text ≡ None
+pub ends : (text : List ℕ) (types new : List FieldType) (b : Bool) (total : Option (List FieldType))
+    → cut 44 text ≡ None
     → b ≡ true → IsPushed b types new (type_of text) → read_on types (between text) ≡ total → Some new ≡ total
 ends text types new b total h e pushed so_far =
     ap (λ (l : List FieldType). let r : Option (List FieldType) = Some l in r) (sym (append-nil new))
@@ -76,7 +83,8 @@ ends text types new b total h e pushed so_far =
     ∙ ap (read_on types) (sym (last_of text h)) ∙ so_far
 
 -- the last part spells no type
-pub ends_not : (text : List ℕ) (types new : List FieldType) (b : Bool) (total : Option (List FieldType)) → cut 44 text ≡ None
+pub ends_not : (text : List ℕ) (types new : List FieldType) (b : Bool) (total : Option (List FieldType))
+    → cut 44 text ≡ None
     → b ≡ false → IsPushed b types new (type_of text) → read_on types (between text) ≡ total → None ≡ total
 ends_not text types new b total h e pushed so_far =
     sym (no_more types new (type_of text) b (Some []) e pushed)
@@ -91,3 +99,21 @@ shorter text first others h =
 -- a text that isn't empty
 pub arguments_is : (text : List ℕ) → false ≡ eqb (length text) 0 → types_of (between text) ≡ arguments_of text
 arguments_is text e = rw (← e) refl
+
+-- ---- bytes that stand in no type
+
+types_lack : (byte : ℕ) (tys : List FieldType) → is_word_byte byte ≡ false → 44 ≢ byte
+    → AllByRecursion IsFieldType tys → Lacks byte (flat_map (λ ty. codes "," ++ external_text ty) tys)
+types_lack byte [] none comma h = tt
+types_lack byte (ty ∷ tys) none comma h = (
+  comma,
+  lacks_append byte (external_text ty) _ (word_lacks byte (external_text ty) none (type_word ty h.0).0)
+      (types_lack byte tys none comma h.1),
+)
+
+pub arguments_lack_byte : (byte : ℕ) (tys : List FieldType) → is_word_byte byte ≡ false → 44 ≢ byte
+    → AllByRecursion IsFieldType tys → Lacks byte (arguments_text tys)
+arguments_lack_byte byte [] none comma h = tt
+arguments_lack_byte byte (ty ∷ tys) none comma h =
+    lacks_append byte (external_text ty) _ (word_lacks byte (external_text ty) none (type_word ty h.0).0)
+    (types_lack byte tys none comma h.1)

@@ -12,7 +12,7 @@ abbrev is_end : ℕ → Bool
 is_end b = eqb b 10
 
 -- a part with another behind it is a line
-part_is_line : (x : List ℕ) (parts : List (List ℕ)) → 0 < length parts
+pub part_is_line : (x : List ℕ) (parts : List (List ℕ)) → 0 < length parts
     → lines_of_parts (x ∷ parts) ≡ strip_carriage_return x ∷ lines_of_parts parts
 part_is_line x [] h = absurd (omega arith)
 part_is_line x (y ∷ more) h = refl
@@ -21,7 +21,8 @@ first_at : (text : List ℕ) (at : ℕ) → position_or_len is_end text < length
     → lines text ≡ strip_carriage_return (take at text) ∷ lines (drop (at + 1) text)
 first_at text at lt e =
     ap lines_of_parts (slice_split_first is_end text 0 lt)
-    ∙ part_is_line (take (position_or_len is_end text) text) (slice_split is_end (drop (position_or_len is_end text + 1) text))
+    ∙ part_is_line (take (position_or_len is_end text) text)
+    (slice_split is_end (drop (position_or_len is_end text + 1) text))
     (omega (arith, length-slice_split is_end (drop (position_or_len is_end text + 1) text)))
     ∙ ap (λ (n : ℕ). strip_carriage_return (take n text) ∷ lines (drop (n + 1) text)) e
 
@@ -30,18 +31,20 @@ pub first_line : (text : List ℕ) (at : ℕ) → position is_end text ≡ Some 
     → lines text ≡ strip_carriage_return (take at text) ∷ lines (drop (at + 1) text)
 first_line text at h =
     elim (ltb (position_or_len is_end text) (length text)) as
-    (λ b. ltb (position_or_len is_end text) (length text) ≡ b → cond b (Some (position_or_len is_end text)) None ≡ Some at
+    (λ b. ltb (position_or_len is_end text) (length text) ≡ b
+    → cond b (Some (position_or_len is_end text)) None ≡ Some at
     → lines text ≡ strip_carriage_return (take at text) ∷ lines (drop (at + 1) text)) [
       | true ↦ λ e k. first_at text at (ltb-true _ _ e) cc
       | false ↦ λ e k. absurd cc
     ] refl h
 
-one_part : (text : List ℕ) → length text ≤ position_or_len is_end text → slice_split is_end text ≡ text ∷ []
+pub one_part : (text : List ℕ) → length text ≤ position_or_len is_end text → slice_split is_end text ≡ text ∷ []
 one_part [] h = refl
 one_part (b ∷ text) h =
     elim (is_end b) as (λ t. is_end b ≡ t → length (b ∷ text) ≤ position_or_len is_end (b ∷ text)
     → cond t ([] ∷ slice_split is_end text) (onto_first b (slice_split is_end text)) ≡ (b ∷ text) ∷ []) [
-      | true ↦ λ e k. (let zero_ : position_or_len is_end (b ∷ text) ≡ 0 = rw e refl in absurd (omega (arith, zero_, k)))
+      | true ↦ λ e k.
+          (let zero_ : position_or_len is_end (b ∷ text) ≡ 0 = rw e refl in absurd (omega (arith, zero_, k)))
       | false ↦ λ e k. (let more : position_or_len is_end (b ∷ text) ≡ 1 + position_or_len is_end text = rw e refl in
           ap (onto_first b) (one_part text (omega (arith, more, k))))
     ] refl h

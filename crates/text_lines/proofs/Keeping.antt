@@ -27,7 +27,8 @@ one_text a b = by (nat_cmp a.0 b.0)
     by Equal is = exact_bytes a.1.now b.1.now is
     by Greater is = absurd cc
 
-found_in : {V : Type 0} (P : List ℕ → V → Type 0) (key : Key) (es : List (Key × V)) → AllByRecursion (λ e. P e.0.1.now e.1) es
+found_in : {V : Type 0} (P : List ℕ → V → Type 0) (key : Key) (es : List (Key × V))
+    → AllByRecursion (λ e. P e.0.1.now e.1) es
     → IfSome (lookup (λ k. is_eq (key_order key k)) es) (P key.1.now)
 found_in P key [] h = tt
 found_in {V} P key (e ∷ es) h = by (key_order key e.0) refl (found_in P key es h.1)
@@ -39,7 +40,8 @@ found_in {V} P key (e ∷ es) h = by (key_order key e.0) refl (found_in P key es
     by Greater is more = more
 
 -- what a look-up in a tree finds
-pub found_told : {V : Type 0} (P : List ℕ → V → Type 0) (key : Key) (es : List (Key × V)) → All (λ e. P e.0.1.now e.1) es
+pub found_told : {V : Type 0} (P : List ℕ → V → Type 0) (key : Key) (es : List (Key × V))
+    → All (λ e. P e.0.1.now e.1) es
     → IfSome (lookup (λ k. is_eq (key_order key k)) es) (P key.1.now)
 found_told P key es h = found_in P key es (recursion_from_All (λ e. P e.0.1.now e.1) es h)
 
@@ -54,7 +56,8 @@ put_in : {V : Type 0} (P : List ℕ → V → Type 0) (key : Key) (v : V) (es : 
 put_in P key v [] p h = (p, tt)
 put_in {V} P key v (e ∷ es) p h = by (key_order key e.0) refl (put_in P key v es p h.1)
   where
-    by : (o : Ordering) → key_order key e.0 ≡ o → AllByRecursion (λ (x : Key × V). P x.0.1.now x.1) (insert_entry key_order es key v)
+    by : (o : Ordering) → key_order key e.0 ≡ o
+        → AllByRecursion (λ (x : Key × V). P x.0.1.now x.1) (insert_entry key_order es key v)
         → AllByRecursion (λ (x : Key × V). P x.0.1.now x.1)
         (match_ordering o ((key, v) ∷ e ∷ es) ((e.0, v) ∷ es) (e ∷ insert_entry key_order es key v))
     by Less is more = (p, h)

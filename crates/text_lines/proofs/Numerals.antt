@@ -1,7 +1,7 @@
 -- Numbers in texts: what is spelled is read, and what is read was spelled so.
 use Rattle.std.proofs.Common.{◌≡◌, ◌≢◌, ℕ, suc, ◌+◌, ◌<◌, ◌≤◌, ◌^◌, Bool, true, false, not, cond, eqb, ltb, ◌&&◌, ◌||◌}
-use Rattle.std.proofs.Common.{List, [], ◌∷◌, ◌++◌, length, get_or, Option, Some, None, Result, Ok, Err, refl, sym, ap, subst}
-use Rattle.std.proofs.Common.{◌∙◌, arith, rules, inl, inr}
+use Rattle.std.proofs.Common.{List, [], ◌∷◌, ◌++◌, length, get_or, Option, Some, None, Result, Ok, Err, refl, sym, ap}
+use Rattle.std.proofs.Common.{subst, ◌∙◌, arith, rules, inl, inr}
 use Rattle.std.specs.Char.{is_ascii_digit}
 use Rattle.std.specs.Fmt.{decimal}
 use Rattle.std.specs.Int.{IsInRange}
@@ -14,6 +14,7 @@ use Rattle.std.proofs.lemmas.Fmt.{first_decimal, decimal_digit}
 use Rattle.std.proofs.lemmas.Str.Parse.{IsNumeralModel, IsDigitsTest, numerals_by_value, parse_plain, digit_at}
 use Rattle.text_lines.specs.Cut.{◌>>=◌, where_true}
 use Rattle.text_lines.specs.Numbers.{are_digits, is_numeral, number_below, SpellsNumber}
+use Rattle.text_lines.proofs.Spelling.{where_some}
 
 tells : IsDigitsTest (λ ds. are_digits ds ≡ true)
 tells = search rules
@@ -34,7 +35,9 @@ parsed_as : (k : ℕ) (text : List ℕ) {E : Type 0} (r : Result ℕ E) → is_n
     → OkIff r ((are_digits text ≡ true) × (0 < length text) × (digits_value 10 text < 2 ^ k)) (digits_value 10 text)
     → result_ok r ≡ number_below (2 ^ k) text
 unfolding number_below
-parsed_as k text (Ok n) num h = let small : ltb (digits_value 10 text) (2 ^ k) ≡ true = grind (arith, h.0.2) in rw (num, small) (ap (λ (m : ℕ). let o : Option ℕ = Some m in o) h.1)
+parsed_as k text (Ok n) num h =
+    let small : ltb (digits_value 10 text) (2 ^ k) ≡ true = grind (arith, h.0.2) in
+    rw (num, small) (ap (λ (m : ℕ). let o : Option ℕ = Some m in o) h.1)
 parsed_as k text (Err e) num h =
     let parts = numeral_parts text num in
     elim (cases_Bool (ltb (digits_value 10 text) (2 ^ k))) [
@@ -52,16 +55,12 @@ pub parsed : (k : ℕ) (text : List ℕ) {E : Type 0} (r : Result ℕ E) → Par
     → result_ok r ≡ number_below (2 ^ k) text
 parsed k text r h num = parsed_as k text r num (parse_plain own k text r h (no_sign text num))
 
-where_is : {A : Type 0} (b : Bool) (x y : A) → where_true b x ≡ Some y → (b ≡ true) × (x ≡ y)
-where_is true x y h = (refl, cc)
-where_is false x y h = absurd cc
-
 -- what is read is spelled so
 pub number_found : (limit : ℕ) (text : List ℕ) (n : ℕ) → limit ≤ 2 ^ 64 → number_below limit text ≡ Some n
     → SpellsNumber limit text n
 unfolding number_below
 number_found limit text n wide h =
-    let w = where_is (is_numeral text && ltb (digits_value 10 text) limit) (digits_value 10 text) n h in
+    let w = where_some (is_numeral text && ltb (digits_value 10 text) limit) (digits_value 10 text) n h in
     let p = and_parts (is_numeral text) (ltb (digits_value 10 text) limit) w.0 in
     let parts = numeral_parts text p.0 in
     let small : digits_value 10 text < limit = ltb-true _ _ p.1 in (
@@ -75,7 +74,9 @@ unfolding is_numeral
 numeral_from [] d some one = absurd (omega arith)
 numeral_from (b ∷ bs) d some one =
     rw d (elim (cases_Bool (eqb b 48)) [
-      | inl zero_ ↦ (let single = one (eqb-true b 48 zero_) in let none : eqb (length bs) 0 ≡ true = grind (arith, single) in rw (zero_, none) refl)
+      | inl zero_ ↦
+          (let single = one (eqb-true b 48 zero_) in let none : eqb (length bs) 0 ≡ true = grind (arith, single) in
+          rw (zero_, none) refl)
       | inr other ↦ rw other refl
     ])
 
@@ -108,7 +109,8 @@ decimal_digits n small = (digits_decimal own n small, decimal_nonempty n small)
 pub narrowed : (limit : ℕ) (text : List ℕ) → limit < 2 ^ 32
     → number_below limit text ≡ number_below (2 ^ 32) text >>= (λ n. where_true (ltb n limit) n)
 unfolding number_below
-narrowed limit text small = by (is_numeral text) (ltb (digits_value 10 text) limit) (ltb (digits_value 10 text) (2 ^ 32)) refl refl
+narrowed limit text small =
+    by (is_numeral text) (ltb (digits_value 10 text) limit) (ltb (digits_value 10 text) (2 ^ 32)) refl refl
   where
     by : (num below wide : Bool) → ltb (digits_value 10 text) limit ≡ below → ltb (digits_value 10 text) (2 ^ 32) ≡ wide
         → where_true (num && below) (digits_value 10 text)
@@ -119,10 +121,13 @@ narrowed limit text small = by (is_numeral text) (ltb (digits_value 10 text) lim
     by true false false e f = refl
     by true true false e f = absurd (omega (arith, ltb-true _ _ e, ltb-false _ _ f))
 
-pub narrow_none : (limit : ℕ) (text : List ℕ) → limit < 2 ^ 32 → number_below (2 ^ 32) text ≡ None → None ≡ number_below limit text
-narrow_none limit text small h = sym (narrowed limit text small ∙ ap (λ (o : Option ℕ). o >>= (λ n. where_true (ltb n limit) n)) h)
+pub narrow_none : (limit : ℕ) (text : List ℕ) → limit < 2 ^ 32 → number_below (2 ^ 32) text ≡ None
+    → None ≡ number_below limit text
+narrow_none limit text small h =
+    sym (narrowed limit text small ∙ ap (λ (o : Option ℕ). o >>= (λ n. where_true (ltb n limit) n)) h)
 
 -- where the number is found, what is below the limit
 pub narrow_some : (limit : ℕ) (text : List ℕ) (n : ℕ) → limit < 2 ^ 32 → number_below (2 ^ 32) text ≡ Some n
     → number_below limit text ≡ where_true (ltb n limit) n
-narrow_some limit text n small h = narrowed limit text small ∙ ap (λ (o : Option ℕ). o >>= (λ m. where_true (ltb m limit) m)) h
+narrow_some limit text n small h = narrowed limit text small
+    ∙ ap (λ (o : Option ℕ). o >>= (λ m. where_true (ltb m limit) m)) h

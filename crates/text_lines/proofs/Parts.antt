@@ -19,7 +19,8 @@ cut_is byte (b ∷ x) y h = let other : eqb b byte ≡ false = ne_eqb b byte h.0
 pub cut_lacks : (byte : ℕ) (text : List ℕ) → Lacks byte text → cut byte text ≡ None
 unfolding cut
 cut_lacks byte [] h = refl
-cut_lacks byte (b ∷ text) h = let other : eqb b byte ≡ false = ne_eqb b byte h.0 in rw (other, cut_lacks byte text h.1) refl
+cut_lacks byte (b ∷ text) h =
+    let other : eqb b byte ≡ false = ne_eqb b byte h.0 in rw (other, cut_lacks byte text h.1) refl
 
 -- what a byte that was looked for cuts off
 abbrev pub IsCut : ℕ → List ℕ → Option (List ℕ × List ℕ) → Type 0
@@ -35,7 +36,8 @@ pub cut_parts : (byte : ℕ) (text : List ℕ) → IsCut byte text (cut byte tex
 unfolding cut
 cut_parts byte [] = tt
 cut_parts byte (b ∷ text) =
-    elim (eqb b byte) as (λ t. eqb b byte ≡ t → IsCut byte (b ∷ text) (cond t (Some ([], text)) (cut_on b (cut byte text)))) [
+    elim (eqb b byte) as
+    (λ t. eqb b byte ≡ t → IsCut byte (b ∷ text) (cond t (Some ([], text)) (cut_on b (cut byte text)))) [
       | true ↦ λ e. (ap (λ (c : ℕ). c ∷ text) (eqb-true b byte e), tt)
       | false ↦ λ e. one_more byte b text (cut byte text)
           (λ same. let yes : eqb b byte ≡ true = eq-eqb b byte same in let f : false ≡ true = sym e ∙ yes in absurd cc)

@@ -1,12 +1,14 @@
 -- Lines that are read one by one are those that spell the items which were added, and no others.
-use Rattle.std.proofs.Common.{◌≡◌, ℕ, ◌+◌, Bool, true, false, not, cond, List, [], ◌∷◌, Option, Some, None, Result, Ok, Err}
-use Rattle.std.proofs.Common.{refl, sym, ap, subst, ◌∙◌, inl, inr}
+use Rattle.std.proofs.Common.{◌≡◌, ℕ, ◌+◌, Bool, true, false, not, cond, List, [], ◌∷◌, Option, Some, None, Result, Ok}
+use Rattle.std.proofs.Common.{Err, refl, sym, ap, subst, ◌∙◌, inl, inr}
 use Rattle.std.specs.Prelude.{◌⊎◌}
 use Rattle.std.specs.List.{AllByRecursion}
 use Rattle.std.specs.Str.{IsUtf8, is_utf8}
 use Rattle.std.proofs.lemmas.Str.{IsUtf8-from_is_utf8, is_utf8-from_IsUtf8}
 use Rattle.jv_base.specs.Outcome.{◌>>=◌}
-use Rattle.text_lines.specs.Lines.{AllSpell, AreSpelled, at_line, is_passed_over, item_added, line_read, line_step, read_lines, saying}
+use Rattle.text_lines.specs.Lines.{AllSpell, AreSpelled, at_line, is_passed_over, item_added, line_read, line_step}
+use Rattle.text_lines.specs.Lines.{read_lines, saying}
+use Rattle.text_lines.proofs.Taking.{nothing_said}
 
 -- what spells an item is read as it, and what is read spells it
 pub record Says {X : Type 0} (spells : List ℕ → X → Type 0) (item_of : List ℕ → Option X) : Type 0 where
@@ -29,7 +31,8 @@ at_ok fault n (Err k) t h = absurd cc
 
 -- a line in UTF-8 that says nothing, or that spells an item which was added
 abbrev IsRead : {X S K : Type 0} → (X → S → Result S K) → Bool → Option X → S → S → Type 0
-IsRead {X} add passed o s t = ((passed ≡ true) × (s ≡ t)) ⊎ ((passed ≡ false) × ((x : X) × (o ≡ Some x) × (add x s ≡ Ok t)))
+IsRead {X} add passed o s t =
+    ((passed ≡ true) × (s ≡ t)) ⊎ ((passed ≡ false) × ((x : X) × (o ≡ Some x) × (add x s ≡ Ok t)))
 
 step_ok : {X S K F : Type 0} (fault : ℕ → K → F) (not_utf8 bad_line : K) (add : X → S → Result S K) (n : ℕ) (u p : Bool)
     (o : Option X) (s t : S)
@@ -48,7 +51,8 @@ said_line l ls e = rw e refl
 
 -- lines that were read spell items, which were added one by one
 pub lines_found : {X S K F : Type 0} (fault : ℕ → K → F) (not_utf8 bad_line : K) {spells : List ℕ → X → Type 0}
-    {item_of : List ℕ → Option X} (add : X → S → Result S K) → Says spells item_of → (n : ℕ) (ls : List (List ℕ)) (s t : S)
+    {item_of : List ℕ → Option X} (add : X → S → Result S K) → Says spells item_of
+    → (n : ℕ) (ls : List (List ℕ)) (s t : S)
     → read_lines (line_step fault not_utf8 bad_line item_of add) n ls s ≡ Ok t
     → (xs : List X) × AreSpelled spells ls xs × (adds add xs s ≡ Ok t)
 unfolding read_lines
@@ -56,7 +60,8 @@ lines_found {X} {S} {K} fault nu bad add says n [] s t h =
     let same : s ≡ t = cc in
     ([], record { utf8 = tt; spelled = tt }, ap (λ (r : S). let R : Result S K = Ok r in R) same)
 lines_found {X} {S} {K} fault nu bad {spells = spells} {item_of = item_of} add says n (l ∷ ls) s t h =
-    let b = bind_ok (line_step fault nu bad item_of add n l s) (λ r. read_lines (line_step fault nu bad item_of add) (n + 1) ls r) t h in
+    let b = bind_ok (line_step fault nu bad item_of add n l s)
+    (λ r. read_lines (line_step fault nu bad item_of add) (n + 1) ls r) t h in
     let one = step_ok fault nu bad add n (is_utf8 l) (is_passed_over l) (item_of l) s b.0 b.1 in
     let more = lines_found fault nu bad add says (n + 1) ls b.0 t b.2 in
     let utf8 = IsUtf8-from_is_utf8 l one.0 in
@@ -80,18 +85,17 @@ lines_found {X} {S} {K} fault nu bad {spells = spells} {item_of = item_of} add s
       )
     ]
 
-one_passed : {X S K F : Type 0} (fault : ℕ → K → F) (not_utf8 bad_line : K) (item_of : List ℕ → Option X) (add : X → S → Result S K)
-    (n : ℕ) (l : List ℕ) (s : S) → IsUtf8 l → is_passed_over l ≡ true → line_step fault not_utf8 bad_line item_of add n l s ≡ Ok s
-one_passed fault nu bad item_of add n l s u p = let utf8 : is_utf8 l ≡ true = is_utf8-from_IsUtf8 l u in rw (utf8, p) refl
-
-one_said : {X S K F : Type 0} (fault : ℕ → K → F) (not_utf8 bad_line : K) (item_of : List ℕ → Option X) (add : X → S → Result S K)
+one_said : {X S K F : Type 0} (fault : ℕ → K → F) (not_utf8 bad_line : K) (item_of : List ℕ → Option X)
+    (add : X → S → Result S K)
     (n : ℕ) (l : List ℕ) (s t : S) (x : X) → IsUtf8 l → is_passed_over l ≡ false → item_of l ≡ Some x → add x s ≡ Ok t
     → line_step fault not_utf8 bad_line item_of add n l s ≡ Ok t
-one_said fault nu bad item_of add n l s t x u p o a = let utf8 : is_utf8 l ≡ true = is_utf8-from_IsUtf8 l u in rw (utf8, p, o, a) refl
+one_said fault nu bad item_of add n l s t x u p o a =
+    let utf8 : is_utf8 l ≡ true = is_utf8-from_IsUtf8 l u in rw (utf8, p, o, a) refl
 
 -- a line before others that are read
 line_only : {X S K F : Type 0} (fault : ℕ → K → F) (not_utf8 bad_line : K) {spells : List ℕ → X → Type 0}
-    {item_of : List ℕ → Option X} (add : X → S → Result S K) → Says spells item_of → (n : ℕ) (l : List ℕ) (ls : List (List ℕ))
+    {item_of : List ℕ → Option X} (add : X → S → Result S K) → Says spells item_of
+    → (n : ℕ) (l : List ℕ) (ls : List (List ℕ))
     (b : Bool) (ys : List X) (s t : S) → is_passed_over l ≡ b → IsUtf8 l
     → AllSpell spells (cond (not b) (l ∷ saying ls) (saying ls)) ys → adds add ys s ≡ Ok t
     → ((zs : List X) (r : S) → AllSpell spells (saying ls) zs → adds add zs r ≡ Ok t
@@ -99,7 +103,7 @@ line_only : {X S K F : Type 0} (fault : ℕ → K → F) (not_utf8 bad_line : K)
     → line_step fault not_utf8 bad_line item_of add n l s
     >>= (λ r. read_lines (line_step fault not_utf8 bad_line item_of add) (n + 1) ls r) ≡ Ok t
 line_only fault nu bad {item_of = item_of} add says n l ls true ys s t e u sp k more =
-    rw (one_passed fault nu bad item_of add n l s u e) (more ys s sp k)
+    rw (nothing_said fault nu bad item_of add n l s u e) (more ys s sp k)
 line_only fault nu bad add says n l ls false [] s t e u sp k more = absurd sp
 line_only fault nu bad {item_of = item_of} add says n l ls false (y ∷ ys) s t e u sp k more =
     let b = bind_ok (add y s) (λ r. adds add ys r) t k in
@@ -107,7 +111,8 @@ line_only fault nu bad {item_of = item_of} add says n l ls false (y ∷ ys) s t 
 
 -- lines that spell items which can be added one by one are read
 pub lines_only : {X S K F : Type 0} (fault : ℕ → K → F) (not_utf8 bad_line : K) {spells : List ℕ → X → Type 0}
-    {item_of : List ℕ → Option X} (add : X → S → Result S K) → Says spells item_of → (n : ℕ) (ls : List (List ℕ)) (xs : List X)
+    {item_of : List ℕ → Option X} (add : X → S → Result S K) → Says spells item_of
+    → (n : ℕ) (ls : List (List ℕ)) (xs : List X)
     (s t : S) → AreSpelled spells ls xs → adds add xs s ≡ Ok t
     → read_lines (line_step fault not_utf8 bad_line item_of add) n ls s ≡ Ok t
 unfolding read_lines
@@ -130,3 +135,13 @@ one_list says (l ∷ ls) (x ∷ xs) [] a b = absurd b
 one_list says (l ∷ ls) (x ∷ xs) (y ∷ ys) a b =
     let head : x ≡ y = (let p = says.only l x a.0 in let q = says.only l y b.0 in cc) in
     let tail = one_list says ls xs ys a.1 b.1 in (λ i. head i ∷ tail i)
+
+-- lines that say something are texts where all are
+pub saying_utf8 : (ls : List (List ℕ)) → AllByRecursion IsUtf8 ls → AllByRecursion IsUtf8 (saying ls)
+saying_utf8 [] h = tt
+saying_utf8 (l ∷ ls) h = by (is_passed_over l) (saying_utf8 ls h.1)
+  where
+    by : (b : Bool) → AllByRecursion IsUtf8 (saying ls)
+        → AllByRecursion IsUtf8 (cond (not b) (l ∷ saying ls) (saying ls))
+    by true more = more
+    by false more = (h.0, more)

@@ -1,14 +1,16 @@
 -- Lines that are refused: those before the fault were read, and the fault comes whatever follows.
-use Rattle.std.proofs.Common.{◌≡◌, ℕ, ◌+◌, not, List, [], ◌∷◌, ◌++◌, length, Result, Ok, Err, refl, sym, ap, subst, ◌∙◌, arith}
-use Rattle.std.specs.List.{AllByRecursion}
+use Rattle.std.proofs.Common.{◌≡◌, ℕ, ◌+◌, not, List, [], ◌∷◌, ◌++◌, length, Result, Ok, Err, refl, sym, ap, subst, ◌∙◌}
+use Rattle.std.proofs.Common.{arith}
 use Rattle.std.specs.Str.{IsUtf8}
 use Rattle.std.proofs.lemmas.List.Elements.{filter-append}
 use Rattle.jv_base.specs.Outcome.{◌>>=◌}
+use Rattle.jv_base.proofs.Lists.{all_append}
 use Rattle.text_lines.specs.Lines.{AllSpell, AreSpelled, at_line, is_passed_over, read_lines, saying}
 use Rattle.text_lines.proofs.ReadLines.{bind_ok}
 
 -- lines that were read before the one at which the fault comes
-pub record IsRefused {S F : Type 0} (step : ℕ → List ℕ → S → Result S F) (n : ℕ) (ls : List (List ℕ)) (s : S) (f : F) : Type 0 where
+pub record IsRefused {S F : Type 0} (step : ℕ → List ℕ → S → Result S F) (n : ℕ) (ls : List (List ℕ)) (s : S)
+    (f : F) : Type 0 where
   pub before : List (List ℕ)
   pub line : List ℕ
   pub behind : List (List ℕ)
@@ -23,7 +25,8 @@ unfolding read_lines
 lines_refused step n [] s f h = absurd cc
 lines_refused {S} {F} step n (l ∷ ls) s f h = by (step n l s) refl (λ t k. lines_refused step (n + 1) ls t f k) h
   where
-    by : (r : Result S F) → step n l s ≡ r → ((t : S) → read_lines step (n + 1) ls t ≡ Err f → IsRefused step (n + 1) ls t f)
+    by : (r : Result S F) → step n l s ≡ r
+        → ((t : S) → read_lines step (n + 1) ls t ≡ Err f → IsRefused step (n + 1) ls t f)
         → r >>= (λ t. read_lines step (n + 1) ls t) ≡ Err f → IsRefused step n (l ∷ ls) s f
     by (Err e) is rest k = record {
       before = [];
@@ -49,7 +52,8 @@ lines_refused {S} {F} step n (l ∷ ls) s f h = by (step n l s) refl (λ t k. li
 
 -- the fault comes whatever follows
 pub refused_anyway : {S F : Type 0} (step : ℕ → List ℕ → S → Result S F) (n : ℕ) (before : List (List ℕ)) (l : List ℕ)
-    (others : List (List ℕ)) (s t : S) (f : F) → read_lines step n before s ≡ Ok t → step (n + length before) l t ≡ Err f
+    (others : List (List ℕ)) (s t : S) (f : F) → read_lines step n before s ≡ Ok t
+    → step (n + length before) l t ≡ Err f
     → read_lines step n (before ++ l ∷ others) s ≡ Err f
 unfolding read_lines
 refused_anyway {S} {F} step n [] l others s t f h k =
@@ -76,11 +80,8 @@ bind_err (Err x) g e h = cc
 
 -- ---- lines behind others
 
-all_append : {A : Type 0} (P : A → Type 0) (xs ys : List A) → AllByRecursion P xs → AllByRecursion P ys → AllByRecursion P (xs ++ ys)
-all_append P [] ys p q = q
-all_append P (x ∷ xs) ys p q = (p.0, all_append P xs ys p.1 q)
-
-all_spell_append : {X : Type 0} (spells : List ℕ → X → Type 0) (ls ks : List (List ℕ)) (xs ys : List X) → AllSpell spells ls xs
+all_spell_append : {X : Type 0} (spells : List ℕ → X → Type 0) (ls ks : List (List ℕ)) (xs ys : List X)
+    → AllSpell spells ls xs
     → AllSpell spells ks ys → AllSpell spells (ls ++ ks) (xs ++ ys)
 all_spell_append spells [] ks [] ys p q = q
 all_spell_append spells [] ks (x ∷ xs) ys p q = absurd p
@@ -88,10 +89,12 @@ all_spell_append spells (l ∷ ls) ks [] ys p q = absurd p
 all_spell_append spells (l ∷ ls) ks (x ∷ xs) ys p q = (p.0, all_spell_append spells ls ks xs ys p.1 q)
 
 -- lines behind others spell their items behind those
-pub spelled_append : {X : Type 0} (spells : List ℕ → X → Type 0) (ls ks : List (List ℕ)) (xs ys : List X) → AreSpelled spells ls xs
+pub spelled_append : {X : Type 0} (spells : List ℕ → X → Type 0) (ls ks : List (List ℕ)) (xs ys : List X)
+    → AreSpelled spells ls xs
     → AreSpelled spells ks ys → AreSpelled spells (ls ++ ks) (xs ++ ys)
 spelled_append spells ls ks xs ys p q = record {
   utf8 = all_append IsUtf8 ls ks p.utf8 q.utf8;
-  spelled = subst (λ (k : List (List ℕ)). AllSpell spells k (xs ++ ys)) (sym (filter-append (λ l. not (is_passed_over l)) ls ks))
+  spelled = subst (λ (k : List (List ℕ)). AllSpell spells k (xs ++ ys))
+      (sym (filter-append (λ l. not (is_passed_over l)) ls ks))
       (all_spell_append spells (saying ls) (saying ks) xs ys p.spelled q.spelled);
 }

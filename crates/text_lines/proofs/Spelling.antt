@@ -1,6 +1,6 @@
 -- Types, members and numbers: what is spelled is read, and what is read was spelled so.
-use Rattle.std.proofs.Common.{◌≡◌, ◌≢◌, ℕ, zero, suc, ◌+◌, ◌<◌, ◌≤◌, ◌^◌, Bool, true, false, cond, eqb, leb, ◌&&◌}
-use Rattle.std.proofs.Common.{List, [], ◌∷◌, ◌++◌, length, Option, Some, None, Result, Ok, Err, refl, sym, ap, subst, ◌∙◌}
+use Rattle.std.proofs.Common.{◌≡◌, ◌≢◌, ℕ, zero, suc, ◌+◌, ◌<◌, ◌≤◌, ◌^◌, Bool, true, false, cond, eqb, leb, ◌&&◌, List}
+use Rattle.std.proofs.Common.{[], ◌∷◌, ◌++◌, length, Option, Some, None, Result, Ok, Err, refl, sym, ap, subst, ◌∙◌}
 use Rattle.std.proofs.Common.{append_assoc, arith, codes, rules, inl, inr}
 use Rattle.std.specs.Prelude.{IsTrue, IfSome, nat_le}
 use Rattle.std.specs.List.{AllByRecursion, flat_map, join_by, onto_first, slice_split}
@@ -22,11 +22,12 @@ use Rattle.jv_base.specs.declared.types.FieldType.{FieldType}
 use Rattle.jv_base.specs.declared.types.MethodType.{MethodType}
 use Rattle.jv_base.proofs.Equality.{text_Decides}
 use Rattle.jv_base.proofs.ExternalLaw.{read_external-found, read_external-only}
+use Rattle.jv_base.proofs.Options.{mapped}
 use Rattle.text_lines.specs.Cut.{◌>>=◌, where_true, Lacks}
-use Rattle.text_lines.specs.Members.{SpellsClass, arguments_of, arguments_text, class_of, class_of_base, class_of_type, method_type}
-use Rattle.text_lines.specs.Members.{method_type_of, result_of, result_text, type_of, types_of}
+use Rattle.text_lines.specs.Members.{SpellsClass, arguments_of, arguments_text, class_of, class_of_base, class_of_type}
+use Rattle.text_lines.specs.Members.{method_type, method_type_of, result_of, result_text, type_of, types_of}
 use Rattle.text_lines.proofs.Arguments.{between, split_first, split_none}
-use Rattle.text_lines.proofs.Words.{IsResult, IsWord, longer, type_word, word_lacks}
+use Rattle.text_lines.proofs.Words.{IsResult, IsWord, longer, type_word, word_lacks, returned_is}
 
 -- ---- steps that may find nothing
 
@@ -64,7 +65,8 @@ class_base Long name e = absurd cc
 class_base Float name e = absurd cc
 class_base Double name e = absurd cc
 
-class_type : (ty : FieldType) (name : List ℕ) → class_of_type ty ≡ Some name → ty ≡ (record { dims = 0; base = Class name })
+class_type : (ty : FieldType) (name : List ℕ) → class_of_type ty ≡ Some name
+    → ty ≡ (record { dims = 0; base = Class name })
 class_type ty name h =
     elim (eqb ty.dims 0) as (λ b. eqb ty.dims 0 ≡ b → cond b (class_of_base ty.base) None ≡ Some name
     → ty ≡ (record { dims = 0; base = Class name })) [
@@ -87,7 +89,8 @@ class_found text name h =
 
 pub class_only : (text name : List ℕ) → SpellsClass text name → class_of text ≡ Some name
 class_only text name h =
-    let is : type_of text ≡ Some (record { dims = 0; base = Class name }) = type_only text (record { dims = 0; base = Class name })
+    let is : type_of text ≡ Some (record { dims = 0; base = Class name }) =
+    type_only text (record { dims = 0; base = Class name })
     (record { dimensions = omega arith; named = h.0 }, class_text name ∙ sym h.1) in
     ap (λ (o : Option FieldType). o >>= class_of_type) is
 
@@ -97,15 +100,21 @@ void_is_none : type_of (codes "void") ≡ None
 unfolding read_external walk external_byte external_end word_base keyword_base part_after is_name_byte is_class_name is_member_name is_primitive_or_void
 void_is_none = refl
 
-pub result_found : (text : List ℕ) (ret : Option FieldType) → result_of text ≡ Some ret → IsResult ret × (text ≡ result_text ret)
+pub result_found : (text : List ℕ) (ret : Option FieldType) → result_of text ≡ Some ret
+    → IsResult ret × (text ≡ result_text ret)
 result_found text ret h =
     elim (is_text text (codes "void")) as (λ b. is_text text (codes "void") ≡ b
-    → cond b (Some None) (option_map (λ ty. Some ty) (type_of text)) ≡ Some ret → IsResult ret × (text ≡ result_text ret)) [
-      | true ↦ λ e k. (let same : None ≡ ret = cc in subst (λ (r : Option FieldType). IsResult r × (text ≡ result_text r)) same (tt, (text_Decides text (codes "void")).0 e))
+    → cond b (Some None) (option_map (λ ty. Some ty) (type_of text)) ≡ Some ret
+    → IsResult ret × (text ≡ result_text ret)) [
+      | true ↦ λ e k.
+          (let same : None ≡ ret = cc in
+          subst (λ (r : Option FieldType). IsResult r × (text ≡ result_text r)) same
+          (tt, (text_Decides text (codes "void")).0 e))
       | false ↦ λ e k. by (type_of text) refl k
     ] refl h
   where
-    by : (o : Option FieldType) → type_of text ≡ o → option_map (λ ty. let r : Option FieldType = Some ty in r) o ≡ Some ret
+    by : (o : Option FieldType) → type_of text ≡ o
+        → option_map (λ ty. let r : Option FieldType = Some ty in r) o ≡ Some ret
         → IsResult ret × (text ≡ result_text ret)
     by None e k = absurd cc
     by (Some ty) e k =
@@ -113,12 +122,16 @@ result_found text ret h =
         let spelled = type_found text ty e in
         subst (λ (r : Option FieldType). IsResult r × (text ≡ result_text r)) same (spelled.0, sym spelled.1)
 
-pub result_only : (text : List ℕ) (ret : Option FieldType) → IsResult ret → text ≡ result_text ret → result_of text ≡ Some ret
-result_only text None h e = let yes : is_text text (codes "void") ≡ true = (text_Decides text (codes "void")).1 e in rw yes refl
+pub result_only : (text : List ℕ) (ret : Option FieldType) → IsResult ret → text ≡ result_text ret
+    → result_of text ≡ Some ret
+result_only text None h e =
+    let yes : is_text text (codes "void") ≡ true = (text_Decides text (codes "void")).1 e in rw yes refl
 result_only text (Some ty) h e =
     let there : type_of text ≡ Some ty = type_only text ty (h, sym e) in
     elim (cases_Bool (is_text text (codes "void"))) [
-      | inl void_ ↦ (let none : type_of text ≡ None = ap type_of ((text_Decides text (codes "void")).0 void_) ∙ void_is_none in absurd cc)
+      | inl void_ ↦
+          (let none : type_of text ≡ None = ap type_of ((text_Decides text (codes "void")).0 void_) ∙ void_is_none in
+          absurd cc)
       | inr other ↦ rw (other, there) refl
     ]
 
@@ -139,9 +152,14 @@ split_all ty [] h all =
     rw (append-nil (external_text ty), split_none (external_text ty) (comma_no ty h), one) refl
 split_all ty (u ∷ us) h all =
     let one : type_of (external_text ty) ≡ Some ty = type_only (external_text ty) ty (h, refl) in
-    rw (split_first (external_text ty) (external_text u ++ behind us) (comma_no ty h), one, split_all u us all.0 all.1) refl
+    rw (
+      split_first (external_text ty) (external_text u ++ behind us) (comma_no ty h),
+      one,
+      split_all u us all.0 all.1,
+    ) refl
 
-pub arguments_only : (text : List ℕ) (args : List FieldType) → AllByRecursion IsFieldType args → text ≡ arguments_text args
+pub arguments_only : (text : List ℕ) (args : List FieldType) → AllByRecursion IsFieldType args
+    → text ≡ arguments_text args
     → arguments_of text ≡ Some args
 arguments_only text [] h e = rw e refl
 arguments_only text (ty ∷ tys) h e =
@@ -168,26 +186,26 @@ some_part text = omega (arith, length-slice_split (λ b. eqb b 44) text)
 joined_between : (text : List ℕ) → joined (between text) ≡ text
 joined_between [] = refl
 joined_between (b ∷ text) =
-    elim (eqb b 44) as (λ t. eqb b 44 ≡ t → joined (cond t ([] ∷ between text) (onto_first b (between text))) ≡ b ∷ text) [
+    elim (eqb b 44) as
+    (λ t. eqb b 44 ≡ t → joined (cond t ([] ∷ between text) (onto_first b (between text))) ≡ b ∷ text) [
       | true ↦ λ e. after_comma (between text) (some_part text) ∙ ap (λ (t : List ℕ). 44 ∷ t) (joined_between text)
           ∙ ap (λ (c : ℕ). c ∷ text) (sym (eqb-true b 44 e))
       | false ↦ λ e. onto b (between text) ∙ ap (λ (t : List ℕ). b ∷ t) (joined_between text)
     ] refl
 
-map_some : {A B : Type 0} (f : A → B) (o : Option A) (y : B) → option_map f o ≡ Some y → (x : A) × (o ≡ Some x) × (f x ≡ y)
-map_some f None y h = absurd cc
-map_some f (Some x) y h = (x, refl, cc)
-
 -- the types that texts spell, one by one
 parts_found : (parts : List (List ℕ)) (tys : List FieldType) → types_of parts ≡ Some tys
     → AllByRecursion IsFieldType tys × (flat_map (λ t. 44 ∷ t) parts ≡ behind tys)
-parts_found [] tys h = let same : [] ≡ tys = cc in subst (λ (us : List FieldType). AllByRecursion IsFieldType us × ([] ≡ behind us)) same (tt, refl)
+parts_found [] tys h =
+    let same : [] ≡ tys = cc in
+    subst (λ (us : List FieldType). AllByRecursion IsFieldType us × ([] ≡ behind us)) same (tt, refl)
 parts_found (x ∷ xs) tys h =
     let first = then_some (type_of x) (λ ty. option_map (λ us. ty ∷ us) (types_of xs)) tys h in
-    let others = map_some (λ (us : List FieldType). first.0 ∷ us) (types_of xs) tys first.2 in
+    let others = mapped (λ (us : List FieldType). first.0 ∷ us) (types_of xs) tys first.2 in
     let more = parts_found xs others.0 others.1 in
     let spelled = type_found x first.0 first.1 in
-    subst (λ (us : List FieldType). AllByRecursion IsFieldType us × (flat_map (λ t. 44 ∷ t) (x ∷ xs) ≡ behind us)) others.2 (
+    subst (λ (us : List FieldType). AllByRecursion IsFieldType us
+    × (flat_map (λ t. 44 ∷ t) (x ∷ xs) ≡ behind us)) others.2 (
       (spelled.0, more.0),
       ap (λ (t : List ℕ). 44 ∷ (t ++ flat_map (λ u. 44 ∷ u) xs)) (sym spelled.1)
           ∙ ap (λ (t : List ℕ). 44 ∷ (external_text first.0 ++ t)) more.1,
@@ -198,7 +216,7 @@ list_found : (parts : List (List ℕ)) (tys : List FieldType) → 0 < length par
 list_found [] tys some h = absurd (omega arith)
 list_found (x ∷ xs) tys some h =
     let first = then_some (type_of x) (λ ty. option_map (λ us. ty ∷ us) (types_of xs)) tys h in
-    let others = map_some (λ (us : List FieldType). first.0 ∷ us) (types_of xs) tys first.2 in
+    let others = mapped (λ (us : List FieldType). first.0 ∷ us) (types_of xs) tys first.2 in
     let more = parts_found xs others.0 others.1 in
     let spelled = type_found x first.0 first.1 in
     subst (λ (us : List FieldType). AllByRecursion IsFieldType us × (joined (x ∷ xs) ≡ arguments_text us)) others.2 (
@@ -211,7 +229,8 @@ pub arguments_found : (text : List ℕ) (args : List FieldType) → arguments_of
     → AllByRecursion IsFieldType args × (text ≡ arguments_text args)
 arguments_found text args h =
     elim (eqb (length text) 0) as (λ b. eqb (length text) 0 ≡ b
-    → cond b (Some []) (types_of (between text)) ≡ Some args → AllByRecursion IsFieldType args × (text ≡ arguments_text args)) [
+    → cond b (Some []) (types_of (between text)) ≡ Some args
+    → AllByRecursion IsFieldType args × (text ≡ arguments_text args)) [
       | true ↦ λ e k. (let same : [] ≡ args = cc in
           subst (λ (us : List FieldType). AllByRecursion IsFieldType us × (text ≡ arguments_text us)) same
           (tt, nil_from_length text (eqb-true (length text) 0 e)))
@@ -229,8 +248,11 @@ method_type_found ret args ty h =
     let w = where_some (leb (argument_words a.0) 255) (record { args = a.0; ret = r.0 }) ty a.2 in
     let result = result_found ret r.0 r.1 in
     let arguments = arguments_found args a.0 a.1 in
-    subst (λ (m : MethodType). IsMethodType m × (ret ≡ result_text m.ret) × (args ≡ arguments_text m.args)) w.1
-    (record { arguments = arguments.0; words = leb-true (argument_words a.0) 255 w.0; returned = by r.0 result.0 }, result.1, arguments.1)
+    subst (λ (m : MethodType). IsMethodType m × (ret ≡ result_text m.ret) × (args ≡ arguments_text m.args)) w.1 (
+      record { arguments = arguments.0; words = leb-true (argument_words a.0) 255 w.0; returned = by r.0 result.0 },
+      result.1,
+      arguments.1,
+    )
   where
     by : (o : Option FieldType) → IsResult o → IfSome o IsFieldType
     by None k = tt
@@ -239,11 +261,7 @@ method_type_found ret args ty h =
 pub method_type_only : (ret args : List ℕ) (ty : MethodType) → IsMethodType ty → ret ≡ result_text ty.ret
     → args ≡ arguments_text ty.args → method_type_of ret args ≡ Some ty
 method_type_only ret args ty h e d =
-    let r : result_of ret ≡ Some ty.ret = result_only ret ty.ret (by ty.ret h.returned) e in
+    let r : result_of ret ≡ Some ty.ret = result_only ret ty.ret (returned_is ty.ret h.returned) e in
     let a : arguments_of args ≡ Some ty.args = arguments_only args ty.args h.arguments d in
     let w : leb (argument_words ty.args) 255 ≡ true = le-leb (argument_words ty.args) 255 h.words in
     rw (r, a, w) refl
-  where
-    by : (o : Option FieldType) → IfSome o IsFieldType → IsResult o
-    by None k = tt
-    by (Some t) k = k

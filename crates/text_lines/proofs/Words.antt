@@ -1,19 +1,20 @@
 -- Which bytes names, types and numbers have: none at which a line is taken apart.
-use Rattle.std.proofs.Common.{◌≡◌, ◌≢◌, ℕ, zero, suc, ◌+◌, ◌<◌, ◌≤◌, Bool, true, false, not, cond, eqb, ltb, leb, ◌&&◌, ◌||◌}
-use Rattle.std.proofs.Common.{List, [], ◌∷◌, ◌++◌, map, length, Option, Some, None, refl, sym, ap, subst, ◌∙◌, arith, rules, inl, inr, codes}
-use Rattle.std.specs.Prelude.{nat_eq, IsTrue}
+use Rattle.std.proofs.Common.{◌≡◌, ◌≢◌, ℕ, zero, suc, ◌+◌, ◌<◌, ◌≤◌, Bool, true, false, not, cond, eqb, ltb, leb, ◌&&◌}
+use Rattle.std.proofs.Common.{◌||◌, List, [], ◌∷◌, ◌++◌, map, length, Option, Some, None, refl, sym, ap, subst, ◌∙◌}
+use Rattle.std.proofs.Common.{arith, rules, inl, inr, codes}
+use Rattle.std.specs.Prelude.{nat_eq, IsTrue, IfSome}
 use Rattle.std.specs.Char.{is_ascii_digit, is_ascii_alphanumeric}
 use Rattle.std.specs.List.{AllByRecursion, list_all, list_any, flat_map, join_by, repeat}
 use Rattle.std.proofs.lemmas.Bool.{and_parts, or_cases, eqb-true, cases_Bool}
 use Rattle.jv_base.specs.External.{dotted, external_text, swapped, word_text}
-use Rattle.jv_base.specs.Names.{all_name_bytes, is_class_name, is_member_name, is_method_name, is_name_byte, is_primitive_or_void}
+use Rattle.jv_base.specs.Names.{all_name_bytes, is_class_name, is_member_name, is_method_name, is_name_byte}
 use Rattle.jv_base.specs.Names.{is_text, parts_whole}
 use Rattle.jv_base.specs.Types.{IsBase, IsFieldType}
 use Rattle.jv_base.specs.declared.types.Base.{Base}
 use Rattle.jv_base.specs.declared.types.Base.TheVariants.{Boolean, Byte, Char, Short, Int, Long, Float, Double, Class}
 use Rattle.jv_base.specs.declared.types.FieldType.{FieldType}
 use Rattle.jv_base.proofs.Equality.{text_Decides}
-use Rattle.jv_base.proofs.Naming.{class_name_is}
+use Rattle.jv_base.proofs.FieldLaw.{class_parts}
 use Rattle.text_lines.specs.Cut.{Lacks}
 use Rattle.text_lines.specs.Lines.{is_blank, is_comment, is_passed_over}
 use Rattle.text_lines.specs.Members.{result_text}
@@ -32,15 +33,18 @@ word_append (b ∷ x) y p q = (p.0, word_append x y p.1 q)
 
 pub word_lacks : (byte : ℕ) (text : List ℕ) → is_word_byte byte ≡ false → IsWord text → Lacks byte text
 word_lacks byte [] not_one h = tt
-word_lacks byte (b ∷ text) not_one h =
-    ((λ e. let f : false ≡ true = sym not_one ∙ subst (λ (x : ℕ). is_word_byte x ≡ true) e h.0 in absurd cc), word_lacks byte text not_one h.1)
+word_lacks byte (b ∷ text) not_one h = (
+  (λ e. let f : false ≡ true = sym not_one ∙ subst (λ (x : ℕ). is_word_byte x ≡ true) e h.0 in absurd cc),
+  word_lacks byte text not_one h.1,
+)
 
 pub name_byte : (b : ℕ) → is_name_byte b ≡ true → is_word_byte b ≡ true
 name_byte b h = rw h refl
 
 names_word : (text : List ℕ) → all_name_bytes text ≡ true → IsWord text
 names_word [] h = tt
-names_word (b ∷ text) h = let p = and_parts (is_name_byte b) (all_name_bytes text) h in (name_byte b p.0, names_word text p.1)
+names_word (b ∷ text) h =
+    let p = and_parts (is_name_byte b) (all_name_bytes text) h in (name_byte b p.0, names_word text p.1)
 
 member_parts : (text : List ℕ) → is_member_name text ≡ true → (0 < length text) × (all_name_bytes text ≡ true)
 unfolding is_member_name
@@ -73,7 +77,8 @@ method_word text h =
 
 -- ---- class names
 
-dotted_byte : (b : ℕ) (t : Bool) → eqb b 47 ≡ t → (t ≡ false → is_name_byte b ≡ true) → is_word_byte (cond t 46 b) ≡ true
+dotted_byte : (b : ℕ) (t : Bool) → eqb b 47 ≡ t → (t ≡ false → is_name_byte b ≡ true)
+    → is_word_byte (cond t 46 b) ≡ true
 unfolding is_name_byte
 dotted_byte b true e h = refl
 dotted_byte b false e h = name_byte b (h refl)
@@ -81,14 +86,14 @@ dotted_byte b false e h = name_byte b (h refl)
 whole_word : (in_part : Bool) (name : List ℕ) → parts_whole in_part name ≡ true → IsWord (dotted name)
 whole_word in_part [] h = tt
 whole_word in_part (b ∷ bs) h =
-    elim (eqb b 47) as (λ t. eqb b 47 ≡ t → cond t (in_part && parts_whole false bs) (is_name_byte b && parts_whole true bs) ≡ true
+    elim (eqb b 47) as
+    (λ t. eqb b 47 ≡ t → cond t (in_part && parts_whole false bs) (is_name_byte b && parts_whole true bs) ≡ true
     → (is_word_byte (cond t 46 b) ≡ true) × IsWord (dotted bs)) [
-      | true ↦ λ e k. let p = and_parts in_part (parts_whole false bs) k in (dotted_byte b true e (λ x. absurd cc), whole_word false bs p.1)
-      | false ↦ λ e k. let p = and_parts (is_name_byte b) (parts_whole true bs) k in (dotted_byte b false e (λ x. p.0), whole_word true bs p.1)
+      | true ↦ λ e k. let p = and_parts in_part (parts_whole false bs) k in
+          (dotted_byte b true e (λ x. absurd cc), whole_word false bs p.1)
+      | false ↦ λ e k. let p = and_parts (is_name_byte b) (parts_whole true bs) k in
+          (dotted_byte b false e (λ x. p.0), whole_word true bs p.1)
     ] refl h
-
-class_parts : (name : List ℕ) → is_class_name name ≡ true → parts_whole false name ≡ true
-class_parts name h = (and_parts (parts_whole false name) (not (is_primitive_or_void name)) (sym (class_name_is name) ∙ h)).0
 
 pub class_word : (name : List ℕ) → IsTrue (is_class_name name) → IsWord (dotted name)
 class_word name h = whole_word false name (class_parts name h)
@@ -133,6 +138,10 @@ abbrev pub IsResult : Option FieldType → Type 0
 IsResult None = Unit {0}
 IsResult (Some ty) = IsFieldType ty
 
+pub returned_is : (o : Option FieldType) → IfSome o IsFieldType → IsResult o
+returned_is None h = tt
+returned_is (Some ty) h = h
+
 pub result_word : (ret : Option FieldType) → IsResult ret → IsWord (result_text ret) × (0 < length (result_text ret))
 unfolding is_name_byte
 result_word None h = ((refl, (refl, (refl, (refl, tt)))), omega arith)
@@ -146,7 +155,8 @@ alphanumeric b h = grind (arith, h)
 
 pub digits_word : (text : List ℕ) → list_all is_ascii_digit text ≡ true → IsWord text
 digits_word [] h = tt
-digits_word (b ∷ text) h = let p = and_parts (is_ascii_digit b) (list_all is_ascii_digit text) h in (alphanumeric b p.0, digits_word text p.1)
+digits_word (b ∷ text) h =
+    let p = and_parts (is_ascii_digit b) (list_all is_ascii_digit text) h in (alphanumeric b p.0, digits_word text p.1)
 
 -- ---- lines that say something
 
@@ -174,7 +184,8 @@ word_says [] rest h some = absurd (omega arith)
 word_says (b ∷ word) rest h some = rw (hash_no b h.0, blank_no b h.0) refl
 
 -- a line that begins with four blanks and a word
-pub member_says : (word rest : List ℕ) → IsWord word → 0 < length word → is_passed_over (codes "    " ++ (word ++ rest)) ≡ false
+pub member_says : (word rest : List ℕ) → IsWord word → 0 < length word
+    → is_passed_over (codes "    " ++ (word ++ rest)) ≡ false
 unfolding is_passed_over
 member_says [] rest h some = absurd (omega arith)
 member_says (b ∷ word) rest h some = rw (blank_no b h.0) refl

@@ -1,12 +1,14 @@
 -- Lines that are written one behind the other are the lines of the whole.
-use Rattle.std.proofs.Common.{◌≡◌, ◌≢◌, ℕ, zero, suc, ◌+◌, ◌-◌, ◌<◌, ◌≤◌, Bool, true, false, not, cond, eqb, List, [], ◌∷◌, ◌++◌, map}
-use Rattle.std.proofs.Common.{length, get_or, take, refl, sym, ap, subst, ◌∙◌, append_assoc, arith, ne_eqb, inl, inr}
+use Rattle.std.proofs.Common.{◌≡◌, ◌≢◌, ℕ, zero, suc, ◌+◌, ◌-◌, ◌<◌, ◌≤◌, Bool, true, false, not, cond, eqb, List, []}
+use Rattle.std.proofs.Common.{◌∷◌, ◌++◌, map, length, get_or, take, refl, sym, ap, subst, ◌∙◌, append_assoc, arith}
+use Rattle.std.proofs.Common.{ne_eqb, inl, inr}
 use Rattle.std.specs.List.{AllByRecursion, flat_map, slice_split}
 use Rattle.std.specs.Str.{IsUtf8}
 use Rattle.std.specs.Str.Lines.{lines, lines_of_parts, strip_carriage_return}
 use Rattle.std.proofs.lemmas.List.Splits.{length-slice_split}
 use Rattle.text_lines.specs.Cut.{Lacks}
 use Rattle.text_lines.specs.Lines.{AllSpell, AreSpelled, is_passed_over, saying}
+use Rattle.text_lines.proofs.FirstLine.{part_is_line}
 
 -- the text is a line by itself, with or without its end
 abbrev pub IsPlain : List ℕ → Type 0
@@ -26,12 +28,8 @@ last_lacks [] h e = absurd (omega arith)
 last_lacks (b ∷ text) h e = lacks_at 13 (b ∷ text) (length (b ∷ text) - 1) h (omega arith) e
 
 whole : (text : List ℕ) → Lacks 13 text → strip_carriage_return text ≡ text
-whole text h = let other : eqb (get_or text (length text - 1) 0) 13 ≡ false = ne_eqb _ 13 (last_lacks text h) in rw other refl
-
-part_is_line : (x : List ℕ) (parts : List (List ℕ)) → 0 < length parts
-    → lines_of_parts (x ∷ parts) ≡ strip_carriage_return x ∷ lines_of_parts parts
-part_is_line x [] h = absurd (omega arith)
-part_is_line x (y ∷ more) h = refl
+whole text h =
+    let other : eqb (get_or text (length text - 1) 0) 13 ≡ false = ne_eqb _ 13 (last_lacks text h) in rw other refl
 
 -- the first line, and those behind it
 pub one_line : (x rest : List ℕ) → IsPlain x → lines ((x ++ 10 ∷ []) ++ rest) ≡ x ∷ lines rest
@@ -45,7 +43,8 @@ pub all_lines : {X : Type 0} (text_of : X → List ℕ) (xs : List X) → AllByR
     → lines (flat_map (λ x. text_of x ++ 10 ∷ []) xs) ≡ map text_of xs
 all_lines text_of [] h = refl
 all_lines text_of (x ∷ xs) h =
-    one_line (text_of x) (flat_map (λ y. text_of y ++ 10 ∷ []) xs) h.0 ∙ ap (λ (t : List (List ℕ)). text_of x ∷ t) (all_lines text_of xs h.1)
+    one_line (text_of x) (flat_map (λ y. text_of y ++ 10 ∷ []) xs) h.0
+    ∙ ap (λ (t : List (List ℕ)). text_of x ∷ t) (all_lines text_of xs h.1)
 
 -- an item's text is a line that spells it
 pub record IsWritten {X : Type 0} (spells : List ℕ → X → Type 0) (text_of : X → List ℕ) (x : X) : Type 0 where
@@ -68,7 +67,8 @@ all_say : {X : Type 0} (spells : List ℕ → X → Type 0) (text_of : X → Lis
     → AllByRecursion (IsWritten spells text_of) xs → AllSpell spells (saying (map text_of xs)) xs
 all_say spells text_of [] h = tt
 all_say spells text_of (x ∷ xs) h =
-    subst (λ (b : Bool). AllSpell spells (cond (not b) (text_of x ∷ saying (map text_of xs)) (saying (map text_of xs))) (x ∷ xs))
+    subst (λ (b : Bool). AllSpell spells
+    (cond (not b) (text_of x ∷ saying (map text_of xs)) (saying (map text_of xs))) (x ∷ xs))
     (sym h.0.says) (h.0.spelled, all_say spells text_of xs h.1)
 
 -- what is written spells the items

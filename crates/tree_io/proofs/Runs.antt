@@ -1,11 +1,11 @@
 -- Files that fit the calls of a log.
-use Rattle.std.proofs.Common.{◌≡◌, ℕ, List, [], ◌∷◌, ◌++◌, Option, Some, None, refl, sym, ap, subst}
+use Rattle.std.proofs.Common.{◌≡◌, ℕ, List, [], ◌∷◌, ◌++◌, Option, Some, None, refl, sym, ap, subst, length}
 use Rattle.std.proofs.Common.{◌∙◌}
 use Rattle.std.proofs.lemmas.List.{append_assoc, append-nil}
 use Rattle.std.proofs.lemmas.List.Elements.{filter-append, filter_map-append}
 use Rattle.tree_io.specs.Event.{absent_of, absent_paths, file_of, files_to_write, wants_memory, without_memory}
 use Rattle.tree_io.specs.Files.{Files}
-use Rattle.tree_io.specs.Runs.{Did, AddsCalls, Run, Sees, Step, Tells}
+use Rattle.tree_io.specs.Runs.{Did, AddsCalls, Run, Sees, Step, Tells, memory_faults}
 use Rattle.tree_io.specs.declared.event.Event.{Event}
 use Rattle.tree_io.specs.declared.event.Event.TheVariants.{Listed, Read, Wrote, Put}
 use Rattle.tree_io.specs.declared.file_at.FileAt.{FileAt}
@@ -110,3 +110,12 @@ pub made_sees : (absent : Option (List (List ℕ))) (P Q R : Files → Type 0) (
     → AddsCalls a c x z (Sees absent R)
 made_sees absent P Q R a b c x y z so p q =
     made_both (Sees (Some []) P) (Sees absent Q) (Sees absent R) a b c x y z (sees_both absent P Q R so) p q
+
+-- ---- memory
+
+-- calls for which memory was never wanting don't raise the count
+pub same_count : (a b calls : List Event) → b ≡ a ++ calls → without_memory calls ≡ []
+    → memory_faults b ≡ memory_faults a
+same_count a b calls is none =
+    ap memory_faults is ∙ ap length (filter-append wants_memory a calls
+    ∙ ap (λ (l : List Event). without_memory a ++ l) none ∙ append-nil (without_memory a))

@@ -4,7 +4,7 @@ use Rattle.std.proofs.Common.{nat_lt}
 use Rattle.std.proofs.Common.{List, [], ◌∷◌, ◌++◌, length, get_or, take, drop, Option, Some, None, inl, inr, refl, sym}
 use Rattle.std.proofs.Common.{ap, subst, ◌∙◌, arith, set, ⊎_elim}
 use Rattle.std.proofs.Common.{below_more, length-append}
-use Rattle.std.proofs.lemmas.Bool.{cases_eq}
+use Rattle.std.proofs.lemmas.Bool.{cases_eq, and_parts, both_ways, or_parts}
 use Rattle.std.specs.Prelude.{slice_get, slice_index_or}
 use Rattle.std.specs.Cmp.Lexicographic.{pointwise}
 use Rattle.std.specs.List.{find, list_all, list_any}
@@ -17,6 +17,7 @@ use Rattle.std.proofs.lemmas.List.Folds.{list_all_at}
 use Rattle.std.proofs.lemmas.List.Sums.{list_all-from_AllPass}
 use Rattle.std.proofs.lemmas.Option.{get_or_from_slice_get, slice_get-get_or, slice_get_within}
 use Rattle.std.proofs.Math.Seq.{get_or-append_seam}
+use Rattle.std.proofs.Math.Bool.{and-true}
 use Rattle.class_model.specs.FrameLists.{frame_numbered, no_frame}
 use Rattle.class_model.specs.declared.code.Code.{Code}
 use Rattle.class_model.specs.declared.code.Handler.{Handler}
@@ -28,15 +29,13 @@ use Rattle.type_verifier.specs.Assignable.{is_assignable}
 use Rattle.type_verifier.specs.Environment.{Environment, declared_frame_at}
 use Rattle.type_verifier.specs.Frames.{declared_frame, expanded}
 use Rattle.type_verifier.specs.Walk.{covers, satisfies, satisfies_handlers}
-use Rattle.type_verifier.specs.bodies.Asked.{AreAsked, AreAskedBefore, IsStoodFor, StandsFor, StandsForPlace, covers_behind}
-use Rattle.type_verifier.specs.bodies.Asked.{covers_first}
-use Rattle.type_verifier.specs.bodies.Asked.{handler_at, locals_at, no_handler, satisfies_behind, satisfies_first}
-use Rattle.type_verifier.specs.bodies.Asked.{IsUncovered, satisfies_if_behind}
+use Rattle.type_verifier.specs.bodies.Asked.{AreAsked, AreAskedBefore, IsStoodFor, StandsFor, StandsForPlace}
+use Rattle.type_verifier.specs.bodies.Asked.{covers_behind, covers_first, handler_at, locals_at, no_handler}
+use Rattle.type_verifier.specs.bodies.Asked.{satisfies_behind, satisfies_first, IsUncovered, satisfies_if_behind}
 use Rattle.type_verifier.specs.bodies.Marks.{AreNumbers}
 use Rattle.type_verifier.specs.bodies.Same.{is_same_type}
 use Rattle.type_verifier.specs.bodies.Since.{IsKnown, IsSince}
 use Rattle.type_verifier.proofs.Handled.{known_at, known_fits, known_free, same_satisfies, unchanged}
-use Rattle.type_verifier.proofs.Lists.{both}
 use Rattle.type_verifier.proofs.SameTypes.{same_types}
 
 -- ---- numbers of handlers
@@ -90,7 +89,8 @@ module _ (code : Code) (numbers : List ℕ) (n : ℕ) (h : AreAskedBefore code n
       → AreAskedBefore code (n + 1) (set numbers at n)
   asked_set within at lt so = record {
     there = λ i less. there i less (cases_eq i at);
-    each = below_more (IsStoodFor code (set numbers at n)) n (λ k less. still k (h.each k less) (cases_eq (h.each k less).0 at)) last;
+    each = below_more (IsStoodFor code (set numbers at n)) n
+        (λ k less. still k (h.each k less) (cases_eq (h.each k less).0 at)) last;
   }
     where
       long : length (set numbers at n) ≡ length numbers
@@ -128,8 +128,10 @@ module _ (code : Code) (numbers : List ℕ) (n : ℕ) (h : AreAskedBefore code n
         subst (λ (m : ℕ). StandsFor code (handler_at code m) (handler_at code k)) (sym same) s,
       )
 
-      still : (k : ℕ) (s : IsStoodFor code numbers k) → (s.0 ≡ at) ⊎ (s.0 ≡ at → ⊥) → IsStoodFor code (set numbers at n) k
-      still k s (inl e) = new k (through (handler_at code n) (handler_at code (get_or numbers at 0)) (handler_at code k) so
+      still : (k : ℕ) (s : IsStoodFor code numbers k) → (s.0 ≡ at) ⊎ (s.0 ≡ at → ⊥)
+          → IsStoodFor code (set numbers at n) k
+      still k s (inl e) =
+          new k (through (handler_at code n) (handler_at code (get_or numbers at 0)) (handler_at code k) so
           (subst (λ (i : ℕ). StandsFor code (handler_at code (get_or numbers i 0)) (handler_at code k)) e s.2))
       still k s (inr ne) = (
         s.0,
@@ -262,12 +264,8 @@ module _ (env : Environment) (at : ℕ) (f : TypeFrame) where
       → list_all (λ h. not (covers_first at h) || satisfies env f h) hs ≡ true
   none_first [] none = refl
   none_first (h ∷ hs) none =
-      let n = none_of (nat_eq at h.from) (list_any (λ (x : Handler). nat_eq at x.from) hs) none in
+      let n = or_parts (nat_eq at h.from) (list_any (λ (x : Handler). nat_eq at x.from) hs) none in
       rw (n.0) (none_first hs n.1)
-    where
-      none_of : (a b : Bool) → (a || b) ≡ false → (a ≡ false) × (b ≡ false)
-      none_of true b h = absurd cc
-      none_of false b h = (refl, h)
 
   -- no handler covers it as the first
   pub first_none : list_any (λ (h : Handler). nat_eq at h.from) env.code.handlers ≡ false
@@ -289,11 +287,7 @@ module _ (env : Environment) (at : ℕ) (f : TypeFrame) where
   -- where all hold that cover the one before too, those are left that cover it as the first
   pub first_left : satisfies_behind env at f ≡ true → satisfies_first env at f ≡ satisfies_handlers env at f
   first_left behind = sym (parted ∙ ap (λ (t : Bool). satisfies_first env at f && t) behind
-      ∙ and_true (satisfies_first env at f))
-    where
-      and_true : (b : Bool) → (b && true) ≡ b
-      and_true true = refl
-      and_true false = refl
+      ∙ and-true (satisfies_first env at f))
 
 -- ---- instructions that no handler covers
 
@@ -311,18 +305,14 @@ uncovered code at numbers asked none n lt = by (covers at (handler_at code n)) r
         let so = stood.2 in
         let from = so.from in
         let to = so.to in
-        let b = both (nat_le h.from at) (nat_lt at h.to) e in
+        let b = and_parts (nat_le h.from at) (nat_lt at h.to) e in
         let begun = leb-true h.from at b.0 in
         let ends = ltb-true at h.to b.1 in
         let le : nat_le one.from at ≡ true = le-leb one.from at (omega (arith, begun, from)) in
         let lt : nat_lt at one.to ≡ true = lt-ltb at one.to (omega (arith, ends, to)) in
         let yes : covers at one ≡ true = rw (le, lt) refl in
         let no = none stood.0 stood.1 in
-        absurd (differs (covers at one) yes no)
-      where
-        differs : (b : Bool) → b ≡ true → b ≡ false → ⊥
-        differs true t f = absurd cc
-        differs false t f = absurd cc
+        absurd (both_ways (covers at one) no yes)
 
 pub uncovered_holds : (env : Environment) (at : ℕ) (f : TypeFrame) → IsUncovered env.code at
     → true ≡ satisfies_handlers env at f
@@ -338,7 +328,7 @@ module _ (env : Environment) (at : ℕ) (c : Changed) (f : TypeFrame) (s : IsSin
   known_behind : (i : ℕ) (h : Handler) → i < length env.code.handlers → h ≡ get_or env.code.handlers i h
       → covers_behind at h ≡ true → IsKnown env h c f
   known_behind i h lt is cov =
-      let b = both (nat_lt h.from at) (nat_lt at h.to) cov in
+      let b = and_parts (nat_lt h.from at) (nat_lt at h.to) cov in
       let less = ltb-true h.from at b.0 in
       let le : nat_le h.from at ≡ true = le-leb h.from at (omega (arith, less)) in
       ⊎_elim (λ e. absurd (omega (arith, less, e))) (λ k. k)
@@ -369,7 +359,8 @@ module _ (env : Environment) (at : ℕ) (c : Changed) (f : TypeFrame) (s : IsSin
   -- one that doesn't cover it, and one that does
   pub not_behind : (n : ℕ) (h : Handler) → slice_get env.code.handlers n ≡ Some h → covers_behind at h ≡ false
       → true ≡ satisfies_if_behind env at f (handler_at env.code n)
-  not_behind n h is e = sym (ap (satisfies_if_behind env at f) (get_or_from_slice_get env.code.handlers n h no_handler is)
+  not_behind n h is e =
+      sym (ap (satisfies_if_behind env at f) (get_or_from_slice_get env.code.handlers n h no_handler is)
       ∙ ap (λ (b : Bool). not b || satisfies env f h) e)
 
   pub is_behind : (n : ℕ) (h : Handler) (b : Bool) → slice_get env.code.handlers n ≡ Some h → covers_behind at h ≡ true
@@ -424,7 +415,7 @@ module _ (env : Environment) (at : ℕ) (c : Changed) (f : TypeFrame) (s : IsSin
       let one = handler_at env.code m in
       let h = handler_at env.code n in
       let so = stood.2 in
-      let b = both (nat_lt h.from at) (nat_lt at h.to) cov in
+      let b = and_parts (nat_lt h.from at) (nat_lt at h.to) cov in
       let begun = ltb-true h.from at b.0 in
       let ends = ltb-true at h.to b.1 in
       let from = so.from in

@@ -1,11 +1,12 @@
 -- Chains of the handlers that cover the same instruction as the first one.
-use Rattle.std.proofs.Common.{◌≡◌, ◌⊎◌, ◌<◌, ◌≤◌, ℕ, suc, ◌+◌, Bool, true, false, nat_eq, List, length, get_or, replicate, set}
-use Rattle.std.proofs.Common.{Option, Some, None, inl, inr, refl, sym, ap, subst, ◌∙◌, arith, ⊎_elim}
+use Rattle.std.proofs.Common.{◌≡◌, ◌⊎◌, ◌<◌, ◌≤◌, ℕ, suc, ◌+◌, Bool, true, false, nat_eq, List, length, get_or}
+use Rattle.std.proofs.Common.{replicate, set, Option, Some, None, inl, inr, refl, sym, ap, subst, ◌∙◌, arith, ⊎_elim}
 use Rattle.std.specs.List.{list_all, list_any}
 use Rattle.std.specs.Option.{is_some}
 use Rattle.std.proofs.lemmas.Bool.{cases_eq}
 use Rattle.std.proofs.lemmas.Bool.Decides.{eqb_tells, leb_tells}
-use Rattle.std.proofs.lemmas.List.{get_or-replicate, get_or-set_other, get_or-set_same, get_or_default, length-replicate, length-set}
+use Rattle.std.proofs.lemmas.List.{get_or-replicate, get_or-set_other, get_or-set_same, get_or_default}
+use Rattle.std.proofs.lemmas.List.{length-replicate, length-set}
 use Rattle.std.proofs.lemmas.List.Folds.{list_all_at, list_any_at, list_any_none}
 use Rattle.std.proofs.lemmas.List.Sums.{list_all-from_AllPass}
 use Rattle.class_model.specs.declared.code.Handler.{Handler}
@@ -32,7 +33,8 @@ module _ (handlers : List Handler) where
     long = ap length one ∙ length-replicate count None;
     numbers = ap length other ∙ length-replicate (length handlers) None;
     first = λ at lt. subst (IsFirstFrom handlers (length handlers) at)
-        (sym (ap (λ (os : List (Option ℕ)). get_or os at None) one ∙ get_or-replicate count at None None lt)) (none_behind at);
+        (sym (ap (λ (os : List (Option ℕ)). get_or os at None) one ∙ get_or-replicate count at None None lt))
+        (none_behind at);
     next = λ n le lt _. absurd (omega (arith, le, lt));
   }
 
@@ -79,15 +81,19 @@ module _ (handlers : List Handler) where
       numbers = length-set nexts n (get_or firsts from None) ∙ so_far.numbers;
       first = λ at below. ⊎_elim
           (λ here. subst (λ (i : ℕ). IsFirstFrom handlers n i (get_or (set firsts from (Some n)) i None)) (sym here.1)
-          (subst (IsFirstFrom handlers n from) (sym (get_or-set_same firsts from (Some n) None inside)) (now_first n lt)))
+          (subst (IsFirstFrom handlers n from) (sym (get_or-set_same firsts from (Some n) None inside))
+          (now_first n lt)))
           (λ there. subst (IsFirstFrom handlers n at) (sym (get_or-set_other firsts from at (Some n) None there.1))
           (still_first number n at (get_or firsts at None) e there.0 (so_far.first at below)))
           (eqb_tells at from);
       next = λ k le less below. ⊎_elim
-          (λ here. subst (λ (i : ℕ). IsFirstFrom handlers (i + 1) (from_of handlers i) (get_or (set nexts n old) i None)) (sym here)
+          (λ here. subst
+          (λ (i : ℕ). IsFirstFrom handlers (i + 1) (from_of handlers i) (get_or (set nexts n old) i None))
+          (sym here)
           (subst (IsFirstFrom handlers (n + 1) from) (sym (get_or-set_same nexts n old None there_is))
           (subst (λ (i : ℕ). IsFirstFrom handlers i from old) e (so_far.first from within))))
-          (λ there. subst (IsFirstFrom handlers (k + 1) (from_of handlers k)) (sym (get_or-set_other nexts n k old None there))
+          (λ there. subst (IsFirstFrom handlers (k + 1) (from_of handlers k))
+          (sym (get_or-set_other nexts n k old None there))
           (so_far.next k (omega (arith, e, le, there)) less below))
           (cases_eq k n);
     }
@@ -105,7 +111,8 @@ module _ (handlers : List Handler) where
         there_is = let numbers = so_far.numbers in omega (arith, numbers, lt)
 
     -- the same by what is read
-    pub chained_put : (from : ℕ) (old : Option ℕ) → from ≡ from_of handlers n → from < count → old ≡ get_or firsts from old
+    pub chained_put : (from : ℕ) (old : Option ℕ) → from ≡ from_of handlers n → from < count
+        → old ≡ get_or firsts from old
         → IsChainFrom handlers n count (set firsts from (Some n)) (set nexts n old)
     chained_put from old same within is =
         subst (λ (o : Option ℕ). IsChainFrom handlers n count (set firsts from (Some n)) (set nexts n o))
@@ -168,7 +175,8 @@ module _ (env : Environment) (at : ℕ) (f : TypeFrame) where
 
   pub satisfied_all : IsSatisfiedBefore env at f None → true ≡ satisfies_first env at f
   satisfied_all so_far = sym (list_all-from_AllPass (satisfies_if_first env at f) env.code.handlers
-      (λ n d lt. ap (satisfies_if_first env at f) (get_or_default env.code.handlers n d no_handler lt) ∙ so_far.each n lt))
+      (λ n d lt. ap (satisfies_if_first env at f) (get_or_default env.code.handlers n d no_handler lt)
+      ∙ so_far.each n lt))
 
   pub satisfied_not : (n : ℕ) (b : Bool) → n < length env.code.handlers
       → b ≡ satisfies_if_first env at f (get_or env.code.handlers n no_handler) → b ≡ false

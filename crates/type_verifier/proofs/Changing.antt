@@ -1,6 +1,7 @@
 -- What instructions leave of the locals and of the flag.
-use Rattle.std.proofs.Common.{◌≡◌, ℕ, ◌+◌, ◌-◌, ◌==◌, Bool, true, false, cond, not, ◌&&◌, nat_le, IsTrue, List, [], ◌∷◌, length, take, drop}
-use Rattle.std.proofs.Common.{Option, Some, None, Ok, Err, refl, sym, ap, subst, ◌∙◌, arith, set, slice_get}
+use Rattle.std.proofs.Common.{◌≡◌, ℕ, ◌+◌, ◌-◌, ◌==◌, Bool, true, false, cond, not, ◌&&◌, nat_le, IsTrue, List, [], ◌∷◌}
+use Rattle.std.proofs.Common.{length, take, drop, Option, Some, None, Ok, Err, refl, sym, ap, subst, ◌∙◌, arith, set}
+use Rattle.std.proofs.Common.{slice_get}
 use Rattle.std.specs.Option.{option_map, option_map_or}
 use Rattle.std.proofs.lemmas.List.{drop-set-lt, length-set, take-set-le}
 use Rattle.jv_base.specs.Outcome.{◌>>=◌}
@@ -20,17 +21,20 @@ use Rattle.type_verifier.specs.declared.changed.Changed.{Changed}
 use Rattle.type_verifier.specs.declared.fault.TypeKind.{TypeKind}
 use Rattle.type_verifier.specs.declared.fault.TypeKind.TheVariants.{Local, Operand, Uninit}
 use Rattle.type_verifier.specs.declared.frame.TypeFrame.{TypeFrame}
-use Rattle.type_verifier.specs.Effects.{Checked, acted, all_popped, counted_from, cut_before, doubled, dropped, element, gives, has_room, if_ruled, constructor_returned}
-use Rattle.type_verifier.specs.Effects.{given_words, guarded_use, is_returned_by, loaded_from, or_operand, popped}
-use Rattle.type_verifier.specs.Effects.{popped_from, put_local, pushed, read_from, result_taken, stepped, stored_from, swapped}
-use Rattle.type_verifier.specs.Effects.{taken_words, top_behind, used_from, with_stack, words_of_kind}
+use Rattle.type_verifier.specs.Effects.{Checked, acted, all_popped, counted_from, cut_before, doubled, dropped, element}
+use Rattle.type_verifier.specs.Effects.{gives, has_room, if_ruled, constructor_returned, given_words, guarded_use}
+use Rattle.type_verifier.specs.Effects.{is_returned_by, loaded_from, or_operand, popped, popped_from, put_local, pushed}
+use Rattle.type_verifier.specs.Effects.{read_from, result_taken, stepped, stored_from, swapped, taken_words, top_behind}
+use Rattle.type_verifier.specs.Effects.{used_from, with_stack, words_of_kind}
 use Rattle.type_verifier.specs.Environment.{Environment, goes_elsewhere, in_constructor}
-use Rattle.type_verifier.specs.Rules.{Rule, Takes, Loads, Stores, Counts, Drops, Doubles, Swaps, ReadsReference, Makes, Returns, Uses}
-use Rattle.type_verifier.specs.Rules.{Initialises, Wanted, Assignable, array_load, array_wanted, conversion, field_type, meets, method_type, moved}
-use Rattle.type_verifier.specs.Rules.{field_read, field_write, object_call, rule_of, static_call, static_read, static_write}
+use Rattle.type_verifier.specs.Rules.{Rule, Takes, Loads, Stores, Counts, Drops, Doubles, Swaps, ReadsReference, Makes}
+use Rattle.type_verifier.specs.Rules.{Returns, Uses, Initialises, Wanted, Assignable, array_load, array_wanted}
+use Rattle.type_verifier.specs.Rules.{conversion, field_type, meets, method_type, moved, field_read, field_write}
+use Rattle.type_verifier.specs.Rules.{object_call, rule_of, static_call, static_read, static_write}
 use Rattle.type_verifier.specs.Walk.{at_instruction, flow_after, satisfies_handlers}
 use Rattle.type_verifier.specs.bodies.Changes.{flow}
-use Rattle.type_verifier.specs.bodies.Since.{Agrees, AgreesBy, IsSame, IsSince, around, changed_by, nothing, since_after, since_there}
+use Rattle.type_verifier.specs.bodies.Since.{Agrees, AgreesBy, IsSame, IsSince, around, changed_by, nothing}
+use Rattle.type_verifier.specs.bodies.Since.{since_after, since_there}
 use Rattle.type_verifier.proofs.TypedLaw.{bound, was_passed}
 
 -- ---- frames with the same locals and flag
@@ -58,7 +62,8 @@ told_unless : (b : Bool) (kind : TypeKind) (f x g : TypeFrame) → IsSame f x
 told_unless true kind f x g s h = absurd cc
 told_unless false kind f x g s h = told f x g s h
 
-given_same : (given : Option VType) (f x g : TypeFrame) → IsSame f x → (let R : Checked = Ok (gives given x) in R) ≡ Ok g
+given_same : (given : Option VType) (f x g : TypeFrame) → IsSame f x
+    → (let R : Checked = Ok (gives given x) in R) ≡ Ok g
     → IsSame f g
 given_same None f x g s h = told f x g s h
 given_same (Some ty) f x g s h = told f (pushed ty x) g s h
@@ -67,7 +72,8 @@ module _ (classes : List Class) where
   popped_same : (wanted : Wanted) (f : TypeFrame) (stack : List VType) (g : TypeFrame)
       → popped_from classes wanted f stack ≡ Ok g → IsSame f g
   popped_same wanted f [] g h = absurd cc
-  popped_same wanted f (ty ∷ stack) g h = told_if (meets classes wanted ty) Operand f (with_stack f stack) g (is_same f) h
+  popped_same wanted f (ty ∷ stack) g h =
+      told_if (meets classes wanted ty) Operand f (with_stack f stack) g (is_same f) h
 
   all_same : (wanted : List Wanted) (f g : TypeFrame) → all_popped classes wanted f ≡ Ok g → IsSame f g
   all_same [] f g h = told f f g (is_same f) h
@@ -75,7 +81,8 @@ module _ (classes : List Class) where
       let b = bound (popped classes w f) (all_popped classes ws) g h in
       then_same f b.0 g (popped_same w f f.stack b.0 b.1) (all_same ws b.0 g b.2)
 
-  loaded_same : (wanted : Wanted) (f : TypeFrame) (o : Option VType) (g : TypeFrame) → loaded_from classes wanted f o ≡ Ok g
+  loaded_same : (wanted : Wanted) (f : TypeFrame) (o : Option VType) (g : TypeFrame)
+      → loaded_from classes wanted f o ≡ Ok g
       → IsSame f g
   loaded_same wanted f None g h = absurd cc
   loaded_same wanted f (Some ty) g h = told_if (meets classes wanted ty) Local f (pushed ty f) g (is_same f) h
@@ -99,18 +106,22 @@ module _ (env : Environment) where
   used_same receiver guarded f [] g h = absurd cc
   used_same receiver guarded f (ty ∷ stack) g h = met (meets env.classes receiver ty) h
     where
-      met : (b : Bool) → (let R : Checked = cond b (guarded_use env guarded ty >>= (λ u. Ok (with_stack f stack))) (Err Operand) in R)
+      met : (b : Bool)
+          → (let R : Checked = cond b (guarded_use env guarded ty >>= (λ u. Ok (with_stack f stack))) (Err Operand) in
+          R)
           ≡ Ok g → IsSame f g
       met true e =
           let b = bound (guarded_use env guarded ty) (λ u. let R : Checked = Ok (with_stack f stack) in R) g e in
           told f (with_stack f stack) g (is_same f) b.2
       met false e = absurd cc
 
-  result_same : (k : Option Kind) (ty : Option FieldType) (f g : TypeFrame) → result_taken env k ty f ≡ Ok g → IsSame f g
+  result_same : (k : Option Kind) (ty : Option FieldType) (f g : TypeFrame) → result_taken env k ty f ≡ Ok g
+      → IsSame f g
   result_same None None f g h = told f f g (is_same f) h
   result_same (Some k) (Some ty) f g h = returned (is_returned_by k (vtype_of ty)) h
     where
-      returned : (b : Bool) → (let R : Checked = cond b (popped env.classes (Assignable (vtype_of ty)) f) (Err Operand) in R)
+      returned : (b : Bool)
+          → (let R : Checked = cond b (popped env.classes (Assignable (vtype_of ty)) f) (Err Operand) in R)
           ≡ Ok g → IsSame f g
       returned true e = popped_same env.classes (Assignable (vtype_of ty)) f f.stack g e
       returned false e = absurd cc
@@ -148,7 +159,8 @@ module _ (env : Environment) where
   acts_same at (Uses wanted receiver guarded given) f g p h =
       let a = bound (all_popped env.classes wanted f)
       (λ x. used_from env receiver guarded x x.stack >>= λ y. let R : Checked = Ok (gives given y) in R) g h in
-      let b = bound (used_from env receiver guarded a.0 a.0.stack) (λ y. let R : Checked = Ok (gives given y) in R) g a.2 in
+      let b = bound (used_from env receiver guarded a.0 a.0.stack)
+      (λ y. let R : Checked = Ok (gives given y) in R) g a.2 in
       given_same given f b.0 g (then_same f a.0 b.0 (all_same env.classes wanted f a.0 a.1)
       (used_same receiver guarded a.0 a.0.stack b.0 b.1)) b.2
   acts_same at (Initialises wanted class guarded) f g p h = absurd p
@@ -209,14 +221,17 @@ module _ (env : Environment) where
 
 -- words before a store, and how many there are
 cut_long : (slot : ℕ) (locals : List VType) → length (cut_before slot locals) ≡ length locals
-cut_long slot locals = cut (not (slot == 0) && option_map_or (λ ty. words_of_type ty == 2) (slice_get locals (slot - 1)) false)
+cut_long slot locals =
+    cut (not (slot == 0) && option_map_or (λ ty. words_of_type ty == 2) (slice_get locals (slot - 1)) false)
   where
-    cut : (b : Bool) → length (let R : List VType = cond b (set locals (slot - 1) vtype.Top) locals in R) ≡ length locals
+    cut : (b : Bool)
+        → length (let R : List VType = cond b (set locals (slot - 1) vtype.Top) locals in R) ≡ length locals
     cut true = length-set locals (slot - 1) vtype.Top
     cut false = refl
 
 cut_front : (slot : ℕ) (locals : List VType) → take (slot - 1) (cut_before slot locals) ≡ take (slot - 1) locals
-cut_front slot locals = cut (not (slot == 0) && option_map_or (λ ty. words_of_type ty == 2) (slice_get locals (slot - 1)) false)
+cut_front slot locals =
+    cut (not (slot == 0) && option_map_or (λ ty. words_of_type ty == 2) (slice_get locals (slot - 1)) false)
   where
     cut : (b : Bool) → take (slot - 1) (let R : List VType = cond b (set locals (slot - 1) vtype.Top) locals in R)
         ≡ take (slot - 1) locals
@@ -224,7 +239,8 @@ cut_front slot locals = cut (not (slot == 0) && option_map_or (λ ty. words_of_t
     cut false = refl
 
 cut_rest : (slot : ℕ) (locals : List VType) → drop (slot + 2) (cut_before slot locals) ≡ drop (slot + 2) locals
-cut_rest slot locals = cut (not (slot == 0) && option_map_or (λ ty. words_of_type ty == 2) (slice_get locals (slot - 1)) false)
+cut_rest slot locals =
+    cut (not (slot == 0) && option_map_or (λ ty. words_of_type ty == 2) (slice_get locals (slot - 1)) false)
   where
     cut : (b : Bool) → drop (slot + 2) (let R : List VType = cond b (set locals (slot - 1) vtype.Top) locals in R)
         ≡ drop (slot + 2) locals
@@ -234,11 +250,13 @@ cut_rest slot locals = cut (not (slot == 0) && option_map_or (λ ty. words_of_ty
 top_long : (slot : ℕ) (ty : VType) (locals : List VType) → length (top_behind slot ty locals) ≡ length locals
 top_long slot ty locals = cut (words_of_type ty == 2)
   where
-    cut : (b : Bool) → length (let R : List VType = cond b (set locals (slot + 1) vtype.Top) locals in R) ≡ length locals
+    cut : (b : Bool)
+        → length (let R : List VType = cond b (set locals (slot + 1) vtype.Top) locals in R) ≡ length locals
     cut true = length-set locals (slot + 1) vtype.Top
     cut false = refl
 
-top_front : (slot : ℕ) (ty : VType) (locals : List VType) → take (slot - 1) (top_behind slot ty locals) ≡ take (slot - 1) locals
+top_front : (slot : ℕ) (ty : VType) (locals : List VType)
+    → take (slot - 1) (top_behind slot ty locals) ≡ take (slot - 1) locals
 top_front slot ty locals = cut (words_of_type ty == 2)
   where
     cut : (b : Bool) → take (slot - 1) (let R : List VType = cond b (set locals (slot + 1) vtype.Top) locals in R)
@@ -246,7 +264,8 @@ top_front slot ty locals = cut (words_of_type ty == 2)
     cut true = take-set-le (slot - 1) locals (slot + 1) vtype.Top (omega arith)
     cut false = refl
 
-top_rest : (slot : ℕ) (ty : VType) (locals : List VType) → drop (slot + 2) (top_behind slot ty locals) ≡ drop (slot + 2) locals
+top_rest : (slot : ℕ) (ty : VType) (locals : List VType)
+    → drop (slot + 2) (top_behind slot ty locals) ≡ drop (slot + 2) locals
 top_rest slot ty locals = cut (words_of_type ty == 2)
   where
     cut : (b : Bool) → drop (slot + 2) (let R : List VType = cond b (set locals (slot + 1) vtype.Top) locals in R)
@@ -276,9 +295,14 @@ module _ (env : Environment) where
   stored_agrees wanted slot f [] g h = absurd cc
   stored_agrees wanted slot f (ty ∷ stack) g h = met (meets env.classes wanted ty) h
     where
-      met : (b : Bool) → (let R : Checked = cond b (Ok (record { locals = put_local slot ty f.locals; stack = stack; marked = f.marked })) (Err Operand) in R)
+      met : (b : Bool)
+          → (let R : Checked =
+          cond b (Ok (record { locals = put_local slot ty f.locals; stack = stack; marked = f.marked }))
+          (Err Operand) in R)
           ≡ Ok g → Agrees (around slot) f g
-      met true e = told_agrees (around slot) f (record { locals = put_local slot ty f.locals; stack = stack; marked = f.marked }) g
+      met true e =
+          told_agrees (around slot) f
+          (record { locals = put_local slot ty f.locals; stack = stack; marked = f.marked }) g
           (put_agrees slot ty f stack) e
       met false e = absurd cc
 
@@ -289,7 +313,8 @@ module _ (env : Environment) where
       (λ u. acted env at (Stores k slot) f) g h in
       within (nat_le (slot + words_of_kind k) (length f.locals)) b.2
     where
-      within : (b : Bool) → (let R : Checked = cond b (stored_from env.classes (moved k) slot f f.stack) (Err Local) in R)
+      within : (b : Bool)
+          → (let R : Checked = cond b (stored_from env.classes (moved k) slot f f.stack) (Err Local) in R)
           ≡ Ok g → Agrees (around slot) f g
       within true e = stored_agrees (moved k) slot f f.stack g e
       within false e = absurd cc

@@ -8,6 +8,7 @@ use Rattle.std.specs.List.{All, list_any}
 use Rattle.std.specs.Option.{option_map_or}
 use Rattle.std.proofs.lemmas.Bool.{cases_eq, eq-eqb, eqb-true}
 use Rattle.std.proofs.lemmas.List.Elements.{All-cons, All-head, All-nil, All-tail, All-weaker}
+use Rattle.std.proofs.Math.Bool.{or-false}
 use Rattle.class_model.specs.declared.class.Class.{Class}
 use Rattle.lib_table.proofs.Computed.{count}
 use Rattle.class_pool.specs.declared.id.ClassId.{ClassId}
@@ -85,7 +86,8 @@ module _ (classes : List Class) (r : HasRanks classes) (few : length classes ≤
   unfolding upwards
   up_low zero c c-in = All-nil (λ x. height classes x ≤ height classes c)
   up_low (suc n) c c-in =
-      All-cons (λ x. height classes x ≤ height classes c) c (option_map_or (upwards n classes) (superclass classes c) [])
+      All-cons (λ x. height classes x ≤ height classes c) c
+      (option_map_or (upwards n classes) (superclass classes c) [])
       (omega arith) (by (λ s s-in. up_low n s s-in) (superclass classes c) refl)
     where
       by : ((s : ClassId) → IsClass classes s → All (λ x. height classes x ≤ height classes s) (upwards n classes s))
@@ -103,10 +105,6 @@ module _ (classes : List Class) (r : HasRanks classes) (few : length classes ≤
   met_here m n m-in le = sym (ap (list_any (same_class (Prog n))) (next (Prog m) m-in)
       ∙ by (superclass classes (Prog m)) refl ∙ turned n m)
     where
-      or_false : (b : Bool) → (b || false) ≡ b
-      or_false true = refl
-      or_false false = refl
-
       turned : (i j : ℕ) → nat_eq i j ≡ nat_eq j i
       turned i j = ⊎_elim
           (λ e. eq-eqb i j e ∙ sym (eq-eqb j i (sym e)))
@@ -120,7 +118,7 @@ module _ (classes : List Class) (r : HasRanks classes) (few : length classes ≤
 
       by : (o : Option ClassId) → superclass classes (Prog m) ≡ o
           → list_any (same_class (Prog n)) (Prog m ∷ option_map_or (superclasses_from classes) o []) ≡ nat_eq n m
-      by None is = or_false (nat_eq n m)
+      by None is = or-false (nat_eq n m)
       by (Some s) is =
           let more = super_height (Prog m) s m-in is in
           ap (λ (b : Bool). nat_eq n m || b)
@@ -128,7 +126,7 @@ module _ (classes : List Class) (r : HasRanks classes) (few : length classes ≤
           (All-weaker (λ x. height classes x ≤ height classes s) (λ x. height classes x < height classes (Prog n))
           (λ x low. omega (arith, low, more, le)) (superclasses_from classes s)
           (up_low highest s (super_in (Prog m) s is))))
-          ∙ or_false (nat_eq n m)
+          ∙ or-false (nat_eq n m)
 
   -- ---- a step to the superclass
 
@@ -178,7 +176,8 @@ module _ (classes : List Class) (r : HasRanks classes) (few : length classes ≤
     height = let more = super_height (Prog n) (Prog s) n-in is in
         let old = known.height in
         ap (λ (x : Step). x.height) e ∙ omega (arith, more, old);
-    far = subst (IsFar classes n) (sym (ap (λ (x : Step). x.far) e)) (far_then classes n s far (super_far n s n-in is) h);
+    far = subst (IsFar classes n) (sym (ap (λ (x : Step). x.far) e))
+        (far_then classes n s far (super_far n s n-in is) h);
   }
 
 -- ---- long steps
@@ -254,7 +253,8 @@ put_here classes old i n step are lt is (inl e) =
     subst (λ (m : ℕ). IfSome (slice_index_or (set old i (Some step)) m None) (IsStep classes m)) (sym e)
     (subst (λ (o : Option Step). IfSome o (IsStep classes i)) (sym (get_or-set_same old i (Some step) None lt)) is)
 put_here classes old i n step are lt is (inr ne) =
-    subst (λ (o : Option Step). IfSome o (IsStep classes n)) (sym (get_or-set_other old i n (Some step) None ne)) (are n)
+    subst (λ (o : Option Step). IfSome o (IsStep classes n)) (sym (get_or-set_other old i n (Some step) None ne))
+    (are n)
 
 pub steps_put : (classes : List Class) (old new : List (Option Step)) (i : ℕ) (step : Step) → AreSteps classes old
     → i < length old → IsStep classes i step → new ≡ set old i (Some step) → AreSteps classes new

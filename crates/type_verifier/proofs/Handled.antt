@@ -1,12 +1,14 @@
 -- Handlers that frames satisfy, by what changed.
-use Rattle.std.proofs.Common.{◌≡◌, ◌⊎◌, ◌≤◌, ◌<◌, ◌≢◌, ℕ, zero, suc, ◌-◌, Bool, true, false, not, ◌&&◌, ◌||◌, nat_eq, nat_le, nat_lt, IsTrue}
-use Rattle.std.proofs.Common.{List, [], ◌∷◌, ◌++◌, length, get_or, take, drop, Option, Some, None, inl, inr, refl, sym, ap, subst, ◌∙◌, arith, ⊎_elim}
+use Rattle.std.proofs.Common.{◌≡◌, ◌⊎◌, ◌≤◌, ◌<◌, ◌≢◌, ℕ, zero, suc, ◌-◌, Bool, true, false, not, ◌&&◌, ◌||◌, nat_eq}
+use Rattle.std.proofs.Common.{nat_le, nat_lt, IsTrue, List, [], ◌∷◌, ◌++◌, length, get_or, take, drop, Option, Some}
+use Rattle.std.proofs.Common.{None, inl, inr, refl, sym, ap, subst, ◌∙◌, arith, ⊎_elim}
 use Rattle.std.specs.Cmp.Lexicographic.{pointwise, unequal}
 use Rattle.std.specs.List.{list_all, list_any}
-use Rattle.std.proofs.lemmas.Bool.{eq-eqb, le-leb, leb-true, lt-ltb, ltb-true}
+use Rattle.std.proofs.lemmas.Bool.{eq-eqb, le-leb, leb-true, lt-ltb, ltb-true, not-true, and_parts, or_parts}
 use Rattle.std.proofs.lemmas.Bool.Decides.{eqb_tells}
 use Rattle.std.proofs.lemmas.List.{drop_all, take-append-drop}
 use Rattle.std.proofs.lemmas.List.Folds.{list_all_at}
+use Rattle.std.proofs.Math.Bool.{and_assoc}
 use Rattle.class_model.specs.declared.code.Handler.{Handler}
 use Rattle.class_model.specs.declared.frame.VType.{VType}
 use Rattle.type_verifier.specs.declared.changed.Changed.{Changed}
@@ -16,7 +18,6 @@ use Rattle.type_verifier.specs.Effects.{with_stack}
 use Rattle.type_verifier.specs.Environment.{Environment, declared_frame_at}
 use Rattle.type_verifier.specs.Rules.{throwable}
 use Rattle.type_verifier.specs.Walk.{caught_type, covers, fits_at, fits_declared, satisfies, satisfies_handlers}
-use Rattle.type_verifier.proofs.Lists.{both}
 use Rattle.type_verifier.specs.bodies.Since.{Agrees, AreElse, IsKnown, IsSame, IsSince}
 
 -- ---- tests that are all passed
@@ -27,10 +28,6 @@ all_three true true false h = absurd cc
 all_three true false c h = absurd cc
 all_three false b c h = absurd cc
 
-not_true : (a : Bool) → not a ≡ true → a ≡ false
-not_true true h = absurd cc
-not_true false h = refl
-
 pub is_true : (b : Bool) → IsTrue b → b ≡ true
 is_true b h = h
 
@@ -38,7 +35,8 @@ is_true b h = h
 
 module _ {X : Type 0} (E : X → X → Bool) where
   as_long : (xs ys : List X) → pointwise E xs ys ≡ true → length xs ≡ length ys
-  as_long xs ys h = ⊎_elim (λ e. e.1) (λ n. absurd (differs (unequal E xs ys n.1) h)) (eqb_tells (length xs) (length ys))
+  as_long xs ys h =
+      ⊎_elim (λ e. e.1) (λ n. absurd (differs (unequal E xs ys n.1) h)) (eqb_tells (length xs) (length ys))
     where
       differs : (let b : Bool = pointwise E xs ys in b) ≡ false → pointwise E xs ys ≡ true → ⊥
       differs f t = absurd cc
@@ -52,18 +50,14 @@ module _ {X : Type 0} (E : X → X → Bool) where
   in_two (suc n) (x ∷ xs) [] h = absurd (omega (arith, h))
   in_two (suc n) (x ∷ xs) (y ∷ ys) h =
       ap (λ (b : Bool). E x y && b) (in_two n xs ys (omega (arith, h)))
-      ∙ turn (E x y) (pointwise E (take n xs) (take n ys)) (pointwise E (drop n xs) (drop n ys))
-    where
-      turn : (a b c : Bool) → (a && (b && c)) ≡ ((a && b) && c)
-      turn true b c = refl
-      turn false b c = refl
+      ∙ sym (and_assoc (E x y) (pointwise E (take n xs) (take n ys)) (pointwise E (drop n xs) (drop n ys)))
 
   in_front : (n : ℕ) (xs ys : List X) → pointwise E xs ys ≡ true → pointwise E (take n xs) (take n ys) ≡ true
-  in_front n xs ys h = (both (pointwise E (take n xs) (take n ys)) (pointwise E (drop n xs) (drop n ys))
+  in_front n xs ys h = (and_parts (pointwise E (take n xs) (take n ys)) (pointwise E (drop n xs) (drop n ys))
       (sym (in_two n xs ys (as_long xs ys h)) ∙ h)).0
 
   in_rest : (n : ℕ) (xs ys : List X) → pointwise E xs ys ≡ true → pointwise E (drop n xs) (drop n ys) ≡ true
-  in_rest n xs ys h = (both (pointwise E (take n xs) (take n ys)) (pointwise E (drop n xs) (drop n ys))
+  in_rest n xs ys h = (and_parts (pointwise E (take n xs) (take n ys)) (pointwise E (drop n xs) (drop n ys))
       (sym (in_two n xs ys (as_long xs ys h)) ∙ h)).1
 
   -- what is left from the first place in doubt on
@@ -74,7 +68,8 @@ module _ {X : Type 0} (E : X → X → Bool) where
 
   -- behind the last place in doubt
   pub else_all : (c : Changed) (xs ys : List X) (i : ℕ) → AreElse E c xs ys → i ≤ c.to
-      → (c.to ≤ i) ⊎ (length xs ≤ i) → pointwise E (drop i xs) (drop i ys) ≡ pointwise E xs ys → true ≡ pointwise E xs ys
+      → (c.to ≤ i) ⊎ (length xs ≤ i) → pointwise E (drop i xs) (drop i ys) ≡ pointwise E xs ys
+      → true ≡ pointwise E xs ys
   else_all c xs ys i e le ends so_far = ⊎_elim
       (λ (h : c.to ≤ i).
       let n : c.to ≡ i = omega (arith, le, h) in
@@ -95,7 +90,8 @@ module _ (env : Environment) where
   pub same_satisfies : (f g : TypeFrame) (h : Handler) → IsSame f g → satisfies env g h ≡ satisfies env f h
   unfolding looks_at
   same_satisfies f g h s =
-      ap (λ (locals : List VType). looks_at locals g.marked h) s.0 ∙ ap (λ (marked : Bool). looks_at f.locals marked h) s.1
+      ap (λ (locals : List VType). looks_at locals g.marked h) s.0
+      ∙ ap (λ (marked : Bool). looks_at f.locals marked h) s.1
 
   -- the parts of a handler that is satisfied
   pub record Parts (f : TypeFrame) (h : Handler) : Type 0 where
@@ -108,13 +104,14 @@ module _ (env : Environment) where
   parts f h s =
       let a = all_three (not f.marked) (is_assignable env.classes (caught_type h) throwable)
       (fits_at env (with_stack f (caught_type h ∷ [])) h.entry) s in
-      let b = both (nat_lt h.entry (length env.code.ins))
+      let b = and_parts (nat_lt h.entry (length env.code.ins))
       (fits_declared env (with_stack f (caught_type h ∷ [])) (declared_frame_at env h.entry)) a.2 in
-      record { free = not_true f.marked a.0; caught = a.1; entry = b.0; fits = b.1 }
+      record { free = not-true f.marked a.0; caught = a.1; entry = b.0; fits = b.1 }
 
   together : (f : TypeFrame) (h : Handler) (b : Bool) → f.marked ≡ false
       → is_assignable env.classes (caught_type h) throwable ≡ true → nat_lt h.entry (length env.code.ins) ≡ true
-      → fits_declared env (with_stack f (caught_type h ∷ [])) (declared_frame_at env h.entry) ≡ b → satisfies env f h ≡ b
+      → fits_declared env (with_stack f (caught_type h ∷ [])) (declared_frame_at env h.entry) ≡ b
+      → satisfies env f h ≡ b
   together f h b free caught entry fits =
       joined (f.marked) (is_assignable env.classes (caught_type h) throwable) (nat_lt h.entry (length env.code.ins))
       (fits_declared env (with_stack f (caught_type h ∷ [])) (declared_frame_at env h.entry)) free caught entry fits
@@ -125,7 +122,8 @@ module _ (env : Environment) where
   -- ---- a handler that was satisfied before some words changed
 
   -- where no frame is declared
-  pub known_free : (h : Handler) (c : Changed) (f : TypeFrame) → IsKnown env h c f → declared_frame_at env h.entry ≡ None
+  pub known_free : (h : Handler) (c : Changed) (f : TypeFrame) → IsKnown env h c f
+      → declared_frame_at env h.entry ≡ None
       → satisfies env f h ≡ true
   known_free h c f k none =
       let p = parts k.0 h (is_true (satisfies env k.0 h) k.1) in
@@ -143,7 +141,8 @@ module _ (env : Environment) where
       (pointwise (is_item_assignable env.classes) (caught_type h ∷ []) d.stack) (not b.marked || d.marked) e in
       (t.0, t.1)
 
-  pub known_else : (h : Handler) (c : Changed) (f d : TypeFrame) → IsKnown env h c f → declared_frame_at env h.entry ≡ Some d
+  pub known_else : (h : Handler) (c : Changed) (f d : TypeFrame) → IsKnown env h c f
+      → declared_frame_at env h.entry ≡ Some d
       → AreElse (is_assignable env.classes) c f.locals d.locals
   known_else h c f d k some =
       let p = parts k.0 h (is_true (satisfies env k.0 h) k.1) in
@@ -158,7 +157,8 @@ module _ (env : Environment) where
             ∙ in_rest E c.to k.0.locals d.locals fits;
       }
 
-  pub known_fits : (h : Handler) (c : Changed) (f d : TypeFrame) → IsKnown env h c f → declared_frame_at env h.entry ≡ Some d
+  pub known_fits : (h : Handler) (c : Changed) (f d : TypeFrame) → IsKnown env h c f
+      → declared_frame_at env h.entry ≡ Some d
       → satisfies env f h ≡ pointwise (is_assignable env.classes) f.locals d.locals
   known_fits h c f d k some =
       let p = parts k.0 h (is_true (satisfies env k.0 h) k.1) in
@@ -183,9 +183,10 @@ module _ (env : Environment) where
   -- ---- the handlers of an instruction
 
   -- a handler that covers an instruction but not as the first covers the one before
-  covered_before : (at : ℕ) (h : Handler) → 0 < at → covers at h ≡ true → nat_eq at h.from ≡ false → covers (at - 1) h ≡ true
+  covered_before : (at : ℕ) (h : Handler) → 0 < at → covers at h ≡ true → nat_eq at h.from ≡ false
+      → covers (at - 1) h ≡ true
   covered_before at h some c n =
-      let b = both (nat_le h.from at) (nat_lt at h.to) c in
+      let b = and_parts (nat_le h.from at) (nat_lt at h.to) c in
       let le : h.from ≤ at = leb-true h.from at b.0 in
       let lt : at < h.to = ltb-true at h.to b.1 in
       let ne : h.from ≢ at = λ e. absurd (ne_false at h.from n (sym e)) in
@@ -240,10 +241,6 @@ module _ (env : Environment) where
     a.marked,
   )
 
-  none_of : (a b : Bool) → (a || b) ≡ false → (a ≡ false) × (b ≡ false)
-  none_of true b h = absurd cc
-  none_of false b h = (refl, h)
-
   still : (at : ℕ) (b f : TypeFrame) (h : Handler) → 0 < at → IsSame b f → nat_eq at h.from ≡ false
       → (not (covers (at - 1) h) || satisfies env b h) ≡ true → (not (covers at h) || satisfies env f h) ≡ true
   still at b f h some s n was = by (covers at h) refl
@@ -259,8 +256,8 @@ module _ (env : Environment) where
       → list_all (λ h. not (covers at h) || satisfies env f h) hs ≡ true
   all_still at b f [] some s none was = refl
   all_still at b f (h ∷ hs) some s none was =
-      let n = none_of (nat_eq at h.from) (list_any (λ (x : Handler). nat_eq at x.from) hs) none in
-      let w = both (not (covers (at - 1) h) || satisfies env b h)
+      let n = or_parts (nat_eq at h.from) (list_any (λ (x : Handler). nat_eq at x.from) hs) none in
+      let w = and_parts (not (covers (at - 1) h) || satisfies env b h)
       (list_all (λ x. not (covers (at - 1) x) || satisfies env b x) hs) was in
       rw (still at b f h some s n.0 w.0, all_still at b f hs some s n.1 w.1) refl
 

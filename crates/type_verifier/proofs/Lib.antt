@@ -2,7 +2,6 @@ pub mod Asking
 pub mod Chaining
 pub mod Changing
 pub mod Climbing
-pub mod First
 pub mod Handled
 pub mod Lists
 pub mod Marking

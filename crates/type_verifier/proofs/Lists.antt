@@ -1,21 +1,16 @@
 -- Lists that are gone over, and lists in reverse.
-use Rattle.std.proofs.Common.{◌≡◌, ◌≤◌, ◌<◌, ℕ, suc, ◌+◌, Bool, true, false, ◌&&◌, ◌||◌, List, [], ◌∷◌, ◌++◌, length, get_or, drop}
-use Rattle.std.proofs.Common.{map, reverse, replicate, ◌*◌, mul-one, refl, sym, ap, ◌∙◌, drop-cons, add-one, arith, set, take, ⊎_elim, Result, Ok, Err}
-use Rattle.std.specs.Prelude.{OnOk}
+use Rattle.std.proofs.Common.{◌≡◌, ◌≤◌, ◌<◌, ℕ, ◌+◌, Bool, true, false, ◌&&◌, ◌||◌, List, [], ◌∷◌, ◌++◌, length, get_or}
+use Rattle.std.proofs.Common.{drop, map, reverse, replicate, ◌*◌, mul-one, refl, sym, ap, ◌∙◌, arith, set, take, ⊎_elim}
 use Rattle.std.specs.Cmp.Lexicographic.{pointwise, unequal}
 use Rattle.std.specs.List.{list_any, sum_by}
 use Rattle.std.proofs.lemmas.Bool.Decides.{eqb_tells}
 use Rattle.std.proofs.lemmas.List.{append_assoc, drop-set-lt, drop_all, get_or_default, length-reverse, reverse-append}
-use Rattle.std.proofs.lemmas.List.{take_more, take_more_set}
+use Rattle.std.proofs.lemmas.List.{take_more, take_more_set, append-nil}
 use Rattle.std.proofs.lemmas.List.Folds.{list_any-append}
 use Rattle.std.proofs.lemmas.List.Sums.{sum_by-cons, sum_by-set, sum_by_push}
 use Rattle.std.proofs.lemmas.List.Folds.{sum_by-replicate}
-
--- what is left from an element on
-pub rest_is : {X : Type 0} (xs : List X) (i : ℕ) (x : X) → i < length xs → x ≡ get_or xs i x
-    → drop i xs ≡ x ∷ drop (i + 1) xs
-rest_is {X} xs i x lt is = drop-cons xs i x lt ∙ ap (λ (y : X). y ∷ drop (suc i) xs) (sym is)
-    ∙ ap (λ (k : ℕ). x ∷ drop k xs) (sym (add-one i))
+use Rattle.std.proofs.Math.Bool.{and-true}
+use Rattle.jv_base.proofs.Lists.{rest_is}
 
 -- ---- sums
 
@@ -86,16 +81,11 @@ map_reversed f [] = refl
 map_reversed {X} {Y} f (x ∷ xs) = ap (map f) (reverse_cons x xs) ∙ append_map f (reverse xs) (x ∷ [])
     ∙ ap (λ (r : List Y). r ++ f x ∷ []) (map_reversed f xs) ∙ sym (reverse_cons (f x) (map f xs))
 
--- two tests that are passed
-pub both : (a b : Bool) → (a && b) ≡ true → (a ≡ true) × (b ≡ true)
-both true true h = (refl, refl)
-both true false h = absurd cc
-both false b h = absurd cc
-
 -- ---- pairs
 
 -- a pair that differs
-pub pair_differs : {X : Type 0} (E : X → X → Bool) (xs ys : List X) (i : ℕ) (x y : X) (total : Bool) → i < length xs → i < length ys
+pub pair_differs : {X : Type 0} (E : X → X → Bool) (xs ys : List X) (i : ℕ) (x y : X) (total : Bool) → i < length xs
+    → i < length ys
     → x ≡ get_or xs i x → y ≡ get_or ys i y → E x y ≡ false
     → pointwise E (drop i xs) (drop i ys) ≡ total → false ≡ total
 pair_differs {X} E xs ys i x y total ltx lty isx isy differs so_far =
@@ -109,13 +99,15 @@ heads : {X : Type 0} (x y : X) (xs ys : List X) → x ∷ xs ≡ y ∷ ys → (x
 heads x y xs ys h = (cc, cc)
 
 -- one more element is changed in its place
-pub changed_more : {X : Type 0} (h : X → X) (old now : List X) (i : ℕ) (x y : X) → i < length now → length now ≡ length old
+pub changed_more : {X : Type 0} (h : X → X) (old now : List X) (i : ℕ) (x y : X) → i < length now
+    → length now ≡ length old
     → x ≡ get_or now i x → y ≡ h x → take i now ≡ map h (take i old) → drop i now ≡ drop i old
     → (take (i + 1) (set now i y) ≡ map h (take (i + 1) old)) × (drop (i + 1) (set now i y) ≡ drop (i + 1) old)
 changed_more {X} h old now i x y lt same is e front rest =
     let lto : i < length old = omega (arith, lt, same) in
     let both = heads x (get_or old i x) (drop (i + 1) now) (drop (i + 1) old)
-    (sym (rest_is now i x lt is) ∙ rest ∙ rest_is old i (get_or old i x) lto (get_or_default old i x (get_or old i x) lto)) in (
+    (sym (rest_is now i x lt is) ∙ rest
+    ∙ rest_is old i (get_or old i x) lto (get_or_default old i x (get_or old i x) lto)) in (
       take_more_set now i y lt ∙ ap (λ (r : List X). r ++ y ∷ []) front
           ∙ ap (λ (z : X). map h (take i old) ++ z ∷ []) (e ∙ ap h both.0)
           ∙ sym (append_map h (take i old) (get_or old i x ∷ [])) ∙ ap (map h) (sym (take_more old i x lto)),
@@ -129,11 +121,6 @@ set_sum f xs i x y lt is same =
     let s = sum_by-set f xs i y x lt in
     let e : f (get_or xs i x) ≡ f x = ap f (sym is) in
     omega (arith, s, e, same)
-
--- what follows where a call succeeds
-pub on_ok : {T E P Q : Type 0} (r : Result T E) → (P → Q) → OnOk r P → OnOk r Q
-on_ok (Ok x) f h = f h
-on_ok (Err e) f h = h
 
 -- ---- stacks that are compared from the other end
 
@@ -157,20 +144,12 @@ pairs_onto {X} E (x ∷ xs) (y ∷ ys) us vs h =
     ∙ pairs_onto E xs ys (x ∷ us) (y ∷ vs) (omega (arith, h))
     ∙ and_turn (pointwise E xs ys) (E x y) (pointwise E us vs)
 
-and_true : (b : Bool) → (b && true) ≡ b
-and_true true = refl
-and_true false = refl
-
-append_none : {X : Type 0} (xs : List X) → xs ++ [] ≡ xs
-append_none [] = refl
-append_none {X} (x ∷ xs) = ap (λ (r : List X). x ∷ r) (append_none xs)
-
 pub pairs_reversed : {X : Type 0} (E : X → X → Bool) (xs ys : List X)
     → pointwise E (reverse xs) (reverse ys) ≡ pointwise E xs ys
 pairs_reversed {X} E xs ys = ⊎_elim
-    (λ h. ap (λ (r : List X). pointwise E r (reverse ys)) (sym (append_none (reverse xs)))
-    ∙ ap (λ (r : List X). pointwise E (reverse xs ++ []) r) (sym (append_none (reverse ys)))
-    ∙ pairs_onto E xs ys [] [] h.1 ∙ and_true (pointwise E xs ys))
+    (λ h. ap (λ (r : List X). pointwise E r (reverse ys)) (sym (append-nil (reverse xs)))
+    ∙ ap (λ (r : List X). pointwise E (reverse xs ++ []) r) (sym (append-nil (reverse ys)))
+    ∙ pairs_onto E xs ys [] [] h.1 ∙ and-true (pointwise E xs ys))
     (λ n. unequal E (reverse xs) (reverse ys) (λ h. n.1 (sym (length-reverse xs) ∙ h ∙ length-reverse ys))
     ∙ sym (unequal E xs ys n.1))
     (eqb_tells (length xs) (length ys))

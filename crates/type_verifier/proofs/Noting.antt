@@ -1,9 +1,10 @@
 -- Lists of types that are noted, one place of which changes.
-use Rattle.std.proofs.Common.{◌≡◌, ◌⊎◌, ◌≤◌, ◌<◌, ℕ, zero, suc, ◌+◌, ◌-◌, Bool, true, IsTrue, List, [], ◌∷◌}
-use Rattle.std.proofs.Common.{length, get_or, take, drop, Option, Some, None, inl, inr, refl, sym, ap, subst, ◌∙◌, arith, ⊎_elim}
+use Rattle.std.proofs.Common.{◌≡◌, ◌⊎◌, ◌≤◌, ◌<◌, ℕ, zero, suc, ◌+◌, ◌-◌, Bool, true, IsTrue, List, [], ◌∷◌, length}
+use Rattle.std.proofs.Common.{get_or, take, drop, Option, Some, None, inl, inr, refl, sym, ap, subst, ◌∙◌, arith}
+use Rattle.std.proofs.Common.{⊎_elim}
 use Rattle.std.specs.Prelude.{min, slice_get}
 use Rattle.std.specs.Cmp.Lexicographic.{pointwise}
-use Rattle.std.proofs.lemmas.Bool.{cases_eq}
+use Rattle.std.proofs.lemmas.Bool.{cases_eq, and_parts}
 use Rattle.std.proofs.lemmas.Bool.Decides.{leb_tells}
 use Rattle.std.proofs.lemmas.List.{get_or-drop, get_or-take, length-drop, length-take-le}
 use Rattle.std.proofs.lemmas.Option.{get_or_from_slice_get}
@@ -12,7 +13,6 @@ use Rattle.type_verifier.specs.declared.changed.Changed.{Changed}
 use Rattle.type_verifier.specs.declared.fitting.Noted.{Noted}
 use Rattle.type_verifier.specs.bodies.Noting.{AreTold, HasNoted, Notes, NotesWord, StillNoted, word_of}
 use Rattle.type_verifier.specs.bodies.Same.{is_same_type}
-use Rattle.type_verifier.proofs.Lists.{both}
 use Rattle.type_verifier.proofs.SameTypes.{same_type}
 
 -- ---- one place
@@ -43,7 +43,8 @@ notes_more old now new types at other notes more lt is word ty has = ⊎_elim
     inr (omega (arith, e, lt), h.1 ∙ is ∙ ap (word_of types) (sym e)))
     (more word ty has)
 
-pub notes_all : (old now new : List Place) (types : List VType) → StillNoted old now → Notes now new types → Notes old new types
+pub notes_all : (old now new : List Place) (types : List VType) → StillNoted old now → Notes now new types
+    → Notes old new types
 notes_all old now new types still notes word ty has = ⊎_elim
     (λ was. inl (still word ty was)) (λ is. inr is) (notes word ty has)
 
@@ -75,9 +76,9 @@ module _ {X : Type 0} (E : X → X → Bool) where
       → E (get_or xs i d) (get_or ys i e) ≡ true
   pointwise_at [] ys i d e h lt = absurd (omega (arith, lt))
   pointwise_at (x ∷ xs) [] i d e h lt = absurd cc
-  pointwise_at (x ∷ xs) (y ∷ ys) zero d e h lt = (both (E x y) (pointwise E xs ys) h).0
+  pointwise_at (x ∷ xs) (y ∷ ys) zero d e h lt = (and_parts (E x y) (pointwise E xs ys) h).0
   pointwise_at (x ∷ xs) (y ∷ ys) (suc i) d e h lt =
-      pointwise_at xs ys i d e (both (E x y) (pointwise E xs ys) h).1 (omega (arith, lt))
+      pointwise_at xs ys i d e (and_parts (E x y) (pointwise E xs ys) h).1 (omega (arith, lt))
 
   pub pointwise_from : (xs ys : List X) (d : X) → length xs ≡ length ys
       → ((i : ℕ) → i < length xs → E (get_or xs i d) (get_or ys i d) ≡ true) → pointwise E xs ys ≡ true

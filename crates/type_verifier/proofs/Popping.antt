@@ -1,14 +1,15 @@
 -- Several values from the stack, one after the other.
-use Rattle.std.proofs.Common.{◌≡◌, ◌≤◌, ◌<◌, ℕ, suc, ◌+◌, ◌-◌, List, [], ◌∷◌, ◌++◌, length, get_or, drop, take, map, reverse, replicate, Ok, Err}
-use Rattle.std.proofs.Common.{sym, ap, ◌∙◌, arith}
+use Rattle.std.proofs.Common.{◌≡◌, ◌≤◌, ◌<◌, ℕ, suc, ◌+◌, ◌-◌, List, [], ◌∷◌, ◌++◌, length, get_or, drop, take, map}
+use Rattle.std.proofs.Common.{reverse, replicate, Ok, Err, sym, ap, ◌∙◌, arith}
 use Rattle.std.proofs.lemmas.List.{drop_all, take_more, reverse-append}
 use Rattle.jv_base.specs.Outcome.{◌>>=◌}
+use Rattle.jv_base.proofs.Lists.{rest_is}
 use Rattle.class_model.specs.declared.class.Class.{Class}
 use Rattle.type_verifier.specs.declared.fault.TypeKind.{TypeKind}
 use Rattle.type_verifier.specs.declared.frame.TypeFrame.{TypeFrame}
 use Rattle.type_verifier.specs.Effects.{Checked, all_popped, popped}
 use Rattle.type_verifier.specs.Rules.{Wanted}
-use Rattle.type_verifier.proofs.Lists.{append_map, rest_is}
+use Rattle.type_verifier.proofs.Lists.{append_map}
 
 module _ (classes : List Class) where
   after : (first : Checked) (others : List Wanted) (g : TypeFrame) → first ≡ Ok g
@@ -22,7 +23,8 @@ module _ (classes : List Class) where
   -- ---- the first of a list of values, which is gone over from its front
 
   module _ {X : Type 0} (wanted : X → Wanted) where
-    pub front_more : (xs : List X) (i : ℕ) (x : X) (f g : TypeFrame) (total : Checked) → i < length xs → x ≡ get_or xs i x
+    pub front_more : (xs : List X) (i : ℕ) (x : X) (f g : TypeFrame) (total : Checked) → i < length xs
+        → x ≡ get_or xs i x
         → popped classes (wanted x) f ≡ Ok g → all_popped classes (map wanted (drop i xs)) f ≡ total
         → all_popped classes (map wanted (drop (i + 1) xs)) g ≡ total
     front_more xs i x f g total lt is h so_far =
@@ -30,7 +32,8 @@ module _ (classes : List Class) where
         ∙ after (popped classes (wanted x) f) (map wanted (drop (i + 1) xs)) g h) ∙ so_far
 
     pub front_fails : (xs : List X) (i : ℕ) (x : X) (f : TypeFrame) (kind : TypeKind) (total : Checked) → i < length xs
-        → x ≡ get_or xs i x → popped classes (wanted x) f ≡ Err kind → all_popped classes (map wanted (drop i xs)) f ≡ total
+        → x ≡ get_or xs i x → popped classes (wanted x) f ≡ Err kind
+        → all_popped classes (map wanted (drop i xs)) f ≡ total
         → total ≡ Err kind
     front_fails xs i x f kind total lt is h so_far =
         sym so_far ∙ ap (λ (r : List X). all_popped classes (map wanted r) f) (rest_is xs i x lt is)
@@ -51,7 +54,8 @@ module _ (classes : List Class) where
         ∙ ap reverse (append_map wanted (take i xs) (x ∷ []))
         ∙ reverse-append (map wanted (take i xs)) (wanted x ∷ [])
 
-    pub back_more : (xs : List X) (left i : ℕ) (x : X) (f g : TypeFrame) (total : Checked) → left ≡ i + 1 → i < length xs
+    pub back_more : (xs : List X) (left i : ℕ) (x : X) (f g : TypeFrame) (total : Checked) → left ≡ i + 1
+        → i < length xs
         → x ≡ get_or xs i x → popped classes (wanted x) f ≡ Ok g
         → all_popped classes (reverse (map wanted (take left xs))) f ≡ total
         → all_popped classes (reverse (map wanted (take i xs))) g ≡ total
@@ -60,7 +64,8 @@ module _ (classes : List Class) where
         ∙ ap (λ (ws : List Wanted). all_popped classes ws f) (back_is xs i x lt is)
         ∙ after (popped classes (wanted x) f) (reverse (map wanted (take i xs))) g h) ∙ so_far
 
-    pub back_fails : (xs : List X) (left i : ℕ) (x : X) (f : TypeFrame) (kind : TypeKind) (total : Checked) → left ≡ i + 1
+    pub back_fails : (xs : List X) (left i : ℕ) (x : X) (f : TypeFrame) (kind : TypeKind) (total : Checked)
+        → left ≡ i + 1
         → i < length xs → x ≡ get_or xs i x → popped classes (wanted x) f ≡ Err kind
         → all_popped classes (reverse (map wanted (take left xs))) f ≡ total → total ≡ Err kind
     back_fails xs left i x f kind total e lt is h so_far =

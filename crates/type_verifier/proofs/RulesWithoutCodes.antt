@@ -32,23 +32,28 @@ use Rattle.link_check.specs.Links.{resolved_field, resolved_method}
 use Rattle.link_check.specs.declared.fault.LinkKind.{LinkKind}
 use Rattle.type_verifier.specs.declared.fault.TypeFault.{TypeFault}
 use Rattle.type_verifier.specs.declared.fault.TypeKind.{TypeKind}
-use Rattle.type_verifier.specs.declared.fault.TypeKind.TheVariants.{Mismatch, Local, Operand, Protected, Uninit, Handler as BadHandler, FallsOff}
+use Rattle.type_verifier.specs.declared.fault.TypeKind.TheVariants.{Mismatch, Local, Operand, Protected, Uninit}
+use Rattle.type_verifier.specs.declared.fault.TypeKind.TheVariants.{Handler as BadHandler, FallsOff}
 use Rattle.type_verifier.specs.declared.frame.TypeFrame.{TypeFrame}
-use Rattle.type_verifier.specs.Assignable.{is_above_arrays, is_assignable, is_base_assignable, is_class_assignable, is_frame_assignable}
-use Rattle.type_verifier.specs.Assignable.{is_java_assignable, reaches}
-use Rattle.type_verifier.specs.Effects.{acted, all_popped, class_made_at, constructor_returned, counted_from, element, given_words, gives, guarded_use}
-use Rattle.type_verifier.specs.Effects.{has_room, if_ruled, initialised, is_returned_by, loaded_from, new_initialised, object_initialised, popped_from}
-use Rattle.type_verifier.specs.Effects.{put_local, pushed, read_from, result_taken, stepped, stored_from, taken_words, used_from, with_stack, words_of_kind}
+use Rattle.type_verifier.specs.Assignable.{is_above_arrays, is_assignable, is_base_assignable, is_class_assignable}
+use Rattle.type_verifier.specs.Assignable.{is_frame_assignable, is_java_assignable, reaches}
+use Rattle.type_verifier.specs.Effects.{acted, all_popped, class_made_at, constructor_returned, counted_from, element}
+use Rattle.type_verifier.specs.Effects.{given_words, gives, guarded_use, has_room, if_ruled, initialised}
+use Rattle.type_verifier.specs.Effects.{is_returned_by, loaded_from, new_initialised, object_initialised, popped_from}
+use Rattle.type_verifier.specs.Effects.{put_local, pushed, read_from, result_taken, stepped, stored_from, taken_words}
+use Rattle.type_verifier.specs.Effects.{used_from, with_stack, words_of_kind}
 use Rattle.type_verifier.specs.Environment.{Environment, declared_frame_at, initial_frame, own_type, targets}
 use Rattle.type_verifier.specs.Members.{is_class_type, is_early_field, is_guarded, is_guarded_field, is_guarded_method}
-use Rattle.type_verifier.specs.Rules.{Rule, Takes, Loads, Stores, Counts, Drops, Doubles, Swaps, ReadsReference, Makes, Returns, Uses, Initialises}
-use Rattle.type_verifier.specs.Rules.{Wanted, Assignable, Reference, OrThis, AnyArray, SmallArray, arguments, array_wanted, class_of, field_type}
-use Rattle.type_verifier.specs.Rules.{meets, method_type, moved, receiver, returned, rule_of, special_call, throwable, written_receiver}
+use Rattle.type_verifier.specs.Rules.{Rule, Takes, Loads, Stores, Counts, Drops, Doubles, Swaps, ReadsReference, Makes}
+use Rattle.type_verifier.specs.Rules.{Returns, Uses, Initialises, Wanted, Assignable, Reference, OrThis, AnyArray}
+use Rattle.type_verifier.specs.Rules.{SmallArray, arguments, array_wanted, class_of, field_type, meets, method_type}
+use Rattle.type_verifier.specs.Rules.{moved, receiver, returned, rule_of, special_call, throwable, written_receiver}
 use Rattle.type_verifier.specs.Typed.{AreInstructionsTyped, IsFirstFault, IsTypedBefore, Stands, Typed}
-use Rattle.type_verifier.specs.Walk.{arrived, at_instruction, caught_type, covers, fault_at, fits_at, fits_declared, fits_targets, flow_after}
-use Rattle.type_verifier.specs.Walk.{instruction_checked, satisfies_handlers}
-use Rattle.type_verifier.proofs.WithoutCodes.{bare, bare_method, bared, same_below, same_declared, same_flag, same_in_package, same_interface}
-use Rattle.type_verifier.proofs.WithoutCodes.{same_named, same_resolved_field, same_resolved_method}
+use Rattle.type_verifier.specs.Walk.{arrived, at_instruction, caught_type, covers, fault_at, fits_at, fits_declared}
+use Rattle.type_verifier.specs.Walk.{fits_targets, flow_after, instruction_checked, satisfies_handlers}
+use Rattle.type_verifier.proofs.WithoutCodes.{bare, bare_method, bared, same_below, same_declared, same_flag}
+use Rattle.type_verifier.proofs.WithoutCodes.{same_in_package, same_interface, same_named, same_resolved_field}
+use Rattle.type_verifier.proofs.WithoutCodes.{same_resolved_method}
 
 -- ---- which types fit
 
@@ -59,7 +64,8 @@ module _ (classes : List Class) where
   reaches_same None (Some t) = λ i. same_interface classes i t
   reaches_same (Some f) (Some t) = λ i. same_interface classes i t || same_below classes i f t
 
-  named_reach : (from to : List ℕ) → reaches (bared classes) (class_named (bared classes) from) (class_named (bared classes) to)
+  named_reach : (from to : List ℕ)
+      → reaches (bared classes) (class_named (bared classes) from) (class_named (bared classes) to)
       ≡ reaches classes (class_named classes from) (class_named classes to)
   named_reach from to = (λ i. reaches (bared classes) (same_named classes i from) (same_named classes i to))
       ∙ reaches_same (class_named classes from) (class_named classes to)
@@ -248,7 +254,8 @@ module _ (classes : List Class) where
   meets_at SmallArray (vtype.Object a) = refl
   meets_at SmallArray (vtype.Uninit a) = refl
 
-  popped_at : (w : Wanted) (f : TypeFrame) (stack : List VType) → popped_from (bared classes) w f stack ≡ popped_from classes w f stack
+  popped_at : (w : Wanted) (f : TypeFrame) (stack : List VType)
+      → popped_from (bared classes) w f stack ≡ popped_from classes w f stack
   popped_at w f [] = refl
   popped_at w f (ty ∷ stack) = λ i. if meets_at w ty i then Ok (with_stack f stack) else Err Operand
 
@@ -256,7 +263,8 @@ module _ (classes : List Class) where
   all_same [] = λ i f. Ok f
   all_same (w ∷ ws) = λ i f. popped_at w f f.stack i >>= all_same ws i
 
-  loaded_at : (w : Wanted) (f : TypeFrame) (o : Option VType) → loaded_from (bared classes) w f o ≡ loaded_from classes w f o
+  loaded_at : (w : Wanted) (f : TypeFrame) (o : Option VType)
+      → loaded_from (bared classes) w f o ≡ loaded_from classes w f o
   loaded_at w f None = refl
   loaded_at w f (Some ty) = λ i. if meets_at w ty i then Ok (pushed ty f) else Err Local
 
@@ -272,7 +280,8 @@ module _ (classes : List Class) where
 
   read_at : (f : TypeFrame) (stack : List VType) → read_from (bared classes) f stack ≡ read_from classes f stack
   read_at f [] = refl
-  read_at f (ty ∷ stack) = λ i. if meets_at (array_wanted elem.Ref) ty i then Ok (with_stack f (element ty ∷ stack)) else Err Operand
+  read_at f (ty ∷ stack) =
+      λ i. if meets_at (array_wanted elem.Ref) ty i then Ok (with_stack f (element ty ∷ stack)) else Err Operand
 
 -- what the rules look at, without the codes of the methods of the set
 abbrev pub bare_env : Environment → Environment
@@ -351,12 +360,18 @@ module _ (env : Environment) where
   rule_at (op.Return k) = refl
   rule_at (op.GetStatic r) = refl
   rule_at (op.PutStatic r) = refl
-  rule_at (op.GetField r) = λ i. option_map (λ ty. Uses [] (receiver env r) (guarded_field_same r i) (Some ty)) (field_type r)
-  rule_at (op.PutField r) = λ i. option_map (λ ty. Uses (Assignable ty ∷ []) (written_same r i) (guarded_field_same r i) None) (field_type r)
-  rule_at (op.InvokeVirtual r) = λ i. option_map (λ ty. Uses (arguments ty) (receiver env r) (guarded_method_same r i) (returned ty)) (method_type r)
+  rule_at (op.GetField r) =
+      λ i. option_map (λ ty. Uses [] (receiver env r) (guarded_field_same r i) (Some ty)) (field_type r)
+  rule_at (op.PutField r) =
+      λ i. option_map (λ ty. Uses (Assignable ty ∷ []) (written_same r i) (guarded_field_same r i) None) (field_type r)
+  rule_at (op.InvokeVirtual r) =
+      λ i. option_map (λ ty. Uses (arguments ty) (receiver env r) (guarded_method_same r i) (returned ty))
+      (method_type r)
   rule_at (op.InvokeSpecial r) = λ i. option_map (λ ty. special_same r ty i) (method_type r)
   rule_at (op.InvokeStatic r) = refl
-  rule_at (op.InvokeInterface r) = λ i. option_map (λ ty. Uses (arguments ty) (receiver env r) (guarded_method_same r i) (returned ty)) (method_type r)
+  rule_at (op.InvokeInterface r) =
+      λ i. option_map (λ ty. Uses (arguments ty) (receiver env r) (guarded_method_same r i) (returned ty))
+      (method_type r)
   rule_at (op.New name) = refl
   rule_at (op.NewArray b) = refl
   rule_at (op.ANewArray ty) = refl
@@ -395,7 +410,8 @@ module _ (env : Environment) where
   used_at w guarded f (ty ∷ stack) = λ i.
       if meets_at env.classes w ty i then use_at guarded ty i >>= (λ _. Ok (with_stack f stack)) else Err Operand
 
-  result_at : (k : Option Kind) (ret : Option FieldType) (f : TypeFrame) → result_taken (bare_env env) k ret f ≡ result_taken env k ret f
+  result_at : (k : Option Kind) (ret : Option FieldType) (f : TypeFrame)
+      → result_taken (bare_env env) k ret f ≡ result_taken env k ret f
   result_at None None f = refl
   result_at (Some k) (Some ty) f = λ i. if is_returned_by k (vtype_of ty)
       then popped_at env.classes (Assignable (vtype_of ty)) f f.stack i else Err Operand
@@ -445,7 +461,8 @@ module _ (env : Environment) where
       && assign_same env.classes i (caught_type h) throwable
       && fits_same i (with_stack f (caught_type h ∷ [])) h.entry)) env.code.handlers
 
-  arrived_at : (at : ℕ) (flow declared : Option TypeFrame) → arrived (bare_env env) at flow declared ≡ arrived env at flow declared
+  arrived_at : (at : ℕ) (flow declared : Option TypeFrame)
+      → arrived (bare_env env) at flow declared ≡ arrived env at flow declared
   arrived_at at (Some f) (Some d) = λ i. if frame_same env.classes i f d then Ok d else Err Mismatch
   arrived_at at None (Some d) = refl
   arrived_at at (Some f) None = refl
@@ -460,7 +477,8 @@ module _ (env : Environment) where
       else if not (handlers_same at f i) then Err BadHandler
       else Ok (flow_after o after) in R)
 
-  instruction_same : (at : ℕ) (o : Op) (flow : Option TypeFrame) → at_instruction (bare_env env) at o flow ≡ at_instruction env at o flow
+  instruction_same : (at : ℕ) (o : Op) (flow : Option TypeFrame)
+      → at_instruction (bare_env env) at o flow ≡ at_instruction env at o flow
   instruction_same at o flow = λ i. arrived_at at flow (declared_frame_at env at) i >>= checked_same at o i
 
   -- ---- what is typed, and what is the first fault

@@ -1,7 +1,7 @@
 -- What tests whether types are the same have told.
 use Rattle.std.proofs.Common.{◌≡◌, ℕ, Bool, true, ◌==◌, IsTrue, List, [], ◌∷◌, refl, sym, ap, ◌∙◌}
 use Rattle.std.specs.Cmp.Lexicographic.{pointwise, same_text}
-use Rattle.std.proofs.lemmas.Bool.{eqb-true}
+use Rattle.std.proofs.lemmas.Bool.{eqb-true, and_parts}
 use Rattle.jv_base.specs.declared.types.Base.{Base}
 use Rattle.jv_base.specs.declared.types.Base.TheVariants as base
 use Rattle.jv_base.specs.declared.types.FieldType.{FieldType}
@@ -9,7 +9,6 @@ use Rattle.class_model.specs.declared.frame.VType.{VType}
 use Rattle.class_model.specs.declared.frame.VType.TheVariants as vtype
 use Rattle.type_verifier.specs.declared.frame.TypeFrame.{TypeFrame}
 use Rattle.type_verifier.specs.bodies.Since.{IsSame}
-use Rattle.type_verifier.proofs.Lists.{both}
 use Rattle.type_verifier.specs.bodies.Same.{is_same_base, is_same_type}
 
 same_base : (one other : Base) → is_same_base one other ≡ true → one ≡ other
@@ -38,7 +37,7 @@ same_type vtype.Long vtype.Long h = refl
 same_type vtype.Null vtype.Null h = refl
 same_type vtype.UninitThis vtype.UninitThis h = refl
 same_type (vtype.Object one) (vtype.Object other) h =
-    let b = both (one.dims == other.dims) (is_same_base one.base other.base) h in
+    let b = and_parts (one.dims == other.dims) (is_same_base one.base other.base) h in
     ap (λ (ty : FieldType). let v : VType = vtype.Object ty in v)
     (same_field_type one other (eqb-true one.dims other.dims b.0) (same_base one.base other.base b.1))
 same_type (vtype.Uninit one) (vtype.Uninit other) h =
@@ -51,7 +50,7 @@ same_types [] [] h = refl
 same_types [] (y ∷ ys) h = absurd cc
 same_types (x ∷ xs) [] h = absurd cc
 same_types (x ∷ xs) (y ∷ ys) h =
-    let b = both (is_same_type x y) (pointwise is_same_type xs ys) h in
+    let b = and_parts (is_same_type x y) (pointwise is_same_type xs ys) h in
     ap (λ (z : VType). z ∷ xs) (same_type x y b.0) ∙ ap (λ (r : List VType). y ∷ r) (same_types xs ys b.1)
 
 -- two frames whose locals and flags are the same

@@ -1,17 +1,19 @@
 -- Methods and sets are taken exactly where they are typed, and a fault is the first one.
-use Rattle.std.proofs.Common.{◌≡◌, ◌<◌, ◌⊎◌, inl, inr, ⊎_elim, ℕ, zero, suc, ◌+◌, List, [], ◌∷◌, Option, Some, None, Result, Ok, Err, refl, sym, ap, subst, ◌∙◌, arith}
+use Rattle.std.proofs.Common.{◌≡◌, ◌<◌, ◌⊎◌, inl, inr, ⊎_elim, ℕ, List, Option, Some, None, Result, Ok, Err, refl, sym}
+use Rattle.std.proofs.Common.{ap, subst, ◌∙◌, arith}
 use Rattle.std.specs.Prelude.{slice_get}
-use Rattle.std.specs.List.{enumerate_from, filter_map, cons_option}
+use Rattle.std.specs.List.{enumerate_from}
 use Rattle.std.specs.Option.{option_map_or}
 use Rattle.std.proofs.lemmas.Bool.{cases_lt}
+use Rattle.link_check.proofs.First.{first_flat, From, from_list, none_in}
 use Rattle.class_model.specs.declared.class.Class.{Class}
 use Rattle.class_model.specs.declared.class.Method.{Method}
 use Rattle.class_model.specs.declared.code.Code.{Code}
 use Rattle.jv_base.specs.Outcome.{IsDue}
 use Rattle.jv_base.specs.declared.outcome.Or.{Or}
 use Rattle.jv_base.specs.declared.outcome.Or.TheVariants as or
+use Rattle.jv_base.proofs.Options.{one_value}
 use Rattle.class_pool.specs.Resolution.{first}
-use Rattle.type_verifier.proofs.First.{first_flat}
 use Rattle.type_verifier.specs.declared.fault.TypeFault.{TypeFault}
 use Rattle.type_verifier.specs.Environment.{Environment}
 use Rattle.type_verifier.specs.Typed.{IsFirstFault, Typed}
@@ -24,83 +26,7 @@ use Rattle.type_verifier.proofs.TypedLaw.{first_where_no, never_both, one_fault,
 abbrev Answer : Type 0
 Answer = Result (Unit {0}) TypeFault
 
--- ---- the first of a numbered list
-
--- the element that gives the first result; those before it give none
-record From {X Y : Type 0} (h : ℕ × X → Option Y) (n : ℕ) (xs : List X) (y : Y) : Type 0 where
-  at : ℕ
-  number : ℕ
-  counted : number ≡ n + at
-  element : X
-  stands : slice_get xs at ≡ Some element
-  gives : h (number, element) ≡ Some y
-  before : (k i : ℕ) (x : X) → k ≡ n + i → i < at → slice_get xs i ≡ Some x → h (k, x) ≡ None
-
-none_before : {X Y : Type 0} (h : ℕ × X → Option Y) (n : ℕ) (x : X) (xs : List X) (at : ℕ) → h (n, x) ≡ None
-    → ((k i : ℕ) (z : X) → k ≡ n + 1 + i → i < at → slice_get xs i ≡ Some z → h (k, z) ≡ None)
-    → (k i : ℕ) (z : X) → k ≡ n + i → i < suc at → slice_get (x ∷ xs) i ≡ Some z → h (k, z) ≡ None
-none_before {X} h n x xs at none others k zero z e lt is =
-    let same : x ≡ z = cc in
-    let here : k ≡ n = omega (arith, e) in
-    ap (λ (m : ℕ). h (m, z)) here ∙ ap (λ (w : X). h (n, w)) (sym same) ∙ none
-none_before h n x xs at none others k (suc i) z e lt is = others k i z (omega (arith, e)) (omega (arith, lt)) is
-
-later : {X Y : Type 0} (h : ℕ × X → Option Y) (n : ℕ) (x : X) (xs : List X) (y : Y) → h (n, x) ≡ None
-    → From h (n + 1) xs y → From h n (x ∷ xs) y
-later h n x xs y none f =
-    let e = f.counted in
-    record {
-      at = suc f.at;
-      number = f.number;
-      counted = omega (arith, e);
-      element = f.element;
-      stands = f.stands;
-      gives = f.gives;
-      before = none_before h n x xs f.at none f.before;
-    }
-
-one_from : {X Y : Type 0} (h : ℕ × X → Option Y) (n : ℕ) (x : X) (xs : List X) (y : Y) (o : Option Y) (rest : List Y)
-    → h (n, x) ≡ o → first (cons_option o rest) ≡ Some y → (first rest ≡ Some y → From h (n + 1) xs y)
-    → From h n (x ∷ xs) y
-one_from h n x xs y (Some z) rest gives is others = record {
-  at = zero;
-  number = n;
-  counted = omega arith;
-  element = x;
-  stands = refl;
-  gives = gives ∙ is;
-  before = λ k i w e lt at. absurd (omega (arith, lt));
-}
-one_from h n x xs y None rest gives is others = later h n x xs y gives (others is)
-
-from_list : {X Y : Type 0} (h : ℕ × X → Option Y) (n : ℕ) (xs : List X) (y : Y)
-    → first (filter_map h (enumerate_from n xs)) ≡ Some y → From h n xs y
-from_list h n [] y is = absurd cc
-from_list h n (x ∷ xs) y is =
-    one_from h n x xs y (h (n, x)) (filter_map h (enumerate_from (n + 1) xs)) refl is (from_list h (n + 1) xs y)
-
-none_at : {X Y : Type 0} (h : ℕ × X → Option Y) (n : ℕ) (x : X) (o : Option Y) (rest : List Y) → h (n, x) ≡ o
-    → first (cons_option o rest) ≡ None → (h (n, x) ≡ None) × (first rest ≡ None)
-none_at h n x (Some z) rest gives is = absurd cc
-none_at h n x None rest gives is = (gives, is)
-
--- where there is no first result none is given
-none_in : {X Y : Type 0} (h : ℕ × X → Option Y) (n : ℕ) (xs : List X) → first (filter_map h (enumerate_from n xs)) ≡ None
-    → (k i : ℕ) (x : X) → k ≡ n + i → slice_get xs i ≡ Some x → h (k, x) ≡ None
-none_in h n [] none k i x e is = absurd cc
-none_in {X} h n (y ∷ ys) none k zero x e is =
-    let both = none_at h n y (h (n, y)) (filter_map h (enumerate_from (n + 1) ys)) refl none in
-    let same : y ≡ x = cc in
-    let here : k ≡ n = omega (arith, e) in
-    ap (λ (m : ℕ). h (m, x)) here ∙ ap (λ (z : X). h (n, z)) (sym same) ∙ both.0
-none_in h n (y ∷ ys) none k (suc i) x e is =
-    let both = none_at h n y (h (n, y)) (filter_map h (enumerate_from (n + 1) ys)) refl none in
-    none_in h (n + 1) ys both.1 k i x (omega (arith, e)) is
-
 -- ---- what stands at a place
-
-same_some : {X : Type 0} (o : Option X) (x y : X) → o ≡ Some x → o ≡ Some y → x ≡ y
-same_some o x y h k = cc
 
 no_fault : (r : Answer) → fault_of r ≡ None → r ≡ Ok tt
 no_fault (Ok u) h = refl
@@ -112,17 +38,21 @@ is_fault (Err g) f h = ap (λ (x : TypeFault). let R : Answer = Err x in R) cc
 
 -- ---- one method
 
-method_typed : (classes : List Class) (own number : ℕ) (c : Class) (m : Method) → method_checked classes own c number m ≡ Ok tt
+method_typed : (classes : List Class) (own number : ℕ) (c : Class) (m : Method)
+    → method_checked classes own c number m ≡ Ok tt
     → IsTypedMethod classes own c number m
 method_typed classes own number c m h code is =
     typed_where_yes (environment classes own c number m code)
-    (sym (ap (λ (o : Option Code). option_map_or (λ d. code_checked (environment classes own c number m d)) o (Ok tt)) is) ∙ h)
+    (sym (ap (λ (o : Option Code). option_map_or (λ d. code_checked (environment classes own c number m d)) o
+    (Ok tt)) is) ∙ h)
 
 by_code : (classes : List Class) (own number : ℕ) (c : Class) (m : Method) (o : Option Code) → m.code ≡ o
     → IsTypedMethod classes own c number m
-    → (let R : Answer = option_map_or (λ code. code_checked (environment classes own c number m code)) o (Ok tt) in R) ≡ Ok tt
+    → (let R : Answer = option_map_or (λ code. code_checked (environment classes own c number m code)) o (Ok tt) in R)
+    ≡ Ok tt
 by_code classes own number c m None e typed = refl
-by_code classes own number c m (Some code) e typed = yes_where_typed (environment classes own c number m code) (typed code e)
+by_code classes own number c m (Some code) e typed =
+    yes_where_typed (environment classes own c number m code) (typed code e)
 
 -- a typed method is taken
 pub typed_method : (classes : List Class) (own number : ℕ) (c : Class) (m : Method) → slice_get classes own ≡ Some c
@@ -133,15 +63,16 @@ typed_method classes own number c m there is typed = by_code classes own number 
 pub typed_there : (classes : List Class) (own number : ℕ) (c : Class) (m : Method) → slice_get classes own ≡ Some c
     → slice_get c.methods number ≡ Some m → IsTypedMethod classes own c number m → IsTypedAt classes own number
 typed_there classes own number c m there is typed d at n named code has =
-    let class : c ≡ d = same_some (slice_get classes own) c d there at in
-    let method : m ≡ n = same_some (slice_get d.methods number) m n
+    let class : c ≡ d = one_value (slice_get classes own) c d there at in
+    let method : m ≡ n = one_value (slice_get d.methods number) m n
     (ap (λ (x : Class). slice_get x.methods number) (sym class) ∙ is) named in
     subst (λ (e : Environment). Typed e) (λ i. environment classes own (class i) number (method i) code)
     (typed code (ap (λ (x : Method). x.code) method ∙ has))
 
 fault_there : (classes : List Class) (own number : ℕ) (c : Class) (m : Method) (f : TypeFault) (o : Option Code)
     → m.code ≡ o → slice_get classes own ≡ Some c → slice_get c.methods number ≡ Some m
-    → (let R : Answer = option_map_or (λ code. code_checked (environment classes own c number m code)) o (Ok tt) in R) ≡ Err f
+    → (let R : Answer = option_map_or (λ code. code_checked (environment classes own c number m code)) o (Ok tt) in R)
+    ≡ Err f
     → IsMethodFault classes own number f
 fault_there classes own number c m f None has there is h = absurd cc
 fault_there classes own number c m f (Some code) has there is h =
@@ -170,12 +101,13 @@ one_method_fault classes own number f g a b =
     let c : Class = a.0 in
     let m : Method = a.2 in
     let code : Code = a.4 in
-    let class : b.0 ≡ c = same_some (slice_get classes own) b.0 c b.1 a.1 in
-    let method : b.2 ≡ m = same_some (slice_get c.methods number) b.2 m
+    let class : b.0 ≡ c = one_value (slice_get classes own) b.0 c b.1 a.1 in
+    let method : b.2 ≡ m = one_value (slice_get c.methods number) b.2 m
     (ap (λ (x : Class). slice_get x.methods number) (sym class) ∙ b.3) a.3 in
-    let coded : b.4 ≡ code = same_some m.code b.4 code (ap (λ (x : Method). x.code) (sym method) ∙ b.5) a.5 in
+    let coded : b.4 ≡ code = one_value m.code b.4 code (ap (λ (x : Method). x.code) (sym method) ∙ b.5) a.5 in
     one_fault (environment classes own c number m code) f g a.6
-    (subst (λ (e : Environment). IsFirstFault e g) (λ i. environment classes own (class i) number (method i) (coded i)) b.6)
+    (subst (λ (e : Environment). IsFirstFault e g)
+    (λ i. environment classes own (class i) number (method i) (coded i)) b.6)
 
 -- the place of a method's fault is that of the method
 placed : (classes : List Class) (own number : ℕ) (f : TypeFault) → IsMethodFault classes own number f
@@ -190,7 +122,8 @@ placed classes own number f a =
 pub set_typed : (classes : List Class) → fault_of_set classes ≡ None → AreTyped classes
 set_typed classes h own number c there m is =
     let none = sym (first_flat (λ (p : ℕ × Class). faults_of classes p.0 p.1) (enumerate_from 0 classes)) ∙ h in
-    let of_class = none_in (λ (p : ℕ × Class). first (faults_of classes p.0 p.1)) 0 classes none own own c (omega arith) there in
+    let of_class =
+    none_in (λ (p : ℕ × Class). first (faults_of classes p.0 p.1)) 0 classes none own own c (omega arith) there in
     let of_method = none_in (λ (p : ℕ × Method). fault_of (method_checked classes own c p.0 p.1)) 0 c.methods of_class
     number number m (omega arith) is in
     method_typed classes own number c m (no_fault (method_checked classes own c number m) of_method)
@@ -199,8 +132,9 @@ set_typed classes h own number c there m is =
 class_typed : (classes : List Class) (own : ℕ) (c : Class) → slice_get classes own ≡ Some c
     → first (faults_of classes own c) ≡ None → (number : ℕ) → IsTypedAt classes own number
 class_typed classes own c there none number d at m is =
-    let class : c ≡ d = same_some (slice_get classes own) c d there at in
-    let of_class : first (faults_of classes own d) ≡ None = ap (λ (x : Class). first (faults_of classes own x)) (sym class) ∙ none in
+    let class : c ≡ d = one_value (slice_get classes own) c d there at in
+    let of_class : first (faults_of classes own d) ≡ None =
+    ap (λ (x : Class). first (faults_of classes own x)) (sym class) ∙ none in
     let of_method = none_in (λ (p : ℕ × Method). fault_of (method_checked classes own d p.0 p.1)) 0 d.methods of_class
     number number m (omega arith) is in
     method_typed classes own number d m (no_fault (method_checked classes own d number m) of_method)
@@ -222,7 +156,7 @@ class_before classes f of_class own number lt c there =
 method_before : (classes : List Class) (own : ℕ) (c : Class) (f : TypeFault) → slice_get classes own ≡ Some c
     → (of_method : MethodFrom classes own c f) (number : ℕ) → number < of_method.number → IsTypedAt classes own number
 method_before classes own c f there of_method number lt d at m is =
-    let class : c ≡ d = same_some (slice_get classes own) c d there at in
+    let class : c ≡ d = one_value (slice_get classes own) c d there at in
     let in_class : slice_get c.methods number ≡ Some m = ap (λ (x : Class). slice_get x.methods number) class ∙ is in
     let less : number < of_method.at = omega (arith, lt, of_method.counted) in
     let none = of_method.before number number m (omega arith) less in_class in
@@ -254,15 +188,19 @@ set_fault classes f h =
     (sym (first_flat (λ (p : ℕ × Class). faults_of classes p.0 p.1) (enumerate_from 0 classes)) ∙ h) in
     let own : ℕ = of_class.number in
     let c : Class = of_class.element in
-    let of_method = from_list (λ (p : ℕ × Method). fault_of (method_checked classes own c p.0 p.1)) 0 c.methods f of_class.gives in
+    let of_method =
+    from_list (λ (p : ℕ × Method). fault_of (method_checked classes own c p.0 p.1)) 0 c.methods f of_class.gives in
     let number : ℕ = of_method.number in
     let m : Method = of_method.element in
     let at_class : of_class.at ≡ own = omega (arith, of_class.counted) in
     let at_method : of_method.at ≡ number = omega (arith, of_method.counted) in
-    let there : slice_get classes own ≡ Some c = subst (λ (x : ℕ). slice_get classes x ≡ Some c) at_class of_class.stands in
-    let is : slice_get c.methods number ≡ Some m = subst (λ (x : ℕ). slice_get c.methods x ≡ Some m) at_method of_method.stands in
+    let there : slice_get classes own ≡ Some c =
+    subst (λ (x : ℕ). slice_get classes x ≡ Some c) at_class of_class.stands in
+    let is : slice_get c.methods number ≡ Some m =
+    subst (λ (x : ℕ). slice_get c.methods x ≡ Some m) at_method of_method.stands in
     of_place classes own number f
-    (fault_there classes own number c m f m.code refl there is (is_fault (method_checked classes own c number m) f of_method.gives))
+    (fault_there classes own number c m f m.code refl there is
+    (is_fault (method_checked classes own c number m) f of_method.gives))
     (before_it classes f of_class c there of_method)
 
 -- each set is typed, or has a first fault
@@ -287,7 +225,8 @@ not_before : (classes : List Class) (f g : TypeFault) → IsSetFault classes f �
     → IsBefore f.class f.method g.class g.method → ⊥
 not_before classes f g a b less = apart classes f.class f.method f (b.1 f.class f.method less) a.0
 
-one_in_class : (classes : List Class) (f g : TypeFault) → IsSetFault classes f → IsSetFault classes g → f.class ≡ g.class
+one_in_class : (classes : List Class) (f g : TypeFault) → IsSetFault classes f → IsSetFault classes g
+    → f.class ≡ g.class
     → f.method ≡ g.method → f ≡ g
 one_in_class classes f g a b class method =
     one_method_fault classes f.class f.method f g a.0

@@ -1,10 +1,11 @@
 -- What is noted of the types that fit in the locals where handlers begin, from instruction to instruction.
-use Rattle.std.proofs.Common.{◌≡◌, ◌⊎◌, ◌≤◌, ◌<◌, ℕ, zero, suc, ◌+◌, ◌-◌, Bool, true, false, not, ◌||◌, nat_eq, nat_le, nat_lt, IsTrue}
-use Rattle.std.proofs.Common.{List, [], length, get_or, drop, Option, Some, None, inl, inr, refl, sym, ap, subst, ◌∙◌, arith, ⊎_elim}
+use Rattle.std.proofs.Common.{◌≡◌, ◌⊎◌, ◌≤◌, ◌<◌, ℕ, zero, suc, ◌+◌, ◌-◌, Bool, true, false, not, ◌||◌, nat_eq, nat_le}
+use Rattle.std.proofs.Common.{nat_lt, IsTrue, List, [], length, get_or, drop, Option, Some, None, inl, inr, refl, sym}
+use Rattle.std.proofs.Common.{ap, subst, ◌∙◌, arith, ⊎_elim}
 use Rattle.std.specs.Prelude.{IfSome}
 use Rattle.std.specs.Cmp.Lexicographic.{pointwise}
 use Rattle.std.specs.List.{list_any}
-use Rattle.std.proofs.lemmas.Bool.{le-leb, lt-ltb, ltb-true}
+use Rattle.std.proofs.lemmas.Bool.{le-leb, lt-ltb, ltb-true, and_parts, both_ways}
 use Rattle.std.proofs.lemmas.Bool.Decides.{eqb_tells, leb_tells}
 use Rattle.std.proofs.lemmas.List.{drop_all}
 use Rattle.std.proofs.lemmas.List.Folds.{list_any_at}
@@ -25,7 +26,6 @@ use Rattle.type_verifier.specs.bodies.Since.{AreElse, IsKnown, IsSince}
 use Rattle.type_verifier.proofs.Asking.{all_behind, known_of}
 use Rattle.type_verifier.proofs.Handled.{fits_before, holds_at, implied, is_true, known_else, known_fits, known_free}
 use Rattle.type_verifier.proofs.Handled.{known_within, parts}
-use Rattle.type_verifier.proofs.Lists.{both}
 use Rattle.type_verifier.proofs.Noting.{front_at, pointwise_at, pointwise_from, rest_at}
 
 -- ---- which handlers cover what
@@ -34,7 +34,7 @@ module _ (at : ℕ) (h : Handler) where
   -- what covers the next instruction and this one
   covers_this : covers_behind (at + 1) h ≡ true → covers at h ≡ true
   covers_this cov =
-      let b = both (nat_lt h.from (at + 1)) (nat_lt (at + 1) h.to) cov in
+      let b = and_parts (nat_lt h.from (at + 1)) (nat_lt (at + 1) h.to) cov in
       let begun = ltb-true h.from (at + 1) b.0 in
       let ends = ltb-true (at + 1) h.to b.1 in
       let le : nat_le h.from at ≡ true = le-leb h.from at (omega (arith, begun)) in
@@ -44,7 +44,7 @@ module _ (at : ℕ) (h : Handler) where
   -- it covers this one as the first, or the one before too
   covers_how : covers_behind (at + 1) h ≡ true → (covers_first at h ≡ true) ⊎ (covers_behind at h ≡ true)
   covers_how cov =
-      let b = both (nat_lt h.from (at + 1)) (nat_lt (at + 1) h.to) cov in
+      let b = and_parts (nat_lt h.from (at + 1)) (nat_lt (at + 1) h.to) cov in
       let begun = ltb-true h.from (at + 1) b.0 in
       let ends = ltb-true (at + 1) h.to b.1 in
       ⊎_elim
@@ -59,7 +59,7 @@ module _ (at : ℕ) (h : Handler) where
   -- what covers this one and the one before
   covers_last : 0 < at → covers_behind at h ≡ true → covers (at - 1) h ≡ true
   covers_last some cov =
-      let b = both (nat_lt h.from at) (nat_lt at h.to) cov in
+      let b = and_parts (nat_lt h.from at) (nat_lt at h.to) cov in
       let begun = ltb-true h.from at b.0 in
       let ends = ltb-true at h.to b.1 in
       let le : nat_le h.from (at - 1) ≡ true = le-leb h.from (at - 1) (omega (arith, begun)) in
@@ -68,7 +68,8 @@ module _ (at : ℕ) (h : Handler) where
 
 -- lists that are related but for these places, and at these too
 else_at : {X : Type 0} (E : X → X → Bool) (c : Changed) (xs ys : List X) (d : X) → AreElse E c xs ys
-    → ((i : ℕ) → c.from ≤ i → i < c.to → i < length xs → E (get_or xs i d) (get_or ys i d) ≡ true) → pointwise E xs ys ≡ true
+    → ((i : ℕ) → c.from ≤ i → i < c.to → i < length xs → E (get_or xs i d) (get_or ys i d) ≡ true)
+    → pointwise E xs ys ≡ true
 else_at E c xs ys d e each = pointwise_from E xs ys d e.long (λ i lt. ⊎_elim
     (λ t. ⊎_elim
     (λ r. rest_at E c.to xs ys i d e.rest r.1 lt)
@@ -165,15 +166,11 @@ module _ (env : Environment) where
   noted_still at noted are none word ty has n lt cov = ⊎_elim
       (λ first.
       let h = handler_at env.code n in
-      let is = (both (nat_eq at h.from) (covers at h) first).0 in
-      absurd (differs (list_any (λ (x : Handler). nat_eq at x.from) env.code.handlers)
-      (list_any_at (λ (x : Handler). nat_eq at x.from) env.code.handlers n no_handler lt is) none))
+      let is = (and_parts (nat_eq at h.from) (covers at h) first).0 in
+      absurd (both_ways (list_any (λ (x : Handler). nat_eq at x.from) env.code.handlers) none
+      (list_any_at (λ (x : Handler). nat_eq at x.from) env.code.handlers n no_handler lt is)))
       (λ behind. are word ty has n lt behind)
       (covers_how at (handler_at env.code n) cov)
-    where
-      differs : (b : Bool) → b ≡ true → b ≡ false → ⊥
-      differs true t f = absurd cc
-      differs false t f = absurd cc
 
   -- ---- what a frame has that satisfies its handlers
 
@@ -182,7 +179,8 @@ module _ (env : Environment) where
   frame_fits at f s word less n lt cov within d is there =
       let h = handler_at env.code n in
       let p = parts env f h (satisfies_at env at f n s lt (covers_this at h cov)) in
-      pointwise_at (is_assignable env.classes) f.locals d.locals word vtype.Top vtype.Top (fits_before env h f d p is).0 less
+      pointwise_at (is_assignable env.classes) f.locals d.locals word vtype.Top vtype.Top
+      (fits_before env h f d p is).0 less
 
   pub went_on : (at : ℕ) (f : TypeFrame) (now new : List (Option Noted)) (fitting : Fitting)
       → IsTrue (satisfies_handlers env at f) → AreNoted env (at + 1) now → Notes now new f.locals

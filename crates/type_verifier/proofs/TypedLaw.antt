@@ -1,10 +1,11 @@
 -- The walk says yes exactly where there is a list of frames, and its fault is the first one.
-use Rattle.std.proofs.Common.{◌≡◌, ◌⊎◌, ℕ, suc, zero, ◌+◌, ◌-◌, ◌≤◌, Bool, true, false, cond, not, IsTrue, List, [], ◌∷◌, length, take, drop, Option, Some, None}
-use Rattle.std.proofs.Common.{Result, Ok, Err, refl, sym, ap, subst, ◌∙◌, inl, inr, slice_get, arith, add-zero}
+use Rattle.std.proofs.Common.{◌≡◌, ◌⊎◌, ℕ, suc, zero, ◌+◌, ◌-◌, ◌≤◌, Bool, true, false, cond, not, IsTrue, List, []}
+use Rattle.std.proofs.Common.{◌∷◌, length, take, drop, Option, Some, None, Result, Ok, Err, refl, sym, ap, subst, ◌∙◌}
+use Rattle.std.proofs.Common.{inl, inr, slice_get, arith, add-zero}
 use Rattle.std.proofs.lemmas.List.{drop_all, take_all}
 use Rattle.std.proofs.lemmas.Option.{get_or_from_slice_get, slice_get_within}
-use Rattle.type_verifier.proofs.Lists.{rest_is}
 use Rattle.jv_base.specs.Outcome.{◌>>=◌}
+use Rattle.jv_base.proofs.Lists.{rest_is}
 use Rattle.class_model.specs.declared.code.Ins.{Ins}
 use Rattle.class_model.specs.declared.op.Op.{Op}
 use Rattle.type_verifier.specs.declared.fault.TypeFault.{TypeFault}
@@ -15,9 +16,10 @@ use Rattle.type_verifier.specs.Assignable.{is_frame_assignable}
 use Rattle.type_verifier.specs.Effects.{Checked, stepped}
 use Rattle.type_verifier.specs.Environment.{Environment, declared_frame_at, initial_frame, is_entered}
 use Rattle.type_verifier.specs.Typed.{AreInstructionsTyped, FallsOffAt, IsFirstFault, IsWrongAt, Stands, Typed}
-use Rattle.type_verifier.specs.Walk.{arrived, at_instruction, fault_at, fits_targets, flow_after, flowed, instruction_checked}
-use Rattle.type_verifier.specs.Walk.{satisfies_handlers}
+use Rattle.type_verifier.specs.Walk.{arrived, at_instruction, fault_at, fits_targets, flow_after, flowed}
+use Rattle.type_verifier.specs.Walk.{instruction_checked, satisfies_handlers}
 use Rattle.type_verifier.specs.bodies.Walked.{code_checked, gone_on, walked}
+use Rattle.type_verifier.proofs.Handled.{is_true}
 
 abbrev Answer : Type 0
 Answer = Result (Unit {0}) TypeFault
@@ -37,11 +39,13 @@ passes : {A : Type 0} (b : Bool) (kind : TypeKind) (r : Result A TypeKind) (y : 
 passes true kind r y h = (refl, h)
 passes false kind r y h = absurd cc
 
-fitted : (b : Bool) (d f : TypeFrame) → (let R : Checked = cond b (Ok d) (Err Mismatch) in R) ≡ Ok f → (f ≡ d) × IsTrue b
+fitted : (b : Bool) (d f : TypeFrame) → (let R : Checked = cond b (Ok d) (Err Mismatch) in R) ≡ Ok f
+    → (f ≡ d) × IsTrue b
 fitted true d f h = (sym cc, refl)
 fitted false d f h = absurd cc
 
-free : (b : Bool) (d f : TypeFrame) → (let R : Checked = cond b (Err NoFrame) (Ok d) in R) ≡ Ok f → (f ≡ d) × (b ≡ false)
+free : (b : Bool) (d f : TypeFrame) → (let R : Checked = cond b (Err NoFrame) (Ok d) in R) ≡ Ok f
+    → (f ≡ d) × (b ≡ false)
 free true d f h = absurd cc
 free false d f h = (sym cc, refl)
 
@@ -73,8 +77,15 @@ module _ (env : Environment) where
       let s = bound (stepped env at op a.0) (flowed env at op a.0) next a.2 in
       let t = passes (fits_targets env op s.0) Mismatch
       (cond (not (satisfies_handlers env at a.0)) (Err Handler) (Ok (flow_after op s.0))) next s.2 in
-      let u = passes (satisfies_handlers env at a.0) Handler (Ok (flow_after op s.0)) next t.1 in
-      (a.0, stands at flow (declared_frame_at env at) a.0 a.1, s.0, s.1, t.0, u.0, same_flow (flow_after op s.0) next u.1)
+      let u = passes (satisfies_handlers env at a.0) Handler (Ok (flow_after op s.0)) next t.1 in (
+        a.0,
+        stands at flow (declared_frame_at env at) a.0 a.1,
+        s.0,
+        s.1,
+        t.0,
+        u.0,
+        same_flow (flow_after op s.0) next u.1,
+      )
     where
       same_flow : (x y : Option TypeFrame) → (let R : Flow = Ok x in R) ≡ Ok y → x ≡ y
       same_flow x y e = cc
@@ -107,9 +118,6 @@ module _ (env : Environment) where
 
   -- ---- from frames to the walk
 
-  is_true : (b : Bool) → IsTrue b → b ≡ true
-  is_true b h = h
-
   arrives : (at : ℕ) (flow declared : Option TypeFrame) (f : TypeFrame) → Stands env at flow declared f
       → arrived env at flow declared ≡ Ok f
   arrives at (Some from) (Some d) f h = rw (is_true (is_frame_assignable env.classes from d) h.1, h.0) refl
@@ -121,11 +129,13 @@ module _ (env : Environment) where
       → IsTrue (satisfies_handlers env at before) → flowed env at op before after ≡ Ok (flow_after op after)
   flows at op before after t u =
       ap (λ (b : Bool). let R : Flow = cond (not b) (Err Mismatch)
-      (cond (not (satisfies_handlers env at before)) (Err Handler) (Ok (flow_after op after))) in R) (is_true (fits_targets env op after) t)
+      (cond (not (satisfies_handlers env at before)) (Err Handler) (Ok (flow_after op after))) in R)
+      (is_true (fits_targets env op after) t)
       ∙ ap (λ (b : Bool). let R : Flow = cond (not b) (Err Handler) (Ok (flow_after op after)) in R)
       (is_true (satisfies_handlers env at before) u)
 
-  goes : (at : ℕ) (op : Op) (flow : Option TypeFrame) (f after : TypeFrame) → Stands env at flow (declared_frame_at env at) f
+  goes : (at : ℕ) (op : Op) (flow : Option TypeFrame) (f after : TypeFrame)
+      → Stands env at flow (declared_frame_at env at) f
       → stepped env at op f ≡ Ok after → IsTrue (fits_targets env op after) → IsTrue (satisfies_handlers env at f)
       → at_instruction env at op flow ≡ Ok (flow_after op after)
   goes at op flow f after st s t u =
@@ -144,7 +154,8 @@ module _ (env : Environment) where
   walked_on at (suc k) flow behind (i ∷ ins) [] h le = absurd h
   walked_on at (suc k) flow behind (i ∷ ins) (f ∷ fs) h le =
       let n : at + 1 + k ≡ at + suc k = omega arith in
-      ap (λ (r : Flow). gone_on env at r (λ next. walked env (at + 1) next ins)) (goes at i.op flow f h.1 h.0 h.2 h.3 h.4)
+      ap (λ (r : Flow). gone_on env at r (λ next. walked env (at + 1) next ins))
+      (goes at i.op flow f h.1 h.0 h.2 h.3 h.4)
       ∙ walked_on (at + 1) k (flow_after i.op h.1) behind ins fs h.5 (omega (arith, le))
       ∙ ap (λ (m : ℕ). walked env m behind (drop k ins)) n
 
@@ -213,7 +224,13 @@ module _ (env : Environment) where
   faulty at None [] fault h = absurd cc
   faulty at (Some f) [] fault h =
       let n : at - 1 ≡ at + 0 - 1 = omega arith in
-      inr (f, [], sym (same_fault (fault_at env (at - 1) FallsOff) fault h) ∙ ap (λ (m : ℕ). fault_at env m FallsOff) n, refl)
+      inr (
+        f,
+        [],
+        sym (same_fault (fault_at env (at - 1) FallsOff) fault h)
+            ∙ ap (λ (m : ℕ). fault_at env m FallsOff) n,
+        refl,
+      )
   faulty at flow (i ∷ ins) fault h =
       at_first at i ins flow fault (at_instruction env at i.op flow) refl h (λ next. faulty (at + 1) next ins fault)
 
@@ -227,7 +244,8 @@ module _ (env : Environment) where
       (refl, inl (v.0, v.1, v.2, (v.3, v.4), ap (λ (m : ℕ). at_instruction env m (v.0).op v.2) (sym z) ∙ v.5))
   first_of fault (inr w) =
       let z : 0 + length env.code.ins - 1 ≡ length env.code.ins - 1 = omega arith in
-      let e : fault ≡ fault_at env (length env.code.ins - 1) FallsOff = w.2 ∙ ap (λ (m : ℕ). fault_at env m FallsOff) z in
+      let e : fault ≡ fault_at env (length env.code.ins - 1) FallsOff = w.2
+      ∙ ap (λ (m : ℕ). fault_at env m FallsOff) z in
       subst (λ (f : TypeFault). IsFirstFault env f) (sym e) (
         refl,
         inr (
@@ -287,7 +305,8 @@ module _ (env : Environment) where
       ∙ ap (λ (m : ℕ). let R : Answer = Err (fault_at env m FallsOff) in R) z
 
   pub no_where_fault : (fault : TypeFault) → IsFirstFault env fault → code_checked env ≡ Err fault
-  no_where_fault fault (e, inl w) = no_where_wrong fault.index fault.kind w ∙ ap (λ (f : TypeFault). let R : Answer = Err f in R) (sym e)
+  no_where_fault fault (e, inl w) = no_where_wrong fault.index fault.kind w
+      ∙ ap (λ (f : TypeFault). let R : Answer = Err f in R) (sym e)
   no_where_fault fault (e, inr w) = no_where_off fault.index w.1
       ∙ ap (λ (k : TypeKind). let R : Answer = Err (fault_at env fault.index k) in R) (sym w.0)
       ∙ ap (λ (f : TypeFault). let R : Answer = Err f in R) (sym e)
@@ -303,6 +322,7 @@ one_answer (Err f) fault other h g = cc
 pub never_both : (env : Environment) (fault : TypeFault) → Typed env → IsFirstFault env fault → ⊥
 never_both env fault t h = apart (code_checked env) fault (yes_where_typed env t) (no_where_fault env fault h)
 
-pub one_fault : (env : Environment) (fault other : TypeFault) → IsFirstFault env fault → IsFirstFault env other → fault ≡ other
+pub one_fault : (env : Environment) (fault other : TypeFault) → IsFirstFault env fault → IsFirstFault env other
+    → fault ≡ other
 one_fault env fault other h g =
     one_answer (code_checked env) fault other (no_where_fault env fault h) (no_where_fault env other g)

@@ -5,6 +5,7 @@ use Rattle.std.proofs.lemmas.List.{drop_all}
 use Rattle.jv_base.specs.Outcome.{FaultIs}
 use Rattle.jv_base.specs.declared.outcome.Or.{Or}
 use Rattle.jv_base.specs.declared.outcome.Or.TheVariants as or
+use Rattle.jv_base.proofs.Lists.{rest_is}
 use Rattle.class_model.specs.declared.code.Ins.{Ins}
 use Rattle.type_verifier.specs.declared.fault.TypeFault.{TypeFault}
 use Rattle.type_verifier.specs.declared.fault.TypeKind.{TypeKind}
@@ -13,7 +14,6 @@ use Rattle.type_verifier.specs.bodies.Changes.{GoesOn}
 use Rattle.type_verifier.specs.Environment.{Environment}
 use Rattle.type_verifier.specs.Walk.{at_instruction, fault_at}
 use Rattle.type_verifier.specs.bodies.Walked.{ended, gone_on, walked}
-use Rattle.type_verifier.proofs.Lists.{rest_is}
 
 abbrev Answer : Type 0
 Answer = Result (Unit {0}) TypeFault
@@ -25,7 +25,8 @@ module _ (env : Environment) where
   unfolding walked
   next_is ins at i before lt is = ap (walked env at before) (rest_is ins at i lt is)
 
-  pub walk_more : (ins : List Ins) (at : ℕ) (i : Ins) (before next : Option TypeFrame) (total : Answer) → at < length ins
+  pub walk_more : (ins : List Ins) (at : ℕ) (i : Ins) (before next : Option TypeFrame) (total : Answer)
+      → at < length ins
       → i ≡ get_or ins at i → at_instruction env at i.op before ≡ Ok next
       → walked env at before (drop at ins) ≡ total → walked env (at + 1) next (drop (at + 1) ins) ≡ total
   walk_more ins at i before next total lt is h so_far =

@@ -89,11 +89,13 @@ module _ (classes : List Class) (own number : ℕ) (c : Class) (m : Method) (cod
       → slice_get (class_with_code number code c).methods number ≡ Some (method_with_code code m)
   is_tried is = changed_get (method_with_code code) number c.methods ∙ ap (option_map (method_with_code code)) is
 
-  only_code : Typed Tried → IsTypedMethod (set_with_code classes own number code) own (class_with_code number code c) number
+  only_code : Typed Tried
+      → IsTypedMethod (set_with_code classes own number code) own (class_with_code number code c) number
       (method_with_code code m)
   only_code t other has =
       let same : code ≡ other = cc in
-      subst (λ (k : Code). Typed (environment (set_with_code classes own number code) own (class_with_code number code c)
+      subst (λ (k : Code). Typed
+      (environment (set_with_code classes own number code) own (class_with_code number code c)
       number (method_with_code code m) k)) same t
 
   -- what is answered of the code is what holds of the method in the set in which it has the code
@@ -118,4 +120,5 @@ module _ (classes : List Class) (own number : ℕ) (c : Class) (m : Method) (cod
   pub typed_code : slice_get classes own ≡ Some c → slice_get c.methods number ≡ Some m
       → IsTypedAt (set_with_code classes own number code) own number → code_checked There ≡ Ok tt
   typed_code there is t = yes_where_typed There
-      (tried_typed (t (class_with_code number code c) (there_tried there) (method_with_code code m) (is_tried is) code refl))
+      (tried_typed
+      (t (class_with_code number code c) (there_tried there) (method_with_code code m) (is_tried is) code refl))

@@ -1,6 +1,6 @@
 -- No rule looks at the codes of the methods of a set: what a set tells without them is what it tells.
-use Rattle.std.proofs.Common.{◌≡◌, ℕ, zero, suc, ◌+◌, Bool, true, false, not, ◌&&◌, ◌||◌, List, [], ◌∷◌, ◌++◌, length, map}
-use Rattle.std.proofs.Common.{Option, Some, None, Result, Ok, Err, refl, ap, ◌∙◌}
+use Rattle.std.proofs.Common.{◌≡◌, ℕ, zero, suc, ◌+◌, Bool, true, false, not, ◌&&◌, ◌||◌, List, [], ◌∷◌, ◌++◌, length}
+use Rattle.std.proofs.Common.{map, Option, Some, None, Result, Ok, Err, refl, ap, ◌∙◌}
 use Rattle.std.specs.Prelude.{◌==◌, if◌then◌else◌, slice_get, codes}
 use Rattle.std.specs.Bool.{beq}
 use Rattle.std.specs.List.{filter, filter_map, find, flat_map, list_any, position}
@@ -16,20 +16,23 @@ use Rattle.class_model.specs.declared.op.MemberRef.{MemberRef}
 use Rattle.lib_table.proofs.Classes.{position_map}
 use Rattle.lib_table.specs.Lookups as table
 use Rattle.lib_table.specs.declared.class.LibKind.TheVariants.{Open}
-use Rattle.class_pool.specs.Found.{NameAndType, MemberRow, declared_by, declared_in, field_row, has_flag, method_row, name_of}
-use Rattle.class_pool.specs.Found.{package_of, rows_in, same_package}
-use Rattle.class_pool.specs.Hierarchy.{class_named, classes_named, interfaces, is_interface_kind, kind_in, kind_of, or_found}
-use Rattle.class_pool.specs.Hierarchy.{superclass, superclass_of}
+use Rattle.class_pool.specs.Found.{NameAndType, MemberRow, declared_by, declared_in, field_row, has_flag, method_row}
+use Rattle.class_pool.specs.Found.{name_of, package_of, rows_in, same_package}
+use Rattle.class_pool.specs.Hierarchy.{class_named, classes_named, interfaces, is_interface_kind, kind_in, kind_of}
+use Rattle.class_pool.specs.Hierarchy.{or_found, superclass, superclass_of}
 use Rattle.class_pool.specs.Members.{declared_at, is_field, is_method, member_named, or_method}
 use Rattle.class_pool.specs.Resolution.{chosen, class_method_found, field_found, first, interface_method_found}
 use Rattle.class_pool.specs.Resolution.{is_class_accessible, is_class_below, is_interface_in, is_maximally_specific}
 use Rattle.class_pool.specs.Resolution.{is_member_accessible, is_open, is_protected_accessible, is_public_class}
-use Rattle.class_pool.specs.Resolution.{maximally_specific, method_found, object_method, only_one, superinterface_methods}
-use Rattle.class_pool.specs.Walk.{highest, own_superinterfaces, same_class, superclasses_from, superinterfaces, upwards, walked}
+use Rattle.class_pool.specs.Resolution.{maximally_specific, method_found, object_method, only_one}
+use Rattle.class_pool.specs.Resolution.{superinterface_methods}
+use Rattle.class_pool.specs.Walk.{highest, own_superinterfaces, same_class, superclasses_from, superinterfaces, upwards}
+use Rattle.class_pool.specs.Walk.{walked}
 use Rattle.class_pool.specs.declared.id.ClassId.{ClassId}
 use Rattle.class_pool.specs.declared.id.ClassId.TheVariants.{Prog, Lib}
 use Rattle.class_pool.specs.declared.id.MemberAt.{MemberAt}
-use Rattle.link_check.specs.Links.{callable, linked, linked_field, linked_method, of_array, of_class, resolved_field, resolved_method, through}
+use Rattle.link_check.specs.Links.{callable, linked, linked_field, linked_method, of_array, of_class, resolved_field}
+use Rattle.link_check.specs.Links.{resolved_method, through}
 use Rattle.link_check.specs.declared.fault.LinkKind.{LinkKind}
 use Rattle.link_check.specs.declared.fault.LinkKind.TheVariants.{Inaccessible, LeftOutMember, WrongKind}
 
@@ -77,7 +80,8 @@ member_bare : (c : Class) (name descriptor : List ℕ) (o : Option ℕ)
     → or_method (bare c) name descriptor o ≡ or_method c name descriptor o
 member_bare c name descriptor (Some n) = refl
 member_bare c name descriptor None =
-    ap (λ (o : Option ℕ). option_map (λ n. length c.fields + n) o) (position_map bare_method (is_method name descriptor) c.methods)
+    ap (λ (o : Option ℕ). option_map (λ n. length c.fields + n) o)
+    (position_map bare_method (is_method name descriptor) c.methods)
 
 then_member : (name descriptor : List ℕ) (o : Option Class)
     → option_and_then (λ (c : Class). member_named c name descriptor) (option_map bare o)
@@ -99,7 +103,8 @@ module _ (classes : List Class) where
   then_superclass None = refl
 
   superclass_at : (id : ClassId) → superclass (bared classes) id ≡ superclass classes id
-  superclass_at (Prog n) = ap (option_and_then (superclass_of (bared classes))) (bare_at n) ∙ then_superclass (slice_get classes n)
+  superclass_at (Prog n) = ap (option_and_then (superclass_of (bared classes))) (bare_at n)
+      ∙ then_superclass (slice_get classes n)
   superclass_at (Lib id) = refl
 
   same_superclass : superclass (bared classes) ≡ superclass classes
@@ -113,7 +118,8 @@ module _ (classes : List Class) where
 
   interfaces_at : (id : ClassId) → interfaces (bared classes) id ≡ interfaces classes id
   interfaces_at (Prog n) =
-      ap (λ (o : Option Class). option_map_or (λ (c : Class). classes_named (bared classes) c.interfaces) o []) (bare_at n)
+      ap (λ (o : Option Class). option_map_or (λ (c : Class). classes_named (bared classes) c.interfaces) o [])
+      (bare_at n)
       ∙ named_interfaces (slice_get classes n)
   interfaces_at (Lib id) = refl
 
@@ -202,7 +208,8 @@ module _ (classes : List Class) where
   same_methods = λ i c named. filter (same_open i) (same_declared_by i named (same_superinterfaces i c))
 
   same_specific : is_maximally_specific (bared classes) ≡ is_maximally_specific classes
-  same_specific = λ i ms m. not (list_any (λ other. list_any (same_class m.class) (same_superinterfaces i other.class)) ms)
+  same_specific =
+      λ i ms m. not (list_any (λ other. list_any (same_class m.class) (same_superinterfaces i other.class)) ms)
 
   one_of : (ms : List MemberAt) → only_one (bared classes) ms ≡ only_one classes ms
   one_of [] = refl
@@ -264,7 +271,8 @@ module _ (classes : List Class) where
   through_same from None found = refl
   through_same from (Some c) found = λ i. if same_accessible i from c then found c else Err Inaccessible
 
-  of_array_same : (from : ClassId) (right : Bool) (b : Base) → of_array (bared classes) from right b ≡ of_array classes from right b
+  of_array_same : (from : ClassId) (right : Bool) (b : Base)
+      → of_array (bared classes) from right b ≡ of_array classes from right b
   of_array_same from right (base.Class name) =
       (λ i. through (bared classes) from (same_named i name) (λ c. if right then Err LeftOutMember else Err WrongKind))
       ∙ through_same from (class_named classes name) (λ c. if right then Err LeftOutMember else Err WrongKind)
@@ -277,7 +285,8 @@ module _ (classes : List Class) where
   of_array_same from right base.Float = refl
   of_array_same from right base.Double = refl
 
-  of_class_same : (from : ClassId) (b : Base) (found : Found) → of_class (bared classes) from b found ≡ of_class classes from b found
+  of_class_same : (from : ClassId) (b : Base) (found : Found)
+      → of_class (bared classes) from b found ≡ of_class classes from b found
   of_class_same from (base.Class name) found = (λ i. through (bared classes) from (same_named i name) found)
       ∙ through_same from (class_named classes name) found
   of_class_same from base.Boolean found = refl
@@ -290,18 +299,21 @@ module _ (classes : List Class) where
   of_class_same from base.Double found = refl
 
   found_field : (from : ClassId) (named : NameAndType) (c : ClassId)
-      → linked (bared classes) from c true (field_found (bared classes) c named) ≡ linked classes from c true (field_found classes c named)
+      → linked (bared classes) from c true (field_found (bared classes) c named)
+      ≡ linked classes from c true (field_found classes c named)
   found_field from named c = (λ i. linked (bared classes) from c true (same_field i c named))
       ∙ linked_same from c true (field_found classes c named)
 
   found_method : (from : ClassId) (named : NameAndType) (of_interface : Bool) (c : ClassId)
-      → linked (bared classes) from c (beq (is_interface_in (bared classes) c) of_interface) (method_found (bared classes) c named)
+      → linked (bared classes) from c (beq (is_interface_in (bared classes) c) of_interface)
+      (method_found (bared classes) c named)
       ≡ linked classes from c (beq (is_interface_in classes c) of_interface) (method_found classes c named)
   found_method from named of_interface c =
       (λ i. linked (bared classes) from c (beq (same_interface i c) of_interface) (same_method i c named))
       ∙ linked_same from c (beq (is_interface_in classes c) of_interface) (method_found classes c named)
 
-  linked_field_same : (from : ClassId) (r : MemberRef) → linked_field (bared classes) from r ≡ linked_field classes from r
+  linked_field_same : (from : ClassId) (r : MemberRef)
+      → linked_field (bared classes) from r ≡ linked_field classes from r
   linked_field_same from r =
       (λ i. if r.class.dims == 0
       then of_class (bared classes) from r.class.base (λ c. found_field from (r.name, r.ty) c i)
@@ -310,24 +322,29 @@ module _ (classes : List Class) where
       then of_class_same from r.class.base (λ c. linked classes from c true (field_found classes c (r.name, r.ty))) i
       else of_array classes from true r.class.base)
 
-  linked_method_same : (from : ClassId) (r : MemberRef) → linked_method (bared classes) from r ≡ linked_method classes from r
+  linked_method_same : (from : ClassId) (r : MemberRef)
+      → linked_method (bared classes) from r ≡ linked_method classes from r
   linked_method_same from r =
       (λ i. if r.class.dims == 0
       then of_class (bared classes) from r.class.base (λ c. found_method from (r.name, r.ty) r.of_interface c i)
       else of_array_same from (not r.of_interface) r.class.base i)
       ∙ (λ i. if r.class.dims == 0
       then of_class_same from r.class.base
-      (λ c. linked classes from c (beq (is_interface_in classes c) r.of_interface) (method_found classes c (r.name, r.ty))) i
+      (λ c. linked classes from c (beq (is_interface_in classes c) r.of_interface)
+      (method_found classes c (r.name, r.ty))) i
       else of_array classes from (not r.of_interface) r.class.base)
 
-  callable_same : (from : ClassId) (r : Result MemberAt LinkKind) → callable (bared classes) from r ≡ callable classes from r
+  callable_same : (from : ClassId) (r : Result MemberAt LinkKind)
+      → callable (bared classes) from r ≡ callable classes from r
   callable_same from (Ok m) = refl
   callable_same from (Err kind) = refl
 
-  pub same_resolved_field : (from : ClassId) (r : MemberRef) → resolved_field (bared classes) from r ≡ resolved_field classes from r
+  pub same_resolved_field : (from : ClassId) (r : MemberRef)
+      → resolved_field (bared classes) from r ≡ resolved_field classes from r
   same_resolved_field from r = ap (callable (bared classes) from) (linked_field_same from r)
       ∙ callable_same from (linked_field classes from r)
 
-  pub same_resolved_method : (from : ClassId) (r : MemberRef) → resolved_method (bared classes) from r ≡ resolved_method classes from r
+  pub same_resolved_method : (from : ClassId) (r : MemberRef)
+      → resolved_method (bared classes) from r ≡ resolved_method classes from r
   same_resolved_method from r = ap (callable (bared classes) from) (linked_method_same from r)
       ∙ callable_same from (linked_method classes from r)

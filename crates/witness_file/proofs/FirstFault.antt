@@ -1,11 +1,13 @@
 -- The line that is told is the first at fault: whatever was read before can be gone on with to a witness.
-use Rattle.std.proofs.Common.{◌≡◌, ℕ, ◌+◌, ◌<◌, ◌≤◌, ◌^◌, Bool, true, false, not, ◌||◌, eqb, leb, List, [], ◌∷◌, ◌++◌, length, Option, Some, None}
-use Rattle.std.proofs.Common.{Result, Ok, Err, refl, sym, ap, subst, ◌∙◌, append_assoc, arith, ◌⊎◌, inl, inr}
+use Rattle.std.proofs.Common.{◌≡◌, ℕ, ◌+◌, ◌<◌, ◌≤◌, ◌^◌, Bool, true, false, not, ◌||◌, eqb, leb, List, [], ◌∷◌, ◌++◌}
+use Rattle.std.proofs.Common.{length, Option, Some, None, Result, Ok, Err, refl, sym, ap, subst, ◌∙◌, append_assoc}
+use Rattle.std.proofs.Common.{arith, ◌⊎◌, inl, inr}
 use Rattle.std.specs.List.{AllByRecursion, flat_map}
 use Rattle.std.specs.Option.{option_to_list}
 use Rattle.std.specs.Str.Lines.{lines}
 use Rattle.std.proofs.lemmas.List.{append-nil, length-append}
 use Rattle.jv_base.specs.Outcome.{◌>>=◌}
+use Rattle.jv_base.proofs.Lists.{all_append}
 use Rattle.text_lines.specs.Faults.{CanBegin, EndsTooSoon, IsFirstAtFault}
 use Rattle.text_lines.specs.Lines.{AreSpelled, at_line, item_added, line_read, read_lines, saying}
 use Rattle.text_lines.proofs.ReadLines.{adds, lines_found}
@@ -19,8 +21,8 @@ use Rattle.code_edit.specs.declared.act.Pass.TheVariants.{Reach, Const, Slots, J
 use Rattle.code_edit.specs.declared.act.PassEdits.{PassEdits}
 use Rattle.witness_file.specs.LineReading.{line_of}
 use Rattle.witness_file.specs.WitnessLines.{IsAct, IsLine, SpellsLine, line_text}
-use Rattle.witness_file.specs.WitnessReading.{added, all_methods, all_steps, awaits_act, awaits_more, awaits_step, empty_step, ended, fault, nothing}
-use Rattle.witness_file.specs.WitnessReading.{read_witness, step}
+use Rattle.witness_file.specs.WitnessReading.{added, all_methods, all_steps, awaits_act, awaits_more, awaits_step}
+use Rattle.witness_file.specs.WitnessReading.{empty_step, ended, fault, nothing, read_witness, step}
 use Rattle.witness_file.specs.Witnesses.{StandFor, witness_lines}
 use Rattle.witness_file.specs.declared.line.WitnessLine.{WitnessLine}
 use Rattle.witness_file.specs.declared.line.WitnessLine.TheVariants as line
@@ -33,7 +35,6 @@ use Rattle.witness_file.specs.declared.witness.WitKind.TheVariants.{NotUtf8, Bad
 use Rattle.witness_file.specs.declared.witness.Witness.{Witness}
 use Rattle.witness_file.proofs.LineLaw.{line_says}
 use Rattle.witness_file.proofs.Only.{act_adds, adds_append, read_to, reading}
-use Rattle.witness_file.proofs.StepLines.{all_append}
 use Rattle.witness_file.proofs.Told.{Fits, State, all_added, step_after, told_by, with_act, with_step}
 use Rattle.witness_file.proofs.WitnessLaw.{all_valid, read_only, stand_only}
 use Rattle.witness_file.proofs.WrittenLines.{IsTextLine, lines_written}
@@ -74,24 +75,29 @@ act_of_pass Jumps = refl
 -- behind a step an act
 with_act_ends : (before : List MethodWitness) (m : MethodRead) (s : PassEdits) → CanEnd (reading before (with_step m s))
 with_act_ends before m s =
-    let some : eqb (length (s.acts ++ act_for s.pass ∷ [])) 0 ≡ false = grind (arith, length-append s.acts (act_for s.pass ∷ [])) in
+    let some : eqb (length (s.acts ++ act_for s.pass ∷ [])) 0 ≡ false =
+    grind (arith, length-append s.acts (act_for s.pass ∷ [])) in
     record {
       more = line.Act (act_for s.pass) ∷ [];
       valid = (act_valid s.pass, tt);
       texts = (tt, tt);
       end = reading before (with_step m (with_act s (act_for s.pass)));
-      added_all = ap (λ (o : Result WitnessRead WitKind). o >>= (λ u. adds added [] u)) (act_adds before m s (act_for s.pass) (act_of_pass s.pass));
+      added_all = ap (λ (o : Result WitnessRead WitKind). o >>= (λ u. adds added [] u))
+          (act_adds before m s (act_for s.pass) (act_of_pass s.pass));
       witness = record { methods = all_methods (reading before (with_step m (with_act s (act_for s.pass)))) };
       done = rw some refl;
     }
 
 -- behind a method a step
-with_step_ends : (before : List MethodWitness) (m : MethodRead) → m.step ≡ None → m.steps ≡ [] → CanEnd (reading before m)
+with_step_ends : (before : List MethodWitness) (m : MethodRead) → m.step ≡ None → m.steps ≡ []
+    → CanEnd (reading before m)
 with_step_ends before m none fresh =
     let free : awaits_act m.step ≡ false = ap awaits_act none in
-    let empty : all_steps m ≡ [] = ap (λ (o : Option PassEdits). m.steps ++ option_to_list o) none ∙ append-nil m.steps ∙ fresh in
+    let empty : all_steps m ≡ [] = ap (λ (o : Option PassEdits). m.steps ++ option_to_list o) none
+    ∙ append-nil m.steps ∙ fresh in
     let first : leb 1 (length (all_steps m)) ≡ false = ap (λ (l : List PassEdits). leb 1 (length l)) empty in
-    let begun : added (line.Step 1) (reading before m) ≡ read_to before (with_step (step_after 1 m None) (empty_step Reach)) = rw (free, first) refl in
+    let begun : added (line.Step 1) (reading before m)
+    ≡ read_to before (with_step (step_after 1 m None) (empty_step Reach)) = rw (free, first) refl in
     let more = with_act_ends before (step_after 1 m None) (empty_step Reach) in
     record {
       more = line.Step 1 ∷ more.more;
@@ -122,7 +128,8 @@ can_end xs r (inr p) = by r.last refl
     by_step : (m : MethodRead) (o : Option PassEdits) → r.last ≡ Some m → m.step ≡ o → CanEnd (reading r.before m)
     by_step m None e s = with_step_ends r.before m s ((p.1.fits m e).fresh s)
     by_step m (Some t) e s =
-        let same : with_step m t ≡ m = (λ i. record { class = m.class; name = m.name; ty = m.ty; steps = m.steps; step = sym s i }) in
+        let same : with_step m t ≡ m =
+        (λ i. record { class = m.class; name = m.name; ty = m.ty; steps = m.steps; step = sym s i }) in
         subst (λ (n : MethodRead). CanEnd (reading r.before n)) same (with_act_ends r.before m t)
 
     by : (l : Option MethodRead) → r.last ≡ l → CanEnd r
@@ -143,25 +150,30 @@ can_begin ls r h =
     let found = lines_found fault NotUtf8 BadLine added line_says 1 ls nothing r h in
     let valid = all_valid (saying ls) found.0 found.1.spelled in
     let more = can_end found.0 r (all_added [] found.0 nothing r valid (inl (refl, refl)) found.2) in
-    let read : adds added (found.0 ++ more.more) nothing ≡ Ok more.end = adds_append found.0 more.more nothing r found.2 ∙ more.added_all in
-    let told = told_by (found.0 ++ more.more) more.end more.witness (all_append IsLine found.0 more.more valid more.valid) read more.done in
+    let read : adds added (found.0 ++ more.more) nothing ≡ Ok more.end =
+    adds_append found.0 more.more nothing r found.2 ∙ more.added_all in
+    let told = told_by (found.0 ++ more.more) more.end more.witness
+    (all_append IsLine found.0 more.more valid more.valid) read more.done in
     let others = lines (flat_map (λ (x : WitnessLine). line_text x ++ 10 ∷ []) more.more) in
     let spelled = all_written SpellsLine line_text more.more (lines_written more.more more.valid more.texts) in (
       others,
       more.witness,
       record {
         witness = told.1;
-        spelled = subst (AreSpelled SpellsLine (ls ++ others)) told.0 (spelled_append SpellsLine ls others found.0 more.more found.1 spelled);
+        spelled = subst (AreSpelled SpellsLine (ls ++ others)) told.0
+            (spelled_append SpellsLine ls others found.0 more.more found.1 spelled);
       },
     )
 
 -- ---- the law
 
 -- a line at fault
-line_at_fault : (ls : List (List ℕ)) (f : WitFault) → read_lines step 1 ls nothing ≡ Err f → IsFirstAtFault StandFor ls f.line
+line_at_fault : (ls : List (List ℕ)) (f : WitFault) → read_lines step 1 ls nothing ≡ Err f
+    → IsFirstAtFault StandFor ls f.line
 line_at_fault ls f h =
     let p = lines_refused step 1 ls nothing f h in
-    let kind = kind_at fault (1 + length p.before) (line_read NotUtf8 (λ l t. item_added BadLine added (line_of l) t) p.line p.state) f p.refused in
+    let kind = kind_at fault (1 + length p.before)
+    (line_read NotUtf8 (λ l t. item_added BadLine added (line_of l) t) p.line p.state) f p.refused in
     let number : f.line ≡ 1 + length p.before = ap (λ (g : WitFault). g.line) kind.1 in
     record {
       before = p.before;
@@ -171,14 +183,17 @@ line_at_fault ls f h =
       numbered = omega (arith, number);
       begins = can_begin p.before p.state p.read;
       stops = λ more.
-          let lines_are : (p.before ++ p.line ∷ []) ++ more.0 ≡ p.before ++ p.line ∷ more.0 = append_assoc p.before (p.line ∷ []) more.0 in
-          let read = stand_only (p.before ++ p.line ∷ more.0) more.1 (subst (λ (ks : List (List ℕ)). StandFor ks more.1) lines_are more.2) in
+          let lines_are : (p.before ++ p.line ∷ []) ++ more.0 ≡ p.before ++ p.line ∷ more.0 =
+          append_assoc p.before (p.line ∷ []) more.0 in
+          let read = stand_only (p.before ++ p.line ∷ more.0) more.1
+          (subst (λ (ks : List (List ℕ)). StandFor ks more.1) lines_are more.2) in
           let refused = refused_anyway step 1 p.before p.line more.0 nothing p.state f p.read p.refused in
           absurd cc;
     }
 
 -- the end of a text
-end_at_fault : (text : List ℕ) (f : WitFault) (r : WitnessRead) → read_witness text ≡ Err f → read_lines step 1 (lines text) nothing ≡ Ok r
+end_at_fault : (text : List ℕ) (f : WitFault) (r : WitnessRead) → read_witness text ≡ Err f
+    → read_lines step 1 (lines text) nothing ≡ Ok r
     → at_line fault (length (lines text) + 1) (ended r) ≡ Err f → EndsTooSoon StandFor (lines text) f.line
 end_at_fault text f r h read e =
     let kind = kind_at fault (length (lines text) + 1) (ended r) f e in
@@ -189,7 +204,8 @@ end_at_fault text f r h read e =
     }
 
 -- a fault that was handed on
-handed_on : (g f : WitFault) → (let R : Result Witness WitFault = Err g in R) ≡ Err f → (let R : Result WitnessRead WitFault = Err g in R) ≡ Err f
+handed_on : (g f : WitFault) → (let R : Result Witness WitFault = Err g in R) ≡ Err f
+    → (let R : Result WitnessRead WitFault = Err g in R) ≡ Err f
 handed_on g f h = let same : g ≡ f = cc in ap (λ (x : WitFault). let R : Result WitnessRead WitFault = Err x in R) same
 
 -- the line that is told is the first at fault

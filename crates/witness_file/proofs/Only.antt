@@ -1,7 +1,7 @@
 -- The lines of a witness can be added one by one, and then it was read.
-use Rattle.std.proofs.Common.{◌≡◌, ◌≢◌, ℕ, zero, suc, ◌+◌, ◌-◌, ◌<◌, ◌≤◌, Bool, true, false, not, cond, eqb, leb, ◌&&◌, ◌||◌}
-use Rattle.std.proofs.Common.{List, [], ◌∷◌, ◌++◌, map, length, take, drop, Option, Some, None, Result, Ok, Err, refl, sym, ap}
-use Rattle.std.proofs.Common.{subst, ◌∙◌, append_assoc, arith, inl, inr}
+use Rattle.std.proofs.Common.{◌≡◌, ◌≢◌, ℕ, zero, suc, ◌+◌, ◌-◌, ◌<◌, ◌≤◌, Bool, true, false, not, cond, eqb, leb, ◌&&◌}
+use Rattle.std.proofs.Common.{◌||◌, List, [], ◌∷◌, ◌++◌, map, length, take, drop, Option, Some, None, Result, Ok, Err}
+use Rattle.std.proofs.Common.{refl, sym, ap, subst, ◌∙◌, append_assoc, arith, inl, inr}
 use Rattle.std.specs.Prelude.{slice_get}
 use Rattle.std.specs.List.{AllByRecursion, flat_map, list_any}
 use Rattle.std.specs.Option.{option_map, option_to_list}
@@ -14,10 +14,10 @@ use Rattle.code_edit.specs.declared.act.MethodEdits.{MethodEdits}
 use Rattle.code_edit.specs.declared.act.Pass.{Pass}
 use Rattle.code_edit.specs.declared.act.PassEdits.{PassEdits}
 use Rattle.witness_file.specs.WitnessLines.{IsAct}
-use Rattle.witness_file.specs.WitnessReading.{added, all_methods, all_steps, awaits_act, awaits_more, awaits_step, closed, empty_step}
-use Rattle.witness_file.specs.WitnessReading.{ended, is_too_early, method_begun, nothing, padded}
-use Rattle.witness_file.specs.Witnesses.{ActOr, AreApart, AreInOrder, HasAct, HasActsOfPass, IsMethodWitness, IsWitness, has_method}
-use Rattle.witness_file.specs.Witnesses.{is_before, method_lines, step_lines, steps_lines, witness_lines}
+use Rattle.witness_file.specs.WitnessReading.{added, all_methods, all_steps, awaits_act, awaits_more, awaits_step}
+use Rattle.witness_file.specs.WitnessReading.{closed, empty_step, ended, is_too_early, method_begun, nothing, padded}
+use Rattle.witness_file.specs.Witnesses.{ActOr, AreApart, AreInOrder, HasAct, HasActsOfPass, IsMethodWitness, IsWitness}
+use Rattle.witness_file.specs.Witnesses.{has_method, is_before, method_lines, step_lines, steps_lines, witness_lines}
 use Rattle.witness_file.specs.declared.line.WitnessLine.{WitnessLine}
 use Rattle.witness_file.specs.declared.line.WitnessLine.TheVariants as line
 use Rattle.witness_file.specs.declared.reading.WitnessRead.{WitnessRead}
@@ -30,7 +30,8 @@ use Rattle.witness_file.proofs.Told.{before_one, order_at, step_after, with_act,
 
 -- ---- lines one behind the other
 
-pub adds_append : (xs ys : List WitnessLine) (r s : WitnessRead) → adds added xs r ≡ Ok s → adds added (xs ++ ys) r ≡ adds added ys s
+pub adds_append : (xs ys : List WitnessLine) (r s : WitnessRead) → adds added xs r ≡ Ok s
+    → adds added (xs ++ ys) r ≡ adds added ys s
 adds_append [] ys r s h = let is : r ≡ s = cc in ap (adds added ys) is
 adds_append (x ∷ xs) ys r s h =
     let b = bind_ok (added x r) (λ u. adds added xs u) s h in
@@ -48,16 +49,21 @@ read_to before m = Ok (reading before m)
 pub act_adds : (before : List MethodWitness) (m : MethodRead) (s : PassEdits) (a : Act) → pass_of a ≡ s.pass
     → added (line.Act a) (reading before (with_step m s)) ≡ read_to before (with_step m (with_act s a))
 act_adds before m s a h =
-    let yes : is_pass (pass_of a) s.pass ≡ true = ap (λ (p : Pass). is_pass p s.pass) h ∙ pass_same s.pass in rw yes refl
+    let yes : is_pass (pass_of a) s.pass ≡ true = ap (λ (p : Pass). is_pass p s.pass) h ∙ pass_same s.pass in
+    rw yes refl
 
-acts_add : (before : List MethodWitness) (m : MethodRead) (s : PassEdits) (acts : List Act) → AllByRecursion (λ a. IsAct a × (pass_of a ≡ s.pass)) acts
+acts_add : (before : List MethodWitness) (m : MethodRead) (s : PassEdits) (acts : List Act)
+    → AllByRecursion (λ a. IsAct a × (pass_of a ≡ s.pass)) acts
     → adds added (map (λ a. line.Act a) acts) (reading before (with_step m s))
     ≡ read_to before (with_step m (record { pass = s.pass; acts = s.acts ++ acts }))
-acts_add before m s [] h = ap (λ (l : List Act). read_to before (with_step m (record { pass = s.pass; acts = l }))) (sym (append-nil s.acts))
+acts_add before m s [] h =
+    ap (λ (l : List Act). read_to before (with_step m (record { pass = s.pass; acts = l }))) (sym (append-nil s.acts))
 acts_add before m s (a ∷ acts) h =
-    ap (λ (o : Result WitnessRead WitKind). o >>= (λ u. adds added (map (λ x. line.Act x) acts) u)) (act_adds before m s a h.0.1)
+    ap (λ (o : Result WitnessRead WitKind). o >>= (λ u. adds added (map (λ x. line.Act x) acts) u))
+    (act_adds before m s a h.0.1)
     ∙ acts_add before m (with_act s a) acts h.1
-    ∙ ap (λ (l : List Act). read_to before (with_step m (record { pass = s.pass; acts = l }))) (append_assoc s.acts (a ∷ []) acts)
+    ∙ ap (λ (l : List Act). read_to before (with_step m (record { pass = s.pass; acts = l })))
+    (append_assoc s.acts (a ∷ []) acts)
 
 -- ---- steps
 
@@ -68,29 +74,50 @@ padded_more n p steps h six at =
     let long : length steps ≤ length (take n step_passes) = omega (arith, length-take n step_passes, all) in
     ap (λ (l : List Pass). steps ++ map empty_step (drop (length steps) l)) (take_passes n p six at)
     ∙ ap (λ (l : List Pass). steps ++ map empty_step l) (drop_within (length steps) (take n step_passes) (p ∷ []) long)
-    ∙ ap (λ (l : List PassEdits). steps ++ l) (map-append empty_step (drop (length steps) (take n step_passes)) (p ∷ []))
+    ∙ ap (λ (l : List PassEdits). steps ++ l)
+    (map-append empty_step (drop (length steps) (take n step_passes)) (p ∷ []))
     ∙ sym (append_assoc steps (map empty_step (drop (length steps) (take n step_passes))) (empty_step p ∷ []))
 
 padded_full : (n : ℕ) (steps : List PassEdits) → length steps ≡ n → padded n steps ≡ steps
 padded_full n steps e =
-    let none : drop (length steps) (take n step_passes) ≡ [] = drop_all (length steps) (take n step_passes) (omega (arith, length-take n step_passes, e)) in
+    let none : drop (length steps) (take n step_passes) ≡ [] =
+    drop_all (length steps) (take n step_passes) (omega (arith, length-take n step_passes, e)) in
     ap (λ (l : List Pass). steps ++ map empty_step l) none ∙ append-nil steps
 
-step_adds : (before : List MethodWitness) (st : MethodRead) (done : List PassEdits) (p : Pass) → awaits_act st.step ≡ false
-    → length (all_steps st) ≤ length done → padded (length done) (all_steps st) ≡ done → slice_get step_passes (length done) ≡ Some p
+step_adds : (before : List MethodWitness) (st : MethodRead) (done : List PassEdits) (p : Pass)
+    → awaits_act st.step ≡ false
+    → length (all_steps st) ≤ length done → padded (length done) (all_steps st) ≡ done
+    → slice_get step_passes (length done) ≡ Some p
     → added (line.Step (length done + 1)) (reading before st)
     ≡ read_to before (record { class = st.class; name = st.name; ty = st.ty; steps = done; step = Some (empty_step p) })
 step_adds before st done p h few same at =
     let above : leb (length done + 1) (length (all_steps st)) ≡ false = grind (arith, few) in
     let n : (length done + 1) - 1 ≡ length done = omega arith in
     let one : added (line.Step (length done + 1)) (reading before st)
-    ≡ read_to before (step_after (length done + 1) st (slice_get step_passes ((length done + 1) - 1))) = rw (h, above) refl in
-    one ∙ ap (λ (i : ℕ). read_to before (record { class = st.class; name = st.name; ty = st.ty; steps = padded i (all_steps st); step = option_map empty_step (slice_get step_passes i) })) n
-    ∙ ap (λ (l : List PassEdits). read_to before (record { class = st.class; name = st.name; ty = st.ty; steps = l; step = option_map empty_step (slice_get step_passes (length done)) })) same
-    ∙ ap (λ (o : Option Pass). read_to before (record { class = st.class; name = st.name; ty = st.ty; steps = done; step = option_map empty_step o })) at
+    ≡ read_to before (step_after (length done + 1) st (slice_get step_passes ((length done + 1) - 1))) =
+    rw (h, above) refl in
+    one ∙ ap (λ (i : ℕ). read_to before
+    (record {
+      class = st.class;
+      name = st.name;
+      ty = st.ty;
+      steps = padded i (all_steps st);
+      step = option_map empty_step (slice_get step_passes i);
+    })) n
+    ∙ ap (λ (l : List PassEdits). read_to before
+    (record {
+      class = st.class;
+      name = st.name;
+      ty = st.ty;
+      steps = l;
+      step = option_map empty_step (slice_get step_passes (length done));
+    })) same
+    ∙ ap (λ (o : Option Pass). read_to before
+    (record { class = st.class; name = st.name; ty = st.ty; steps = done; step = option_map empty_step o })) at
 
 -- lines that were added to a method that is read, up to these steps
-record StepsAdded (before : List MethodWitness) (lines : List WitnessLine) (st : MethodRead) (whole rest : List PassEdits) : Type 0 where
+record StepsAdded (before : List MethodWitness) (lines : List WitnessLine) (st : MethodRead)
+    (whole rest : List PassEdits) : Type 0 where
   end : MethodRead
   added_all : adds added lines (reading before st) ≡ read_to before end
   class_same : end.class ≡ st.class
@@ -103,7 +130,8 @@ record StepsAdded (before : List MethodWitness) (lines : List WitnessLine) (st :
   some : HasAct rest → awaits_step end.step ≡ false
 
 steps_add : (before : List MethodWitness) (rest done : List PassEdits) (st : MethodRead) → awaits_act st.step ≡ false
-    → length (all_steps st) ≤ length done → padded (length done) (all_steps st) ≡ done → passes_of (done ++ rest) ≡ step_passes
+    → length (all_steps st) ≤ length done → padded (length done) (all_steps st) ≡ done
+    → passes_of (done ++ rest) ≡ step_passes
     → AllByRecursion HasActsOfPass rest → StepsAdded before (steps_lines (length done + 1) rest) st (done ++ rest) rest
 steps_add before [] done st h few same passes acts =
     subst (λ (w : List PassEdits). StepsAdded before [] st w []) (sym (append-nil done)) (record {
@@ -134,7 +162,8 @@ steps_add before (s ∷ ss) done st h few same passes acts =
     at : slice_get step_passes (length done) ≡ Some s.pass
     at = (let n : length (passes_of done) ≡ length done = length-map done (λ (x : PassEdits). x.pass) in
         ap (λ (l : List Pass). slice_get l (length done)) (sym passes ∙ map-append (λ x. x.pass) done (s ∷ ss))
-        ∙ ap (λ (i : ℕ). slice_get (passes_of done ++ s.pass ∷ passes_of ss) i) (sym n) ∙ got_at (passes_of done) s.pass (passes_of ss))
+        ∙ ap (λ (i : ℕ). slice_get (passes_of done ++ s.pass ∷ passes_of ss) i) (sym n)
+        ∙ got_at (passes_of done) s.pass (passes_of ss))
 
     numbers : steps_lines (length (done ++ s ∷ []) + 1) ss ≡ steps_lines ((length done + 1) + 1) ss
     numbers = ap (λ (i : ℕ). steps_lines (i + 1) ss) long
@@ -145,17 +174,21 @@ steps_add before (s ∷ ss) done st h few same passes acts =
     by : ((z : MethodRead) → awaits_act z.step ≡ false → length (all_steps z) ≤ length (done ++ s ∷ [])
         → padded (length (done ++ s ∷ [])) (all_steps z) ≡ done ++ s ∷ []
         → StepsAdded before (steps_lines (length (done ++ s ∷ []) + 1) ss) z ((done ++ s ∷ []) ++ ss) ss)
-        → (l : List Act) → s.acts ≡ l → StepsAdded before (steps_lines (length done + 1) (s ∷ ss)) st (done ++ s ∷ ss) (s ∷ ss)
+        → (l : List Act) → s.acts ≡ l
+        → StepsAdded before (steps_lines (length done + 1) (s ∷ ss)) st (done ++ s ∷ ss) (s ∷ ss)
     by go [] e =
         let is : empty_step s.pass ≡ s = (λ i. record { pass = s.pass; acts = sym e i }) in
         let padded_on : padded (length (done ++ s ∷ [])) (all_steps st) ≡ done ++ s ∷ []
-        = ap (λ (i : ℕ). padded i (all_steps st)) long ∙ padded_more (length done) s.pass (all_steps st) few (omega (arith, total)) at
+        = ap (λ (i : ℕ). padded i (all_steps st)) long
+        ∙ padded_more (length done) s.pass (all_steps st) few (omega (arith, total)) at
         ∙ ap (λ (l : List PassEdits). l ++ empty_step s.pass ∷ []) same ∙ ap (λ (x : PassEdits). done ++ x ∷ []) is in
         let more = go st h (omega (arith, long, few)) padded_on in
         let none : step_lines (length done + 1) s.acts ≡ [] = ap (step_lines (length done + 1)) e in
         record {
           end = more.end;
-          added_all = ap (λ (l : List WitnessLine). adds added (l ++ steps_lines ((length done + 1) + 1) ss) (reading before st)) none
+          added_all = ap
+              (λ (l : List WitnessLine). adds added (l ++ steps_lines ((length done + 1) + 1) ss)
+              (reading before st)) none
               ∙ ap (λ (l : List WitnessLine). adds added l (reading before st)) (sym numbers) ∙ more.added_all;
           class_same = more.class_same;
           name_same = more.name_same;
@@ -167,23 +200,33 @@ steps_add before (s ∷ ss) done st h few same passes acts =
           some = λ k. more.some (subst (λ (l : List Act). ActOr l (HasAct ss)) e k);
         }
     by go (a ∷ more_acts) e =
-        let middle : MethodRead = record { class = st.class; name = st.name; ty = st.ty; steps = done; step = Some s } in
+        let middle : MethodRead =
+        record { class = st.class; name = st.name; ty = st.ty; steps = done; step = Some s } in
         let begun = step_adds before st done s.pass h few same at in
-        let acted = acts_add before (record { class = st.class; name = st.name; ty = st.ty; steps = done; step = Some (empty_step s.pass) }) (empty_step s.pass) s.acts acts.0 in
+        let acted = acts_add before
+        (record { class = st.class; name = st.name; ty = st.ty; steps = done; step = Some (empty_step s.pass) })
+        (empty_step s.pass) s.acts acts.0 in
         let lines : step_lines (length done + 1) s.acts ≡ line.Step (length done + 1) ∷ map (λ x. line.Act x) s.acts
-        = ap (step_lines (length done + 1)) e ∙ ap (λ (l : List Act). line.Step (length done + 1) ∷ map (λ x. line.Act x) l) (sym e) in
+        = ap (step_lines (length done + 1)) e
+        ∙ ap (λ (l : List Act). line.Step (length done + 1) ∷ map (λ x. line.Act x) l) (sym e) in
         let first : adds added (step_lines (length done + 1) s.acts) (reading before st)
         ≡ read_to before (record { class = st.class; name = st.name; ty = st.ty; steps = done; step = Some s })
         = ap (λ (l : List WitnessLine). adds added l (reading before st)) lines
-        ∙ ap (λ (o : Result WitnessRead WitKind). o >>= (λ u. adds added (map (λ x. line.Act x) s.acts) u)) begun ∙ acted in
+        ∙ ap (λ (o : Result WitnessRead WitKind). o >>= (λ u. adds added (map (λ x. line.Act x) s.acts) u)) begun
+        ∙ acted in
         let some_acts : eqb (length s.acts) 0 ≡ false = ap (λ (l : List Act). eqb (length l) 0) e ∙ grind arith in
         let more = go (record { class = st.class; name = st.name; ty = st.ty; steps = done; step = Some s })
         some_acts (omega arith) (padded_full (length (done ++ s ∷ [])) (done ++ s ∷ []) refl) in
         record {
           end = more.end;
-          added_all = adds_append (step_lines (length done + 1) s.acts) (steps_lines ((length done + 1) + 1) ss) (reading before st)
-              (reading before (record { class = st.class; name = st.name; ty = st.ty; steps = done; step = Some s })) first
-              ∙ ap (λ (l : List WitnessLine). adds added l (reading before (record { class = st.class; name = st.name; ty = st.ty; steps = done; step = Some s }))) (sym numbers)
+          added_all = adds_append (step_lines (length done + 1) s.acts) (steps_lines ((length done + 1) + 1) ss)
+              (reading before st)
+              (reading before
+              (record { class = st.class; name = st.name; ty = st.ty; steps = done; step = Some s })) first
+              ∙ ap (λ (l : List WitnessLine). adds added l
+              (reading before
+              (record { class = st.class; name = st.name; ty = st.ty; steps = done; step = Some s })))
+              (sym numbers)
               ∙ more.added_all;
           class_same = more.class_same;
           name_same = more.name_same;
@@ -212,11 +255,14 @@ method_adds : (r : WitnessRead) (m : MethodWitness) → IsMethodWitness m → r.
     → has_method (all_methods r) m.class m.name m.ty ≡ false → is_too_early r.last m.class ≡ false → MethodAdded r m
 method_adds r m is b w h e =
     let six : length step_passes ≡ 6 = refl in
-    let long : length m.edits.steps ≡ 6 = sym (length-map m.edits.steps (λ (x : PassEdits). x.pass)) ∙ ap length is.passes in
-    let steps = steps_add (all_methods r) m.edits.steps [] (method_begun m.class m.name m.ty) refl (omega arith) refl is.passes is.acts in
+    let long : length m.edits.steps ≡ 6 = sym (length-map m.edits.steps (λ (x : PassEdits). x.pass))
+    ∙ ap length is.passes in
+    let steps = steps_add (all_methods r) m.edits.steps [] (method_begun m.class m.name m.ty) refl
+    (omega arith) refl is.passes is.acts in
     record {
       end = steps.end;
-      added_all = ap (λ (o : Result WitnessRead WitKind). o >>= (λ u. adds added (steps_lines 1 m.edits.steps) u)) (method_begins r m.class m.name m.ty b w h e)
+      added_all = ap (λ (o : Result WitnessRead WitKind). o >>= (λ u. adds added (steps_lines 1 m.edits.steps) u))
+          (method_begins r m.class m.name m.ty b w h e)
           ∙ steps.added_all;
       kept = λ i. record {
         class = steps.class_same i;
@@ -244,25 +290,37 @@ record MethodsAdded (r : WitnessRead) (ms : List MethodWitness) : Type 0 where
   done : awaits_more end.last ≡ false
 
 methods_add : (ms : List MethodWitness) (r : WitnessRead) → r.begun ≡ true → awaits_more r.last ≡ false
-    → AllByRecursion IsMethodWitness ms → AreApart (all_methods r ++ ms) → AreInOrder (all_methods r ++ ms) → MethodsAdded r ms
-methods_add [] r b w is a o = record { end = r; added_all = refl; kept = sym (append-nil (all_methods r)); begun = b; done = w }
+    → AllByRecursion IsMethodWitness ms → AreApart (all_methods r ++ ms) → AreInOrder (all_methods r ++ ms)
+    → MethodsAdded r ms
+methods_add [] r b w is a o =
+    record { end = r; added_all = refl; kept = sym (append-nil (all_methods r)); begun = b; done = w }
 methods_add (m ∷ ms) r b w is a o =
     let one = method_adds r m is.0 b w (before_one (all_methods r) m ms a) (not_early r.before r.last m ms o) in
-    let kept : all_methods (reading (all_methods r) one.end) ≡ all_methods r ++ m ∷ [] = ap (λ (n : MethodWitness). all_methods r ++ n ∷ []) one.kept in
+    let kept : all_methods (reading (all_methods r) one.end) ≡ all_methods r ++ m ∷ [] =
+    ap (λ (n : MethodWitness). all_methods r ++ n ∷ []) one.kept in
     let whole : all_methods (reading (all_methods r) one.end) ++ ms ≡ all_methods r ++ m ∷ ms
     = ap (λ (l : List MethodWitness). l ++ ms) kept ∙ append_assoc (all_methods r) (m ∷ []) ms in
-    let more = methods_add ms (reading (all_methods r) one.end) refl one.done is.1 (subst AreApart (sym whole) a) (subst AreInOrder (sym whole) o) in
+    let more = methods_add ms (reading (all_methods r) one.end) refl one.done is.1 (subst AreApart (sym whole) a)
+    (subst AreInOrder (sym whole) o) in
     record {
       end = more.end;
-      added_all = adds_append (method_lines m) (flat_map method_lines ms) r (reading (all_methods r) one.end) one.added_all ∙ more.added_all;
+      added_all = adds_append (method_lines m) (flat_map method_lines ms) r
+          (reading (all_methods r) one.end) one.added_all ∙ more.added_all;
       kept = more.kept ∙ whole;
       begun = more.begun;
       done = more.done;
     }
 
 -- the lines of a witness are read as it
-pub told_only : (w : Witness) → IsWitness w → (r : WitnessRead) × (adds added (witness_lines w) nothing ≡ Ok r) × (ended r ≡ Ok w)
+pub told_only : (w : Witness) → IsWitness w
+    → (r : WitnessRead) × (adds added (witness_lines w) nothing ≡ Ok r) × (ended r ≡ Ok w)
 told_only w is =
     let start : WitnessRead = record { begun = true; before = []; last = None } in
-    let all = methods_add w.methods (record { begun = true; before = []; last = None }) refl refl is.methods is.apart is.ordered in
-    (all.end, all.added_all, rw (all.begun, all.done) (ap (λ (ms : List MethodWitness). let R : Result Witness WitKind = Ok (record { methods = ms }) in R) all.kept))
+    let all = methods_add w.methods
+    (record { begun = true; before = []; last = None }) refl refl is.methods is.apart is.ordered in (
+      all.end,
+      all.added_all,
+      rw (all.begun, all.done)
+          (ap (λ (ms : List MethodWitness). let R : Result Witness WitKind = Ok (record { methods = ms }) in
+          R) all.kept),
+    )

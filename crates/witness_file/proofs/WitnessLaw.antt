@@ -1,16 +1,20 @@
 -- A text stands for the witness that is read of it, and for no other; what is written stands for what was written.
-use Rattle.std.proofs.Common.{◌≡◌, ℕ, ◌+◌, Bool, true, false, not, cond, ◌||◌, List, [], ◌∷◌, ◌++◌, length, Result, Ok, Err, refl, sym, ap, subst, ◌∙◌}
+use Rattle.std.proofs.Common.{◌≡◌, ℕ, ◌+◌, Bool, true, false, not, ◌||◌, List, [], ◌∷◌, ◌++◌, length, Result, Ok, Err}
+use Rattle.std.proofs.Common.{refl, sym, ap, subst, ◌∙◌}
 use Rattle.std.specs.List.{AllByRecursion, flat_map}
 use Rattle.std.specs.Str.{IsUtf8}
 use Rattle.std.specs.Str.Lines.{lines}
 use Rattle.jv_base.specs.Outcome.{◌>>=◌, FaultIs}
 use Rattle.jv_base.specs.declared.outcome.Or.{Or}
 use Rattle.jv_base.specs.declared.outcome.Or.TheVariants.{Fault, OutOfMemory}
-use Rattle.text_lines.specs.Lines.{AllSpell, AreSpelled, at_line, is_passed_over, read_lines, saying}
-use Rattle.text_lines.proofs.ReadLines.{at_ok, bind_ok, lines_found, lines_only}
+use Rattle.jv_base.proofs.Lists.{all_split}
+use Rattle.text_lines.specs.Lines.{AllSpell, AreSpelled, at_line, read_lines, saying}
+use Rattle.text_lines.proofs.ReadLines.{at_ok, bind_ok, lines_found, lines_only, saying_utf8}
 use Rattle.witness_file.specs.WitnessLines.{IsLine, SpellsLine, line_text, method_line_text}
-use Rattle.witness_file.specs.WitnessReading.{added, all_methods, awaits_more, ended, fault, nothing, read_witness, step}
-use Rattle.witness_file.specs.Witnesses.{AreTexts, IsWitness, Reading, StandFor, method_lines, witness_lines, witness_text}
+use Rattle.witness_file.specs.WitnessReading.{added, all_methods, awaits_more, ended, fault, nothing, read_witness}
+use Rattle.witness_file.specs.WitnessReading.{step}
+use Rattle.witness_file.specs.Witnesses.{AreTexts, IsWitness, Reading, StandFor, method_lines, witness_lines}
+use Rattle.witness_file.specs.Witnesses.{witness_text}
 use Rattle.witness_file.specs.declared.line.WitnessLine.{WitnessLine}
 use Rattle.witness_file.specs.declared.line.WitnessLine.TheVariants as line
 use Rattle.witness_file.specs.declared.reading.WitnessRead.{WitnessRead}
@@ -20,7 +24,6 @@ use Rattle.witness_file.specs.declared.witness.WitKind.TheVariants.{NotUtf8, Bad
 use Rattle.witness_file.specs.declared.witness.Witness.{Witness}
 use Rattle.witness_file.proofs.LineLaw.{line_says}
 use Rattle.witness_file.proofs.Only.{told_only}
-use Rattle.witness_file.proofs.StepLines.{all_split}
 use Rattle.witness_file.proofs.Told.{told_by}
 use Rattle.witness_file.proofs.WrittenLines.{IsTextLine, text_spells}
 
@@ -41,7 +44,8 @@ stand_only ls w h =
 pub read_found : (text : List ℕ) (w : Witness) → read_witness text ≡ Ok w → Reading text w
 unfolding read_witness
 read_found text w h =
-    let b = bind_ok (read_lines step 1 (lines text) nothing) (λ r. at_line fault (length (lines text) + 1) (ended r)) w h in
+    let b = bind_ok (read_lines step 1 (lines text) nothing)
+    (λ r. at_line fault (length (lines text) + 1) (ended r)) w h in
     let found = lines_found fault NotUtf8 BadLine added line_says 1 (lines text) nothing b.0 b.1 in
     let end = at_ok fault (length (lines text) + 1) (ended b.0) w b.2 in
     let told = told_by found.0 b.0 w (all_valid (saying (lines text)) found.0 found.1.spelled) found.2 end in
@@ -56,14 +60,6 @@ read_only text w h = let r = stand_only (lines text) w h in rw (r.1, r.2) refl
 pub written_back : (w : Witness) → IsWitness w → AreTexts w.methods → read_witness (witness_text w) ≡ Ok w
 written_back w h t = read_only (witness_text w) w (record { witness = h; spelled = text_spells w h t })
 
-saying_utf8 : (ls : List (List ℕ)) → AllByRecursion IsUtf8 ls → AllByRecursion IsUtf8 (saying ls)
-saying_utf8 [] h = tt
-saying_utf8 (l ∷ ls) h = by (is_passed_over l) (saying_utf8 ls h.1)
-  where
-    by : (b : Bool) → AllByRecursion IsUtf8 (saying ls) → AllByRecursion IsUtf8 (cond (not b) (l ∷ saying ls) (saying ls))
-    by true more = more
-    by false more = (h.0, more)
-
 text_line : (l : List ℕ) (x : WitnessLine) → IsUtf8 l → SpellsLine l x → IsTextLine x
 unfolding line_text
 text_line l line.Head u h = tt
@@ -71,7 +67,8 @@ text_line l (line.Method class name ty) u h = subst IsUtf8 h.1 u
 text_line l (line.Step n) u h = tt
 text_line l (line.Act a) u h = tt
 
-spelled_lines : (ls : List (List ℕ)) (xs : List WitnessLine) → AllByRecursion IsUtf8 ls → AllSpell SpellsLine ls xs → AllByRecursion IsTextLine xs
+spelled_lines : (ls : List (List ℕ)) (xs : List WitnessLine) → AllByRecursion IsUtf8 ls → AllSpell SpellsLine ls xs
+    → AllByRecursion IsTextLine xs
 spelled_lines [] [] u h = tt
 spelled_lines [] (x ∷ xs) u h = absurd h
 spelled_lines (l ∷ ls) [] u h = tt
@@ -79,12 +76,15 @@ spelled_lines (l ∷ ls) (x ∷ xs) u h = (text_line l x u.0 h.0, spelled_lines 
 
 texts_of : (ms : List MethodWitness) → AllByRecursion IsTextLine (flat_map method_lines ms) → AreTexts ms
 texts_of [] h = tt
-texts_of (m ∷ ms) h = let p = all_split IsTextLine (method_lines m) (flat_map method_lines ms) h in (p.0.0, texts_of ms p.1)
+texts_of (m ∷ ms) h =
+    let p = all_split IsTextLine (method_lines m) (flat_map method_lines ms) h in (p.0.0, texts_of ms p.1)
 
 -- what a text stands for is, once written, read back
 pub read_again : (text : List ℕ) (w : Witness) → Reading text w → read_witness (witness_text w) ≡ Ok w
 read_again text w h = written_back w h.witness
-    (texts_of w.methods (spelled_lines (saying (lines text)) (witness_lines w) (saying_utf8 (lines text) h.spelled.utf8) h.spelled.spelled).1)
+    (texts_of w.methods
+    (spelled_lines (saying (lines text)) (witness_lines w)
+    (saying_utf8 (lines text) h.spelled.utf8) h.spelled.spelled).1)
 
 -- a text stands for one witness at most
 pub one_reading : (text : List ℕ) (w v : Witness) → Reading text w → Reading text v → w ≡ v
@@ -96,7 +96,9 @@ one_reading text w v h k = let p = read_only text w h in let q = read_only text 
 pub witness_read : (text : List ℕ) (r : WitnessRead) (w : Witness) → read_lines step 1 (lines text) nothing ≡ Ok r
     → r.begun ≡ true → awaits_more r.last ≡ false → w.methods ≡ all_methods r → read_witness text ≡ Ok w
 unfolding read_witness
-witness_read text r w h b d e = rw (h, b, d) (ap (λ (ms : List MethodWitness). let R : Result Witness WitFault = Ok (record { methods = ms }) in R) (sym e))
+witness_read text r w h b d e =
+    rw (h, b, d)
+    (ap (λ (ms : List MethodWitness). let R : Result Witness WitFault = Ok (record { methods = ms }) in R) (sym e))
 
 -- the text ends too soon
 pub witness_ends : (text : List ℕ) (r : WitnessRead) → read_lines step 1 (lines text) nothing ≡ Ok r
@@ -105,7 +107,8 @@ unfolding read_witness
 witness_ends text r h b = rw (h, b) refl
 
 -- the first line at fault
-pub witness_refused : (text : List ℕ) (o : Or WitFault) → FaultIs o (read_lines step 1 (lines text) nothing) → FaultIs o (read_witness text)
+pub witness_refused : (text : List ℕ) (o : Or WitFault) → FaultIs o (read_lines step 1 (lines text) nothing)
+    → FaultIs o (read_witness text)
 unfolding read_witness
 witness_refused text (Fault f) h = rw h refl
 witness_refused text OutOfMemory h = tt
@@ -119,8 +122,10 @@ more_awaited false c h = refl
 more_awaited true c h = h
 
 -- the fault that tells that the text ends too soon
-pub witness_short : (text : List ℕ) (r : WitnessRead) (o : Or WitFault) (n : ℕ) → read_lines step 1 (lines text) nothing ≡ Ok r
-    → not r.begun || awaits_more r.last ≡ true → n ≡ length (lines text) + 1 → o ≡ Fault (fault n BadLine) → FaultIs o (read_witness text)
+pub witness_short : (text : List ℕ) (r : WitnessRead) (o : Or WitFault) (n : ℕ)
+    → read_lines step 1 (lines text) nothing ≡ Ok r
+    → not r.begun || awaits_more r.last ≡ true → n ≡ length (lines text) + 1 → o ≡ Fault (fault n BadLine)
+    → FaultIs o (read_witness text)
 witness_short text r o n h b e f =
     subst (λ (x : Or WitFault). FaultIs x (read_witness text)) (sym f)
     (witness_ends text r h b ∙ ap (λ (i : ℕ). let R : Result Witness WitFault = Err (fault i BadLine) in R) (sym e))

@@ -1,7 +1,7 @@
 -- The lines of a witness as it is written: each is a line by itself.
-use Rattle.std.proofs.Common.{◌≡◌, ◌≢◌, ℕ, zero, suc, ◌+◌, ◌-◌, ◌<◌, ◌≤◌, ◌^◌, ℤ, pos, negsuc, Bool, true, false, leb, ltb, ◌&&◌}
-use Rattle.std.proofs.Common.{List, [], ◌∷◌, ◌++◌, map, length, get_or, Option, Some, None, Result, Ok, refl, sym, ap, subst, ◌∙◌}
-use Rattle.std.proofs.Common.{append_assoc, arith, codes, inl, inr}
+use Rattle.std.proofs.Common.{◌≡◌, ◌≢◌, ℕ, zero, suc, ◌+◌, ◌-◌, ◌<◌, ◌≤◌, ◌^◌, ℤ, pos, negsuc, Bool, true, false, leb}
+use Rattle.std.proofs.Common.{ltb, ◌&&◌, List, [], ◌∷◌, ◌++◌, map, length, get_or, Option, Some, None, Result, Ok, refl}
+use Rattle.std.proofs.Common.{sym, ap, subst, ◌∙◌, append_assoc, arith, codes, inl, inr}
 use Rattle.std.specs.Prelude.{IfSome, IsTrue}
 use Rattle.std.specs.Fmt.{decimal, signed_decimal}
 use Rattle.std.specs.List.{AllByRecursion, flat_map, list_all}
@@ -16,6 +16,7 @@ use Rattle.jv_base.specs.External.{dotted}
 use Rattle.jv_base.specs.Names.{is_name_byte}
 use Rattle.jv_base.specs.Types as descriptor
 use Rattle.jv_base.specs.declared.types.MethodType.{MethodType}
+use Rattle.jv_base.proofs.Lists.{all_append}
 use Rattle.text_lines.specs.Cut.{Lacks}
 use Rattle.text_lines.specs.Lines.{AllSpell, AreSpelled, is_passed_over, saying}
 use Rattle.text_lines.specs.Members.{arguments_text, method_text, result_text}
@@ -23,20 +24,21 @@ use Rattle.text_lines.proofs.Numerals.{decimal_digits}
 use Rattle.text_lines.proofs.Parts.{lacks_append}
 use Rattle.text_lines.proofs.Words.{class_word, digits_word, is_word_byte, method_word, result_word, word_lacks}
 use Rattle.text_lines.proofs.Written.{IsPlain, IsWritten, all_written}
+use Rattle.text_lines.proofs.Words.{returned_is}
+use Rattle.text_lines.proofs.Arguments.{arguments_lack_byte}
 use Rattle.code_edit.specs.Acts.{pass_of, step_passes}
 use Rattle.code_edit.specs.declared.act.Act.{Act}
 use Rattle.code_edit.specs.declared.act.Act.TheVariants as act
 use Rattle.code_edit.specs.declared.act.PassEdits.{PassEdits}
-use Rattle.witness_file.specs.WitnessLines.{IsAct, IsLine, IsMethodLine, IsTextOf, IsValue, SpellsLine, act_text, line_text}
-use Rattle.witness_file.specs.WitnessLines.{method_line_text}
-use Rattle.witness_file.specs.Witnesses.{AreTexts, HasActsOfPass, IsMethodWitness, IsWitness, ended_line, method_lines, step_lines}
-use Rattle.witness_file.specs.Witnesses.{steps_lines, witness_lines, witness_text}
+use Rattle.witness_file.specs.WitnessLines.{IsAct, IsLine, IsMethodLine, IsTextOf, IsValue, SpellsLine, act_text}
+use Rattle.witness_file.specs.WitnessLines.{line_text, method_line_text}
+use Rattle.witness_file.specs.Witnesses.{AreTexts, HasActsOfPass, IsMethodWitness, IsWitness, ended_line, method_lines}
+use Rattle.witness_file.specs.Witnesses.{step_lines, steps_lines, witness_lines, witness_text}
 use Rattle.witness_file.specs.declared.line.WitnessLine.{WitnessLine}
 use Rattle.witness_file.specs.declared.line.WitnessLine.TheVariants as line
 use Rattle.witness_file.specs.declared.witness.MethodWitness.{MethodWitness}
 use Rattle.witness_file.specs.declared.witness.Witness.{Witness}
-use Rattle.witness_file.proofs.LineLaw.{arguments_lack_byte, described, returned_is}
-use Rattle.witness_file.proofs.StepLines.{all_append}
+use Rattle.witness_file.proofs.LineLaw.{described}
 
 -- ---- bytes
 
@@ -48,36 +50,51 @@ literal byte (b ∷ text) small h =
     ((λ e. omega (arith, leb-true 32 b p.0, small, e)), literal byte text small p.1)
 
 number_lacks : (byte n : ℕ) → is_word_byte byte ≡ false → n < 2 ^ 32 → Lacks byte (decimal n)
-number_lacks byte n none h = word_lacks byte (decimal n) none (digits_word (decimal n) (decimal_digits n (omega (arith, h))).0)
+number_lacks byte n none h =
+    word_lacks byte (decimal n) none (digits_word (decimal n) (decimal_digits n (omega (arith, h))).0)
 
 value_lacks : (byte : ℕ) (v : ℤ) → byte < 32 → is_word_byte byte ≡ false → IsValue v → Lacks byte (signed_decimal v)
 value_lacks byte (pos n) small none h = number_lacks byte n none (omega (arith, h))
-value_lacks byte (negsuc n) small none h = ((λ e. omega (arith, small, e)), number_lacks byte (suc n) none (omega (arith, h)))
+value_lacks byte (negsuc n) small none h =
+    ((λ e. omega (arith, small, e)), number_lacks byte (suc n) none (omega (arith, h)))
 
 spaced : (byte : ℕ) (x y : List ℕ) → byte < 32 → Lacks byte x → Lacks byte y → Lacks byte (x ++ (codes " " ++ y))
 spaced byte x y small h k = lacks_append byte x (codes " " ++ y) h ((λ e. omega (arith, small, e)), k)
 
 act_lacks : (byte : ℕ) (a : Act) → byte < 32 → is_word_byte byte ≡ false → IsAct a → Lacks byte (act_text a)
 unfolding act_text
-act_lacks byte (act.Drop m n) small none h = lacks_append byte (codes "drop ") _ (literal byte (codes "drop ") small refl)
+act_lacks byte (act.Drop m n) small none h =
+    lacks_append byte (codes "drop ") _ (literal byte (codes "drop ") small refl)
     (spaced byte (decimal m) (decimal n) small (number_lacks byte m none h.0) (number_lacks byte n none h.1))
-act_lacks byte (act.Fact m n o v) small none h = lacks_append byte (codes "fact ") _ (literal byte (codes "fact ") small refl)
-    (spaced byte (decimal m) _ small (number_lacks byte m none h.0) (spaced byte (decimal n) _ small (number_lacks byte n none h.1)
-    (spaced byte (decimal o) (signed_decimal v) small (number_lacks byte o none h.2) (value_lacks byte v small none h.3))))
-act_lacks byte (act.Fold m n) small none h = lacks_append byte (codes "fold ") _ (literal byte (codes "fold ") small refl)
+act_lacks byte (act.Fact m n o v) small none h =
+    lacks_append byte (codes "fact ") _ (literal byte (codes "fact ") small refl)
+    (spaced byte (decimal m) _ small (number_lacks byte m none h.0)
+    (spaced byte (decimal n) _ small (number_lacks byte n none h.1)
+    (spaced byte (decimal o) (signed_decimal v) small (number_lacks byte o none h.2)
+    (value_lacks byte v small none h.3))))
+act_lacks byte (act.Fold m n) small none h =
+    lacks_append byte (codes "fold ") _ (literal byte (codes "fold ") small refl)
     (spaced byte (decimal m) (decimal n) small (number_lacks byte m none h.0) (number_lacks byte n none h.1))
-act_lacks byte (act.Cut m) small none h = lacks_append byte (codes "cut ") _ (literal byte (codes "cut ") small refl) (number_lacks byte m none h)
-act_lacks byte (act.Aim m n o) small none h = lacks_append byte (codes "aim ") _ (literal byte (codes "aim ") small refl)
-    (spaced byte (decimal m) _ small (number_lacks byte m none h.0) (spaced byte (decimal n) (decimal o) small (number_lacks byte n none h.1) (number_lacks byte o none h.2)))
-act_lacks byte (act.Skip m) small none h = lacks_append byte (codes "skip ") _ (literal byte (codes "skip ") small refl) (number_lacks byte m none h)
+act_lacks byte (act.Cut m) small none h =
+    lacks_append byte (codes "cut ") _ (literal byte (codes "cut ") small refl) (number_lacks byte m none h)
+act_lacks byte (act.Aim m n o) small none h =
+    lacks_append byte (codes "aim ") _ (literal byte (codes "aim ") small refl)
+    (spaced byte (decimal m) _ small (number_lacks byte m none h.0)
+    (spaced byte (decimal n) (decimal o) small (number_lacks byte n none h.1) (number_lacks byte o none h.2)))
+act_lacks byte (act.Skip m) small none h =
+    lacks_append byte (codes "skip ") _ (literal byte (codes "skip ") small refl) (number_lacks byte m none h)
 
-member_lacks : (byte : ℕ) (ty : MethodType) (name : List ℕ) → byte < 32 → is_word_byte byte ≡ false → descriptor.IsMethodType ty
+member_lacks : (byte : ℕ) (ty : MethodType) (name : List ℕ) → byte < 32 → is_word_byte byte ≡ false
+    → descriptor.IsMethodType ty
     → Lacks byte name → Lacks byte (method_text ty name)
 member_lacks byte ty name small none t n =
-    spaced byte (result_text ty.ret) _ small (word_lacks byte (result_text ty.ret) none (result_word ty.ret (returned_is ty.ret t.returned)).0)
+    spaced byte (result_text ty.ret) _ small
+    (word_lacks byte (result_text ty.ret) none (result_word ty.ret (returned_is ty.ret t.returned)).0)
     (lacks_append byte name _ n (
       (λ e. omega (arith, small, e)),
-      lacks_append byte (arguments_text ty.args) (codes ")") (arguments_lack_byte byte ty.args none (λ e. omega (arith, small, e)) t.arguments) ((λ e. omega (arith, small, e)), tt),
+      lacks_append byte (arguments_text ty.args) (codes ")")
+          (arguments_lack_byte byte ty.args none (λ e. omega (arith, small, e)) t.arguments)
+          ((λ e. omega (arith, small, e)), tt),
     ))
 
 line_lacks : (byte : ℕ) (l : WitnessLine) → byte < 32 → is_word_byte byte ≡ false → IsLine l → Lacks byte (line_text l)
@@ -88,8 +105,11 @@ line_lacks byte (line.Method class name ty) small none h =
     subst (Lacks byte) (sym (ap (method_line_text class name) (sym t.1) ∙ described class name h.described.0 t.0))
     (lacks_append byte (codes "method ") _ (literal byte (codes "method ") small refl)
     (spaced byte (dotted class) _ small (word_lacks byte (dotted class) none (class_word class h.class_named))
-    (member_lacks byte h.described.0 name small none t.0 (word_lacks byte name none (method_word name h.method_named)))))
-line_lacks byte (line.Step n) small none h = lacks_append byte (codes "step ") _ (literal byte (codes "step ") small refl) (number_lacks byte n none (omega (arith, h.1)))
+    (member_lacks byte h.described.0 name small none t.0
+    (word_lacks byte name none (method_word name h.method_named)))))
+line_lacks byte (line.Step n) small none h =
+    lacks_append byte (codes "step ") _ (literal byte (codes "step ") small refl)
+    (number_lacks byte n none (omega (arith, h.1)))
 line_lacks byte (line.Act a) small none h = act_lacks byte a small none h
 
 line_plain : (l : WitnessLine) → IsLine l → IsPlain (line_text l)
@@ -120,19 +140,28 @@ number_ascii n h = IsAscii-decimal n (omega (arith, h))
 
 value_ascii : (v : ℤ) → IsValue v → IsAscii (signed_decimal v)
 value_ascii (pos n) h = number_ascii n (omega (arith, h))
-value_ascii (negsuc n) h = IsAscii-append (45 ∷ []) (decimal (suc n)) (ascii_from (45 ∷ []) refl) (number_ascii (suc n) (omega (arith, h)))
+value_ascii (negsuc n) h =
+    IsAscii-append (45 ∷ []) (decimal (suc n)) (ascii_from (45 ∷ []) refl) (number_ascii (suc n) (omega (arith, h)))
 
 spaced_ascii : (x y : List ℕ) → IsAscii x → IsAscii y → IsAscii (x ++ (codes " " ++ y))
-spaced_ascii x y h k = IsAscii-append x (codes " " ++ y) h (IsAscii-append (codes " ") y (ascii_from (codes " ") refl) k)
+spaced_ascii x y h k =
+    IsAscii-append x (codes " " ++ y) h (IsAscii-append (codes " ") y (ascii_from (codes " ") refl) k)
 
 act_ascii : (a : Act) → IsAct a → IsAscii (act_text a)
 unfolding act_text
-act_ascii (act.Drop m n) h = IsAscii-append (codes "drop ") _ (ascii_from (codes "drop ") refl) (spaced_ascii (decimal m) (decimal n) (number_ascii m h.0) (number_ascii n h.1))
-act_ascii (act.Fact m n o v) h = IsAscii-append (codes "fact ") _ (ascii_from (codes "fact ") refl) (spaced_ascii (decimal m) _ (number_ascii m h.0)
-    (spaced_ascii (decimal n) _ (number_ascii n h.1) (spaced_ascii (decimal o) (signed_decimal v) (number_ascii o h.2) (value_ascii v h.3))))
-act_ascii (act.Fold m n) h = IsAscii-append (codes "fold ") _ (ascii_from (codes "fold ") refl) (spaced_ascii (decimal m) (decimal n) (number_ascii m h.0) (number_ascii n h.1))
+act_ascii (act.Drop m n) h =
+    IsAscii-append (codes "drop ") _ (ascii_from (codes "drop ") refl)
+    (spaced_ascii (decimal m) (decimal n) (number_ascii m h.0) (number_ascii n h.1))
+act_ascii (act.Fact m n o v) h =
+    IsAscii-append (codes "fact ") _ (ascii_from (codes "fact ") refl) (spaced_ascii (decimal m) _ (number_ascii m h.0)
+    (spaced_ascii (decimal n) _ (number_ascii n h.1)
+    (spaced_ascii (decimal o) (signed_decimal v) (number_ascii o h.2) (value_ascii v h.3))))
+act_ascii (act.Fold m n) h =
+    IsAscii-append (codes "fold ") _ (ascii_from (codes "fold ") refl)
+    (spaced_ascii (decimal m) (decimal n) (number_ascii m h.0) (number_ascii n h.1))
 act_ascii (act.Cut m) h = IsAscii-append (codes "cut ") _ (ascii_from (codes "cut ") refl) (number_ascii m h)
-act_ascii (act.Aim m n o) h = IsAscii-append (codes "aim ") _ (ascii_from (codes "aim ") refl) (spaced_ascii (decimal m) _ (number_ascii m h.0)
+act_ascii (act.Aim m n o) h =
+    IsAscii-append (codes "aim ") _ (ascii_from (codes "aim ") refl) (spaced_ascii (decimal m) _ (number_ascii m h.0)
     (spaced_ascii (decimal n) (decimal o) (number_ascii n h.1) (number_ascii o h.2)))
 act_ascii (act.Skip m) h = IsAscii-append (codes "skip ") _ (ascii_from (codes "skip ") refl) (number_ascii m h)
 
@@ -161,15 +190,18 @@ own_text (line.Act (act.Aim m n o)) = refl
 own_text (line.Act (act.Skip m)) = refl
 
 line_written : (l : WitnessLine) → IsLine l → IsTextLine l → IsWritten SpellsLine line_text l
-line_written l h t = record { plain = line_plain l h; utf8 = line_utf8 l h t; says = line_says_something l; spelled = (h, own_text l) }
+line_written l h t =
+    record { plain = line_plain l h; utf8 = line_utf8 l h t; says = line_says_something l; spelled = (h, own_text l) }
 
-pub lines_written : (ls : List WitnessLine) → AllByRecursion IsLine ls → AllByRecursion IsTextLine ls → AllByRecursion (IsWritten SpellsLine line_text) ls
+pub lines_written : (ls : List WitnessLine) → AllByRecursion IsLine ls → AllByRecursion IsTextLine ls
+    → AllByRecursion (IsWritten SpellsLine line_text) ls
 lines_written [] h t = tt
 lines_written (l ∷ ls) h t = (line_written l h.0 t.0, lines_written ls h.1 t.1)
 
 -- ---- the lines of a witness
 
-acts_valid : (s : PassEdits) (acts : List Act) → AllByRecursion (λ a. IsAct a × (pass_of a ≡ s.pass)) acts → AllByRecursion IsLine (map (λ a. line.Act a) acts)
+acts_valid : (s : PassEdits) (acts : List Act) → AllByRecursion (λ a. IsAct a × (pass_of a ≡ s.pass)) acts
+    → AllByRecursion IsLine (map (λ a. line.Act a) acts)
 acts_valid s [] h = tt
 acts_valid s (a ∷ acts) h = (h.0.0, acts_valid s acts h.1)
 
@@ -177,7 +209,8 @@ acts_texts : (acts : List Act) → AllByRecursion IsTextLine (map (λ a. line.Ac
 acts_texts [] = tt
 acts_texts (a ∷ acts) = (tt, acts_texts acts)
 
-step_valid : (k : ℕ) (s : PassEdits) (acts : List Act) → 1 ≤ k → k ≤ 6 → AllByRecursion (λ a. IsAct a × (pass_of a ≡ s.pass)) acts → AllByRecursion IsLine (step_lines k acts)
+step_valid : (k : ℕ) (s : PassEdits) (acts : List Act) → 1 ≤ k → k ≤ 6
+    → AllByRecursion (λ a. IsAct a × (pass_of a ≡ s.pass)) acts → AllByRecursion IsLine (step_lines k acts)
 step_valid k s [] low high h = tt
 step_valid k s (a ∷ acts) low high h = ((low, high), acts_valid s (a ∷ acts) h)
 
@@ -185,29 +218,38 @@ step_texts : (k : ℕ) (acts : List Act) → AllByRecursion IsTextLine (step_lin
 step_texts k [] = tt
 step_texts k (a ∷ acts) = (tt, acts_texts (a ∷ acts))
 
-steps_valid : (k : ℕ) (steps : List PassEdits) → 1 ≤ k → k + length steps ≤ 7 → AllByRecursion HasActsOfPass steps → AllByRecursion IsLine (steps_lines k steps)
+steps_valid : (k : ℕ) (steps : List PassEdits) → 1 ≤ k → k + length steps ≤ 7 → AllByRecursion HasActsOfPass steps
+    → AllByRecursion IsLine (steps_lines k steps)
 steps_valid k [] low high h = tt
 steps_valid k (s ∷ steps) low high h = all_append IsLine (step_lines k s.acts) (steps_lines (k + 1) steps)
-    (step_valid k s s.acts low (omega (arith, high)) h.0) (steps_valid (k + 1) steps (omega arith) (omega (arith, high)) h.1)
+    (step_valid k s s.acts low (omega (arith, high)) h.0)
+    (steps_valid (k + 1) steps (omega arith) (omega (arith, high)) h.1)
 
 steps_texts : (k : ℕ) (steps : List PassEdits) → AllByRecursion IsTextLine (steps_lines k steps)
 steps_texts k [] = tt
-steps_texts k (s ∷ steps) = all_append IsTextLine (step_lines k s.acts) (steps_lines (k + 1) steps) (step_texts k s.acts) (steps_texts (k + 1) steps)
+steps_texts k (s ∷ steps) =
+    all_append IsTextLine (step_lines k s.acts) (steps_lines (k + 1) steps) (step_texts k s.acts)
+    (steps_texts (k + 1) steps)
 
-methods_valid : (ms : List MethodWitness) → AllByRecursion IsMethodWitness ms → AllByRecursion IsLine (flat_map method_lines ms)
+methods_valid : (ms : List MethodWitness) → AllByRecursion IsMethodWitness ms
+    → AllByRecursion IsLine (flat_map method_lines ms)
 methods_valid [] h = tt
 methods_valid (m ∷ ms) h =
     let six : length step_passes ≡ 6 = refl in
-    let long : length m.edits.steps ≡ 6 = sym (length-map m.edits.steps (λ (x : PassEdits). x.pass)) ∙ ap length h.0.passes in
+    let long : length m.edits.steps ≡ 6 = sym (length-map m.edits.steps (λ (x : PassEdits). x.pass))
+    ∙ ap length h.0.passes in
     all_append IsLine (method_lines m) (flat_map method_lines ms)
     (h.0.named, steps_valid 1 m.edits.steps (omega arith) (omega (arith, long)) h.0.acts) (methods_valid ms h.1)
 
 methods_texts : (ms : List MethodWitness) → AreTexts ms → AllByRecursion IsTextLine (flat_map method_lines ms)
 methods_texts [] h = tt
-methods_texts (m ∷ ms) h = all_append IsTextLine (method_lines m) (flat_map method_lines ms) (h.0, steps_texts 1 m.edits.steps) (methods_texts ms h.1)
+methods_texts (m ∷ ms) h =
+    all_append IsTextLine (method_lines m) (flat_map method_lines ms) (h.0, steps_texts 1 m.edits.steps)
+    (methods_texts ms h.1)
 
 -- the text of a witness spells its lines
-pub text_spells : (w : Witness) → IsWitness w → AreTexts w.methods → AreSpelled SpellsLine (lines (witness_text w)) (witness_lines w)
+pub text_spells : (w : Witness) → IsWitness w → AreTexts w.methods
+    → AreSpelled SpellsLine (lines (witness_text w)) (witness_lines w)
 unfolding witness_text
 text_spells w h t = all_written SpellsLine line_text (witness_lines w)
     (lines_written (witness_lines w) (tt, methods_valid w.methods h.methods) (tt, methods_texts w.methods t))

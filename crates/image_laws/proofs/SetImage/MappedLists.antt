@@ -5,15 +5,11 @@ use Rattle.std.specs.Prelude.{IfSome}
 use Rattle.std.specs.List.{AllByRecursion, cons_option, filter, filter_map, find, flat_map, list_any}
 use Rattle.std.specs.Option.{option_and_then, option_map, option_map_or, option_or}
 use Rattle.std.proofs.lemmas.List.{map-append}
+use Rattle.jv_base.proofs.Lists.{all_append}
 use Rattle.class_pool.specs.Resolution.{first}
 use Rattle.image_laws.specs.SetImage.Image.{if_kept}
 
 -- ---- any lists
-
-pub all_append : {A : Type 0} (P : A → Type 0) (xs ys : List A) → AllByRecursion P xs → AllByRecursion P ys
-    → AllByRecursion P (xs ++ ys)
-all_append P [] ys h k = k
-all_append P (x ∷ xs) ys h k = (h.0, all_append P xs ys h.1 k)
 
 pub any_append : {A : Type 0} (test : A → Bool) (xs ys : List A) → list_any test xs ≡ true
     → list_any test (xs ++ ys) ≡ true

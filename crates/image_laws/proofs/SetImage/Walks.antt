@@ -3,6 +3,7 @@ use Rattle.std.proofs.Common.{◌≡◌, ℕ, zero, suc, true, List, [], ◌∷�
 use Rattle.std.specs.List.{flat_map, list_any}
 use Rattle.std.specs.Option.{option_map_or}
 use Rattle.std.proofs.lemmas.List.{map-append}
+use Rattle.jv_base.proofs.Lists.{all_append}
 use Rattle.class_model.specs.declared.class.Class.{Class}
 use Rattle.class_pool.specs.declared.id.ClassId.{ClassId}
 use Rattle.class_pool.specs.Hierarchy.{interfaces, superclass}
@@ -106,5 +107,5 @@ module _ (a b : List Class) (i : Image a b) where
       ∙ ap (list_any (same_class (i.moved y)))
       (sym (map-append i.moved (superclasses_from a x) (superinterfaces a x)))
       ∙ among_moved (superclasses_from a x ++ superinterfaces a x) y
-      (lists.all_append (λ x. i.kept x ≡ true) (superclasses_from a x) (superinterfaces a x)
+      (all_append (λ x. i.kept x ≡ true) (superclasses_from a x) (superinterfaces a x)
       (superclasses_kept x k) (superinterfaces_kept x k)) h

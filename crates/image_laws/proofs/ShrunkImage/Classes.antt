@@ -4,7 +4,7 @@ use Rattle.std.proofs.Common.{length, map, Option, Some, None, slice_get, refl, 
 use Rattle.std.specs.Prelude.{IfSome, codes}
 use Rattle.std.specs.List.{All, AllByRecursion, cons_option, filter_map, position}
 use Rattle.std.specs.Option.{option_and_then, option_map, option_map_or}
-use Rattle.std.proofs.lemmas.Bool.{and_parts, eqb-true, lt-ltb, ltb-true}
+use Rattle.std.proofs.lemmas.Bool.{and_parts, eqb-true, lt-ltb, ltb-true, and_from}
 use Rattle.std.proofs.lemmas.List.Elements.{All-head, All-tail}
 use Rattle.jv_base.specs.Names.{is_text}
 use Rattle.class_model.specs.Flags.{acc_public, has, is_init}
@@ -28,8 +28,8 @@ use Rattle.class_pool.proofs.Walking.{interfaces_valid}
 use Rattle.image_laws.specs.SetImage.Image.{Image, if_kept}
 use Rattle.member_shrink.specs.Shrunk.{is_marked, shrunk, with_marked_members}
 use Rattle.image_laws.specs.ShrunkImage.Keeping.{AllMembersDiffer, ObjectKept, SupersMarked, class_place, index_place}
-use Rattle.image_laws.specs.ShrunkImage.Keeping.{is_class_kept, is_class_marked, is_class_there, is_index_marked, is_member_kept}
-use Rattle.image_laws.specs.ShrunkImage.Keeping.{member_place, rank}
+use Rattle.image_laws.specs.ShrunkImage.Keeping.{is_class_kept, is_class_marked, is_class_there, is_index_marked}
+use Rattle.image_laws.specs.ShrunkImage.Keeping.{is_member_kept, member_place, rank}
 use Rattle.image_laws.proofs.ShrunkImage.Kept.{as_filter, kept_at, kept_of, kept_position, rank_same}
 use Rattle.image_laws.proofs.ShrunkImage.Members.{named_left, row_left}
 
@@ -39,10 +39,6 @@ at_index x k = record { class = x; index = k }
 
 zero_plus : (n : ℕ) → 0 + n ≡ n
 zero_plus n = omega arith
-
-and_true : (x y : Bool) → x ≡ true → y ≡ true → (x && y) ≡ true
-and_true true y h k = k
-and_true false y h k = absurd cc
 
 module _ (classes : List Class) (marks : List Bool) where
   -- what is left
@@ -86,7 +82,7 @@ module _ (classes : List Class) (marks : List Bool) where
   test_there (Lib id) h = ltb-true id (length library) h
 
   pub kept_from : (x : ClassId) → IsClass classes x → is_class_marked classes marks x ≡ true → kept x ≡ true
-  kept_from x there h = and_true (is_class_there classes x) (is_class_marked classes marks x) (there_test x there) h
+  kept_from x there h = and_from (is_class_there classes x) (is_class_marked classes marks x) (there_test x there) h
 
   pub class_there : (x : ClassId) → kept x ≡ true → IsClass classes x
   class_there x h = test_there x (and_parts (is_class_there classes x) (is_class_marked classes marks x) h).0
@@ -117,8 +113,8 @@ module _ (classes : List Class) (marks : List Bool) where
   pub member_from : (m : MemberAt) → kept m.class ≡ true → m.index < length (rows_in classes m.class)
       → is_index_marked classes marks m.class m.index ≡ true → kept_member m ≡ true
   member_from m class there h =
-      and_true (kept m.class) (is_index_there m && is_index_marked classes marks m.class m.index) class
-      (and_true (is_index_there m) (is_index_marked classes marks m.class m.index)
+      and_from (kept m.class) (is_index_there m && is_index_marked classes marks m.class m.index) class
+      (and_from (is_index_there m) (is_index_marked classes marks m.class m.index)
       (lt-ltb m.index (length (rows_in classes m.class)) there) h)
 
   -- ---- where classes stand

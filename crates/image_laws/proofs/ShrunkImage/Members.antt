@@ -12,8 +12,8 @@ use Rattle.class_pool.specs.Members.{is_field, is_method, member_named, or_metho
 use Rattle.class_pool.specs.Distinct.{MembersDiffer}
 use Rattle.member_shrink.specs.Shrunk.{chosen, is_marked, with_marked_members}
 use Rattle.image_laws.specs.ShrunkImage.Keeping.{rank}
-use Rattle.image_laws.proofs.ShrunkImage.Kept.{as_filter, kept_append, kept_at, kept_of, kept_position, length_kept, map_kept}
-use Rattle.image_laws.proofs.ShrunkImage.Kept.{rank_sum}
+use Rattle.image_laws.proofs.ShrunkImage.Kept.{as_filter, kept_append, kept_at, kept_of, kept_position, length_kept}
+use Rattle.image_laws.proofs.ShrunkImage.Kept.{map_kept, rank_sum}
 
 module _ (marks : List Bool) where
   -- the test of items

@@ -1,9 +1,9 @@
 -- What the format says of flags (JVMS 4.5, 4.6).
-use Rattle.std.proofs.Common.{◌≡◌, ◌<◌, ◌+◌, ⊎_elim, ℕ, nat_lt, eqb, Bool, true, false, not, ◌||◌, refl, sym, ap}
+use Rattle.std.proofs.Common.{◌≡◌, ◌<◌, ◌+◌, ⊎_elim, ℕ, nat_lt, eqb, Bool, true, false, ◌||◌, refl, sym, ap}
 use Rattle.std.proofs.Common.{◌∙◌}
 use Rattle.std.proofs.Common.{arith}
 use Rattle.std.specs.Int.Bits.{bit_and, and_zero_l}
-use Rattle.std.proofs.lemmas.Bool.{cases_eq, eq-eqb, eqb-true, ltb-true}
+use Rattle.std.proofs.lemmas.Bool.{cases_eq, eq-eqb, eqb-true, ltb-true, not-false}
 use Rattle.std.proofs.lemmas.Nat.{and_assoc}
 use Rattle.class_model.specs.Flags.{access_of, acc_final, acc_native, acc_private, acc_protected}
 use Rattle.class_model.specs.Flags.{acc_public, acc_static, acc_strict, acc_synchronized, has, has_one_access, has_some}
@@ -19,10 +19,6 @@ has_part whole part flags e h =
 among : (whole part flags : ℕ) → bit_and whole part ≡ part → bit_and flags part ≡ bit_and (bit_and flags whole) part
 among whole part flags e = ap (bit_and flags) (sym e) ∙ sym (and_assoc part flags whole)
 
-none_of : (b : Bool) → not b ≡ false → b ≡ true
-none_of true h = refl
-none_of false h = absurd cc
-
 -- where none of those that an abstract method may not have is set, private isn't
 abbrev not_with_abstract : ℕ
 not_with_abstract = acc_private + acc_static + acc_final + acc_synchronized + acc_native + acc_strict
@@ -32,7 +28,7 @@ no_private flags h =
     ap (λ (n : ℕ). eqb n acc_private)
     (among not_with_abstract acc_private flags refl
     ∙ ap (λ (n : ℕ). bit_and n acc_private)
-    (eqb-true (bit_and flags not_with_abstract) 0 (none_of (eqb (bit_and flags not_with_abstract) 0) h))
+    (eqb-true (bit_and flags not_with_abstract) 0 (not-false (eqb (bit_and flags not_with_abstract) 0) h))
     ∙ and_zero_l acc_private)
 
 -- ---- access

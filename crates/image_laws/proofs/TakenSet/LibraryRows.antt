@@ -1,29 +1,17 @@
 -- What is computed of the library's table.
-use Rattle.std.proofs.Common.{◌≡◌, ⊎_elim, ◌<◌, ◌≤◌, ℕ, ◌+◌, nat_eq, ◌&&◌, ◌||◌, Bool, true, false, not, List}
+use Rattle.std.proofs.Common.{◌≡◌, ⊎_elim, ◌<◌, ◌≤◌, ℕ, nat_eq, ◌&&◌, ◌||◌, Bool, true, false, not}
 use Rattle.std.proofs.Common.{[]}
-use Rattle.std.proofs.Common.{length, Option, Some, None, refl, sym, ap, subst, ◌∙◌, arith, codes}
+use Rattle.std.proofs.Common.{length, Option, Some, None, refl, sym, ap, ◌∙◌, codes}
 use Rattle.std.specs.List.{filter_map, list_all, starts_with}
 use Rattle.std.specs.Option.{option_and_then, option_map_or}
-use Rattle.std.proofs.lemmas.Bool.{and_parts, cases_lt, eqb-true}
+use Rattle.std.proofs.lemmas.Bool.{and_parts, cases_lt, eqb-true, not-true}
 use Rattle.std.proofs.lemmas.List.{get_or_past}
-use Rattle.std.proofs.lemmas.List.FromFn.{get_or-range_with_len, length-range_with_len}
-use Rattle.std.proofs.lemmas.List.Quantifiers.{position-Some}
-use Rattle.jv_base.specs.Names.{is_text}
-use Rattle.jv_base.proofs.Equality.{text_Decides}
 use Rattle.lib_table.specs.Library.{LibraryClass, LibraryMember, class, library}
 use Rattle.lib_table.specs.Lookups as table
 use Rattle.lib_table.specs.declared.class.LibKind.TheVariants.{Open}
-use Rattle.lib_table.proofs.Classes.{holds_at}
 use Rattle.class_pool.specs.Hierarchy.{is_interface_kind}
 use Rattle.class_pool.specs.bodies.Graph.{library_ids}
-
--- what is computed for each number of a class
-pub at_row : (p : ℕ → Bool) (id : ℕ) → list_all p library_ids ≡ true → id < length library → p id ≡ true
-at_row p id all within =
-    let plain : 0 + id ≡ id = omega arith in
-    let long = length-range_with_len 0 (length library) in
-    subst (λ (k : ℕ). p k ≡ true) (get_or-range_with_len 0 (length library) id 0 within ∙ plain)
-    (holds_at p library_ids id 0 all (omega (arith, within, long)))
+use Rattle.class_pool.proofs.ObjectLaws.{at_row, when}
 
 -- past the last class there is an open one without members and supertypes
 pub past_last : (id : ℕ) → length library ≤ id → table.class_at id ≡ class [] Open None [] []
@@ -36,16 +24,12 @@ rows_super : list_all (λ id. option_map_or (λ s. not (is_interface_kind (table
 unfolding library
 rows_super = refl
 
-turned : (b : Bool) → not b ≡ true → b ≡ false
-turned true h = absurd cc
-turned false h = refl
-
 -- no superclass is an interface
 pub super_kind : (id s : ℕ) → table.super_of id ≡ Some s → is_interface_kind (table.class_at s).kind ≡ false
 super_kind id s is = ⊎_elim low high (cases_lt id (length library))
   where
     low : id < length library → is_interface_kind (table.class_at s).kind ≡ false
-    low within = turned (is_interface_kind (table.class_at s).kind)
+    low within = not-true (is_interface_kind (table.class_at s).kind)
         (sym (ap (λ o. option_map_or (λ s. not (is_interface_kind (table.class_at s).kind)) o true) is)
         ∙ at_row (λ id. option_map_or (λ s. not (is_interface_kind (table.class_at s).kind)) (table.super_of id) true)
         id rows_super within)
@@ -86,10 +70,6 @@ rows_members : list_all (λ id. not (is_interface_kind (table.class_at id).kind)
 unfolding library
 rows_members = refl
 
-when : (p q : Bool) → p ≡ true → (not p || q) ≡ true → q ≡ true
-when true q is h = h
-when false q is h = absurd cc
-
 pub interface_members : (id : ℕ) → is_interface_kind (table.class_at id).kind ≡ true
     → list_all is_method_or_static (table.class_at id).members ≡ true
 interface_members id is = ⊎_elim low high (cases_lt id (length library))
@@ -124,10 +104,3 @@ library_name id within =
     by : (o : Option ℕ) → option_map_or (λ k. nat_eq k id) o false ≡ true → o ≡ Some id
     by None h = absurd cc
     by (Some k) h = ap Some (eqb-true k id h)
-
--- and has the name by which it is found
-pub name_found : (name : List ℕ) (id : ℕ) → table.class_named name ≡ Some id
-    → (table.class_at id).name ≡ name
-name_found name id is =
-    (text_Decides (table.class_at id).name name).0
-    (position-Some (λ (c : LibraryClass). is_text c.name name) library id (class [] Open None [] []) is).1

@@ -1,16 +1,17 @@
 -- A member that is there is the one that its class declares under its name and descriptor.
-use Rattle.std.proofs.Common.{◌≡◌, ⊎_elim, ◌⊎◌, inl, inr, ◌<◌, ℕ, zero, suc, ◌+◌, nat_eq, ◌&&◌, Bool, true}
+use Rattle.std.proofs.Common.{◌≡◌, ⊎_elim, ◌⊎◌, inl, inr, ◌<◌, ℕ, zero, suc, ◌+◌, nat_eq, Bool, true}
 use Rattle.std.proofs.Common.{false}
 use Rattle.std.proofs.Common.{List, [], ◌∷◌, ◌++◌, length, map, Option, Some, None, slice_get, refl, sym, ap}
 use Rattle.std.proofs.Common.{◌∙◌, arith}
 use Rattle.std.specs.List.{enumerate_from, list_all, position}
 use Rattle.std.specs.Option.{option_and_then, option_map, option_map_or}
-use Rattle.std.proofs.lemmas.Bool.{and_parts, eqb-true}
+use Rattle.std.proofs.lemmas.Bool.{and_parts, eqb-true, and_from}
 use Rattle.std.proofs.lemmas.List.{length-map}
 use Rattle.std.proofs.lemmas.Option.{slice_get-map}
 use Rattle.jv_base.specs.Names.{is_text}
 use Rattle.jv_base.specs.Types.{field_text, method_text}
 use Rattle.jv_base.proofs.Equality.{text_Decides}
+use Rattle.jv_base.proofs.Lists.{found_at as element}
 use Rattle.class_model.specs.declared.class.Class.{Class}
 use Rattle.class_model.specs.declared.class.Field.{Field}
 use Rattle.class_model.specs.declared.class.Method.{Method}
@@ -26,22 +27,18 @@ use Rattle.class_pool.specs.declared.id.ClassId.{ClassId}
 use Rattle.class_pool.specs.declared.id.ClassId.TheVariants.{Prog, Lib}
 use Rattle.class_pool.specs.declared.id.MemberAt.{MemberAt}
 use Rattle.class_pool.proofs.Distinct.{position_at}
+use Rattle.class_pool.proofs.ObjectLaws.{at_row}
 use Rattle.image_laws.specs.TakenSet.TakenSet.{IsTaken}
-use Rattle.image_laws.proofs.TakenSet.LibraryRows.{at_row}
 use Rattle.image_laws.proofs.TakenSet.Names.{differ}
-
-both_true : (a b : Bool) → a ≡ true → b ≡ true → (a && b) ≡ true
-both_true true b h k = k
-both_true false b h k = absurd cc
 
 -- ---- of a program class
 
 field_itself : (f : Field) → is_field f.name (field_text f.ty) f ≡ true
-field_itself f = both_true (is_text f.name f.name) (is_text (field_text f.ty) (field_text f.ty))
+field_itself f = and_from (is_text f.name f.name) (is_text (field_text f.ty) (field_text f.ty))
     ((text_Decides f.name f.name).1 refl) ((text_Decides (field_text f.ty) (field_text f.ty)).1 refl)
 
 method_itself : (m : Method) → is_method m.name (method_text m.ty) m ≡ true
-method_itself m = both_true (is_text m.name m.name) (is_text (method_text m.ty) (method_text m.ty))
+method_itself m = and_from (is_text m.name m.name) (is_text (method_text m.ty) (method_text m.ty))
     ((text_Decides m.name m.name).1 refl) ((text_Decides (method_text m.ty) (method_text m.ty)).1 refl)
 
 module _ (c : Class) (apart : MembersDiffer c) where
@@ -121,11 +118,6 @@ library_found id k m within is =
     by (Some j) h = let e : j ≡ 0 + k = eqb-true j (0 + k) h in let f : 0 + k ≡ k = omega arith in ap Some (e ∙ f)
 
 -- ---- of any class
-
-element : {X : Type 0} (xs : List X) (i : ℕ) → i < length xs → (x : X) × (slice_get xs i ≡ Some x)
-element [] i low = absurd (omega (arith, low))
-element (x ∷ xs) zero low = (x, refl)
-element (x ∷ xs) (suc i) low = element xs i (omega (arith, low))
 
 abbrev at_index : ClassId → ℕ → MemberAt
 at_index x k = record { class = x; index = k }

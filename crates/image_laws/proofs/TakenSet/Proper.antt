@@ -1,13 +1,14 @@
 -- A set that is taken is a proper one.
-use Rattle.std.proofs.Common.{◌≡◌, ◌<◌, ℕ, zero, suc, not, ◌&&◌, ◌||◌, Bool, true, false, cond, List, []}
+use Rattle.std.proofs.Common.{◌≡◌, ◌<◌, ℕ, zero, suc, not, ◌&&◌, ◌||◌, Bool, true, false, List, []}
 use Rattle.std.proofs.Common.{◌∷◌, length, Option, Some, None, Result, Ok, Err, slice_get, refl, sym, ap}
 use Rattle.std.proofs.Common.{subst, ◌∙◌, arith}
 use Rattle.std.specs.Prelude.{IfSome, codes}
-use Rattle.std.specs.List.{AllByRecursion, cons_option, filter, filter_map, flat_map, list_all, list_any}
+use Rattle.std.specs.List.{AllByRecursion, cons_option, filter_map, flat_map, list_all, list_any}
 use Rattle.std.specs.Option.{option_and_then, option_map, option_map_or}
-use Rattle.std.proofs.lemmas.Bool.{and_parts, or_parts}
+use Rattle.std.proofs.lemmas.Bool.{and_parts, or_parts, not-false, not-true}
 use Rattle.std.proofs.lemmas.Option.{get_or_from_slice_get, slice_get_within}
 use Rattle.jv_base.specs.Names.{is_text}
+use Rattle.jv_base.proofs.Lists.{all_append, all_at, all_filtered}
 use Rattle.class_model.specs.Flags.{acc_abstract, acc_private, acc_protected, acc_public, acc_static, has, is_interface}
 use Rattle.class_model.specs.declared.class.Class.{Class}
 use Rattle.lib_table.specs.Lookups as table
@@ -27,21 +28,21 @@ use Rattle.class_pool.specs.Selection.{may_be_overridden}
 use Rattle.class_pool.specs.Walk.{highest, own_superinterfaces, superclasses_from, superinterfaces, walked}
 use Rattle.class_pool.specs.declared.fault.NamedClass.{NamedClass}
 use Rattle.class_pool.specs.declared.fault.PoolFault.{PoolFault}
-use Rattle.class_pool.specs.declared.fault.PoolKind.{PoolKind}
 use Rattle.class_pool.specs.declared.id.ClassId.{ClassId}
 use Rattle.class_pool.specs.declared.id.ClassId.TheVariants.{Prog, Lib}
 use Rattle.class_pool.specs.declared.id.MemberAt.{MemberAt}
 use Rattle.class_pool.proofs.Counting.{classes_counted}
 use Rattle.class_pool.proofs.FaultLaws.{none_at}
 use Rattle.class_pool.proofs.ToldMembers.{declared_below}
+use Rattle.class_pool.proofs.ObjectLaws.{free_name}
 use Rattle.link_check.specs.Taken.{BreaksNoRule}
 use Rattle.link_check.proofs.Taken.{links_taken}
 use Rattle.image_laws.specs.SetImage.Image.{AreAbstract, IsProperSet}
-use Rattle.image_laws.proofs.SetImage.MappedLists.{all_append, flat_kept}
+use Rattle.image_laws.proofs.SetImage.MappedLists.{flat_kept}
 use Rattle.image_laws.specs.TakenSet.TakenSet.{IsTaken}
 use Rattle.image_laws.proofs.TakenSet.Flags.{one_access}
 use Rattle.image_laws.proofs.TakenSet.LibraryRows.{interface_kinds, super_kind}
-use Rattle.image_laws.proofs.TakenSet.Rows.{HasOneAccess, IsFixed, access_rows, all_at, fixed_rows}
+use Rattle.image_laws.proofs.TakenSet.Rows.{HasOneAccess, IsFixed, access_rows, fixed_rows}
 
 -- ---- supertypes
 
@@ -58,11 +59,6 @@ supers_right : (classes : List Class) → IsTaken classes → super_faults class
 supers_right classes t = subst (λ cs. super_faults cs ≡ Ok tt) (sym t.built.2)
     (rounds t.files (name_faults t.files) refl t.built.0).1
 
-no_kinds : (t s : Bool) (j k : PoolKind) → cond t (Some j) (cond s (Some k) None) ≡ None → s ≡ false
-no_kinds true s j k h = absurd cc
-no_kinds false true j k h = absurd cc
-no_kinds false false j k h = refl
-
 -- the supertypes of a class of the set are of their kinds
 not_wrong : (classes : List Class) (n : ℕ) (c : Class) → super_faults classes ≡ Ok tt → slice_get classes n ≡ Some c
     → is_super_wrong classes c ≡ false
@@ -70,7 +66,7 @@ not_wrong classes n c right is =
     let none : super_fault classes c ≡ None =
     sym (ap (super_fault classes) (get_or_from_slice_get classes n c c is))
     ∙ none_at (λ (x : Class). x) (super_fault classes) classes n c right (slice_get_within classes n c is) in
-    no_kinds (is_super_missing classes c) (is_super_wrong classes c) _ _ none
+    free_name (is_super_missing classes c) (is_super_wrong classes c) _ _ none
 
 wrong_parts : (classes : List Class) (c : Class) → is_super_wrong classes c ≡ false
     → (is_wrong_superclass classes c ≡ false) × (list_any (is_wrong_interface classes) c.interfaces ≡ false)
@@ -79,10 +75,6 @@ wrong_parts classes c h =
     (is_interface c.flags.0 && not (is_text c.super_name (codes "java/lang/Object"))) h in
     let inner = or_parts (is_wrong_superclass classes c) (list_any (is_wrong_interface classes) c.interfaces) outer.0 in
     (inner.0, inner.1)
-
-untrue : (b : Bool) → not b ≡ false → b ≡ true
-untrue true h = refl
-untrue false h = absurd cc
 
 open_is : (k : LibKind) → is_open_kind k ≡ true → is_interface_kind k ≡ false
 open_is Open h = refl
@@ -99,7 +91,7 @@ module _ (classes : List Class) (right : super_faults classes ≡ Ok tt) where
       by None is e = absurd cc
       by (Some c) is e =
           let wrong = (wrong_parts classes c (not_wrong classes n c right is)).0 in
-          open_is (kind_in classes y) (untrue (is_open_kind (kind_in classes y))
+          open_is (kind_in classes y) (not-false (is_open_kind (kind_in classes y))
           (sym (ap (λ o. option_map_or (λ id. not (is_open_kind (kind_in classes id))) o false) e) ∙ wrong))
   superclass_kind (Lib id) y = by (table.super_of id) refl
     where
@@ -124,7 +116,7 @@ module _ (classes : List Class) (right : super_faults classes ≡ Ok tt) where
           → AllInterfaces (classes_named classes names)
           → AllInterfaces (cons_option o (classes_named classes names))
       by None h r = r
-      by (Some y) h r = (untrue (is_interface_in classes y) h, r)
+      by (Some y) h r = (not-false (is_interface_in classes y) h, r)
 
   library_kinds : (ids : List ℕ) → list_all (λ i. is_interface_kind (table.class_at i).kind) ids ≡ true
       → AllInterfaces (filter_map (λ i. Some (Lib i)) ids)
@@ -168,16 +160,6 @@ row_of [] k low = absurd (omega (arith, low))
 row_of (row ∷ rows) zero low = (row, refl)
 row_of (row ∷ rows) (suc k) low = row_of rows k (omega (arith, low))
 
-filtered : {X : Type 0} (P : X → Type 0) (test : X → Bool) (xs : List X)
-    → AllByRecursion (λ x. test x ≡ true → P x) xs → AllByRecursion P (filter test xs)
-filtered P test [] h = tt
-filtered P test (x ∷ xs) h = by (test x) refl (filtered P test xs h.1)
-  where
-    by : (b : Bool) → test x ≡ b → AllByRecursion P (filter test xs)
-        → AllByRecursion P (cond b (x ∷ filter test xs) (filter test xs))
-    by true e r = (h.0 e, r)
-    by false e r = r
-
 module _ (classes : List Class) (t : IsTaken classes) where
   right : BreaksNoRule classes
   right = links_taken classes t.linked
@@ -196,12 +178,8 @@ module _ (classes : List Class) (t : IsTaken classes) where
       sym (ap (λ o. not (option_map_or (λ (r : MemberRow). has acc_private r.flags) o false)
       && not (option_map_or (λ (r : MemberRow). has acc_static r.flags) o false)) row.1) ∙ open_member in
       ap (λ o. option_map_or (λ (r : MemberRow). has acc_abstract r.flags) o false) row.1
-      ∙ (fixed (turned (has acc_static row.0.flags)
+      ∙ (fixed (not-true (has acc_static row.0.flags)
       (and_parts (not (has acc_private row.0.flags)) (not (has acc_static row.0.flags)) open_row).1)).0
-    where
-      turned : (b : Bool) → not b ≡ true → b ≡ false
-      turned true h = absurd cc
-      turned false h = refl
 
   declared_abstract : (n : NameAndType) (xs : List ClassId)
       → AllByRecursion (λ x. is_interface_in classes x ≡ true) xs
@@ -218,7 +196,7 @@ module _ (classes : List Class) (t : IsTaken classes) where
 
   are_abstract : AreAbstract classes
   are_abstract x n =
-      filtered IsAbstract (is_open classes) (declared_by classes n (superinterfaces classes x))
+      all_filtered IsAbstract (is_open classes) (declared_by classes n (superinterfaces classes x))
       (declared_abstract n (superinterfaces classes x) (all_superinterfaces classes (supers_right classes t) x))
 
   -- a row that is there has what all rows of its class have

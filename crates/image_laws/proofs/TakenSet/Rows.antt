@@ -1,5 +1,5 @@
 -- What holds of each member of a class, and of an interface, of a set that is taken.
-use Rattle.std.proofs.Common.{◌≡◌, ◌+◌, ℕ, zero, suc, not, ◌&&◌, ◌||◌, Bool, true, false, cond, List, []}
+use Rattle.std.proofs.Common.{◌≡◌, ◌+◌, ℕ, not, ◌&&◌, ◌||◌, Bool, true, false, cond, List, []}
 use Rattle.std.proofs.Common.{◌∷◌}
 use Rattle.std.proofs.Common.{◌++◌, length, map, Option, Some, None, slice_get, refl, sym, ap, subst, ◌∙◌}
 use Rattle.std.proofs.Common.{codes}
@@ -7,6 +7,7 @@ use Rattle.std.specs.List.{AllByRecursion, flat_map, list_all}
 use Rattle.std.specs.Option.{option_map_or}
 use Rattle.std.proofs.lemmas.Bool.{and_parts}
 use Rattle.jv_base.specs.Names.{is_text}
+use Rattle.jv_base.proofs.Lists.{all_append, all_at, all_from, all_mapped, nil_parts}
 use Rattle.class_model.specs.Flags.{acc_abstract, acc_final, acc_native, acc_private, acc_public, acc_static}
 use Rattle.class_model.specs.Flags.{acc_strict}
 use Rattle.class_model.specs.Flags.{acc_synchronized, acc_volatile}
@@ -18,14 +19,14 @@ use Rattle.class_model.specs.declared.class.Method.{Method}
 use Rattle.lib_table.specs.Library.{LibraryMember}
 use Rattle.lib_table.specs.Lookups as table
 use Rattle.lib_table.specs.declared.class.LibKind.{LibKind}
-use Rattle.lib_table.specs.declared.class.LibKind.TheVariants.{Final, Interface, Open}
+use Rattle.lib_table.specs.declared.class.LibKind.TheVariants.{Open}
 use Rattle.class_pool.specs.Found.{MemberRow, field_row, library_row, method_row, rows_in}
 use Rattle.class_pool.specs.Hierarchy.{is_interface_kind, kind_of}
 use Rattle.class_pool.specs.Resolution.{is_interface_in}
 use Rattle.class_pool.specs.declared.id.ClassId.{ClassId}
 use Rattle.class_pool.specs.declared.id.ClassId.TheVariants.{Prog, Lib}
 use Rattle.class_pool.specs.declared.id.MemberAt.{MemberAt}
-use Rattle.image_laws.proofs.SetImage.MappedLists.{all_append}
+use Rattle.class_pool.proofs.ObjectLaws.{interface_flag}
 use Rattle.link_check.specs.Profile.{body_kinds, code_kinds, declaration_kinds, overriding_kinds}
 use Rattle.link_check.specs.Profile.{unless}
 use Rattle.link_check.specs.Taken.{BreaksNoRule}
@@ -35,29 +36,9 @@ use Rattle.image_laws.proofs.TakenSet.LibraryRows.{interface_members}
 
 -- ---- lists
 
-pub all_at : {X : Type 0} (P : X → Type 0) (xs : List X) (k : ℕ) (x : X) → AllByRecursion P xs
-    → slice_get xs k ≡ Some x → P x
-all_at P [] k x h is = absurd cc
-all_at P (y ∷ xs) zero x h is = let same : y ≡ x = cc in subst P same h.0
-all_at P (y ∷ xs) (suc k) x h is = all_at P xs k x h.1 is
-
-pub all_from : {X : Type 0} (P : X → Type 0) (xs : List X) → ((k : ℕ) (x : X) → slice_get xs k ≡ Some x → P x)
-    → AllByRecursion P xs
-all_from P [] each = tt
-all_from P (x ∷ xs) each = (each 0 x refl, all_from P xs (λ k y is. each (suc k) y is))
-
-pub all_mapped : {X Y : Type 0} (P : Y → Type 0) (f : X → Y) (xs : List X) → AllByRecursion (λ x. P (f x)) xs
-    → AllByRecursion P (map f xs)
-all_mapped P f [] h = tt
-all_mapped P f (x ∷ xs) h = (h.0, all_mapped P f xs h.1)
-
-pub none_left : {X : Type 0} (xs ys : List X) → xs ++ ys ≡ [] → (xs ≡ []) × (ys ≡ [])
-none_left [] ys h = (refl, h)
-none_left (x ∷ xs) ys h = absurd cc
-
 pub none_each : {X Y : Type 0} (g : X → List Y) (xs : List X) → flat_map g xs ≡ [] → AllByRecursion (λ x. g x ≡ []) xs
 none_each g [] h = tt
-none_each g (x ∷ xs) h = let parts = none_left (g x) (flat_map g xs) h in (parts.0, none_each g xs parts.1)
+none_each g (x ∷ xs) h = let parts = nil_parts (g x) (flat_map g xs) h in (parts.0, none_each g xs parts.1)
 
 -- ---- flags of rows
 
@@ -157,15 +138,6 @@ all_listed : {X : Type 0} (p : X → Bool) (xs : List X) → list_all p xs ≡ t
 all_listed p [] h = tt
 all_listed p (x ∷ xs) h = let parts = and_parts (p x) (list_all p xs) h in (parts.0, all_listed p xs parts.1)
 
--- the flag of an interface
-pub interface_flag : (c : Class) → is_interface_kind (kind_of c) ≡ true → is_interface c.flags.0 ≡ true
-interface_flag c h = by (is_interface c.flags.0) (has acc_final c.flags.0) h
-  where
-    by : (p q : Bool) → is_interface_kind (cond p Interface (cond q Final Open)) ≡ true → p ≡ true
-    by true q h = refl
-    by false true h = absurd cc
-    by false false h = absurd cc
-
 module _ (classes : List Class) (formed : (n : ℕ) (c : Class) → slice_get classes n ≡ Some c → IsWellFormed c) where
   -- each member has one access
   pub access_rows : (x : ClassId) → AllByRecursion HasOneAccess (rows_in classes x)
@@ -192,10 +164,10 @@ module _ (classes : List Class) (formed : (n : ℕ) (c : Class) → slice_get cl
     bodies n c k m is at =
         let place : MemberAt = record { class = Prog n; index = length c.fields + k } in
         let head = declaration_kinds classes n c (length c.fields + k) m in
-        let one = none_left (head ++ body_kinds c m ++ overriding_kinds classes n place)
+        let one = nil_parts (head ++ body_kinds c m ++ overriding_kinds classes n place)
         (option_map_or (code_kinds classes n m.name) m.code []) (right.method n c k m is at) in
-        let two = none_left (head ++ body_kinds c m) (overriding_kinds classes n place) one.0 in
-        (none_left head (body_kinds c m) two.0).1
+        let two = nil_parts (head ++ body_kinds c m) (overriding_kinds classes n place) one.0 in
+        (nil_parts head (body_kinds c m) two.0).1
 
     body_of : (b a s : Bool) → b ≡ true → unless (not b || a || s) LeftOutMember ≡ [] → (a || s) ≡ true
     body_of true true s e h = refl

@@ -11,6 +11,7 @@ use Rattle.jv_base.specs.Outcome.{◌>>=◌}
 use Rattle.jv_base.specs.declared.types.Base.{Base}
 use Rattle.jv_base.specs.declared.types.Base.TheVariants as base
 use Rattle.jv_base.specs.declared.types.FieldType.{FieldType}
+use Rattle.jv_base.proofs.Lists.{all_append}
 use Rattle.class_model.specs.Frames.{words_of_type}
 use Rattle.class_model.specs.declared.class.Class.{Class}
 use Rattle.class_model.specs.declared.frame.VType.{VType}
@@ -21,7 +22,6 @@ use Rattle.class_model.specs.declared.op.Kind.TheVariants as kind
 use Rattle.class_rename.specs.Names.{Names}
 use Rattle.class_rename.specs.Renamed.{renamed_base, renamed_type, renamed_vtype}
 use Rattle.image_laws.specs.SetImage.Image.{Image}
-use Rattle.image_laws.proofs.SetImage.MappedLists.{all_append}
 use Rattle.type_verifier.specs.Assignable.{is_assignable, is_reference}
 use Rattle.type_verifier.specs.Effects.{Checked, Split, all_popped, counted, counted_from, cut_before, doubled, dropped}
 use Rattle.type_verifier.specs.Effects.{element, is_category_1, is_copy, loaded, loaded_from, made, one_word}

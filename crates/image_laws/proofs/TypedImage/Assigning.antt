@@ -1,14 +1,16 @@
 -- Types under new names: one that is assignable to another one is so in the image.
 use Rattle.std.proofs.Common.{◌≡◌, ℕ, not, ◌&&◌, ◌||◌, Bool, true, false, cond, List, [], ◌∷◌, map, Option, Some, None}
-use Rattle.std.proofs.Common.{refl, sym, ap, subst, ◌∙◌, eq-eqb}
+use Rattle.std.proofs.Common.{refl, sym, ap, subst, ◌∙◌}
 use Rattle.std.specs.Prelude.{◌==◌, nat_lt, IfSome, codes}
 use Rattle.std.specs.Cmp.Lexicographic.{pointwise, same_text}
 use Rattle.std.specs.List.{AllByRecursion}
 use Rattle.std.specs.Option.{option_map}
+use Rattle.std.proofs.lemmas.Bool.{and_from}
 use Rattle.jv_base.specs.Names.{is_text}
 use Rattle.jv_base.specs.declared.types.Base.{Base}
 use Rattle.jv_base.specs.declared.types.Base.TheVariants as base
 use Rattle.jv_base.specs.declared.types.FieldType.{FieldType}
+use Rattle.jv_base.proofs.Equality.{text_itself}
 use Rattle.class_model.specs.Frames.{words_of_type}
 use Rattle.class_model.specs.declared.class.Class.{Class}
 use Rattle.class_model.specs.declared.frame.VType.{VType}
@@ -31,22 +33,12 @@ pub both : (s t : Bool) → (s && t) ≡ true → (s ≡ true) × (t ≡ true)
 both true t h = (refl, h)
 both false t h = absurd cc
 
-pub and : (s t : Bool) → s ≡ true → t ≡ true → (s && t) ≡ true
-and s t h k = ap (λ (x : Bool). x && t) h ∙ k
-
 -- one of two tests passes where it did
 pub either : (s t u v : Bool) → (s ≡ true → u ≡ true) → (t ≡ true → v ≡ true) → (s || t) ≡ true → (u || v) ≡ true
 either true t true v f g h = refl
 either true t false v f g h = absurd (let e = f refl in cc)
 either false t true v f g h = refl
 either false t false v f g h = g h
-
-text_itself : (name : List ℕ) → is_text name name ≡ true
-text_itself [] = refl
-text_itself (x ∷ xs) = and (x == x) (is_text xs xs) (eqb-itself x) (text_itself xs)
-  where
-    eqb-itself : (n : ℕ) → (n == n) ≡ true
-    eqb-itself n = eq-eqb n n refl
 
 -- the same texts are the same under new names
 pub text_kept : (f : List ℕ → List ℕ) (x y : List ℕ) → is_text x y ≡ true → is_text (f x) (f y) ≡ true
@@ -138,7 +130,7 @@ module _ (names : Names) (a b : List Class) (i : Image a b) (stay : KeepsKnownNa
       by true e = base_assignable x.base y.base k h e
       by false e =
           let parts = both (nat_lt y.dims x.dims) (is_above_arrays y.base) e in
-          and (nat_lt y.dims x.dims) (is_above_arrays (renamed_base names y.base)) parts.0
+          and_from (nat_lt y.dims x.dims) (is_above_arrays (renamed_base names y.base)) parts.0
           (above_arrays y.base parts.1)
 
   -- ---- verification types
@@ -172,7 +164,7 @@ module _ (names : Names) (a b : List Class) (i : Image a b) (stay : KeepsKnownNa
       → is_item_assignable b (renamed_vtype names x) (renamed_vtype names y) ≡ true
   item_assignable x y k h e =
       let parts = both (words_of_type x == words_of_type y) (is_assignable a x y) e in
-      and (words_of_type (renamed_vtype names x) == words_of_type (renamed_vtype names y))
+      and_from (words_of_type (renamed_vtype names x) == words_of_type (renamed_vtype names y))
       (is_assignable b (renamed_vtype names x) (renamed_vtype names y))
       (ap (λ (n : ℕ). n == words_of_type (renamed_vtype names y)) (words_same x)
       ∙ ap (λ (n : ℕ). words_of_type x == n) (words_same y) ∙ parts.0)
@@ -196,7 +188,7 @@ module _ (names : Names) (a b : List Class) (i : Image a b) (stay : KeepsKnownNa
   pointwise_kept test over each (x ∷ xs) [] k h e = absurd cc
   pointwise_kept test over each (x ∷ xs) (y ∷ ys) k h e =
       let parts = both (test x y) (pointwise test xs ys) e in
-      and (over (renamed_vtype names x) (renamed_vtype names y)) (pointwise over (all_renamed xs) (all_renamed ys))
+      and_from (over (renamed_vtype names x) (renamed_vtype names y)) (pointwise over (all_renamed xs) (all_renamed ys))
       (each x y k.0 h.0 parts.0) (pointwise_kept test over each xs ys k.1 h.1 parts.1)
 
   abbrev pub renamed_types_frame : TypeFrame → TypeFrame
@@ -214,9 +206,9 @@ module _ (names : Names) (a b : List Class) (i : Image a b) (stay : KeepsKnownNa
       (not f.marked || g.marked) e in
       let two = both (pointwise (is_assignable a) f.locals g.locals)
       (pointwise (is_item_assignable a) f.stack g.stack) one.0 in
-      and (pointwise (is_assignable b) (all_renamed f.locals) (all_renamed g.locals)
+      and_from (pointwise (is_assignable b) (all_renamed f.locals) (all_renamed g.locals)
       && pointwise (is_item_assignable b) (all_renamed f.stack) (all_renamed g.stack)) (not f.marked || g.marked)
-      (and (pointwise (is_assignable b) (all_renamed f.locals) (all_renamed g.locals))
+      (and_from (pointwise (is_assignable b) (all_renamed f.locals) (all_renamed g.locals))
       (pointwise (is_item_assignable b) (all_renamed f.stack) (all_renamed g.stack))
       (pointwise_kept (is_assignable a) (is_assignable b) assignable f.locals g.locals k.0 h.0 two.0)
       (pointwise_kept (is_item_assignable a) (is_item_assignable b) item_assignable f.stack g.stack k.1 h.1 two.1))

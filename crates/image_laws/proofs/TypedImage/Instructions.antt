@@ -9,6 +9,7 @@ use Rattle.jv_base.specs.Descriptors.{read_field}
 use Rattle.jv_base.specs.declared.types.Base.TheVariants as base
 use Rattle.jv_base.specs.declared.types.FieldType.{FieldType}
 use Rattle.jv_base.specs.declared.types.MethodType.{MethodType}
+use Rattle.jv_base.proofs.Lists.{all_append}
 use Rattle.class_model.specs.Flags.{is_init}
 use Rattle.class_model.specs.Frames.{vtype_of}
 use Rattle.class_model.specs.declared.frame.VType.{VType}
@@ -26,7 +27,6 @@ use Rattle.class_rename.specs.Names.{Names}
 use Rattle.class_rename.specs.Renamed.{renamed_field_ref, renamed_method_ref, renamed_method_type, renamed_op}
 use Rattle.class_rename.specs.Renamed.{renamed_type, renamed_vtype}
 use Rattle.image_laws.specs.SetImage.Image.{Image}
-use Rattle.image_laws.proofs.SetImage.MappedLists.{all_append}
 use Rattle.type_verifier.specs.Environment.{Environment, own_type}
 use Rattle.type_verifier.specs.Effects.{if_ruled, stepped}
 use Rattle.type_verifier.specs.Members.{is_early_field, is_guarded_field, is_guarded_method}
@@ -36,8 +36,8 @@ use Rattle.type_verifier.specs.Rules.{number, object_call, returned, rule_of, sh
 use Rattle.type_verifier.specs.Rules.{static_read, static_write, told_type, written_receiver}
 use Rattle.type_verifier.specs.declared.frame.TypeFrame.{TypeFrame}
 use Rattle.type_verifier.proofs.Lists.{map_reversed, reverse_cons}
-use Rattle.image_laws.specs.TypedImage.Named.{IsCodeNamed, IsFieldNamed, IsMethodNamed, IsMethodTypeNamed, IsOpNamed, IsTypeNamed}
-use Rattle.image_laws.specs.TypedImage.Named.{KeepsKnownNames}
+use Rattle.image_laws.specs.TypedImage.Named.{IsCodeNamed, IsFieldNamed, IsMethodNamed, IsMethodTypeNamed, IsOpNamed}
+use Rattle.image_laws.specs.TypedImage.Named.{IsTypeNamed, KeepsKnownNames}
 use Rattle.image_laws.proofs.TypedImage.Assigning.{FrameNamed, VTypeNamed, renamed_types_frame}
 use Rattle.image_laws.proofs.TypedImage.Acting.{Follows, WantedNamed, renamed_wanted}
 use Rattle.image_laws.proofs.TypedImage.Ruling as ruling

@@ -9,6 +9,7 @@ use Rattle.std.specs.Option.{option_and_then, option_map}
 use Rattle.std.proofs.lemmas.List.{length-map}
 use Rattle.std.proofs.lemmas.List.Sums.{sum_by-cons}
 use Rattle.std.proofs.lemmas.Option.{slice_get-map}
+use Rattle.std.proofs.lemmas.Bool.{and_from, not-false}
 use Rattle.jv_base.specs.Outcome.{◌>>=◌}
 use Rattle.jv_base.specs.declared.types.Base.{Base}
 use Rattle.jv_base.specs.declared.types.Base.TheVariants as base
@@ -46,8 +47,8 @@ use Rattle.type_verifier.specs.declared.fault.TypeKind.TheVariants.{Depth, Local
 use Rattle.type_verifier.specs.declared.frame.TypeFrame.{TypeFrame}
 use Rattle.image_laws.specs.TypedImage.Named.{IsCodeNamed, IsNamed, IsOpNamed, IsTypeNamed}
 use Rattle.image_laws.specs.TypedImage.Named.{KeepsKnownNames, renamed_at}
-use Rattle.image_laws.proofs.TypedImage.Assigning.{AllNamed, FrameNamed, VTypeNamed, all_renamed, assignable, renamed_types_frame}
-use Rattle.image_laws.proofs.TypedImage.Assigning.{and, both, either, text_kept, words_same}
+use Rattle.image_laws.proofs.TypedImage.Assigning.{AllNamed, FrameNamed, VTypeNamed, all_renamed, assignable}
+use Rattle.image_laws.proofs.TypedImage.Assigning.{renamed_types_frame, both, either, text_kept, words_same}
 use Rattle.image_laws.proofs.TypedImage.Acting as acting
 use Rattle.image_laws.proofs.TypedImage.Acting.{Follows, WantedNamed, renamed_wanted}
 
@@ -177,7 +178,7 @@ module _ (names : Names) (a b : Environment) (i : Image a.classes b.classes) (st
       → is_class_type (names.class name) (renamed_type names ty) ≡ true
   class_is name ty h =
       let parts = both (ty.dims == 0) (is_class_base name ty.base) h in
-      and (ty.dims == 0) (is_class_base (names.class name) (renamed_base names ty.base)) parts.0
+      and_from (ty.dims == 0) (is_class_base (names.class name) (renamed_base names ty.base)) parts.0
       (base_is name ty.base parts.1)
 
   own_or_super : (ty : FieldType) → is_own_or_super a ty ≡ true → is_own_or_super b (renamed_type names ty) ≡ true
@@ -230,11 +231,7 @@ module _ (names : Names) (a b : Environment) (i : Image a.classes b.classes) (st
   guard_kept true ty h e =
       ap (λ (t : VType). not (is_assignable b.classes (new ty) t)) own_renamed
       ∙ ap not (assignable names a.classes b.classes i stay ty (own_type a) h c.own_named
-      (passes (is_assignable a.classes ty (own_type a)) e))
-    where
-      passes : (t : Bool) → not t ≡ false → t ≡ true
-      passes true e = refl
-      passes false e = absurd cc
+      (not-false (is_assignable a.classes ty (own_type a)) e))
 
   new_follows : (at : ℕ) (class : FieldType) (guarded : Bool) (o : Option (List ℕ)) (f : TypeFrame)
       (stack : List VType) → IfSome o (IsNamed names a.classes b.classes i) → Framed f

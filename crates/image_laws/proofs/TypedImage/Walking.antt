@@ -7,9 +7,11 @@ use Rattle.std.specs.Prelude.{◌==◌, IfSome, codes}
 use Rattle.std.specs.List.{AllByRecursion, find, flat_map, list_all, list_any}
 use Rattle.std.specs.Option.{option_map, option_map_or}
 use Rattle.std.proofs.lemmas.List.{length-map, map-append}
+use Rattle.std.proofs.lemmas.Bool.{and_from}
 use Rattle.jv_base.specs.Names.{is_text}
 use Rattle.jv_base.specs.declared.types.FieldType.{FieldType}
 use Rattle.jv_base.specs.declared.types.MethodType.{MethodType}
+use Rattle.jv_base.proofs.Lists.{all_append}
 use Rattle.class_model.specs.Flags.{is_static}
 use Rattle.class_model.specs.Frames.{initial_locals, this_type, vtype_of}
 use Rattle.class_model.specs.declared.code.Handler.{Handler}
@@ -23,7 +25,6 @@ use Rattle.class_rename.specs.Names.{Names}
 use Rattle.class_rename.specs.Renamed.{renamed_frame, renamed_handler, renamed_op}
 use Rattle.class_rename.specs.Renamed.{renamed_type, renamed_vtype}
 use Rattle.image_laws.specs.SetImage.Image.{Image}
-use Rattle.image_laws.proofs.SetImage.MappedLists.{all_append}
 use Rattle.type_verifier.specs.Assignable.{is_assignable}
 use Rattle.type_verifier.specs.Effects.{Checked, stepped, with_stack}
 use Rattle.type_verifier.specs.Environment.{Environment, declared_frame_at, goes_elsewhere, initial_frame, is_entered}
@@ -35,10 +36,10 @@ use Rattle.type_verifier.specs.Walk.{caught_type, covers, fits_at, fits_declared
 use Rattle.type_verifier.specs.Walk.{satisfies_handlers}
 use Rattle.type_verifier.specs.declared.frame.TypeFrame.{TypeFrame}
 use Rattle.type_verifier.proofs.Lists.{map_reversed}
-use Rattle.image_laws.specs.TypedImage.Named.{IsCodeNamed, IsFrameNamed, IsHandlerNamed, IsNamed, IsOpNamed, IsTypeNamed}
-use Rattle.image_laws.specs.TypedImage.Named.{KeepsKnownNames, renamed_at}
-use Rattle.image_laws.proofs.TypedImage.Assigning.{AllNamed, FrameNamed, VTypeNamed, all_renamed, and, assignable, both, either}
-use Rattle.image_laws.proofs.TypedImage.Assigning.{frame_assignable, renamed_types_frame}
+use Rattle.image_laws.specs.TypedImage.Named.{IsCodeNamed, IsFrameNamed, IsHandlerNamed, IsNamed, IsOpNamed}
+use Rattle.image_laws.specs.TypedImage.Named.{IsTypeNamed, KeepsKnownNames, renamed_at}
+use Rattle.image_laws.proofs.TypedImage.Assigning.{AllNamed, FrameNamed, VTypeNamed, all_renamed, assignable, both}
+use Rattle.image_laws.proofs.TypedImage.Assigning.{either, frame_assignable, renamed_types_frame}
 use Rattle.image_laws.proofs.TypedImage.Acting.{Follows}
 use Rattle.image_laws.proofs.TypedImage.Instructions.{all_reversed, stepped_follows}
 use Rattle.image_laws.proofs.TypedImage.Ruling.{vtype_named, vtype_renamed}
@@ -313,7 +314,7 @@ module _ (names : Names) (a b : Environment) (i : Image a.classes b.classes) (st
     all_kept P f test over each [] h e = refl
     all_kept P f test over each (x ∷ xs) h e =
         let parts = both (test x) (list_all test xs) e in
-        and (over (f x)) (list_all over (map f xs)) (each x h.0 parts.0)
+        and_from (over (f x)) (list_all over (map f xs)) (each x h.0 parts.0)
         (all_kept P f test over each xs h.1 parts.1)
 
     fits_declared_kept : (f : TypeFrame) (o : Option TypeFrame) → Framed f → IfSome o Framed
@@ -324,7 +325,7 @@ module _ (names : Names) (a b : Environment) (i : Image a.classes b.classes) (st
     fits_kept : (f : TypeFrame) (to : ℕ) → Framed f → fits_at a f to ≡ true → fits_at b (frame f) to ≡ true
     fits_kept f to named e =
         let parts = both (nat_lt to (length a.code.ins)) (fits_declared a f (declared_frame_at a to)) e in
-        and (nat_lt to (length b.code.ins)) (fits_declared b (frame f) (declared_frame_at b to))
+        and_from (nat_lt to (length b.code.ins)) (fits_declared b (frame f) (declared_frame_at b to))
         (ap (λ (ins : List Ins). nat_lt to (length ins)) c.code.ins
         ∙ ap (nat_lt to) (length-map a.code.ins renewed) ∙ parts.0)
         (ap (fits_declared b (frame f)) (declared_same to)
@@ -338,7 +339,7 @@ module _ (names : Names) (a b : Environment) (i : Image a.classes b.classes) (st
         each [] e = refl
         each (t ∷ ts) e =
             let parts = both (fits_at a f t) (list_all (fits_at a f) ts) e in
-            and (fits_at b (frame f) t) (list_all (fits_at b (frame f)) ts) (fits_kept f t named parts.0)
+            and_from (fits_at b (frame f) t) (list_all (fits_at b (frame f)) ts) (fits_kept f t named parts.0)
             (each ts parts.1)
 
     -- ---- handlers
@@ -371,9 +372,9 @@ module _ (names : Names) (a b : Environment) (i : Image a.classes b.classes) (st
         let two = both (not f.marked) (is_assignable a.classes caught throwable) one.0 in
         ap (λ (t : VType). not f.marked && is_assignable b.classes t throwable
         && fits_at b (with_stack (frame f) (t ∷ [])) h.entry) (caught_same h)
-        ∙ and (not f.marked && is_assignable b.classes (new caught) throwable)
+        ∙ and_from (not f.marked && is_assignable b.classes (new caught) throwable)
         (fits_at b (with_stack (frame f) (new caught ∷ [])) h.entry)
-        (and (not f.marked) (is_assignable b.classes (new caught) throwable) two.0
+        (and_from (not f.marked) (is_assignable b.classes (new caught) throwable) two.0
         (ap (is_assignable b.classes (new caught)) throwable_same
         ∙ assignable names a.classes b.classes i stay caught throwable (caught_named h k) c.known.throwable two.1))
         (fits_kept (with_stack f (caught ∷ [])) h.entry (named.0, (caught_named h k, tt)) one.1)

@@ -1,30 +1,30 @@
 -- The names of classes and members, and those of an image.
-use Rattle.std.proofs.Common.{◌≡◌, ℕ, ◌&&◌, Bool, true, false, cond, List, [], ◌∷◌, Option, Some, None, slice_get}
+use Rattle.std.proofs.Common.{◌≡◌, ℕ, Bool, true, false, cond, List, [], ◌∷◌, Option, Some, None, slice_get}
 use Rattle.std.proofs.Common.{get_or, refl}
 use Rattle.std.proofs.Common.{sym, ap, ◌∙◌}
 use Rattle.std.specs.List.{position}
 use Rattle.std.specs.Option.{option_and_then, option_map, option_map_or}
-use Rattle.std.proofs.lemmas.Bool.{and_parts, eqb-true, eq-eqb}
 use Rattle.std.proofs.lemmas.List.Quantifiers.{position-Some}
 use Rattle.std.proofs.lemmas.Option.{slice_get-get_or}
+use Rattle.link_check.proofs.OverridingLaws.{declared_class}
 use Rattle.jv_base.specs.Names.{is_text}
 use Rattle.jv_base.proofs.Equality.{text_Decides}
+use Rattle.jv_base.proofs.Options.{both_there}
 use Rattle.class_model.specs.declared.class.Class.{Class}
 use Rattle.lib_table.specs.Library.{LibraryClass, class, library}
 use Rattle.lib_table.specs.Lookups as table
 use Rattle.lib_table.specs.declared.class.LibKind.TheVariants.{Open}
 use Rattle.class_pool.specs.Found.{NameAndType, declared_in, name_of, named_at, same_member}
 use Rattle.class_pool.specs.Hierarchy.{IsClass, class_named, or_found}
-use Rattle.class_pool.specs.Members.{declared_at}
 use Rattle.class_pool.specs.Walk.{same_class}
 use Rattle.class_pool.specs.declared.id.ClassId.{ClassId}
 use Rattle.class_pool.specs.declared.id.ClassId.TheVariants.{Prog, Lib}
 use Rattle.class_pool.specs.declared.id.MemberAt.{MemberAt}
 use Rattle.class_pool.proofs.Declaring.{declared_named}
 use Rattle.class_pool.proofs.EachOnce.{same_is, same_itself}
+use Rattle.class_pool.proofs.Among.{member_is as same_member_is, member_itself}
 use Rattle.image_laws.specs.SetImage.Image.{Image}
 use Rattle.jvm_model.specs.Value.{Key}
-use Rattle.jvm_model.proofs.Compose.{mapped_some, then_some}
 use Rattle.set_view.specs.ViewOf.{key_at, member_of}
 use Rattle.image_laws.specs.ViewImage.ImageNames.{names, new_class, new_key}
 use Rattle.image_laws.specs.ViewImage.ImageView.{IsImageView}
@@ -45,7 +45,7 @@ found_number (c ∷ cs) name n e =
     ap (λ o. option_map_or (λ (c : Class). c.name) o []) (slice_get-get_or (c ∷ cs) n c h.0)
     ∙ sym ((text_Decides name (get_or (c ∷ cs) n c).name).0 h.1)
 
-found_library : (name : List ℕ) (id : ℕ) → table.class_named name ≡ Some id → (table.class_at id).name ≡ name
+pub found_library : (name : List ℕ) (id : ℕ) → table.class_named name ≡ Some id → (table.class_at id).name ≡ name
 found_library name id e =
     let h = position-Some (λ (c : LibraryClass). is_text c.name name) library id (class [] Open None [] []) e in
     (text_Decides (table.class_at id).name name).0 h.1
@@ -67,15 +67,6 @@ class_name classes name x e = by (position (λ c. is_text name c.name) classes) 
 
 -- ---- the member of a key has that key
 
--- a member that a class declares is of that class
-pub declared_class : (classes : List Class) (n : NameAndType) (c : ClassId) (m : MemberAt) → declared_in classes n c
-    ≡ Some m
-    → m.class ≡ c
-declared_class classes n c m e =
-    let f : ℕ → MemberAt = λ j. record { class = c; index = j } in
-    let k = mapped_some f (declared_at classes c n.0 n.1) m e in
-    ap (λ (x : MemberAt). x.class) k.2
-
 pub record Member (classes : List Class) (k : Key) (m : MemberAt) : Type 0 where
   pub class : class_named classes k.class ≡ Some m.class
   pub stands : Stands classes (k.name, k.descriptor) m
@@ -83,7 +74,7 @@ pub record Member (classes : List Class) (k : Key) (m : MemberAt) : Type 0 where
 
 pub member_is : (classes : List Class) (k : Key) (m : MemberAt) → member_of classes k ≡ Some m → Member classes k m
 member_is classes k m e =
-    let x = then_some (declared_in classes (k.name, k.descriptor)) (class_named classes k.class) m e in
+    let x = both_there (declared_in classes (k.name, k.descriptor)) (class_named classes k.class) m e in
     let same = declared_class classes (k.name, k.descriptor) x.0 m x.2 in
     let class = x.1 ∙ ap Some (sym same) in
     let named = declared_named classes (k.name, k.descriptor) x.0 m x.2 in
@@ -107,14 +98,6 @@ key_leads classes named n m s =
 
 -- ---- an image
 
-same_member_is : (m n : MemberAt) → same_member m n ≡ true → m ≡ n
-same_member_is m n h =
-    let p = and_parts (same_class m.class n.class) _ h in
-    λ i. record { class = same_is m.class n.class p.0 i; index = eqb-true m.index n.index p.1 i }
-
-same_member_itself : (m : MemberAt) → same_member m m ≡ true
-same_member_itself m = (λ i. same_itself m.class i && eq-eqb m.index m.index refl i)
-
 module _ (a b : List Class) (i : Image a b) (told : IsImageView a b i) where
   one_place : (x y : ClassId) → i.kept x ≡ true → i.kept y ≡ true → i.moved x ≡ i.moved y → x ≡ y
   one_place x y k l e =
@@ -124,7 +107,7 @@ module _ (a b : List Class) (i : Image a b) (told : IsImageView a b i) where
       → i.moved_member m ≡ i.moved_member n → m ≡ n
   one_member_place m n k l e =
       same_member_is m n (sym (i.same_member_moved m n k l) ∙ ap (same_member (i.moved_member m)) (sym e)
-      ∙ same_member_itself (i.moved_member m))
+      ∙ member_itself (i.moved_member m))
 
   -- a class with a new name is one that is kept, and its new name is that of its place
   pub record ClassOf (c d : List ℕ) : Type 0 where
@@ -135,7 +118,7 @@ module _ (a b : List Class) (i : Image a b) (told : IsImageView a b i) where
 
   pub class_of_name : (c d : List ℕ) → (names a b i).class c ≡ Some d → ClassOf c d
   class_of_name c d e =
-      let x = then_some (new_class a b i) (class_named a c) d e in
+      let x = both_there (new_class a b i) (class_named a c) d e in
       let p = some_of (i.kept x.0) (name_of b (i.moved x.0)) d x.2 in
       record { at = x.0; is = x.1; kept = p.0; name = p.1 }
 
@@ -168,7 +151,7 @@ module _ (a b : List Class) (i : Image a b) (told : IsImageView a b i) where
 
   pub member_of_key : (k l : Key) → option_and_then (new_key a b i) (member_of a k) ≡ Some l → MemberOf k l
   member_of_key k l e =
-      let m = then_some (new_key a b i) (member_of a k) l e in
+      let m = both_there (new_key a b i) (member_of a k) l e in
       let p = some_of (i.kept_member m.0) (key_at b (i.moved_member m.0)) l m.2 in
       record { at = m.0; is = m.1; kept = p.0; key = p.1 }
 

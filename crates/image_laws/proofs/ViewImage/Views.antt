@@ -5,10 +5,11 @@ use Rattle.std.proofs.Common.{sym, ap, subst, ◌∙◌}
 use Rattle.std.specs.Prelude.{◌==◌, IfSome, codes, option_to_list}
 use Rattle.std.specs.List.{AllZip}
 use Rattle.std.specs.Option.{option_and_then, option_map, option_map_or}
-use Rattle.std.proofs.lemmas.Bool.{and_parts}
+use Rattle.std.proofs.lemmas.Bool.{and_parts, not-true}
 use Rattle.jv_base.specs.Names.{is_text}
 use Rattle.jv_base.specs.declared.types.Base.{Base}
 use Rattle.jv_base.specs.declared.types.Base.TheVariants as base
+use Rattle.jv_base.proofs.Options.{both_there}
 use Rattle.class_model.specs.declared.class.Class.{Class}
 use Rattle.class_model.specs.declared.op.MemberRef.{MemberRef}
 use Rattle.class_model.specs.Flags.{acc_abstract, acc_private, acc_public}
@@ -37,7 +38,7 @@ use Rattle.jvm_model.specs.Mapped.{CodeMap, Mapped, OptionCorr, ShapeMap, Target
 use Rattle.jvm_model.specs.Program.{Fails, Library, Program, Target}
 use Rattle.jvm_model.specs.Types.{default_of, field_kind, is_above_arrays}
 use Rattle.jvm_model.specs.Value.{Key, Null, Value}
-use Rattle.jvm_model.proofs.Compose.{mapped_some, then_some}
+use Rattle.jvm_model.proofs.Compose.{mapped_some}
 use Rattle.jvm_model.proofs.Keys.{texts_agree}
 use Rattle.set_view.specs.ViewOf.{array_from, array_target_of, checked, code_at, constant_at, field_of, firsts_of}
 use Rattle.set_view.specs.ViewOf.{is_selected, key_at, member_of}
@@ -48,7 +49,8 @@ use Rattle.image_laws.specs.ViewImage.ImageNames.{found_ref, mapping, names, new
 use Rattle.image_laws.specs.ViewImage.ImageNames.{renamed_ref}
 use Rattle.image_laws.specs.ViewImage.ImageView.{IsImageView, LikeDescriptors, clinit, stored_by}
 use Rattle.image_laws.proofs.ViewImage.Naming.{MemberOf, class_of_name, class_there_too, key_class, member_is}
-use Rattle.image_laws.proofs.ViewImage.Naming.{member_of_key, member_there_too, new_key_of, new_name, one_class, one_key}
+use Rattle.image_laws.proofs.ViewImage.Naming.{member_of_key, member_there_too, new_key_of, new_name, one_class}
+use Rattle.image_laws.proofs.ViewImage.Naming.{one_key}
 use Rattle.image_laws.proofs.ViewImage.Standing.{Stands, declared_stands, field_stands, method_stands, selected_stands}
 use Rattle.image_laws.proofs.ViewImage.Standing.{special_stands}
 
@@ -159,8 +161,8 @@ module _ (a b : List Class) (i : Image a b) (p : IsProperSet a) (rule : Selected
 
   ref_of : (found : ClassId → Option MemberAt) (r s : MemberRef) → found_ref a b i found r ≡ Some s → Ref found r s
   ref_of found r s e =
-      let c = then_some (λ c. option_and_then (new_ref a b i r c) (found c)) (class_of a r) s e in
-      let m = then_some (new_ref a b i r c.0) (found c.0) s c.2 in
+      let c = both_there (λ c. option_and_then (new_ref a b i r c) (found c)) (class_of a r) s e in
+      let m = both_there (new_ref a b i r c.0) (found c.0) s c.2 in
       let k = new_ref_is r s c.0 m.0 m.2 in
       record {
         class = c.0;
@@ -321,8 +323,8 @@ module _ (a b : List Class) (i : Image a b) (p : IsProperSet a) (rule : Selected
       → option_and_then (λ c. option_and_then (new_special a b i r x c) (method_of a r c)) (class_of a r) ≡ Some s
       → (f : Ref (methods_of r) r s) × (option_map_or i.kept_member (selected_special a x f.class f.member) true ≡ true)
   special_ref_is x r s e =
-      let c = then_some (λ c. option_and_then (new_special a b i r x c) (method_of a r c)) (class_of a r) s e in
-      let m = then_some (new_special a b i r x c.0) (method_of a r c.0) s c.2 in
+      let c = both_there (λ c. option_and_then (new_special a b i r x c) (method_of a r c)) (class_of a r) s e in
+      let m = both_there (new_special a b i r x c.0) (method_of a r c.0) s c.2 in
       let t = some_when (option_map_or i.kept_member (selected_special a x c.0 m.0) true)
       (new_ref a b i r c.0 m.0) s m.2 in
       let k = new_ref_is r s c.0 m.0 t.1 in (
@@ -348,7 +350,7 @@ module _ (a b : List Class) (i : Image a b) (p : IsProperSet a) (rule : Selected
       → OptionCorr (TargetMap (names a b i)) (of_class a (special_of a r) None c) (of_class b (special_of b s) None d)
   special_same c d r s e g =
       let x = class_of_name a b i told c d e in
-      let q = then_some (λ x. option_and_then (λ c. option_and_then (new_special a b i r x c) (method_of a r c))
+      let q = both_there (λ x. option_and_then (λ c. option_and_then (new_special a b i r x c) (method_of a r c))
       (class_of a r)) (class_named a c) s g in
       let same : Some q.0 ≡ Some x.at = sym q.1 ∙ x.is in
       let at : q.0 ≡ x.at = cc in
@@ -403,10 +405,6 @@ module _ (a b : List Class) (i : Image a b) (p : IsProperSet a) (rule : Selected
       not (((ap (is_interface_in b) (i.class_moved m) ∙ i.interface_moved m.class (i.class_kept m k)) j))
       || (i.instance_moved m k j && not (i.flag_moved acc_private m k j))
 
-  not_true : (t : Bool) → not t ≡ true → t ≡ false
-  not_true true h = absurd cc
-  not_true false h = refl
-
   -- a selected method of an interface is an instance method that isn't private
   open_method : (m : MemberAt) → is_selected a m ≡ true → is_interface_in a m.class ≡ true
       → (is_instance_method a m ≡ true) × (is_private_member a m ≡ false)
@@ -414,7 +412,7 @@ module _ (a b : List Class) (i : Image a b) (p : IsProperSet a) (rule : Selected
       let h : (is_instance_method a m && not (is_private_member a m)) ≡ true =
       sym (ap (λ (u : Bool). not u || (is_instance_method a m && not (is_private_member a m))) t) ∙ e in
       let parts = and_parts (is_instance_method a m) (not (is_private_member a m)) h in
-      (parts.0, not_true (is_private_member a m) parts.1)
+      (parts.0, not-true (is_private_member a m) parts.1)
 
   otherwise : (t : Bool) → OptionCorr (TargetMap (names a b i)) (cond t (Some (Fails IncompatibleChange)) None)
       (cond t (Some (Fails IncompatibleChange)) None)
@@ -650,7 +648,7 @@ module _ (a b : List Class) (i : Image a b) (p : IsProperSet a) (rule : Selected
   special_kind_same : (c : List ℕ) (r s : MemberRef) → (mapping a b i).special_ref c r ≡ Some s
       → LikeDescriptors r.ty s.ty
   special_kind_same c r s e =
-      let q = then_some (λ x. option_and_then (λ c. option_and_then (new_special a b i r x c) (method_of a r c))
+      let q = both_there (λ x. option_and_then (λ c. option_and_then (new_special a b i r x c) (method_of a r c))
       (class_of a r)) (class_named a c) s e in
       let f = (special_ref_is q.0 r s q.2).0 in
       subst (λ (t : MemberRef). LikeDescriptors r.ty t.ty) (sym f.new)

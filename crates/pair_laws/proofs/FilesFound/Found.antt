@@ -22,8 +22,8 @@ use Rattle.class_files.specs.Output.{put_all}
 use Rattle.class_files.specs.declared.input.InputFault.TheVariants.{TooLong, TooManyClasses, TooManyFiles}
 use Rattle.pair_laws.specs.FilesFound.Below.{AreBelow, IsElsewhere}
 use Rattle.pair_laws.specs.FilesFound.Laws.{FoundAscend, PutAreFound}
-use Rattle.pair_laws.proofs.FilesFound.Entries.{Entry, below_of, found_below, in_front, none_like, order, paths_of, sorted_from}
-use Rattle.pair_laws.proofs.FilesFound.Entries.{sorted_to}
+use Rattle.pair_laws.proofs.FilesFound.Entries.{Entry, below_of, found_below, in_front, none_like, order, paths_of}
+use Rattle.pair_laws.proofs.FilesFound.Entries.{sorted_from, sorted_to}
 
 abbrev path_and_bytes : FileAt → Entry
 path_and_bytes f = (f.path, f.bytes)

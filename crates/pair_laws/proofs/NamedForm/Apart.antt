@@ -3,8 +3,10 @@ use Rattle.std.proofs.Common.{◌≡◌, ◌≢◌, ℕ, suc, ◌+◌, ◌||◌,
 use Rattle.std.proofs.Common.{map, get_or, refl, sym, ap, subst, ◌∙◌, arith}
 use Rattle.std.specs.List.{AllByRecursion, enumerate_from, filter}
 use Rattle.std.proofs.lemmas.Option.{get_or_from_slice_get, slice_get_within}
+use Rattle.std.proofs.lemmas.Bool.{or_right}
 use Rattle.jv_base.specs.Names.{is_text}
 use Rattle.jv_base.proofs.Equality.{text_Decides}
+use Rattle.jv_base.proofs.Lists.{all_at, all_from}
 use Rattle.class_model.specs.declared.class.Class.{Class}
 use Rattle.class_pool.specs.Items.{class_item}
 use Rattle.class_pool.specs.bodies.Faults.{NamesDiffer}
@@ -14,7 +16,7 @@ use Rattle.fresh_names.specs.Fresh.{is_taken}
 use Rattle.fresh_names.specs.Given.{class_names}
 use Rattle.member_shrink.specs.Shrunk.{is_marked, shrunk, with_marked_members}
 use Rattle.set_shrink.specs.Order.{AreApart}
-use Rattle.pair_laws.proofs.NamedForm.Picked.{all_at, all_from, all_picked_at, picked}
+use Rattle.pair_laws.proofs.NamedForm.Picked.{all_picked_at, picked}
 
 -- two classes of one name are at one place, so no two that follow one another have one
 pub pairs_apart : (classes : List Class) → NamesDiffer classes → AreApart classes
@@ -51,10 +53,6 @@ pub kept_apart : (classes : List Class) (marks : List Bool) → AreApart classes
 kept_apart classes marks apart =
     picked_apart (λ n. is_marked marks (class_item classes n))
     (λ (e : ℕ × Class). with_marked_members marks (class_item classes e.0) e.1) (λ e. refl) 0 classes apart
-
-or_right : (b c : Bool) → c ≡ true → (b || c) ≡ true
-or_right true c h = refl
-or_right false c h = h
 
 -- each class of a list has a name of it
 each_named : (all : List (List ℕ)) (classes : List Class)

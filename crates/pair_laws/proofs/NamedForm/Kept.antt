@@ -1,17 +1,18 @@
 -- The types of members that are kept name classes that are kept, or ones of the library.
 use Rattle.std.proofs.Common.{◌≡◌, ℕ, zero, suc, ◌+◌, ◌||◌, Bool, true, false, not, cond, List, [], ◌∷◌, ◌++◌}
 use Rattle.std.proofs.Common.{length, map, Option, Some, None, slice_get, get_or, refl, sym, ap, subst, ◌∙◌, arith}
-use Rattle.std.specs.Prelude.{IfSome}
 use Rattle.std.specs.List.{AllByRecursion, cons_option, flat_map, position}
 use Rattle.std.specs.Option.{option_map, option_map_or}
 use Rattle.std.proofs.lemmas.List.Quantifiers.{position-Some}
 use Rattle.std.proofs.lemmas.Option.{slice_get-get_or}
+use Rattle.class_write.proofs.SpelledLists.{all_two}
 use Rattle.jv_base.specs.Names.{is_text}
 use Rattle.jv_base.proofs.Equality.{text_Decides}
 use Rattle.jv_base.specs.declared.types.Base.{Base}
 use Rattle.jv_base.specs.declared.types.Base.TheVariants as base
 use Rattle.jv_base.specs.declared.types.FieldType.{FieldType}
 use Rattle.jv_base.specs.declared.types.MethodType.{MethodType}
+use Rattle.jv_base.proofs.Lists.{all_split, nil_parts}
 use Rattle.mark_core.specs.Marks.{Closed}
 use Rattle.class_model.specs.declared.class.Class.{Class}
 use Rattle.class_model.specs.declared.class.Field.{Field}
@@ -38,9 +39,10 @@ use Rattle.require_sys.specs.Requires.{code_wants}
 use Rattle.require_sys.specs.declared.kept.KeptByRules.{KeptByRules}
 use Rattle.require_sys.specs.Closing.{is_in}
 use Rattle.require_sys.proofs.Closing.{field_in, method_in}
-use Rattle.require_sys.proofs.Parts.{all_flat_map, all_left}
-use Rattle.image_laws.proofs.TakenSet.LibraryRows.{library_name, name_found}
-use Rattle.image_laws.proofs.TakenSet.Rows.{none_each, none_left}
+use Rattle.require_sys.proofs.Parts.{all_flat_map, all_option}
+use Rattle.image_laws.proofs.TakenSet.LibraryRows.{library_name}
+use Rattle.image_laws.proofs.TakenSet.Rows.{none_each}
+use Rattle.image_laws.proofs.ViewImage.Naming.{found_library}
 use Rattle.fresh_names.specs.Fresh.{is_taken}
 use Rattle.fresh_names.specs.Given.{class_names, front_of}
 use Rattle.fresh_names.specs.declared.taken.TakenNames.{TakenNames}
@@ -79,17 +81,6 @@ none_at q [] none k x at = absurd cc
 none_at q (y ∷ xs) none zero x at = let same : y ≡ x = cc in ap q (sym same) ∙ (none_first q y xs none).0
 none_at q (y ∷ xs) none (suc k) x at = none_at q xs (none_first q y xs none).1 k x at
 
--- what holds of each result and argument
-split_option : {X : Type 0} (P : X → Type 0) (o : Option X) (xs : List X) → AllByRecursion P (cons_option o xs)
-    → IfSome o P × AllByRecursion P xs
-split_option P None xs h = (tt, h)
-split_option P (Some x) xs h = h
-
-both_hold : {X : Type 0} (P Q R : X → Type 0) → ((x : X) → P x → Q x → R x) → (xs : List X) → AllByRecursion P xs
-    → AllByRecursion Q xs → AllByRecursion R xs
-both_hold P Q R each [] p q = tt
-both_hold P Q R each (x ∷ xs) p q = (each x p.0 q.0, both_hold P Q R each xs p.1 q.1)
-
 -- ---- names in the packages of the library
 
 -- no class of these has one
@@ -113,7 +104,8 @@ no_front (c ∷ cs) name none h =
         cc)
 
 -- nor has one such a name
-pub no_name : (cs : List Class) (name : List ℕ) → NoneJava cs → is_java name ≡ true → is_taken (class_names cs) name ≡ false
+pub no_name : (cs : List Class) (name : List ℕ) → NoneJava cs → is_java name ≡ true
+    → is_taken (class_names cs) name ≡ false
 no_name [] name none h = refl
 no_name (c ∷ cs) name none h = on (is_text name c.name) refl (no_name cs name none.1 h)
   where
@@ -159,10 +151,6 @@ module _ (classes : List Class) (rules : KeptByRules) (marks : List Bool) (t : I
     abbrev pub known : List ℕ → Bool
     known = is_known taken (shrunk classes marks)
 
-    or_right : (b c : Bool) → c ≡ true → (b || c) ≡ true
-    or_right true c h = refl
-    or_right false c h = h
-
     or_middle : (b c d : Bool) → c ≡ true → (b || c || d) ≡ true
     or_middle true c d h = refl
     or_middle false true d h = refl
@@ -205,7 +193,7 @@ module _ (classes : List Class) (rules : KeptByRules) (marks : List Bool) (t : I
     library_known name id is =
         let row = library_name id
         (position-Some (λ (c : LibraryClass). is_text c.name name) library id (class [] Open None [] []) is).0 in
-        by_library name (ap is_java (sym (name_found name id is)) ∙ row.0)
+        by_library name (ap is_java (sym (found_library name id is)) ∙ row.0)
 
     -- a name that leads to a class, which is kept where it is one of the program
     name_known : (n : ℕ) (name : List ℕ) → name_kinds classes n name ≡ [] → AllByRecursion In (name_wants classes name)
@@ -243,19 +231,19 @@ module _ (classes : List Class) (rules : KeptByRules) (marks : List Bool) (t : I
     method_type_known : (n : ℕ) (ty : MethodType) → method_type_kinds classes n ty ≡ []
         → AllByRecursion In (method_type_wants classes ty) → IsKnownMethodType known ty
     method_type_known n ty fine wants =
-        let each = both_hold (λ (f : FieldType). type_kinds classes n f ≡ [])
+        let each = all_two (λ (f : FieldType). type_kinds classes n f ≡ [])
         (λ (f : FieldType). AllByRecursion In (type_wants classes f)) (IsKnownType known) (λ f p q. type_known n f p q)
         (cons_option ty.ret ty.args)
         (none_each (type_kinds classes n) (cons_option ty.ret ty.args) fine)
         (all_flat_map In (type_wants classes) (cons_option ty.ret ty.args) wants) in
-        let parts = split_option (IsKnownType known) ty.ret ty.args each in
+        let parts = all_option (IsKnownType known) ty.ret ty.args each in
         record { arguments = parts.1; returned = parts.0 }
 
     field_known : (n : ℕ) (c : Class) → slice_get classes n ≡ Some c → (k : ℕ) (f : Field)
         → slice_get c.fields k ≡ Some f → is_marked marks (class_item classes n + 1 + k) ≡ true → IsKnownType known f.ty
     field_known n c is k f at h =
         let wants = field_in classes rules (is_marked marks) closed n c is k f at h in
-        let kinds = none_left _ _ (no_rule.field n c k f is at) in
+        let kinds = nil_parts _ _ (no_rule.field n c k f is at) in
         type_known n f.ty kinds.1 wants.1
 
     method_known : (n : ℕ) (c : Class) → slice_get classes n ≡ Some c → (k : ℕ) (m : Method)
@@ -263,19 +251,19 @@ module _ (classes : List Class) (rules : KeptByRules) (marks : List Bool) (t : I
         → is_marked marks (class_item classes n + 1 + (length c.fields + k)) ≡ true → IsKnownMethodType known m.ty
     method_known n c is k m at h =
         let wants = method_in classes rules (is_marked marks) closed n c is k m at h in
-        let typed = all_left In (method_type_wants classes m.ty)
+        let typed = all_split In (method_type_wants classes m.ty)
         (throws_wants classes rules m ++ option_map_or (code_wants classes n) m.code []) wants.1 in
         let item : MemberAt = record { class = Prog n; index = length c.fields + k } in
         let head = left_out_at c.left_out (Some (length c.fields + k)) in
         let native = unless (not (is_native m.flags.0)) LeftOutFlag in
         let head_kinds = declaration_kinds classes n c (length c.fields + k) m in
-        let one = none_left (head_kinds ++ body_kinds c m ++ overriding_kinds classes n item)
+        let one = nil_parts (head_kinds ++ body_kinds c m ++ overriding_kinds classes n item)
         (option_map_or (code_kinds classes n m.name) m.code []) (no_rule.method n c k m is at) in
-        let two = none_left (head_kinds ++ body_kinds c m) (overriding_kinds classes n item) one.0 in
-        let three = none_left head_kinds (body_kinds c m) two.0 in
-        let four = none_left (head ++ native ++ method_type_kinds classes n m.ty)
+        let two = nil_parts (head_kinds ++ body_kinds c m) (overriding_kinds classes n item) one.0 in
+        let three = nil_parts head_kinds (body_kinds c m) two.0 in
+        let four = nil_parts (head ++ native ++ method_type_kinds classes n m.ty)
         (flat_map (name_kinds classes n) m.throws) three.0 in
-        let five = none_left (head ++ native) (method_type_kinds classes n m.ty) four.0 in
+        let five = nil_parts (head ++ native) (method_type_kinds classes n m.ty) four.0 in
         method_type_known n m.ty five.1 typed.0
 
     class_known : (n : ℕ) (c : Class) → slice_get classes n ≡ Some c → TypesAreKnown known (left (n, c))

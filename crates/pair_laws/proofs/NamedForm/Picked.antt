@@ -1,7 +1,8 @@
 -- What holds of elements that pass a test of their number, by their places.
-use Rattle.std.proofs.Common.{◌≡◌, ℕ, zero, suc, ◌+◌, ◌||◌, Bool, true, false, cond, List, [], ◌∷◌, map, Some, slice_get}
-use Rattle.std.proofs.Common.{refl, sym, ap, subst, ◌∙◌, arith}
+use Rattle.std.proofs.Common.{◌≡◌, ℕ, zero, suc, ◌+◌, ◌||◌, Bool, true, false, cond, List, [], ◌∷◌, map, Some}
+use Rattle.std.proofs.Common.{slice_get, refl, sym, ap, subst, ◌∙◌, arith}
 use Rattle.std.specs.List.{AllByRecursion, enumerate_from, filter}
+use Rattle.std.proofs.lemmas.Bool.{or_right}
 use Rattle.jv_base.specs.Names.{is_text}
 use Rattle.jv_base.proofs.Equality.{text_Decides}
 use Rattle.fresh_names.specs.Fresh.{is_taken}
@@ -53,25 +54,9 @@ module _ {A B : Type 0} (p : ℕ → Bool) (f : ℕ × A → B) where
         (subst (λ (i : ℕ). is_taken (map name (picked (s + 1) xs)) (name (f (i, x))) ≡ true) next
         (picked_name (s + 1) xs k x at (ap p next ∙ passes)))
       where
-        or_right : (b c : Bool) → c ≡ true → (b || c) ≡ true
-        or_right true c h = refl
-        or_right false c h = h
-
         by : (t : Bool) → is_taken (map name (picked (s + 1) xs)) (name (f (s + suc k, x))) ≡ true
             → is_taken (map name (map f (cond t ((s, y) ∷ filter (λ (e : ℕ × A). p e.0) (enumerate_from (s + 1) xs))
             (filter (λ (e : ℕ × A). p e.0) (enumerate_from (s + 1) xs))))) (name (f (s + suc k, x))) ≡ true
         by true h = or_right (is_text (name (f (s + suc k, x))) (name (f (s, y))))
             (is_taken (map name (picked (s + 1) xs)) (name (f (s + suc k, x)))) h
         by false h = h
-
--- each of a list, by its place
-pub all_from : {X : Type 0} (Q : X → Type 0) (xs : List X) → ((k : ℕ) (x : X) → slice_get xs k ≡ Some x → Q x)
-    → AllByRecursion Q xs
-all_from Q [] each = tt
-all_from Q (x ∷ xs) each = (each 0 x refl, all_from Q xs (λ k y at. each (suc k) y at))
-
-pub all_at : {X : Type 0} (Q : X → Type 0) (xs : List X) (k : ℕ) (x : X) → AllByRecursion Q xs
-    → slice_get xs k ≡ Some x → Q x
-all_at Q [] k x all at = absurd cc
-all_at Q (y ∷ xs) zero x all at = let same : y ≡ x = cc in subst Q same all.0
-all_at Q (y ∷ xs) (suc k) x all at = all_at Q xs k x all.1 at

@@ -1,8 +1,8 @@
 -- A class under its own names can be written as before.
 use Rattle.std.proofs.Common.{◌≡◌, true, refl}
-use Rattle.std.specs.Prelude.{IfSome}
-use Rattle.std.proofs.Common.{Bool, List, [], ◌∷◌, ℕ, Option, Some, None}
+use Rattle.std.proofs.Common.{Bool, List, ℕ}
 use Rattle.std.specs.List.{AllByRecursion}
+use Rattle.removal_laws.proofs.FilteredSet.Typing.{each, if_some}
 use Rattle.jv_base.specs.declared.types.FieldType.{FieldType}
 use Rattle.jv_base.specs.Types.{method_text}
 use Rattle.class_model.specs.declared.class.Class.{Class}
@@ -30,14 +30,6 @@ same_form = record {
   string = refl;
 }
 
-each : {X : Type 0} (P : X → Type 0) → ((x : X) → P x) → (xs : List X) → AllByRecursion P xs
-each P holds [] = tt
-each P holds (x ∷ xs) = (holds x, each P holds xs)
-
-some : {X : Type 0} (P : X → Type 0) → ((x : X) → P x) → (o : Option X) → IfSome o P
-some P holds None = tt
-some P holds (Some x) = holds x
-
 type_known : (ty : FieldType) → IsKnownType all ty
 unfolding all
 type_known ty name is = refl
@@ -50,7 +42,7 @@ told_apart c = record {
     methods = each (λ (m : Method). IsKnownMethodType all m.ty)
         (λ m. record {
           arguments = each (IsKnownType all) type_known m.ty.args;
-          returned = some (IsKnownType all) type_known m.ty.ret;
+          returned = if_some (IsKnownType all) type_known m.ty.ret;
         }) c.methods;
   };
   fields = each (λ (one : Field). AllByRecursion

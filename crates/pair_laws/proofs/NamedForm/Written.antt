@@ -1,7 +1,8 @@
 -- What is kept of a set can be written under its new names.
-use Rattle.std.proofs.Common.{◌≡◌, ℕ, Bool, true, false, cond, List, map, Some, slice_get, codes, inr, Result, Ok, Err, refl}
-use Rattle.std.proofs.Common.{sym, subst}
+use Rattle.std.proofs.Common.{◌≡◌, ℕ, Bool, true, false, cond, List, map, Some, slice_get, codes, inr, Result, Ok, Err}
+use Rattle.std.proofs.Common.{refl, sym, subst}
 use Rattle.std.specs.List.{AllByRecursion}
+use Rattle.jv_base.proofs.Lists.{all_at, all_from}
 use Rattle.mark_core.specs.Marks.{Closed}
 use Rattle.class_model.specs.declared.class.Class.{Class}
 use Rattle.class_pool.specs.Faults.{name_faults, then_super_faults}
@@ -31,7 +32,6 @@ use Rattle.set_shrink.proofs.Writable.{shrunk_writable}
 use Rattle.pair_laws.specs.NamedForm.Laws.{IsLinked, KeptAreAllWritten, KeptAreWritable}
 use Rattle.pair_laws.proofs.NamedForm.Apart.{kept_apart, pairs_apart, renamed_apart}
 use Rattle.pair_laws.proofs.NamedForm.Kept.{no_name, none_java, types_known}
-use Rattle.pair_laws.proofs.NamedForm.Picked.{all_at, all_from}
 use Rattle.pair_laws.proofs.NamedForm.Same.{same_writable}
 
 -- names that stay, as those that are taken
@@ -96,7 +96,8 @@ apart_by : (classes : List Class) (rules : Rules) (marks : List Bool) → IsLink
 apart_by classes rules marks t true =
     renamed_apart (given_beside (names_that_stay rules classes) (shrunk classes marks)) (shrunk classes marks)
     (λ a b h k same.
-    classes_differ (names_that_stay rules classes).classes (class_names (shrunk classes marks)) a b (inr h) (inr k) same)
+    classes_differ (names_that_stay rules classes).classes (class_names (shrunk classes marks)) a b (inr h)
+    (inr k) same)
     (kept_apart classes marks (set_apart classes t))
 apart_by classes rules marks t false =
     renamed_apart same_names (shrunk classes marks) (λ a b h k same. same)

@@ -5,6 +5,7 @@ use Rattle.std.specs.List.{All, AllByRecursion, enumerate_from, filter, find, fl
 use Rattle.std.proofs.lemmas.Bool.{and_parts}
 use Rattle.std.proofs.lemmas.List.Elements.{recursion_from_All}
 use Rattle.std.proofs.lemmas.Option.{get_or_from_slice_get}
+use Rattle.jv_base.proofs.Lists.{all_append}
 use Rattle.mark_core.specs.Marks.{Closed, set_of}
 use Rattle.mark_core.specs.declared.system.Pair.{Pair}
 use Rattle.mark_core.specs.declared.system.System.{System}
@@ -12,7 +13,6 @@ use Rattle.class_model.specs.declared.class.Class.{Class}
 use Rattle.new_names.specs.declared.class_names.ClassNames.{ClassNames}
 use Rattle.pair_clauses.specs.Closing.{closed_fault, has_line, lacking, least, lined_items, lost_seed, needed}
 use Rattle.pair_clauses.specs.Closing.{needed_by, needed_together, place_of_item, seed_fault}
-use Rattle.pair_laws.proofs.PairSame.Lines.{all_append}
 
 -- ---- searches that find nothing
 

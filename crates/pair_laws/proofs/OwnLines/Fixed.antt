@@ -8,6 +8,7 @@ use Rattle.std.proofs.lemmas.List.{length-take-le}
 use Rattle.std.proofs.Math.Seq.{take-take}
 use Rattle.jv_base.specs.Names.{is_text}
 use Rattle.jv_base.specs.Types.{method_text}
+use Rattle.jv_base.proofs.Equality.{text_itself}
 use Rattle.class_model.specs.declared.class.Class.{Class}
 use Rattle.class_pool.specs.Found.{package_of}
 use Rattle.class_pool.specs.Items.{class_item}
@@ -29,7 +30,6 @@ use Rattle.pair_clauses.specs.Places.{class_place, place_if, place_of_field, pla
 use Rattle.pair_clauses.specs.declared.place.Place.{Place}
 use Rattle.pair_clauses.proofs.Zipped.{unplaced}
 use Rattle.pair_laws.specs.PairSame.Pairs.{given_names}
-use Rattle.pair_laws.proofs.PairSame.Tables.{text_itself}
 use Rattle.pair_laws.specs.OwnLines.Laws.{IsToldByMarks, name_if}
 use Rattle.pair_laws.proofs.OwnLines.Picked.{no_first}
 
@@ -88,7 +88,7 @@ not_renamed is_fixed old new false o is right = ap (is_renamed is_fixed old) is
 -- ---- packages
 
 -- a package is its front without the last byte
-package_is : (name : List ℕ) → package_of name ≡ take (length (front_of name) - 1) (front_of name)
+pub package_is : (name : List ℕ) → package_of name ≡ take (length (front_of name) - 1) (front_of name)
 package_is name =
     let n = length name - suffix_len is_within name in
     let long : length (front_of name) ≡ n = length-take-le n name (omega arith) in

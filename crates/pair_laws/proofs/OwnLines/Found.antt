@@ -1,14 +1,16 @@
 -- The class of the output with the new name of a class that is marked is what that class has become.
-use Rattle.std.proofs.Common.{◌≡◌, ℕ, zero, suc, ◌||◌, Bool, true, false, cond, List, [], ◌∷◌, map, Some, slice_get}
+use Rattle.std.proofs.Common.{◌≡◌, ℕ, zero, suc, ◌||◌, Bool, true, false, cond, List, [], ◌∷◌, Some, slice_get}
 use Rattle.std.proofs.Common.{inr, refl, sym, ap, ◌∙◌}
 use Rattle.std.specs.Prelude.{IsPermutation}
 use Rattle.std.specs.List.{Contains, position}
 use Rattle.std.specs.Option.{option_map}
 use Rattle.std.proofs.lemmas.Bool.{or_right}
 use Rattle.std.proofs.lemmas.List.Sorted.{Contains-permutation, IsPermutation-sym}
-use Rattle.std.proofs.lemmas.Option.{get_or_from_slice_get, same_Some, slice_get-get_or, slice_get-map}
+use Rattle.std.proofs.lemmas.Option.{get_or_from_slice_get, same_Some, slice_get-get_or}
 use Rattle.std.proofs.lemmas.Option.{slice_get_within}
 use Rattle.jv_base.specs.Names.{is_text}
+use Rattle.jv_base.proofs.Equality.{text_itself}
+use Rattle.jv_base.proofs.Lists.{mapped_from, got_mapped}
 use Rattle.mark_core.specs.Marks.{Closed, set_of}
 use Rattle.class_model.specs.declared.class.Class.{Class}
 use Rattle.class_pool.specs.Items.{class_item}
@@ -34,7 +36,6 @@ use Rattle.set_shrink.specs.ShrunkSet.{left_of, new_names, renamed_of}
 use Rattle.pair_laws.proofs.NamedForm.Written.{all_written}
 use Rattle.pair_clauses.specs.Shape.{number_of}
 use Rattle.pair_laws.proofs.PairSame.Expected.{numbered_class}
-use Rattle.pair_laws.proofs.PairSame.Tables.{text_itself}
 use Rattle.pair_laws.proofs.OwnLines.Told.{one_class}
 
 -- ---- places in lists
@@ -49,17 +50,6 @@ place_of xs x h = (h.0, slice_get-get_or xs h.0 x h.1 ∙ ap Some h.2)
 moved : {X : Type 0} (xs ys : List X) (k : ℕ) (x : X) → IsPermutation xs ys → slice_get xs k ≡ Some x
     → (j : ℕ) × (slice_get ys j ≡ Some x)
 moved xs ys k x same at = place_of ys x (Contains-permutation xs ys x same (contained xs k x at))
-
--- what is mapped is the image of an element
-unmapped : {X Y : Type 0} (g : X → Y) (xs : List X) (k : ℕ) (y : Y) → slice_get (map g xs) k ≡ Some y
-    → (x : X) × (slice_get xs k ≡ Some x) × (y ≡ g x)
-unmapped g [] k y at = absurd cc
-unmapped g (x ∷ xs) zero y at = (x, refl, sym (same_Some (g x) y at))
-unmapped g (x ∷ xs) (suc k) y at = unmapped g xs k y at
-
-mapped : {X Y : Type 0} (g : X → Y) (xs : List X) (k : ℕ) (x : X) → slice_get xs k ≡ Some x
-    → slice_get (map g xs) k ≡ Some (g x)
-mapped g xs k x at = slice_get-map g xs k ∙ ap (option_map g) at
 
 -- one that passes is found, maybe before it
 some_place : {X : Type 0} (test : X → Bool) (xs : List X) (k : ℕ) (x : X) → slice_get xs k ≡ Some x → test x ≡ true
@@ -153,12 +143,12 @@ module _ (classes : List Class) (marks : List Bool) (rules : Rules) (taken : IsT
   comes_renamed : (d : Class) (j : ℕ) (r : Class) → slice_get all_renamed j ≡ Some r → d ≡ filtered (filter_of rules) r
       → Comes d
   comes_renamed d j r at is =
-      let o = unmapped (renamed names) kept j r at in
+      let o = mapped_from (renamed names) kept j r at in
       comes_of d j o.0 o.1 (is ∙ ap (filtered (filter_of rules)) o.2)
 
   comes : (k : ℕ) (d : Class) → slice_get left k ≡ Some d → Comes d
   comes k d at =
-      let r = unmapped (filtered (filter_of rules)) (in_order all_renamed) k d at in
+      let r = mapped_from (filtered (filter_of rules)) (in_order all_renamed) k d at in
       let back = IsPermutation-sym all_renamed (in_order all_renamed) same_elements in
       let j = moved (in_order all_renamed) all_renamed k r.0 back r.1 in
       comes_renamed d j.0 r.0 j.1 r.2
@@ -173,8 +163,8 @@ module _ (classes : List Class) (marks : List Bool) (rules : Rules) (taken : IsT
     written =
         let j = moved all_renamed (in_order all_renamed) (rank (p classes marks) 0 n)
         (renamed names (f classes marks n c)) same_elements
-        (mapped (renamed names) kept (rank (p classes marks) 0 n) (f classes marks n c) kept_at) in
-        (j.0, mapped (filtered (filter_of rules)) (in_order all_renamed) j.0 (renamed names (f classes marks n c)) j.1)
+        (got_mapped (renamed names) kept (rank (p classes marks) 0 n) (f classes marks n c) kept_at) in
+        (j.0, got_mapped (filtered (filter_of rules)) (in_order all_renamed) j.0 (renamed names (f classes marks n c)) j.1)
 
     -- and nothing else has its name
     only : (d : Class) → Comes d → d.name ≡ names.class c.name → d ≡ become n c

@@ -6,6 +6,7 @@ use Rattle.std.proofs.lemmas.Bool.{cases_lt}
 use Rattle.std.proofs.lemmas.List.{get_or_default, length-map, same_lists}
 use Rattle.std.proofs.lemmas.List.Sums.{sum_by-cons}
 use Rattle.jv_base.specs.Types.{method_text}
+use Rattle.jv_base.proofs.Lists.{found_at}
 use Rattle.class_model.specs.declared.class.Class.{Class}
 use Rattle.class_model.specs.declared.class.Field.{Field}
 use Rattle.class_model.specs.declared.class.Method.{Method}
@@ -51,11 +52,6 @@ item_at (c ∷ cs) item low = by (cases_lt item (items_of c)) (λ i within. item
           low = rest.low;
           is = omega (arith, behind, place, front);
         }
-
-element : {X : Type 0} (xs : List X) (i : ℕ) → i < length xs → (x : X) × (slice_get xs i ≡ Some x)
-element [] i low = absurd (omega (arith, low))
-element (x ∷ xs) zero low = (x, refl)
-element (x ∷ xs) (suc i) low = element xs i (omega (arith, low))
 
 -- as many as there are items
 lined_count : (mapping : Mapping) (classes : List Class)
@@ -107,7 +103,7 @@ module _ (names : Names) (mapping : Mapping) (classes : List Class) (marks : Lis
       a_field : (k : ℕ) → k < length i.class.fields
           → is_marked lined (class_item classes i.n + 1 + k) ≡ is_marked marks (class_item classes i.n + 1 + k)
       a_field k low =
-          let x = element i.class.fields k low in
+          let x = found_at i.class.fields k low in
           field_lined mapping classes i.n i.class i.at k x.0 x.1
           ∙ given_if (is_marked marks (class_item classes i.n + 1 + k)) (names.field x.0.name)
           (new_field mapping i.class x.0) (field i.n i.class i.at k x.0 x.1)
@@ -116,7 +112,7 @@ module _ (names : Names) (mapping : Mapping) (classes : List Class) (marks : Lis
           → is_marked lined (class_item classes i.n + 1 + (length i.class.fields + k))
           ≡ is_marked marks (class_item classes i.n + 1 + (length i.class.fields + k))
       a_method k low =
-          let x = element i.class.methods k low in
+          let x = found_at i.class.methods k low in
           method_lined mapping classes i.n i.class i.at k x.0 x.1
           ∙ given_if (is_marked marks (class_item classes i.n + 1 + (length i.class.fields + k)))
           (names.method x.0.name (method_text x.0.ty)) (new_method mapping i.class x.0)

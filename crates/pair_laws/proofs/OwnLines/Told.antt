@@ -10,7 +10,7 @@ use Rattle.std.proofs.lemmas.Option.{same_Some, slice_get_within}
 use Rattle.std.proofs.lemmas.Simd.{map-map}
 use Rattle.jv_base.specs.Names.{is_text}
 use Rattle.jv_base.specs.Types.{field_text, method_text}
-use Rattle.jv_base.proofs.Equality.{text_Decides}
+use Rattle.jv_base.proofs.Equality.{text_Decides, text_itself, same_text}
 use Rattle.mark_core.specs.Marks.{Closed, set_of}
 use Rattle.class_model.specs.declared.class.Class.{Class}
 use Rattle.class_model.specs.declared.class.Field.{Field}
@@ -36,7 +36,6 @@ use Rattle.class_rename.specs.Names.{Names}
 use Rattle.rename_map.specs.MappingOf as made
 use Rattle.new_names.specs.NewNames.{NameAndType, class_line, field_in as field_told, is_same, method_in as method_told}
 use Rattle.new_names.specs.NewNames.{new_class, new_field, new_method}
-use Rattle.pair_laws.proofs.PairSame.Tables.{same_text, text_itself}
 use Rattle.pair_laws.specs.OwnLines.Laws.{name_if}
 use Rattle.pair_laws.proofs.OwnLines.Picked.{one_found}
 

@@ -1,15 +1,16 @@
 -- Names that are given in their order keep apart what is there.
-use Rattle.std.proofs.Common.{◌≡◌, ◌⊎◌, inl, inr, ⊎_elim, ℕ, zero, suc, ◌-◌, ◌||◌, Bool, true, false, List}
-use Rattle.std.proofs.Common.{[], ◌∷◌, length, map, take, flat_map, Option, Some, None, slice_get, codes}
-use Rattle.std.proofs.Common.{refl, sym, ap, subst, ◌∙◌, arith}
+use Rattle.std.proofs.Common.{◌≡◌, ◌⊎◌, inl, inr, ⊎_elim, ℕ, ◌-◌, ◌||◌, Bool, true, false, List}
+use Rattle.std.proofs.Common.{[], ◌∷◌, length, map, take, Option, Some, None, slice_get, codes}
+use Rattle.std.proofs.Common.{refl, sym, ap, subst, ◌∙◌}
 use Rattle.std.specs.Prelude.{is_some}
-use Rattle.std.specs.List.{position, suffix_len}
+use Rattle.std.specs.List.{position}
 use Rattle.std.specs.Option.{option_map}
-use Rattle.std.proofs.lemmas.List.{length-take-le}
 use Rattle.std.proofs.lemmas.List.Quantifiers.{position-Some}
-use Rattle.std.proofs.lemmas.Option.{same_Some, slice_get-map}
-use Rattle.std.proofs.Math.Seq.{take-take}
+use Rattle.std.proofs.lemmas.Option.{slice_get-map}
+use Rattle.std.proofs.lemmas.Bool.{or_right}
 use Rattle.jv_base.specs.Names.{is_member_name, is_text}
+use Rattle.jv_base.proofs.Equality.{text_itself, same_text}
+use Rattle.jv_base.proofs.Lists.{any_at, placed}
 use Rattle.lib_table.specs.Library.{LibraryClass, class, library}
 use Rattle.lib_table.specs.Lookups as table
 use Rattle.lib_table.specs.declared.class.LibKind.TheVariants.{Open}
@@ -22,28 +23,28 @@ use Rattle.class_pool.specs.Found.{MemberRow, package_of, rows_in}
 use Rattle.class_pool.specs.Hierarchy.{or_found}
 use Rattle.class_pool.specs.declared.id.ClassId.{ClassId}
 use Rattle.class_pool.specs.declared.id.ClassId.TheVariants.{Prog, Lib}
-use Rattle.image_laws.proofs.TakenSet.LibraryRows.{library_name, name_found}
+use Rattle.image_laws.proofs.TakenSet.LibraryRows.{library_name}
 use Rattle.image_laws.proofs.TakenSet.Members.{row_parts}
+use Rattle.image_laws.proofs.ViewImage.Naming.{found_library}
 use Rattle.class_rename.specs.Names.{Names, same_names}
 use Rattle.fresh_names.specs.Fresh.{is_taken}
 use Rattle.fresh_names.specs.Given.{class_names, field_names, front_of, given_name, method_names, no_front}
 use Rattle.fresh_names.specs.Laws.{IsNamed}
 use Rattle.fresh_names.specs.Reserved.{library_names, reserved}
 use Rattle.fresh_names.specs.declared.taken.Named.TheVariants as named
-use Rattle.fresh_names.proofs.Fronts.{is_within}
 use Rattle.fresh_names.proofs.Reserved.{taken_parts}
 use Rattle.fresh_names.proofs.Tables.{classes_differ, fronts_stay, members_differ, taken_stay}
 use Rattle.rename_map.specs.Fixed.{Stay}
 use Rattle.rename_map.specs.Names.{given_beside}
 use Rattle.pair_laws.specs.RenamedForm.Form.{KeepsForm}
 use Rattle.pair_laws.specs.RenamedImage.Renaming.{IsMemberName, KeepsNamesApart, is_known}
-use Rattle.pair_laws.proofs.RenamedImage.Declared.{any_of}
-use Rattle.pair_laws.proofs.RenamedImage.MemberNames.{found_at, library_name_taken, no_init, or_right}
+use Rattle.pair_laws.proofs.RenamedImage.MemberNames.{library_name_taken, no_init}
 use Rattle.pair_laws.proofs.RenamedImage.MemberNames.{program_row}
-use Rattle.pair_laws.proofs.PairSame.Tables.{same_text, text_itself}
 use Rattle.pair_laws.proofs.NamedForm.Fronts.{front_java, is_java}
 use Rattle.pair_laws.proofs.NamedForm.Kept.{NoneJava, no_name}
 use Rattle.pair_laws.proofs.RenamedForm.Given.{other_stays}
+use Rattle.pair_laws.proofs.OwnLines.Fixed.{package_is}
+use Rattle.pair_laws.proofs.RenamedForm.GivenWritable.{in_kept}
 
 -- ---- lists
 
@@ -51,38 +52,18 @@ use Rattle.pair_laws.proofs.RenamedForm.Given.{other_stays}
 pub name_among : {A : Type 0} (name : A → List ℕ) (xs : List A) (k : ℕ) (x : A) → slice_get xs k ≡ Some x
     → is_taken (map name xs) (name x) ≡ true
 name_among name xs k x at =
-    any_of (is_text (name x)) (map name xs) k (name x) (slice_get-map name xs k ∙ ap (option_map name) at)
+    any_at (is_text (name x)) (map name xs) k (name x) (slice_get-map name xs k ∙ ap (option_map name) at)
     (text_itself (name x))
 
--- what is among the names of one class is among those of all
-pub among_all : (f : Class → List (List ℕ)) (classes : List Class) (k : ℕ) (c : Class) → slice_get classes k ≡ Some c
-    → (a : List ℕ) → is_taken (f c) a ≡ true → is_taken (flat_map f classes) a ≡ true
-among_all f [] k c at a h = absurd cc
-among_all f (d ∷ ds) zero c at a h =
-    taken_parts (f d) (flat_map f ds) a
-    ∙ ap (λ (e : Class). is_taken (f e) a || is_taken (flat_map f ds) a) (same_Some d c at)
-    ∙ ap (λ (b : Bool). b || is_taken (flat_map f ds) a) h
-among_all f (d ∷ ds) (suc k) c at a h =
-    taken_parts (f d) (flat_map f ds) a
-    ∙ or_right (is_taken (f d) a) (is_taken (flat_map f ds) a) (among_all f ds k c at a h)
-
 -- ---- packages
-
--- the package of a name, by its front
-package_by_front : (name : List ℕ) → package_of name ≡ take (length (front_of name) - 1) (front_of name)
-package_by_front name =
-    let m = length name - suffix_len is_within name in
-    let long = length-take-le m name (omega arith) in
-    let last : length (front_of name) - 1 ≡ m - 1 = omega (arith, long) in
-    sym (ap (λ (k : ℕ). take k (front_of name)) last ∙ take-take (m - 1) m name (omega arith))
 
 -- it stays
 pub package_stays : (taken names : List (List ℕ)) (a : List ℕ)
     → package_of (given_name front_of taken names a) ≡ package_of a
 package_stays taken names a =
-    package_by_front (given_name front_of taken names a)
+    package_is (given_name front_of taken names a)
     ∙ ap (λ (front : List ℕ). take (length front - 1) front) (fronts_stay taken names a)
-    ∙ sym (package_by_front a)
+    ∙ sym (package_is a)
 
 -- ---- names of members
 
@@ -92,7 +73,7 @@ package_stays taken names a =
 library_java : (name : List ℕ) (id : ℕ) → table.class_named name ≡ Some id → is_java name ≡ true
 library_java name id is =
     let within = position-Some (λ (c : LibraryClass). is_text c.name name) library id (class [] Open None [] []) is in
-    ap is_java (sym (name_found name id is)) ∙ (library_name id within.0).0
+    ap is_java (sym (found_library name id is)) ∙ (library_name id within.0).0
 
 module _ (classes : List Class) where
   -- a known name is one of the library, or of a class
@@ -104,7 +85,7 @@ module _ (classes : List Class) where
           → table.class_named a ≡ l → is_some (or_found o (option_map Lib l)) ≡ true
           → (is_java a ≡ true) ⊎ (is_taken (class_names classes) a ≡ true)
       at (Some k) e l f h =
-          let found = found_at (λ (c : Class). is_text a c.name) classes k e in
+          let found = placed (λ (c : Class). is_text a c.name) classes k e in
           inr (ap (is_taken (class_names classes)) (same_text a found.0.name found.2)
           ∙ name_among (λ (c : Class). c.name) classes k found.0 found.1)
       at None e (Some id) f h = inl (library_java a id f)
@@ -213,12 +194,12 @@ module _ (stay : Stay) (classes : List Class) (form : KeepsForm (given_beside st
   -- names of members stay, or get new names
   field_named : (a : List ℕ) → IsMemberName classes false a → IsNamed stay.fields (field_names classes) a
   field_named = by_field (IsNamed stay.fields (field_names classes)) (λ a h. inl h)
-      (λ j d at k x there. inr (among_all (λ (c : Class). map (λ (f : Field). f.name) c.fields) classes j d at x.name
+      (λ j d at k x there. inr (in_kept (λ (c : Class). map (λ (f : Field). f.name) c.fields) classes j d at x.name
       (name_among (λ (f : Field). f.name) d.fields k x there)))
 
   method_named : (a : List ℕ) → IsMemberName classes true a → IsNamed stay.methods (method_names classes) a
   method_named = by_method (IsNamed stay.methods (method_names classes)) (λ a h. inl h)
-      (λ j d at k x there. inr (among_all (λ (c : Class). map (λ (m : Method). m.name) c.methods) classes j d at x.name
+      (λ j d at k x there. inr (in_kept (λ (c : Class). map (λ (m : Method). m.name) c.methods) classes j d at x.name
       (name_among (λ (m : Method). m.name) d.methods k x there)))
 
   init_of_fields : (a : List ℕ) → IsMemberName classes false a → is_init (names.field a) ≡ is_init a

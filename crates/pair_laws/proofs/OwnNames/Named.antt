@@ -1,8 +1,10 @@
 -- The new names of a set that is taken are names of their kind, and keep apart what is kept.
-use Rattle.std.proofs.Common.{◌≡◌, ℕ, ◌+◌, ◌||◌, Bool, true, false, cond, List, [], ◌∷◌, ◌++◌, map}
+use Rattle.std.proofs.Common.{◌≡◌, ℕ, ◌+◌, Bool, true, false, cond, List, [], ◌∷◌, ◌++◌, map}
 use Rattle.std.proofs.Common.{codes, refl, ap, subst, ◌∙◌}
 use Rattle.std.specs.List.{AllByRecursion}
+use Rattle.std.proofs.lemmas.Bool.{or_right}
 use Rattle.jv_base.specs.Names.{is_member_name}
+use Rattle.jv_base.proofs.Lists.{all_at}
 use Rattle.mark_core.specs.Marks.{Closed}
 use Rattle.class_model.specs.WellFormed.{IsGoodField, IsName}
 use Rattle.class_model.specs.Flags.{is_interface}
@@ -23,7 +25,7 @@ use Rattle.keep_rules.specs.declared.rules.Rules.{Rules}
 use Rattle.member_shrink.specs.Shrunk.{is_marked, shrunk}
 use Rattle.member_shrink.proofs.Picked.{all_mapped}
 use Rattle.pair_laws.proofs.NamedForm.Kept.{NoneJava, no_name, none_java}
-use Rattle.pair_laws.proofs.NamedForm.Picked.{all_at, all_picked_at}
+use Rattle.pair_laws.proofs.NamedForm.Picked.{all_picked_at}
 use Rattle.pair_laws.proofs.NamedForm.Same.{same_form}
 use Rattle.pair_laws.proofs.NamedForm.Written.{has_reserved, taken_of}
 use Rattle.rename_map.specs.Fixed.{Stay, names_that_stay}
@@ -117,10 +119,6 @@ module _ (classes : List Class) (marks : List Bool) (rules : Rules) (taken : IsT
 
   fields_reserved : (a : List ℕ) → is_taken (reserved named.Field) a ≡ true → is_taken stay.fields a ≡ true
   fields_reserved a h = taken_parts _ (reserved named.Field) a ∙ or_right _ (is_taken (reserved named.Field) a) h
-    where
-      or_right : (b c : Bool) → c ≡ true → (b || c) ≡ true
-      or_right true c h = refl
-      or_right false c h = h
 
   form_of : (cs : List Class) → NoneJava cs → KeepsForm (given_beside stay cs)
   form_of cs none =

@@ -6,7 +6,7 @@ use Rattle.std.specs.Option.{option_map, unwrap_or}
 use Rattle.std.proofs.lemmas.List.{map-append}
 use Rattle.jv_base.specs.Names.{is_text}
 use Rattle.jv_base.specs.Types.{method_text}
-use Rattle.jv_base.proofs.Equality.{text_Decides}
+use Rattle.jv_base.proofs.Equality.{text_Decides, text_sym}
 use Rattle.class_model.specs.declared.class.Class.{Class}
 use Rattle.class_model.specs.declared.class.Field.{Field}
 use Rattle.class_model.specs.declared.class.Method.{Method}
@@ -14,7 +14,6 @@ use Rattle.mapping_file.specs.declared.mapping.MapClass.{MapClass}
 use Rattle.class_rename.specs.Names.{Names, same_names}
 use Rattle.fresh_names.specs.Fresh.{is_taken}
 use Rattle.fresh_names.specs.Given.{class_names, field_names, front_of, given_name, method_names, no_front}
-use Rattle.fresh_names.proofs.Once.{symmetric}
 use Rattle.new_names.specs.NewNames as told
 use Rattle.rename_map.specs.Fixed.{Stay, names_that_stay}
 use Rattle.rename_map.specs.MappingOf.{class_lines, field_line, mapping_of, method_line}
@@ -28,7 +27,7 @@ use Rattle.pair_laws.proofs.RenamedForm.Given.{other_stays}
 none_of : (name other : List ℕ) (others : List (List ℕ)) → is_text other name ≡ false → is_taken others name ≡ false
     → (is_text name other || is_taken others name) ≡ false
 none_of name other others first rest =
-    ap (λ (b : Bool). b || is_taken others name) (symmetric name other ∙ first) ∙ rest
+    ap (λ (b : Bool). b || is_taken others name) (text_sym name other ∙ first) ∙ rest
 
 -- a name that is none of these stays
 abbrev Stays : (List ℕ → List ℕ) → List (List ℕ) → List ℕ → Type 0
@@ -143,7 +142,8 @@ told_by : (obfuscate : Bool) (stay : Stay) (lines : Bool) (kept : List Class)
     ≡ cond obfuscate (given_beside stay kept) same_names
 told_by true stay lines kept =
     names_told (given_name front_of stay.classes (class_names kept))
-    (given_name no_front stay.fields (field_names kept)) (given_name no_front stay.methods (method_names kept)) lines kept
+    (given_name no_front stay.fields (field_names kept))
+    (given_name no_front stay.methods (method_names kept)) lines kept
     (other_stays front_of stay.classes (class_names kept)) (other_stays no_front stay.fields (field_names kept))
     (other_stays no_front stay.methods (method_names kept))
 told_by false stay lines kept =

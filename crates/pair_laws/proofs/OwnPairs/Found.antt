@@ -6,8 +6,7 @@ use Rattle.std.specs.Cmp.Lexicographic.{slice_cmp}
 use Rattle.std.specs.List.{AllByRecursion, ends_with}
 use Rattle.std.specs.List.Sorted.{IsStrictlySortedBy}
 use Rattle.std.specs.Ordering.{is_lt, nat_cmp}
-use Rattle.std.specs.declared.cmp.Ordering.{Ordering}
-use Rattle.std.specs.declared.cmp.Ordering.TheVariants.{Less, Equal, Greater}
+use Rattle.std.specs.declared.cmp.Ordering.TheVariants.{Less}
 use Rattle.std.proofs.lemmas.List.{drop_at}
 use Rattle.std.proofs.lemmas.Slice.Eq.{slice_eq-Decides}
 use Rattle.tree_io.specs.Below.{IsAscending, front_of}
@@ -16,6 +15,7 @@ use Rattle.class_files.specs.Input.{is_class_path}
 use Rattle.class_model.specs.declared.class.Class.{Class}
 use Rattle.class_pool.specs.Faults.{Ascends}
 use Rattle.class_pool.specs.declared.fault.NamedClass.{NamedClass}
+use Rattle.class_pool.proofs.Ascending.{less}
 use Rattle.set_shrink.specs.Order.{class_path}
 use Rattle.set_shrink.specs.ShrunkSet.{AreFilesOf, left_of}
 use Rattle.pair_laws.specs.FilesFound.Below.{AreBelow}
@@ -77,17 +77,12 @@ all_class_paths (c ∷ cs) (w ∷ written) same =
 
 -- ---- in order
 
-less_is : (o : Ordering) → is_lt o ≡ true → o ≡ Less
-less_is Less h = refl
-less_is Equal h = absurd cc
-less_is Greater h = absurd cc
-
 all_above : (x : List ℕ) (files : List NamedClass)
     → ((k : ℕ) (d : NamedClass) → k < length files → is_lt (slice_cmp nat_cmp x (get_or files k d).path) ≡ true)
     → AllByRecursion (λ y. slice_cmp nat_cmp x y ≡ Less) (map (λ (f : NamedClass). f.path) files)
 all_above x [] h = tt
 all_above x (f ∷ files) h = (
-  less_is (slice_cmp nat_cmp x f.path) (h 0 f (omega arith)),
+  less (slice_cmp nat_cmp x f.path) (h 0 f (omega arith)),
   all_above x files (λ k d low. h (suc k) d (omega (arith, low))),
 )
 

@@ -7,6 +7,7 @@ use Rattle.std.specs.Option.{option_map}
 use Rattle.std.specs.Str.{IsUtf8}
 use Rattle.std.proofs.lemmas.List.{drop_at}
 use Rattle.std.proofs.lemmas.Option.{same_Some, slice_get-map}
+use Rattle.jv_base.proofs.Lists.{all_at, all_from}
 use Rattle.tree_io.specs.Below.{front_of}
 use Rattle.tree_io.specs.declared.file_at.FileAt.{FileAt}
 use Rattle.mark_core.specs.Marks.{Closed, set_of}
@@ -25,7 +26,6 @@ use Rattle.set_shrink.proofs.Writable.{filtered_writable}
 use Rattle.pair_laws.specs.NamedForm.Laws.{IsLinked}
 use Rattle.pair_laws.proofs.NamedForm.Written.{all_written, kept_writable}
 use Rattle.image_laws.specs.TakenSet.TakenSet.{IsTaken}
-use Rattle.image_laws.proofs.TakenSet.Rows.{all_at, all_from}
 use Rattle.pair_laws.proofs.RenamedTyped.Taken.{IsReordered, places}
 use Rattle.pair_laws.specs.FilesFound.Below.{AreBelow}
 use Rattle.pair_laws.proofs.OwnPairs.Left.{at_its_path}

@@ -8,7 +8,8 @@ use Rattle.std.proofs.lemmas.List.Elements.{All-from_recursion, recursion_from_A
 use Rattle.std.proofs.lemmas.List.Sorted.{All-permutation, IsPermutation-sym}
 use Rattle.std.proofs.lemmas.Option.{slice_get-map}
 use Rattle.jv_base.specs.Names.{is_text}
-use Rattle.jv_base.proofs.Equality.{text_Decides}
+use Rattle.jv_base.proofs.Equality.{text_itself}
+use Rattle.jv_base.proofs.Lists.{all_from, all_mapped, any_at}
 use Rattle.class_model.specs.declared.class.Class.{Class}
 use Rattle.class_model.specs.declared.class.Field.{Field}
 use Rattle.class_model.specs.declared.class.Method.{Method}
@@ -25,26 +26,22 @@ use Rattle.member_shrink.specs.Shrunk.{shrunk}
 use Rattle.rename_map.specs.Fixed.{Stay, names_that_stay}
 use Rattle.rename_map.specs.MappingOf.{class_lines, mapping_of}
 use Rattle.rename_map.specs.Names.{given_beside}
-use Rattle.pair_laws.proofs.RenamedImage.Declared.{any_of}
 use Rattle.require_sys.proofs.Parts.{all_map}
 use Rattle.set_shrink.specs.Order as order
 use Rattle.set_shrink.specs.ShrunkSet.{left_of}
 use Rattle.pair_laws.proofs.NamedForm.Apart.{kept_apart}
 use Rattle.pair_laws.proofs.NamedForm.Written.{set_apart}
-use Rattle.image_laws.proofs.TakenSet.Rows.{all_from, all_mapped}
 use Rattle.pair_clauses.specs.Finding.{first_place}
 use Rattle.pair_clauses.specs.Places.{class_place, place_if}
 use Rattle.pair_clauses.specs.Shape.{has_class, shape_fault, unlined_fault}
-use Rattle.pair_laws.proofs.OwnNames.Apart.{among_all, name_among}
+use Rattle.pair_laws.proofs.OwnNames.Apart.{name_among}
 use Rattle.pair_laws.proofs.OwnNames.Ordered.{left_renamed, linked_of}
 use Rattle.pair_laws.specs.OwnShape.Laws.{OwnMappingFits}
 use Rattle.pair_laws.proofs.OwnShape.Clashing.{TellsApart}
 use Rattle.pair_laws.proofs.OwnShape.Lines.{AreApart, IsGood, lines_fit}
 use Rattle.pair_laws.proofs.OwnShape.Members.{IsThere, found_some, kept_there}
 use Rattle.pair_laws.proofs.OwnShape.Searching.{Differ}
-
-text_itself : (a : List ℕ) → is_text a a ≡ true
-text_itself a = (text_Decides a a).1 refl
+use Rattle.pair_laws.proofs.RenamedForm.GivenWritable.{in_kept}
 
 -- ---- classes that are left
 
@@ -86,7 +83,7 @@ module _ (names : Names) (lines : Bool) (filter : AttributeFilter) (kept left : 
       let own : AllByRecursion (λ (c : Class). HasLine (renamed names (filtered filter c))) kept =
       all_from (λ (c : Class). HasLine (renamed names (filtered filter c))) kept
       (λ k c at.
-      any_of (λ (l : MapClass). is_text l.new (names.class c.name)) (map (class_lines names lines) kept) k
+      any_at (λ (l : MapClass). is_text l.new (names.class c.name)) (map (class_lines names lines) kept) k
       (class_lines names lines c)
       (slice_get-map (class_lines names lines) kept k ∙ ap (option_map (class_lines names lines)) at)
       (text_itself (names.class c.name))) in
@@ -143,11 +140,11 @@ module _ (classes kept : List Class) (class field method : List ℕ → List ℕ
     good = goes kept there (all_left names lines filter kept left same)
         (all_from (λ (c : Class). AllByRecursion (λ (f : Field). IsFieldName kept f.name) c.fields) kept
         (λ k c at. all_from (λ (f : Field). IsFieldName kept f.name) c.fields
-        (λ j f is. among_all (λ (c : Class). map (λ (f : Field). f.name) c.fields) kept k c at f.name
+        (λ j f is. in_kept (λ (c : Class). map (λ (f : Field). f.name) c.fields) kept k c at f.name
         (name_among (λ (f : Field). f.name) c.fields j f is))))
         (all_from (λ (c : Class). AllByRecursion (λ (m : Method). IsMethodName kept m.name) c.methods) kept
         (λ k c at. all_from (λ (m : Method). IsMethodName kept m.name) c.methods
-        (λ j m is. among_all (λ (c : Class). map (λ (m : Method). m.name) c.methods) kept k c at m.name
+        (λ j m is. in_kept (λ (c : Class). map (λ (m : Method). m.name) c.methods) kept k c at m.name
         (name_among (λ (m : Method). m.name) c.methods j m is))))
       where
         goes : (cs : List Class) → AllByRecursion (IsThere classes) cs

@@ -1,9 +1,10 @@
 -- Classes and members that are kept are there, and differ as before.
-use Rattle.std.proofs.Common.{◌≡◌, ℕ, zero, suc, ◌+◌, ◌&&◌, Bool, true, false, cond, List, [], ◌∷◌, length, Option}
+use Rattle.std.proofs.Common.{◌≡◌, ℕ, zero, suc, ◌+◌, Bool, true, false, cond, List, [], ◌∷◌, length, Option}
 use Rattle.std.proofs.Common.{◌≢◌, Some, None, slice_get, refl, sym, ap, subst, ◌∙◌}
 use Rattle.std.specs.Prelude.{is_some}
 use Rattle.std.specs.List.{AllByRecursion, position}
 use Rattle.std.specs.Option.{option_and_then, option_map, option_map_or}
+use Rattle.std.proofs.lemmas.Bool.{and_from}
 use Rattle.jv_base.specs.Names.{is_text}
 use Rattle.jv_base.specs.Types.{field_text, method_text}
 use Rattle.jv_base.proofs.Equality.{text_Decides}
@@ -41,10 +42,6 @@ found_some test (y ∷ xs) (suc k) x at h =
     by false None h = h
     by false (Some n) h = refl
 
-both : (a b : Bool) → a ≡ true → b ≡ true → (a && b) ≡ true
-both true b h k = k
-both false b h k = absurd cc
-
 module _ (c : Class) where
   -- a field is found by its name and descriptor
   field_there : (k : ℕ) (f : Field) → slice_get c.fields k ≡ Some f
@@ -52,7 +49,7 @@ module _ (c : Class) where
   field_there k f at =
       by (position (is_field f.name (field_text f.ty)) c.fields)
       (found_some (is_field f.name (field_text f.ty)) c.fields k f at
-      (both (is_text f.name f.name) (is_text (field_text f.ty) (field_text f.ty))
+      (and_from (is_text f.name f.name) (is_text (field_text f.ty) (field_text f.ty))
       ((text_Decides f.name f.name).1 refl) ((text_Decides (field_text f.ty) (field_text f.ty)).1 refl)))
     where
       by : (o : Option ℕ) → is_some o ≡ true → is_some (or_method c f.name (field_text f.ty) o) ≡ true
@@ -66,7 +63,7 @@ module _ (c : Class) where
       by (position (is_field m.name (method_text m.ty)) c.fields)
       (position (is_method m.name (method_text m.ty)) c.methods) refl
       (found_some (is_method m.name (method_text m.ty)) c.methods k m at
-      (both (is_text m.name m.name) (is_text (method_text m.ty) (method_text m.ty))
+      (and_from (is_text m.name m.name) (is_text (method_text m.ty) (method_text m.ty))
       ((text_Decides m.name m.name).1 refl) ((text_Decides (method_text m.ty) (method_text m.ty)).1 refl)))
     where
       by : (o p : Option ℕ) → position (is_method m.name (method_text m.ty)) c.methods ≡ p → is_some p ≡ true

@@ -4,7 +4,8 @@ use Rattle.std.proofs.Common.{Option, None, get_or, subst, arith}
 use Rattle.std.specs.List.{AllByRecursion, AllPairs, enumerate_from, filter}
 use Rattle.std.proofs.lemmas.List.{map-append}
 use Rattle.std.proofs.lemmas.Option.{get_or_from_slice_get, slice_get_within}
-use Rattle.pair_laws.proofs.NamedForm.Picked.{all_at, all_from, all_picked_at}
+use Rattle.jv_base.proofs.Lists.{all_at, all_from}
+use Rattle.pair_laws.proofs.NamedForm.Picked.{all_picked_at}
 use Rattle.member_shrink.specs.Shrunk.{chosen, is_marked}
 use Rattle.pair_clauses.specs.declared.place.Place.{Place}
 

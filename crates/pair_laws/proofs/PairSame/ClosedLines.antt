@@ -9,6 +9,8 @@ use Rattle.std.proofs.lemmas.List.{get_or_past, length-map}
 use Rattle.std.proofs.lemmas.List.Elements.{All-from_recursion, recursion_from_All}
 use Rattle.std.proofs.lemmas.List.Sums.{sum_by-cons}
 use Rattle.std.proofs.lemmas.Option.{slice_get_cases}
+use Rattle.std.proofs.lemmas.Bool.{and_from, not-false}
+use Rattle.jv_base.proofs.Lists.{all_split, all_append, none_passes}
 use Rattle.mark_core.specs.Marks.{Closed, needs_of, set_of}
 use Rattle.mark_core.specs.Valid.{Valid}
 use Rattle.mark_core.specs.declared.system.Pair.{Pair}
@@ -18,25 +20,13 @@ use Rattle.class_pool.specs.Count.{item_count, items_of}
 use Rattle.keep_rules.specs.declared.rules.Rules.{Rules}
 use Rattle.require_sys.specs.Required.{required}
 use Rattle.require_sys.proofs.AskedThere.{required_valid}
-use Rattle.require_sys.proofs.Parts.{all_enumerated, all_flat_map, all_left}
+use Rattle.require_sys.proofs.Parts.{all_enumerated, all_flat_map}
 use Rattle.new_names.specs.declared.class_names.ClassNames.{ClassNames}
 use Rattle.pair_clauses.specs.Closing.{closed_fault, has_line, lacking, least, lesser, lined_items, lost_seed, needed}
 use Rattle.pair_clauses.specs.Closing.{needed_by, needed_together, place_of_item, seed_fault}
 use Rattle.pair_clauses.specs.Places.{item_places, place_of_field, place_of_method, places_in}
-use Rattle.pair_laws.proofs.PairSame.Tables.{turned}
 
 -- ---- searches that find nothing
-
-find_none : {X : Type 0} (test : X → Bool) (xs : List X) → find test xs ≡ None
-    → AllByRecursion (λ x. test x ≡ false) xs
-find_none test [] h = tt
-find_none {X} test (x ∷ xs) h = by (test x) refl h (find_none test xs)
-  where
-    by : (b : Bool) → test x ≡ b → cond b (Some x) (find test xs) ≡ None
-        → (find test xs ≡ None → AllByRecursion (λ x. test x ≡ false) xs)
-        → AllByRecursion (λ x. test x ≡ false) (x ∷ xs)
-    by true e h rest = absurd cc
-    by false e h rest = (e, rest h)
 
 find_some : {X : Type 0} (P : X → Type 0) (test : X → Bool) (xs : List X) → AllByRecursion P xs
     → IfSome (find test xs) P
@@ -116,15 +106,10 @@ numbered_all : {X : Type 0} (P : X → Type 0) (n : ℕ) (xs : List X) → AllBy
 numbered_all P n [] h = tt
 numbered_all P n (x ∷ xs) h = (h.0, numbered_all P (n + 1) xs h.1)
 
-all_appended : {X : Type 0} (P : X → Type 0) (xs ys : List X) → AllByRecursion P xs → AllByRecursion P ys
-    → AllByRecursion P (xs ++ ys)
-all_appended P [] ys h k = k
-all_appended P (x ∷ xs) ys h k = (h.0, all_appended P xs ys h.1 k)
-
 all_turned : {X : Type 0} (test : X → Bool) (xs : List X) → AllByRecursion (λ x. not (test x) ≡ false) xs
     → AllByRecursion (λ x. test x ≡ true) xs
 all_turned test [] h = tt
-all_turned test (x ∷ xs) h = (turned (test x) h.0, all_turned test xs h.1)
+all_turned test (x ∷ xs) h = (not-false (test x) h.0, all_turned test xs h.1)
 
 module _ (sys : System) (lined : List Bool) (n : ℕ) (size : sys.n ≡ n) (valid : Valid sys) where
   abbrev Below : ℕ → Type 0
@@ -164,7 +149,7 @@ module _ (sys : System) (lined : List Bool) (n : ℕ) (size : sys.n ≡ n) (vali
       each p h = by (has_line lined p.one && has_line lined p.two) p.derived h
 
   needed_below : AllByRecursion Below (needed sys lined)
-  needed_below = all_appended Below (flat_map (needed_by lined) (enumerate_from 0 sys.needs))
+  needed_below = all_append Below (flat_map (needed_by lined) (enumerate_from 0 sys.needs))
       (flat_map (needed_together lined) sys.pairs) needs_below pairs_below
 
   -- from no lost seed and nothing lacking
@@ -178,7 +163,7 @@ module _ (sys : System) (lined : List Bool) (n : ℕ) (size : sys.n ≡ n) (vali
         (find_some Below (λ x. not (has_line lined x)) sys.seeds (below_of sys.seeds valid.1))
       where
         by : (o : Option ℕ) → lost_seed sys lined ≡ o → IfSome o Below → AllByRecursion Lined sys.seeds
-        by None e h = all_turned (has_line lined) sys.seeds (find_none (λ x. not (has_line lined x)) sys.seeds e)
+        by None e h = all_turned (has_line lined) sys.seeds (none_passes (λ x. not (has_line lined x)) sys.seeds e)
         by (Some x) e h = absurd (seeds x e h)
 
     needed_lined : AllByRecursion Lined (needed sys lined)
@@ -189,7 +174,7 @@ module _ (sys : System) (lined : List Bool) (n : ℕ) (size : sys.n ≡ n) (vali
 
     both : AllByRecursion Lined (flat_map (needed_by lined) (enumerate_from 0 sys.needs))
         × AllByRecursion Lined (flat_map (needed_together lined) sys.pairs)
-    both = all_left Lined (flat_map (needed_by lined) (enumerate_from 0 sys.needs))
+    both = all_split Lined (flat_map (needed_by lined) (enumerate_from 0 sys.needs))
         (flat_map (needed_together lined) sys.pairs) needed_lined
 
     needs_lined : (x : ℕ) → Lined x → AllByRecursion Lined (get_or sys.needs x [])
@@ -220,13 +205,9 @@ module _ (sys : System) (lined : List Bool) (n : ℕ) (size : sys.n ≡ n) (vali
     pairs_lined [] h = tt
     pairs_lined (p ∷ ps) h = (λ one two. one_of one two h.0, pairs_lined ps h.1)
       where
-        and_true : (a b : Bool) → a ≡ true → b ≡ true → (a && b) ≡ true
-        and_true true b h k = k
-        and_true false b h k = absurd cc
-
         one_of : Lined p.one → Lined p.two → AllByRecursion Lined (needed_together lined p) → Lined p.derived
         one_of one two r = (subst (λ (b : Bool). AllByRecursion Lined (cond b (p.derived ∷ []) []))
-            (and_true (has_line lined p.one) (has_line lined p.two) one two) r).0
+            (and_from (has_line lined p.one) (has_line lined p.two) one two) r).0
 
     lines_closed : Closed sys (set_of lined)
     lines_closed = record {

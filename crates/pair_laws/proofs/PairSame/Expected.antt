@@ -6,11 +6,14 @@ use Rattle.std.proofs.Common.{length, Option, Some, None, slice_get, get_or, ref
 use Rattle.std.specs.Prelude.{is_some}
 use Rattle.std.specs.List.{AllByRecursion, AllZip, cons_option, filter_map, zip}
 use Rattle.std.specs.Option.{option_and_then, option_map, option_map_or, unwrap_or}
-use Rattle.std.proofs.lemmas.Bool.{and_parts, ltb-false}
+use Rattle.std.proofs.lemmas.Bool.{ltb-false, or_parts}
 use Rattle.std.proofs.lemmas.List.Quantifiers.{position-Some}
 use Rattle.std.proofs.lemmas.Option.{same_Some, slice_get-get_or}
 use Rattle.jv_base.specs.Names.{is_text}
 use Rattle.jv_base.specs.Types.{field_text, method_text}
+use Rattle.jv_base.proofs.Options.{some_there}
+use Rattle.jv_base.proofs.Lists.{all_at, all_mapped, all_weaker, all_both}
+use Rattle.jv_base.proofs.Equality.{same_text}
 use Rattle.class_model.specs.declared.class.Class.{Class}
 use Rattle.class_model.specs.declared.class.Field.{Field}
 use Rattle.class_model.specs.declared.class.Method.{Method}
@@ -32,10 +35,10 @@ use Rattle.mapping_file.specs.declared.mapping.MapClass.{MapClass}
 use Rattle.mapping_file.specs.declared.mapping.MapField.{MapField}
 use Rattle.mapping_file.specs.declared.mapping.MapMethod.{MapMethod}
 use Rattle.mapping_file.specs.declared.mapping.Mapping.{Mapping}
-use Rattle.new_names.specs.NewNames.{all_field_names, all_method_names, class_line, class_lines, field_in, field_lines}
-use Rattle.new_names.specs.NewNames.{field_names, is_same, method_in, method_lines, method_names, names_given}
+use Rattle.new_names.specs.NewNames.{all_field_names, all_method_names, class_line, class_lines, field_in}
+use Rattle.new_names.specs.NewNames.{field_names, method_in, method_names, names_given}
 use Rattle.new_names.specs.NewNames.{names_of}
-use Rattle.new_names.specs.NewNames.{NameAndType, new_class, new_field, new_method}
+use Rattle.new_names.specs.NewNames.{new_class, new_field, new_method}
 use Rattle.new_names.specs.declared.class_names.ClassNames.{ClassNames}
 use Rattle.jvm_model.specs.Mapped.{OptionCorr}
 use Rattle.jvm_model.specs.Same.{LineCorr}
@@ -46,9 +49,8 @@ use Rattle.pair_clauses.specs.Members.{NewMethod, expected_fields, expected_meth
 use Rattle.pair_clauses.specs.Places.{class_place, place_of_field, place_of_method}
 use Rattle.pair_clauses.specs.Shape.{number_of}
 use Rattle.pair_clauses.specs.declared.place.Place.{Place}
-use Rattle.require_sys.proofs.Parts.{all_flat_map, all_map}
+use Rattle.require_sys.proofs.Parts.{all_flat_map}
 use Rattle.image_laws.specs.TakenSet.TakenSet.{IsTaken}
-use Rattle.image_laws.proofs.TakenSet.Rows.{all_at}
 use Rattle.removal_laws.proofs.RemovalLinks.Left.{stays}
 use Rattle.pair_laws.specs.RenamedImage.Renaming.{IsNewClass, IsNewField, IsNewMethod, IsRenamedSet}
 use Rattle.pair_laws.specs.RenamedSame.NewCodes.{HasNewCode, HasNewCodes, IsNewCode, IsNewIns}
@@ -56,7 +58,7 @@ use Rattle.pair_laws.specs.PairSame.Pairs.{IsPair, given_names}
 use Rattle.pair_laws.proofs.PairSame.ClosedLines.{closed_lines}
 use Rattle.pair_laws.proofs.PairSame.Lined.{class_lined, field_lined, marks, method_lined}
 use Rattle.pair_laws.proofs.PairSame.Lines.{AreLines, IsLine, lines_right, no_place}
-use Rattle.pair_laws.proofs.PairSame.Tables.{IsFound, looked, neither, same_text}
+use Rattle.pair_laws.proofs.PairSame.Tables.{IsFound, looked, found_among}
 
 -- ---- searches that find nothing
 
@@ -176,28 +178,9 @@ numbered_class (d ∷ cs) name n e =
     let p = position-Some (λ (c : Class). is_text name c.name) (d ∷ cs) n d e in
     (get_or (d ∷ cs) n d, slice_get-get_or (d ∷ cs) n d p.0, sym (same_text name (get_or (d ∷ cs) n d).name p.1))
 
-pub some_of : {X : Type 0} (o : Option X) → is_some o ≡ true → (x : X) × (o ≡ Some x)
-some_of None h = absurd cc
-some_of (Some x) h = (x, refl)
-
 pub some_under : {X Y : Type 0} (g : X → Y) (o : Option X) → is_some (option_map g o) ≡ true → (x : X) × (o ≡ Some x)
 some_under g None h = absurd cc
 some_under g (Some x) h = (x, refl)
-
-all_both : {X : Type 0} (P Q : X → Type 0) (xs : List X) → AllByRecursion P xs → AllByRecursion Q xs
-    → AllByRecursion (λ x. P x × Q x) xs
-all_both P Q [] h k = tt
-all_both P Q (x ∷ xs) h k = ((h.0, k.0), all_both P Q xs h.1 k.1)
-
-pub mapped_all : {X Y : Type 0} (P : Y → Type 0) (g : X → Y) (xs : List X) → AllByRecursion (λ x. P (g x)) xs
-    → AllByRecursion P (map g xs)
-mapped_all P g [] h = tt
-mapped_all P g (x ∷ xs) h = (h.0, mapped_all P g xs h.1)
-
-pub each_all : {X : Type 0} (P Q : X → Type 0) → ((x : X) → P x → Q x) → (xs : List X) → AllByRecursion P xs
-    → AllByRecursion Q xs
-each_all P Q to [] h = tt
-each_all P Q to (x ∷ xs) h = (to x h.0, each_all P Q to xs h.1)
 
 module _ (input output : List Class) (mapping : Mapping) (rules : Rules) (taken : IsTaken input)
     (pair : IsPair input output mapping rules) where
@@ -233,7 +216,7 @@ module _ (input output : List Class) (mapping : Mapping) (rules : Rules) (taken 
       lines.fields in
       let methods = all_flat_map (IsFound methods_table) (λ (l : MapClass). method_names l.methods) mapping.classes
       lines.methods in
-      each_all (λ (l : MapClass). IsLine input output mapping.classes l
+      all_weaker (λ (l : MapClass). IsLine input output mapping.classes l
       × (AllByRecursion (IsFound fields_table) (field_names l.fields)
       × AllByRecursion (IsFound methods_table) (method_names l.methods))) GoodLine
       (λ l h. record { line = h.0; fields = h.1.0; methods = h.1.1 }) mapping.classes
@@ -249,8 +232,8 @@ module _ (input output : List Class) (mapping : Mapping) (rules : Rules) (taken 
   line_of name l e =
       let h = looked (λ (p : List ℕ × MapClass). GoodLine p.1 × (p.0 ≡ p.1.old)) (λ old. is_text old name)
       (class_lines mapping.classes) l
-      (mapped_all (λ (p : List ℕ × MapClass). GoodLine p.1 × (p.0 ≡ p.1.old)) (λ (l : MapClass). (l.old, l))
-      mapping.classes (each_all GoodLine (λ (l : MapClass). GoodLine l × (l.old ≡ l.old)) (λ l g. (g, refl))
+      (all_mapped (λ (p : List ℕ × MapClass). GoodLine p.1 × (p.0 ≡ p.1.old)) (λ (l : MapClass). (l.old, l))
+      mapping.classes (all_weaker GoodLine (λ (l : MapClass). GoodLine l × (l.old ≡ l.old)) (λ l g. (g, refl))
       mapping.classes all_good)) e in
       (h.holds.0, sym h.holds.1 ∙ same_text h.key name h.passes)
 
@@ -268,13 +251,8 @@ module _ (input output : List Class) (mapping : Mapping) (rules : Rules) (taken 
       by None is e = absurd cc
       by (Some l) is e =
           let good = (line_of c.name l is).0 in
-          let h = looked (λ (p : NameAndType × List ℕ). IsFound fields_table (p.0.0, p.1))
-          (λ key. is_same key (x.name, field_text x.ty)) (field_lines l.fields) new
-          (mapped_all (λ (p : NameAndType × List ℕ). IsFound fields_table (p.0.0, p.1))
-          (λ (m : MapField). ((m.old, field_text m.ty), m.new)) l.fields
-          (all_map (IsFound fields_table) (λ (m : MapField). (m.old, m.new)) l.fields good.fields)) e in
-          let parts = and_parts (is_text h.key.0 x.name) (is_text h.key.1 (field_text x.ty)) h.passes in
-          subst (λ (t : List ℕ). IsFound fields_table (t, new)) (same_text h.key.0 x.name parts.0) h.holds
+          found_among fields_table (λ (m : MapField). m.old) (λ (m : MapField). field_text m.ty)
+          (λ (m : MapField). m.new) l.fields x.name (field_text x.ty) new good.fields e
 
   pub method_found : (c : Class) (x : Method) (new : List ℕ) → new_method mapping c x ≡ Some new
       → IsFound methods_table (x.name, new)
@@ -285,13 +263,8 @@ module _ (input output : List Class) (mapping : Mapping) (rules : Rules) (taken 
       by None is e = absurd cc
       by (Some l) is e =
           let good = (line_of c.name l is).0 in
-          let h = looked (λ (p : NameAndType × List ℕ). IsFound methods_table (p.0.0, p.1))
-          (λ key. is_same key (x.name, method_text x.ty)) (method_lines l.methods) new
-          (mapped_all (λ (p : NameAndType × List ℕ). IsFound methods_table (p.0.0, p.1))
-          (λ (m : MapMethod). ((m.old, method_text m.ty), m.new)) l.methods
-          (all_map (IsFound methods_table) (λ (m : MapMethod). (m.old, m.new)) l.methods good.methods)) e in
-          let parts = and_parts (is_text h.key.0 x.name) (is_text h.key.1 (method_text x.ty)) h.passes in
-          subst (λ (t : List ℕ). IsFound methods_table (t, new)) (same_text h.key.0 x.name parts.0) h.holds
+          found_among methods_table (λ (m : MapMethod). m.old) (λ (m : MapMethod). method_text m.ty)
+          (λ (m : MapMethod). m.new) l.methods x.name (method_text x.ty) new good.methods e
 
   pub field_name : (a new : List ℕ) → IsFound fields_table (a, new) → names.field a ≡ new
   field_name a new h = ap (λ o. unwrap_or o a) h.old
@@ -316,7 +289,7 @@ module _ (input output : List Class) (mapping : Mapping) (rules : Rules) (taken 
   new_of c h =
       let l = some_under (λ (l : MapClass). l.new) (class_line mapping c.name) h in
       let good = (line_of c.name l.0 l.1).0 in
-      let n = some_of (number_of output l.0.new) good.line.in_output in
+      let n = some_there (number_of output l.0.new) good.line.in_output in
       let found = numbered_class output l.0.new n.0 n.1 in
       record {
         line = l.0;
@@ -372,7 +345,7 @@ module _ (input output : List Class) (mapping : Mapping) (rules : Rules) (taken 
       o.out.methods None =
       subst (λ (x : Option Class). ClassCodeDiffers mapping (filter_of rules) c methods x None) o.one
       (codes_at n c at) in
-      let more = neither (nat_lt (length fields) (length o.out.fields)) (nat_lt (length methods) (length o.out.methods))
+      let more = or_parts (nat_lt (length fields) (length o.out.fields)) (nat_lt (length methods) (length o.out.methods))
       (no_place (nat_lt (length fields) (length o.out.fields) || nat_lt (length methods) (length o.out.methods))
       (class_place c.name) (sym all.1.1.1)) in
       let few = ltb-false (length fields) (length o.out.fields) more.0 in

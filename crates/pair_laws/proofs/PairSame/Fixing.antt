@@ -4,9 +4,11 @@ use Rattle.std.proofs.Common.{sym, ap}
 use Rattle.std.proofs.Common.{subst, ◌∙◌}
 use Rattle.std.specs.List.{AllByRecursion}
 use Rattle.std.specs.Option.{unwrap_or}
+use Rattle.std.proofs.lemmas.Bool.{not-false}
 use Rattle.jv_base.specs.Names.{is_text}
+use Rattle.jv_base.proofs.Equality.{text_itself, same_text}
 use Rattle.pair_clauses.specs.FixedNames.{is_misnamed}
-use Rattle.pair_laws.proofs.PairSame.Tables.{IsFound, Names, by_old, looked, one_old, same_text, text_itself, turned}
+use Rattle.pair_laws.proofs.PairSame.Tables.{IsFound, Names, by_old, looked, one_old}
 
 module _ (table : Names) (fixed : List ℕ → Bool)
     (right : AllByRecursion (λ (p : List ℕ × List ℕ). is_misnamed fixed p.0 p.1 ≡ false) table) where
@@ -26,7 +28,7 @@ module _ (table : Names) (fixed : List ℕ → Bool)
     where
       by : (o : Option (List ℕ)) → by_old table a ≡ o → unwrap_or o a ≡ a
       by None e = refl
-      by (Some new) e = sym (same_text a new (turned (is_text a new)
+      by (Some new) e = sym (same_text a new (not-false (is_text a new)
           (sym (ap (λ (b : Bool). cond b (not (is_text a new)) (fixed new)) h) ∙ right_at a new e)))
 
   -- a name is fixed, or has a new one
@@ -41,7 +43,7 @@ module _ (table : Names) (fixed : List ℕ → Bool)
   fixed_apart a b new h k e = by (fixed b) refl (right_at b new k.old)
     where
       by : (t : Bool) → fixed b ≡ t → cond t (not (is_text b new)) (fixed new) ≡ false → a ≡ b
-      by true f r = e ∙ sym (same_text b new (turned (is_text b new) r))
+      by true f r = e ∙ sym (same_text b new (not-false (is_text b new) r))
       by false f r = absurd (let w : true ≡ false = sym h ∙ ap fixed e ∙ r in cc)
 
   -- no two names become one

@@ -6,8 +6,11 @@ use Rattle.std.proofs.Common.{sym, ap, subst, ◌∙◌}
 use Rattle.std.specs.List.{AllByRecursion, flat_map, list_any}
 use Rattle.std.specs.Map.{lookup}
 use Rattle.std.specs.Option.{option_or}
-use Rattle.std.proofs.lemmas.List.{map-append}
+use Rattle.std.proofs.lemmas.List.{map-append, append-nil}
+use Rattle.std.proofs.lemmas.Bool.{not-false, or_parts}
 use Rattle.jv_base.specs.Names.{is_text}
+use Rattle.jv_base.proofs.Lists.{all_append}
+use Rattle.jv_base.proofs.Equality.{text_itself}
 use Rattle.class_model.specs.declared.class.Class.{Class}
 use Rattle.mapping_file.specs.declared.mapping.MapClass.{MapClass}
 use Rattle.mapping_file.specs.declared.mapping.MapField.{MapField}
@@ -22,7 +25,7 @@ use Rattle.pair_clauses.specs.Shape.{is_field_wrong, is_line_at_fault, is_method
 use Rattle.pair_clauses.specs.Shape.{lines_fault}
 use Rattle.pair_clauses.specs.Shape.{method_fault, method_named, methods_fault, shape_fault, unlined_fault}
 use Rattle.pair_clauses.specs.declared.place.Place.{Place}
-use Rattle.pair_laws.proofs.PairSame.Tables.{AreOne, Names, lookup_append, neither, one_more, text_itself, turned}
+use Rattle.pair_laws.proofs.PairSame.Tables.{AreOne, Names, lookup_append, one_more}
 
 -- ---- faults that aren't there
 
@@ -34,25 +37,16 @@ pub no_place : (b : Bool) (p : Place) → place_if b p ≡ None → b ≡ false
 no_place true p h = absurd cc
 no_place false p h = refl
 
-pub all_append : {X : Type 0} (P : X → Type 0) (xs ys : List X) → AllByRecursion P xs → AllByRecursion P ys
-    → AllByRecursion P (xs ++ ys)
-all_append P [] ys h k = k
-all_append P (x ∷ xs) ys h k = (h.0, all_append P xs ys h.1 k)
-
 append_one : {X : Type 0} (xs ys : List X) (x : X) → (xs ++ x ∷ []) ++ ys ≡ xs ++ x ∷ ys
 append_one [] ys x = refl
 append_one {X} (y ∷ xs) ys x = ap (λ (t : List X). y ∷ t) (append_one xs ys x)
-
-append_none : {X : Type 0} (xs : List X) → xs ++ [] ≡ xs
-append_none [] = refl
-append_none {X} (x ∷ xs) = ap (λ (t : List X). x ∷ t) (append_none xs)
 
 append_assoc : {X : Type 0} (xs ys zs : List X) → (xs ++ ys) ++ zs ≡ xs ++ (ys ++ zs)
 append_assoc [] ys zs = refl
 append_assoc {X} (x ∷ xs) ys zs = ap (λ (t : List X). x ∷ t) (append_assoc xs ys zs)
 
 flat_more : {X Y : Type 0} (g : X → List Y) (xs : List X) (x : X) → flat_map g (xs ++ x ∷ []) ≡ flat_map g xs ++ g x
-flat_more g [] x = append_none (g x)
+flat_more g [] x = append-nil (g x)
 flat_more {X} {Y} g (y ∷ xs) x = ap (λ (t : List Y). g y ++ t) (flat_more g xs x)
     ∙ sym (append_assoc (g y) (flat_map g xs) (g x))
 
@@ -73,7 +67,7 @@ module _ {L : Type 0} (name : L → List ℕ × List ℕ) where
         → clashes (before ++ map name own) (name l).0 (name l).1 ≡ false) where
       names_one : (own ls : List L) → fault own ls ≡ None → AreOne (before ++ map name own)
           → AreOne (before ++ map name (own ++ ls))
-      names_one own [] h one = subst (λ (t : List L). AreOne (before ++ map name t)) (sym (append_none own)) one
+      names_one own [] h one = subst (λ (t : List L). AreOne (before ++ map name t)) (sym (append-nil own)) one
       names_one own (l ∷ ls) h one =
           let s = step own l ls h in
           subst (λ (t : List L). AreOne (before ++ map name t)) (append_one own ls l)
@@ -117,7 +111,7 @@ module _ (input : List Class) (class : List ℕ) (before : Names) where
   method_name l = (l.old, l.new)
 
   there_of : (a b c : Bool) → ((not a || b) || c) ≡ false → a ≡ true
-  there_of a b c h = turned a (neither (not a) b (neither (not a || b) c h).0).0
+  there_of a b c h = not-false a (or_parts (not a) b (or_parts (not a || b) c h).0).0
 
   fields_there : (ls : List MapField) → fields_fault input class before [] ls ≡ None
       → AllByRecursion (λ (l : MapField). has_member input class (field_named l) ≡ true) ls
@@ -141,17 +135,17 @@ module _ (input : List Class) (class : List ℕ) (before : Names) where
       → AreOne (before ++ field_names ls)
   fields_one ls h one = names_one (λ (l : MapField). (l.old, l.new)) field_wrong
       (fields_fault input class before) field_step before
-      (λ own l k. (neither (is_stray input class (map field_named own) (field_named l))
+      (λ own l k. (or_parts (is_stray input class (map field_named own) (field_named l))
       (clashes (before ++ field_names own) l.old l.new) k).1) [] ls h
-      (subst AreOne (sym (append_none before)) one)
+      (subst AreOne (sym (append-nil before)) one)
 
   methods_one : (ls : List MapMethod) → methods_fault input class before [] ls ≡ None → AreOne before
       → AreOne (before ++ method_names ls)
   methods_one ls h one = names_one (λ (l : MapMethod). (l.old, l.new)) method_wrong
       (methods_fault input class before) method_step before
-      (λ own l k. (neither (is_stray input class (map method_named own) (method_named l))
+      (λ own l k. (or_parts (is_stray input class (map method_named own) (method_named l))
       (clashes (before ++ method_names own) l.old l.new) k).1) [] ls h
-      (subst AreOne (sym (append_none before)) one)
+      (subst AreOne (sym (append-nil before)) one)
 
 -- ---- lines of classes
 
@@ -170,7 +164,7 @@ none_by : (key : MapClass → List ℕ) (name : List ℕ) (ls : List MapClass)
     → lookup (λ k. is_text k name) (map (λ l. (key l, l)) ls) ≡ None
 none_by key name [] h = refl
 none_by key name (l ∷ ls) h =
-    let s = neither (is_text (key l) name) (list_any (λ (b : MapClass). is_text (key b) name) ls) h in
+    let s = or_parts (is_text (key l) name) (list_any (λ (b : MapClass). is_text (key b) name) ls) h in
     ap (λ (b : Bool). cond b (Some l) (lookup (λ k. is_text k name) (map (λ l. (key l, l)) ls))) s.0
     ∙ none_by key name ls s.1
 
@@ -223,11 +217,11 @@ module _ (input output : List Class) where
       let t = first_none (fields_fault input l.old (fields_before before) [] l.fields)
       (methods_fault input l.old (methods_before before) [] l.methods) s.1 in
       let right = no_place (is_line_at_fault input output before l) (class_place l.old) s.0 in
-      let halves = neither (not (has_class input l.old) || list_any (λ (b : MapClass). is_text b.old l.old) before)
+      let halves = or_parts (not (has_class input l.old) || list_any (λ (b : MapClass). is_text b.old l.old) before)
       (not (has_class output l.new) || list_any (λ (b : MapClass). is_text b.new l.new) before) right in
-      let olds = neither (not (has_class input l.old)) (list_any (λ (b : MapClass). is_text b.old l.old) before)
+      let olds = or_parts (not (has_class input l.old)) (list_any (λ (b : MapClass). is_text b.old l.old) before)
       halves.0 in
-      let news = neither (not (has_class output l.new)) (list_any (λ (b : MapClass). is_text b.new l.new) before)
+      let news = or_parts (not (has_class output l.new)) (list_any (λ (b : MapClass). is_text b.new l.new) before)
       halves.1 in
       let own : IsLine (before ++ l ∷ []) l = record {
         old = ap (lookup (λ old. is_text old l.old)) (map-append (λ (l : MapClass). (l.old, l)) before (l ∷ []))
@@ -240,8 +234,8 @@ module _ (input output : List Class) where
             ∙ ap (λ o. option_or o (by_new_line (l ∷ []) l.new))
             (none_by (λ (l : MapClass). l.new) l.new before news.1)
             ∙ ap (λ (b : Bool). cond b (Some l) None) (text_itself l.new);
-        in_input = turned (has_class input l.old) olds.0;
-        in_output = turned (has_class output l.new) news.0;
+        in_input = not-false (has_class input l.old) olds.0;
+        in_output = not-false (has_class output l.new) news.0;
         fields = fields_there input l.old (fields_before before) l.fields t.0;
         methods = methods_there input l.old (methods_before before) l.methods t.1;
       } in
@@ -256,7 +250,7 @@ module _ (input output : List Class) where
 
   lines_from : (before ls : List MapClass) → AreLines before → lines_fault input output before ls ≡ None
       → AreLines (before ++ ls)
-  lines_from before [] all h = subst AreLines (sym (append_none before)) all
+  lines_from before [] all h = subst AreLines (sym (append-nil before)) all
   lines_from before (l ∷ ls) all h =
       let s = first_none (line_fault input output before l) (lines_fault input output (before ++ l ∷ []) ls) h in
       subst AreLines (append_one before ls l)

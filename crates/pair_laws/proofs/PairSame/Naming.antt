@@ -9,10 +9,13 @@ use Rattle.std.specs.Prelude.{IfSome, IsTrue, is_some}
 use Rattle.std.specs.List.{AllByRecursion, AllZip, flat_map, position, zip}
 use Rattle.std.specs.Map.{lookup}
 use Rattle.std.specs.Option.{option_and_then, option_map, option_map_or, option_or, unwrap_or}
-use Rattle.std.proofs.lemmas.Bool.{and_parts}
+use Rattle.std.proofs.lemmas.Bool.{and_parts, or_right, and_from, not-false}
 use Rattle.std.proofs.lemmas.Option.{same_Some, slice_get-map}
 use Rattle.jv_base.specs.Names.{is_class_name, is_text}
 use Rattle.jv_base.specs.Types.{field_text, method_text}
+use Rattle.jv_base.proofs.Lists.{all_at, all_from, all_mapped, all_weaker, placed, found_at}
+use Rattle.jv_base.proofs.Options.{some_there}
+use Rattle.jv_base.proofs.Equality.{text_itself, same_text}
 use Rattle.lib_table.specs.Lookups as table
 use Rattle.class_model.specs.Flags.{is_init, is_interface}
 use Rattle.class_model.specs.WellFormed.{IsGoodField}
@@ -53,25 +56,24 @@ use Rattle.image_laws.specs.TakenSet.TakenSet.{IsTaken}
 use Rattle.image_laws.proofs.TakenSet.LibraryRows.{library_name}
 use Rattle.image_laws.proofs.TakenSet.Members.{row_parts}
 use Rattle.image_laws.proofs.TakenSet.Names.{library_named as library_class_named}
-use Rattle.image_laws.proofs.TakenSet.Rows.{all_at, all_from}
 use Rattle.removal_laws.proofs.RemovalLinks.Places.{origin}
 use Rattle.image_laws.proofs.ViewImage.Naming.{class_name}
 use Rattle.pair_laws.specs.RenamedImage.Renaming.{IsMemberName, IsNewField, KeepsNamesApart}
 use Rattle.pair_laws.specs.RenamedImage.Renaming.{is_known, is_library_name}
 use Rattle.pair_laws.proofs.RenamedImage.Descriptors.{field_is_none, method_is_one}
-use Rattle.pair_laws.proofs.RenamedImage.MemberNames.{and_both, found_at, library_name_taken, no_init, or_right}
+use Rattle.pair_laws.proofs.RenamedImage.MemberNames.{library_name_taken, no_init}
 use Rattle.pair_laws.proofs.RenamedImage.MemberNames.{program_row}
 use Rattle.pair_laws.specs.RenamedImage.Renaming.{is_method_text}
 use Rattle.pair_laws.specs.PairSame.Pairs.{IsPair, given_names}
-use Rattle.pair_laws.proofs.PairSame.Expected.{GoodLine, all_good, becomes, each_all, field_found, fields_table, left}
+use Rattle.pair_laws.proofs.PairSame.Expected.{GoodLine, all_good, becomes, field_found, fields_table, left}
 use Rattle.pair_laws.proofs.PairSame.Expected.{line_of}
-use Rattle.pair_laws.proofs.PairSame.Expected.{lined, mapped_all, method_found, methods_table, names, numbered_class}
+use Rattle.pair_laws.proofs.PairSame.Expected.{lined, method_found, methods_table, names, numbered_class}
 use Rattle.pair_laws.proofs.PairSame.Expected.{place}
-use Rattle.pair_laws.proofs.PairSame.Expected.{renamed, some_of, some_under, zip_given}
+use Rattle.pair_laws.proofs.PairSame.Expected.{renamed, some_under, zip_given}
 use Rattle.pair_laws.proofs.PairSame.Fixing as fixing
 use Rattle.pair_laws.proofs.PairSame.Lined.{field_lined, method_lined}
 use Rattle.pair_laws.proofs.PairSame.Lines.{first_none, no_place}
-use Rattle.pair_laws.proofs.PairSame.Tables.{IsFound, by_old, same_text, text_itself, turned}
+use Rattle.pair_laws.proofs.PairSame.Tables.{IsFound, by_old}
 
 -- ---- lists
 
@@ -108,11 +110,6 @@ zip_at R [] ys k x z e = absurd cc
 zip_at R (a ∷ xs) [] k x z e = absurd z
 zip_at R (a ∷ xs) (b ∷ ys) zero x z e = (b, refl, subst (λ t. R t b) (same_Some a x e) z.0)
 zip_at R (a ∷ xs) (b ∷ ys) (suc k) x z e = zip_at R xs ys k x z.1 e
-
-element : {X : Type 0} (xs : List X) (i : ℕ) → i < length xs → (x : X) × (slice_get xs i ≡ Some x)
-element [] i low = absurd (omega (arith, low))
-element (x ∷ xs) zero low = (x, refl)
-element (x ∷ xs) (suc i) low = element xs i (omega (arith, low))
 
 -- ---- names in packages of the library
 
@@ -201,7 +198,7 @@ module _ (input output : List Class) (mapping : Mapping) (rules : Rules) (taken 
       → (n : ℕ) × (c : Class) × (slice_get input n ≡ Some c) × (c.name ≡ l.old)
       × (is_some (member_named c named.0 named.1) ≡ true)
   declared_of l good named h =
-      let n = some_of (number_of input l.old) good.line.in_input in
+      let n = some_there (number_of input l.old) good.line.in_input in
       let c = numbered_class input l.old n.0 n.1 in
       let has : is_some (declared_at input (Prog n.0) named.0 named.1) ≡ true =
       sym (ap (λ o. option_map_or (λ n. is_some (declared_at input (Prog n) named.0 named.1)) o false) n.1) ∙ h in (
@@ -228,21 +225,21 @@ module _ (input output : List Class) (mapping : Mapping) (rules : Rules) (taken 
           → is_some (or_method c m.old (field_text m.ty) o) ≡ true → is_misnamed fixed.field m.old m.new ≡ false
       by n c there name None e h = absurd
           (let j = some_under (λ n. length c.fields + n) (position (is_method m.old (field_text m.ty)) c.methods) h in
-          let y = found_at (is_method m.old (field_text m.ty)) c.methods j.0 j.1 in
+          let y = placed (is_method m.old (field_text m.ty)) c.methods j.0 j.1 in
           let parts = and_parts (is_text y.0.name m.old) (is_text (field_text m.ty) (method_text y.0.ty)) y.2 in
           texts_differ (field_text m.ty) (method_text y.0.ty) (field_is_none m.ty) (method_is_one y.0.ty)
           (same_text (field_text m.ty) (method_text y.0.ty) parts.1))
       by n c there name (Some j) e h =
-          let x = found_at (is_field m.old (field_text m.ty)) c.fields j e in
+          let x = placed (is_field m.old (field_text m.ty)) c.fields j e in
           let parts = and_parts (is_text x.0.name m.old) (is_text (field_text m.ty) (field_text x.0.ty)) x.2 in
           let same = same_text x.0.name m.old parts.0 in
           let text = same_text (field_text m.ty) (field_text x.0.ty) parts.1 in
           let class : class_line mapping c.name ≡ Some l = ap (class_line mapping) name ∙ good.line.old in
           let test = λ (key : NameAndType). is_same key (x.0.name, field_text x.0.ty) in
           let passes : test (m.old, field_text m.ty) ≡ true =
-          and_both (is_text m.old x.0.name) (is_text (field_text m.ty) (field_text x.0.ty))
+          and_from (is_text m.old x.0.name) (is_text (field_text m.ty) (field_text x.0.ty))
           (ap (is_text m.old) same ∙ text_itself m.old) parts.1 in
-          let new = some_of (field_in l x.0) (lookup_some test (field_lines l.fields) k
+          let new = some_there (field_in l x.0) (lookup_some test (field_lines l.fields) k
           ((m.old, field_text m.ty), m.new)
           (slice_get-map (λ (y : MapField). ((y.old, field_text y.ty), y.new)) l.fields k
           ∙ ap (option_map (λ (y : MapField). ((y.old, field_text y.ty), y.new))) at) passes) in
@@ -270,21 +267,21 @@ module _ (input output : List Class) (mapping : Mapping) (rules : Rules) (taken 
           → position (is_field m.old (method_text m.ty)) c.fields ≡ o
           → is_some (or_method c m.old (method_text m.ty) o) ≡ true → is_misnamed fixed.method m.old m.new ≡ false
       by n c there name (Some j) e h = absurd
-          (let x = found_at (is_field m.old (method_text m.ty)) c.fields j e in
+          (let x = placed (is_field m.old (method_text m.ty)) c.fields j e in
           let parts = and_parts (is_text x.0.name m.old) (is_text (method_text m.ty) (field_text x.0.ty)) x.2 in
           texts_differ (field_text x.0.ty) (method_text m.ty) (field_is_none x.0.ty) (method_is_one m.ty)
           (sym (same_text (method_text m.ty) (field_text x.0.ty) parts.1)))
       by n c there name None e h =
           let j = some_under (λ n. length c.fields + n) (position (is_method m.old (method_text m.ty)) c.methods) h in
-          let x = found_at (is_method m.old (method_text m.ty)) c.methods j.0 j.1 in
+          let x = placed (is_method m.old (method_text m.ty)) c.methods j.0 j.1 in
           let parts = and_parts (is_text x.0.name m.old) (is_text (method_text m.ty) (method_text x.0.ty)) x.2 in
           let same = same_text x.0.name m.old parts.0 in
           let class : class_line mapping c.name ≡ Some l = ap (class_line mapping) name ∙ good.line.old in
           let test = λ (key : NameAndType). is_same key (x.0.name, method_text x.0.ty) in
           let passes : test (m.old, method_text m.ty) ≡ true =
-          and_both (is_text m.old x.0.name) (is_text (method_text m.ty) (method_text x.0.ty))
+          and_from (is_text m.old x.0.name) (is_text (method_text m.ty) (method_text x.0.ty))
           (ap (is_text m.old) same ∙ text_itself m.old) parts.1 in
-          let new = some_of (method_in l x.0) (lookup_some test (method_lines l.methods) k
+          let new = some_there (method_in l x.0) (lookup_some test (method_lines l.methods) k
           ((m.old, method_text m.ty), m.new)
           (slice_get-map (λ (y : MapMethod). ((y.old, method_text y.ty), y.new)) l.methods k
           ∙ ap (option_map (λ (y : MapMethod). ((y.old, method_text y.ty), y.new))) at) passes) in
@@ -310,18 +307,18 @@ module _ (input output : List Class) (mapping : Mapping) (rules : Rules) (taken 
   fields_right : AllByRecursion FieldRight (fields_table input output mapping rules taken pair)
   fields_right =
       flat_from FieldRight (λ (l : MapClass). field_names l.fields) mapping.classes
-      (each_all (GoodLine input output mapping rules taken pair)
+      (all_weaker (GoodLine input output mapping rules taken pair)
       (λ (l : MapClass). AllByRecursion FieldRight (field_names l.fields))
-      (λ l good. mapped_all FieldRight (λ (m : MapField). (m.old, m.new)) l.fields
+      (λ l good. all_mapped FieldRight (λ (m : MapField). (m.old, m.new)) l.fields
       (all_from (λ (m : MapField). FieldRight (m.old, m.new)) l.fields (field_line_right l good))) mapping.classes
       (all_good input output mapping rules taken pair))
 
   methods_right : AllByRecursion MethodRight (methods_table input output mapping rules taken pair)
   methods_right =
       flat_from MethodRight (λ (l : MapClass). method_names l.methods) mapping.classes
-      (each_all (GoodLine input output mapping rules taken pair)
+      (all_weaker (GoodLine input output mapping rules taken pair)
       (λ (l : MapClass). AllByRecursion MethodRight (method_names l.methods))
-      (λ l good. mapped_all MethodRight (λ (m : MapMethod). (m.old, m.new)) l.methods
+      (λ l good. all_mapped MethodRight (λ (m : MapMethod). (m.old, m.new)) l.methods
       (all_from (λ (m : MapMethod). MethodRight (m.old, m.new)) l.methods (method_line_right l good))) mapping.classes
       (all_good input output mapping rules taken pair))
 
@@ -343,7 +340,7 @@ module _ (input output : List Class) (mapping : Mapping) (rules : Rules) (taken 
       (ap (λ (t : List Field). slice_get t k) (sym (as_filter (is_marked marks) (λ k y. y) first b.class.fields))
       ∙ ap (λ (y : Class). slice_get y.fields k) (sym b.is) ∙ there) in
       let here : slice_get b.class.fields o.k ≡ Some x = o.at ∙ ap (λ (z : Field). Some z) (sym o.is) in
-      let new = some_of (new_field mapping b.class x)
+      let new = some_there (new_field mapping b.class x)
       (sym (field_lined mapping input b.n b.class b.there o.k x here) ∙ o.passes) in
       inr (new.0, field_found input output mapping rules taken pair b.class x new.0 new.1)
 
@@ -359,7 +356,7 @@ module _ (input output : List Class) (mapping : Mapping) (rules : Rules) (taken 
       let here : slice_get b.class.methods o.k ≡ Some x = o.at ∙ ap (λ (z : Method). Some z) (sym o.is) in
       let item : class_item input b.n + 1 + (length b.class.fields + o.k)
       ≡ class_item input b.n + 1 + length b.class.fields + o.k = omega arith in
-      let new = some_of (new_method mapping b.class x)
+      let new = some_there (new_method mapping b.class x)
       (sym (method_lined mapping input b.n b.class b.there o.k x here) ∙ ap (is_marked marks) item ∙ o.passes) in
       inr (new.0, method_found input output mapping rules taken pair b.class x new.0 new.1)
 
@@ -457,7 +454,7 @@ module _ (input output : List Class) (mapping : Mapping) (rules : Rules) (taken 
       by None e = h
       by (Some l) e =
           let g = line_of input output mapping rules taken pair name l e in
-          let n = some_of (number_of output l.new) g.0.line.in_output in
+          let n = some_there (number_of output l.new) g.0.line.in_output in
           let c = numbered_class output l.new n.0 n.1 in
           subst (λ (t : List ℕ). IsTrue (is_class_name t)) c.2 (then_taken.formed n.0 c.0 c.1).name.1
 
@@ -475,7 +472,7 @@ module _ (input output : List Class) (mapping : Mapping) (rules : Rules) (taken 
           inl (ap is_library_name (sym (class_name rest a (Lib id) e)) ∙ (library_name id within).0)
       at (Some (Prog j)) e java h =
           let low : j < length rest = subst (λ o. IfSome o (IsClass rest)) e (named_there rest a) in
-          let d = element rest j low in
+          let d = found_at rest j low in
           let b = becomes input output mapping rules taken pair j d.0 d.1 in
           let own : d.0.name ≡ a =
           sym (ap (λ o. option_map_or (λ (c : Class). c.name) o []) d.1) ∙ class_name rest a (Prog j) e in
@@ -524,7 +521,7 @@ module _ (input output : List Class) (mapping : Mapping) (rules : Rules) (taken 
       let still : is_moved c.name (Some b.new.line.new) ≡ false =
       sym (ap (is_moved c.name) new) ∙ no_place (is_moved c.name (new_class mapping c.name)) (class_place c.name) one in
       let same = same_text (package_of c.name) (package_of b.new.line.new)
-      (turned (is_text (package_of c.name) (package_of b.new.line.new)) still) in
+      (not-false (is_text (package_of c.name) (package_of b.new.line.new)) still) in
       let own : d.name ≡ c.name = ap (λ (x : Class). x.name) b.is in
       ap (λ (t : List ℕ). package_of (new_names.class t)) own
       ∙ ap package_of (ap (λ o. unwrap_or o c.name) new) ∙ sym same ∙ ap package_of (sym own)

@@ -2,30 +2,16 @@
 use Rattle.class_model.specs.declared.class.Class.{Class}
 use Rattle.keep_rules.specs.declared.rules.Rules.{Rules}
 use Rattle.mapping_file.specs.declared.mapping.Mapping.{Mapping}
-use Rattle.class_pool.specs.declared.id.ClassId.TheVariants.{Prog}
 use Rattle.require_sys.specs.Required.{kept_by_rules}
-use Rattle.std.proofs.Common.{List, [], sym, ap, ◌∙◌}
-use Rattle.std.specs.Option.{option_map_or}
-use Rattle.std.proofs.lemmas.Option.{slice_get_within}
-use Rattle.class_pool.specs.Hierarchy.{class_named}
+use Rattle.std.proofs.Common.{List}
 use Rattle.image_laws.specs.TakenSet.TakenSet.{IsTaken}
-use Rattle.image_laws.proofs.TakenSet.Names.{class_found, library_named}
-use Rattle.pair_laws.specs.RenamedImage.Renaming.{FindsItsClasses}
 use Rattle.pair_laws.specs.RenamedSame.Laws.{IsLeftUnderNames}
 use Rattle.pair_laws.proofs.RenamedSame.NewSame.{new_same}
 use Rattle.pair_laws.specs.PairSame.Laws.{PairsDoTheSame}
 use Rattle.pair_laws.specs.PairSame.Pairs.{IsPair}
 use Rattle.pair_laws.proofs.PairSame.Expected.{closed, codes_new, lined, names, place, renamed}
 use Rattle.pair_laws.proofs.PairSame.Naming.{apart}
-
--- a set that is taken finds its classes
-taken_found : (classes : List Class) → IsTaken classes → FindsItsClasses classes
-taken_found classes taken = record {
-  own = λ n c at.
-      sym (ap (λ o. class_named classes (option_map_or (λ (c : Class). c.name) o [])) at)
-      ∙ class_found classes taken (Prog n) (slice_get_within classes n c at);
-  library = library_named classes taken;
-}
+use Rattle.pair_laws.proofs.RenamedTaken.Setting.{found_of}
 
 module _ (input output : List Class) (mapping : Mapping) (rules : Rules) (taken : IsTaken input)
     (then_taken : IsTaken output) (pair : IsPair input output mapping rules) where
@@ -34,7 +20,7 @@ module _ (input output : List Class) (mapping : Mapping) (rules : Rules) (taken 
       (place input output mapping rules taken pair) output
   left_under_names = record {
     closed = closed input output mapping rules taken pair;
-    found = taken_found output then_taken;
+    found = found_of output then_taken;
     apart = apart input output mapping rules taken then_taken pair;
     renamed = renamed input output mapping rules taken pair;
     codes = codes_new input output mapping rules taken pair;

@@ -1,28 +1,18 @@
 -- Old and new names that are one to one, as a list that grows.
-use Rattle.std.proofs.Common.{◌≡◌, ℕ, ◌||◌, not, Bool, true, false, cond, List, [], ◌∷◌, ◌++◌, map}
+use Rattle.std.proofs.Common.{◌≡◌, ℕ, ◌||◌, Bool, true, false, cond, List, [], ◌∷◌, ◌++◌, map}
 use Rattle.std.proofs.Common.{Option}
 use Rattle.std.proofs.Common.{Some, None, refl, sym, ap, subst, ◌∙◌}
 use Rattle.std.specs.List.{AllByRecursion}
 use Rattle.std.specs.Option.{option_or}
 use Rattle.std.specs.Map.{lookup}
 use Rattle.std.proofs.lemmas.Option.{same_Some}
+use Rattle.std.proofs.lemmas.Bool.{not-false, or_parts, and_parts}
+use Rattle.require_sys.proofs.Parts.{all_map}
+use Rattle.new_names.specs.NewNames.{NameAndType, is_same}
 use Rattle.jv_base.specs.Names.{is_text}
-use Rattle.jv_base.proofs.Equality.{text_Decides}
+use Rattle.jv_base.proofs.Equality.{text_itself, same_text}
+use Rattle.jv_base.proofs.Lists.{all_mapped}
 use Rattle.pair_clauses.specs.Shape.{clashes, is_other}
-
-pub turned : (b : Bool) → not b ≡ false → b ≡ true
-turned true h = refl
-turned false h = absurd cc
-
-pub neither : (a b : Bool) → (a || b) ≡ false → (a ≡ false) × (b ≡ false)
-neither true b h = absurd cc
-neither false b h = (refl, h)
-
-pub same_text : (a b : List ℕ) → is_text a b ≡ true → a ≡ b
-same_text a b h = (text_Decides a b).0 h
-
-pub text_itself : (a : List ℕ) → is_text a a ≡ true
-text_itself a = (text_Decides a a).1 refl
 
 -- ---- lookups
 
@@ -106,13 +96,13 @@ all_more P (x ∷ xs) p all h = (all.0, all_more P xs p all.1 h)
 -- a name that isn't another one is found behind
 found_behind : (o : Option (List ℕ)) (name : List ℕ) → is_other o name ≡ false → option_or o (Some name) ≡ Some name
 found_behind None name h = refl
-found_behind (Some there) name h = ap Some (same_text there name (turned (is_text there name) h))
+found_behind (Some there) name h = ap Some (same_text there name (not-false (is_text there name) h))
 
 -- one pair more that doesn't clash
 pub one_more : (names : Names) (old new : List ℕ) → AreOne names → clashes names old new ≡ false
     → AreOne (names ++ (old, new) ∷ [])
 one_more names old new all h =
-    let parts = neither (is_other (by_old names old) new) (is_other (by_new names new) old) h in
+    let parts = or_parts (is_other (by_old names old) new) (is_other (by_new names new) old) h in
     all_more (IsFound (names ++ (old, new) ∷ [])) names (old, new)
     (all_still names ((old, new) ∷ []) names all)
     (record {
@@ -127,3 +117,19 @@ one_more names old new all h =
 -- two pairs with one new name have one old name
 pub one_old : (names : Names) (p q : List ℕ × List ℕ) → IsFound names p → IsFound names q → p.1 ≡ q.1 → p.0 ≡ q.0
 one_old names p q h k e = same_Some p.0 q.0 (sym h.new ∙ ap (by_new names) e ∙ k.new)
+
+-- ---- lines of members
+
+-- a member's new name by lines that are of the table is that of the table
+pub found_among : {X : Type 0} (names : Names) (old text new : X → List ℕ) (lines : List X) (name ty given : List ℕ)
+    → AllByRecursion (IsFound names) (map (λ (m : X). (old m, new m)) lines)
+    → lookup (λ (key : NameAndType). is_same key (name, ty)) (map (λ (m : X). ((old m, text m), new m)) lines)
+    ≡ Some given → IsFound names (name, given)
+found_among {X} names old text new lines name ty given good e =
+    let h = looked (λ (p : NameAndType × List ℕ). IsFound names (p.0.0, p.1))
+    (λ (key : NameAndType). is_same key (name, ty)) (map (λ (m : X). ((old m, text m), new m)) lines) given
+    (all_mapped (λ (p : NameAndType × List ℕ). IsFound names (p.0.0, p.1))
+    (λ (m : X). ((old m, text m), new m)) lines
+    (all_map (IsFound names) (λ (m : X). (old m, new m)) lines good)) e in
+    let parts = and_parts (is_text h.key.0 name) (is_text h.key.1 ty) h.passes in
+    subst (λ (t : List ℕ). IsFound names (t, given)) (same_text h.key.0 name parts.0) h.holds

@@ -6,6 +6,7 @@ use Rattle.std.specs.List.{list_any, position, slice_index}
 use Rattle.std.specs.Option.{option_map}
 use Rattle.std.specs.Str.{is_utf8}
 use Rattle.std.proofs.lemmas.Bool.{eq-eqb, ne_eqb}
+use Rattle.std.proofs.lemmas.List.{append-nil}
 use Rattle.jv_base.specs.Names.{is_method_name}
 use Rattle.class_pool.proofs.Distinct.{position_next}
 use Rattle.text_lines.specs.Cut.{◌>>=◌, where_true}
@@ -96,14 +97,10 @@ number_read : (source number : List ℕ) → HasNone 58 source → HasNone 41 so
     → number_in (source ++ number) ≡ Some number
 unfolding number_in
 number_read source number colon end (inl empty) =
-    let plain : source ++ number ≡ source = ap (λ (t : List ℕ). source ++ t) empty ∙ append_none source in
+    let plain : source ++ number ≡ source = ap (λ (t : List ℕ). source ++ t) empty ∙ append-nil source in
     ap (λ (t : List ℕ). number_from (place_of 58 t) t) plain
     ∙ ap (λ o. number_from o source) (place_none 58 source colon)
     ∙ ap (λ (b : Bool). where_true (not b) []) (no_byte 41 source end) ∙ ap (λ (t : List ℕ). Some t) (sym empty)
-  where
-    append_none : (xs : List ℕ) → xs ++ [] ≡ xs
-    append_none [] = refl
-    append_none (x ∷ xs) = ap (λ (t : List ℕ). x ∷ t) (append_none xs)
 number_read source number colon end (inr (d, ds, digits, is)) =
     ap (λ (t : List ℕ). number_from (place_of 58 (source ++ t)) (source ++ t)) is
     ∙ ap (λ o. number_from o (source ++ (58 ∷ (d ∷ ds)))) (place_at 58 source (d ∷ ds) colon)

@@ -1,5 +1,5 @@
 -- The frames of the output, with old names, are those of the input.
-use Rattle.std.proofs.Common.{◌≡◌, ℕ, zero, suc, ◌+◌, ◌&&◌, Bool, true, false, cond, List, [], ◌∷◌, ◌++◌, length, map}
+use Rattle.std.proofs.Common.{◌≡◌, ℕ, ◌+◌, ◌&&◌, Bool, true, false, cond, List, [], ◌∷◌, ◌++◌, length, map}
 use Rattle.std.proofs.Common.{Option, Some, None, slice_get, refl, sym, ap, subst, ◌∙◌, arith}
 use Rattle.std.specs.Prelude.{IsSome, is_some}
 use Rattle.std.specs.List.{AllByRecursion, AllZip, find}
@@ -11,10 +11,12 @@ use Rattle.std.proofs.lemmas.Str.{is_utf8-from_IsUtf8}
 use Rattle.jv_base.specs.External.{dotted}
 use Rattle.jv_base.specs.Names.{is_class_name, is_method_name, is_text}
 use Rattle.jv_base.specs.Types.{method_text}
+use Rattle.jv_base.proofs.Options.{some_there}
+use Rattle.jv_base.proofs.Lists.{all_at, all_mapped, all_weaker}
+use Rattle.jv_base.proofs.Equality.{text_itself, same_text}
 use Rattle.class_model.specs.Flags.{is_interface}
 use Rattle.class_model.specs.WellFormed.{IsGoodMethod}
 use Rattle.class_model.specs.declared.class.Class.{Class}
-use Rattle.class_model.specs.declared.class.Field.{Field}
 use Rattle.class_model.specs.declared.class.Method.{Method}
 use Rattle.class_model.specs.declared.code.Code.{Code}
 use Rattle.class_pool.specs.Found.{MemberRow, NameAndType, field_row, method_row, name_of, named_at}
@@ -42,22 +44,22 @@ use Rattle.image_laws.proofs.ShrunkImage.Classes.{class_marked, class_of_kept, f
 use Rattle.image_laws.proofs.ShrunkImage.Kept.{as_filter, kept_at}
 use Rattle.removal_laws.proofs.RemovalSame.Told.{code_found}
 use Rattle.image_laws.specs.TakenSet.TakenSet.{IsTaken}
-use Rattle.image_laws.proofs.TakenSet.Rows.{all_at}
 use Rattle.pair_laws.specs.RenamedImage.Renaming.{IsNewMethod, renamed_named}
 use Rattle.pair_laws.proofs.RenamedImage.Descriptors.{method_named}
 use Rattle.pair_laws.specs.RenamedSame.NewKeys.{new_key}
 use Rattle.pair_laws.specs.PairSame.Laws.{pair_names}
 use Rattle.pair_laws.specs.PairSame.Pairs.{IsPair}
-use Rattle.pair_laws.proofs.PairSame.Expected.{GoodLine, all_good, class_new, each_all, line_of, lined, mapped_all}
+use Rattle.pair_laws.proofs.PairSame.Expected.{GoodLine, all_good, class_new, line_of, lined}
 use Rattle.pair_laws.proofs.PairSame.Expected.{method_found}
-use Rattle.pair_laws.proofs.PairSame.Expected.{method_name, methods_new, methods_table, new_of, numbered_class, some_of}
+use Rattle.pair_laws.proofs.PairSame.Expected.{method_name, methods_new, methods_table, new_of, numbered_class}
 use Rattle.pair_laws.proofs.PairSame.Lined.{class_lined, method_lined}
 use Rattle.pair_laws.proofs.PairSame.Naming.{zip_at}
-use Rattle.pair_laws.proofs.PairSame.Tables.{IsFound, looked, one_old, same_text, text_itself}
+use Rattle.pair_laws.proofs.PairSame.Tables.{IsFound, looked, one_old}
 use Rattle.pair_laws.specs.PairTrace.FrameLines.{IsNumber, IsSource, frame_line}
 use Rattle.pair_laws.specs.PairTrace.Laws.{FramesRetrace, IsRetraced}
 use Rattle.pair_laws.proofs.PairTrace.Bytes.{class_has_no_paren, method_has_none, one_dotted}
 use Rattle.pair_laws.proofs.PairTrace.LineLaw.{frame_read, frame_with}
+use Rattle.pair_laws.proofs.RenamedTaken.Rules.{method_row_there}
 
 -- ---- searches
 
@@ -98,18 +100,6 @@ find_holds {X} P test (y ∷ xs) x all e = by (test y) refl e (find_holds P test
     by true f e r = let same = same_Some y x e in (subst P same all.0, ap test (sym same) ∙ f)
     by false f e r = r e
 
-method_row_at : (fs : List Field) (ms : List Method) (k : ℕ) (m : Method) → slice_get ms k ≡ Some m
-    → slice_get (map field_row fs ++ map method_row ms) (length fs + k) ≡ Some (method_row m)
-method_row_at [] ms k m e = let plain : 0 + k ≡ k = omega arith in ap (slice_get (map method_row ms)) plain ∙ at ms k e
-  where
-    at : (ms : List Method) (k : ℕ) → slice_get ms k ≡ Some m → slice_get (map method_row ms) k ≡ Some (method_row m)
-    at [] k e = absurd cc
-    at (y ∷ ms) zero e = ap (λ (x : Method). Some (method_row x)) (same_Some y m e)
-    at (y ∷ ms) (suc k) e = at ms k e
-method_row_at (x ∷ fs) ms k m e =
-    let next : length (x ∷ fs) + k ≡ suc (length fs + k) = omega arith in
-    ap (slice_get (map field_row (x ∷ fs) ++ map method_row ms)) next ∙ method_row_at fs ms k m e
-
 module _ (input output : List Class) (mapping : Mapping) (rules : Rules) (taken : IsTaken input)
     (then_taken : IsTaken output) (pair : IsPair input output mapping rules) where
   abbrev marks : List Bool
@@ -121,7 +111,7 @@ module _ (input output : List Class) (mapping : Mapping) (rules : Rules) (taken 
   -- the new name of a class that has a line is that of a class of the output
   line_formed : (l : MapClass) → GoodLine input output mapping rules taken pair l → is_class_name l.new ≡ true
   line_formed l good =
-      let n = some_of _ good.line.in_output in
+      let n = some_there _ good.line.in_output in
       let c = numbered_class output l.new n.0 n.1 in
       ap is_class_name (sym c.2) ∙ (then_taken.formed n.0 c.0 c.1).name.1
 
@@ -133,7 +123,7 @@ module _ (input output : List Class) (mapping : Mapping) (rules : Rules) (taken 
       find_only (λ (x : MapClass). x.old) name (λ (x : MapClass). is_text (dotted l.new)
       (dotted x.new)) mapping.classes l e
       (text_itself (dotted l.new))
-      (each_all (GoodLine input output mapping rules taken pair)
+      (all_weaker (GoodLine input output mapping rules taken pair)
       (λ (x : MapClass). is_text (dotted l.new) (dotted x.new) ≡ true → x ≡ l)
       (λ x good h.
       let new = one_dotted x.new l.new (line_formed x good) (line_formed l g)
@@ -167,7 +157,7 @@ module _ (input output : List Class) (mapping : Mapping) (rules : Rules) (taken 
           let h = looked (λ (p : Named × List ℕ). is_text new p.1 ≡ false) (λ key. is_same key
           (x.name, method_text x.ty))
           (method_lines l.methods) new
-          (mapped_all (λ (p : Named × List ℕ). is_text new p.1 ≡ false)
+          (all_mapped (λ (p : Named × List ℕ). is_text new p.1 ≡ false)
           (λ (m : MapMethod). ((m.old, method_text m.ty), m.new)) l.methods none) inside in
           let w : true ≡ false = sym (text_itself new) ∙ h.holds in
           cc
@@ -193,7 +183,7 @@ module _ (input output : List Class) (mapping : Mapping) (rules : Rules) (taken 
   traced n c j x at there class_is method_is source number is digits =
       let o = new_of input output mapping rules taken pair c (sym (class_lined mapping input n c at) ∙ class_is) in
       let l = o.line in
-      let new = some_of (new_method mapping c x) (sym (method_lined mapping input n c at j x there) ∙ method_is) in
+      let new = some_there (new_method mapping c x) (sym (method_lined mapping input n c at j x there) ∙ method_is) in
       let good = line_of input output mapping rules taken pair c.name l o.line_is in
       let class : (names_of mapping).class c.name ≡ l.new =
       class_new input output mapping rules taken pair c.name l.new (ap (option_map (λ
@@ -250,7 +240,7 @@ module _ (input output : List Class) (mapping : Mapping) (rules : Rules) (taken 
           (option_map_or (λ (c : Class). map field_row c.fields ++ map method_row c.methods) o [])
           (length h.class.fields + h.k)) ([], [])) h.class_at
           ∙ ap (λ o. option_map_or (λ (r : MemberRow). r.named) o ([], []))
-          (method_row_at h.class.fields h.class.methods h.k h.method h.method_at) in
+          (method_row_there h.class.fields h.class.methods h.k h.method h.method_at) in
           let class : name_of input m.class ≡ h.class.name =
           ap (name_of input) h.class_is ∙ ap (λ o. option_map_or (λ (c : Class). c.name) o []) h.class_at in
           let key : record { class = h.class.name; name = h.method.name; descriptor = method_text h.method.ty } ≡ k =

@@ -7,12 +7,12 @@ use Rattle.std.specs.List.{AllByRecursion, AllPairs, fold}
 use Rattle.std.proofs.lemmas.List.{length-map}
 use Rattle.std.proofs.lemmas.List.Folds.{fold-map}
 use Rattle.std.proofs.lemmas.Option.{same_Some, slice_get-get_or, slice_get-map}
-use Rattle.class_model.proofs.PoolLaw.{all_at}
 use Rattle.jv_base.specs.Types.{IsFieldType, IsMethodType, argument_words, method_text}
 use Rattle.jv_base.specs.declared.types.Base.{Base}
 use Rattle.jv_base.specs.declared.types.Base.TheVariants as base
 use Rattle.jv_base.specs.declared.types.FieldType.{FieldType}
 use Rattle.jv_base.specs.declared.types.MethodType.{MethodType}
+use Rattle.jv_base.proofs.Lists.{all_at}
 use Rattle.class_model.specs.Attributes.{IsIntLike, IsPlain}
 use Rattle.class_model.specs.ConstantPool.{IsFieldText, IsMethodText}
 use Rattle.class_model.specs.Flags.{acc_abstract, acc_final, acc_native, acc_static, acc_synchronized, has_some}

@@ -4,6 +4,7 @@ use Rattle.std.proofs.Common.{flat_map}
 use Rattle.std.proofs.Common.{slice_get, Some, refl, sym, ap, ◌∙◌}
 use Rattle.std.specs.List.{AllByRecursion}
 use Rattle.std.proofs.lemmas.Option.{same_Some}
+use Rattle.std.proofs.lemmas.Bool.{or_right}
 use Rattle.jv_base.specs.Names.{is_text}
 use Rattle.jv_base.specs.Types.{method_text}
 use Rattle.jv_base.proofs.Equality.{text_Decides}
@@ -28,10 +29,6 @@ three false true z h = inl (inr refl)
 three false false true h = absurd cc
 three false false false h = inr refl
 
-or_right : (x y : Bool) → y ≡ true → (x || y) ≡ true
-or_right true y h = refl
-or_right false y h = h
-
 -- ---- names of kept members
 
 module _ {A : Type 0} (name : A → List ℕ) (all : List (List ℕ)) where
@@ -43,7 +40,7 @@ module _ {A : Type 0} (name : A → List ℕ) (all : List (List ℕ)) where
     all_taken xs (λ a h. more a (or_right (is_text a (name x)) (is_taken (map name xs) a) h)),
   )
 
-in_kept : (f : Class → List (List ℕ)) (classes : List Class) (k : ℕ) (c : Class) → slice_get classes k ≡ Some c
+pub in_kept : (f : Class → List (List ℕ)) (classes : List Class) (k : ℕ) (c : Class) → slice_get classes k ≡ Some c
     → (a : List ℕ) → is_taken (f c) a ≡ true → is_taken (flat_map f classes) a ≡ true
 in_kept f [] k c at a h = absurd cc
 in_kept f (d ∷ ds) zero c at a h =

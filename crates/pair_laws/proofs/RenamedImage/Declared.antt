@@ -6,10 +6,12 @@ use Rattle.std.specs.Option.{option_map_or}
 use Rattle.std.specs.List.{list_any}
 use Rattle.std.proofs.lemmas.Bool.{and_parts}
 use Rattle.std.proofs.lemmas.Option.{same_Some}
+use Rattle.std.proofs.Math.Bool.{or-true}
 use Rattle.jv_base.specs.Names.{is_text}
 use Rattle.jv_base.specs.Types.{IsFieldType, IsMethodType, argument_words, method_text, result_text}
 use Rattle.jv_base.specs.declared.types.MethodType.{MethodType}
 use Rattle.jv_base.proofs.Equality.{text_Decides}
+use Rattle.jv_base.proofs.Lists.{all_at, any_where, any_at}
 use Rattle.lib_table.specs.Library.{LibraryClass, class, library}
 use Rattle.lib_table.specs.Lookups as table
 use Rattle.lib_table.specs.declared.class.LibKind.TheVariants.{Open}
@@ -28,30 +30,8 @@ use Rattle.pair_laws.proofs.RenamedImage.Descriptors.{Declared}
 use Rattle.pair_laws.proofs.RenamedImage.LibraryTypes.{IsDescribed, library_row_described}
 use Rattle.pair_laws.proofs.RenamedImage.Rows.{row_Decides}
 use Rattle.image_laws.proofs.TakenSet.Members.{row_parts}
-use Rattle.image_laws.proofs.TakenSet.Rows.{all_at}
 
 -- ---- what some element passes, and where
-
-pub any_at : {A : Type 0} (p : A → Bool) (xs : List A) → list_any p xs ≡ true
-    → (k : ℕ) × (y : A) × (slice_get xs k ≡ Some y) × (p y ≡ true)
-any_at p [] is = absurd cc
-any_at {A = A} p (x ∷ xs) is = by (p x) refl is (any_at p xs)
-  where
-    by : (b : Bool) → p x ≡ b → (b || list_any p xs) ≡ true
-        → (list_any p xs ≡ true → (k : ℕ) × (y : A) × (slice_get xs k ≡ Some y) × (p y ≡ true))
-        → (k : ℕ) × (y : A) × (slice_get (x ∷ xs) k ≡ Some y) × (p y ≡ true)
-    by true e is more = (0, x, refl, e)
-    by false e is more = let h = more is in (suc h.0, h.1, h.2, h.3)
-
-or_true : (b : Bool) → (b || true) ≡ true
-or_true true = refl
-or_true false = refl
-
-pub any_of : {A : Type 0} (p : A → Bool) (xs : List A) (k : ℕ) (y : A) → slice_get xs k ≡ Some y → p y ≡ true
-    → list_any p xs ≡ true
-any_of p [] k y at is = absurd cc
-any_of p (x ∷ xs) zero y at is = ap (λ (b : Bool). b || list_any p xs) (ap p (same_Some x y at) ∙ is)
-any_of p (x ∷ xs) (suc k) y at is = ap (λ (b : Bool). p x || b) (any_of p xs k y at is) ∙ or_true (p x)
 
 -- ---- rows of a class of the library
 
@@ -121,18 +101,18 @@ module _ (xs : List Class) where
       → is_declared xs row.named ≡ true
   test_of (Prog n) k row at =
       let h = program_at k row (slice_get xs n) at in
-      let one : in_program row.named ≡ true = any_of (λ (c : Class). list_any (is_row row.named) (rows_of c)) xs n h.0
-      h.1 (any_of (is_row row.named) (rows_of h.0) k row h.2 ((row_Decides row.named row).1 refl)) in
+      let one : in_program row.named ≡ true = any_at (λ (c : Class). list_any (is_row row.named) (rows_of c)) xs n h.0
+      h.1 (any_at (is_row row.named) (rows_of h.0) k row h.2 ((row_Decides row.named row).1 refl)) in
       ap (λ (b : Bool). is_clinit_named row.named || (b || in_library row.named)) one
-      ∙ or_true (is_clinit_named row.named)
+      ∙ or-true (is_clinit_named row.named)
   test_of (Lib id) k row at =
       let h = library_at id k row at in
       let one : in_library row.named ≡ true =
-      any_of (λ (c : LibraryClass). list_any (is_row row.named) (library_rows_of c)) library id h.0 h.1
-      (any_of (is_row row.named) (library_rows_of h.0) k row h.2 ((row_Decides row.named row).1 refl)) in
+      any_at (λ (c : LibraryClass). list_any (is_row row.named) (library_rows_of c)) library id h.0 h.1
+      (any_at (is_row row.named) (library_rows_of h.0) k row h.2 ((row_Decides row.named row).1 refl)) in
       ap (λ (b : Bool). is_clinit_named row.named || (in_program row.named || b)) one
-      ∙ ap (λ (b : Bool). is_clinit_named row.named || b) (or_true (in_program row.named))
-      ∙ or_true (is_clinit_named row.named)
+      ∙ ap (λ (b : Bool). is_clinit_named row.named || b) (or-true (in_program row.named))
+      ∙ or-true (is_clinit_named row.named)
 
   java_known : (name : List ℕ) → is_library_name name ≡ true → is_known xs name ≡ true
   java_known name h = ap (λ (b : Bool). b || is_some (class_named xs name)) h
@@ -182,15 +162,15 @@ module _ (xs : List Class) where
             clinit_declared n ((text_Decides n.0 (codes "<clinit>")).0 parts.0)
             ((text_Decides n.1 (codes "()V")).0 parts.1)
         by false e true f is =
-            let h = any_at (λ (c : Class). list_any (is_row n) (rows_of c)) xs f in
-            let g = any_at (is_row n) (rows_of h.1) h.3 in
+            let h = any_where (λ (c : Class). list_any (is_row n) (rows_of c)) xs f in
+            let g = any_where (is_row n) (rows_of h.1) h.3 in
             subst (Declared names xs apart) ((row_Decides n g.1).0 g.3)
             (row_declared (Prog h.0) g.0 g.1
             (ap (λ (o : Option Class). slice_get
             (option_map_or (λ c. map field_row c.fields ++ map method_row c.methods) o []) g.0) h.2 ∙ g.2))
         by false e false f is =
-            let h = any_at (λ (c : LibraryClass). list_any (is_row n) (library_rows_of c)) library is in
-            let g = any_at (is_row n) (library_rows_of h.1) h.3 in
+            let h = any_where (λ (c : LibraryClass). list_any (is_row n) (library_rows_of c)) library is in
+            let g = any_where (is_row n) (library_rows_of h.1) h.3 in
             subst (Declared names xs apart) ((row_Decides n g.1).0 g.3)
             (row_declared (Lib h.0) g.0 g.1
             (ap (λ (c : LibraryClass). slice_get (library_rows_of c) g.0) (library_class_at h.0 h.1 h.2) ∙ g.2))

@@ -17,10 +17,10 @@ use Rattle.class_rename.specs.Renamed.{renamed_base, renamed_field_text, renamed
 use Rattle.class_rename.specs.Renamed.{renamed_type}
 use Rattle.pair_laws.specs.RenamedForm.Form.{IsKnownMethodType, IsKnownType}
 use Rattle.pair_laws.proofs.RenamedForm.Apart.{one_renamed_method, one_renamed_type}
-use Rattle.pair_laws.proofs.RenamedForm.Spelled.{field_text_is, method_text_is, method_type_spelled, one_method_type, one_type}
-use Rattle.pair_laws.proofs.RenamedForm.Spelled.{type_spelled}
-use Rattle.pair_laws.specs.RenamedImage.Renaming.{IsMemberName, KeepsNamesApart, is_known, is_library_name, is_method_text}
-use Rattle.pair_laws.specs.RenamedImage.Renaming.{renamed_named}
+use Rattle.pair_laws.proofs.RenamedForm.Spelled.{field_text_is, method_text_is, method_type_spelled, one_method_type}
+use Rattle.pair_laws.proofs.RenamedForm.Spelled.{one_type, type_spelled}
+use Rattle.pair_laws.specs.RenamedImage.Renaming.{IsMemberName, KeepsNamesApart, is_known, is_library_name}
+use Rattle.pair_laws.specs.RenamedImage.Renaming.{is_method_text, renamed_named}
 use Rattle.pair_laws.proofs.RenamedImage.LibraryTypes.{IsDescribed, library_row_described}
 
 -- ---- a descriptor tells whether it is that of a method

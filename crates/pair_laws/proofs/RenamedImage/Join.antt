@@ -1,6 +1,6 @@
 -- Classes under new names are an image of the set: class by class and member by member.
-use Rattle.std.proofs.Common.{◌≡◌, ◌<◌, ℕ, zero, suc, nat_eq, ◌&&◌, ◌||◌, not, Bool, true, false, cond, List, [], ◌∷◌}
-use Rattle.std.proofs.Common.{◌++◌, length, map, Option, Some, None, slice_get, refl, sym, ap, subst, ◌∙◌, arith}
+use Rattle.std.proofs.Common.{◌≡◌, ◌<◌, ℕ, suc, nat_eq, ◌&&◌, ◌||◌, not, Bool, true, false, cond, List, [], ◌∷◌}
+use Rattle.std.proofs.Common.{◌++◌, length, map, Option, Some, None, slice_get, refl, sym, ap, subst, ◌∙◌}
 use Rattle.std.specs.Prelude.{IfSome, codes, is_some, if◌then◌else◌}
 use Rattle.std.specs.List.{All, AllByRecursion, AllZip, cons_option, filter_map, position}
 use Rattle.std.specs.Option.{option_and_then, option_map, option_map_or}
@@ -10,8 +10,11 @@ use Rattle.std.proofs.lemmas.List.{map-append}
 use Rattle.std.proofs.lemmas.List.Elements.{All-head, All-tail}
 use Rattle.std.proofs.lemmas.List.Quantifiers.{position-Some}
 use Rattle.std.proofs.lemmas.Option.{same_Some, slice_get-get_or, slice_get-map}
+use Rattle.std.proofs.Math.Bool.{or-true}
 use Rattle.jv_base.specs.Names.{is_text}
 use Rattle.jv_base.specs.Types.{IsFieldType, IsMethodType, field_text, method_text}
+use Rattle.jv_base.proofs.Lists.{found_at}
+use Rattle.jv_base.proofs.Options.{some_there as some_of}
 use Rattle.lib_table.specs.Lookups as table
 use Rattle.lib_table.specs.declared.class.LibKind.TheVariants.{Interface, Final, Open}
 use Rattle.class_model.specs.Flags.{acc_final, acc_public, has, is_init, is_interface, is_static}
@@ -36,12 +39,12 @@ use Rattle.image_laws.proofs.ViewImage.Naming.{class_name}
 use Rattle.class_rename.specs.Names.{Names}
 use Rattle.pair_laws.specs.RenamedForm.Form.{IsKnownMethodType, IsKnownType}
 use Rattle.pair_laws.specs.RenamedImage.Naming.{is_class_there, is_declared, is_member_there, is_row, new_named}
-use Rattle.pair_laws.specs.RenamedImage.Renaming.{FindsItsClasses, IsNewField, IsNewMethod, IsRenamedSet}
-use Rattle.pair_laws.specs.RenamedImage.Renaming.{IsMemberName, KeepsNamesApart, NamesKnownTypes, is_known, is_library_name}
-use Rattle.pair_laws.specs.RenamedImage.Renaming.{placed, placed_member, renamed_named}
+use Rattle.pair_laws.specs.RenamedImage.Renaming.{FindsItsClasses, IsNewField, IsNewMethod, IsRenamedSet, IsMemberName}
+use Rattle.pair_laws.specs.RenamedImage.Renaming.{KeepsNamesApart, NamesKnownTypes, is_known, is_library_name, placed}
+use Rattle.pair_laws.specs.RenamedImage.Renaming.{placed_member, renamed_named}
 use Rattle.pair_laws.proofs.RenamedImage.Declared.{row_declared, test_of, tested}
-use Rattle.pair_laws.proofs.RenamedImage.Descriptors.{Declared, field_named, field_spelled, library_row_stays, method_named}
-use Rattle.pair_laws.proofs.RenamedImage.Descriptors.{method_spelled, one_member}
+use Rattle.pair_laws.proofs.RenamedImage.Descriptors.{Declared, field_named, field_spelled, library_row_stays}
+use Rattle.pair_laws.proofs.RenamedImage.Descriptors.{method_named, method_spelled, one_member}
 use Rattle.pair_laws.proofs.RenamedImage.LibraryTypes.{IsDescribed}
 use Rattle.pair_laws.proofs.RenamedImage.Rows.{declared_rows, position_moved, row_Decides}
 use Rattle.image_laws.proofs.TakenSet.LibraryRows.{library_name}
@@ -60,19 +63,10 @@ same_test m n k l to from = by (nat_eq m n) refl (nat_eq k l) refl
     by true e false f = sym f ∙ eq-eqb k l (to (eqb-true m n e))
     by false e true f = sym (eq-eqb m n (from (eqb-true k l f))) ∙ e
 
-element : {X : Type 0} (xs : List X) (i : ℕ) → i < length xs → (x : X) × (slice_get xs i ≡ Some x)
-element [] i low = absurd (omega (arith, low))
-element (x ∷ xs) zero low = (x, refl)
-element (x ∷ xs) (suc i) low = element xs i (omega (arith, low))
-
 cons_moved : {A B : Type 0} (f : A → B) (o : Option A) (xs : List A)
     → cons_option (option_map f o) (map f xs) ≡ map f (cons_option o xs)
 cons_moved f None xs = refl
 cons_moved f (Some x) xs = refl
-
-some_of : {A : Type 0} (o : Option A) → is_some o ≡ true → (x : A) × (o ≡ Some x)
-some_of None h = absurd cc
-some_of (Some x) h = (x, refl)
 
 abbrev at_index : ClassId → ℕ → MemberAt
 at_index x k = record { class = x; index = k }
@@ -87,7 +81,7 @@ module _ (names : Names) (place : ℕ → ℕ) (xs ys : List Class) (found : Fin
   There x = is_class_there xs x ≡ true
 
   there_of : (x : ClassId) → IsClass xs x → There x
-  there_of (Prog n) low = ap is_some (element xs n low).1
+  there_of (Prog n) low = ap is_some (found_at xs n low).1
   there_of (Lib id) low = refl
 
   -- ---- what a name names
@@ -96,7 +90,7 @@ module _ (names : Names) (place : ℕ → ℕ) (xs ys : List Class) (found : Fin
       → class_named ys (names.class name) ≡ Some (moved x)
   named_moved name (Prog n) e =
       let low : n < length xs = subst (λ o. IfSome o (IsClass xs)) e (named_there xs name) in
-      let c = element xs n low in
+      let c = found_at xs n low in
       let own : c.0.name ≡ name =
       sym (ap (λ o. option_map_or (λ (c : Class). c.name) o []) c.1) ∙ class_name xs name (Prog n) e in
       let d = new n c.0 c.1 in
@@ -126,11 +120,7 @@ module _ (names : Names) (place : ℕ → ℕ) (xs ys : List Class) (found : Fin
 
   name_known : (n : ℕ) (c : Class) → slice_get xs n ≡ Some c → is_known xs c.name ≡ true
   name_known n c at = ap (λ o. is_library_name c.name || is_some o) (found.own n c at)
-      ∙ or_true (is_library_name c.name)
-    where
-      or_true : (b : Bool) → (b || true) ≡ true
-      or_true true = refl
-      or_true false = refl
+      ∙ or-true (is_library_name c.name)
 
   one_place : (m n : ℕ) (c d : Class) → slice_get xs m ≡ Some c → slice_get xs n ≡ Some d → place m ≡ place n → m ≡ n
   one_place m n c d at then_at same =

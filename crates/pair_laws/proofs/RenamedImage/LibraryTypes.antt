@@ -25,9 +25,10 @@ use Rattle.class_model.specs.declared.class.Class.{Class}
 use Rattle.class_pool.specs.Found.{MemberRow, library_row, rows_in}
 use Rattle.class_pool.specs.bodies.Graph.{library_ids}
 use Rattle.class_pool.specs.declared.id.ClassId.TheVariants.{Lib}
+use Rattle.class_pool.proofs.ObjectLaws.{at_row}
 use Rattle.pair_laws.specs.RenamedForm.Form.{IsKnownMethodType, IsKnownType}
 use Rattle.pair_laws.specs.RenamedImage.Renaming.{is_library_name}
-use Rattle.image_laws.proofs.TakenSet.LibraryRows.{at_row, past_last}
+use Rattle.image_laws.proofs.TakenSet.LibraryRows.{past_last}
 
 -- the descriptor spells a type of known classes: of a method, or with false of a field
 abbrev pub IsDescribed : (List ℕ → Bool) → Bool → List ℕ → Type 0

@@ -1,12 +1,13 @@
 -- Names of members of the library, of classes and of initialisation methods.
-use Rattle.std.proofs.Common.{◌≡◌, ℕ, zero, suc, ◌&&◌, ◌||◌, Bool, true, false, List, [], ◌∷◌, ◌++◌, map, Option}
-use Rattle.std.proofs.Common.{Some, None, slice_get, get_or, codes, refl, sym, ap, ◌∙◌}
+use Rattle.std.proofs.Common.{◌≡◌, ℕ, ◌&&◌, Bool, true, false, List, [], ◌++◌, map, Option}
+use Rattle.std.proofs.Common.{Some, None, slice_get, codes, refl, sym, ap, ◌∙◌}
 use Rattle.std.specs.Bool.{beq}
-use Rattle.std.specs.List.{list_any, position}
+use Rattle.std.specs.List.{list_any}
 use Rattle.std.specs.Option.{option_map_or}
-use Rattle.std.proofs.lemmas.List.Quantifiers.{position-Some}
-use Rattle.std.proofs.lemmas.Option.{same_Some, slice_get-get_or}
+use Rattle.std.proofs.lemmas.Bool.{and_from}
 use Rattle.jv_base.specs.Names.{is_member_name, is_name_byte, is_text}
+use Rattle.jv_base.proofs.Equality.{text_itself, same_text}
+use Rattle.jv_base.proofs.Lists.{mapped_from, any_at}
 use Rattle.lib_table.specs.Library.{LibraryClass, LibraryMember, library}
 use Rattle.class_model.specs.Flags.{is_init}
 use Rattle.class_model.specs.declared.class.Class.{Class}
@@ -15,30 +16,9 @@ use Rattle.class_pool.specs.declared.id.ClassId.TheVariants.{Prog, Lib}
 use Rattle.fresh_names.specs.Fresh.{is_taken}
 use Rattle.fresh_names.specs.Reserved.{library_names}
 use Rattle.fresh_names.proofs.Reserved.{library_named}
-use Rattle.pair_laws.proofs.RenamedImage.Declared.{any_of, library_at}
-use Rattle.pair_laws.proofs.PairSame.Tables.{same_text, text_itself}
+use Rattle.pair_laws.proofs.RenamedImage.Declared.{library_at}
 
 -- ---- lists
-
-pub found_at : {X : Type 0} (test : X → Bool) (xs : List X) (k : ℕ) → position test xs ≡ Some k
-    → (x : X) × (slice_get xs k ≡ Some x) × (test x ≡ true)
-found_at test [] k e = absurd cc
-found_at test (x ∷ xs) k e =
-    let p = position-Some test (x ∷ xs) k x e in (get_or (x ∷ xs) k x, slice_get-get_or (x ∷ xs) k x p.0, p.1)
-
-pub mapped_from : {X Y : Type 0} (g : X → Y) (xs : List X) (k : ℕ) (y : Y) → slice_get (map g xs) k ≡ Some y
-    → (x : X) × (slice_get xs k ≡ Some x) × (y ≡ g x)
-mapped_from g [] k y e = absurd cc
-mapped_from g (x ∷ xs) zero y e = (x, refl, sym (same_Some (g x) y e))
-mapped_from g (x ∷ xs) (suc k) y e = mapped_from g xs k y e
-
-pub or_right : (a b : Bool) → b ≡ true → (a || b) ≡ true
-or_right true b h = refl
-or_right false b h = h
-
-pub and_both : (a b : Bool) → a ≡ true → b ≡ true → (a && b) ≡ true
-and_both true b h k = k
-and_both false b h k = absurd cc
 
 -- ---- names
 
@@ -64,12 +44,12 @@ library_name_taken classes id k row at =
     let kind : row.is_method ≡ m.0.is_method = ap (λ (r : MemberRow). r.is_method) m.2 in
     let name : row.named.0 ≡ m.0.name = ap (λ (r : MemberRow). r.named.0) m.2 in
     let test = λ (x : LibraryMember). beq x.is_method row.is_method && is_text x.name row.named.0 in
-    let passes : test m.0 ≡ true = and_both (beq m.0.is_method row.is_method) (is_text m.0.name row.named.0)
+    let passes : test m.0 ≡ true = and_from (beq m.0.is_method row.is_method) (is_text m.0.name row.named.0)
     (ap (λ (b : Bool). beq m.0.is_method b) kind ∙ same_bool m.0.is_method)
     (ap (is_text m.0.name) name ∙ text_itself m.0.name) in
     library_named row.is_method row.named.0
-    ∙ any_of (λ (x : LibraryClass). list_any test x.members) library id c.0 c.1
-    (any_of test c.0.members k m.0 m.1 passes)
+    ∙ any_at (λ (x : LibraryClass). list_any test x.members) library id c.0 c.1
+    (any_at test c.0.members k m.0 m.1 passes)
   where
     same_bool : (b : Bool) → beq b b ≡ true
     same_bool true = refl

@@ -5,11 +5,10 @@ use Rattle.std.proofs.Common.{Option, Some, None, refl, sym, ap, ◌∙◌, arit
 use Rattle.std.specs.Bool.{Decides}
 use Rattle.std.specs.Option.{option_and_then, option_map, option_map_or, option_or}
 use Rattle.std.specs.List.{enumerate_from, find, position}
-use Rattle.std.proofs.lemmas.Bool.Decides.{same_from_decides}
 use Rattle.std.proofs.lemmas.List.{length-map}
 use Rattle.jv_base.specs.Names.{is_text}
 use Rattle.jv_base.specs.Types.{field_text, method_text}
-use Rattle.jv_base.proofs.Equality.{and_Decides, text_Decides}
+use Rattle.jv_base.proofs.Equality.{and_Decides, text_Decides, text_sym}
 use Rattle.lib_table.specs.Library.{LibraryMember}
 use Rattle.lib_table.specs.Lookups as table
 use Rattle.lib_table.specs.declared.class.LibKind.{LibKind}
@@ -65,10 +64,6 @@ position_append p (x ∷ xs) ys =
 
 -- ---- rows
 
-text_swapped : (a b : List ℕ) → is_text a b ≡ is_text b a
-text_swapped a b = same_from_decides {P = a ≡ b} (is_text a b) (is_text b a) (text_Decides a b)
-    (λ e. sym ((text_Decides b a).0 e), λ e. (text_Decides b a).1 (sym e))
-
 pub row_Decides : (named : NameAndType) (row : MemberRow) → Decides (is_row named row) (row.named ≡ named)
 row_Decides named row = and_Decides (is_text row.named.0 named.0) (is_text row.named.1 named.1)
     (text_Decides row.named.0 named.0) (text_Decides row.named.1 named.1) (λ p q i. (p i, q i))
@@ -77,12 +72,12 @@ row_Decides named row = and_Decides (is_text row.named.0 named.0) (is_text row.n
 field_rows : (named : NameAndType) (fs : List Field)
     → position (is_row named) (map field_row fs) ≡ position (is_field named.0 named.1) fs
 field_rows named fs = position_moved field_row (is_row named) (is_field named.0 named.1) fs
-    (λ k f at. ap (λ (b : Bool). is_text f.name named.0 && b) (text_swapped (field_text f.ty) named.1))
+    (λ k f at. ap (λ (b : Bool). is_text f.name named.0 && b) (text_sym (field_text f.ty) named.1))
 
 method_rows : (named : NameAndType) (ms : List Method)
     → position (is_row named) (map method_row ms) ≡ position (is_method named.0 named.1) ms
 method_rows named ms = position_moved method_row (is_row named) (is_method named.0 named.1) ms
-    (λ k m at. ap (λ (b : Bool). is_text m.name named.0 && b) (text_swapped (method_text m.ty) named.1))
+    (λ k m at. ap (λ (b : Bool). is_text m.name named.0 && b) (text_sym (method_text m.ty) named.1))
 
 or_is : (c : Class) (named : NameAndType) (o : Option ℕ)
     → or_method c named.0 named.1 o

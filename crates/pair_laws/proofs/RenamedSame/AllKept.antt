@@ -24,7 +24,7 @@ use Rattle.class_pool.specs.declared.id.ClassId.TheVariants.{Prog}
 use Rattle.class_rename.specs.Names.{Names}
 use Rattle.class_rename.specs.Renamed as class_rename
 use Rattle.jvm_model.specs.Mapped.{OptionCorr}
-use Rattle.jvm_model.specs.Same.{LineCorr}
+use Rattle.jvm_model.proofs.Compose.{line_refl}
 use Rattle.member_shrink.specs.Shrunk.{chosen, is_marked, shrunk}
 use Rattle.require_sys.specs.Requires.{requires}
 use Rattle.require_sys.specs.declared.kept.KeptByRules.{KeptByRules}
@@ -155,13 +155,9 @@ module _ (names : Names) where
   methods_new [] = tt
   methods_new (x ∷ xs) = (record { name = refl; ty = refl; flags = refl }, methods_new xs)
 
-  same_line : (o : Option ℕ) → LineCorr o o
-  same_line None = tt
-  same_line (Some line) = refl
-
   instructions_new : (xs : List Ins) → AllZip (IsNewIns names) xs (map (class_rename.renamed_ins names) xs)
   instructions_new [] = tt
-  instructions_new (x ∷ xs) = (record { op = refl; line = same_line x.line }, instructions_new xs)
+  instructions_new (x ∷ xs) = (record { op = refl; line = line_refl x.line }, instructions_new xs)
 
   code_new : (o : Option Code) → OptionCorr (IsNewCode names) o (option_map (class_rename.renamed_code names) o)
   code_new None = refl

@@ -9,6 +9,7 @@ use Rattle.jv_base.specs.Descriptors.{read_field}
 use Rattle.jv_base.specs.declared.types.Base.{Base}
 use Rattle.jv_base.specs.declared.types.Base.TheVariants as base
 use Rattle.jv_base.specs.declared.types.FieldType.{FieldType}
+use Rattle.jv_base.proofs.Lists.{all_split, nil_parts}
 use Rattle.class_model.specs.WellFormed.{IsFieldReference, IsGoodOp, IsMethodReference}
 use Rattle.class_model.specs.declared.class.Class.{Class}
 use Rattle.class_model.specs.declared.code.Code.{Code}
@@ -43,10 +44,8 @@ use Rattle.image_laws.proofs.ViewImage.Standing.{Stands, special_stands}
 use Rattle.require_sys.specs.Requires.{Item, OfMember, base_wants, field_ref_wants, handler_wants}
 use Rattle.require_sys.specs.Requires.{method_ref_wants, name_wants, op_wants, resolved_wants, special_wants}
 use Rattle.require_sys.specs.declared.kept.KeptByRules.{KeptByRules}
-use Rattle.require_sys.proofs.Parts.{all_left}
 use Rattle.image_laws.specs.ShrunkImage.Keeping.{class_place, is_class_kept, is_member_kept}
 use Rattle.image_laws.specs.TakenSet.TakenSet.{IsTaken}
-use Rattle.image_laws.proofs.TakenSet.Rows.{none_left}
 use Rattle.removal_laws.proofs.RemovalImage.Links.{base_class, field_link, fields_of, is_taken, methods_of}
 use Rattle.removal_laws.proofs.RemovalImage.Wanted.{AllIn, CodeWants, In, base_kept, field_parts, found_kept, name_kept}
 use Rattle.removal_laws.proofs.RemovalSame.Codes.{called, field_stand, method_stand, no_class_array}
@@ -191,7 +190,7 @@ module _ (classes : List Class) (rules : KeptByRules) (marks : List Bool) (names
         → All (field_ref_wants classes n r) → field_kinds classes n method static written r ≡ []
         → new_refs.field_ref r ≡ Some (renamed_field_ref names r)
     field_ref_new method static written r good all none =
-        let links = (none_left (field_text_kinds classes n (read_field r.ty))
+        let links = (nil_parts (field_text_kinds classes n (read_field r.ty))
         (member_kinds (linked_field classes (Prog n) r) (used_kinds classes n method static written)) none).1 in
         let m = is_taken classes (Prog n) (linked_field classes (Prog n) r)
         (used_kinds classes n method static written) links in
@@ -222,7 +221,7 @@ module _ (classes : List Class) (rules : KeptByRules) (marks : List Bool) (names
         ++ special_wants classes n (class_of classes r) (callable classes (Prog n) (linked_method classes (Prog n) r)))
         → call_kinds classes n false r ≡ [] → new_refs.special_ref from r ≡ Some (renamed_method_ref names r)
     special_ref_new from r good own all none =
-        let parts = all_left (In classes rules marks new.closed) (method_ref_wants classes n r)
+        let parts = all_split (In classes rules marks new.closed) (method_ref_wants classes n r)
         (special_wants classes n (class_of classes r) (callable classes (Prog n) (linked_method classes (Prog n) r)))
         all in
         let c = called classes rules marks new.closed taken n false r parts.0 none in
@@ -268,19 +267,19 @@ module _ (classes : List Class) (rules : KeptByRules) (marks : List Bool) (names
         ap (option_map op.PutField) (field_ref_new method false true r good all none)
     op_new from method count own (op.InvokeVirtual r) good all none =
         ap (option_map op.InvokeVirtual)
-        (method_ref_new false r good.0 all (none_left (call_kinds classes n false r) (no_init_kinds r) none).0)
+        (method_ref_new false r good.0 all (nil_parts (call_kinds classes n false r) (no_init_kinds r) none).0)
     op_new from method count own (op.InvokeStatic r) good all none =
         ap (option_map op.InvokeStatic)
-        (method_ref_new true r good all (none_left (call_kinds classes n true r) (no_init_kinds r) none).0)
+        (method_ref_new true r good all (nil_parts (call_kinds classes n true r) (no_init_kinds r) none).0)
     op_new from method count own (op.InvokeInterface r) good all none =
         ap (option_map op.InvokeInterface)
-        (method_ref_new false r good.0 all (none_left (call_kinds classes n false r) (no_init_kinds r) none).0)
+        (method_ref_new false r good.0 all (nil_parts (call_kinds classes n false r) (no_init_kinds r) none).0)
     op_new from method count own (op.InvokeSpecial r) good all none =
         ap (option_map op.InvokeSpecial)
         (special_ref_new from r good own all
-        (none_left (call_kinds classes n false r) (special_class_kinds classes n r) none).0)
+        (nil_parts (call_kinds classes n false r) (special_class_kinds classes n r) none).0)
     op_new from method count own (op.New name) good all none =
-        ap (option_map op.New) (name_new_one name all (none_left (name_kinds classes n name) _ none).0)
+        ap (option_map op.New) (name_new_one name all (nil_parts (name_kinds classes n name) _ none).0)
     op_new from method count own (op.ANewArray ty) good all none =
         ap (option_map op.ANewArray) (type_new ty all none)
     op_new from method count own (op.CheckCast ty) good all none =
@@ -311,9 +310,9 @@ module _ (classes : List Class) (rules : KeptByRules) (marks : List Bool) (names
     instructions_new from method count own [] (y ∷ ys) zip good all none = absurd zip
     instructions_new from method count own (x ∷ xs) [] zip good all none = absurd zip
     instructions_new from method count own (x ∷ xs) (y ∷ ys) zip good all none =
-        let parts = all_left (In classes rules marks new.closed) (op_wants classes n x.op)
+        let parts = all_split (In classes rules marks new.closed) (op_wants classes n x.op)
         (flat_map (λ (x : Ins). op_wants classes n x.op) xs) all in
-        let nones = none_left (op_kinds classes n method x.op)
+        let nones = nil_parts (op_kinds classes n method x.op)
         (flat_map (λ (x : Ins). op_kinds classes n method x.op) xs) none in (
           record {
             op = op_new from method count own x.op good.0 parts.0 nones.0 ∙ ap (λ (o : Op). Some o) (sym zip.0.op);
@@ -327,9 +326,9 @@ module _ (classes : List Class) (rules : KeptByRules) (marks : List Bool) (names
         → AllZip (HandlerMap new_refs) xs (map (renamed_handler names) xs)
     handlers_new [] all none = tt
     handlers_new (x ∷ xs) all none =
-        let parts = all_left (In classes rules marks new.closed) (handler_wants classes x)
+        let parts = all_split (In classes rules marks new.closed) (handler_wants classes x)
         (flat_map (handler_wants classes) xs) all in
-        let nones = none_left (handler_kinds classes n x) (flat_map (handler_kinds classes n) xs) none in (
+        let nones = nil_parts (handler_kinds classes n x) (flat_map (handler_kinds classes n) xs) none in (
           record { places = (refl, refl, refl); caught = by x.caught parts.0 nones.0 },
           handlers_new xs parts.1 nones.1,
         )
@@ -347,9 +346,9 @@ module _ (classes : List Class) (rules : KeptByRules) (marks : List Bool) (names
         → CodeWants classes rules marks new.closed n code → code_kinds classes n method code ≡ []
         → CodeMap new_refs from code d
     code_new from method code d own renamed good wants none =
-        let nones = none_left (flat_map (λ (x : Ins). op_kinds classes n method x.op) code.ins
+        let nones = nil_parts (flat_map (λ (x : Ins). op_kinds classes n method x.op) code.ins
         ++ flat_map (handler_kinds classes n) code.handlers) (flat_map (frame_kinds classes n) code.frames) none in
-        let firsts = none_left (flat_map (λ (x : Ins). op_kinds classes n method x.op) code.ins)
+        let firsts = nil_parts (flat_map (λ (x : Ins). op_kinds classes n method x.op) code.ins)
         (flat_map (handler_kinds classes n) code.handlers) nones.0 in
         record {
           ins = instructions_new from method (length code.ins) own code.ins d.ins renamed.ins good wants.instructions

@@ -1,14 +1,16 @@
 -- What is left of a set finds its classes, and names types of classes that are there.
-use Rattle.std.proofs.Common.{◌≡◌, ℕ, ◌+◌, ◌||◌, not, Bool, true, false, List, [], ◌∷◌, ◌++◌}
+use Rattle.std.proofs.Common.{◌≡◌, ℕ, ◌+◌, ◌||◌, not, Bool, true, List, [], ◌∷◌, ◌++◌}
 use Rattle.std.proofs.Common.{length}
 use Rattle.std.proofs.Common.{Option, Some, None, slice_get, refl, sym, ap, subst, ◌∙◌, arith}
 use Rattle.std.specs.Prelude.{IfSome, is_some}
 use Rattle.std.specs.List.{AllByRecursion, cons_option, flat_map}
 use Rattle.std.specs.Option.{option_map, option_map_or}
 use Rattle.std.proofs.lemmas.Option.{slice_get_within}
+use Rattle.std.proofs.Math.Bool.{or-true}
 use Rattle.jv_base.specs.Types.{IsFieldType, IsMethodType}
 use Rattle.jv_base.specs.declared.types.Base.{Base}
 use Rattle.jv_base.specs.declared.types.FieldType.{FieldType}
+use Rattle.jv_base.proofs.Lists.{all_split, all_at, all_from, nil_parts}
 use Rattle.lib_table.specs.Lookups as table
 use Rattle.mark_core.specs.Marks.{Closed}
 use Rattle.class_model.specs.Flags.{is_interface, is_left_out_class, is_native}
@@ -33,13 +35,11 @@ use Rattle.member_shrink.specs.Shrunk.{is_marked, shrunk}
 use Rattle.require_sys.specs.Requires.{called_wants, initialisation_wants, requires, rule_wants, super_wants}
 use Rattle.require_sys.specs.declared.kept.KeptByRules.{KeptByRules}
 use Rattle.require_sys.proofs.Closing.{class_in, field_in}
-use Rattle.require_sys.proofs.Parts.{all_left}
 use Rattle.image_laws.specs.ShrunkImage.Keeping.{class_place, is_class_kept}
 use Rattle.image_laws.proofs.ShrunkImage.Classes.{f, kept_from, named_moved}
 use Rattle.image_laws.proofs.ShrunkImage.Kept.{as_filter}
 use Rattle.image_laws.specs.TakenSet.TakenSet.{IsTaken}
 use Rattle.image_laws.proofs.TakenSet.Names.{class_found, library_named}
-use Rattle.image_laws.proofs.TakenSet.Rows.{all_at, all_from, none_left}
 use Rattle.removal_laws.proofs.RemovalImage.Wanted.{In, wants_of_method}
 use Rattle.removal_laws.proofs.RemovalLinks.Instructions.{base_left, left, names_left, types_left}
 use Rattle.removal_laws.proofs.RemovalLinks.Left.{Stays, stays}
@@ -62,18 +62,14 @@ module _ (classes : List Class) (n : ℕ) where
       → AllByRecursion (λ name. is_some (class_named classes name) ≡ true) names
   names_there [] none = tt
   names_there (name ∷ names) none =
-      let parts = none_left (name_kinds classes n name) (flat_map (name_kinds classes n) names) none in
+      let parts = nil_parts (name_kinds classes n name) (flat_map (name_kinds classes n) names) none in
       (name_there name parts.0, names_there names parts.1)
 
   base_there : (ty : FieldType) (b : Base) → ty.base ≡ b → base_kinds classes n b ≡ []
       → IsKnownType (is_known classes) ty
   base_there ty b e none name same =
       let none_named : name_kinds classes n name ≡ [] = ap (base_kinds classes n) (sym same ∙ e) ∙ none in
-      ap (λ (t : Bool). is_library_name name || t) (name_there name none_named) ∙ or_true (is_library_name name)
-    where
-      or_true : (t : Bool) → (t || true) ≡ true
-      or_true true = refl
-      or_true false = refl
+      ap (λ (t : Bool). is_library_name name || t) (name_there name none_named) ∙ or-true (is_library_name name)
 
   type_there : (ty : FieldType) → base_kinds classes n ty.base ≡ [] → IsKnownType (is_known classes) ty
   type_there ty none = base_there ty ty.base refl none
@@ -82,7 +78,7 @@ module _ (classes : List Class) (n : ℕ) where
       → AllByRecursion (IsKnownType (is_known classes)) tys
   types_there [] none = tt
   types_there (ty ∷ tys) none =
-      let parts = none_left (type_kinds classes n ty) (flat_map (type_kinds classes n) tys) none in
+      let parts = nil_parts (type_kinds classes n ty) (flat_map (type_kinds classes n) tys) none in
       (type_there ty parts.0, types_there tys parts.1)
 
   method_there : (ret : Option FieldType) (args : List FieldType)
@@ -159,9 +155,9 @@ module _ (classes : List Class) (rules : KeptByRules) (marks : List Bool)
         let heads = left_out_at c.left_out None in
         let flags = unless (not (is_left_out_class c.flags.0)) LeftOutFlag in
         let supers = flat_map (name_kinds classes s.n) (c.super_name ∷ c.interfaces) in
-        let one = none_left (heads ++ flags ++ supers) (implementing_kinds classes s.n c) (right.class s.n c s.there) in
-        let two = none_left (heads ++ flags) supers one.0 in
-        let wants = (all_left (In classes rules marks closed) (super_wants classes c)
+        let one = nil_parts (heads ++ flags ++ supers) (implementing_kinds classes s.n c) (right.class s.n c s.there) in
+        let two = nil_parts (heads ++ flags) supers one.0 in
+        let wants = (all_split (In classes rules marks closed) (super_wants classes c)
         (initialisation_wants classes s.n ++ (rule_wants classes rules s.n ++ called_wants classes s.n c))
         (class_in classes rules (is_marked marks) closed s.n c s.there s.marked)).0 in
         subst (λ (x : Class). AllByRecursion (λ name. is_some (class_named out name) ≡ true)
@@ -177,7 +173,7 @@ module _ (classes : List Class) (rules : KeptByRules) (marks : List Bool)
         (ap (λ (t : List Field). slice_get t k)
         (sym (as_filter (is_marked marks) (λ k y. y) (class_item classes s.n + 1) c.fields)) ∙ there) in
         let here : slice_get c.fields o.k ≡ Some x = o.at ∙ ap (λ (z : Field). Some z) (sym o.is) in
-        let none = (none_left (left_out_at c.left_out (Some o.k)) (type_kinds classes s.n x.ty)
+        let none = (nil_parts (left_out_at c.left_out (Some o.k)) (type_kinds classes s.n x.ty)
         (right.field s.n c o.k x s.there here)).1 in
         let wants = (field_in classes rules (is_marked marks) closed s.n c s.there o.k x here o.passes).1 in
         let good = all_at (IsGoodField (is_interface c.flags.0)) c.fields o.k x
@@ -205,13 +201,13 @@ module _ (classes : List Class) (rules : KeptByRules) (marks : List Bool)
         let head = left_out_at c.left_out (Some (length c.fields + o.k)) in
         let native = unless (not (is_native m.flags.0)) LeftOutFlag in
         let head_kinds = declaration_kinds classes s.n c (length c.fields + o.k) m in
-        let one = none_left (head_kinds ++ body_kinds c m ++ overriding_kinds classes s.n old)
+        let one = nil_parts (head_kinds ++ body_kinds c m ++ overriding_kinds classes s.n old)
         (option_map_or (code_kinds classes s.n m.name) m.code []) (right.method s.n c o.k m s.there here) in
-        let two = none_left (head_kinds ++ body_kinds c m) (overriding_kinds classes s.n old) one.0 in
-        let three = none_left head_kinds (body_kinds c m) two.0 in
-        let four = none_left (head ++ native ++ method_type_kinds classes s.n m.ty)
+        let two = nil_parts (head_kinds ++ body_kinds c m) (overriding_kinds classes s.n old) one.0 in
+        let three = nil_parts head_kinds (body_kinds c m) two.0 in
+        let four = nil_parts (head ++ native ++ method_type_kinds classes s.n m.ty)
         (flat_map (name_kinds classes s.n) m.throws) three.0 in
-        let five = none_left (head ++ native) (method_type_kinds classes s.n m.ty) four.0 in
+        let five = nil_parts (head ++ native) (method_type_kinds classes s.n m.ty) four.0 in
         let types = types_left classes rules marks closed taken s.n s.own (cons_option m.ty.ret m.ty.args) wants.typed
         five.1 in
         let known = method_there out place m.ty.ret m.ty.args types in

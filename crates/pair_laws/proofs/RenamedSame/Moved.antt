@@ -1,10 +1,11 @@
 -- What is left of a set, under new names, is an image of the set.
-use Rattle.std.proofs.Common.{◌≡◌, ◌<◌, ℕ, zero, suc, Bool, true, false, cond, List, [], ◌∷◌, length, Option}
+use Rattle.std.proofs.Common.{◌≡◌, ℕ, Bool, true, false, cond, List, Option}
 use Rattle.std.proofs.Common.{Some, None}
-use Rattle.std.proofs.Common.{slice_get, refl, sym, ap, ◌∙◌, arith}
+use Rattle.std.proofs.Common.{slice_get, refl, sym, ap, ◌∙◌}
 use Rattle.std.specs.Prelude.{is_some}
-use Rattle.std.specs.Option.{option_map}
 use Rattle.std.proofs.lemmas.Option.{same_Some}
+use Rattle.std.specs.Option.{option_map}
+use Rattle.jv_base.proofs.Options.{some_there}
 use Rattle.lib_table.specs.Lookups as table
 use Rattle.class_model.specs.declared.class.Class.{Class}
 use Rattle.class_pool.specs.Found.{NameAndType, name_of, named_at, rows_in}
@@ -18,31 +19,24 @@ use Rattle.require_sys.specs.declared.kept.KeptByRules.{KeptByRules}
 use Rattle.image_laws.specs.SetImage.Image.{Image}
 use Rattle.set_view.specs.ViewOf.{key_at}
 use Rattle.image_laws.specs.ShrunkImage.Keeping.{class_place, is_class_kept, is_member_kept, member_place}
-use Rattle.image_laws.proofs.ShrunkImage.Classes.{class_at, class_marked, class_of_kept, class_there, f, member_there, name_same}
-use Rattle.image_laws.proofs.ShrunkImage.Classes.{row_same}
+use Rattle.image_laws.proofs.ShrunkImage.Classes.{class_at, class_marked, class_of_kept, class_there, f, member_there}
+use Rattle.image_laws.proofs.ShrunkImage.Classes.{name_same, row_same}
 use Rattle.image_laws.specs.TakenSet.TakenSet.{IsTaken}
 use Rattle.image_laws.proofs.TakenSet.LibraryRows.{library_name}
 use Rattle.removal_laws.proofs.RemovalImage.Marked.{image}
 use Rattle.pair_laws.specs.RenamedImage.Naming.{is_class_there, is_declared, is_member_there, new_named}
-use Rattle.pair_laws.specs.RenamedImage.Renaming.{FindsItsClasses, NamesKnownTypes, placed, placed_member, renamed_named}
+use Rattle.pair_laws.specs.RenamedImage.Renaming.{FindsItsClasses, NamesKnownTypes, placed, placed_member}
+use Rattle.pair_laws.specs.RenamedImage.Renaming.{renamed_named}
 use Rattle.pair_laws.proofs.RenamedImage.Join.{name_moved, named_moved, renamed_image}
 use Rattle.pair_laws.specs.RenamedSame.Laws.{IsLeftUnderNames}
 use Rattle.pair_laws.specs.RenamedSame.NewKeys.{new_key}
 use Rattle.pair_laws.proofs.RenamedSame.Composed.{composed}
 use Rattle.pair_laws.proofs.RenamedSame.Left.{class_left, found_left, types_known}
-
-element : {X : Type 0} (xs : List X) (i : ℕ) → i < length xs → is_some (slice_get xs i) ≡ true
-element [] i low = absurd (omega (arith, low))
-element (x ∷ xs) zero low = refl
-element (x ∷ xs) (suc i) low = element xs i (omega (arith, low))
+use Rattle.pair_laws.proofs.RenamedTaken.Placed.{element}
 
 some_mapped : {X Y : Type 0} (g : X → Y) (o : Option X) → is_some o ≡ true → is_some (option_map g o) ≡ true
 some_mapped g None h = absurd cc
 some_mapped g (Some x) h = refl
-
-some_of : {X : Type 0} (o : Option X) → is_some o ≡ true → (x : X) × (o ≡ Some x)
-some_of None h = absurd cc
-some_of (Some x) h = (x, refl)
 
 module _ (classes : List Class) (rules : KeptByRules) (marks : List Bool) (names : Names) (place : ℕ → ℕ)
     (out : List Class) (taken : IsTaken classes) (new : IsLeftUnderNames classes rules marks names place out) where
@@ -89,7 +83,7 @@ module _ (classes : List Class) (rules : KeptByRules) (marks : List Bool) (names
       by : (x : ClassId) → class_place classes marks (Prog n) ≡ x → is_class_there left x ≡ true
           → name_of out (placed place (class_place classes marks (Prog n))) ≡ names.class (name_of classes (Prog n))
       by (Prog t) e h =
-          let c = some_of (slice_get left t) h in
+          let c = some_there (slice_get left t) h in
           ap (λ (x : ClassId). name_of out (placed place x)) e
           ∙ name_moved names place left out left_found new.found left_known new.apart new.renamed t c.0 c.1
           ∙ ap names.class (ap (name_of left) (sym e) ∙ name_same classes marks (Prog n) k)

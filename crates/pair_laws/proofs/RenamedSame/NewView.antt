@@ -29,7 +29,8 @@ use Rattle.image_laws.specs.ViewImage.ImageView.{IsImageView, LikeDescriptors, c
 use Rattle.image_laws.proofs.ViewImage.Naming.{member_is}
 use Rattle.require_sys.specs.Requires.{code_wants}
 use Rattle.require_sys.specs.declared.kept.KeptByRules.{KeptByRules}
-use Rattle.image_laws.specs.ShrunkImage.Keeping.{class_place, is_class_kept, is_index_marked, is_member_kept, member_place}
+use Rattle.image_laws.specs.ShrunkImage.Keeping.{class_place, is_class_kept, is_index_marked, is_member_kept}
+use Rattle.image_laws.specs.ShrunkImage.Keeping.{member_place}
 use Rattle.image_laws.proofs.ShrunkImage.Classes.{class_of_kept, class_there, member_marked, member_there}
 use Rattle.image_laws.specs.TakenSet.TakenSet.{IsTaken}
 use Rattle.image_laws.proofs.TakenSet.Members.{own_declared}
@@ -48,7 +49,8 @@ use Rattle.pair_laws.specs.RenamedSame.Laws.{IsLeftUnderNames}
 use Rattle.pair_laws.specs.RenamedSame.NewCodes.{IsNewCode}
 use Rattle.pair_laws.proofs.RenamedSame.Codes.{class_new_name, code_new, image_of, new_names, new_refs}
 use Rattle.pair_laws.proofs.RenamedSame.Like.{field_like, method_like}
-use Rattle.pair_laws.proofs.RenamedSame.Moved.{class_new, given_is, keeps_member, left, left_found, left_known, name_new}
+use Rattle.pair_laws.proofs.RenamedSame.Moved.{class_new, given_is, keeps_member, left, left_found, left_known}
+use Rattle.pair_laws.proofs.RenamedSame.Moved.{name_new}
 use Rattle.pair_laws.proofs.RenamedSame.Told.{code_told, constant_told}
 
 module _ (classes : List Class) (rules : KeptByRules) (marks : List Bool) (names : Names) (place : ℕ → ℕ)

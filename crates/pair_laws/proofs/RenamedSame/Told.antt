@@ -1,10 +1,11 @@
 -- Codes and constants stay with their members, under new names.
-use Rattle.std.proofs.Common.{◌≡◌, ℕ, zero, suc, true, List, [], ◌∷◌, ◌++◌, map, Option, Some, None, slice_get}
+use Rattle.std.proofs.Common.{◌≡◌, ℕ, zero, suc, true, List, [], ◌∷◌, ◌++◌, map, Option, None, slice_get}
 use Rattle.std.proofs.Common.{refl}
 use Rattle.std.proofs.Common.{sym, ap, subst, ◌∙◌}
-use Rattle.std.specs.Prelude.{is_some}
 use Rattle.std.specs.List.{AllZip}
 use Rattle.std.specs.Option.{option_and_then}
+use Rattle.removal_laws.proofs.RemovalSame.Told.{told_of}
+use Rattle.jv_base.proofs.Options.{some_there}
 use Rattle.class_model.specs.declared.class.Class.{Class}
 use Rattle.class_model.specs.declared.class.Constant.{Constant}
 use Rattle.class_model.specs.declared.class.Field.{Field}
@@ -20,19 +21,11 @@ use Rattle.pair_laws.specs.RenamedImage.Naming.{is_class_there}
 use Rattle.pair_laws.specs.RenamedImage.Renaming.{IsNewField, IsRenamedSet, placed, placed_member}
 use Rattle.pair_laws.specs.RenamedSame.NewCodes.{HasNewCode, HasNewCodes, IsNewCode}
 
--- what is told of a member of a class
-abbrev told_of : {A : Type 0} → (Field → Option A) → (Method → Option A) → ℕ → Class → Option A
-told_of g h k c = option_and_then (λ x. x) (slice_get (map g c.fields ++ map h c.methods) k)
-
 abbrev its_code : ℕ → Class → Option Code
 its_code k c = told_of (λ f. None) (λ m. m.code) k c
 
 abbrev its_constant : ℕ → Class → Option Constant
 its_constant k c = told_of (λ f. f.constant) (λ m. None) k c
-
-some_of : {X : Type 0} (o : Option X) → is_some o ≡ true → (x : X) × (o ≡ Some x)
-some_of None h = absurd cc
-some_of (Some x) h = (x, refl)
 
 none_told : (ns : List Method) (k : ℕ)
     → option_and_then (λ (x : Option Constant). x) (slice_get (map (λ (n : Method). None) ns) k) ≡ None
@@ -83,7 +76,7 @@ module _ (names : Names) where
             (code_at ys (record { class = placed place x; index = k }))
         by (Lib id) k h = refl
         by (Prog n) k h =
-            let c = some_of (slice_get xs n) h in
+            let c = some_there (slice_get xs n) h in
             let d = new n c.0 c.1 in
             subst (λ (o : Option Class). OptionCorr (IsNewCode names) (option_and_then (its_code k) o)
             (option_and_then (its_code k) (slice_get ys (place n)))) (sym c.1)
@@ -100,7 +93,7 @@ module _ (names : Names) where
             ≡ constant_at xs (record { class = x; index = k })
         by (Lib id) k h = refl
         by (Prog n) k h =
-            let c = some_of (slice_get xs n) h in
+            let c = some_there (slice_get xs n) h in
             let d = new n c.0 c.1 in
             ap (option_and_then (its_constant k)) d.1
             ∙ constants_of c.0.fields d.0.fields d.2.fields c.0.methods d.0.methods k

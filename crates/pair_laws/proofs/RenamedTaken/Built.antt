@@ -12,6 +12,7 @@ use Rattle.std.proofs.lemmas.Option.{slice_get-map, slice_get_within}
 use Rattle.jv_base.specs.Names.{is_text}
 use Rattle.jv_base.specs.declared.outcome.Or.TheVariants.{Fault}
 use Rattle.jv_base.proofs.Equality.{text_Decides}
+use Rattle.jv_base.proofs.Lists.{all_at}
 use Rattle.class_model.specs.Flags.{is_interface}
 use Rattle.class_model.specs.declared.class.Class.{Class}
 use Rattle.lib_table.specs.declared.class.LibKind.{LibKind}
@@ -29,7 +30,6 @@ use Rattle.class_pool.specs.declared.id.ClassId.TheVariants.{Prog, Lib}
 use Rattle.class_pool.proofs.CycleLaws.{first_are, none_cyclic}
 use Rattle.removal_laws.proofs.RemovalBuilds.LeftLists.{none_of_each, none_there}
 use Rattle.image_laws.proofs.TakenSet.Proper.{names_right}
-use Rattle.image_laws.proofs.TakenSet.Rows.{all_at}
 use Rattle.class_rename.specs.Names.{Names}
 use Rattle.class_rename.specs.Renamed.{renamed, renamed_field, renamed_method}
 use Rattle.pair_laws.specs.RenamedImage.Renaming.{placed}

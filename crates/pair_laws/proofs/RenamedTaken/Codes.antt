@@ -7,6 +7,7 @@ use Rattle.std.specs.List.{AllByRecursion, flat_map}
 use Rattle.std.specs.Option.{option_map, option_map_or}
 use Rattle.std.proofs.lemmas.List.{map-append}
 use Rattle.jv_base.specs.Names.{is_text}
+use Rattle.jv_base.proofs.Lists.{nil_parts, nil_joined}
 use Rattle.class_model.specs.WellFormed.{IsGoodCode, IsGoodOp}
 use Rattle.class_model.specs.declared.class.Class.{Class}
 use Rattle.class_model.specs.declared.code.Code.{Code}
@@ -21,17 +22,14 @@ use Rattle.class_model.specs.declared.op.Op.TheVariants as op
 use Rattle.class_pool.specs.declared.id.ClassId.TheVariants.{Prog}
 use Rattle.link_check.specs.Profile.{call_kinds, code_kinds, frame_kinds, handler_kinds, no_init_kinds, op_kinds}
 use Rattle.link_check.specs.Profile.{special_class_kinds, verification_kinds}
-use Rattle.image_laws.proofs.TakenSet.Rows.{none_left}
 use Rattle.class_rename.specs.Names.{Names}
 use Rattle.class_rename.specs.Renamed.{renamed_code, renamed_frame, renamed_handler, renamed_ins, renamed_method_ref}
 use Rattle.class_rename.specs.Renamed.{renamed_op, renamed_vtype}
 use Rattle.pair_laws.specs.RenamedImage.Naming.{is_class_there}
 use Rattle.pair_laws.proofs.RenamedTaken.Placed.{IsPlaced}
-use Rattle.pair_laws.proofs.RenamedTaken.References.{call_right, field_right, new_right, special_right, then_no_init, writer}
+use Rattle.pair_laws.proofs.RenamedTaken.References.{call_right, field_right, new_right, special_right, then_no_init}
+use Rattle.pair_laws.proofs.RenamedTaken.References.{writer}
 use Rattle.pair_laws.proofs.RenamedTaken.Types.{base_right, caught_right}
-
-pub joined : {X : Type 0} (xs ys : List X) → xs ≡ [] → ys ≡ [] → xs ++ ys ≡ []
-joined {X} xs ys h k = ap (λ (t : List X). t ++ ys) h ∙ k
 
 module _ (names : Names) (place back : ℕ → ℕ) (xs ys : List Class) (h : IsPlaced names place back xs ys) (n : ℕ)
     (own : is_class_there xs (Prog n) ≡ true) where
@@ -46,8 +44,8 @@ module _ (names : Names) (place back : ℕ → ℕ) (xs ys : List Class) (h : Is
       → flat_map (verification_kinds ys (place n)) (map (renamed_vtype names) vs) ≡ []
   types_right [] none = refl
   types_right (v ∷ vs) none =
-      let nones = none_left (verification_kinds xs n v) (flat_map (verification_kinds xs n) vs) none in
-      joined (verification_kinds ys (place n) (renamed_vtype names v))
+      let nones = nil_parts (verification_kinds xs n v) (flat_map (verification_kinds xs n) vs) none in
+      nil_joined (verification_kinds ys (place n) (renamed_vtype names v))
       (flat_map (verification_kinds ys (place n)) (map (renamed_vtype names) vs))
       (type_right v nones.0) (types_right vs nones.1)
 
@@ -55,8 +53,8 @@ module _ (names : Names) (place back : ℕ → ℕ) (xs ys : List Class) (h : Is
       → flat_map (frame_kinds ys (place n)) (map (renamed_frame names) fs) ≡ []
   frames_right [] none = refl
   frames_right (f ∷ fs) none =
-      let nones = none_left (frame_kinds xs n f) (flat_map (frame_kinds xs n) fs) none in
-      joined (frame_kinds ys (place n) (renamed_frame names f))
+      let nones = nil_parts (frame_kinds xs n f) (flat_map (frame_kinds xs n) fs) none in
+      nil_joined (frame_kinds ys (place n) (renamed_frame names f))
       (flat_map (frame_kinds ys (place n)) (map (renamed_frame names) fs))
       (ap (flat_map (verification_kinds ys (place n)))
       (sym (map-append (renamed_vtype names) f.frame.locals f.frame.stack))
@@ -69,8 +67,8 @@ module _ (names : Names) (place back : ℕ → ℕ) (xs ys : List Class) (h : Is
       → flat_map (handler_kinds ys (place n)) (map (renamed_handler names) gs) ≡ []
   handlers_right [] none = refl
   handlers_right (g ∷ gs) none =
-      let nones = none_left (handler_kinds xs n g) (flat_map (handler_kinds xs n) gs) none in
-      joined (handler_kinds ys (place n) (renamed_handler names g))
+      let nones = nil_parts (handler_kinds xs n g) (flat_map (handler_kinds xs n) gs) none in
+      nil_joined (handler_kinds ys (place n) (renamed_handler names g))
       (flat_map (handler_kinds ys (place n)) (map (renamed_handler names) gs))
       (caught_right names place back xs ys h n own g.caught nones.0) (handlers_right gs nones.1)
 
@@ -83,7 +81,7 @@ module _ (names : Names) (place back : ℕ → ℕ) (xs ys : List Class) (h : Is
   called_right static r none step =
       then_no_init names place back xs ys h n own r (call_kinds xs n static r)
       (call_kinds ys (place n) static (renamed_method_ref names r))
-      (step (none_left (call_kinds xs n static r) (no_init_kinds r) none).0) none
+      (step (nil_parts (call_kinds xs n static r) (no_init_kinds r) none).0) none
 
   -- in a method whose new name initialises a class or an object where its old one did
   module _ (method new_method : List ℕ)
@@ -105,8 +103,8 @@ module _ (names : Names) (place back : ℕ → ℕ) (xs ys : List Class) (h : Is
     op_right count (op.InvokeInterface r) good none =
         called_right false r none (call_right names place back xs ys h n own false r good.0)
     op_right count (op.InvokeSpecial r) good none =
-        let nones = none_left (call_kinds xs n false r) (special_class_kinds xs n r) none in
-        joined (call_kinds ys (place n) false (renamed_method_ref names r))
+        let nones = nil_parts (call_kinds xs n false r) (special_class_kinds xs n r) none in
+        nil_joined (call_kinds ys (place n) false (renamed_method_ref names r))
         (special_class_kinds ys (place n) (renamed_method_ref names r))
         (call_right names place back xs ys h n own false r good nones.0)
         (special_right names place back xs ys h n own r good nones.1)
@@ -122,9 +120,9 @@ module _ (names : Names) (place back : ℕ → ℕ) (xs ys : List Class) (h : Is
         → flat_map (λ (x : Ins). op_kinds ys (place n) new_method x.op) (map (renamed_ins names) is) ≡ []
     ops_right count [] good none = refl
     ops_right count (x ∷ is) good none =
-        let nones = none_left (op_kinds xs n method x.op) (flat_map (λ (x : Ins). op_kinds xs n method x.op) is)
+        let nones = nil_parts (op_kinds xs n method x.op) (flat_map (λ (x : Ins). op_kinds xs n method x.op) is)
         none in
-        joined (op_kinds ys (place n) new_method (renamed_op names x.op))
+        nil_joined (op_kinds ys (place n) new_method (renamed_op names x.op))
         (flat_map (λ (x : Ins). op_kinds ys (place n) new_method x.op) (map (renamed_ins names) is))
         (op_right count x.op good.0 nones.0) (ops_right count is good.1 nones.1)
 
@@ -137,12 +135,12 @@ module _ (names : Names) (place back : ℕ → ℕ) (xs ys : List Class) (h : Is
         let ops = flat_map (λ (x : Ins). op_kinds xs n method x.op) code.ins in
         let handlers = flat_map (handler_kinds xs n) code.handlers in
         let frames = flat_map (frame_kinds xs n) code.frames in
-        let nones = none_left (ops ++ handlers) frames none in
-        let firsts = none_left ops handlers nones.0 in
+        let nones = nil_parts (ops ++ handlers) frames none in
+        let firsts = nil_parts ops handlers nones.0 in
         let new_ops =
         flat_map (λ (x : Ins). op_kinds ys (place n) new_method x.op) (map (renamed_ins names) code.ins) in
         let new_handlers = flat_map (handler_kinds ys (place n)) (map (renamed_handler names) code.handlers) in
         let new_frames = flat_map (frame_kinds ys (place n)) (map (renamed_frame names) code.frames) in
-        joined (new_ops ++ new_handlers) new_frames
-        (joined new_ops new_handlers (ops_right (length code.ins) code.ins good.instructions firsts.0)
+        nil_joined (new_ops ++ new_handlers) new_frames
+        (nil_joined new_ops new_handlers (ops_right (length code.ins) code.ins good.instructions firsts.0)
         (handlers_right code.handlers firsts.1)) (frames_right code.frames nones.1)

@@ -4,13 +4,13 @@ use Rattle.std.proofs.Common.{sym, ap, subst, ◌∙◌, inl}
 use Rattle.std.specs.List.{AllByRecursion}
 use Rattle.std.specs.Option.{option_map_or}
 use Rattle.jv_base.specs.Types.{IsFieldType, IsMethodType, method_text}
+use Rattle.jv_base.proofs.Lists.{all_from}
 use Rattle.class_model.specs.WellFormed.{IsWellFormed}
 use Rattle.class_model.specs.declared.class.Class.{Class}
 use Rattle.class_model.specs.declared.class.Field.{Field}
 use Rattle.class_model.specs.declared.class.Method.{Method}
 use Rattle.class_pool.specs.Found.{MemberRow, field_row, method_row, rows_in}
 use Rattle.class_pool.specs.declared.id.ClassId.TheVariants.{Prog}
-use Rattle.image_laws.proofs.TakenSet.Rows.{all_from}
 use Rattle.class_rename.specs.Names.{Names}
 use Rattle.pair_laws.specs.RenamedForm.Form.{IsKnownMethodType, IsKnownType, TellsApart}
 use Rattle.pair_laws.proofs.RenamedForm.Apart.{kept_apart}

@@ -7,6 +7,8 @@ use Rattle.std.specs.List.{AllByRecursion, enumerate_from, filter, flat_map, lis
 use Rattle.std.specs.Option.{option_map, option_map_or}
 use Rattle.std.proofs.lemmas.Bool.{and_parts}
 use Rattle.std.proofs.lemmas.Option.{slice_get_within}
+use Rattle.removal_laws.proofs.RemovalLinks.Implementing.{more_any}
+use Rattle.jv_base.proofs.Lists.{nil_parts}
 use Rattle.class_model.specs.Flags.{acc_abstract, acc_final, acc_interface, has}
 use Rattle.class_model.specs.declared.class.Class.{Class}
 use Rattle.lib_table.specs.declared.class.LibKind.TheVariants.{Open}
@@ -21,6 +23,7 @@ use Rattle.class_pool.specs.declared.id.ClassId.{ClassId}
 use Rattle.class_pool.specs.declared.id.ClassId.TheVariants.{Prog, Lib}
 use Rattle.class_pool.specs.declared.id.MemberAt.{MemberAt}
 use Rattle.class_pool.proofs.EachOnce.{same_itself}
+use Rattle.class_pool.proofs.ObjectLaws.{interface_flag}
 use Rattle.link_check.specs.Links.{is_callable_role}
 use Rattle.link_check.specs.Profile.{implementing_kinds, methods_of, selected_kinds, unless}
 use Rattle.link_check.specs.declared.fault.ProfileKind.{ProfileKind}
@@ -29,7 +32,6 @@ use Rattle.image_laws.specs.SetImage.Image.{Image}
 use Rattle.image_laws.proofs.SetImage.Selecting.{selected_moved}
 use Rattle.image_laws.proofs.SetImage.Walks.{superinterfaces_kept, superinterfaces_moved}
 use Rattle.image_laws.proofs.TakenSet.Proper.{is_proper, open_interfaces}
-use Rattle.image_laws.proofs.TakenSet.Rows.{interface_flag, none_left}
 use Rattle.class_rename.specs.Names.{Names}
 use Rattle.class_rename.specs.Renamed.{renamed}
 use Rattle.pair_laws.specs.RenamedImage.Naming.{is_class_there, is_member_there}
@@ -40,14 +42,6 @@ use Rattle.pair_laws.proofs.RenamedTaken.Placed.{IsPlaced, is_renamed, selected_
 use Rattle.pair_laws.proofs.RenamedTaken.References.{role_same}
 
 -- ---- each class of a list is one of it
-
-or_true : (b : Bool) → (b || true) ≡ true
-or_true true = refl
-or_true false = refl
-
-more_any : (x c : ClassId) (cs : List ClassId) → list_any (same_class x) cs ≡ true
-    → list_any (same_class x) (c ∷ cs) ≡ true
-more_any x c cs h = ap (λ (t : Bool). same_class x c || t) h ∙ or_true (same_class x c)
 
 -- where each class of a list is in a longer one
 among : (cs all : List ClassId) → ((x : ClassId) → list_any (same_class x) cs ≡ true
@@ -126,7 +120,8 @@ module _ (names : Names) (place back : ℕ → ℕ) (xs ys : List Class) (h : Is
   methods_moved (Prog n) k =
       ap (λ (rows : List MemberRow). filter (is_instance_method ys)
       (map (λ (e : ℕ × MemberRow). at_index (Prog (place n)) e.0) (enumerate_from 0 rows)))
-      (rows_moved names place xs ys h.found h.found_new h.known h.apart (is_renamed names place back xs ys h) (Prog n) k)
+      (rows_moved names place xs ys h.found h.found_new h.known h.apart (is_renamed names place back xs ys h)
+      (Prog n) k)
       ∙ numbered_moved (Prog n) 0 (rows_in xs (Prog n)) (λ j row at.
       let plain : j ≡ 0 + j = omega arith in
       i.instance_moved (at_index (Prog n) (0 + j))
@@ -189,7 +184,7 @@ module _ (names : Names) (place back : ℕ → ℕ) (xs ys : List Class) (h : Is
         → flat_map (selected_kinds ys (place n)) (map (placed_member place) ms) ≡ []
     some_right of_class x below [] all none = refl
     some_right of_class x below (m ∷ ms) all none =
-        let nones = none_left (selected_kinds xs n m) (flat_map (selected_kinds xs n) ms) none in
+        let nones = nil_parts (selected_kinds xs n m) (flat_map (selected_kinds xs n) ms) none in
         ap (λ (t : List ProfileKind). t ++ flat_map (selected_kinds ys (place n)) (map (placed_member place) ms))
         (one_right of_class m (ap (is_below xs (Prog n)) all.0.0 ∙ below) all.0.1 nones.0)
         ∙ some_right of_class x below ms all.1 nones.1
@@ -201,7 +196,7 @@ module _ (names : Names) (place back : ℕ → ℕ) (xs ys : List Class) (h : Is
         → flat_map (λ x. flat_map (selected_kinds ys (place n)) (methods_of ys x)) (map (placed place) cs) ≡ []
     each_right of_class [] there below none = refl
     each_right of_class (x ∷ cs) there below none =
-        let nones = none_left (flat_map (selected_kinds xs n) (methods_of xs x))
+        let nones = nil_parts (flat_map (selected_kinds xs n) (methods_of xs x))
         (flat_map (λ x. flat_map (selected_kinds xs n) (methods_of xs x)) cs) none in
         let rest = flat_map (λ x. flat_map (selected_kinds ys (place n)) (methods_of ys x)) (map (placed place) cs) in
         ap (λ (ms : List MemberAt). flat_map (selected_kinds ys (place n)) ms ++ rest) (methods_moved x there.0)

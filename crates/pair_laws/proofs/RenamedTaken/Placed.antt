@@ -24,7 +24,8 @@ use Rattle.class_rename.specs.Renamed.{renamed, renamed_field, renamed_method}
 use Rattle.pair_laws.specs.RenamedForm.Form.{KeepsForm}
 use Rattle.pair_laws.specs.RenamedImage.Naming.{is_class_there, is_declared, is_member_there, new_named}
 use Rattle.pair_laws.specs.RenamedImage.Renaming.{FindsItsClasses, IsNewClass, IsNewField, IsNewMethod, IsRenamedSet}
-use Rattle.pair_laws.specs.RenamedImage.Renaming.{KeepsNamesApart, NamesKnownTypes, placed, placed_member, renamed_named}
+use Rattle.pair_laws.specs.RenamedImage.Renaming.{KeepsNamesApart, NamesKnownTypes, placed, placed_member}
+use Rattle.pair_laws.specs.RenamedImage.Renaming.{renamed_named}
 use Rattle.pair_laws.proofs.RenamedImage.Join.{named_moved, renamed_image, some_there}
 
 -- what is known of the set, its new names and its places
@@ -86,7 +87,7 @@ was_at names place back xs ys at from j d is =
       is = sym (same_Some (renamed names c) d same);
     }
 
-element : {X : Type 0} (xs : List X) (i : ℕ) → i < length xs → is_some (slice_get xs i) ≡ true
+pub element : {X : Type 0} (xs : List X) (i : ℕ) → i < length xs → is_some (slice_get xs i) ≡ true
 element [] i low = absurd (omega (arith, low))
 element (x ∷ xs) zero low = refl
 element (x ∷ xs) (suc i) low = element xs i (omega (arith, low))

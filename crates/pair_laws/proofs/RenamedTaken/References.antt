@@ -8,6 +8,7 @@ use Rattle.jv_base.specs.Descriptors.{read_field, read_method}
 use Rattle.jv_base.specs.Names.{is_text}
 use Rattle.jv_base.specs.declared.types.Base.{Base}
 use Rattle.jv_base.specs.declared.types.Base.TheVariants as base
+use Rattle.jv_base.proofs.Lists.{nil_parts}
 use Rattle.class_model.specs.Flags.{acc_abstract, acc_final, acc_static, has, is_init}
 use Rattle.class_model.specs.WellFormed.{IsFieldReference, IsMethodReference}
 use Rattle.class_model.specs.declared.class.Class.{Class}
@@ -33,7 +34,6 @@ use Rattle.image_laws.proofs.SetImage.Access.{class_accessible_moved, class_belo
 use Rattle.image_laws.proofs.SetImage.Finding.{field_moved, method_moved}
 use Rattle.image_laws.proofs.ViewImage.Standing.{Stands, field_stands, method_stands}
 use Rattle.image_laws.proofs.TakenSet.Proper.{is_proper}
-use Rattle.image_laws.proofs.TakenSet.Rows.{none_left}
 use Rattle.removal_laws.proofs.RemovalImage.Links.{base_class, field_from, field_link, method_from, method_link}
 use Rattle.class_rename.specs.Names.{Names}
 use Rattle.class_rename.specs.Renamed.{renamed, renamed_base, renamed_field_ref, renamed_field_text}
@@ -224,7 +224,7 @@ module _ (names : Names) (place back : ℕ → ℕ) (xs ys : List Class) (h : Is
           → field_kinds xs n method static written r ≡ []
           → field_kinds ys (place n) new_method static written (renamed_field_ref names r) ≡ []
       field_right static written r good none =
-          let nones = none_left (field_text_kinds xs n (read_field r.ty))
+          let nones = nil_parts (field_text_kinds xs n (read_field r.ty))
           (member_kinds (linked_field xs (Prog n) r) (used_kinds xs n method static written)) none in
           ap (λ (t : List ProfileKind). t
           ++ member_kinds (linked_field ys (Prog (place n)) (renamed_field_ref names r))
@@ -238,10 +238,10 @@ module _ (names : Names) (place back : ℕ → ℕ) (xs ys : List Class) (h : Is
     pub call_right : (static : Bool) (r : MemberRef) → IsMethodReference r → call_kinds xs n static r ≡ []
         → call_kinds ys (place n) static (renamed_method_ref names r) ≡ []
     call_right static r good none =
-        let nones = none_left (method_text_kinds xs n (read_method r.ty)
+        let nones = nil_parts (method_text_kinds xs n (read_method r.ty)
         ++ unless (not (is_text r.name (codes "<clinit>"))) WrongKind)
         (member_kinds (linked_method xs (Prog n) r) (static_kinds xs static)) none in
-        let firsts = none_left (method_text_kinds xs n (read_method r.ty))
+        let firsts = nil_parts (method_text_kinds xs n (read_method r.ty))
         (unless (not (is_text r.name (codes "<clinit>"))) WrongKind) nones.0 in
         let last = member_kinds (linked_method ys (Prog (place n)) (renamed_method_ref names r))
         (static_kinds ys static) in
@@ -287,7 +287,7 @@ module _ (names : Names) (place back : ℕ → ℕ) (xs ys : List Class) (h : Is
 
     pub new_right : (name : List ℕ) → new_kinds xs n name ≡ [] → new_kinds ys (place n) (names.class name) ≡ []
     new_right name none =
-        let nones = none_left (name_kinds xs n name) (option_map_or (made_kinds xs) (class_named xs name) []) none in
+        let nones = nil_parts (name_kinds xs n name) (option_map_or (made_kinds xs) (class_named xs name) []) none in
         ap (λ (t : List ProfileKind). t ++ option_map_or (made_kinds ys) (class_named ys (names.class name)) [])
         (name_right names place back xs ys h n own name nones.0)
         ∙ by (class_named xs name) refl nones.0 nones.1
@@ -309,4 +309,4 @@ module _ (names : Names) (place back : ℕ → ℕ) (xs ys : List Class) (h : Is
     then_no_init r kinds others e none =
         ap (λ (t : List ProfileKind). t ++ no_init_kinds (renamed_method_ref names r)) e
         ∙ ap (λ (t : Bool). unless (not t) WrongKind) (h.form.init r.name r.ty)
-        ∙ (none_left kinds (no_init_kinds r) none).1
+        ∙ (nil_parts kinds (no_init_kinds r) none).1

@@ -1,6 +1,6 @@
 -- Classes under new names break no rule for links: at each place of a class, a field and a method.
 use Rattle.std.proofs.Common.{◌≡◌, ℕ, ◌+◌, not, ◌||◌, Bool, true, false, List, [], ◌∷◌, ◌++◌, length, map, Option, Some}
-use Rattle.std.proofs.Common.{None, slice_get, zero, suc, refl, sym, ap, subst, ◌∙◌, arith}
+use Rattle.std.proofs.Common.{None, slice_get, zero, suc, sym, ap, subst, ◌∙◌, arith}
 use Rattle.std.specs.Prelude.{is_some}
 use Rattle.std.specs.List.{flat_map}
 use Rattle.std.specs.Option.{option_map, option_map_or}
@@ -8,6 +8,7 @@ use Rattle.std.proofs.lemmas.List.{length-map}
 use Rattle.std.proofs.lemmas.Option.{same_Some, slice_get-map, slice_get_within}
 use Rattle.jv_base.specs.Names.{is_text}
 use Rattle.jv_base.specs.Types.{method_text}
+use Rattle.jv_base.proofs.Lists.{all_at, mapped_from, nil_parts, nil_joined}
 use Rattle.class_model.specs.Flags.{acc_abstract, has, is_interface, is_left_out_class, is_native}
 use Rattle.class_model.specs.WellFormed.{IsGoodMethod}
 use Rattle.class_model.specs.declared.class.Class.{Class}
@@ -23,26 +24,15 @@ use Rattle.link_check.specs.Taken.{BreaksNoRule}
 use Rattle.link_check.specs.declared.fault.ProfileKind.TheVariants.{LeftOutFlag, LeftOutMember}
 use Rattle.link_check.proofs.Taken.{links_taken}
 use Rattle.image_laws.proofs.TakenSet.Proper.{is_proper}
-use Rattle.image_laws.proofs.TakenSet.Rows.{all_at, none_left}
 use Rattle.class_rename.specs.Names.{Names}
 use Rattle.class_rename.specs.Renamed.{renamed, renamed_field, renamed_method, renamed_type}
 use Rattle.pair_laws.specs.RenamedImage.Naming.{is_class_there, is_member_there}
-use Rattle.pair_laws.proofs.RenamedTaken.Codes.{code_right, joined}
+use Rattle.pair_laws.proofs.RenamedTaken.Codes.{code_right}
 use Rattle.pair_laws.proofs.RenamedTaken.Implementing.{implementing_right}
 use Rattle.image_laws.proofs.TakenSet.Overriding.{overriding_right}
 use Rattle.pair_laws.proofs.RenamedTaken.Placed.{IsPlaced, i, selected_there, was}
 use Rattle.pair_laws.proofs.RenamedTaken.References.{role_same, writer}
 use Rattle.pair_laws.proofs.RenamedTaken.Types.{base_right, names_right, signature_right}
-
--- what stands in a list of what others have become is what one of them has become
-pub gone : {X Y : Type 0} (f : X → Y) (xs : List X) (k : ℕ) (y : Y) → slice_get (map f xs) k ≡ Some y
-    → (x : X) × (slice_get xs k ≡ Some x) × (y ≡ f x)
-gone {X} {Y} f xs k y is = by (slice_get xs k) refl (sym (slice_get-map f xs k) ∙ is)
-  where
-    by : (o : Option X) → slice_get xs k ≡ o → option_map f o ≡ Some y
-        → (x : X) × (slice_get xs k ≡ Some x) × (y ≡ f x)
-    by None at e = absurd cc
-    by (Some x) at e = (x, at, sym (same_Some (f x) y e))
 
 -- the row of a field, and behind those of the fields that of a method
 pub field_row_there : (fs : List Field) (ms : List Method) (k : ℕ) (f : Field) → slice_get fs k ≡ Some f
@@ -79,19 +69,19 @@ module _ (names : Names) (place back : ℕ → ℕ) (xs ys : List Class) (h : Is
         let heads = left_out_at c.left_out None in
         let flags = unless (not (is_left_out_class c.flags.0)) LeftOutFlag in
         let supers = flat_map (name_kinds xs n) (c.super_name ∷ c.interfaces) in
-        let one = none_left (heads ++ flags ++ supers) (implementing_kinds xs n c) (right.class n c is) in
-        let two = none_left (heads ++ flags) supers one.0 in
+        let one = nil_parts (heads ++ flags ++ supers) (implementing_kinds xs n c) (right.class n c is) in
+        let two = nil_parts (heads ++ flags) supers one.0 in
         let new_supers = flat_map (name_kinds ys (place n)) (map names.class (c.super_name ∷ c.interfaces)) in
-        joined (heads ++ flags ++ new_supers) (implementing_kinds ys (place n) (renamed names c))
-        (joined (heads ++ flags) new_supers two.0
+        nil_joined (heads ++ flags ++ new_supers) (implementing_kinds ys (place n) (renamed names c))
+        (nil_joined (heads ++ flags) new_supers two.0
         (names_right names place back xs ys h n own (c.super_name ∷ c.interfaces) two.1))
         (implementing_right names place back xs ys h n c is one.1)
 
     field_right : (k : ℕ) (f : Field) → slice_get c.fields k ≡ Some f
         → kinds_of_field ys (place n) (renamed names c) k (renamed_field names f) ≡ []
     field_right k f at =
-        let none = (none_left (left_out_at c.left_out (Some k)) (type_kinds xs n f.ty) (right.field n c k f is at)).1 in
-        joined (left_out_at c.left_out (Some k)) (type_kinds ys (place n) (renamed_type names f.ty))
+        let none = (nil_parts (left_out_at c.left_out (Some k)) (type_kinds xs n f.ty) (right.field n c k f is at)).1 in
+        nil_joined (left_out_at c.left_out (Some k)) (type_kinds ys (place n) (renamed_type names f.ty))
         (not_left_out (Some k)) (base_right names place back xs ys h n own f.ty.base none)
 
     method_right : (k : ℕ) (m : Method) → slice_get c.methods k ≡ Some m
@@ -106,23 +96,23 @@ module _ (names : Names) (place back : ℕ → ℕ) (xs ys : List Class) (h : Is
         let head = left_out_at c.left_out (Some (length c.fields + k)) in
         let native = unless (not (is_native m.flags.0)) LeftOutFlag in
         let declared = declaration_kinds xs n c (length c.fields + k) m in
-        let one = none_left (declared ++ body_kinds c m ++ overriding_kinds xs n old)
+        let one = nil_parts (declared ++ body_kinds c m ++ overriding_kinds xs n old)
         (option_map_or (code_kinds xs n m.name) m.code []) (right.method n c k m is at) in
-        let two = none_left (declared ++ body_kinds c m) (overriding_kinds xs n old) one.0 in
-        let three = none_left declared (body_kinds c m) two.0 in
-        let four = none_left (head ++ native ++ method_type_kinds xs n m.ty) (flat_map (name_kinds xs n) m.throws)
+        let two = nil_parts (declared ++ body_kinds c m) (overriding_kinds xs n old) one.0 in
+        let three = nil_parts declared (body_kinds c m) two.0 in
+        let four = nil_parts (head ++ native ++ method_type_kinds xs n m.ty) (flat_map (name_kinds xs n) m.throws)
         three.0 in
-        let five = none_left (head ++ native) (method_type_kinds xs n m.ty) four.0 in
+        let five = nil_parts (head ++ native) (method_type_kinds xs n m.ty) four.0 in
         let new_declared = declaration_kinds ys (place n) (renamed names c) (length c.fields + k) new in
         let new_body = body_kinds (renamed names c) new in
         let new_over = overriding_kinds ys (place n) (record { class = Prog (place n); index = length c.fields + k }) in
         let types = method_type_kinds ys (place n) new.ty in
         let thrown = flat_map (name_kinds ys (place n)) (map names.class m.throws) in
-        joined (new_declared ++ new_body ++ new_over) (option_map_or (code_kinds ys (place n) new.name) new.code [])
-        (joined (new_declared ++ new_body) new_over
-        (joined new_declared new_body
-        (joined (head ++ native ++ types) thrown
-        (joined (head ++ native) types five.0
+        nil_joined (new_declared ++ new_body ++ new_over) (option_map_or (code_kinds ys (place n) new.name) new.code [])
+        (nil_joined (new_declared ++ new_body) new_over
+        (nil_joined new_declared new_body
+        (nil_joined (head ++ native ++ types) thrown
+        (nil_joined (head ++ native) types five.0
         (signature_right names place back xs ys h n own m.ty.ret m.ty.args five.1))
         (names_right names place back xs ys h n own m.throws four.1))
         (ap (λ (t : Bool). unless (not (is_interface c.flags.0) || has acc_abstract m.flags.0 || t) LeftOutMember)
@@ -147,7 +137,7 @@ module _ (names : Names) (place back : ℕ → ℕ) (xs ys : List Class) (h : Is
         (class_right w.n w.class w.there));
     field = λ j d k f at then_at.
         let w = was names place back xs ys h j d at in
-        let g = gone (renamed_field names) w.class.fields k f
+        let g = mapped_from (renamed_field names) w.class.fields k f
         (ap (λ (x : Class). slice_get x.fields k) (sym w.is) ∙ then_at) in
         subst (λ (x : Class). kinds_of_field ys j x k f ≡ []) (sym w.is)
         (subst (λ (y : Field). kinds_of_field ys j (renamed names w.class) k y ≡ []) (sym g.2)
@@ -155,7 +145,7 @@ module _ (names : Names) (place back : ℕ → ℕ) (xs ys : List Class) (h : Is
         (sym w.place_is) (field_right w.n w.class w.there k g.0 g.1)));
     method = λ j d k m at then_at.
         let w = was names place back xs ys h j d at in
-        let g = gone (renamed_method names) w.class.methods k m
+        let g = mapped_from (renamed_method names) w.class.methods k m
         (ap (λ (x : Class). slice_get x.methods k) (sym w.is) ∙ then_at) in
         subst (λ (x : Class). kinds_of_method ys j x (length x.fields + k) m ≡ []) (sym w.is)
         (subst (λ (y : Method). kinds_of_method ys j (renamed names w.class)

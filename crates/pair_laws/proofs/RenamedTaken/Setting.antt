@@ -8,6 +8,7 @@ use Rattle.std.proofs.lemmas.List.{length-map}
 use Rattle.std.proofs.lemmas.List.Quantifiers.{position-Some}
 use Rattle.std.proofs.lemmas.List.Sorted.{length_permutation}
 use Rattle.std.proofs.lemmas.Option.{slice_get-get_or, slice_get-map, slice_get_within}
+use Rattle.std.proofs.Math.Bool.{or-true}
 use Rattle.jv_base.specs.Names.{is_text}
 use Rattle.jv_base.proofs.Equality.{text_Decides}
 use Rattle.lib_table.specs.Lookups as table
@@ -20,7 +21,8 @@ use Rattle.image_laws.specs.TakenSet.TakenSet.{IsTaken}
 use Rattle.image_laws.proofs.TakenSet.Names.{class_found, library_named}
 use Rattle.class_rename.specs.Names.{Names}
 use Rattle.class_rename.specs.Renamed.{renamed}
-use Rattle.pair_laws.specs.RenamedImage.Renaming.{FindsItsClasses, KeepsNamesApart, NamesKnownTypes, is_known, is_library_name}
+use Rattle.pair_laws.specs.RenamedImage.Renaming.{FindsItsClasses, KeepsNamesApart, NamesKnownTypes, is_known}
+use Rattle.pair_laws.specs.RenamedImage.Renaming.{is_library_name}
 use Rattle.pair_laws.specs.RenamedTaken.NewSet.{IsNewSet}
 use Rattle.pair_laws.proofs.RenamedTaken.Orders.{places}
 use Rattle.pair_laws.proofs.RenamedTaken.Placed.{IsPlaced, Was, was_at}
@@ -34,10 +36,6 @@ found_of xs taken = record {
       ∙ class_found xs taken (Prog n) (slice_get_within xs n c at);
   library = library_named xs taken;
 }
-
-or_true : (b : Bool) → (b || true) ≡ true
-or_true true = refl
-or_true false = refl
 
 -- none is in a package of the library
 pub not_library : (xs : List Class) → FindsItsClasses xs → (n : ℕ) (c : Class) → slice_get xs n ≡ Some c
@@ -53,7 +51,7 @@ not_library xs found n c at = by (is_library_name c.name) refl
     by true e = absurd (wrong (table.class_named c.name) (sym (found.own n c at) ∙ found.library c.name e))
 
 pub name_known : (xs : List Class) (name : List ℕ) → is_some (class_named xs name) ≡ true → is_known xs name ≡ true
-name_known xs name there = ap (λ (t : Bool). is_library_name name || t) there ∙ or_true (is_library_name name)
+name_known xs name there = ap (λ (t : Bool). is_library_name name || t) there ∙ or-true (is_library_name name)
 
 -- where no element passes, there is no position
 no_position : {A : Type 0} (p : A → Bool) (xs : List A)

@@ -10,6 +10,7 @@ use Rattle.jv_base.specs.declared.types.Base.TheVariants as base
 use Rattle.jv_base.specs.declared.types.FieldType.{FieldType}
 use Rattle.jv_base.proofs.FieldLaw.{read_field-only}
 use Rattle.jv_base.proofs.MethodLaw.{read_method-only}
+use Rattle.jv_base.proofs.Lists.{nil_parts}
 use Rattle.class_model.specs.ConstantPool.{IsFieldText, IsMethodText}
 use Rattle.class_model.specs.declared.class.Class.{Class}
 use Rattle.class_pool.specs.Hierarchy.{class_named}
@@ -20,7 +21,6 @@ use Rattle.link_check.specs.Profile.{name_kinds, type_kinds, unless}
 use Rattle.link_check.specs.declared.fault.ProfileKind.{ProfileKind}
 use Rattle.link_check.specs.declared.fault.ProfileKind.TheVariants.{Inaccessible}
 use Rattle.image_laws.proofs.SetImage.Access.{class_accessible_moved}
-use Rattle.image_laws.proofs.TakenSet.Rows.{none_left}
 use Rattle.class_rename.specs.Names.{Names}
 use Rattle.class_rename.specs.Renamed.{field_text_of, method_text_of, renamed_base, renamed_field_text}
 use Rattle.class_rename.specs.Renamed.{renamed_method_text, renamed_method_type, renamed_type}
@@ -60,7 +60,7 @@ module _ (names : Names) (place back : ℕ → ℕ) (xs ys : List Class) (h : Is
       → flat_map (name_kinds ys (place n)) (map names.class ns) ≡ []
   names_right [] none = refl
   names_right (name ∷ ns) none =
-      let nones = none_left (name_kinds xs n name) (flat_map (name_kinds xs n) ns) none in
+      let nones = nil_parts (name_kinds xs n name) (flat_map (name_kinds xs n) ns) none in
       ap (λ (t : List ProfileKind). t ++ flat_map (name_kinds ys (place n)) (map names.class ns))
       (name_right name nones.0)
       ∙ names_right ns nones.1
@@ -69,7 +69,7 @@ module _ (names : Names) (place back : ℕ → ℕ) (xs ys : List Class) (h : Is
       → flat_map (type_kinds ys (place n)) (map (renamed_type names) tys) ≡ []
   types_right [] none = refl
   types_right (ty ∷ tys) none =
-      let nones = none_left (type_kinds xs n ty) (flat_map (type_kinds xs n) tys) none in
+      let nones = nil_parts (type_kinds xs n ty) (flat_map (type_kinds xs n) tys) none in
       ap (λ (t : List ProfileKind). t ++ flat_map (type_kinds ys (place n)) (map (renamed_type names) tys))
       (base_right ty.base nones.0)
       ∙ types_right tys nones.1

@@ -9,6 +9,7 @@ use Rattle.jv_base.specs.declared.types.Base.{Base}
 use Rattle.jv_base.specs.declared.types.Base.TheVariants as base
 use Rattle.jv_base.specs.declared.types.FieldType.{FieldType}
 use Rattle.jv_base.specs.declared.types.MethodType.{MethodType}
+use Rattle.jv_base.proofs.Lists.{nil_parts}
 use Rattle.lib_table.specs.Lookups as table
 use Rattle.class_model.specs.Opcodes.{array_type_of}
 use Rattle.class_model.specs.declared.class.Class.{Class}
@@ -23,14 +24,13 @@ use Rattle.link_check.specs.Profile.{base_kinds, class_kinds, field_text_kinds, 
 use Rattle.link_check.specs.Profile.{method_text_kinds, method_type_kinds, name_kinds, type_kinds, verification_kinds}
 use Rattle.class_rename.specs.Names.{Names}
 use Rattle.image_laws.specs.SetImage.Image.{Image}
-use Rattle.image_laws.proofs.TakenSet.Rows.{none_left}
 use Rattle.type_verifier.specs.Rules.{told_type}
 use Rattle.removal_laws.proofs.RemovalSame.Codes.{no_class_array}
 use Rattle.pair_laws.specs.RenamedImage.Renaming.{KeepsNamesApart, is_library_name, placed}
 use Rattle.pair_laws.proofs.RenamedTaken.Placed as placing
 use Rattle.pair_laws.proofs.RenamedTaken.Placed.{IsPlaced, named_kept, named_new}
-use Rattle.image_laws.specs.TypedImage.Named.{AreKnownNamed, IsBaseNamed, IsFrameNamed, IsHandlerNamed, IsMethodTypeNamed}
-use Rattle.image_laws.specs.TypedImage.Named.{IsNamed, IsTypeNamed, IsVTypeNamed, KeepsKnownNames}
+use Rattle.image_laws.specs.TypedImage.Named.{AreKnownNamed, IsBaseNamed, IsFrameNamed, IsHandlerNamed}
+use Rattle.image_laws.specs.TypedImage.Named.{IsMethodTypeNamed, IsNamed, IsTypeNamed, IsVTypeNamed, KeepsKnownNames}
 
 -- names of the library stay
 pub known_stay : (names : Names) (classes : List Class) → KeepsNamesApart names classes → KeepsKnownNames names
@@ -113,7 +113,7 @@ module _ (names : Names) (place back : ℕ → ℕ) (classes out : List Class)
     types_named : (tys : List FieldType) → flat_map (type_kinds classes n) tys ≡ [] → AllByRecursion TypeNamed tys
     types_named [] none = tt
     types_named (ty ∷ tys) none =
-        let parts = none_left (type_kinds classes n ty) (flat_map (type_kinds classes n) tys) none in
+        let parts = nil_parts (type_kinds classes n ty) (flat_map (type_kinds classes n) tys) none in
         (of_base ty.base parts.0, types_named tys parts.1)
 
     pub method_type_named : (ty : MethodType) → method_type_kinds classes n ty ≡ []
@@ -141,7 +141,7 @@ module _ (names : Names) (place back : ℕ → ℕ) (classes out : List Class)
         → AllByRecursion (IsHandlerNamed names classes out i) hs
     handlers_named [] none = tt
     handlers_named (h ∷ hs) none =
-        let parts = none_left (handler_kinds classes n h) (flat_map (handler_kinds classes n) hs) none in
+        let parts = nil_parts (handler_kinds classes n h) (flat_map (handler_kinds classes n) hs) none in
         (by h.caught parts.0, handlers_named hs parts.1)
       where
         by : (o : Option (List ℕ)) → option_map_or (name_kinds classes n) o [] ≡ [] → IfSome o Named
@@ -156,7 +156,7 @@ module _ (names : Names) (place back : ℕ → ℕ) (classes out : List Class)
         → AllByRecursion VTypeNamed tys × (flat_map (verification_kinds classes n) more ≡ [])
     vtypes_named [] more none = (tt, none)
     vtypes_named (ty ∷ tys) more none =
-        let parts = none_left (verification_kinds classes n ty)
+        let parts = nil_parts (verification_kinds classes n ty)
         (flat_map (verification_kinds classes n) (tys ++ more)) none in
         let rest = vtypes_named tys more parts.1 in
         ((vtype_named ty parts.0, rest.0), rest.1)
@@ -165,13 +165,13 @@ module _ (names : Names) (place back : ℕ → ℕ) (classes out : List Class)
         → AllByRecursion VTypeNamed tys
     all_vtypes_named [] none = tt
     all_vtypes_named (ty ∷ tys) none =
-        let parts = none_left (verification_kinds classes n ty) (flat_map (verification_kinds classes n) tys) none in
+        let parts = nil_parts (verification_kinds classes n ty) (flat_map (verification_kinds classes n) tys) none in
         (vtype_named ty parts.0, all_vtypes_named tys parts.1)
 
     pub frames_named : (fs : List FrameAt) → flat_map (frame_kinds classes n) fs ≡ []
         → AllByRecursion (IsFrameNamed names classes out i) fs
     frames_named [] none = tt
     frames_named (f ∷ fs) none =
-        let parts = none_left (frame_kinds classes n f) (flat_map (frame_kinds classes n) fs) none in
+        let parts = nil_parts (frame_kinds classes n f) (flat_map (frame_kinds classes n) fs) none in
         let types = vtypes_named f.frame.locals f.frame.stack parts.0 in
         (record { locals = types.0; stack = all_vtypes_named f.frame.stack types.1 }, frames_named fs parts.1)

@@ -1,9 +1,10 @@
 -- The rules look at what the references of a method lead to as they did.
-use Rattle.std.proofs.Common.{◌≡◌, ℕ, not, ◌&&◌, ◌||◌, Bool, true, false, cond, List, [], ◌++◌, Option, Some, None}
+use Rattle.std.proofs.Common.{◌≡◌, ℕ, not, ◌&&◌, Bool, true, false, cond, List, [], ◌++◌, Option, Some, None}
 use Rattle.std.proofs.Common.{Result, Ok, Err, slice_get, refl, sym, ap, subst, ◌∙◌, codes}
 use Rattle.std.specs.Prelude.{IfSome, ◌==◌, is_some}
 use Rattle.std.specs.Option.{option_map}
 use Rattle.std.proofs.lemmas.Bool.Decides.{same_from_decides}
+use Rattle.std.proofs.lemmas.Bool.{or_right}
 use Rattle.jv_base.specs.Descriptors.{read_field, read_method}
 use Rattle.jv_base.specs.Names.{is_text}
 use Rattle.jv_base.specs.Types.{field_text, method_text}
@@ -15,6 +16,7 @@ use Rattle.jv_base.specs.declared.types.MethodType.{MethodType}
 use Rattle.jv_base.proofs.Equality.{text_Decides}
 use Rattle.jv_base.proofs.FieldLaw.{read_field-found, read_field-only}
 use Rattle.jv_base.proofs.MethodLaw.{read_method-found, read_method-only}
+use Rattle.jv_base.proofs.Lists.{nil_parts}
 use Rattle.class_model.specs.WellFormed.{IsFieldReference, IsGoodOp, IsMethodReference}
 use Rattle.class_model.specs.declared.class.Class.{Class}
 use Rattle.class_model.specs.declared.class.Method.{Method}
@@ -22,7 +24,7 @@ use Rattle.class_model.specs.declared.code.Code.{Code}
 use Rattle.class_model.specs.declared.op.MemberRef.{MemberRef}
 use Rattle.class_model.specs.declared.op.Op.{Op}
 use Rattle.class_model.specs.declared.op.Op.TheVariants as op
-use Rattle.class_pool.specs.Found.{NameAndType, declared_in, role_at}
+use Rattle.class_pool.specs.Found.{NameAndType, declared_in}
 use Rattle.class_pool.specs.Hierarchy.{class_named}
 use Rattle.class_pool.specs.declared.id.ClassId.{ClassId}
 use Rattle.class_pool.specs.declared.id.ClassId.TheVariants.{Prog}
@@ -40,12 +42,12 @@ use Rattle.class_rename.specs.Renamed.{renamed_field_ref, renamed_field_text, re
 use Rattle.class_rename.specs.Renamed.{renamed_method_text, renamed_method_type, renamed_type}
 use Rattle.image_laws.specs.SetImage.Image.{Image}
 use Rattle.image_laws.proofs.ViewImage.Standing.{Stands, declared_stands, field_stands}
-use Rattle.image_laws.proofs.TakenSet.Rows.{none_left}
 use Rattle.type_verifier.specs.Environment.{Environment}
 use Rattle.type_verifier.specs.Members.{is_class_base, is_guarded}
 use Rattle.type_verifier.specs.Rules.{told_type}
 use Rattle.type_verifier.specs.Verified.{environment}
 use Rattle.removal_laws.proofs.RemovalImage.Links.{base_class, field_link, is_taken, method_link}
+use Rattle.removal_laws.proofs.RemovalTyped.References.{callable_role}
 use Rattle.pair_laws.specs.RenamedForm.Form.{KeepsForm}
 use Rattle.pair_laws.proofs.RenamedForm.Spelled.{method_type_spelled, type_spelled}
 use Rattle.pair_laws.specs.RenamedImage.Naming.{is_member_there}
@@ -54,23 +56,10 @@ use Rattle.image_laws.specs.TypedImage.Named.{IsFieldNamed, IsMethodNamed, IsOpN
 use Rattle.image_laws.proofs.TypedImage.Guarding.{early_moved, guarded_moved}
 use Rattle.pair_laws.proofs.RenamedTaken.Placed.{IsPlaced, member_there, name_given}
 use Rattle.pair_laws.proofs.RenamedTaken.References.{as_field, field_there, method_there, role_same}
-use Rattle.pair_laws.proofs.RenamedTyped.Naming.{BaseNamed, array_named, class_of_name, field_text_named, i, method_text_named}
-use Rattle.pair_laws.proofs.RenamedTyped.Naming.{of_base, of_name}
+use Rattle.pair_laws.proofs.RenamedTyped.Naming.{BaseNamed, array_named, class_of_name, field_text_named, i}
+use Rattle.pair_laws.proofs.RenamedTyped.Naming.{method_text_named, of_base, of_name}
 
 -- ---- tests
-
-or_true : (t u : Bool) → u ≡ true → (t || u) ≡ true
-or_true true u h = refl
-or_true false u h = h
-
--- a role that a program may name
-callable_role : (classes : List Class) (from : ClassId) (m : MemberAt) → callable classes from (Ok m) ≡ Ok m
-    → is_callable_role (role_at m) ≡ true
-callable_role classes from m = by (is_callable_role (role_at m))
-  where
-    by : (t : Bool) → cond t (Ok m) (Err link.LeftOutMember) ≡ Ok m → t ≡ true
-    by true e = refl
-    by false e = absurd cc
 
 module _ (names : Names) (form : KeepsForm names) where
   -- ---- descriptors under new names
@@ -133,7 +122,7 @@ module _ (names : Names) (place back : ℕ → ℕ) (classes out : List Class) (
 
   -- a type is the own class where it was
   own_known : is_known classes c.name ≡ true
-  own_known = or_true (is_library_name c.name) (is_some (class_named classes c.name))
+  own_known = or_right (is_library_name c.name) (is_some (class_named classes c.name))
       (ap is_some (h.found.own n c there))
 
   own_moved : (t : Bool) (b : Base) (x : ClassId) → cond t (base_class classes b) None ≡ Some x
@@ -141,7 +130,7 @@ module _ (names : Names) (place back : ℕ → ℕ) (classes out : List Class) (
   own_moved true (base.Class name) x e =
       let texts = text_Decides (names.class c.name) (names.class name) in
       let its : is_known classes name ≡ true =
-      or_true (is_library_name name) (is_some (class_named classes name)) (ap is_some e) in
+      or_right (is_library_name name) (is_some (class_named classes name)) (ap is_some e) in
       same_from_decides {P = c.name ≡ name} (is_text (names.class c.name) (names.class name)) (is_text c.name name)
       (λ same. h.apart.one_class c.name name own_known its (texts.0 same), λ same. texts.1 (ap names.class same))
       (text_Decides c.name name)
@@ -184,7 +173,7 @@ module _ (names : Names) (place back : ℕ → ℕ) (classes out : List Class) (
       → field_kinds classes n m.name static written r ≡ [] → IsFieldNamed names whole rest image r
   field_named static written r good none =
       let of_member = used_kinds classes n m.name static written in
-      let nones = none_left (field_text_kinds classes n (read_field r.ty))
+      let nones = nil_parts (field_text_kinds classes n (read_field r.ty))
       (member_kinds (linked_field classes (Prog n) r) of_member) none in
       let t = is_taken classes (Prog n) (linked_field classes (Prog n) r) of_member nones.1 in
       let l = field_link classes (Prog n) r t.member t.linked in
@@ -211,9 +200,9 @@ module _ (names : Names) (place back : ℕ → ℕ) (classes out : List Class) (
   method_named static r good none =
       let of_member = static_kinds classes static in
       let no_clinit = unless (not (is_text r.name (codes "<clinit>"))) WrongKind in
-      let nones = none_left (method_text_kinds classes n (read_method r.ty) ++ no_clinit)
+      let nones = nil_parts (method_text_kinds classes n (read_method r.ty) ++ no_clinit)
       (member_kinds (linked_method classes (Prog n) r) of_member) none in
-      let texts = none_left (method_text_kinds classes n (read_method r.ty)) no_clinit nones.0 in
+      let texts = nil_parts (method_text_kinds classes n (read_method r.ty)) no_clinit nones.0 in
       let t = is_taken classes (Prog n) (linked_method classes (Prog n) r) of_member nones.1 in
       let l = method_link classes (Prog n) r t.member t.linked in
       let moved = method_there names place back classes out h n own_there r good t.member t.linked in
@@ -236,16 +225,16 @@ module _ (names : Names) (place back : ℕ → ℕ) (classes out : List Class) (
   op_named size (op.GetField r) good none = field_named false false r good none
   op_named size (op.PutField r) good none = field_named false true r good none
   op_named size (op.InvokeVirtual r) good none =
-      method_named false r good.0 (none_left (call_kinds classes n false r) (no_init_kinds r) none).0
+      method_named false r good.0 (nil_parts (call_kinds classes n false r) (no_init_kinds r) none).0
   op_named size (op.InvokeStatic r) good none =
-      method_named true r good (none_left (call_kinds classes n true r) (no_init_kinds r) none).0
+      method_named true r good (nil_parts (call_kinds classes n true r) (no_init_kinds r) none).0
   op_named size (op.InvokeInterface r) good none =
-      method_named false r good.0 (none_left (call_kinds classes n false r) (no_init_kinds r) none).0
+      method_named false r good.0 (nil_parts (call_kinds classes n false r) (no_init_kinds r) none).0
   op_named size (op.InvokeSpecial r) good none =
-      method_named false r good (none_left (call_kinds classes n false r) (special_class_kinds classes n r) none).0
+      method_named false r good (nil_parts (call_kinds classes n false r) (special_class_kinds classes n r) none).0
   op_named size (op.New name) good none =
       of_name names place back classes out h n name
-      (none_left (name_kinds classes n name) _ none).0
+      (nil_parts (name_kinds classes n name) _ none).0
   op_named size (op.NewArray ty) good none =
       array_named names place back classes out h good.0 ty good.1
   op_named size (op.ANewArray ty) good none =

@@ -6,6 +6,7 @@ use Rattle.std.specs.List.{AllByRecursion, flat_map}
 use Rattle.std.specs.Option.{option_map, option_map_or}
 use Rattle.std.proofs.lemmas.Option.{same_Some, slice_get-map}
 use Rattle.jv_base.specs.Types.{method_text}
+use Rattle.jv_base.proofs.Lists.{all_at, nil_parts}
 use Rattle.class_model.specs.Flags.{is_interface, is_native}
 use Rattle.class_model.specs.WellFormed.{IsGoodCode, IsGoodMethod, IsGoodOp}
 use Rattle.class_model.specs.declared.class.Class.{Class}
@@ -21,7 +22,6 @@ use Rattle.link_check.proofs.Taken.{links_taken}
 use Rattle.class_rename.specs.Names.{Names}
 use Rattle.class_rename.specs.Renamed.{renamed, renamed_code, renamed_method}
 use Rattle.image_laws.specs.SetImage.Image.{Image}
-use Rattle.image_laws.proofs.TakenSet.Rows.{all_at, none_left}
 use Rattle.type_verifier.specs.Typed.{Typed}
 use Rattle.type_verifier.specs.Verified.{AreTyped, IsTypedMethod, environment}
 use Rattle.image_laws.specs.TypedImage.Named.{IsCodeNamed, IsCodeRenamed, IsOpNamed}
@@ -29,8 +29,8 @@ use Rattle.image_laws.proofs.TypedImage.Walking.{is_typed}
 use Rattle.pair_laws.proofs.RenamedTaken.Placed.{IsPlaced, was}
 use Rattle.pair_laws.proofs.RenamedTaken.Whole.{places_of}
 use Rattle.pair_laws.specs.RenamedTyped.Laws.{RenamedIsTyped}
-use Rattle.pair_laws.proofs.RenamedTyped.Naming.{class_of_name, frames_named, handlers_named, i, known_named, known_stay}
-use Rattle.pair_laws.proofs.RenamedTyped.Naming.{method_type_named}
+use Rattle.pair_laws.proofs.RenamedTyped.Naming.{class_of_name, frames_named, handlers_named, i, known_named}
+use Rattle.pair_laws.proofs.RenamedTyped.Naming.{known_stay, method_type_named}
 use Rattle.pair_laws.proofs.RenamedTyped.References.{op_named, rest, whole}
 
 module _ (names : Names) (place back : ℕ → ℕ) (classes out : List Class)
@@ -48,7 +48,7 @@ module _ (names : Names) (place back : ℕ → ℕ) (classes out : List Class)
         (rest names place back classes out h n c there k m code) image x.op) ins
     ops_named size [] good none = tt
     ops_named size (x ∷ ins) good none =
-        let nones = none_left (op_kinds classes n m.name x.op)
+        let nones = nil_parts (op_kinds classes n m.name x.op)
         (flat_map (λ (x : Ins). op_kinds classes n m.name x.op) ins) none in (
           op_named names place back classes out h n c there k m code size x.op good.0 nones.0,
           ops_named size ins good.1 nones.1,
@@ -65,18 +65,18 @@ module _ (names : Names) (place back : ℕ → ℕ) (classes out : List Class)
     kinds =
         let overridden = overriding_kinds classes n (record { class = Prog n; index = length c.fields + k }) in
         let declaration = declaration_kinds classes n c (length c.fields + k) m in
-        let one = none_left (declaration ++ body_kinds c m ++ overridden)
+        let one = nil_parts (declaration ++ body_kinds c m ++ overridden)
         (option_map_or (code_kinds classes n m.name) m.code [])
         ((links_taken classes h.taken.linked).method n c k m there at) in
-        let two = none_left (declaration ++ body_kinds c m) overridden one.0 in
-        ((none_left declaration (body_kinds c m) two.0).0, one.1)
+        let two = nil_parts (declaration ++ body_kinds c m) overridden one.0 in
+        ((nil_parts declaration (body_kinds c m) two.0).0, one.1)
 
     type_right : method_type_kinds classes n m.ty ≡ []
     type_right =
         let head : List ProfileKind =
         left_out_at c.left_out (Some (length c.fields + k)) ++ unless (not (is_native m.flags.0)) LeftOutFlag in
-        (none_left head (method_type_kinds classes n m.ty)
-        (none_left (head ++ method_type_kinds classes n m.ty) (flat_map (name_kinds classes n) m.throws) kinds.0).0).1
+        (nil_parts head (method_type_kinds classes n m.ty)
+        (nil_parts (head ++ method_type_kinds classes n m.ty) (flat_map (name_kinds classes n) m.throws) kinds.0).0).1
 
     code_right : code_kinds classes n m.name code ≡ []
     code_right = subst (λ (o : Option Code). option_map_or (code_kinds classes n m.name) o [] ≡ []) is kinds.1
@@ -96,8 +96,8 @@ module _ (names : Names) (place back : ℕ → ℕ) (classes out : List Class)
     named =
         let of_ins = flat_map (λ (x : Ins). op_kinds classes n m.name x.op) code.ins in
         let of_handlers = flat_map (handler_kinds classes n) code.handlers in
-        let nones = none_left (of_ins ++ of_handlers) (flat_map (frame_kinds classes n) code.frames) code_right in
-        let firsts = none_left of_ins of_handlers nones.0 in
+        let nones = nil_parts (of_ins ++ of_handlers) (flat_map (frame_kinds classes n) code.frames) code_right in
+        let firsts = nil_parts of_ins of_handlers nones.0 in
         record {
           own = refl;
           super = refl;

@@ -5,9 +5,7 @@ use Rattle.std.specs.Prelude.{option_to_list}
 use Rattle.std.specs.List.{AllZip, list_any}
 use Rattle.std.specs.Option.{option_and_then, option_map, option_map_or}
 use Rattle.std.proofs.lemmas.Option.{slice_get-map}
-use Rattle.jv_base.specs.declared.types.Base.{Base}
 use Rattle.jv_base.specs.declared.types.Base.TheVariants as base
-use Rattle.jv_base.specs.declared.types.FieldType.{FieldType}
 use Rattle.class_model.specs.Flags.{acc_abstract, acc_private, acc_public}
 use Rattle.class_model.specs.declared.class.Class.{Class}
 use Rattle.class_model.specs.declared.class.Field.{Field}
@@ -32,10 +30,11 @@ use Rattle.jvm_model.specs.Fields.{blank, stored_in}
 use Rattle.jvm_model.specs.Mapped.{CodeMap, HandlerMap, InsMap, Mapped, Mapping, OptionCorr, ShapeMap, TargetMap}
 use Rattle.jvm_model.specs.Mapped.{op_map}
 use Rattle.jvm_model.specs.Program.{Fails, Library, Program, Shape, Target}
-use Rattle.jvm_model.specs.Same.{LineCorr, base_name, own_names, type_name}
+use Rattle.jvm_model.specs.Same.{own_names}
 use Rattle.jvm_model.specs.Types.{argument_kinds, field_kind, is_above_arrays}
 use Rattle.jvm_model.specs.Value.{Key}
 use Rattle.jvm_model.proofs.Side.{mapped_same}
+use Rattle.jvm_model.proofs.Compose.{line_refl, zip_refl, own_base, own_type}
 use Rattle.set_view.specs.ViewOf.{array_target_of, checked, code_at, constant_at, field_of, firsts_of, is_selected}
 use Rattle.set_view.specs.ViewOf.{key_at}
 use Rattle.set_view.specs.ViewOf.{member_of, method_of, selected_from, selected_of, shape_of, special_of, static_of}
@@ -61,10 +60,6 @@ target_itself (Fails exception) = refl
 corr_itself : {A : Type 0} (R : A → A → Type 0) → ((x : A) → R x x) → (o : Option A) → OptionCorr R o o
 corr_itself R h None = refl
 corr_itself R h (Some x) = (x, refl, h x)
-
-zip_itself : {A : Type 0} (R : A → A → Type 0) → ((x : A) → R x x) → (xs : List A) → AllZip R xs xs
-zip_itself R h [] = tt
-zip_itself R h (x ∷ xs) = (h x, zip_itself R h xs)
 
 shape_itself : (p : Shape) → ShapeMap own p p
 shape_itself p = record {
@@ -97,7 +92,7 @@ shape_itself p = record {
   is_sub = λ a b c d e f. sym (ap (λ (y : List ℕ). p.is_sub y b) (one a c e) ∙ ap (p.is_sub c) (one b d f));
   is_library = λ c d e. ap p.is_library (sym (one c d e));
   firsts = λ c d e. subst (λ (y : List ℕ). AllZip (λ x z. Some x ≡ Some z) (p.firsts c) (p.firsts y)) (one c d e)
-      (zip_itself (λ x z. Some x ≡ Some z) (λ x. refl) (p.firsts c));
+      (zip_refl (λ x z. Some x ≡ Some z) (λ x. refl) (p.firsts c));
   clinit = λ c d e. subst (λ (y : List ℕ). OptionCorr (λ k l. Some k ≡ Some l) (p.clinit c) (p.clinit y)) (one c d e)
       (corr_itself (λ k l. Some k ≡ Some l) (λ k. refl) (p.clinit c));
   constant = λ k l e. ap p.constant (sym (one k l e));
@@ -105,25 +100,13 @@ shape_itself p = record {
 
 -- ---- codes
 
-base_own : (ty : Base) → base_name own_names ty ≡ Some ty
-base_own (base.Class name) = refl
-base_own ty = refl
-
-type_own : (ty : FieldType) → type_name own_names ty ≡ Some ty
-type_own ty = ap (option_map (λ (b : Base). let t : FieldType = record { dims = ty.dims; base = b } in t))
-    (base_own ty.base)
-
 op_own : (from : List ℕ) (o : Op) → op_map own from o ≡ Some o
-op_own from (op.NewArray ty) = ap (option_map op.NewArray) (base_own ty)
-op_own from (op.ANewArray ty) = ap (option_map op.ANewArray) (type_own ty)
-op_own from (op.CheckCast ty) = ap (option_map op.CheckCast) (type_own ty)
-op_own from (op.InstanceOf ty) = ap (option_map op.InstanceOf) (type_own ty)
-op_own from (op.MultiNewArray ty n) = ap (option_map (λ u. op.MultiNewArray u n)) (type_own ty)
+op_own from (op.NewArray ty) = ap (option_map op.NewArray) (own_base ty)
+op_own from (op.ANewArray ty) = ap (option_map op.ANewArray) (own_type ty)
+op_own from (op.CheckCast ty) = ap (option_map op.CheckCast) (own_type ty)
+op_own from (op.InstanceOf ty) = ap (option_map op.InstanceOf) (own_type ty)
+op_own from (op.MultiNewArray ty n) = ap (option_map (λ u. op.MultiNewArray u n)) (own_type ty)
 op_own from o = refl
-
-line_itself : (o : Option ℕ) → LineCorr o o
-line_itself None = tt
-line_itself (Some line) = refl
 
 handler_own : (h : Handler) → HandlerMap own h h
 handler_own h = record {
@@ -133,14 +116,14 @@ handler_own h = record {
 
 code_own : (from : List ℕ) (code : Code) → CodeMap own from code code
 code_own from code = record {
-  ins = zip_itself (InsMap own from) (λ j. record { op = op_own from j.op; line = line_itself j.line }) code.ins;
-  handlers = zip_itself (HandlerMap own) handler_own code.handlers;
+  ins = zip_refl (InsMap own from) (λ j. record { op = op_own from j.op; line = line_refl j.line }) code.ins;
+  handlers = zip_refl (HandlerMap own) handler_own code.handlers;
 }
 
 code_bare : (from : List ℕ) (code : Code) → CodeMap own from code (without_lines code)
 code_bare from code = record {
   ins = each code.ins;
-  handlers = zip_itself (HandlerMap own) handler_own code.handlers;
+  handlers = zip_refl (HandlerMap own) handler_own code.handlers;
 }
   where
     each : (js : List Ins) → AllZip (InsMap own from) js (map without_line js)

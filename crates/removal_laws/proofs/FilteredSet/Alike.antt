@@ -2,11 +2,11 @@
 -- the definition of which it says so, as an equation of functions, and goes the definition's way.
 use Rattle.std.proofs.Common.{◌≡◌, ℕ, zero, suc, ◌+◌, not, ◌&&◌, ◌||◌, Bool, true, false, cond, List, [], ◌∷◌, ◌++◌}
 use Rattle.std.proofs.Common.{length}
-use Rattle.std.proofs.Common.{map, nat_lt, Option, Some, None, Result, Ok, Err, slice_get, refl, ap, ◌∙◌, codes}
+use Rattle.std.proofs.Common.{map, Option, Some, None, Result, Ok, Err, slice_get, refl, ap, ◌∙◌, codes}
 use Rattle.std.proofs.Common.{filter}
 use Rattle.std.specs.Prelude.{◌==◌}
 use Rattle.std.specs.Bool.{beq}
-use Rattle.std.specs.List.{filter_map, find, flat_map, list_any, position, position_or_len, prefix_len}
+use Rattle.std.specs.List.{filter_map, find, flat_map, list_any, position}
 use Rattle.std.specs.Option.{option_and_then, option_map, option_map_or, option_or}
 use Rattle.std.proofs.lemmas.List.{length-map}
 use Rattle.std.proofs.lemmas.Option.{slice_get-map}
@@ -17,6 +17,7 @@ use Rattle.class_model.specs.Flags.{acc_abstract, acc_private, acc_protected, ac
 use Rattle.class_model.specs.declared.class.Class.{Class}
 use Rattle.lib_table.specs.Lookups as table
 use Rattle.lib_table.specs.declared.class.LibKind.TheVariants.{Open}
+use Rattle.lib_table.proofs.Classes.{position_map}
 use Rattle.class_pool.specs.Found.{MemberRow, declared_by, declared_in, field_row, has_flag}
 use Rattle.class_pool.specs.Found.{is_instance_method, is_instance_row, method_row}
 use Rattle.class_pool.specs.Found.{name_of, named_at, package_of, row_at, rows_in, same_member, same_package}
@@ -42,22 +43,6 @@ use Rattle.attribute_filter.specs.Filtered.{field_filtered, filtered, method_fil
 use Rattle.attribute_filter.specs.declared.filter.AttributeFilter.{AttributeFilter}
 
 -- ---- lists
-
-prefix_map : {X Y : Type 0} (f : X → Y) (p : Y → Bool) (xs : List X)
-    → prefix_len p (map f xs) ≡ prefix_len (λ x. p (f x)) xs
-prefix_map f p [] = refl
-prefix_map f p (x ∷ xs) = ap (λ (n : ℕ). cond (p (f x)) (1 + n) 0) (prefix_map f p xs)
-
-position_map : {X Y : Type 0} (f : X → Y) (p : Y → Bool) (xs : List X)
-    → position p (map f xs) ≡ position (λ x. p (f x)) xs
-position_map {X} f p xs =
-    ap (λ (n : ℕ). cond (nat_lt n (length (map f xs))) (Some n) None) (prefix_of xs)
-    ∙ ap (λ (n : ℕ). cond (nat_lt (position_or_len (λ x. p (f x)) xs) n)
-    (Some (position_or_len (λ x. p (f x)) xs)) None)
-    (length-map xs f)
-  where
-    prefix_of : (xs : List X) → position_or_len p (map f xs) ≡ position_or_len (λ x. p (f x)) xs
-    prefix_of xs = prefix_map f (λ y. not (p y)) xs
 
 pub map_map : {X Y Z : Type 0} (f : X → Y) (g : Y → Z) (h : X → Z) → ((x : X) → g (f x) ≡ h x) → (xs : List X)
     → map g (map f xs) ≡ map h xs

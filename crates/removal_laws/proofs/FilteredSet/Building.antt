@@ -11,6 +11,7 @@ use Rattle.std.specs.Str.{IsUtf8}
 use Rattle.std.proofs.lemmas.List.{length-map}
 use Rattle.std.proofs.lemmas.List.Sums.{sum_by-cons}
 use Rattle.jv_base.specs.Names.{is_text}
+use Rattle.jv_base.proofs.Lists.{nil_parts, nil_joined}
 use Rattle.class_model.specs.Flags.{is_interface, is_native}
 use Rattle.class_model.specs.Members.{FieldsDiffer, MethodsDiffer}
 use Rattle.class_model.specs.WellFormed.{IsGoodField, IsGoodMethod, IsWellFormed}
@@ -40,7 +41,6 @@ use Rattle.attribute_filter.specs.declared.filter.AttributeFilter.{AttributeFilt
 use Rattle.set_shrink.proofs.Writable.{field_good, method_good, source_by}
 use Rattle.image_laws.specs.TakenSet.TakenSet.{IsTaken}
 use Rattle.image_laws.proofs.TakenSet.Proper.{names_right}
-use Rattle.image_laws.proofs.TakenSet.Rows.{none_left}
 use Rattle.removal_laws.proofs.RemovalLinks.Places.{none_broken}
 use Rattle.removal_laws.specs.FilteredSet.Laws.{FilteringKeepsTaken}
 use Rattle.removal_laws.proofs.FilteredSet.Alike as alike
@@ -206,9 +206,6 @@ built_of classes t = record {
   formed = at_each IsWellFormed classes t.formed;
 }
 
-joined : {X : Type 0} (xs ys : List X) → xs ≡ [] → ys ≡ [] → xs ++ ys ≡ []
-joined {X} xs ys h k = ap (λ (t : List X). t ++ ys) h ∙ k
-
 -- a method without Exceptions breaks no rule where it broke none
 bare : (classes : List Class) (n : ℕ) (c : Class) (k : ℕ) (m : Method) → kinds_of_method classes n c k m ≡ []
     → kinds_of_method classes n c k (record m { throws = [] }) ≡ []
@@ -217,13 +214,13 @@ bare classes n c k m none =
     ++ method_type_kinds classes n m.ty in
     let code = option_map_or (code_kinds classes n m.name) m.code [] in
     let over = overriding_kinds classes n (record { class = Prog n; index = k }) in
-    let one = none_left (declaration_kinds classes n c k m ++ body_kinds c m ++ over) code none in
-    let two = none_left (declaration_kinds classes n c k m ++ body_kinds c m) over one.0 in
-    let three = none_left (declaration_kinds classes n c k m) (body_kinds c m) two.0 in
-    let four = none_left heads (flat_map (name_kinds classes n) m.throws) three.0 in
-    joined (heads ++ [] ++ body_kinds c m ++ over) code
-    (joined (heads ++ [] ++ body_kinds c m) over
-    (joined (heads ++ []) (body_kinds c m) (joined heads [] four.0 refl) three.1) two.1) one.1
+    let one = nil_parts (declaration_kinds classes n c k m ++ body_kinds c m ++ over) code none in
+    let two = nil_parts (declaration_kinds classes n c k m ++ body_kinds c m) over one.0 in
+    let three = nil_parts (declaration_kinds classes n c k m) (body_kinds c m) two.0 in
+    let four = nil_parts heads (flat_map (name_kinds classes n) m.throws) three.0 in
+    nil_joined (heads ++ [] ++ body_kinds c m ++ over) code
+    (nil_joined (heads ++ [] ++ body_kinds c m) over
+    (nil_joined (heads ++ []) (body_kinds c m) (nil_joined heads [] four.0 refl) three.1) two.1) one.1
 
 pub breaks_none : (filter_by : AttributeFilter) (classes : List Class) → IsTaken classes
     → BreaksNone filter_by classes

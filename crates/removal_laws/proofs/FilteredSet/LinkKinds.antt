@@ -8,7 +8,6 @@ use Rattle.std.specs.List.{cons_option, enumerate_from, flat_map}
 use Rattle.std.specs.Option.{option_map, option_map_or}
 use Rattle.std.proofs.lemmas.List.{length-map}
 use Rattle.std.proofs.lemmas.List.Folds.{flat_map-map}
-use Rattle.std.proofs.lemmas.Option.{slice_get-map}
 use Rattle.jv_base.specs.Descriptors.{read_field, read_method}
 use Rattle.jv_base.specs.Names.{is_text}
 use Rattle.jv_base.specs.declared.descriptors.BadDescriptor.{BadDescriptor}
@@ -16,6 +15,7 @@ use Rattle.jv_base.specs.declared.types.Base.{Base}
 use Rattle.jv_base.specs.declared.types.Base.TheVariants as base
 use Rattle.jv_base.specs.declared.types.FieldType.{FieldType}
 use Rattle.jv_base.specs.declared.types.MethodType.{MethodType}
+use Rattle.jv_base.proofs.Lists.{mapped_from}
 use Rattle.class_model.specs.Flags.{acc_abstract, acc_final, acc_static, has, is_init, is_left_out_class, is_native}
 use Rattle.class_model.specs.declared.class.Class.{Class}
 use Rattle.class_model.specs.declared.class.Field.{Field}
@@ -239,16 +239,6 @@ module _ (filter_by : AttributeFilter) (a : List Class) where
 
   -- ---- no rule is broken
 
-  -- what is there in a list of what others have become is what one of them has become
-  pub gone : {X Y : Type 0} (f : X → Y) (xs : List X) (k : ℕ) (y : Y) → slice_get (map f xs) k ≡ Some y
-      → (x : X) × (slice_get xs k ≡ Some x) × (y ≡ f x)
-  gone {X} {Y} f xs k y is = by (slice_get xs k) refl (sym (slice_get-map f xs k) ∙ is)
-    where
-      by : (o : Option X) → slice_get xs k ≡ o → option_map f o ≡ Some y
-          → (x : X) × (slice_get xs k ≡ Some x) × (y ≡ f x)
-      by None at e = absurd cc
-      by (Some x) at e = let same : f x ≡ y = cc in (x, at, sym same)
-
   -- no rule is broken, but maybe one for the classes of an Exceptions that isn't kept
   pub record BreaksNone : Type 0 where
     pub class : (n : ℕ) (c : Class) → slice_get a n ≡ Some c → kinds_of_class a n c ≡ []
@@ -260,18 +250,18 @@ module _ (filter_by : AttributeFilter) (a : List Class) where
   pub filtered_breaks_none : BreaksNone → BreaksNoRule b
   filtered_breaks_none right = record {
     class = λ n d at.
-        let g = gone (filtered filter_by) a n d at in
+        let g = mapped_from (filtered filter_by) a n d at in
         subst (λ (x : Class). kinds_of_class b n x ≡ []) (sym g.2) (class_kinds_same n g.0 ∙ right.class n g.0 g.1);
     field = λ n d k f at there.
-        let g = gone (filtered filter_by) a n d at in
-        let h = gone (field_filtered filter_by) g.0.fields k f
+        let g = mapped_from (filtered filter_by) a n d at in
+        let h = mapped_from (field_filtered filter_by) g.0.fields k f
         (ap (λ (x : Class). slice_get x.fields k) (sym g.2) ∙ there) in
         subst (λ (x : Class). kinds_of_field b n x k f ≡ []) (sym g.2)
         (subst (λ (y : Field). kinds_of_field b n (filtered filter_by g.0) k y ≡ []) (sym h.2)
         (field_kinds_same n g.0 k h.0 ∙ right.field n g.0 k h.0 g.1 h.1));
     method = λ n d k m at there.
-        let g = gone (filtered filter_by) a n d at in
-        let h = gone (method_filtered filter_by) g.0.methods k m
+        let g = mapped_from (filtered filter_by) a n d at in
+        let h = mapped_from (method_filtered filter_by) g.0.methods k m
         (ap (λ (x : Class). slice_get x.methods k) (sym g.2) ∙ there) in
         subst (λ (x : Class). kinds_of_method b n x (length x.fields + k) m ≡ []) (sym g.2)
         (subst (λ (y : Method). kinds_of_method b n (filtered filter_by g.0)

@@ -11,6 +11,7 @@ use Rattle.jv_base.specs.declared.types.Base.{Base}
 use Rattle.jv_base.specs.declared.types.Base.TheVariants as base
 use Rattle.jv_base.specs.declared.types.FieldType.{FieldType}
 use Rattle.jv_base.specs.declared.types.MethodType.{MethodType}
+use Rattle.jv_base.proofs.Lists.{mapped_from}
 use Rattle.class_model.specs.Flags.{acc_protected, acc_static, is_init}
 use Rattle.class_model.specs.declared.class.Class.{Class}
 use Rattle.class_model.specs.declared.class.Method.{Method}
@@ -38,13 +39,13 @@ use Rattle.type_verifier.specs.Environment.{Environment}
 use Rattle.type_verifier.specs.Members.{is_class_type, is_early_field, is_guarded, is_guarded_field, is_guarded_method}
 use Rattle.type_verifier.specs.Rules.{told_type}
 use Rattle.type_verifier.specs.Verified.{AreTyped, IsTypedMethod, environment}
-use Rattle.image_laws.specs.TypedImage.Named.{IsBaseNamed, IsCodeNamed, IsCodeRenamed, IsFieldNamed, IsFrameNamed, IsHandlerNamed}
-use Rattle.image_laws.specs.TypedImage.Named.{IsMethodNamed, IsMethodTypeNamed, IsNamed, IsOpNamed, IsTypeNamed, IsVTypeNamed}
+use Rattle.image_laws.specs.TypedImage.Named.{IsBaseNamed, IsCodeNamed, IsCodeRenamed, IsFieldNamed, IsFrameNamed}
+use Rattle.image_laws.specs.TypedImage.Named.{IsHandlerNamed, IsMethodNamed, IsMethodTypeNamed, IsNamed, IsOpNamed}
+use Rattle.image_laws.specs.TypedImage.Named.{IsTypeNamed, IsVTypeNamed}
 use Rattle.image_laws.proofs.TypedImage.Staying.{field_ref_stays, itself, known_stay, lines_stay, method_ref_stays}
 use Rattle.image_laws.proofs.TypedImage.Staying.{method_told_stays, method_type_stays, told_stays}
 use Rattle.image_laws.proofs.TypedImage.Walking.{is_typed}
 use Rattle.removal_laws.proofs.FilteredSet.Alike as alike
-use Rattle.removal_laws.proofs.FilteredSet.LinkKinds.{gone}
 
 -- ---- all is kept
 
@@ -56,11 +57,11 @@ all : {A : Type 0} (xs : List A) → AllByRecursion (λ x. true ≡ true) xs
 all [] = tt
 all (x ∷ xs) = (refl, all xs)
 
-each : {A : Type 0} (P : A → Type 0) → ((x : A) → P x) → (xs : List A) → AllByRecursion P xs
+pub each : {A : Type 0} (P : A → Type 0) → ((x : A) → P x) → (xs : List A) → AllByRecursion P xs
 each P h [] = tt
 each P h (x ∷ xs) = (h x, each P h xs)
 
-if_some : {A : Type 0} (P : A → Type 0) → ((x : A) → P x) → (o : Option A) → IfSome o P
+pub if_some : {A : Type 0} (P : A → Type 0) → ((x : A) → P x) → (o : Option A) → IfSome o P
 if_some P h None = tt
 if_some P h (Some x) = h x
 
@@ -257,8 +258,8 @@ module _ (filter_by : AttributeFilter) (a : List Class) where
 
   pub all_typed : AreTyped a → AreTyped b
   all_typed typed n k d at m there =
-      let g = gone filter_by a (filtered filter_by) a n d at in
-      let h = gone filter_by a (method_filtered filter_by) g.0.methods k m
+      let g = mapped_from (filtered filter_by) a n d at in
+      let h = mapped_from (method_filtered filter_by) g.0.methods k m
       (ap (λ (x : Class). slice_get x.methods k) (sym g.2) ∙ there) in
       subst (λ (x : Class). IsTypedMethod b n x k m) (sym g.2)
       (subst (IsTypedMethod b n (filtered filter_by g.0) k) (sym h.2)

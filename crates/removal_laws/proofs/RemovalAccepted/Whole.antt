@@ -25,7 +25,8 @@ use Rattle.removal_laws.proofs.RemovalTyped.Typing.{typed_again}
 use Rattle.removal_laws.proofs.FilteredSet.Building.{IsBuilt, at_each, built_again, taken_again}
 use Rattle.removal_laws.proofs.FilteredSet.LinkKinds.{BreaksNone}
 use Rattle.removal_laws.proofs.FilteredSet.Typing as typing
-use Rattle.removal_laws.specs.RemovalAccepted.Laws.{FilteredRemovalKeepsTaken, FilteredRemovalKeepsTyped, left_and_filtered}
+use Rattle.removal_laws.specs.RemovalAccepted.Laws.{FilteredRemovalKeepsTaken, FilteredRemovalKeepsTyped}
+use Rattle.removal_laws.specs.RemovalAccepted.Laws.{left_and_filtered}
 
 module _ (classes : List Class) (rules : KeptByRules) (marks : List Bool)
     (closed : Closed (requires classes rules) (is_marked marks)) (taken : IsTaken classes) where

@@ -20,8 +20,8 @@ use Rattle.member_shrink.specs.Shrunk.{is_marked, shrunk}
 use Rattle.require_sys.specs.Requires.{requires}
 use Rattle.require_sys.specs.declared.kept.KeptByRules.{KeptByRules}
 use Rattle.image_laws.specs.ShrunkImage.Keeping.{SupersMarked, class_place, is_class_kept, rank}
-use Rattle.image_laws.proofs.ShrunkImage.Classes.{class_at, class_marked, class_there, f, interfaces_kept, interfaces_same}
-use Rattle.image_laws.proofs.ShrunkImage.Classes.{name_same, p, super_kept, super_same}
+use Rattle.image_laws.proofs.ShrunkImage.Classes.{class_at, class_marked, class_there, f, interfaces_kept}
+use Rattle.image_laws.proofs.ShrunkImage.Classes.{interfaces_same, name_same, p, super_kept, super_same}
 use Rattle.image_laws.specs.TakenSet.TakenSet.{IsTaken}
 use Rattle.image_laws.proofs.TakenSet.Names.{class_found}
 use Rattle.removal_laws.proofs.RemovalImage.Marked.{supers_marked}

@@ -37,7 +37,8 @@ use Rattle.removal_laws.proofs.RemovalImage.Marked.{supers_marked}
 use Rattle.removal_laws.proofs.RemovalLinks.Left.{stays}
 use Rattle.removal_laws.proofs.RemovalLinks.Places.{origin}
 use Rattle.removal_laws.specs.RemovalBuilds.FilesLeft.{file_left, files_left}
-use Rattle.removal_laws.proofs.RemovalBuilds.LeftLists.{map_left, none_of_each, none_there, pairs_kept, rank_most, sum_kept}
+use Rattle.removal_laws.proofs.RemovalBuilds.LeftLists.{map_left, none_of_each, none_there, pairs_kept, rank_most}
+use Rattle.removal_laws.proofs.RemovalBuilds.LeftLists.{sum_kept}
 
 module _ (classes : List Class) (marks : List Bool) where
   abbrev out : List Class

@@ -2,12 +2,12 @@
 use Rattle.std.proofs.Common.{◌≡◌, ◌<◌, ◌≤◌, ◌⊎◌, inl, inr, ℕ, zero, suc, ◌+◌, ◌-◌, Bool, true, false, cond}
 use Rattle.std.proofs.Common.{List, [], ◌∷◌, ◌++◌, length, map, Option, Some, None, slice_get, refl, sym, ap, subst}
 use Rattle.std.proofs.Common.{◌∙◌}
-use Rattle.std.proofs.Common.{arith, length-append}
+use Rattle.std.proofs.Common.{arith}
 use Rattle.std.specs.Prelude.{IfSome, codes}
 use Rattle.std.specs.List.{AllByRecursion, cons_option}
 use Rattle.std.specs.Option.{option_map, option_map_or}
 use Rattle.std.proofs.lemmas.Bool.{cases_lt}
-use Rattle.std.proofs.lemmas.List.{length-map}
+use Rattle.jv_base.proofs.Lists.{all_split, found_at}
 use Rattle.mark_core.specs.Marks.{Closed}
 use Rattle.class_model.specs.declared.class.Class.{Class}
 use Rattle.lib_table.specs.Lookups as table
@@ -25,6 +25,7 @@ use Rattle.class_pool.specs.declared.id.ClassId.{ClassId}
 use Rattle.class_pool.specs.declared.id.ClassId.TheVariants.{Prog, Lib}
 use Rattle.class_pool.specs.declared.id.MemberAt.{MemberAt}
 use Rattle.class_pool.proofs.Declaring.{declared_there, named_there}
+use Rattle.class_pool.proofs.ToldMembers.{rows_counted}
 use Rattle.member_shrink.specs.Shrunk.{is_marked, shrunk}
 use Rattle.require_sys.specs.Closing.{is_in}
 use Rattle.require_sys.specs.Requires.{Item, OfClass, OfMember, called_wants, initialisation_wants, requires}
@@ -32,30 +33,19 @@ use Rattle.require_sys.specs.Requires.{rule_wants}
 use Rattle.require_sys.specs.Requires.{super_wants}
 use Rattle.require_sys.specs.declared.kept.KeptByRules.{KeptByRules}
 use Rattle.require_sys.proofs.Closing.{class_in, field_in, method_in, supertypes_in}
-use Rattle.require_sys.proofs.Parts.{all_left, all_option}
+use Rattle.require_sys.proofs.Parts.{all_option}
 use Rattle.require_sys.proofs.Running.{selected_in}
 use Rattle.image_laws.specs.SetImage.Image.{Image, SelectedKept}
-use Rattle.image_laws.specs.ShrunkImage.Keeping.{ObjectKept, SupersMarked, is_class_kept, is_class_marked, is_index_marked}
-use Rattle.image_laws.specs.ShrunkImage.Keeping.{is_member_kept}
-use Rattle.image_laws.proofs.ShrunkImage.Classes.{class_marked, class_there, kept_from, member_from, member_marked, shrunk_image}
+use Rattle.image_laws.specs.ShrunkImage.Keeping.{ObjectKept, SupersMarked, is_class_kept, is_class_marked}
+use Rattle.image_laws.specs.ShrunkImage.Keeping.{is_index_marked, is_member_kept}
+use Rattle.image_laws.proofs.ShrunkImage.Classes.{class_marked, class_there, kept_from, member_from, member_marked}
+use Rattle.image_laws.proofs.ShrunkImage.Classes.{shrunk_image}
 use Rattle.image_laws.specs.TakenSet.TakenSet.{IsTaken}
 use Rattle.image_laws.proofs.TakenSet.Names.{differ, object_named}
 use Rattle.image_laws.specs.ViewImage.ImageView.{clinit}
 use Rattle.image_laws.proofs.ViewImage.Standing as standing
 use Rattle.image_laws.proofs.ViewImage.Standing.{Stands}
 use Rattle.removal_laws.specs.RemovalImage.Laws.{InitialisationKept}
-
-element : {X : Type 0} (xs : List X) (i : ℕ) → i < length xs → (x : X) × (slice_get xs i ≡ Some x)
-element [] i low = absurd (omega (arith, low))
-element (x ∷ xs) zero low = (x, refl)
-element (x ∷ xs) (suc i) low = element xs i (omega (arith, low))
-
-rows_count : (c : Class)
-    → length (map field_row c.fields ++ map method_row c.methods) ≡ length c.fields + length c.methods
-rows_count c =
-    length-append (map field_row c.fields) (map method_row c.methods)
-    ∙ ap (λ n. n + length (map method_row c.methods)) (length-map c.fields field_row)
-    ∙ ap (λ n. length c.fields + n) (length-map c.methods method_row)
 
 abbrev rows_of : Option Class → List MemberRow
 rows_of o = option_map_or (λ (c : Class). map field_row c.fields ++ map method_row c.methods) o []
@@ -108,12 +98,12 @@ module _ (classes : List Class) (rules : KeptByRules) (marks : List Bool)
         where
           at : (k < length c.fields) ⊎ (length c.fields ≤ k) → is_marked marks (class_item classes n) ≡ true
           at (inl in_fields) =
-              let f = element c.fields k in_fields in
+              let f = found_at c.fields k in_fields in
               (field_in classes rules (is_marked marks) closed n c is k f.0 f.1 h).0
           at (inr behind) =
-              let count = rows_count c in
+              let count = rows_counted c in
               let rest : k - length c.fields < length c.methods = omega (arith, low, behind, count) in
-              let m = element c.methods (k - length c.fields) rest in
+              let m = found_at c.methods (k - length c.fields) rest in
               let place : k ≡ length c.fields + (k - length c.fields) = omega (arith, behind) in
               (method_in classes rules (is_marked marks) closed n c is (k - length c.fields) m.0 m.1
               (ap (λ (j : ℕ). is_marked marks (class_item classes n + 1 + j)) (sym place) ∙ h)).0
@@ -199,7 +189,7 @@ module _ (classes : List Class) (rules : KeptByRules) (marks : List Bool)
 
     pub selected_kept : SelectedKept classes (shrunk classes marks) image
     selected_kept (Prog n) m there h class k below other instance open_method =
-        let c = element classes n there in
+        let c = found_at classes n there in
         some_kept (named_at classes m) (selected classes (Prog n) m) (standing.selected_stands classes (Prog n) m)
         (selected_in classes rules (is_marked marks) closed n c.0 m c.1 (class_marked classes marks (Prog n) h) class
         (member_in m.class m.index k) below other instance open_method)
@@ -216,9 +206,9 @@ module _ (classes : List Class) (rules : KeptByRules) (marks : List Bool)
         → IfSome (declared_in classes clinit (Prog n)) MemberIn
     starts_in n c is h =
         let wants = class_in classes rules (is_marked marks) closed n c is h in
-        let rest = (all_left ItemIn (super_wants classes c)
+        let rest = (all_split ItemIn (super_wants classes c)
         (initialisation_wants classes n ++ (rule_wants classes rules n ++ called_wants classes n c)) wants).1 in
-        let here = (all_left ItemIn (initialisation_wants classes n)
+        let here = (all_split ItemIn (initialisation_wants classes n)
         (rule_wants classes rules n ++ called_wants classes n c) rest).0 in
         some (declared_in classes clinit (Prog n))
         (all_option ItemIn (option_map OfMember (declared_in classes clinit (Prog n))) [] here).0
@@ -237,5 +227,5 @@ module _ (classes : List Class) (rules : KeptByRules) (marks : List Bool)
 
         by : (x : ClassId) → IsClass classes x → is_class_marked classes marks x ≡ true
             → IfSome (declared_in classes clinit x) MemberIn
-        by (Prog n) there marked = let c = element classes n there in starts_in n c.0 c.1 marked
+        by (Prog n) there marked = let c = found_at classes n there in starts_in n c.0 c.1 marked
         by (Lib id) there marked = library id (declared_at classes (Lib id) clinit.0 clinit.1)

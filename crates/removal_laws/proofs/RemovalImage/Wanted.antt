@@ -7,6 +7,7 @@ use Rattle.std.specs.Option.{option_map, option_map_or}
 use Rattle.jv_base.specs.Descriptors.{read_field, read_method}
 use Rattle.jv_base.specs.declared.types.Base.{Base}
 use Rattle.jv_base.specs.declared.types.Base.TheVariants as base
+use Rattle.jv_base.proofs.Lists.{all_split}
 use Rattle.mark_core.specs.Marks.{Closed}
 use Rattle.class_model.specs.declared.class.Class.{Class}
 use Rattle.class_model.specs.declared.class.Method.{Method}
@@ -28,7 +29,6 @@ use Rattle.require_sys.specs.Requires.{frame_wants, handler_wants, method_ref_wa
 use Rattle.require_sys.specs.Requires.{method_type_wants, name_wants, op_wants, requires, resolved_wants, throws_wants}
 use Rattle.require_sys.specs.declared.kept.KeptByRules.{KeptByRules}
 use Rattle.require_sys.proofs.Closing.{method_in}
-use Rattle.require_sys.proofs.Parts.{all_left}
 use Rattle.image_laws.specs.ShrunkImage.Keeping.{is_class_kept, is_member_kept}
 use Rattle.image_laws.proofs.ViewImage.Standing.{Stands}
 use Rattle.removal_laws.proofs.RemovalImage.Links.{base_class}
@@ -75,9 +75,9 @@ module _ (classes : List Class) (rules : KeptByRules) (marks : List Bool)
         → AllIn (base_wants classes r.class.base) × AllIn (field_text_wants classes (read_field r.ty))
         × AllIn (resolved_wants classes (callable classes (Prog n) (linked_field classes (Prog n) r)))
     field_parts r all =
-        let one = all_left In (base_wants classes r.class.base) (field_text_wants classes (read_field r.ty)
+        let one = all_split In (base_wants classes r.class.base) (field_text_wants classes (read_field r.ty)
         ++ resolved_wants classes (callable classes (Prog n) (linked_field classes (Prog n) r))) all in
-        let two = all_left In (field_text_wants classes (read_field r.ty))
+        let two = all_split In (field_text_wants classes (read_field r.ty))
         (resolved_wants classes (callable classes (Prog n) (linked_field classes (Prog n) r))) one.1 in
         (one.0, two.0, two.1)
 
@@ -85,9 +85,9 @@ module _ (classes : List Class) (rules : KeptByRules) (marks : List Bool)
         → AllIn (base_wants classes r.class.base) × AllIn (method_text_wants classes (read_method r.ty))
         × AllIn (resolved_wants classes (callable classes (Prog n) (linked_method classes (Prog n) r)))
     method_parts r all =
-        let one = all_left In (base_wants classes r.class.base) (method_text_wants classes (read_method r.ty)
+        let one = all_split In (base_wants classes r.class.base) (method_text_wants classes (read_method r.ty)
         ++ resolved_wants classes (callable classes (Prog n) (linked_method classes (Prog n) r))) all in
-        let two = all_left In (method_text_wants classes (read_method r.ty))
+        let two = all_split In (method_text_wants classes (read_method r.ty))
         (resolved_wants classes (callable classes (Prog n) (linked_method classes (Prog n) r))) one.1 in
         (one.0, two.0, two.1)
 
@@ -102,9 +102,9 @@ module _ (classes : List Class) (rules : KeptByRules) (marks : List Bool)
         → is_marked marks (class_item classes n + 1 + (length c.fields + k)) ≡ true → MethodWants c m
     wants_of_method c k m is at marked =
         let wants = method_in classes rules (is_marked marks) closed n c is k m at marked in
-        let one = all_left In (method_type_wants classes m.ty)
+        let one = all_split In (method_type_wants classes m.ty)
         (throws_wants classes rules m ++ option_map_or (code_wants classes n) m.code []) wants.1 in
-        let two = all_left In (throws_wants classes rules m) (option_map_or (code_wants classes n) m.code []) one.1 in
+        let two = all_split In (throws_wants classes rules m) (option_map_or (code_wants classes n) m.code []) one.1 in
         record { typed = one.0; throws = two.0; code = two.1 }
 
     -- and its code
@@ -115,8 +115,8 @@ module _ (classes : List Class) (rules : KeptByRules) (marks : List Bool)
 
     pub wants_of_code : (code : Code) → AllIn (code_wants classes n code) → CodeWants code
     wants_of_code code all =
-        let one = all_left In (flat_map (λ (i : Ins). op_wants classes n i.op) code.ins)
+        let one = all_split In (flat_map (λ (i : Ins). op_wants classes n i.op) code.ins)
         (flat_map (handler_wants classes) code.handlers ++ flat_map (frame_wants classes) code.frames) all in
-        let two = all_left In (flat_map (handler_wants classes) code.handlers)
+        let two = all_split In (flat_map (handler_wants classes) code.handlers)
         (flat_map (frame_wants classes) code.frames) one.1 in
         record { instructions = one.0; handlers = two.0; frames = two.1 }

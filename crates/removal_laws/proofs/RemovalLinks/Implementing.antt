@@ -5,6 +5,8 @@ use Rattle.std.proofs.Common.{map, Option, Some, None, slice_get, refl, sym, ap,
 use Rattle.std.specs.List.{AllByRecursion, enumerate_from, filter, flat_map, list_any}
 use Rattle.std.specs.Option.{option_map, option_map_or}
 use Rattle.std.proofs.lemmas.Option.{slice_get_within}
+use Rattle.std.proofs.Math.Bool.{or-true}
+use Rattle.jv_base.proofs.Lists.{all_mapped, all_filtered}
 use Rattle.mark_core.specs.Marks.{Closed}
 use Rattle.class_model.specs.Flags.{acc_abstract, has}
 use Rattle.class_model.specs.declared.class.Class.{Class}
@@ -45,21 +47,6 @@ pub each_none : {X Y : Type 0} (g : X → List Y) (xs : List X) → AllByRecursi
 each_none {X} {Y} g [] h = refl
 each_none {X} {Y} g (x ∷ xs) h = ap (λ (t : List Y). t ++ flat_map g xs) h.0 ∙ each_none g xs h.1
 
-filter_from : {X : Type 0} (P : X → Type 0) (t : X → Bool) (xs : List X)
-    → AllByRecursion (λ x. t x ≡ true → P x) xs → AllByRecursion P (filter t xs)
-filter_from P t [] h = tt
-filter_from P t (x ∷ xs) h = by (t x) refl (filter_from P t xs h.1)
-  where
-    by : (b : Bool) → t x ≡ b → AllByRecursion P (filter t xs)
-        → AllByRecursion P (cond b (x ∷ filter t xs) (filter t xs))
-    by true e r = (h.0 e, r)
-    by false e r = r
-
-map_from : {X Y : Type 0} (P : Y → Type 0) (g : X → Y) (xs : List X) → AllByRecursion (λ x. P (g x)) xs
-    → AllByRecursion P (map g xs)
-map_from P g [] h = tt
-map_from P g (x ∷ xs) h = (h.0, map_from P g xs h.1)
-
 -- what holds of the ranks of kept places holds of all places of what is kept
 pub kept_places : {A : Type 0} (P : ℕ → Type 0) (q : ℕ → Bool) (n s : ℕ) (xs : List A)
     → ((k : ℕ) (x : A) → slice_get xs k ≡ Some x → q (n + k) ≡ true → P (s + rank q n k))
@@ -96,14 +83,9 @@ methods_among classes x rs =
     filter (is_instance_method classes)
     (map (λ (e : ℕ × MemberRow). record { class = x; index = e.0 }) (enumerate_from 0 rs))
 
--- each class of a list is one of it
-or_true : (b : Bool) → (b || true) ≡ true
-or_true true = refl
-or_true false = refl
-
-more_any : (x c : ClassId) (xs : List ClassId) → list_any (same_class x) xs ≡ true
+pub more_any : (x c : ClassId) (xs : List ClassId) → list_any (same_class x) xs ≡ true
     → list_any (same_class x) (c ∷ xs) ≡ true
-more_any x c xs h = ap (λ (t : Bool). same_class x c || t) h ∙ or_true (same_class x c)
+more_any x c xs h = ap (λ (t : Bool). same_class x c || t) h ∙ or-true (same_class x c)
 
 each_among : (xs : List ClassId) → AllByRecursion (λ x. list_any (same_class x) xs ≡ true) xs
 each_among [] = tt
@@ -180,11 +162,11 @@ module _ (classes : List Class) (rules : KeptByRules) (marks : List Bool)
           → Q (at_index (i.moved (Prog n)) l)) (sym zero_plus)
           (λ instance. let was = sym (i.instance_moved m m-kept) ∙ instance in step m refl m-kept was (p-m was))) in
           subst (λ rs. AllByRecursion Q (methods_among out (i.moved (Prog n)) rs)) (sym there)
-          (filter_from Q (is_instance_method out)
+          (all_filtered Q (is_instance_method out)
           (map (λ (e : ℕ × MemberRow). at_index (i.moved (Prog n)) e.0)
           (enumerate_from 0 (kept_of (is_marked marks) (λ k x. x) (class_item classes n + 1)
           (all_rows classes marks n c))))
-          (map_from (λ m. is_instance_method out m ≡ true → Q m)
+          (all_mapped (λ m. is_instance_method out m ≡ true → Q m)
           (λ (e : ℕ × MemberRow). at_index (i.moved (Prog n)) e.0)
           (enumerate_from 0 (kept_of (is_marked marks) (λ k x. x) (class_item classes n + 1)
           (all_rows classes marks n c))) places))

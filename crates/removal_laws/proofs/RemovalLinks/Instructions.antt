@@ -12,6 +12,7 @@ use Rattle.jv_base.specs.declared.types.Base.{Base}
 use Rattle.jv_base.specs.declared.types.Base.TheVariants as base
 use Rattle.jv_base.specs.declared.types.FieldType.{FieldType}
 use Rattle.jv_base.specs.declared.types.MethodType.{MethodType}
+use Rattle.jv_base.proofs.Lists.{all_split, nil_parts}
 use Rattle.mark_core.specs.Marks.{Closed}
 use Rattle.class_model.specs.Flags.{acc_abstract, acc_final, acc_static, has, is_init}
 use Rattle.class_model.specs.declared.class.Class.{Class}
@@ -41,7 +42,6 @@ use Rattle.require_sys.specs.Requires.{Item, base_wants, field_ref_wants, field_
 use Rattle.require_sys.specs.Requires.{method_text_wants, name_wants, op_wants, requires}
 use Rattle.require_sys.specs.Requires.{resolved_wants, special_wants, type_wants}
 use Rattle.require_sys.specs.declared.kept.KeptByRules.{KeptByRules}
-use Rattle.require_sys.proofs.Parts.{all_left}
 use Rattle.image_laws.specs.SetImage.Image.{Image}
 use Rattle.image_laws.proofs.SetImage.Access.{class_accessible_moved, class_below_moved, member_accessible_moved}
 use Rattle.image_laws.proofs.SetImage.Finding.{field_moved, method_moved}
@@ -49,12 +49,12 @@ use Rattle.image_laws.specs.ShrunkImage.Keeping.{class_place, is_class_kept, mem
 use Rattle.image_laws.proofs.ShrunkImage.Classes.{class_marked, interface_same, named_moved, p, told}
 use Rattle.image_laws.specs.TakenSet.TakenSet.{IsTaken}
 use Rattle.image_laws.proofs.TakenSet.Proper.{is_proper}
-use Rattle.image_laws.proofs.TakenSet.Rows.{none_left}
 use Rattle.image_laws.proofs.ViewImage.Standing.{Stands, field_stands, method_stands}
 use Rattle.removal_laws.proofs.RemovalImage.Links.{base_class, field_from, field_link}
 use Rattle.removal_laws.proofs.RemovalImage.Links.{is_taken, method_from, method_link}
 use Rattle.removal_laws.proofs.RemovalImage.Marked.{image}
-use Rattle.removal_laws.proofs.RemovalImage.Wanted.{AllIn, In, base_kept, field_parts, found_kept, method_parts, name_kept}
+use Rattle.removal_laws.proofs.RemovalImage.Wanted.{AllIn, In, base_kept, field_parts, found_kept, method_parts}
+use Rattle.removal_laws.proofs.RemovalImage.Wanted.{name_kept}
 
 module _ (classes : List Class) (rules : KeptByRules) (marks : List Bool)
     (closed : Closed (requires classes rules) (is_marked marks)) (taken : IsTaken classes) where
@@ -148,9 +148,9 @@ module _ (classes : List Class) (rules : KeptByRules) (marks : List Bool)
         → flat_map (type_kinds classes n) tys ≡ [] → flat_map (type_kinds out left) tys ≡ []
     types_left [] all none = refl
     types_left (ty ∷ tys) all none =
-        let parts = all_left (In classes rules marks closed) (type_wants classes ty)
+        let parts = all_split (In classes rules marks closed) (type_wants classes ty)
         (flat_map (type_wants classes) tys) all in
-        let nones = none_left (type_kinds classes n ty) (flat_map (type_kinds classes n) tys) none in
+        let nones = nil_parts (type_kinds classes n ty) (flat_map (type_kinds classes n) tys) none in
         ap (λ (t : List ProfileKind). t ++ flat_map (type_kinds out left) tys) (base_left ty.base parts.0 nones.0)
         ∙ types_left tys parts.1 nones.1
 
@@ -158,9 +158,9 @@ module _ (classes : List Class) (rules : KeptByRules) (marks : List Bool)
         → flat_map (name_kinds classes n) names ≡ [] → flat_map (name_kinds out left) names ≡ []
     names_left [] all none = refl
     names_left (name ∷ names) all none =
-        let parts = all_left (In classes rules marks closed) (name_wants classes name)
+        let parts = all_split (In classes rules marks closed) (name_wants classes name)
         (flat_map (name_wants classes) names) all in
-        let nones = none_left (name_kinds classes n name) (flat_map (name_kinds classes n) names) none in
+        let nones = nil_parts (name_kinds classes n name) (flat_map (name_kinds classes n) names) none in
         ap (λ (t : List ProfileKind). t ++ flat_map (name_kinds out left) names) (name_left name parts.0 nones.0)
         ∙ names_left names parts.1 nones.1
 
@@ -285,7 +285,7 @@ module _ (classes : List Class) (rules : KeptByRules) (marks : List Bool)
     field_ref_left : (method : List ℕ) (static written : Bool) (r : MemberRef) → All (field_ref_wants classes n r)
         → field_kinds classes n method static written r ≡ [] → field_kinds out left method static written r ≡ []
     field_ref_left method static written r all none =
-        let nones = none_left (field_text_kinds classes n (read_field r.ty))
+        let nones = nil_parts (field_text_kinds classes n (read_field r.ty))
         (member_kinds (linked_field classes (Prog n) r) (used_kinds classes n method static written)) none in
         let parts = field_parts classes rules marks closed n r all in
         ap (λ (t : List ProfileKind). t
@@ -300,10 +300,10 @@ module _ (classes : List Class) (rules : KeptByRules) (marks : List Bool)
     call_left : (static : Bool) (r : MemberRef) → All (method_ref_wants classes n r)
         → call_kinds classes n static r ≡ [] → call_kinds out left static r ≡ []
     call_left static r all none =
-        let nones = none_left (method_text_kinds classes n (read_method r.ty)
+        let nones = nil_parts (method_text_kinds classes n (read_method r.ty)
         ++ unless (not (is_text r.name (codes "<clinit>"))) WrongKind)
         (member_kinds (linked_method classes (Prog n) r) (static_kinds classes static)) none in
-        let firsts = none_left (method_text_kinds classes n (read_method r.ty))
+        let firsts = nil_parts (method_text_kinds classes n (read_method r.ty))
         (unless (not (is_text r.name (codes "<clinit>"))) WrongKind) nones.0 in
         let parts = method_parts classes rules marks closed n r all in
         ap (λ (t : List ProfileKind). t ++ unless (not (is_text r.name (codes "<clinit>"))) WrongKind
@@ -353,7 +353,7 @@ module _ (classes : List Class) (rules : KeptByRules) (marks : List Bool)
     new_left : (name : List ℕ) → All (name_wants classes name) → new_kinds classes n name ≡ []
         → new_kinds out left name ≡ []
     new_left name all none =
-        let nones = none_left (name_kinds classes n name)
+        let nones = nil_parts (name_kinds classes n name)
         (option_map_or (made_kinds classes) (class_named classes name) []) none in
         ap (λ (t : List ProfileKind). t ++ option_map_or (made_kinds out) (class_named out name) [])
         (name_left name all nones.0)
@@ -373,7 +373,7 @@ module _ (classes : List Class) (rules : KeptByRules) (marks : List Bool)
     then_init : (r : MemberRef) (xs ys : List ProfileKind) → ys ≡ [] → xs ++ no_init_kinds r ≡ []
         → ys ++ no_init_kinds r ≡ []
     then_init r xs ys e none = ap (λ (t : List ProfileKind). t ++ no_init_kinds r) e
-        ∙ (none_left xs (no_init_kinds r) none).1
+        ∙ (nil_parts xs (no_init_kinds r) none).1
 
     -- ---- instructions
 
@@ -386,16 +386,16 @@ module _ (classes : List Class) (rules : KeptByRules) (marks : List Bool)
     op_left method (op.PutField r) all none = field_ref_left method false true r all none
     op_left method (op.InvokeVirtual r) all none =
         then_init r (call_kinds classes n false r) (call_kinds out left false r)
-        (call_left false r all (none_left (call_kinds classes n false r) (no_init_kinds r) none).0) none
+        (call_left false r all (nil_parts (call_kinds classes n false r) (no_init_kinds r) none).0) none
     op_left method (op.InvokeStatic r) all none =
         then_init r (call_kinds classes n true r) (call_kinds out left true r)
-        (call_left true r all (none_left (call_kinds classes n true r) (no_init_kinds r) none).0) none
+        (call_left true r all (nil_parts (call_kinds classes n true r) (no_init_kinds r) none).0) none
     op_left method (op.InvokeInterface r) all none =
         then_init r (call_kinds classes n false r) (call_kinds out left false r)
-        (call_left false r all (none_left (call_kinds classes n false r) (no_init_kinds r) none).0) none
+        (call_left false r all (nil_parts (call_kinds classes n false r) (no_init_kinds r) none).0) none
     op_left method (op.InvokeSpecial r) all none =
-        let nones = none_left (call_kinds classes n false r) (special_class_kinds classes n r) none in
-        let refs = (all_left (In classes rules marks closed) (method_ref_wants classes n r)
+        let nones = nil_parts (call_kinds classes n false r) (special_class_kinds classes n r) none in
+        let refs = (all_split (In classes rules marks closed) (method_ref_wants classes n r)
         (special_wants classes n (class_of classes r) (callable classes (Prog n) (linked_method classes (Prog n) r)))
         all).0 in
         ap (λ (t : List ProfileKind). t ++ special_class_kinds out left r) (call_left false r refs nones.0)

@@ -8,6 +8,7 @@ use Rattle.std.specs.Option.{option_map_or}
 use Rattle.std.proofs.lemmas.Bool.{and_parts}
 use Rattle.std.proofs.lemmas.List.{length-map}
 use Rattle.std.proofs.lemmas.Option.{slice_get_within}
+use Rattle.jv_base.proofs.Lists.{all_split, nil_parts, nil_joined}
 use Rattle.mark_core.specs.Marks.{Closed}
 use Rattle.class_model.specs.Flags.{acc_abstract, acc_final, acc_interface, has, is_left_out_class}
 use Rattle.class_model.specs.Flags.{is_native}
@@ -27,6 +28,7 @@ use Rattle.class_pool.specs.Items.{class_item}
 use Rattle.class_pool.specs.Resolution.{is_interface_in}
 use Rattle.class_pool.specs.declared.id.ClassId.TheVariants.{Prog}
 use Rattle.class_pool.specs.declared.id.MemberAt.{MemberAt}
+use Rattle.class_pool.proofs.ObjectLaws.{interface_flag}
 use Rattle.link_check.specs.Profile.{body_kinds, code_kinds, declaration_kinds, frame_kinds, handler_kinds}
 use Rattle.link_check.specs.Profile.{implementing_kinds, kinds_of_class, kinds_of_field, kinds_of_method, left_out_at}
 use Rattle.link_check.specs.Profile.{method_type_kinds, name_kinds, op_kinds, overriding_kinds}
@@ -40,21 +42,17 @@ use Rattle.require_sys.specs.Requires.{name_wants, op_wants, requires, rule_want
 use Rattle.require_sys.specs.Requires.{verification_wants}
 use Rattle.require_sys.specs.declared.kept.KeptByRules.{KeptByRules}
 use Rattle.require_sys.proofs.Closing.{class_in, field_in}
-use Rattle.require_sys.proofs.Parts.{all_left}
 use Rattle.image_laws.specs.ShrunkImage.Keeping.{is_class_kept, is_member_kept, rank}
 use Rattle.image_laws.proofs.ShrunkImage.Classes.{f, kept_from, member_from, p}
 use Rattle.image_laws.proofs.ShrunkImage.Kept.{as_filter, length_kept, rank_sum}
 use Rattle.image_laws.specs.TakenSet.TakenSet.{IsTaken}
-use Rattle.image_laws.proofs.TakenSet.Rows.{interface_flag, none_left}
 use Rattle.removal_laws.proofs.RemovalImage.Wanted.{AllIn, In, wants_of_code, wants_of_method}
 use Rattle.removal_laws.specs.RemovalLinks.Laws.{RemovalKeepsLinks}
 use Rattle.removal_laws.proofs.RemovalLinks.Implementing.{implementing_left}
-use Rattle.removal_laws.proofs.RemovalLinks.Instructions.{base_left, handler_left, left, names_left, op_left, types_left}
+use Rattle.removal_laws.proofs.RemovalLinks.Instructions.{base_left, handler_left, left, names_left, op_left}
+use Rattle.removal_laws.proofs.RemovalLinks.Instructions.{types_left}
 use Rattle.removal_laws.proofs.RemovalLinks.Overriding.{overriding_left}
 use Rattle.removal_laws.proofs.RemovalLinks.Places.{Origin, none_broken, origin}
-
-joined : {X : Type 0} (xs ys : List X) → xs ≡ [] → ys ≡ [] → xs ++ ys ≡ []
-joined {X} xs ys h k = ap (λ (t : List X). t ++ ys) h ∙ k
 
 module _ (classes : List Class) (rules : KeptByRules) (marks : List Bool)
     (closed : Closed (requires classes rules) (is_marked marks)) (taken : IsTaken classes) where
@@ -78,11 +76,11 @@ module _ (classes : List Class) (rules : KeptByRules) (marks : List Bool)
         → flat_map (λ (x : Ins). op_kinds out at method x.op) xs ≡ []
     ops_left method [] all none = refl
     ops_left method (x ∷ xs) all none =
-        let parts = all_left (In classes rules marks closed) (op_wants classes n x.op)
+        let parts = all_split (In classes rules marks closed) (op_wants classes n x.op)
         (flat_map (λ (x : Ins). op_wants classes n x.op) xs) all in
-        let nones = none_left (op_kinds classes n method x.op)
+        let nones = nil_parts (op_kinds classes n method x.op)
         (flat_map (λ (x : Ins). op_kinds classes n method x.op) xs) none in
-        joined (op_kinds out at method x.op) (flat_map (λ (x : Ins). op_kinds out at method x.op) xs)
+        nil_joined (op_kinds out at method x.op) (flat_map (λ (x : Ins). op_kinds out at method x.op) xs)
         (op_left classes rules marks closed taken n own method x.op parts.0 nones.0)
         (ops_left method xs parts.1 nones.1)
 
@@ -90,10 +88,10 @@ module _ (classes : List Class) (rules : KeptByRules) (marks : List Bool)
         → flat_map (handler_kinds classes n) xs ≡ [] → flat_map (handler_kinds out at) xs ≡ []
     handlers_left [] all none = refl
     handlers_left (x ∷ xs) all none =
-        let parts = all_left (In classes rules marks closed) (handler_wants classes x)
+        let parts = all_split (In classes rules marks closed) (handler_wants classes x)
         (flat_map (handler_wants classes) xs) all in
-        let nones = none_left (handler_kinds classes n x) (flat_map (handler_kinds classes n) xs) none in
-        joined (handler_kinds out at x) (flat_map (handler_kinds out at) xs)
+        let nones = nil_parts (handler_kinds classes n x) (flat_map (handler_kinds classes n) xs) none in
+        nil_joined (handler_kinds out at x) (flat_map (handler_kinds out at) xs)
         (handler_left classes rules marks closed taken n own x parts.0 nones.0) (handlers_left xs parts.1 nones.1)
 
     verification_left : (v : VType) → All (verification_wants classes v) → verification_kinds classes n v ≡ []
@@ -105,20 +103,20 @@ module _ (classes : List Class) (rules : KeptByRules) (marks : List Bool)
         → flat_map (verification_kinds classes n) xs ≡ [] → flat_map (verification_kinds out at) xs ≡ []
     verifications_left [] all none = refl
     verifications_left (x ∷ xs) all none =
-        let parts = all_left (In classes rules marks closed) (verification_wants classes x)
+        let parts = all_split (In classes rules marks closed) (verification_wants classes x)
         (flat_map (verification_wants classes) xs) all in
-        let nones = none_left (verification_kinds classes n x) (flat_map (verification_kinds classes n) xs) none in
-        joined (verification_kinds out at x) (flat_map (verification_kinds out at) xs)
+        let nones = nil_parts (verification_kinds classes n x) (flat_map (verification_kinds classes n) xs) none in
+        nil_joined (verification_kinds out at x) (flat_map (verification_kinds out at) xs)
         (verification_left x parts.0 nones.0) (verifications_left xs parts.1 nones.1)
 
     frames_left : (xs : List FrameAt) → All (flat_map (frame_wants classes) xs)
         → flat_map (frame_kinds classes n) xs ≡ [] → flat_map (frame_kinds out at) xs ≡ []
     frames_left [] all none = refl
     frames_left (x ∷ xs) all none =
-        let parts = all_left (In classes rules marks closed) (frame_wants classes x)
+        let parts = all_split (In classes rules marks closed) (frame_wants classes x)
         (flat_map (frame_wants classes) xs) all in
-        let nones = none_left (frame_kinds classes n x) (flat_map (frame_kinds classes n) xs) none in
-        joined (frame_kinds out at x) (flat_map (frame_kinds out at) xs)
+        let nones = nil_parts (frame_kinds classes n x) (flat_map (frame_kinds classes n) xs) none in
+        nil_joined (frame_kinds out at x) (flat_map (frame_kinds out at) xs)
         (verifications_left (x.frame.locals ++ x.frame.stack) parts.0 nones.0) (frames_left xs parts.1 nones.1)
 
     code_left : (method : List ℕ) (o : Option Code)
@@ -128,13 +126,13 @@ module _ (classes : List Class) (rules : KeptByRules) (marks : List Bool)
     code_left method None all none = refl
     code_left method (Some code) all none =
         let wants = wants_of_code classes rules marks closed n code all in
-        let nones = none_left (flat_map (λ (x : Ins). op_kinds classes n method x.op) code.ins
+        let nones = nil_parts (flat_map (λ (x : Ins). op_kinds classes n method x.op) code.ins
         ++ flat_map (handler_kinds classes n) code.handlers) (flat_map (frame_kinds classes n) code.frames) none in
-        let firsts = none_left (flat_map (λ (x : Ins). op_kinds classes n method x.op) code.ins)
+        let firsts = nil_parts (flat_map (λ (x : Ins). op_kinds classes n method x.op) code.ins)
         (flat_map (handler_kinds classes n) code.handlers) nones.0 in
-        joined (flat_map (λ (x : Ins). op_kinds out at method x.op) code.ins
+        nil_joined (flat_map (λ (x : Ins). op_kinds out at method x.op) code.ins
         ++ flat_map (handler_kinds out at) code.handlers) (flat_map (frame_kinds out at) code.frames)
-        (joined (flat_map (λ (x : Ins). op_kinds out at method x.op) code.ins)
+        (nil_joined (flat_map (λ (x : Ins). op_kinds out at method x.op) code.ins)
         (flat_map (handler_kinds out at) code.handlers)
         (ops_left method code.ins wants.instructions firsts.0)
         (handlers_left code.handlers wants.handlers firsts.1)) (frames_left code.frames wants.frames nones.1)
@@ -172,14 +170,14 @@ module _ (classes : List Class) (rules : KeptByRules) (marks : List Bool)
             let heads = left_out_at c.left_out None in
             let flags = unless (not (is_left_out_class c.flags.0)) LeftOutFlag in
             let supers = flat_map (name_kinds classes n) (c.super_name ∷ c.interfaces) in
-            let one = none_left (heads ++ flags ++ supers) (implementing_kinds classes n c) (right.class n c is) in
-            let two = none_left (heads ++ flags) supers one.0 in
-            let wants = (all_left (In classes rules marks closed) (super_wants classes c)
+            let one = nil_parts (heads ++ flags ++ supers) (implementing_kinds classes n c) (right.class n c is) in
+            let two = nil_parts (heads ++ flags) supers one.0 in
+            let wants = (all_split (In classes rules marks closed) (super_wants classes c)
             (initialisation_wants classes n ++ (rule_wants classes rules n ++ called_wants classes n c))
             (class_in classes rules (is_marked marks) closed n c is marked)).0 in
-            joined (heads ++ flags ++ flat_map (name_kinds out at) (c.super_name ∷ c.interfaces))
+            nil_joined (heads ++ flags ++ flat_map (name_kinds out at) (c.super_name ∷ c.interfaces))
             (implementing_kinds out at d)
-            (joined (heads ++ flags) (flat_map (name_kinds out at) (c.super_name ∷ c.interfaces)) two.0
+            (nil_joined (heads ++ flags) (flat_map (name_kinds out at) (c.super_name ∷ c.interfaces)) two.0
             (names_left classes rules marks closed taken n own (c.super_name ∷ c.interfaces) wants two.1))
             (implementing_left classes rules marks closed taken n c is own no_interface one.1)
 
@@ -193,10 +191,10 @@ module _ (classes : List Class) (rules : KeptByRules) (marks : List Bool)
             (ap (λ (t : List Field). slice_get t j)
             (sym (as_filter (is_marked marks) (λ k y. y) (class_item classes n + 1) c.fields)) ∙ there) in
             let here : slice_get c.fields o.k ≡ Some x = o.at ∙ ap (λ (z : Field). Some z) (sym o.is) in
-            let none = (none_left (left_out_at c.left_out (Some o.k)) (type_kinds classes n x.ty)
+            let none = (nil_parts (left_out_at c.left_out (Some o.k)) (type_kinds classes n x.ty)
             (right.field n c o.k x is here)).1 in
             let wants = (field_in classes rules (is_marked marks) closed n c is o.k x here o.passes).1 in
-            joined (left_out_at c.left_out (Some j)) (type_kinds out at x.ty) (not_left_out (Some j))
+            nil_joined (left_out_at c.left_out (Some j)) (type_kinds out at x.ty) (not_left_out (Some j))
             (base_left classes rules marks closed taken n own x.ty.base wants none)
 
         -- a method with these classes in its Exceptions, where they may be named
@@ -223,20 +221,20 @@ module _ (classes : List Class) (rules : KeptByRules) (marks : List Bool)
             let head = left_out_at c.left_out (Some (length c.fields + o.k)) in
             let native = unless (not (is_native m.flags.0)) LeftOutFlag in
             let head_kinds = declaration_kinds classes n c (length c.fields + o.k) m in
-            let one = none_left (head_kinds ++ body_kinds c m ++ overriding_kinds classes n old)
+            let one = nil_parts (head_kinds ++ body_kinds c m ++ overriding_kinds classes n old)
             (option_map_or (code_kinds classes n m.name) m.code []) (right.method n c o.k m is here) in
-            let two = none_left (head_kinds ++ body_kinds c m) (overriding_kinds classes n old) one.0 in
-            let three = none_left head_kinds (body_kinds c m) two.0 in
-            let four = none_left (head ++ native ++ method_type_kinds classes n m.ty)
+            let two = nil_parts (head_kinds ++ body_kinds c m) (overriding_kinds classes n old) one.0 in
+            let three = nil_parts head_kinds (body_kinds c m) two.0 in
+            let four = nil_parts (head ++ native ++ method_type_kinds classes n m.ty)
             (flat_map (name_kinds classes n) m.throws) three.0 in
-            let five = none_left (head ++ native) (method_type_kinds classes n m.ty) four.0 in
-            let native_none = (none_left head native five.0).1 in
+            let five = nil_parts (head ++ native) (method_type_kinds classes n m.ty) four.0 in
+            let native_none = (nil_parts head native five.0).1 in
             let bare : Method = record m { throws = throws } in
             let declared : declaration_kinds out at d (length d.fields + j) bare ≡ [] =
-            joined (left_out_at c.left_out (Some (length d.fields + j)) ++ native ++ method_type_kinds out at m.ty)
+            nil_joined (left_out_at c.left_out (Some (length d.fields + j)) ++ native ++ method_type_kinds out at m.ty)
             (flat_map (name_kinds out at) throws)
-            (joined (left_out_at c.left_out (Some (length d.fields + j)) ++ native) (method_type_kinds out at m.ty)
-            (joined (left_out_at c.left_out (Some (length d.fields + j))) native
+            (nil_joined (left_out_at c.left_out (Some (length d.fields + j)) ++ native) (method_type_kinds out at m.ty)
+            (nil_joined (left_out_at c.left_out (Some (length d.fields + j))) native
             (not_left_out (Some (length d.fields + j))) native_none)
             (types_left classes rules marks closed taken n own (cons_option m.ty.ret m.ty.args) wants.typed five.1))
             (may wants.throws four.1) in
@@ -245,12 +243,12 @@ module _ (classes : List Class) (rules : KeptByRules) (marks : List Bool)
             let overridden : overriding_kinds out at new ≡ [] =
             ap (λ (k : ℕ). overriding_kinds out at (record { class = Prog at; index = k })) place
             ∙ overriding_left classes rules marks closed taken n (length c.fields + o.k) kept two.1 in
-            joined (declaration_kinds out at d (length d.fields + j) bare ++ body_kinds c m
+            nil_joined (declaration_kinds out at d (length d.fields + j) bare ++ body_kinds c m
             ++ overriding_kinds out at new)
             (option_map_or (code_kinds out at m.name) m.code [])
-            (joined (declaration_kinds out at d (length d.fields + j) bare ++ body_kinds c m)
+            (nil_joined (declaration_kinds out at d (length d.fields + j) bare ++ body_kinds c m)
             (overriding_kinds out at new)
-            (joined (declaration_kinds out at d (length d.fields + j) bare)
+            (nil_joined (declaration_kinds out at d (length d.fields + j) bare)
             (body_kinds c m) declared three.1) overridden)
             (code_left m.name m.code wants.code one.1)
           where

@@ -11,6 +11,7 @@ use Rattle.jv_base.specs.Names.{is_text}
 use Rattle.jv_base.specs.declared.types.Base.{Base}
 use Rattle.jv_base.specs.declared.types.Base.TheVariants as base
 use Rattle.jv_base.specs.declared.types.FieldType.{FieldType}
+use Rattle.jv_base.proofs.Lists.{all_split, nil_parts}
 use Rattle.mark_core.specs.Marks.{Closed}
 use Rattle.class_model.specs.Opcodes.{array_type_of}
 use Rattle.class_model.specs.WellFormed.{IsGoodOp}
@@ -37,25 +38,25 @@ use Rattle.link_check.specs.declared.fault.ProfileKind.TheVariants.{WrongKind}
 use Rattle.member_shrink.specs.Shrunk.{is_marked, shrunk}
 use Rattle.image_laws.specs.SetImage.Image.{Image}
 use Rattle.jvm_model.specs.Mapped.{CodeMap, HandlerMap, InsMap, Mapping, OptionCorr, op_map}
-use Rattle.jvm_model.specs.Same.{LineCorr, Names, base_name, type_name}
+use Rattle.jvm_model.specs.Same.{Names, base_name, type_name}
 use Rattle.jvm_model.specs.Types.{class_type}
-use Rattle.image_laws.specs.ViewImage.ImageNames.{found_ref, mapping, names, new_class, new_ref, new_special, renamed_ref}
+use Rattle.jvm_model.proofs.Compose.{line_refl}
+use Rattle.image_laws.specs.ViewImage.ImageNames.{found_ref, mapping, names, new_class, new_ref, new_special}
+use Rattle.image_laws.specs.ViewImage.ImageNames.{renamed_ref}
 use Rattle.image_laws.proofs.ViewImage.Naming.{class_name}
 use Rattle.image_laws.proofs.ViewImage.Standing.{Stands, field_stands, method_stands, special_stands}
 use Rattle.require_sys.specs.Requires.{Item, OfMember, base_wants, field_ref_wants, handler_wants}
 use Rattle.require_sys.specs.Requires.{method_ref_wants, name_wants, op_wants, requires, resolved_wants, special_wants}
 use Rattle.require_sys.specs.declared.kept.KeptByRules.{KeptByRules}
-use Rattle.require_sys.proofs.Parts.{all_left}
 use Rattle.image_laws.specs.ShrunkImage.Keeping.{class_place, is_class_kept, is_member_kept}
 use Rattle.image_laws.proofs.ShrunkImage.Classes.{name_same}
 use Rattle.image_laws.specs.TakenSet.TakenSet.{IsTaken}
 use Rattle.image_laws.proofs.TakenSet.Proper.{is_proper}
-use Rattle.image_laws.proofs.TakenSet.Rows.{none_left}
 use Rattle.removal_laws.proofs.RemovalImage.Links.{FieldLink, MethodLink, base_class, field_link, fields_of, is_taken}
 use Rattle.removal_laws.proofs.RemovalImage.Links.{method_link, methods_of}
 use Rattle.removal_laws.proofs.RemovalImage.Marked.{image}
-use Rattle.removal_laws.proofs.RemovalImage.Wanted.{AllIn, CodeWants, In, base_kept, field_parts, found_kept, method_parts}
-use Rattle.removal_laws.proofs.RemovalImage.Wanted.{name_kept}
+use Rattle.removal_laws.proofs.RemovalImage.Wanted.{AllIn, CodeWants, In, base_kept, field_parts, found_kept}
+use Rattle.removal_laws.proofs.RemovalImage.Wanted.{method_parts, name_kept}
 
 -- an array of a primitive type names no class
 pub no_class_array : (atype : ℕ) (name : List ℕ) → array_type_of atype ≡ Some (base.Class name) → ⊥
@@ -172,14 +173,15 @@ module _ (classes : List Class) (rules : KeptByRules) (marks : List Bool)
     field_stand r m l = subst (λ o. IfSome o (Stands classes (r.name, r.ty))) l.member_is
         (field_stands classes (r.name, r.ty) l.class)
 
-    pub method_stand : (r : MemberRef) (m : MemberAt) → MethodLink classes (Prog n) r m → Stands classes (r.name, r.ty) m
+    pub method_stand : (r : MemberRef) (m : MemberAt) → MethodLink classes (Prog n) r m
+        → Stands classes (r.name, r.ty) m
     method_stand r m l = subst (λ o. IfSome o (Stands classes (r.name, r.ty))) l.member_is
         (method_stands classes (is_proper classes taken).abstract_methods (r.name, r.ty) l.class)
 
     field_ref_itself : (method : List ℕ) (static written : Bool) (r : MemberRef) → All (field_ref_wants classes n r)
         → field_kinds classes n method static written r ≡ [] → new_refs.field_ref r ≡ Some r
     field_ref_itself method static written r all none =
-        let links = (none_left (field_text_kinds classes n (read_field r.ty))
+        let links = (nil_parts (field_text_kinds classes n (read_field r.ty))
         (member_kinds (linked_field classes (Prog n) r) (used_kinds classes n method static written)) none).1 in
         let m = is_taken classes (Prog n) (linked_field classes (Prog n) r)
         (used_kinds classes n method static written) links in
@@ -198,10 +200,11 @@ module _ (classes : List Class) (rules : KeptByRules) (marks : List Bool)
       pub class_kept : is_class_kept classes marks link.class ≡ true
       pub member_kept : is_member_kept classes marks member ≡ true
 
-    pub called : (static : Bool) (r : MemberRef) → All (method_ref_wants classes n r) → call_kinds classes n static r ≡ []
+    pub called : (static : Bool) (r : MemberRef) → All (method_ref_wants classes n r)
+        → call_kinds classes n static r ≡ []
         → Called r
     called static r all none =
-        let links = (none_left (method_text_kinds classes n (read_method r.ty)
+        let links = (nil_parts (method_text_kinds classes n (read_method r.ty)
         ++ unless (not (is_text r.name (codes "<clinit>"))) WrongKind)
         (member_kinds (linked_method classes (Prog n) r) (static_kinds classes static)) none).1 in
         let m = is_taken classes (Prog n) (linked_method classes (Prog n) r) (static_kinds classes static) links in
@@ -230,7 +233,7 @@ module _ (classes : List Class) (rules : KeptByRules) (marks : List Bool)
         ++ special_wants classes n (class_of classes r) (callable classes (Prog n) (linked_method classes (Prog n) r)))
         → call_kinds classes n false r ≡ [] → new_refs.special_ref from r ≡ Some r
     special_ref_itself from r own all none =
-        let parts = all_left (In classes rules marks closed) (method_ref_wants classes n r)
+        let parts = all_split (In classes rules marks closed) (method_ref_wants classes n r)
         (special_wants classes n (class_of classes r) (callable classes (Prog n) (linked_method classes (Prog n) r)))
         all in
         let c = called false r parts.0 none in
@@ -274,19 +277,19 @@ module _ (classes : List Class) (rules : KeptByRules) (marks : List Bool)
         ap (option_map op.PutField) (field_ref_itself method false true r all none)
     op_itself from method count own (op.InvokeVirtual r) good all none =
         ap (option_map op.InvokeVirtual)
-        (method_ref_itself false r all (none_left (call_kinds classes n false r) (no_init_kinds r) none).0)
+        (method_ref_itself false r all (nil_parts (call_kinds classes n false r) (no_init_kinds r) none).0)
     op_itself from method count own (op.InvokeStatic r) good all none =
         ap (option_map op.InvokeStatic)
-        (method_ref_itself true r all (none_left (call_kinds classes n true r) (no_init_kinds r) none).0)
+        (method_ref_itself true r all (nil_parts (call_kinds classes n true r) (no_init_kinds r) none).0)
     op_itself from method count own (op.InvokeInterface r) good all none =
         ap (option_map op.InvokeInterface)
-        (method_ref_itself false r all (none_left (call_kinds classes n false r) (no_init_kinds r) none).0)
+        (method_ref_itself false r all (nil_parts (call_kinds classes n false r) (no_init_kinds r) none).0)
     op_itself from method count own (op.InvokeSpecial r) good all none =
         ap (option_map op.InvokeSpecial)
         (special_ref_itself from r own all
-        (none_left (call_kinds classes n false r) (special_class_kinds classes n r) none).0)
+        (nil_parts (call_kinds classes n false r) (special_class_kinds classes n r) none).0)
     op_itself from method count own (op.New name) good all none =
-        ap (option_map op.New) (name_itself name all (none_left (name_kinds classes n name) _ none).0)
+        ap (option_map op.New) (name_itself name all (nil_parts (name_kinds classes n name) _ none).0)
     op_itself from method count own (op.ANewArray ty) good all none =
         ap (option_map op.ANewArray) (type_itself ty all none)
     op_itself from method count own (op.CheckCast ty) good all none =
@@ -309,21 +312,17 @@ module _ (classes : List Class) (rules : KeptByRules) (marks : List Bool)
 
     -- ---- codes
 
-    pub same_line : (o : Option ℕ) → LineCorr o o
-    same_line None = tt
-    same_line (Some line) = refl
-
     instructions_same : (from method : List ℕ) (count : ℕ) → class_named classes from ≡ Some (Prog n)
         → (xs : List Ins) → AllByRecursion (λ (x : Ins). IsGoodOp count x.op) xs
         → All (flat_map (λ (x : Ins). op_wants classes n x.op) xs)
         → flat_map (λ (x : Ins). op_kinds classes n method x.op) xs ≡ [] → AllZip (InsMap new_refs from) xs xs
     instructions_same from method count own [] good all none = tt
     instructions_same from method count own (x ∷ xs) good all none =
-        let parts = all_left (In classes rules marks closed) (op_wants classes n x.op)
+        let parts = all_split (In classes rules marks closed) (op_wants classes n x.op)
         (flat_map (λ (x : Ins). op_wants classes n x.op) xs) all in
-        let nones = none_left (op_kinds classes n method x.op)
+        let nones = nil_parts (op_kinds classes n method x.op)
         (flat_map (λ (x : Ins). op_kinds classes n method x.op) xs) none in (
-          record { op = op_itself from method count own x.op good.0 parts.0 nones.0; line = same_line x.line },
+          record { op = op_itself from method count own x.op good.0 parts.0 nones.0; line = line_refl x.line },
           instructions_same from method count own xs good.1 parts.1 nones.1,
         )
 
@@ -331,9 +330,9 @@ module _ (classes : List Class) (rules : KeptByRules) (marks : List Bool)
         → flat_map (handler_kinds classes n) xs ≡ [] → AllZip (HandlerMap new_refs) xs xs
     handlers_same [] all none = tt
     handlers_same (x ∷ xs) all none =
-        let parts = all_left (In classes rules marks closed) (handler_wants classes x)
+        let parts = all_split (In classes rules marks closed) (handler_wants classes x)
         (flat_map (handler_wants classes) xs) all in
-        let nones = none_left (handler_kinds classes n x) (flat_map (handler_kinds classes n) xs) none in (
+        let nones = nil_parts (handler_kinds classes n x) (flat_map (handler_kinds classes n) xs) none in (
           record { places = (refl, refl, refl); caught = by x.caught parts.0 nones.0 },
           handlers_same xs parts.1 nones.1,
         )
@@ -350,9 +349,9 @@ module _ (classes : List Class) (rules : KeptByRules) (marks : List Bool)
         → CodeWants classes rules marks closed n code → code_kinds classes n method code ≡ []
         → CodeMap new_refs from code code
     code_same from method code own good wants none =
-        let nones = none_left (flat_map (λ (x : Ins). op_kinds classes n method x.op) code.ins
+        let nones = nil_parts (flat_map (λ (x : Ins). op_kinds classes n method x.op) code.ins
         ++ flat_map (handler_kinds classes n) code.handlers) (flat_map (frame_kinds classes n) code.frames) none in
-        let firsts = none_left (flat_map (λ (x : Ins). op_kinds classes n method x.op) code.ins)
+        let firsts = nil_parts (flat_map (λ (x : Ins). op_kinds classes n method x.op) code.ins)
         (flat_map (handler_kinds classes n) code.handlers) nones.0 in
         record {
           ins = instructions_same from method (length code.ins) own code.ins good wants.instructions firsts.0;

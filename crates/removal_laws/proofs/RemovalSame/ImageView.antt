@@ -8,6 +8,7 @@ use Rattle.std.specs.Option.{is_some, option_and_then, option_map, option_map_or
 use Rattle.std.proofs.lemmas.Bool.{and_parts}
 use Rattle.jv_base.specs.Names.{is_text}
 use Rattle.jv_base.proofs.Equality.{text_Decides}
+use Rattle.jv_base.proofs.Lists.{all_at, nil_parts}
 use Rattle.lib_table.specs.Library.{library, object, serializable}
 use Rattle.lib_table.specs.Lookups as table
 use Rattle.mark_core.specs.Marks.{Closed}
@@ -40,14 +41,14 @@ use Rattle.image_laws.specs.ViewImage.ImageView.{IsImageView, LikeDescriptors}
 use Rattle.image_laws.proofs.ViewImage.Naming.{member_is}
 use Rattle.require_sys.specs.Requires.{code_wants, requires}
 use Rattle.require_sys.specs.declared.kept.KeptByRules.{KeptByRules}
-use Rattle.image_laws.specs.ShrunkImage.Keeping.{class_place, is_class_kept, is_index_marked, is_member_kept, member_place}
+use Rattle.image_laws.specs.ShrunkImage.Keeping.{class_place, is_class_kept, is_index_marked, is_member_kept}
+use Rattle.image_laws.specs.ShrunkImage.Keeping.{member_place}
 use Rattle.image_laws.proofs.ShrunkImage.Classes.{class_of_kept, class_there, declared_same, kept_from, member_marked}
 use Rattle.image_laws.proofs.ShrunkImage.Classes.{member_there}
 use Rattle.image_laws.proofs.ShrunkImage.Classes.{name_same, named_moved, row_same}
 use Rattle.image_laws.specs.TakenSet.TakenSet.{IsTaken}
 use Rattle.image_laws.proofs.TakenSet.Members.{own_declared}
 use Rattle.image_laws.proofs.TakenSet.Names.{class_found, differ, library_named}
-use Rattle.image_laws.proofs.TakenSet.Rows.{all_at, none_left}
 use Rattle.removal_laws.proofs.RemovalImage.Marked.{image, starts_kept}
 use Rattle.removal_laws.proofs.RemovalImage.Wanted.{AllIn, wants_of_code, wants_of_method}
 use Rattle.removal_laws.proofs.RemovalSame.Codes.{class_same, code_same, new_refs}
@@ -192,7 +193,7 @@ module _ (classes : List Class) (rules : KeptByRules) (marks : List Bool)
       let head = declaration_kinds classes n c (length c.fields + k) m in
       let none = (links_taken classes taken.linked).method n c k m is at in
       subst (λ o. option_map_or (code_kinds classes n m.name) o [] ≡ []) has
-      (none_left (head ++ body_kinds c m ++ overriding_kinds classes n place)
+      (nil_parts (head ++ body_kinds c m ++ overriding_kinds classes n place)
       (option_map_or (code_kinds classes n m.name) m.code []) none).1
 
   pub good_code : (n : ℕ) (c : Class) (k : ℕ) (m : Method) (code : Code) → slice_get classes n ≡ Some c

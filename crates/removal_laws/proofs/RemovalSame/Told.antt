@@ -12,13 +12,13 @@ use Rattle.class_pool.specs.declared.id.ClassId.TheVariants.{Prog, Lib}
 use Rattle.class_pool.specs.declared.id.MemberAt.{MemberAt}
 use Rattle.member_shrink.specs.Shrunk.{is_marked, shrunk}
 use Rattle.set_view.specs.ViewOf.{told_at, told_in}
-use Rattle.image_laws.specs.ShrunkImage.Keeping.{class_place, index_place, is_class_marked, is_index_marked, is_member_kept}
-use Rattle.image_laws.specs.ShrunkImage.Keeping.{member_place}
+use Rattle.image_laws.specs.ShrunkImage.Keeping.{class_place, index_place, is_class_marked, is_index_marked}
+use Rattle.image_laws.specs.ShrunkImage.Keeping.{is_member_kept, member_place}
 use Rattle.image_laws.proofs.ShrunkImage.Classes.{class_at, class_marked, class_of_kept, f, member_marked}
 use Rattle.image_laws.proofs.ShrunkImage.Members as members
 
 -- what is told of a member of a class
-abbrev told_of : {A : Type 0} → (Field → Option A) → (Method → Option A) → ℕ → Class → Option A
+abbrev pub told_of : {A : Type 0} → (Field → Option A) → (Method → Option A) → ℕ → Class → Option A
 told_of g h k c = option_and_then (λ x. x) (slice_get (map g c.fields ++ map h c.methods) k)
 
 module _ (classes : List Class) (marks : List Bool) where

@@ -10,6 +10,7 @@ use Rattle.jv_base.specs.declared.types.Base.{Base}
 use Rattle.jv_base.specs.declared.types.Base.TheVariants as base
 use Rattle.jv_base.specs.declared.types.FieldType.{FieldType}
 use Rattle.jv_base.specs.declared.types.MethodType.{MethodType}
+use Rattle.jv_base.proofs.Lists.{all_split}
 use Rattle.mark_core.specs.Marks.{Closed}
 use Rattle.class_model.specs.Opcodes.{array_type_of}
 use Rattle.class_model.specs.declared.class.Class.{Class}
@@ -28,7 +29,6 @@ use Rattle.require_sys.specs.Requires.{Item, base_wants, field_text_wants, frame
 use Rattle.require_sys.specs.Requires.{method_text_wants}
 use Rattle.require_sys.specs.Requires.{method_type_wants, name_wants, requires, type_wants, verification_wants}
 use Rattle.require_sys.specs.declared.kept.KeptByRules.{KeptByRules}
-use Rattle.require_sys.proofs.Parts.{all_left}
 use Rattle.image_laws.specs.SetImage.Image.{Image}
 use Rattle.image_laws.specs.ShrunkImage.Keeping.{is_class_kept}
 use Rattle.image_laws.proofs.ShrunkImage.Classes.{kept_from, named_moved}
@@ -37,9 +37,8 @@ use Rattle.image_laws.proofs.TakenSet.Names.{library_named}
 use Rattle.type_verifier.specs.Rules.{told_type}
 use Rattle.removal_laws.proofs.RemovalImage.Marked.{image}
 use Rattle.removal_laws.proofs.RemovalImage.Wanted.{AllIn, In, name_kept}
-use Rattle.image_laws.specs.TypedImage.Named.{AreKnownNamed, IsBaseNamed, IsFrameNamed, IsHandlerNamed, IsMethodTypeNamed}
-use Rattle.image_laws.specs.TypedImage.Named.{IsNamed}
-use Rattle.image_laws.specs.TypedImage.Named.{IsTypeNamed, IsVTypeNamed}
+use Rattle.image_laws.specs.TypedImage.Named.{AreKnownNamed, IsBaseNamed, IsFrameNamed, IsHandlerNamed}
+use Rattle.image_laws.specs.TypedImage.Named.{IsMethodTypeNamed, IsNamed, IsTypeNamed, IsVTypeNamed}
 
 module _ (classes : List Class) (rules : KeptByRules) (marks : List Bool)
     (closed : Closed (requires classes rules) (is_marked marks)) (taken : IsTaken classes) where
@@ -107,7 +106,7 @@ module _ (classes : List Class) (rules : KeptByRules) (marks : List Bool)
   types_named : (tys : List FieldType) → All (flat_map (type_wants classes) tys) → AllByRecursion TypeNamed tys
   types_named [] all = tt
   types_named (ty ∷ tys) all =
-      let parts = all_left (In classes rules marks closed) (type_wants classes ty)
+      let parts = all_split (In classes rules marks closed) (type_wants classes ty)
       (flat_map (type_wants classes) tys) all
       in (base_named ty.base parts.0, types_named tys parts.1)
 
@@ -151,7 +150,7 @@ module _ (classes : List Class) (rules : KeptByRules) (marks : List Bool)
       → AllByRecursion (IsHandlerNamed same_names classes out i) hs
   handlers_named [] all = tt
   handlers_named (h ∷ hs) all =
-      let parts = all_left (In classes rules marks closed) (handler_wants classes h)
+      let parts = all_split (In classes rules marks closed) (handler_wants classes h)
       (flat_map (handler_wants classes) hs)
       all in
       (by h.caught parts.0, handlers_named hs parts.1)
@@ -168,7 +167,7 @@ module _ (classes : List Class) (rules : KeptByRules) (marks : List Bool)
       → AllByRecursion VTypeNamed tys × All (flat_map (verification_wants classes) more)
   vtypes_named [] more all = (tt, all)
   vtypes_named (ty ∷ tys) more all =
-      let parts = all_left (In classes rules marks closed) (verification_wants classes ty)
+      let parts = all_split (In classes rules marks closed) (verification_wants classes ty)
       (flat_map (verification_wants classes) (tys ++ more)) all in
       let rest = vtypes_named tys more parts.1 in
       ((vtype_named ty parts.0, rest.0), rest.1)
@@ -177,7 +176,7 @@ module _ (classes : List Class) (rules : KeptByRules) (marks : List Bool)
       → AllByRecursion VTypeNamed tys
   all_vtypes_named [] all = tt
   all_vtypes_named (ty ∷ tys) all =
-      let parts = all_left (In classes rules marks closed) (verification_wants classes ty)
+      let parts = all_split (In classes rules marks closed) (verification_wants classes ty)
       (flat_map (verification_wants classes) tys) all in
       (vtype_named ty parts.0, all_vtypes_named tys parts.1)
 
@@ -185,7 +184,7 @@ module _ (classes : List Class) (rules : KeptByRules) (marks : List Bool)
       → AllByRecursion (IsFrameNamed same_names classes out i) fs
   frames_named [] all = tt
   frames_named (f ∷ fs) all =
-      let parts = all_left (In classes rules marks closed) (frame_wants classes f)
+      let parts = all_split (In classes rules marks closed) (frame_wants classes f)
       (flat_map (frame_wants classes) fs) all
       in
       let types = vtypes_named f.frame.locals f.frame.stack parts.0 in

@@ -10,6 +10,7 @@ use Rattle.jv_base.specs.Descriptors.{read_field, read_method}
 use Rattle.jv_base.specs.Names.{is_text}
 use Rattle.jv_base.specs.declared.types.Base.{Base}
 use Rattle.jv_base.specs.declared.types.Base.TheVariants as base
+use Rattle.jv_base.proofs.Lists.{all_split, nil_parts}
 use Rattle.mark_core.specs.Marks.{Closed}
 use Rattle.class_model.specs.WellFormed.{IsGoodOp}
 use Rattle.class_model.specs.declared.class.Class.{Class}
@@ -38,13 +39,11 @@ use Rattle.class_rename.specs.Names.{same_names}
 use Rattle.member_shrink.specs.Shrunk.{is_marked, shrunk}
 use Rattle.require_sys.specs.Requires.{Item, field_ref_wants, method_ref_wants, op_wants, requires, special_wants}
 use Rattle.require_sys.specs.declared.kept.KeptByRules.{KeptByRules}
-use Rattle.require_sys.proofs.Parts.{all_left}
 use Rattle.image_laws.specs.SetImage.Image.{Image}
 use Rattle.image_laws.specs.ShrunkImage.Keeping.{is_class_kept}
 use Rattle.image_laws.proofs.ShrunkImage.Classes.{class_there, f}
 use Rattle.image_laws.specs.TakenSet.TakenSet.{IsTaken}
 use Rattle.image_laws.proofs.TakenSet.Names.{class_found}
-use Rattle.image_laws.proofs.TakenSet.Rows.{none_left}
 use Rattle.type_verifier.specs.Environment.{Environment}
 use Rattle.type_verifier.specs.Members.{is_class_base, is_class_type, is_early_field, is_guarded, is_guarded_field}
 use Rattle.type_verifier.specs.Members.{is_guarded_method}
@@ -53,11 +52,13 @@ use Rattle.type_verifier.specs.Verified.{environment}
 use Rattle.removal_laws.proofs.RemovalImage.Links.{base_class, field_link, is_taken}
 use Rattle.removal_laws.proofs.RemovalImage.Marked.{image}
 use Rattle.removal_laws.proofs.RemovalImage.Wanted.{AllIn, In, field_parts, method_parts}
-use Rattle.removal_laws.proofs.RemovalLinks.Instructions.{field_marked, field_there, left, method_marked, method_there, role_same}
+use Rattle.removal_laws.proofs.RemovalLinks.Instructions.{field_marked, field_there, left, method_marked, method_there}
+use Rattle.removal_laws.proofs.RemovalLinks.Instructions.{role_same}
 use Rattle.image_laws.specs.TypedImage.Named.{IsFieldNamed, IsMethodNamed, IsOpNamed}
 use Rattle.image_laws.proofs.TypedImage.Guarding.{early_moved, guarded_moved}
 use Rattle.image_laws.proofs.TypedImage.Staying.{field_ref_stays, method_ref_stays, method_told_stays, told_stays}
-use Rattle.removal_laws.proofs.RemovalTyped.Naming.{array_named, base_named, field_text_named, method_text_named, name_named}
+use Rattle.removal_laws.proofs.RemovalTyped.Naming.{array_named, base_named, field_text_named, method_text_named}
+use Rattle.removal_laws.proofs.RemovalTyped.Naming.{name_named}
 
 -- ---- what a class declares is found for it
 
@@ -77,7 +78,7 @@ module _ (classes : List Class) (n : NameAndType) (x : ClassId) (m : MemberAt) w
   own_found is = own_first highest (omega arith) is
 
 -- a role that a program may name
-callable_role : (classes : List Class) (from : ClassId) (m : MemberAt) → callable classes from (Ok m) ≡ Ok m
+pub callable_role : (classes : List Class) (from : ClassId) (m : MemberAt) → callable classes from (Ok m) ≡ Ok m
     → is_callable_role (role_at m) ≡ true
 callable_role classes from m = by (is_callable_role (role_at m))
   where
@@ -170,7 +171,7 @@ module _ (classes : List Class) (rules : KeptByRules) (marks : List Bool)
       → field_kinds classes n m.name static written r ≡ [] → IsFieldNamed same_names whole rest i r
   field_named static written r all none =
       let of_member = used_kinds classes n m.name static written in
-      let linked = (none_left (field_text_kinds classes n (read_field r.ty))
+      let linked = (nil_parts (field_text_kinds classes n (read_field r.ty))
       (member_kinds (linked_field classes (Prog n) r) of_member) none).1 in
       let t = is_taken classes (Prog n) (linked_field classes (Prog n) r) of_member linked in
       let kept = field_marked classes rules marks closed taken n own r of_member all linked t.member t.linked in
@@ -211,7 +212,7 @@ module _ (classes : List Class) (rules : KeptByRules) (marks : List Bool)
       → call_kinds classes n static r ≡ [] → IsMethodNamed same_names whole rest i r
   method_named static r all none =
       method_named_by r (static_kinds classes static) all
-      (none_left (method_text_kinds classes n (read_method r.ty)
+      (nil_parts (method_text_kinds classes n (read_method r.ty)
       ++ unless (not (is_text r.name (codes "<clinit>"))) WrongKind)
       (member_kinds (linked_method classes (Prog n) r) (static_kinds classes static)) none).1
 
@@ -224,16 +225,16 @@ module _ (classes : List Class) (rules : KeptByRules) (marks : List Bool)
   op_named size (op.GetField r) good all none = field_named false false r all none
   op_named size (op.PutField r) good all none = field_named false true r all none
   op_named size (op.InvokeVirtual r) good all none =
-      method_named false r all (none_left (call_kinds classes n false r) (no_init_kinds r) none).0
+      method_named false r all (nil_parts (call_kinds classes n false r) (no_init_kinds r) none).0
   op_named size (op.InvokeStatic r) good all none =
-      method_named true r all (none_left (call_kinds classes n true r) (no_init_kinds r) none).0
+      method_named true r all (nil_parts (call_kinds classes n true r) (no_init_kinds r) none).0
   op_named size (op.InvokeInterface r) good all none =
-      method_named false r all (none_left (call_kinds classes n false r) (no_init_kinds r) none).0
+      method_named false r all (nil_parts (call_kinds classes n false r) (no_init_kinds r) none).0
   op_named size (op.InvokeSpecial r) good all none =
       method_named false r
-      (all_left (In classes rules marks closed) (method_ref_wants classes n r)
+      (all_split (In classes rules marks closed) (method_ref_wants classes n r)
       (special_wants classes n (class_of classes r) (resolved_method classes (Prog n) r)) all).0
-      (none_left (call_kinds classes n false r) (special_class_kinds classes n r) none).0
+      (nil_parts (call_kinds classes n false r) (special_class_kinds classes n r) none).0
   op_named size (op.New name) good all none = name_named classes rules marks closed taken name all
   op_named size (op.NewArray ty) good all none = array_named classes rules marks closed taken good.0 ty good.1
   op_named size (op.ANewArray ty) good all none = base_named classes rules marks closed taken ty.base all

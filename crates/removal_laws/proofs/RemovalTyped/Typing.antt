@@ -1,10 +1,11 @@
 -- Each method that is left is typed, as it was.
-use Rattle.std.proofs.Common.{◌≡◌, ℕ, zero, suc, ◌+◌, Bool, true, List, [], ◌∷◌, ◌++◌, length, Option, Some}
+use Rattle.std.proofs.Common.{◌≡◌, ℕ, ◌+◌, Bool, true, List, [], ◌∷◌, ◌++◌, length, Option, Some}
 use Rattle.std.proofs.Common.{slice_get}
 use Rattle.std.proofs.Common.{refl, sym, ap, subst, ◌∙◌, arith}
 use Rattle.std.specs.Prelude.{IfSome}
 use Rattle.std.specs.List.{AllByRecursion, flat_map}
 use Rattle.std.specs.Option.{option_map_or}
+use Rattle.jv_base.proofs.Lists.{all_split, all_at, nil_parts}
 use Rattle.mark_core.specs.Marks.{Closed}
 use Rattle.class_model.specs.Flags.{is_interface}
 use Rattle.class_model.specs.WellFormed.{IsGoodCode, IsGoodMethod, IsGoodOp}
@@ -21,12 +22,10 @@ use Rattle.class_rename.specs.Names.{same_names}
 use Rattle.member_shrink.specs.Shrunk.{is_marked, shrunk}
 use Rattle.require_sys.specs.Requires.{Item, code_wants, op_wants, requires}
 use Rattle.require_sys.specs.declared.kept.KeptByRules.{KeptByRules}
-use Rattle.require_sys.proofs.Parts.{all_left}
 use Rattle.image_laws.specs.ShrunkImage.Keeping.{is_class_kept}
 use Rattle.image_laws.proofs.ShrunkImage.Classes.{f}
 use Rattle.image_laws.proofs.ShrunkImage.Kept.{as_filter}
 use Rattle.image_laws.specs.TakenSet.TakenSet.{IsTaken}
-use Rattle.image_laws.proofs.TakenSet.Rows.{none_left}
 use Rattle.type_verifier.specs.Verified.{AreTyped, IsTypedMethod}
 use Rattle.removal_laws.proofs.RemovalImage.Wanted.{AllIn, In, wants_of_code, wants_of_method}
 use Rattle.removal_laws.proofs.RemovalLinks.Instructions.{left}
@@ -36,15 +35,9 @@ use Rattle.image_laws.specs.TypedImage.Named.{IsCodeNamed, IsOpNamed}
 use Rattle.image_laws.proofs.TypedImage.Staying.{itself, known_stay, method_type_stays}
 use Rattle.image_laws.proofs.TypedImage.Walking.{is_typed}
 use Rattle.removal_laws.specs.RemovalTyped.Laws.{RemovalKeepsTyped}
-use Rattle.removal_laws.proofs.RemovalTyped.Naming.{frames_named, handlers_named, known_named, method_type_named, named_here}
+use Rattle.removal_laws.proofs.RemovalTyped.Naming.{frames_named, handlers_named, known_named, method_type_named}
+use Rattle.removal_laws.proofs.RemovalTyped.Naming.{named_here}
 use Rattle.removal_laws.proofs.RemovalTyped.References.{i, op_named, own_named, rest, whole}
-
--- what holds of each element holds of one of them
-each_at : {A : Type 0} (P : A → Type 0) (xs : List A) (k : ℕ) (x : A) → AllByRecursion P xs → slice_get xs k ≡ Some x
-    → P x
-each_at P [] k x h is = absurd cc
-each_at P (y ∷ ys) zero x h is = let e : y ≡ x = cc in subst P e h.0
-each_at P (y ∷ ys) (suc k) x h is = each_at P ys k x h.1 is
 
 module _ (classes : List Class) (rules : KeptByRules) (marks : List Bool)
     (closed : Closed (requires classes rules) (is_marked marks)) (taken : IsTaken classes) where
@@ -69,9 +62,9 @@ module _ (classes : List Class) (rules : KeptByRules) (marks : List Bool)
         (i classes rules marks closed taken n own c there k j m code) x.op) ins
     ops_named size [] good all none = tt
     ops_named size (x ∷ ins) good all none =
-        let parts = all_left (In classes rules marks closed) (op_wants classes n x.op)
+        let parts = all_split (In classes rules marks closed) (op_wants classes n x.op)
         (flat_map (λ (x : Ins). op_wants classes n x.op) ins) all in
-        let nones = none_left (op_kinds classes n m.name x.op)
+        let nones = nil_parts (op_kinds classes n m.name x.op)
         (flat_map (λ (x : Ins). op_kinds classes n m.name x.op) ins) none in (
           op_named classes rules marks closed taken n own c there k j m code size x.op good.0 parts.0 nones.0,
           ops_named size ins good.1 parts.1 nones.1,
@@ -80,13 +73,13 @@ module _ (classes : List Class) (rules : KeptByRules) (marks : List Bool)
     good_code : IsGoodCode code
     good_code =
         subst (λ o. IfSome o IsGoodCode) is
-        (each_at (IsGoodMethod (is_interface c.flags.0)) c.methods k m (taken.formed n c there).methods at).code
+        (all_at (IsGoodMethod (is_interface c.flags.0)) c.methods k m (taken.formed n c there).methods at).code
 
     -- no rule for links is broken in it
     no_kinds : code_kinds classes n m.name code ≡ []
     no_kinds =
         subst (λ (o : Option Code). option_map_or (code_kinds classes n m.name) o [] ≡ []) is
-        (none_left (declaration_kinds classes n c (length c.fields + k) m ++ body_kinds c m
+        (nil_parts (declaration_kinds classes n c (length c.fields + k) m ++ body_kinds c m
         ++ overriding_kinds classes n (record { class = Prog n; index = length c.fields + k }))
         (option_map_or (code_kinds classes n m.name) m.code [])
         ((links_taken classes taken.linked).method n c k m there at)).1
@@ -98,9 +91,9 @@ module _ (classes : List Class) (rules : KeptByRules) (marks : List Bool)
         let method = wants_of_method classes rules marks closed n c k m there at marked in
         let wants = wants_of_code classes rules marks closed n code
         (subst (λ (o : Option Code). All (option_map_or (code_wants classes n) o [])) is method.code) in
-        let firsts = none_left (flat_map (λ (x : Ins). op_kinds classes n m.name x.op) code.ins)
+        let firsts = nil_parts (flat_map (λ (x : Ins). op_kinds classes n m.name x.op) code.ins)
         (flat_map (handler_kinds classes n) code.handlers)
-        (none_left (flat_map (λ (x : Ins). op_kinds classes n m.name x.op) code.ins
+        (nil_parts (flat_map (λ (x : Ins). op_kinds classes n m.name x.op) code.ins
         ++ flat_map (handler_kinds classes n) code.handlers)
         (flat_map (frame_kinds classes n) code.frames) no_kinds).0 in
         record {

@@ -1,4 +1,4 @@
-use Rattle.pair_checker.proofs.SystemDue.{due_is}
+use Rattle.require_sys.proofs.SystemDue.{due_is}
 use Rattle.check_command.proofs.checking.judge_pair.Goals as goal
 
 pub check_required-requires-clause-required : goal.check_required-requires-clause-required

@@ -1,4 +1,4 @@
-use Rattle.std.proofs.Common.{◌≡◌, Bool, true, cond, List, sym, subst}
+use Rattle.std.proofs.Common.{◌≡◌, true, cond, List, sym, subst}
 use Rattle.std.specs.List.{list_any}
 use Rattle.class_model.specs.ReadingMembers.{Signature}
 use Rattle.class_read.specs.bodies.Signatures.{SignatureKey, Knows, same_key}

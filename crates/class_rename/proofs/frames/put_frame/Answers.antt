@@ -1,8 +1,9 @@
 use Rattle.std.proofs.Common.{◌∙◌, ◌++◌, [], ◌∷◌, ap, map}
+use Rattle.std.proofs.lemmas.Result.{on_ok_weaker}
 use Rattle.class_model.specs.FrameLists.{frame_numbered}
 use Rattle.class_rename.specs.Names.{names_in}
 use Rattle.class_rename.specs.Renamed.{renamed_vtype}
-use Rattle.class_rename.proofs.Cutting.{frame_is, then_ok}
+use Rattle.class_rename.proofs.Cutting.{frame_is}
 use Rattle.class_rename.proofs.frames.put_frame.Goals as goal
 
 pub returns : goal.returns
@@ -11,6 +12,6 @@ returns c =
     let f = frame_numbered c.args.frames.now c.args.number in
     let same = frame_is names f _ _ _ c.index.ensures c.requires.locals c.requires.cut
     (c.in_ok-rename_each.ensures ∙ ap (map (renamed_vtype names)) c.in_ok-stack.ensures) in
-    then_ok c.push.result
+    on_ok_weaker c.push.result
     (λ is. is ∙ (λ i. record { frames = c.args.built.now.frames ++ same i ∷ []; locals = c.args.built.now.locals }))
     c.push.ensures

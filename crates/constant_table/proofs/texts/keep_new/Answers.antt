@@ -1,7 +1,7 @@
-use Rattle.std.proofs.Common.{◌≡◌, ℕ, List, Some, cond, sym, subst, ◌∙◌}
+use Rattle.std.proofs.Common.{◌≡◌, ℕ, List, Some, cond, sym, subst}
 use Rattle.std.specs.Map.{lookup}
 use Rattle.jv_base.specs.Utf16.{units_of}
-use Rattle.constant_table.specs.bodies.Texts.{HasNumber, HasText, AreNumbers, MarkedText, marked, same_marked}
+use Rattle.constant_table.specs.bodies.Texts.{HasNumber, AreNumbers, MarkedText, same_marked}
 use Rattle.constant_table.proofs.Numbering.{numbers_grown, number_put, text_there}
 use Rattle.constant_table.proofs.texts.keep_new.Goals as goal
 

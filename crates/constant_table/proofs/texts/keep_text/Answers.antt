@@ -1,7 +1,7 @@
 use Rattle.std.proofs.Common.{◌≡◌, Some, sym, subst, ◌∙◌}
 use Rattle.std.specs.Map.{lookup}
 use Rattle.jv_base.specs.Utf16.{units_of}
-use Rattle.constant_table.specs.bodies.Texts.{MarkedText, marked, same_marked}
+use Rattle.constant_table.specs.bodies.Texts.{MarkedText, same_marked}
 use Rattle.constant_table.proofs.Numbering.{number_told, text_there}
 use Rattle.constant_table.proofs.texts.keep_text.Goals as goal
 

@@ -1,8 +1,8 @@
-use Rattle.std.proofs.Common.{rules, ◌≡◌, List, ℕ, [], ◌∷◌, ◌++◌, length, sym, subst, ◌∙◌}
+use Rattle.std.proofs.Common.{rules, ◌≡◌, List, ℕ, length, sym, subst, ◌∙◌}
 use Rattle.std.proofs.Common.{cond, Some}
 use Rattle.std.specs.Map.{lookup}
 use Rattle.class_model.specs.CanonicalPool.{same_text}
-use Rattle.constant_table.specs.bodies.Texts.{ArePlaces, HasNumber}
+use Rattle.constant_table.specs.bodies.Texts.{ArePlaces}
 use Rattle.constant_table.proofs.Kept.{from_ok}
 use Rattle.constant_table.proofs.Placed.{place_new, place_there, placed}
 use Rattle.constant_table.proofs.unit_texts.push_new.Goals as goal

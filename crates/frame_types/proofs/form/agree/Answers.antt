@@ -1,4 +1,4 @@
-use Rattle.std.proofs.Common.{◌≡◌, ℕ, suc, ◌-◌, List, ap, sym, ◌∙◌, arith, drop, take}
+use Rattle.std.proofs.Common.{◌≡◌, suc, ◌-◌, List, ap, sym, ◌∙◌, arith, drop, take}
 use Rattle.class_model.specs.declared.frame.VType.{VType}
 use Rattle.class_model.specs.CanonicalFrames.{same_types}
 use Rattle.class_model.specs.FrameLists.{frame_numbered}

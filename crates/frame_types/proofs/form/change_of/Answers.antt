@@ -1,5 +1,4 @@
-use Rattle.std.proofs.Common.{◌≡◌, ◌≤◌, ◌-◌, ℕ, true, false, length, take, ap, sym, ◌∙◌, arith}
-use Rattle.class_model.specs.CanonicalFrames.{same_types}
+use Rattle.std.proofs.Common.{◌≡◌, ◌-◌, ℕ, length, ap, sym, ◌∙◌, arith}
 use Rattle.class_model.specs.FrameLists.{frame_numbered}
 use Rattle.frame_types.specs.declared.form.Change.TheVariants as change
 use Rattle.frame_types.specs.Forms.{locals_before}

@@ -1,9 +1,10 @@
 use Rattle.std.proofs.Common.{ℕ, List, [], sym, subst, take}
 use Rattle.std.proofs.lemmas.List.{take_all}
+use Rattle.jv_base.proofs.Lists.{mapped_more}
 use Rattle.class_model.specs.declared.class.Class.{Class}
 use Rattle.fresh_names.specs.Given.{class_names, front_of}
 use Rattle.fresh_names.specs.bodies.Giving.{IsGiven}
-use Rattle.fresh_names.proofs.OneMore.{is_given, mapped_more, none_given}
+use Rattle.fresh_names.proofs.OneMore.{is_given, none_given}
 use Rattle.fresh_names.proofs.giving.class_table.Goals as goal
 
 pub loop-class-init : goal.loop-class-init

@@ -1,10 +1,11 @@
 use Rattle.std.proofs.Common.{ℕ, List, [], map, sym, subst, take}
 use Rattle.std.proofs.lemmas.List.{take_all}
+use Rattle.jv_base.proofs.Lists.{flat_more}
 use Rattle.class_model.specs.declared.class.Class.{Class}
 use Rattle.class_model.specs.declared.class.Field.{Field}
 use Rattle.fresh_names.specs.Given.{field_names, no_front}
 use Rattle.fresh_names.specs.bodies.Giving.{IsGiven}
-use Rattle.fresh_names.proofs.OneMore.{flat_more, is_given, none_given, same_done}
+use Rattle.fresh_names.proofs.OneMore.{is_given, none_given, same_done}
 use Rattle.fresh_names.proofs.giving.field_table.Goals as goal
 
 pub loop-class-init : goal.loop-class-init

@@ -1,9 +1,9 @@
 use Rattle.std.proofs.Common.{ℕ, List, [], ◌∷◌, ◌++◌, ◌∙◌, ap, append_assoc, map, subst, sym, take}
 use Rattle.std.proofs.lemmas.List.{append-nil, take_all}
+use Rattle.jv_base.proofs.Lists.{mapped_more}
 use Rattle.class_model.specs.declared.class.Method.{Method}
 use Rattle.fresh_names.specs.Given.{no_front}
 use Rattle.fresh_names.specs.bodies.Giving.{IsGiven}
-use Rattle.fresh_names.proofs.OneMore.{mapped_more}
 use Rattle.fresh_names.proofs.giving.give_methods.Goals as goal
 
 pub loop-method-init : goal.loop-method-init

@@ -1,6 +1,6 @@
 use Rattle.std.proofs.Common.{◌≡◌, ◌+◌, arith}
 use Rattle.class_pool.specs.Items.{class_item}
-use Rattle.list_texts.proofs.Listing.{class_item-le, class_item-next}
+use Rattle.class_pool.proofs.Counting.{class_item-next, class_item-le}
 use Rattle.list_texts.proofs.seeds.item_count.Goals as goal
 
 pub overflow_add-count : goal.overflow_add-count

@@ -5,9 +5,10 @@ use Rattle.list_texts.specs.bodies.Appends.{IsShort}
 use Rattle.list_texts.proofs.Limits.{items_shorter, not_made, not_made_within, short_enough}
 use Rattle.std.specs.Prelude.{string_bytes}
 use Rattle.std.specs.List.{enumerate_from, flat_map}
+use Rattle.class_pool.proofs.Counting.{class_item-next, class_item-le}
 use Rattle.mark_core.specs.Marks.{set_of}
 use Rattle.list_texts.specs.ItemTexts.{item_texts, item_texts_of, line_if, up_to}
-use Rattle.list_texts.proofs.Listing.{class_item-le, class_item-next, class_more}
+use Rattle.list_texts.proofs.Listing.{class_more}
 use Rattle.list_texts.proofs.seeds.marked_lines.Goals as goal
 
 pub push_class-requires-clause-within : goal.push_class-requires-clause-within

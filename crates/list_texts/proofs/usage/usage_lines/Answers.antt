@@ -7,8 +7,9 @@ use Rattle.list_texts.proofs.Limits.{not_made, not_made_within, numbered_shorter
 use Rattle.std.specs.Prelude.{string_bytes}
 use Rattle.class_model.specs.declared.class.Class.{Class}
 use Rattle.class_pool.specs.Items.{class_item}
+use Rattle.class_pool.proofs.Counting.{class_item-next, class_item-le}
 use Rattle.list_texts.specs.ItemTexts.{class_usage, up_to, usage_text}
-use Rattle.list_texts.proofs.Listing.{class_item-le, class_item-next, numbered_class_more}
+use Rattle.list_texts.proofs.Listing.{numbered_class_more}
 use Rattle.list_texts.proofs.usage.usage_lines.Goals as goal
 
 pub push_class-requires-clause-within : goal.push_class-requires-clause-within

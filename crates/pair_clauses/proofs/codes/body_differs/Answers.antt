@@ -1,11 +1,12 @@
 use Rattle.std.proofs.Common.{◌≡◌, ◌+◌, ℕ, true, false, Some, sym, ap, subst, ◌∙◌, arith}
 use Rattle.std.specs.List.{filter_map, zip}
+use Rattle.jv_base.proofs.Options.{some_there}
 use Rattle.pair_clauses.specs.Codes.{IsSameBody}
 use Rattle.pair_clauses.specs.Finding.{FirstUnlike}
 use Rattle.pair_clauses.specs.Members.{NewMethod, with_name}
 use Rattle.pair_clauses.specs.Places.{place_of_method}
 use Rattle.pair_clauses.specs.declared.place.Place.{Place}
-use Rattle.pair_clauses.proofs.Unlike.{FoundBehind, found_alike, found_none, found_unlike, found_unnamed, named_done, named_ends, none_there, some_there}
+use Rattle.pair_clauses.proofs.Unlike.{FoundBehind, found_alike, found_none, found_unlike, found_unnamed, named_done, named_ends, none_there}
 use Rattle.pair_clauses.proofs.codes.body_differs.Goals as goal
 use Rattle.pair_clauses.proofs.codes.body_differs.Goals.{then-is_some+in_ok-same+else-not-same, else-is_some}
 

@@ -1,7 +1,8 @@
 use Rattle.std.proofs.Common.{◌+◌, ◌<◌, arith}
 use Rattle.class_pool.specs.Count.{item_count}
 use Rattle.class_pool.specs.Items.{class_item}
-use Rattle.list_texts.proofs.Listing.{class_item-ge, class_item-next, class_there}
+use Rattle.class_pool.proofs.Counting.{class_item-next}
+use Rattle.list_texts.proofs.Listing.{class_item-ge, class_there}
 use Rattle.pair_clauses.proofs.lined.standing_of.Goals as goal
 
 pub overflow_add-class : goal.overflow_add-class

@@ -1,11 +1,11 @@
 use Rattle.std.proofs.Common.{◌≡◌, ◌<◌, Bool, true, nat_lt, Option, Some, length, inr, sym, ap, subst, ◌∙◌, arith}
 use Rattle.std.specs.Prelude.{◌||◌}
-use Rattle.std.proofs.lemmas.Bool.{lt-ltb}
+use Rattle.std.proofs.lemmas.Bool.{lt-ltb, or_right}
 use Rattle.pair_clauses.specs.Finding.{FirstUnlike}
 use Rattle.pair_clauses.specs.Members.{IsSameMethod, NewMethod, expected_fields, expected_methods, further_fault}
 use Rattle.pair_clauses.specs.Places.{class_place, place_of_method}
 use Rattle.pair_clauses.specs.declared.place.Place.{Place}
-use Rattle.pair_clauses.proofs.Searching.{either, then_found}
+use Rattle.pair_clauses.proofs.Searching.{then_found}
 use Rattle.pair_clauses.proofs.Unlike.{none_there}
 use Rattle.pair_clauses.proofs.Zipped.{placed}
 use Rattle.pair_clauses.proofs.members.methods_differ.Goals as goal
@@ -31,7 +31,7 @@ returns-then-fields-len c =
           ap (λ (b : Bool). b || nat_lt methods (length out.methods)) (lt-ltb fields (length out.fields) low)
       | then-fields-len-via-else-fields-len+then-methods-len w ↦
           let low : methods < length out.methods = omega (arith, count, w.len-else-fields-len.ensures, w.if-methods-len.true) in
-          either (nat_lt fields (length out.fields)) (nat_lt methods (length out.methods)) (lt-ltb methods (length out.methods) low)
+          or_right (nat_lt fields (length out.fields)) (nat_lt methods (length out.methods)) (lt-ltb methods (length out.methods) low)
     ] in
     inr (
       subst (FirstUnlike (IsSameMethod c.args.names.now c.args.filter.now) (λ (e : NewMethod). place_of_method c.args.class.now e.0) (expected_methods c.args.class.now c.args.given.now) c.args.out.now.methods) none c.in_ok-methods.ensures.found,

@@ -1,6 +1,7 @@
 use Rattle.std.proofs.Common.{rules, ◌≡◌, ◌+◌, ◌++◌, ◌∷◌, [], arith}
 use Rattle.class_pool.specs.Items.{class_item}
-use Rattle.require_sys.proofs.Numbering.{class_item-le, class_item-next, table_more}
+use Rattle.class_pool.proofs.Counting.{class_item-next, class_item-le}
+use Rattle.require_sys.proofs.Numbering.{table_more}
 use Rattle.require_sys.proofs.numbered.starts_of.Goals as goal
 
 pub overflow_add-next-in-loop-number-2 : goal.overflow_add-next-in-loop-number-2

@@ -1,9 +1,9 @@
 use Rattle.std.proofs.Common.{ℕ, ◌+◌, ◌<◌, length, Option, ◌∙◌, ap, sym, arith}
 use Rattle.std.specs.Option.{option_or}
+use Rattle.link_check.proofs.First.{first_from, more_at, some_or, none_or}
 use Rattle.class_model.specs.declared.class.Method.{Method}
 use Rattle.type_verifier.specs.declared.fault.TypeFault.{TypeFault}
 use Rattle.type_verifier.specs.bodies.FirstFaults.{fault_of, method_checked}
-use Rattle.type_verifier.proofs.First.{first_from, more_at, none_or, some_or}
 use Rattle.type_verifier.proofs.verify.class_fault.Goals as goal
 
 pub returns-then-is_some : goal.returns-then-is_some

@@ -1,6 +1,6 @@
 use Rattle.std.proofs.Common.{◌≡◌}
+use Rattle.link_check.proofs.First.{first_from}
 use Rattle.class_pool.specs.Resolution.{first}
-use Rattle.type_verifier.proofs.First.{first_from}
 use Rattle.type_verifier.specs.bodies.FirstFaults.{fault_of, faults_of, method_checked}
 use Rattle.type_verifier.proofs.verify.class_fault.Given as goal
 

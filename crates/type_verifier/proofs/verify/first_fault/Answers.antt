@@ -1,11 +1,11 @@
 use Rattle.std.proofs.Common.{ℕ, ◌+◌, ◌<◌, length, List, Option, ◌∙◌, ap, sym, arith}
 use Rattle.std.specs.List.{enumerate_from}
 use Rattle.std.specs.Option.{option_or}
+use Rattle.link_check.proofs.First.{first_flat, first_from, more_at, some_or, none_or}
 use Rattle.class_model.specs.declared.class.Class.{Class}
 use Rattle.class_pool.specs.Resolution.{first}
 use Rattle.type_verifier.specs.declared.fault.TypeFault.{TypeFault}
 use Rattle.type_verifier.specs.bodies.FirstFaults.{faults_of}
-use Rattle.type_verifier.proofs.First.{first_flat, first_from, more_at, none_or, some_or}
 use Rattle.type_verifier.proofs.verify.first_fault.Goals as goal
 
 pub loop-number-init : goal.loop-number-init

@@ -1,7 +1,7 @@
 use Rattle.std.proofs.Common.{◌≡◌}
 use Rattle.std.specs.List.{enumerate_from, flat_map}
+use Rattle.link_check.proofs.First.{first_from}
 use Rattle.class_pool.specs.Resolution.{first}
-use Rattle.type_verifier.proofs.First.{first_from}
 use Rattle.type_verifier.specs.bodies.FirstFaults.{faults_of}
 use Rattle.type_verifier.proofs.verify.first_fault.Given as goal
 

@@ -1,8 +1,7 @@
 use Rattle.std.proofs.Common.{◌≡◌, ◌<◌, ⊎_elim, ℕ, length, subst, arith}
-use Rattle.std.proofs.lemmas.Bool.{cases_lt}
+use Rattle.std.proofs.lemmas.Bool.{cases_lt, both_ways}
 use Rattle.class_pool.specs.bodies.Cycles.{HasTest}
 use Rattle.class_pool.specs.Supertypes.{IsCyclic}
-use Rattle.class_pool.proofs.CycleLaws.{not_both}
 use Rattle.class_pool.proofs.Ranking.{tests_rank}
 use Rattle.class_pool.proofs.hierarchy.cycles.first_of_each.Goals as goal
 
@@ -14,8 +13,8 @@ loop-number-preserved c = (
       (λ less. c.loop-number.invariant.1 n less cyclic)
       (λ over.
       let same : n ≡ c.loop-number.number = omega (arith, within, over) in
-      not_both c.in_ok-is_cyclic.field-0
-      (c.in_ok-is_cyclic.ensures.is.1 (subst (IsCyclic c.args.set.now) same cyclic)) c.if-branch.false)
+      both_ways c.in_ok-is_cyclic.field-0 c.if-branch.false
+      (c.in_ok-is_cyclic.ensures.is.1 (subst (IsCyclic c.args.set.now) same cyclic)))
       (cases_lt n c.loop-number.number),
   λ n within.
       ⊎_elim

@@ -1,8 +1,8 @@
 use Rattle.std.proofs.Common.{rules, ◌≡◌, ◌∙◌, ◌<◌, List, Option, length, get_or, sym, ap, arith, ◌++◌, ◌∷◌, []}
 use Rattle.std.proofs.lemmas.Option.{get_or_from_slice_get}
+use Rattle.jv_base.proofs.Lists.{mapped_more}
 use Rattle.class_pool.specs.Hierarchy.{superclass_of}
 use Rattle.class_pool.specs.declared.id.ClassId.{ClassId}
-use Rattle.class_pool.proofs.LikeMethods.{map_more}
 use Rattle.class_pool.proofs.hierarchy.superclasses.superclasses_of.Goals as goal
 
 pub loop-number-preserved : goal.loop-number-preserved
@@ -15,4 +15,4 @@ loop-number-preserved c =
     let put : c.push.new.self ≡ c.loop-number.ids ++ c.find.result ∷ [] = search rules in
     put ∙ ap (λ (t : Option ClassId). c.loop-number.ids ++ t ∷ []) c.find.ensures.found
     ∙ ap (λ (ts : List (Option ClassId)). ts ++ superclass_of c.args.classes.now x ∷ []) c.loop-number.invariant
-    ∙ map_more (superclass_of c.args.classes.now) c.args.classes.now c.loop-number.number x within at
+    ∙ mapped_more (superclass_of c.args.classes.now) c.args.classes.now c.loop-number.number x within at

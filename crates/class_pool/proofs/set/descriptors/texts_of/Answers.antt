@@ -1,7 +1,7 @@
 use Rattle.std.proofs.Common.{◌≡◌, ◌∙◌, ◌<◌, List, ℕ, length, get_or, ap, arith, ◌++◌, ◌∷◌, []}
+use Rattle.jv_base.proofs.Lists.{mapped_more}
 use Rattle.class_model.specs.declared.class.Method.{Method}
 use Rattle.class_pool.specs.bodies.Descriptors.{text_of}
-use Rattle.class_pool.proofs.LikeMethods.{map_more}
 use Rattle.class_pool.proofs.set.descriptors.texts_of.Goals as goal
 
 pub loop-method-preserved : goal.loop-method-preserved
@@ -14,4 +14,4 @@ loop-method-preserved c =
     (arith, c.loop-method-test.true, ap length c.as_slice-method-items.ensures) in
     c.in_ok-push_text.ensures ∙ ap (λ (t : List ℕ). c.loop-method.texts ++ t ∷ []) c.in_ok-method_text.ensures.written
     ∙ ap (λ (ts : List (List ℕ)). ts ++ text_of x ∷ []) c.loop-method.invariant
-    ∙ map_more text_of ms c.loop-method.method-index x within at
+    ∙ mapped_more text_of ms c.loop-method.method-index x within at

@@ -1,5 +1,5 @@
 use Rattle.std.proofs.Common.{refl, sym, ◌∙◌}
-use Rattle.link_check.proofs.Inheriting.{not_true}
+use Rattle.std.proofs.lemmas.Bool.{not-true}
 use Rattle.link_check.proofs.overriding.inherited.known_of.Goals as goal
 
 pub returns : goal.returns
@@ -11,7 +11,7 @@ returns c = record {
     refl,
     c.class.ensures.is,
     sym c.has_final_method.ensures
-        ∙ not_true c.has_final_method.result is,
+        ∙ not-true c.has_final_method.result is,
   );
   fits = c.fits.ensures;
 }
