@@ -21,3 +21,6 @@ mod Membering
 mod Limiting
 pub mod Validity
 pub mod AskedThere
+mod Grouping
+mod InstanceRows
+mod Noting

@@ -1,0 +1,238 @@
+// Methods in groups by the marks of their names and descriptors.
+//
+// Methods of one name and descriptor have one mark. Where other methods have that mark too, or two methods of one class,
+// their group is mixed, and nothing is known of them.
+ghost use Rattle.std.specs.Prelude.{◌≡◌, ◌+◌, ◌<◌, IfOk, IfSome, IsTrue, Some, length, slice_get, slice_index_or};
+ghost use Rattle.std.specs.List.Sorted.{IsSorted};
+ghost use Rattle.std.specs.Ordering.{nat_cmp};
+ghost use Rattle.jv_base.specs.Types.{method_text};
+ghost use Rattle.class_pool.specs.Found.{IsMember, IsMethod, named_at};
+ghost use Rattle.class_pool.specs.declared.id.ClassId.TheVariants.{Prog};
+ghost use Rattle.class_pool.specs.declared.id.MemberAt.{MemberAt};
+ghost use Rattle.require_sys.specs.bodies.Alike.{AreAlike, AreClassGrouped, AreGrouped, IsFirst, Knows, StillKnow};
+ghost use Rattle.require_sys.specs.bodies.Alike.{number_in, place_of};
+ghost use Rattle.require_sys.specs.declared.alike.Group.TheVariants.{Mixed, Of};
+
+use crate::marks::method_mark;
+use crate::supers::is_same_member;
+use class_model::{Class, Method};
+use class_pool::{ClassId, ClassSet, MemberAt};
+use jv_base::{FieldType, M};
+use std::alloc::Global;
+
+/// What is known of the methods that have one mark.
+#[derive(Clone, Copy)]
+pub(crate) enum Group<'a> {
+    /// There is none.
+    None,
+    /// All have the name and the descriptor of this one, and each is the first such one of its class.
+    Of(&'a Method),
+    /// Nothing.
+    Mixed,
+}
+
+/// The methods of a set in groups.
+#[derive(Drop)]
+pub(crate) struct Alike<'a> {
+    pub set: &'a ClassSet,
+    /// The marks of all methods, ascending.
+    keys: Vec<u64>,
+    /// At the first place of a mark what is known of its methods.
+    groups: Vec<Group<'a>>,
+}
+
+impl<'a> Alike<'a> {
+    pub fn of(alloc: Global, set: &'a ClassSet) -> M<Self>
+        ensures set { IfOk result (λ alike. alike.set.now ≡ set.now) }
+        ensures are { IfOk result (λ alike. AreAlike set.now alike.keys.items alike.groups.items) }
+    {
+        let keys = keys_of(alloc, set)?;
+        let groups = groups_of(alloc, set, keys.as_slice())?;
+        Ok(Alike { set, keys, groups })
+    }
+
+    /// No number is greater.
+    pub fn highest(&self) -> usize {
+        self.groups.len()
+    }
+
+    /// The number of a method's name and descriptor, 0 where they aren't known.
+    pub fn number_of(&self, method: &Method) -> usize
+        requires { IsSorted nat_cmp self.now.keys.items }
+        ensures { result ≡ number_in self.now.keys.items self.now.groups.items
+            (method.now.name, method_text method.now.ty) }
+    {
+        let place = place_of(self.keys.as_slice(), method_mark(method));
+        match self.groups.get(place) {
+            Some(Group::Of(_)) => place + 1,
+            _ => 0,
+        }
+    }
+}
+
+fn keys_of(alloc: Global, set: &ClassSet) -> M<Vec<u64>>
+    ensures { IfOk result (λ keys. IsSorted nat_cmp keys.items) }
+{
+    let mut keys = Vec::new(alloc);
+    for number in 0..set.len() {
+        push_marks(&mut keys, set.class(number))?;
+    }
+    keys.sort_unstable();
+    Ok(keys)
+}
+
+fn push_marks(keys: &mut Vec<u64>, class: &Class) -> M<()> {
+    for method in class.methods.as_slice() {
+        keys.push(method_mark(method))?;
+    }
+    Ok(())
+}
+
+/// How many of the first keys are less than a mark.
+fn place_of(keys: &[u64], mark: u64) -> usize
+    requires { IsSorted nat_cmp keys.now }
+    ensures { result ≡ place_of keys.now mark }
+{
+    let mut low = 0;
+    let mut high = keys.len();
+    while low < high {
+        let middle = low + (high - low) / 2;
+        if keys[middle] < mark {
+            low = middle + 1;
+        } else {
+            high = middle;
+        }
+    }
+    low
+}
+
+fn groups_of<'a>(alloc: Global, set: &'a ClassSet, keys: &[u64]) -> M<Vec<Group<'a>>>
+    requires { IsSorted nat_cmp keys.now }
+    ensures { IfOk result (λ groups. AreGrouped set.now keys.now groups.items (length set.now)) }
+{
+    let mut groups = vec![in alloc; Group::None; keys.len()]?;
+    for number in 0..set.len() {
+        let class = set.class(number);
+        add_class(set, keys, &mut groups, number, class);
+    }
+    Ok(groups)
+}
+
+/// Puts the methods of a class into their groups.
+fn add_class<'a>(
+    set: &'a ClassSet,
+    keys: &[u64],
+    groups: &mut Vec<Group<'a>>,
+    number: u32,
+    class: &'a Class,
+)
+    requires sorted { IsSorted nat_cmp keys.now }
+    requires there { slice_get set.now number ≡ Some class.now }
+    requires few { length class.now.fields + length class.now.methods < 4294967295 }
+    ensures before { StillKnow set.now groups.old.items groups.new.items }
+    ensures added { AreClassGrouped set.now keys.now groups.new.items number (length class.now.fields)
+        (length class.now.methods) }
+{
+    let fields = class.fields.len();
+    for index in 0..class.methods.len() {
+        let m = MemberAt {
+            class: ClassId::Prog(number),
+            index: (fields + index) as u32,
+        };
+        let method = &class.methods[index];
+        add_method(set, groups, place_of(keys, method_mark(method)), &m, method);
+    }
+}
+
+/// Puts a method into the group at a place.
+fn add_method<'a>(
+    set: &'a ClassSet,
+    groups: &mut Vec<Group<'a>>,
+    place: usize,
+    m: &MemberAt,
+    method: &'a Method,
+)
+    requires there { IsMember set.now m.now }
+    requires method { IsMethod set.now m.now }
+    requires named { named_at set.now m.now ≡ (method.now.name, method_text method.now.ty) }
+    ensures before { StillKnow set.now groups.old.items groups.new.items }
+    ensures added { Knows set.now (slice_index_or groups.new.items place Mixed) m.now }
+{
+    if place < groups.len() {
+        groups[place] = with_method(set, &groups[place], m, method);
+    }
+}
+
+/// A group with one more method.
+fn with_method<'a>(
+    set: &'a ClassSet,
+    group: &Group<'a>,
+    m: &MemberAt,
+    method: &'a Method,
+) -> Group<'a>
+    requires there { IsMember set.now m.now }
+    requires method { IsMethod set.now m.now }
+    requires named { named_at set.now m.now ≡ (method.now.name, method_text method.now.ty) }
+    ensures before { (x : MemberAt) → Knows set.now group.now x → Knows set.now result x }
+    ensures added { Knows set.now result m.now }
+{
+    if !is_first(set, m) {
+        return Group::Mixed;
+    }
+    match group {
+        Group::None => Group::Of(method),
+        Group::Of(one) if is_alike(one, method) => Group::Of(*one),
+        _ => Group::Mixed,
+    }
+}
+
+/// Whether a method is the first one of its class with its name and its descriptor.
+fn is_first(set: &ClassSet, m: &MemberAt) -> bool
+    requires member { IsMember set.now m.now }
+    requires method { IsMethod set.now m.now }
+    ensures { IsTrue result → IsFirst set.now m.now }
+{
+    match &set.method_like(m.class, *m) {
+        Some(own) => is_same_member(own, m),
+        None => false,
+    }
+}
+
+/// Whether two methods have one name and one type.
+fn is_alike(one: &Method, other: &Method) -> bool
+    ensures { IsTrue result → (one.now.name ≡ other.now.name) × (one.now.ty ≡ other.now.ty) }
+{
+    one.name == other.name
+        && is_same_result(&one.ty.ret, &other.ty.ret)
+        && are_same_types(one.ty.args.as_slice(), other.ty.args.as_slice())
+}
+
+fn is_same_result(one: &Option<FieldType>, other: &Option<FieldType>) -> bool
+    ensures { IsTrue result → one.now ≡ other.now }
+{
+    match (one, other) {
+        (Some(one), Some(other)) => is_same_type(one, other),
+        (None, None) => true,
+        _ => false,
+    }
+}
+
+fn are_same_types(one: &[FieldType], other: &[FieldType]) -> bool
+    ensures { IsTrue result → one.now ≡ other.now }
+{
+    if one.len() != other.len() {
+        return false;
+    }
+    for index in 0..one.len() {
+        if !is_same_type(&one[index], &other[index]) {
+            return false;
+        }
+    }
+    true
+}
+
+fn is_same_type(one: &FieldType, other: &FieldType) -> bool
+    ensures { IsTrue result → one.now ≡ other.now }
+{
+    one == other
+}
