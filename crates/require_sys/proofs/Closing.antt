@@ -61,6 +61,22 @@ mapped_at f s (y ∷ xs) (suc k) x e =
     let next : s + 1 + k ≡ s + suc k = omega arith in
     (r.0 ∙ ap (λ (i : ℕ). f (i, x)) next, omega (arith, r.1))
 
+-- a class with its members needs as many lists as it has items
+pub class_long : (classes : List Class) (kept : KeptByRules) (n : ℕ) (c : Class)
+    → length (class_needs classes kept (n, c)) ≡ items_of c
+class_long classes kept n c =
+    let of_field : ℕ × Field → List ℕ =
+    λ p. needs_of classes (class_item classes n + 1 + p.0) (field_wants classes n p.1) in
+    let of_method : ℕ × Method → List ℕ =
+    λ p. needs_of classes (class_item classes n + 1 + p.0) (method_wants classes n kept p.1) in
+    let fields = length-map (enumerate_from 0 c.fields) of_field in
+    let methods = length-map (enumerate_from (length c.fields) c.methods) of_method in
+    let numbered = length-enumerate_from 0 c.fields in
+    let others = length-enumerate_from (length c.fields) c.methods in
+    let both = length-append (map of_field (enumerate_from 0 c.fields))
+    (map of_method (enumerate_from (length c.fields) c.methods)) in
+    omega (arith, fields, methods, numbered, others, both)
+
 module _ (classes : List Class) (kept : KeptByRules) (set : ℕ → Bool) where
   -- what an item of the set needs is in the set, and so is what it wants
   wants_in : (own : ℕ) (wants : List Item) → set own ≡ true → All (λ y. IsTrue (set y)) (needs_of classes own wants)
@@ -98,22 +114,13 @@ module _ (classes : List Class) (kept : KeptByRules) (set : ℕ → Bool) where
   abbrev methods_at : ℕ → Class → List (List ℕ)
   methods_at n c = map (method_at n) (enumerate_from (length c.fields) c.methods)
 
-  counted : (n : ℕ) (c : Class) → length (class_needs classes kept (n, c)) ≡ items_of c
-  counted n c =
-      let fields = length-map (enumerate_from 0 c.fields) (field_at n) in
-      let methods = length-map (enumerate_from (length c.fields) c.methods) (method_at n) in
-      let numbered = length-enumerate_from 0 c.fields in
-      let others = length-enumerate_from (length c.fields) c.methods in
-      let both = length-append (fields_at n c) (methods_at n c) in
-      omega (arith, fields, methods, numbered, others, both)
-
   module _ (closed : Closed (requires classes kept) set) (n : ℕ) (c : Class) (is : slice_get classes n ≡ Some c) where
     at : (k : ℕ) → k < items_of c → set (class_item classes n + k) ≡ true
         → All (λ y. IsTrue (set y)) (get_or (class_needs classes kept (n, c)) k [])
     at k low h =
         let first : 0 + n ≡ n = omega arith in
         subst (λ t. All (λ y. IsTrue (set y)) t)
-        (needs_at (class_needs classes kept) counted 0 classes n c k is low
+        (needs_at (class_needs classes kept) (class_long classes kept) 0 classes n c k is low
         ∙ ap (λ (i : ℕ). get_or (class_needs classes kept (i, c)) k []) first)
         (closed.needs (class_item classes n + k) h)
 

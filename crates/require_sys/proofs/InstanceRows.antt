@@ -12,7 +12,8 @@ use Rattle.std.proofs.lemmas.Option.{same_Some, slice_get_within}
 use Rattle.mark_core.specs.declared.system.Pair.{Pair}
 use Rattle.class_model.specs.Flags.{is_init, is_static}
 use Rattle.class_model.specs.declared.class.Class.{Class}
-use Rattle.class_pool.specs.Found.{IsMember, IsMethod, MemberRow, NameAndType, declared_by, declared_in, is_instance_method}
+use Rattle.class_pool.specs.Found.{IsMember, IsMethod, MemberRow, NameAndType, declared_by, declared_in}
+use Rattle.class_pool.specs.Found.{is_instance_method}
 use Rattle.class_pool.specs.Found.{is_instance_row, is_private_member, is_protected_member, is_public_member, named_at}
 use Rattle.class_pool.specs.Found.{row_at, rows_in}
 use Rattle.class_pool.specs.Hierarchy.{IsClass}
@@ -23,7 +24,8 @@ use Rattle.class_pool.specs.declared.id.ClassId.TheVariants.{Prog, Lib}
 use Rattle.class_pool.specs.declared.id.MemberAt.{MemberAt}
 use Rattle.class_pool.proofs.Declaring.{declared_named}
 use Rattle.require_sys.specs.Requires.{is_inheritable, members_of}
-use Rattle.require_sys.specs.bodies.Alike.{AreAlike, AreNumbers, AreRows, IsFirst, IsRow, Knows, class_rows, group_number}
+use Rattle.require_sys.specs.bodies.Alike.{AreAlike, AreNumbers, AreRows, IsFirst, IsRow, Knows, class_rows}
+use Rattle.require_sys.specs.bodies.Alike.{group_number}
 use Rattle.require_sys.specs.bodies.Alike.{member_at, number_in, openness, place_of, row_of}
 use Rattle.require_sys.specs.bodies.Marks.{mark_of}
 use Rattle.require_sys.specs.bodies.Nearest.{IsListed, front_rows, is_hidden, row_with}
@@ -128,7 +130,8 @@ module _ (classes : List Class) (number : NameAndType → ℕ) (n : ℕ) where
   inheritable_over [] = refl
   inheritable_over (p ∷ ps) = by (is_instance_method classes (member p)) refl (inheritable_over ps)
     where
-      by : (b : Bool) → is_instance_method classes (member p) ≡ b → filter (is_inheritable classes) (map member_at (rows_over ps))
+      by : (b : Bool) → is_instance_method classes (member p) ≡ b → filter (is_inheritable classes)
+          (map member_at (rows_over ps))
           ≡ filter (is_inheritable classes) (map member ps)
           → filter (is_inheritable classes) (map member_at (filter_map (row_of classes number)
           (cond b (member p ∷ filter (is_instance_method classes) (map member ps))
@@ -165,7 +168,8 @@ inheritable_is classes number n row is =
     ∙ ap (λ (o : Openness). not (is_hidden o)) (sym is.openness)
 
 -- the pairs with the rows of a class
-pub rows_paired : (classes : List Class) (table : List (List InstanceMethod)) (are : AreRows classes table) (own t n : ℕ)
+pub rows_paired : (classes : List Class) (table : List (List InstanceMethod)) (are : AreRows classes table)
+    (own t n : ℕ)
     (rows : List InstanceMethod) → n < length classes → rows ≡ get_or table n []
     → filter_map (pair_with classes own t) (filter (is_inheritable classes) (map member_at rows))
     ≡ pairs_in classes own t (Prog n)
@@ -216,13 +220,13 @@ row_made classes number n m at o g opened numbered =
 of_group : (classes : List Class) (g : Group) (place : ℕ) (m : MemberAt) → Knows classes g m
     → 0 < group_number place g → (group_number place g ≡ place + 1) × IsFirst classes m
 of_group classes (no_method) place m k some = absurd k
-of_group classes (Of one) place m k some = (refl, k.1)
+of_group classes (Of one last) place m k some = (refl, k.1)
 of_group classes (Mixed) place m k some = absurd (omega (arith, some))
 
 both_named : (classes : List Class) (g : Group) (m x : MemberAt) (place : ℕ) → Knows classes g m → Knows classes g x
     → 0 < group_number place g → named_at classes m ≡ named_at classes x
 both_named classes (no_method) m x place k l some = absurd k
-both_named classes (Of one) m x place k l some = k.0 ∙ sym l.0
+both_named classes (Of one last) m x place k l some = k.0 ∙ sym l.0
 both_named classes (Mixed) m x place k l some = absurd (omega (arith, some))
 
 module _ (classes : List Class) (keys : List ℕ) (groups : List Group) (are : AreAlike classes keys groups) where
@@ -247,7 +251,8 @@ module _ (classes : List Class) (keys : List ℕ) (groups : List Group) (are : A
       let other = (of_group classes _ (place_at o l) (member_of o l) (known o l j)
       (subst (λ (g : ℕ). 0 < g) e some)).0 in
       let place : place_at n k ≡ place_at o l = omega (arith, one, other, e) in
-      both_named classes (get_or groups (place_at n k) Mixed) (member_of n k) (member_of o l) (place_at n k) (known n k i)
+      both_named classes (get_or groups (place_at n k) Mixed) (member_of n k) (member_of o l) (place_at n k)
+      (known n k i)
       (subst (λ (t : ℕ). Knows classes (get_or groups t Mixed) (member_of o l)) (sym place) (known o l j)) some
 
   -- the numbers of groups tell names and descriptors

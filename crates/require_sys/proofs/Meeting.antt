@@ -23,8 +23,9 @@ use Rattle.link_check.proofs.Climbing.{upwards_none, upwards_step}
 use Rattle.require_sys.specs.Requires.{is_program, library_supers}
 use Rattle.require_sys.specs.bodies.Supers.{is_library, is_new, other_number, own_once}
 use Rattle.require_sys.specs.bodies.Wanting.{has}
-use Rattle.require_sys.proofs.Parts.{from_all}
+use Rattle.require_sys.proofs.Parts.{from_all, no_and}
 use Rattle.require_sys.proofs.Steps.{more_of}
+use Rattle.require_sys.proofs.There.{each_left}
 
 -- ---- a walk upwards
 
@@ -175,10 +176,6 @@ module _ (own z : ℕ) where
       rest : List ℕ
       rest = filter_map (other_number own) ids
 
-      no_and : (b : Bool) → (b && false) ≡ false
-      no_and true = refl
-      no_and false = refl
-
       by : (s : Bool) → (n == own) ≡ s → (b : Bool) → (z == n) ≡ b → (o : Bool) → (own == z) ≡ o
           → has z rest ≡ (list_any (same_class (Prog z)) ids && not (own == z))
           → has z (cons_option (cond s None (Some n)) rest)
@@ -219,22 +216,17 @@ below_met classes n y =
     (any_own classes y (superclasses_from classes (Prog n)))
     ∙ sym (list_any-append (same_class y) (superclasses_from classes (Prog n)) (superinterfaces classes (Prog n)))
 
-joined : {X : Type 0} (P : X → Type 0) (xs ys : List X) → AllByRecursion P xs → AllByRecursion P ys
-    → AllByRecursion P (xs ++ ys)
-joined P [] ys h k = k
-joined P (x ∷ xs) ys h k = (h.0, joined P xs ys h.1 k)
-
 own_met : (classes : List Class) (cs : List ClassId) → AllByRecursion (IsClass classes) (flat_map (own_once classes) cs)
 own_met classes [] = tt
 own_met classes (c ∷ cs) =
-    joined (IsClass classes) (own_once classes c) (flat_map (own_once classes) cs)
+    each_left (IsClass classes) (own_once classes c) (flat_map (own_once classes) cs)
     (from_all (IsClass classes) (own_once classes c) (own_valid classes c)) (own_met classes cs)
 
 pub met_there : (classes : List Class) (n : ℕ) → IsClass classes (Prog n)
     → AllByRecursion (IsClass classes) (superclasses_from classes (Prog n)
     ++ flat_map (own_once classes) (superclasses_from classes (Prog n)))
 met_there classes n n-in =
-    joined (IsClass classes) (superclasses_from classes (Prog n))
+    each_left (IsClass classes) (superclasses_from classes (Prog n))
     (flat_map (own_once classes) (superclasses_from classes (Prog n)))
     (from_all (IsClass classes) (superclasses_from classes (Prog n)) (chain_valid classes (Prog n) n-in))
     (own_met classes (superclasses_from classes (Prog n)))

@@ -1,7 +1,7 @@
 -- The members of a class, gone over one by one.
 use Rattle.std.proofs.Common.{◌≡◌, ℕ, zero, suc, ◌+◌, ◌<◌, ◌≤◌, Bool, true, false, not, cond, List, [], ◌∷◌, ◌++◌}
 use Rattle.std.proofs.Common.{length, map}
-use Rattle.std.proofs.Common.{get_or, take, slice_get, Option, Some, refl, sym, ap, subst, ◌∙◌, arith, append-nil}
+use Rattle.std.proofs.Common.{get_or, take, Option, refl, sym, ap, subst, ◌∙◌, arith, append-nil}
 use Rattle.std.proofs.Common.{nat_lt, ◌==◌}
 use Rattle.std.specs.List.{cons_option, enumerate_from, filter, filter_map, flat_map}
 use Rattle.std.proofs.lemmas.Bool.{eqb-true, ltb-true}
@@ -27,13 +27,9 @@ use Rattle.require_sys.specs.bodies.Wanting.{Wanted, wanting}
 use Rattle.require_sys.specs.declared.pairs.Pairs.{Pairs}
 use Rattle.require_sys.proofs.Gathering.{in_turn}
 use Rattle.require_sys.proofs.CountedLists.{both_pairs}
+use Rattle.require_sys.proofs.Numbering.{found_at}
 use Rattle.require_sys.proofs.Steps.{enumerated_more, more_of}
 use Rattle.require_sys.proofs.SupersLaw.{flat_filtered, flat_of}
-
-found_at : {X : Type 0} (xs : List X) (k : ℕ) → k < length xs → (x : X) × (slice_get xs k ≡ Some x)
-found_at [] k h = absurd (omega (arith, h))
-found_at (x ∷ xs) zero h = (x, refl)
-found_at (x ∷ xs) (suc k) h = found_at xs k (omega (arith, h))
 
 -- what the first members of a class give that pass a test
 abbrev pub of_first : {Y : Type 0} → List Class → ClassId → (MemberAt → Bool) → (MemberAt → Option Y) → ℕ → List Y

@@ -13,7 +13,8 @@ use Rattle.class_model.specs.declared.class.Class.{Class}
 use Rattle.class_pool.specs.Hierarchy.{IsClass}
 use Rattle.class_pool.specs.declared.id.ClassId.{ClassId}
 use Rattle.class_pool.specs.declared.id.ClassId.TheVariants.{Lib, Prog}
-use Rattle.require_sys.specs.bodies.Nearest.{AreNoted, AreUpTo, IsBefore, front_rows, noted, program_front, row_with, rows_by}
+use Rattle.require_sys.specs.bodies.Nearest.{AreNoted, AreUpTo, IsBefore, front_rows, noted, program_front, row_with}
+use Rattle.require_sys.specs.bodies.Nearest.{rows_by}
 use Rattle.require_sys.specs.declared.methods.InstanceMethod.{InstanceMethod}
 use Rattle.require_sys.specs.declared.nearest.Note.{Note}
 use Rattle.require_sys.proofs.Steps.{more_of}
@@ -92,7 +93,8 @@ module _ (stamp : ℕ) (notes : List Note) (row : InstanceMethod) (before : List
           let same : row.number ≡ g = eqb-true row.number g e in
           let there : row.number < length notes = omega (arith, same, inside) in
           let old_at : slice_get notes g ≡ Some old = ap (slice_get notes) (sym same) ∙ at in
-          ap (λ (k : ℕ). noted stamp (slice_get (set notes row.number (record { stamp = stamp; row = row })) k)) (sym same)
+          ap (λ (k : ℕ). noted stamp (slice_get (set notes row.number (record { stamp = stamp; row = row })) k))
+          (sym same)
           ∙ ap (noted stamp) (slice_get-set_same notes row.number (record { stamp = stamp; row = row }) there)
           ∙ ap (λ b. cond b (Some row) None) (itself stamp)
           ∙ first_row g before row
@@ -122,7 +124,8 @@ module _ (stamp : ℕ) (notes : List Note) (row : InstanceMethod) (before : List
     where
       by : (b : Bool) → (row.number == number) ≡ b
           → noted stamp (slice_get notes number) ≡ row_with number (before ++ row ∷ [])
-      by true e = absurd (let same : row.number ≡ number = eqb-true row.number number e in omega (arith, same, over, within))
+      by true e = absurd (let same : row.number ≡ number = eqb-true row.number number e in omega
+          (arith, same, over, within))
       by false e = so_far number some within ∙ other_row number before row e
 
 -- ---- rows

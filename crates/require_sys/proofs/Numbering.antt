@@ -1,5 +1,6 @@
 -- The items of classes and members by their numbers.
-use Rattle.std.proofs.Common.{◌≡◌, ℕ, ◌+◌, ◌<◌, ◌≤◌, ◌⊎◌, inl, inr, Bool, true, false, List, [], ◌∷◌, ◌++◌, length}
+use Rattle.std.proofs.Common.{◌≡◌, ℕ, zero, suc, ◌+◌, ◌<◌, ◌≤◌, ◌⊎◌, inl, inr, Bool, true, false, List, [], ◌∷◌, ◌++◌}
+use Rattle.std.proofs.Common.{length}
 use Rattle.std.proofs.Common.{get_or, map, take, slice_get, Option, Some, None, All, refl, sym, ap, subst, ◌∙◌, arith}
 use Rattle.std.proofs.Common.{length-append}
 use Rattle.std.specs.Option.{option_map_or}
@@ -17,6 +18,12 @@ use Rattle.class_pool.specs.Items.{class_item}
 use Rattle.keep_match.specs.Seeds.{places_of_true}
 use Rattle.require_sys.specs.bodies.Starts.{AreStarts}
 use Rattle.class_pool.proofs.ToldMembers.{rows_counted}
+
+-- an element that is there
+pub found_at : {X : Type 0} (xs : List X) (k : ℕ) → k < length xs → (x : X) × (slice_get xs k ≡ Some x)
+found_at [] k h = absurd (omega (arith, h))
+found_at (x ∷ xs) zero h = (x, refl)
+found_at (x ∷ xs) (suc k) h = found_at xs k (omega (arith, h))
 
 -- one more element
 pub take_at : {X : Type 0} (xs : List X) (i : ℕ) (x : X) → slice_get xs i ≡ Some x

@@ -2,7 +2,7 @@
 use Rattle.std.proofs.Common.{◌≡◌, ℕ, ◌<◌, ◌==◌, not, ◌&&◌, ◌||◌, ⊎_elim, Bool, true, false, cond, List, []}
 use Rattle.std.proofs.Common.{◌∷◌, Some, refl, sym, ap, ◌∙◌}
 use Rattle.std.specs.List.{All, find, list_any}
-use Rattle.std.proofs.lemmas.Bool.{eq-eqb}
+use Rattle.std.proofs.lemmas.Bool.{eq-eqb, or_right}
 use Rattle.std.proofs.lemmas.Option.{same_Some}
 use Rattle.class_model.specs.declared.class.Class.{Class}
 use Rattle.class_pool.specs.Found.{declared_by, declared_in, is_instance_method, is_private_member, is_protected_member}
@@ -17,20 +17,14 @@ use Rattle.class_pool.specs.declared.id.ClassId.TheVariants.{Prog}
 use Rattle.class_pool.specs.declared.id.MemberAt.{MemberAt}
 use Rattle.class_pool.proofs.Among.{member_is}
 use Rattle.link_check.specs.bodies.Overriding.{alike_from, has_open_override, overrides_where}
-use Rattle.link_check.proofs.OverridingLaws.{alike_above, first_found, member_Decides}
+use Rattle.link_check.proofs.OverridingLaws.{alike_above, first_found}
 use Rattle.require_sys.specs.bodies.Alike.{AreRows, IsRow, member_at}
 use Rattle.require_sys.specs.bodies.Nearest.{Runs, front_rows, is_overriding, row_with}
 use Rattle.require_sys.specs.bodies.Overriding.{IsOpenAbove, overrides_openly}
 use Rattle.require_sys.specs.declared.methods.InstanceMethod.{InstanceMethod}
 use Rattle.require_sys.specs.declared.methods.Openness.TheVariants.{Abstract, Open, Package, Private}
 use Rattle.require_sys.proofs.InstanceRows.{alike_first, alike_named, nearest_is}
-
-or_true : (b : Bool) → (b || true) ≡ true
-or_true true = refl
-or_true false = refl
-
-member_itself : (m : MemberAt) → same_member m m ≡ true
-member_itself m = (member_Decides m m).1 refl
+use Rattle.require_sys.proofs.TopsLaw.{member_same}
 
 -- ---- the first one
 
@@ -97,7 +91,7 @@ nearest_openly classes m y (x ∷ ms) one found may =
         let same : x ≡ y = same_Some x y h in
         ap (λ b. cond (same_member x m || b) (Some x) (find (overrides_openly classes m) ms))
         (ap (may_override classes) same ∙ may)
-        ∙ ap (λ b. cond b (Some x) (find (overrides_openly classes m) ms)) (or_true (same_member x m)) ∙ h
+        ∙ ap (λ b. cond b (Some x) (find (overrides_openly classes m) ms)) (or_right (same_member x m) true refl) ∙ h
     by false e h next =
         ap (λ b. cond (b || may_override classes x) (Some x) (find (overrides_openly classes m) ms))
         (other_member classes x m one e)
@@ -120,7 +114,7 @@ nearest_itself classes m (x ∷ ms) one found =
         let same : x ≡ m = same_Some x m h in
         ap (λ b. first (cond (b || (may_override classes x
         && list_any (may_be_overridden classes x.class) (overriding classes m ms))) (x ∷ overriding classes m ms)
-        (overriding classes m ms))) (ap (λ z. same_member z m) same ∙ member_itself m) ∙ h
+        (overriding classes m ms))) (ap (λ z. same_member z m) same ∙ member_same m) ∙ h
     by false e h next =
         ap (λ b. first (cond (b || (may_override classes x
         && list_any (may_be_overridden classes x.class) (overriding classes m ms))) (x ∷ overriding classes m ms)

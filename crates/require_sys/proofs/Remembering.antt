@@ -60,7 +60,8 @@ front_short [] ys = omega arith
 front_short (x ∷ xs) ys = let h = front_short xs ys in omega (arith, h)
 
 -- what was wanted last stands behind what was wanted before
-pub last_wanted : (w v : Wanted) (n : ℕ) (f : List Class → List Item) → n ≡ length w.numbers → v ≡ wanting w (f w.classes)
+pub last_wanted : (w v : Wanted) (n : ℕ) (f : List Class → List Item) → n ≡ length w.numbers → v ≡ wanting w
+    (f w.classes)
     → IsBehind n v.numbers (numbers v.classes (f v.classes))
 last_wanted w v n f count is =
     subst (λ (u : Wanted). IsBehind n u.numbers (numbers u.classes (f u.classes))) (sym is)
@@ -83,7 +84,8 @@ pub text_put : (classes : List Class) (rows : List (Option TextRow)) (place star
     → All (λ o. IfSome o (IsTextRow classes)) (set rows place (Some (record { kind = k; text = own; numbers = found })))
 text_put classes rows place start k t own all given found are behind one copied same =
     All-set (λ o. IfSome o (IsTextRow classes)) rows place (Some (record { kind = k; text = own; numbers = found }))
-    (copied ∙ ap (drop start) one ∙ behind.are ∙ ap (λ (u : List ℕ). numbers classes (text_wants classes k u)) (sym same))
+    (copied ∙ ap (drop start) one ∙ behind.are ∙ ap (λ (u : List ℕ). numbers classes (text_wants classes k u))
+    (sym same))
     are
 
 -- one more reference is remembered
@@ -95,5 +97,6 @@ pub row_put : (classes : List Class) (rows : List (Option Row)) (place start n :
 row_put classes rows place start n k r own all given found are behind one copied same =
     All-set (λ o. IfSome o (IsRow classes)) rows place
     (Some (record { from = n; kind = k; reference = own; numbers = found }))
-    (copied ∙ ap (drop start) one ∙ behind.are ∙ ap (λ (q : MemberRef). numbers classes (ref_wants classes n k q)) (sym same))
+    (copied ∙ ap (drop start) one ∙ behind.are ∙ ap (λ (q : MemberRef). numbers classes (ref_wants classes n k q))
+    (sym same))
     are

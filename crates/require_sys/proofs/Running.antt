@@ -9,7 +9,8 @@ use Rattle.mark_core.specs.Marks.{Closed}
 use Rattle.class_model.specs.Flags.{acc_final, has, is_interface}
 use Rattle.class_model.specs.declared.class.Class.{Class}
 use Rattle.lib_table.specs.declared.class.LibKind.TheVariants.{Final, Interface, Open}
-use Rattle.class_pool.specs.Found.{MemberRow, field_row, is_instance_method, is_instance_row, is_private_member, row_at, rows_in}
+use Rattle.class_pool.specs.Found.{MemberRow, field_row, is_instance_method, is_instance_row, is_private_member, row_at}
+use Rattle.class_pool.specs.Found.{rows_in}
 use Rattle.class_pool.specs.Found.{method_row, same_member}
 use Rattle.class_pool.specs.Hierarchy.{is_interface_kind, kind_of}
 use Rattle.class_pool.specs.Items.{class_item, item_in, item_of}
@@ -23,7 +24,8 @@ use Rattle.class_pool.specs.declared.id.MemberAt.{MemberAt}
 use Rattle.class_pool.proofs.Among.{among_once, member_is}
 use Rattle.class_pool.proofs.EachOnce.{same_is, same_itself}
 use Rattle.require_sys.specs.Closing.{is_in}
-use Rattle.require_sys.specs.Requires.{Item, OfMember, called_wants, class_pairs, initialisation_wants, instance_methods}
+use Rattle.require_sys.specs.Requires.{Item, OfMember, called_wants, class_pairs, initialisation_wants}
+use Rattle.require_sys.specs.Requires.{instance_methods}
 use Rattle.require_sys.specs.Requires.{is_inheritable, is_program, library_supers, members_of, methods_above, pair_from}
 use Rattle.require_sys.specs.Requires.{pair_of, program_supers, requires, rule_wants, super_wants}
 use Rattle.require_sys.specs.declared.kept.KeptByRules.{KeptByRules}
@@ -163,7 +165,8 @@ is_above classes x (Prog n) index program instance below other =
 
 -- ---- the rules
 
-module _ (classes : List Class) (kept : KeptByRules) (set : ℕ → Bool) (closed : Closed (requires classes kept) set) where
+module _ (classes : List Class) (kept : KeptByRules) (set : ℕ → Bool)
+    (closed : Closed (requires classes kept) set) where
   abbrev MemberIn : MemberAt → Type 0
   MemberIn s = is_in classes set (OfMember s) ≡ true
 
@@ -191,7 +194,8 @@ module _ (classes : List Class) (kept : KeptByRules) (set : ℕ → Bool) (close
       let two = (all_left ItemIn (initialisation_wants classes n)
       (rule_wants classes kept n ++ called_wants classes n c) one).1 in
       let three = (all_left ItemIn (rule_wants classes kept n) (called_wants classes n c) two).1 in
-      let four = subst (λ (t : Bool). AllByRecursion ItemIn (cond t [] (filter_map (called n) (instance_methods classes (library_supers classes (Prog n)))))) class three in
+      let four = subst (λ (t : Bool). AllByRecursion ItemIn
+      (cond t [] (filter_map (called n) (instance_methods classes (library_supers classes (Prog n)))))) class three in
       let five = all_filter_map ItemIn (called n)
       (instance_methods classes (library_supers classes (Prog n))) four in
       some (selected classes (Prog n) m)
@@ -218,7 +222,8 @@ module _ (classes : List Class) (kept : KeptByRules) (set : ℕ → Bool) (close
       let pairs = subst (λ (t : Bool). AllByRecursion IsMet
       (cond t [] (filter_map (paired n) (methods_above classes (Prog n))))) class here in
       some (selected classes (Prog n) m)
-      (method_among classes (λ m. IfSome (paired n m) IsMet) (is_inheritable classes) (program_supers classes (Prog n)) m
+      (method_among classes (λ m. IfSome (paired n m) IsMet) (is_inheritable classes)
+      (program_supers classes (Prog n)) m
       (all_filter_map IsMet (paired n) (methods_above classes (Prog n)) pairs) among instance
       (ap (λ (t : Bool). t && not (is_private_member classes m)) instance ∙ ap not open_method))
     where
@@ -234,7 +239,8 @@ module _ (classes : List Class) (kept : KeptByRules) (set : ℕ → Bool) (close
       program_number (Lib id) index e = absurd cc
 
       same : (s : MemberAt) (t : Bool) → same_member s m ≡ t
-          → IfSome (cond t None (pair_from classes (Some (class_item classes n)) (item_of classes m) (item_of classes s)))
+          → IfSome (cond t None (pair_from classes (Some (class_item classes n)) (item_of classes m)
+          (item_of classes s)))
           IsMet
           → MemberIn s
       same s true e p = ap (λ (z : MemberAt). is_in classes set (OfMember z)) (member_is s m e) ∙ k

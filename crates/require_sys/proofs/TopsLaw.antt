@@ -13,9 +13,11 @@ use Rattle.class_pool.specs.Found.{is_private_member, rows_in, same_member}
 use Rattle.class_pool.specs.Hierarchy.{superclass}
 use Rattle.class_pool.specs.Ranks.{HasRanks}
 use Rattle.class_pool.specs.Resolution.{first, is_interface_in}
-use Rattle.class_pool.specs.Selection.{first_instance, may_be_overridden, may_override, overriding, overriding_from, selected}
+use Rattle.class_pool.specs.Selection.{first_instance, may_be_overridden, may_override, overriding, overriding_from}
+use Rattle.class_pool.specs.Selection.{selected}
 use Rattle.class_pool.specs.Supers.{is_below}
-use Rattle.class_pool.specs.Walk.{each_once, highest, own_superinterfaces, same_class, superclasses_from, superinterfaces}
+use Rattle.class_pool.specs.Walk.{each_once, highest, own_superinterfaces, same_class, superclasses_from}
+use Rattle.class_pool.specs.Walk.{superinterfaces}
 use Rattle.class_pool.specs.Walk.{upwards}
 use Rattle.class_pool.specs.declared.id.ClassId.{ClassId}
 use Rattle.class_pool.specs.declared.id.ClassId.TheVariants.{Prog}
@@ -32,8 +34,9 @@ use Rattle.require_sys.specs.Requires.{class_number, methods_above, pair_from, p
 use Rattle.class_pool.specs.Items.{item_of}
 use Rattle.require_sys.specs.bodies.Selecting.{called_item, pair_with, pairs_in}
 use Rattle.require_sys.specs.bodies.Supers.{is_library}
-use Rattle.require_sys.specs.bodies.Tops.{HasNoMethod, IsBlank, IsRun, IsTop}
+use Rattle.require_sys.specs.bodies.Tops.{HasNoMethod, IsBlank, IsTop}
 use Rattle.require_sys.proofs.Meeting.{library_once}
+use Rattle.require_sys.proofs.Parts.{no_and}
 use Rattle.require_sys.proofs.SupersLaw.{flat_filtered, flat_of}
 
 -- ---- lists
@@ -78,7 +81,7 @@ none_mapped f q x (e ∷ es) h = by (q here) (none_mapped f q x es h)
     by true none = ap (λ o. cons_option o (filter_map f rest)) (h e.0) ∙ none
     by false none = none
 
-member_same : (m : MemberAt) → same_member m m ≡ true
+pub member_same : (m : MemberAt) → same_member m m ≡ true
 member_same m = (member_Decides m m).1 refl
 
 -- ---- a class without instance methods, and its superclass
@@ -131,21 +134,12 @@ module _ (classes : List Class) (r : HasRanks classes) (n p : ℕ) (few : length
         let none = own_not named own refl in
         let rest : List MemberAt = declared_by classes named (superclasses_from classes (Prog p)) in
         let interface : first_instance classes (Prog n) named ≡ first_instance classes (Prog p) named =
-        ap (λ cs. find (is_instance_method classes) (declared_by classes named cs)) chain_up ∙ find_later own rest none in
+        ap (λ cs. find (is_instance_method classes) (declared_by classes named cs)) chain_up
+        ∙ find_later own rest none in
         let class : first (overriding_from classes (Prog n) m) ≡ first (overriding_from classes (Prog p) m) =
         ap (λ cs. first (overriding classes m (declared_by classes named cs))) chain_up
         ∙ ap first (overriding_later m own rest one none) in
         λ i. if is_interface_in classes m.class then interface i else class i
-
-    pub bare_run : (t : ℕ) → IsRun classes p t → IsRun classes n t
-    bare_run t run = record {
-      there = run.there;
-      same = λ m one. bare_selected m one ∙ run.same m one;
-    }
-
--- a class for itself
-pub run_itself : (classes : List Class) (n : ℕ) → n < length classes → IsRun classes n n
-run_itself classes n n-in = record { there = n-in; same = λ m one. refl }
 
 -- ---- a class without superinterfaces of its own too
 
@@ -182,7 +176,8 @@ module _ (classes : List Class) (r : HasRanks classes) (n p : ℕ) (few : length
     module _ (own : ℕ) where
       in_same : (y : ClassId) → pairs_in classes own n y ≡ pairs_in classes own p y
       in_same y =
-          same_mapped (pair_with classes own n) (pair_with classes own p) (is_inheritable classes) (members_of classes y)
+          same_mapped (pair_with classes own n) (pair_with classes own p) (is_inheritable classes)
+          (members_of classes y)
           (λ m e. ap (option_and_then (pair_of classes (Prog own) m))
           (selected_up m (and_parts (is_instance_method classes m) (not (is_private_member classes m)) e).0))
 
@@ -196,7 +191,8 @@ module _ (classes : List Class) (r : HasRanks classes) (n p : ℕ) (few : length
       none_of : (m : MemberAt) (o : Option MemberAt) → IfSome o (λ s. same_member s m ≡ true)
           → option_and_then (pair_of classes (Prog own) m) o ≡ None
       none_of m None h = refl
-      none_of m (Some s) h = ap (λ b. if b then None else pair_from classes (class_number classes (Prog own)) (item_of classes m)
+      none_of m (Some s) h = ap (λ b. if b then None else pair_from classes (class_number classes (Prog own))
+          (item_of classes m)
           (item_of classes s)) h
 
       -- where a method of the superclass is called on its own objects, no other one runs
@@ -223,7 +219,8 @@ module _ (classes : List Class) (r : HasRanks classes) (n p : ℕ) (few : length
           → option_map_or (λ x. same_member x m) o false ≡ b
           → IfSome (first (overriding_from classes (Prog p) m)) (λ s. same_member s m ≡ true)
       runs_first m (Some x) true at is same =
-          subst (λ (cs : List ClassId). IfSome (first (overriding classes m (declared_by classes (named_at classes m) cs)))
+          subst (λ (cs : List ClassId). IfSome
+          (first (overriding classes m (declared_by classes (named_at classes m) cs)))
           (λ s. same_member s m ≡ true)) (sym (upwards_step highest classes (Prog p) (lit< tt)))
           (subst (λ (o : Option MemberAt). IfSome (first (overriding classes m
           (cons_option o (rest_up (named_at classes m))))) (λ s. same_member s m ≡ true)) (sym is)
@@ -258,10 +255,6 @@ module _ (classes : List Class) (r : HasRanks classes) (n p : ℕ) (few : length
       abbrev above : ℕ → ClassId → List Pair
       above x y = cond (is_below classes (Prog x) y && not (same_class (Prog x) y)) (pairs_in classes own x y) []
 
-      no_and : (b : Bool) → (b && false) ≡ false
-      no_and true = refl
-      no_and false = refl
-
       nothing_if : (b : Bool) (xs : List Pair) → xs ≡ [] → cond b xs [] ≡ []
       nothing_if true xs none = none
       nothing_if false xs none = refl
@@ -280,7 +273,8 @@ module _ (classes : List Class) (r : HasRanks classes) (n p : ℕ) (few : length
       one y false true itself other =
           let none : pairs_in classes own p y ≡ [] =
           ap (pairs_in classes own p) (sym (same_is (Prog p) y other)) ∙ of_super in
-          nothing_if _ (pairs_in classes own n y) (in_same y ∙ none) ∙ sym (nothing_if _ (pairs_in classes own p y) none)
+          nothing_if _ (pairs_in classes own n y) (in_same y ∙ none) ∙ sym
+          (nothing_if _ (pairs_in classes own p y) none)
       one y false false itself other =
           ap (λ t. cond (is_below classes (Prog n) y && not t) (pairs_in classes own n y) []) itself
           ∙ ap (λ t. cond (t && true) (pairs_in classes own n y) []) (below_same y)

@@ -36,16 +36,12 @@ use Rattle.require_sys.specs.Requires.{needs_of, number_of, numbers, pair_from, 
 use Rattle.require_sys.specs.bodies.Asked.{AreMembers}
 use Rattle.require_sys.specs.declared.kept.KeptByRules.{KeptByRules}
 use Rattle.require_sys.proofs.Ascending.{Rising, rising_ascending}
-use Rattle.require_sys.proofs.Numbering.{class_item-le, class_item-next, member_below}
+use Rattle.require_sys.proofs.Closing.{class_long}
+use Rattle.require_sys.proofs.Numbering.{class_item-le, class_item-next, found_at, member_below}
 use Rattle.require_sys.proofs.There.{AreThere, IsThere, MemberThere, class_there, each_left, each_mapped, each_option}
 use Rattle.require_sys.proofs.There.{field_there, method_wants_there, selected_there}
 
 -- ---- numbers of items
-
-found_at : {X : Type 0} (xs : List X) (k : ℕ) → k < length xs → (x : X) × (slice_get xs k ≡ Some x)
-found_at [] k h = absurd (omega (arith, h))
-found_at (x ∷ xs) zero h = (x, refl)
-found_at (x ∷ xs) (suc k) h = found_at xs k (omega (arith, h))
 
 class_below : (classes : List Class) (n : ℕ) → n < length classes → class_item classes n < item_count classes
 class_below classes n lt =
@@ -201,20 +197,6 @@ module _ (classes : List Class) (kept : KeptByRules) (members : AreMembers class
       (flat_map (class_needs classes kept) (enumerate_from (k + 1) cs))
       (class_fine k c (omega (arith, h))) (all_fine (k + 1) cs (omega (arith, h)))
 
-  class_long : (n : ℕ) (c : Class) → length (class_needs classes kept (n, c)) ≡ items_of c
-  class_long n c =
-      let of_field : ℕ × Field → List ℕ =
-      λ p. needs_of classes (class_item classes n + 1 + p.0) (field_wants classes n p.1) in
-      let of_method : ℕ × Method → List ℕ =
-      λ p. needs_of classes (class_item classes n + 1 + p.0) (method_wants classes n kept p.1) in
-      let fields = length-map (enumerate_from 0 c.fields) of_field in
-      let methods = length-map (enumerate_from (length c.fields) c.methods) of_method in
-      let numbered = length-enumerate_from 0 c.fields in
-      let others = length-enumerate_from (length c.fields) c.methods in
-      let both = length-append (map of_field (enumerate_from 0 c.fields))
-      (map of_method (enumerate_from (length c.fields) c.methods)) in
-      omega (arith, fields, methods, numbered, others, both)
-
 pub flat_long : {X : Type 0} (f : ℕ × Class → List X) → ((n : ℕ) (c : Class) → length (f (n, c)) ≡ items_of c)
     → (k : ℕ) (cs : List Class) → length (flat_map f (enumerate_from k cs)) ≡ item_count cs
 flat_long f each k [] = refl
@@ -252,7 +234,7 @@ needs_counted classes kept members few =
     let most = most_needs (item_count classes) lists few
     (seconds (λ xs. AllByRecursion (Below classes) xs) (λ xs. length xs ≤ item_count classes) lists
     (all_fine classes kept members 0 classes (omega arith))) in
-    let long = flat_long (class_needs classes kept) (class_long classes kept members) 0 classes in
+    let long = flat_long (class_needs classes kept) (class_long classes kept) 0 classes in
     omega (arith, most, long, few)
 
 -- ---- pairs
@@ -430,7 +412,7 @@ range_below s (suc n) m h = (omega (arith, h), range_below (s + 1) n m (omega (a
 pub system_valid : (classes : List Class) (kept : KeptByRules) → AreMembers classes kept.members
     → All (λ x. x < item_count classes) kept.seeds → Valid (requires classes kept)
 system_valid classes kept members seeds = (
-  flat_long (class_needs classes kept) (class_long classes kept members) 0 classes,
+  flat_long (class_needs classes kept) (class_long classes kept) 0 classes,
   by kept.shrink,
   All-from_recursion (λ xs. All (λ x. x < item_count classes) xs) (requires classes kept).needs
       (turned (requires classes kept).needs

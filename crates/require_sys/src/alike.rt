@@ -1,22 +1,21 @@
 // Methods in groups by the marks of their names and descriptors.
 //
-// Methods of one name and descriptor have one mark. Where other methods have that mark too, or two methods of one class,
-// their group is mixed, and nothing is known of them.
+// Methods of one name and descriptor have one mark. Where other methods have that mark too, or two methods of one
+// class, their group is mixed, and nothing is known of them.
 ghost use Rattle.std.specs.Prelude.{◌≡◌, ◌+◌, ◌<◌, IfOk, IfSome, IsTrue, Some, length, slice_get, slice_index_or};
 ghost use Rattle.std.specs.List.Sorted.{IsSorted};
 ghost use Rattle.std.specs.Ordering.{nat_cmp};
 ghost use Rattle.jv_base.specs.Types.{method_text};
-ghost use Rattle.class_pool.specs.Found.{IsMember, IsMethod, named_at};
+ghost use Rattle.class_pool.specs.Found.{IsMethod, named_at};
 ghost use Rattle.class_pool.specs.declared.id.ClassId.TheVariants.{Prog};
 ghost use Rattle.class_pool.specs.declared.id.MemberAt.{MemberAt};
-ghost use Rattle.require_sys.specs.bodies.Alike.{AreAlike, AreClassGrouped, AreGrouped, IsFirst, Knows, StillKnow};
-ghost use Rattle.require_sys.specs.bodies.Alike.{number_in, place_of};
+ghost use Rattle.require_sys.specs.bodies.Alike.{AreAlike, AreClassGrouped, AreGrouped, Knows, KnowsEarlier};
+ghost use Rattle.require_sys.specs.bodies.Alike.{StillKnow, number_in, place_of};
 ghost use Rattle.require_sys.specs.declared.alike.Group.TheVariants.{Mixed, Of};
 
 use crate::marks::method_mark;
-use crate::supers::is_same_member;
 use class_model::{Class, Method};
-use class_pool::{ClassId, ClassSet, MemberAt};
+use class_pool::ClassSet;
 use jv_base::{FieldType, M};
 use std::alloc::Global;
 
@@ -25,8 +24,9 @@ use std::alloc::Global;
 pub(crate) enum Group<'a> {
     /// There is none.
     None,
-    /// All have the name and the descriptor of this one, and each is the first such one of its class.
-    Of(&'a Method),
+    /// All have the name and the descriptor of this one, and each is the first such one of its class; no class of them
+    /// has a higher number.
+    Of(&'a Method, u32),
     /// Nothing.
     Mixed,
 }
@@ -64,7 +64,7 @@ impl<'a> Alike<'a> {
     {
         let place = place_of(self.keys.as_slice(), method_mark(method));
         match self.groups.get(place) {
-            Some(Group::Of(_)) => place + 1,
+            Some(Group::Of(_, _)) => place + 1,
             _ => 0,
         }
     }
@@ -134,13 +134,10 @@ fn add_class<'a>(
         (length class.now.methods) }
 {
     let fields = class.fields.len();
-    for index in 0..class.methods.len() {
-        let m = MemberAt {
-            class: ClassId::Prog(number),
-            index: (fields + index) as u32,
-        };
-        let method = &class.methods[index];
-        add_method(set, groups, place_of(keys, method_mark(method)), &m, method);
+    for at in 0..class.methods.len() {
+        let method = &class.methods[at];
+        let place = place_of(keys, method_mark(method));
+        add_method(set, groups, place, number, (fields + at) as u32, method);
     }
 }
 
@@ -149,52 +146,42 @@ fn add_method<'a>(
     set: &'a ClassSet,
     groups: &mut Vec<Group<'a>>,
     place: usize,
-    m: &MemberAt,
+    number: u32,
+    index: u32,
     method: &'a Method,
 )
-    requires there { IsMember set.now m.now }
-    requires method { IsMethod set.now m.now }
-    requires named { named_at set.now m.now ≡ (method.now.name, method_text method.now.ty) }
+    requires method { IsMethod set.now (record { class = Prog number; index = index }) }
+    requires named { named_at set.now (record { class = Prog number; index = index })
+        ≡ (method.now.name, method_text method.now.ty) }
+    requires earlier { KnowsEarlier set.now (slice_index_or groups.old.items place Mixed) number index }
     ensures before { StillKnow set.now groups.old.items groups.new.items }
-    ensures added { Knows set.now (slice_index_or groups.new.items place Mixed) m.now }
+    ensures added { Knows set.now (slice_index_or groups.new.items place Mixed)
+        (record { class = Prog number; index = index }) }
 {
     if place < groups.len() {
-        groups[place] = with_method(set, &groups[place], m, method);
+        groups[place] = with_method(set, &groups[place], number, index, method);
     }
 }
 
-/// A group with one more method.
+/// A group with one more method, that of a class with a number. Where it knows one of this class already, it is mixed.
 fn with_method<'a>(
     set: &'a ClassSet,
     group: &Group<'a>,
-    m: &MemberAt,
+    number: u32,
+    index: u32,
     method: &'a Method,
 ) -> Group<'a>
-    requires there { IsMember set.now m.now }
-    requires method { IsMethod set.now m.now }
-    requires named { named_at set.now m.now ≡ (method.now.name, method_text method.now.ty) }
+    requires method { IsMethod set.now (record { class = Prog number; index = index }) }
+    requires named { named_at set.now (record { class = Prog number; index = index })
+        ≡ (method.now.name, method_text method.now.ty) }
+    requires earlier { KnowsEarlier set.now group.now number index }
     ensures before { (x : MemberAt) → Knows set.now group.now x → Knows set.now result x }
-    ensures added { Knows set.now result m.now }
+    ensures added { Knows set.now result (record { class = Prog number; index = index }) }
 {
-    if !is_first(set, m) {
-        return Group::Mixed;
-    }
     match group {
-        Group::None => Group::Of(method),
-        Group::Of(one) if is_alike(one, method) => Group::Of(*one),
+        Group::None => Group::Of(method, number),
+        Group::Of(one, last) if *last < number && is_alike(one, method) => Group::Of(*one, number),
         _ => Group::Mixed,
-    }
-}
-
-/// Whether a method is the first one of its class with its name and its descriptor.
-fn is_first(set: &ClassSet, m: &MemberAt) -> bool
-    requires member { IsMember set.now m.now }
-    requires method { IsMethod set.now m.now }
-    ensures { IsTrue result → IsFirst set.now m.now }
-{
-    match &set.method_like(m.class, *m) {
-        Some(own) => is_same_member(own, m),
-        None => false,
     }
 }
 

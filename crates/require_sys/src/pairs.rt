@@ -108,27 +108,30 @@ fn add_class(
         return Ok(());
     }
     let top = numbered.top(number);
-    let supers = program_supers(alloc, numbered.set, top)?;
+    let chain = superclasses_of(alloc, numbered.set, top)?;
+    let chain = chain.as_slice();
+    let supers = program_supers(alloc, numbered.set, top, chain)?;
     add_above(
-        alloc,
         numbered,
         methods,
         above,
         number,
         top,
+        chain,
         supers.as_slice(),
         pairs,
     )
 }
 
-/// Those of a class with the methods of these classes above it. The same methods run in another one, its top.
+/// Those of a class with the methods of these classes above it. The same methods run in another one, its top, which is
+/// given with its superclasses.
 fn add_above(
-    alloc: Global,
     numbered: &Numbered,
     methods: &Methods,
     above: &mut Above,
     number: u32,
     top: u32,
+    chain: &[ClassId],
     supers: &[u32],
     pairs: &mut Pairs,
 ) -> M<()>
@@ -136,6 +139,7 @@ fn add_above(
     requires above { IsAbove numbered.now.set.now number above.old }
     requires there { number < length numbered.now.set.now }
     requires top { top < length numbered.now.set.now }
+    requires chain { chain.now ≡ superclasses_from numbered.now.set.now (Prog top) }
     requires supers { All (λ k. k < length numbered.now.set.now) supers.now }
     ensures pairs { OnOk result (AddsPairs pairs.old (flat_map (pairs_in numbered.now.set.now number top)
         (map Prog supers.now)) pairs.new) }
@@ -145,16 +149,12 @@ fn add_above(
         return Ok(());
     }
     let _count = numbered.set.len();
-    let run = numbered.run(top);
-    let chain = superclasses_of(alloc, numbered.set, run)?;
-    let chain = chain.as_slice();
     let stamp = number + 1;
-    mark_above(numbered.set, &mut above.below, run, chain);
+    mark_above(numbered.set, &mut above.below, top, chain);
     note_chain(&methods.of_classes, &mut above.notes, stamp, chain);
     let receiver = Receiver {
         numbered,
         class: top,
-        run,
         table: &methods.of_classes,
         below: above.below.as_slice(),
         stamp,

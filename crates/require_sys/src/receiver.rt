@@ -1,7 +1,7 @@
 // Which method runs where another one is called on objects of a class (JVMS 5.4.5, 6.5).
 //
-// `select` walks up to the class of the method. Here the nearest method of its name and descriptor is noted, and a table
-// tells at once whether the class of the method is above.
+// `select` walks up to the class of the method. Here the nearest method of its name and descriptor is noted, and a
+// table tells at once whether the class of the method is above.
 ghost use Rattle.std.specs.Prelude.{◌≡◌, ◌<◌, IfSome, IsTrue, Some, length, true};
 ghost use Rattle.class_pool.specs.Found.{IsMember};
 ghost use Rattle.class_pool.specs.Resolution.{is_class_below};
@@ -24,14 +24,12 @@ pub(crate) struct Receiver<'a> {
     pub numbered: &'a Numbered<'a>,
     /// The number of the class.
     pub class: u32,
-    /// A class from which upwards the same methods are selected.
-    pub run: u32,
     /// The instance methods of each class.
     pub table: &'a Items<Items<InstanceMethod>>,
     /// For each class one that it is or is a superclass of.
     pub below: &'a [u32],
     pub stamp: u32,
-    /// With that stamp the nearest methods from that class upwards.
+    /// With that stamp the nearest methods from the class upwards.
     pub notes: &'a [Note],
 }
 
@@ -46,7 +44,7 @@ impl<'a> Receiver<'a> {
     {
         match &self.known(above, row) {
             Some(found) => Some(member_of(found)),
-            None => select(self.numbered.set, ClassId::Prog(self.run), member_of(row)),
+            None => select(self.numbered.set, ClassId::Prog(self.class), member_of(row)),
         }
     }
 
@@ -74,7 +72,7 @@ impl<'a> Receiver<'a> {
     fn runs(&self, row: &InstanceMethod, nearest: &InstanceMethod) -> bool
         requires receiver { IsReceiver self.now }
         requires row { row.now.class < length self.now.numbered.now.set.now }
-        ensures { IsTrue result → Runs self.now.numbered.now.set.now self.now.run row.now nearest.now }
+        ensures { IsTrue result → Runs self.now.numbered.now.set.now self.now.class row.now nearest.now }
     {
         nearest.class == row.class
             || match row.openness {
@@ -84,14 +82,14 @@ impl<'a> Receiver<'a> {
             }
     }
 
-    /// Whether it is known that a class is the one from which upwards methods are selected, or a superclass of it.
+    /// Whether it is known that a class is the one of the receiver or a superclass of it.
     fn is_above(&self, class: u32) -> bool
         requires receiver { IsReceiver self.now }
         requires class { class < length self.now.numbered.now.set.now }
         ensures { IsTrue result
-            → is_class_below self.now.numbered.now.set.now (Prog self.now.run) (Prog class) ≡ true }
+            → is_class_below self.now.numbered.now.set.now (Prog self.now.class) (Prog class) ≡ true }
     {
-        self.below[class as usize] == self.run
+        self.below[class as usize] == self.class
     }
 }
 

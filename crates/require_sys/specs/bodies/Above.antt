@@ -5,7 +5,7 @@ use Rattle.class_pool.specs.Walk.{superclasses_from}
 use Rattle.class_pool.specs.declared.id.ClassId.TheVariants.{Prog}
 use Rattle.require_sys.specs.bodies.Alike.{AreRows}
 use Rattle.require_sys.specs.bodies.Nearest.{AreNoted, AreUpTo, front_rows}
-use Rattle.require_sys.specs.bodies.Tops.{AreAbove, IsRun}
+use Rattle.require_sys.specs.bodies.Tops.{AreAbove}
 use Rattle.require_sys.specs.declared.pairs.Above.{Above}
 use Rattle.require_sys.specs.declared.receiver.Receiver.{Receiver}
 
@@ -14,12 +14,11 @@ pub record IsAbove (classes : List Class) (number : ℕ) (above : Above) : Type 
   pub below : AreAbove classes above.below.items
   pub notes : AreUpTo number above.notes.items
 
--- so it is with what a class has as a receiver, the nearest methods from the one upwards that runs the same being noted
+-- what a receiver has is so, and the nearest methods from its class upwards are noted
 pub record IsReceiver (receiver : Receiver) : Type 0 where
   pub there : receiver.class < length receiver.numbered.now.set.now
-  pub same : IsRun receiver.numbered.now.set.now receiver.class receiver.run
   pub rows : AreRows receiver.numbered.now.set.now receiver.table.now
   pub below : AreAbove receiver.numbered.now.set.now receiver.below.now
   pub noted : AreNoted receiver.stamp
-      (front_rows receiver.table.now (superclasses_from receiver.numbered.now.set.now (Prog receiver.run)))
+      (front_rows receiver.table.now (superclasses_from receiver.numbered.now.set.now (Prog receiver.class)))
       receiver.notes.now

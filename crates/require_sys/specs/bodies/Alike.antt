@@ -1,6 +1,6 @@
 -- Methods of one name and descriptor, and the instance methods of each class in a table (only the proof of system_of
 -- needs it).
-use Rattle.std.specs.Prelude.{◌≡◌, ◌<◌, ℕ, ◌+◌, true, List, [], length, nat_lt, slice_index_or, Option}
+use Rattle.std.specs.Prelude.{◌≡◌, ◌≤◌, ◌<◌, ℕ, ◌+◌, true, List, [], length, nat_lt, slice_index_or, Option}
 use Rattle.std.specs.Prelude.{Some, None, ◌||◌, if◌then◌else◌}
 use Rattle.std.specs.List.{filter, filter_map, prefix_len}
 use Rattle.std.specs.List.Sorted.{IsSorted}
@@ -31,16 +31,31 @@ place_of keys mark = prefix_len (λ key. nat_lt key mark) keys
 abbrev pub IsFirst : List Class → MemberAt → Type 0
 IsFirst classes m = declared_in classes (named_at classes m) m.class ≡ Some m
 
+-- a class of the program has a number up to this one
+abbrev pub IsUpTo : ℕ → ClassId → Type 0
+IsUpTo last (Prog n) = n ≤ last
+IsUpTo last (Lib id) = ⊥
+
 -- what is known of a group holds of a method in it
 abbrev pub Knows : List Class → Group → MemberAt → Type 0
 Knows classes (no_method) m = ⊥
-Knows classes (Of one) m = (named_at classes m ≡ (one.now.name, method_text one.now.ty)) × IsFirst classes m
+Knows classes (Of one last) m = (named_at classes m ≡ (one.now.name, method_text one.now.ty)) × IsFirst classes m
+    × IsUpTo last m.class
 Knows classes (Mixed) m = Unit {0}
+
+-- so it is with each earlier method of a class that has the same name and descriptor as one
+abbrev pub KnowsEarlier : List Class → Group → ℕ → ℕ → Type 0
+KnowsEarlier classes group n index = (k : ℕ) → k < index
+    → IsMethod classes (record { class = Prog n; index = k })
+    → named_at classes (record { class = Prog n; index = k }) ≡ named_at classes
+    (record { class = Prog n; index = index })
+    → Knows classes group (record { class = Prog n; index = k })
 
 -- so it is with a member of the set and the group at the place of its mark
 abbrev pub IsGrouped : List Class → List ℕ → List Group → ℕ → ℕ → Type 0
 IsGrouped classes keys groups n k =
-    Knows classes (slice_index_or groups (place_of keys (mark_of (named_at classes (record { class = Prog n; index = k }))))
+    Knows classes
+    (slice_index_or groups (place_of keys (mark_of (named_at classes (record { class = Prog n; index = k }))))
     Mixed) (record { class = Prog n; index = k })
 
 -- of each of the first classes each method
@@ -65,7 +80,7 @@ pub record AreAlike (classes : List Class) (keys : List ℕ) (groups : List Grou
 
 -- the number of a group at a place, 0 for one that isn't of one name and descriptor
 abbrev pub group_number : ℕ → Group → ℕ
-group_number place (Of one) = place + 1
+group_number place (Of one last) = place + 1
 group_number place _ = 0
 
 -- the number of a name and a descriptor

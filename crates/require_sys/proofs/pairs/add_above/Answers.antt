@@ -1,4 +1,4 @@
-use Rattle.std.proofs.Common.{List, subst, ◌∙◌}
+use Rattle.std.proofs.Common.{List, subst}
 use Rattle.mark_core.specs.declared.system.Pair.{Pair}
 use Rattle.require_sys.specs.bodies.Counting.{AddsPairs}
 use Rattle.require_sys.specs.bodies.Selecting.{pairs_in}
@@ -17,11 +17,9 @@ returns-then-is_empty-clause-pairs c =
 
 pub mark_above-requires-clause-classes : goal.mark_above-requires-clause-classes
 mark_above-requires-clause-classes c =
-    chain_there c.args.numbered.now.set.now c.run-run.result c.as_slice-chain.result.now c.run-run.ensures.there
-    (c.as_slice-chain.ensures.value ∙ c.in_ok-chain.ensures)
+    chain_there c.args.numbered.now.set.now c.args.top c.args.chain.now c.requires.top c.requires.chain
 
 pub note_chain-requires-clause-classes : goal.note_chain-requires-clause-classes
 note_chain-requires-clause-classes c =
-    classes_before c.args.numbered.now.set.now _ c.as_slice-chain.result.now c.requires.methods.count
-    (chain_there c.args.numbered.now.set.now c.run-run.result c.as_slice-chain.result.now c.run-run.ensures.there
-    (c.as_slice-chain.ensures.value ∙ c.in_ok-chain.ensures))
+    classes_before c.args.numbered.now.set.now _ c.args.chain.now c.requires.methods.count
+    (chain_there c.args.numbered.now.set.now c.args.top c.args.chain.now c.requires.top c.requires.chain)

@@ -1,7 +1,6 @@
 use Rattle.std.proofs.Common.{◌<◌, ◌∙◌, arith, refl, sym}
 use Rattle.class_pool.specs.Walk.{superclasses_from}
 use Rattle.class_pool.specs.declared.id.ClassId.TheVariants.{Prog}
-use Rattle.require_sys.specs.bodies.Alike.{member_at}
 use Rattle.require_sys.specs.bodies.Nearest.{front_rows}
 use Rattle.require_sys.proofs.InstanceRows.{front_row, instance_there, listed_row}
 use Rattle.require_sys.proofs.Meeting.{chain_there}
@@ -21,15 +20,14 @@ returns-then-runs-clause-is c =
     let set = self.numbered.now.set.now in
     let given = c.requires.receiver in
     let row = c.args.row.now in
-    let chain = superclasses_from set (Prog self.run) in
-    let there = chain_there set self.run chain given.same.there refl in
+    let chain = superclasses_from set (Prog self.class) in
+    let there = chain_there set self.class chain given.there refl in
     let some : 0 < row.number = omega (arith, c.if-row-eq0.false) in
     let found = nearest_noted self.stamp (front_rows self.table.now chain) self.notes.now row.number
     c.in_ok-nearest.nearest given.noted some (sym c.noted.ensures ∙ c.in_ok-nearest.was) in
     let is = listed_row set self.table.now given.rows c.args.above row c.requires.above c.requires.row in
     let that = front_row set self.table.now given.rows chain there row.number c.in_ok-nearest.nearest found in
-    given.same.same (member_at row) is.instance
-    ∙ nearest_runs set self.table.now given.rows self.run there row c.in_ok-nearest.nearest c.args.above
+    nearest_runs set self.table.now given.rows self.class there row c.in_ok-nearest.nearest c.args.above
     c.in_ok-nearest.nearest.class is that.0 some that.1 found (c.runs.ensures c.if-runs.true)
 
 pub returns-then-runs-clause-there : goal.returns-then-runs-clause-there
@@ -38,8 +36,8 @@ returns-then-runs-clause-there c =
     let set = self.numbered.now.set.now in
     let given = c.requires.receiver in
     let row = c.args.row.now in
-    let chain = superclasses_from set (Prog self.run) in
-    let there = chain_there set self.run chain given.same.there refl in
+    let chain = superclasses_from set (Prog self.class) in
+    let there = chain_there set self.class chain given.there refl in
     let some : 0 < row.number = omega (arith, c.if-row-eq0.false) in
     let found = nearest_noted self.stamp (front_rows self.table.now chain) self.notes.now row.number
     c.in_ok-nearest.nearest given.noted some (sym c.noted.ensures ∙ c.in_ok-nearest.was) in

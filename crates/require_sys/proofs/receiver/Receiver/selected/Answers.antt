@@ -24,8 +24,5 @@ select-requires-clause-method c =
 
 pub returns-in-None-clause-is : goal.returns-in-None-clause-is
 returns-in-None-clause-is c =
-    let set = c.args.self.now.numbered.now.set.now in
-    c.select.ensures.is ∙ ap (selected set (Prog c.args.self.now.run)) c.member_of-in-None.ensures
-    ∙ sym (c.requires.receiver.same.same (member_at c.args.row.now)
-    (listed_row set c.args.self.now.table.now c.requires.receiver.rows c.args.above c.args.row.now c.requires.above
-    c.requires.row).instance)
+    let self = c.args.self.now in
+    c.select.ensures.is ∙ ap (selected self.numbered.now.set.now (Prog self.class)) c.member_of-in-None.ensures
