@@ -28,7 +28,7 @@ use Rattle.class_pool.specs.declared.id.ClassId.TheVariants.{Prog}
 use Rattle.class_pool.specs.declared.id.MemberAt.{MemberAt}
 use Rattle.class_pool.proofs.LikeMethods.{begins, field_begins, own_method}
 use Rattle.require_sys.specs.bodies.Alike.{AreClassGrouped, AreGrouped, IsFirst, IsGrouped, Knows, KnowsEarlier}
-use Rattle.require_sys.specs.bodies.Alike.{StillKnow, place_of}
+use Rattle.require_sys.specs.bodies.Alike.{StillKnow, class_marks, mark_in, place_of}
 use Rattle.require_sys.specs.bodies.Marks.{mark_of}
 use Rattle.require_sys.specs.declared.alike.Group.{Group}
 use Rattle.require_sys.specs.declared.alike.Group.TheVariants.{Mixed}
@@ -85,6 +85,14 @@ module _ (classes : List Class) (n j : ℕ) (c : Class) (d : Method) (is : slice
   -- with that name and that descriptor
   pub method_named : named_at classes method ≡ (d.name, method_text d.ty)
   method_named = ap (λ (o : Option MemberRow). option_map_or (λ row. row.named) o ([], [])) method_row_is
+
+-- the mark of a method of a class
+pub marked_at : (c : Class) (marks : List ℕ) (k : ℕ) (d : Method) → marks ≡ class_marks c
+    → slice_get c.methods k ≡ Some d → get_or marks k 0 ≡ mark_in d
+marked_at c marks k d are at =
+    ap (λ t. get_or t k 0) are
+    ∙ get_or_from_slice_get (class_marks c) k (mark_in d) 0
+    (slice_get-map mark_in c.methods k ∙ ap (option_map mark_in) at)
 
 -- ---- groups
 

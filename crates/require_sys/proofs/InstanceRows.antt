@@ -229,7 +229,8 @@ both_named classes (no_method) m x place k l some = absurd k
 both_named classes (Of one last) m x place k l some = k.0 ∙ sym l.0
 both_named classes (Mixed) m x place k l some = absurd (omega (arith, some))
 
-module _ (classes : List Class) (keys : List ℕ) (groups : List Group) (are : AreAlike classes keys groups) where
+module _ (classes : List Class) (marks : List (List ℕ)) (keys : List ℕ) (groups : List Group)
+    (are : AreAlike classes marks keys groups) where
   abbrev member_of : ℕ → ℕ → MemberAt
   member_of n k = record { class = Prog n; index = k }
 
@@ -263,12 +264,12 @@ module _ (classes : List Class) (keys : List ℕ) (groups : List Group) (are : A
   }
 
 -- the table has the rows of each class
-pub rows_made : (classes : List Class) (keys : List ℕ) (groups : List Group) (rows : List (List InstanceMethod))
-    (count : ℕ) → AreAlike classes keys groups → length rows ≡ count → length classes ≤ count → count ≤ length classes
+pub rows_made : (classes : List Class) (marks : List (List ℕ)) (keys : List ℕ) (groups : List Group) (rows : List (List InstanceMethod))
+    (count : ℕ) → AreAlike classes marks keys groups → length rows ≡ count → length classes ≤ count → count ≤ length classes
     → ((n : ℕ) → n < count → get_or rows n [] ≡ class_rows classes (number_in keys groups) n) → AreRows classes rows
-rows_made classes keys groups rows count are long low high each = record {
+rows_made classes marks keys groups rows count are long low high each = record {
   number = number_in keys groups;
-  numbers = are_numbers classes keys groups are;
+  numbers = are_numbers classes marks keys groups are;
   count = omega (arith, long, low, high);
   each = λ n less. each n (omega (arith, less, low));
 }

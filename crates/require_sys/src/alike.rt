@@ -2,7 +2,8 @@
 //
 // Methods of one name and descriptor have one mark. Where other methods have that mark too, or two methods of one
 // class, their group is mixed, and nothing is known of them.
-ghost use Rattle.std.specs.Prelude.{◌≡◌, ◌+◌, ◌<◌, IfOk, IfSome, IsTrue, Some, length, slice_get, slice_index_or};
+ghost use Rattle.std.specs.Prelude.{◌≡◌, ◌+◌, ◌<◌, IfOk, IfSome, IsTrue, Some, length, map, slice_get};
+ghost use Rattle.std.specs.Prelude.{slice_index_or};
 ghost use Rattle.std.specs.List.Sorted.{IsSorted};
 ghost use Rattle.std.specs.Ordering.{nat_cmp};
 ghost use Rattle.jv_base.specs.Types.{method_text};
@@ -10,13 +11,13 @@ ghost use Rattle.class_pool.specs.Found.{IsMethod, named_at};
 ghost use Rattle.class_pool.specs.declared.id.ClassId.TheVariants.{Prog};
 ghost use Rattle.class_pool.specs.declared.id.MemberAt.{MemberAt};
 ghost use Rattle.require_sys.specs.bodies.Alike.{AreAlike, AreClassGrouped, AreGrouped, Knows, KnowsEarlier};
-ghost use Rattle.require_sys.specs.bodies.Alike.{StillKnow, number_in, place_of};
+ghost use Rattle.require_sys.specs.bodies.Alike.{StillKnow, class_marks, marked_number, place_of};
 ghost use Rattle.require_sys.specs.declared.alike.Group.TheVariants.{Mixed, Of};
 
 use crate::marks::method_mark;
 use class_model::{Class, Method};
 use class_pool::ClassSet;
-use jv_base::{FieldType, M};
+use jv_base::{FieldType, Items, M};
 use std::alloc::Global;
 
 /// What is known of the methods that have one mark.
@@ -35,6 +36,8 @@ pub(crate) enum Group<'a> {
 #[derive(Drop)]
 pub(crate) struct Alike<'a> {
     pub set: &'a ClassSet,
+    /// For each class the marks of its methods.
+    pub marks: Items<Items<u64>>,
     /// The marks of all methods, ascending.
     keys: Vec<u64>,
     /// At the first place of a mark what is known of its methods.
@@ -44,11 +47,17 @@ pub(crate) struct Alike<'a> {
 impl<'a> Alike<'a> {
     pub fn of(alloc: Global, set: &'a ClassSet) -> M<Self>
         ensures set { IfOk result (λ alike. alike.set.now ≡ set.now) }
-        ensures are { IfOk result (λ alike. AreAlike set.now alike.keys.items alike.groups.items) }
+        ensures are { IfOk result (λ alike. AreAlike set.now alike.marks alike.keys.items alike.groups.items) }
     {
-        let keys = keys_of(alloc, set)?;
-        let groups = groups_of(alloc, set, keys.as_slice())?;
-        Ok(Alike { set, keys, groups })
+        let marks = marks_of(alloc, set)?;
+        let keys = keys_of(alloc, marks.as_slice())?;
+        let groups = groups_of(alloc, set, marks.as_slice(), keys.as_slice())?;
+        Ok(Alike {
+            set,
+            marks,
+            keys,
+            groups,
+        })
     }
 
     /// No number is greater.
@@ -56,13 +65,12 @@ impl<'a> Alike<'a> {
         self.groups.len()
     }
 
-    /// The number of a method's name and descriptor, 0 where they aren't known.
-    pub fn number_of(&self, method: &Method) -> usize
+    /// The number of the methods with a mark, 0 where it isn't known that they have one name and descriptor.
+    pub fn number_of(&self, mark: u64) -> usize
         requires { IsSorted nat_cmp self.now.keys.items }
-        ensures { result ≡ number_in self.now.keys.items self.now.groups.items
-            (method.now.name, method_text method.now.ty) }
+        ensures { result ≡ marked_number self.now.keys.items self.now.groups.items mark }
     {
-        let place = place_of(self.keys.as_slice(), method_mark(method));
+        let place = place_of(self.keys.as_slice(), mark);
         match self.groups.get(place) {
             Some(Group::Of(_, _)) => place + 1,
             _ => 0,
@@ -70,22 +78,38 @@ impl<'a> Alike<'a> {
     }
 }
 
-fn keys_of(alloc: Global, set: &ClassSet) -> M<Vec<u64>>
+/// For each class the marks of its methods.
+fn marks_of(alloc: Global, set: &ClassSet) -> M<Items<Items<u64>>>
+    ensures { IfOk result (λ marks. marks ≡ map class_marks set.now) }
+{
+    let mut marks = Items::new(alloc);
+    for number in 0..set.len() {
+        let class = set.class(number);
+        marks.push(class_marks(alloc, class)?)?;
+    }
+    Ok(marks)
+}
+
+fn class_marks(alloc: Global, class: &Class) -> M<Items<u64>>
+    ensures { IfOk result (λ marks. marks ≡ class_marks class.now) }
+{
+    let mut marks = Items::with_capacity(alloc, class.methods.len())?;
+    for method in class.methods.as_slice() {
+        marks.push(method_mark(method))?;
+    }
+    Ok(marks)
+}
+
+/// All marks, ascending.
+fn keys_of(alloc: Global, marks: &[Items<u64>]) -> M<Vec<u64>>
     ensures { IfOk result (λ keys. IsSorted nat_cmp keys.items) }
 {
     let mut keys = Vec::new(alloc);
-    for number in 0..set.len() {
-        push_marks(&mut keys, set.class(number))?;
+    for list in marks {
+        keys.extend_from_slice(list.as_slice())?;
     }
     keys.sort_unstable();
     Ok(keys)
-}
-
-fn push_marks(keys: &mut Vec<u64>, class: &Class) -> M<()> {
-    for method in class.methods.as_slice() {
-        keys.push(method_mark(method))?;
-    }
-    Ok(())
 }
 
 /// How many of the first keys are less than a mark.
@@ -106,14 +130,21 @@ fn place_of(keys: &[u64], mark: u64) -> usize
     low
 }
 
-fn groups_of<'a>(alloc: Global, set: &'a ClassSet, keys: &[u64]) -> M<Vec<Group<'a>>>
-    requires { IsSorted nat_cmp keys.now }
+fn groups_of<'a>(
+    alloc: Global,
+    set: &'a ClassSet,
+    marks: &[Items<u64>],
+    keys: &[u64],
+) -> M<Vec<Group<'a>>>
+    requires marks { marks.now ≡ map class_marks set.now }
+    requires sorted { IsSorted nat_cmp keys.now }
     ensures { IfOk result (λ groups. AreGrouped set.now keys.now groups.items (length set.now)) }
 {
     let mut groups = vec![in alloc; Group::None; keys.len()]?;
     for number in 0..set.len() {
         let class = set.class(number);
-        add_class(set, keys, &mut groups, number, class);
+        let marks = marks[number as usize].as_slice();
+        add_class(set, keys, &mut groups, number, class, marks);
     }
     Ok(groups)
 }
@@ -125,7 +156,9 @@ fn add_class<'a>(
     groups: &mut Vec<Group<'a>>,
     number: u32,
     class: &'a Class,
+    marks: &[u64],
 )
+    requires marks { marks.now ≡ class_marks class.now }
     requires sorted { IsSorted nat_cmp keys.now }
     requires there { slice_get set.now number ≡ Some class.now }
     requires few { length class.now.fields + length class.now.methods < 4294967295 }
@@ -136,7 +169,7 @@ fn add_class<'a>(
     let fields = class.fields.len();
     for at in 0..class.methods.len() {
         let method = &class.methods[at];
-        let place = place_of(keys, method_mark(method));
+        let place = place_of(keys, marks[at]);
         add_method(set, groups, place, number, (fields + at) as u32, method);
     }
 }

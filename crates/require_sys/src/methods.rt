@@ -5,7 +5,7 @@ ghost use Rattle.std.specs.List.Sorted.{IsSorted};
 ghost use Rattle.std.specs.Ordering.{nat_cmp};
 ghost use Rattle.class_pool.specs.Found.{IsMember, IsMethod, is_instance_method};
 ghost use Rattle.class_pool.specs.declared.id.ClassId.TheVariants.{Prog};
-ghost use Rattle.require_sys.specs.bodies.Alike.{AreAlike, AreRows, class_rows, number_in, openness, row_of};
+ghost use Rattle.require_sys.specs.bodies.Alike.{AreAlike, AreRows, class_marks, class_rows, number_in, openness, row_of};
 
 use crate::alike::Alike;
 use class_model::Class;
@@ -59,18 +59,26 @@ pub(crate) fn methods_of(alloc: Global, set: &ClassSet) -> M<Methods>
 }
 
 fn rows_of(alloc: Global, alike: &Alike) -> M<Items<Items<InstanceMethod>>>
-    requires { AreAlike alike.now.set.now alike.now.keys.items alike.now.groups.items }
+    requires { AreAlike alike.now.set.now alike.now.marks alike.now.keys.items alike.now.groups.items }
     ensures { IfOk result (AreRows alike.now.set.now) }
 {
     let mut rows = Items::new(alloc);
     for number in 0..alike.set.len() {
         let class = alike.set.class(number);
-        rows.push(class_rows(alloc, alike, number, class)?)?;
+        let marks = alike.marks[number as usize].as_slice();
+        rows.push(class_rows(alloc, alike, number, class, marks)?)?;
     }
     Ok(rows)
 }
 
-fn class_rows(alloc: Global, alike: &Alike, number: u32, class: &Class) -> M<Items<InstanceMethod>>
+fn class_rows(
+    alloc: Global,
+    alike: &Alike,
+    number: u32,
+    class: &Class,
+    marks: &[u64],
+) -> M<Items<InstanceMethod>>
+    requires marks { marks.now ≡ class_marks class.now }
     requires there { slice_get alike.now.set.now number ≡ Some class.now }
     requires sorted { IsSorted nat_cmp alike.now.keys.items }
     requires few { length class.now.fields + length class.now.methods < 4294967295 }
@@ -80,7 +88,7 @@ fn class_rows(alloc: Global, alike: &Alike, number: u32, class: &Class) -> M<Ite
     let mut rows = Items::new(alloc);
     let count = class.fields.len() + class.methods.len();
     for index in 0..count as u32 {
-        add_row(&mut rows, alike, number, class, index)?;
+        add_row(&mut rows, alike, number, class, marks, index)?;
     }
     Ok(rows)
 }
@@ -91,8 +99,10 @@ fn add_row(
     alike: &Alike,
     number: u32,
     class: &Class,
+    marks: &[u64],
     index: u32,
 ) -> M<()>
+    requires marks { marks.now ≡ class_marks class.now }
     requires there { slice_get alike.now.set.now number ≡ Some class.now }
     requires sorted { IsSorted nat_cmp alike.now.keys.items }
     requires member { index < length class.now.fields + length class.now.methods }
@@ -106,12 +116,13 @@ fn add_row(
         index,
     };
     if alike.set.is_instance_method(m) {
-        rows.push(row_of(alike, number, class, &m))?;
+        rows.push(row_of(alike, number, class, marks, &m))?;
     }
     Ok(())
 }
 
-fn row_of(alike: &Alike, number: u32, class: &Class, m: &MemberAt) -> InstanceMethod
+fn row_of(alike: &Alike, number: u32, class: &Class, marks: &[u64], m: &MemberAt) -> InstanceMethod
+    requires marks { marks.now ≡ class_marks class.now }
     requires there { slice_get alike.now.set.now number ≡ Some class.now }
     requires class { m.now.class ≡ Prog number }
     requires member { IsMember alike.now.set.now m.now }
@@ -119,12 +130,12 @@ fn row_of(alike: &Alike, number: u32, class: &Class, m: &MemberAt) -> InstanceMe
     requires sorted { IsSorted nat_cmp alike.now.keys.items }
     ensures { row_of alike.now.set.now (number_in alike.now.keys.items alike.now.groups.items) m.now ≡ Some result }
 {
-    let method = &class.methods[m.index as usize - class.fields.len()];
+    let mark = marks[m.index as usize - class.fields.len()];
     InstanceMethod {
         class: number,
         index: m.index,
         openness: openness_of(alike.set, m),
-        number: alike.number_of(method),
+        number: alike.number_of(mark),
     }
 }
 

@@ -1,11 +1,12 @@
 -- Methods of one name and descriptor, and the instance methods of each class in a table (only the proof of system_of
 -- needs it).
-use Rattle.std.specs.Prelude.{◌≡◌, ◌≤◌, ◌<◌, ℕ, ◌+◌, true, List, [], length, nat_lt, slice_index_or, Option}
+use Rattle.std.specs.Prelude.{◌≡◌, ◌≤◌, ◌<◌, ℕ, ◌+◌, true, List, [], length, map, nat_lt, slice_index_or, Option}
 use Rattle.std.specs.Prelude.{Some, None, ◌||◌, if◌then◌else◌}
 use Rattle.std.specs.List.{filter, filter_map, prefix_len}
 use Rattle.std.specs.List.Sorted.{IsSorted}
 use Rattle.std.specs.Ordering.{nat_cmp}
 use Rattle.class_model.specs.declared.class.Class.{Class}
+use Rattle.class_model.specs.declared.class.Method.{Method}
 use Rattle.class_pool.specs.Found.{IsMethod, NameAndType, declared_in, is_instance_method, is_private_member}
 use Rattle.class_pool.specs.Found.{is_protected_member, is_public_member, named_at}
 use Rattle.jv_base.specs.Types.{method_text}
@@ -20,6 +21,16 @@ use Rattle.require_sys.specs.declared.alike.Group.TheVariants.{Mixed, None as no
 use Rattle.require_sys.specs.declared.methods.InstanceMethod.{InstanceMethod}
 use Rattle.require_sys.specs.declared.methods.Openness.{Openness}
 use Rattle.require_sys.specs.declared.methods.Openness.TheVariants.{Abstract, Open, Package, Private}
+
+-- ---- marks of methods
+
+-- the mark of a method by its name and its descriptor
+abbrev pub mark_in : Method → ℕ
+mark_in m = mark_of (m.name, method_text m.ty)
+
+-- those of the methods of a class, in their order
+abbrev pub class_marks : Class → List ℕ
+class_marks c = map mark_in c.methods
 
 -- ---- groups of methods
 
@@ -74,7 +85,8 @@ StillKnow classes old new = (length new ≡ length old)
     → Knows classes (slice_index_or new g Mixed) m)
 
 -- the methods of a set in groups, by the marks of all of them
-pub record AreAlike (classes : List Class) (keys : List ℕ) (groups : List Group) : Type 0 where
+pub record AreAlike (classes : List Class) (marks : List (List ℕ)) (keys : List ℕ) (groups : List Group) : Type 0 where
+  pub marked : marks ≡ map class_marks classes
   pub sorted : IsSorted nat_cmp keys
   pub grouped : AreGrouped classes keys groups (length classes)
 
@@ -83,10 +95,13 @@ abbrev pub group_number : ℕ → Group → ℕ
 group_number place (Of one last) = place + 1
 group_number place _ = 0
 
+-- the number of the group of a mark
+abbrev pub marked_number : List ℕ → List Group → ℕ → ℕ
+marked_number keys groups mark = group_number (place_of keys mark) (slice_index_or groups (place_of keys mark) Mixed)
+
 -- the number of a name and a descriptor
 abbrev pub number_in : List ℕ → List Group → NameAndType → ℕ
-number_in keys groups named = group_number (place_of keys (mark_of named))
-    (slice_index_or groups (place_of keys (mark_of named)) Mixed)
+number_in keys groups named = marked_number keys groups (mark_of named)
 
 -- ---- instance methods
 

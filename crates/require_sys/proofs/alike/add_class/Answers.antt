@@ -4,7 +4,7 @@ use Rattle.class_pool.specs.declared.id.ClassId.TheVariants.{Prog}
 use Rattle.require_sys.specs.bodies.Alike.{Knows, KnowsEarlier, place_of}
 use Rattle.require_sys.specs.bodies.Marks.{mark_of}
 use Rattle.require_sys.specs.declared.alike.Group.TheVariants.{Mixed}
-use Rattle.require_sys.proofs.Grouping.{earlier_known, method_is, method_named, one_grouped, still_then}
+use Rattle.require_sys.proofs.Grouping.{earlier_known, marked_at, method_is, method_named, one_grouped, still_then}
 use Rattle.require_sys.proofs.alike.add_class.Goals as goal
 
 pub add_method-requires-clause-method : goal.add_method-requires-clause-method
@@ -30,7 +30,8 @@ add_method-requires-clause-earlier c =
     (k + c.loop-at.at)) (sym c.len-fields.ensures)
     (earlier_known set c.args.keys.now c.loop-at.groups.items c.args.number c.loop-at.at c.place_of-place.result
     c.args.class.now c.requires.there c.loop-at.invariant.added
-    (c.place_of-place.ensures ∙ ap (place_of c.args.keys.now) (c.method_mark.ensures ∙ ap mark_of (sym named))))
+    (c.place_of-place.ensures ∙ ap (place_of c.args.keys.now) (marked_at c.args.class.now c.args.marks.now
+    c.loop-at.at c.index-method.result.now c.requires.marks c.index-method.ensures ∙ ap mark_of (sym named))))
 
 pub loop-at-preserved : goal.loop-at-preserved
 loop-at-preserved c =
@@ -43,7 +44,8 @@ loop-at-preserved c =
           c.add_method.ensures.before;
       added = one_grouped set c.args.keys.now c.loop-at.groups.items new c.args.number _ c.loop-at.at
           c.place_of-place.result c.loop-at.invariant.added c.add_method.ensures.before
-          (c.place_of-place.ensures ∙ ap (place_of c.args.keys.now) (c.method_mark.ensures ∙ ap mark_of (sym named)))
+          (c.place_of-place.ensures ∙ ap (place_of c.args.keys.now) (marked_at c.args.class.now c.args.marks.now
+          c.loop-at.at c.index-method.result.now c.requires.marks c.index-method.ensures ∙ ap mark_of (sym named)))
           (subst (λ (k : ℕ). Knows set (get_or new c.place_of-place.result Mixed)
           (record { class = Prog c.args.number; index = k + c.loop-at.at })) c.len-fields.ensures
           c.add_method.ensures.added);
