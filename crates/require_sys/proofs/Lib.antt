@@ -22,3 +22,6 @@ mod Limiting
 pub mod Validity
 pub mod AskedThere
 pub mod SystemDue
+mod Grouping
+mod InstanceRows
+mod Noting

@@ -20,9 +20,8 @@ use Rattle.class_pool.proofs.Climbing.{upwards_step}
 use Rattle.std.proofs.lemmas.Option.{same_Some}
 use Rattle.require_sys.specs.Requires.{is_program}
 use Rattle.require_sys.specs.bodies.Supers.{program_number}
-use Rattle.require_sys.specs.bodies.Tops.{AreAbove, AreGiven, AreRuns, AreTops, HasNoMethod, IsBlank}
-use Rattle.require_sys.specs.bodies.Tops.{IsRun, IsTop}
-use Rattle.require_sys.proofs.TopsLaw.{bare_run, blank_top, run_itself, top_itself}
+use Rattle.require_sys.specs.bodies.Tops.{AreAbove, AreGiven, AreTops, HasNoMethod, IsBlank, IsTop}
+use Rattle.require_sys.proofs.TopsLaw.{blank_top, top_itself}
 
 -- each class for itself
 pub own_are : (numbers : List ℕ) (bound k : ℕ) → length numbers ≡ k → bound ≤ k → k ≤ bound
@@ -42,10 +41,6 @@ own_given Is bound numbers itself own = record {
 pub own_tops : (classes : List Class) (numbers : List ℕ) → AreGiven (λ n x. x ≡ n) (length classes) numbers
     → AreTops classes numbers
 own_tops classes numbers own = own_given (IsTop classes) (length classes) numbers (top_itself classes) own
-
-pub own_runs : (classes : List Class) (numbers : List ℕ) → AreGiven (λ n x. x ≡ n) (length classes) numbers
-    → AreRuns classes numbers
-own_runs classes numbers own = own_given (IsRun classes) (length classes) numbers (run_itself classes) own
 
 above_itself : (classes : List Class) (n : ℕ) → is_class_below classes (Prog n) (Prog n) ≡ true
 above_itself classes n =
@@ -112,10 +107,6 @@ pub top_put : (classes : List Class) (old new : List ℕ) (i t : ℕ) → AreTop
     → IsTop classes i t → new ≡ set old i t → AreTops classes new
 top_put classes old new i t are i-in top put = given_put (IsTop classes) (length classes) old new i t are i-in top put
 
-pub run_put : (classes : List Class) (old new : List ℕ) (i t : ℕ) → AreRuns classes old → i < length classes
-    → IsRun classes i t → new ≡ set old i t → AreRuns classes new
-run_put classes old new i t are i-in run put = given_put (IsRun classes) (length classes) old new i t are i-in run put
-
 pub above_put : (classes : List Class) (old new : List ℕ) (i t : ℕ) → AreAbove classes old → i < length classes
     → is_class_below classes (Prog t) (Prog i) ≡ true → new ≡ set old i t → AreAbove classes new
 above_put classes old new i t are i-in above put =
@@ -156,15 +147,6 @@ pub top_above : (classes : List Class) (r : HasRanks classes) (tops : List ℕ) 
     → IsTop classes n (get_or tops p 0)
 top_above classes r tops n p o few n-in are up is blank =
     blank_top classes r n p few n-in (above_is (superclass classes (Prog n)) p (sym is ∙ up)) blank (get_or tops p 0)
-    (are.each p (above_there classes n p o up is))
-
--- where the class has no instance method
-pub run_above : (classes : List Class) (r : HasRanks classes) (runs : List ℕ) (n p : ℕ) (o : Option ℕ)
-    → length classes ≤ 4294967295 → n < length classes → AreRuns classes runs
-    → o ≡ program_number (superclass classes (Prog n)) → o ≡ Some p → HasNoMethod classes n
-    → IsRun classes n (get_or runs p 0)
-run_above classes r runs n p o few n-in are up is none =
-    bare_run classes r n p few n-in (above_is (superclass classes (Prog n)) p (sym is ∙ up)) none (get_or runs p 0)
     (are.each p (above_there classes n p o up is))
 
 -- it has no superinterface where none comes once

@@ -36,7 +36,7 @@ abbrev pub of_first : {Y : Type 0} → List Class → ClassId → (MemberAt → 
 of_first classes x p f n = filter_map f (filter p
     (map (λ q. record { class = x; index = q.0 }) (enumerate_from 0 (take n (rows_in classes x)))))
 
-passed_one : {X Y : Type 0} (f : X → Option Y) (p : X → Bool) (x : X)
+pub passed_one : {X Y : Type 0} (f : X → Option Y) (p : X → Bool) (x : X)
     → filter_map f (filter p (x ∷ [])) ≡ cond (p x) (cons_option (f x) []) []
 passed_one f p x = by (p x)
   where

@@ -1,7 +1,7 @@
 -- What holds of each element of a list that is made of others, holds of what those have.
 use Rattle.std.proofs.Common.{◌≡◌, ℕ, zero, suc, ◌+◌, Bool, true, false, cond, List, [], ◌∷◌, map, Option, Some}
 use Rattle.std.proofs.Common.{None, slice_get, refl, sym, subst, arith}
-use Rattle.std.specs.Prelude.{◌==◌, ◌||◌, IfSome, nat_lt}
+use Rattle.std.specs.Prelude.{◌==◌, ◌&&◌, ◌||◌, IfSome, nat_lt}
 use Rattle.std.specs.List.{All, AllByRecursion, cons_option, enumerate_from, filter, filter_map, flat_map, list_any}
 use Rattle.std.proofs.lemmas.Bool.{eqb-true}
 use Rattle.std.proofs.lemmas.List.Elements.{All-head, All-tail}
@@ -10,6 +10,10 @@ use Rattle.class_pool.specs.declared.id.ClassId.{ClassId}
 use Rattle.class_pool.specs.Walk.{same_class}
 use Rattle.class_pool.proofs.EachOnce.{same_is}
 use Rattle.require_sys.specs.Requires.{ascending, put}
+
+pub no_and : (b : Bool) → (b && false) ≡ false
+no_and true = refl
+no_and false = refl
 
 pub from_all : {X : Type 0} (P : X → Type 0) (xs : List X) → All P xs → AllByRecursion P xs
 from_all P [] h = tt

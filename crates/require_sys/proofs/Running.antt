@@ -36,7 +36,7 @@ use Rattle.require_sys.proofs.Parts.{all_map, from_all}
 -- ---- members
 
 -- what holds of the members of a class holds of one that is there
-member_among : (classes : List Class) (P : MemberAt → Type 0) (m : MemberAt)
+pub member_among : (classes : List Class) (P : MemberAt → Type 0) (m : MemberAt)
     → AllByRecursion P (members_of classes m.class) → is_instance_method classes m ≡ true → P m
 member_among classes P m all instance =
     there (row_at classes m) refl instance
@@ -135,7 +135,7 @@ class_flag classes n c is class =
     by false e h = refl
 
 -- the program class of an instance method is there
-program_there : (classes : List Class) (n index : ℕ)
+pub program_there : (classes : List Class) (n index : ℕ)
     → is_instance_method classes (record { class = Prog n; index = index }) ≡ true
     → (c : Class) × (slice_get classes n ≡ Some c)
 program_there classes n index instance = by (slice_get classes n) refl instance

@@ -34,8 +34,9 @@ use Rattle.require_sys.specs.Requires.{class_number, methods_above, pair_from, p
 use Rattle.class_pool.specs.Items.{item_of}
 use Rattle.require_sys.specs.bodies.Selecting.{called_item, pair_with, pairs_in}
 use Rattle.require_sys.specs.bodies.Supers.{is_library}
-use Rattle.require_sys.specs.bodies.Tops.{HasNoMethod, IsBlank, IsRun, IsTop}
+use Rattle.require_sys.specs.bodies.Tops.{HasNoMethod, IsBlank, IsTop}
 use Rattle.require_sys.proofs.Meeting.{library_once}
+use Rattle.require_sys.proofs.Parts.{no_and}
 use Rattle.require_sys.proofs.SupersLaw.{flat_filtered, flat_of}
 
 -- ---- lists
@@ -136,16 +137,6 @@ module _ (classes : List Class) (r : HasRanks classes) (n p : ℕ) (few : length
         ap (λ cs. first (overriding classes m (declared_by classes named cs))) chain_up
         ∙ ap first (overriding_later m own rest one none) in
         λ i. if is_interface_in classes m.class then interface i else class i
-
-    pub bare_run : (t : ℕ) → IsRun classes p t → IsRun classes n t
-    bare_run t run = record {
-      there = run.there;
-      same = λ m one. bare_selected m one ∙ run.same m one;
-    }
-
--- a class for itself
-pub run_itself : (classes : List Class) (n : ℕ) → n < length classes → IsRun classes n n
-run_itself classes n n-in = record { there = n-in; same = λ m one. refl }
 
 -- ---- a class without superinterfaces of its own too
 

@@ -40,7 +40,7 @@ counted_limit Items = 1048576
 counted_limit Needs = 16777216
 counted_limit Pairs = 16777216
 
--- how many needs all items have together
+-- how many needs all items have together (the project's own)
 abbrev pub need_count : System → ℕ
 need_count sys = sum_by length sys.needs
 

@@ -11,3 +11,7 @@ pub mod Alone
 pub mod Known
 pub mod Tops
 pub mod Overriding
+pub mod Marks
+pub mod Alike
+pub mod Nearest
+pub mod Above

@@ -1,6 +1,7 @@
 //! What of a set of classes has to be kept, as a system of requirements on its items.
 #![tactic(auto)]
 
+mod alike;
 mod calls;
 mod classes;
 mod code;
@@ -9,8 +10,11 @@ mod kept;
 mod known;
 mod laws;
 mod limits;
+mod marks;
 mod members;
+mod methods;
 mod named;
+mod nearest;
 mod needs;
 mod numbered;
 mod pairs;

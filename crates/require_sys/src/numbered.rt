@@ -8,11 +8,11 @@ ghost use Rattle.class_pool.specs.Items.{class_item, item_of};
 ghost use Rattle.class_pool.specs.declared.id.ClassId.TheVariants.{Prog};
 ghost use Rattle.require_sys.specs.bodies.Alone.{AreAlone, IsAlone};
 ghost use Rattle.require_sys.specs.bodies.Starts.{AreStarts};
-ghost use Rattle.require_sys.specs.bodies.Tops.{AreRuns, AreTops, IsRun, IsTop};
+ghost use Rattle.require_sys.specs.bodies.Tops.{AreTops, IsTop};
 
 use crate::calls::declared_of;
 use crate::supers::is_same_class;
-use crate::tops::{Tops, tops_of};
+use crate::tops::tops_of;
 use class_pool::{ClassId, ClassSet, MemberAt};
 use jv_base::{Items, M};
 use std::alloc::Global;
@@ -27,13 +27,12 @@ pub(crate) struct Numbered<'a> {
     object: Option<ClassId>,
     /// For each member of Object whether a class of the set may have one with its name and descriptor.
     declared: Items<bool>,
-    /// For each class those that stand for it.
-    tops: Tops,
+    /// For each class one in which the same methods run.
+    tops: Vec<u32>,
     ghost alone: { ForSome object (λ class. AreAlone set.now class declared) },
     ghost few: { item_count set.now < 4294967295 },
     ghost are: { AreStarts set.now starts },
-    ghost same: { AreTops set.now tops.tops.items },
-    ghost selected: { AreRuns set.now tops.runs.items },
+    ghost same: { AreTops set.now tops.items },
 }
 
 impl<'a> Numbered<'a> {
@@ -80,15 +79,7 @@ impl<'a> Numbered<'a> {
         requires { number < length self.now.set.now }
         ensures { IsTop self.now.set.now number result }
     {
-        self.tops.tops[number as usize]
-    }
-
-    /// A class from which upwards the same methods are selected: the class itself, or one above it.
-    pub fn run(&self, number: u32) -> u32
-        requires { number < length self.now.set.now }
-        ensures { IsRun self.now.set.now number result }
-    {
-        self.tops.runs[number as usize]
+        self.tops[number as usize]
     }
 
     /// The item of a class of the set.

@@ -1,19 +1,25 @@
 // What a class and a method above it need together.
-ghost use Rattle.std.specs.Prelude.{◌≡◌, ◌+◌, ◌<◌, [], IfOk, OnOk, Some, if◌then◌else◌, length, map, slice_get, true};
-ghost use Rattle.std.specs.List.{All, cons_option, flat_map};
-ghost use Rattle.class_pool.specs.Found.{IsMember, is_instance_method};
+ghost use Rattle.std.specs.Prelude.{◌≡◌, ◌+◌, ◌<◌, [], IfOk, OnOk, Some, if◌then◌else◌, length, map, slice_get};
+ghost use Rattle.std.specs.Prelude.{slice_index_or, true};
+ghost use Rattle.std.specs.List.{All, cons_option, filter, filter_map, flat_map};
+ghost use Rattle.class_pool.specs.Found.{IsMember};
 ghost use Rattle.class_pool.specs.Hierarchy.{IsClass};
 ghost use Rattle.class_pool.specs.Resolution.{is_class_below};
 ghost use Rattle.class_pool.specs.Walk.{superclasses_from};
 ghost use Rattle.class_pool.specs.declared.id.ClassId.TheVariants.{Prog};
 ghost use Rattle.require_sys.specs.Requires.{class_pairs, is_inheritable, pair_of};
+ghost use Rattle.require_sys.specs.bodies.Above.{IsAbove, IsReceiver};
+ghost use Rattle.require_sys.specs.bodies.Alike.{AreRows, member_at};
 ghost use Rattle.require_sys.specs.bodies.Counting.{AddsPairs, HasPairs};
+ghost use Rattle.require_sys.specs.bodies.Nearest.{IsListed, is_hidden};
 ghost use Rattle.require_sys.specs.bodies.Selecting.{all_pairs, pair_with, pairs_in};
 ghost use Rattle.require_sys.specs.bodies.Tops.{AreAbove};
 
 use crate::limits::Counted;
+use crate::methods::{InstanceMethod, Methods, Openness, methods_of};
+use crate::nearest::{Note, no_notes, note_chain};
 use crate::numbered::Numbered;
-use crate::receiver::Receiver;
+use crate::receiver::{Receiver, member_of};
 use crate::supers::{is_interface, is_same_member, program_supers, superclasses_of};
 use crate::tops::own_numbers;
 use class_model::Class;
@@ -45,6 +51,15 @@ impl Pairs {
     }
 }
 
+/// What is known of the classes above another one.
+#[derive(Drop)]
+struct Above {
+    /// For each class one that it is or is a superclass of.
+    below: Vec<u32>,
+    /// The nearest methods from a class upwards.
+    notes: Vec<Note>,
+}
+
 /// The pairs of all classes, in the order of the set.
 pub(crate) fn pairs_of(alloc: Global, numbered: &Numbered) -> M<Pairs>
     ensures { IfOk result (HasPairs (all_pairs numbered.now.set.now)) }
@@ -54,69 +69,97 @@ pub(crate) fn pairs_of(alloc: Global, numbered: &Numbered) -> M<Pairs>
         pairs: Items::new(alloc),
         count: 0,
     };
-    let mut below = own_numbers(alloc, set)?;
+    let methods = methods_of(alloc, set)?;
+    let mut above = nothing_above(alloc, set, methods.highest)?;
     for number in 0..set.len() {
         let class = set.class(number);
-        add_class(alloc, numbered, &mut below, number, class, &mut pairs)?;
+        add_class(
+            alloc, numbered, &methods, &mut above, number, class, &mut pairs,
+        )?;
     }
     Ok(pairs)
 }
 
-/// The pairs of a class; no object is of an interface. The table has for each class one that it is or is above.
+fn nothing_above(alloc: Global, set: &ClassSet, highest: usize) -> M<Above>
+    ensures { IfOk result (IsAbove set.now 0) }
+{
+    let below = own_numbers(alloc, set)?;
+    let notes = no_notes(alloc, highest)?;
+    Ok(Above { below, notes })
+}
+
+/// The pairs of a class; no object is of an interface.
 fn add_class(
     alloc: Global,
     numbered: &Numbered,
-    below: &mut Vec<u32>,
+    methods: &Methods,
+    above: &mut Above,
     number: u32,
     class: &Class,
     pairs: &mut Pairs,
 ) -> M<()>
-    requires below { AreAbove numbered.now.set.now below.old.items }
+    requires methods { AreRows numbered.now.set.now methods.now.of_classes }
+    requires above { IsAbove numbered.now.set.now number above.old }
     requires there { slice_get numbered.now.set.now number ≡ Some class.now }
     ensures pairs { OnOk result (AddsPairs pairs.old (class_pairs numbered.now.set.now (number, class.now)) pairs.new) }
-    ensures below { OnOk result (AreAbove numbered.now.set.now below.new.items) }
+    ensures above { OnOk result (IsAbove numbered.now.set.now (number + 1) above.new) }
 {
     if is_interface(class) {
         return Ok(());
     }
     let top = numbered.top(number);
-    let supers = program_supers(alloc, numbered.set, top)?;
+    let chain = superclasses_of(alloc, numbered.set, top)?;
+    let chain = chain.as_slice();
+    let supers = program_supers(alloc, numbered.set, top, chain)?;
     add_above(
-        alloc,
         numbered,
-        below,
+        methods,
+        above,
         number,
         top,
+        chain,
         supers.as_slice(),
         pairs,
     )
 }
 
-/// Those of a class with the methods of these classes above it. The same methods run in another one, its top.
+/// Those of a class with the methods of these classes above it. The same methods run in another one, its top, which is
+/// given with its superclasses.
 fn add_above(
-    alloc: Global,
     numbered: &Numbered,
-    below: &mut Vec<u32>,
+    methods: &Methods,
+    above: &mut Above,
     number: u32,
     top: u32,
+    chain: &[ClassId],
     supers: &[u32],
     pairs: &mut Pairs,
 ) -> M<()>
-    requires below { AreAbove numbered.now.set.now below.old.items }
+    requires methods { AreRows numbered.now.set.now methods.now.of_classes }
+    requires above { IsAbove numbered.now.set.now number above.old }
     requires there { number < length numbered.now.set.now }
     requires top { top < length numbered.now.set.now }
+    requires chain { chain.now ≡ superclasses_from numbered.now.set.now (Prog top) }
     requires supers { All (λ k. k < length numbered.now.set.now) supers.now }
     ensures pairs { OnOk result (AddsPairs pairs.old (flat_map (pairs_in numbered.now.set.now number top)
         (map Prog supers.now)) pairs.new) }
-    ensures below { OnOk result (AreAbove numbered.now.set.now below.new.items) }
+    ensures above { OnOk result (IsAbove numbered.now.set.now (number + 1) above.new) }
 {
     if supers.is_empty() {
         return Ok(());
     }
-    let run = numbered.run(top);
-    let chain = superclasses_of(alloc, numbered.set, run)?;
-    mark_above(numbered.set, below, run, chain.as_slice());
-    let receiver = Receiver::new(numbered, top, run, chain.as_slice(), below.as_slice());
+    let _count = numbered.set.len();
+    let stamp = number + 1;
+    mark_above(numbered.set, &mut above.below, top, chain);
+    note_chain(&methods.of_classes, &mut above.notes, stamp, chain);
+    let receiver = Receiver {
+        numbered,
+        class: top,
+        table: &methods.of_classes,
+        below: above.below.as_slice(),
+        stamp,
+        notes: above.notes.as_slice(),
+    };
     add_each(&receiver, number, supers, pairs)
 }
 
@@ -146,6 +189,7 @@ fn mark_class(set: &ClassSet, below: &mut Vec<u32>, number: u32, class: &ClassId
 }
 
 fn add_each(receiver: &Receiver, number: u32, supers: &[u32], pairs: &mut Pairs) -> M<()>
+    requires receiver { IsReceiver receiver.now }
     requires there { number < length receiver.now.numbered.now.set.now }
     requires supers { All (λ k. k < length receiver.now.numbered.now.set.now) supers.now }
     ensures { OnOk result (AddsPairs pairs.old
@@ -159,73 +203,79 @@ fn add_each(receiver: &Receiver, number: u32, supers: &[u32], pairs: &mut Pairs)
 }
 
 fn add_of(receiver: &Receiver, number: u32, above: &u32, pairs: &mut Pairs) -> M<()>
+    requires receiver { IsReceiver receiver.now }
     requires there { number < length receiver.now.numbered.now.set.now }
     requires above { above.now < length receiver.now.numbered.now.set.now }
     ensures { OnOk result (AddsPairs pairs.old
         (pairs_in receiver.now.numbered.now.set.now number receiver.now.class (Prog above.now)) pairs.new) }
 {
-    let class = receiver.numbered.set.class(*above);
-    add_methods(receiver, number, *above, class, pairs)
+    let rows = &receiver.table[*above as usize];
+    add_rows(receiver, number, *above, rows.as_slice(), pairs)
 }
 
 /// Those of a class with the methods of one class above it.
-fn add_methods(
+fn add_rows(
     receiver: &Receiver,
     number: u32,
     above: u32,
-    class: &Class,
+    rows: &[InstanceMethod],
     pairs: &mut Pairs,
 ) -> M<()>
+    requires receiver { IsReceiver receiver.now }
     requires there { number < length receiver.now.numbered.now.set.now }
-    requires above { slice_get receiver.now.numbered.now.set.now above ≡ Some class.now }
-    requires few { length class.now.fields + length class.now.methods < 4294967295 }
+    requires above { above < length receiver.now.numbered.now.set.now }
+    requires rows { rows.now ≡ slice_index_or receiver.now.table.now above [] }
     ensures { OnOk result (AddsPairs pairs.old
-        (pairs_in receiver.now.numbered.now.set.now number receiver.now.class (Prog above)) pairs.new) }
+        (filter_map (pair_with receiver.now.numbered.now.set.now number receiver.now.class)
+        (filter (is_inheritable receiver.now.numbered.now.set.now) (map member_at rows.now))) pairs.new) }
 {
-    let count = class.fields.len() + class.methods.len();
-    for index in 0..count as u32 {
-        let m = MemberAt {
-            class: ClassId::Prog(above),
-            index,
-        };
-        add_member(receiver, number, &m, pairs)?;
+    for row in rows {
+        add_row(receiver, number, above, row, pairs)?;
     }
     Ok(())
 }
 
-/// That of a class with a member above it, if this is a method that may be inherited.
-fn add_member(receiver: &Receiver, number: u32, m: &MemberAt, pairs: &mut Pairs) -> M<()>
+/// That of a class with a method above it, if this may be inherited.
+fn add_row(
+    receiver: &Receiver,
+    number: u32,
+    above: u32,
+    row: &InstanceMethod,
+    pairs: &mut Pairs,
+) -> M<()>
+    requires receiver { IsReceiver receiver.now }
     requires there { number < length receiver.now.numbered.now.set.now }
-    requires member { IsMember receiver.now.numbered.now.set.now m.now }
+    requires above { above < length receiver.now.numbered.now.set.now }
+    requires row { IsListed receiver.now.table.now above row.now }
     ensures { OnOk result (AddsPairs pairs.old
-        (if is_inheritable receiver.now.numbered.now.set.now m.now
-        then cons_option (pair_with receiver.now.numbered.now.set.now number receiver.now.class m.now) [] else [])
-        pairs.new) }
+        (if is_inheritable receiver.now.numbered.now.set.now (member_at row.now)
+        then cons_option (pair_with receiver.now.numbered.now.set.now number receiver.now.class (member_at row.now)) []
+        else []) pairs.new) }
 {
-    if !is_inheritable(receiver.numbered.set, m) {
+    if is_hidden(row) {
         return Ok(());
     }
-    pairs.add(pair_with(receiver, number, m))
+    pairs.add(pair_with(receiver, number, above, row))
 }
 
-/// Whether a member is an instance method that isn't private.
-fn is_inheritable(set: &ClassSet, m: &MemberAt) -> bool
-    requires { IsMember set.now m.now }
-    ensures { result ≡ is_inheritable set.now m.now }
+/// Whether no other class has a method.
+fn is_hidden(row: &InstanceMethod) -> bool
+    ensures { result ≡ is_hidden row.now.openness }
 {
-    set.is_instance_method(*m) && !set.is_private_member(*m)
+    matches!(row.openness, Openness::Private)
 }
 
 /// What a class and a method above it need together: the method that runs where that one is called on an object of
 /// the class, where it is another one of the program.
-fn pair_with(receiver: &Receiver, number: u32, m: &MemberAt) -> Option<Pair>
+fn pair_with(receiver: &Receiver, number: u32, above: u32, row: &InstanceMethod) -> Option<Pair>
+    requires receiver { IsReceiver receiver.now }
     requires there { number < length receiver.now.numbered.now.set.now }
-    requires member { IsMember receiver.now.numbered.now.set.now m.now }
-    requires method { is_instance_method receiver.now.numbered.now.set.now m.now ≡ true }
-    ensures { result ≡ pair_with receiver.now.numbered.now.set.now number receiver.now.class m.now }
+    requires above { above < length receiver.now.numbered.now.set.now }
+    requires row { IsListed receiver.now.table.now above row.now }
+    ensures { result ≡ pair_with receiver.now.numbered.now.set.now number receiver.now.class (member_at row.now) }
 {
-    match &receiver.selected(m) {
-        Some(selected) => pair_of(receiver.numbered, number, m, selected),
+    match &receiver.selected(above, row) {
+        Some(selected) => pair_of(receiver.numbered, number, &member_of(row), selected),
         None => None,
     }
 }

@@ -1,20 +1,21 @@
 // Which method runs where another one is called on objects of a class (JVMS 5.4.5, 6.5).
 //
-// `select` walks up to the class of the method. Here a table tells at once whether that is above the class.
+// `select` walks up to the class of the method. Here the nearest method of its name and descriptor is noted, and a
+// table tells at once whether the class of the method is above.
 ghost use Rattle.std.specs.Prelude.{◌≡◌, ◌<◌, IfSome, IsTrue, Some, length, true};
-ghost use Rattle.std.specs.List.{All, find};
-ghost use Rattle.class_pool.specs.Found.{IsMember, IsMethod, declared_by, declared_in, is_instance_method, named_at};
-ghost use Rattle.class_pool.specs.Hierarchy.{IsClass};
+ghost use Rattle.class_pool.specs.Found.{IsMember};
 ghost use Rattle.class_pool.specs.Resolution.{is_class_below};
 ghost use Rattle.class_pool.specs.Selection.{selected};
-ghost use Rattle.class_pool.specs.Walk.{superclasses_from};
 ghost use Rattle.class_pool.specs.declared.id.ClassId.TheVariants.{Prog};
-ghost use Rattle.require_sys.specs.bodies.Overriding.{IsOpenAbove, overrides_openly};
-ghost use Rattle.require_sys.specs.bodies.Tops.{AreAbove, IsRun};
+ghost use Rattle.require_sys.specs.bodies.Above.{IsReceiver};
+ghost use Rattle.require_sys.specs.bodies.Alike.{member_at};
+ghost use Rattle.require_sys.specs.bodies.Nearest.{IsListed, Runs, is_overriding};
 
+use crate::methods::{InstanceMethod, Openness};
+use crate::nearest::{Note, noted};
 use crate::numbered::Numbered;
-use crate::supers::is_same_member;
-use class_pool::{ClassId, ClassSet, MemberAt};
+use class_pool::{ClassId, MemberAt};
+use jv_base::Items;
 use link_check::select;
 
 /// A class on whose objects methods are called, and what is known of the classes above it.
@@ -23,121 +24,88 @@ pub(crate) struct Receiver<'a> {
     pub numbered: &'a Numbered<'a>,
     /// The number of the class.
     pub class: u32,
-    /// A class from which upwards the same methods are selected.
-    run: u32,
-    /// That class and its superclasses, the nearest first.
-    chain: &'a [ClassId],
+    /// The instance methods of each class.
+    pub table: &'a Items<Items<InstanceMethod>>,
     /// For each class one that it is or is a superclass of.
-    below: &'a [u32],
-    ghost there: { class < length numbered.now.set.now },
-    ghost same: { IsRun numbered.now.set.now class run },
-    ghost chain_is: { chain.now ≡ superclasses_from numbered.now.set.now (Prog run) },
-    ghost below_are: { AreAbove numbered.now.set.now below.now },
+    pub below: &'a [u32],
+    pub stamp: u32,
+    /// With that stamp the nearest methods from the class upwards.
+    pub notes: &'a [Note],
 }
 
 impl<'a> Receiver<'a> {
-    /// The class with a number; another one, from which upwards the same methods are selected; that one with its
-    /// superclasses; and for each class one that it is or is a superclass of.
-    pub fn new(
-        numbered: &'a Numbered<'a>,
-        class: u32,
-        run: u32,
-        chain: &'a [ClassId],
-        below: &'a [u32],
-    ) -> Self
-        requires class { class < length numbered.now.set.now }
-        requires run { IsRun numbered.now.set.now class run }
-        requires chain { chain.now ≡ superclasses_from numbered.now.set.now (Prog run) }
-        requires below { AreAbove numbered.now.set.now below.now }
-        ensures numbered { result.numbered.now ≡ numbered.now }
-        ensures class { result.class ≡ class }
-    {
-        Receiver {
-            numbered,
-            class,
-            run,
-            chain,
-            below,
-        }
-    }
-
-    /// The method that runs where another one is called on an object of the class.
-    pub fn selected(&self, m: &MemberAt) -> Option<MemberAt>
-        requires member { IsMember self.now.numbered.now.set.now m.now }
-        requires method { is_instance_method self.now.numbered.now.set.now m.now ≡ true }
-        ensures is { result ≡ selected self.now.numbered.now.set.now (Prog self.now.class) m.now }
+    /// The method that runs where that of a row of a class is called on an object of the class.
+    pub fn selected(&self, above: u32, row: &InstanceMethod) -> Option<MemberAt>
+        requires receiver { IsReceiver self.now }
+        requires above { above < length self.now.numbered.now.set.now }
+        requires row { IsListed self.now.table.now above row.now }
+        ensures is { result ≡ selected self.now.numbered.now.set.now (Prog self.now.class) (member_at row.now) }
         ensures there { IfSome result (IsMember self.now.numbered.now.set.now) }
     {
-        let set = self.numbered.set;
-        if is_open_above(set, self.below, self.run, m) {
-            nearest(set, self.chain, m)
+        match &self.known(above, row) {
+            Some(found) => Some(member_of(found)),
+            None => select(self.numbered.set, ClassId::Prog(self.class), member_of(row)),
+        }
+    }
+
+    /// The same, where the notes tell it.
+    fn known(&self, above: u32, row: &InstanceMethod) -> Option<InstanceMethod>
+        requires receiver { IsReceiver self.now }
+        requires above { above < length self.now.numbered.now.set.now }
+        requires row { IsListed self.now.table.now above row.now }
+        ensures is { IfSome result (λ found. selected self.now.numbered.now.set.now (Prog self.now.class)
+            (member_at row.now) ≡ Some (member_at found)) }
+        ensures there { IfSome result (λ found. IsMember self.now.numbered.now.set.now (member_at found)) }
+    {
+        if row.number == 0 {
+            return None;
+        }
+        let nearest = noted(self.notes, self.stamp, row.number)?;
+        if self.runs(row, &nearest) {
+            Some(nearest)
         } else {
-            select(set, ClassId::Prog(self.run), *m)
+            None
         }
     }
-}
 
-/// Whether it is known that methods of all packages may override a method, which the class with a number or a
-/// superclass of it has as the first one of its name and descriptor.
-fn is_open_above(set: &ClassSet, below: &[u32], number: u32, m: &MemberAt) -> bool
-    requires below { AreAbove set.now below.now }
-    requires member { IsMember set.now m.now }
-    requires method { IsMethod set.now m.now }
-    ensures { IsTrue result → IsOpenAbove set.now number m.now }
-{
-    is_above(set, below, number, m)
-        && !set.is_interface(m.class)
-        && (set.is_public_member(*m) || set.is_protected_member(*m))
-        && is_first(set, m)
-}
-
-/// Whether it is known that the class of a member is the one with a number or a superclass of it.
-fn is_above(set: &ClassSet, below: &[u32], number: u32, m: &MemberAt) -> bool
-    requires below { AreAbove set.now below.now }
-    requires member { IsMember set.now m.now }
-    ensures { IsTrue result → is_class_below set.now (Prog number) m.now.class ≡ true }
-{
-    match &m.class {
-        ClassId::Prog(above) => below[*above as usize] == number,
-        ClassId::Lib(_) => false,
-    }
-}
-
-/// Whether a method is the first one of its class with its name and its descriptor.
-fn is_first(set: &ClassSet, m: &MemberAt) -> bool
-    requires member { IsMember set.now m.now }
-    requires method { IsMethod set.now m.now }
-    ensures { IsTrue result → declared_in set.now (named_at set.now m.now) m.now.class ≡ Some m.now }
-{
-    match &set.method_like(m.class, *m) {
-        Some(own) => is_same_member(own, m),
-        None => false,
-    }
-}
-
-/// The first method of these classes that is another one or overrides it, where methods of all packages may.
-fn nearest(set: &ClassSet, chain: &[ClassId], m: &MemberAt) -> Option<MemberAt>
-    requires chain { All (IsClass set.now) chain.now }
-    requires member { IsMember set.now m.now }
-    requires method { IsMethod set.now m.now }
-    ensures is { result ≡ find (overrides_openly set.now m.now)
-        (declared_by set.now (named_at set.now m.now) chain.now) }
-    ensures there { IfSome result (IsMember set.now) }
-{
-    for class in chain {
-        if let Some(found) = &set.method_like(*class, *m) {
-            if overrides_openly(set, found, m) {
-                return Some(*found);
+    /// Whether it is known that the nearest method of its name and descriptor runs where that of a row is called.
+    fn runs(&self, row: &InstanceMethod, nearest: &InstanceMethod) -> bool
+        requires receiver { IsReceiver self.now }
+        requires row { row.now.class < length self.now.numbered.now.set.now }
+        ensures { IsTrue result → Runs self.now.numbered.now.set.now self.now.class row.now nearest.now }
+    {
+        nearest.class == row.class
+            || match row.openness {
+                Openness::Abstract => true,
+                Openness::Open => is_overriding(nearest) && self.is_above(row.class),
+                Openness::Package | Openness::Private => false,
             }
-        }
     }
-    None
+
+    /// Whether it is known that a class is the one of the receiver or a superclass of it.
+    fn is_above(&self, class: u32) -> bool
+        requires receiver { IsReceiver self.now }
+        requires class { class < length self.now.numbered.now.set.now }
+        ensures { IsTrue result
+            → is_class_below self.now.numbered.now.set.now (Prog self.now.class) (Prog class) ≡ true }
+    {
+        self.below[class as usize] == self.class
+    }
 }
 
-fn overrides_openly(set: &ClassSet, m: &MemberAt, above: &MemberAt) -> bool
-    requires { IsMember set.now m.now }
-    ensures { result ≡ overrides_openly set.now above.now m.now }
+/// Whether a method may override others.
+fn is_overriding(row: &InstanceMethod) -> bool
+    ensures { result ≡ is_overriding row.now.openness }
 {
-    is_same_member(m, above)
-        || (set.is_instance_method(*m) && !set.is_private_member(*m) && !set.is_interface(m.class))
+    matches!(row.openness, Openness::Package | Openness::Open)
+}
+
+/// The member of a row.
+pub(crate) fn member_of(row: &InstanceMethod) -> MemberAt
+    ensures { result ≡ member_at row.now }
+{
+    MemberAt {
+        class: ClassId::Prog(row.class),
+        index: row.index,
+    }
 }

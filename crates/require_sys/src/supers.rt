@@ -18,14 +18,20 @@ use std::alloc::Global;
 /// More than any set has classes, those of the library with them.
 pub(crate) const HIGHEST: u64 = 1 << 33;
 
-/// The numbers of the classes of the program above the class with a number, ascending.
-pub(crate) fn program_supers(alloc: Global, set: &ClassSet, number: u32) -> M<Vec<u32>>
-    requires { number < length set.now }
+/// The numbers of the classes of the program above the class with a number, ascending. With it its superclasses are
+/// given.
+pub(crate) fn program_supers(
+    alloc: Global,
+    set: &ClassSet,
+    number: u32,
+    chain: &[ClassId],
+) -> M<Vec<u32>>
+    requires there { number < length set.now }
+    requires chain { chain.now ≡ superclasses_from set.now (Prog number) }
     ensures are { IfOk result (λ numbers. map Prog numbers.items ≡ program_supers set.now (Prog number)) }
     ensures there { IfOk result (λ numbers. All (λ k. k < length set.now) numbers.items) }
 {
-    let chain = superclasses_of(alloc, set, number)?;
-    let mut numbers = others_met(alloc, set, number, chain.as_slice())?;
+    let mut numbers = others_met(alloc, set, number, chain)?;
     numbers.sort_unstable();
     numbers.dedup();
     Ok(numbers)

@@ -1,47 +1,27 @@
-// For each class two that stand for it: the class itself, or one above it.
+// For each class one that stands for it: the class itself, or one above it.
 //
-// From a class without instance methods upwards those are selected that are from its superclass upwards. Where it has
-// no superinterface itself either, the same methods run in it. In which order classes are looked at is not proved; only
-// speed rests on it.
+// In a class without instance methods and without superinterfaces of its own the same methods run as in its superclass.
+// In which order classes are looked at is not proved; only speed rests on it.
 ghost use Rattle.std.specs.Prelude.{◌≡◌, ◌<◌, IfOk, IsTrue, false, length};
 ghost use Rattle.std.specs.List.{All};
-ghost use Rattle.require_sys.specs.bodies.Tops.{AreGiven, AreRuns, AreTops, HasNoMethod, IsBlank, IsRun, IsTop};
+ghost use Rattle.require_sys.specs.bodies.Tops.{AreGiven, AreTops, HasNoMethod, IsBlank, IsTop};
 
 use crate::supers::{HIGHEST, superclass_number};
 use class_pool::{ClassId, ClassSet, MemberAt};
 use jv_base::M;
 use std::alloc::Global;
 
-/// For each class those that stand for it, the topmost that are found.
-#[derive(Drop)]
-pub(crate) struct Tops {
-    /// One in which the same methods run.
-    pub tops: Vec<u32>,
-    /// One from which upwards the same methods are selected.
-    pub runs: Vec<u32>,
-}
-
-pub(crate) fn tops_of(alloc: Global, set: &ClassSet) -> M<Tops>
-    ensures tops { IfOk result (λ found. AreTops set.now found.tops.items) }
-    ensures runs { IfOk result (λ found. AreRuns set.now found.runs.items) }
+/// For each class one in which the same methods run, the topmost that is found.
+pub(crate) fn tops_of(alloc: Global, set: &ClassSet) -> M<Vec<u32>>
+    ensures { IfOk result (λ tops. AreTops set.now tops.items) }
 {
-    let mut tops = own_tops(alloc, set)?;
+    let mut tops = own_numbers(alloc, set)?;
     let mut looked = vec![in alloc; false; set.len() as usize]?;
     for number in 0..set.len() {
         let numbers = others_from(alloc, set, &mut looked, number)?;
         raise(set, &mut tops, numbers.as_slice());
     }
     Ok(tops)
-}
-
-/// Each class for itself.
-fn own_tops(alloc: Global, set: &ClassSet) -> M<Tops>
-    ensures tops { IfOk result (λ found. AreTops set.now found.tops.items) }
-    ensures runs { IfOk result (λ found. AreRuns set.now found.runs.items) }
-{
-    let tops = own_numbers(alloc, set)?;
-    let runs = own_numbers(alloc, set)?;
-    Ok(Tops { tops, runs })
 }
 
 /// The number of each class.
@@ -86,51 +66,27 @@ fn look(looked: &mut Vec<bool>, number: u32) -> bool {
 }
 
 /// Looks at these classes, the last one first.
-fn raise(set: &ClassSet, tops: &mut Tops, numbers: &[u32])
+fn raise(set: &ClassSet, tops: &mut Vec<u32>, numbers: &[u32])
     requires there { All (λ n. n < length set.now) numbers.now }
-    requires tops { AreTops set.now tops.old.tops.items }
-    requires runs { AreRuns set.now tops.old.runs.items }
-    ensures tops { AreTops set.now tops.new.tops.items }
-    ensures runs { AreRuns set.now tops.new.runs.items }
+    requires tops { AreTops set.now tops.old.items }
+    ensures { AreTops set.now tops.new.items }
 {
     let count = numbers.len();
     for at in 0..count {
         let number = numbers[count - 1 - at];
-        let run = run_of(set, tops.runs.as_slice(), number);
-        let top = top_of(set, tops.tops.as_slice(), number, run);
-        tops.runs[number as usize] = run;
-        tops.tops[number as usize] = top;
+        let top = top_of(set, tops.as_slice(), number);
+        tops[number as usize] = top;
     }
 }
 
-/// The one of its superclass, where a class has no instance methods.
-fn run_of(set: &ClassSet, runs: &[u32], number: u32) -> u32
-    requires there { number < length set.now }
-    requires runs { AreRuns set.now runs.now }
-    ensures { IsRun set.now number result }
-{
-    set.has_ranks();
-    let _count = set.len();
-    let Some(above) = superclass_number(set, number) else {
-        return number;
-    };
-    if has_instance_method(set, number) {
-        return number;
-    }
-    runs[above as usize]
-}
-
-/// The one of its superclass, where a class is blank. One that its own methods are selected from isn't.
-fn top_of(set: &ClassSet, tops: &[u32], number: u32, run: u32) -> u32
+/// The one of its superclass, where a class is blank.
+fn top_of(set: &ClassSet, tops: &[u32], number: u32) -> u32
     requires there { number < length set.now }
     requires tops { AreTops set.now tops.now }
     ensures { IsTop set.now number result }
 {
     set.has_ranks();
     let _count = set.len();
-    if run == number {
-        return number;
-    }
     let Some(above) = superclass_number(set, number) else {
         return number;
     };

@@ -1,4 +1,4 @@
--- Methods that no class of a set has, or none above a class.
+-- Methods that no class of a set has, or none above a class (only the proof of system_of needs it).
 use Rattle.std.specs.Prelude.{◌≡◌, ◌<◌, ℕ, Bool, false, List, Some, slice_get}
 use Rattle.std.specs.List.{AllByRecursion}
 use Rattle.std.specs.Option.{is_some}

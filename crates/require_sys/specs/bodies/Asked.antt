@@ -1,4 +1,4 @@
--- What rules ask for is there.
+-- What rules ask for is there (only the proof of system_of needs it).
 use Rattle.std.specs.Prelude.{◌<◌, ℕ, List, [], length, slice_index_or}
 use Rattle.std.specs.List.{All}
 use Rattle.class_model.specs.declared.class.Class.{Class}

@@ -1,4 +1,5 @@
--- Lists that are counted while they grow, and are no longer made where the count passes its limit.
+-- Lists that are counted while they grow, and are no longer made where the count passes its limit (only the proof of
+-- system_of needs it).
 use Rattle.std.specs.Prelude.{◌≡◌, ◌≤◌, ◌<◌, ℕ, ◌^◌, List, ◌++◌, length}
 use Rattle.std.specs.List.{sum_by}
 use Rattle.mark_core.specs.declared.system.Pair.{Pair}

@@ -1,4 +1,4 @@
--- What a frame shares with the one before it.
+-- What a frame shares with the one before it (only the proof of system_of needs it).
 use Rattle.std.specs.Prelude.{◌≡◌, ℕ, ◌+◌, List, take}
 use Rattle.class_model.specs.FrameLists.{frame_numbered}
 use Rattle.class_model.specs.declared.frame.FrameAt.{FrameAt}

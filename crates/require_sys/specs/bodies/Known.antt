@@ -1,4 +1,4 @@
--- What references want, as it is remembered.
+-- What references want, as it is remembered (only the proof of system_of needs it).
 use Rattle.std.specs.Prelude.{◌≡◌, ◌≤◌, ℕ, List, ◌++◌, drop, length}
 use Rattle.jv_base.specs.Descriptors.{read_field, read_method}
 use Rattle.class_model.specs.declared.class.Class.{Class}

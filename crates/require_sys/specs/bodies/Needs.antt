@@ -1,4 +1,4 @@
--- What the items of one class need, and those of all.
+-- What the items of one class need, and those of all (only the proof of system_of needs it).
 use Rattle.std.specs.Prelude.{ℕ, ◌+◌, List, length, map}
 use Rattle.std.specs.List.{enumerate_from, flat_map}
 use Rattle.class_model.specs.declared.class.Class.{Class}

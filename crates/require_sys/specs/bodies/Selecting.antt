@@ -1,4 +1,4 @@
--- What runs where the methods of one class above another are called.
+-- What runs where the methods of one class above another are called (only the proof of system_of needs it).
 use Rattle.std.specs.Prelude.{ℕ, List, [], Option, if◌then◌else◌}
 use Rattle.std.specs.List.{enumerate_from, filter, filter_map, flat_map}
 use Rattle.std.specs.Option.{option_and_then, option_map}

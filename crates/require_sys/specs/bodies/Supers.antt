@@ -1,4 +1,5 @@
--- What is met where the superclasses of a class are gone over, each with the superinterfaces that it has itself.
+-- What is met where the superclasses of a class are gone over, each with the superinterfaces that it has itself (only
+-- the proof of system_of needs it).
 use Rattle.std.specs.Prelude.{ℕ, ◌==◌, Bool, not, ◌&&◌, List, [], Option, Some, None, if◌then◌else◌}
 use Rattle.std.specs.List.{list_any}
 use Rattle.class_model.specs.declared.class.Class.{Class}

@@ -1,13 +1,11 @@
--- Classes above another one that stand for it: the same methods run in them.
+-- Classes above another one that stand for it: the same methods run in them (only the proof of system_of needs it).
 use Rattle.std.specs.Prelude.{◌≡◌, ◌<◌, ℕ, false, true, List, [], length, slice_index_or}
 use Rattle.std.specs.List.{filter_map}
 use Rattle.class_model.specs.declared.class.Class.{Class}
 use Rattle.class_pool.specs.Found.{is_instance_method}
 use Rattle.class_pool.specs.Resolution.{is_class_below, is_interface_in}
-use Rattle.class_pool.specs.Selection.{selected}
 use Rattle.class_pool.specs.Walk.{own_superinterfaces}
 use Rattle.class_pool.specs.declared.id.ClassId.TheVariants.{Prog}
-use Rattle.class_pool.specs.declared.id.MemberAt.{MemberAt}
 use Rattle.require_sys.specs.Requires.{instance_methods, library_supers, methods_above}
 use Rattle.require_sys.specs.bodies.Selecting.{called_item, pair_with}
 
@@ -30,12 +28,6 @@ pub record IsTop (classes : List Class) (n top : ℕ) : Type 0 where
   pub pairs : (own : ℕ) → filter_map (pair_with classes own n) (methods_above classes (Prog n))
       ≡ filter_map (pair_with classes own top) (methods_above classes (Prog top))
 
--- from two classes upwards the same methods are selected
-pub record IsRun (classes : List Class) (n run : ℕ) : Type 0 where
-  pub there : run < length classes
-  pub same : (m : MemberAt) → is_instance_method classes m ≡ true
-      → selected classes (Prog n) m ≡ selected classes (Prog run) m
-
 -- for each number below a bound there is one that is as it has to be
 pub record AreGiven (Is : ℕ → ℕ → Type 0) (bound : ℕ) (numbers : List ℕ) : Type 0 where
   pub count : length numbers ≡ bound
@@ -44,9 +36,6 @@ pub record AreGiven (Is : ℕ → ℕ → Type 0) (bound : ℕ) (numbers : List 
 -- for each class there is such a class
 abbrev pub AreTops : List Class → List ℕ → Type 0
 AreTops classes tops = AreGiven (IsTop classes) (length classes) tops
-
-abbrev pub AreRuns : List Class → List ℕ → Type 0
-AreRuns classes runs = AreGiven (IsRun classes) (length classes) runs
 
 -- each class is one that is given for it, or a superclass of that
 abbrev pub AreAbove : List Class → List ℕ → Type 0

@@ -1,4 +1,4 @@
--- What is gathered of what an item wants.
+-- What is gathered of what an item wants (only the proof of system_of needs it).
 use Rattle.std.specs.Prelude.{◌≡◌, ℕ, ◌==◌, Bool, not, List, [], ◌++◌}
 use Rattle.std.specs.List.{filter, list_any}
 use Rattle.class_model.specs.declared.class.Class.{Class}

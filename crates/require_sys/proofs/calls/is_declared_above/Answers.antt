@@ -29,7 +29,8 @@ loop-preserved c =
           c.loop.invariant.rest (undeclared_on set (named_at set c.args.m.now) (8589934592 - c.loop.counter)
           c.loop.next c.in-Some.above c.method_like.result (superclass set (Prog c.loop.next)) some
           c.method_like.ensures.is (sym c.is_some.ensures ∙ c.if-is_some.false) refl
-          (above_is (superclass set (Prog c.loop.next)) c.in-Some.above (sym c.in-Some.is ∙ c.superclass_number.ensures))
+          (above_is (superclass set (Prog c.loop.next)) c.in-Some.above
+          (sym c.in-Some.is ∙ c.superclass_number.ensures))
           (subst (λ (j : ℕ). AreUndeclared set (named_at set c.args.m.now) (upwards j set (Prog c.in-Some.above)))
           less later));
     }

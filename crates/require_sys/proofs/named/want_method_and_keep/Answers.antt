@@ -5,10 +5,12 @@ use Rattle.require_sys.proofs.named.want_method_and_keep.Goals as goal
 
 pub keep_text-requires : goal.keep_text-requires
 keep_text-requires c =
-    last_wanted c.args.wants.now c.want_method_read.new.wants c.count-start.result (λ cs. method_text_wants cs (read_method c.args.text.now))
+    last_wanted c.args.wants.now c.want_method_read.new.wants c.count-start.result (λ cs. method_text_wants cs
+    (read_method c.args.text.now))
     c.count-start.ensures c.in_ok-want_method_read.ensures
 
 pub returns : goal.returns
 returns c =
     kept_then c.keep_text.result c.args.wants.now c.want_method_read.new.wants c.keep_text.new.self
-    (method_text_wants c.args.wants.now.classes (read_method c.args.text.now)) c.in_ok-want_method_read.ensures c.keep_text.ensures
+    (method_text_wants c.args.wants.now.classes (read_method c.args.text.now)) c.in_ok-want_method_read.ensures
+    c.keep_text.ensures

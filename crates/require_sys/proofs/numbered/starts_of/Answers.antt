@@ -19,5 +19,6 @@ loop-number-preserved c =
     let grown : c.push-in-loop-number.new.self
     ≡ c.loop-number.starts ++
     (c.loop-number.next + (1 + (c.len.result + c.len-in-loop-number.result))) ∷ [] = search rules in
-    let more = table_more c.args.set.now c.loop-number.number _ c.loop-number.starts c.push-in-loop-number.new.self c.loop-number.invariant.count c.loop-number.invariant.each sum grown in
+    let more = table_more c.args.set.now c.loop-number.number _ c.loop-number.starts c.push-in-loop-number.new.self
+    c.loop-number.invariant.count c.loop-number.invariant.each sum grown in
     record { next = sum; count = more.0; each = more.1 }

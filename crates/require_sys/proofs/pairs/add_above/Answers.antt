@@ -1,13 +1,11 @@
-use Rattle.std.proofs.Common.{ℕ, List, map, OnOk, subst, ◌∙◌}
-use Rattle.std.specs.List.{flat_map}
+use Rattle.std.proofs.Common.{List, subst}
 use Rattle.mark_core.specs.declared.system.Pair.{Pair}
-use Rattle.class_pool.specs.declared.id.ClassId.TheVariants.{Prog}
 use Rattle.require_sys.specs.bodies.Counting.{AddsPairs}
 use Rattle.require_sys.specs.bodies.Selecting.{pairs_in}
-use Rattle.require_sys.specs.declared.numbered.Numbered.{Numbered}
 use Rattle.require_sys.proofs.CountedLists.{no_pair}
 use Rattle.require_sys.proofs.Meeting.{chain_there}
 use Rattle.require_sys.proofs.Membering.{none_above}
+use Rattle.require_sys.proofs.Noting.{classes_before}
 use Rattle.require_sys.proofs.pairs.add_above.Goals as goal
 
 pub returns-then-is_empty-clause-pairs : goal.returns-then-is_empty-clause-pairs
@@ -19,14 +17,9 @@ returns-then-is_empty-clause-pairs c =
 
 pub mark_above-requires-clause-classes : goal.mark_above-requires-clause-classes
 mark_above-requires-clause-classes c =
-    chain_there c.args.numbered.now.set.now c.run-run.result c.as_slice.result.now c.run-run.ensures.there
-    (c.as_slice.ensures.value ∙ c.in_ok-chain.ensures)
+    chain_there c.args.numbered.now.set.now c.args.top c.args.chain.now c.requires.top c.requires.chain
 
-pub returns-clause-pairs : goal.returns-clause-pairs
-returns-clause-pairs c =
-    subst (λ (n : Numbered). OnOk c.add_each.result (AddsPairs c.args.pairs.now
-    (flat_map (pairs_in n.set.now c.args.number c.args.top) (map Prog c.args.supers.now)) c.add_each.new.pairs))
-    c.new-receiver.ensures.numbered
-    (subst (λ (t : ℕ). OnOk c.add_each.result (AddsPairs c.args.pairs.now
-    (flat_map (pairs_in c.new-receiver.result.numbered.now.set.now c.args.number t) (map Prog c.args.supers.now))
-    c.add_each.new.pairs)) c.new-receiver.ensures.class c.add_each.ensures)
+pub note_chain-requires-clause-classes : goal.note_chain-requires-clause-classes
+note_chain-requires-clause-classes c =
+    classes_before c.args.numbered.now.set.now _ c.args.chain.now c.requires.methods.count
+    (chain_there c.args.numbered.now.set.now c.args.top c.args.chain.now c.requires.top c.requires.chain)

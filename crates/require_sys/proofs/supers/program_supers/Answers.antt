@@ -8,13 +8,13 @@ use Rattle.require_sys.proofs.SupersLaw.{supers_are, supers_there}
 use Rattle.require_sys.proofs.supers.program_supers.Goals as goal
 
 pub others_met-requires : goal.others_met-requires
-others_met-requires c = chain_there c.args.set.now c.args.number c.as_slice.result.now c.requires
-    (c.as_slice.ensures.value ∙ c.in_ok-chain.ensures)
+others_met-requires c = chain_there c.args.set.now c.args.number c.args.chain.now c.requires.there
+    c.requires.chain
 
 pub returns-clause-are : goal.returns-clause-are
 returns-clause-are c =
-    supers_are c.args.set.now c.args.number c.as_slice.result.now c.dedup.new.self.items c.requires
-    (c.as_slice.ensures.value ∙ c.in_ok-chain.ensures)
+    supers_are c.args.set.now c.args.number c.args.chain.now c.dedup.new.self.items c.requires.there
+    c.requires.chain
     (sorted_once c.in_ok-numbers.numbers.items c.sort_unstable.new.self.items c.dedup.new.self.items
     c.sort_unstable.ensures.permutation c.sort_unstable.ensures.sorted
     (dedup_is nat_eq c.sort_unstable.new.self.items c.dedup.new.self.items c.dedup.ensures.filtered)
@@ -22,8 +22,8 @@ returns-clause-are c =
 
 pub returns-clause-there : goal.returns-clause-there
 returns-clause-there c =
-    supers_there c.args.set.now c.args.number c.as_slice.result.now c.dedup.new.self.items c.requires
-    (c.as_slice.ensures.value ∙ c.in_ok-chain.ensures)
+    supers_there c.args.set.now c.args.number c.args.chain.now c.dedup.new.self.items c.requires.there
+    c.requires.chain
     (sorted_once c.in_ok-numbers.numbers.items c.sort_unstable.new.self.items c.dedup.new.self.items
     c.sort_unstable.ensures.permutation c.sort_unstable.ensures.sorted
     (dedup_is nat_eq c.sort_unstable.new.self.items c.dedup.new.self.items c.dedup.ensures.filtered)

@@ -1,14 +1,10 @@
 use Rattle.std.proofs.Common.{◌-◌, arith, length, refl}
-use Rattle.require_sys.proofs.Looking.{run_put, top_put}
+use Rattle.require_sys.proofs.Looking.{top_put}
 use Rattle.require_sys.proofs.tops.raise.Goals as goal
 
 pub loop-at-preserved : goal.loop-at-preserved
 loop-at-preserved c =
     let there = c.requires.there (length c.args.numbers.now - 1 - c.loop-at.at) 0
     (omega (arith, c.loop-at-test.true)) in
-    record {
-      tops = top_put c.args.set.now c.loop-at.tops.tops.items _ _ c.top_of-top.result c.loop-at.invariant.tops there
-          c.top_of-top.ensures refl;
-      runs = run_put c.args.set.now c.loop-at.tops.runs.items _ _ c.run_of-run.result c.loop-at.invariant.runs there
-          c.run_of-run.ensures refl;
-    }
+    top_put c.args.set.now c.loop-at.tops.items _ _ c.top_of-top.result c.loop-at.invariant there c.top_of-top.ensures
+    refl

@@ -1,22 +1,28 @@
-use Rattle.std.proofs.Common.{sym, ◌∙◌}
-use Rattle.require_sys.proofs.Meeting.{chain_there}
-use Rattle.require_sys.proofs.OpenAbove.{open_selected}
+use Rattle.std.proofs.Common.{◌∙◌, sym, subst, ap}
+use Rattle.class_pool.specs.Found.{IsMember, IsMethod}
+use Rattle.class_pool.specs.Selection.{selected}
+use Rattle.class_pool.specs.declared.id.ClassId.TheVariants.{Prog}
+use Rattle.require_sys.specs.bodies.Alike.{member_at}
+use Rattle.require_sys.proofs.InstanceRows.{instance_method, instance_there, listed_row}
 use Rattle.require_sys.proofs.receiver.Receiver.selected.Goals as goal
 
-pub nearest-requires-clause-chain : goal.nearest-requires-clause-chain
-nearest-requires-clause-chain c =
-    let self = c.args.self.now in
-    chain_there self.numbered.now.set.now self.run self.chain.now self.same.there self.chain_is
+pub select-requires-clause-there : goal.select-requires-clause-there
+select-requires-clause-there c =
+    let set = c.args.self.now.numbered.now.set.now in
+    subst (IsMember set) (sym c.member_of-in-None.ensures)
+    (instance_there set c.args.row.now.class c.args.row.now.index
+    (listed_row set c.args.self.now.table.now c.requires.receiver.rows c.args.above c.args.row.now c.requires.above
+    c.requires.row).instance)
 
-pub returns-then-is_open_above-clause-is : goal.returns-then-is_open_above-clause-is
-returns-then-is_open_above-clause-is c =
-    let self = c.args.self.now in
-    c.nearest.ensures.is
-    ∙ open_selected self.numbered.now.set.now self.run c.args.m.now self.chain.now c.requires.method self.chain_is
-    (c.is_open_above.ensures c.if-is_open_above.true)
-    ∙ sym (self.same.same c.args.m.now c.requires.method)
+pub select-requires-clause-method : goal.select-requires-clause-method
+select-requires-clause-method c =
+    let set = c.args.self.now.numbered.now.set.now in
+    subst (IsMethod set) (sym c.member_of-in-None.ensures)
+    (instance_method set (member_at c.args.row.now)
+    (listed_row set c.args.self.now.table.now c.requires.receiver.rows c.args.above c.args.row.now c.requires.above
+    c.requires.row).instance)
 
-pub returns-else-is_open_above-clause-is : goal.returns-else-is_open_above-clause-is
-returns-else-is_open_above-clause-is c =
+pub returns-in-None-clause-is : goal.returns-in-None-clause-is
+returns-in-None-clause-is c =
     let self = c.args.self.now in
-    c.select.ensures.is ∙ sym (self.same.same c.args.m.now c.requires.method)
+    c.select.ensures.is ∙ ap (selected self.numbered.now.set.now (Prog self.class)) c.member_of-in-None.ensures

@@ -9,9 +9,11 @@ pub invariant_of-self : goal.invariant_of-self
 invariant_of-self c =
     let same : c.in_ok-reference.reference ≡ c.args.r.now = search rules in (
       c.self.invariant.0,
-      row_put c.self.inside.numbered.now.set.now c.self.inside.rows.items c.place_of-place.result c.args.start c.args.from c.args.kind c.args.r.now c.in_ok-reference.reference
+      row_put c.self.inside.numbered.now.set.now c.self.inside.rows.items c.place_of-place.result c.args.start
+          c.args.from c.args.kind c.args.r.now c.in_ok-reference.reference
           c.self.inside.numbers.items c.as_slice.result.now c.in_ok-numbers.numbers c.self.invariant.1
-          (subst (λ (w : Wanted). IsBehind c.args.start w.numbers (numbers w.classes (ref_wants w.classes c.args.from c.args.kind c.args.r.now)))
+          (subst (λ (w : Wanted). IsBehind c.args.start w.numbers
+          (numbers w.classes (ref_wants w.classes c.args.from c.args.kind c.args.r.now)))
           (sym c.self.view_is) c.requires)
           c.as_slice.ensures.value c.in_ok-numbers.ensures same,
     )
@@ -20,9 +22,11 @@ pub invariant_of-self-then-place-len-2 : goal.invariant_of-self-then-place-len-2
 invariant_of-self-then-place-len-2 c =
     let same : c.in_ok-reference.reference ≡ c.args.r.now = search rules in (
       c.self.invariant.0,
-      row_put c.self.inside.numbered.now.set.now c.self.inside.rows.items c.place_of-place.result c.args.start c.args.from c.args.kind c.args.r.now c.in_ok-reference.reference
+      row_put c.self.inside.numbered.now.set.now c.self.inside.rows.items c.place_of-place.result c.args.start
+          c.args.from c.args.kind c.args.r.now c.in_ok-reference.reference
           c.self.inside.numbers.items c.as_slice.result.now c.in_ok-numbers.numbers c.self.invariant.1
-          (subst (λ (w : Wanted). IsBehind c.args.start w.numbers (numbers w.classes (ref_wants w.classes c.args.from c.args.kind c.args.r.now)))
+          (subst (λ (w : Wanted). IsBehind c.args.start w.numbers
+          (numbers w.classes (ref_wants w.classes c.args.from c.args.kind c.args.r.now)))
           (sym c.self.view_is) c.requires)
           c.as_slice.ensures.value c.in_ok-numbers.ensures same,
     )

@@ -1,0 +1,8 @@
+use Rattle.require_sys.proofs.Looking.{own_above}
+use Rattle.require_sys.proofs.pairs.nothing_above.Goals as goal
+
+pub returns : goal.returns
+returns c = record {
+  below = own_above c.args.set.now c.in_ok-below.below.items c.in_ok-below.ensures;
+  notes = c.in_ok-notes.ensures;
+}

@@ -1,0 +1,24 @@
+-- What is known of the classes above one while the classes are gone over (only the proof of system_of needs it).
+use Rattle.std.specs.Prelude.{ℕ, ◌<◌, List, length}
+use Rattle.class_model.specs.declared.class.Class.{Class}
+use Rattle.class_pool.specs.Walk.{superclasses_from}
+use Rattle.class_pool.specs.declared.id.ClassId.TheVariants.{Prog}
+use Rattle.require_sys.specs.bodies.Alike.{AreRows}
+use Rattle.require_sys.specs.bodies.Nearest.{AreNoted, AreUpTo, front_rows}
+use Rattle.require_sys.specs.bodies.Tops.{AreAbove}
+use Rattle.require_sys.specs.declared.pairs.Above.{Above}
+use Rattle.require_sys.specs.declared.receiver.Receiver.{Receiver}
+
+-- each class is one that is given for it or above that, and no note is for a class from this one on
+pub record IsAbove (classes : List Class) (number : ℕ) (above : Above) : Type 0 where
+  pub below : AreAbove classes above.below.items
+  pub notes : AreUpTo number above.notes.items
+
+-- what a receiver has is so, and the nearest methods from its class upwards are noted
+pub record IsReceiver (receiver : Receiver) : Type 0 where
+  pub there : receiver.class < length receiver.numbered.now.set.now
+  pub rows : AreRows receiver.numbered.now.set.now receiver.table.now
+  pub below : AreAbove receiver.numbered.now.set.now receiver.below.now
+  pub noted : AreNoted receiver.stamp
+      (front_rows receiver.table.now (superclasses_from receiver.numbered.now.set.now (Prog receiver.class)))
+      receiver.notes.now

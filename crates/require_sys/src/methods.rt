@@ -1,0 +1,155 @@
+// The instance methods of each class of a set in a table.
+ghost use Rattle.std.specs.Prelude.{◌≡◌, ◌+◌, ◌++◌, ◌<◌, [], IfOk, OnOk, Some, if◌then◌else◌, length, slice_get};
+ghost use Rattle.std.specs.List.{cons_option};
+ghost use Rattle.std.specs.List.Sorted.{IsSorted};
+ghost use Rattle.std.specs.Ordering.{nat_cmp};
+ghost use Rattle.class_pool.specs.Found.{IsMember, IsMethod, is_instance_method};
+ghost use Rattle.class_pool.specs.declared.id.ClassId.TheVariants.{Prog};
+ghost use Rattle.require_sys.specs.bodies.Alike.{AreAlike, AreRows, class_marks, class_rows, number_in, openness, row_of};
+
+use crate::alike::Alike;
+use class_model::Class;
+use class_pool::{ClassId, ClassSet, MemberAt};
+use jv_base::{Items, M};
+use std::alloc::Global;
+
+/// Who may override an instance method by its flags (JVMS 5.4.5).
+#[derive(Clone, Copy)]
+pub(crate) enum Openness {
+    /// No method, since it is private.
+    Private,
+    /// It is one of an interface.
+    Abstract,
+    /// Methods of its package.
+    Package,
+    /// Methods of all packages.
+    Open,
+}
+
+/// An instance method of a class.
+#[derive(Clone, Copy)]
+pub(crate) struct InstanceMethod {
+    /// The number of the class.
+    pub class: u32,
+    /// Its number among the members of the class.
+    pub index: u32,
+    pub openness: Openness,
+    /// Methods with one number, other than 0, have one name and descriptor.
+    pub number: usize,
+}
+
+/// The instance methods of each class.
+#[derive(Drop)]
+pub(crate) struct Methods {
+    pub of_classes: Items<Items<InstanceMethod>>,
+    /// No method has a greater number.
+    pub highest: usize,
+}
+
+pub(crate) fn methods_of(alloc: Global, set: &ClassSet) -> M<Methods>
+    ensures { IfOk result (λ methods. AreRows set.now methods.of_classes) }
+{
+    let alike = Alike::of(alloc, set)?;
+    let of_classes = rows_of(alloc, &alike)?;
+    let highest = alike.highest();
+    Ok(Methods {
+        of_classes,
+        highest,
+    })
+}
+
+fn rows_of(alloc: Global, alike: &Alike) -> M<Items<Items<InstanceMethod>>>
+    requires { AreAlike alike.now.set.now alike.now.marks alike.now.keys.items alike.now.groups.items }
+    ensures { IfOk result (AreRows alike.now.set.now) }
+{
+    let mut rows = Items::new(alloc);
+    for number in 0..alike.set.len() {
+        let class = alike.set.class(number);
+        let marks = alike.marks[number as usize].as_slice();
+        rows.push(class_rows(alloc, alike, number, class, marks)?)?;
+    }
+    Ok(rows)
+}
+
+fn class_rows(
+    alloc: Global,
+    alike: &Alike,
+    number: u32,
+    class: &Class,
+    marks: &[u64],
+) -> M<Items<InstanceMethod>>
+    requires marks { marks.now ≡ class_marks class.now }
+    requires there { slice_get alike.now.set.now number ≡ Some class.now }
+    requires sorted { IsSorted nat_cmp alike.now.keys.items }
+    requires few { length class.now.fields + length class.now.methods < 4294967295 }
+    ensures { IfOk result (λ rows. rows ≡ class_rows alike.now.set.now
+        (number_in alike.now.keys.items alike.now.groups.items) number) }
+{
+    let mut rows = Items::new(alloc);
+    let count = class.fields.len() + class.methods.len();
+    for index in 0..count as u32 {
+        add_row(&mut rows, alike, number, class, marks, index)?;
+    }
+    Ok(rows)
+}
+
+/// The row of a member, if it is an instance method.
+fn add_row(
+    rows: &mut Items<InstanceMethod>,
+    alike: &Alike,
+    number: u32,
+    class: &Class,
+    marks: &[u64],
+    index: u32,
+) -> M<()>
+    requires marks { marks.now ≡ class_marks class.now }
+    requires there { slice_get alike.now.set.now number ≡ Some class.now }
+    requires sorted { IsSorted nat_cmp alike.now.keys.items }
+    requires member { index < length class.now.fields + length class.now.methods }
+    ensures { OnOk result (rows.new ≡ rows.old
+        ++ (if is_instance_method alike.now.set.now (record { class = Prog number; index = index })
+        then cons_option (row_of alike.now.set.now (number_in alike.now.keys.items alike.now.groups.items)
+        (record { class = Prog number; index = index })) [] else [])) }
+{
+    let m = MemberAt {
+        class: ClassId::Prog(number),
+        index,
+    };
+    if alike.set.is_instance_method(m) {
+        rows.push(row_of(alike, number, class, marks, &m))?;
+    }
+    Ok(())
+}
+
+fn row_of(alike: &Alike, number: u32, class: &Class, marks: &[u64], m: &MemberAt) -> InstanceMethod
+    requires marks { marks.now ≡ class_marks class.now }
+    requires there { slice_get alike.now.set.now number ≡ Some class.now }
+    requires class { m.now.class ≡ Prog number }
+    requires member { IsMember alike.now.set.now m.now }
+    requires method { IsMethod alike.now.set.now m.now }
+    requires sorted { IsSorted nat_cmp alike.now.keys.items }
+    ensures { row_of alike.now.set.now (number_in alike.now.keys.items alike.now.groups.items) m.now ≡ Some result }
+{
+    let mark = marks[m.index as usize - class.fields.len()];
+    InstanceMethod {
+        class: number,
+        index: m.index,
+        openness: openness_of(alike.set, m),
+        number: alike.number_of(mark),
+    }
+}
+
+fn openness_of(set: &ClassSet, m: &MemberAt) -> Openness
+    requires { IsMember set.now m.now }
+    ensures { result ≡ openness set.now m.now }
+{
+    if set.is_private_member(*m) {
+        Openness::Private
+    } else if set.is_interface(m.class) {
+        Openness::Abstract
+    } else if set.is_public_member(*m) || set.is_protected_member(*m) {
+        Openness::Open
+    } else {
+        Openness::Package
+    }
+}
