@@ -17,7 +17,7 @@ unfoldable pub act_text : Act → List ℕ
 act_text (act.Drop from to) = codes "drop " ++ (decimal from ++ (codes " " ++ decimal to))
 act_text (act.Fact from to slot value) =
     codes "fact " ++ (decimal from ++ (codes " " ++ (decimal to
-        ++ (codes " " ++ (decimal slot ++ (codes " " ++ signed_decimal value))))))
+    ++ (codes " " ++ (decimal slot ++ (codes " " ++ signed_decimal value))))))
 act_text (act.Fold at to) = codes "fold " ++ (decimal at ++ (codes " " ++ decimal to))
 act_text (act.Cut at) = codes "cut " ++ decimal at
 act_text (act.Aim at which to) =

@@ -110,7 +110,7 @@ added_behind (line.Method class name ty) r = with_method class name ty r
 added_behind (line.Step number) r = in_last r.last (step_begun number) >>= (λ m. Ok (record r { last = m }))
 added_behind (line.Act a) r =
     in_last r.last (λ m. act_added a m.step >>= (λ s. Ok (record m { step = Some s })))
-        >>= (λ m. Ok (record r { last = m }))
+    >>= (λ m. Ok (record r { last = m }))
 
 -- the first line tells the version
 abbrev pub added_first : WitnessLine → WitnessRead → Result WitnessRead WitKind
