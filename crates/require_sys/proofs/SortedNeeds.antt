@@ -1,14 +1,15 @@
 -- Numbers that are sorted and of which each is taken once.
-use Rattle.std.proofs.Common.{◌≡◌, ℕ, zero, suc, ◌<◌, ◌==◌, true, List, [], ◌∷◌, not}
-use Rattle.std.proofs.Common.{Result, Ok, Err, sym, ap, ◌∙◌, arith}
+use Rattle.std.proofs.Common.{◌≡◌, ℕ, zero, suc, ◌+◌, ◌<◌, ◌==◌, Bool, true, false, cond, List, [], ◌∷◌, not}
+use Rattle.std.proofs.Common.{Result, Ok, Err, get_or, refl, sym, ap, subst, ◌∙◌, arith}
 use Rattle.std.specs.Prelude.{IfOk, nat_eq}
 use Rattle.std.specs.List.Retain.{DiffersFromLast, IsFiltered}
 use Rattle.std.proofs.lemmas.List.Filters.{dedup_is}
 use Rattle.std.specs.List.{AllPairs, Contains, dedup, filter}
 use Rattle.std.specs.List.Sorted.{IsPermutation, IsSorted}
-use Rattle.std.specs.Ordering.{nat_cmp}
+use Rattle.std.specs.Ordering.{is_lt, nat_cmp}
+use Rattle.std.specs.declared.cmp.Ordering.TheVariants.{Equal, Greater, Less}
 use Rattle.std.proofs.Math.Dec.{eqb}
-use Rattle.std.proofs.lemmas.Bool.{eqb-true}
+use Rattle.std.proofs.lemmas.Bool.{eqb-true, le-ltb}
 use Rattle.std.proofs.lemmas.Cmp.{nat_eq_equiv}
 use Rattle.std.proofs.lemmas.List.Kept.{AllPairs-from_increasing, Contains-dedup_nat, Contains-from_dedup}
 use Rattle.std.proofs.lemmas.List.Sorted.{Contains-permutation, IsPermutation-sym}
@@ -46,6 +47,22 @@ sorted_once wants sorted once perm sort is =
     (Contains-from_dedup eqb sorted x (stands x (dedup eqb sorted) h))))
     (λ h. found x (dedup eqb sorted) (Contains-dedup_nat sorted x
     (Contains-permutation wants sorted x perm (stands x wants h)))) ∙ sym (has_ascending x wants))
+
+tied_or_greater : (b : Bool) → is_lt (cond b Equal Greater) ≡ false
+tied_or_greater true = refl
+tied_or_greater false = refl
+
+-- numbers that are sorted stay so where each is taken once
+pub once_sorted : (sorted once : List ℕ) → IsSorted nat_cmp sorted → IsFiltered (DiffersFromLast nat_eq) [] sorted once
+    → IsSorted nat_cmp once
+once_sorted sorted once sort filtered =
+    subst (IsSorted nat_cmp) (sym (dedup_is nat_eq sorted once filtered))
+    (λ k d low within.
+    let less = AllPairs-from_increasing (dedup eqb sorted) (IsStrictlyIncreasing-dedup sorted sort) k (k + 1) d
+    (omega arith) within in
+    ap (λ b. is_lt (cond b Less (cond (get_or (dedup eqb sorted) (k + 1) d == get_or (dedup eqb sorted) k d) Equal
+    Greater))) (le-ltb (get_or (dedup eqb sorted) (k + 1) d) (get_or (dedup eqb sorted) k d) (omega (arith, less)))
+    ∙ tied_or_greater (get_or (dedup eqb sorted) (k + 1) d == get_or (dedup eqb sorted) k d))
 
 -- what is gathered of what an item wants gives what it needs
 pub gathered : (classes : List Class) (own : ℕ) (w : Wanted) (wants : List Item)

@@ -38,9 +38,9 @@ pub(crate) struct Alike<'a> {
     pub set: &'a ClassSet,
     /// For each class the marks of its methods.
     pub marks: Items<Items<u64>>,
-    /// The marks of all methods, ascending.
+    /// The marks of all methods, ascending, each once.
     keys: Vec<u64>,
-    /// At the first place of a mark what is known of its methods.
+    /// At the place of each mark what is known of its methods.
     groups: Vec<Group<'a>>,
 }
 
@@ -100,7 +100,7 @@ fn class_marks(alloc: Global, class: &Class) -> M<Items<u64>>
     Ok(marks)
 }
 
-/// All marks, ascending.
+/// All marks, ascending, each once.
 fn keys_of(alloc: Global, marks: &[Items<u64>]) -> M<Vec<u64>>
     ensures { IfOk result (λ keys. IsSorted nat_cmp keys.items) }
 {
@@ -109,6 +109,7 @@ fn keys_of(alloc: Global, marks: &[Items<u64>]) -> M<Vec<u64>>
         keys.extend_from_slice(list.as_slice())?;
     }
     keys.sort_unstable();
+    keys.dedup();
     Ok(keys)
 }
 
