@@ -264,8 +264,9 @@ module _ (classes : List Class) (marks : List (List ℕ)) (keys : List ℕ) (gro
   }
 
 -- the table has the rows of each class
-pub rows_made : (classes : List Class) (marks : List (List ℕ)) (keys : List ℕ) (groups : List Group) (rows : List (List InstanceMethod))
-    (count : ℕ) → AreAlike classes marks keys groups → length rows ≡ count → length classes ≤ count → count ≤ length classes
+pub rows_made : (classes : List Class) (marks : List (List ℕ)) (keys : List ℕ) (groups : List Group)
+    (rows : List (List InstanceMethod)) (count : ℕ) → AreAlike classes marks keys groups → length rows ≡ count
+    → length classes ≤ count → count ≤ length classes
     → ((n : ℕ) → n < count → get_or rows n [] ≡ class_rows classes (number_in keys groups) n) → AreRows classes rows
 rows_made classes marks keys groups rows count are long low high each = record {
   number = number_in keys groups;

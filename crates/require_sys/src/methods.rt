@@ -5,7 +5,8 @@ ghost use Rattle.std.specs.List.Sorted.{IsSorted};
 ghost use Rattle.std.specs.Ordering.{nat_cmp};
 ghost use Rattle.class_pool.specs.Found.{IsMember, IsMethod, is_instance_method};
 ghost use Rattle.class_pool.specs.declared.id.ClassId.TheVariants.{Prog};
-ghost use Rattle.require_sys.specs.bodies.Alike.{AreAlike, AreRows, class_marks, class_rows, number_in, openness, row_of};
+ghost use Rattle.require_sys.specs.bodies.Alike.{AreAlike, AreRows, class_marks, class_rows, number_in, openness};
+ghost use Rattle.require_sys.specs.bodies.Alike.{row_of};
 
 use crate::alike::Alike;
 use class_model::Class;
