@@ -24,7 +24,7 @@ use Rattle.class_pool.proofs.Climbing.{upwards_none, upwards_step}
 use Rattle.require_sys.specs.Requires.{is_program, library_supers}
 use Rattle.require_sys.specs.bodies.Supers.{is_library, is_new, other_number, own_once}
 use Rattle.require_sys.specs.bodies.Wanting.{has}
-use Rattle.require_sys.proofs.Parts.{from_all, no_and}
+use Rattle.require_sys.proofs.Parts.{from_all}
 use Rattle.require_sys.proofs.Steps.{more_of}
 
 -- ---- a walk upwards

@@ -36,7 +36,6 @@ use Rattle.require_sys.specs.bodies.Selecting.{called_item, pair_with, pairs_in}
 use Rattle.require_sys.specs.bodies.Supers.{is_library}
 use Rattle.require_sys.specs.bodies.Tops.{HasNoMethod, IsBlank, IsTop}
 use Rattle.require_sys.proofs.Meeting.{library_once}
-use Rattle.require_sys.proofs.Parts.{no_and}
 use Rattle.require_sys.proofs.SupersLaw.{flat_filtered, flat_of}
 
 -- ---- lists

@@ -1,6 +1,6 @@
 use Rattle.std.proofs.Common.{◌≡◌, ◌∙◌, ◌<◌, List, ℕ, length, get_or, sym, ap, arith, ◌++◌, ◌∷◌, [], rules}
 use Rattle.std.proofs.lemmas.Option.{get_or_from_slice_get}
-use Rattle.class_pool.proofs.LikeMethods.{map_more}
+use Rattle.jv_base.proofs.Lists.{mapped_more}
 use Rattle.require_sys.specs.bodies.Alike.{class_marks}
 use Rattle.require_sys.proofs.alike.marks_of.Goals as goal
 
@@ -14,4 +14,4 @@ loop-number-preserved c =
     let put : c.push.new.self ≡ c.loop-number.marks ++ c.in_ok-class_marks.field-0 ∷ [] = search rules in
     put ∙ ap (λ (t : List ℕ). c.loop-number.marks ++ t ∷ []) c.in_ok-class_marks.ensures
     ∙ ap (λ (ts : List (List ℕ)). ts ++ class_marks x ∷ []) c.loop-number.invariant
-    ∙ map_more class_marks c.args.set.now c.loop-number.number x within at
+    ∙ mapped_more class_marks c.args.set.now c.loop-number.number x within at
