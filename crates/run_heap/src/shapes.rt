@@ -2,6 +2,7 @@
 use crate::{Key, Target};
 use class_model::{Code, MemberRef};
 use jv_base::{Items, M, Name};
+use run_steps::Descriptors;
 use run_values::Value;
 use std::alloc::Global;
 
@@ -36,7 +37,7 @@ impl<'a> Found<'a> {
 }
 
 /// A program as the machine sees it. A name that means nothing in it gives nothing.
-pub trait Shapes {
+pub trait Shapes: Descriptors {
     ghost use Rattle.std.specs.Option.{option_map};
     ghost use Rattle.std.specs.Prelude.{◌≡◌, IfOk, Option, option_copied};
     ghost use Rattle.class_model.specs.declared.code.Code.{Code};

@@ -3,15 +3,19 @@ ghost use Rattle.std.specs.Prelude.{◌≡◌, IfOk, IfSome, option_copied};
 ghost use Rattle.std.specs.Option.{option_and_then, option_map};
 ghost use Rattle.class_pool.specs.Hierarchy.{IsClass, class_named};
 ghost use Rattle.run_heap.specs.Targets.{IsTarget, key_found};
-ghost use Rattle.set_program.specs.bodies.Links.{AreLinks};
+ghost use Rattle.jvm_model.specs.Types.{argument_kinds};
+ghost use Rattle.run_steps.specs.Arguments.{kinds_told, operand_kinds};
+ghost use Rattle.set_program.specs.bodies.Links.{AreLinks, IsKindsRow};
+ghost use Rattle.set_program.specs.bodies.Rows.{AllHold};
 ghost use Rattle.set_view.specs.ViewOf.{code_at, member_of, shape_of};
 
-use crate::links::{Links, call_row, class_row, code_row, field_row, static_row};
+use crate::links::{Links, call_row, class_row, code_row, field_row, kinds_row, static_row};
 use crate::{calls, fields, members};
-use class_model::{Code, MemberRef};
+use class_model::{Code, Kind, MemberRef};
 use class_pool::{ClassId, ClassSet};
-use jv_base::{M, Name};
+use jv_base::{Items, M, Name, Text};
 use run_heap::{Found, Key, Target};
+use run_steps::Kinds;
 use std::alloc::Global;
 
 /// The class of a name.
@@ -127,5 +131,46 @@ pub(crate) fn code<'a>(set: &'a ClassSet, links: &Links, key: &Key) -> Option<&'
     match code_row(links.codes.as_slice(), key) {
         Some(row) => members::code_at(set, &row.member),
         None => members::code(set, key),
+    }
+}
+
+/// The computational types of the operands that a descriptor tells.
+pub(crate) fn operand_kinds<'a>(
+    alloc: Global,
+    links: &'a Links,
+    has_receiver: bool,
+    descriptor: &Text,
+) -> M<Option<Kinds<'a>>>
+    requires { AllHold IsKindsRow links.now.kinds.items }
+    ensures { IfOk result (λ kinds. option_map kinds_told kinds
+        ≡ operand_kinds has_receiver (argument_kinds descriptor.now)) }
+{
+    match kinds_row(links.kinds.as_slice(), descriptor) {
+        Some(row) => {
+            if has_receiver {
+                Ok(kept_kinds(&row.operands))
+            } else {
+                Ok(kept_kinds(&row.arguments))
+            }
+        }
+        None => Ok(made_kinds(run_steps::operand_kinds(alloc, has_receiver, descriptor)?)),
+    }
+}
+
+fn kept_kinds(kinds: &Option<Items<Kind>>) -> Option<Kinds<'_>>
+    ensures { option_map kinds_told result ≡ kinds.now }
+{
+    match kinds {
+        Some(kinds) => Some(Kinds::Kept(kinds.as_slice())),
+        None => None,
+    }
+}
+
+fn made_kinds<'a>(kinds: Option<Items<Kind>>) -> Option<Kinds<'a>>
+    ensures { option_map kinds_told result ≡ kinds }
+{
+    match kinds {
+        Some(kinds) => Some(Kinds::Made(kinds)),
+        None => None,
     }
 }

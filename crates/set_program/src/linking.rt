@@ -1,12 +1,12 @@
 // What the names and references of a set mean is found out, once for each.
 ghost use Rattle.std.specs.Prelude.{◌≡◌, IfOk, IfSome, OnOk};
 ghost use Rattle.set_program.specs.bodies.Links.{AreLinks, IsClassRow, IsCodeRow, IsFieldRow, IsSpecialRow};
-ghost use Rattle.set_program.specs.bodies.Links.{IsStaticRow};
+ghost use Rattle.set_program.specs.bodies.Links.{IsKindsRow, IsStaticRow};
 
 use crate::counts::counts_of;
 use crate::links::{
-    CallRow, ClassRow, CodeRow, FieldRow, Links, StaticRow, call_row, field_row, no_links,
-    static_row,
+    CallRow, ClassRow, CodeRow, FieldRow, KindsRow, Links, StaticRow, call_row, field_row,
+    kinds_row, no_links, static_row,
 };
 use crate::marks::{call_mark, key_mark, reference_mark, text_mark};
 use crate::members::member_of;
@@ -15,8 +15,9 @@ use crate::rows::{place_of, put_row};
 use crate::{calls, fields};
 use class_model::{Class, Code, MemberRef, Method, Op};
 use class_pool::ClassSet;
-use jv_base::{M, Name, Shared, method_text};
+use jv_base::{M, Name, Shared, Text, method_text};
 use run_heap::Key;
+use run_steps::operand_kinds;
 use std::alloc::Global;
 
 /// What the names and references of a set mean.
@@ -130,8 +131,16 @@ fn link_op(alloc: Global, links: &mut Links, set: &ClassSet, from: &Name, op: &O
         Op::PutStatic(r) => link_field(alloc, links, set, r),
         Op::GetField(r) => link_field(alloc, links, set, r),
         Op::PutField(r) => link_field(alloc, links, set, r),
-        Op::InvokeStatic(r) => link_static(alloc, links, set, r),
-        Op::InvokeSpecial(r) => link_special(alloc, links, set, from, r),
+        Op::InvokeStatic(r) => {
+            link_kinds(alloc, links, set, &r.ty)?;
+            link_static(alloc, links, set, r)
+        }
+        Op::InvokeSpecial(r) => {
+            link_kinds(alloc, links, set, &r.ty)?;
+            link_special(alloc, links, set, from, r)
+        }
+        Op::InvokeVirtual(r) => link_kinds(alloc, links, set, &r.ty),
+        Op::InvokeInterface(r) => link_kinds(alloc, links, set, &r.ty),
         _ => Ok(()),
     }
 }
@@ -232,4 +241,38 @@ fn keep_special(links: &mut Links, set: &ClassSet, row: CallRow)
 {
     let place = place_of(call_mark(&row.class, &row.reference), links.specials.len());
     put_row(&mut links.specials, place, row);
+}
+
+fn link_kinds(alloc: Global, links: &mut Links, set: &ClassSet, descriptor: &Text) -> M<()>
+    requires { AreLinks set.now links.old }
+    ensures { OnOk result (AreLinks set.now links.new) }
+{
+    if kinds_row(links.kinds.as_slice(), descriptor).is_some() {
+        return Ok(());
+    }
+    let row = kinds_row_of(alloc, descriptor)?;
+    keep_kinds(links, set, row);
+    Ok(())
+}
+
+fn kinds_row_of(alloc: Global, descriptor: &Text) -> M<KindsRow>
+    ensures { IfOk result IsKindsRow }
+{
+    let arguments = operand_kinds(alloc, false, descriptor)?;
+    let operands = operand_kinds(alloc, true, descriptor)?;
+    let descriptor = descriptor.clone()?;
+    Ok(KindsRow {
+        descriptor,
+        arguments,
+        operands,
+    })
+}
+
+fn keep_kinds(links: &mut Links, set: &ClassSet, row: KindsRow)
+    requires row { IsKindsRow row }
+    requires links { AreLinks set.now links.old }
+    ensures { AreLinks set.now links.new }
+{
+    let place = place_of(text_mark(&row.descriptor), links.kinds.len());
+    put_row(&mut links.kinds, place, row);
 }

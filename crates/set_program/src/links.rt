@@ -1,14 +1,15 @@
 // What names and references mean, kept for those of a set.
 ghost use Rattle.std.specs.Prelude.{◌≡◌, ℕ, IfOk, IfSome, IsTrue, List, Some, slice_get};
 ghost use Rattle.class_model.specs.declared.class.Class.{Class};
-ghost use Rattle.set_program.specs.bodies.Links.{AreLinks, IsCallFor, IsClassFor, IsCodeFor, IsFieldFor, IsStaticFor};
+ghost use Rattle.set_program.specs.bodies.Links.{AreLinks, IsCallFor, IsClassFor, IsCodeFor, IsFieldFor, IsKindsFor};
+ghost use Rattle.set_program.specs.bodies.Links.{IsStaticFor};
 
 use crate::counts::Counts;
 use crate::marks::{call_mark, key_mark, reference_mark, text_mark};
 use crate::rows::{NEAR, no_rows, place_of, row_at};
-use class_model::MemberRef;
+use class_model::{Kind, MemberRef};
 use class_pool::{ClassId, MemberAt};
-use jv_base::{M, Name, Shared};
+use jv_base::{Items, M, Name, Shared, Text};
 use run_heap::{Key, Target};
 use std::alloc::Global;
 
@@ -41,6 +42,14 @@ pub(crate) struct CallRow {
     pub target: Option<Target>,
 }
 
+/// The computational types of the arguments that a descriptor tells, and the same behind that of a receiver.
+#[derive(Drop)]
+pub(crate) struct KindsRow {
+    pub descriptor: Text,
+    pub arguments: Option<Items<Kind>>,
+    pub operands: Option<Items<Kind>>,
+}
+
 /// Where a method stands.
 #[derive(Drop)]
 pub(crate) struct CodeRow {
@@ -59,6 +68,7 @@ pub(crate) struct Links {
     /// What invokevirtual and invokeinterface run on an object of a class.
     pub selections: Vec<Option<CallRow>>,
     pub codes: Vec<Option<CodeRow>>,
+    pub kinds: Vec<Option<KindsRow>>,
 }
 
 /// Places for what is counted, with no row at any.
@@ -71,6 +81,7 @@ pub(crate) fn no_links(alloc: Global, names: usize, counts: Counts) -> M<Links>
     let specials = no_rows(alloc, counts.specials)?;
     let selections = no_rows(alloc, counts.selections)?;
     let codes = no_rows(alloc, counts.methods)?;
+    let kinds = no_rows(alloc, counts.calls)?;
     Ok(Links {
         classes,
         fields,
@@ -78,6 +89,7 @@ pub(crate) fn no_links(alloc: Global, names: usize, counts: Counts) -> M<Links>
         specials,
         selections,
         codes,
+        kinds,
     })
 }
 
@@ -154,6 +166,21 @@ pub(crate) fn code_row<'a>(rows: &'a [Option<CodeRow>], key: &Key) -> Option<&'a
     for step in 0..NEAR {
         let row = row_at(rows, first.saturating_add(step))?;
         if key.is_same(&row.key) {
+            return Some(row);
+        }
+    }
+    None
+}
+
+/// The row of a descriptor, if it is kept.
+pub(crate) fn kinds_row<'a>(rows: &'a [Option<KindsRow>], descriptor: &Text) -> Option<&'a KindsRow>
+    ensures at { IfSome result (λ row. (place : ℕ) × slice_get rows.now place ≡ Some (Some row.now)) }
+    ensures is { IfSome result (λ row. IsKindsFor descriptor.now row.now) }
+{
+    let first = place_of(text_mark(descriptor), rows.len());
+    for step in 0..NEAR {
+        let row = row_at(rows, first.saturating_add(step))?;
+        if row.descriptor == *descriptor {
             return Some(row);
         }
     }

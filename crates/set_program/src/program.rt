@@ -8,6 +8,7 @@ use class_model::{Code, MemberRef};
 use class_pool::ClassSet;
 use jv_base::{Items, M, Name, Text};
 use run_heap::{Found, Key, Known, Shapes, Target};
+use run_steps::{Descriptors, Kinds};
 use run_values::Value;
 use std::alloc::Global;
 use std::marker::Model;
@@ -76,6 +77,17 @@ impl<'a> SetProgram<'a> {
             clinit,
             no_parameters,
         })
+    }
+}
+
+impl<'a> Descriptors for SetProgram<'a> {
+    fn operand_kinds(
+        &self,
+        alloc: Global,
+        has_receiver: bool,
+        descriptor: &Text,
+    ) -> M<Option<Kinds<'_>>> {
+        kept::operand_kinds(alloc, &self.links, has_receiver, descriptor)
     }
 }
 

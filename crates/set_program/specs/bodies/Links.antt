@@ -4,6 +4,8 @@ use Rattle.class_model.specs.declared.class.Class.{Class}
 use Rattle.class_model.specs.declared.op.MemberRef.{MemberRef}
 use Rattle.class_pool.specs.Found.{IsMember}
 use Rattle.class_pool.specs.Hierarchy.{IsClass, class_named}
+use Rattle.jvm_model.specs.Instructions.{with_receiver}
+use Rattle.jvm_model.specs.Types.{argument_kinds}
 use Rattle.jvm_model.specs.Value.{Key}
 use Rattle.run_heap.specs.Targets.{IsTarget}
 use Rattle.set_program.specs.bodies.Rows.{AllHold}
@@ -11,6 +13,7 @@ use Rattle.set_program.specs.declared.links.CallRow.{CallRow}
 use Rattle.set_program.specs.declared.links.ClassRow.{ClassRow}
 use Rattle.set_program.specs.declared.links.CodeRow.{CodeRow}
 use Rattle.set_program.specs.declared.links.FieldRow.{FieldRow}
+use Rattle.set_program.specs.declared.links.KindsRow.{KindsRow}
 use Rattle.set_program.specs.declared.links.Links.{Links}
 use Rattle.set_program.specs.declared.links.StaticRow.{StaticRow}
 use Rattle.set_view.specs.ViewOf.{member_of, shape_of}
@@ -30,6 +33,15 @@ IsStaticFor r row = row.reference ≡ r
 -- that of a class and a reference
 abbrev pub IsCallFor : List ℕ → MemberRef → CallRow → Type 0
 IsCallFor class r row = (row.reference ≡ r) × (row.class ≡ class)
+
+-- that of a descriptor
+abbrev pub IsKindsFor : List ℕ → KindsRow → Type 0
+IsKindsFor descriptor row = row.descriptor ≡ descriptor
+
+-- the descriptor tells these
+abbrev pub IsKindsRow : KindsRow → Type 0
+IsKindsRow row = (row.arguments ≡ argument_kinds row.descriptor)
+    × (row.operands ≡ with_receiver (argument_kinds row.descriptor))
 
 -- that of a method
 abbrev pub IsCodeFor : Key → CodeRow → Type 0
@@ -66,3 +78,4 @@ module _ (classes : List Class) where
       AllHold IsClassRow links.classes.items × AllHold IsFieldRow links.fields.items
       × AllHold IsStaticRow links.statics.items × AllHold IsSpecialRow links.specials.items
       × AllHold IsSelectedRow links.selections.items × AllHold IsCodeRow links.codes.items
+      × AllHold IsKindsRow links.kinds.items
