@@ -1,7 +1,6 @@
 -- What is told of a value that was returned, by its readers.
-use Rattle.std.proofs.Common.{◌≡◌, ℕ, ℤ, List, Option, Some, None, refl, ap}
+use Rattle.std.proofs.Common.{◌≡◌, ℕ, ℤ, List, Some, None, refl, ap}
 use Rattle.class_run.specs.Ended.{back_of}
-use Rattle.class_run.specs.declared.ended.Back.{Back}
 use Rattle.class_run.specs.declared.ended.Back.TheVariants as back
 use Rattle.jvm_model.specs.Value.{Int, Lit, Long, Null, Ref, Value, as_int, as_long}
 use Rattle.run_values.specs.References.{number_of, text_of}

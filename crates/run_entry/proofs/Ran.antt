@@ -1,5 +1,5 @@
 -- What a run of a set has come to, by what its parts say.
-use Rattle.std.proofs.Common.{◌≡◌, ◌∙◌, ℕ, List, map, Result, Ok, Err, IfOk, sym, ap}
+use Rattle.std.proofs.Common.{◌≡◌, ◌∙◌, ℕ, List, Result, Ok, Err, IfOk, sym, ap}
 use Rattle.class_model.specs.declared.class.Class.{Class}
 use Rattle.class_run.specs.Ended.{end_of, ended_after, ended_of}
 use Rattle.class_run.specs.Started.{started}

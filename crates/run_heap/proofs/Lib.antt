@@ -9,3 +9,4 @@ pub mod Receiving
 pub mod Changing
 pub mod Due
 pub mod Nesting
+pub mod Keeping

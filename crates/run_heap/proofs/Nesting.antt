@@ -1,5 +1,5 @@
 -- Arrays of several dimensions, level by level.
-use Rattle.std.proofs.Common.{◌≡◌, ◌∙◌, ◌+◌, ◌*◌, ◌++◌, ℕ, true, false, List, [], ◌∷◌, append_assoc, ap, length, map, refl}
+use Rattle.std.proofs.Common.{◌≡◌, ◌∙◌, ◌+◌, ◌*◌, ◌++◌, ℕ, true, false, List, [], ◌∷◌, append_assoc, ap, length, map}
 use Rattle.std.proofs.Common.{arith, replicate, sym, ◌<◌, suc, zero, ℤ, pos, drop, get_or}
 use Rattle.std.proofs.lemmas.List.{append-nil, drop_more, length-append, length-map, map-append}
 use Rattle.std.proofs.lemmas.List.FromFn.{length-map-range_with_len, map-range_with_len_more}

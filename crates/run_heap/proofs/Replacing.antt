@@ -1,5 +1,5 @@
 -- Another value of a field.
-use Rattle.std.proofs.Common.{◌≡◌, ℕ, ◌+◌, ◌<◌, Bool, true, false, List, [], ◌∷◌, ◌++◌}
+use Rattle.std.proofs.Common.{◌≡◌, ℕ, zero, suc, arith, ◌+◌, ◌<◌, Bool, true, false, List, [], ◌∷◌, ◌++◌}
 use Rattle.std.proofs.Common.{length, take, drop, get_or, refl, sym, ap, ◌∙◌, append_assoc, add-one, Some, None}
 use Rattle.std.specs.Bool.{Decides}
 use Rattle.std.specs.Prelude.{slice_set, if◌then◌else◌}
@@ -32,12 +32,12 @@ missed false false v x y both = refl
 
 at_front : (hs : List Held) (h : Held) (key k : Key) (v : Value) (b : Bool) → same_key key h.key ≡ b
     → held (replaced key v hs) k ≡ set_key (held hs) key v k
-    → held (if b then record { key = key; value = v } ∷ hs else h ∷ replaced key v hs) k
+    → held (if b then record h { value = v } ∷ hs else h ∷ replaced key v hs) k
     ≡ set_key (held (h ∷ hs)) key v k
 at_front hs h key k v true e more =
     let same : key ≡ h.key = (key_Decides key h.key).0 e in
-    hit (same_key k key) v (held hs k) h.value
-    ∙ ap (λ (c : Key). if same_key k key then v else (if same_key k c then h.value else held hs k)) same
+    hit (same_key k h.key) v (held hs k) h.value
+    ∙ ap (λ (c : Key). if same_key k c then v else (if same_key k h.key then h.value else held hs k)) (sym same)
 at_front hs h key k v false e more =
     ap (λ (x : Value). if same_key k h.key then h.value else x) more
     ∙ missed (same_key k h.key) (same_key k key) v (held hs k) h.value
@@ -63,7 +63,7 @@ pub passed : (hs : List Held) (key : Key) (n : ℕ) (h : Held) (v : Value) → n
 passed hs key n h v lt e other =
     ap (λ (s : List Held). take n hs ++ replaced key v s) (opened hs n h lt e)
     ∙ ap (λ (b : Bool). take n hs
-    ++ (if b then record { key = key; value = v } ∷ drop (n + 1) hs else h ∷ replaced key v (drop (n + 1) hs))) other
+    ++ (if b then record h { value = v } ∷ drop (n + 1) hs else h ∷ replaced key v (drop (n + 1) hs))) other
     ∙ sym (append_assoc (take n hs) (h ∷ []) (replaced key v (drop (n + 1) hs)))
     ∙ ap (λ (s : List Held). s ++ replaced key v (drop (n + 1) hs))
     (ap (λ (x : Held). take n hs ++ x ∷ []) e ∙ sym (take_more hs n h lt))
@@ -71,13 +71,13 @@ passed hs key n h v lt e other =
 -- this is the field
 pub reached : (hs : List Held) (key : Key) (n : ℕ) (h : Held) (v : Value) → n < length hs → h ≡ get_or hs n h
     → same_key key h.key ≡ true
-    → take n hs ++ replaced key v (drop n hs) ≡ slice_set hs n (record { key = key; value = v })
+    → take n hs ++ replaced key v (drop n hs) ≡ slice_set hs n (record h { value = v })
 reached hs key n h v lt e same =
     ap (λ (s : List Held). take n hs ++ replaced key v s) (opened hs n h lt e)
     ∙ ap (λ (b : Bool). take n hs
-    ++ (if b then record { key = key; value = v } ∷ drop (n + 1) hs else h ∷ replaced key v (drop (n + 1) hs))) same
-    ∙ ap (λ (k : ℕ). take n hs ++ record { key = key; value = v } ∷ drop k hs) (add-one n)
-    ∙ sym (set_split hs n (record { key = key; value = v }) lt)
+    ++ (if b then record h { value = v } ∷ drop (n + 1) hs else h ∷ replaced key v (drop (n + 1) hs))) same
+    ∙ ap (λ (k : ℕ). take n hs ++ record h { value = v } ∷ drop k hs) (add-one n)
+    ∙ sym (set_split hs n (record h { value = v }) lt)
 
 -- a field that was set has its value
 pub found_held : (hs : List Held) (key : Key) (v : Value) → found_in key hs ≡ Some v → held hs key ≡ v
@@ -100,3 +100,9 @@ missing_held (h ∷ hs) key e = by (same_key key h.key) e (missing_held hs key)
         → (if b then h.value else held hs key) ≡ blank key
     by true f more = absurd cc
     by false f more = more f
+
+-- an item of a list has one value
+pub one_item : (hs : List Held) (n : ℕ) (g h : Held) → n < length hs → g ≡ get_or hs n g → h ≡ get_or hs n h → g ≡ h
+one_item [] n g h lt e f = grind arith
+one_item (x ∷ hs) zero g h lt e f = e ∙ sym f
+one_item (x ∷ hs) (suc n) g h lt e f = one_item hs n g h (omega (arith, lt)) e f

@@ -13,9 +13,9 @@ ghost use Rattle.run_heap.specs.Worlds.{object_of};
 use crate::acting::library;
 use crate::objects::object_at;
 use crate::pointed::{Pointed, refers_to};
-use crate::{Answer, Object, Shapes, Target, World};
+use crate::{Answer, Known, Object, Shapes, Target, World};
 use class_model::MemberRef;
-use jv_base::{Items, M, Name, Text};
+use jv_base::{Items, M, Name};
 use run_library::Exception;
 use run_values::Value;
 use std::alloc::Global;
@@ -109,7 +109,6 @@ fn special_choice<S: Shapes>(
 }
 
 fn selected_choice<S: Shapes>(
-    alloc: Global,
     shapes: &S,
     world: &World,
     method: &MemberRef,
@@ -119,38 +118,29 @@ fn selected_choice<S: Shapes>(
 {
     match first_receiver(world, operands) {
         Receiver::Null => Ok(Choice::Null),
-        Receiver::Object(object) => Ok(runs(target_on(alloc, shapes, object, method)?)),
-        Receiver::Text => Ok(runs(target_on_text(alloc, shapes, method)?)),
+        Receiver::Object(object) => Ok(runs(target_on(shapes, object, method)?)),
+        Receiver::Text => Ok(runs(target_on_text(shapes, method)?)),
         Receiver::Missing => Ok(Choice::Nothing),
     }
 }
 
 /// What runs on an object.
-fn target_on<S: Shapes>(
-    alloc: Global,
-    shapes: &S,
-    object: &Object,
-    method: &MemberRef,
-) -> M<Option<Target>>
+fn target_on<S: Shapes>(shapes: &S, object: &Object, method: &MemberRef) -> M<Option<Target>>
     ensures { IfOk result (λ t. IsTarget t (target_on (S.shape shapes.now) method.now (object_of object.now))) }
 {
     match object {
         Object::Instance(instance) => shapes.selected_target(&instance.class, method),
         Object::Array { .. } => shapes.array_target(method),
-        Object::Text(_) => target_on_text(alloc, shapes, method),
-        Object::Builder(_) => {
-            let class = Text::from_str(alloc, "java/lang/StringBuilder")?;
-            shapes.selected_target(&class, method)
-        }
+        Object::Text(_) => target_on_text(shapes, method),
+        Object::Builder(_) => shapes.selected_target(shapes.name_of(Known::StringBuilder), method),
     }
 }
 
 /// What runs on a string.
-fn target_on_text<S: Shapes>(alloc: Global, shapes: &S, method: &MemberRef) -> M<Option<Target>>
+fn target_on_text<S: Shapes>(shapes: &S, method: &MemberRef) -> M<Option<Target>>
     ensures { IfOk result (λ t. IsTarget t ((S.shape shapes.now).selected_target string method.now)) }
 {
-    let class = Text::from_str(alloc, "java/lang/String")?;
-    shapes.selected_target(&class, method)
+    shapes.selected_target(shapes.name_of(Known::String), method)
 }
 
 fn chosen(alloc: Global, world: &mut World, operands: Items<Value>, choice: Choice) -> M<Answer>
@@ -192,6 +182,6 @@ pub fn call_selected<S: Shapes>(
     ensures { IfOk result (λ a. Changes a world.old world.new
         (λ w. call_selected (S.shape shapes.now) w method.now operands)) }
 {
-    let choice = selected_choice(alloc, shapes, world, method, operands.as_slice())?;
+    let choice = selected_choice(shapes, world, method, operands.as_slice())?;
     chosen(alloc, world, operands, choice)
 }

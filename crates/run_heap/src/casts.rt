@@ -7,7 +7,7 @@ ghost use Rattle.run_heap.specs.bodies.Kinships.{IsKin};
 use crate::objects::object_at;
 use crate::pointed::{Pointed, refers_to};
 use crate::subtypes::{is_class_below, is_of_type};
-use crate::{Answer, Shapes, World};
+use crate::{Answer, Known, Shapes, World};
 use jv_base::{FieldType, M};
 use run_library::Exception;
 use run_values::Value;
@@ -59,7 +59,7 @@ pub(crate) fn is_kin<S: Shapes>(
         },
         Pointed::Other => {
             if value.is_reference() {
-                Some(is_class_below(shapes, "java/lang/String", ty))
+                Some(is_class_below(shapes, shapes.name_of(Known::String), ty))
             } else {
                 None
             }

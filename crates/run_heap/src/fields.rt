@@ -93,18 +93,20 @@ pub fn default_of(alloc: Global, key: &Key) -> M<Value>
 fn set_in(fields: &mut Vec<Held>, key: &Key, value: Value) -> M<()>
     ensures { OnOk result (held fields.new.items ≡ set_key (held fields.old.items) key.now value) }
 {
-    let key = key.clone()?;
-    put(fields, Held { key, value })
-}
-
-fn put(fields: &mut Vec<Held>, field: Held) -> M<()>
-    ensures { OnOk result (held fields.new.items ≡ set_key (held fields.old.items) field.key field.value) }
-{
-    match place(fields.as_slice(), &field.key) {
-        Some(at) => fields[at] = field,
-        None => fields.push(field)?,
+    match place(fields.as_slice(), key) {
+        Some(at) => set_value(&mut fields[at], value),
+        None => {
+            let key = key.clone()?;
+            fields.push(Held { key, value })?;
+        }
     }
     Ok(())
+}
+
+fn set_value(field: &mut Held, value: Value)
+    ensures { field.new ≡ record field.old { value = value } }
+{
+    field.value = value;
 }
 
 /// Where a field stands that was set.

@@ -6,8 +6,9 @@ ghost use Rattle.jvm_model.specs.Local.{handler_for, handles};
 ghost use Rattle.jvm_model.specs.Unwinding.{is_of_class};
 ghost use Rattle.run_heap.specs.Worlds.{object_of};
 
-use crate::{Object, Shapes};
+use crate::{Known, Object, Shapes};
 use class_model::Handler;
+use jv_base::Name;
 
 /// The class of an object by name; that of an array counts as Object.
 pub fn class_of(object: &Object) -> &str
@@ -18,6 +19,18 @@ pub fn class_of(object: &Object) -> &str
         Object::Array { .. } => "java/lang/Object",
         Object::Text(_) => "java/lang/String",
         Object::Builder(_) => "java/lang/StringBuilder",
+    }
+}
+
+/// The same as a name.
+pub fn class_name<'a, S: Shapes>(shapes: &'a S, object: &'a Object) -> &'a Name
+    ensures { result.now ≡ class_of (object_of object.now) }
+{
+    match object {
+        Object::Instance(instance) => &instance.class,
+        Object::Array { .. } => shapes.name_of(Known::Object),
+        Object::Text(_) => shapes.name_of(Known::String),
+        Object::Builder(_) => shapes.name_of(Known::StringBuilder),
     }
 }
 
@@ -32,7 +45,7 @@ pub fn handler_of<S: Shapes>(
         (is_of_class (S.shape shapes.now) (option_map object_of (option_copied object.entry))) at handlers.now }
 {
     match object {
-        Some(object) => handler_for(shapes, class_of(object), at, handlers),
+        Some(object) => handler_for(shapes, class_name(shapes, object), at, handlers),
         None => handler_of_all(at, handlers),
     }
 }
@@ -65,12 +78,7 @@ fn catches_all(handler: &Handler) -> bool
 }
 
 /// Where the first handler begins that covers an index and catches objects of a class.
-pub fn handler_for<S: Shapes>(
-    shapes: &S,
-    class: &str,
-    at: usize,
-    handlers: &[Handler],
-) -> Option<u32>
+fn handler_for<S: Shapes>(shapes: &S, class: &Name, at: usize, handlers: &[Handler]) -> Option<u32>
     ensures { result ≡ handler_for ((S.shape shapes.now).is_sub class.now) at handlers.now }
 {
     for handler in handlers {
@@ -81,13 +89,13 @@ pub fn handler_for<S: Shapes>(
     None
 }
 
-fn handles<S: Shapes>(shapes: &S, class: &str, at: usize, handler: &Handler) -> bool
+fn handles<S: Shapes>(shapes: &S, class: &Name, at: usize, handler: &Handler) -> bool
     ensures { result ≡ handles ((S.shape shapes.now).is_sub class.now) at handler.now }
 {
     handler.from as usize <= at && at < handler.to as usize && catches(shapes, class, handler)
 }
 
-fn catches<S: Shapes>(shapes: &S, class: &str, handler: &Handler) -> bool
+fn catches<S: Shapes>(shapes: &S, class: &Name, handler: &Handler) -> bool
     ensures { result ≡ option_map_or ((S.shape shapes.now).is_sub class.now) handler.now.caught true }
 {
     match &handler.caught {

@@ -2,32 +2,68 @@
 use crate::{Key, Target};
 use class_model::{Code, MemberRef};
 use jv_base::{Items, M, Name};
+use run_steps::Descriptors;
 use run_values::Value;
 use std::alloc::Global;
 
+/// A class of the library that objects are of which have no name with them: arrays count as of Object.
+#[derive(Clone, Copy)]
+pub enum Known {
+    Object,
+    String,
+    StringBuilder,
+}
+
+/// A field or a method that was found: the program has it, or it was made.
+#[derive(Drop)]
+pub enum Found<'a> {
+    Kept(&'a Key),
+    Made(Key),
+}
+
+impl<'a> Found<'a> {
+    ghost use Rattle.std.specs.Prelude.{◌≡◌};
+    ghost use Rattle.run_heap.specs.Targets.{key_found};
+
+    /// The field or the method.
+    pub fn key(&self) -> &Key
+        ensures { result.now ≡ key_found self.now }
+    {
+        match self {
+            Found::Kept(key) => *key,
+            Found::Made(key) => key,
+        }
+    }
+}
+
 /// A program as the machine sees it. A name that means nothing in it gives nothing.
-pub trait Shapes {
+pub trait Shapes: Descriptors {
+    ghost use Rattle.std.specs.Option.{option_map};
     ghost use Rattle.std.specs.Prelude.{◌≡◌, IfOk, Option, option_copied};
     ghost use Rattle.class_model.specs.declared.code.Code.{Code};
     ghost use Rattle.jvm_model.specs.Program.{Shape};
     ghost use Rattle.jvm_model.specs.Value.{Key};
-    ghost use Rattle.run_heap.specs.Targets.{HasConstants, IsTarget};
+    ghost use Rattle.run_heap.specs.Targets.{HasConstants, IsTarget, key_found, known_name};
 
     ghost shape: { Self → Shape };
 
     ghost code_of: { Self → Key → Option Code };
 
     /// Whether a class is another one or one of its supertypes is (JLS 4.10.2).
-    fn is_sub(&self, class: &str, other: &Name) -> bool
+    fn is_sub(&self, class: &Name, other: &Name) -> bool
         ensures { result ≡ (shape self.now).is_sub class.now other.now };
+
+    /// The name of a class of the library.
+    fn name_of(&self, class: Known) -> &Name
+        ensures { result.now ≡ known_name class };
 
     /// Whether a class is one of the library, which is initialised before the program begins.
     fn is_library(&self, class: &Name) -> bool
         ensures { result ≡ (shape self.now).is_library class.now };
 
     /// The field of a reference (JVMS 5.4.3.2).
-    fn field(&self, reference: &MemberRef) -> M<Option<Key>>
-        ensures { IfOk result (λ key. key ≡ (shape self.now).field reference.now) };
+    fn field(&self, reference: &MemberRef) -> M<Option<Found<'_>>>
+        ensures { IfOk result (λ found. option_map key_found found ≡ (shape self.now).field reference.now) };
 
     /// What invokestatic runs (JVMS 6.5.invokestatic).
     fn static_target(&self, method: &MemberRef) -> M<Option<Target>>

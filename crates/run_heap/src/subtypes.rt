@@ -4,23 +4,23 @@ ghost use Rattle.jvm_model.specs.Heap.{type_of};
 ghost use Rattle.jvm_model.specs.Types.{array_of, class_type, is_above_arrays, is_base_below, is_type_below};
 ghost use Rattle.run_heap.specs.Worlds.{object_of};
 
-use crate::{Object, Shapes};
-use jv_base::{Base, FieldType};
+use crate::{Known, Object, Shapes};
+use jv_base::{Base, FieldType, Name};
 
 /// Whether an object is of a type.
 pub fn is_of_type<S: Shapes>(shapes: &S, object: &Object, ty: &FieldType) -> bool
     ensures { result ≡ is_type_below (S.shape shapes.now).is_sub (type_of (object_of object.now)) ty.now }
 {
     match object {
-        Object::Instance(instance) => is_class_below(shapes, instance.class.as_str(), ty),
+        Object::Instance(instance) => is_class_below(shapes, &instance.class, ty),
         Object::Array { component, .. } => is_array_below(shapes, component, ty),
-        Object::Text(_) => is_class_below(shapes, "java/lang/String", ty),
-        Object::Builder(_) => is_class_below(shapes, "java/lang/StringBuilder", ty),
+        Object::Text(_) => is_class_below(shapes, shapes.name_of(Known::String), ty),
+        Object::Builder(_) => is_class_below(shapes, shapes.name_of(Known::StringBuilder), ty),
     }
 }
 
 /// Whether a class is below a type.
-pub fn is_class_below<S: Shapes>(shapes: &S, class: &str, ty: &FieldType) -> bool
+pub fn is_class_below<S: Shapes>(shapes: &S, class: &Name, ty: &FieldType) -> bool
     ensures { result ≡ is_type_below (S.shape shapes.now).is_sub (class_type class.now) ty.now }
 {
     if ty.dims != 0 {
@@ -67,7 +67,7 @@ fn is_base_below<S: Shapes>(shapes: &S, base: &Base, other: &Base) -> bool
 {
     match base {
         Base::Class(class) => match other {
-            Base::Class(name) => shapes.is_sub(class.as_str(), name),
+            Base::Class(name) => shapes.is_sub(class, name),
             _ => false,
         },
         Base::Boolean => matches!(other, Base::Boolean),

@@ -3,7 +3,7 @@ use crate::Key;
 use run_library::{Exception, Row};
 
 /// What a call runs.
-#[derive(Drop)]
+#[derive(Clone, Drop)]
 pub enum Target {
     /// A method of the program.
     Program(Key),

@@ -1,7 +1,7 @@
 // Objects and the heap (JVMS 2.4, 2.5.3).
 ghost use Rattle.std.specs.Prelude.{IfOk};
 
-use crate::Fields;
+use crate::{Fields, Statics};
 use jv_base::{FieldType, M, Name, Shared, Units};
 use run_values::Value;
 
@@ -33,7 +33,7 @@ pub enum Object {
 #[derive(Drop)]
 pub struct World {
     pub heap: Vec<Object>,
-    pub statics: Fields,
+    pub statics: Statics,
     pub printed: Vec<u16>,
 }
 

@@ -1,5 +1,5 @@
 -- A frame that has its operands again is the one that asked.
-use Rattle.std.proofs.Common.{◌≡◌, ◌∙◌, ◌++◌, ℕ, List, Option, ap, refl, sym}
+use Rattle.std.proofs.Common.{◌≡◌, ◌∙◌, ◌++◌, ℕ, List, Option, refl, sym}
 use Rattle.jvm_model.specs.Local.{with_stack}
 use Rattle.jvm_model.specs.State.{Body as Standing}
 use Rattle.jvm_model.specs.Value.{Value}

@@ -7,7 +7,6 @@ use Rattle.jvm_model.specs.Program.{Shape}
 use Rattle.jvm_model.specs.Step.{first_init}
 use Rattle.run_machine.specs.declared.inits.Init.{Init}
 use Rattle.run_machine.specs.declared.inits.Init.TheVariants as init
-use Rattle.run_machine.specs.declared.inits.Marked.{Marked}
 
 -- how far it is
 abbrev pub init_of : Init → Seen
@@ -16,7 +15,7 @@ init_of init.Begun = heap.Begun
 init_of init.Ready = heap.Ready
 init_of init.Failed = heap.Failed
 
--- how far that of each class is: what was marked last of it, and at first that of the classes of the library has ended
-abbrev pub init_at : Shape → List Marked → List ℕ → Seen
+-- how far that of each class is: what was marked of it, and at first that of the classes of the library has ended
+abbrev pub init_at : Shape → List (List ℕ × Init) → List ℕ → Seen
 init_at p [] class = first_init p class
-init_at p (m ∷ ms) class = if is_text class m.class then init_of m.init else init_at p ms class
+init_at p (m ∷ ms) class = if is_text class m.0 then init_of m.1 else init_at p ms class

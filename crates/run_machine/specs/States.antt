@@ -1,5 +1,5 @@
 -- The state of the code as that of the machine (JVMS 2.5, 2.6).
-use Rattle.std.specs.Prelude.{ℕ, List, Option, map}
+use Rattle.std.specs.Prelude.{List, Option, map}
 use Rattle.std.specs.Prelude.{option_copied}
 use Rattle.jvm_model.specs.Heap.{World as Whole}
 use Rattle.jvm_model.specs.Initialisation.{state}

@@ -1,5 +1,4 @@
 pub mod Piles
-pub mod Marks
 pub mod Firsts
 pub mod Constants
 pub mod Asked

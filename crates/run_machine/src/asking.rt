@@ -95,13 +95,14 @@ fn get_static<S: Shapes>(
 ) -> M<Control>
     ensures { IfOk result (λ c. Asks (S.shape shapes.now) rest.old rest.new c frame (Request.GetStatic field.entry)) }
 {
-    let Some(key) = shapes.field(field)? else {
+    let Some(found) = shapes.field(field)? else {
         return Ok(Control::Wrong);
     };
+    let key = found.key();
     if is_due(shapes, &rest.marks, key.class()) {
         return await_class(alloc, shapes, rest, frame, key.class());
     }
-    let answer = run_heap::get_static(alloc, &rest.world, &key)?;
+    let answer = run_heap::get_static(alloc, &rest.world, key)?;
     on_answer(alloc, rest, frame, answer)
 }
 
@@ -117,15 +118,16 @@ fn put_static<S: Shapes>(
     ensures { IfOk result (λ c. Asks (S.shape shapes.now) rest.old rest.new c frame
         (Request.PutStatic field.entry value)) }
 {
-    let Some(key) = shapes.field(field)? else {
+    let Some(found) = shapes.field(field)? else {
         return Ok(Control::Wrong);
     };
+    let key = found.key();
     if is_due(shapes, &rest.marks, key.class()) {
         let mut frame = frame;
         frame.body.stack.push(value)?;
         return await_class(alloc, shapes, rest, frame, key.class());
     }
-    let answer = run_heap::put_static(alloc, &mut rest.world, value, &key)?;
+    let answer = run_heap::put_static(alloc, &mut rest.world, value, key)?;
     on_answer(alloc, rest, frame, answer)
 }
 

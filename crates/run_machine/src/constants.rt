@@ -5,14 +5,14 @@ ghost use Rattle.run_heap.specs.Held.{held};
 ghost use Rattle.run_machine.specs.bodies.Constants.{with_constant, with_each};
 
 use jv_base::{M, Name};
-use run_heap::{Fields, Key, Shapes, stored_in};
+use run_heap::{Key, Shapes, Statics, stored_in};
 use std::alloc::Global;
 
 /// The fields of a class that have one hold their ConstantValue.
 pub(crate) fn set_constants<S: Shapes>(
     alloc: Global,
     shapes: &S,
-    statics: &mut Fields,
+    statics: &mut Statics,
     class: &Name,
 ) -> M<()>
     ensures { OnOk result (held statics.new ≡ with_constants (S.shape shapes.now) class.now (held statics.old)) }
@@ -21,7 +21,7 @@ pub(crate) fn set_constants<S: Shapes>(
     set_each(alloc, shapes, statics, keys.as_slice())
 }
 
-fn set_each<S: Shapes>(alloc: Global, shapes: &S, statics: &mut Fields, keys: &[Key]) -> M<()>
+fn set_each<S: Shapes>(alloc: Global, shapes: &S, statics: &mut Statics, keys: &[Key]) -> M<()>
     ensures { OnOk result (held statics.new ≡ with_each (S.shape shapes.now) keys.now (held statics.old)) }
 {
     for key in keys {
@@ -30,7 +30,7 @@ fn set_each<S: Shapes>(alloc: Global, shapes: &S, statics: &mut Fields, keys: &[
     Ok(())
 }
 
-fn set_constant<S: Shapes>(alloc: Global, shapes: &S, statics: &mut Fields, key: &Key) -> M<()>
+fn set_constant<S: Shapes>(alloc: Global, shapes: &S, statics: &mut Statics, key: &Key) -> M<()>
     ensures { OnOk result (held statics.new ≡ with_constant (S.shape shapes.now) (held statics.old) key.now) }
 {
     match shapes.constant(key)? {

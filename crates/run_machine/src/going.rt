@@ -99,7 +99,7 @@ fn step<S: Shapes>(
     ensures method { IfOk result (KeepsMethod frame.method) }
 {
     let mut frame = frame;
-    match local(alloc, code, &mut frame.body)? {
+    match local(alloc, shapes, code, &mut frame.body)? {
         Outcome::Moves => Ok(Going::On(frame)),
         Outcome::Wants(request) => step_asking(alloc, shapes, rest, frame, request),
         Outcome::Ends(value) => Ok(Going::To(give_back(&mut rest.waits, value)?)),

@@ -9,7 +9,7 @@ ghost use Rattle.run_machine.specs.bodies.Firsts.{IsNext};
 use crate::constants::set_constants;
 use crate::inits::{init_of, is_due};
 use crate::waiting::{go_back, raise};
-use crate::{Control, Frame, Init, Marked, Pile, Rest, Wait};
+use crate::{Control, Frame, Init, Marks, Pile, Rest, Wait};
 use jv_base::{Items, M, Name};
 use run_heap::{Key, Shapes};
 use run_library::Exception;
@@ -43,10 +43,7 @@ fn begin_fresh<S: Shapes>(alloc: Global, shapes: &S, rest: &mut Rest, class: Nam
     set_constants(alloc, shapes, &mut rest.world.statics, &class)?;
     let firsts = Pile::of(shapes.firsts(alloc, &class)?);
     let marked = class.clone()?;
-    rest.marks.push(Marked {
-        class: marked,
-        init: Init::Begun,
-    })?;
+    rest.marks.mark(marked, Init::Begun)?;
     Ok(Control::Prepares(class, firsts))
 }
 
@@ -55,10 +52,7 @@ pub(crate) fn complete(alloc: Global, rest: &mut Rest, class: Name) -> M<Control
     ensures { IfOk result (λ c. (p : Shape) → state_at p rest.new c
         ≡ complete (whole p rest.old) class (waits_of rest.old.waits)) }
 {
-    rest.marks.push(Marked {
-        class,
-        init: Init::Ready,
-    })?;
+    rest.marks.mark(class, Init::Ready)?;
     go_back(alloc, &mut rest.waits)
 }
 
@@ -79,7 +73,7 @@ fn run_clinit(alloc: Global, rest: &mut Rest, class: Name, method: Option<Key>) 
 }
 
 /// The next class of those that come first and still has to be initialised; those before it are left out.
-fn next_due<S: Shapes>(shapes: &S, marks: &Pile<Marked>, firsts: &mut Pile<Name>) -> Option<Name>
+fn next_due<S: Shapes>(shapes: &S, marks: &Marks, firsts: &mut Pile<Name>) -> Option<Name>
     ensures { IsNext (S.shape shapes.now) marks.now result firsts.old firsts.new }
 {
     while let Some(first) = firsts.pop() {

@@ -1,13 +1,15 @@
 // How far the initialisation of classes is (JVMS 5.5).
-ghost use Rattle.std.specs.Prelude.{◌≡◌, reverse};
-ghost use Rattle.std.specs.Option.{option_map};
+ghost use Rattle.std.specs.Prelude.{◌≡◌, [], OnOk};
 ghost use Rattle.jvm_model.specs.Initialisation.{is_due};
+ghost use Rattle.jvm_model.specs.Program.{Shape};
+ghost use Rattle.jvm_model.specs.Value.{set_class};
 ghost use Rattle.run_machine.specs.Inits.{init_at, init_of};
-ghost use Rattle.run_machine.specs.bodies.Marks.{marked_in};
 
-use crate::Pile;
-use jv_base::Name;
+use indexmap::IndexMap;
+use jv_base::{M, Name};
 use run_heap::Shapes;
+use std::alloc::Global;
+use std::marker::Model;
 
 /// How far the initialisation of a class or interface is: not begun, begun, ended, or failed.
 #[derive(Clone, Copy, PartialEq, Eq)]
@@ -18,20 +20,48 @@ pub enum Init {
     Failed,
 }
 
-/// A class whose initialisation has come so far.
+/// How far each class is whose initialisation was begun or has failed, which contracts see as a list. One is found by
+/// its name at once, however many there are.
 #[derive(Drop)]
-pub struct Marked {
-    pub class: Name,
-    pub init: Init,
+pub struct Marks {
+    inits: IndexMap<Name, Init>,
 }
 
-/// How far a class is, by what was marked last of it; where nothing was, the classes of the library are initialised, and
-/// no other one.
-pub(crate) fn init_of<S: Shapes>(shapes: &S, marks: &Pile<Marked>, class: &Name) -> Init
+impl Model for Marks {
+    ghost use Rattle.std.specs.Prelude.{List, ℕ};
+    ghost use Rattle.run_machine.specs.declared.inits.Init.{Init};
+
+    ghost Value = { List (List ℕ × Init) };
+
+    ghost view = { λ m. m.inits.entries };
+}
+
+impl Marks {
+    /// No class is marked.
+    pub fn new(alloc: Global) -> Self
+        ensures { result ≡ [] }
+    {
+        Marks {
+            inits: IndexMap::new(alloc),
+        }
+    }
+
+    /// A class has come so far.
+    pub fn mark(&mut self, class: Name, init: Init) -> M<()>
+        ensures { OnOk result ((p : Shape) → init_at p self.new
+            ≡ set_class (init_at p self.old) class (init_of init)) }
+    {
+        self.inits.insert(class, init)?;
+        Ok(())
+    }
+}
+
+/// How far a class is; where it wasn't marked, the classes of the library are initialised, and no other one.
+pub(crate) fn init_of<S: Shapes>(shapes: &S, marks: &Marks, class: &Name) -> Init
     ensures { init_of result ≡ init_at (S.shape shapes.now) marks.now class.now }
 {
-    match marked_in(marks.from_last(), class) {
-        Some(init) => init,
+    match marks.inits.get(class) {
+        Some(init) => *init,
         None => {
             if shapes.is_library(class) {
                 Init::Ready
@@ -42,22 +72,8 @@ pub(crate) fn init_of<S: Shapes>(shapes: &S, marks: &Pile<Marked>, class: &Name)
     }
 }
 
-/// What was marked last of a class, which stands last.
-fn marked_in(marks: &[Marked], class: &Name) -> Option<Init>
-    ensures { option_map init_of result ≡ marked_in class.now (reverse marks.now) }
-{
-    let mut left = marks.len();
-    while left > 0 {
-        left -= 1;
-        if *class == marks[left].class {
-            return Some(marks[left].init);
-        }
-    }
-    None
-}
-
 /// Whether a class still has to be initialised.
-pub(crate) fn is_due<S: Shapes>(shapes: &S, marks: &Pile<Marked>, class: &Name) -> bool
+pub(crate) fn is_due<S: Shapes>(shapes: &S, marks: &Marks, class: &Name) -> bool
     ensures { result ≡ is_due (init_at (S.shape shapes.now) marks.now class.now) }
 {
     match init_of(shapes, marks, class) {

@@ -16,7 +16,7 @@ mod stepping;
 mod unwinding;
 mod waiting;
 
-pub use inits::{Init, Marked};
+pub use inits::{Init, Marks};
 pub use pile::Pile;
 pub use running::run;
 pub use state::{Control, Frame, Rest, State, Status, Wait};

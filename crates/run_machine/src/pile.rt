@@ -1,5 +1,5 @@
 // A list that grows and shrinks at one end.
-ghost use Rattle.std.specs.Prelude.{◌≡◌, [], ◌∷◌, OnOk, length, reverse};
+ghost use Rattle.std.specs.Prelude.{◌≡◌, [], ◌∷◌, OnOk, length};
 ghost use Rattle.run_machine.specs.bodies.Piles.{Takes};
 
 use jv_base::{Items, M};
@@ -60,12 +60,5 @@ impl<T: Drop> Pile<T> {
         ensures { result ≡ length self.now }
     {
         self.items.len()
-    }
-
-    /// The items, the first one last.
-    pub(crate) fn from_last(&self) -> &[T]
-        ensures { reverse result.now ≡ self.now }
-    {
-        self.items.as_slice()
     }
 }

@@ -74,7 +74,7 @@ fn get_field<S: Shapes>(
         (λ w. of_some (get_field w object) ((S.shape shapes.now).field field.now))) }
 {
     match shapes.field(field)? {
-        Some(key) => run_heap::get_field(alloc, world, &object, &key),
+        Some(found) => run_heap::get_field(alloc, world, &object, found.key()),
         None => Ok(Answer::NoAnswer),
     }
 }
@@ -92,7 +92,7 @@ fn put_field<S: Shapes>(
         (λ w. of_some (put_field w object value) ((S.shape shapes.now).field field.now))) }
 {
     match shapes.field(field)? {
-        Some(key) => run_heap::put_field(alloc, world, &object, value, &key),
+        Some(found) => run_heap::put_field(alloc, world, &object, value, found.key()),
         None => Ok(Answer::NoAnswer),
     }
 }

@@ -13,9 +13,9 @@ ghost use Rattle.run_machine.specs.bodies.Ended.{has_ended};
 ghost use Rattle.run_machine.specs.States.{control_of, program, state_at, state_of, status_of};
 
 use crate::stepping::advance;
-use crate::{Control, Pile, Rest, State, Status, Wait};
+use crate::{Control, Marks, Pile, Rest, State, Status, Wait};
 use jv_base::{Items, M, Text};
-use run_heap::{Fields, Instance, Key, Object, Shapes, World, class_of};
+use run_heap::{Fields, Instance, Key, Object, Shapes, Statics, World, class_of};
 use run_values::Value;
 use std::alloc::Global;
 use std::mem;
@@ -34,7 +34,7 @@ impl State {
         Ok(State {
             rest: Rest {
                 world,
-                marks: Pile::new(alloc),
+                marks: Marks::new(alloc),
                 waits,
             },
             control: Control::Initialises(class),
@@ -102,13 +102,13 @@ fn stream(alloc: Global) -> M<Object>
 }
 
 /// `System.out` refers to the stream.
-fn first_statics(alloc: Global) -> M<Fields>
+fn first_statics(alloc: Global) -> M<Statics>
     ensures { IfOk result (λ statics. held statics ≡ set_key blank out (Ref 0)) }
 {
     let class = Text::from_str(alloc, "java/lang/System")?;
     let name = Text::from_str(alloc, "out")?;
     let descriptor = Text::from_str(alloc, "Ljava/io/PrintStream;")?;
-    let mut statics = Fields::new(alloc);
+    let mut statics = Statics::new(alloc);
     statics.set(&Key::new(class, name, descriptor), Value::reference(0))?;
     Ok(statics)
 }

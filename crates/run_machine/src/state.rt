@@ -1,5 +1,5 @@
 // What the machine holds between two steps (JVMS 2.5, 2.6).
-use crate::{Marked, Pile};
+use crate::{Marks, Pile};
 use jv_base::{Items, Name};
 use run_heap::{Key, World};
 use run_steps::Body;
@@ -51,7 +51,7 @@ pub enum Control {
 #[derive(Drop)]
 pub struct Rest {
     pub world: World,
-    pub marks: Pile<Marked>,
+    pub marks: Marks,
     pub waits: Pile<Wait>,
 }
 

@@ -1,17 +1,18 @@
 // An object that is thrown goes up, one frame or class a step (JVMS 2.10, 5.5, 6.5.athrow).
 ghost use Rattle.std.specs.Prelude.{◌≡◌, ◌∷◌, IfOk, List, codes, false, map, slice_get, ℕ};
 ghost use Rattle.jvm_model.specs.Unwinding.{is_of_class, unwind, unwind_clinit, unwind_frame};
-ghost use Rattle.jvm_model.specs.Heap.{Init};
-ghost use Rattle.jvm_model.specs.Initialisation.{state};
+ghost use Rattle.jvm_model.specs.Heap.{Failed, Init};
+ghost use Rattle.jvm_model.specs.Initialisation.{marked, state};
 ghost use Rattle.jvm_model.specs.Local.{at_handler};
-ghost use Rattle.jvm_model.specs.State.{AfterClinit, Runs, Wait as Waiting};
+ghost use Rattle.jvm_model.specs.Program.{Shape};
+ghost use Rattle.jvm_model.specs.State.{AfterClinit, Runs, Unwinds, Wait as Waiting};
 ghost use Rattle.run_heap.specs.Worlds.{object_of, world_of};
 ghost use Rattle.run_machine.specs.States.{control_of, frame_of, program, state_at, waits_of, whole};
 ghost use Rattle.run_steps.specs.Frames.{body_of};
 
-use crate::{Control, Frame, Init as Come, Marked, Pile, Rest, Wait};
+use crate::{Control, Frame, Init as Come, Pile, Rest, Wait};
 use jv_base::{M, Name, Text};
-use run_heap::{Fields, Instance, Object, Shapes, World, class_of, handler_of};
+use run_heap::{Fields, Instance, Object, Shapes, World, class_name, handler_of};
 use run_library::{Exception, class_of as class_of_exception};
 use run_values::{Stack, Value};
 use std::alloc::Global;
@@ -30,13 +31,7 @@ pub(crate) fn unwind<S: Shapes>(
     match rest.waits.pop() {
         Some(Wait::AfterCall(frame)) => unwind_frame(alloc, shapes, &rest.world, number, frame),
         Some(Wait::AfterInit(frame)) => unwind_frame(alloc, shapes, &rest.world, number, frame),
-        Some(Wait::AfterFirst(class, _)) => {
-            rest.marks.push(Marked {
-                class,
-                init: Come::Failed,
-            })?;
-            Ok(Control::Unwinds(number))
-        }
+        Some(Wait::AfterFirst(class, _)) => fail(rest, number, class),
         Some(Wait::AfterClinit(class)) => unwind_clinit(alloc, shapes, rest, number, class),
         Some(Wait::ToEntry(_, _)) => {
             rest.waits = Pile::new(alloc);
@@ -44,6 +39,15 @@ pub(crate) fn unwind<S: Shapes>(
         }
         None => Ok(Control::Threw(number)),
     }
+}
+
+/// The initialisation of a class fails with the one that comes first (JVMS 5.5, step 7).
+fn fail(rest: &mut Rest, number: usize, class: Name) -> M<Control>
+    ensures { IfOk result (λ c. (p : Shape) → state_at p rest.new c
+        ≡ state (marked (whole p rest.old) class Failed) (Unwinds number) (waits_of rest.old.waits)) }
+{
+    rest.marks.mark(class, Come::Failed)?;
+    Ok(Control::Unwinds(number))
 }
 
 /// It enters the first handler that covers the frame's index and catches it, or leaves the frame (JVMS 2.10).
@@ -95,10 +99,7 @@ fn unwind_clinit<S: Shapes>(
         ≡ unwind (program (S.shape shapes.now) (S.code_of shapes.now)) (whole (S.shape shapes.now) rest.old) number
         (AfterClinit class ∷ waits_of rest.old.waits)) }
 {
-    rest.marks.push(Marked {
-        class,
-        init: Come::Failed,
-    })?;
+    rest.marks.mark(class, Come::Failed)?;
     if is_error(alloc, shapes, &rest.world, number)? {
         Ok(Control::Unwinds(number))
     } else {
@@ -113,7 +114,7 @@ fn is_error<S: Shapes>(alloc: Global, shapes: &S, world: &World, number: usize) 
 {
     let error = Text::from_str(alloc, "java/lang/Error")?;
     match world.heap.get(number) {
-        Some(object) => Ok(shapes.is_sub(class_of(object), &error)),
+        Some(object) => Ok(shapes.is_sub(class_name(shapes, object), &error)),
         None => Ok(false),
     }
 }

@@ -3,6 +3,13 @@ use Rattle.std.specs.Prelude.{◌≡◌, Bool, List, Option, Some, None, if◌th
 use Rattle.class_model.specs.declared.op.Kind.{Kind}
 use Rattle.jvm_model.specs.Instructions.{Request, taking, with_receiver}
 use Rattle.jvm_model.specs.Value.{Value}
+use Rattle.run_steps.specs.declared.descriptors.Kinds.{Kinds}
+use Rattle.run_steps.specs.declared.descriptors.Kinds.TheVariants as given
+
+-- the computational types
+abbrev pub kinds_told : Kinds → List Kind
+kinds_told (given.Kept kinds) = kinds.now
+kinds_told (given.Made kinds) = kinds
 
 -- the computational types of a receiver and arguments, or of arguments alone
 abbrev pub operand_kinds : (has_receiver : Bool) → Option (List Kind) → Option (List Kind)

@@ -18,7 +18,7 @@ use crate::math::{arithmetic, compare, convert, logic, negate, shift};
 use crate::slots::{increase, load, store};
 use crate::types::{cast, test};
 use crate::words::{double_words, drop_words, pass, swap_words};
-use crate::{Body, Outcome, Request};
+use crate::{Body, Descriptors, Outcome, Request};
 use class_model::{Code, Op};
 use jv_base::M;
 use run_values::Value;
@@ -26,18 +26,28 @@ use std::alloc::Global;
 
 /// What a frame does at its instruction, told of its code and itself alone; where there is no instruction it is stuck.
 #[tactic(auto, using(std::proofs::lemmas::Option::slice_get_past))]
-pub fn local<'a>(alloc: Global, code: &'a Code, body: &mut Body) -> M<Outcome<'a>>
+pub fn local<'a, D: Descriptors>(
+    alloc: Global,
+    known: &D,
+    code: &'a Code,
+    body: &mut Body,
+) -> M<Outcome<'a>>
     ensures { IfOk result (λ outcome. Does outcome body.old body.new (local code.now (body_of body.old))) }
 {
     let at = body.at;
     if at >= code.ins.len() {
         return Ok(Outcome::Stuck);
     }
-    instruction(alloc, &code.ins[at].op, body)
+    instruction(alloc, known, &code.ins[at].op, body)
 }
 
 /// By the family of the instruction.
-fn instruction<'a>(alloc: Global, op: &'a Op, body: &mut Body) -> M<Outcome<'a>>
+fn instruction<'a, D: Descriptors>(
+    alloc: Global,
+    known: &D,
+    op: &'a Op,
+    body: &mut Body,
+) -> M<Outcome<'a>>
     requires { body.old.at < 2 ^ 64 - 1 }
     ensures { DoesAs result body.old body.new (sort_of op.now) }
 {
@@ -83,10 +93,10 @@ fn instruction<'a>(alloc: Global, op: &'a Op, body: &mut Body) -> M<Outcome<'a>>
         Op::PutStatic(field) => put_static(alloc, body, field),
         Op::GetField(field) => Ok(get_field(body, field)),
         Op::PutField(field) => put_field(alloc, body, field),
-        Op::InvokeVirtual(method) => call_virtual(alloc, body, method),
-        Op::InvokeSpecial(method) => call_special(alloc, body, method),
-        Op::InvokeStatic(method) => call_static(alloc, body, method),
-        Op::InvokeInterface(method) => call_interface(alloc, body, method),
+        Op::InvokeVirtual(method) => call_virtual(alloc, known, body, method),
+        Op::InvokeSpecial(method) => call_special(alloc, known, body, method),
+        Op::InvokeStatic(method) => call_static(alloc, known, body, method),
+        Op::InvokeInterface(method) => call_interface(alloc, known, body, method),
         Op::New(class) => Ok(Outcome::Wants(Request::New(class))),
         Op::NewArray(base) => Ok(new_base_array(body, base)),
         Op::ANewArray(component) => Ok(new_array(body, component)),

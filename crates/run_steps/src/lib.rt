@@ -5,6 +5,7 @@ mod arrays;
 mod body;
 mod calls;
 mod constants;
+mod descriptors;
 mod fields;
 mod instruction;
 mod jumps;
@@ -17,6 +18,7 @@ mod types;
 mod words;
 
 pub use body::Body;
+pub use descriptors::{Descriptors, Kinds};
 pub use instruction::local;
 pub use kinds::{field_kind, operand_kinds};
 pub use outcome::{Outcome, Request};

@@ -2,3 +2,4 @@ mod AllNames
 mod Constants
 mod Numbered
 mod Searching
+pub mod Putting

@@ -1,5 +1,5 @@
 -- What is found in a list, or isn't.
-use Rattle.std.proofs.Common.{◌≡◌, ◌∙◌, ℕ, suc, Bool, true, false, cond, ◌||◌, List, [], ◌∷◌, ◌++◌, map, Option}
+use Rattle.std.proofs.Common.{◌≡◌, ◌∙◌, ℕ, suc, Bool, true, false, cond, ◌||◌, List, [], ◌∷◌, ◌++◌, map}
 use Rattle.std.proofs.Common.{Some, None, refl, sym, ap}
 use Rattle.std.specs.List.{find, list_any, position}
 use Rattle.std.specs.Option.{option_map}

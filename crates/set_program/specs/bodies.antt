@@ -1,2 +1,4 @@
 pub mod AllNames
 pub mod FieldKeys
+pub mod Rows
+pub mod Links

@@ -2,10 +2,17 @@
 #![tactic(auto)]
 
 mod calls;
+mod counts;
 mod fields;
+mod kept;
+mod linking;
+mod links;
+mod marks;
 mod members;
 mod names;
 mod program;
+mod receivers;
+mod rows;
 mod starting;
 
 pub use program::SetProgram;

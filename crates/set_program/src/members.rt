@@ -99,7 +99,7 @@ pub(crate) fn code<'a>(set: &'a ClassSet, key: &Key) -> Option<&'a Code>
     }
 }
 
-fn code_at<'a>(set: &'a ClassSet, m: &MemberAt) -> Option<&'a Code>
+pub(crate) fn code_at<'a>(set: &'a ClassSet, m: &MemberAt) -> Option<&'a Code>
     requires { IsMember set.now m.now }
     ensures { option_copied result ≡ code_at set.now m.now }
 {

@@ -1,15 +1,16 @@
 // Classes by their names (JVMS 4.2.1).
-ghost use Rattle.std.specs.Prelude.{◌≡◌, ◌∷◌, ◌++◌, [], IfOk, IfSome, OnOk, map, option_copied};
-ghost use Rattle.std.specs.List.{find};
+ghost use Rattle.std.specs.Prelude.{◌≡◌, ◌∷◌, ◌++◌, [], IfOk, OnOk, map};
 ghost use Rattle.class_pool.specs.Found.{name_of};
-ghost use Rattle.class_pool.specs.Hierarchy.{IsClass, class_named};
+ghost use Rattle.class_pool.specs.Hierarchy.{IsClass};
 ghost use Rattle.lib_table.specs.Library.{library};
-ghost use Rattle.jv_base.specs.Names.{is_text};
 ghost use Rattle.jv_base.specs.declared.types.Base.TheVariants as base;
 ghost use Rattle.jvm_model.specs.Types.{is_above_arrays};
 ghost use Rattle.set_program.specs.bodies.AllNames.{all_names};
+ghost use Rattle.set_program.specs.bodies.Links.{AreLinks};
 ghost use Rattle.set_view.specs.ViewOf.{firsts_of, shape_of};
 
+use crate::kept::class_of;
+use crate::links::Links;
 use class_pool::{ClassId, ClassSet};
 use jv_base::{Items, M, Name, Text};
 use lib_table::lib_name;
@@ -66,36 +67,13 @@ fn push_set(names: &mut Items<Name>, set: &ClassSet) -> M<()>
     Ok(())
 }
 
-/// The class of a name, which needn't be one of the set or of the library.
-pub(crate) fn class_of_text(set: &ClassSet, names: &[Name], text: &str) -> Option<ClassId>
-    requires { names.now ≡ all_names set.now }
-    ensures is { result ≡ class_named set.now text.now }
-    ensures there { IfSome result (IsClass set.now) }
-{
-    match name_like(names, text) {
-        Some(name) => set.find(name),
-        None => None,
-    }
-}
-
-fn name_like<'a>(names: &'a [Name], text: &str) -> Option<&'a Name>
-    ensures { option_copied result ≡ find (λ name. is_text name text.now) names.now }
-{
-    for name in names {
-        if name.as_str() == text {
-            return Some(name);
-        }
-    }
-    None
-}
-
 /// Whether a class is another one or one of its supertypes is.
-pub(crate) fn is_sub(set: &ClassSet, names: &[Name], class: &str, other: &Name) -> bool
-    requires { names.now ≡ all_names set.now }
+pub(crate) fn is_sub(set: &ClassSet, links: &Links, class: &Name, other: &Name) -> bool
+    requires { AreLinks set.now links.now }
     ensures { result ≡ (shape_of set.now).is_sub class.now other.now }
 {
-    match class_of_text(set, names, class) {
-        Some(below) => match set.find(other) {
+    match class_of(set, links, class) {
+        Some(below) => match class_of(set, links, other) {
             Some(above) => is_below(set, below, above),
             None => false,
         },
@@ -104,10 +82,11 @@ pub(crate) fn is_sub(set: &ClassSet, names: &[Name], class: &str, other: &Name) 
 }
 
 /// Whether a class is one of the library.
-pub(crate) fn is_library(set: &ClassSet, class: &Name) -> bool
+pub(crate) fn is_library(set: &ClassSet, links: &Links, class: &Name) -> bool
+    requires { AreLinks set.now links.now }
     ensures { result ≡ (shape_of set.now).is_library class.now }
 {
-    match set.find(class) {
+    match class_of(set, links, class) {
         Some(ClassId::Lib(_)) => true,
         Some(ClassId::Prog(_)) => false,
         None => false,

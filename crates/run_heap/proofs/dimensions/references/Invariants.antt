@@ -1,5 +1,4 @@
-use Rattle.std.proofs.Common.{◌≡◌, map}
-use Rattle.std.specs.List.{range_with_len}
+use Rattle.std.proofs.Common.{◌≡◌}
 use Rattle.jvm_model.specs.Arrays.{references_from}
 use Rattle.run_heap.proofs.dimensions.references.Given as goal
 

@@ -1,4 +1,4 @@
-use Rattle.std.proofs.Common.{◌≡◌, ◌∙◌, ◌++◌, ◌∷◌, [], ℕ, List, None, Option, Some, ap, refl, reverse, sym}
+use Rattle.std.proofs.Common.{◌∙◌, ◌++◌, ◌∷◌, ℕ, List, ap, refl, reverse, sym}
 use Rattle.std.proofs.lemmas.Result.{IfOk-weaker}
 use Rattle.jvm_model.specs.Calls.{called_static}
 use Rattle.jvm_model.specs.Program.{Program}
@@ -8,17 +8,14 @@ use Rattle.run_heap.specs.declared.answer.Answer.TheVariants as answer
 use Rattle.jvm_model.specs.Answers.{Answer, Gives, of_some}
 use Rattle.jvm_model.specs.Initialisation.{begin, is_due}
 use Rattle.jvm_model.specs.State.{AfterInit}
-use Rattle.jvm_model.specs.Step.{on_answer}
-use Rattle.jvm_model.specs.Value.{Key}
 use Rattle.run_heap.specs.Answers.{told}
 use Rattle.run_machine.specs.Inits.{init_at}
 use Rattle.run_machine.specs.States.{frame_of, waits_of, whole}
 use Rattle.run_machine.specs.bodies.Asked.{AsksWith}
-use Rattle.run_machine.proofs.Answering.{awaited, carried, passed}
+use Rattle.run_machine.proofs.Answering.{awaited, passed}
 use Rattle.run_machine.proofs.Bodies.{put_back}
 use Rattle.run_machine.proofs.Coming.{Answers, Awaits}
 use Rattle.run_steps.specs.Frames.{body_of}
-use Rattle.run_steps.specs.declared.outcome.Request.TheVariants as request
 use Rattle.run_machine.proofs.asking.call_program.Goals as goal
 
 pub returns-then-is_due : goal.returns-then-is_due

@@ -1,16 +1,12 @@
-use Rattle.std.proofs.Common.{◌≡◌, ◌∙◌, ◌++◌, ◌∷◌, [], ℕ, List, None, Option, Some, ap, refl, reverse, sym}
+use Rattle.std.proofs.Common.{◌∙◌, [], ap, refl, sym}
 use Rattle.std.proofs.lemmas.Result.{IfOk-weaker}
 use Rattle.jvm_model.specs.Fields.{fresh, made}
 use Rattle.jvm_model.specs.Heap.{Object as Thing}
 use Rattle.run_heap.specs.Worlds.{object_of}
-use Rattle.jvm_model.specs.Answers.{Answer, Gives, of_some}
-use Rattle.jvm_model.specs.Initialisation.{begin, is_due}
-use Rattle.jvm_model.specs.State.{AfterInit}
 use Rattle.jvm_model.specs.Step.{on_answer}
-use Rattle.jvm_model.specs.Value.{Key}
 use Rattle.run_heap.specs.Answers.{told}
 use Rattle.run_machine.specs.Inits.{init_at}
-use Rattle.run_machine.specs.States.{frame_of, waits_of, whole}
+use Rattle.run_machine.specs.States.{waits_of, whole}
 use Rattle.run_machine.specs.bodies.Asked.{Asks}
 use Rattle.run_machine.proofs.Answering.{awaited, carried, passed}
 use Rattle.run_machine.proofs.Bodies.{put_back}

@@ -1,12 +1,14 @@
-use Rattle.std.proofs.Common.{◌≡◌, ◌∙◌, ◌++◌, ◌∷◌, [], ℕ, List, None, Option, Some, ap, refl, reverse, sym}
+use Rattle.std.proofs.Common.{◌∙◌, ◌∷◌, [], ℕ, List, None, Option, Some, ap, refl, sym}
 use Rattle.std.proofs.lemmas.Result.{IfOk-weaker}
 use Rattle.jvm_model.specs.Fields.{put_static, stored_in}
-use Rattle.jvm_model.specs.Answers.{Answer, Gives, of_some}
+use Rattle.jvm_model.specs.Answers.{Gives, of_some}
 use Rattle.jvm_model.specs.Initialisation.{begin, is_due}
 use Rattle.jvm_model.specs.State.{AfterInit}
 use Rattle.jvm_model.specs.Step.{on_answer}
 use Rattle.jvm_model.specs.Value.{Key, set_key}
 use Rattle.run_heap.specs.Answers.{told}
+use Rattle.run_heap.specs.Targets.{key_found}
+use Rattle.std.specs.Option.{option_map}
 use Rattle.run_machine.specs.Inits.{init_at}
 use Rattle.run_machine.specs.States.{frame_of, waits_of, whole}
 use Rattle.run_machine.specs.bodies.Asked.{Asks}
@@ -25,12 +27,12 @@ returns-then-is_due g c = IfOk-weaker _
     (λ k h b w. h
     ∙ ap (λ (n : List ℕ). begin (g.S.Shapes.shape c.args.shapes.now) (whole (g.S.Shapes.shape c.args.shapes.now) c.args.rest.now) n (AfterInit (frame_of (record c.args.frame { body = record c.args.frame.body { stack = c.push.new.self } })) ∷ (waits_of c.args.rest.now.waits))) c.class-then-is_due.ensures
     ∙ awaited (g.S.Shapes.shape c.args.shapes.now) (whole (g.S.Shapes.shape c.args.shapes.now) c.args.rest.now) c.args.frame.method (body_of b) (body_of (record c.args.frame.body { stack = c.push.new.self })) (body_of c.args.frame.body) (waits_of c.args.rest.now.waits)
-    c.in-Some.key.class (Gives None (record (whole (g.S.Shapes.shape c.args.shapes.now) c.args.rest.now) { statics = set_key (whole (g.S.Shapes.shape c.args.shapes.now) c.args.rest.now).statics c.in-Some.key (stored_in c.in-Some.key c.args.value) }))
+    c.key-key.result.now.class (Gives None (record (whole (g.S.Shapes.shape c.args.shapes.now) c.args.rest.now) { statics = set_key (whole (g.S.Shapes.shape c.args.shapes.now) c.args.rest.now).statics c.key-key.result.now (stored_in c.key-key.result.now c.args.value) }))
     (ap (λ (n : List ℕ). is_due (init_at (g.S.Shapes.shape c.args.shapes.now) c.args.rest.now.marks n)) (sym c.class.ensures) ∙ sym c.is_due.ensures ∙ c.if-is_due.true)
     (put_back (c.args.value ∷ []) b c.args.frame.body (record c.args.frame.body { stack = c.push.new.self }) w refl refl
     c.in_ok-push.ensures)
     ∙ ap (λ (o : Option Key). on_answer (g.S.Shapes.shape c.args.shapes.now) (whole (g.S.Shapes.shape c.args.shapes.now) c.args.rest.now) c.args.frame.method (body_of b) (body_of c.args.frame.body) (waits_of c.args.rest.now.waits) (of_some (put_static (whole (g.S.Shapes.shape c.args.shapes.now) c.args.rest.now) c.args.value) o))
-    (sym c.in-Some.is ∙ c.in_ok-key.ensures)) c.await_class.ensures
+    (ap (λ (k : Key). Some k) c.key-key.ensures ∙ ap (option_map key_found) (sym c.in-Some.is) ∙ c.in_ok-found.ensures)) c.await_class.ensures
 
 pub returns : goal.returns
 returns g c = IfOk-weaker _
@@ -40,9 +42,9 @@ returns g c = IfOk-weaker _
     (λ k h b w. h (g.S.Shapes.shape c.args.shapes.now) (body_of b)
     ∙ carried (g.S.Shapes.shape c.args.shapes.now) (init_at (g.S.Shapes.shape c.args.shapes.now) c.args.rest.now.marks) c.args.frame.method (body_of b) (body_of c.args.frame.body) (waits_of c.args.rest.now.waits) c.in_ok-answer.answer c.args.rest.now.world
     c.put_static.new.world
-    (λ x. Gives None (record x { statics = set_key x.statics c.in-Some.key (stored_in c.in-Some.key c.args.value) }))
+    (λ x. Gives None (record x { statics = set_key x.statics c.key-key.result.now (stored_in c.key-key.result.now c.args.value) }))
     c.in_ok-answer.ensures
-    ∙ passed (g.S.Shapes.shape c.args.shapes.now) (whole (g.S.Shapes.shape c.args.shapes.now) c.args.rest.now) c.args.frame.method (body_of b) (body_of c.args.frame.body) (waits_of c.args.rest.now.waits) c.in-Some.key.class (Gives None (record (whole (g.S.Shapes.shape c.args.shapes.now) c.args.rest.now) { statics = set_key (whole (g.S.Shapes.shape c.args.shapes.now) c.args.rest.now).statics c.in-Some.key (stored_in c.in-Some.key c.args.value) }))
+    ∙ passed (g.S.Shapes.shape c.args.shapes.now) (whole (g.S.Shapes.shape c.args.shapes.now) c.args.rest.now) c.args.frame.method (body_of b) (body_of c.args.frame.body) (waits_of c.args.rest.now.waits) c.key-key.result.now.class (Gives None (record (whole (g.S.Shapes.shape c.args.shapes.now) c.args.rest.now) { statics = set_key (whole (g.S.Shapes.shape c.args.shapes.now) c.args.rest.now).statics c.key-key.result.now (stored_in c.key-key.result.now c.args.value) }))
     (ap (λ (n : List ℕ). is_due (init_at (g.S.Shapes.shape c.args.shapes.now) c.args.rest.now.marks n)) (sym c.class.ensures) ∙ sym c.is_due.ensures ∙ c.if-is_due.false)
     ∙ ap (λ (o : Option Key). on_answer (g.S.Shapes.shape c.args.shapes.now) (whole (g.S.Shapes.shape c.args.shapes.now) c.args.rest.now) c.args.frame.method (body_of b) (body_of c.args.frame.body) (waits_of c.args.rest.now.waits) (of_some (put_static (whole (g.S.Shapes.shape c.args.shapes.now) c.args.rest.now) c.args.value) o))
-    (sym c.in-Some.is ∙ c.in_ok-key.ensures)) c.on_answer.ensures
+    (ap (λ (k : Key). Some k) c.key-key.ensures ∙ ap (option_map key_found) (sym c.in-Some.is) ∙ c.in_ok-found.ensures)) c.on_answer.ensures

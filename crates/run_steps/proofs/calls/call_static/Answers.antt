@@ -4,7 +4,7 @@ use Rattle.run_steps.proofs.Taken.{operands_taken}
 use Rattle.run_steps.proofs.calls.call_static.Goals as goal
 
 pub returns-in-Some : goal.returns-in-Some
-returns-in-Some c = (
+returns-in-Some g c = (
   search rules,
   (
     search rules,

@@ -1,0 +1,5 @@
+use Rattle.set_program.specs.bodies.Links.{AreLinks}
+use Rattle.set_program.proofs.receivers.link_receivers.Given as goal
+
+abbrev pub invariant-loop-name : goal.invariant-loop-name
+invariant-loop-name l = AreLinks l.set l.links
