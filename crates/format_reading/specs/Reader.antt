@@ -4,7 +4,7 @@ use Rattle.std.specs.Int.{w8, w16, w32}
 use Rattle.jv_base.specs.declared.cursor.End.{End}
 use Rattle.jv_base.specs.Place.{Place, number_at, taken_at, part_at}
 use Rattle.jv_base.specs.declared.outcome.Or.{Or}
-use Rattle.jv_base.specs.declared.outcome.Or.TheVariants.{Fault, OutOfMemory}
+use Rattle.jv_base.specs.Outcome.{Gives}
 use Rattle.format_reading.specs.Fault.{cut, fault, inside}
 use Rattle.format_reading.specs.declared.fault.FormatFault.{FormatFault}
 use Rattle.format_reading.specs.declared.fault.FormatKind.{FormatKind}
@@ -26,9 +26,7 @@ ReadsAs view (Err f) new due = due ≡ Err f
 
 -- the same of a call that takes memory; want of it is free (the project's own: want of memory is an answer)
 abbrev pub ReadsAsOr : {T V X : Type 0} → (T → V) → Result T (Or X) → Place → Result (V × Place) X → Type 0
-ReadsAsOr view (Ok x) new due = due ≡ Ok (view x, new)
-ReadsAsOr view (Err (Fault f)) new due = due ≡ Err f
-ReadsAsOr view (Err OutOfMemory) new due = Unit {0}
+ReadsAsOr view result new due = Gives (λ x. (view x, new)) result due
 
 -- both where contracts see the value itself
 abbrev pub Reads : {T X : Type 0} → Result T X → Place → Result (T × Place) X → Type 0

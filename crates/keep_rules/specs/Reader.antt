@@ -6,6 +6,7 @@ use Rattle.std.specs.Borrow.{Bor}
 use Rattle.jv_base.specs.declared.outcome.Or.{Or}
 use Rattle.jv_base.specs.declared.outcome.Or.TheVariants.{Fault, OutOfMemory}
 use Rattle.jv_base.specs.Names.{is_text}
+use Rattle.jv_base.specs.Outcome.{Gives}
 use Rattle.conf_words.specs.declared.splitting.Word.{Word}
 use Rattle.keep_rules.specs.declared.fault.RuleFault.{RuleFault}
 use Rattle.keep_rules.specs.declared.fault.RuleKind.{RuleKind}
@@ -33,15 +34,11 @@ Reader A = Ahead → Result (A × Ahead) RuleFault
 -- what a call answered is what is read, and the words that are left are those behind it; want of memory is free, and
 -- nothing is said of the words after a fault
 abbrev pub ReadsOr : {T : Type 0} → Result T (Or RuleFault) → Ahead → Result (T × Ahead) RuleFault → Type 0
-ReadsOr (Ok x) new due = due ≡ Ok (x, new)
-ReadsOr (Err (Fault f)) new due = due ≡ Err f
-ReadsOr (Err OutOfMemory) new due = Unit {0}
+ReadsOr result new due = Gives (λ x. (x, new)) result due
 
 -- the same, where what is read is seen by view
 abbrev pub ReadsSo : {T V : Type 0} → (T → V) → Result T (Or RuleFault) → Ahead → Result (V × Ahead) RuleFault → Type 0
-ReadsSo view (Ok x) new due = due ≡ Ok (view x, new)
-ReadsSo view (Err (Fault f)) new due = due ≡ Err f
-ReadsSo view (Err OutOfMemory) new due = Unit {0}
+ReadsSo view result new due = Gives (λ x. (view x, new)) result due
 
 -- the same of a call that takes no memory
 abbrev pub Reads : {T : Type 0} → Result T RuleFault → Ahead → Result (T × Ahead) RuleFault → Type 0
