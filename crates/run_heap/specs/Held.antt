@@ -1,5 +1,6 @@
 -- Fields that were set, as a function of all fields (JVMS 2.3, 2.4).
-use Rattle.std.specs.Prelude.{◌≡◌, ℕ, ◌<◌, List, [], ◌∷◌, ◌++◌, length, Option, Some, None, get_or, slice_set, Bool, if◌then◌else◌}
+use Rattle.std.specs.Prelude.{◌≡◌, ℕ, ◌<◌, List, [], ◌∷◌, ◌++◌, length, Option, Some, None, get_or}
+use Rattle.std.specs.Prelude.{slice_set, Bool, if◌then◌else◌}
 use Rattle.jvm_model.specs.Fields.{blank}
 use Rattle.jvm_model.specs.Value.{Key, Value, same_key}
 use Rattle.run_heap.specs.declared.fields.Held.{Held}

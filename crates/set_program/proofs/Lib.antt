@@ -1,5 +1,1 @@
-mod AllNames
-mod Constants
-mod Numbered
-mod Searching
-pub mod Putting
+mod Putting

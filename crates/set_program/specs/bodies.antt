@@ -1,4 +1,2 @@
-pub mod AllNames
-pub mod FieldKeys
 pub mod Rows
 pub mod Links

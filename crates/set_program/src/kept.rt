@@ -10,10 +10,10 @@ ghost use Rattle.set_program.specs.bodies.Rows.{AllHold};
 ghost use Rattle.set_view.specs.ViewOf.{code_at, member_of, shape_of};
 
 use crate::links::{Links, call_row, class_row, code_row, field_row, kinds_row, static_row};
-use crate::{calls, fields, members};
 use class_model::{Code, Kind, MemberRef};
 use class_pool::{ClassId, ClassSet};
 use jv_base::{Items, M, Name, Text};
+use link_check::is_below;
 use run_heap::{Found, Key, Target};
 use run_steps::Kinds;
 use std::alloc::Global;
@@ -30,6 +30,32 @@ pub(crate) fn class_of(set: &ClassSet, links: &Links, name: &Name) -> Option<Cla
     }
 }
 
+/// Whether a class is another one or one of its supertypes is.
+pub(crate) fn is_sub(set: &ClassSet, links: &Links, class: &Name, other: &Name) -> bool
+    requires { AreLinks set.now links.now }
+    ensures { result ≡ (shape_of set.now).is_sub class.now other.now }
+{
+    match class_of(set, links, class) {
+        Some(below) => match class_of(set, links, other) {
+            Some(above) => is_below(set, below, above),
+            None => false,
+        },
+        None => false,
+    }
+}
+
+/// Whether a class is one of the library.
+pub(crate) fn is_library(set: &ClassSet, links: &Links, class: &Name) -> bool
+    requires { AreLinks set.now links.now }
+    ensures { result ≡ (shape_of set.now).is_library class.now }
+{
+    match class_of(set, links, class) {
+        Some(ClassId::Lib(_)) => true,
+        Some(ClassId::Prog(_)) => false,
+        None => false,
+    }
+}
+
 /// The field that a reference means.
 pub(crate) fn field<'a>(
     alloc: Global,
@@ -42,7 +68,7 @@ pub(crate) fn field<'a>(
 {
     match field_row(links.fields.as_slice(), r) {
         Some(row) => Ok(kept_key(&row.key)),
-        None => Ok(made_key(fields::field(alloc, set, r)?)),
+        None => Ok(made_key(set_meanings::field(alloc, set, r)?)),
     }
 }
 
@@ -76,7 +102,7 @@ pub(crate) fn static_target(
 {
     match static_row(links.statics.as_slice(), r) {
         Some(row) => copied(&row.target),
-        None => calls::static_target(alloc, set, r),
+        None => set_meanings::static_target(alloc, set, r),
     }
 }
 
@@ -102,7 +128,7 @@ pub(crate) fn special_target(
 {
     match call_row(links.specials.as_slice(), from, r) {
         Some(row) => copied(&row.target),
-        None => calls::special_target(alloc, set, from, r),
+        None => set_meanings::special_target(alloc, set, from, r),
     }
 }
 
@@ -119,7 +145,7 @@ pub(crate) fn selected_target(
 {
     match call_row(links.selections.as_slice(), class, r) {
         Some(row) => copied(&row.target),
-        None => calls::selected_target(alloc, set, class, r),
+        None => set_meanings::selected_target(alloc, set, class, r),
     }
 }
 
@@ -129,8 +155,8 @@ pub(crate) fn code<'a>(set: &'a ClassSet, links: &Links, key: &Key) -> Option<&'
     ensures { option_copied result ≡ option_and_then (code_at set.now) (member_of set.now key.now) }
 {
     match code_row(links.codes.as_slice(), key) {
-        Some(row) => members::code_at(set, &row.member),
-        None => members::code(set, key),
+        Some(row) => set_meanings::code_at(set, &row.member),
+        None => set_meanings::code(set, key),
     }
 }
 

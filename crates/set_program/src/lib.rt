@@ -1,15 +1,11 @@
 //! A set of classes as a program for the interpreter of the machine of `jvm_model`.
 #![tactic(auto)]
 
-mod calls;
 mod counts;
-mod fields;
 mod kept;
 mod linking;
 mod links;
 mod marks;
-mod members;
-mod names;
 mod program;
 mod receivers;
 mod rows;

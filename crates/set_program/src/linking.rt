@@ -9,15 +9,14 @@ use crate::links::{
     kinds_row, no_links, static_row,
 };
 use crate::marks::{call_mark, key_mark, reference_mark, text_mark};
-use crate::members::member_of;
 use crate::receivers::{RECEIVERS, link_receivers};
 use crate::rows::{place_of, put_row};
-use crate::{calls, fields};
 use class_model::{Class, Code, MemberRef, Method, Op};
 use class_pool::ClassSet;
 use jv_base::{M, Name, Shared, Text, method_text};
 use run_heap::Key;
 use run_steps::operand_kinds;
+use set_meanings::member_of;
 use std::alloc::Global;
 
 /// What the names and references of a set mean.
@@ -160,7 +159,7 @@ fn link_field(alloc: Global, links: &mut Links, set: &ClassSet, r: &Shared<Membe
 fn field_row_of(alloc: Global, set: &ClassSet, r: &Shared<MemberRef>) -> M<FieldRow>
     ensures { IfOk result (IsFieldRow set.now) }
 {
-    let key = fields::field(alloc, set, r)?;
+    let key = set_meanings::field(alloc, set, r)?;
     let reference = r.clone()?;
     Ok(FieldRow { reference, key })
 }
@@ -189,7 +188,7 @@ fn link_static(alloc: Global, links: &mut Links, set: &ClassSet, r: &Shared<Memb
 fn static_row_of(alloc: Global, set: &ClassSet, r: &Shared<MemberRef>) -> M<StaticRow>
     ensures { IfOk result (IsStaticRow set.now) }
 {
-    let target = calls::static_target(alloc, set, r)?;
+    let target = set_meanings::static_target(alloc, set, r)?;
     let reference = r.clone()?;
     Ok(StaticRow { reference, target })
 }
@@ -224,7 +223,7 @@ fn link_special(
 fn special_row_of(alloc: Global, set: &ClassSet, from: &Name, r: &Shared<MemberRef>) -> M<CallRow>
     ensures { IfOk result (IsSpecialRow set.now) }
 {
-    let target = calls::special_target(alloc, set, from, r)?;
+    let target = set_meanings::special_target(alloc, set, from, r)?;
     let reference = r.clone()?;
     let class = from.clone()?;
     Ok(CallRow {

@@ -1,9 +1,9 @@
 // A set of classes as the interpreter asks for it.
 ghost use Rattle.std.specs.Prelude.{◌≡◌, IfOk};
 
+use crate::kept;
 use crate::linking::links_of;
 use crate::links::Links;
-use crate::{calls, fields, kept, members, names};
 use class_model::{Code, MemberRef};
 use class_pool::ClassSet;
 use jv_base::{Items, M, Name, Text};
@@ -53,7 +53,7 @@ impl<'a> SetProgram<'a> {
     pub fn of(alloc: Global, set: &'a ClassSet) -> M<SetProgram<'a>>
         ensures { IfOk result (λ program. program ≡ set.now) }
     {
-        let names = names::all_names(alloc, set)?;
+        let names = set_meanings::all_names(alloc, set)?;
         let links = links_of(alloc, set, names.as_slice())?;
         SetProgram::with(alloc, set, links)
     }
@@ -99,7 +99,7 @@ impl<'a> Shapes for SetProgram<'a> {
     ghost code_of = { λ classes. (view_of classes).code };
 
     fn is_sub(&self, class: &Name, other: &Name) -> bool {
-        names::is_sub(self.set, &self.links, class, other)
+        kept::is_sub(self.set, &self.links, class, other)
     }
 
     fn name_of(&self, class: Known) -> &Name {
@@ -111,7 +111,7 @@ impl<'a> Shapes for SetProgram<'a> {
     }
 
     fn is_library(&self, class: &Name) -> bool {
-        names::is_library(self.set, &self.links, class)
+        kept::is_library(self.set, &self.links, class)
     }
 
     fn field(&self, reference: &MemberRef) -> M<Option<Found<'_>>> {
@@ -131,15 +131,15 @@ impl<'a> Shapes for SetProgram<'a> {
     }
 
     fn array_target(&self, method: &MemberRef) -> M<Option<Target>> {
-        calls::array_target(self.alloc, self.set, method)
+        set_meanings::array_target(self.alloc, self.set, method)
     }
 
     fn firsts(&self, alloc: Global, class: &Name) -> M<Items<Name>> {
-        names::firsts(alloc, self.set, class)
+        set_meanings::firsts(alloc, self.set, class)
     }
 
     fn clinit(&self, class: &Name) -> M<Option<Key>> {
-        fields::clinit(
+        set_meanings::clinit(
             self.alloc,
             self.set,
             class,
@@ -149,11 +149,11 @@ impl<'a> Shapes for SetProgram<'a> {
     }
 
     fn fields_of(&self, alloc: Global, class: &Name) -> M<Items<Key>> {
-        fields::fields_of(alloc, self.set, class)
+        set_meanings::fields_of(alloc, self.set, class)
     }
 
     fn constant(&self, key: &Key) -> M<Option<Value>> {
-        members::constant(self.set, key)
+        set_meanings::constant(self.set, key)
     }
 
     fn code(&self, key: &Key) -> Option<&Code> {

@@ -3,15 +3,14 @@ ghost use Rattle.std.specs.Prelude.{◌≡◌, IfOk, OnOk};
 ghost use Rattle.class_pool.specs.Hierarchy.{IsClass};
 ghost use Rattle.set_program.specs.bodies.Links.{AreLinks, IsSelectedRow};
 
-use crate::calls;
 use crate::links::{CallRow, Links, call_row};
 use crate::marks::call_mark;
-use crate::names::class_name;
 use crate::rows::{place_of, put_row};
 use class_model::{Code, MemberRef, Op};
 use class_pool::{ClassId, ClassSet};
 use indexmap::IndexMap;
 use jv_base::{Base, Items, M, Name, Shared};
+use set_meanings::class_name;
 use std::alloc::Global;
 
 /// For so many classes of receivers, on average, it is kept what a call runs; for others it is found at each call, so
@@ -191,7 +190,7 @@ fn link_selection(
 fn selected_row_of(alloc: Global, set: &ClassSet, of: &Name, r: &Shared<MemberRef>) -> M<CallRow>
     ensures { IfOk result (IsSelectedRow set.now) }
 {
-    let target = calls::selected_target(alloc, set, of, r)?;
+    let target = set_meanings::selected_target(alloc, set, of, r)?;
     let reference = r.clone()?;
     let class = of.clone()?;
     Ok(CallRow {

@@ -6,10 +6,10 @@ ghost use Rattle.class_pool.specs.Found.{IsMember};
 ghost use Rattle.jvm_model.specs.Start.{are_plain_parameters, is_plain, is_plain_base};
 ghost use Rattle.set_view.specs.ViewOf.{is_startable, is_static_method, member_of};
 
-use crate::members::member_of;
 use class_pool::{ClassId, ClassSet, MemberAt};
 use jv_base::{Base, FieldType, M, Or, OutOfMemory, Text, read_method_type};
 use run_heap::Key;
+use set_meanings::member_of;
 use std::alloc::Global;
 
 /// Whether a run may begin with a method of a set: a static one, other than a class initialisation method, whose

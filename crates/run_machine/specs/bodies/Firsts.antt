@@ -13,6 +13,7 @@ Prepared p marks P = (w : Whole) (class : List ℕ) (ws : List Waiting) → w.in
 
 -- it is the next one, and those are the others; or there is none
 abbrev pub IsNext : Shape → List (List ℕ × Init) → Option (List ℕ) → (before after : List (List ℕ)) → Type 0
-IsNext p marks None before after = Prepared p marks (λ w class ws. prepare p w class before ws ≡ prepare p w class [] ws)
+IsNext p marks None before after = Prepared p marks
+    (λ w class ws. prepare p w class before ws ≡ prepare p w class [] ws)
 IsNext p marks (Some first) before after = Prepared p marks
     (λ w class ws. prepare p w class before ws ≡ state w (Initialises first) (AfterFirst class after ∷ ws))

@@ -1,0 +1,4 @@
+mod AllNames
+mod Constants
+mod Numbered
+mod Searching

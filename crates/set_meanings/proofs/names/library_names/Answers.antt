@@ -1,0 +1,7 @@
+use Rattle.std.proofs.Common.{refl}
+use Rattle.lib_table.specs.Library.{library}
+use Rattle.set_meanings.proofs.names.library_names.Goals as goal
+
+pub returns : goal.returns
+unfolding library
+returns c = refl

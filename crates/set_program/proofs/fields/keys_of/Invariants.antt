@@ -1,7 +1,0 @@
-use Rattle.std.proofs.Common.{◌≡◌, ◌++◌, drop, map}
-use Rattle.set_program.specs.bodies.FieldKeys.{field_key}
-use Rattle.set_program.proofs.fields.keys_of.Given as goal
-
-abbrev pub invariant-loop-field : goal.invariant-loop-field
-invariant-loop-field l = l.keys ++ map (field_key l.name) (drop l.field-index l.class.fields)
-    ≡ map (field_key l.name) l.class.fields
