@@ -58,6 +58,15 @@ def deep(n):
         yield File(f'p/C{i:05}', f'p/C{i - 1:05}' if i % 50 else OBJECT, fields=file.fields, methods=file.methods)
 
 
+def deep_large(n):
+    """The same, each with twelve static methods of 61 instructions beside: classes of 2.4 kB."""
+    for i, file in enumerate(deep(n)):
+        other = f'p/C{(i + 1) % n:05}'
+        calls = [('invokestatic', (other, 's', '()V')), ('getstatic', (other, 'f0', 'I')), 'pop'] * 20
+        file.methods = [*file.methods, *(body(*calls, name=f't{k}') for k in range(12))]
+        yield file
+
+
 def overriding(n, methods=1):
     """The same, each with a method that overrides the one above."""
     for i in range(n):
@@ -335,7 +344,7 @@ def colliding(n):
     yield File('p/A', methods=[body(name=name) for name in colliding_names(n)])
 
 
-USUAL = [classes, deep, chain, overriding, implementing, interfaces, extending, calls]
+USUAL = [classes, deep, deep_large, chain, overriding, implementing, interfaces, extending, calls]
 HOSTILE = [strings, long_calls, handlers, throws, descriptors, long_arguments, frames, full_frames, branches, covering, changing, beginning, differing, ending, making, framing, wanting, deep_frames, tall, overriding_twenty, overloads, two_overloads, colliding]
 SIZES = {
     'classes': [2000, 4000, 8000], 'calls': [4000, 8000, 16000], 'strings': [8000, 16000], 'long_calls': [5000, 10000, 20000],
