@@ -8,7 +8,7 @@ use Rattle.tree_io.specs.Runs.{AddsCalls, Sees, memory_faults}
 use Rattle.tree_io.specs.declared.event.Event.{Event}
 use Rattle.tree_io.proofs.Runs.{made_so, same_count}
 use Rattle.command_output.specs.Output.{Output, Outside, SaysText, outside}
-use Rattle.check_command.specs.Answer.{AsksSo, Ended, Ending, Reads, StopsSo, ok_text, said, status_of, stopped}
+use Rattle.check_command.specs.Answer.{AsksSo, Ended, Ending, ReadsPair, StopsSo, ok_text, said, status_of, stopped}
 use Rattle.check_command.specs.Answer.{text_failed, text_without_memory}
 use Rattle.check_command.specs.bodies.Steps.{Says}
 use Rattle.check_command.specs.declared.finding.CheckFiles.{CheckFiles}
@@ -19,7 +19,7 @@ use Rattle.check_command.proofs.Judging.{no_answer}
 
 -- the pair is one, and this was said
 pub finished : (named : CheckFiles) (status : ℕ) (x y : Option Files) (f f2 : ℕ) (a b : List Event) (old new : Output)
-    → AddsCalls a b x y (Reads named) → SaysText ok_text status old new
+    → AddsCalls a b x y (ReadsPair named) → SaysText ok_text status old new
     → (status ≡ 7 → Rose old.faults new.faults)
     → Ended named status (outside x f a old) (outside y f2 b new)
 finished named status x y f f2 a b old new found (inl done) rose =

@@ -49,8 +49,8 @@ absent_by (BadMapping fault) = []
 absent_by (BadWitness fault) = []
 
 -- the tree was asked to read alone, and of all files that fit its answers it is due to say that the pair is one
-abbrev pub Reads : CheckFiles → List Event → Type 0
-Reads named calls = Sees (Some []) (λ files. IsDue files named (Ok tt)) calls
+abbrev pub ReadsPair : CheckFiles → List Event → Type 0
+ReadsPair named calls = Sees (Some []) (λ files. IsDue files named (Ok tt)) calls
 
 -- a refusal that is due was found; or the device failed, or memory was wanting, while the files were read
 abbrev pub StopsSo : Stop Refusal → CheckFiles → List Event → Type 0
@@ -59,14 +59,14 @@ StopsSo Device named calls = Sees (Some []) (λ files. Unit {0}) calls
 StopsSo OutOfMemory named calls = Sees None (λ files. Unit {0}) calls
 
 abbrev pub AsksSo : Ending → CheckFiles → List Event → Type 0
-AsksSo said named calls = Reads named calls
+AsksSo said named calls = ReadsPair named calls
 AsksSo (stopped stop) named calls = StopsSo stop named calls
-AsksSo text_failed named calls = Reads named calls
-AsksSo text_without_memory named calls = Reads named calls
+AsksSo text_failed named calls = ReadsPair named calls
+AsksSo text_without_memory named calls = ReadsPair named calls
 
 abbrev pub SaidSo : Ending → Output → Output → Type 0
 SaidSo said old new = Hands ok_text (Ok tt) old new
-SaidSo (stopped stop) old new = Puts (refusal.line_of stop) old new
+SaidSo (stopped stop) old new = Puts (refusal.stop_line stop) old new
 SaidSo text_failed old new = FailsSo ok_text old new
 SaidSo text_without_memory old new = LacksSo ok_text old new
 

@@ -12,7 +12,7 @@ ghost use Rattle.class_model.specs.ReadingAttributes.{is_int_base, is_long_base,
 ghost use Rattle.class_model.specs.ReadingAttributes.{is_double_base, plain, constant_in, constant_value};
 ghost use Rattle.class_model.specs.ReadingClass.{read_interfaces};
 ghost use Rattle.class_read.specs.bodies.Entries.{found_at};
-ghost use Rattle.class_read.specs.bodies.Seen.{shown};
+ghost use Rattle.class_read.specs.bodies.Seen.{lent_value};
 
 use crate::faults::fault;
 use crate::lookups::class_at;
@@ -30,7 +30,8 @@ pub fn read_units<'a>(
     pool: &'a KnownPool,
     cursor: &mut Cursor,
 ) -> Result<&'a Shared<Units>, FormatFault>
-    ensures { Reads (shown result) cursor.new (item u2 (λ index. due BadIndex (units_at pool.now index)) cursor.old) }
+    ensures { Reads (lent_value result) cursor.new
+        (item u2 (λ index. due BadIndex (units_at pool.now index)) cursor.old) }
 {
     let at = cursor.place();
     let index = cursor.u2()?;

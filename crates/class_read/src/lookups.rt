@@ -3,7 +3,7 @@ ghost use Rattle.std.specs.Prelude.{◌≡◌};
 ghost use Rattle.class_model.specs.Pool.{units_at};
 ghost use Rattle.class_model.specs.Lookups.{test, text_at, good_text_at, class_at, names_right, refers_right};
 ghost use Rattle.class_model.specs.Lookups.{test_of_units};
-ghost use Rattle.class_read.specs.bodies.Seen.{shown};
+ghost use Rattle.class_read.specs.bodies.Seen.{lent_value};
 ghost use Rattle.class_read.specs.bodies.Lookups.{referred, type_named_right};
 ghost use Rattle.known_pool.specs.bodies.Texts.{obeys};
 
@@ -20,7 +20,7 @@ pub fn test(kind: FormatKind, passed: bool) -> Result<(), FormatKind>
 
 /// The text at an index; one with an unpaired surrogate is a fault of the kind.
 pub fn text_at(pool: &KnownPool, kind: FormatKind, index: u16) -> Result<&KnownText, FormatKind>
-    ensures { shown result ≡ text_at kind pool.now index }
+    ensures { lent_value result ≡ text_at kind pool.now index }
 {
     if !pool.is_utf8_at(index) {
         return Err(FormatKind::BadIndex);
@@ -38,7 +38,7 @@ pub fn good_text_at(
     rule: TextRule,
     index: u16,
 ) -> Result<&KnownText, FormatKind>
-    ensures { shown result ≡ good_text_at kind (obeys rule) pool.now index }
+    ensures { lent_value result ≡ good_text_at kind (obeys rule) pool.now index }
 {
     let text = text_at(pool, kind, index)?;
     test(kind, text.obeys(rule))?;
@@ -48,7 +48,7 @@ pub fn good_text_at(
 /// The name of the class, no array type, that a CONSTANT_Class at an index names (JVMS 4.4.1).
 #[tactic(auto, unfolding(class_model::specs::Lookups::class_at))]
 pub fn class_at(pool: &KnownPool, index: u16) -> Result<&KnownText, FormatKind>
-    ensures { shown result ≡ class_at pool.now index }
+    ensures { lent_value result ≡ class_at pool.now index }
 {
     let Some(Entry::Class(name_index)) = pool.entry_at(index) else {
         return Err(FormatKind::BadIndex);

@@ -6,7 +6,7 @@ ghost use Rattle.class_model.specs.Lookups.{good_text_at};
 ghost use Rattle.class_model.specs.MemberTypes.{field_type_at, method_type_at};
 ghost use Rattle.class_model.specs.Members.{has_room_for_this, is_initial_type};
 ghost use Rattle.jv_base.specs.Types.{argument_words};
-ghost use Rattle.class_read.specs.bodies.Seen.{shown};
+ghost use Rattle.class_read.specs.bodies.Seen.{lent_value};
 ghost use Rattle.known_pool.specs.bodies.Texts.{obeys};
 
 use crate::faults::fault;
@@ -22,7 +22,7 @@ pub fn read_name<'a>(
     rule: TextRule,
     cursor: &mut Cursor,
 ) -> Result<&'a KnownText, FormatFault>
-    ensures { Reads (shown result) cursor.new (item u2 (good_text_at BadName (obeys rule) pool.now) cursor.old) }
+    ensures { Reads (lent_value result) cursor.new (item u2 (good_text_at BadName (obeys rule) pool.now) cursor.old) }
 {
     let at = cursor.place();
     let index = cursor.u2()?;
@@ -34,7 +34,7 @@ pub fn read_name<'a>(
 
 #[tactic(auto, unfolding(class_model::specs::MemberTypes::field_type_at))]
 fn field_type_at(pool: &KnownPool, index: u16) -> Result<&DescribedField, FormatKind>
-    ensures { shown result ≡ field_type_at pool.now index }
+    ensures { lent_value result ≡ field_type_at pool.now index }
 {
     let text = text_at(pool, FormatKind::BadDescriptor, index)?;
     match text.field_type() {
@@ -48,7 +48,7 @@ pub fn read_field_type<'a>(
     pool: &'a KnownPool,
     cursor: &mut Cursor,
 ) -> Result<&'a DescribedField, FormatFault>
-    ensures { Reads (shown result) cursor.new (item u2 (field_type_at pool.now) cursor.old) }
+    ensures { Reads (lent_value result) cursor.new (item u2 (field_type_at pool.now) cursor.old) }
 {
     let at = cursor.place();
     let index = cursor.u2()?;
@@ -82,7 +82,7 @@ fn method_type_at<'a>(
     name: &str,
     index: u16,
 ) -> Result<&'a DescribedMethod, FormatKind>
-    ensures { shown result ≡ method_type_at pool.now in_interface flags name.now index }
+    ensures { lent_value result ≡ method_type_at pool.now in_interface flags name.now index }
 {
     let text = text_at(pool, FormatKind::BadDescriptor, index)?;
     let Some(described) = text.method_type() else {
@@ -106,7 +106,7 @@ pub fn read_method_type<'a>(
     name: &Name,
     cursor: &mut Cursor,
 ) -> Result<&'a DescribedMethod, FormatFault>
-    ensures { Reads (shown result) cursor.new
+    ensures { Reads (lent_value result) cursor.new
         (item u2 (method_type_at pool.now in_interface flags name.now) cursor.old) }
 {
     let at = cursor.place();

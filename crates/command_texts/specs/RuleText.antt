@@ -16,12 +16,12 @@ abbrev pub nothing_kept : RuleFault
 nothing_kept = record { line = 0; kind = kind.NothingKept }
 
 -- an option behind a kind, and the end of the line
-abbrev pub ended : Option (List ℕ) → List ℕ
-ended None = codes "\n"
-ended (Some option) = codes " " ++ (option ++ codes "\n")
+abbrev pub rest_of_line : Option (List ℕ) → List ℕ
+rest_of_line None = codes "\n"
+rest_of_line (Some option) = codes " " ++ (option ++ codes "\n")
 
 -- the line of a fault
 abbrev pub rules_line : RuleFault → List ℕ
 rules_line fault =
     codes "error 3 rules " ++
-    (decimal fault.line ++ (codes " " ++ (rule_name fault.kind ++ ended (rule_option fault.kind))))
+    (decimal fault.line ++ (codes " " ++ (rule_name fault.kind ++ rest_of_line (rule_option fault.kind))))

@@ -4,7 +4,7 @@ use Rattle.std.proofs.Common.{refl, sym, ap, subst, ◌∙◌, inl, inr, codes}
 use Rattle.std.specs.Prelude.{IfOk, OnOk}
 use Rattle.jv_base.specs.declared.outcome.OutOfMemory.{OutOfMemory}
 use Rattle.clap.specs.declared.parser.matches.ArgMatches.{ArgMatches}
-use Rattle.command_words.specs.bodies.Reads.{Reads}
+use Rattle.command_words.specs.bodies.Reads.{ReadsWords}
 use Rattle.std.specs.List.{find}
 use Rattle.std.specs.Option.{option_map}
 use Rattle.std.specs.Str.{bytes_eq}
@@ -82,7 +82,7 @@ refused_says words f = by (fault_of command_line words) f
 pub reads_ok : (app : App) (words : List Text) (r : Result ArgMatches Error) (m : ArgMatches) → r ≡ Ok m
     → app ≡ command_line
     → (is_simple_and_free app ≡ true → FailsBy (fault_of app words) r) → IfOk r (HasMatchesOf app words)
-    → Reads words (Some m)
+    → ReadsWords words (Some m)
 reads_ok app words r m is e k h =
     let none : fault_of app words ≡ [] =
     subst (λ (x : Result ArgMatches Error). FailsBy (fault_of app words) x) is
@@ -94,7 +94,8 @@ reads_ok app words r m is e k h =
 -- words that clap refused
 pub reads_err : (app : App) (words : List Text) (r : Result ArgMatches Error) (f : Error) → r ≡ Err f
     → app ≡ command_line
-    → (is_simple_and_free app ≡ true → FailsBy (fault_of app words) r) → kind_of f ≢ kind.OutOfMemory → Reads words None
+    → (is_simple_and_free app ≡ true → FailsBy (fault_of app words) r) → kind_of f ≢ kind.OutOfMemory
+    → ReadsWords words None
 reads_err app words r f is e k other =
     let has : HasKind (fault_of app words) f =
     subst (λ (x : Result ArgMatches Error). FailsBy (fault_of app words) x) is
@@ -104,22 +105,22 @@ reads_err app words r f is e k other =
 -- no matches, where memory wasn't wanting
 pub refused_reads : {P : Type 0} (words : List Text) (r : Result (Option ArgMatches) OutOfMemory)
     → IfOk r (λ m. m ≡ None) → OnOk r P
-    → (P → Reads words None) → IfOk r (Reads words)
-refused_reads words (Ok m) n p f = subst (Reads words) (sym n) (f p)
+    → (P → ReadsWords words None) → IfOk r (ReadsWords words)
+refused_reads words (Ok m) n p f = subst (ReadsWords words) (sym n) (f p)
 refused_reads words (Err e) n p f = tt
 
 -- what is said of words that were taken
 pub taken_said : (words texts : List Text) (m : Option ArgMatches) (n : ArgMatches) → m ≡ Some n → texts ≡ words
-    → Reads texts m
+    → ReadsWords texts m
     → said_in (rows_of (found_of n)) ≡ commanded words
 taken_said words texts m n is same reads =
-    let read : Reads texts (Some n) = subst (Reads texts) is reads in
+    let read : ReadsWords texts (Some n) = subst (ReadsWords texts) is reads in
     taken_says texts (rows_of (found_of n)) read.0 read.1 ∙ ap commanded same
 
 -- what is said of words that were refused
-pub refused_said : (words texts : List Text) (m : Option ArgMatches) → m ≡ None → texts ≡ words → Reads texts m
+pub refused_said : (words texts : List Text) (m : Option ArgMatches) → m ≡ None → texts ≡ words → ReadsWords texts m
     → None ≡ commanded words
-refused_said words texts m is same reads = refused_says texts (subst (Reads texts) is reads) ∙ ap commanded same
+refused_said words texts m is same reads = refused_says texts (subst (ReadsWords texts) is reads) ∙ ap commanded same
 
 -- an answer by another value that is the same
 pub answers : {X E : Type 0} (r : Result X E) (x y : X) → IfOk r (λ z. z ≡ x) → x ≡ y → IfOk r (λ z. z ≡ y)

@@ -3,7 +3,7 @@ ghost use Rattle.std.specs.Prelude.{◌≡◌, ◌≢◌, None, IfOk, OnOk, code
 ghost use Rattle.clap.specs.Words.{all_of, found_of, kind_of, rows_of};
 ghost use Rattle.command_words.specs.Words.{command_named, both_files, check_asked, commanded, gen_asked, gen_number};
 ghost use Rattle.command_words.specs.Words.{both_in, retrace_asked, said_in, shrink_asked, two_in};
-ghost use Rattle.command_words.specs.bodies.Reads.{Reads};
+ghost use Rattle.command_words.specs.bodies.Reads.{ReadsWords};
 
 use crate::Command;
 use crate::arguments::command_line;
@@ -38,7 +38,7 @@ fn texts_of(alloc: Global, words: &[Text]) -> M<Vec<&str>>
 
 // What clap finds in words, where it takes them.
 fn matches_in<'a>(alloc: Global, words: &'a [&'a str]) -> M<Option<ArgMatches<'a>>>
-    ensures { IfOk result (Reads (map (λ t. t.now) words.now)) }
+    ensures { IfOk result (ReadsWords (map (λ t. t.now) words.now)) }
 {
     let line = command_line(alloc)?;
     match line.try_get_matches_from(words) {

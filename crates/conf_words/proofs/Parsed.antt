@@ -10,7 +10,7 @@ use Rattle.conf_words.specs.declared.splitting.WordFault.{WordFault}
 use Rattle.conf_words.specs.declared.splitting.WordFault.TheVariants.{QuoteOpen, NotUtf8}
 use Rattle.conf_words.specs.declared.kinds.Kind.TheVariants.{Quote}
 use Rattle.conf_words.specs.Pieces.{Piece, spelled, kind_of, Lacks, stops, StandsBefore, StandBefore, ends_line}
-use Rattle.conf_words.specs.Pieces.{ends_quote, word_of, lines_of, word_before, words_of, line_behind, HasWords}
+use Rattle.conf_words.specs.Pieces.{ends_quote, word_of, lines_of, word_before, words_from, line_behind, HasWords}
 use Rattle.conf_words.specs.Pieces.{LeavesOpen}
 use Rattle.conf_words.specs.Reading.{words_at, with_words, piece_of}
 use Rattle.conf_words.proofs.Begins.{StaysOpen, begins, opens, some_byte, front_piece, told, told_open}
@@ -70,13 +70,13 @@ with_none (Err f) = refl
 -- pieces at the front of a text are read, and then the rest
 pub pieces_read : (pieces : List Piece) (line : ℕ) (behind : List ℕ) → StandBefore pieces behind
     → words_at 0 line (flat_map spelled pieces ++ behind)
-    ≡ with_words (words_of line pieces) (words_at 0 (line_behind line pieces) behind)
+    ≡ with_words (words_from line pieces) (words_at 0 (line_behind line pieces) behind)
 pieces_read [] line behind h = sym (with_none (words_at 0 line behind))
 pieces_read (piece ∷ pieces) line behind h =
     let rest : List ℕ = flat_map spelled pieces ++ behind in
     let text : flat_map spelled (piece ∷ pieces) ++ behind ≡ spelled piece ++ rest = append_assoc (spelled piece)
     (flat_map spelled pieces) behind in
-    let words : List Word = words_of (line + lines_of piece) pieces in
+    let words : List Word = words_from (line + lines_of piece) pieces in
     ap (words_at 0 line) text
     ∙ piece_read line (spelled piece ++ rest) piece rest (told piece rest h.0) refl (some_byte piece rest h.0)
     ∙ ap (with_words (word_before (word_of piece) line [])) (pieces_read pieces (line + lines_of piece) behind h.1)
@@ -91,7 +91,7 @@ record Has (line : ℕ) (text : List ℕ) (words : List Word) : Type 0 where
   pub pieces : List Piece
   pub spelled_so : text ≡ flat_map spelled pieces
   pub apart : StandBefore pieces []
-  pub are : words ≡ words_of line pieces
+  pub are : words ≡ words_from line pieces
 
 -- a text on a line leaves a quote open on another
 record Leaves (line : ℕ) (text : List ℕ) (at : ℕ) : Type 0 where
@@ -185,9 +185,9 @@ found text words e =
 only : (text : List ℕ) (words : List Word) → HasWords text words → words_at 0 1 text ≡ Ok words
 only text words h = ap (words_at 0 1) (h.spelled_so ∙ sym (append-nil (flat_map spelled h.pieces)))
     ∙ pieces_read h.pieces 1 [] h.apart
-    ∙ ap (with_words (words_of 1 h.pieces)) (nothing_read (line_behind 1 h.pieces))
+    ∙ ap (with_words (words_from 1 h.pieces)) (nothing_read (line_behind 1 h.pieces))
     ∙ ap (λ (w : List Word). let R : Result (List Word) WordFault = Ok w in R)
-    (append-nil (words_of 1 h.pieces) ∙ sym h.are)
+    (append-nil (words_from 1 h.pieces) ∙ sym h.are)
 
 pub words_law : (text : List ℕ) (words : List Word) → (words_at 0 1 text ≡ Ok words) ↔ HasWords text words
 words_law text words = (found text words, only text words)
@@ -211,7 +211,7 @@ open_found text line e =
 open_only : (text : List ℕ) (line : ℕ) → LeavesOpen text line → words_at 0 1 text ≡ Err (QuoteOpen line)
 open_only text line h = ap (words_at 0 1) h.spelled_so
     ∙ pieces_read h.pieces 1 (h.quote ∷ (h.inside ++ h.behind)) h.apart
-    ∙ ap (with_words (words_of 1 h.pieces)) (first_open (line_behind 1 h.pieces) h.quote (h.inside ++ h.behind)
+    ∙ ap (with_words (words_from 1 h.pieces)) (first_open (line_behind 1 h.pieces) h.quote (h.inside ++ h.behind)
     (told_open h.quote h.inside h.behind h.opened h.not_closed h.line_ends))
     ∙ ap (λ (n : ℕ). let R : Result (List Word) WordFault = Err (QuoteOpen n) in R) (sym h.on_line)
 

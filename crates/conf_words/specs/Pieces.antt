@@ -101,9 +101,9 @@ word_before None line words = words
 word_before (Some text) line words = record { text = text; line = line } ∷ words
 
 -- the words of pieces, of which the first stands on a line
-abbrev pub words_of : ℕ → List Piece → List Word
-words_of line [] = []
-words_of line (piece ∷ pieces) = word_before (word_of piece) line (words_of (line + lines_of piece) pieces)
+abbrev pub words_from : ℕ → List Piece → List Word
+words_from line [] = []
+words_from line (piece ∷ pieces) = word_before (word_of piece) line (words_from (line + lines_of piece) pieces)
 
 -- the line behind pieces, of which the first stands on a line
 abbrev pub line_behind : ℕ → List Piece → ℕ
@@ -115,7 +115,7 @@ pub record HasWords (text : List ℕ) (words : List Word) : Type 0 where
   pub pieces : List Piece
   pub spelled_so : text ≡ flat_map spelled pieces
   pub apart : StandBefore pieces []
-  pub are : words ≡ words_of 1 pieces
+  pub are : words ≡ words_from 1 pieces
 
 -- a quote is opened on a line of a text, and isn't closed there
 pub record LeavesOpen (text : List ℕ) (line : ℕ) : Type 0 where

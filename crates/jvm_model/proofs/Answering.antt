@@ -22,14 +22,14 @@ use Rattle.jvm_model.specs.Arrays.{arrays_from, at_index, blank_array, get_in, i
 use Rattle.jvm_model.specs.Arrays.{new_arrays}
 use Rattle.jvm_model.specs.Arrays.{on_array, put_in, put_value}
 use Rattle.jvm_model.specs.Calls.{acted, all_seen, call_selected, call_special, called, called_static, on_receiver}
-use Rattle.jvm_model.specs.Calls.{seen}
+use Rattle.jvm_model.specs.Calls.{seen_operand}
 use Rattle.jvm_model.specs.Calls.{seen_object, set_builder, set_thrown, target_on}
-use Rattle.jvm_model.specs.Casts.{cast, tested}
+use Rattle.jvm_model.specs.Casts.{cast, instance_of}
 use Rattle.jvm_model.specs.Exceptions.{Exception, Arithmetic, NullPointer, ArrayIndex, NegativeSize, ArrayStore}
 use Rattle.jvm_model.specs.Exceptions.{ClassCast}
 use Rattle.jvm_model.specs.Exceptions.{TextIndex, NoClassDef, InInitializer, IncompatibleChange, IllegalAccess}
 use Rattle.jvm_model.specs.Exceptions.{AbstractMethod, exception_class}
-use Rattle.jvm_model.specs.Fields.{blank, fresh, get_field, get_from, get_static, made, new, put_field, put_into}
+use Rattle.jvm_model.specs.Fields.{blank, fresh, get_field, get_from, get_static, put_on_heap, new, put_field, put_into}
 use Rattle.jvm_model.specs.Fields.{put_static}
 use Rattle.jvm_model.specs.Fields.{stored_in}
 use Rattle.jvm_model.specs.Heap.{Array, Begun, Builder, Failed, Fresh, Init, Instance, Object, Ready, Str, World}
@@ -319,7 +319,7 @@ module _ (m : Mapping) (p q : Shape) (is : ShapeMap m p q) where
     pub same_length : length b.heap ≡ length a.heap
     same_length = AllZip-long Objects a.heap b.heap h.heap
 
-    made_map : (x y : Object) → Objects x y → AnswerMap (made a x) (made b y)
+    made_map : (x y : Object) → Objects x y → AnswerMap (put_on_heap a x) (put_on_heap b y)
     made_map x y r = (_, ap (λ n. Gives (Some (Ref n)) (with_new b y)) same_length, one_more x y r)
 
     gives : (o : Option Value) → AnswerMap (Gives o a) (Gives o b)
@@ -406,7 +406,7 @@ module _ (m : Mapping) (p q : Shape) (is : ShapeMap m p q) where
     seen_at n (Some x) y r =
         ap (option_and_then (λ o. Some (seen_object n o))) r.1 ∙ ap Some (seen_object_same n x r.0 r.2)
 
-    seen_same : (v : Value) → seen b v ≡ seen a v
+    seen_same : (v : Value) → seen_operand b v ≡ seen_operand a v
     seen_same (Ref n) = seen_at n _ _ (heap_at n)
     seen_same (Int z) = refl
     seen_same (Long z) = refl
@@ -417,7 +417,7 @@ module _ (m : Mapping) (p q : Shape) (is : ShapeMap m p q) where
     all_seen_same [] = refl
     all_seen_same (v ∷ vs) =
         ap (λ o. o >>= (λ x. all_seen b vs >>= (λ xs. Some (x ∷ xs)))) (seen_same v)
-        ∙ ap (λ o. seen a v >>= (λ x. o >>= (λ xs. Some (x ∷ xs)))) (all_seen_same vs)
+        ∙ ap (λ o. seen_operand a v >>= (λ x. o >>= (λ xs. Some (x ∷ xs)))) (all_seen_same vs)
 
     set_builder_map : (n : ℕ) (u : List ℕ) (v : Option Value) (x y : Object) → Objects x y
         → AnswerMap (set_builder a n u v x) (set_builder b n u v y)
@@ -664,7 +664,7 @@ module _ (m : Mapping) (p q : Shape) (is : ShapeMap m p q) where
         of_some_map Objects (told_below p a t) (told_below q b u) (object_of a v) (object_of b v) (object_at v)
         (λ x y r. (b, ap (λ z. Gives (Some (truth z)) b) (below_map t u e x y r), h))
 
-    tested_map : (t u : FieldType) → Typed t u → (v : Value) → AnswerMap (tested p a t v) (tested q b u v)
+    tested_map : (t u : FieldType) → Typed t u → (v : Value) → AnswerMap (instance_of p a t v) (instance_of q b u v)
     tested_map t u e Null = gives (Some (truth false))
     tested_map t u e v = told_below_map t u e v
 

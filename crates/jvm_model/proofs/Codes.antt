@@ -10,7 +10,7 @@ use Rattle.jvm_model.specs.Answers.{Answer, Gives, Raises, Begins, Awaits, NoAns
 use Rattle.jvm_model.specs.Heap.{Init, Fresh, Begun, Ready, Failed, Object, World}
 use Rattle.jvm_model.specs.Initialisation.{begin_by, complete, frame, goes_back, is_due, marked, prepare}
 use Rattle.jvm_model.specs.Initialisation.{run_clinit, state}
-use Rattle.jvm_model.specs.Local.{Local, Moves, Wants, Ends, Tosses, Stuck, begun, handler_for, local, resumed}
+use Rattle.jvm_model.specs.Local.{Local, Moves, Wants, Ends, Tosses, Stuck, called_with, handler_for, local, resumed}
 use Rattle.jvm_model.specs.Local.{with_stack}
 use Rattle.jvm_model.specs.Premise.{Effect, Enters, Meets, Premise, Stands, Turn, alone, breaks, together}
 use Rattle.jvm_model.specs.Program.{View}
@@ -54,7 +54,7 @@ Pair R (Some c) y f g = (d : Code) × (y ≡ Some d) × LineCorr (line_at f.at c
 
 module _ (v w : View) (shape : w.shape ≡ v.shape) (R : Key → ℕ → Body → Body → Type 0)
     (codes_sim : (m : Key) → CodeSim (R m) (v.code m) (w.code m))
-    (begins : (m : Key) (args : List Value) → (n : ℕ) × R m n (begun args) (begun args)) where
+    (begins : (m : Key) (args : List Value) → (n : ℕ) × R m n (called_with args) (called_with args)) where
   abbrev new : View
   new = record { shape = v.shape; code = w.code }
 
@@ -85,8 +85,9 @@ module _ (v w : View) (shape : w.shape ≡ v.shape) (R : Key → ℕ → Body �
     control : ControlSim s.control t.control
     waits : AllZip WaitSim s.waits t.waits
 
-  begin_sim : (x : Key) (args : List Value) → ControlSim (Runs (frame x (begun args))) (Runs (frame x (begun args)))
-  begin_sim x args = (begun args, refl, (begins x args).0, (begins x args).1)
+  begin_sim : (x : Key) (args : List Value)
+      → ControlSim (Runs (frame x (called_with args))) (Runs (frame x (called_with args)))
+  begin_sim x args = (called_with args, refl, (begins x args).0, (begins x args).1)
 
   abbrev weight_of : (k l : Control) → ControlSim k l → ℕ
   weight_of (Runs f) l h = h.2
@@ -527,7 +528,7 @@ module _ (puts : Code → Code → Type 0) (related : (c d : Code) → puts c d 
       subst (λ x. CodeSim (related h.0 h.1 h.4) x b) (sym h.2) (h.1, h.3, premise h.0 h.1 h.4)
 
   begin_all : (a b : Option Code) (s : Stands puts a b) (args : List Value)
-      → (n : ℕ) × RelationOf a b s n (begun args) (begun args)
+      → (n : ℕ) × RelationOf a b s n (called_with args) (called_with args)
   begin_all a b (inl e) args = (0, refl)
   begin_all a b (inr h) args = (premise h.0 h.1 h.4).begins args
 

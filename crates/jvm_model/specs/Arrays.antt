@@ -8,7 +8,7 @@ use Rattle.jv_base.specs.declared.types.FieldType.{FieldType}
 use Rattle.class_model.specs.declared.op.Elem.{Elem}
 use Rattle.jvm_model.specs.Answers.{Answer, Gives, Raises, NoAnswer, of_some}
 use Rattle.jvm_model.specs.Exceptions.{NullPointer, ArrayIndex, NegativeSize, ArrayStore}
-use Rattle.jvm_model.specs.Fields.{made}
+use Rattle.jvm_model.specs.Fields.{put_on_heap}
 use Rattle.jvm_model.specs.Heap.{Array, Object, World, newest, object_of, type_of, with_object}
 use Rattle.jvm_model.specs.Program.{Shape}
 use Rattle.jvm_model.specs.Types.{component_of, default_of, is_component, is_type_below, kind_of, stored}
@@ -20,7 +20,7 @@ blank_array component n = Array component (replicate n (default_of (kind_of comp
 
 -- a new array; a negative size throws a NegativeArraySizeException (JVMS 6.5.newarray, 6.5.anewarray)
 abbrev pub new_array : World → FieldType → ℤ → Answer
-new_array w component (pos n) = made w (blank_array component n)
+new_array w component (pos n) = put_on_heap w (blank_array component n)
 new_array w component (negsuc n) = Raises NegativeSize
 
 -- references to so many objects, from a number on

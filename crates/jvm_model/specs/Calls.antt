@@ -4,7 +4,7 @@ use Rattle.std.specs.Option.{option_and_then}
 use Rattle.class_model.specs.declared.op.MemberRef.{MemberRef}
 use Rattle.jvm_model.specs.Answers.{Answer, Gives, Raises, Begins, NoAnswer, of_some, once_initialised}
 use Rattle.jvm_model.specs.Exceptions.{NullPointer}
-use Rattle.jvm_model.specs.Fields.{made}
+use Rattle.jvm_model.specs.Fields.{put_on_heap}
 use Rattle.jvm_model.specs.Heap.{Object, Instance, Array, Str, Builder, World, class_of, object_of, with_object}
 use Rattle.jvm_model.specs.Library.{Act, Returns, MakesString, SetsBuilder, SetsThrown, Writes, Throws, NoAct, act}
 use Rattle.jvm_model.specs.Library.{Seen, ANull, AnInt, ALong, AString, ABuilder, AnInstance, AnArray}
@@ -22,18 +22,18 @@ seen_object n (Str units) = AString (Ref n) units
 seen_object n (Builder units) = ABuilder n units
 
 -- an operand as a method of the library sees it
-abbrev pub seen : World → Value → Option Seen
-seen w (Int z) = Some (AnInt z)
-seen w (Long z) = Some (ALong z)
-seen w Null = Some ANull
-seen w (Lit units) = Some (AString (Lit units) units)
-seen w (Ref n) = option_and_then (λ o. Some (seen_object n o)) (slice_get w.heap n)
+abbrev pub seen_operand : World → Value → Option Seen
+seen_operand w (Int z) = Some (AnInt z)
+seen_operand w (Long z) = Some (ALong z)
+seen_operand w Null = Some ANull
+seen_operand w (Lit units) = Some (AString (Lit units) units)
+seen_operand w (Ref n) = option_and_then (λ o. Some (seen_object n o)) (slice_get w.heap n)
 
 -- the same of all operands, where each is one
 abbrev pub all_seen : World → List Value → Option (List Seen)
 all_seen w [] = Some []
 all_seen w (v ∷ vs) = do
-  x ← seen w v
+  x ← seen_operand w v
   xs ← all_seen w vs
   Some (x ∷ xs)
 
@@ -51,7 +51,7 @@ set_thrown w n message cause _ = NoAnswer
 -- what an act does to the world
 abbrev pub acted : World → Act → Answer
 acted w (Returns result) = Gives result w
-acted w (MakesString units) = made w (Str units)
+acted w (MakesString units) = put_on_heap w (Str units)
 acted w (SetsBuilder n units result) = of_some (set_builder w n units result) (slice_get w.heap n)
 acted w (SetsThrown n message cause) = of_some (set_thrown w n message cause) (slice_get w.heap n)
 acted w (Writes units) = Gives None (record w { printed = w.printed ++ units })

@@ -15,6 +15,6 @@ cast p w ty v = of_some
     (λ o. if is_type_below p.is_sub (type_of o) ty then Gives (Some v) w else Raises ClassCast) (object_of w v)
 
 -- whether it is to an object of the type; null is to none (JVMS 6.5.instanceof)
-abbrev pub tested : Shape → World → FieldType → Value → Answer
-tested p w ty Null = Gives (Some (truth false)) w
-tested p w ty v = of_some (λ o. Gives (Some (truth (is_type_below p.is_sub (type_of o) ty))) w) (object_of w v)
+abbrev pub instance_of : Shape → World → FieldType → Value → Answer
+instance_of p w ty Null = Gives (Some (truth false)) w
+instance_of p w ty v = of_some (λ o. Gives (Some (truth (is_type_below p.is_sub (type_of o) ty))) w) (object_of w v)

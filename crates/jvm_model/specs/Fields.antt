@@ -53,9 +53,9 @@ abbrev pub fresh : List ℕ → Object
 fresh class = if is_text class string_builder then Builder [] else Instance class blank Null Null
 
 -- the object that is made goes to the heap
-abbrev pub made : World → Object → Answer
-made w o = Gives (Some (newest w)) (with_new w o)
+abbrev pub put_on_heap : World → Object → Answer
+put_on_heap w o = Gives (Some (newest w)) (with_new w o)
 
 -- a new object, when its class is initialised (JVMS 6.5.new)
 abbrev pub new : World → List ℕ → Answer
-new w class = once_initialised w class (made w (fresh class))
+new w class = once_initialised w class (put_on_heap w (fresh class))

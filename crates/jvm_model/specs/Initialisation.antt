@@ -7,7 +7,7 @@ use Rattle.jv_base.specs.Names.{is_text}
 use Rattle.jvm_model.specs.Exceptions.{Exception, NoClassDef, exception_class}
 use Rattle.jvm_model.specs.Fields.{fresh, stored_in}
 use Rattle.jvm_model.specs.Heap.{Init, Fresh, Begun, Ready, Failed, World, with_new}
-use Rattle.jvm_model.specs.Local.{begun}
+use Rattle.jvm_model.specs.Local.{called_with}
 use Rattle.jvm_model.specs.Program.{Shape}
 use Rattle.jvm_model.specs.State.{AfterClinit, AfterFirst, AfterInit, Body, Control, Frame, Initialises, Prepares, Runs}
 use Rattle.jvm_model.specs.State.{State, ToEntry, Unwinds, Wait, Wrong}
@@ -29,7 +29,7 @@ raised w exception ws = state (with_new w (fresh (exception_class exception))) (
 abbrev pub goes_back : World → List Wait → State
 goes_back w (AfterInit f ∷ ws) = state w (Runs f) ws
 goes_back w (AfterFirst class firsts ∷ ws) = state w (Prepares class firsts) ws
-goes_back w (ToEntry method args ∷ ws) = state w (Runs (frame method (begun args))) ws
+goes_back w (ToEntry method args ∷ ws) = state w (Runs (frame method (called_with args))) ws
 goes_back w ws = state w Wrong ws
 
 -- how far the initialisation of the class is now
@@ -62,7 +62,7 @@ complete w class ws = goes_back (marked w class Ready) ws
 -- its initialisation method begins; where it has none, it ends (JVMS 5.5, step 9)
 abbrev pub run_clinit : World → List ℕ → List Wait → Option Key → State
 run_clinit w class ws None = complete w class ws
-run_clinit w class ws (Some method) = state w (Runs (frame method (begun []))) (AfterClinit class ∷ ws)
+run_clinit w class ws (Some method) = state w (Runs (frame method (called_with []))) (AfterClinit class ∷ ws)
 
 -- the class still has to be initialised
 abbrev pub is_due : Init → Bool

@@ -75,14 +75,14 @@ pub data Act : Type 0 where
 
 -- the value as a text: a number in decimal, a char as its unit, a boolean as true unless it is 0
 -- (Java SE 8 API, String.valueOf; of an int outside its type the project's own)
-abbrev pub told : Told → Seen → Option (List ℕ)
-told AsInt (AnInt z) = Some (signed_decimal z)
-told AsLong (ALong z) = Some (signed_decimal z)
-told AsChar (AnInt z) = Some (unsigned_abs (int_rem_euclid z (pos 65536)) ∷ [])
-told AsBoolean (AnInt z) = Some (if int_eq z (pos 0) then codes "false" else codes "true")
-told AsString (AString reference units) = Some units
-told AsString ANull = Some (codes "null")
-told _ _ = None
+abbrev pub value_text : Told → Seen → Option (List ℕ)
+value_text AsInt (AnInt z) = Some (signed_decimal z)
+value_text AsLong (ALong z) = Some (signed_decimal z)
+value_text AsChar (AnInt z) = Some (unsigned_abs (int_rem_euclid z (pos 65536)) ∷ [])
+value_text AsBoolean (AnInt z) = Some (if int_eq z (pos 0) then codes "false" else codes "true")
+value_text AsString (AString reference units) = Some units
+value_text AsString ANull = Some (codes "null")
+value_text _ _ = None
 
 -- what is done with it
 abbrev pub with_told : Option (List ℕ) → (List ℕ → Act) → Act
@@ -163,15 +163,16 @@ act StringBetween (AString r us ∷ AnInt a ∷ AnInt b ∷ []) = part_of us a b
 act StringCompareTo (AString r us ∷ AString s vs ∷ []) = int (comparison us vs)
 act StringCompareTo (AString r us ∷ ANull ∷ []) = Throws NullPointer
 act StringToString (AString r us ∷ []) = Returns (Some r)
-act (StringValueOf ty) (x ∷ []) = with_told (told ty x) MakesString
+act (StringValueOf ty) (x ∷ []) = with_told (value_text ty x) MakesString
 act BuilderInit (ABuilder n us ∷ []) = SetsBuilder n [] None
 act BuilderInitWith (ABuilder n us ∷ AString r vs ∷ []) = SetsBuilder n vs None
 act BuilderInitWith (ABuilder n us ∷ ANull ∷ []) = Throws NullPointer
-act (BuilderAppend ty) (ABuilder n us ∷ x ∷ []) = with_told (told ty x) (λ vs. SetsBuilder n (us ++ vs) (Some (Ref n)))
+act (BuilderAppend ty) (ABuilder n us ∷ x ∷ []) =
+    with_told (value_text ty x) (λ vs. SetsBuilder n (us ++ vs) (Some (Ref n)))
 act BuilderLength (ABuilder n us ∷ []) = int (pos (length us))
 act BuilderToString (ABuilder n us ∷ []) = MakesString us
-act (Print ty) (AnInstance n m c ∷ x ∷ []) = with_told (told ty x) Writes
-act (PrintLine ty) (AnInstance n m c ∷ x ∷ []) = with_told (told ty x) (λ us. Writes (us ++ 10 ∷ []))
+act (Print ty) (AnInstance n m c ∷ x ∷ []) = with_told (value_text ty x) Writes
+act (PrintLine ty) (AnInstance n m c ∷ x ∷ []) = with_told (value_text ty x) (λ us. Writes (us ++ 10 ∷ []))
 act EndLine (AnInstance n m c ∷ []) = Writes (10 ∷ [])
 act ThrowableInit (AnInstance n m c ∷ []) = SetsThrown n Null Null
 act ThrowableInitWith (AnInstance n m c ∷ x ∷ []) = with_reference (string_reference x) (λ r. SetsThrown n r Null)

@@ -96,8 +96,8 @@ slots_from n [] = λ slot. None
 slots_from n (v ∷ vs) = set_at (slots_from (if is_wide v then n + 2 else n + 1) vs) n (Some v)
 
 -- a method that is called with these arguments (JVMS 2.6.1, 6.5.invokestatic)
-abbrev pub begun : List Value → Body
-begun args = record { at = 0; locals = slots_from 0 args; stack = [] }
+abbrev pub called_with : List Value → Body
+called_with args = record { at = 0; locals = slots_from 0 args; stack = [] }
 
 -- the operands are taken, and nothing else is done yet
 abbrev pub with_stack : Body → List Value → Body

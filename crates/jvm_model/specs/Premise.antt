@@ -2,7 +2,7 @@
 -- project's own: what a law about changed codes asks).
 use Rattle.std.specs.Prelude.{◌≡◌, ◌<◌, ◌⊎◌, ℕ, List, Option, Some, None, Bool}
 use Rattle.class_model.specs.declared.code.Code.{Code}
-use Rattle.jvm_model.specs.Local.{Local, Moves, Wants, Ends, Tosses, Stuck, at_handler, begun, handler_for, local}
+use Rattle.jvm_model.specs.Local.{Local, Moves, Wants, Ends, Tosses, Stuck, at_handler, called_with, handler_for, local}
 use Rattle.jvm_model.specs.Local.{resumed}
 use Rattle.jvm_model.specs.Local.{with_stack}
 use Rattle.jvm_model.specs.Same.{LineCorr, line_at}
@@ -42,7 +42,7 @@ pub data Turn (R : ℕ → Body → Body → Type 0) (c d : Code) (n : ℕ) (f g
 
 -- bodies are related when a method begins, and what they do next keeps them so
 pub record Premise (R : ℕ → Body → Body → Type 0) (c d : Code) : Type 0 where
-  pub begins : (args : List Value) → (n : ℕ) × R n (begun args) (begun args)
+  pub begins : (args : List Value) → (n : ℕ) × R n (called_with args) (called_with args)
   pub turn : (n : ℕ) (f g : Body) → R n f g → Turn R c d n f g
 
 -- the same code, or one that is put in its place

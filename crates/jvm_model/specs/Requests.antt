@@ -3,7 +3,7 @@ use Rattle.std.specs.Prelude.{ℕ, List, Some}
 use Rattle.jvm_model.specs.Answers.{Answer, Gives, Raises, of_some}
 use Rattle.jvm_model.specs.Arrays.{get_in, length_in, new_array, new_arrays, on_array, put_in}
 use Rattle.jvm_model.specs.Calls.{call_selected, call_special, called_static}
-use Rattle.jvm_model.specs.Casts.{cast, tested}
+use Rattle.jvm_model.specs.Casts.{cast, instance_of}
 use Rattle.jvm_model.specs.Fields.{get_field, get_static, new, put_field, put_static}
 use Rattle.jvm_model.specs.Heap.{World}
 use Rattle.jvm_model.specs.Instructions.{Request, Known, Raise, GetStatic, PutStatic, GetField, PutField, CallStatic}
@@ -30,4 +30,4 @@ answer p from w (ArrayLength v) = on_array w v (length_in w)
 answer p from w (GetAt e v i) = on_array w v (get_in w e i)
 answer p from w (PutAt e v i x) = on_array w v (put_in p w e i x)
 answer p from w (Cast ty v) = cast p w ty v
-answer p from w (Test ty v) = tested p w ty v
+answer p from w (Test ty v) = instance_of p w ty v

@@ -6,7 +6,7 @@ use Rattle.jvm_model.specs.Exceptions.{NullPointer}
 use Rattle.jvm_model.specs.Fields.{blank}
 use Rattle.jvm_model.specs.Heap.{Fresh, Init, Instance, Object, Ready, World}
 use Rattle.jvm_model.specs.Initialisation.{begin, complete, frame, prepare, raised, state}
-use Rattle.jvm_model.specs.Local.{Local, Moves, Wants, Ends, Tosses, Stuck, begun, local, resumed, with_stack}
+use Rattle.jvm_model.specs.Local.{Local, Moves, Wants, Ends, Tosses, Stuck, called_with, local, resumed, with_stack}
 use Rattle.jvm_model.specs.Program.{Shape, View}
 use Rattle.jvm_model.specs.Requests.{answer}
 use Rattle.jvm_model.specs.State.{AfterCall, AfterClinit, AfterInit, Body, Completes, Control, Frame, Initialises}
@@ -20,7 +20,7 @@ abbrev pub on_answer : Shape → World → Key → Body → Body → List Wait �
 on_answer p w m b asking ws (Gives result after) = state after (Runs (frame m (resumed asking result))) ws
 on_answer p w m b asking ws (Raises exception) = raised w exception (AfterCall (frame m asking) ∷ ws)
 on_answer p w m b asking ws (Begins method args) =
-    state w (Runs (frame method (begun args))) (AfterCall (frame m asking) ∷ ws)
+    state w (Runs (frame method (called_with args))) (AfterCall (frame m asking) ∷ ws)
 on_answer p w m b asking ws (Awaits class) = begin p w class (AfterInit (frame m b) ∷ ws)
 on_answer p w m b asking ws NoAnswer = state w Wrong ws
 

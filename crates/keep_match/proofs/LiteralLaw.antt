@@ -14,7 +14,7 @@ use Rattle.jv_base.proofs.Swapping.{swapped_char}
 use Rattle.keep_match.specs.declared.piece.Piece.{Piece}
 use Rattle.keep_match.specs.declared.piece.Piece.TheVariants.{Any, Character, One, Part}
 use Rattle.keep_match.specs.bodies.Marks.{is_wildcard}
-use Rattle.keep_match.specs.Wildcards.{is_cut, piece_of, pieces, shown, wild_class}
+use Rattle.keep_match.specs.Wildcards.{is_cut, piece_of, pieces, dotted_chars, wild_class}
 
 -- ---- pieces
 
@@ -57,7 +57,7 @@ swapped_all (c ∷ cs) =
     (λ i. swapped_char 47 46 c (lit< tt) (lit< tt) i ++ swapped_all cs i)
     ∙ sym (map-append (swapped 47 46) (encode c) (encodes cs))
 
-shown_name : (name : List ℕ) → IsUtf8 name → encodes (shown 47 name) ≡ dotted name
+shown_name : (name : List ℕ) → IsUtf8 name → encodes (dotted_chars 47 name) ≡ dotted name
 shown_name name u = swapped_all (chars name) ∙ ap (map (swapped 47 46)) (encodes-chars name u)
 
 -- a class name is matched exactly where the pattern is it, with dots
@@ -65,16 +65,17 @@ pub literal_is : (pattern name : List ℕ) → list_any is_wildcard (chars patte
     → wild_class pattern name ≡ true → dotted name ≡ pattern
 unfolding wild_class
 literal_is pattern name plain u v h =
-    let cut : is_cut (map Character (chars pattern)) (shown 47 name) ≡ true =
-    ap (λ (ps : List Piece). is_cut ps (shown 47 name)) (sym (plain_pieces (chars pattern) plain)) ∙ h in
-    sym (shown_name name v) ∙ ap encodes (cut_is (chars pattern) (shown 47 name) cut) ∙ encodes-chars pattern u
+    let cut : is_cut (map Character (chars pattern)) (dotted_chars 47 name) ≡ true =
+    ap (λ (ps : List Piece). is_cut ps (dotted_chars 47 name)) (sym (plain_pieces (chars pattern) plain)) ∙ h in
+    sym (shown_name name v) ∙ ap encodes (cut_is (chars pattern) (dotted_chars 47 name) cut) ∙ encodes-chars pattern u
 
 pub literal_matches : (pattern name : List ℕ) → list_any is_wildcard (chars pattern) ≡ false → IsUtf8 pattern
     → IsUtf8 name → dotted name ≡ pattern → wild_class pattern name ≡ true
 unfolding wild_class
 literal_matches pattern name plain u v e =
-    let same : shown 47 name ≡ chars pattern = chars_from_encodes (shown 47 name) pattern u (shown_name name v ∙ e) in
-    ap (λ (ps : List Piece). is_cut ps (shown 47 name)) (plain_pieces (chars pattern) plain)
+    let same : dotted_chars 47 name ≡ chars pattern =
+    chars_from_encodes (dotted_chars 47 name) pattern u (shown_name name v ∙ e) in
+    ap (λ (ps : List Piece). is_cut ps (dotted_chars 47 name)) (plain_pieces (chars pattern) plain)
     ∙ ap (is_cut (map Character (chars pattern))) same ∙ cut_whole (chars pattern)
 
 -- ---- bytes

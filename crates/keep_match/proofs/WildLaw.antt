@@ -9,7 +9,8 @@ use Rattle.std.specs.Str.{chars}
 use Rattle.jv_base.specs.External.{swapped}
 use Rattle.keep_match.specs.declared.piece.Piece.{Piece}
 use Rattle.keep_match.specs.declared.piece.Piece.TheVariants.{Character, One, Part, Any}
-use Rattle.keep_match.specs.Wildcards.{Begins, HasNoDot, Wild, is_cut, passes_behind, pieces, shown, wild, wild_class}
+use Rattle.keep_match.specs.Wildcards.{Begins, HasNoDot, Wild, is_cut, passes_behind, pieces, dotted_chars, wild}
+use Rattle.keep_match.specs.Wildcards.{wild_class}
 
 -- ---- the test
 
@@ -102,12 +103,14 @@ dots_stay (c ∷ cs) = λ i. one (eqb c 46) refl i ∷ dots_stay cs i
     one true e = ap (λ (b : Bool). cond b 46 c) e ∙ sym (eqb-true c 46 e)
     one false e = ap (λ (b : Bool). cond b 46 c) e
 
-pub wild_cut : (r : Bool) (pattern text : List ℕ) → (r ≡ true) ↔ Begins (pieces (chars pattern)) (shown 46 text) []
+pub wild_cut : (r : Bool) (pattern text : List ℕ) → (r ≡ true)
+    ↔ Begins (pieces (chars pattern)) (dotted_chars 46 text) []
     → (r ≡ true) ↔ Wild pattern text
 wild_cut r pattern text h =
     subst (λ (t : List ℕ). (r ≡ true) ↔ Begins (pieces (chars pattern)) t []) (dots_stay (chars text)) h
 
-pub wild_is : (r : Bool) (pattern text : List ℕ) → (r ≡ true) ↔ Begins (pieces (chars pattern)) (shown 46 text) []
+pub wild_is : (r : Bool) (pattern text : List ℕ) → (r ≡ true)
+    ↔ Begins (pieces (chars pattern)) (dotted_chars 46 text) []
     → r ≡ wild pattern text
 unfolding wild
 wild_is r pattern text h =
@@ -115,12 +118,13 @@ wild_is r pattern text h =
     same_from_decides r (is_cut (pieces (chars pattern)) (chars text)) (k.0, k.1)
     (cut_Decides (pieces (chars pattern)) (chars text))
 
-pub wild_class_is : (r : Bool) (pattern name : List ℕ) → (r ≡ true) ↔ Begins (pieces (chars pattern)) (shown 47 name) []
+pub wild_class_is : (r : Bool) (pattern name : List ℕ) → (r ≡ true)
+    ↔ Begins (pieces (chars pattern)) (dotted_chars 47 name) []
     → r ≡ wild_class pattern name
 unfolding wild_class
 wild_class_is r pattern name h =
-    same_from_decides r (is_cut (pieces (chars pattern)) (shown 47 name)) (h.0, h.1)
-    (cut_Decides (pieces (chars pattern)) (shown 47 name))
+    same_from_decides r (is_cut (pieces (chars pattern)) (dotted_chars 47 name)) (h.0, h.1)
+    (cut_Decides (pieces (chars pattern)) (dotted_chars 47 name))
 
 -- what the test says is what the relation says
 pub wild_Decides : (pattern text : List ℕ) → Decides (wild pattern text) (Wild pattern text)

@@ -70,8 +70,8 @@ is_cut (Any ∷ ps) cs = passes_behind (λ c. true) (is_cut ps) cs
 
 -- the characters of a text in which another one stands for a dot
 -- (JVMS 4.2.1: a class name has slashes where Java source has dots)
-abbrev pub shown : ℕ → List ℕ → List ℕ
-shown dot text = map (swapped dot 46) (chars text)
+abbrev pub dotted_chars : ℕ → List ℕ → List ℕ
+dotted_chars dot text = map (swapped dot 46) (chars text)
 
 -- a pattern matches a text, both in UTF-8 (ProGuard manual, "Class Specifications")
 unfoldable pub wild : List ℕ → List ℕ → Bool
@@ -80,4 +80,4 @@ wild pattern text = is_cut (pieces (chars pattern)) (chars text)
 -- a pattern matches a class name in internal form, which is shown with dots (JVMS 4.2.1; ProGuard manual, "Class
 -- Specifications")
 unfoldable pub wild_class : List ℕ → List ℕ → Bool
-wild_class pattern name = is_cut (pieces (chars pattern)) (shown 47 name)
+wild_class pattern name = is_cut (pieces (chars pattern)) (dotted_chars 47 name)

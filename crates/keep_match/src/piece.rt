@@ -2,7 +2,7 @@
 ghost use Rattle.std.specs.Prelude.{◌≡◌, ℕ, ◌<◌, List, [], ◌∷◌, IfSome, MatchOption, length};
 ghost use Rattle.std.specs.Str.{chars};
 ghost use Rattle.keep_match.specs.bodies.Scan.{allows, is_star};
-ghost use Rattle.keep_match.specs.Wildcards.{piece_of, pieces, shown};
+ghost use Rattle.keep_match.specs.Wildcards.{piece_of, pieces, dotted_chars};
 
 /// A piece of a pattern.
 #[derive(Clone, Copy)]
@@ -56,7 +56,8 @@ fn piece_of(character: char) -> Piece
 
 /// The first character of a text in which `dot` is read as a dot, and what stands behind it.
 pub(crate) fn first_shown(dot: char, text: &str) -> Option<(char, &str)>
-    ensures found { MatchOption result (shown dot text.now ≡ []) (λ r. shown dot text.now ≡ r.0 ∷ shown dot r.1.now) }
+    ensures found { MatchOption result (dotted_chars dot text.now ≡ [])
+        (λ r. dotted_chars dot text.now ≡ r.0 ∷ dotted_chars dot r.1.now) }
     ensures shorter { IfSome result (λ r. length r.1.now < length text.now) }
 {
     let (first, rest) = first_character(text)?;

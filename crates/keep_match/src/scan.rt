@@ -7,7 +7,7 @@ ghost use Rattle.keep_match.specs.declared.piece.Piece.TheVariants.{Any, Part};
 ghost use Rattle.keep_match.specs.bodies.Scan.{EndsBlock, Fails, IsBehindDot, IsBlock, IsSame, IsStepToBlock};
 ghost use Rattle.keep_match.specs.bodies.Scan.{IsStepToSection};
 ghost use Rattle.keep_match.specs.bodies.Scan.{pieces_at, text_at};
-ghost use Rattle.keep_match.specs.Wildcards.{Begins, HasNoDot, pieces, shown};
+ghost use Rattle.keep_match.specs.Wildcards.{Begins, HasNoDot, pieces, dotted_chars};
 
 use crate::piece::{Piece, allows, first_piece, first_shown, is_star};
 
@@ -20,7 +20,7 @@ pub(crate) struct Place<'a> {
 
 /// Whether a text, in which `dot` is read as a dot, can be cut into parts, one for each piece of the pattern.
 pub(crate) fn is_cut(dot: char, pattern: &str, text: &str) -> bool
-    ensures { IsTrue result ↔ Begins (pieces (chars pattern.now)) (shown dot text.now) [] }
+    ensures { IsTrue result ↔ Begins (pieces (chars pattern.now)) (dotted_chars dot text.now) [] }
 {
     let Some(mut place) = to_section(dot, pattern, text) else {
         return false;
@@ -36,8 +36,8 @@ pub(crate) fn is_cut(dot: char, pattern: &str, text: &str) -> bool
 
 /// From the beginning to the first `**`, or to the end.
 fn to_section<'a>(dot: char, pattern: &'a str, text: &'a str) -> Option<Place<'a>>
-    ensures { MatchOption result (Fails (pieces (chars pattern.now)) (shown dot text.now)) (λ next.
-        IsStepToSection (pieces (chars pattern.now)) (shown dot text.now) (pieces_at next) (text_at dot next)) }
+    ensures { MatchOption result (Fails (pieces (chars pattern.now)) (dotted_chars dot text.now)) (λ next.
+        IsStepToSection (pieces (chars pattern.now)) (dotted_chars dot text.now) (pieces_at next) (text_at dot next)) }
 {
     let block = behind_singles(dot, pattern, text)?;
     behind_parts(dot, block.pattern, block.text)
@@ -45,8 +45,8 @@ fn to_section<'a>(dot: char, pattern: &'a str, text: &'a str) -> Option<Place<'a
 
 /// From behind a `**` to the next one, or to the end.
 fn behind_any<'a>(dot: char, pattern: &'a str, text: &'a str) -> Option<Place<'a>>
-    ensures found { MatchOption result (Fails (Any ∷ pieces (chars pattern.now)) (shown dot text.now)) (λ next.
-        IsSame (Any ∷ pieces (chars pattern.now)) (shown dot text.now) (pieces_at next) (text_at dot next)) }
+    ensures found { MatchOption result (Fails (Any ∷ pieces (chars pattern.now)) (dotted_chars dot text.now)) (λ next.
+        IsSame (Any ∷ pieces (chars pattern.now)) (dotted_chars dot text.now) (pieces_at next) (text_at dot next)) }
     ensures shorter { IfSome result (λ next. length next.pattern.now ≤ length pattern.now) }
 {
     let mut left = text;
@@ -60,8 +60,9 @@ fn behind_any<'a>(dot: char, pattern: &'a str, text: &'a str) -> Option<Place<'a
 
 /// From behind a `*` to the next `**`, or to the end.
 fn part_to_section<'a>(dot: char, pattern: &'a str, text: &'a str) -> Option<Place<'a>>
-    ensures found { MatchOption result (Fails (Part ∷ pieces (chars pattern.now)) (shown dot text.now)) (λ next.
-        IsStepToSection (Part ∷ pieces (chars pattern.now)) (shown dot text.now) (pieces_at next) (text_at dot next)) }
+    ensures found { MatchOption result (Fails (Part ∷ pieces (chars pattern.now)) (dotted_chars dot text.now)) (λ next.
+        IsStepToSection (Part ∷ pieces (chars pattern.now)) (dotted_chars dot text.now) (pieces_at next)
+        (text_at dot next)) }
     ensures shorter { IfSome result (λ next. length next.pattern.now ≤ length pattern.now) }
 {
     let block = behind_part(dot, pattern, text)?;
@@ -70,8 +71,9 @@ fn part_to_section<'a>(dot: char, pattern: &'a str, text: &'a str) -> Option<Pla
 
 /// What stands behind the first dot.
 fn behind_dot(dot: char, text: &str) -> Option<&str>
-    ensures found { MatchOption result (HasNoDot (shown dot text.now)) (λ rest. IsBehindDot (shown dot text.now)
-        (shown dot rest.now)) }
+    ensures found { MatchOption result (HasNoDot (dotted_chars dot text.now))
+        (λ rest. IsBehindDot (dotted_chars dot text.now)
+        (dotted_chars dot rest.now)) }
     ensures shorter { IfSome result (λ rest. length rest.now < length text.now) }
 {
     let mut left = text;
@@ -86,9 +88,9 @@ fn behind_dot(dot: char, text: &str) -> Option<&str>
 
 /// From a star to the next `**`, or to the end.
 fn behind_parts<'a>(dot: char, pattern: &'a str, text: &'a str) -> Option<Place<'a>>
-    requires { EndsBlock (pieces (chars pattern.now)) (shown dot text.now) }
-    ensures found { MatchOption result (Fails (pieces (chars pattern.now)) (shown dot text.now)) (λ next.
-        IsStepToSection (pieces (chars pattern.now)) (shown dot text.now) (pieces_at next) (text_at dot next)) }
+    requires { EndsBlock (pieces (chars pattern.now)) (dotted_chars dot text.now) }
+    ensures found { MatchOption result (Fails (pieces (chars pattern.now)) (dotted_chars dot text.now)) (λ next.
+        IsStepToSection (pieces (chars pattern.now)) (dotted_chars dot text.now) (pieces_at next) (text_at dot next)) }
     ensures shorter { IfSome result (λ next. length next.pattern.now ≤ length pattern.now) }
 {
     let mut place = Place { pattern, text };
@@ -100,8 +102,9 @@ fn behind_parts<'a>(dot: char, pattern: &'a str, text: &'a str) -> Option<Place<
 
 /// From behind a `*` to the first place behind the pieces up to the next star, or to the end.
 fn behind_part<'a>(dot: char, pattern: &'a str, text: &'a str) -> Option<Place<'a>>
-    ensures found { MatchOption result (Fails (Part ∷ pieces (chars pattern.now)) (shown dot text.now)) (λ next.
-        IsStepToBlock (Part ∷ pieces (chars pattern.now)) (shown dot text.now) (pieces_at next) (text_at dot next)) }
+    ensures found { MatchOption result (Fails (Part ∷ pieces (chars pattern.now)) (dotted_chars dot text.now)) (λ next.
+        IsStepToBlock (Part ∷ pieces (chars pattern.now)) (dotted_chars dot text.now) (pieces_at next)
+        (text_at dot next)) }
     ensures shorter { IfSome result (λ next. length next.pattern.now ≤ length pattern.now) }
 {
     let mut left = text;
@@ -118,8 +121,8 @@ fn behind_part<'a>(dot: char, pattern: &'a str, text: &'a str) -> Option<Place<'
 
 /// To the next star, or to the end, where each piece before stands for one character.
 fn behind_singles<'a>(dot: char, pattern: &'a str, text: &'a str) -> Option<Place<'a>>
-    ensures found { MatchOption result (Fails (pieces (chars pattern.now)) (shown dot text.now)) (λ next.
-        IsBlock (pieces (chars pattern.now)) (shown dot text.now) (pieces_at next) (text_at dot next)) }
+    ensures found { MatchOption result (Fails (pieces (chars pattern.now)) (dotted_chars dot text.now)) (λ next.
+        IsBlock (pieces (chars pattern.now)) (dotted_chars dot text.now) (pieces_at next) (text_at dot next)) }
     ensures shorter { IfSome result (λ next. length next.pattern.now ≤ length pattern.now) }
 {
     let mut place = Place { pattern, text };

@@ -25,7 +25,7 @@ use Rattle.keep_rules.specs.declared.values.Value.TheVariants.{Directory, File, 
 use Rattle.keep_rules.specs.Texts.{Attributes}
 use Rattle.keep_rules.specs.Options.{setting_of, keep_setting, plain_setting, inert_setting, is_ignored, is_left_out}
 use Rattle.keep_rules.specs.Options.{else_plain}
-use Rattle.keep_rules.specs.Reader.{Ahead, ahead, fault, Reader, item, none_left, ended, whole}
+use Rattle.keep_rules.specs.Reader.{Ahead, ahead, fault, Reader, item, none_left, with_none_left, whole}
 use Rattle.keep_rules.specs.Filtering.{filter_in}
 use Rattle.keep_rules.specs.Specifications.{keep}
 use Rattle.keep_rules.specs.Reading.{value_in, valued, value_meant, every, attributes, once, left_off, without}
@@ -48,7 +48,7 @@ left_ok : {A : Type 0} (x y : A) (words : List Word) → none_left x words ≡ O
 left_ok x y [] h = (cc, refl)
 left_ok x y (word ∷ words) h = absurd cc
 
-ended_ok : {A : Type 0} (d : Result (A × Ahead) RuleFault) (y : A) → ended d ≡ Ok y
+ended_ok : {A : Type 0} (d : Result (A × Ahead) RuleFault) (y : A) → with_none_left d ≡ Ok y
     → (q : Ahead) × (d ≡ Ok (y, q)) × (texts q ≡ [])
 ended_ok (Ok x) y h =
     let e = left_ok x.0 y x.1.words h in
@@ -63,7 +63,7 @@ whole_found {r = r} {g = g} option values x e h =
     let o = ended_ok (r (ahead option.line values)) x h in
     subst (λ (l : List (List ℕ)). g (map text_of values) x l) o.2 (e.found (ahead option.line values) x o.0 o.1)
 
-ended_is : {A : Type 0} (x : A) (q : Ahead) → texts q ≡ [] → ended (Ok (x, q)) ≡ Ok x
+ended_is : {A : Type 0} (x : A) (q : Ahead) → texts q ≡ [] → with_none_left (Ok (x, q)) ≡ Ok x
 ended_is x q h = rw (no_words q.words h) refl
 
 whole_only : {A : Type 0} {r : Reader A} {g : List (List ℕ) → A → List (List ℕ) → Type 0} (option : Word)
@@ -240,8 +240,8 @@ pub record Adds (d : Draft) (ws : List (List ℕ)) (e : Draft) : Type 0 where
   pub adds : added d saying ≡ Some e
 
 -- the words of an option
-abbrev words_of : Word → List Word → List (List ℕ)
-words_of option values = option.text ∷ map text_of values
+abbrev option_texts : Word → List Word → List (List ℕ)
+option_texts option values = option.text ∷ map text_of values
 
 slot_by : (b : Bool) (d e : Draft) → (let R : Option Draft = cond b None (Some d) in R) ≡ Some e → (b ≡ false) × (d ≡ e)
 slot_by true d e h = absurd cc
@@ -275,17 +275,17 @@ file_is w x h = file_by w x (is_path w) refl h
 
 -- the words of an option by its name
 named : (option : Word) (values : List Word) (w : List ℕ) → option.text ≡ w
-    → words_of option values ≡ w ∷ map text_of values
+    → option_texts option values ≡ w ∷ map text_of values
 named option values w e = ap (λ (v : List ℕ). v ∷ map text_of values) e
 
 -- one value is the words of an option
 value_words : (option : Word) (values : List Word) (w x : List ℕ) → option.text ≡ w → map text_of values ≡ x ∷ []
-    → words_of option values ≡ w ∷ x ∷ []
+    → option_texts option values ≡ w ∷ x ∷ []
 value_words option values w x e h = named option values w e ∙ ap (λ (l : List (List ℕ)). w ∷ l) h
 
 keep_named : (kind : KeepKind) (shrinking : Bool) (option : Word) (values : List Word) (k : Keep)
     → IsNamed option.text kind shrinking → IsKeep kind shrinking (map text_of values) k
-    → SaysKeep (words_of option values) k
+    → SaysKeep (option_texts option values) k
 keep_named Classes false option values k n h = inl (map text_of values, named option values _ n, h)
 keep_named Members false option values k n h = inr (inl (map text_of values, named option values _ n, h))
 keep_named WithMembers false option values k n h = inr (inr (inl (map text_of values, named option values _ n, h)))
@@ -296,7 +296,7 @@ keep_named WithMembers true option values k n h =
     inr (inr (inr (inr (inr (map text_of values, named option values _ n, h)))))
 
 attributes_named : (option : Word) (values : List Word) (fs : List Filter) → option.text ≡ codes "-keepattributes"
-    → AnyFilters option.text (map text_of values) fs → IsAttributes (words_of option values) fs
+    → AnyFilters option.text (map text_of values) fs → IsAttributes (option_texts option values) fs
 attributes_named option values fs e (inl n) =
     inl (named option values _ e ∙ ap (λ (l : List (List ℕ)). codes "-keepattributes" ∷ l) n.0, n.1)
 attributes_named option values fs e (inr h) =
@@ -314,7 +314,7 @@ off_found step d (v ∷ values) e h = absurd cc
 
 -- what an option that is known is read as, its words say
 found_by : (s : Setting) (d : Draft) (option : Word) (values : List Word) (e : Draft) → Known option.text s
-    → set s d option values ≡ Ok e → Adds d (words_of option values) e
+    → set s d option values ≡ Ok e → Adds d (option_texts option values) e
 unfolding set with_attributes with_keep
 found_by setting.InDir d option values e n h =
     let o = slot_found Directory d.in_dir (λ v. record d { in_dir = Some v }) option values e h in
@@ -406,13 +406,13 @@ found_by setting.LeftOut d option values e n h = absurd cc
 
 known_found : (s : Option Setting) (d : Draft) (option : Word) (values : List Word) (e : Draft)
     → setting_of option.text ≡ s
-    → set_known s d option values ≡ Ok e → Adds d (words_of option values) e
+    → set_known s d option values ≡ Ok e → Adds d (option_texts option values) e
 known_found (Some s) d option values e k h = found_by s d option values e (known option.text s k) h
 known_found None d option values e k h = absurd cc
 
 -- what an option is read as, its words say
 pub option_found : (d : Draft) (option : Word) (values : List Word) (e : Draft) → option_read d option values ≡ Ok e
-    → Adds d (words_of option values) e
+    → Adds d (option_texts option values) e
 unfolding option_read
 option_found d option values e h = known_found (setting_of option.text) d option values e refl h
 
@@ -428,7 +428,7 @@ ok_draft : (d e : Draft) → (let O : Option Draft = Some d in O) ≡ Some e
     → (let R : Result Draft RuleFault = Ok d in R) ≡ Ok e
 ok_draft d e h = let k : d ≡ e = cc in ap (λ (z : Draft). let R : Result Draft RuleFault = Ok z in R) k
 
-first_is : (option : Word) (values : List Word) (w : List ℕ) (ws : List (List ℕ)) → words_of option values ≡ w ∷ ws
+first_is : (option : Word) (values : List Word) (w : List ℕ) (ws : List (List ℕ)) → option_texts option values ≡ w ∷ ws
     → (option.text ≡ w) × (map text_of values ≡ ws)
 first_is option values w ws h = (cc, cc)
 
@@ -526,7 +526,7 @@ inert w h =
 keep_only : (kind : KeepKind) (shrinking : Bool) (t : List ℕ) (d : Draft) (option : Word) (values : List Word)
     (e : Draft)
     (k : Keep) → setting_of t ≡ Some (setting.Keep kind shrinking)
-    → IsKeepOption t kind shrinking (words_of option values) k
+    → IsKeepOption t kind shrinking (option_texts option values) k
     → (let O : Option Draft = Some (record d { keeps = d.keeps ++ k ∷ [] }) in O) ≡ Some e
     → option_read d option values ≡ Ok e
 unfolding set with_keep
@@ -539,7 +539,7 @@ keep_only kind shrinking t d option values e k s h a =
     (ok_draft _ e a))
 
 off_only : (step : Step) (t : List ℕ) (d : Draft) (option : Word) (values : List Word) (e : Draft)
-    → setting_of t ≡ Some (setting.Off step) → words_of option values ≡ t ∷ []
+    → setting_of t ≡ Some (setting.Off step) → option_texts option values ≡ t ∷ []
     → (let O : Option Draft = Some (left_off step d) in O) ≡ Some e → option_read d option values ≡ Ok e
 unfolding set without
 off_only step t d option values e s h a =
@@ -550,7 +550,7 @@ off_only step t d option values e s h a =
 slot_said : (s : Setting) (t : List ℕ) (value : Value) (slot : Option (List ℕ)) (put : List ℕ → Draft) (d : Draft)
     (option : Word) (values : List Word) (e : Draft) (w x : List ℕ) → setting_of t ≡ Some s
     → (set s d option values ≡ outcome.◌>>=◌ (once value slot option values) (λ v. Ok (put v)))
-    → words_of option values ≡ t ∷ w ∷ [] → value_in value w ≡ Some x → slotted slot (put x) ≡ Some e
+    → option_texts option values ≡ t ∷ w ∷ [] → value_in value w ≡ Some x → slotted slot (put x) ≡ Some e
     → option_read d option values ≡ Ok e
 slot_said s t value slot put d option values e w x k is h v a =
     let f = first_is option values t (w ∷ []) h in
@@ -560,7 +560,7 @@ slot_said s t value slot put d option values e w x k is h v a =
 a_file : (x : List ℕ) → IsTrue (is_path x) → file_in x ≡ Some x
 a_file x h = rw h refl
 
-filters_said : (option : Word) (values : List Word) (fs : List Filter) → IsAttributes (words_of option values) fs
+filters_said : (option : Word) (values : List Word) (fs : List Filter) → IsAttributes (option_texts option values) fs
     → (option.text ≡ codes "-keepattributes") × AnyFilters option.text (map text_of values) fs
 filters_said option values fs (inl n) =
     let f = first_is option values _ [] n.0 in (f.0, inl (f.1, n.1))
@@ -572,7 +572,7 @@ filters_said option values fs (inr h) =
     )
 
 attributes_only : (d : Draft) (option : Word) (values : List Word) (e : Draft) (fs : List Filter)
-    → IsAttributes (words_of option values) fs
+    → IsAttributes (option_texts option values) fs
     → (let O : Option Draft = Some (record d { attrs = d.attrs ++ fs }) in O) ≡ Some e
     → option_read d option values ≡ Ok e
 unfolding set with_attributes
@@ -583,7 +583,7 @@ attributes_only d option values e fs h a =
     (ok_draft _ e a))
 
 kept_only : (d : Draft) (option : Word) (values : List Word) (e : Draft) (k : Keep)
-    → SaysKeep (words_of option values) k
+    → SaysKeep (option_texts option values) k
     → (let O : Option Draft = Some (record d { keeps = d.keeps ++ k ∷ [] }) in O) ≡ Some e
     → option_read d option values ≡ Ok e
 kept_only d option values e k (inl h) a = keep_only Classes false _ d option values e k keep_is h a
@@ -597,7 +597,7 @@ kept_only d option values e k (inr (inr (inr (inr (inr h))))) a =
 
 -- what the words of an option say is read
 pub option_only : (d : Draft) (option : Word) (values : List Word) (e : Draft) (y : Saying)
-    → Says (words_of option values) y
+    → Says (option_texts option values) y
     → added d y ≡ Some e → option_read d option values ≡ Ok e
 unfolding set
 option_only d option values e (in_dir x) h a =

@@ -40,11 +40,6 @@ ReadsOr result new due = Gives (λ x. (x, new)) result due
 abbrev pub ReadsSo : {T V : Type 0} → (T → V) → Result T (Or RuleFault) → Ahead → Result (V × Ahead) RuleFault → Type 0
 ReadsSo view result new due = Gives (λ x. (view x, new)) result due
 
--- the same of a call that takes no memory
-abbrev pub Reads : {T : Type 0} → Result T RuleFault → Ahead → Result (T × Ahead) RuleFault → Type 0
-Reads (Ok x) new due = due ≡ Ok (x, new)
-Reads (Err f) new due = due ≡ Err f
-
 -- a word that a call answered is the one that is read
 abbrev pub TakesNext : Result (Bor Word) RuleFault → Ahead → Result (Word × Ahead) RuleFault → Type 0
 TakesNext (Ok word) new due = due ≡ Ok (word.now, new)
@@ -163,10 +158,10 @@ none_left x [] = Ok x
 none_left x (word ∷ words) = Err (stray word)
 
 -- what was read of an option, to its end
-abbrev pub ended : {A : Type 0} → Result (A × Ahead) RuleFault → Result A RuleFault
-ended (Ok x) = none_left x.0 x.1.words
-ended (Err f) = Err f
+abbrev pub with_none_left : {A : Type 0} → Result (A × Ahead) RuleFault → Result A RuleFault
+with_none_left (Ok x) = none_left x.0 x.1.words
+with_none_left (Err f) = Err f
 
 -- what a reader reads of the words behind an option, all of them
 unfoldable pub whole : {A : Type 0} → Reader A → Word → List Word → Result A RuleFault
-whole r option values = ended (r (ahead option.line values))
+whole r option values = with_none_left (r (ahead option.line values))

@@ -22,7 +22,8 @@ use Rattle.text_lines.proofs.Words.{IsWord, class_some, class_word, digits_word,
 use Rattle.text_lines.proofs.Words.{method_word, returned_is}
 use Rattle.text_lines.proofs.Words.{result_word, type_word, word_lacks}
 use Rattle.text_lines.proofs.Arguments.{arguments_lack_byte}
-use Rattle.mapping_file.specs.LineReading.{Parts, class_line, class_parts, field_line, field_parts, line_of, line_parts}
+use Rattle.mapping_file.specs.LineReading.{Parts, class_line, class_parts, field_line, field_parts, line_said}
+use Rattle.mapping_file.specs.LineReading.{line_parts}
 use Rattle.mapping_file.specs.LineReading.{lines_before, lines_between, member_line, method_line, method_parts}
 use Rattle.mapping_file.specs.LineReading.{parts_of, said}
 use Rattle.mapping_file.specs.MapLines.{IsField, IsLine, IsMethod, IsRange, SpellsLine, class_line_text}
@@ -203,8 +204,8 @@ member_is body l h =
           (method_is p.0 p.1 l k)
     ] refl h
 
-line_found : (text : List ℕ) (l : MapLine) → line_of text ≡ Some l → SpellsLine text l
-unfolding line_of parts_of
+line_found : (text : List ℕ) (l : MapLine) → line_said text ≡ Some l → SpellsLine text l
+unfolding line_said parts_of
 line_found text l h =
     elim (after (codes "    ") text) as
     (λ o. after (codes "    ") text ≡ o → line_parts text o >>= said ≡ Some l → SpellsLine text l) [
@@ -224,8 +225,8 @@ no_blanks (b ∷ word) rest h some = after_none (codes "    ") (b ∷ (word ++ r
     (λ r e. let blank : b ≡ 32 = cc in (word_lacks 32 (b ∷ word) refl h).0 blank)
 
 class_read : (old new : List ℕ) → IsTrue (is_class_name old) → IsTrue (is_class_name new)
-    → line_of (class_line_text old new) ≡ Some (line.Class old new)
-unfolding line_of parts_of said is_name_byte
+    → line_said (class_line_text old new) ≡ Some (line.Class old new)
+unfolding line_said parts_of said is_name_byte
 class_read old new o n =
     let old_word = class_word old o in
     let new_word = class_word new n in
@@ -246,12 +247,12 @@ class_read old new o n =
     rw (a, parts, e, f) refl
 
 -- the line of a member goes on behind its blanks
-member_read : (body : List ℕ) → line_of (codes "    " ++ body) ≡ member_line body (cut 40 body) >>= said
-unfolding line_of parts_of
+member_read : (body : List ℕ) → line_said (codes "    " ++ body) ≡ member_line body (cut 40 body) >>= said
+unfolding line_said parts_of
 member_read body =
     ap (λ (o : Option (List ℕ)). line_parts (codes "    " ++ body) o >>= said) (after_is (codes "    ") body)
 
-field_read : (f : MapField) → IsField f → line_of (field_line_text f) ≡ Some (line.Field f)
+field_read : (f : MapField) → IsField f → line_said (field_line_text f) ≡ Some (line.Field f)
 unfolding said is_name_byte
 field_read f h =
     let ty = external_text f.ty in
@@ -323,7 +324,7 @@ method_body : (lines ret old args new : List ℕ)
     ≡ (lines ++ (ret ++ 32 ∷ old)) ++ 40 ∷ (args ++ 41 ∷ (codes " -> " ++ new))
 method_body lines ret old args new = simp append_assoc
 
-method_read : (m : MapMethod) → IsMethod m → line_of (method_line_text m) ≡ Some (line.Method m)
+method_read : (m : MapMethod) → IsMethod m → line_said (method_line_text m) ≡ Some (line.Method m)
 unfolding said is_name_byte
 method_read m h =
     let lines = range_text m.lines in
@@ -369,7 +370,7 @@ method_read m h =
     method_type_only (result_text m.ty.ret) (arguments_text m.ty.args) m.ty h.typed refl refl in
     let old_name : is_method_name m.old ≡ true = h.old in
     let new_name : is_method_name m.new ≡ true = h.new in
-    ap (λ (u : List ℕ). line_of (codes "    " ++ u)) body
+    ap (λ (u : List ℕ). line_said (codes "    " ++ u)) body
     ∙ member_read
     ((range_text m.lines ++ (result_text m.ty.ret ++ 32 ∷ m.old))
     ++ 40 ∷ (arguments_text m.ty.args ++ 41 ∷ (codes " -> " ++ m.new)))
@@ -378,12 +379,12 @@ method_read m h =
     ++ 40 ∷ (arguments_text m.ty.args ++ 41 ∷ (codes " -> " ++ m.new))) o >>= said) a
     ∙ ap (λ (o : Option Parts). o >>= said) parts ∙ rw (t, old_name, new_name) refl
 
-line_only : (text : List ℕ) (l : MapLine) → SpellsLine text l → line_of text ≡ Some l
+line_only : (text : List ℕ) (l : MapLine) → SpellsLine text l → line_said text ≡ Some l
 unfolding line_text
-line_only text (line.Class old new) h = ap line_of h.1 ∙ class_read old new h.0.0 h.0.1
-line_only text (line.Field f) h = ap line_of h.1 ∙ field_read f h.0
-line_only text (line.Method m) h = ap line_of h.1 ∙ method_read m h.0
+line_only text (line.Class old new) h = ap line_said h.1 ∙ class_read old new h.0.0 h.0.1
+line_only text (line.Field f) h = ap line_said h.1 ∙ field_read f h.0
+line_only text (line.Method m) h = ap line_said h.1 ∙ method_read m h.0
 
 -- a line is read as what it spells, and as nothing else
-pub line_says : Says SpellsLine line_of
+pub line_says : Says SpellsLine line_said
 line_says = record { found = line_found; only = line_only }

@@ -13,9 +13,9 @@ use Rattle.text_lines.specs.Faults.{IsFirstAtFault}
 use Rattle.text_lines.specs.Lines.{AllSpell, AreSpelled, item_added, line_read, read_lines, saying}
 use Rattle.text_lines.proofs.ReadLines.{bind_ok, lines_found, lines_only, saying_utf8}
 use Rattle.text_lines.proofs.Refused.{bind_err, kind_at, lines_refused, refused_anyway}
-use Rattle.mapping_file.specs.LineReading.{line_of}
+use Rattle.mapping_file.specs.LineReading.{line_said}
 use Rattle.mapping_file.specs.MapLines.{IsLine, SpellsLine, line_text}
-use Rattle.mapping_file.specs.MapReading.{added, all_classes, fault, nothing, read_mapping, step}
+use Rattle.mapping_file.specs.MapReading.{with_line, all_classes, fault, nothing, read_mapping, step}
 use Rattle.mapping_file.specs.Mappings.{AreApart, IsMapping, IsMember, IsTextLine, Reading, StandFor, TellClasses}
 use Rattle.mapping_file.specs.Mappings.{TellMembers, class_lines, field_in, mapping_text, method_in}
 use Rattle.mapping_file.specs.declared.line.MapLine.{MapLine}
@@ -39,7 +39,7 @@ of_classes cs = record { classes = cs }
 stand_found : (ls : List (List ℕ)) (r : ClassesRead) → read_lines step 1 ls nothing ≡ Ok r
     → StandFor ls (of_classes (all_classes r))
 stand_found ls r h =
-    let found = lines_found fault NotUtf8 BadLine added line_says 1 ls nothing r h in
+    let found = lines_found fault NotUtf8 BadLine with_line line_says 1 ls nothing r h in
     let told = told_by found.0 r found.2 in
     record { told = found.0; spelled = found.1; classes = told.classes; apart = told.apart }
 
@@ -48,7 +48,7 @@ stand_only : (ls : List (List ℕ)) (m : Mapping) → StandFor ls m
     → (r : ClassesRead) × (read_lines step 1 ls nothing ≡ Ok r) × (all_classes r ≡ m.classes)
 stand_only ls m h =
     let s = told_only h.told m.classes h.classes h.apart in
-    (s.0, lines_only fault NotUtf8 BadLine added line_says 1 ls h.told nothing s.0 h.spelled s.1, s.2)
+    (s.0, lines_only fault NotUtf8 BadLine with_line line_says 1 ls h.told nothing s.0 h.spelled s.1, s.2)
 
 -- what is read is what the text stands for
 pub read_found : (text : List ℕ) (m : Mapping) → read_mapping text ≡ Ok m → Reading text m
@@ -73,7 +73,7 @@ first_at_fault text f h =
     let e = bind_err (read_lines step 1 (lines text) nothing) (λ r. of_classes (all_classes r)) f h in
     let p = lines_refused step 1 (lines text) nothing f e in
     let kind = kind_at fault (1 + length p.before)
-    (line_read NotUtf8 (λ l t. item_added BadLine added (line_of l) t) p.line p.state) f p.refused in
+    (line_read NotUtf8 (λ l t. item_added BadLine with_line (line_said l) t) p.line p.state) f p.refused in
     let number : f.line ≡ 1 + length p.before = ap (λ (g : MapFault). g.line) kind.1 in
     record {
       before = p.before;

@@ -17,7 +17,7 @@ use Rattle.jv_base.specs.declared.outcome.Or.TheVariants.{Fault, OutOfMemory}
 use Rattle.jv_base.proofs.Equality.{text_Decides}
 use Rattle.jv_base.proofs.Lists.{any_more}
 use Rattle.text_lines.specs.bodies.Steps.{ChangesOr}
-use Rattle.mapping_file.specs.MapReading.{added, all_classes, begun, in_last, with_field, with_method}
+use Rattle.mapping_file.specs.MapReading.{with_line, all_classes, empty_class, in_last, with_field, with_method}
 use Rattle.mapping_file.specs.bodies.NameTable.{TellsNames}
 use Rattle.mapping_file.specs.declared.line.MapLine.TheVariants as line
 use Rattle.mapping_file.specs.declared.mapping.MapClass.{MapClass}
@@ -88,14 +88,14 @@ method_names t before (Some c) m s h k =
 
 -- a call that added a field
 pub field_keeps : {T : Type 0} (r : Result T (Or MapKind)) (t : ClassNames) (f : MapField) (old new : ClassesRead)
-    → ChangesOr r new (added (line.Field f) old) → TellsNames t (all_classes old)
+    → ChangesOr r new (with_line (line.Field f) old) → TellsNames t (all_classes old)
     → OnOk r (TellsNames t (all_classes new))
 field_keeps (Ok x) t f old new h k = field_names t old.before old.last f new h k
 field_keeps (Err e) t f old new h k = tt
 
 -- a call that added a method
 pub method_keeps : {T : Type 0} (r : Result T (Or MapKind)) (t : ClassNames) (m : MapMethod) (old new : ClassesRead)
-    → ChangesOr r new (added (line.Method m) old) → TellsNames t (all_classes old)
+    → ChangesOr r new (with_line (line.Method m) old) → TellsNames t (all_classes old)
     → OnOk r (TellsNames t (all_classes new))
 method_keeps (Ok x) t m old new h k = method_names t old.before old.last m new h k
 method_keeps (Err e) t m old new h k = tt

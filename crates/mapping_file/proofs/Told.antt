@@ -10,7 +10,7 @@ use Rattle.jv_base.specs.Outcome.{◌>>=◌}
 use Rattle.jv_base.proofs.Equality.{text_Decides}
 use Rattle.jv_base.proofs.Lists.{all_append, all_split}
 use Rattle.text_lines.proofs.ReadLines.{adds, bind_ok}
-use Rattle.mapping_file.specs.MapReading.{added, all_classes, begun, has_name, in_last, nothing, with_field}
+use Rattle.mapping_file.specs.MapReading.{with_line, all_classes, empty_class, has_name, in_last, nothing, with_field}
 use Rattle.mapping_file.specs.MapReading.{with_method}
 use Rattle.mapping_file.specs.Mappings.{AreApart, HasOtherNames, IsMember, TellClasses, TellMembers, field_in}
 use Rattle.mapping_file.specs.Mappings.{method_in}
@@ -101,12 +101,12 @@ before_one (d ∷ ds) c cs a = let p = all_split (HasOtherNames d) ds (c ∷ cs)
 
 -- ---- one more line
 
-no_members : (old new : List ℕ) → TellMembers [] (begun old new)
+no_members : (old new : List ℕ) → TellMembers [] (empty_class old new)
 no_members old new = record { members = tt; fields = refl; methods = refl }
 
 -- of a class
 tell_class : (ls : List MapLine) (cs : List MapClass) (old new : List ℕ) → TellClasses ls cs
-    → TellClasses (ls ++ line.Class old new ∷ []) (cs ++ begun old new ∷ [])
+    → TellClasses (ls ++ line.Class old new ∷ []) (cs ++ empty_class old new ∷ [])
 tell_class ls [] old new t =
     ([], [], ap (λ (l : List MapLine). l ++ line.Class old new ∷ []) t, no_members old new, refl)
 tell_class ls (c ∷ cs) old new t = (
@@ -186,37 +186,37 @@ method_added ls before (Some c) m s t h =
     })
 
 class_added : (ls : List MapLine) (old new : List ℕ) (r s : ClassesRead) → Tells ls r
-    → added (line.Class old new) r ≡ Ok s
+    → with_line (line.Class old new) r ≡ Ok s
     → Tells (ls ++ line.Class old new ∷ []) s
 class_added ls old new r s t h = by (has_name (all_classes r) old new) refl h
   where
     by : (b : Bool) → has_name (all_classes r) old new ≡ b
-        → cond b (Err Repeated) (Ok (record { before = all_classes r; last = Some (begun old new) })) ≡ Ok s
+        → cond b (Err Repeated) (Ok (record { before = all_classes r; last = Some (empty_class old new) })) ≡ Ok s
         → Tells (ls ++ line.Class old new ∷ []) s
     by true e k = absurd cc
     by false e k =
-        let is : record { before = all_classes r; last = Some (begun old new) } ≡ s = cc in
+        let is : record { before = all_classes r; last = Some (empty_class old new) } ≡ s = cc in
         subst (Tells (ls ++ line.Class old new ∷ [])) is (record {
           classes = tell_class ls (all_classes r) old new t.classes;
-          apart = apart_more (all_classes r) (begun old new) t.apart (has_none (all_classes r) old new e);
+          apart = apart_more (all_classes r) (empty_class old new) t.apart (has_none (all_classes r) old new e);
         })
 
-one_added : (ls : List MapLine) (x : MapLine) (r s : ClassesRead) → Tells ls r → added x r ≡ Ok s
+one_added : (ls : List MapLine) (x : MapLine) (r s : ClassesRead) → Tells ls r → with_line x r ≡ Ok s
     → Tells (ls ++ x ∷ []) s
 one_added ls (line.Class old new) r s t h = class_added ls old new r s t h
 one_added ls (line.Field f) r s t h = field_added ls r.before r.last f s t h
 one_added ls (line.Method m) r s t h = method_added ls r.before r.last m s t h
 
-all_added : (ls xs : List MapLine) (r s : ClassesRead) → Tells ls r → adds added xs r ≡ Ok s → Tells (ls ++ xs) s
+all_added : (ls xs : List MapLine) (r s : ClassesRead) → Tells ls r → adds with_line xs r ≡ Ok s → Tells (ls ++ xs) s
 all_added ls [] r s t h =
     let is : r ≡ s = cc in subst (λ (l : List MapLine). Tells l s) (sym (append-nil ls)) (subst (Tells ls) is t)
 all_added ls (x ∷ xs) r s t h =
-    let b = bind_ok (added x r) (λ u. adds added xs u) s h in
+    let b = bind_ok (with_line x r) (λ u. adds with_line xs u) s h in
     subst (λ (l : List MapLine). Tells l s) (append_assoc ls (x ∷ []) xs)
     (all_added (ls ++ x ∷ []) xs b.0 s (one_added ls x r b.0 t b.1) b.2)
 
 -- lines that were added one by one tell what was read
-pub told_by : (xs : List MapLine) (s : ClassesRead) → adds added xs nothing ≡ Ok s → Tells xs s
+pub told_by : (xs : List MapLine) (s : ClassesRead) → adds with_line xs nothing ≡ Ok s → Tells xs s
 told_by xs s h = all_added [] xs nothing s (record { classes = refl; apart = tt }) h
 
 -- ---- lines that tell classes can be added one by one
@@ -243,7 +243,7 @@ abbrev read_to : List MapClass → MapClass → Result ClassesRead MapKind
 read_to before c = Ok (record { before = before; last = Some c })
 
 members_added : (before : List MapClass) (c : MapClass) (ls : List MapLine) → AllByRecursion IsMember ls
-    → adds added ls (record { before = before; last = Some c })
+    → adds with_line ls (record { before = before; last = Some c })
     ≡ read_to before (joined c (filter_map field_in ls) (filter_map method_in ls))
 members_added before c [] h =
     ap (read_to before)
@@ -261,39 +261,39 @@ members_added before c (line.Method m ∷ ls) h =
     members_added before (with_method m c) ls h.1
     ∙ ap (read_to before) (joined_method c m (filter_map field_in ls) (filter_map method_in ls))
 
-adds_append : (xs ys : List MapLine) (r s : ClassesRead) → adds added xs r ≡ Ok s
-    → adds added (xs ++ ys) r ≡ adds added ys s
-adds_append [] ys r s h = let is : r ≡ s = cc in ap (adds added ys) is
+adds_append : (xs ys : List MapLine) (r s : ClassesRead) → adds with_line xs r ≡ Ok s
+    → adds with_line (xs ++ ys) r ≡ adds with_line ys s
+adds_append [] ys r s h = let is : r ≡ s = cc in ap (adds with_line ys) is
 adds_append (x ∷ xs) ys r s h =
-    let b = bind_ok (added x r) (λ u. adds added xs u) s h in
-    ap (λ (o : Result ClassesRead MapKind). o >>= (λ u. adds added (xs ++ ys) u)) b.1 ∙ adds_append xs ys b.0 s b.2
+    let b = bind_ok (with_line x r) (λ u. adds with_line xs u) s h in
+    ap (λ (o : Result ClassesRead MapKind). o >>= (λ u. adds with_line (xs ++ ys) u)) b.1 ∙ adds_append xs ys b.0 s b.2
 
 class_begun : (c : MapClass) (r : ClassesRead) → HasNone (all_classes r) c.old c.new
-    → added (line.Class c.old c.new) r ≡ read_to (all_classes r) (begun c.old c.new)
+    → with_line (line.Class c.old c.new) r ≡ read_to (all_classes r) (empty_class c.old c.new)
 class_begun c r h = rw (has_no_name (all_classes r) c.old c.new h) refl
 
 class_whole : (c : MapClass) (ls : List MapLine) → TellMembers ls c
-    → joined (begun c.old c.new) (filter_map field_in ls) (filter_map method_in ls) ≡ c
+    → joined (empty_class c.old c.new) (filter_map field_in ls) (filter_map method_in ls) ≡ c
 class_whole c ls t = λ i. record { old = c.old; new = c.new; fields = t.fields i; methods = t.methods i }
 
 -- classes behind others
 classes_added : (ls : List MapLine) (cs : List MapClass) (r : ClassesRead) → TellClasses ls cs
     → AreApart (all_classes r ++ cs)
-    → (s : ClassesRead) × (adds added ls r ≡ Ok s) × (all_classes s ≡ all_classes r ++ cs)
-classes_added ls [] r t a = (r, ap (λ (l : List MapLine). adds added l r) t, sym (append-nil (all_classes r)))
+    → (s : ClassesRead) × (adds with_line ls r ≡ Ok s) × (all_classes s ≡ all_classes r ++ cs)
+classes_added ls [] r t a = (r, ap (λ (l : List MapLine). adds with_line l r) t, sym (append-nil (all_classes r)))
 classes_added ls (c ∷ cs) r t a =
     let next : ClassesRead = record { before = all_classes r; last = Some c } in
     let first = class_begun c r (before_one (all_classes r) c cs a) in
-    let members : adds added t.0 (record { before = all_classes r; last = Some (begun c.old c.new) })
+    let members : adds with_line t.0 (record { before = all_classes r; last = Some (empty_class c.old c.new) })
     ≡ Ok (record { before = all_classes r; last = Some c })
-    = members_added (all_classes r) (begun c.old c.new) t.0 t.3.members
+    = members_added (all_classes r) (empty_class c.old c.new) t.0 t.3.members
     ∙ ap (read_to (all_classes r)) (class_whole c t.0 t.3) in
     let apart = subst AreApart (sym (append_assoc (all_classes r) (c ∷ []) cs)) a in
     let more = classes_added t.1 cs (record { before = all_classes r; last = Some c }) t.4 apart in (
       more.0,
-      ap (λ (l : List MapLine). adds added l r) t.2
-          ∙ ap (λ (o : Result ClassesRead MapKind). o >>= (λ u. adds added (t.0 ++ t.1) u)) first
-          ∙ adds_append t.0 t.1 (record { before = all_classes r; last = Some (begun c.old c.new) })
+      ap (λ (l : List MapLine). adds with_line l r) t.2
+          ∙ ap (λ (o : Result ClassesRead MapKind). o >>= (λ u. adds with_line (t.0 ++ t.1) u)) first
+          ∙ adds_append t.0 t.1 (record { before = all_classes r; last = Some (empty_class c.old c.new) })
           (record { before = all_classes r; last = Some c }) members
           ∙ more.1,
       more.2 ∙ append_assoc (all_classes r) (c ∷ []) cs,
@@ -301,5 +301,5 @@ classes_added ls (c ∷ cs) r t a =
 
 -- what lines tell is read
 pub told_only : (xs : List MapLine) (cs : List MapClass) → TellClasses xs cs → AreApart cs
-    → (s : ClassesRead) × (adds added xs nothing ≡ Ok s) × (all_classes s ≡ cs)
+    → (s : ClassesRead) × (adds with_line xs nothing ≡ Ok s) × (all_classes s ≡ cs)
 told_only xs cs t a = classes_added xs cs nothing t a

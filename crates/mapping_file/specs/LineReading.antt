@@ -83,11 +83,11 @@ said (method_parts lines ret old args new) = do
       (line.Method (record { lines = lines; ty = t; old = old; new = new }))
 
 -- what a line says, if it is one of a mapping file
-unfoldable pub line_of : List ℕ → Option MapLine
-line_of text = parts_of text >>= said
+unfoldable pub line_said : List ℕ → Option MapLine
+line_said text = parts_of text >>= said
 
 -- the parts that the code has (only its proofs need it)
-abbrev pub shown : kept.Parts → Parts
-shown (part.Class old new) = class_parts old.now new.now
-shown (part.Field ty old new) = field_parts ty.now old.now new.now
-shown (part.Method lines ret old args new) = method_parts lines ret.now old.now args.now new.now
+abbrev pub kept_parts : kept.Parts → Parts
+kept_parts (part.Class old new) = class_parts old.now new.now
+kept_parts (part.Field ty old new) = field_parts ty.now old.now new.now
+kept_parts (part.Method lines ret old args new) = method_parts lines ret.now old.now args.now new.now

@@ -9,7 +9,7 @@ use Rattle.jv_base.specs.Names.{is_text}
 use Rattle.jv_base.specs.Outcome.{◌>>=◌}
 use Rattle.text_lines.specs.Faults.{IsFirstAtFault}
 use Rattle.text_lines.specs.Lines.{line_step, read_lines}
-use Rattle.mapping_file.specs.LineReading.{line_of}
+use Rattle.mapping_file.specs.LineReading.{line_said}
 use Rattle.mapping_file.specs.Mappings.{StandFor}
 use Rattle.mapping_file.specs.declared.line.MapLine.{MapLine}
 use Rattle.mapping_file.specs.declared.line.MapLine.TheVariants as line
@@ -31,8 +31,8 @@ abbrev pub has_name : List MapClass → List ℕ → List ℕ → Bool
 has_name cs old new = list_any (λ c. is_text old c.old) cs || list_any (λ c. is_text new c.new) cs
 
 -- a class without members yet
-abbrev pub begun : List ℕ → List ℕ → MapClass
-begun old new = record { old = old; new = new; fields = []; methods = [] }
+abbrev pub empty_class : List ℕ → List ℕ → MapClass
+empty_class old new = record { old = old; new = new; fields = []; methods = [] }
 
 -- the class with one more field
 abbrev pub with_field : MapField → MapClass → MapClass
@@ -48,11 +48,11 @@ in_last before None change = Err NoClass
 in_last before (Some c) change = Ok (record { before = before; last = Some (change c) })
 
 -- what was read, with what a line says
-abbrev pub added : MapLine → ClassesRead → Result ClassesRead MapKind
-added (line.Class old new) r = if has_name (all_classes r) old new then Err Repeated
-    else Ok (record { before = all_classes r; last = Some (begun old new) })
-added (line.Field f) r = in_last r.before r.last (with_field f)
-added (line.Method m) r = in_last r.before r.last (with_method m)
+abbrev pub with_line : MapLine → ClassesRead → Result ClassesRead MapKind
+with_line (line.Class old new) r = if has_name (all_classes r) old new then Err Repeated
+    else Ok (record { before = all_classes r; last = Some (empty_class old new) })
+with_line (line.Field f) r = in_last r.before r.last (with_field f)
+with_line (line.Method m) r = in_last r.before r.last (with_method m)
 
 -- a kind of fault at a line
 abbrev pub fault : ℕ → MapKind → MapFault
@@ -60,7 +60,7 @@ fault n kind = record { line = n; kind = kind }
 
 -- what the line of this number makes of what was read before it
 abbrev pub step : ℕ → List ℕ → ClassesRead → Result ClassesRead MapFault
-step = line_step fault NotUtf8 BadLine line_of added
+step = line_step fault NotUtf8 BadLine line_said with_line
 
 -- nothing was read yet
 abbrev pub nothing : ClassesRead

@@ -1,6 +1,6 @@
 // What a line says.
 ghost use Rattle.std.specs.Prelude.{◌≡◌, IfOk};
-ghost use Rattle.mapping_file.specs.LineReading.{class_parts, field_parts, line_of, method_parts, said, shown};
+ghost use Rattle.mapping_file.specs.LineReading.{class_parts, field_parts, line_said, method_parts, said, kept_parts};
 
 use crate::parts::{Parts, parts_of};
 use crate::{MapField, MapMethod, Range};
@@ -20,9 +20,9 @@ pub(crate) enum MapLine {
 }
 
 /// What a line says, if it is one of a mapping file.
-#[tactic(auto, unfolding(crate::specs::LineReading::line_of))]
+#[tactic(auto, unfolding(crate::specs::LineReading::line_said))]
 pub(crate) fn line_of<'a>(alloc: Global, known: &mut Known<'a>, text: &'a str) -> M<Option<MapLine>>
-    ensures { IfOk result (λ line. line ≡ line_of text.now) }
+    ensures { IfOk result (λ line. line ≡ line_said text.now) }
 {
     match parts_of(text) {
         Some(parts) => said(alloc, known, &parts),
@@ -31,7 +31,7 @@ pub(crate) fn line_of<'a>(alloc: Global, known: &mut Known<'a>, text: &'a str) -
 }
 
 fn said<'a>(alloc: Global, known: &mut Known<'a>, parts: &Parts<'a>) -> M<Option<MapLine>>
-    ensures { IfOk result (λ line. line ≡ said (shown parts.now)) }
+    ensures { IfOk result (λ line. line ≡ said (kept_parts parts.now)) }
 {
     match *parts {
         Parts::Class { old, new } => class_said(alloc, known, old, new),

@@ -3,7 +3,7 @@ ghost use Rattle.std.specs.Prelude.{◌≡◌, true, not, List, [], ◌∷◌, �
 ghost use Rattle.std.specs.BTreeSet.{Updates, contains};
 ghost use Rattle.std.specs.Cmp.Lexicographic.{slice_cmp};
 ghost use Rattle.std.specs.Ordering.{nat_cmp};
-ghost use Rattle.mapping_file.specs.MapReading.{begun, has_name};
+ghost use Rattle.mapping_file.specs.MapReading.{empty_class, has_name};
 ghost use Rattle.mapping_file.specs.bodies.NameTable.{TellsNames};
 ghost use Rattle.mapping_file.specs.declared.mapping.MapClass.{MapClass};
 
@@ -33,7 +33,7 @@ impl ClassNames {
         ensures is_new { (classes : List MapClass) → TellsNames self.old classes
             → IfOk result (λ is_new. is_new ≡ not (has_name classes old.now new.now)) }
         ensures put { (classes : List MapClass) → TellsNames self.old classes
-            → OnOk result (TellsNames self.new (classes ++ begun old.now new.now ∷ [])) }
+            → OnOk result (TellsNames self.new (classes ++ empty_class old.now new.now ∷ [])) }
     {
         let is_new_before = put_name(&mut self.before, old)?;
         let is_new_after = put_name(&mut self.after, new)?;

@@ -3,7 +3,8 @@ ghost use Rattle.std.specs.Prelude.{◌≡◌, ◌^◌};
 ghost use Rattle.std.specs.Option.{option_map};
 ghost use Rattle.text_lines.specs.Cut.{cut};
 ghost use Rattle.text_lines.specs.Numbers.{number_below};
-ghost use Rattle.mapping_file.specs.LineReading.{class_line, field_line, lines_before, method_line, parts_of, shown};
+ghost use Rattle.mapping_file.specs.LineReading.{class_line, field_line, lines_before, method_line, parts_of};
+ghost use Rattle.mapping_file.specs.LineReading.{kept_parts};
 
 use crate::Range;
 use text_lines::{after, cut, number_below};
@@ -32,7 +33,7 @@ pub(crate) enum Parts<'a> {
 /// The parts of a line, if it has those of a class's line or of a member's.
 #[tactic(auto, unfolding(crate::specs::LineReading::parts_of))]
 pub(crate) fn parts_of(text: &str) -> Option<Parts<'_>>
-    ensures { option_map shown result ≡ parts_of text.now }
+    ensures { option_map kept_parts result ≡ parts_of text.now }
 {
     let Some(member) = after(text, "    ") else {
         return class_line(text);
@@ -44,7 +45,7 @@ pub(crate) fn parts_of(text: &str) -> Option<Parts<'_>>
 }
 
 fn class_line(text: &str) -> Option<Parts<'_>>
-    ensures { option_map shown result ≡ class_line text.now }
+    ensures { option_map kept_parts result ≡ class_line text.now }
 {
     let (old, rest) = cut(text, ' ')?;
     let rest = after(rest, "-> ")?;
@@ -57,7 +58,7 @@ fn class_line(text: &str) -> Option<Parts<'_>>
 }
 
 fn field_line(text: &str) -> Option<Parts<'_>>
-    ensures { option_map shown result ≡ field_line text.now }
+    ensures { option_map kept_parts result ≡ field_line text.now }
 {
     let (ty, rest) = cut(text, ' ')?;
     let (old, rest) = cut(rest, ' ')?;
@@ -66,7 +67,7 @@ fn field_line(text: &str) -> Option<Parts<'_>>
 }
 
 fn method_line<'a>(head: &'a str, behind: &'a str) -> Option<Parts<'a>>
-    ensures { option_map shown result ≡ method_line head.now behind.now }
+    ensures { option_map kept_parts result ≡ method_line head.now behind.now }
 {
     let (lines, rest) = lines_before(head)?;
     let (ret, old) = cut(rest, ' ')?;

@@ -2,7 +2,8 @@
 ghost use Rattle.std.specs.Prelude.{◌≡◌, ◌<◌, length, Some, IfOk, OnOk, Ok};
 ghost use Rattle.jv_base.specs.Outcome.{IsDue};
 ghost use Rattle.text_lines.specs.bodies.Steps.{ChangesOr};
-ghost use Rattle.mapping_file.specs.MapReading.{IsFirstFault, added, all_classes, begun, nothing, read_mapping, step};
+ghost use Rattle.mapping_file.specs.MapReading.{IsFirstFault, with_line, all_classes, empty_class, nothing};
+ghost use Rattle.mapping_file.specs.MapReading.{read_mapping, step};
 ghost use Rattle.text_lines.specs.Lines.{read_lines};
 ghost use Rattle.std.specs.Str.Lines.{lines};
 ghost use Rattle.jv_base.specs.declared.outcome.Or.TheVariants.{Fault};
@@ -120,7 +121,7 @@ fn add(
     line: MapLine,
 ) -> Result<(), Or<MapKind>>
     requires { TellsNames names.old (all_classes read.old) }
-    ensures read { ChangesOr result read.new (added line read.old) }
+    ensures read { ChangesOr result read.new (with_line line read.old) }
     ensures names { OnOk result (TellsNames names.new (all_classes read.new)) }
 {
     match line {
@@ -131,7 +132,7 @@ fn add(
 }
 
 fn add_field(read: &mut ClassesRead, field: MapField) -> Result<(), Or<MapKind>>
-    ensures { ChangesOr result read.new (added (line.Field field) read.old) }
+    ensures { ChangesOr result read.new (with_line (line.Field field) read.old) }
 {
     match &mut read.last {
         Some(class) => {
@@ -143,7 +144,7 @@ fn add_field(read: &mut ClassesRead, field: MapField) -> Result<(), Or<MapKind>>
 }
 
 fn add_method(read: &mut ClassesRead, method: MapMethod) -> Result<(), Or<MapKind>>
-    ensures { ChangesOr result read.new (added (line.Method method) read.old) }
+    ensures { ChangesOr result read.new (with_line (line.Method method) read.old) }
 {
     match &mut read.last {
         Some(class) => {
@@ -162,7 +163,7 @@ fn add_class(
     new: Name,
 ) -> Result<(), Or<MapKind>>
     requires { TellsNames names.old (all_classes read.old) }
-    ensures read { ChangesOr result read.new (added (line.Class old new) read.old) }
+    ensures read { ChangesOr result read.new (with_line (line.Class old new) read.old) }
     ensures names { OnOk result (TellsNames names.new (all_classes read.new)) }
 {
     if !names.put(&old, &new)? {
@@ -174,7 +175,7 @@ fn add_class(
 
 // Begins a class without members.
 fn begin(alloc: Global, read: &mut ClassesRead, old: Name, new: Name) -> M<()>
-    ensures { OnOk result (read.new ≡ record { before = all_classes read.old; last = Some (begun old new) }) }
+    ensures { OnOk result (read.new ≡ record { before = all_classes read.old; last = Some (empty_class old new) }) }
 {
     let class = MapClass {
         old,

@@ -12,7 +12,7 @@ use Rattle.mapping_file.specs.declared.mapping.Mapping.{Mapping}
 use Rattle.witness_file.specs.declared.witness.Witness.{Witness}
 use Rattle.pair_checker.specs.Clauses.{Finds, number}
 use Rattle.pair_checker.specs.PairOk.{IsFirst}
-use Rattle.pair_checker.specs.bodies.Matching.{FirstAmong, Matches, Tests, no_at, tested}
+use Rattle.pair_checker.specs.bodies.Matching.{FirstAmong, Matches, Tests, no_at, tested_clauses}
 use Rattle.pair_checker.specs.declared.answer.Clause.{Clause}
 use Rattle.pair_clauses.specs.declared.place.Place.{Place}
 use Rattle.pair_checker.specs.declared.answer.Clause.TheVariants as clause
@@ -22,7 +22,7 @@ use Rattle.pair_checker.specs.declared.answer.No.{No}
 
 -- all clauses, in their order
 abbrev pub order : List Clause
-order = clause.OutputFormat ∷ (clause.OutputProfile ∷ tested)
+order = clause.OutputFormat ∷ (clause.OutputProfile ∷ tested_clauses)
 
 pub stands_at : (c : Clause) → slice_get order (number c) ≡ Some c
 stands_at clause.OutputFormat = refl
@@ -57,7 +57,7 @@ module _ (input output : List Class) (mapping : Mapping) (rules : Rules) (witnes
 
   -- ---- no clause holds
 
-  none_holds : AllByRecursion Passes tested → (c : Clause) → Passes c
+  none_holds : AllByRecursion Passes tested_clauses → (c : Clause) → Passes c
   none_holds h clause.OutputFormat = refl
   none_holds h clause.OutputProfile = refl
   none_holds h clause.MapShape = h.0
@@ -78,7 +78,7 @@ module _ (input output : List Class) (mapping : Mapping) (rules : Rules) (witnes
       → Matches input output mapping rules witness (Err (or.Fault answer))
   found_at answer c passed f = (c, f.0, record { holds = f.1; before = before_all c passed }, f.2)
 
-  first_holds : (answer : No) → FirstAmong input output mapping rules witness tested answer
+  first_holds : (answer : No) → FirstAmong input output mapping rules witness tested_clauses answer
       → Matches input output mapping rules witness (Err (or.Fault answer))
   first_holds answer (inl f) = found_at answer clause.MapShape (refl, (refl, tt)) f
   first_holds answer (inr (a, inl f)) = found_at answer clause.FixedName (refl, (refl, (a, tt))) f
@@ -97,7 +97,7 @@ module _ (input output : List Class) (mapping : Mapping) (rules : Rules) (witnes
       found_at answer clause.CodeDiffers (refl, (refl, (a, (b, (d, (e, (g, (h, (k, (l, tt)))))))))) f
   first_holds answer (inr (a, inr (b, inr (d, inr (e, inr (g, inr (h, inr (k, inr (l, inr (m, f)))))))))) = absurd f
 
-  pub matches_by : (r : Result (Unit {0}) (Or No)) → Tests input output mapping rules witness tested r
+  pub matches_by : (r : Result (Unit {0}) (Or No)) → Tests input output mapping rules witness tested_clauses r
       → Matches input output mapping rules witness r
   matches_by (Ok done) h = none_holds h
   matches_by (Err (or.Fault answer)) h = first_holds answer h

@@ -4,7 +4,7 @@ use Rattle.jv_base.specs.declared.outcome.Or.{Or}
 use Rattle.jv_base.specs.declared.outcome.Or.TheVariants as or
 use Rattle.tree_io.specs.declared.file_at.FileAt.{FileAt}
 use Rattle.class_model.specs.declared.class.Class.{Class}
-use Rattle.set_read.specs.Accepted.{IsAccepted, IsFault, Reads}
+use Rattle.set_read.specs.Accepted.{IsAccepted, IsFault, ReadsClasses}
 use Rattle.set_read.specs.declared.fault.RuleFault.{RuleFault}
 use Rattle.set_read.specs.declared.fault.SetFault.{SetFault}
 use Rattle.keep_rules.specs.declared.rules.Rules.{Rules}
@@ -42,11 +42,11 @@ no_set e = Err e
 -- the fault of files, of which others are copies
 pub fault_of : (files copies : List FileAt) (e : Or SetFault) (fault told : SetFault) → copies ≡ files
     → e ≡ or.Fault fault
-    → fault ≡ told → Reads (no_set e) copies → IsFault files told
+    → fault ≡ told → ReadsClasses (no_set e) copies → IsFault files told
 fault_of files copies e fault told same is that h =
     subst (IsFault files) that
     (subst (λ (fs : List FileAt). IsFault fs fault) same
-    (subst (λ (x : Or SetFault). Reads (no_set x) copies) is h))
+    (subst (λ (x : Or SetFault). ReadsClasses (no_set x) copies) is h))
 
 -- what is answered where files break a rule
 abbrev pub profile_no : RuleFault → No

@@ -6,7 +6,7 @@ use Rattle.tree_io.specs.Runs.{AddsCalls, Sees}
 use Rattle.tree_io.specs.declared.event.Event.{Event}
 use Rattle.command_output.specs.Output.{FailsSo, Hands, LacksSo, Output, Outside, Puts}
 use Rattle.retrace_command.specs.Due.{retrace_due}
-use Rattle.retrace_command.specs.Refusal.{line_of}
+use Rattle.retrace_command.specs.Refusal.{stop_line}
 use Rattle.retrace_command.specs.Refusal as refusal
 use Rattle.retrace_command.specs.declared.refusal.Refusal.{Refusal}
 use Rattle.retrace_command.specs.declared.refusal.Refusal.TheVariants.{Absent, Limit, BadMapping}
@@ -39,8 +39,8 @@ absent_by (Limit quantity) = []
 absent_by (BadMapping fault) = []
 
 -- the tree was asked to read alone, and of all files that fit its answers the text that is due was found
-abbrev pub Reads : List ℕ → List ℕ → List ℕ → List Event → Type 0
-Reads mapping trace text calls = Sees (Some []) (λ files. retrace_due files mapping trace ≡ Ok text) calls
+abbrev pub ReadsTrace : List ℕ → List ℕ → List ℕ → List Event → Type 0
+ReadsTrace mapping trace text calls = Sees (Some []) (λ files. retrace_due files mapping trace ≡ Ok text) calls
 
 -- a refusal that is due was found; or the device failed, or memory was wanting, while the files were read
 abbrev pub StopsSo : Stop Refusal → List ℕ → List ℕ → List Event → Type 0
@@ -50,14 +50,14 @@ StopsSo Device mapping trace calls = Sees (Some []) (λ files. Unit {0}) calls
 StopsSo OutOfMemory mapping trace calls = Sees None (λ files. Unit {0}) calls
 
 abbrev pub AsksSo : Ending → List ℕ → List ℕ → List Event → Type 0
-AsksSo (said text) mapping trace calls = Reads mapping trace text calls
+AsksSo (said text) mapping trace calls = ReadsTrace mapping trace text calls
 AsksSo (stopped stop) mapping trace calls = StopsSo stop mapping trace calls
-AsksSo (text_failed text) mapping trace calls = Reads mapping trace text calls
-AsksSo (text_without_memory text) mapping trace calls = Reads mapping trace text calls
+AsksSo (text_failed text) mapping trace calls = ReadsTrace mapping trace text calls
+AsksSo (text_without_memory text) mapping trace calls = ReadsTrace mapping trace text calls
 
 abbrev pub SaidSo : Ending → Output → Output → Type 0
 SaidSo (said text) old new = Hands text (Ok tt) old new
-SaidSo (stopped stop) old new = Puts (line_of stop) old new
+SaidSo (stopped stop) old new = Puts (stop_line stop) old new
 SaidSo (text_failed text) old new = FailsSo text old new
 SaidSo (text_without_memory text) old new = LacksSo text old new
 

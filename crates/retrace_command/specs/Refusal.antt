@@ -30,10 +30,10 @@ refusal_line (Limit q) = limit_line q
 refusal_line (BadMapping f) = text_line f
 
 -- the line of a stop
-abbrev pub line_of : Stop Refusal → List ℕ
-line_of (Refused refusal) = refusal_line refusal
-line_of Device = codes "error 7 device\n"
-line_of OutOfMemory = codes "error 10 memory\n"
+abbrev pub stop_line : Stop Refusal → List ℕ
+stop_line (Refused refusal) = refusal_line refusal
+stop_line Device = codes "error 7 device\n"
+stop_line OutOfMemory = codes "error 10 memory\n"
 
 -- the status of a refusal
 abbrev pub refusal_status : Refusal → ℕ

@@ -4,7 +4,7 @@ use Rattle.std.specs.Option.{option_map}
 use Rattle.std.specs.Prelude.{if◌then◌else◌}
 use Rattle.jv_base.specs.declared.types.FieldType.{FieldType}
 use Rattle.jvm_model.specs.Answers.{Gives, Raises, of_some}
-use Rattle.jvm_model.specs.Casts.{cast, tested}
+use Rattle.jvm_model.specs.Casts.{cast, instance_of}
 use Rattle.jvm_model.specs.Exceptions.{ClassCast}
 use Rattle.jvm_model.specs.Heap.{Object, World, object_of, string, type_of}
 use Rattle.jvm_model.specs.Program.{Shape}
@@ -55,7 +55,7 @@ cast_by p w v ty b e f = rw f (by_value v e)
 
 -- a test of a value that isn't null
 pub test_by : (p : Shape) (w : World) (v : Value) (ty : FieldType) (b : Option Bool) → same_reference v Null ≡ false
-    → b ≡ kin p w v ty → test_answer w b ≡ tested p w ty v
+    → b ≡ kin p w v ty → test_answer w b ≡ instance_of p w ty v
 test_by p w v ty b e f = rw f (by_value v e)
   where
     by_object : (o : Option Object)
@@ -64,7 +64,7 @@ test_by p w v ty b e f = rw f (by_value v e)
     by_object None = refl
     by_object (Some x) = refl
 
-    by_value : (u : Value) → same_reference u Null ≡ false → test_answer w (kin p w u ty) ≡ tested p w ty u
+    by_value : (u : Value) → same_reference u Null ≡ false → test_answer w (kin p w u ty) ≡ instance_of p w ty u
     by_value (Int z) g = refl
     by_value (Long z) g = refl
     by_value Null g = let h : true ≡ false = g in absurd cc
@@ -76,5 +76,5 @@ pub cast_null : (p : Shape) (w : World) (v : Value) (ty : FieldType) → v ≡ N
 cast_null p w v ty e = rw e refl
 
 pub test_null : (p : Shape) (w : World) (v : Value) (ty : FieldType) → v ≡ Null
-    → Gives (Some (truth false)) w ≡ tested p w ty v
+    → Gives (Some (truth false)) w ≡ instance_of p w ty v
 test_null p w v ty e = rw e refl

@@ -10,15 +10,15 @@ use Rattle.run_heap.specs.declared.world.World.{World}
 use Rattle.run_library.specs.Rows.{exception_of}
 
 -- the answer, with the world after it
-abbrev pub told : Answer → Whole → Due
-told (answer.Gives v) w = due.Gives v w
-told (answer.Raises e) w = due.Raises (exception_of e)
-told (answer.Begins key args) w = due.Begins key args
-told answer.NoAnswer w = due.NoAnswer
+abbrev pub model_answer : Answer → Whole → Due
+model_answer (answer.Gives v) w = due.Gives v w
+model_answer (answer.Raises e) w = due.Raises (exception_of e)
+model_answer (answer.Begins key args) w = due.Begins key args
+model_answer answer.NoAnswer w = due.NoAnswer
 
 -- the answer that is due in a world, which isn't changed
 abbrev pub Answered : Answer → World → (Whole → Due) → Type 0
-Answered a w d = (inits : List ℕ → Init) → told a (world_of inits w) ≡ d (world_of inits w)
+Answered a w d = (inits : List ℕ → Init) → model_answer a (world_of inits w) ≡ d (world_of inits w)
 
 -- where an exception is due, a method begins or an operand is of another kind, the world is as it was
 abbrev pub Keeps : Answer → (before after : World) → Type 0
@@ -28,4 +28,4 @@ Keeps _ before after = (inits : List ℕ → Init) → world_of inits after ≡ 
 -- the answer that is due in a world, with the world after it
 abbrev pub Changes : Answer → (before after : World) → (Whole → Due) → Type 0
 Changes a before after d =
-    ((inits : List ℕ → Init) → told a (world_of inits after) ≡ d (world_of inits before)) × Keeps a before after
+    ((inits : List ℕ → Init) → model_answer a (world_of inits after) ≡ d (world_of inits before)) × Keeps a before after

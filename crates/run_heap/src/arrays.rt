@@ -1,11 +1,11 @@
 // Arrays (JVMS 6.5.newarray, 6.5.anewarray, 6.5.arraylength, 6.5.xaload).
 ghost use Rattle.std.specs.Prelude.{◌≡◌, ℕ, IfOk, pos, replicate};
 ghost use Rattle.jvm_model.specs.Arrays.{blank_array, get_in, length_in, new_array, on_array};
-ghost use Rattle.jvm_model.specs.Fields.{made};
+ghost use Rattle.jvm_model.specs.Fields.{put_on_heap};
 ghost use Rattle.jvm_model.specs.Heap.{World as Whole};
 ghost use Rattle.jvm_model.specs.Types.{default_of};
 ghost use Rattle.jvm_model.specs.Value as machine;
-ghost use Rattle.run_heap.specs.Answers.{Answered, Changes, told};
+ghost use Rattle.run_heap.specs.Answers.{Answered, Changes, model_answer};
 ghost use Rattle.run_heap.specs.bodies.Components.{component_in};
 ghost use Rattle.run_heap.specs.Worlds.{object_of};
 ghost use Rattle.run_library.specs.bodies.Naturals.{IsNatural};
@@ -42,7 +42,7 @@ fn length_at(world: &World, number: usize) -> Answer
 }
 
 fn length_of(object: &Object) -> Answer
-    ensures { (w : Whole) (n : ℕ) → told result w ≡ length_in w n (object_of object.now) }
+    ensures { (w : Whole) (n : ℕ) → model_answer result w ≡ length_in w n (object_of object.now) }
 {
     match object {
         Object::Array { values, .. } => Answer::Gives(Some(Value::int(long_to_int(
@@ -73,7 +73,7 @@ fn component_at(world: &World, elem: Elem, number: usize, index: i32) -> M<Answe
 }
 
 fn component_of(object: &Object, elem: Elem, index: i32) -> M<Answer>
-    ensures { IfOk result (λ a. (w : Whole) (n : ℕ) → told a w ≡ get_in w elem index n (object_of object.now)) }
+    ensures { IfOk result (λ a. (w : Whole) (n : ℕ) → model_answer a w ≡ get_in w elem index n (object_of object.now)) }
 {
     match object {
         Object::Array { component, values } => {
@@ -88,7 +88,7 @@ fn component_of(object: &Object, elem: Elem, index: i32) -> M<Answer>
 }
 
 fn component_in(values: &[Value], index: i32) -> M<Answer>
-    ensures { IfOk result (λ a. (w : Whole) → told a w ≡ component_in w values.now index) }
+    ensures { IfOk result (λ a. (w : Whole) → model_answer a w ≡ component_in w values.now index) }
 {
     match place(index) {
         Some(at) => component_with(values, at),
@@ -109,7 +109,7 @@ pub(crate) fn place(index: i32) -> Option<usize>
 
 #[tactic(auto, using(std::proofs::lemmas::Option::slice_get_past, std::proofs::lemmas::Option::slice_get_within))]
 fn component_with(values: &[Value], at: usize) -> M<Answer>
-    ensures { IfOk result (λ a. (w : Whole) → told a w ≡ component_in w values.now (pos at)) }
+    ensures { IfOk result (λ a. (w : Whole) → model_answer a w ≡ component_in w values.now (pos at)) }
 {
     if at >= values.len() {
         return Ok(Answer::Raises(Exception::ArrayIndex));
@@ -133,7 +133,7 @@ fn blank_array_made(
     component: &FieldType,
     count: usize,
 ) -> M<Answer>
-    ensures { IfOk result (λ a. Changes a world.old world.new (λ w. made w (blank_array component.now count))) }
+    ensures { IfOk result (λ a. Changes a world.old world.new (λ w. put_on_heap w (blank_array component.now count))) }
 {
     let array = blank_array(alloc, component, count)?;
     make(world, array)

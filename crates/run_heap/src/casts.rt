@@ -1,6 +1,6 @@
 // Whether an object is of a type (JVMS 6.5.checkcast, 6.5.instanceof, 6.5.aastore).
 ghost use Rattle.std.specs.Prelude.{◌≡◌, IfOk};
-ghost use Rattle.jvm_model.specs.Casts.{cast, tested};
+ghost use Rattle.jvm_model.specs.Casts.{cast, instance_of};
 ghost use Rattle.run_heap.specs.Answers.{Answered};
 ghost use Rattle.run_heap.specs.bodies.Kinships.{IsKin};
 
@@ -30,7 +30,7 @@ pub fn cast<S: Shapes>(shapes: &S, world: &World, value: &Value, ty: &FieldType)
 /// Whether a reference is to an object of a type; null is to none (JVMS 6.5.instanceof).
 #[tactic(auto, using(crate::proofs::Kin::test_by, crate::proofs::Kin::test_null, crate::proofs::Pointing::is_null))]
 pub fn test<S: Shapes>(shapes: &S, world: &World, value: &Value, ty: &FieldType) -> Answer
-    ensures { Answered result world.now (λ w. tested (S.shape shapes.now) w ty.now value.now) }
+    ensures { Answered result world.now (λ w. instance_of (S.shape shapes.now) w ty.now value.now) }
 {
     if value.is_null() {
         return Answer::Gives(Some(Value::truth(false)));

@@ -1,9 +1,9 @@
 // Objects and their fields (JVMS 6.5.new, 6.5.getfield, 6.5.putfield).
 ghost use Rattle.std.specs.Prelude.{◌≡◌, IfOk, option_copied, slice_get};
-ghost use Rattle.jvm_model.specs.Fields.{fresh, get_field, get_from, made, put_field};
+ghost use Rattle.jvm_model.specs.Fields.{fresh, get_field, get_from, put_on_heap, put_field};
 ghost use Rattle.jvm_model.specs.Heap.{World as Whole};
 ghost use Rattle.jvm_model.specs.Value.{Ref};
-ghost use Rattle.run_heap.specs.Answers.{Answered, Changes, told};
+ghost use Rattle.run_heap.specs.Answers.{Answered, Changes, model_answer};
 ghost use Rattle.run_heap.specs.bodies.Puts.{Puts};
 ghost use Rattle.run_heap.specs.Worlds.{object_of};
 
@@ -42,7 +42,7 @@ pub(crate) fn object_at(world: &World, number: usize) -> Option<&Object>
 }
 
 fn field_of(alloc: Global, object: &Object, key: &Key) -> M<Answer>
-    ensures { IfOk result (λ a. (w : Whole) → told a w ≡ get_from w key.now (object_of object.now)) }
+    ensures { IfOk result (λ a. (w : Whole) → model_answer a w ≡ get_from w key.now (object_of object.now)) }
 {
     match object {
         Object::Instance(instance) => Ok(Answer::Gives(Some(instance.fields.get(alloc, key)?))),
@@ -96,7 +96,7 @@ fn put_into(object: &mut Object, kept: Value, key: &Key) -> M<bool>
 
 /// An object that is made goes to the heap.
 pub fn make(world: &mut World, object: Object) -> M<Answer>
-    ensures { IfOk result (λ a. Changes a world.old world.new (λ w. made w (object_of object))) }
+    ensures { IfOk result (λ a. Changes a world.old world.new (λ w. put_on_heap w (object_of object))) }
 {
     let reference = world.add(object)?;
     Ok(Answer::Gives(Some(reference)))

@@ -1,7 +1,7 @@
 // Operands as methods of the library see them (Java SE 8 API).
 ghost use Rattle.std.specs.Prelude.{◌≡◌, IfOk, List, ℕ};
 ghost use Rattle.std.specs.Option.{option_map};
-ghost use Rattle.jvm_model.specs.Calls.{seen, seen_object};
+ghost use Rattle.jvm_model.specs.Calls.{seen_operand, seen_object};
 ghost use Rattle.jvm_model.specs.Heap.{Init};
 ghost use Rattle.jvm_model.specs.Value.{Ref};
 ghost use Rattle.run_heap.specs.bodies.Seeing.{Sees};
@@ -36,7 +36,8 @@ pub(crate) fn all_seen<'a>(
 /// An operand as a method sees it; nothing where it refers to no object.
 #[tactic(auto, using(crate::proofs::Seeing::seen_null, crate::proofs::Seeing::seen_int, crate::proofs::Seeing::seen_long, crate::proofs::Seeing::seen_text, crate::proofs::Seeing::seen_nothing))]
 fn seen<'a>(world: &'a World, operand: &'a Value) -> Option<Seen<'a>>
-    ensures { (inits : List ℕ → Init) → option_map operand_of result ≡ seen (world_of inits world.now) operand.now }
+    ensures { (inits : List ℕ → Init) → option_map operand_of result
+        ≡ seen_operand (world_of inits world.now) operand.now }
 {
     if operand.is_null() {
         return Some(Seen::Null);
@@ -59,7 +60,8 @@ fn seen<'a>(world: &'a World, operand: &'a Value) -> Option<Seen<'a>>
 #[tactic(auto, using(crate::proofs::Pointing::is_reference))]
 fn seen_at<'a>(world: &'a World, operand: &'a Value, number: usize) -> Option<Seen<'a>>
     requires { operand.now ≡ Ref number }
-    ensures { (inits : List ℕ → Init) → option_map operand_of result ≡ seen (world_of inits world.now) (Ref number) }
+    ensures { (inits : List ℕ → Init) → option_map operand_of result
+        ≡ seen_operand (world_of inits world.now) (Ref number) }
 {
     match object_at(world, number) {
         Some(object) => Some(seen_object(operand, number, object)),

@@ -1,7 +1,7 @@
 // Values as texts (Java SE 8 API, String.valueOf).
 ghost use Rattle.std.specs.Prelude.{◌≡◌, ◌++◌, IfOk, IfSome, is_some};
 ghost use Rattle.std.specs.Option.{option_map};
-ghost use Rattle.jvm_model.specs.Library.{told};
+ghost use Rattle.jvm_model.specs.Library.{value_text};
 ghost use Rattle.run_library.specs.Acts.{Tells, operand_of};
 ghost use Rattle.run_library.specs.Rows.{type_of};
 
@@ -13,7 +13,7 @@ use std::alloc::Global;
 /// Appends an operand as a text, and says whether it is of the type. A number is told in decimal, a char as its unit, a
 /// boolean as true unless it is 0, a null text as `null`.
 pub(crate) fn push_told(out: &mut Vec<u16>, ty: Told, operand: Seen<'_>) -> M<bool>
-    ensures { IfOk result (λ done. Tells done (told (type_of ty)
+    ensures { IfOk result (λ done. Tells done (value_text (type_of ty)
         (operand_of operand.entry)) out.old.items out.new.items) }
 {
     match ty {
@@ -26,7 +26,7 @@ pub(crate) fn push_told(out: &mut Vec<u16>, ty: Told, operand: Seen<'_>) -> M<bo
 }
 
 fn push_int(out: &mut Vec<u16>, operand: Seen<'_>) -> M<bool>
-    ensures { IfOk result (λ done. Tells done (told (type_of Told.Int)
+    ensures { IfOk result (λ done. Tells done (value_text (type_of Told.Int)
         (operand_of operand.entry)) out.old.items out.new.items) }
 {
     let Seen::Int(number) = operand else {
@@ -37,7 +37,7 @@ fn push_int(out: &mut Vec<u16>, operand: Seen<'_>) -> M<bool>
 }
 
 fn push_long(out: &mut Vec<u16>, operand: Seen<'_>) -> M<bool>
-    ensures { IfOk result (λ done. Tells done (told (type_of Told.Long)
+    ensures { IfOk result (λ done. Tells done (value_text (type_of Told.Long)
         (operand_of operand.entry)) out.old.items out.new.items) }
 {
     let Seen::Long(number) = operand else {
@@ -48,7 +48,7 @@ fn push_long(out: &mut Vec<u16>, operand: Seen<'_>) -> M<bool>
 }
 
 fn push_char(out: &mut Vec<u16>, operand: Seen<'_>) -> M<bool>
-    ensures { IfOk result (λ done. Tells done (told (type_of Told.Char)
+    ensures { IfOk result (λ done. Tells done (value_text (type_of Told.Char)
         (operand_of operand.entry)) out.old.items out.new.items) }
 {
     let Seen::Int(number) = operand else {
@@ -60,7 +60,7 @@ fn push_char(out: &mut Vec<u16>, operand: Seen<'_>) -> M<bool>
 }
 
 fn push_boolean(out: &mut Vec<u16>, operand: Seen<'_>) -> M<bool>
-    ensures { IfOk result (λ done. Tells done (told (type_of Told.Boolean)
+    ensures { IfOk result (λ done. Tells done (value_text (type_of Told.Boolean)
         (operand_of operand.entry)) out.old.items out.new.items) }
 {
     let Seen::Int(number) = operand else {
@@ -75,7 +75,7 @@ fn push_boolean(out: &mut Vec<u16>, operand: Seen<'_>) -> M<bool>
 }
 
 fn push_text(out: &mut Vec<u16>, operand: Seen<'_>) -> M<bool>
-    ensures { IfOk result (λ done. Tells done (told (type_of Told.Text)
+    ensures { IfOk result (λ done. Tells done (value_text (type_of Told.Text)
         (operand_of operand.entry)) out.old.items out.new.items) }
 {
     match operand {
@@ -93,7 +93,7 @@ fn push_text(out: &mut Vec<u16>, operand: Seen<'_>) -> M<bool>
 
 /// An operand as a text, if it is of the type.
 pub(crate) fn told(alloc: Global, ty: Told, operand: Seen<'_>) -> M<Option<Units>>
-    ensures { IfOk result (λ units. units ≡ told (type_of ty) (operand_of operand.entry)) }
+    ensures { IfOk result (λ units. units ≡ value_text (type_of ty) (operand_of operand.entry)) }
 {
     let mut units: Vec<u16> = Vec::new(alloc);
     if push_told(&mut units, ty, operand)? {

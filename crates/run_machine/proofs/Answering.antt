@@ -9,7 +9,7 @@ use Rattle.jvm_model.specs.Program.{Shape}
 use Rattle.jvm_model.specs.State.{AfterInit, Body as Standing, Wait as Waiting}
 use Rattle.jvm_model.specs.Step.{on_answer}
 use Rattle.jvm_model.specs.Value.{Key, Value}
-use Rattle.run_heap.specs.Answers.{Changes, told}
+use Rattle.run_heap.specs.Answers.{Changes, model_answer}
 use Rattle.run_heap.specs.Worlds.{world_of}
 use Rattle.run_heap.specs.declared.answer.Answer.{Answer}
 use Rattle.run_heap.specs.declared.answer.Answer.TheVariants as answer
@@ -51,7 +51,7 @@ passed p w m b asking ws class a e = ap (on_answer p w m b asking ws) (sym (once
 -- what is answered, in the world as it is after it
 pub carried : (p : Shape) (inits : List ℕ → Init) (m : Key) (b asking : Standing) (ws : List Waiting) (a : Answer)
     (before after : World) (d : Whole → Due) → Changes a before after d
-    → on_answer p (world_of inits after) m b asking ws (told a (world_of inits after))
+    → on_answer p (world_of inits after) m b asking ws (model_answer a (world_of inits after))
     ≡ on_answer p (world_of inits before) m b asking ws (d (world_of inits before))
 carried p inits m b asking ws (answer.Gives v) before after d h =
     ap (on_answer p (world_of inits before) m b asking ws) (h.0 inits)
@@ -59,10 +59,10 @@ carried p inits m b asking ws (answer.Raises e) before after d h =
     ap (λ (w : Whole). on_answer p w m b asking ws (Raises (exception_of e))) (h.1 inits)
     ∙ ap (on_answer p (world_of inits before) m b asking ws) (h.0 inits)
 carried p inits m b asking ws (answer.Begins key args) before after d h =
-    ap (λ (w : Whole). on_answer p w m b asking ws (told (answer.Begins key args) w)) (h.1 inits)
+    ap (λ (w : Whole). on_answer p w m b asking ws (model_answer (answer.Begins key args) w)) (h.1 inits)
     ∙ ap (on_answer p (world_of inits before) m b asking ws) (h.0 inits)
 carried p inits m b asking ws answer.NoAnswer before after d h =
-    ap (λ (w : Whole). on_answer p w m b asking ws (told answer.NoAnswer w)) (h.1 inits)
+    ap (λ (w : Whole). on_answer p w m b asking ws (model_answer answer.NoAnswer w)) (h.1 inits)
     ∙ ap (on_answer p (world_of inits before) m b asking ws) (h.0 inits)
 
 -- what is no request of the four before which a class may have to be initialised

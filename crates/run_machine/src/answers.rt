@@ -4,7 +4,7 @@ ghost use Rattle.jvm_model.specs.Answers.{Begins, Raises};
 ghost use Rattle.jvm_model.specs.Program.{Shape};
 ghost use Rattle.jvm_model.specs.State.{Body as Standing};
 ghost use Rattle.jvm_model.specs.Step.{on_answer};
-ghost use Rattle.run_heap.specs.Answers.{told};
+ghost use Rattle.run_heap.specs.Answers.{model_answer};
 ghost use Rattle.run_library.specs.Rows.{exception_of};
 ghost use Rattle.run_machine.specs.States.{state_at, waits_of, whole};
 ghost use Rattle.run_steps.specs.Frames.{body_of};
@@ -23,7 +23,7 @@ use std::alloc::Global;
 pub(crate) fn on_answer(alloc: Global, rest: &mut Rest, frame: Frame, answer: Answer) -> M<Control>
     ensures { IfOk result (λ c. (p : Shape) (b : Standing) → state_at p rest.new c
         ≡ on_answer p (whole p rest.old) frame.method b (body_of frame.body) (waits_of rest.old.waits)
-        (told answer (whole p rest.old))) }
+        (model_answer answer (whole p rest.old))) }
 {
     match answer {
         Answer::Gives(value) => go_on(frame, value),

@@ -36,12 +36,12 @@ request_of (request.Cast ty v) = asked.Cast ty.now v
 request_of (request.Test ty v) = asked.Test ty.now v
 
 -- what the frame does, by what it is afterwards
-abbrev pub told : Outcome → (after : Body) → Local
-told outcome.Moves after = Moves (body_of after)
-told (outcome.Wants r) after = Wants (request_of r) after.stack
-told (outcome.Ends v) after = Ends v
-told (outcome.Tosses v) after = Tosses v
-told outcome.Stuck after = Stuck
+abbrev pub local_of : Outcome → (after : Body) → Local
+local_of outcome.Moves after = Moves (body_of after)
+local_of (outcome.Wants r) after = Wants (request_of r) after.stack
+local_of (outcome.Ends v) after = Ends v
+local_of (outcome.Tosses v) after = Tosses v
+local_of outcome.Stuck after = Stuck
 
 -- the operands, the top first, of a request before which a class may have to be initialised (JVMS 5.5)
 abbrev pub operands_of : Request → Option (List Value)
@@ -66,7 +66,7 @@ Waits _ before after = Unit {0}
 
 -- it does what is due
 abbrev pub Does : Outcome → (before after : Body) → (due : Local) → Type 0
-Does o before after due = (told o after ≡ due) × Waits o before after
+Does o before after due = (local_of o after ≡ due) × Waits o before after
 
 -- it does what a frame does at an instruction of a sort, unless memory was wanting
 abbrev pub DoesAs : Result Outcome OutOfMemory → (before after : Body) → Sort → Type 0

@@ -1,7 +1,7 @@
 // A frame without its method (JVMS 2.6).
 ghost use Rattle.std.specs.Prelude.{◌≡◌, ◌+◌, ◌-◌, ◌<◌, ◌^◌, IfOk};
 ghost use Rattle.jvm_model.specs.Instructions.{jump_if};
-ghost use Rattle.jvm_model.specs.Local.{begun};
+ghost use Rattle.jvm_model.specs.Local.{called_with};
 ghost use Rattle.run_steps.specs.Frames.{body_of};
 ghost use Rattle.std.specs.Option.{unwrap_or};
 
@@ -21,7 +21,7 @@ pub struct Body {
 impl Body {
     /// That of a method that is called with these arguments (JVMS 2.6.1, 6.5.invokestatic).
     pub fn begun(alloc: Global, arguments: &[Value]) -> M<Self>
-        ensures { IfOk result (λ body. body_of body ≡ begun arguments.now) }
+        ensures { IfOk result (λ body. body_of body ≡ called_with arguments.now) }
     {
         Ok(Body {
             at: 0,

@@ -9,7 +9,7 @@ use Rattle.class_model.specs.declared.class.Class.{Class}
 use Rattle.class_write.specs.SpellingLaws.{IsWritable}
 use Rattle.class_pool.specs.Supertypes.{NoCycle}
 use Rattle.class_pool.specs.declared.fault.NamedClass.{NamedClass}
-use Rattle.set_read.specs.Accepted.{AreRead, Reads}
+use Rattle.set_read.specs.Accepted.{AreRead, ReadsClasses}
 use Rattle.set_read.specs.bodies.Steps.{Judges}
 use Rattle.set_read.specs.declared.fault.SetFault.{SetFault}
 use Rattle.set_read.specs.declared.fault.SetFault.TheVariants.{Format, Rule}
@@ -17,7 +17,7 @@ use Rattle.set_read.proofs.Writable.{accepted_are_writable}
 
 -- the set of the classes of files is the set of the files
 pub judged : (files : List FileAt) (named : List NamedClass) (result : Result (List Class) (Or SetFault))
-    → AreRead files named → Judges result named → Reads result files
+    → AreRead files named → Judges result named → ReadsClasses result files
 judged files named (Ok classes) read judges = record {
   named = named;
   read = read;
@@ -31,7 +31,7 @@ judged files named (Err (or.Fault (Format path fault))) read judges = absurd jud
 judged files named (Err (or.Fault (Rule told))) read judges = (named, read, judges)
 judged files named (Err or.OutOfMemory) read judges = tt
 
-pub writable : (files : List FileAt) (result : Result (List Class) (Or SetFault)) → Reads result files
+pub writable : (files : List FileAt) (result : Result (List Class) (Or SetFault)) → ReadsClasses result files
     → IfOk result (AllByRecursion IsWritable)
 writable files (Ok classes) h = accepted_are_writable files classes h
 writable files (Err why) h = tt

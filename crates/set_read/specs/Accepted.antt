@@ -118,7 +118,7 @@ IsFault files (Format path fault) = IsUnread files path fault
 IsFault files (Rule told) = (named : List NamedClass) × AreRead files named × BreaksRule named told
 
 -- the set of files, or why they are none
-abbrev pub Reads : Result (List Class) (Or SetFault) → List FileAt → Type 0
-Reads (Ok classes) files = IsAccepted files classes
-Reads (Err (or.Fault fault)) files = IsFault files fault
-Reads (Err or.OutOfMemory) files = Unit {0}
+abbrev pub ReadsClasses : Result (List Class) (Or SetFault) → List FileAt → Type 0
+ReadsClasses (Ok classes) files = IsAccepted files classes
+ReadsClasses (Err (or.Fault fault)) files = IsFault files fault
+ReadsClasses (Err or.OutOfMemory) files = Unit {0}

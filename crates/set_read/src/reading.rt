@@ -6,7 +6,7 @@ ghost use Rattle.class_write.specs.SpellingLaws.{IsWritable};
 ghost use Rattle.class_pool.specs.Count.{item_count};
 ghost use Rattle.class_pool.specs.Faults.{Ascends, classes_of};
 ghost use Rattle.link_check.specs.Profile.{links_checked};
-ghost use Rattle.set_read.specs.Accepted.{Reads};
+ghost use Rattle.set_read.specs.Accepted.{ReadsClasses};
 ghost use Rattle.set_read.specs.bodies.Steps.{BuildsNamed, Judges, Links, ReadsClass, ReadsFiles};
 
 use crate::SetFault;
@@ -27,7 +27,7 @@ use type_verifier::verify_set;
 pub fn read_set(alloc: Global, files: Items<FileAt>) -> Result<ClassSet, Or<SetFault>>
     requires ascending { IsAscending (map (λ f. f.path) files) }
     requires short { sum_by (λ f. length f.bytes) files < 4294967295 }
-    ensures exact { Reads result files }
+    ensures exact { ReadsClasses result files }
     ensures writable { IfOk result (AllByRecursion IsWritable) }
 {
     let classes = read_files(alloc, files)?;

@@ -13,7 +13,7 @@ use Rattle.std.proofs.lemmas.List.Sorted.{IsPermutation-append_left, IsPermutati
 use Rattle.std.proofs.lemmas.List.Sorted.{IsPermutation-refl, IsPermutation-sym, IsPermutation-trans}
 use Rattle.std.proofs.lemmas.Map.Lookups.{exact_bytes}
 use Rattle.class_model.specs.declared.class.Class.{Class}
-use Rattle.set_shrink.specs.Order.{AreApart, OrderKeepsAll, class_path, in_order, placed}
+use Rattle.set_shrink.specs.Order.{AreApart, OrderKeepsAll, class_path, in_order, put_at_paths}
 
 abbrev Entries : Type 0
 Entries = List (List ℕ × Class)
@@ -71,7 +71,7 @@ all_free (d ∷ classes) entries c differ free = (
 )
 
 all_placed : (entries : Entries) (classes : List Class) → AreFree classes entries → AreApart classes
-    → IsPermutation (values_of entries ++ classes) (values_of (placed entries classes))
+    → IsPermutation (values_of entries ++ classes) (values_of (put_at_paths entries classes))
 all_placed entries [] free apart =
     subst (λ (cs : List Class). IsPermutation cs (values_of entries)) (sym (append-nil (values_of entries)))
     (IsPermutation-refl (values_of entries))

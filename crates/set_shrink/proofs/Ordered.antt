@@ -8,7 +8,7 @@ use Rattle.std.specs.Ordering.{match_ordering, nat_cmp}
 use Rattle.std.specs.declared.cmp.Ordering.{Ordering}
 use Rattle.std.specs.declared.cmp.Ordering.TheVariants.{Less, Equal, Greater}
 use Rattle.class_model.specs.declared.class.Class.{Class}
-use Rattle.set_shrink.specs.Order.{class_path, in_order, placed}
+use Rattle.set_shrink.specs.Order.{class_path, in_order, put_at_paths}
 
 module _ (P : Class → Type 0) where
   abbrev Each : List (List ℕ × Class) → Type 0
@@ -28,7 +28,7 @@ module _ (P : Class → Type 0) where
       by Greater rest = (all.0, rest)
 
   each_placed : (entries : List (List ℕ × Class)) (classes : List Class) → Each entries → AllByRecursion P classes
-      → Each (placed entries classes)
+      → Each (put_at_paths entries classes)
   each_placed entries [] all more = all
   each_placed entries (c ∷ classes) all more =
       each_placed (insert_entry (slice_cmp nat_cmp) entries (class_path c) c) classes

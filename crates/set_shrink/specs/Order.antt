@@ -12,13 +12,13 @@ abbrev pub class_path : Class → List ℕ
 class_path c = c.name ++ codes ".class"
 
 -- classes at their paths, in the order of the bytes of these, with others put among them one after the other
-abbrev pub placed : List (List ℕ × Class) → List Class → List (List ℕ × Class)
-placed entries [] = entries
-placed entries (c ∷ cs) = placed (insert_entry (slice_cmp nat_cmp) entries (class_path c) c) cs
+abbrev pub put_at_paths : List (List ℕ × Class) → List Class → List (List ℕ × Class)
+put_at_paths entries [] = entries
+put_at_paths entries (c ∷ cs) = put_at_paths (insert_entry (slice_cmp nat_cmp) entries (class_path c) c) cs
 
 -- classes in the order of their paths
 abbrev pub in_order : List Class → List Class
-in_order classes = values_of (placed [] classes)
+in_order classes = values_of (put_at_paths [] classes)
 
 -- ---- the law
 

@@ -3,7 +3,7 @@ ghost use Rattle.std.specs.Prelude.{◌≡◌, [], IfOk, OnOk};
 ghost use Rattle.std.specs.BTreeMap.{insert_entry};
 ghost use Rattle.std.specs.Cmp.Lexicographic.{slice_cmp};
 ghost use Rattle.std.specs.Ordering.{nat_cmp};
-ghost use Rattle.set_shrink.specs.Order.{class_path, in_order, placed};
+ghost use Rattle.set_shrink.specs.Order.{class_path, in_order, put_at_paths};
 
 use class_model::Class;
 use jv_base::{Items, M, Text};
@@ -25,7 +25,7 @@ pub(crate) fn in_order(alloc: Global, classes: Items<Class>) -> M<Items<Class>>
 
 /// Each class at the path of its file.
 fn placed(alloc: Global, classes: Items<Class>) -> M<BTreeMap<Text, Class>>
-    ensures { IfOk result (λ map. map.entries ≡ placed [] classes) }
+    ensures { IfOk result (λ map. map.entries ≡ put_at_paths [] classes) }
 {
     let mut map = BTreeMap::new(alloc);
     for class in classes.into_vec() {

@@ -22,7 +22,7 @@ use Rattle.check_command.specs.declared.refusal.Refusal.TheVariants.{Absent, Bad
 use Rattle.check_command.specs.declared.refusal.Refusal.TheVariants.{BadMapping, BadWitness}
 use Rattle.check_command.specs.Refusal.{refusal_status, status_of}
 use Rattle.check_command.specs.Answer as check
-use Rattle.check_command.specs.Answer.{Ending, Ends, Reads, said, stopped, text_failed, text_without_memory}
+use Rattle.check_command.specs.Answer.{Ending, Ends, ReadsPair, said, stopped, text_failed, text_without_memory}
 use Rattle.command_output.specs.Output.{Outside}
 use Rattle.tree_io.specs.Runs.{AddsCalls, Sees}
 use Rattle.tree_io.proofs.Runs.{made_so, sees_so}
@@ -120,7 +120,8 @@ same_so : (ending : Ending) (named : CheckFiles) (status : ℕ) (before after : 
     → AddsCalls before.calls after.calls before.files after.files
     (Sees (Some []) (λ files. FoundDoTheSame files named))
 same_so said named status before after ends zero =
-    made_so (Reads named) (Sees (Some []) (λ files. FoundDoTheSame files named)) before.calls after.calls before.files
+    made_so (ReadsPair named) (Sees (Some []) (λ files. FoundDoTheSame files named)) before.calls after.calls
+    before.files
     after.files
     (sees_so (Some []) (λ files. IsDue files named (Ok tt)) (λ files. FoundDoTheSame files named)
     (λ files due. ok_same files named due)) ends.asked

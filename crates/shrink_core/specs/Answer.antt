@@ -113,7 +113,7 @@ LeavesSo (summary_without_memory plan) named calls = Writes plan named calls
 
 abbrev pub SaidSo : Ending → List ℕ → Output → Output → Type 0
 SaidSo (done plan) config old new = Hands plan.summary (Ok tt) old new
-SaidSo (stopped stop) config old new = Puts (refusal.line_of config stop) old new
+SaidSo (stopped stop) config old new = Puts (refusal.stop_line config stop) old new
 SaidSo (summary_failed plan) config old new = FailsSo plan.summary old new
 SaidSo (summary_without_memory plan) config old new = LacksSo plan.summary old new
 

@@ -72,10 +72,10 @@ refusal_line config (Profile fault) = profile_line fault
 refusal_line config (Limit q) = limit_line (quantity_name q) (quantity_limit q)
 
 -- the line of a stop
-abbrev pub line_of : List ℕ → Stop Refusal → List ℕ
-line_of config (Refused refusal) = refusal_line config refusal
-line_of config Device = codes "error 7 device\n"
-line_of config OutOfMemory = codes "error 10 memory\n"
+abbrev pub stop_line : List ℕ → Stop Refusal → List ℕ
+stop_line config (Refused refusal) = refusal_line config refusal
+stop_line config Device = codes "error 7 device\n"
+stop_line config OutOfMemory = codes "error 10 memory\n"
 
 -- ---- statuses
 

@@ -5,7 +5,7 @@ use Rattle.tree_io.specs.Files.{Files}
 use Rattle.tree_io.specs.Memory.{Writes, first_half}
 use Rattle.std.specs.FinMap.{get}
 use Rattle.tree_io.specs.Runs.{Tells}
-use Rattle.tree_io.specs.Tree.{due_list, due_read, Lists, Reads}
+use Rattle.tree_io.specs.Tree.{due_list, due_read, Lists, ReadsFile}
 use Rattle.tree_io.specs.declared.event.Event.TheVariants.{Listed, Read, Wrote}
 use Rattle.tree_io.specs.declared.faults.ListFault.{ListFault}
 use Rattle.tree_io.specs.declared.faults.ReadFault.{ReadFault}
@@ -17,7 +17,7 @@ pub listed_tells : (answer : Result (List (List ℕ)) ListFault) (dir : List ℕ
 listed_tells answer dir max old new same h = (old, ap Some same, (old, (refl, h), refl))
 
 pub read_tells : (answer : Result (List ℕ) ReadFault) (path : List ℕ) (max : ℕ) (old new : Files) → new ≡ old
-    → Reads answer (due_read (get old path) max) → Tells (Some old) (Some new) (Read path max answer ∷ [])
+    → ReadsFile answer (due_read (get old path) max) → Tells (Some old) (Some new) (Read path max answer ∷ [])
 read_tells answer path max old new same h = (old, ap Some same, (old, (refl, h), refl))
 
 pub wrote_tells : (answer : Result (Unit {0}) WriteFault) (path bytes : List ℕ) (old : Files) (calls : CallCounts)

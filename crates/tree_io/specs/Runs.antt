@@ -4,7 +4,7 @@ use Rattle.std.specs.Prelude.{◌≡◌, ◌⊎◌, ℕ, List, [], ◌∷◌, �
 use Rattle.std.specs.FinMap.{get, insert}
 use Rattle.tree_io.specs.Event.{files_to_write, absent_paths, without_memory}
 use Rattle.tree_io.specs.Files.{Files}
-use Rattle.tree_io.specs.Tree.{due_list, due_read, Lists, Reads}
+use Rattle.tree_io.specs.Tree.{due_list, due_read, Lists, ReadsFile}
 use Rattle.tree_io.specs.declared.event.Event.{Event}
 use Rattle.tree_io.specs.declared.event.Event.TheVariants.{Listed, Read, Wrote, Put}
 use Rattle.tree_io.specs.declared.faults.WriteFault.TheVariants as written
@@ -13,7 +13,7 @@ use Rattle.tree_io.specs.declared.file_at.FileAt.{FileAt}
 -- files that a call with this answer may find, and those that it leaves
 abbrev pub Step : Event → Files → Files → Type 0
 Step (Listed dir max answer) old new = (new ≡ old) × Lists answer (due_list old dir max)
-Step (Read path max answer) old new = (new ≡ old) × Reads answer (due_read (get old path) max)
+Step (Read path max answer) old new = (new ≡ old) × ReadsFile answer (due_read (get old path) max)
 Step (Wrote path bytes (Ok _)) old new = new ≡ insert old path bytes
 Step (Wrote path bytes (Err written.Failed)) old new = (new ≡ old) ⊎ ((any : List ℕ) × (new ≡ insert old path any))
 Step (Wrote path bytes (Err written.OutOfMemory)) old new = new ≡ old

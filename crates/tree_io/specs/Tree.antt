@@ -29,9 +29,9 @@ Lists (Err listed.Failed) due = Unit {0}
 Lists (Err listed.OutOfMemory) due = Unit {0}
 
 -- the answer is the one that is due, unless the device failed or memory was wanting
-abbrev pub Reads : Result (List ℕ) ReadFault → Result (List ℕ) ReadFault → Type 0
-Reads (Ok bytes) due = due ≡ Ok bytes
-Reads (Err read.Absent) due = due ≡ Err read.Absent
-Reads (Err read.TooLong) due = due ≡ Err read.TooLong
-Reads (Err read.Failed) due = Unit {0}
-Reads (Err read.OutOfMemory) due = Unit {0}
+abbrev pub ReadsFile : Result (List ℕ) ReadFault → Result (List ℕ) ReadFault → Type 0
+ReadsFile (Ok bytes) due = due ≡ Ok bytes
+ReadsFile (Err read.Absent) due = due ≡ Err read.Absent
+ReadsFile (Err read.TooLong) due = due ≡ Err read.TooLong
+ReadsFile (Err read.Failed) due = Unit {0}
+ReadsFile (Err read.OutOfMemory) due = Unit {0}

@@ -7,7 +7,7 @@ ghost use Rattle.tree_io.specs.declared.event.Event.TheVariants.{Listed, Read, W
 ghost use Rattle.tree_io.specs.Below.{front_of, rest_after, paths_below, IsAscending};
 ghost use Rattle.tree_io.specs.Calls.{called, fails_next};
 ghost use Rattle.tree_io.specs.Runs.{Tells};
-ghost use Rattle.tree_io.specs.Tree.{due_list, due_read, Lists, Reads};
+ghost use Rattle.tree_io.specs.Tree.{due_list, due_read, Lists, ReadsFile};
 ghost use Rattle.tree_io.specs.Memory.{files_of_entries, overlaid, tree_of, Writes};
 
 use crate::calls::Calls;
@@ -186,7 +186,7 @@ fn found(
 ) -> Result<Bytes, ReadFault>
     ensures named { IsErrOf result ReadFault.Failed ↔ IsTrue (fails_next calls.old) }
     ensures after { calls.new ≡ called calls.old }
-    ensures files_of_entries { Reads result (due_read (map.get (files_of_entries files.now.entries) path.now) max) }
+    ensures files_of_entries { ReadsFile result (due_read (map.get (files_of_entries files.now.entries) path.now) max) }
     ensures length { IfOk result (λ bytes. length bytes ≤ max) }
 {
     if calls.begin() {
@@ -259,7 +259,7 @@ impl Tree for MemoryTree {
               ++ Read path.now max result ∷ [];
         } }
         ensures fits { Tells (Some self.old.files) (Some self.new.files) (Read path.now max result ∷ []) }
-        ensures files_of_entries { Reads result (due_read (map.get self.old.files path.now) max) }
+        ensures files_of_entries { ReadsFile result (due_read (map.get self.old.files path.now) max) }
         ensures length { IfOk result (λ bytes. length bytes ≤ max) }
     {
         let answer = found(alloc, &self.files, &mut self.calls, path, max);

@@ -5,7 +5,7 @@ ghost use Rattle.tree_io.specs.Below.{IsAscending};
 ghost use Rattle.tree_io.specs.Count.{Rose};
 ghost use Rattle.tree_io.specs.Files.{Files, put_at, MayChangeAt};
 ghost use Rattle.tree_io.specs.Runs.{Tells};
-ghost use Rattle.tree_io.specs.Tree.{due_list, due_read, Lists, Reads};
+ghost use Rattle.tree_io.specs.Tree.{due_list, due_read, Lists, ReadsFile};
 ghost use Rattle.tree_io.specs.declared.event.Event.{Event};
 ghost use Rattle.tree_io.specs.declared.event.Event.TheVariants.{Listed, Read, Wrote};
 
@@ -56,7 +56,7 @@ pub trait Tree {
         ensures later { faults self.old ≤ faults self.new }
         ensures failed { IsErrOf result ReadFault.Failed → Rose (faults self.old) (faults self.new) }
         ensures length { IfOk result (λ bytes. length bytes ≤ max) }
-        ensures told { IfSome (files self.old) (λ fs. Reads result (due_read (map.get fs path.now) max)) }
+        ensures told { IfSome (files self.old) (λ fs. ReadsFile result (due_read (map.get fs path.now) max)) }
         ensures no_fault { IsErrOf result ReadFault.OutOfMemory → faults self.new ≡ faults self.old };
 
     /// Puts bytes at a path, in place of any before.

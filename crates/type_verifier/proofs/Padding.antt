@@ -15,7 +15,7 @@ use Rattle.class_model.specs.declared.frame.FrameAt.{FrameAt}
 use Rattle.class_model.specs.declared.frame.VType.{VType}
 use Rattle.class_model.specs.declared.frame.VType.TheVariants as vtype
 use Rattle.type_verifier.specs.declared.frame.TypeFrame.{TypeFrame}
-use Rattle.type_verifier.specs.Frames.{padded, words_of}
+use Rattle.type_verifier.specs.Frames.{padded, local_words}
 use Rattle.type_verifier.specs.bodies.Longs.{is_long}
 use Rattle.type_verifier.specs.bodies.Marks.{AreKept, AreNumbersFrom, declared_numbered}
 
@@ -81,7 +81,7 @@ numbers_kept frames number n count numbers x e lt over so_far =
     }
 
 -- locals without a long are their words
-pub narrow : (types : List VType) → list_any is_long types ≡ false → flat_map words_of types ≡ types
+pub narrow : (types : List VType) → list_any is_long types ≡ false → flat_map local_words types ≡ types
 narrow [] h = refl
 narrow (vtype.Long ∷ types) h = absurd cc
 narrow (ty ∷ types) h = ap (λ (r : List VType). ty ∷ r) (narrow types h)

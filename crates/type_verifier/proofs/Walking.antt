@@ -13,7 +13,7 @@ use Rattle.type_verifier.specs.declared.frame.TypeFrame.{TypeFrame}
 use Rattle.type_verifier.specs.bodies.Changes.{GoesOn}
 use Rattle.type_verifier.specs.Environment.{Environment}
 use Rattle.type_verifier.specs.Walk.{at_instruction, fault_at}
-use Rattle.type_verifier.specs.bodies.Walked.{ended, gone_on, walked}
+use Rattle.type_verifier.specs.bodies.Walked.{behind_last, gone_on, walked}
 
 abbrev Answer : Type 0
 Answer = Result (Unit {0}) TypeFault
@@ -51,6 +51,6 @@ module _ (env : Environment) where
   walk_fails ins at i before new or.OutOfMemory total lt is h so_far = tt
 
   pub walk_ends : (ins : List Ins) (at : ℕ) (before : Option TypeFrame) (total : Answer) → length ins ≤ at
-      → walked env at before (drop at ins) ≡ total → total ≡ ended env at before
+      → walked env at before (drop at ins) ≡ total → total ≡ behind_last env at before
   unfolding walked
   walk_ends ins at before total le so_far = sym so_far ∙ ap (walked env at before) (drop_all at ins le)

@@ -262,8 +262,8 @@ substituted old new types = map (λ ty. if is_copy old ty then new else ty) type
 
 -- the stack has nothing that the same instruction made before; a local with such a thing is lost
 -- (JVMS 4.10.1.9.new)
-abbrev pub made : ℕ → TypeFrame → Checked
-made at f =
+abbrev pub object_made : ℕ → TypeFrame → Checked
+object_made at f =
     if list_any (is_copy (vtype.Uninit at)) f.stack then Err Uninit
     else Ok (record {
       locals = substituted (vtype.Uninit at) vtype.Top f.locals;
@@ -359,7 +359,7 @@ module _ (env : Environment) where
   acted at (Doubles copied under) f = or_operand f (doubled copied under f.stack)
   acted at Swaps f = or_operand f (swapped f.stack)
   acted at ReadsReference f = reference_read env.classes f
-  acted at Makes f = made at f
+  acted at Makes f = object_made at f
   acted at (Returns k) f = result_taken k env.method.ty.ret f >>= constructor_returned
   acted at (Uses wanted receiver guarded given) f =
       all_popped env.classes wanted f >>= λ g. used_from receiver guarded g g.stack >>= λ h. Ok (gives given h)

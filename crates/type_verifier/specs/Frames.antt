@@ -8,9 +8,9 @@ use Rattle.class_model.specs.declared.frame.VType.TheVariants as vtype
 use Rattle.type_verifier.specs.declared.frame.TypeFrame.{TypeFrame}
 
 -- what the words of a local hold: behind a long stands Top (JVMS 4.10.1.6, expandTypeList)
-abbrev pub words_of : VType → List VType
-words_of vtype.Long = vtype.Long ∷ vtype.Top ∷ []
-words_of ty = ty ∷ []
+abbrev pub local_words : VType → List VType
+local_words vtype.Long = vtype.Long ∷ vtype.Top ∷ []
+local_words ty = ty ∷ []
 
 -- Tops up to so many words (JVMS 4.10.1.6, expandToLength)
 abbrev pub padded : ℕ → List VType → List VType
@@ -18,7 +18,7 @@ padded max_locals words = words ++ replicate (max_locals - length words) vtype.T
 
 -- the locals word by word, Tops behind the last (JVMS 4.10.1.6)
 abbrev pub expanded : ℕ → List VType → List VType
-expanded max_locals types = padded max_locals (flat_map words_of types)
+expanded max_locals types = padded max_locals (flat_map local_words types)
 
 -- the type of `this` before another constructor was called on it (JVMS 4.10.1.2)
 abbrev pub is_uninit_this : VType → Bool

@@ -7,7 +7,7 @@ ghost use Rattle.type_verifier.specs.Effects.{all_popped, element, popped, read_
 ghost use Rattle.type_verifier.specs.Rules.{AnyArray, Assignable, ReadsReference, Takes, array_load, array_of};
 ghost use Rattle.type_verifier.specs.Rules.{array_of_base};
 ghost use Rattle.type_verifier.specs.Rules.{array_store, array_wanted, element_moved};
-ghost use Rattle.type_verifier.specs.bodies.Seen.{seen};
+ghost use Rattle.type_verifier.specs.bodies.Seen.{environment_of};
 
 use crate::TypeKind;
 use crate::assignability::assignable;
@@ -87,7 +87,7 @@ fn take_element(env: &Env, frame: &mut TypeFrame, elem: Elem) -> Result<(), Type
 
 /// iaload and those like it.
 pub(crate) fn load_element(env: &Env, frame: &mut TypeFrame, elem: Elem) -> Result<(), Or<TypeKind>>
-    ensures { AfterOr result frame.new (ruled (seen env.now) 0 (array_load elem) frame.old) }
+    ensures { AfterOr result frame.new (ruled (environment_of env.now) 0 (array_load elem) frame.old) }
 {
     match elem {
         Elem::Ref => load_reference(env, frame),
@@ -103,7 +103,8 @@ fn load_number(
     given: VType,
 ) -> Result<(), Or<TypeKind>>
     ensures { AfterOr result frame.new
-        (ruled (seen env.now) 0 (Takes (Assignable vtype.Int ∷ array_wanted elem ∷ []) (Some given)) frame.old) }
+        (ruled (environment_of env.now) 0 (Takes (Assignable vtype.Int ∷ array_wanted elem ∷ []) (Some given))
+        frame.old) }
 {
     check_room(env.code, frame, 2, words_of(&given))?;
     take_number(env.set, frame, Num::Int)?;
@@ -114,7 +115,7 @@ fn load_number(
 
 /// aaload.
 fn load_reference(env: &Env, frame: &mut TypeFrame) -> Result<(), Or<TypeKind>>
-    ensures { AfterOr result frame.new (ruled (seen env.now) 0 ReadsReference frame.old) }
+    ensures { AfterOr result frame.new (ruled (environment_of env.now) 0 ReadsReference frame.old) }
 {
     check_room(env.code, frame, 2, 1)?;
     take_number(env.set, frame, Num::Int)?;
@@ -139,7 +140,7 @@ pub(crate) fn store_element(
     frame: &mut TypeFrame,
     elem: Elem,
 ) -> Result<(), Or<TypeKind>>
-    ensures { AfterOr result frame.new (ruled (seen env.now) 0 (array_store elem) frame.old) }
+    ensures { AfterOr result frame.new (ruled (environment_of env.now) 0 (array_store elem) frame.old) }
 {
     check_room(env.code, frame, words_of_element(elem) + 2, 0)?;
     take_element(env, frame, elem)?;
@@ -157,7 +158,8 @@ pub(crate) fn make_numbers(
     base: &Base,
 ) -> Result<(), Or<TypeKind>>
     ensures { AfterOr result frame.new
-        (ruled (seen env.now) 0 (Takes (Assignable vtype.Int ∷ []) (Some (array_of_base base.now))) frame.old) }
+        (ruled (environment_of env.now) 0 (Takes (Assignable vtype.Int ∷ []) (Some (array_of_base base.now)))
+        frame.old) }
 {
     let array = VType::Object(FieldType {
         dims: 1,
@@ -173,7 +175,7 @@ pub(crate) fn make_array(
     ty: &FieldType,
 ) -> Result<(), Or<TypeKind>>
     ensures { AfterOr result frame.new
-        (ruled (seen env.now) 0 (Takes (Assignable vtype.Int ∷ []) (Some (array_of ty.now))) frame.old) }
+        (ruled (environment_of env.now) 0 (Takes (Assignable vtype.Int ∷ []) (Some (array_of ty.now))) frame.old) }
 {
     let array = array_of(ty)?;
     compute(env, frame, &[Num::Int], Some(array))
@@ -186,7 +188,7 @@ pub(crate) fn make_arrays(
     ty: &FieldType,
     dimensions: u8,
 ) -> Result<(), Or<TypeKind>>
-    ensures { AfterOr result frame.new (ruled (seen env.now) 0
+    ensures { AfterOr result frame.new (ruled (environment_of env.now) 0
         (Takes (replicate dimensions (Assignable vtype.Int)) (Some (vtype.Object ty.now))) frame.old) }
 {
     let array = VType::Object(ty.clone()?);
@@ -208,7 +210,8 @@ fn take_ints(set: &Hierarchy, frame: &mut TypeFrame, count: u8) -> Result<(), Ty
 
 /// arraylength.
 pub(crate) fn measure(env: &Env, frame: &mut TypeFrame) -> Result<(), Or<TypeKind>>
-    ensures { AfterOr result frame.new (ruled (seen env.now) 0 (Takes (AnyArray ∷ []) (Some vtype.Int)) frame.old) }
+    ensures { AfterOr result frame.new
+        (ruled (environment_of env.now) 0 (Takes (AnyArray ∷ []) (Some vtype.Int)) frame.old) }
 {
     check_room(env.code, frame, 1, 1)?;
     take_array(env.set, frame)?;

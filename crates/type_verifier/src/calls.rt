@@ -12,7 +12,7 @@ ghost use Rattle.type_verifier.specs.Members.{is_guarded_method};
 ghost use Rattle.type_verifier.specs.Rules.{Assignable, Initialises, Uses, arguments, method_type, object_call};
 ghost use Rattle.type_verifier.specs.Rules.{returned};
 ghost use Rattle.type_verifier.specs.Rules.{special_call, static_call, wanted_arguments};
-ghost use Rattle.type_verifier.specs.bodies.Seen.{seen};
+ghost use Rattle.type_verifier.specs.bodies.Seen.{environment_of};
 
 use crate::TypeKind;
 use crate::assignability::fits_type;
@@ -39,7 +39,7 @@ pub(crate) fn call_static(
     r: &MemberRef,
 ) -> Result<(), Or<TypeKind>>
     ensures { AfterOr result frame.new
-        (if_ruled (seen env.now) 0 (option_map static_call (method_type r.now)) frame.old) }
+        (if_ruled (environment_of env.now) 0 (option_map static_call (method_type r.now)) frame.old) }
 {
     match method_type(alloc, r)? {
         Some(ty) => call_typed_static(env, frame, &ty),
@@ -48,7 +48,7 @@ pub(crate) fn call_static(
 }
 
 fn call_typed_static(env: &Env, frame: &mut TypeFrame, ty: &MethodType) -> Result<(), Or<TypeKind>>
-    ensures { AfterOr result frame.new (ruled (seen env.now) 0 (static_call ty.now) frame.old) }
+    ensures { AfterOr result frame.new (ruled (environment_of env.now) 0 (static_call ty.now) frame.old) }
 {
     let given = returned(ty)?;
     let taken = words_of_arguments(ty.args.as_slice())?;
@@ -67,7 +67,8 @@ pub(crate) fn call_on_object(
 ) -> Result<(), Or<TypeKind>>
     requires there { env.now.own < length env.now.set.now }
     ensures { AfterOr result frame.new
-        (if_ruled (seen env.now) 0 (option_map (object_call (seen env.now) r.now) (method_type r.now)) frame.old) }
+        (if_ruled (environment_of env.now) 0
+        (option_map (object_call (environment_of env.now) r.now) (method_type r.now)) frame.old) }
 {
     match method_type(alloc, r)? {
         Some(ty) => call_typed(env, frame, r, &ty),
@@ -82,7 +83,8 @@ fn call_typed(
     ty: &MethodType,
 ) -> Result<(), Or<TypeKind>>
     requires there { env.now.own < length env.now.set.now }
-    ensures { AfterOr result frame.new (ruled (seen env.now) 0 (object_call (seen env.now) r.now ty.now) frame.old) }
+    ensures { AfterOr result frame.new
+        (ruled (environment_of env.now) 0 (object_call (environment_of env.now) r.now ty.now) frame.old) }
 {
     let given = returned(ty)?;
     let taken = words_with_object(ty.args.as_slice())?;
@@ -102,7 +104,8 @@ pub(crate) fn call_special(
 ) -> Result<(), Or<TypeKind>>
     requires there { env.now.own < length env.now.set.now }
     ensures { AfterOr result frame.new
-        (if_ruled (seen env.now) 0 (option_map (special_call (seen env.now) r.now) (method_type r.now)) frame.old) }
+        (if_ruled (environment_of env.now) 0
+        (option_map (special_call (environment_of env.now) r.now) (method_type r.now)) frame.old) }
 {
     match method_type(alloc, r)? {
         Some(ty) => call_typed_special(env, frame, r, &ty),
@@ -117,7 +120,8 @@ fn call_typed_special(
     ty: &MethodType,
 ) -> Result<(), Or<TypeKind>>
     requires there { env.now.own < length env.now.set.now }
-    ensures { AfterOr result frame.new (ruled (seen env.now) 0 (special_call (seen env.now) r.now ty.now) frame.old) }
+    ensures { AfterOr result frame.new
+        (ruled (environment_of env.now) 0 (special_call (environment_of env.now) r.now ty.now) frame.old) }
 {
     if r.name.as_str() == "<init>" {
         call_constructor(env, frame, r, ty)
@@ -133,8 +137,8 @@ fn call_constructor(
     ty: &MethodType,
 ) -> Result<(), Or<TypeKind>>
     requires there { env.now.own < length env.now.set.now }
-    ensures { AfterOr result frame.new (ruled (seen env.now) 0
-        (Initialises (arguments ty.now) r.now.class (is_guarded_method (seen env.now) r.now)) frame.old) }
+    ensures { AfterOr result frame.new (ruled (environment_of env.now) 0
+        (Initialises (arguments ty.now) r.now.class (is_guarded_method (environment_of env.now) r.now)) frame.old) }
 {
     check_room(env.code, frame, words_with_object(ty.args.as_slice())?, 0)?;
     take_arguments(env.set, frame, ty.args.as_slice())?;
@@ -143,8 +147,8 @@ fn call_constructor(
 
 /// Calls a method that is no constructor on an object of the own class.
 fn call_own(env: &Env, frame: &mut TypeFrame, ty: &MethodType) -> Result<(), Or<TypeKind>>
-    ensures { AfterOr result frame.new (ruled (seen env.now) 0
-        (Uses (arguments ty.now) (Assignable (own_type (seen env.now))) false (returned ty.now)) frame.old) }
+    ensures { AfterOr result frame.new (ruled (environment_of env.now) 0
+        (Uses (arguments ty.now) (Assignable (own_type (environment_of env.now))) false (returned ty.now)) frame.old) }
 {
     let given = returned(ty)?;
     let taken = words_with_object(ty.args.as_slice())?;
@@ -157,7 +161,8 @@ fn call_own(env: &Env, frame: &mut TypeFrame, ty: &MethodType) -> Result<(), Or<
 
 fn take_own(env: &Env, frame: &mut TypeFrame) -> Result<(), Or<TypeKind>>
     ensures { AfterOr result frame.new
-        (used_from (seen env.now) (Assignable (own_type (seen env.now))) false frame.old frame.old.stack) }
+        (used_from (environment_of env.now) (Assignable (own_type (environment_of env.now))) false frame.old
+        frame.old.stack) }
 {
     let own = env.own_type()?;
     take(env.set, frame, &own)?;

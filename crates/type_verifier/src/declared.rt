@@ -4,7 +4,7 @@ ghost use Rattle.std.specs.Option.{option_map};
 ghost use Rattle.type_verifier.specs.Environment.{declared_frame_at};
 ghost use Rattle.type_verifier.specs.bodies.Declared.{frame_of};
 ghost use Rattle.type_verifier.specs.bodies.Places.{ArePlaces};
-ghost use Rattle.type_verifier.specs.bodies.Seen.{seen};
+ghost use Rattle.type_verifier.specs.bodies.Seen.{environment_of};
 
 use crate::environment::Env;
 use crate::frame::TypeFrame;
@@ -41,7 +41,7 @@ pub(crate) fn look_up<'a>(
 ) -> M<Option<Declared<'a>>>
     requires places { ArePlaces env.now.code.now places.now }
     requires instruction { at < length env.now.code.now.ins }
-    ensures { IfOk result (λ d. option_map frame_of d ≡ declared_frame_at (seen env.now) at) }
+    ensures { IfOk result (λ d. option_map frame_of d ≡ declared_frame_at (environment_of env.now) at) }
 {
     let Some(number) = places.frame_number(at) else {
         return Ok(None);
@@ -59,7 +59,7 @@ pub(crate) fn look_up<'a>(
 pub(crate) fn make(alloc: Global, env: &Env, places: &Places, at: usize) -> M<Option<TypeFrame>>
     requires places { ArePlaces env.now.code.now places.now }
     requires instruction { at < length env.now.code.now.ins }
-    ensures { IfOk result (λ d. d ≡ declared_frame_at (seen env.now) at) }
+    ensures { IfOk result (λ d. d ≡ declared_frame_at (environment_of env.now) at) }
 {
     match places.frame_number(at) {
         Some(number) => declared_frame(alloc, env.code, number),

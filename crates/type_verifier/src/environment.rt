@@ -1,7 +1,7 @@
 // What the rules look at beside a frame (JVMS 4.10.1.1).
 ghost use Rattle.std.specs.Prelude.{◌≡◌, IfOk};
 ghost use Rattle.type_verifier.specs.Environment.{in_constructor, own_type};
-ghost use Rattle.type_verifier.specs.bodies.Seen.{seen};
+ghost use Rattle.type_verifier.specs.bodies.Seen.{environment_of};
 
 use crate::hierarchy::Hierarchy;
 use crate::known::Known;
@@ -26,14 +26,14 @@ pub(crate) struct Env<'a> {
 impl<'a> Env<'a> {
     /// The type of the own class.
     pub(crate) fn own_type(&self) -> M<VType>
-        ensures { IfOk result (λ ty. ty ≡ own_type (seen self.now)) }
+        ensures { IfOk result (λ ty. ty ≡ own_type (environment_of self.now)) }
     {
         Ok(VType::Object(class_type(&self.class.name)?))
     }
 
     /// Whether the method is a constructor.
     pub(crate) fn is_in_constructor(&self) -> bool
-        ensures { result ≡ in_constructor (seen self.now) }
+        ensures { result ≡ in_constructor (environment_of self.now) }
     {
         self.method.name.as_str() == "<init>"
     }

@@ -4,7 +4,7 @@ ghost use Rattle.std.specs.Option.{option_map};
 ghost use Rattle.type_verifier.specs.bodies.Changes.{AfterOr};
 ghost use Rattle.type_verifier.specs.Effects.{if_ruled, ruled};
 ghost use Rattle.type_verifier.specs.Rules.{field_read, field_type, field_write, static_read, static_write};
-ghost use Rattle.type_verifier.specs.bodies.Seen.{seen};
+ghost use Rattle.type_verifier.specs.bodies.Seen.{environment_of};
 
 use crate::TypeKind;
 use crate::descriptors::field_type;
@@ -27,7 +27,7 @@ pub(crate) fn read_static(
     r: &MemberRef,
 ) -> Result<(), Or<TypeKind>>
     ensures { AfterOr result frame.new
-        (if_ruled (seen env.now) 0 (option_map static_read (field_type r.now)) frame.old) }
+        (if_ruled (environment_of env.now) 0 (option_map static_read (field_type r.now)) frame.old) }
 {
     match field_type(alloc, r)? {
         Some(ty) => compute(env, frame, &[], Some(ty)),
@@ -43,7 +43,7 @@ pub(crate) fn write_static(
     r: &MemberRef,
 ) -> Result<(), Or<TypeKind>>
     ensures { AfterOr result frame.new
-        (if_ruled (seen env.now) 0 (option_map static_write (field_type r.now)) frame.old) }
+        (if_ruled (environment_of env.now) 0 (option_map static_write (field_type r.now)) frame.old) }
 {
     match field_type(alloc, r)? {
         Some(ty) => convert(env, frame, &ty, None),
@@ -60,7 +60,8 @@ pub(crate) fn read_field(
 ) -> Result<(), Or<TypeKind>>
     requires there { env.now.own < length env.now.set.now }
     ensures { AfterOr result frame.new
-        (if_ruled (seen env.now) 0 (option_map (field_read (seen env.now) r.now) (field_type r.now)) frame.old) }
+        (if_ruled (environment_of env.now) 0 (option_map (field_read (environment_of env.now) r.now) (field_type r.now))
+        frame.old) }
 {
     match field_type(alloc, r)? {
         Some(ty) => read_typed(env, frame, r, ty),
@@ -75,7 +76,8 @@ fn read_typed(
     ty: VType,
 ) -> Result<(), Or<TypeKind>>
     requires there { env.now.own < length env.now.set.now }
-    ensures { AfterOr result frame.new (ruled (seen env.now) 0 (field_read (seen env.now) r.now ty) frame.old) }
+    ensures { AfterOr result frame.new
+        (ruled (environment_of env.now) 0 (field_read (environment_of env.now) r.now ty) frame.old) }
 {
     check_room(env.code, frame, 1, words_of(&ty))?;
     use_object(env, frame, &r.class, false, is_guarded_field(env, r))?;
@@ -92,7 +94,8 @@ pub(crate) fn write_field(
 ) -> Result<(), Or<TypeKind>>
     requires there { env.now.own < length env.now.set.now }
     ensures { AfterOr result frame.new
-        (if_ruled (seen env.now) 0 (option_map (field_write (seen env.now) r.now) (field_type r.now)) frame.old) }
+        (if_ruled (environment_of env.now) 0
+        (option_map (field_write (environment_of env.now) r.now) (field_type r.now)) frame.old) }
 {
     match field_type(alloc, r)? {
         Some(ty) => write_typed(env, frame, r, &ty),
@@ -107,7 +110,8 @@ fn write_typed(
     ty: &VType,
 ) -> Result<(), Or<TypeKind>>
     requires there { env.now.own < length env.now.set.now }
-    ensures { AfterOr result frame.new (ruled (seen env.now) 0 (field_write (seen env.now) r.now ty.now) frame.old) }
+    ensures { AfterOr result frame.new
+        (ruled (environment_of env.now) 0 (field_write (environment_of env.now) r.now ty.now) frame.old) }
 {
     check_room(env.code, frame, words_of(ty) + 1, 0)?;
     take(env.set, frame, ty)?;

@@ -9,7 +9,7 @@ ghost use Rattle.type_verifier.specs.Walk.{satisfies_handlers};
 ghost use Rattle.type_verifier.specs.bodies.Noting.{AreFitting, AreNoted, AreTold, HasNoted, IsInDoubt, IsTold};
 ghost use Rattle.type_verifier.specs.bodies.Noting.{Notes, NotesWord, StillNoted};
 ghost use Rattle.type_verifier.specs.bodies.Places.{ArePlaces};
-ghost use Rattle.type_verifier.specs.bodies.Seen.{seen};
+ghost use Rattle.type_verifier.specs.bodies.Seen.{environment_of};
 
 use crate::changed::Changed;
 use crate::environment::Env;
@@ -158,9 +158,9 @@ pub(crate) fn go_on(
 ) -> M<()>
     requires places { ArePlaces env.now.code.now places.now }
     requires instruction { at < length env.now.code.now.ins }
-    requires fitting { AreFitting (seen env.now) at fitting.old }
-    requires satisfies { IsTrue (satisfies_handlers (seen env.now) at frame.now) }
-    ensures { IfOk result (λ _. AreFitting (seen env.now) (at + 1) fitting.new) }
+    requires fitting { AreFitting (environment_of env.now) at fitting.old }
+    requires satisfies { IsTrue (satisfies_handlers (environment_of env.now) at frame.now) }
+    ensures { IfOk result (λ _. AreFitting (environment_of env.now) (at + 1) fitting.new) }
 {
     let types = frame.locals.as_slice();
     let count = types.len();
@@ -174,8 +174,8 @@ pub(crate) fn go_on(
 fn forget_begun(env: &Env, places: &Places, noted: &mut Vec<Option<Noted>>, at: u32)
     requires places { ArePlaces env.now.code.now places.now }
     requires instruction { at < length env.now.code.now.ins }
-    requires noted { AreNoted (seen env.now) at noted.old.items }
-    ensures { AreNoted (seen env.now) (at + 1) noted.new.items }
+    requires noted { AreNoted (environment_of env.now) at noted.old.items }
+    ensures { AreNoted (environment_of env.now) (at + 1) noted.new.items }
 {
     if places.is_first_covered(at as usize) {
         noted.clear();

@@ -4,10 +4,10 @@ ghost use Rattle.std.specs.List.{flat_map, list_any};
 ghost use Rattle.class_model.specs.Flags.{is_static};
 ghost use Rattle.class_model.specs.Frames.{initial_locals, this_type, vtype_of};
 ghost use Rattle.type_verifier.specs.Environment.{initial_frame};
-ghost use Rattle.type_verifier.specs.Frames.{expanded, framed, is_uninit_this, padded, words_of};
+ghost use Rattle.type_verifier.specs.Frames.{expanded, framed, is_uninit_this, padded, local_words};
 ghost use Rattle.type_verifier.specs.bodies.Marks.{declared_numbered};
 ghost use Rattle.type_verifier.specs.bodies.Longs.{is_long};
-ghost use Rattle.type_verifier.specs.bodies.Seen.{seen};
+ghost use Rattle.type_verifier.specs.bodies.Seen.{environment_of};
 
 use crate::descriptors::vtype_of;
 use crate::environment::Env;
@@ -77,7 +77,7 @@ fn expanded(alloc: Global, max_locals: usize, types: Vec<VType>) -> M<Vec<VType>
 
 /// The words of locals. Where each takes one, no other list is made.
 fn words_of_all(alloc: Global, types: Vec<VType>) -> M<Vec<VType>>
-    ensures { IfOk result (λ words. words.items ≡ flat_map words_of types.items) }
+    ensures { IfOk result (λ words. words.items ≡ flat_map local_words types.items) }
 {
     if has_long(types.as_slice()) {
         all_words(alloc, types)
@@ -99,7 +99,7 @@ fn is_long(ty: &VType) -> bool
 }
 
 fn all_words(alloc: Global, types: Vec<VType>) -> M<Vec<VType>>
-    ensures { IfOk result (λ words. words.items ≡ flat_map words_of types.items) }
+    ensures { IfOk result (λ words. words.items ≡ flat_map local_words types.items) }
 {
     let mut words = Vec::new(alloc);
     for ty in types {
@@ -109,7 +109,7 @@ fn all_words(alloc: Global, types: Vec<VType>) -> M<Vec<VType>>
 }
 
 fn push_words(words: &mut Vec<VType>, ty: VType) -> M<()>
-    ensures { OnOk result (words.new.items ≡ words.old.items ++ words_of ty) }
+    ensures { OnOk result (words.new.items ≡ words.old.items ++ local_words ty) }
 {
     let is_long = is_long(&ty);
     words.push(ty)?;
@@ -132,7 +132,7 @@ fn pad(words: &mut Vec<VType>, max_locals: usize) -> M<()>
 
 /// The frame before the first instruction.
 pub(crate) fn initial_frame(alloc: Global, env: &Env) -> M<TypeFrame>
-    ensures { IfOk result (λ f. f ≡ initial_frame (seen env.now)) }
+    ensures { IfOk result (λ f. f ≡ initial_frame (environment_of env.now)) }
 {
     let locals = initial_locals(alloc, env)?;
     framed(alloc, env.code.max_locals, locals, Vec::new(alloc))

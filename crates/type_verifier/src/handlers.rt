@@ -14,7 +14,7 @@ ghost use Rattle.type_verifier.specs.bodies.Asked.{satisfies_behind, satisfies_f
 ghost use Rattle.type_verifier.specs.bodies.Asked.{satisfies_if_first};
 ghost use Rattle.type_verifier.specs.bodies.Noting.{AreFitting};
 ghost use Rattle.type_verifier.specs.bodies.Places.{ArePlaces};
-ghost use Rattle.type_verifier.specs.bodies.Seen.{seen};
+ghost use Rattle.type_verifier.specs.bodies.Seen.{environment_of};
 ghost use Rattle.type_verifier.specs.bodies.Since.{AreElse, IsKnown, IsSince};
 
 use crate::assignability::{are_assignable, assignable, is_stack_assignable};
@@ -44,10 +44,10 @@ pub(crate) fn satisfies_handlers(
 ) -> M<bool>
     requires places { ArePlaces env.now.code.now places.now }
     requires instruction { at < length env.now.code.now.ins }
-    requires since { IsSince (seen env.now) at since frame.now }
-    requires fitting { AreFitting (seen env.now) at fitting.old }
-    ensures ok { IfOk result (λ ok. ok ≡ satisfies_handlers (seen env.now) at frame.now) }
-    ensures fitting { IfOk result (λ ok. IsTrue ok → AreFitting (seen env.now) (at + 1) fitting.new) }
+    requires since { IsSince (environment_of env.now) at since frame.now }
+    requires fitting { AreFitting (environment_of env.now) at fitting.old }
+    ensures ok { IfOk result (λ ok. ok ≡ satisfies_handlers (environment_of env.now) at frame.now) }
+    ensures fitting { IfOk result (λ ok. IsTrue ok → AreFitting (environment_of env.now) (at + 1) fitting.new) }
 {
     if !are_satisfied(alloc, env, places, fitting, frame, since, at)? {
         return Ok(false);
@@ -67,9 +67,9 @@ fn are_satisfied(
 ) -> M<bool>
     requires places { ArePlaces env.now.code.now places.now }
     requires instruction { at < length env.now.code.now.ins }
-    requires since { IsSince (seen env.now) at since frame.now }
-    requires fitting { AreFitting (seen env.now) at fitting.now }
-    ensures { IfOk result (λ ok. ok ≡ satisfies_handlers (seen env.now) at frame.now) }
+    requires since { IsSince (environment_of env.now) at since frame.now }
+    requires fitting { AreFitting (environment_of env.now) at fitting.now }
+    ensures { IfOk result (λ ok. ok ≡ satisfies_handlers (environment_of env.now) at frame.now) }
 {
     if is_told(fitting, frame, since) {
         satisfies_first(alloc, env, places, frame, at)
@@ -89,8 +89,8 @@ fn ask_handlers(
 ) -> M<bool>
     requires places { ArePlaces env.now.code.now places.now }
     requires instruction { at < length env.now.code.now.ins }
-    requires since { IsSince (seen env.now) at since frame.now }
-    ensures { IfOk result (λ ok. ok ≡ satisfies_handlers (seen env.now) at frame.now) }
+    requires since { IsSince (environment_of env.now) at since frame.now }
+    ensures { IfOk result (λ ok. ok ≡ satisfies_handlers (environment_of env.now) at frame.now) }
 {
     let Some(changed) = since else {
         return satisfies_all(alloc, env, places, frame, at);
@@ -103,7 +103,7 @@ fn ask_handlers(
 
 fn satisfies_all(alloc: Global, env: &Env, places: &Places, frame: &TypeFrame, at: u32) -> M<bool>
     requires places { ArePlaces env.now.code.now places.now }
-    ensures { IfOk result (λ ok. ok ≡ satisfies_handlers (seen env.now) at frame.now) }
+    ensures { IfOk result (λ ok. ok ≡ satisfies_handlers (environment_of env.now) at frame.now) }
 {
     if !is_covered(env, places, at) {
         return Ok(true);
@@ -144,7 +144,7 @@ fn satisfies(
     handler: &Handler,
 ) -> M<bool>
     requires places { ArePlaces env.now.code.now places.now }
-    ensures { IfOk result (λ ok. ok ≡ satisfies (seen env.now) frame.now handler.now) }
+    ensures { IfOk result (λ ok. ok ≡ satisfies (environment_of env.now) frame.now handler.now) }
 {
     let caught = caught_type(env, handler)?;
     if frame.marked || !assignable(env.set, &caught, env.known.throwable()) {
@@ -173,7 +173,7 @@ fn fits_handler(
 ) -> M<bool>
     requires places { ArePlaces env.now.code.now places.now }
     requires marked { frame.now.marked ≡ false }
-    ensures { IfOk result (λ fits. fits ≡ fits_at (seen env.now) (with_stack frame.now (caught ∷ [])) entry) }
+    ensures { IfOk result (λ fits. fits ≡ fits_at (environment_of env.now) (with_stack frame.now (caught ∷ [])) entry) }
 {
     let entry = entry as usize;
     if env.code.ins.len() <= entry {
@@ -210,8 +210,8 @@ fn satisfies_since(
 ) -> M<bool>
     requires places { ArePlaces env.now.code.now places.now }
     requires instruction { at < length env.now.code.now.ins }
-    requires since { IsSince (seen env.now) at (Some changed) frame.now }
-    ensures { IfOk result (λ ok. ok ≡ satisfies_handlers (seen env.now) at frame.now) }
+    requires since { IsSince (environment_of env.now) at (Some changed) frame.now }
+    ensures { IfOk result (λ ok. ok ≡ satisfies_handlers (environment_of env.now) at frame.now) }
 {
     if !satisfies_first(alloc, env, places, frame, at)? {
         return Ok(false);
@@ -223,7 +223,7 @@ fn satisfies_since(
 fn satisfies_first(alloc: Global, env: &Env, places: &Places, frame: &TypeFrame, at: u32) -> M<bool>
     requires places { ArePlaces env.now.code.now places.now }
     requires instruction { at < length env.now.code.now.ins }
-    ensures { IfOk result (λ ok. ok ≡ satisfies_first (seen env.now) at frame.now) }
+    ensures { IfOk result (λ ok. ok ≡ satisfies_first (environment_of env.now) at frame.now) }
 {
     let chain = places.covered();
     let mut next = chain.first_at(at as usize);
@@ -248,7 +248,7 @@ fn satisfies_if_first(
     requires places { ArePlaces env.now.code.now places.now }
     requires there { number < length env.now.code.now.handlers }
     ensures { IfOk result (λ ok.
-        ok ≡ satisfies_if_first (seen env.now) at frame.now (handler_at env.now.code.now number)) }
+        ok ≡ satisfies_if_first (environment_of env.now) at frame.now (handler_at env.now.code.now number)) }
 {
     let handler = &env.code.handlers[number];
     if covers_first(at, handler) {
@@ -275,8 +275,8 @@ fn satisfies_behind(
     at: u32,
 ) -> M<bool>
     requires places { ArePlaces env.now.code.now places.now }
-    requires since { IsSince (seen env.now) at (Some changed) frame.now }
-    ensures { IfOk result (λ ok. ok ≡ satisfies_behind (seen env.now) at frame.now) }
+    requires since { IsSince (environment_of env.now) at (Some changed) frame.now }
+    ensures { IfOk result (λ ok. ok ≡ satisfies_behind (environment_of env.now) at frame.now) }
 {
     if changed.is_nothing() {
         return Ok(true);
@@ -300,10 +300,10 @@ fn satisfies_if_behind(
     number: usize,
 ) -> M<bool>
     requires places { ArePlaces env.now.code.now places.now }
-    requires since { IsSince (seen env.now) at (Some changed) frame.now }
+    requires since { IsSince (environment_of env.now) at (Some changed) frame.now }
     requires there { number < length env.now.code.now.handlers }
     ensures { IfOk result (λ ok.
-        ok ≡ satisfies_if_behind (seen env.now) at frame.now (handler_at env.now.code.now number)) }
+        ok ≡ satisfies_if_behind (environment_of env.now) at frame.now (handler_at env.now.code.now number)) }
 {
     let handler = &env.code.handlers[number];
     if covers_behind(at, handler) {
@@ -329,8 +329,8 @@ fn fits_changed(
     handler: &Handler,
 ) -> M<bool>
     requires places { ArePlaces env.now.code.now places.now }
-    requires known { IsKnown (seen env.now) handler.now changed frame.now }
-    ensures { IfOk result (λ ok. ok ≡ satisfies (seen env.now) frame.now handler.now) }
+    requires known { IsKnown (environment_of env.now) handler.now changed frame.now }
+    ensures { IfOk result (λ ok. ok ≡ satisfies (environment_of env.now) frame.now handler.now) }
 {
     let entry = handler.entry as usize;
     if env.code.ins.len() <= entry {

@@ -7,7 +7,7 @@ ghost use Rattle.class_model.specs.declared.frame.VType.TheVariants as vtype;
 ghost use Rattle.type_verifier.specs.bodies.Changes.{AfterOr};
 ghost use Rattle.type_verifier.specs.Effects.{is_returned_by, result_taken, ruled, stepped, words_of_kind};
 ghost use Rattle.type_verifier.specs.Rules.{Assignable, Returns, Takes, conversion, object, string};
-ghost use Rattle.type_verifier.specs.bodies.Seen.{seen};
+ghost use Rattle.type_verifier.specs.bodies.Seen.{environment_of};
 
 use crate::TypeKind;
 use crate::arrays::{load_element, make_array, make_arrays, make_numbers, measure, store_element};
@@ -36,7 +36,7 @@ pub(crate) fn step(
     op: &Op,
 ) -> Result<(), Or<TypeKind>>
     requires there { env.now.own < length env.now.set.now }
-    ensures { AfterOr result frame.new (stepped (seen env.now) at op.now frame.old) }
+    ensures { AfterOr result frame.new (stepped (environment_of env.now) at op.now frame.old) }
 {
     match op {
         Op::Nop | Op::Goto(_) => compute(env, frame, &[], None),
@@ -92,7 +92,7 @@ pub(crate) fn step(
 
 /// ldc of a string.
 fn push_text(env: &Env, frame: &mut TypeFrame) -> Result<(), Or<TypeKind>>
-    ensures { AfterOr result frame.new (ruled (seen env.now) 0 (Takes [] (Some string)) frame.old) }
+    ensures { AfterOr result frame.new (ruled (environment_of env.now) 0 (Takes [] (Some string)) frame.old) }
 {
     let text = env.known.string().clone()?;
     compute(env, frame, &[], Some(text))
@@ -100,7 +100,7 @@ fn push_text(env: &Env, frame: &mut TypeFrame) -> Result<(), Or<TypeKind>>
 
 /// i2l and those like it.
 fn convert_number(env: &Env, frame: &mut TypeFrame, op: ConvOp) -> Result<(), Or<TypeKind>>
-    ensures { AfterOr result frame.new (ruled (seen env.now) 0 (conversion op) frame.old) }
+    ensures { AfterOr result frame.new (ruled (environment_of env.now) 0 (conversion op) frame.old) }
 {
     match op {
         ConvOp::I2l => compute(env, frame, &[Num::Int], Some(VType::Long)),
@@ -112,7 +112,7 @@ fn convert_number(env: &Env, frame: &mut TypeFrame, op: ConvOp) -> Result<(), Or
 /// checkcast.
 fn cast(env: &Env, frame: &mut TypeFrame, ty: &FieldType) -> Result<(), Or<TypeKind>>
     ensures { AfterOr result frame.new
-        (ruled (seen env.now) 0 (Takes (Assignable object ∷ []) (Some (vtype.Object ty.now))) frame.old) }
+        (ruled (environment_of env.now) 0 (Takes (Assignable object ∷ []) (Some (vtype.Object ty.now))) frame.old) }
 {
     let given = VType::Object(ty.clone()?);
     convert(env, frame, env.known.object(), Some(given))
@@ -122,7 +122,7 @@ fn cast(env: &Env, frame: &mut TypeFrame, ty: &FieldType) -> Result<(), Or<TypeK
 
 /// return and those like it.
 fn leave(env: &Env, frame: &mut TypeFrame, kind: Option<Kind>) -> Result<(), Or<TypeKind>>
-    ensures { AfterOr result frame.new (ruled (seen env.now) 0 (Returns kind) frame.old) }
+    ensures { AfterOr result frame.new (ruled (environment_of env.now) 0 (Returns kind) frame.old) }
 {
     check_room(env.code, frame, words_returned(kind), 0)?;
     take_result(env, frame, kind)?;
@@ -143,7 +143,8 @@ fn words_returned(kind: Option<Kind>) -> usize
 
 /// Takes a value of the method's result, or none where it has none.
 fn take_result(env: &Env, frame: &mut TypeFrame, kind: Option<Kind>) -> Result<(), Or<TypeKind>>
-    ensures { AfterOr result frame.new (result_taken (seen env.now) kind env.now.method.now.ty.ret frame.old) }
+    ensures { AfterOr result frame.new
+        (result_taken (environment_of env.now) kind env.now.method.now.ty.ret frame.old) }
 {
     match (kind, &env.method.ty.ret) {
         (None, None) => Ok(()),
@@ -158,7 +159,7 @@ fn take_typed_result(
     kind: Kind,
     ty: &FieldType,
 ) -> Result<(), Or<TypeKind>>
-    ensures { AfterOr result frame.new (result_taken (seen env.now) (Some kind) (Some ty.now) frame.old) }
+    ensures { AfterOr result frame.new (result_taken (environment_of env.now) (Some kind) (Some ty.now) frame.old) }
 {
     let wanted = vtype_of(ty)?;
     if !is_returned_by(kind, &wanted) {

@@ -2,13 +2,14 @@
 ghost use Rattle.std.specs.Prelude.{◌≡◌, IfOk, option_copied};
 ghost use Rattle.type_verifier.specs.Assignable.{is_assignable};
 ghost use Rattle.type_verifier.specs.bodies.Changes.{AfterOr};
-ghost use Rattle.type_verifier.specs.Effects.{class_made_at, made, made_class, new_initialised, object_initialised};
+ghost use Rattle.type_verifier.specs.Effects.{class_made_at, object_made, made_class, new_initialised};
+ghost use Rattle.type_verifier.specs.Effects.{object_initialised};
 ghost use Rattle.type_verifier.specs.Effects.{ruled};
 ghost use Rattle.type_verifier.specs.Effects.{this_initialised};
 ghost use Rattle.type_verifier.specs.Environment.{own_type};
 ghost use Rattle.type_verifier.specs.Members.{is_class_base, is_class_type, is_own_or_super};
 ghost use Rattle.type_verifier.specs.Rules.{Makes};
-ghost use Rattle.type_verifier.specs.bodies.Seen.{seen};
+ghost use Rattle.type_verifier.specs.bodies.Seen.{environment_of};
 
 use crate::TypeKind;
 use crate::assignability::assignable;
@@ -23,14 +24,14 @@ use jv_base::{Base, FieldType, M, Name, Or};
 
 /// new, which is the instruction of this number.
 pub(crate) fn make(env: &Env, frame: &mut TypeFrame, at: u32) -> Result<(), Or<TypeKind>>
-    ensures { AfterOr result frame.new (ruled (seen env.now) at Makes frame.old) }
+    ensures { AfterOr result frame.new (ruled (environment_of env.now) at Makes frame.old) }
 {
     check_room(env.code, frame, 0, 1)?;
     make_object(frame, at)
 }
 
 fn make_object(frame: &mut TypeFrame, at: u32) -> Result<(), Or<TypeKind>>
-    ensures { AfterOr result frame.new (made at frame.old) }
+    ensures { AfterOr result frame.new (object_made at frame.old) }
 {
     let new = VType::Uninit(at);
     if frame.stack.has_copy(&new) {
@@ -61,7 +62,7 @@ fn is_class(name: &Name, base: &Base) -> bool
 
 /// Whether a type is the own class or its direct superclass.
 fn is_own_or_super(env: &Env, ty: &FieldType) -> bool
-    ensures { result ≡ is_own_or_super (seen env.now) ty.now }
+    ensures { result ≡ is_own_or_super (environment_of env.now) ty.now }
 {
     is_class_type(&env.class.name, ty) || is_class_type(&env.class.super_name, ty)
 }
@@ -92,7 +93,8 @@ pub(crate) fn initialise(
     class: &FieldType,
     guarded: bool,
 ) -> Result<(), Or<TypeKind>>
-    ensures { AfterOr result frame.new (object_initialised (seen env.now) class.now guarded frame.old frame.old.stack) }
+    ensures { AfterOr result frame.new
+        (object_initialised (environment_of env.now) class.now guarded frame.old frame.old.stack) }
 {
     match frame.stack.pop() {
         Some(VType::UninitThis) => initialise_this(env, frame, class),
@@ -103,7 +105,7 @@ pub(crate) fn initialise(
 
 /// Calls a constructor on `this`, which is taken from the stack.
 fn initialise_this(env: &Env, frame: &mut TypeFrame, class: &FieldType) -> Result<(), Or<TypeKind>>
-    ensures { AfterOr result frame.new (this_initialised (seen env.now) class.now frame.old frame.old.stack) }
+    ensures { AfterOr result frame.new (this_initialised (environment_of env.now) class.now frame.old frame.old.stack) }
 {
     if !is_own_or_super(env, class) {
         return Err(Or::Fault(TypeKind::Uninit));
@@ -123,7 +125,7 @@ fn initialise_new(
     class: &FieldType,
     guarded: bool,
 ) -> Result<(), Or<TypeKind>>
-    ensures { AfterOr result frame.new (new_initialised (seen env.now) at class.now guarded
+    ensures { AfterOr result frame.new (new_initialised (environment_of env.now) at class.now guarded
         (class_made_at env.now.code.now at) frame.old frame.old.stack) }
 {
     let Some(name) = class_made_at(env.code, at) else {
@@ -143,7 +145,7 @@ fn initialise_new(
 
 /// Whether a value is an object of the own class.
 pub(crate) fn is_own_object(env: &Env, ty: &VType) -> M<bool>
-    ensures { IfOk result (λ own. own ≡ is_assignable env.now.set.now ty.now (own_type (seen env.now))) }
+    ensures { IfOk result (λ own. own ≡ is_assignable env.now.set.now ty.now (own_type (environment_of env.now))) }
 {
     let own = env.own_type()?;
     Ok(assignable(env.set, ty, &own))

@@ -8,7 +8,7 @@ ghost use Rattle.type_verifier.specs.Effects.{all_popped, gives, popped, ruled};
 ghost use Rattle.type_verifier.specs.Rules.{AnyArray, Assignable, Reference, SmallArray, Takes, is_array};
 ghost use Rattle.type_verifier.specs.Rules.{is_small_array};
 ghost use Rattle.type_verifier.specs.Rules.{meets, wanted_number};
-ghost use Rattle.type_verifier.specs.bodies.Seen.{seen};
+ghost use Rattle.type_verifier.specs.bodies.Seen.{environment_of};
 
 use crate::TypeKind;
 use crate::assignability::assignable;
@@ -109,7 +109,8 @@ pub(crate) fn compute(
     nums: &[Num],
     given: Option<VType>,
 ) -> Result<(), Or<TypeKind>>
-    ensures { AfterOr result frame.new (ruled (seen env.now) 0 (Takes (map wanted_number nums.now) given) frame.old) }
+    ensures { AfterOr result frame.new
+        (ruled (environment_of env.now) 0 (Takes (map wanted_number nums.now) given) frame.old) }
 {
     check_room(
         env.code,
@@ -129,7 +130,8 @@ pub(crate) fn take_references(
     two: bool,
 ) -> Result<(), Or<TypeKind>>
     ensures { AfterOr result frame.new
-        (ruled (seen env.now) 0 (Takes (if two then Reference ∷ Reference ∷ [] else Reference ∷ []) None) frame.old) }
+        (ruled (environment_of env.now) 0 (Takes (if two then Reference ∷ Reference ∷ [] else Reference ∷ []) None)
+        frame.old) }
 {
     let words = if two { 2 } else { 1 };
     check_room(env.code, frame, words, 0)?;
@@ -147,7 +149,8 @@ pub(crate) fn convert(
     to: &VType,
     given: Option<VType>,
 ) -> Result<(), Or<TypeKind>>
-    ensures { AfterOr result frame.new (ruled (seen env.now) 0 (Takes (Assignable to.now ∷ []) given) frame.old) }
+    ensures { AfterOr result frame.new
+        (ruled (environment_of env.now) 0 (Takes (Assignable to.now ∷ []) given) frame.old) }
 {
     check_room(env.code, frame, words_of(to), words_given(&given))?;
     take(env.set, frame, to)?;

@@ -8,7 +8,7 @@ ghost use Rattle.type_verifier.specs.Assignable.{is_assignable};
 ghost use Rattle.type_verifier.specs.bodies.Changes.{AfterOr};
 ghost use Rattle.type_verifier.specs.Effects.{guarded_use, used_from};
 ghost use Rattle.type_verifier.specs.Rules.{Assignable, OrThis, meets};
-ghost use Rattle.type_verifier.specs.bodies.Seen.{seen};
+ghost use Rattle.type_verifier.specs.bodies.Seen.{environment_of};
 
 use crate::TypeKind;
 use crate::assignability::fits_type;
@@ -28,7 +28,7 @@ pub(crate) fn use_object(
     or_this: bool,
     guarded: bool,
 ) -> Result<(), Or<TypeKind>>
-    ensures { AfterOr result frame.new (used_from (seen env.now)
+    ensures { AfterOr result frame.new (used_from (environment_of env.now)
         (if or_this then OrThis class.now else Assignable (vtype.Object class.now)) guarded frame.old frame.old.stack) }
 {
     match frame.stack.pop() {
@@ -48,7 +48,7 @@ fn is_receiver(set: &Hierarchy, class: &FieldType, or_this: bool, ty: &VType) ->
 }
 
 fn check_guard(env: &Env, guarded: bool, ty: &VType) -> Result<(), Or<TypeKind>>
-    ensures { IsDue result (guarded_use (seen env.now) guarded ty.now) }
+    ensures { IsDue result (guarded_use (environment_of env.now) guarded ty.now) }
 {
     if guarded && !is_own_object(env, ty)? {
         return Err(Or::Fault(TypeKind::Protected));

@@ -5,7 +5,7 @@ ghost use Rattle.std.specs.Prelude.{◌≡◌, ◌≤◌};
 ghost use Rattle.type_verifier.specs.bodies.Changes.{After, AfterOr};
 ghost use Rattle.type_verifier.specs.Effects.{counted, loaded, ruled, stored};
 ghost use Rattle.type_verifier.specs.Rules.{Counts, Loads, Stores, meets, moved};
-ghost use Rattle.type_verifier.specs.bodies.Seen.{seen};
+ghost use Rattle.type_verifier.specs.bodies.Seen.{environment_of};
 
 use crate::TypeKind;
 use crate::environment::Env;
@@ -34,7 +34,7 @@ pub(crate) fn load(
     kind: Kind,
     slot: u16,
 ) -> Result<(), Or<TypeKind>>
-    ensures { AfterOr result frame.new (ruled (seen env.now) 0 (Loads kind slot) frame.old) }
+    ensures { AfterOr result frame.new (ruled (environment_of env.now) 0 (Loads kind slot) frame.old) }
 {
     check_room(env.code, frame, 0, words_of_kind(kind))?;
     load_local(env.set, frame, kind, usize::from(slot))
@@ -63,7 +63,7 @@ pub(crate) fn store(
     kind: Kind,
     slot: u16,
 ) -> Result<(), Or<TypeKind>>
-    ensures { AfterOr result frame.new (ruled (seen env.now) 0 (Stores kind slot) frame.old) }
+    ensures { AfterOr result frame.new (ruled (environment_of env.now) 0 (Stores kind slot) frame.old) }
 {
     check_room(env.code, frame, words_of_kind(kind), 0)?;
     store_local(env.set, frame, kind, usize::from(slot))?;
@@ -93,7 +93,7 @@ fn store_local(
 
 /// Adds to an int in a local.
 pub(crate) fn count(env: &Env, frame: &mut TypeFrame, slot: u16) -> Result<(), Or<TypeKind>>
-    ensures { AfterOr result frame.new (ruled (seen env.now) 0 (Counts slot) frame.old) }
+    ensures { AfterOr result frame.new (ruled (environment_of env.now) 0 (Counts slot) frame.old) }
 {
     check_room(env.code, frame, 0, 0)?;
     match frame.locals.get(usize::from(slot)) {

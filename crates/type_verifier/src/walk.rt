@@ -8,7 +8,7 @@ ghost use Rattle.type_verifier.specs.bodies.Changes.{ArrivesOr, FlowsOr, GoesOn,
 ghost use Rattle.type_verifier.specs.Environment.{declared_frame_at, goes_elsewhere};
 ghost use Rattle.type_verifier.specs.bodies.Noting.{AreFitting};
 ghost use Rattle.type_verifier.specs.bodies.Places.{ArePlaces};
-ghost use Rattle.type_verifier.specs.bodies.Seen.{seen};
+ghost use Rattle.type_verifier.specs.bodies.Seen.{environment_of};
 ghost use Rattle.type_verifier.specs.bodies.Since.{IsSame, IsSince};
 ghost use Rattle.type_verifier.specs.Walk.{arrived, at_instruction, fault_at, fits_at, fits_targets};
 ghost use Rattle.type_verifier.specs.Walk.{instruction_checked};
@@ -34,7 +34,7 @@ use std::alloc::Global;
 /// Checks the code. The error is the first fault.
 pub(crate) fn check_code(alloc: Global, env: &Env) -> Result<(), Or<TypeFault>>
     requires there { env.now.own < length env.now.set.now }
-    ensures { IsDue result (code_checked (seen env.now)) }
+    ensures { IsDue result (code_checked (environment_of env.now)) }
 {
     let places = places_of(alloc, env.code)?;
     let mut frame = initial_frame(alloc, env)?;
@@ -50,7 +50,7 @@ fn walk(
 ) -> Result<(), Or<TypeFault>>
     requires there { env.now.own < length env.now.set.now }
     requires places { ArePlaces env.now.code.now places.now }
-    ensures { IsDue result (walked (seen env.now) 0 (Some frame.old) env.now.code.now.ins) }
+    ensures { IsDue result (walked (environment_of env.now) 0 (Some frame.old) env.now.code.now.ins) }
 {
     let Ok(count) = u32::try_from(env.code.ins.len()) else {
         return Err(Or::OutOfMemory);
@@ -80,7 +80,7 @@ fn walk(
 }
 
 fn fault(env: &Env, index: u32, kind: TypeKind) -> TypeFault
-    ensures { result ≡ fault_at (seen env.now) index kind }
+    ensures { result ≡ fault_at (environment_of env.now) index kind }
 {
     TypeFault {
         class: env.own,
@@ -105,10 +105,10 @@ fn go_on(
     requires there { env.now.own < length env.now.set.now }
     requires places { ArePlaces env.now.code.now places.now }
     requires instruction { at < length env.now.code.now.ins }
-    requires since { IsSince (seen env.now) at since frame.old }
-    requires fitting { AreFitting (seen env.now) at fitting.old }
-    ensures flow { GoesOn (seen env.now) at result frame.new op.now (flow flows frame.old) }
-    ensures fitting { IfOk result (λ _. AreFitting (seen env.now) (at + 1) fitting.new) }
+    requires since { IsSince (environment_of env.now) at since frame.old }
+    requires fitting { AreFitting (environment_of env.now) at fitting.old }
+    ensures flow { GoesOn (environment_of env.now) at result frame.new op.now (flow flows frame.old) }
+    ensures fitting { IfOk result (λ _. AreFitting (environment_of env.now) (at + 1) fitting.new) }
 {
     match pass_instruction(alloc, env, places, fitting, frame, flows, since, at, op) {
         Ok(flows) => Ok(flows),
@@ -132,10 +132,10 @@ fn pass_instruction(
     requires there { env.now.own < length env.now.set.now }
     requires places { ArePlaces env.now.code.now places.now }
     requires instruction { at < length env.now.code.now.ins }
-    requires since { IsSince (seen env.now) at since frame.old }
-    requires fitting { AreFitting (seen env.now) at fitting.old }
-    ensures flow { FlowsOr result frame.new (at_instruction (seen env.now) at op.now (flow flows frame.old)) }
-    ensures fitting { IfOk result (λ _. AreFitting (seen env.now) (at + 1) fitting.new) }
+    requires since { IsSince (environment_of env.now) at since frame.old }
+    requires fitting { AreFitting (environment_of env.now) at fitting.old }
+    ensures flow { FlowsOr result frame.new (at_instruction (environment_of env.now) at op.now (flow flows frame.old)) }
+    ensures fitting { IfOk result (λ _. AreFitting (environment_of env.now) (at + 1) fitting.new) }
 {
     let same = arrive(alloc, env, places, frame, flows, at)?;
     pass(
@@ -164,10 +164,10 @@ fn pass(
     requires there { env.now.own < length env.now.set.now }
     requires places { ArePlaces env.now.code.now places.now }
     requires instruction { at < length env.now.code.now.ins }
-    requires since { IsSince (seen env.now) at since frame.old }
-    requires fitting { AreFitting (seen env.now) at fitting.old }
-    ensures flow { FlowsOr result frame.new (instruction_checked (seen env.now) at op.now frame.old) }
-    ensures fitting { IfOk result (λ _. AreFitting (seen env.now) (at + 1) fitting.new) }
+    requires since { IsSince (environment_of env.now) at since frame.old }
+    requires fitting { AreFitting (environment_of env.now) at fitting.old }
+    ensures flow { FlowsOr result frame.new (instruction_checked (environment_of env.now) at op.now frame.old) }
+    ensures fitting { IfOk result (λ _. AreFitting (environment_of env.now) (at + 1) fitting.new) }
 {
     let satisfies = satisfies_handlers(alloc, env, places, fitting, frame, since, at)?;
     step(alloc, env, frame, at, op)?;
@@ -204,7 +204,7 @@ fn arrive(
     requires places { ArePlaces env.now.code.now places.now }
     requires instruction { at < length env.now.code.now.ins }
     ensures after { ArrivesOr result frame.new
-        (arrived (seen env.now) at (flow flows frame.old) (declared_frame_at (seen env.now) at)) }
+        (arrived (environment_of env.now) at (flow flows frame.old) (declared_frame_at (environment_of env.now) at)) }
     ensures same { IfOk result (λ same. IsTrue same → IsSame frame.old frame.new) }
 {
     match make(alloc, env, places, at as usize)? {
@@ -254,7 +254,7 @@ fn is_same_flag(one: bool, other: bool) -> bool
 /// Whether a frame fits at each target of an instruction.
 fn fits_targets(alloc: Global, env: &Env, places: &Places, frame: &TypeFrame, op: &Op) -> M<bool>
     requires places { ArePlaces env.now.code.now places.now }
-    ensures { IfOk result (λ fits. fits ≡ fits_targets (seen env.now) op.now frame.now) }
+    ensures { IfOk result (λ fits. fits ≡ fits_targets (environment_of env.now) op.now frame.now) }
 {
     match op {
         Op::IfZero(_, to)
@@ -284,7 +284,7 @@ fn fits_all(
     targets: &[u32],
 ) -> M<bool>
     requires places { ArePlaces env.now.code.now places.now }
-    ensures { IfOk result (λ fits. fits ≡ list_all (fits_at (seen env.now) frame.now) targets.now) }
+    ensures { IfOk result (λ fits. fits ≡ list_all (fits_at (environment_of env.now) frame.now) targets.now) }
 {
     for to in targets {
         if !fits_at(alloc, env, places, frame, *to)? {
@@ -302,7 +302,7 @@ fn fits_cases(
     cases: &[Case],
 ) -> M<bool>
     requires places { ArePlaces env.now.code.now places.now }
-    ensures { IfOk result (λ fits. fits ≡ list_all (fits_at (seen env.now) frame.now)
+    ensures { IfOk result (λ fits. fits ≡ list_all (fits_at (environment_of env.now) frame.now)
         (map (λ (c : Case). c.to) cases.now)) }
 {
     for case in cases {
@@ -316,7 +316,7 @@ fn fits_cases(
 /// Whether there is an instruction with a number, and a frame fits there.
 fn fits_at(alloc: Global, env: &Env, places: &Places, frame: &TypeFrame, to: u32) -> M<bool>
     requires places { ArePlaces env.now.code.now places.now }
-    ensures { IfOk result (λ fits. fits ≡ fits_at (seen env.now) frame.now to) }
+    ensures { IfOk result (λ fits. fits ≡ fits_at (environment_of env.now) frame.now to) }
 {
     let to = to as usize;
     if env.code.ins.len() <= to {

@@ -7,7 +7,7 @@ ghost use Rattle.type_verifier.specs.Effects.{doubled, dropped, one_word, put_be
 ghost use Rattle.type_verifier.specs.Effects.{swapped, two_words};
 ghost use Rattle.type_verifier.specs.bodies.Halves.{Leaves, Splits, count_of, values as values_of};
 ghost use Rattle.type_verifier.specs.Rules.{Doubles, Drops, Swaps};
-ghost use Rattle.type_verifier.specs.bodies.Seen.{seen};
+ghost use Rattle.type_verifier.specs.bodies.Seen.{environment_of};
 
 use crate::TypeKind;
 use crate::environment::Env;
@@ -47,7 +47,7 @@ fn count_of(words: Words) -> usize
 
 /// pop and pop2.
 pub(crate) fn drop_words(env: &Env, frame: &mut TypeFrame, words: Words) -> Result<(), Or<TypeKind>>
-    ensures { AfterOr result frame.new (ruled (seen env.now) 0 (Drops (count_of words)) frame.old) }
+    ensures { AfterOr result frame.new (ruled (environment_of env.now) 0 (Drops (count_of words)) frame.old) }
 {
     check_room(env.code, frame, count_of(words), 0)?;
     take_words(&mut frame.stack, words)?;
@@ -61,7 +61,8 @@ pub(crate) fn double_words(
     copied: Words,
     under: Words,
 ) -> Result<(), Or<TypeKind>>
-    ensures { AfterOr result frame.new (ruled (seen env.now) 0 (Doubles (count_of copied) (count_of under)) frame.old) }
+    ensures { AfterOr result frame.new
+        (ruled (environment_of env.now) 0 (Doubles (count_of copied) (count_of under)) frame.old) }
 {
     let taken = count_of(copied) + count_of(under);
     check_room(env.code, frame, taken, taken + count_of(copied))?;
@@ -70,7 +71,7 @@ pub(crate) fn double_words(
 
 /// swap.
 pub(crate) fn swap_words(env: &Env, frame: &mut TypeFrame) -> Result<(), Or<TypeKind>>
-    ensures { AfterOr result frame.new (ruled (seen env.now) 0 Swaps frame.old) }
+    ensures { AfterOr result frame.new (ruled (environment_of env.now) 0 Swaps frame.old) }
 {
     check_room(env.code, frame, 2, 2)?;
     swap(&mut frame.stack)

@@ -19,10 +19,10 @@ use Rattle.code_edit.specs.declared.act.Act.TheVariants as act
 use Rattle.code_edit.specs.declared.act.Pass.{Pass}
 use Rattle.code_edit.specs.declared.act.Pass.TheVariants.{Reach, Const, Slots, Jumps}
 use Rattle.code_edit.specs.declared.act.PassEdits.{PassEdits}
-use Rattle.witness_file.specs.LineReading.{line_of}
+use Rattle.witness_file.specs.LineReading.{line_said}
 use Rattle.witness_file.specs.WitnessLines.{IsAct, IsLine, SpellsLine, line_text}
-use Rattle.witness_file.specs.WitnessReading.{added, all_methods, all_steps, awaits_act, awaits_more, awaits_step}
-use Rattle.witness_file.specs.WitnessReading.{empty_step, ended, fault, nothing, read_witness, step}
+use Rattle.witness_file.specs.WitnessReading.{with_line, all_methods, all_steps, awaits_act, awaits_more, awaits_step}
+use Rattle.witness_file.specs.WitnessReading.{empty_step, witness_at_end, fault, nothing, read_witness, step}
 use Rattle.witness_file.specs.Witnesses.{StandFor, witness_lines}
 use Rattle.witness_file.specs.declared.line.WitnessLine.{WitnessLine}
 use Rattle.witness_file.specs.declared.line.WitnessLine.TheVariants as line
@@ -45,9 +45,9 @@ record CanEnd (r : WitnessRead) : Type 0 where
   valid : AllByRecursion IsLine more
   texts : AllByRecursion IsTextLine more
   end : WitnessRead
-  added_all : adds added more r ≡ Ok end
+  added_all : adds with_line more r ≡ Ok end
   witness : Witness
-  done : ended end ≡ Ok witness
+  done : witness_at_end end ≡ Ok witness
 
 -- ---- the lines that are wanting
 
@@ -82,7 +82,7 @@ with_act_ends before m s =
       valid = (act_valid s.pass, tt);
       texts = (tt, tt);
       end = reading before (with_step m (with_act s (act_for s.pass)));
-      added_all = ap (λ (o : Result WitnessRead WitKind). o >>= (λ u. adds added [] u))
+      added_all = ap (λ (o : Result WitnessRead WitKind). o >>= (λ u. adds with_line [] u))
           (act_adds before m s (act_for s.pass) (act_of_pass s.pass));
       witness = record { methods = all_methods (reading before (with_step m (with_act s (act_for s.pass)))) };
       done = rw some refl;
@@ -96,7 +96,7 @@ with_step_ends before m none fresh =
     let empty : all_steps m ≡ [] = ap (λ (o : Option PassEdits). m.steps ++ option_to_list o) none
     ∙ append-nil m.steps ∙ fresh in
     let first : leb 1 (length (all_steps m)) ≡ false = ap (λ (l : List PassEdits). leb 1 (length l)) empty in
-    let begun : added (line.Step 1) (reading before m)
+    let begun : with_line (line.Step 1) (reading before m)
     ≡ read_to before (with_step (step_after 1 m None) (empty_step Reach)) = rw (free, first) refl in
     let more = with_act_ends before (step_after 1 m None) (empty_step Reach) in
     record {
@@ -104,7 +104,8 @@ with_step_ends before m none fresh =
       valid = ((omega arith, omega arith), more.valid);
       texts = (tt, more.texts);
       end = more.end;
-      added_all = ap (λ (o : Result WitnessRead WitKind). o >>= (λ u. adds added more.more u)) begun ∙ more.added_all;
+      added_all = ap (λ (o : Result WitnessRead WitKind). o >>= (λ u. adds with_line more.more u)) begun
+          ∙ more.added_all;
       witness = more.witness;
       done = more.done;
     }
@@ -147,10 +148,10 @@ can_end xs r (inr p) = by r.last refl
 -- a witness can begin with lines that were read
 can_begin : (ls : List (List ℕ)) (r : WitnessRead) → read_lines step 1 ls nothing ≡ Ok r → CanBegin StandFor ls
 can_begin ls r h =
-    let found = lines_found fault NotUtf8 BadLine added line_says 1 ls nothing r h in
+    let found = lines_found fault NotUtf8 BadLine with_line line_says 1 ls nothing r h in
     let valid = all_valid (saying ls) found.0 found.1.spelled in
     let more = can_end found.0 r (all_added [] found.0 nothing r valid (inl (refl, refl)) found.2) in
-    let read : adds added (found.0 ++ more.more) nothing ≡ Ok more.end =
+    let read : adds with_line (found.0 ++ more.more) nothing ≡ Ok more.end =
     adds_append found.0 more.more nothing r found.2 ∙ more.added_all in
     let told = told_by (found.0 ++ more.more) more.end more.witness
     (all_append IsLine found.0 more.more valid more.valid) read more.done in
@@ -173,7 +174,7 @@ line_at_fault : (ls : List (List ℕ)) (f : WitFault) → read_lines step 1 ls n
 line_at_fault ls f h =
     let p = lines_refused step 1 ls nothing f h in
     let kind = kind_at fault (1 + length p.before)
-    (line_read NotUtf8 (λ l t. item_added BadLine added (line_of l) t) p.line p.state) f p.refused in
+    (line_read NotUtf8 (λ l t. item_added BadLine with_line (line_said l) t) p.line p.state) f p.refused in
     let number : f.line ≡ 1 + length p.before = ap (λ (g : WitFault). g.line) kind.1 in
     record {
       before = p.before;
@@ -194,9 +195,9 @@ line_at_fault ls f h =
 -- the end of a text
 end_at_fault : (text : List ℕ) (f : WitFault) (r : WitnessRead) → read_witness text ≡ Err f
     → read_lines step 1 (lines text) nothing ≡ Ok r
-    → at_line fault (length (lines text) + 1) (ended r) ≡ Err f → EndsTooSoon StandFor (lines text) f.line
+    → at_line fault (length (lines text) + 1) (witness_at_end r) ≡ Err f → EndsTooSoon StandFor (lines text) f.line
 end_at_fault text f r h read e =
-    let kind = kind_at fault (length (lines text) + 1) (ended r) f e in
+    let kind = kind_at fault (length (lines text) + 1) (witness_at_end r) f e in
     record {
       numbered = ap (λ (g : WitFault). g.line) kind.1;
       begins = can_begin (lines text) r read;
@@ -215,7 +216,7 @@ unfolding read_witness
 first_at_fault text f h = by (read_lines step 1 (lines text) nothing) refl h
   where
     by : (o : Result WitnessRead WitFault) → read_lines step 1 (lines text) nothing ≡ o
-        → o >>= (λ r. at_line fault (length (lines text) + 1) (ended r)) ≡ Err f
+        → o >>= (λ r. at_line fault (length (lines text) + 1) (witness_at_end r)) ≡ Err f
         → IsFirstAtFault StandFor (lines text) f.line ⊎ EndsTooSoon StandFor (lines text) f.line
     by (Ok r) e k = inr (end_at_fault text f r h e k)
     by (Err g) e k = inl (line_at_fault (lines text) f (e ∙ handed_on g f k))

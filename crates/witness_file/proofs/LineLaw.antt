@@ -34,7 +34,7 @@ use Rattle.text_lines.proofs.Words.{result_word, word_lacks}
 use Rattle.text_lines.proofs.Arguments.{arguments_lack_byte}
 use Rattle.code_edit.specs.declared.act.Act.{Act}
 use Rattle.code_edit.specs.declared.act.Act.TheVariants as act
-use Rattle.witness_file.specs.LineReading.{MethodParts, act_of, aim_of, drop_of, fact_of, fold_of, line_of, method_of}
+use Rattle.witness_file.specs.LineReading.{MethodParts, act_of, aim_of, drop_of, fact_of, fold_of, line_said, method_of}
 use Rattle.witness_file.specs.LineReading.{method_parts, method_said, number_of, said, step_of, value_in, value_of}
 use Rattle.witness_file.specs.WitnessLines.{IsAct, IsLine, IsMethodLine, IsTextOf, IsValue, SpellsLine, act_text}
 use Rattle.witness_file.specs.WitnessLines.{line_text, member_text, method_line_text, signed_zero_text}
@@ -361,8 +361,8 @@ said_is word text l h = elim (choose (is_text word (codes "witness")) _ _ l h) [
   ]
 ]
 
-line_found : (text : List ℕ) (l : WitnessLine) → line_of text ≡ Some l → SpellsLine text l
-unfolding line_of
+line_found : (text : List ℕ) (l : WitnessLine) → line_said text ≡ Some l → SpellsLine text l
+unfolding line_said
 line_found text l h =
     let p = then_some (cut 32 text) (λ q. said q.0 q.1) l h in
     subst (λ (t : List ℕ). SpellsLine t l) (sym (cut_some 32 text p.0 p.1).0) (said_is p.0.0 p.0.1 l p.2)
@@ -370,9 +370,9 @@ line_found text l h =
 -- ---- what is spelled so is read
 
 fact_read : (m n o : ℕ) (v : ℤ) (value : List ℕ) → IsAct (act.Fact m n o v) → IsValueText value v
-    → line_of (codes "fact " ++ (decimal m ++ 32 ∷ (decimal n ++ 32 ∷ (decimal o ++ 32 ∷ value))))
+    → line_said (codes "fact " ++ (decimal m ++ 32 ∷ (decimal n ++ 32 ∷ (decimal o ++ 32 ∷ value))))
     ≡ Some (line.Act (act.Fact m n o v))
-unfolding line_of said act_of cut
+unfolding line_said said act_of cut
 fact_read m n o v value h e =
     let a : cut 32 (decimal m ++ 32 ∷ (decimal n ++ 32 ∷ (decimal o ++ 32 ∷ value)))
     ≡ Some (decimal m, decimal n ++ 32 ∷ (decimal o ++ 32 ∷ value)) = blank_cut m _ h.0 in
@@ -382,32 +382,32 @@ fact_read m n o v value h e =
     let d : value_of value ≡ Some v = value_read value v h.3 e in
     rw (a, b, c, number_read m h.0, number_read n h.1, number_read o h.2, d) refl
 
-act_read : (text : List ℕ) (a : Act) → IsAct a → IsTextOf text (line.Act a) → line_of text ≡ Some (line.Act a)
-unfolding line_of said act_of cut line_text act_text
+act_read : (text : List ℕ) (a : Act) → IsAct a → IsTextOf text (line.Act a) → line_said text ≡ Some (line.Act a)
+unfolding line_said said act_of cut line_text act_text
 act_read text (act.Drop m n) h e =
-    ap line_of e
+    ap line_said e
     ∙ (let a : cut 32 (decimal m ++ 32 ∷ decimal n) ≡ Some (decimal m, decimal n) = blank_cut m (decimal n) h.0 in
     rw (a, number_read m h.0, number_read n h.1) refl)
 act_read text (act.Fold m n) h e =
-    ap line_of e
+    ap line_said e
     ∙ (let a : cut 32 (decimal m ++ 32 ∷ decimal n) ≡ Some (decimal m, decimal n) = blank_cut m (decimal n) h.0 in
     rw (a, number_read m h.0, number_read n h.1) refl)
-act_read text (act.Cut m) h e = ap line_of e ∙ rw (number_read m h) refl
-act_read text (act.Skip m) h e = ap line_of e ∙ rw (number_read m h) refl
+act_read text (act.Cut m) h e = ap line_said e ∙ rw (number_read m h) refl
+act_read text (act.Skip m) h e = ap line_said e ∙ rw (number_read m h) refl
 act_read text (act.Aim m n o) h e =
-    ap line_of e
+    ap line_said e
     ∙ (let a : cut 32 (decimal m ++ 32 ∷ (decimal n ++ 32 ∷ decimal o))
     ≡ Some (decimal m, decimal n ++ 32 ∷ decimal o) = blank_cut m _ h.0 in
     let b : cut 32 (decimal n ++ 32 ∷ decimal o) ≡ Some (decimal n, decimal o) = blank_cut n (decimal o) h.1 in
     rw (a, b, number_read m h.0, number_read n h.1, number_read o h.2) refl)
-act_read text (act.Fact m n o v) h (inl e) = ap line_of e ∙ fact_read m n o v (signed_decimal v) h (inl refl)
-act_read text (act.Fact m n o v) h (inr e) = ap line_of e.1 ∙ fact_read m n o v (codes "-0") h (inr (e.0, refl))
+act_read text (act.Fact m n o v) h (inl e) = ap line_said e ∙ fact_read m n o v (signed_decimal v) h (inl refl)
+act_read text (act.Fact m n o v) h (inr e) = ap line_said e.1 ∙ fact_read m n o v (codes "-0") h (inr (e.0, refl))
 
 method_read : (class name : List ℕ) (ty : MethodType) → IsTrue (is_class_name class) → IsTrue (is_method_name name)
     → IsMethodType ty
-    → line_of (codes "method " ++ (dotted class ++ (codes " " ++ method_text ty name)))
+    → line_said (codes "method " ++ (dotted class ++ (codes " " ++ method_text ty name)))
     ≡ Some (line.Method class name (descriptor.method_text ty))
-unfolding line_of said cut method_parts method_said is_name_byte
+unfolding line_said said cut method_parts method_said is_name_byte
 method_read class name ty c n t =
     let ret_word = (result_word ty.ret (returned_is ty.ret t.returned)).0 in
     let a : cut 32 (dotted class ++ 32 ∷ method_text ty name) ≡ Some (dotted class, method_text ty name)
@@ -426,29 +426,29 @@ method_read class name ty c n t =
     let k : is_method_name name ≡ true = n in
     rw (a, b, d, e, f, g, k) refl
 
-step_read : (n : ℕ) → 1 ≤ n → n ≤ 6 → line_of (codes "step " ++ decimal n) ≡ Some (line.Step n)
-unfolding line_of said cut
+step_read : (n : ℕ) → 1 ≤ n → n ≤ 6 → line_said (codes "step " ++ decimal n) ≡ Some (line.Step n)
+unfolding line_said said cut
 step_read n low high =
     let a : number_below 7 (decimal n) ≡ Some n =
     number_only 7 (decimal n) n (omega arith) (omega (arith, high), refl) in
     let b : eqb n 0 ≡ false = grind (arith, low) in rw (a, b) refl
 
-head_read : line_of (codes "witness 1") ≡ Some line.Head
-unfolding line_of said cut
+head_read : line_said (codes "witness 1") ≡ Some line.Head
+unfolding line_said said cut
 head_read = refl
 
-line_only : (text : List ℕ) (l : WitnessLine) → SpellsLine text l → line_of text ≡ Some l
+line_only : (text : List ℕ) (l : WitnessLine) → SpellsLine text l → line_said text ≡ Some l
 unfolding line_text
-line_only text line.Head h = ap line_of h.1 ∙ head_read
+line_only text line.Head h = ap line_said h.1 ∙ head_read
 line_only text (line.Method class name ty) h =
     let of_type = h.0.described.0 in
     let spelled = h.0.described.1 in
-    ap line_of (h.1 ∙ ap (method_line_text class name) (sym spelled.1) ∙ described class name of_type spelled.0)
+    ap line_said (h.1 ∙ ap (method_line_text class name) (sym spelled.1) ∙ described class name of_type spelled.0)
     ∙ method_read class name of_type h.0.class_named h.0.method_named spelled.0
     ∙ ap (λ (d : List ℕ). let o : Option WitnessLine = Some (line.Method class name d) in o) spelled.1
-line_only text (line.Step n) h = ap line_of h.1 ∙ step_read n h.0.0 h.0.1
+line_only text (line.Step n) h = ap line_said h.1 ∙ step_read n h.0.0 h.0.1
 line_only text (line.Act a) h = act_read text a h.0 h.1
 
 -- a line is read as what it spells, and as nothing else
-pub line_says : Says SpellsLine line_of
+pub line_says : Says SpellsLine line_said
 line_says = record { found = line_found; only = line_only }

@@ -21,7 +21,8 @@ use Rattle.text_lines.specs.bodies.Steps.{ChangesOr}
 use Rattle.text_lines.proofs.ReadLines.{bind_ok}
 use Rattle.code_edit.specs.declared.act.Act.{Act}
 use Rattle.witness_file.specs.bodies.MethodTable.{Names, TellsMethods, names_order, text_order}
-use Rattle.witness_file.specs.WitnessReading.{act_added, added, added_behind, added_first, all_methods, closed, in_last}
+use Rattle.witness_file.specs.WitnessReading.{act_added, with_line, added_behind, added_first, all_methods, closed}
+use Rattle.witness_file.specs.WitnessReading.{in_last}
 use Rattle.witness_file.specs.WitnessReading.{method_begun, step_begun}
 use Rattle.witness_file.specs.Witnesses.{has_method, is_method}
 use Rattle.witness_file.specs.declared.line.WitnessLine.{WitnessLine}
@@ -131,7 +132,7 @@ act_keeps (Err e) s a old new h t = tt
 
 -- a call that added the first line
 pub head_keeps : {T : Type 0} (r : Result T (Or WitKind)) (s : BTreeSet Names) (old new : WitnessRead)
-    → ChangesOr r new (added line.Head old) → TellsMethods s (all_methods old)
+    → ChangesOr r new (with_line line.Head old) → TellsMethods s (all_methods old)
     → OnOk r (TellsMethods s (all_methods new))
 head_keeps (Ok x) s old new h t = by old.begun refl h
   where

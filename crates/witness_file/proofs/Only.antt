@@ -14,8 +14,9 @@ use Rattle.code_edit.specs.declared.act.MethodEdits.{MethodEdits}
 use Rattle.code_edit.specs.declared.act.Pass.{Pass}
 use Rattle.code_edit.specs.declared.act.PassEdits.{PassEdits}
 use Rattle.witness_file.specs.WitnessLines.{IsAct}
-use Rattle.witness_file.specs.WitnessReading.{added, all_methods, all_steps, awaits_act, awaits_more, awaits_step}
-use Rattle.witness_file.specs.WitnessReading.{closed, empty_step, ended, is_too_early, method_begun, nothing, padded}
+use Rattle.witness_file.specs.WitnessReading.{with_line, all_methods, all_steps, awaits_act, awaits_more, awaits_step}
+use Rattle.witness_file.specs.WitnessReading.{closed, empty_step, witness_at_end, is_too_early, method_begun, nothing}
+use Rattle.witness_file.specs.WitnessReading.{padded}
 use Rattle.witness_file.specs.Witnesses.{ActOr, AreApart, AreInOrder, HasAct, HasActsOfPass, IsMethodWitness, IsWitness}
 use Rattle.witness_file.specs.Witnesses.{has_method, is_before, method_lines, step_lines, steps_lines, witness_lines}
 use Rattle.witness_file.specs.declared.line.WitnessLine.{WitnessLine}
@@ -30,12 +31,12 @@ use Rattle.witness_file.proofs.Told.{before_one, order_at, step_after, with_act,
 
 -- ---- lines one behind the other
 
-pub adds_append : (xs ys : List WitnessLine) (r s : WitnessRead) → adds added xs r ≡ Ok s
-    → adds added (xs ++ ys) r ≡ adds added ys s
-adds_append [] ys r s h = let is : r ≡ s = cc in ap (adds added ys) is
+pub adds_append : (xs ys : List WitnessLine) (r s : WitnessRead) → adds with_line xs r ≡ Ok s
+    → adds with_line (xs ++ ys) r ≡ adds with_line ys s
+adds_append [] ys r s h = let is : r ≡ s = cc in ap (adds with_line ys) is
 adds_append (x ∷ xs) ys r s h =
-    let b = bind_ok (added x r) (λ u. adds added xs u) s h in
-    ap (λ (o : Result WitnessRead WitKind). o >>= (λ u. adds added (xs ++ ys) u)) b.1 ∙ adds_append xs ys b.0 s b.2
+    let b = bind_ok (with_line x r) (λ u. adds with_line xs u) s h in
+    ap (λ (o : Result WitnessRead WitKind). o >>= (λ u. adds with_line (xs ++ ys) u)) b.1 ∙ adds_append xs ys b.0 s b.2
 
 -- methods, and one that is read
 abbrev pub reading : List MethodWitness → MethodRead → WitnessRead
@@ -47,19 +48,19 @@ read_to before m = Ok (reading before m)
 -- ---- acts
 
 pub act_adds : (before : List MethodWitness) (m : MethodRead) (s : PassEdits) (a : Act) → pass_of a ≡ s.pass
-    → added (line.Act a) (reading before (with_step m s)) ≡ read_to before (with_step m (with_act s a))
+    → with_line (line.Act a) (reading before (with_step m s)) ≡ read_to before (with_step m (with_act s a))
 act_adds before m s a h =
     let yes : is_pass (pass_of a) s.pass ≡ true = ap (λ (p : Pass). is_pass p s.pass) h ∙ pass_same s.pass in
     rw yes refl
 
 acts_add : (before : List MethodWitness) (m : MethodRead) (s : PassEdits) (acts : List Act)
     → AllByRecursion (λ a. IsAct a × (pass_of a ≡ s.pass)) acts
-    → adds added (map (λ a. line.Act a) acts) (reading before (with_step m s))
+    → adds with_line (map (λ a. line.Act a) acts) (reading before (with_step m s))
     ≡ read_to before (with_step m (record { pass = s.pass; acts = s.acts ++ acts }))
 acts_add before m s [] h =
     ap (λ (l : List Act). read_to before (with_step m (record { pass = s.pass; acts = l }))) (sym (append-nil s.acts))
 acts_add before m s (a ∷ acts) h =
-    ap (λ (o : Result WitnessRead WitKind). o >>= (λ u. adds added (map (λ x. line.Act x) acts) u))
+    ap (λ (o : Result WitnessRead WitKind). o >>= (λ u. adds with_line (map (λ x. line.Act x) acts) u))
     (act_adds before m s a h.0.1)
     ∙ acts_add before m (with_act s a) acts h.1
     ∙ ap (λ (l : List Act). read_to before (with_step m (record { pass = s.pass; acts = l })))
@@ -88,12 +89,12 @@ step_adds : (before : List MethodWitness) (st : MethodRead) (done : List PassEdi
     → awaits_act st.step ≡ false
     → length (all_steps st) ≤ length done → padded (length done) (all_steps st) ≡ done
     → slice_get step_passes (length done) ≡ Some p
-    → added (line.Step (length done + 1)) (reading before st)
+    → with_line (line.Step (length done + 1)) (reading before st)
     ≡ read_to before (record { class = st.class; name = st.name; ty = st.ty; steps = done; step = Some (empty_step p) })
 step_adds before st done p h few same at =
     let above : leb (length done + 1) (length (all_steps st)) ≡ false = grind (arith, few) in
     let n : (length done + 1) - 1 ≡ length done = omega arith in
-    let one : added (line.Step (length done + 1)) (reading before st)
+    let one : with_line (line.Step (length done + 1)) (reading before st)
     ≡ read_to before (step_after (length done + 1) st (slice_get step_passes ((length done + 1) - 1))) =
     rw (h, above) refl in
     one ∙ ap (λ (i : ℕ). read_to before
@@ -119,7 +120,7 @@ step_adds before st done p h few same at =
 record StepsAdded (before : List MethodWitness) (lines : List WitnessLine) (st : MethodRead)
     (whole rest : List PassEdits) : Type 0 where
   end : MethodRead
-  added_all : adds added lines (reading before st) ≡ read_to before end
+  added_all : adds with_line lines (reading before st) ≡ read_to before end
   class_same : end.class ≡ st.class
   name_same : end.name ≡ st.name
   ty_same : end.ty ≡ st.ty
@@ -187,9 +188,9 @@ steps_add before (s ∷ ss) done st h few same passes acts =
         record {
           end = more.end;
           added_all = ap
-              (λ (l : List WitnessLine). adds added (l ++ steps_lines ((length done + 1) + 1) ss)
+              (λ (l : List WitnessLine). adds with_line (l ++ steps_lines ((length done + 1) + 1) ss)
               (reading before st)) none
-              ∙ ap (λ (l : List WitnessLine). adds added l (reading before st)) (sym numbers) ∙ more.added_all;
+              ∙ ap (λ (l : List WitnessLine). adds with_line l (reading before st)) (sym numbers) ∙ more.added_all;
           class_same = more.class_same;
           name_same = more.name_same;
           ty_same = more.ty_same;
@@ -209,10 +210,10 @@ steps_add before (s ∷ ss) done st h few same passes acts =
         let lines : step_lines (length done + 1) s.acts ≡ line.Step (length done + 1) ∷ map (λ x. line.Act x) s.acts
         = ap (step_lines (length done + 1)) e
         ∙ ap (λ (l : List Act). line.Step (length done + 1) ∷ map (λ x. line.Act x) l) (sym e) in
-        let first : adds added (step_lines (length done + 1) s.acts) (reading before st)
+        let first : adds with_line (step_lines (length done + 1) s.acts) (reading before st)
         ≡ read_to before (record { class = st.class; name = st.name; ty = st.ty; steps = done; step = Some s })
-        = ap (λ (l : List WitnessLine). adds added l (reading before st)) lines
-        ∙ ap (λ (o : Result WitnessRead WitKind). o >>= (λ u. adds added (map (λ x. line.Act x) s.acts) u)) begun
+        = ap (λ (l : List WitnessLine). adds with_line l (reading before st)) lines
+        ∙ ap (λ (o : Result WitnessRead WitKind). o >>= (λ u. adds with_line (map (λ x. line.Act x) s.acts) u)) begun
         ∙ acted in
         let some_acts : eqb (length s.acts) 0 ≡ false = ap (λ (l : List Act). eqb (length l) 0) e ∙ grind arith in
         let more = go (record { class = st.class; name = st.name; ty = st.ty; steps = done; step = Some s })
@@ -223,7 +224,7 @@ steps_add before (s ∷ ss) done st h few same passes acts =
               (reading before st)
               (reading before
               (record { class = st.class; name = st.name; ty = st.ty; steps = done; step = Some s })) first
-              ∙ ap (λ (l : List WitnessLine). adds added l
+              ∙ ap (λ (l : List WitnessLine). adds with_line l
               (reading before
               (record { class = st.class; name = st.name; ty = st.ty; steps = done; step = Some s })))
               (sym numbers)
@@ -242,12 +243,12 @@ steps_add before (s ∷ ss) done st h few same passes acts =
 
 method_begins : (r : WitnessRead) (class name ty : List ℕ) → r.begun ≡ true → awaits_more r.last ≡ false
     → has_method (all_methods r) class name ty ≡ false → is_too_early r.last class ≡ false
-    → added (line.Method class name ty) r ≡ read_to (all_methods r) (method_begun class name ty)
+    → with_line (line.Method class name ty) r ≡ read_to (all_methods r) (method_begun class name ty)
 method_begins r class name ty b w h e = rw (b, w, h, e) refl
 
 record MethodAdded (r : WitnessRead) (m : MethodWitness) : Type 0 where
   end : MethodRead
-  added_all : adds added (method_lines m) r ≡ read_to (all_methods r) end
+  added_all : adds with_line (method_lines m) r ≡ read_to (all_methods r) end
   kept : closed end ≡ m
   done : awaits_step end.step ≡ false
 
@@ -261,7 +262,7 @@ method_adds r m is b w h e =
     (omega arith) refl is.passes is.acts in
     record {
       end = steps.end;
-      added_all = ap (λ (o : Result WitnessRead WitKind). o >>= (λ u. adds added (steps_lines 1 m.edits.steps) u))
+      added_all = ap (λ (o : Result WitnessRead WitKind). o >>= (λ u. adds with_line (steps_lines 1 m.edits.steps) u))
           (method_begins r m.class m.name m.ty b w h e)
           ∙ steps.added_all;
       kept = λ i. record {
@@ -284,7 +285,7 @@ not_early before (Some l) m ms o = order_at before (closed l) m ms o
 
 record MethodsAdded (r : WitnessRead) (ms : List MethodWitness) : Type 0 where
   end : WitnessRead
-  added_all : adds added (flat_map method_lines ms) r ≡ Ok end
+  added_all : adds with_line (flat_map method_lines ms) r ≡ Ok end
   kept : all_methods end ≡ all_methods r ++ ms
   begun : end.begun ≡ true
   done : awaits_more end.last ≡ false
@@ -313,7 +314,7 @@ methods_add (m ∷ ms) r b w is a o =
 
 -- the lines of a witness are read as it
 pub told_only : (w : Witness) → IsWitness w
-    → (r : WitnessRead) × (adds added (witness_lines w) nothing ≡ Ok r) × (ended r ≡ Ok w)
+    → (r : WitnessRead) × (adds with_line (witness_lines w) nothing ≡ Ok r) × (witness_at_end r ≡ Ok w)
 told_only w is =
     let start : WitnessRead = record { begun = true; before = []; last = None } in
     let all = methods_add w.methods

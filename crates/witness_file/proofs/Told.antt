@@ -19,8 +19,9 @@ use Rattle.code_edit.specs.declared.act.MethodEdits.{MethodEdits}
 use Rattle.code_edit.specs.declared.act.Pass.{Pass}
 use Rattle.code_edit.specs.declared.act.PassEdits.{PassEdits}
 use Rattle.witness_file.specs.WitnessLines.{IsAct, IsLine, IsMethodLine}
-use Rattle.witness_file.specs.WitnessReading.{act_added, added, added_behind, added_first, all_methods, all_steps}
-use Rattle.witness_file.specs.WitnessReading.{awaits_act, awaits_more, awaits_step, closed, empty_step, ended, in_last}
+use Rattle.witness_file.specs.WitnessReading.{act_added, with_line, added_behind, added_first, all_methods, all_steps}
+use Rattle.witness_file.specs.WitnessReading.{awaits_act, awaits_more, awaits_step, closed, empty_step, witness_at_end}
+use Rattle.witness_file.specs.WitnessReading.{in_last}
 use Rattle.witness_file.specs.WitnessReading.{is_too_early, method_begun, nothing, padded, step_begun, with_method}
 use Rattle.witness_file.specs.Witnesses.{AreApart, AreInOrder, HasAct, HasActsOfPass, IsMethodWitness, IsWitness}
 use Rattle.witness_file.specs.Witnesses.{has_method, is_before, is_method, method_lines, step_lines, steps_lines}
@@ -449,11 +450,11 @@ begin_told (line.Method class name ty) s h = absurd cc
 begin_told (line.Step k) s h = absurd cc
 begin_told (line.Act a) s h = absurd cc
 
-one_added : (ls : List WitnessLine) (x : WitnessLine) (r s : WitnessRead) → IsLine x → State ls r → added x r ≡ Ok s
+one_added : (ls : List WitnessLine) (x : WitnessLine) (r s : WitnessRead) → IsLine x → State ls r → with_line x r ≡ Ok s
     → State (ls ++ x ∷ []) s
 one_added ls x r s is (inl p) h =
     subst (λ (l : List WitnessLine). State (l ++ x ∷ []) s) (sym p.0)
-    (begin_told x s (subst (λ (t : WitnessRead). added x t ≡ Ok s) p.1 h))
+    (begin_told x s (subst (λ (t : WitnessRead). with_line x t ≡ Ok s) p.1 h))
 one_added ls x r s is (inr p) h = inr (behind_told ls x r s is p.0 p.1 (by r.begun p.0 h))
   where
     by : (b : Bool) → b ≡ true → cond b (added_behind x r) (added_first x r) ≡ Ok s → added_behind x r ≡ Ok s
@@ -461,20 +462,21 @@ one_added ls x r s is (inr p) h = inr (behind_told ls x r s is p.0 p.1 (by r.beg
     by false e k = absurd cc
 
 pub all_added : (ls xs : List WitnessLine) (r s : WitnessRead) → AllByRecursion IsLine xs → State ls r
-    → adds added xs r ≡ Ok s → State (ls ++ xs) s
+    → adds with_line xs r ≡ Ok s → State (ls ++ xs) s
 all_added ls [] r s is t h =
     let same : r ≡ s = cc in subst (λ (l : List WitnessLine). State l s) (sym (append-nil ls)) (subst (State ls) same t)
 all_added ls (x ∷ xs) r s is t h =
-    let b = bind_ok (added x r) (λ u. adds added xs u) s h in
+    let b = bind_ok (with_line x r) (λ u. adds with_line xs u) s h in
     subst (λ (l : List WitnessLine). State l s) (append_assoc ls (x ∷ []) xs)
     (all_added (ls ++ x ∷ []) xs b.0 s is.1 (one_added ls x r b.0 is.0 t b.1) b.2)
 
-ended_is : (xs : List WitnessLine) (r : WitnessRead) (w : Witness) → State xs r → ended r ≡ Ok w
+ended_is : (xs : List WitnessLine) (r : WitnessRead) (w : Witness) → State xs r → witness_at_end r ≡ Ok w
     → (xs ≡ witness_lines w) × IsWitness w
 ended_is xs r w (inl p) h = absurd (by r p.1 h)
   where
-    by : (t : WitnessRead) → t ≡ nothing → ended t ≡ Ok w → ⊥
-    by t e k = (let none : ended nothing ≡ Ok w = subst (λ (u : WitnessRead). ended u ≡ Ok w) e k in absurd cc)
+    by : (t : WitnessRead) → t ≡ nothing → witness_at_end t ≡ Ok w → ⊥
+    by t e k = (let none : witness_at_end nothing ≡ Ok w =
+        subst (λ (u : WitnessRead). witness_at_end u ≡ Ok w) e k in absurd cc)
 ended_is xs r w (inr p) h = by (not r.begun || awaits_more r.last) refl h
   where
     lines_are : (last : Option MethodRead) → awaits_more last ≡ false
@@ -507,6 +509,6 @@ ended_is xs r w (inr p) h = by (not r.begun || awaits_more r.last) refl h
 
 -- lines that were added one by one are those of the witness that was read
 pub told_by : (xs : List WitnessLine) (r : WitnessRead) (w : Witness) → AllByRecursion IsLine xs
-    → adds added xs nothing ≡ Ok r
-    → ended r ≡ Ok w → (xs ≡ witness_lines w) × IsWitness w
+    → adds with_line xs nothing ≡ Ok r
+    → witness_at_end r ≡ Ok w → (xs ≡ witness_lines w) × IsWitness w
 told_by xs r w is h e = ended_is xs r w (all_added [] xs nothing r is (inl (refl, refl)) h) e

@@ -11,7 +11,8 @@ use Rattle.jv_base.proofs.Lists.{all_split}
 use Rattle.text_lines.specs.Lines.{AllSpell, AreSpelled, at_line, read_lines, saying}
 use Rattle.text_lines.proofs.ReadLines.{at_ok, bind_ok, lines_found, lines_only, saying_utf8}
 use Rattle.witness_file.specs.WitnessLines.{IsLine, SpellsLine, line_text, method_line_text}
-use Rattle.witness_file.specs.WitnessReading.{added, all_methods, awaits_more, ended, fault, nothing, read_witness}
+use Rattle.witness_file.specs.WitnessReading.{with_line, all_methods, awaits_more, witness_at_end, fault, nothing}
+use Rattle.witness_file.specs.WitnessReading.{read_witness}
 use Rattle.witness_file.specs.WitnessReading.{step}
 use Rattle.witness_file.specs.Witnesses.{AreTexts, IsWitness, Reading, StandFor, method_lines, witness_lines}
 use Rattle.witness_file.specs.Witnesses.{witness_text}
@@ -35,19 +36,19 @@ all_valid (l ∷ ls) (x ∷ xs) h = (h.0.0, all_valid ls xs h.1)
 
 -- lines that stand for a witness are read
 pub stand_only : (ls : List (List ℕ)) (w : Witness) → StandFor ls w
-    → (r : WitnessRead) × (read_lines step 1 ls nothing ≡ Ok r) × (ended r ≡ Ok w)
+    → (r : WitnessRead) × (read_lines step 1 ls nothing ≡ Ok r) × (witness_at_end r ≡ Ok w)
 stand_only ls w h =
     let r = told_only w h.witness in
-    (r.0, lines_only fault NotUtf8 BadLine added line_says 1 ls (witness_lines w) nothing r.0 h.spelled r.1, r.2)
+    (r.0, lines_only fault NotUtf8 BadLine with_line line_says 1 ls (witness_lines w) nothing r.0 h.spelled r.1, r.2)
 
 -- what is read is what the text stands for
 pub read_found : (text : List ℕ) (w : Witness) → read_witness text ≡ Ok w → Reading text w
 unfolding read_witness
 read_found text w h =
     let b = bind_ok (read_lines step 1 (lines text) nothing)
-    (λ r. at_line fault (length (lines text) + 1) (ended r)) w h in
-    let found = lines_found fault NotUtf8 BadLine added line_says 1 (lines text) nothing b.0 b.1 in
-    let end = at_ok fault (length (lines text) + 1) (ended b.0) w b.2 in
+    (λ r. at_line fault (length (lines text) + 1) (witness_at_end r)) w h in
+    let found = lines_found fault NotUtf8 BadLine with_line line_says 1 (lines text) nothing b.0 b.1 in
+    let end = at_ok fault (length (lines text) + 1) (witness_at_end b.0) w b.2 in
     let told = told_by found.0 b.0 w (all_valid (saying (lines text)) found.0 found.1.spelled) found.2 end in
     record { witness = told.1; spelled = subst (AreSpelled SpellsLine (lines text)) told.0 found.1 }
 

@@ -98,8 +98,8 @@ method_parts text = do
   where_true (length s.1 == 0) (record { class = p.0; ret = q.0; name = r.0; args = s.0 })
 
 -- the parts that the code has (only its proofs need it)
-abbrev pub shown : kept.MethodParts → MethodParts
-shown m = record { class = m.class.now; ret = m.ret.now; name = m.name.now; args = m.args.now }
+abbrev pub kept_method_parts : kept.MethodParts → MethodParts
+kept_method_parts m = record { class = m.class.now; ret = m.ret.now; name = m.name.now; args = m.args.now }
 
 -- what the parts of a method stand for
 unfoldable pub method_said : MethodParts → Option WitnessLine
@@ -121,5 +121,5 @@ said word text =
     else option_map (λ a. line.Act a) (act_of word text)
 
 -- what a line says, if it is one of a witness
-unfoldable pub line_of : List ℕ → Option WitnessLine
-line_of text = cut 32 text >>= (λ p. said p.0 p.1)
+unfoldable pub line_said : List ℕ → Option WitnessLine
+line_said text = cut 32 text >>= (λ p. said p.0 p.1)

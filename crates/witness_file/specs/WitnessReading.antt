@@ -12,7 +12,7 @@ use Rattle.code_edit.specs.Acts.{is_pass, pass_of, step_passes}
 use Rattle.code_edit.specs.declared.act.Act.{Act}
 use Rattle.code_edit.specs.declared.act.Pass.{Pass}
 use Rattle.code_edit.specs.declared.act.PassEdits.{PassEdits}
-use Rattle.witness_file.specs.LineReading.{line_of}
+use Rattle.witness_file.specs.LineReading.{line_said}
 use Rattle.witness_file.specs.Witnesses.{StandFor, has_method, is_before}
 use Rattle.witness_file.specs.declared.line.WitnessLine.{WitnessLine}
 use Rattle.witness_file.specs.declared.line.WitnessLine.TheVariants as line
@@ -118,8 +118,8 @@ added_first line.Head r = Ok (record r { begun = true })
 added_first l r = Err BadLine
 
 -- what was read, with what a line says
-abbrev pub added : WitnessLine → WitnessRead → Result WitnessRead WitKind
-added l r = if r.begun then added_behind l r else added_first l r
+abbrev pub with_line : WitnessLine → WitnessRead → Result WitnessRead WitKind
+with_line l r = if r.begun then added_behind l r else added_first l r
 
 -- a kind of fault at a line
 abbrev pub fault : ℕ → WitKind → WitFault
@@ -127,20 +127,21 @@ fault n kind = record { line = n; kind = kind }
 
 -- what the line of this number makes of what was read before it
 abbrev pub step : ℕ → List ℕ → WitnessRead → Result WitnessRead WitFault
-step = line_step fault NotUtf8 BadLine line_of added
+step = line_step fault NotUtf8 BadLine line_said with_line
 
 -- nothing was read yet
 abbrev pub nothing : WitnessRead
 nothing = record { begun = false; before = []; last = None }
 
 -- the witness, where the text may end here
-abbrev pub ended : WitnessRead → Result Witness WitKind
-ended r = if not r.begun || awaits_more r.last then Err BadLine else Ok (record { methods = all_methods r })
+abbrev pub witness_at_end : WitnessRead → Result Witness WitKind
+witness_at_end r = if not r.begun || awaits_more r.last then Err BadLine else Ok (record { methods = all_methods r })
 
 -- the witness that the text stands for, or the first line at fault and the kind; where the text ends too soon it is the
 -- line behind its last
 unfoldable pub read_witness : List ℕ → Result Witness WitFault
-read_witness text = read_lines step 1 (lines text) nothing >>= (λ r. at_line fault (length (lines text) + 1) (ended r))
+read_witness text = read_lines step 1 (lines text) nothing >>=
+    (λ r. at_line fault (length (lines text) + 1) (witness_at_end r))
 
 -- ---- the law
 

@@ -1,8 +1,8 @@
 // What a line says.
 ghost use Rattle.std.specs.Prelude.{◌≡◌, IfOk};
 ghost use Rattle.std.specs.Option.{option_map};
-ghost use Rattle.witness_file.specs.LineReading.{shown, step_of};
-ghost use Rattle.witness_file.specs.LineReading.{line_of, method_of, method_parts, method_said, said};
+ghost use Rattle.witness_file.specs.LineReading.{kept_method_parts, step_of};
+ghost use Rattle.witness_file.specs.LineReading.{line_said, method_of, method_parts, method_said, said};
 ghost use Rattle.witness_file.specs.declared.line.WitnessLine.TheVariants as line;
 
 use crate::acts::act_of;
@@ -25,13 +25,13 @@ pub(crate) enum WitnessLine {
 }
 
 /// What a line says, if it is one of a witness.
-#[tactic(auto, unfolding(crate::specs::LineReading::line_of))]
+#[tactic(auto, unfolding(crate::specs::LineReading::line_said))]
 pub(crate) fn line_of<'a>(
     alloc: Global,
     known: &mut Known<'a>,
     text: &'a str,
 ) -> M<Option<WitnessLine>>
-    ensures { IfOk result (λ line. line ≡ line_of text.now) }
+    ensures { IfOk result (λ line. line ≡ line_said text.now) }
 {
     match cut(text, ' ') {
         Some((word, rest)) => said(alloc, known, word, rest),
@@ -94,7 +94,7 @@ fn method_of<'a>(alloc: Global, known: &mut Known<'a>, text: &'a str) -> M<Optio
 
 #[tactic(auto, unfolding(crate::specs::LineReading::method_parts))]
 fn method_parts(text: &str) -> Option<MethodParts<'_>>
-    ensures { option_map shown result ≡ method_parts text.now }
+    ensures { option_map kept_method_parts result ≡ method_parts text.now }
 {
     let (class, rest) = cut(text, ' ')?;
     let (ret, rest) = cut(rest, ' ')?;
@@ -117,7 +117,7 @@ fn method_said<'a>(
     known: &mut Known<'a>,
     parts: &MethodParts<'a>,
 ) -> M<Option<WitnessLine>>
-    ensures { IfOk result (λ line. line ≡ method_said (shown parts.now)) }
+    ensures { IfOk result (λ line. line ≡ method_said (kept_method_parts parts.now)) }
 {
     let Some(class) = known.class_name(alloc, parts.class)? else {
         return Ok(None);

@@ -6,7 +6,7 @@ ghost use Rattle.jv_base.specs.declared.outcome.Or.TheVariants.{Fault};
 ghost use Rattle.text_lines.specs.Lines.{read_lines};
 ghost use Rattle.text_lines.specs.bodies.Steps.{ChangesOr};
 ghost use Rattle.witness_file.specs.bodies.MethodTable.{TellsMethods};
-ghost use Rattle.witness_file.specs.WitnessReading.{IsFirstFault, added, added_behind, all_methods, awaits_more};
+ghost use Rattle.witness_file.specs.WitnessReading.{IsFirstFault, with_line, added_behind, all_methods, awaits_more};
 ghost use Rattle.witness_file.specs.WitnessReading.{awaits_step};
 ghost use Rattle.witness_file.specs.WitnessReading.{is_too_early, method_begun, nothing, read_witness, step};
 ghost use Rattle.witness_file.specs.WitnessReading.{with_method};
@@ -152,7 +152,7 @@ fn add(
     line: WitnessLine,
 ) -> Result<(), Or<WitKind>>
     requires { TellsMethods table.old (all_methods read.old) }
-    ensures read { ChangesOr result read.new (added line read.old) }
+    ensures read { ChangesOr result read.new (with_line line read.old) }
     ensures table { OnOk result (TellsMethods table.new (all_methods read.new)) }
 {
     match line {
@@ -165,7 +165,7 @@ fn add(
 }
 
 fn begin(read: &mut WitnessRead) -> Result<(), Or<WitKind>>
-    ensures { ChangesOr result read.new (added line.Head read.old) }
+    ensures { ChangesOr result read.new (with_line line.Head read.old) }
 {
     if read.begun {
         return Err(Or::Fault(WitKind::BadLine));

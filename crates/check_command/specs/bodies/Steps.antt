@@ -17,9 +17,9 @@ use Rattle.require_sys.specs.declared.limits.TooMany.{TooMany}
 use Rattle.command_texts.specs.RuleText.{keeps_nothing, nothing_kept}
 use Rattle.pair_checker.specs.PairOk.{IsNo, PairOk}
 use Rattle.pair_checker.specs.declared.answer.No.{No as Answer}
-use Rattle.check_command.specs.Answer.{Reads, StopsSo, absent_by}
+use Rattle.check_command.specs.Answer.{ReadsPair, StopsSo, absent_by}
 use Rattle.check_command.specs.Due.{IsPair, IsRefused}
-use Rattle.check_command.specs.Refusal.{line_of, status_of}
+use Rattle.check_command.specs.Refusal.{stop_line, status_of}
 use Rattle.check_command.specs.declared.finding.CheckFiles.{CheckFiles}
 use Rattle.check_command.specs.declared.finding.Found.{Found}
 use Rattle.check_command.specs.declared.finding.Texts.{Texts}
@@ -93,13 +93,13 @@ Judges (Err OutOfMemory) found = Unit {0}
 
 -- the command has checked, or stopped
 abbrev pub Checks : Result (Unit {0}) (Stop Refusal) → CheckFiles → List Event → Type 0
-Checks (Ok done) named calls = Reads named calls
+Checks (Ok done) named calls = ReadsPair named calls
 Checks (Err stop) named calls = StopsSo stop named calls
 
 -- memory may be wanting for the line of a refusal
 abbrev pub Says : Stop Refusal → ℕ → Output → Output → Type 0
 Says (Refused refusal) status old new =
-    SaysLine (status_of (Refused refusal)) (line_of (Refused refusal)) status old new
-    ⊎ SaysLine (status_of OutOfMemory) (line_of OutOfMemory) status old new
-Says Device status old new = SaysLine (status_of Device) (line_of Device) status old new
-Says OutOfMemory status old new = SaysLine (status_of OutOfMemory) (line_of OutOfMemory) status old new
+    SaysLine (status_of (Refused refusal)) (stop_line (Refused refusal)) status old new
+    ⊎ SaysLine (status_of OutOfMemory) (stop_line OutOfMemory) status old new
+Says Device status old new = SaysLine (status_of Device) (stop_line Device) status old new
+Says OutOfMemory status old new = SaysLine (status_of OutOfMemory) (stop_line OutOfMemory) status old new

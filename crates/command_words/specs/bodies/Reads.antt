@@ -5,6 +5,6 @@ use Rattle.clap.specs.declared.parser.matches.ArgMatches.{ArgMatches}
 use Rattle.command_words.specs.CommandLine.{command_line}
 
 -- clap takes the words and has these matches, or it doesn't take them
-abbrev pub Reads : List (List ℕ) → Option ArgMatches → Type 0
-Reads words (Some m) = (fault_of command_line words ≡ []) × (rows_of (found_of m) ≡ matches_of command_line words)
-Reads words None = fault_of command_line words ≢ []
+abbrev pub ReadsWords : List (List ℕ) → Option ArgMatches → Type 0
+ReadsWords words (Some m) = (fault_of command_line words ≡ []) × (rows_of (found_of m) ≡ matches_of command_line words)
+ReadsWords words None = fault_of command_line words ≢ []

@@ -24,7 +24,7 @@ use Rattle.class_rename.specs.Renamed.{renamed_base, renamed_type, renamed_vtype
 use Rattle.image_laws.specs.SetImage.Image.{Image}
 use Rattle.type_verifier.specs.Assignable.{is_assignable, is_reference}
 use Rattle.type_verifier.specs.Effects.{Checked, Split, all_popped, counted, counted_from, cut_before, doubled, dropped}
-use Rattle.type_verifier.specs.Effects.{element, is_category_1, is_copy, loaded, loaded_from, made, one_word}
+use Rattle.type_verifier.specs.Effects.{element, is_category_1, is_copy, loaded, loaded_from, object_made, one_word}
 use Rattle.type_verifier.specs.Effects.{or_operand, popped, popped_from, pushed, put_below, put_local, read_from}
 use Rattle.type_verifier.specs.Effects.{second_word, split_words, stored, stored_from, substituted}
 use Rattle.type_verifier.specs.Effects.{swapped, top_behind, two_words, with_stack, words_of_kind}
@@ -483,14 +483,15 @@ module _ (names : Names) (a b : List Class) (i : Image a b) (stay : KeepsKnownNa
         by true = h
         by false = all.0
 
-  pub made_follows : (at : ℕ) (f : TypeFrame) → Framed f → Follows (made at f) (made at (frame f))
+  pub made_follows : (at : ℕ) (f : TypeFrame) → Framed f → Follows (object_made at f) (object_made at (frame f))
   made_follows at f named =
-      subst (λ (t : Bool). Follows (made at f) (cond t (Err Uninit) (Ok (record {
+      subst (λ (t : Bool). Follows (object_made at f) (cond t (Err Uninit) (Ok (record {
         locals = substituted (vtype.Uninit at) vtype.Top (news f.locals);
         stack = vtype.Uninit at ∷ news f.stack;
         marked = f.marked;
       })))) (sym (any_copy (vtype.Uninit at) (new_copies at) f.stack))
-      (subst (λ (t : List VType). Follows (made at f) (cond (list_any (is_copy (vtype.Uninit at)) f.stack) (Err Uninit)
+      (subst (λ (t : List VType). Follows (object_made at f)
+      (cond (list_any (is_copy (vtype.Uninit at)) f.stack) (Err Uninit)
       (Ok (record { locals = t; stack = vtype.Uninit at ∷ news f.stack; marked = f.marked }))))
       (sym (substituted_renamed (vtype.Uninit at) (new_copies at) vtype.Top f.locals))
       (by (list_any (is_copy (vtype.Uninit at)) f.stack)))

@@ -29,7 +29,7 @@ use Rattle.type_verifier.specs.Assignable.{is_assignable}
 use Rattle.type_verifier.specs.Effects.{Checked, stepped, with_stack}
 use Rattle.type_verifier.specs.Environment.{Environment, declared_frame_at, goes_elsewhere, initial_frame, is_entered}
 use Rattle.type_verifier.specs.Environment.{targets}
-use Rattle.type_verifier.specs.Frames.{declared_frame, expanded, framed, is_uninit_this, padded, words_of}
+use Rattle.type_verifier.specs.Frames.{declared_frame, expanded, framed, is_uninit_this, padded, local_words}
 use Rattle.type_verifier.specs.Rules.{class_of, throwable}
 use Rattle.type_verifier.specs.Typed.{AreInstructionsTyped, Stands, Typed}
 use Rattle.type_verifier.specs.Walk.{caught_type, covers, fits_at, fits_declared, fits_targets, flow_after, satisfies}
@@ -74,26 +74,26 @@ module _ (names : Names) (a b : Environment) (i : Image a.classes b.classes) (st
   abbrev Framed : TypeFrame → Type 0
   Framed f = FrameNamed names a.classes b.classes i stay f
 
-  words_renamed : (ty : VType) → words_of (new ty) ≡ news (words_of ty)
+  words_renamed : (ty : VType) → local_words (new ty) ≡ news (local_words ty)
   words_renamed vtype.Long = refl
   words_renamed ty = refl
 
-  words_named : (ty : VType) → Named ty → Each (words_of ty)
+  words_named : (ty : VType) → Named ty → Each (local_words ty)
   words_named vtype.Long h = (tt, (tt, tt))
   words_named (vtype.Object ty) h = (h, tt)
   words_named ty h = (tt, tt)
 
-  all_words_renamed : (tys : List VType) → flat_map words_of (news tys) ≡ news (flat_map words_of tys)
+  all_words_renamed : (tys : List VType) → flat_map local_words (news tys) ≡ news (flat_map local_words tys)
   all_words_renamed [] = refl
   all_words_renamed (ty ∷ tys) =
-      ap (λ (t : List VType). t ++ flat_map words_of (news tys)) (words_renamed ty)
-      ∙ ap (λ (t : List VType). news (words_of ty) ++ t) (all_words_renamed tys)
-      ∙ sym (map-append new (words_of ty) (flat_map words_of tys))
+      ap (λ (t : List VType). t ++ flat_map local_words (news tys)) (words_renamed ty)
+      ∙ ap (λ (t : List VType). news (local_words ty) ++ t) (all_words_renamed tys)
+      ∙ sym (map-append new (local_words ty) (flat_map local_words tys))
 
-  all_words_named : (tys : List VType) → Each tys → Each (flat_map words_of tys)
+  all_words_named : (tys : List VType) → Each tys → Each (flat_map local_words tys)
   all_words_named [] h = tt
   all_words_named (ty ∷ tys) h =
-      all_append Named (words_of ty) (flat_map words_of tys) (words_named ty h.0) (all_words_named tys h.1)
+      all_append Named (local_words ty) (flat_map local_words tys) (words_named ty h.0) (all_words_named tys h.1)
 
   tops_renamed : (n : ℕ) → news (replicate n vtype.Top) ≡ replicate n vtype.Top
   tops_renamed zero = refl
@@ -105,7 +105,7 @@ module _ (names : Names) (a b : Environment) (i : Image a.classes b.classes) (st
 
   expanded_renamed : (max : ℕ) (tys : List VType) → expanded max (news tys) ≡ news (expanded max tys)
   expanded_renamed max tys =
-      let words = flat_map words_of tys in
+      let words = flat_map local_words tys in
       ap (padded max) (all_words_renamed tys)
       ∙ ap (λ (n : ℕ). news words ++ replicate (max - n) vtype.Top) (length-map words new)
       ∙ ap (λ (t : List VType). news words ++ t) (sym (tops_renamed (max - length words)))
@@ -113,8 +113,8 @@ module _ (names : Names) (a b : Environment) (i : Image a.classes b.classes) (st
 
   expanded_named : (max : ℕ) (tys : List VType) → Each tys → Each (expanded max tys)
   expanded_named max tys h =
-      all_append Named (flat_map words_of tys) (replicate (max - length (flat_map words_of tys)) vtype.Top)
-      (all_words_named tys h) (tops_named (max - length (flat_map words_of tys)))
+      all_append Named (flat_map local_words tys) (replicate (max - length (flat_map local_words tys)) vtype.Top)
+      (all_words_named tys h) (tops_named (max - length (flat_map local_words tys)))
 
   uninit_same : (ty : VType) → is_uninit_this (new ty) ≡ is_uninit_this ty
   uninit_same vtype.UninitThis = refl

@@ -5,7 +5,7 @@ use Rattle.std.specs.Str.{chars}
 use Rattle.keep_match.specs.declared.piece.Piece.{Piece}
 use Rattle.keep_match.specs.declared.piece.Piece.TheVariants.{Character, One, Part, Any}
 use Rattle.keep_match.specs.declared.scan.Place.{Place}
-use Rattle.keep_match.specs.Wildcards.{Begins, HasNoDot, pieces, shown}
+use Rattle.keep_match.specs.Wildcards.{Begins, HasNoDot, pieces, dotted_chars}
 
 -- ---- pieces
 
@@ -42,7 +42,7 @@ pieces_at place = pieces (chars place.pattern.now)
 
 -- the text that is left (only the proof of wild needs it)
 abbrev pub text_at : ℕ → Place → List ℕ
-text_at dot place = shown dot place.text.now
+text_at dot place = dotted_chars dot place.text.now
 
 -- pieces of a kind were read, and a front of the text that they stand for (only the proof of wild needs it)
 pub record IsRead (IsKind : Piece → Type 0) (ps : List Piece) (x : List ℕ) (qs : List Piece) (y : List ℕ) : Type 0 where

@@ -36,8 +36,8 @@ abbrev pub no_at : Clause → Place → No
 no_at clause place = record { clause = clause; class = Some place.class; member = place.member }
 
 -- the clauses that are tested of a pair that was read, in their order
-abbrev pub tested : List Clause
-tested = clause.MapShape ∷ (clause.FixedName ∷ (clause.Package ∷ (clause.SeedLost ∷ (clause.NotClosed
+abbrev pub tested_clauses : List Clause
+tested_clauses = clause.MapShape ∷ (clause.FixedName ∷ (clause.Package ∷ (clause.SeedLost ∷ (clause.NotClosed
     ∷ (clause.MemberDiffers ∷ (clause.WitnessStray ∷ (clause.EditIllegal ∷ (clause.CodeDiffers ∷ []))))))))
 
 -- the files of an output are a set of classes, or why they are none

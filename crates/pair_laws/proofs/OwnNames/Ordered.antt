@@ -22,7 +22,7 @@ use Rattle.attribute_filter.specs.Filtered.{filtered}
 use Rattle.attribute_filter.specs.KeptAttributes.{filter_of}
 use Rattle.attribute_filter.specs.declared.filter.AttributeFilter.{AttributeFilter}
 use Rattle.member_shrink.specs.Shrunk.{shrunk}
-use Rattle.set_shrink.specs.Order.{class_path, in_order, placed}
+use Rattle.set_shrink.specs.Order.{class_path, in_order, put_at_paths}
 use Rattle.set_shrink.specs.ShrunkSet.{left_of, new_names, renamed_of}
 use Rattle.pair_laws.proofs.NamedForm.Written.{all_written}
 use Rattle.pair_laws.specs.NamedForm.Laws.{IsLinked}
@@ -111,12 +111,13 @@ put_at (e ∷ entries) c all = by (compare (class_path c) e.0) refl (put_at entr
     by Greater is rest = (all.0, rest)
 
 placed_sorted : (entries : Entries) (classes : List Class) → IsStrictlySortedBy compare (keys_of entries)
-    → IsStrictlySortedBy compare (keys_of (placed entries classes))
+    → IsStrictlySortedBy compare (keys_of (put_at_paths entries classes))
 placed_sorted entries [] sorted = sorted
 placed_sorted entries (c ∷ classes) sorted =
     placed_sorted (put entries (class_path c) c) classes (put_sorted entries (class_path c) c sorted)
 
-placed_at : (entries : Entries) (classes : List Class) → AreAtTheirs entries → AreAtTheirs (placed entries classes)
+placed_at : (entries : Entries) (classes : List Class) → AreAtTheirs entries
+    → AreAtTheirs (put_at_paths entries classes)
 placed_at entries [] all = all
 placed_at entries (c ∷ classes) all = placed_at (put entries (class_path c) c) classes (put_at entries c all)
 
@@ -140,7 +141,7 @@ pub left_ascends : LeftAscends
 left_ascends classes marks rules files at left = λ i j d before within. apart i j d before within
   where
     entries : Entries
-    entries = placed [] (renamed_of classes marks rules)
+    entries = put_at_paths [] (renamed_of classes marks rules)
 
     paths : List (List ℕ)
     paths = map (λ (f : NamedClass). f.path) files

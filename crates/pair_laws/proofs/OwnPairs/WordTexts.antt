@@ -8,7 +8,7 @@ use Rattle.std.proofs.lemmas.List.{append-nil, append_assoc, length-append}
 use Rattle.std.proofs.lemmas.Str.{IsUtf8-take, IsUtf8-drop, IsUtf8-nil, IsUtf8-from_ascii}
 use Rattle.std.proofs.lemmas.Str.{IsCharBoundary-after_ascii, IsCharBoundary-before_ascii}
 use Rattle.conf_words.specs.Pieces.{HasWords, Piece, StandBefore, StandsBefore, ends_line, ends_of, ends_word, kind_of}
-use Rattle.conf_words.specs.Pieces.{lines_of, spelled, stops, word_before, word_of, words_of}
+use Rattle.conf_words.specs.Pieces.{lines_of, spelled, stops, word_before, word_of, words_from}
 use Rattle.conf_words.specs.Pieces.{line_end, blank, comment, mark, quoted, plain}
 use Rattle.conf_words.specs.declared.splitting.Word.{Word}
 use Rattle.conf_words.proofs.Cutting.{ascii_end, ascii_line_end}
@@ -101,13 +101,13 @@ word_first (Some w) line words text texts = (text, texts)
 
 -- the words of pieces that together are a text are texts
 words_text : (pieces : List Piece) (line : ℕ) → StandBefore pieces [] → IsUtf8 (flat_map spelled pieces ++ [])
-    → AllByRecursion IsTextWord (words_of line pieces)
+    → AllByRecursion IsTextWord (words_from line pieces)
 words_text [] line h u = tt
 words_text (piece ∷ pieces) line h u =
     let first : IfSome (word_of piece) IsUtf8 × IsUtf8 (flat_map spelled pieces ++ []) = piece_text piece
     (flat_map spelled pieces ++ []) h.0
     (subst IsUtf8 (append_assoc (spelled piece) (flat_map spelled pieces) []) u) in
-    word_first (word_of piece) line (words_of (line + lines_of piece) pieces) first.0
+    word_first (word_of piece) line (words_from (line + lines_of piece) pieces) first.0
     (words_text pieces (line + lines_of piece) h.1 first.1)
 
 -- the words of a text are texts

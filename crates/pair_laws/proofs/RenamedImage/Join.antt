@@ -40,7 +40,8 @@ use Rattle.class_rename.specs.Names.{Names}
 use Rattle.pair_laws.specs.RenamedForm.Form.{IsKnownMethodType, IsKnownType}
 use Rattle.pair_laws.specs.RenamedImage.Naming.{is_class_there, is_declared, is_member_there, is_row, new_named}
 use Rattle.pair_laws.specs.RenamedImage.Renaming.{FindsItsClasses, IsNewField, IsNewMethod, IsRenamedSet, IsMemberName}
-use Rattle.pair_laws.specs.RenamedImage.Renaming.{KeepsNamesApart, NamesKnownTypes, is_known, is_library_name, placed}
+use Rattle.pair_laws.specs.RenamedImage.Renaming.{KeepsNamesApart, NamesKnownTypes, is_known, is_library_name}
+use Rattle.pair_laws.specs.RenamedImage.Renaming.{placed_class}
 use Rattle.pair_laws.specs.RenamedImage.Renaming.{placed_member, renamed_named}
 use Rattle.pair_laws.proofs.RenamedImage.Declared.{row_declared, test_of, tested}
 use Rattle.pair_laws.proofs.RenamedImage.Descriptors.{Declared, field_named, field_spelled, library_row_stays}
@@ -75,7 +76,7 @@ module _ (names : Names) (place : ℕ → ℕ) (xs ys : List Class) (found : Fin
     (found_new : FindsItsClasses ys) (known : NamesKnownTypes xs) (apart : KeepsNamesApart names xs)
     (new : IsRenamedSet names place xs ys) where
   abbrev moved : ClassId → ClassId
-  moved = placed place
+  moved = placed_class place
 
   abbrev There : ClassId → Type 0
   There x = is_class_there xs x ≡ true
@@ -420,7 +421,7 @@ module _ (names : Names) (place : ℕ → ℕ) (xs ys : List Class) (found : Fin
   abbrev pub renamed_image : Image xs ys
   renamed_image = record {
     kept = is_class_there xs;
-    moved = placed place;
+    moved = placed_class place;
     kept_member = is_member_there xs;
     moved_member = placed_member place;
     renamed = new_named names xs;

@@ -50,7 +50,7 @@ use Rattle.removal_laws.proofs.RemovalImage.Links.{base_class, field_link, field
 use Rattle.removal_laws.proofs.RemovalImage.Wanted.{AllIn, CodeWants, In, base_kept, field_parts, found_kept, name_kept}
 use Rattle.removal_laws.proofs.RemovalSame.Codes.{called, field_stand, method_stand, no_class_array}
 use Rattle.pair_laws.specs.RenamedImage.Naming.{new_named}
-use Rattle.pair_laws.specs.RenamedImage.Renaming.{is_method_text, placed, renamed_named}
+use Rattle.pair_laws.specs.RenamedImage.Renaming.{is_method_text, placed_class, renamed_named}
 use Rattle.pair_laws.proofs.RenamedImage.Descriptors.{field_is_none, method_is_one}
 use Rattle.pair_laws.specs.RenamedSame.Laws.{IsLeftUnderNames}
 use Rattle.pair_laws.specs.RenamedSame.NewCodes.{IsNewCode, IsNewIns}
@@ -80,18 +80,18 @@ module _ (classes : List Class) (rules : KeptByRules) (marks : List Bool) (names
       → is_class_kept classes marks c ≡ true → new_names.class name ≡ Some (names.class name)
   class_new_name name c is k =
       ap (option_and_then (new_class classes out image_of)) is
-      ∙ ap (λ (t : Bool). cond t (Some (name_of out (placed place (class_place classes marks c)))) None) k
+      ∙ ap (λ (t : Bool). cond t (Some (name_of out (placed_class place (class_place classes marks c)))) None) k
       ∙ ap Some (name_new classes rules marks names place out taken new c k
       ∙ ap names.class (class_name classes name c is))
 
   -- a type without dimensions that names a kept class is that of its place
   type_of : (d : ℕ) (b : Base) (c : ClassId) (t : Bool) → (d == 0) ≡ t → cond t (base_class classes b) None ≡ Some c
       → is_class_kept classes marks c ≡ true
-      → class_type (name_of out (placed place (class_place classes marks c)))
+      → class_type (name_of out (placed_class place (class_place classes marks c)))
       ≡ renamed_type names (record { dims = d; base = b })
   type_of d (base.Class name) c true zero_dims e k =
       let none : d ≡ 0 = eqb-true d 0 zero_dims in
-      let new_name : name_of out (placed place (class_place classes marks c)) ≡ names.class name =
+      let new_name : name_of out (placed_class place (class_place classes marks c)) ≡ names.class name =
       name_new classes rules marks names place out taken new c k ∙ ap names.class (class_name classes name c e) in
       λ j. record { dims = sym none j; base = base.Class (new_name j) }
   type_of d base.Boolean c true z e k = absurd cc
@@ -139,7 +139,8 @@ module _ (classes : List Class) (rules : KeptByRules) (marks : List Bool) (names
         → new_ref classes out image_of r c m
         ≡ Some (record r { class = renamed_type names r.class; name = named.0; ty = named.1 })
     ref_new r named c m is k l given =
-        let class : class_type (name_of out (placed place (class_place classes marks c))) ≡ renamed_type names r.class =
+        let class : class_type (name_of out (placed_class place (class_place classes marks c)))
+        ≡ renamed_type names r.class =
         type_of r.class.dims r.class.base c (r.class.dims == 0) refl is k in
         ap (λ (t : Bool). cond (t && is_member_kept classes marks m)
         (option_map (renamed_ref classes out image_of r c) (new_named names rest (r.name, r.ty))) None) k

@@ -25,7 +25,7 @@ use Rattle.image_laws.specs.TakenSet.TakenSet.{IsTaken}
 use Rattle.image_laws.proofs.TakenSet.LibraryRows.{library_name}
 use Rattle.removal_laws.proofs.RemovalImage.Marked.{image}
 use Rattle.pair_laws.specs.RenamedImage.Naming.{is_class_there, is_declared, is_member_there, new_named}
-use Rattle.pair_laws.specs.RenamedImage.Renaming.{FindsItsClasses, NamesKnownTypes, placed, placed_member}
+use Rattle.pair_laws.specs.RenamedImage.Renaming.{FindsItsClasses, NamesKnownTypes, placed_class, placed_member}
 use Rattle.pair_laws.specs.RenamedImage.Renaming.{renamed_named}
 use Rattle.pair_laws.proofs.RenamedImage.Join.{name_moved, named_moved, renamed_image}
 use Rattle.pair_laws.specs.RenamedSame.Laws.{IsLeftUnderNames}
@@ -77,14 +77,15 @@ module _ (classes : List Class) (rules : KeptByRules) (marks : List Bool) (names
   -- ---- names
 
   pub name_new : (x : ClassId) → is_class_kept classes marks x ≡ true
-      → name_of out (placed place (class_place classes marks x)) ≡ names.class (name_of classes x)
+      → name_of out (placed_class place (class_place classes marks x)) ≡ names.class (name_of classes x)
   name_new (Prog n) k = by (class_place classes marks (Prog n)) refl (keeps (Prog n) k)
     where
       by : (x : ClassId) → class_place classes marks (Prog n) ≡ x → is_class_there left x ≡ true
-          → name_of out (placed place (class_place classes marks (Prog n))) ≡ names.class (name_of classes (Prog n))
+          → name_of out (placed_class place (class_place classes marks (Prog n)))
+          ≡ names.class (name_of classes (Prog n))
       by (Prog t) e h =
           let c = some_there (slice_get left t) h in
-          ap (λ (x : ClassId). name_of out (placed place x)) e
+          ap (λ (x : ClassId). name_of out (placed_class place x)) e
           ∙ name_moved names place left out left_found new.found left_known new.apart new.renamed t c.0 c.1
           ∙ ap names.class (ap (name_of left) (sym e) ∙ name_same classes marks (Prog n) k)
       by (Lib id) e h = absurd (let w = e in cc)
@@ -94,7 +95,7 @@ module _ (classes : List Class) (rules : KeptByRules) (marks : List Bool) (names
   -- the class of a name
   pub class_new : (name : List ℕ) (x : ClassId) → class_named classes name ≡ Some x
       → is_class_kept classes marks x ≡ true
-      → class_named out (names.class name) ≡ Some (placed place (class_place classes marks x))
+      → class_named out (names.class name) ≡ Some (placed_class place (class_place classes marks x))
   class_new name x e k =
       named_moved names place left out left_found new.found left_known new.apart new.renamed name
       (class_place classes marks x) (class_left classes rules marks new.closed taken name x e k)

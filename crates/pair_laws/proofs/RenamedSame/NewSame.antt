@@ -21,7 +21,7 @@ use Rattle.image_laws.specs.ShrunkImage.Keeping.{class_place, is_class_kept, is_
 use Rattle.image_laws.specs.TakenSet.TakenSet.{IsTaken}
 use Rattle.image_laws.proofs.TakenSet.Proper.{is_proper}
 use Rattle.removal_laws.proofs.RemovalImage.Marked.{selected_kept}
-use Rattle.pair_laws.specs.RenamedImage.Renaming.{placed, placed_member}
+use Rattle.pair_laws.specs.RenamedImage.Renaming.{placed_class, placed_member}
 use Rattle.pair_laws.specs.RenamedSame.Laws.{IsLeftUnderNames, NewNamesKeepSame}
 use Rattle.pair_laws.specs.RenamedSame.NewKeys.{kept_key, kept_names, new_key}
 use Rattle.pair_laws.proofs.RenamedSame.Codes.{image_of}
@@ -37,7 +37,7 @@ module _ (classes : List Class) (rules : KeptByRules) (marks : List Bool) (names
   class_names c = by (class_named classes c) refl
     where
       at : (x : ClassId) → class_named classes c ≡ Some x → (t : Bool) → is_class_kept classes marks x ≡ t
-          → cond t (Some (name_of out (placed place (class_place classes marks x)))) None
+          → cond t (Some (name_of out (placed_class place (class_place classes marks x)))) None
           ≡ cond t (Some (names.class c)) None
       at x is true k = ap Some (name_new classes rules marks names place out taken new x k
           ∙ ap names.class (class_name classes c x is))

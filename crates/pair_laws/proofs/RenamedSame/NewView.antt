@@ -40,7 +40,7 @@ use Rattle.removal_laws.proofs.RemovalImage.Wanted.{AllIn, wants_of_code, wants_
 use Rattle.removal_laws.proofs.RemovalSame.ImageView as removal
 use Rattle.removal_laws.proofs.RemovalSame.Told.{code_found, told_same}
 use Rattle.pair_laws.specs.RenamedImage.Naming.{is_class_there, is_declared, new_named}
-use Rattle.pair_laws.specs.RenamedImage.Renaming.{is_known, placed, placed_member, renamed_named}
+use Rattle.pair_laws.specs.RenamedImage.Renaming.{is_known, placed_class, placed_member, renamed_named}
 use Rattle.pair_laws.proofs.RenamedImage.Declared.{initial, initial_is, initial_text, tested}
 use Rattle.pair_laws.proofs.RenamedImage.Descriptors.{field_spelled, method_spelled}
 use Rattle.pair_laws.proofs.RenamedImage.Join.{member_class}
@@ -59,7 +59,7 @@ module _ (classes : List Class) (rules : KeptByRules) (marks : List Bool) (names
   rest = left classes rules marks names place out taken new
 
   abbrev moved : ClassId → ClassId
-  moved x = placed place (class_place classes marks x)
+  moved x = placed_class place (class_place classes marks x)
 
   abbrev moved_member : MemberAt → MemberAt
   moved_member m = placed_member place (member_place classes marks m)

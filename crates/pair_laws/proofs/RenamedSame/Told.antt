@@ -18,7 +18,7 @@ use Rattle.class_rename.specs.Names.{Names}
 use Rattle.jvm_model.specs.Mapped.{OptionCorr}
 use Rattle.set_view.specs.ViewOf.{code_at, constant_at}
 use Rattle.pair_laws.specs.RenamedImage.Naming.{is_class_there}
-use Rattle.pair_laws.specs.RenamedImage.Renaming.{IsNewField, IsRenamedSet, placed, placed_member}
+use Rattle.pair_laws.specs.RenamedImage.Renaming.{IsNewField, IsRenamedSet, placed_class, placed_member}
 use Rattle.pair_laws.specs.RenamedSame.NewCodes.{HasNewCode, HasNewCodes, IsNewCode}
 
 abbrev its_code : ℕ → Class → Option Code
@@ -73,7 +73,7 @@ module _ (names : Names) where
       where
         by : (x : ClassId) (k : ℕ) → is_class_there xs x ≡ true
             → OptionCorr (IsNewCode names) (code_at xs (record { class = x; index = k }))
-            (code_at ys (record { class = placed place x; index = k }))
+            (code_at ys (record { class = placed_class place x; index = k }))
         by (Lib id) k h = refl
         by (Prog n) k h =
             let c = some_there (slice_get xs n) h in
@@ -89,7 +89,7 @@ module _ (names : Names) where
     constant_told m h = by m.class m.index h
       where
         by : (x : ClassId) (k : ℕ) → is_class_there xs x ≡ true
-            → constant_at ys (record { class = placed place x; index = k })
+            → constant_at ys (record { class = placed_class place x; index = k })
             ≡ constant_at xs (record { class = x; index = k })
         by (Lib id) k h = refl
         by (Prog n) k h =

@@ -32,7 +32,7 @@ use Rattle.removal_laws.proofs.RemovalBuilds.LeftLists.{none_of_each, none_there
 use Rattle.image_laws.proofs.TakenSet.Proper.{names_right}
 use Rattle.class_rename.specs.Names.{Names}
 use Rattle.class_rename.specs.Renamed.{renamed, renamed_field, renamed_method}
-use Rattle.pair_laws.specs.RenamedImage.Renaming.{placed}
+use Rattle.pair_laws.specs.RenamedImage.Renaming.{placed_class}
 use Rattle.pair_laws.specs.RenamedTaken.NewSet.{AreFilesOf, IsNewSet}
 use Rattle.pair_laws.proofs.RenamedTaken.Placed.{IsPlaced, named_new, was}
 use Rattle.pair_laws.proofs.RenamedTaken.Ranks.{ranks_new}
@@ -64,7 +64,7 @@ module _ (names : Names) (place back : ℕ → ℕ) (xs ys : List Class) (h : Is
   abbrev IsThere : List ℕ → Type 0
   IsThere name = is_some (class_named xs name) ≡ true
 
-  kind_same : (x : ClassId) → kind_in ys (placed place x) ≡ kind_in xs x
+  kind_same : (x : ClassId) → kind_in ys (placed_class place x) ≡ kind_in xs x
   kind_same (Lib id) = refl
   kind_same (Prog n) = ap (λ o. option_map_or kind_of o Open) (h.at n) ∙ by (slice_get xs n)
     where
@@ -73,11 +73,11 @@ module _ (names : Names) (place back : ℕ → ℕ) (xs ys : List Class) (h : Is
       by (Some c) = refl
 
   some_new : (name : List ℕ) → IsThere name
-      → class_named ys (names.class name) ≡ option_map (placed place) (class_named xs name)
+      → class_named ys (names.class name) ≡ option_map (placed_class place) (class_named xs name)
   some_new name there = by (class_named xs name) refl there
     where
       by : (o : Option ClassId) → class_named xs name ≡ o → is_some o ≡ true
-          → class_named ys (names.class name) ≡ option_map (placed place) o
+          → class_named ys (names.class name) ≡ option_map (placed_class place) o
       by None e t = absurd cc
       by (Some x) e t = named_new names place back xs ys h name x e
 
@@ -85,7 +85,7 @@ module _ (names : Names) (place back : ℕ → ℕ) (xs ys : List Class) (h : Is
       → is_none (class_named ys (names.class name)) ≡ is_none (class_named xs name)
   missing_same name there = ap (λ (o : Option ClassId). is_none o) (some_new name there) ∙ by (class_named xs name)
     where
-      by : (o : Option ClassId) → is_none (option_map (placed place) o) ≡ is_none o
+      by : (o : Option ClassId) → is_none (option_map (placed_class place) o) ≡ is_none o
       by None = refl
       by (Some x) = refl
 
@@ -97,7 +97,7 @@ module _ (names : Names) (place back : ℕ → ℕ) (xs ys : List Class) (h : Is
       ∙ by (class_named xs name)
     where
       by : (o : Option ClassId)
-          → option_map_or (λ id. not (test (kind_in ys id))) (option_map (placed place) o) false
+          → option_map_or (λ id. not (test (kind_in ys id))) (option_map (placed_class place) o) false
           ≡ option_map_or (λ id. not (test (kind_in xs id))) o false
       by None = refl
       by (Some x) = ap (λ (k : LibKind). not (test k)) (kind_same x)

@@ -35,7 +35,7 @@ use Rattle.image_laws.proofs.TakenSet.Proper.{is_proper, open_interfaces}
 use Rattle.class_rename.specs.Names.{Names}
 use Rattle.class_rename.specs.Renamed.{renamed}
 use Rattle.pair_laws.specs.RenamedImage.Naming.{is_class_there, is_member_there}
-use Rattle.pair_laws.specs.RenamedImage.Renaming.{placed, placed_member}
+use Rattle.pair_laws.specs.RenamedImage.Renaming.{placed_class, placed_member}
 use Rattle.pair_laws.proofs.RenamedImage.Join.{renamed_row, rows_moved}
 use Rattle.pair_laws.proofs.RenamedTaken.Placed as placing
 use Rattle.pair_laws.proofs.RenamedTaken.Placed.{IsPlaced, is_renamed, selected_there}
@@ -90,32 +90,35 @@ module _ (names : Names) (place back : ℕ → ℕ) (xs ys : List Class) (h : Is
 
   numbered_moved : (x : ClassId) (s : ℕ) (rows : List MemberRow)
       → ((k : ℕ) (row : MemberRow) → slice_get rows k ≡ Some row
-      → is_instance_method ys (at_index (placed place x) (s + k)) ≡ is_instance_method xs (at_index x (s + k)))
+      → is_instance_method ys (at_index (placed_class place x) (s + k)) ≡ is_instance_method xs (at_index x (s + k)))
       → filter (is_instance_method ys)
-      (map (λ (e : ℕ × MemberRow). at_index (placed place x) e.0) (enumerate_from s (map (renamed_row names) rows)))
+      (map (λ (e : ℕ × MemberRow). at_index (placed_class place x) e.0)
+      (enumerate_from s (map (renamed_row names) rows)))
       ≡ map (placed_member place) (numbered x s rows)
   numbered_moved x s [] same = refl
   numbered_moved x s (row ∷ rows) same =
       let start : s + 0 ≡ s = omega arith in
-      let here : is_instance_method ys (at_index (placed place x) s) ≡ is_instance_method xs (at_index x s) =
-      subst (λ (k : ℕ). is_instance_method ys (at_index (placed place x) k) ≡ is_instance_method xs (at_index x k))
+      let here : is_instance_method ys (at_index (placed_class place x) s) ≡ is_instance_method xs (at_index x s) =
+      subst (λ (k : ℕ). is_instance_method ys (at_index (placed_class place x) k)
+      ≡ is_instance_method xs (at_index x k))
       start (same 0 row refl) in
       let rest = numbered_moved x (s + 1) rows (λ k r at.
       let next : s + suc k ≡ s + 1 + k = omega arith in
-      subst (λ (j : ℕ). is_instance_method ys (at_index (placed place x) j) ≡ is_instance_method xs (at_index x j))
+      subst (λ (j : ℕ). is_instance_method ys (at_index (placed_class place x) j)
+      ≡ is_instance_method xs (at_index x j))
       next (same (suc k) r at)) in
-      (λ j. cond (here j) (at_index (placed place x) s ∷ rest j) (rest j))
+      (λ j. cond (here j) (at_index (placed_class place x) s ∷ rest j) (rest j))
       ∙ by (is_instance_method xs (at_index x s))
     where
       by : (t : Bool)
-          → cond t (at_index (placed place x) s ∷ map (placed_member place) (numbered x (s + 1) rows))
+          → cond t (at_index (placed_class place x) s ∷ map (placed_member place) (numbered x (s + 1) rows))
           (map (placed_member place) (numbered x (s + 1) rows))
           ≡ map (placed_member place) (cond t (at_index x s ∷ numbered x (s + 1) rows) (numbered x (s + 1) rows))
       by true = refl
       by false = refl
 
   methods_moved : (x : ClassId) → is_class_there xs x ≡ true
-      → methods_of ys (placed place x) ≡ map (placed_member place) (methods_of xs x)
+      → methods_of ys (placed_class place x) ≡ map (placed_member place) (methods_of xs x)
   methods_moved (Lib id) k = refl
   methods_moved (Prog n) k =
       ap (λ (rows : List MemberRow). filter (is_instance_method ys)
@@ -193,12 +196,13 @@ module _ (names : Names) (place back : ℕ → ℕ) (xs ys : List Class) (h : Is
         → AllByRecursion (λ x. is_class_there xs x ≡ true) cs
         → AllByRecursion (λ x. is_below xs (Prog n) x ≡ true) cs
         → flat_map (λ x. flat_map (selected_kinds xs n) (methods_of xs x)) cs ≡ []
-        → flat_map (λ x. flat_map (selected_kinds ys (place n)) (methods_of ys x)) (map (placed place) cs) ≡ []
+        → flat_map (λ x. flat_map (selected_kinds ys (place n)) (methods_of ys x)) (map (placed_class place) cs) ≡ []
     each_right of_class [] there below none = refl
     each_right of_class (x ∷ cs) there below none =
         let nones = nil_parts (flat_map (selected_kinds xs n) (methods_of xs x))
         (flat_map (λ x. flat_map (selected_kinds xs n) (methods_of xs x)) cs) none in
-        let rest = flat_map (λ x. flat_map (selected_kinds ys (place n)) (methods_of ys x)) (map (placed place) cs) in
+        let rest = flat_map (λ x. flat_map (selected_kinds ys (place n)) (methods_of ys x))
+        (map (placed_class place) cs) in
         ap (λ (ms : List MemberAt). flat_map (selected_kinds ys (place n)) ms ++ rest) (methods_moved x there.0)
         ∙ ap (λ (t : List ProfileKind). t ++ rest)
         (some_right of_class x below.0 (methods_of xs x) (methods_are x) nones.0)

@@ -24,7 +24,7 @@ use Rattle.class_rename.specs.Renamed.{renamed, renamed_field, renamed_method}
 use Rattle.pair_laws.specs.RenamedForm.Form.{KeepsForm}
 use Rattle.pair_laws.specs.RenamedImage.Naming.{is_class_there, is_declared, is_member_there, new_named}
 use Rattle.pair_laws.specs.RenamedImage.Renaming.{FindsItsClasses, IsNewClass, IsNewField, IsNewMethod, IsRenamedSet}
-use Rattle.pair_laws.specs.RenamedImage.Renaming.{KeepsNamesApart, NamesKnownTypes, placed, placed_member}
+use Rattle.pair_laws.specs.RenamedImage.Renaming.{KeepsNamesApart, NamesKnownTypes, placed_class, placed_member}
 use Rattle.pair_laws.specs.RenamedImage.Renaming.{renamed_named}
 use Rattle.pair_laws.proofs.RenamedImage.Join.{named_moved, renamed_image, some_there}
 
@@ -118,7 +118,7 @@ module _ (names : Names) (place back : ℕ → ℕ) (xs ys : List Class) (h : Is
   named_kept name x e = class_there x (subst (λ o. IfSome o (IsClass xs)) e (named_there xs name))
 
   pub named_new : (name : List ℕ) (x : ClassId) → class_named xs name ≡ Some x
-      → class_named ys (names.class name) ≡ Some (placed place x)
+      → class_named ys (names.class name) ≡ Some (placed_class place x)
   named_new name x e = named_moved names place xs ys h.found h.found_new h.known h.apart is_renamed name x e
 
   -- ---- members

@@ -15,7 +15,7 @@ use Rattle.class_pool.specs.declared.id.ClassId.TheVariants.{Prog, Lib}
 use Rattle.image_laws.specs.SetImage.Image.{Image}
 use Rattle.class_rename.specs.Names.{Names}
 use Rattle.pair_laws.specs.RenamedImage.Naming.{is_class_there}
-use Rattle.pair_laws.specs.RenamedImage.Renaming.{placed}
+use Rattle.pair_laws.specs.RenamedImage.Renaming.{placed_class}
 use Rattle.pair_laws.proofs.RenamedTaken.Placed as placing
 use Rattle.pair_laws.proofs.RenamedTaken.Placed.{IsPlaced, class_there, was}
 
@@ -24,16 +24,17 @@ module _ (names : Names) (place back : ℕ → ℕ) (xs ys : List Class) (h : Is
   i = placing.i names place back xs ys h
 
   direct_moved : (x : ClassId) → is_class_there xs x ≡ true
-      → direct ys (placed place x) ≡ map (placed place) (direct xs x)
+      → direct ys (placed_class place x) ≡ map (placed_class place) (direct xs x)
   direct_moved x k =
       (λ j. cons_option (i.super_moved x k j) (i.interfaces_moved x k j)) ∙ by (superclass xs x) (interfaces xs x)
     where
       by : (o : Option ClassId) (cs : List ClassId)
-          → cons_option (option_map (placed place) o) (map (placed place) cs) ≡ map (placed place) (cons_option o cs)
+          → cons_option (option_map (placed_class place) o) (map (placed_class place) cs)
+          ≡ map (placed_class place) (cons_option o cs)
       by None cs = refl
       by (Some c) cs = refl
 
-  returned : (x : ClassId) → placed back (placed place x) ≡ x
+  returned : (x : ClassId) → placed_class back (placed_class place x) ≡ x
   returned (Prog n) = ap Prog (h.there n)
   returned (Lib id) = refl
 
@@ -41,11 +42,13 @@ module _ (names : Names) (place back : ℕ → ℕ) (xs ys : List Class) (h : Is
   old = h.taken.ranks.rank
 
   falls_at : (x : ClassId) → IsClass xs x
-      → All (λ b. old (placed back b) < old (placed back (placed place x))) (direct ys (placed place x))
+      → All (λ b. old (placed_class back b) < old (placed_class back (placed_class place x)))
+      (direct ys (placed_class place x))
   falls_at x there =
-      subst (All (λ b. old (placed back b) < old (placed back (placed place x))))
+      subst (All (λ b. old (placed_class back b) < old (placed_class back (placed_class place x))))
       (sym (direct_moved x (class_there names place back xs ys h x there)))
-      (All-map (λ b. old (placed back b) < old (placed back (placed place x))) (placed place) (direct xs x)
+      (All-map (λ b. old (placed_class back b) < old (placed_class back (placed_class place x))) (placed_class place)
+      (direct xs x)
       (λ k d within.
       let less = h.taken.ranks.falls x there k d within in
       let here = ap old (returned x) in
@@ -53,7 +56,7 @@ module _ (names : Names) (place back : ℕ → ℕ) (xs ys : List Class) (h : Is
       omega (arith, less, here, above)))
 
   -- a class of the new set stands at the place of one
-  module _ (P : ClassId → Type 0) (each : (x : ClassId) → IsClass xs x → P (placed place x)) where
+  module _ (P : ClassId → Type 0) (each : (x : ClassId) → IsClass xs x → P (placed_class place x)) where
     from_old : (x : ClassId) → IsClass ys x → P x
     from_old (Lib id) there = each (Lib id) there
     from_old (Prog j) there =
@@ -67,9 +70,9 @@ module _ (names : Names) (place back : ℕ → ℕ) (xs ys : List Class) (h : Is
 
   pub ranks_new : HasRanks ys
   ranks_new = record {
-    rank = λ x. old (placed back x);
-    falls = from_old (λ x. All (λ b. old (placed back b) < old (placed back x)) (direct ys x)) falls_at;
-    most = from_old (λ x. old (placed back x) ≤ length library + length ys) (λ x there.
+    rank = λ x. old (placed_class back x);
+    falls = from_old (λ x. All (λ b. old (placed_class back b) < old (placed_class back x)) (direct ys x)) falls_at;
+    most = from_old (λ x. old (placed_class back x) ≤ length library + length ys) (λ x there.
         let low = h.taken.ranks.most x there in
         let here = ap old (returned x) in
         let long = h.long in

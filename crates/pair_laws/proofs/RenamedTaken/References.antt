@@ -39,7 +39,7 @@ use Rattle.class_rename.specs.Names.{Names}
 use Rattle.class_rename.specs.Renamed.{renamed, renamed_base, renamed_field_ref, renamed_field_text}
 use Rattle.class_rename.specs.Renamed.{renamed_method_ref, renamed_method_text}
 use Rattle.pair_laws.specs.RenamedImage.Naming.{is_class_there, is_member_there, new_named}
-use Rattle.pair_laws.specs.RenamedImage.Renaming.{is_method_text, placed, placed_member, renamed_named}
+use Rattle.pair_laws.specs.RenamedImage.Renaming.{is_method_text, placed_class, placed_member, renamed_named}
 use Rattle.pair_laws.proofs.RenamedImage.Descriptors.{field_is_none, method_is_one}
 use Rattle.pair_laws.proofs.RenamedTaken.Placed as placing
 use Rattle.pair_laws.proofs.RenamedTaken.Placed.{IsPlaced, member_there, name_given, named_kept, named_new}
@@ -55,7 +55,7 @@ role_same place m = by m.class m.index
     by (Prog n) k = refl
     by (Lib id) k = refl
 
-library_same : (place : ℕ → ℕ) (x : ClassId) → is_of_library (placed place x) ≡ is_of_library x
+library_same : (place : ℕ → ℕ) (x : ClassId) → is_of_library (placed_class place x) ≡ is_of_library x
 library_same place (Prog n) = refl
 library_same place (Lib id) = refl
 
@@ -67,7 +67,7 @@ module _ (names : Names) (place back : ℕ → ℕ) (xs ys : List Class) (h : Is
   abbrev i : Image xs ys
   i = placing.i names place back xs ys h
 
-  abstract_same : (x : ClassId) → is_abstract_class ys (placed place x) ≡ is_abstract_class xs x
+  abstract_same : (x : ClassId) → is_abstract_class ys (placed_class place x) ≡ is_abstract_class xs x
   abstract_same (Lib id) = refl
   abstract_same (Prog n) =
       ap (λ (o : Option Class). option_map_or (λ c. has acc_abstract c.flags.0) o false) (h.at n) ∙ by (slice_get xs n)
@@ -80,11 +80,12 @@ module _ (names : Names) (place back : ℕ → ℕ) (xs ys : List Class) (h : Is
   -- the class of a reference is there, and its new reference names the class at its place
   class_moved : (r : MemberRef) (c : ClassId) → class_of xs r ≡ Some c
       → (is_class_there xs c ≡ true)
-      × (cond (r.class.dims == 0) (base_class ys (renamed_base names r.class.base)) None ≡ Some (placed place c))
+      × (cond (r.class.dims == 0) (base_class ys (renamed_base names r.class.base)) None ≡ Some (placed_class place c))
   class_moved r c e = by (r.class.dims == 0) r.class.base e
     where
       by : (t : Bool) (b : Base) → cond t (base_class xs b) None ≡ Some c
-          → (is_class_there xs c ≡ true) × (cond t (base_class ys (renamed_base names b)) None ≡ Some (placed place c))
+          → (is_class_there xs c ≡ true)
+          × (cond t (base_class ys (renamed_base names b)) None ≡ Some (placed_class place c))
       by true (base.Class name) e =
           (named_kept names place back xs ys h name c e, named_new names place back xs ys h name c e)
       by true base.Boolean e = absurd cc
@@ -134,7 +135,7 @@ module _ (names : Names) (place back : ℕ → ℕ) (xs ys : List Class) (h : Is
           k,
           field_from ys (Prog (place n)) (renamed_field_ref names r) (placed_member place m)
               (record {
-                class = placed place l.class;
+                class = placed_class place l.class;
                 class_is = c.1;
                 accessible = class_accessible_moved xs ys i (Prog n) l.class own c.0 ∙ l.accessible;
                 member_is = field_moved xs ys i (r.name, r.ty) (names.field r.name, renamed_field_text names r.ty) given
@@ -163,7 +164,7 @@ module _ (names : Names) (place back : ℕ → ℕ) (xs ys : List Class) (h : Is
           k,
           method_from ys (Prog (place n)) (renamed_method_ref names r) (placed_member place m)
               (record {
-                class = placed place l.class;
+                class = placed_class place l.class;
                 class_is = c.1;
                 accessible = class_accessible_moved xs ys i (Prog n) l.class own c.0 ∙ l.accessible;
                 member_is = method_moved xs ys i bare (r.name, r.ty)
@@ -204,7 +205,7 @@ module _ (names : Names) (place back : ℕ → ℕ) (xs ys : List Class) (h : Is
           writes : written_kinds ys (place n) (writer static) new_method (placed_member place m)
               ≡ written_kinds xs n (writer static) method m
           writes =
-              ap (λ (t : Bool). unless (not t || (same_class (placed place m.class) (Prog (place n))
+              ap (λ (t : Bool). unless (not t || (same_class (placed_class place m.class) (Prog (place n))
               && is_text new_method (writer static))) WrongKind) (i.flag_moved acc_final m k)
               ∙ ap (λ (t : Bool). unless (not (is_final_member xs m) || (t && is_text new_method (writer static)))
               WrongKind) (i.same_moved m.class (Prog n) (i.class_kept m k) own)
@@ -215,7 +216,7 @@ module _ (names : Names) (place back : ℕ → ℕ) (xs ys : List Class) (h : Is
               ≡ changed_kinds xs n method static w m
           by true =
               ap (λ (t : List ProfileKind). t
-              ++ unless (not (static && is_of_library (placed place m.class))) LeftOutMember) writes
+              ++ unless (not (static && is_of_library (placed_class place m.class))) LeftOutMember) writes
               ∙ ap (λ (t : Bool). written_kinds xs n (writer static) method m
               ++ unless (not (static && t)) LeftOutMember) (library_same place m.class)
           by false = refl
@@ -262,11 +263,12 @@ module _ (names : Names) (place back : ℕ → ℕ) (xs ys : List Class) (h : Is
       where
         which : (t : Bool) (c : ClassId) → is_class_there xs c ≡ true
             → cond t (init_kinds xs n c r) (super_kinds xs n c) ≡ []
-            → cond t (init_kinds ys (place n) (placed place c) (renamed_method_ref names r))
-            (super_kinds ys (place n) (placed place c)) ≡ []
+            → cond t (init_kinds ys (place n) (placed_class place c) (renamed_method_ref names r))
+            (super_kinds ys (place n) (placed_class place c)) ≡ []
         which true c k e =
             member_right (linked_method xs (Prog n) r) (linked_method ys (Prog (place n)) (renamed_method_ref names r))
-            (λ m. unless (same_class m.class c) WrongKind) (λ m. unless (same_class m.class (placed place c)) WrongKind)
+            (λ m. unless (same_class m.class c) WrongKind)
+            (λ m. unless (same_class m.class (placed_class place c)) WrongKind)
             (λ m is. let there = method_there r good m is in
             (there.1, ap (λ (t : Bool). unless t WrongKind) (i.same_moved m.class c (i.class_kept m there.0) k))) e
         which false c k e = ap (λ (t : Bool). unless t WrongKind) (class_below_moved xs ys i (Prog n) c own k) ∙ e
@@ -281,8 +283,8 @@ module _ (names : Names) (place back : ℕ → ℕ) (xs ys : List Class) (h : Is
             ap (λ o. option_map_or (λ named. cond (is_init (names.method r.name r.ty))
             (init_kinds ys (place n) named (renamed_method_ref names r))
             (super_kinds ys (place n) named)) o (WrongKind ∷ [])) moved.1
-            ∙ ap (λ (t : Bool). cond t (init_kinds ys (place n) (placed place c) (renamed_method_ref names r))
-            (super_kinds ys (place n) (placed place c))) (h.form.init r.name r.ty)
+            ∙ ap (λ (t : Bool). cond t (init_kinds ys (place n) (placed_class place c) (renamed_method_ref names r))
+            (super_kinds ys (place n) (placed_class place c))) (h.form.init r.name r.ty)
             ∙ which (is_init r.name) c moved.0 e
 
     pub new_right : (name : List ℕ) → new_kinds xs n name ≡ [] → new_kinds ys (place n) (names.class name) ≡ []
@@ -299,7 +301,7 @@ module _ (names : Names) (place back : ℕ → ℕ) (xs ys : List Class) (h : Is
         by (Some c) is e g =
             let k = named_kept names place back xs ys h name c is in
             ap (λ o. option_map_or (made_kinds ys) o []) (named_new names place back xs ys h name c is)
-            ∙ ap (λ (t : Bool). unless (not t && not (is_abstract_class ys (placed place c))) WrongKind)
+            ∙ ap (λ (t : Bool). unless (not t && not (is_abstract_class ys (placed_class place c))) WrongKind)
             (i.interface_moved c k)
             ∙ ap (λ (t : Bool). unless (not (is_interface_in xs c) && not t) WrongKind) (abstract_same c) ∙ g
 

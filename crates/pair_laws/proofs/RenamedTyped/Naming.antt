@@ -26,7 +26,7 @@ use Rattle.class_rename.specs.Names.{Names}
 use Rattle.image_laws.specs.SetImage.Image.{Image}
 use Rattle.type_verifier.specs.Rules.{told_type}
 use Rattle.removal_laws.proofs.RemovalSame.Codes.{no_class_array}
-use Rattle.pair_laws.specs.RenamedImage.Renaming.{KeepsNamesApart, is_library_name, placed}
+use Rattle.pair_laws.specs.RenamedImage.Renaming.{KeepsNamesApart, is_library_name, placed_class}
 use Rattle.pair_laws.proofs.RenamedTaken.Placed as placing
 use Rattle.pair_laws.proofs.RenamedTaken.Placed.{IsPlaced, named_kept, named_new}
 use Rattle.image_laws.specs.TypedImage.Named.{AreKnownNamed, IsBaseNamed, IsFrameNamed, IsHandlerNamed}
@@ -65,7 +65,7 @@ module _ (names : Names) (place back : ℕ → ℕ) (classes out : List Class)
   pub class_of_name : (name : List ℕ) (c : ClassId) → class_named classes name ≡ Some c → Named name
   class_of_name name c e = (
     subst (λ o. IfSome o (λ d. i.kept d ≡ true)) (sym e) (named_kept names place back classes out h name c e),
-    named_new names place back classes out h name c e ∙ sym (ap (option_map (placed place)) e),
+    named_new names place back classes out h name c e ∙ sym (ap (option_map (placed_class place)) e),
   )
 
   -- what is of the library stays
@@ -73,10 +73,10 @@ module _ (names : Names) (place back : ℕ → ℕ) (classes out : List Class)
   library_named name java = (
     there (class_named classes name) refl,
     ap (class_named out) (h.apart.library_class name java) ∙ h.found_new.library name java
-        ∙ stays (table.class_named name) ∙ ap (option_map (placed place)) (sym (h.found.library name java)),
+        ∙ stays (table.class_named name) ∙ ap (option_map (placed_class place)) (sym (h.found.library name java)),
   )
     where
-      stays : (o : Option ℕ) → option_map Lib o ≡ option_map (placed place) (option_map Lib o)
+      stays : (o : Option ℕ) → option_map Lib o ≡ option_map (placed_class place) (option_map Lib o)
       stays None = refl
       stays (Some id) = refl
 

@@ -5,12 +5,12 @@ use Rattle.image_laws.specs.SetImage.Image.{Image}
 use Rattle.class_rename.specs.Names.{Names}
 use Rattle.pair_laws.specs.RenamedImage.Naming.{is_class_there, is_member_there, new_named}
 use Rattle.pair_laws.specs.RenamedImage.Renaming.{FindsItsClasses, IsRenamedSet, KeepsNamesApart, NamesKnownTypes}
-use Rattle.pair_laws.specs.RenamedImage.Renaming.{placed, placed_member}
+use Rattle.pair_laws.specs.RenamedImage.Renaming.{placed_class, placed_member}
 
 -- an image keeps all that is there, each class at its place, each member under its number and its new name
 pub record IsByNames (names : Names) (place : ℕ → ℕ) (xs ys : List Class) (i : Image xs ys) : Type 0 where
   pub kept : i.kept ≡ is_class_there xs
-  pub moved : i.moved ≡ placed place
+  pub moved : i.moved ≡ placed_class place
   pub kept_member : i.kept_member ≡ is_member_there xs
   pub moved_member : i.moved_member ≡ placed_member place
   pub renamed : i.renamed ≡ new_named names xs

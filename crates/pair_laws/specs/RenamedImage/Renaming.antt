@@ -134,10 +134,10 @@ module _ (names : Names) where
 -- ---- places
 
 -- where a class stands in the other list; the library stays
-abbrev pub placed : (ℕ → ℕ) → ClassId → ClassId
-placed place (Prog n) = Prog (place n)
-placed place (Lib id) = Lib id
+abbrev pub placed_class : (ℕ → ℕ) → ClassId → ClassId
+placed_class place (Prog n) = Prog (place n)
+placed_class place (Lib id) = Lib id
 
 -- a member keeps its number
 abbrev pub placed_member : (ℕ → ℕ) → MemberAt → MemberAt
-placed_member place m = record { class = placed place m.class; index = m.index }
+placed_member place m = record { class = placed_class place m.class; index = m.index }

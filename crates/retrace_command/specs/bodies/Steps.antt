@@ -5,7 +5,7 @@ use Rattle.tree_io.specs.Runs.{AddsCalls, Sees}
 use Rattle.tree_io.specs.declared.event.Event.{Event}
 use Rattle.command_output.specs.Output.{Output, SaysLine}
 use Rattle.retrace_command.specs.Answer.{absent_by}
-use Rattle.retrace_command.specs.Refusal.{line_of, status_of}
+use Rattle.retrace_command.specs.Refusal.{stop_line, status_of}
 use Rattle.retrace_command.specs.declared.refusal.Refusal.{Refusal}
 use Rattle.command_output.specs.declared.stop.Stop.{Stop}
 use Rattle.command_output.specs.declared.stop.Stop.TheVariants.{Refused, Device, OutOfMemory}
@@ -32,7 +32,7 @@ Finds result due old new files left = AddsCalls old new files left (Sees (missed
 -- memory may be wanting for the line of a refusal
 abbrev pub Says : Stop Refusal → ℕ → Output → Output → Type 0
 Says (Refused refusal) status old new =
-    SaysLine (status_of (Refused refusal)) (line_of (Refused refusal)) status old new
-    ⊎ SaysLine (status_of OutOfMemory) (line_of OutOfMemory) status old new
-Says Device status old new = SaysLine (status_of Device) (line_of Device) status old new
-Says OutOfMemory status old new = SaysLine (status_of OutOfMemory) (line_of OutOfMemory) status old new
+    SaysLine (status_of (Refused refusal)) (stop_line (Refused refusal)) status old new
+    ⊎ SaysLine (status_of OutOfMemory) (stop_line OutOfMemory) status old new
+Says Device status old new = SaysLine (status_of Device) (stop_line Device) status old new
+Says OutOfMemory status old new = SaysLine (status_of OutOfMemory) (stop_line OutOfMemory) status old new

@@ -17,7 +17,7 @@ use Rattle.shrink_core.specs.Answer.{StopsSo, Writes, absent_by}
 use Rattle.keep_rules.specs.declared.rules.Rules.{Rules}
 use Rattle.mark_core.specs.Marks.{Marks}
 use Rattle.mark_core.specs.declared.system.System.{System}
-use Rattle.shrink_core.specs.Refusal.{status_of, line_of}
+use Rattle.shrink_core.specs.Refusal.{status_of, stop_line}
 use Rattle.shrink_core.specs.Summary.{summary_text}
 use Rattle.shrink_core.specs.declared.quantity.Quantity.TheVariants as quantity
 use Rattle.shrink_core.specs.declared.refusal.Refusal.{Refusal}
@@ -102,7 +102,7 @@ Shrinks (Err stop) named calls = StopsSo stop named calls
 
 -- the line of a stop was said, with its status; the config stands at this path
 abbrev pub SaysStop : List ℕ → Stop Refusal → ℕ → Output → Output → Type 0
-SaysStop config stop status old new = SaysLine (status_of stop) (line_of config stop) status old new
+SaysStop config stop status old new = SaysLine (status_of stop) (stop_line config stop) status old new
 
 -- memory may be wanting for the line of a refusal
 abbrev pub Says : List ℕ → Stop Refusal → ℕ → Output → Output → Type 0

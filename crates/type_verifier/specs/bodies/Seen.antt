@@ -2,8 +2,8 @@
 use Rattle.type_verifier.specs.declared.environment.Env.{Env}
 use Rattle.type_verifier.specs.Environment.{Environment}
 
-abbrev pub seen : Env → Environment
-seen env = record {
+abbrev pub environment_of : Env → Environment
+environment_of env = record {
   classes = env.set.now;
   own = env.own;
   class = env.class.now;

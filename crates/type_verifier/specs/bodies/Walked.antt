@@ -10,9 +10,9 @@ use Rattle.type_verifier.specs.Walk.{at_instruction, fault_at}
 
 module _ (env : Environment) where
   -- nothing flows on behind the last instruction
-  abbrev pub ended : ℕ → Option TypeFrame → Result (Unit {0}) TypeFault
-  ended at (Some f) = Err (fault_at env (at - 1) FallsOff)
-  ended at None = Ok tt
+  abbrev pub behind_last : ℕ → Option TypeFrame → Result (Unit {0}) TypeFault
+  behind_last at (Some f) = Err (fault_at env (at - 1) FallsOff)
+  behind_last at None = Ok tt
 
   -- what an instruction gives, and then the others
   abbrev pub gone_on : ℕ → Result (Option TypeFrame) TypeKind → (Option TypeFrame → Result (Unit {0}) TypeFault)
@@ -22,7 +22,7 @@ module _ (env : Environment) where
 
   -- the first fault from an instruction on, by what flows into it
   unfoldable pub walked : ℕ → Option TypeFrame → List Ins → Result (Unit {0}) TypeFault
-  walked at flow [] = ended at flow
+  walked at flow [] = behind_last at flow
   walked at flow (i ∷ ins) = gone_on at (at_instruction env at i.op flow) (λ next. walked (at + 1) next ins)
 
   -- the first fault of the code

@@ -8,7 +8,7 @@ use Rattle.run_heap.specs.declared.answer.Answer.TheVariants as answer
 use Rattle.jvm_model.specs.Answers.{Answer, Gives, of_some}
 use Rattle.jvm_model.specs.Initialisation.{begin, is_due}
 use Rattle.jvm_model.specs.State.{AfterInit}
-use Rattle.run_heap.specs.Answers.{told}
+use Rattle.run_heap.specs.Answers.{model_answer}
 use Rattle.run_machine.specs.Inits.{init_at}
 use Rattle.run_machine.specs.States.{frame_of, waits_of, whole}
 use Rattle.run_machine.specs.bodies.Asked.{AsksWith}
@@ -37,7 +37,7 @@ returns-then-is_due g c = IfOk-weaker _
 pub returns : goal.returns
 returns g c = IfOk-weaker _
     (Answers c.args.rest.now c.on_answer.new.rest c.args.frame
-    (λ p w. told (answer.Begins c.args.method c.args.arguments) w))
+    (λ p w. model_answer (answer.Begins c.args.method c.args.arguments) w))
     (λ k. AsksWith (g.S.Shapes.shape c.args.shapes.now) c.args.rest.now c.on_answer.new.rest k c.args.frame (reverse c.args.arguments)
     (λ w. called_static w c.args.arguments (Program c.args.method)))
     (λ k h b w. h (g.S.Shapes.shape c.args.shapes.now) (body_of b)

@@ -6,7 +6,7 @@ use Rattle.jvm_model.specs.Initialisation.{begin, is_due}
 use Rattle.jvm_model.specs.State.{AfterInit}
 use Rattle.jvm_model.specs.Step.{on_answer}
 use Rattle.jvm_model.specs.Value.{Key}
-use Rattle.run_heap.specs.Answers.{told}
+use Rattle.run_heap.specs.Answers.{model_answer}
 use Rattle.run_heap.specs.Targets.{key_found}
 use Rattle.std.specs.Option.{option_map}
 use Rattle.run_machine.specs.Inits.{init_at}
@@ -34,7 +34,7 @@ returns-then-is_due g c = IfOk-weaker _
 
 pub returns : goal.returns
 returns g c = IfOk-weaker _
-    (Answers c.args.rest.now c.on_answer.new.rest c.args.frame (λ p w. told c.in_ok-answer.answer w))
+    (Answers c.args.rest.now c.on_answer.new.rest c.args.frame (λ p w. model_answer c.in_ok-answer.answer w))
     (λ k. Asks (g.S.Shapes.shape c.args.shapes.now) c.args.rest.now c.on_answer.new.rest k c.args.frame (request.GetStatic c.args.field))
     (λ k h b w. h (g.S.Shapes.shape c.args.shapes.now) (body_of b)
     ∙ ap (on_answer (g.S.Shapes.shape c.args.shapes.now) (whole (g.S.Shapes.shape c.args.shapes.now) c.args.rest.now) c.args.frame.method (body_of b) (body_of c.args.frame.body) (waits_of c.args.rest.now.waits)) (c.in_ok-answer.ensures (init_at (g.S.Shapes.shape c.args.shapes.now) c.args.rest.now.marks))

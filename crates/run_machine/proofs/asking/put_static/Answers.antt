@@ -6,7 +6,7 @@ use Rattle.jvm_model.specs.Initialisation.{begin, is_due}
 use Rattle.jvm_model.specs.State.{AfterInit}
 use Rattle.jvm_model.specs.Step.{on_answer}
 use Rattle.jvm_model.specs.Value.{Key, set_key}
-use Rattle.run_heap.specs.Answers.{told}
+use Rattle.run_heap.specs.Answers.{model_answer}
 use Rattle.run_heap.specs.Targets.{key_found}
 use Rattle.std.specs.Option.{option_map}
 use Rattle.run_machine.specs.Inits.{init_at}
@@ -37,7 +37,7 @@ returns-then-is_due g c = IfOk-weaker _
 pub returns : goal.returns
 returns g c = IfOk-weaker _
     (Answers (record c.args.rest.now { world = c.put_static.new.world }) c.on_answer.new.rest c.args.frame
-    (λ p w. told c.in_ok-answer.answer w))
+    (λ p w. model_answer c.in_ok-answer.answer w))
     (λ k. Asks (g.S.Shapes.shape c.args.shapes.now) c.args.rest.now c.on_answer.new.rest k c.args.frame (request.PutStatic c.args.field c.args.value))
     (λ k h b w. h (g.S.Shapes.shape c.args.shapes.now) (body_of b)
     ∙ carried (g.S.Shapes.shape c.args.shapes.now) (init_at (g.S.Shapes.shape c.args.shapes.now) c.args.rest.now.marks) c.args.frame.method (body_of b) (body_of c.args.frame.body) (waits_of c.args.rest.now.waits) c.in_ok-answer.answer c.args.rest.now.world

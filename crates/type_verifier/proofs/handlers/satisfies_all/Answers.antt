@@ -1,7 +1,8 @@
-use Rattle.type_verifier.specs.bodies.Seen.{seen}
+use Rattle.type_verifier.specs.bodies.Seen.{environment_of}
 use Rattle.type_verifier.proofs.Asking.{uncovered_holds}
 use Rattle.type_verifier.proofs.handlers.satisfies_all.Goals as goal
 
 pub returns-then-not-is_covered : goal.returns-then-not-is_covered
 returns-then-not-is_covered c =
-    uncovered_holds (seen c.args.env.now) c.args.at c.args.frame.now (c.is_covered.ensures c.if-not-is_covered.true)
+    uncovered_holds (environment_of c.args.env.now) c.args.at c.args.frame.now
+    (c.is_covered.ensures c.if-not-is_covered.true)

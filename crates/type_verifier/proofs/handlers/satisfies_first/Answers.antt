@@ -2,13 +2,13 @@ use Rattle.std.proofs.Common.{◌≡◌, ◌<◌, ◌+◌, ℕ, Option, Some, No
 use Rattle.type_verifier.specs.declared.chain.Chain.{Chain}
 use Rattle.type_verifier.specs.bodies.Asked.{handler_at, satisfies_if_first}
 use Rattle.type_verifier.specs.bodies.Chained.{IsFirstFrom, IsSatisfiedBefore, from_of}
-use Rattle.type_verifier.specs.bodies.Seen.{seen}
+use Rattle.type_verifier.specs.bodies.Seen.{environment_of}
 use Rattle.type_verifier.proofs.Chaining.{satisfied_all, satisfied_more}
 use Rattle.type_verifier.proofs.handlers.satisfies_first.Goals as goal
 
 pub loop-next-preserved : goal.loop-next-preserved
 loop-next-preserved c =
-    let env = seen c.args.env.now in
+    let env = environment_of c.args.env.now in
     let at = c.args.at in
     let f = c.args.frame.now in
     let handlers = c.args.env.now.code.now.handlers in
@@ -27,6 +27,7 @@ loop-next-preserved c =
 
 pub returns : goal.returns
 returns c =
-    satisfied_all (seen c.args.env.now) c.args.at c.args.frame.now
-    (subst (λ (o : Option ℕ). IsSatisfiedBefore (seen c.args.env.now) c.args.at c.args.frame.now o) c.in_default.is
+    satisfied_all (environment_of c.args.env.now) c.args.at c.args.frame.now
+    (subst (λ (o : Option ℕ). IsSatisfiedBefore (environment_of c.args.env.now) c.args.at c.args.frame.now o)
+    c.in_default.is
     c.loop-next.invariant)

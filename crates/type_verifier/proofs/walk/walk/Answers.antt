@@ -5,17 +5,17 @@ use Rattle.class_model.specs.declared.code.Ins.{Ins}
 use Rattle.type_verifier.specs.declared.fault.TypeFault.{TypeFault}
 use Rattle.type_verifier.specs.declared.fault.TypeKind.TheVariants.{FallsOff}
 use Rattle.type_verifier.specs.bodies.Changes.{flow}
-use Rattle.type_verifier.specs.bodies.Seen.{seen}
+use Rattle.type_verifier.specs.bodies.Seen.{environment_of}
 use Rattle.type_verifier.specs.bodies.Since.{IsSince}
 use Rattle.type_verifier.proofs.Changing.{since_more}
 use Rattle.type_verifier.specs.Walk.{fault_at}
-use Rattle.type_verifier.specs.bodies.Walked.{ended, walked}
+use Rattle.type_verifier.specs.bodies.Walked.{behind_last, walked}
 use Rattle.type_verifier.proofs.Telling.{fitting_begun}
 use Rattle.type_verifier.proofs.Walking.{walk_ends, walk_fails, walk_more}
 use Rattle.type_verifier.proofs.walk.walk.Goals as goal
 
 pub loop-at-init : goal.loop-at-init
-loop-at-init c = (refl, tt, fitting_begun (seen c.args.env.now) c.new-fitting.result c.new-fitting.ensures.count c.new-fitting.ensures.noted)
+loop-at-init c = (refl, tt, fitting_begun (environment_of c.args.env.now) c.new-fitting.result c.new-fitting.ensures.count c.new-fitting.ensures.noted)
 
 pub returns-in_err-flows : goal.returns-in_err-flows
 returns-in_err-flows c =
@@ -24,8 +24,8 @@ returns-in_err-flows c =
     let at = c.loop-at.at in
     let i : Ins = c.index.result.now in
     rw (p.1, p.2)
-    (walk_fails (seen c.args.env.now) ins at i (flow c.loop-at.flows c.loop-at.frame) c.go_on.new.frame
-    c.in_err-flows.field-0.0 (walked (seen c.args.env.now) 0 (Some c.args.frame.now) ins)
+    (walk_fails (environment_of c.args.env.now) ins at i (flow c.loop-at.flows c.loop-at.frame) c.go_on.new.frame
+    c.in_err-flows.field-0.0 (walked (environment_of c.args.env.now) 0 (Some c.args.frame.now) ins)
     (slice_get_within ins at i c.index.ensures) (sym (get_or_from_slice_get ins at i i c.index.ensures))
     c.in_err-flows.ensures.flow c.loop-at.invariant.0)
 
@@ -36,33 +36,34 @@ loop-at-preserved c =
     let i : Ins = c.index.result.now in
     let flows = c.in_ok-flows.flows in
     let old = flow c.loop-at.flows c.loop-at.frame in (
-      walk_more (seen c.args.env.now) ins at i old (flow flows c.go_on.new.frame)
-          (walked (seen c.args.env.now) 0 (Some c.args.frame.now) ins)
+      walk_more (environment_of c.args.env.now) ins at i old (flow flows c.go_on.new.frame)
+          (walked (environment_of c.args.env.now) 0 (Some c.args.frame.now) ins)
           (slice_get_within ins at i c.index.ensures) (sym (get_or_from_slice_get ins at i i c.index.ensures))
           c.in_ok-flows.ensures.flow c.loop-at.invariant.0,
-      subst (λ since. IsSince (seen c.args.env.now) (at + 1) since c.go_on.new.frame) (sym c.since_after-since.ensures)
-          (since_more (seen c.args.env.now) at i.op old flows c.go_on.new.frame c.in_ok-flows.ensures.flow),
+      subst (λ since. IsSince (environment_of c.args.env.now) (at + 1) since c.go_on.new.frame)
+          (sym c.since_after-since.ensures)
+          (since_more (environment_of c.args.env.now) at i.op old flows c.go_on.new.frame c.in_ok-flows.ensures.flow),
       c.in_ok-flows.ensures.fitting,
     )
 
 pub returns-then-flows : goal.returns-then-flows
 returns-then-flows c =
-    let env = seen c.args.env.now in
+    let env = environment_of c.args.env.now in
     let ins : List Ins = c.args.env.now.code.now.ins in
     let at = c.loop-at.at in
     let le : length ins ≤ at = omega (arith, c.loop-at-test.false, c.in-Ok.ensures, c.len.ensures) in
     let last : at - 1 ≡ c.saturating_sub.result =
     omega (arith, c.loop-at-test.false, c.loop-at.auto.at-end, c.saturating_sub.ensures) in
     walk_ends env ins at (flow c.loop-at.flows c.loop-at.frame) (walked env 0 (Some c.args.frame.now) ins) le c.loop-at.invariant.0
-    ∙ ap (λ (b : Bool). ended env at (flow b c.loop-at.frame)) c.if-flows.true
+    ∙ ap (λ (b : Bool). behind_last env at (flow b c.loop-at.frame)) c.if-flows.true
     ∙ ap (λ (n : ℕ). let R : Result (Unit {0}) TypeFault = Err (fault_at env n FallsOff) in R) last
     ∙ ap (λ (f : TypeFault). let R : Result (Unit {0}) TypeFault = Err f in R) (sym c.fault.ensures)
 
 pub returns : goal.returns
 returns c =
-    let env = seen c.args.env.now in
+    let env = environment_of c.args.env.now in
     let ins : List Ins = c.args.env.now.code.now.ins in
     let at = c.loop-at.at in
     let le : length ins ≤ at = omega (arith, c.loop-at-test.false, c.in-Ok.ensures, c.len.ensures) in
     walk_ends env ins at (flow c.loop-at.flows c.loop-at.frame) (walked env 0 (Some c.args.frame.now) ins) le c.loop-at.invariant.0
-    ∙ ap (λ (b : Bool). ended env at (flow b c.loop-at.frame)) c.if-flows.false
+    ∙ ap (λ (b : Bool). behind_last env at (flow b c.loop-at.frame)) c.if-flows.false
