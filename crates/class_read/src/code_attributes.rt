@@ -16,7 +16,7 @@ use crate::methods::Body;
 use crate::names::is_named;
 use class_model::{Code, Frame, Frames, Handler, LeftKind, Op};
 use format_reading::{FormatFault, of_part};
-use frame_types::{StackMapTable, Starts, frames_at};
+use frame_types::{FrameReader, StackMapTable, Starts, frames_at};
 use jv_base::{Cursor, Items, M, Or, Units};
 use jv_ops::Decoded;
 use known_pool::KnownPool;
@@ -45,36 +45,6 @@ impl Model for SeenOfCode {
     ghost Value = { CodeSeen };
 
     ghost view = { λ s. record { lines = s.lines; map = option_map table_of s.map } };
-}
-
-/// What is known of a code when its frames are read.
-#[derive(Drop)]
-pub struct FrameReader<'a> {
-    pool: &'a KnownPool,
-    first: &'a Frame,
-    max_stack: u16,
-    max_locals: u16,
-    ops: &'a Items<Op>,
-    starts: &'a Starts<'a>,
-}
-
-fn read_frames(
-    alloc: Global,
-    frames: &FrameReader,
-    cursor: &mut Cursor,
-) -> Result<StackMapTable, Or<FormatFault>>
-    ensures { ReadsAsOr table_of result cursor.new (frames_by frames.now cursor.old) }
-{
-    frames_at(
-        alloc,
-        cursor,
-        frames.first,
-        frames.max_stack,
-        frames.max_locals,
-        frames.ops,
-        frames.starts,
-        frames.pool,
-    )
 }
 
 // ---- attributes
@@ -118,7 +88,7 @@ fn contents(
         }
         CodeAttribute::StackMapTable => {
             check_once(at, seen.map.is_some())?;
-            let map = read_frames(alloc, frames, part)?;
+            let map = frames_at(alloc, frames, part)?;
             Ok(SeenOfCode {
                 map: Some(map),
                 ..seen

@@ -6,6 +6,7 @@ ghost use Rattle.frame_types.specs.bodies.Rows.{info_of, row_of};
 ghost use Rattle.class_model.specs.declared.frame.VType.{VType};
 ghost use Rattle.frame_types.specs.bodies.Before.{built_of, onto, written_of};
 
+use crate::reader::FrameReader;
 use crate::row::{Row, TypeInfo};
 use crate::starts::Starts;
 use crate::types::{fit, has_float, is_float, types_of};
@@ -228,23 +229,28 @@ fn frame_of(
 /// offset, which is given back. The row before has the offset `previous`.
 pub fn row_stands(
     alloc: Global,
-    pool: &KnownPool,
-    starts: &Starts,
-    ops: &[Op],
-    max_stack: u16,
-    max_locals: u16,
+    code: &FrameReader,
     previous: Option<u32>,
     row: &Row,
     frames: &mut FrameBuilder,
 ) -> M<Option<u32>>
     ensures { IfOk result (λ at. option_map (built_of frames.new) at
-        ≡ onto frames.old.frames (row_stands pool.now starts.now ops.now max_stack max_locals
+        ≡ onto frames.old.frames (row_stands code.now.pool.now code.now.starts.now code.now.ops.now
+        code.now.max_stack code.now.max_locals
         (record { locals = frames.old.locals; offset = previous }) (row_of row.now))) }
 {
-    match written_by(alloc, pool, starts, ops, row, frames)? {
+    let ops = code.ops.as_slice();
+    match written_by(alloc, code.pool, code.starts, ops, row, frames)? {
         Some(written) => {
             let offset = offset_behind(previous, written.delta);
-            frame_of(starts, max_stack, max_locals, offset, written, frames)
+            frame_of(
+                code.starts,
+                code.max_stack,
+                code.max_locals,
+                offset,
+                written,
+                frames,
+            )
         }
         None => Ok(None),
     }

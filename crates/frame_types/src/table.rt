@@ -9,6 +9,7 @@ ghost use Rattle.frame_types.specs.Table.{frames_of, frame_fault};
 
 use crate::fault::FrameFault;
 use crate::frames::{names_float, row_stands};
+use crate::reader::FrameReader;
 use crate::reading::row;
 use crate::starts::Starts;
 use crate::types::copies;
@@ -32,25 +33,20 @@ pub struct StackMapTable {
 #[tactic(auto, unfolding(format_reading::specs::Reader::lead, format_reading::specs::Reader::bind, format_reading::specs::Reader::give, format_reading::specs::Reader::here, format_reading::specs::Reader::settle, class_model::specs::ReadingFrames::read_frame))]
 fn frame(
     alloc: Global,
-    pool: &KnownPool,
-    starts: &Starts,
-    ops: &[Op],
-    max_stack: u16,
-    max_locals: u16,
+    code: &FrameReader,
     previous: Option<u32>,
     cursor: &mut Cursor,
     frames: &mut FrameBuilder,
 ) -> Result<(bool, u32), Or<FormatFault>>
     ensures { ReadsAsOr (row_read frames.new) result cursor.new
-        (read_onto frames.old.frames (read_frame pool.now starts.now
-        ops.now max_stack max_locals (record { locals = frames.old.locals; offset = previous }) cursor.old)) }
+        (read_onto frames.old.frames (read_frame code.now.pool.now code.now.starts.now code.now.ops.now
+        code.now.max_stack code.now.max_locals
+        (record { locals = frames.old.locals; offset = previous }) cursor.old)) }
 {
     let offset = cursor.place();
     let row = row(alloc, cursor)?;
     let floats = names_float(&row);
-    match row_stands(
-        alloc, pool, starts, ops, max_stack, max_locals, previous, &row, frames,
-    )? {
+    match row_stands(alloc, code, previous, &row, frames)? {
         Some(at) => Ok((floats, at)),
         None => Err(Or::Fault(FormatFault {
             offset,
@@ -62,65 +58,43 @@ fn frame(
 // So many rows behind the locals of a builder without frames, and whether one of them names a float or a double.
 fn frames(
     alloc: Global,
-    pool: &KnownPool,
-    starts: &Starts,
-    ops: &[Op],
-    max_stack: u16,
-    max_locals: u16,
+    code: &FrameReader,
     count: u16,
     cursor: &mut Cursor,
     frames: &mut FrameBuilder,
 ) -> Result<bool, Or<FormatFault>>
     requires { frames.old.frames ≡ [] }
     ensures { ReadsAsOr (λ floats. (floats, frames.new.frames)) result cursor.new
-        (read_frames_behind pool.now starts.now ops.now
-        max_stack max_locals count (record { locals = frames.old.locals; offset = None }) cursor.old) }
+        (read_frames_behind code.now.pool.now code.now.starts.now code.now.ops.now code.now.max_stack
+        code.now.max_locals count (record { locals = frames.old.locals; offset = None }) cursor.old) }
 {
     let mut previous = None;
     let mut names_float = false;
     for _ in 0..count {
-        let (floats, at) = frame(
-            alloc, pool, starts, ops, max_stack, max_locals, previous, cursor, frames,
-        )?;
+        let (floats, at) = frame(alloc, code, previous, cursor, frames)?;
         names_float = names_float || floats;
         previous = Some(at);
     }
     Ok(names_float)
 }
 
-/// The frames that stand at a cursor: the contents of the StackMapTable of a code with these instructions, which begin
-/// at these offsets. `first` is the frame before the first instruction, with Tops at the end of its locals where the
-/// method's last parameters are floats or doubles.
+/// The frames that stand at a cursor: the contents of the StackMapTable of a code.
 ///
 /// A fault of a row is told at its first byte. What stands behind the last row isn't looked at.
 #[tactic(auto, unfolding(format_reading::specs::Reader::u2, format_reading::specs::Reader::lead, format_reading::specs::Reader::bind, class_model::specs::ReadingFrames::read_frames))]
 pub fn frames_at(
     alloc: Global,
+    code: &FrameReader,
     cursor: &mut Cursor,
-    first: &Frame,
-    max_stack: u16,
-    max_locals: u16,
-    ops: &Items<Op>,
-    starts: &Starts,
-    pool: &KnownPool,
 ) -> Result<StackMapTable, Or<FormatFault>>
     ensures exact { ReadsAsOr table_of result cursor.new
-        (read_frames pool.now starts.now ops.now max_stack max_locals first.now.locals cursor.old) }
+        (read_frames code.now.pool.now code.now.starts.now code.now.ops.now code.now.max_stack code.now.max_locals
+        code.now.first.now.locals cursor.old) }
 {
     let count = cursor.u2()?;
     let mut built = FrameBuilder::new(alloc);
-    built.append(copies(alloc, first.locals.as_slice())?)?;
-    let names_float = frames(
-        alloc,
-        pool,
-        starts,
-        ops.as_slice(),
-        max_stack,
-        max_locals,
-        count,
-        cursor,
-        &mut built,
-    )?;
+    built.append(copies(alloc, code.first.locals.as_slice())?)?;
+    let names_float = frames(alloc, code, count, cursor, &mut built)?;
     Ok(StackMapTable {
         frames: built.into_frames(),
         names_float,
@@ -157,17 +131,16 @@ pub fn read_frames(
         (frames_of pool.now starts.now ops.now max_stack max_locals first.now.locals bytes.now) }
 {
     let starts = Starts::new(alloc, starts.as_slice())?;
-    let mut cursor = Cursor::new(bytes);
-    match frames_at(
-        alloc,
-        &mut cursor,
-        first,
+    let code = FrameReader {
+        pool,
+        starts: &starts,
+        ops,
         max_stack,
         max_locals,
-        ops,
-        &starts,
-        pool,
-    ) {
+        first,
+    };
+    let mut cursor = Cursor::new(bytes);
+    match frames_at(alloc, &code, &mut cursor) {
         Ok(table) if cursor.is_at_end() => Ok(table),
         Ok(_) => Err(Or::Fault(FrameFault::Trailing(cursor.place()))),
         Err(Or::Fault(fault)) => Err(Or::Fault(frame_fault(fault))),
