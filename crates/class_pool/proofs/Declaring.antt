@@ -31,7 +31,8 @@ use Rattle.std.proofs.lemmas.Bool.{and_parts}
 use Rattle.class_pool.proofs.ToldMembers.{declared_below}
 use Rattle.class_pool.proofs.Directs.{super_below}
 
-behind : {X Y : Type 0} (f : Y → X) (xs : List Y) (ys : List X) (n : ℕ)
+-- what stands behind a list each of whose items is mapped
+pub behind : {X Y : Type 0} (f : Y → X) (xs : List Y) (ys : List X) (n : ℕ)
     → slice_get (map f xs ++ ys) (length xs + n) ≡ slice_get ys n
 behind f [] ys n = let e : 0 + n ≡ n = omega arith in ap (slice_get ys) e
 behind f (x ∷ xs) ys n =

@@ -1,5 +1,5 @@
 -- Methods in groups by the marks of their names and descriptors.
-use Rattle.std.proofs.Common.{◌≡◌, ◌≤◌, ◌<◌, ◌+◌, ◌-◌, ◌&&◌, not, ℕ, suc, Bool, true, false, cond, nat_lt, List}
+use Rattle.std.proofs.Common.{◌≡◌, ◌≤◌, ◌<◌, ◌+◌, ◌-◌, ◌&&◌, not, ℕ, Bool, true, false, cond, nat_lt, List}
 use Rattle.std.proofs.Common.{[], ◌∷◌, ◌++◌, length, get_or, map, set, slice_get, Option, Some, None, refl, sym, ap}
 use Rattle.std.proofs.Common.{subst, ◌∙◌, arith, ⊎_elim, length-set}
 use Rattle.std.proofs.Math.Dec.{eqb}
@@ -26,6 +26,7 @@ use Rattle.class_pool.specs.Found.{row_at}
 use Rattle.class_pool.specs.Members.{is_field, is_method, member_named, or_method}
 use Rattle.class_pool.specs.declared.id.ClassId.TheVariants.{Prog}
 use Rattle.class_pool.specs.declared.id.MemberAt.{MemberAt}
+use Rattle.class_pool.proofs.Declaring.{behind}
 use Rattle.class_pool.proofs.LikeMethods.{begins, field_begins, own_method}
 use Rattle.require_sys.specs.bodies.Alike.{AreClassGrouped, AreGrouped, IsFirst, IsGrouped, Knows, KnowsEarlier}
 use Rattle.require_sys.specs.bodies.Alike.{StillKnow, class_marks, mark_in, place_of}
@@ -58,13 +59,6 @@ not_less_behind keys mark i j sorted low within other = by (nat_lt (get_or keys 
     by true e = absurd (let q : true ≡ false = sym (less_before keys mark i j sorted low within e) ∙ other in cc)
 
 -- ---- methods by their rows
-
-behind : {X Y : Type 0} (f : Y → X) (xs : List Y) (ys : List X) (n : ℕ)
-    → slice_get (map f xs ++ ys) (length xs + n) ≡ slice_get ys n
-behind {Y = Y} f [] ys n = let e : length {A = Y} [] + n ≡ n = omega arith in ap (slice_get ys) e
-behind f (x ∷ xs) ys n =
-    let e : length (x ∷ xs) + n ≡ suc (length xs + n) = omega arith in
-    ap (slice_get (f x ∷ (map f xs ++ ys))) e ∙ behind f xs ys n
 
 module _ (classes : List Class) (n j : ℕ) (c : Class) (d : Method) (is : slice_get classes n ≡ Some c)
     (at : slice_get c.methods j ≡ Some d) where

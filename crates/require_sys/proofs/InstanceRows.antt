@@ -10,12 +10,10 @@ use Rattle.std.proofs.lemmas.List.Elements.{All-head, All-tail, filter-append, f
 use Rattle.std.proofs.lemmas.List.Folds.{find-append}
 use Rattle.std.proofs.lemmas.Option.{same_Some, slice_get_within}
 use Rattle.mark_core.specs.declared.system.Pair.{Pair}
-use Rattle.class_model.specs.Flags.{is_init, is_static}
 use Rattle.class_model.specs.declared.class.Class.{Class}
-use Rattle.class_pool.specs.Found.{IsMember, IsMethod, MemberRow, NameAndType, declared_by, declared_in}
-use Rattle.class_pool.specs.Found.{is_instance_method}
+use Rattle.class_pool.specs.Found.{IsMember, MemberRow, NameAndType, declared_by, declared_in, is_instance_method}
 use Rattle.class_pool.specs.Found.{is_instance_row, is_private_member, is_protected_member, is_public_member, named_at}
-use Rattle.class_pool.specs.Found.{row_at, rows_in}
+use Rattle.class_pool.specs.Found.{rows_in}
 use Rattle.class_pool.specs.Hierarchy.{IsClass}
 use Rattle.class_pool.specs.Members.{declared_at}
 use Rattle.class_pool.specs.Resolution.{is_interface_in}
@@ -23,6 +21,7 @@ use Rattle.class_pool.specs.declared.id.ClassId.{ClassId}
 use Rattle.class_pool.specs.declared.id.ClassId.TheVariants.{Prog, Lib}
 use Rattle.class_pool.specs.declared.id.MemberAt.{MemberAt}
 use Rattle.class_pool.proofs.Declaring.{declared_named}
+use Rattle.link_check.proofs.Methods.{instance_is_method}
 use Rattle.require_sys.specs.Requires.{is_inheritable, members_of}
 use Rattle.require_sys.specs.bodies.Alike.{AreAlike, AreNumbers, AreRows, IsFirst, IsRow, Knows, class_rows}
 use Rattle.require_sys.specs.bodies.Alike.{group_number}
@@ -47,19 +46,6 @@ pub instance_class : (classes : List Class) (n k : ℕ)
     → is_instance_method classes (record { class = Prog n; index = k }) ≡ true → n < length classes
 instance_class classes n k i =
     let there = program_there classes n k i in slice_get_within classes n there.0 there.1
-
--- an instance method is a method
-pub instance_method : (classes : List Class) (m : MemberAt) → is_instance_method classes m ≡ true → IsMethod classes m
-instance_method classes m i = by (row_at classes m) i
-  where
-    flags : (a b c : Bool) → (a && not b && not c) ≡ true → a ≡ true
-    flags true b c h = refl
-    flags false b c h = h
-
-    by : (o : Option MemberRow) → option_map_or is_instance_row o false ≡ true
-        → option_map_or (λ row. row.is_method) o false ≡ true
-    by None h = absurd cc
-    by (Some row) h = flags row.is_method (is_static row.flags) (is_init row.named.0) h
 
 -- it is there
 pub instance_there : (classes : List Class) (n k : ℕ)
@@ -239,7 +225,7 @@ module _ (classes : List Class) (marks : List (List ℕ)) (keys : List ℕ) (gro
 
   known : (n k : ℕ) → is_instance_method classes (member_of n k) ≡ true
       → Knows classes (get_or groups (place_at n k) Mixed) (member_of n k)
-  known n k i = are.grouped n k (instance_class classes n k i) (instance_method classes (member_of n k) i)
+  known n k i = are.grouped n k (instance_class classes n k i) (instance_is_method classes (member_of n k) i)
 
   same_named : (n k o l : ℕ) → is_instance_method classes (member_of n k) ≡ true
       → is_instance_method classes (member_of o l) ≡ true

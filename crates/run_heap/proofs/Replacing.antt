@@ -1,22 +1,13 @@
 -- Another value of a field.
 use Rattle.std.proofs.Common.{◌≡◌, ℕ, zero, suc, arith, ◌+◌, ◌<◌, Bool, true, false, List, [], ◌∷◌, ◌++◌}
 use Rattle.std.proofs.Common.{length, take, drop, get_or, refl, sym, ap, ◌∙◌, append_assoc, add-one, Some, None}
-use Rattle.std.specs.Bool.{Decides}
 use Rattle.std.specs.Prelude.{slice_set, if◌then◌else◌}
 use Rattle.std.proofs.lemmas.List.{drop_more, set_split, take_more}
-use Rattle.jv_base.proofs.Equality.{and_Decides, text_Decides}
 use Rattle.jvm_model.specs.Value.{Key, Value, same_key, set_key}
 use Rattle.jvm_model.specs.Fields.{blank}
+use Rattle.jvm_model.proofs.Keys.{key_Decides}
 use Rattle.run_heap.specs.Held.{found_in, held, replaced}
 use Rattle.run_heap.specs.declared.fields.Held.{Held}
-
-pub key_Decides : (a b : Key) → Decides (same_key a b) (a ≡ b)
-key_Decides a b =
-    and_Decides {P = (a.class ≡ b.class) × (a.name ≡ b.name)} _ _
-    (and_Decides _ _ (text_Decides a.class b.class) (text_Decides a.name b.name) (λ p q. (p, q)) (λ r. r.0) (λ r. r.1))
-    (text_Decides a.descriptor b.descriptor)
-    (λ p q i. record { class = p.0 i; name = p.1 i; descriptor = q i })
-    (λ e. (ap (λ (k : Key). k.class) e, ap (λ (k : Key). k.name) e)) (λ e. ap (λ (k : Key). k.descriptor) e)
 
 -- a key that is the first of two, by its tests
 hit : (b : Bool) (v x y : Value) → (if b then v else x) ≡ (if b then v else (if b then y else x))

@@ -11,7 +11,7 @@ use Rattle.jvm_model.specs.Fields.{stored_in}
 use Rattle.jvm_model.specs.Initialisation.{with_constants}
 use Rattle.jvm_model.specs.Program.{Shape}
 use Rattle.jvm_model.specs.Value.{Key, Value, same_key, set_key}
-use Rattle.run_heap.proofs.Replacing.{key_Decides}
+use Rattle.jvm_model.proofs.Keys.{key_Decides}
 use Rattle.run_heap.specs.Targets.{HasConstants}
 use Rattle.run_machine.specs.bodies.Constants.{with_constant, with_each}
 

@@ -7,14 +7,14 @@ use Rattle.std.specs.Option.{option_map}
 use Rattle.std.proofs.Math.Seq.{drop-cons}
 use Rattle.std.proofs.lemmas.Option.{get_or_from_slice_get, slice_get_within}
 use Rattle.jv_base.specs.Names.{is_text}
-use Rattle.jv_base.proofs.Equality.{text_Decides}
+use Rattle.jv_base.proofs.Equality.{text_Decides, text_sym}
 use Rattle.class_model.specs.declared.class.Class.{Class}
 use Rattle.lib_table.specs.Library.{LibraryClass, library}
 use Rattle.lib_table.specs.Lookups as table
 use Rattle.class_pool.specs.Hierarchy.{class_named, or_found}
 use Rattle.class_pool.specs.declared.id.ClassId.TheVariants.{Lib}
 use Rattle.set_meanings.specs.bodies.AllNames.{all_names}
-use Rattle.set_meanings.proofs.Searching.{found_passes, is_text-swap, none_at, none_first, none_last, none_mapped}
+use Rattle.set_meanings.proofs.Searching.{found_passes, none_at, none_first, none_last, none_mapped}
 
 pub found_alike : (classes : List Class) (names : List (List ℕ)) (text name : List ℕ)
     → find (λ x. is_text x text) names ≡ Some name → class_named classes name ≡ class_named classes text
@@ -38,7 +38,7 @@ none_named classes text e =
     in_set =
         none_at (λ (c : Class). is_text text c.name) classes
         (none_mapped (λ (x : List ℕ). is_text x text) (λ (c : Class). is_text text c.name) (λ (c : Class). c.name)
-        (λ c. is_text-swap text c.name) classes
+        (λ c. text_sym text c.name) classes
         (none_last (λ (x : List ℕ). is_text x text) (map (λ (c : LibraryClass). c.name) library)
         (map (λ (c : Class). c.name) classes) e))
 

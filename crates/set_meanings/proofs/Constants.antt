@@ -10,7 +10,7 @@ use Rattle.std.proofs.lemmas.List.Elements.{All-cons, All-nil}
 use Rattle.std.proofs.lemmas.Option.{get_or_from_slice_get}
 use Rattle.jv_base.specs.Names.{is_text}
 use Rattle.jv_base.specs.Types.{field_text}
-use Rattle.jv_base.proofs.Equality.{text_Decides}
+use Rattle.jv_base.proofs.Equality.{text_Decides, text_sym}
 use Rattle.class_model.specs.declared.class.Class.{Class}
 use Rattle.class_model.specs.declared.class.Constant.{Constant}
 use Rattle.class_model.specs.declared.class.Field.{Field}
@@ -25,7 +25,7 @@ use Rattle.jvm_model.specs.Value.{Key, same_key}
 use Rattle.run_heap.specs.Targets.{HasConstants}
 use Rattle.set_view.specs.ViewOf.{constant_at, member_of, shape_of, value_of}
 use Rattle.set_meanings.specs.bodies.FieldKeys.{field_key}
-use Rattle.set_meanings.proofs.Searching.{any_at, any_mapped, is_text-swap}
+use Rattle.set_meanings.proofs.Searching.{any_at, any_mapped}
 
 all_of : (class : List ℕ) (fs : List Field) → All (λ (k : Key). k.class ≡ class) (map (field_key class) fs)
 all_of class [] = All-nil (λ (k : Key). k.class ≡ class)
@@ -84,7 +84,7 @@ module _ (classes : List Class) (class : List ℕ) (n : ℕ) (c : Class) (here :
 
   field_alike : (f : Field) → is_field k.name k.descriptor f ≡ same_key k (field_key class f)
   field_alike f =
-      ap (λ b. b && is_text k.descriptor (field_text f.ty)) (is_text-swap f.name k.name)
+      ap (λ b. b && is_text k.descriptor (field_text f.ty)) (text_sym f.name k.name)
       ∙ ap (λ b. b && is_text k.name f.name && is_text k.descriptor (field_text f.ty))
       (sym ((text_Decides k.class class).1 own))
 

@@ -3,21 +3,7 @@ use Rattle.std.proofs.Common.{◌≡◌, ◌∙◌, ℕ, suc, Bool, true, false,
 use Rattle.std.proofs.Common.{Some, None, refl, sym, ap}
 use Rattle.std.specs.List.{find, list_any, position}
 use Rattle.std.specs.Option.{option_map}
-use Rattle.jv_base.specs.Names.{is_text}
-use Rattle.jv_base.proofs.Equality.{text_Decides}
 use Rattle.class_pool.proofs.Distinct.{position_next}
-
-pub same_bool : (a b : Bool) → (a ≡ true → b ≡ true) → (b ≡ true → a ≡ true) → a ≡ b
-same_bool true b f g = sym (f refl)
-same_bool false false f g = refl
-same_bool false true f g = absurd (let e = g refl in cc)
-
--- texts are alike either way
-pub is_text-swap : (a b : List ℕ) → is_text a b ≡ is_text b a
-is_text-swap a b =
-    same_bool (is_text a b) (is_text b a)
-    (λ e. (text_Decides b a).1 (sym ((text_Decides a b).0 e)))
-    (λ e. (text_Decides a b).1 (sym ((text_Decides b a).0 e)))
 
 module _ {A : Type 0} where
   -- what is found passes

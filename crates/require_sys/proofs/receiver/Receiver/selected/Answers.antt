@@ -2,8 +2,9 @@ use Rattle.std.proofs.Common.{◌∙◌, sym, subst, ap}
 use Rattle.class_pool.specs.Found.{IsMember, IsMethod}
 use Rattle.class_pool.specs.Selection.{selected}
 use Rattle.class_pool.specs.declared.id.ClassId.TheVariants.{Prog}
+use Rattle.link_check.proofs.Methods.{instance_is_method}
 use Rattle.require_sys.specs.bodies.Alike.{member_at}
-use Rattle.require_sys.proofs.InstanceRows.{instance_method, instance_there, listed_row}
+use Rattle.require_sys.proofs.InstanceRows.{instance_there, listed_row}
 use Rattle.require_sys.proofs.receiver.Receiver.selected.Goals as goal
 
 pub select-requires-clause-there : goal.select-requires-clause-there
@@ -18,7 +19,7 @@ pub select-requires-clause-method : goal.select-requires-clause-method
 select-requires-clause-method c =
     let set = c.args.self.now.numbered.now.set.now in
     subst (IsMethod set) (sym c.member_of-in-None.ensures)
-    (instance_method set (member_at c.args.row.now)
+    (instance_is_method set (member_at c.args.row.now)
     (listed_row set c.args.self.now.table.now c.requires.receiver.rows c.args.above c.args.row.now c.requires.above
     c.requires.row).instance)
 
