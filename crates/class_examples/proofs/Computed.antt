@@ -1,6 +1,7 @@
 -- The definitions computed for files that javac made.
 use Rattle.std.proofs.Common.{refl}
 use Rattle.jv_base.specs.Utf16.{units_of}
+use Rattle.std.specs.Prelude.{⊤}
 use Rattle.std.specs.Str.{chars}
 use Rattle.class_model.specs.CanonicalPool.{filled}
 use Rattle.class_model.specs.CanonicalCode.{places, code_bytes}
@@ -32,94 +33,111 @@ use Rattle.class_examples.specs.Compiled.{IsBadDescriptor, IsBadFlags, IsBadAttr
 use Rattle.class_examples.specs.Compiled.{IsBadOperand, IsBadTarget, IsBadHandler, IsBadFrame, IsRepeated, IsTrailing}
 use Rattle.class_examples.specs.Compiled.{LeavesFlag, LeavesConstant, LeavesOpcode, LeavesFloatType, IsRespelled}
 
+-- what an example of reading computes with
+reading : ⊤
+unfolding lib.Utf8.encode part_after is_primitive_or_void is_name_byte is_member_name is_method_name is_class_name walk
+    base_text field_text result_text method_text words_of argument_words byte_taken read_mutf8 grown read_field
+    read_method utf16_chars u1 u2 u4 bytes lead bind give here of_result settle part many text_of names_right class_at
+    optional_class_at type_at fieldref_at methodref_at interface_methodref_at read_pool slots slot read_entry
+    all_name_right op_of match_offsets read_instruction until_end ops_from read_type read_row read_frame
+    read_frames_behind read_frames attributes exceptions line_number_table read_handlers read_code field_type_at
+    method_type_at read_field_info read_fields read_method_info read_methods read_head read_all_fields read_all_methods
+    read_interfaces read_class_file class_read
+reading = tt
+
+-- what an example of writing computes with
+writing : ⊤
+unfolding unit_bytes mutf8 units_of chars filled places code_bytes pool_of layout limits class_written
+writing = tt
+
 pub cut : IsCut
-unfolding lib.Utf8.encode part_after is_primitive_or_void is_name_byte is_member_name is_method_name is_class_name walk base_text field_text result_text method_text words_of argument_words byte_taken read_mutf8 grown read_field read_method utf16_chars u1 u2 u4 bytes lead bind give here of_result settle part many text_of names_right class_at optional_class_at type_at fieldref_at methodref_at interface_methodref_at read_pool slots slot read_entry all_name_right op_of match_offsets read_instruction until_end ops_from read_type read_row read_frame read_frames_behind read_frames attributes exceptions line_number_table read_handlers read_code field_type_at method_type_at read_field_info read_fields read_method_info read_methods read_head read_all_fields read_all_methods read_interfaces read_class_file class_read
+unfolding reading
 cut = refl
 
 pub bad_magic : IsBadMagic
-unfolding lib.Utf8.encode part_after is_primitive_or_void is_name_byte is_member_name is_method_name is_class_name walk base_text field_text result_text method_text words_of argument_words byte_taken read_mutf8 grown read_field read_method utf16_chars u1 u2 u4 bytes lead bind give here of_result settle part many text_of names_right class_at optional_class_at type_at fieldref_at methodref_at interface_methodref_at read_pool slots slot read_entry all_name_right op_of match_offsets read_instruction until_end ops_from read_type read_row read_frame read_frames_behind read_frames attributes exceptions line_number_table read_handlers read_code field_type_at method_type_at read_field_info read_fields read_method_info read_methods read_head read_all_fields read_all_methods read_interfaces read_class_file class_read
+unfolding reading
 bad_magic = refl
 
 pub bad_version : IsBadVersion
-unfolding lib.Utf8.encode part_after is_primitive_or_void is_name_byte is_member_name is_method_name is_class_name walk base_text field_text result_text method_text words_of argument_words byte_taken read_mutf8 grown read_field read_method utf16_chars u1 u2 u4 bytes lead bind give here of_result settle part many text_of names_right class_at optional_class_at type_at fieldref_at methodref_at interface_methodref_at read_pool slots slot read_entry all_name_right op_of match_offsets read_instruction until_end ops_from read_type read_row read_frame read_frames_behind read_frames attributes exceptions line_number_table read_handlers read_code field_type_at method_type_at read_field_info read_fields read_method_info read_methods read_head read_all_fields read_all_methods read_interfaces read_class_file class_read
+unfolding reading
 bad_version = refl
 
 pub bad_tag : IsBadTag
-unfolding lib.Utf8.encode part_after is_primitive_or_void is_name_byte is_member_name is_method_name is_class_name walk base_text field_text result_text method_text words_of argument_words byte_taken read_mutf8 grown read_field read_method utf16_chars u1 u2 u4 bytes lead bind give here of_result settle part many text_of names_right class_at optional_class_at type_at fieldref_at methodref_at interface_methodref_at read_pool slots slot read_entry all_name_right op_of match_offsets read_instruction until_end ops_from read_type read_row read_frame read_frames_behind read_frames attributes exceptions line_number_table read_handlers read_code field_type_at method_type_at read_field_info read_fields read_method_info read_methods read_head read_all_fields read_all_methods read_interfaces read_class_file class_read
+unfolding reading
 bad_tag = refl
 
 pub bad_utf8 : IsBadUtf8
-unfolding lib.Utf8.encode part_after is_primitive_or_void is_name_byte is_member_name is_method_name is_class_name walk base_text field_text result_text method_text words_of argument_words byte_taken read_mutf8 grown read_field read_method utf16_chars u1 u2 u4 bytes lead bind give here of_result settle part many text_of names_right class_at optional_class_at type_at fieldref_at methodref_at interface_methodref_at read_pool slots slot read_entry all_name_right op_of match_offsets read_instruction until_end ops_from read_type read_row read_frame read_frames_behind read_frames attributes exceptions line_number_table read_handlers read_code field_type_at method_type_at read_field_info read_fields read_method_info read_methods read_head read_all_fields read_all_methods read_interfaces read_class_file class_read
+unfolding reading
 bad_utf8 = refl
 
 pub bad_index : IsBadIndex
-unfolding lib.Utf8.encode part_after is_primitive_or_void is_name_byte is_member_name is_method_name is_class_name walk base_text field_text result_text method_text words_of argument_words byte_taken read_mutf8 grown read_field read_method utf16_chars u1 u2 u4 bytes lead bind give here of_result settle part many text_of names_right class_at optional_class_at type_at fieldref_at methodref_at interface_methodref_at read_pool slots slot read_entry all_name_right op_of match_offsets read_instruction until_end ops_from read_type read_row read_frame read_frames_behind read_frames attributes exceptions line_number_table read_handlers read_code field_type_at method_type_at read_field_info read_fields read_method_info read_methods read_head read_all_fields read_all_methods read_interfaces read_class_file class_read
+unfolding reading
 bad_index = refl
 
 pub bad_name : IsBadName
-unfolding lib.Utf8.encode part_after is_primitive_or_void is_name_byte is_member_name is_method_name is_class_name walk base_text field_text result_text method_text words_of argument_words byte_taken read_mutf8 grown read_field read_method utf16_chars u1 u2 u4 bytes lead bind give here of_result settle part many text_of names_right class_at optional_class_at type_at fieldref_at methodref_at interface_methodref_at read_pool slots slot read_entry all_name_right op_of match_offsets read_instruction until_end ops_from read_type read_row read_frame read_frames_behind read_frames attributes exceptions line_number_table read_handlers read_code field_type_at method_type_at read_field_info read_fields read_method_info read_methods read_head read_all_fields read_all_methods read_interfaces read_class_file class_read
+unfolding reading
 bad_name = refl
 
 pub bad_descriptor : IsBadDescriptor
-unfolding lib.Utf8.encode part_after is_primitive_or_void is_name_byte is_member_name is_method_name is_class_name walk base_text field_text result_text method_text words_of argument_words byte_taken read_mutf8 grown read_field read_method utf16_chars u1 u2 u4 bytes lead bind give here of_result settle part many text_of names_right class_at optional_class_at type_at fieldref_at methodref_at interface_methodref_at read_pool slots slot read_entry all_name_right op_of match_offsets read_instruction until_end ops_from read_type read_row read_frame read_frames_behind read_frames attributes exceptions line_number_table read_handlers read_code field_type_at method_type_at read_field_info read_fields read_method_info read_methods read_head read_all_fields read_all_methods read_interfaces read_class_file class_read
+unfolding reading
 bad_descriptor = refl
 
 pub bad_flags : IsBadFlags
-unfolding lib.Utf8.encode part_after is_primitive_or_void is_name_byte is_member_name is_method_name is_class_name walk base_text field_text result_text method_text words_of argument_words byte_taken read_mutf8 grown read_field read_method utf16_chars u1 u2 u4 bytes lead bind give here of_result settle part many text_of names_right class_at optional_class_at type_at fieldref_at methodref_at interface_methodref_at read_pool slots slot read_entry all_name_right op_of match_offsets read_instruction until_end ops_from read_type read_row read_frame read_frames_behind read_frames attributes exceptions line_number_table read_handlers read_code field_type_at method_type_at read_field_info read_fields read_method_info read_methods read_head read_all_fields read_all_methods read_interfaces read_class_file class_read
+unfolding reading
 bad_flags = refl
 
 pub bad_attribute : IsBadAttribute
-unfolding lib.Utf8.encode part_after is_primitive_or_void is_name_byte is_member_name is_method_name is_class_name walk base_text field_text result_text method_text words_of argument_words byte_taken read_mutf8 grown read_field read_method utf16_chars u1 u2 u4 bytes lead bind give here of_result settle part many text_of names_right class_at optional_class_at type_at fieldref_at methodref_at interface_methodref_at read_pool slots slot read_entry all_name_right op_of match_offsets read_instruction until_end ops_from read_type read_row read_frame read_frames_behind read_frames attributes exceptions line_number_table read_handlers read_code field_type_at method_type_at read_field_info read_fields read_method_info read_methods read_head read_all_fields read_all_methods read_interfaces read_class_file class_read
+unfolding reading
 bad_attribute = refl
 
 pub bad_code : IsBadCode
-unfolding lib.Utf8.encode part_after is_primitive_or_void is_name_byte is_member_name is_method_name is_class_name walk base_text field_text result_text method_text words_of argument_words byte_taken read_mutf8 grown read_field read_method utf16_chars u1 u2 u4 bytes lead bind give here of_result settle part many text_of names_right class_at optional_class_at type_at fieldref_at methodref_at interface_methodref_at read_pool slots slot read_entry all_name_right op_of match_offsets read_instruction until_end ops_from read_type read_row read_frame read_frames_behind read_frames attributes exceptions line_number_table read_handlers read_code field_type_at method_type_at read_field_info read_fields read_method_info read_methods read_head read_all_fields read_all_methods read_interfaces read_class_file class_read
+unfolding reading
 bad_code = refl
 
 pub bad_opcode : IsBadOpcode
-unfolding lib.Utf8.encode part_after is_primitive_or_void is_name_byte is_member_name is_method_name is_class_name walk base_text field_text result_text method_text words_of argument_words byte_taken read_mutf8 grown read_field read_method utf16_chars u1 u2 u4 bytes lead bind give here of_result settle part many text_of names_right class_at optional_class_at type_at fieldref_at methodref_at interface_methodref_at read_pool slots slot read_entry all_name_right op_of match_offsets read_instruction until_end ops_from read_type read_row read_frame read_frames_behind read_frames attributes exceptions line_number_table read_handlers read_code field_type_at method_type_at read_field_info read_fields read_method_info read_methods read_head read_all_fields read_all_methods read_interfaces read_class_file class_read
+unfolding reading
 bad_opcode = refl
 
 pub bad_operand : IsBadOperand
-unfolding lib.Utf8.encode part_after is_primitive_or_void is_name_byte is_member_name is_method_name is_class_name walk base_text field_text result_text method_text words_of argument_words byte_taken read_mutf8 grown read_field read_method utf16_chars u1 u2 u4 bytes lead bind give here of_result settle part many text_of names_right class_at optional_class_at type_at fieldref_at methodref_at interface_methodref_at read_pool slots slot read_entry all_name_right op_of match_offsets read_instruction until_end ops_from read_type read_row read_frame read_frames_behind read_frames attributes exceptions line_number_table read_handlers read_code field_type_at method_type_at read_field_info read_fields read_method_info read_methods read_head read_all_fields read_all_methods read_interfaces read_class_file class_read
+unfolding reading
 bad_operand = refl
 
 pub bad_target : IsBadTarget
-unfolding lib.Utf8.encode part_after is_primitive_or_void is_name_byte is_member_name is_method_name is_class_name walk base_text field_text result_text method_text words_of argument_words byte_taken read_mutf8 grown read_field read_method utf16_chars u1 u2 u4 bytes lead bind give here of_result settle part many text_of names_right class_at optional_class_at type_at fieldref_at methodref_at interface_methodref_at read_pool slots slot read_entry all_name_right op_of match_offsets read_instruction until_end ops_from read_type read_row read_frame read_frames_behind read_frames attributes exceptions line_number_table read_handlers read_code field_type_at method_type_at read_field_info read_fields read_method_info read_methods read_head read_all_fields read_all_methods read_interfaces read_class_file class_read
+unfolding reading
 bad_target = refl
 
 pub bad_handler : IsBadHandler
-unfolding lib.Utf8.encode part_after is_primitive_or_void is_name_byte is_member_name is_method_name is_class_name walk base_text field_text result_text method_text words_of argument_words byte_taken read_mutf8 grown read_field read_method utf16_chars u1 u2 u4 bytes lead bind give here of_result settle part many text_of names_right class_at optional_class_at type_at fieldref_at methodref_at interface_methodref_at read_pool slots slot read_entry all_name_right op_of match_offsets read_instruction until_end ops_from read_type read_row read_frame read_frames_behind read_frames attributes exceptions line_number_table read_handlers read_code field_type_at method_type_at read_field_info read_fields read_method_info read_methods read_head read_all_fields read_all_methods read_interfaces read_class_file class_read
+unfolding reading
 bad_handler = refl
 
 pub bad_frame : IsBadFrame
-unfolding lib.Utf8.encode part_after is_primitive_or_void is_name_byte is_member_name is_method_name is_class_name walk base_text field_text result_text method_text words_of argument_words byte_taken read_mutf8 grown read_field read_method utf16_chars u1 u2 u4 bytes lead bind give here of_result settle part many text_of names_right class_at optional_class_at type_at fieldref_at methodref_at interface_methodref_at read_pool slots slot read_entry all_name_right op_of match_offsets read_instruction until_end ops_from read_type read_row read_frame read_frames_behind read_frames attributes exceptions line_number_table read_handlers read_code field_type_at method_type_at read_field_info read_fields read_method_info read_methods read_head read_all_fields read_all_methods read_interfaces read_class_file class_read
+unfolding reading
 bad_frame = refl
 
 pub repeated : IsRepeated
-unfolding lib.Utf8.encode part_after is_primitive_or_void is_name_byte is_member_name is_method_name is_class_name walk base_text field_text result_text method_text words_of argument_words byte_taken read_mutf8 grown read_field read_method utf16_chars u1 u2 u4 bytes lead bind give here of_result settle part many text_of names_right class_at optional_class_at type_at fieldref_at methodref_at interface_methodref_at read_pool slots slot read_entry all_name_right op_of match_offsets read_instruction until_end ops_from read_type read_row read_frame read_frames_behind read_frames attributes exceptions line_number_table read_handlers read_code field_type_at method_type_at read_field_info read_fields read_method_info read_methods read_head read_all_fields read_all_methods read_interfaces read_class_file class_read
+unfolding reading
 repeated = refl
 
 pub trailing : IsTrailing
-unfolding lib.Utf8.encode part_after is_primitive_or_void is_name_byte is_member_name is_method_name is_class_name walk base_text field_text result_text method_text words_of argument_words byte_taken read_mutf8 grown read_field read_method utf16_chars u1 u2 u4 bytes lead bind give here of_result settle part many text_of names_right class_at optional_class_at type_at fieldref_at methodref_at interface_methodref_at read_pool slots slot read_entry all_name_right op_of match_offsets read_instruction until_end ops_from read_type read_row read_frame read_frames_behind read_frames attributes exceptions line_number_table read_handlers read_code field_type_at method_type_at read_field_info read_fields read_method_info read_methods read_head read_all_fields read_all_methods read_interfaces read_class_file class_read
+unfolding reading
 trailing = refl
 
 pub left_out_flag : LeavesFlag
-unfolding lib.Utf8.encode part_after is_primitive_or_void is_name_byte is_member_name is_method_name is_class_name walk base_text field_text result_text method_text words_of argument_words byte_taken read_mutf8 grown read_field read_method utf16_chars u1 u2 u4 bytes lead bind give here of_result settle part many text_of names_right class_at optional_class_at type_at fieldref_at methodref_at interface_methodref_at read_pool slots slot read_entry all_name_right op_of match_offsets read_instruction until_end ops_from read_type read_row read_frame read_frames_behind read_frames attributes exceptions line_number_table read_handlers read_code field_type_at method_type_at read_field_info read_fields read_method_info read_methods read_head read_all_fields read_all_methods read_interfaces read_class_file class_read
+unfolding reading
 left_out_flag = refl
 
 pub left_out_constant : LeavesConstant
-unfolding lib.Utf8.encode part_after is_primitive_or_void is_name_byte is_member_name is_method_name is_class_name walk base_text field_text result_text method_text words_of argument_words byte_taken read_mutf8 grown read_field read_method utf16_chars u1 u2 u4 bytes lead bind give here of_result settle part many text_of names_right class_at optional_class_at type_at fieldref_at methodref_at interface_methodref_at read_pool slots slot read_entry all_name_right op_of match_offsets read_instruction until_end ops_from read_type read_row read_frame read_frames_behind read_frames attributes exceptions line_number_table read_handlers read_code field_type_at method_type_at read_field_info read_fields read_method_info read_methods read_head read_all_fields read_all_methods read_interfaces read_class_file class_read
+unfolding reading
 left_out_constant = refl
 
 pub left_out_opcode : LeavesOpcode
-unfolding lib.Utf8.encode part_after is_primitive_or_void is_name_byte is_member_name is_method_name is_class_name walk base_text field_text result_text method_text words_of argument_words byte_taken read_mutf8 grown read_field read_method utf16_chars u1 u2 u4 bytes lead bind give here of_result settle part many text_of names_right class_at optional_class_at type_at fieldref_at methodref_at interface_methodref_at read_pool slots slot read_entry all_name_right op_of match_offsets read_instruction until_end ops_from read_type read_row read_frame read_frames_behind read_frames attributes exceptions line_number_table read_handlers read_code field_type_at method_type_at read_field_info read_fields read_method_info read_methods read_head read_all_fields read_all_methods read_interfaces read_class_file class_read
+unfolding reading
 left_out_opcode = refl
 
 pub left_out_float_type : LeavesFloatType
-unfolding lib.Utf8.encode part_after is_primitive_or_void is_name_byte is_member_name is_method_name is_class_name walk base_text field_text result_text method_text words_of argument_words byte_taken read_mutf8 grown read_field read_method utf16_chars u1 u2 u4 bytes lead bind give here of_result settle part many text_of names_right class_at optional_class_at type_at fieldref_at methodref_at interface_methodref_at read_pool slots slot read_entry all_name_right op_of match_offsets read_instruction until_end ops_from read_type read_row read_frame read_frames_behind read_frames attributes exceptions line_number_table read_handlers read_code field_type_at method_type_at read_field_info read_fields read_method_info read_methods read_head read_all_fields read_all_methods read_interfaces read_class_file class_read
+unfolding reading
 left_out_float_type = refl
 
 pub respelled : IsRespelled
-unfolding lib.Utf8.encode part_after is_primitive_or_void is_name_byte is_member_name is_method_name is_class_name walk base_text field_text result_text method_text words_of argument_words byte_taken read_mutf8 grown read_field read_method utf16_chars u1 u2 u4 bytes lead bind give here of_result settle part many text_of names_right class_at optional_class_at type_at fieldref_at methodref_at interface_methodref_at read_pool slots slot read_entry all_name_right op_of match_offsets read_instruction until_end ops_from read_type read_row read_frame read_frames_behind read_frames attributes exceptions line_number_table read_handlers read_code field_type_at method_type_at read_field_info read_fields read_method_info read_methods read_head read_all_fields read_all_methods read_interfaces read_class_file class_read unit_bytes mutf8 units_of chars filled places code_bytes pool_of layout limits class_written
+unfolding reading writing
 respelled = refl
