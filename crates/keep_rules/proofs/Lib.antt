@@ -8,3 +8,4 @@ pub mod Exact
 pub mod Spelled
 pub mod Sayings
 pub mod Gathering
+pub mod Unfolding

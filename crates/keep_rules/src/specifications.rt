@@ -38,7 +38,7 @@ fn read_types(alloc: Global, words: &mut Words<'_>) -> Result<Items<Text>, Or<Ru
 }
 
 // Types, and the closing parenthesis.
-#[tactic(auto, unfolding(crate::specs::Specifications::closed_types, crate::specs::Reader::bind, crate::specs::Reader::give))]
+#[tactic(auto, unfolding(crate::specs::Specifications::closed_types, crate::proofs::Unfolding::steps))]
 fn read_closed_types(alloc: Global, words: &mut Words<'_>) -> Result<Items<Text>, Or<RuleFault>>
     ensures { ReadsOr result words.new (closed_types words.old) }
 {
@@ -48,7 +48,7 @@ fn read_closed_types(alloc: Global, words: &mut Words<'_>) -> Result<Items<Text>
 }
 
 // What stands behind an opening parenthesis.
-#[tactic(auto, unfolding(crate::specs::Specifications::arguments, crate::specs::Reader::if_next, crate::specs::Reader::give))]
+#[tactic(auto, unfolding(crate::specs::Specifications::arguments, crate::proofs::Unfolding::steps))]
 fn read_arguments(alloc: Global, words: &mut Words<'_>) -> Result<Items<Text>, Or<RuleFault>>
     ensures { ReadsOr result words.new (arguments words.old) }
 {
@@ -60,7 +60,7 @@ fn read_arguments(alloc: Global, words: &mut Words<'_>) -> Result<Items<Text>, O
 }
 
 // The parameters' types, if there are parentheses.
-#[tactic(auto, unfolding(crate::specs::Specifications::any_arguments, crate::specs::Reader::if_next, crate::specs::Reader::bind, crate::specs::Reader::give))]
+#[tactic(auto, unfolding(crate::specs::Specifications::any_arguments, crate::proofs::Unfolding::steps))]
 fn read_any_arguments(
     alloc: Global,
     words: &mut Words<'_>,
@@ -75,7 +75,7 @@ fn read_any_arguments(
 }
 
 // A constructor's parameters, behind the opening parenthesis.
-#[tactic(auto, unfolding(crate::specs::Specifications::constructor, crate::specs::Reader::bind, crate::specs::Reader::give))]
+#[tactic(auto, unfolding(crate::specs::Specifications::constructor, crate::proofs::Unfolding::steps))]
 fn read_constructor(alloc: Global, words: &mut Words<'_>) -> Result<Form, Or<RuleFault>>
     ensures { ReadsSo form_seen result words.new (constructor words.old) }
 {
@@ -103,7 +103,7 @@ fn read_typed(alloc: Global, words: &mut Words<'_>, ty: Text) -> Result<Form, Or
 }
 
 // What a member specification is that begins with a word.
-#[tactic(auto, unfolding(crate::specs::Specifications::form_of, crate::specs::Reader::if_ahead, crate::specs::Reader::if_next, crate::specs::Reader::give))]
+#[tactic(auto, unfolding(crate::specs::Specifications::form_of, crate::proofs::Unfolding::steps))]
 fn read_form(
     alloc: Global,
     words: &mut Words<'_>,
@@ -208,7 +208,7 @@ fn or_constructor(alloc: Global, members: Items<MemberSpec>) -> M<Items<MemberSp
 }
 
 // The members in braces.
-#[tactic(auto, unfolding(crate::specs::Specifications::in_braces, crate::specs::Reader::bind, crate::specs::Reader::give))]
+#[tactic(auto, unfolding(crate::specs::Specifications::in_braces, crate::proofs::Unfolding::steps))]
 fn read_in_braces(
     alloc: Global,
     words: &mut Words<'_>,
@@ -260,7 +260,7 @@ fn is_above_next(words: &Words<'_>) -> bool
 }
 
 // The name of a class above, if there is one.
-#[tactic(auto, unfolding(crate::specs::Specifications::above, crate::specs::Specifications::name_above, crate::specs::Reader::if_next, crate::specs::Reader::bind, crate::specs::Reader::give))]
+#[tactic(auto, unfolding(crate::specs::Specifications::above, crate::proofs::Unfolding::steps_above))]
 fn read_above(words: &mut Words<'_>) -> Result<Option<Text>, Or<RuleFault>>
     ensures { ReadsOr result words.new (above words.old) }
 {
@@ -272,7 +272,7 @@ fn read_above(words: &mut Words<'_>) -> Result<Option<Text>, Or<RuleFault>>
 }
 
 /// A class specification.
-#[tactic(auto, unfolding(crate::specs::Specifications::class_spec, crate::specs::Reader::bind, crate::specs::Reader::give))]
+#[tactic(auto, unfolding(crate::specs::Specifications::class_spec, crate::proofs::Unfolding::steps))]
 pub(crate) fn read_class_spec(
     alloc: Global,
     words: &mut Words<'_>,
