@@ -57,7 +57,8 @@ fn ask_other<S: Shapes>(
         → state_at (S.shape shapes.now) rest.new c
         ≡ on_answer (S.shape shapes.now) (whole (S.shape shapes.now) rest.old) frame.method b (body_of frame.body)
         (waits_of rest.old.waits)
-        (answer (S.shape shapes.now) frame.method.class (whole (S.shape shapes.now) rest.old) (request_of request.entry))) }
+        (answer (S.shape shapes.now) frame.method.class (whole (S.shape shapes.now) rest.old)
+        (request_of request.entry))) }
 {
     let answer = answer(
         alloc,
