@@ -40,3 +40,6 @@ null_back (Long y) i l n t = absurd cc
 null_back Null i l n t = refl
 null_back (Ref m) i l n t = absurd cc
 null_back (Lit units) i l n t = absurd cc
+
+-- a value, by its tests
+pub ruleset value_back = (int_back, long_back, ref_back, text_back, null_back)

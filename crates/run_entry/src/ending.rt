@@ -49,7 +49,7 @@ fn thrown(alloc: Global, state: &State, number: usize) -> M<End>
     })
 }
 
-#[tactic(auto, using(crate::proofs::Backs::int_back, crate::proofs::Backs::long_back, crate::proofs::Backs::ref_back, crate::proofs::Backs::text_back, crate::proofs::Backs::null_back))]
+#[tactic(auto, using(crate::proofs::Backs::value_back))]
 fn back_of(value: &Value) -> M<Back>
     ensures { IfOk result (λ back. back ≡ back_of (Some value.now)) }
 {

@@ -24,3 +24,6 @@ pub fewer_dims : (is_sub : List ℕ → List ℕ → Bool) (m n : ℕ) (a b : Ba
 fewer_dims is_sub m zero a b h = grind arith
 fewer_dims is_sub zero (suc n) a b h = refl
 fewer_dims is_sub (suc m) (suc n) a b h = fewer_dims is_sub m n a b (grind arith)
+
+-- however many are left
+pub ruleset dims_below = (more_dims, same_dims, fewer_dims)

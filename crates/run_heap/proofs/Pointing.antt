@@ -30,6 +30,9 @@ refers_to_none Null e f = let g : true ≡ false = e in absurd cc
 refers_to_none (Ref n) e f = absurd cc
 refers_to_none (Lit units) e f = refl
 
+-- what the tests of a value tell
+pub ruleset pointed = (is_null, is_reference, refers_to_none)
+
 -- of such a value nothing is answered
 pub no_field : (w : World) (v : Value) (k : Key) → is_other v ≡ true → get_field w v k ≡ NoAnswer
 no_field w (Int z) k e = refl

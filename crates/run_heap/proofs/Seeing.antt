@@ -46,6 +46,9 @@ seen_nothing w Null a b c d e = let f : true ≡ false = a in absurd cc
 seen_nothing w (Ref n) a b c d e = absurd cc
 seen_nothing w (Lit units) a b c d e = absurd cc
 
+-- an operand, by the tests of its value
+pub ruleset operand_seen = (seen_null, seen_int, seen_long, seen_text, seen_nothing)
+
 -- what was seen before, in front of what is seen of the others
 abbrev pub behind : List Seen → Option (List Seen) → Option (List Seen)
 behind told others = option_map (λ xs. told ++ xs) others

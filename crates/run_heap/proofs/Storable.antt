@@ -46,3 +46,6 @@ stored_by_kin p w ty v a b e f g = rw g (by_value v e f)
     by_value Null k l = let h : true ≡ false = k in absurd cc
     by_value (Ref n) k l = by_object (object_of w (Ref n))
     by_value (Lit units) k l = refl
+
+-- a value, by its tests
+pub ruleset value_stored = (number_stored, null_stored, stored_by_kin)

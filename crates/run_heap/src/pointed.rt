@@ -13,7 +13,7 @@ pub(crate) enum Pointed {
     Other,
 }
 
-#[tactic(auto, using(crate::proofs::Pointing::is_null, crate::proofs::Pointing::is_reference, crate::proofs::Pointing::refers_to_none))]
+#[tactic(auto, using(crate::proofs::Pointing::pointed))]
 pub(crate) fn refers_to(value: &Value) -> Pointed
     ensures { IsPointed result value.now }
 {

@@ -34,7 +34,7 @@ pub(crate) fn all_seen<'a>(
 }
 
 /// An operand as a method sees it; nothing where it refers to no object.
-#[tactic(auto, using(crate::proofs::Seeing::seen_null, crate::proofs::Seeing::seen_int, crate::proofs::Seeing::seen_long, crate::proofs::Seeing::seen_text, crate::proofs::Seeing::seen_nothing))]
+#[tactic(auto, using(crate::proofs::Seeing::operand_seen))]
 fn seen<'a>(world: &'a World, operand: &'a Value) -> Option<Seen<'a>>
     ensures { (inits : List ℕ → Init) → option_map operand_of result
         ≡ seen_operand (world_of inits world.now) operand.now }

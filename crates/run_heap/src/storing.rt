@@ -20,7 +20,7 @@ use run_values::types::{is_component, stored};
 
 /// Whether a value may be a component of a type: a number, null, or an object of the type; nothing where it refers to
 /// no object.
-#[tactic(auto, using(crate::proofs::Storable::number_stored, crate::proofs::Storable::null_stored, crate::proofs::Storable::stored_by_kin, crate::proofs::Pointing::is_null))]
+#[tactic(auto, using(crate::proofs::Storable::value_stored, crate::proofs::Pointing::is_null))]
 fn is_storable<S: Shapes>(
     shapes: &S,
     world: &World,

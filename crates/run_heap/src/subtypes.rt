@@ -33,7 +33,7 @@ pub fn is_class_below<S: Shapes>(shapes: &S, class: &Name, ty: &FieldType) -> bo
 }
 
 /// Whether arrays of a component type are below a type.
-#[tactic(auto, using(crate::proofs::Below::more_dims, crate::proofs::Below::same_dims, crate::proofs::Below::fewer_dims))]
+#[tactic(auto, using(crate::proofs::Below::dims_below))]
 fn is_array_below<S: Shapes>(shapes: &S, component: &FieldType, ty: &FieldType) -> bool
     ensures { result ≡ is_type_below (S.shape shapes.now).is_sub (array_of component.now) ty.now }
 {
