@@ -29,3 +29,4 @@ pub mod CodeAttributeLaw
 pub mod PassedOverLaw
 pub mod BodyLaw
 pub mod ClassLaw
+mod Unfolding

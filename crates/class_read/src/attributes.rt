@@ -114,7 +114,7 @@ fn classes(
 }
 
 /// The classes that the attribute Exceptions names (JVMS 4.7.5).
-#[tactic(auto, unfolding(format_reading::specs::Reader::u2, format_reading::specs::Reader::bind, class_model::specs::ReadingAttributes::exceptions))]
+#[tactic(auto, unfolding(class_model::specs::ReadingAttributes::exceptions, crate::proofs::Unfolding::numbers))]
 pub fn exceptions(
     alloc: Global,
     pool: &KnownPool,
@@ -127,7 +127,7 @@ pub fn exceptions(
 }
 
 /// The direct superinterfaces (JVMS 4.1).
-#[tactic(auto, unfolding(format_reading::specs::Reader::u2, format_reading::specs::Reader::bind, class_model::specs::ReadingClass::read_interfaces))]
+#[tactic(auto, unfolding(class_model::specs::ReadingClass::read_interfaces, crate::proofs::Unfolding::numbers))]
 pub fn interfaces(
     alloc: Global,
     pool: &KnownPool,
@@ -179,7 +179,7 @@ fn lines(alloc: Global, count: u16, cursor: &mut Cursor) -> Result<Items<Line>, 
 }
 
 /// The rows of a LineNumberTable, in any order (JVMS 4.7.12).
-#[tactic(auto, unfolding(format_reading::specs::Reader::u2, format_reading::specs::Reader::bind, class_model::specs::ReadingAttributes::line_number_table))]
+#[tactic(auto, unfolding(class_model::specs::ReadingAttributes::line_number_table, crate::proofs::Unfolding::numbers))]
 pub fn line_number_table(alloc: Global, cursor: &mut Cursor) -> Result<Items<Line>, Or<FormatFault>>
     ensures { ReadsOr result cursor.new (line_number_table cursor.old) }
 {

@@ -1,5 +1,5 @@
 // The class of a whole class file (JVMS 4.1).
-#![tactic(auto, unfolding(format_reading::specs::Reader::bind, format_reading::specs::Reader::give, class_model::specs::ReadingClass::read_class_file, crate::specs::bodies::Classes::behind_flags, crate::specs::bodies::Classes::behind_names))]
+#![tactic(auto, unfolding(crate::proofs::Unfolding::class))]
 
 ghost use Rattle.std.specs.Prelude.{◌≡◌, ◌<◌, length, Ok, IfOk};
 ghost use Rattle.jv_base.specs.Outcome.{IsDue};
@@ -65,7 +65,7 @@ fn read_class_file(alloc: Global, cursor: &mut Cursor) -> Result<Class, Or<Forma
     behind_flags(alloc, &pool, flags, cursor)
 }
 
-#[tactic(auto, unfolding(format_reading::specs::Reader::bind, format_reading::specs::Reader::give, crate::specs::bodies::Classes::behind_flags))]
+#[tactic(auto, unfolding(crate::specs::bodies::Classes::behind_flags, crate::proofs::Unfolding::steps))]
 fn behind_flags(
     alloc: Global,
     pool: &KnownPool,
@@ -85,7 +85,7 @@ fn behind_flags(
     behind_names(alloc, pool, flags, names, cursor)
 }
 
-#[tactic(auto, unfolding(format_reading::specs::Reader::bind, format_reading::specs::Reader::give, crate::specs::bodies::Classes::behind_names))]
+#[tactic(auto, unfolding(crate::specs::bodies::Classes::behind_names, crate::proofs::Unfolding::steps))]
 fn behind_names(
     alloc: Global,
     pool: &KnownPool,

@@ -1,5 +1,5 @@
 // The attributes of a class (JVMS 4.1).
-#![tactic(auto, unfolding(format_reading::specs::Reader::u1, format_reading::specs::Reader::u2, format_reading::specs::Reader::u4, format_reading::specs::Reader::bytes, format_reading::specs::Reader::lead, format_reading::specs::Reader::bind, format_reading::specs::Reader::give, format_reading::specs::Reader::here, format_reading::specs::Reader::settle, format_reading::specs::Reader::part))]
+#![tactic(auto, unfolding(crate::proofs::Unfolding::contents))]
 
 ghost use Rattle.std.specs.Prelude.{◌≡◌};
 ghost use Rattle.format_reading.specs.Reader.{ReadsOr};
@@ -73,7 +73,7 @@ fn attributes(
     Ok(seen)
 }
 
-#[tactic(auto, unfolding(format_reading::specs::Reader::u2, format_reading::specs::Reader::u4, format_reading::specs::Reader::bytes, format_reading::specs::Reader::lead, format_reading::specs::Reader::bind, format_reading::specs::Reader::give, format_reading::specs::Reader::here, format_reading::specs::Reader::part), using(crate::proofs::KnownClass::of_class))]
+#[tactic(auto, unfolding(crate::proofs::Unfolding::attribute), using(crate::proofs::KnownClass::of_class))]
 fn attribute(
     alloc: Global,
     pool: &KnownPool,

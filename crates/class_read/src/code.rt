@@ -34,7 +34,7 @@ pub fn read_code(
     code_in_parts(alloc, pool, &first, attribute, cursor)
 }
 
-#[tactic(auto, unfolding(format_reading::specs::Reader::u2, format_reading::specs::Reader::lead, format_reading::specs::Reader::bind, crate::specs::bodies::Codes::code_in_parts))]
+#[tactic(auto, unfolding(crate::specs::bodies::Codes::code_in_parts, crate::proofs::Unfolding::lists))]
 fn code_in_parts(
     alloc: Global,
     pool: &KnownPool,

@@ -1,5 +1,5 @@
 // What stands behind the instructions of a Code (JVMS 4.7.3).
-#![tactic(auto, unfolding(format_reading::specs::Reader::u1, format_reading::specs::Reader::u2, format_reading::specs::Reader::u4, format_reading::specs::Reader::bytes, format_reading::specs::Reader::lead, format_reading::specs::Reader::bind, format_reading::specs::Reader::give, format_reading::specs::Reader::here, format_reading::specs::Reader::settle, format_reading::specs::Reader::part))]
+#![tactic(auto, unfolding(crate::proofs::Unfolding::contents))]
 
 ghost use Rattle.std.specs.Prelude.{◌≡◌, ◌<◌, ◌++◌, length, option_map, IfOk};
 ghost use Rattle.format_reading.specs.Reader.{ReadsAsOr, ReadsOr};
@@ -97,7 +97,7 @@ fn contents(
     }
 }
 
-#[tactic(auto, unfolding(format_reading::specs::Reader::u2, format_reading::specs::Reader::u4, format_reading::specs::Reader::bytes, format_reading::specs::Reader::lead, format_reading::specs::Reader::bind, format_reading::specs::Reader::give, format_reading::specs::Reader::here, format_reading::specs::Reader::part), using(crate::proofs::KnownCode::of_code))]
+#[tactic(auto, unfolding(crate::proofs::Unfolding::attribute), using(crate::proofs::KnownCode::of_code))]
 fn attribute(
     alloc: Global,
     frames: &FrameReader,
@@ -197,7 +197,7 @@ fn code_with(
 
 /// What stands behind the instructions of a code, with these: the exception table and the attributes. The last
 /// instruction ends at `end`, and `first` is the method's initial frame.
-#[tactic(auto, unfolding(format_reading::specs::Reader::bind, format_reading::specs::Reader::give, crate::specs::bodies::CodeAttributes::behind_instructions))]
+#[tactic(auto, unfolding(crate::specs::bodies::CodeAttributes::behind_instructions, crate::proofs::Unfolding::steps))]
 pub(crate) fn behind_instructions(
     alloc: Global,
     pool: &KnownPool,

@@ -1,5 +1,5 @@
 // The entries of a constant pool, from their bytes (JVMS 4.4).
-#![tactic(auto, unfolding(format_reading::specs::Reader::u1, format_reading::specs::Reader::u2, format_reading::specs::Reader::u4, format_reading::specs::Reader::bytes, format_reading::specs::Reader::lead, format_reading::specs::Reader::bind, format_reading::specs::Reader::give, format_reading::specs::Reader::here, format_reading::specs::Reader::of_result, class_model::specs::ReadingPool::read_entry, class_model::specs::ReadingPool::slot, class_model::specs::ReadingPool::read_pool))]
+#![tactic(auto, unfolding(crate::proofs::Unfolding::entries))]
 
 ghost use Rattle.std.specs.Prelude.{◌≡◌, ◌<◌, ◌+◌, ◌*◌, ◌^◌, false, IfOk, length, slice_get};
 ghost use Rattle.jv_base.specs.Outcome.{IsDue};

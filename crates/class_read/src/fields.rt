@@ -1,5 +1,5 @@
 // Fields (JVMS 4.5).
-#![tactic(auto, unfolding(format_reading::specs::Reader::u1, format_reading::specs::Reader::u2, format_reading::specs::Reader::u4, format_reading::specs::Reader::bytes, format_reading::specs::Reader::lead, format_reading::specs::Reader::bind, format_reading::specs::Reader::give, format_reading::specs::Reader::here, format_reading::specs::Reader::settle, format_reading::specs::Reader::part))]
+#![tactic(auto, unfolding(crate::proofs::Unfolding::contents))]
 
 ghost use Rattle.std.specs.Prelude.{◌≡◌, [], ◌∷◌, ◌++◌, false, IfOk, OnOk};
 ghost use Rattle.std.specs.List.{list_any};
@@ -81,7 +81,7 @@ fn keep(fields: &mut Items<Field>, before: &mut Signatures, member: (Field, Sign
 }
 
 // A field behind those of these signatures.
-#[tactic(auto, unfolding(format_reading::specs::Reader::u2, format_reading::specs::Reader::lead, format_reading::specs::Reader::bind, format_reading::specs::Reader::give, format_reading::specs::Reader::here, format_reading::specs::Reader::settle, class_model::specs::ReadingMembers::read_field_info))]
+#[tactic(auto, unfolding(class_model::specs::ReadingMembers::read_field_info, crate::proofs::Unfolding::rows))]
 fn field_info(
     pool: &KnownPool,
     in_interface: bool,
@@ -204,7 +204,7 @@ fn attributes(
     Ok(seen)
 }
 
-#[tactic(auto, unfolding(format_reading::specs::Reader::u2, format_reading::specs::Reader::u4, format_reading::specs::Reader::bytes, format_reading::specs::Reader::lead, format_reading::specs::Reader::bind, format_reading::specs::Reader::give, format_reading::specs::Reader::here, format_reading::specs::Reader::part), using(crate::proofs::Known::of_field))]
+#[tactic(auto, unfolding(crate::proofs::Unfolding::attribute), using(crate::proofs::Known::of_field))]
 fn attribute(
     pool: &KnownPool,
     flags: u16,

@@ -1,5 +1,5 @@
 // The exception table of a Code (JVMS 4.7.3).
-#![tactic(auto, unfolding(format_reading::specs::Reader::u2, format_reading::specs::Reader::lead, format_reading::specs::Reader::bind, format_reading::specs::Reader::give, format_reading::specs::Reader::here, format_reading::specs::Reader::settle))]
+#![tactic(auto, unfolding(crate::proofs::Unfolding::rows))]
 
 ghost use Rattle.std.specs.Prelude.{◌≡◌, ◌++◌, ◌∷◌, [], length};
 ghost use Rattle.jv_base.specs.Outcome.{IsDue};
@@ -127,7 +127,7 @@ fn handlers(
 
 /// The exception table of a code whose instructions, so many, begin at these offsets, and whose last ends at `end`. Its
 /// rows stand in the order in which they are searched (JVMS 2.10, 4.7.3).
-#[tactic(auto, unfolding(format_reading::specs::Reader::u2, format_reading::specs::Reader::bind, class_model::specs::ReadingCodeAttribute::read_handlers))]
+#[tactic(auto, unfolding(class_model::specs::ReadingCodeAttribute::read_handlers, crate::proofs::Unfolding::numbers))]
 pub fn read_handlers(
     alloc: Global,
     pool: &KnownPool,

@@ -1,5 +1,5 @@
 // What a class file begins with (JVMS 4.1).
-#![tactic(auto, unfolding(format_reading::specs::Reader::u2, format_reading::specs::Reader::u4, format_reading::specs::Reader::lead, format_reading::specs::Reader::bind, format_reading::specs::Reader::give, class_model::specs::ReadingClass::read_head))]
+#![tactic(auto, unfolding(crate::proofs::Unfolding::head))]
 
 ghost use Rattle.std.specs.Prelude.{◌≡◌};
 ghost use Rattle.format_reading.specs.Reader.{Reads, u2, item};

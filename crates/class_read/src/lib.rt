@@ -1,5 +1,5 @@
 //! Classes, from the bytes of class files (JVMS 4).
-#![tactic(auto, unfolding(format_reading::specs::Reader::u1, format_reading::specs::Reader::u2, format_reading::specs::Reader::u4, format_reading::specs::Reader::bytes, format_reading::specs::Reader::lead, format_reading::specs::Reader::bind, format_reading::specs::Reader::give, format_reading::specs::Reader::here, format_reading::specs::Reader::settle, format_reading::specs::Reader::of_result))]
+#![tactic(auto, unfolding(crate::proofs::Unfolding::whole))]
 
 mod attributes;
 mod class;

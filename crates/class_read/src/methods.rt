@@ -1,5 +1,5 @@
 // Methods (JVMS 4.6).
-#![tactic(auto, unfolding(format_reading::specs::Reader::u1, format_reading::specs::Reader::u2, format_reading::specs::Reader::u4, format_reading::specs::Reader::bytes, format_reading::specs::Reader::lead, format_reading::specs::Reader::bind, format_reading::specs::Reader::give, format_reading::specs::Reader::here, format_reading::specs::Reader::settle, format_reading::specs::Reader::part))]
+#![tactic(auto, unfolding(crate::proofs::Unfolding::contents))]
 
 ghost use Rattle.std.specs.Prelude.{◌≡◌, [], ◌∷◌, ◌++◌, ◌||◌, not, false, IfOk, OnOk};
 ghost use Rattle.std.specs.List.{list_any};
@@ -136,7 +136,7 @@ fn method_info(
 }
 
 // What stands before the attributes of a method behind those of these signatures.
-#[tactic(auto, unfolding(format_reading::specs::Reader::u2, format_reading::specs::Reader::lead, format_reading::specs::Reader::bind, format_reading::specs::Reader::give, format_reading::specs::Reader::here, format_reading::specs::Reader::settle, crate::specs::bodies::Methods::method_head))]
+#[tactic(auto, unfolding(crate::specs::bodies::Methods::method_head, crate::proofs::Unfolding::rows))]
 fn method_head(
     pool: &KnownPool,
     in_interface: bool,
@@ -256,7 +256,7 @@ fn attributes(
     Ok(seen)
 }
 
-#[tactic(auto, unfolding(format_reading::specs::Reader::u2, format_reading::specs::Reader::u4, format_reading::specs::Reader::bytes, format_reading::specs::Reader::lead, format_reading::specs::Reader::bind, format_reading::specs::Reader::give, format_reading::specs::Reader::here, format_reading::specs::Reader::part), using(crate::proofs::KnownMethods::of_method))]
+#[tactic(auto, unfolding(crate::proofs::Unfolding::attribute), using(crate::proofs::KnownMethods::of_method))]
 fn attribute(
     alloc: Global,
     pool: &KnownPool,

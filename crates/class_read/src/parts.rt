@@ -1,5 +1,5 @@
 // The members of a class file, and what is left out in it (JVMS 4.1).
-#![tactic(auto, unfolding(format_reading::specs::Reader::u2, format_reading::specs::Reader::bind, class_model::specs::ReadingClass::read_all_fields, class_model::specs::ReadingClass::read_all_methods))]
+#![tactic(auto, unfolding(crate::proofs::Unfolding::members))]
 
 ghost use Rattle.std.specs.Prelude.{◌≡◌, ◌+◌, ◌<◌, length};
 ghost use Rattle.std.specs.List.{list_any};

@@ -26,7 +26,7 @@ fn pass_attributes(count: u16, cursor: &mut Cursor) -> Result<(), FormatFault>
 }
 
 /// Passes over the exception table and the attributes of a code by their lengths. Nothing in them is looked at.
-#[tactic(auto, unfolding(format_reading::specs::Reader::u2, format_reading::specs::Reader::bytes, format_reading::specs::Reader::bind, format_reading::specs::Reader::give, crate::specs::bodies::PassedOver::passed_over))]
+#[tactic(auto, unfolding(crate::specs::bodies::PassedOver::passed_over, crate::proofs::Unfolding::passed))]
 pub fn pass_over(cursor: &mut Cursor) -> Result<(), FormatFault>
     ensures { Reads result cursor.new (passed_over cursor.old) }
 {
