@@ -1,9 +1,10 @@
 -- Lists with each class once.
 use Rattle.std.proofs.Common.{append_assoc, ◌≡◌, ⊎_elim, ℕ, ◌+◌, ◌<◌, ◌⊎◌, inl, inr, ◌||◌, Bool, true, false, cond}
 use Rattle.std.proofs.Common.{List, [], ◌∷◌, ◌++◌, length, take, get_or, refl, sym, ap, ◌∙◌}
-use Rattle.std.specs.List.{list_any}
+use Rattle.std.specs.List.{All, list_any}
 use Rattle.std.proofs.lemmas.Bool.{eqb-true, eq-eqb}
 use Rattle.std.proofs.lemmas.List.{append-nil, take_more}
+use Rattle.std.proofs.lemmas.List.Elements.{All-head, All-tail, All-weaker}
 use Rattle.jv_base.proofs.Tests.{or_swap, or_more}
 use Rattle.class_pool.specs.declared.id.ClassId.{ClassId}
 use Rattle.class_pool.specs.declared.id.ClassId.TheVariants.{Prog, Lib}
@@ -32,16 +33,26 @@ any_middle c x [] t = refl
 any_middle c x (y ∷ s) t = or_swap (same_class c x) (same_class c y) (list_any (same_class c) (s ++ t))
     ∙ ap (λ (b : Bool). same_class c y || b) (any_middle c x s t)
 
--- what is left out depends on which classes were seen, and not on their order
-pub once_same : (xs s t : List ClassId) → ((c : ClassId) → list_any (same_class c) s ≡ list_any (same_class c) t)
+-- what is left out depends on which classes of the list were seen
+once_alike : (xs s t : List ClassId) → All (λ c. list_any (same_class c) s ≡ list_any (same_class c) t) xs
     → each_once s xs ≡ each_once t xs
 unfolding each_once
-once_same [] s t h = refl
-once_same (x ∷ xs) s t h =
+once_alike [] s t h = refl
+once_alike (x ∷ xs) s t h =
+    let rest = All-tail (λ c. list_any (same_class c) s ≡ list_any (same_class c) t) x xs h in
     cond_same (list_any (same_class x) s) (list_any (same_class x) t) (each_once s xs) (x ∷ each_once (x ∷ s) xs)
-    (each_once t xs) (x ∷ each_once (x ∷ t) xs) (h x) (once_same xs s t h)
+    (each_once t xs) (x ∷ each_once (x ∷ t) xs)
+    (All-head (λ c. list_any (same_class c) s ≡ list_any (same_class c) t) x xs h) (once_alike xs s t rest)
     (ap (λ (ys : List ClassId). x ∷ ys)
-    (once_same xs (x ∷ s) (x ∷ t) (λ c. ap (λ (b : Bool). same_class c x || b) (h c))))
+    (once_alike xs (x ∷ s) (x ∷ t)
+    (All-weaker (λ c. list_any (same_class c) s ≡ list_any (same_class c) t)
+    (λ c. list_any (same_class c) (x ∷ s) ≡ list_any (same_class c) (x ∷ t))
+    (λ c is. ap (λ (b : Bool). same_class c x || b) is) xs rest)))
+
+-- and not on their order
+pub once_same : (xs s t : List ClassId) → ((c : ClassId) → list_any (same_class c) s ≡ list_any (same_class c) t)
+    → each_once s xs ≡ each_once t xs
+once_same xs s t h = once_alike xs s t (λ k d within. h (get_or xs k d))
 
 pub once_append : (xs ys s : List ClassId)
     → each_once s (xs ++ ys) ≡ each_once s xs ++ each_once (s ++ each_once s xs) ys
@@ -99,6 +110,17 @@ once_drop (x ∷ xs) s t h =
 
 pub once_twice : (s xs : List ClassId) → each_once s (each_once [] xs) ≡ each_once s xs
 once_twice s xs = once_drop xs s [] (λ c is. absurd cc)
+
+-- a class that isn't in a list, before it
+pub once_before : (x : ClassId) (xs : List ClassId) → All (λ c. same_class c x ≡ false) xs
+    → each_once [] (x ∷ each_once [] xs) ≡ x ∷ each_once [] xs
+unfolding each_once
+once_before x xs h =
+    ap (λ (t : List ClassId). x ∷ t)
+    (once_twice (x ∷ []) xs
+    ∙ once_alike xs (x ∷ []) []
+    (All-weaker (λ c. same_class c x ≡ false) (λ c. list_any (same_class c) (x ∷ []) ≡ false)
+    (λ c is. ap (λ (b : Bool). b || false) is) xs h))
 
 pub once_one : (s : List ClassId) (x : ClassId) → each_once s (x ∷ []) ≡ cond (list_any (same_class x) s) [] (x ∷ [])
 unfolding each_once

@@ -4,7 +4,7 @@ use Rattle.std.proofs.Common.{List, [], ◌∷◌, ◌++◌, length, get_or, set
 use Rattle.std.proofs.Common.{subst, arith}
 use Rattle.std.specs.List.{All, filter_map, flat_map, list_all, list_any}
 use Rattle.std.proofs.lemmas.Bool.{both_ways, cases_eq, and_parts}
-use Rattle.std.proofs.lemmas.List.{flat_map_more, get_or_default, get_or-set_other, get_or-set_same, length-set}
+use Rattle.std.proofs.lemmas.List.{flat_map_more, get_or-set_other, get_or-set_same, length-set}
 use Rattle.std.proofs.lemmas.List.{take_all, take_more}
 use Rattle.std.proofs.lemmas.List.Elements.{All-cons, All-head, All-nil, All-set, All-tail, All-weaker}
 use Rattle.std.proofs.lemmas.List.Elements.{filter_map-append}
@@ -17,14 +17,14 @@ use Rattle.lib_table.proofs.Computed.{count}
 use Rattle.class_pool.specs.declared.id.ClassId.{ClassId}
 use Rattle.class_pool.specs.declared.id.ClassId.TheVariants.{Prog, Lib}
 use Rattle.class_pool.specs.declared.hierarchy.superinterfaces.Filling.{Filling}
-use Rattle.class_pool.specs.bodies.Filling.{AreFilled, IsFilling, is_filled}
+use Rattle.class_pool.specs.bodies.Filling.{AreFilled, IsFilling, IsOnce, is_filled}
 use Rattle.class_pool.specs.bodies.Graph.{id_at, number}
 use Rattle.class_pool.specs.Hierarchy.{IsClass, class_named, classes_named, interfaces}
 use Rattle.class_pool.specs.bodies.Lists.{AreOwn, AreSteps, list_at}
 use Rattle.class_pool.specs.Ranks.{HasRanks}
 use Rattle.class_pool.specs.bodies.Marked.{Classes, IsBelow}
 use Rattle.class_pool.specs.Walk.{each_once, highest, own_superinterfaces, same_class, walked}
-use Rattle.class_pool.proofs.EachOnce.{once_append, once_twice}
+use Rattle.class_pool.proofs.EachOnce.{bool_cases, once_append, once_before, once_twice, same_is}
 use Rattle.class_pool.proofs.Graphing.{is_there, none_over, some_taken}
 use Rattle.class_pool.proofs.Marking.{same_place}
 use Rattle.class_pool.proofs.Directs.{id_at_number}
@@ -100,13 +100,20 @@ pub below_all : (classes : List Class) (ids : List ClassId) → All (IsClass cla
 below_all classes ids h = All-weaker (IsClass classes) (IsBelow (length library + length classes))
     (λ a. is_below classes a) ids h
 
+lower_differs : (rank : ClassId → ℕ) (x a : ClassId) → rank x < rank a → same_class x a ≡ false
+lower_differs rank x a low =
+    ⊎_elim
+    (λ same. let is = ap rank (same_is x a same) in absurd (omega (arith, low, is)))
+    (λ other. other)
+    (bool_cases (same_class x a))
+
 pub list_is : (classes : List Class) (f : Filling) (a : ClassId) (ids : List ClassId) → AreSteps classes
     → IsFilling classes f → IsClass classes a → AreFilled f.filled.items (interfaces classes a)
-    → ids ≡ each_once [] (flat_map (λ i. i ∷ list_at f.lists.items i) (interfaces classes a))
+    → ids ≡ each_once [] (flat_map (λ i. i ∷ list_at f.lists i) (interfaces classes a))
     → ids ≡ each_once [] (own_superinterfaces classes a)
 list_is classes f a ids steps h a-in filled is =
     is
-    ∙ once_lists (list_at f.lists.items) (own_superinterfaces classes) (interfaces classes a) []
+    ∙ once_lists (list_at f.lists) (own_superinterfaces classes) (interfaces classes a) []
     (λ k d within. h.own (get_or (interfaces classes a) k d) (interfaces_valid classes a k d within)
     (filled k d within))
     ∙ ap (each_once []) (sym (steps a a-in))
@@ -120,16 +127,21 @@ once_all P (x ∷ xs) s h =
       | false ↦ All-cons P x (each_once (x ∷ s) xs) (All-head P x xs h) (once_all P xs (x ∷ s) (All-tail P x xs h))
     ]
 
-walked_valid : (classes : List Class) (n : ℕ) (is : List ClassId) → All (IsClass classes) is
-    → All (IsClass classes) (walked n classes is)
+-- what superinterfaces keep holds of all of them
+pub walked_all : (P : ClassId → Type 0) (classes : List Class) → ((x : ClassId) → P x → All P (interfaces classes x))
+    → (n : ℕ) (is : List ClassId) → All P is → All P (walked n classes is)
 unfolding walked
-walked_valid classes zero is h = All-nil (IsClass classes)
-walked_valid classes (suc n) is h =
-    all_flat (IsClass classes) (λ i. i ∷ walked n classes (interfaces classes i)) is
+walked_all P classes closed zero is h = All-nil P
+walked_all P classes closed (suc n) is h =
+    all_flat P (λ i. i ∷ walked n classes (interfaces classes i)) is
     (λ k d within.
     let i = get_or is k d in
-    All-cons (IsClass classes) i (walked n classes (interfaces classes i)) (h k d within)
-    (walked_valid classes n (interfaces classes i) (interfaces_valid classes i)))
+    All-cons P i (walked n classes (interfaces classes i)) (h k d within)
+    (walked_all P classes closed n (interfaces classes i) (closed i (h k d within))))
+
+walked_valid : (classes : List Class) (n : ℕ) (is : List ClassId) → All (IsClass classes) is
+    → All (IsClass classes) (walked n classes is)
+walked_valid classes = walked_all (IsClass classes) classes (λ x h. interfaces_valid classes x)
 
 pub own_valid : (classes : List Class) (a : ClassId)
     → All (IsClass classes) (each_once [] (own_superinterfaces classes a))
@@ -139,11 +151,11 @@ own_valid classes a = once_all (IsClass classes) (own_superinterfaces classes a)
 pub filling_put : (classes : List Class) (f g : Filling) (a : ClassId) (place : ℕ) (ids : List ClassId)
     → AreSteps classes → IsFilling classes f → IsClass classes a → place ≡ number a
     → AreFilled f.filled.items (interfaces classes a)
-    → ids ≡ each_once [] (flat_map (λ i. i ∷ list_at f.lists.items i) (interfaces classes a))
-    → g.lists.items ≡ set f.lists.items place ids → g.filled.items ≡ set f.filled.items place true
+    → ids ≡ each_once [] (flat_map (λ i. i ∷ list_at f.lists i) (interfaces classes a))
+    → g.lists ≡ set f.lists place ids → g.filled.items ≡ set f.filled.items place true
     → g.met.count ≡ f.met.count → g.met.ids ≡ [] → IsFilling classes g
 filling_put classes f g a place ids steps h a-in at filled ids-is lists-is filled-is count-is none-is =
-    let ls : g.lists.items ≡ set f.lists.items (number a) ids = lists-is ∙ ap (λ (k : ℕ). set f.lists.items k ids) at in
+    let ls : g.lists ≡ set f.lists (number a) ids = lists-is ∙ ap (λ (k : ℕ). set f.lists k ids) at in
     let fs : g.filled.items ≡ set f.filled.items (number a) true = filled-is
     ∙ ap (λ (k : ℕ). set f.filled.items k true) at in
     let own : ids ≡ each_once [] (own_superinterfaces classes a) = list_is classes f a ids steps h a-in filled ids-is in
@@ -152,31 +164,56 @@ filling_put classes f g a place ids steps h a-in at filled ids-is lists-is fille
     let long-f = h.filled in
     record {
       few = h.few;
-      lists = ap (λ (t : List (List ClassId)). length t) ls ∙ length-set f.lists.items (number a) ids ∙ h.lists;
+      lists = ap (λ (t : List (List ClassId)). length t) ls ∙ length-set f.lists (number a) ids ∙ h.lists;
       filled = ap (λ (t : List Bool). length t) fs ∙ length-set f.filled.items (number a) true ∙ h.filled;
       count = count-is ∙ h.count;
       none = none-is;
       there =
           subst (All (All (IsClass classes))) (sym ls)
-          (All-set (All (IsClass classes)) f.lists.items (number a) ids
+          (All-set (All (IsClass classes)) f.lists (number a) ids
           (subst (All (IsClass classes)) (sym own) (own_valid classes a)) h.there);
       own = λ b b-in yes-b.
           ⊎_elim
           (λ same.
           let is : b ≡ a = same_place b a (is_there classes b b-in) (is_there classes a a-in) same in
           ap (λ (t : List (List ClassId)). get_or t (number b) []) ls
-          ∙ ap (λ (k : ℕ). get_or (set f.lists.items (number a) ids) k []) same
-          ∙ get_or-set_same f.lists.items (number a) ids [] (omega (arith, low, long-l))
+          ∙ ap (λ (k : ℕ). get_or (set f.lists (number a) ids) k []) same
+          ∙ get_or-set_same f.lists (number a) ids [] (omega (arith, low, long-l))
           ∙ own
           ∙ ap (λ (x : ClassId). each_once [] (own_superinterfaces classes x)) (sym is))
           (λ other.
           ap (λ (t : List (List ClassId)). get_or t (number b) []) ls
-          ∙ get_or-set_other f.lists.items (number a) (number b) ids [] other
+          ∙ get_or-set_other f.lists (number a) (number b) ids [] other
           ∙ h.own b b-in
           (sym (ap (λ (t : List Bool). get_or t (number b) false) fs
           ∙ get_or-set_other f.filled.items (number a) (number b) true false other) ∙ yes-b))
           (cases_eq (number b) (number a));
     }
+
+-- a class and its list have each class once, since no class is among its own superinterfaces
+own_once : (classes : List Class) (r : HasRanks classes) (a : ClassId) → IsClass classes a
+    → All (λ c. same_class c a ≡ false) (own_superinterfaces classes a)
+own_once classes r a a-in =
+    All-weaker (λ x. IsClass classes x × (r.rank x < r.rank a)) (λ x. same_class x a ≡ false)
+    (λ x h. lower_differs r.rank x a h.1) (own_superinterfaces classes a)
+    (walked_all (λ x. IsClass classes x × (r.rank x < r.rank a)) classes
+    (λ x h k d within.
+    let below = interfaces_fall classes r.rank x r.falls h.0 k d within in
+    let low = h.1 in
+    (interfaces_valid classes x k d within, omega (arith, below, low)))
+    highest (interfaces classes a)
+    (λ k d within. (interfaces_valid classes a k d within, interfaces_fall classes r.rank a r.falls a-in k d within)))
+
+pub lists_once : (classes : List Class) → HasRanks classes → (f : Filling) (a : ClassId) (is : List ClassId)
+    → IsFilling classes f → IsClass classes a → AreFilled f.filled.items (interfaces classes a)
+    → is ≡ interfaces classes a → All (λ i. IsOnce (i ∷ list_at f.lists i)) is
+lists_once classes r f a is h a-in filled is-is =
+    subst (All (λ i. IsOnce (i ∷ list_at f.lists i))) (sym is-is)
+    (λ k d within.
+    let i = get_or (interfaces classes a) k d in
+    let i-in = interfaces_valid classes a k d within in
+    subst (λ (t : List ClassId). IsOnce (i ∷ t)) (sym (h.own i i-in (filled k d within)))
+    (once_before i (own_superinterfaces classes i) (own_once classes r i i-in)))
 
 pub filled_now : (filled new : List Bool) (a : ClassId) (place : ℕ) → number a < length filled → place ≡ number a
     → new ≡ set filled place true → is_filled new a ≡ true
@@ -185,7 +222,7 @@ filled_now filled new a place low at is =
     ∙ get_or-set_same filled (number a) true false low
 
 pub filling_none : (classes : List Class) (f : Filling) (total : ℕ) → length classes ≤ 4294967295
-    → total ≡ length library + length classes → length f.lists.items ≡ total → All (λ ids. ids ≡ []) f.lists.items
+    → total ≡ length library + length classes → length f.lists ≡ total → All (λ ids. ids ≡ []) f.lists
     → length f.filled.items ≡ total → All (λ b. b ≡ false) f.filled.items → f.met ≡ record { count = total; ids = [] }
     → IsFilling classes f
 filling_none classes f total few count-is lists-long lists-none filled-long filled-none met-is = record {
@@ -195,7 +232,7 @@ filling_none classes f total few count-is lists-long lists-none filled-long fill
   count = ap (λ (m : Classes). m.count) met-is ∙ count-is;
   none = ap (λ (m : Classes). m.ids) met-is;
   there = All-weaker (λ ids. ids ≡ []) (All (IsClass classes))
-      (λ ids is. subst (All (IsClass classes)) (sym is) (All-nil (IsClass classes))) f.lists.items lists-none;
+      (λ ids is. subst (All (IsClass classes)) (sym is) (All-nil (IsClass classes))) f.lists lists-none;
   own = λ a a-in yes-a.
       let low = (is_below classes a a-in).1 in
       absurd (both_ways _ (filled-none (number a) false (omega (arith, low, filled-long, count-is))) yes-a);
@@ -207,7 +244,7 @@ steps_of classes r few a a-in =
     own_next classes r.rank a r.falls a-in (omega (arith, most, few, count))
 
 pub own_of : (classes : List Class) (f : Filling) → IsFilling classes f
-    → ((a : ClassId) → IsClass classes a → is_filled f.filled.items a ≡ true) → AreOwn classes f.lists.items
+    → ((a : ClassId) → IsClass classes a → is_filled f.filled.items a ≡ true) → AreOwn classes f.lists
 own_of classes f h full = record {
   count = h.lists;
   there = h.there;
@@ -281,20 +318,10 @@ pub all_filled : (fs filled : List Bool) (ids is : List ClassId) (r : Bool) → 
 all_filled fs filled ids is r fs-is ids-is r-is is-true = list_to_all (is_filled filled) is
     (sym (filled_read fs filled ids is r fs-is ids-is r-is) ∙ is-true)
 
-pub walked_ids : (lists ls : List (List ClassId)) (is ids m t : List ClassId) → m ≡ [] → ls ≡ lists → ids ≡ is
-    → t ≡ m ++ each_once m (flat_map (λ i. i ∷ list_at ls i) ids)
-    → t ≡ each_once [] (flat_map (λ i. i ∷ list_at lists i) is)
-walked_ids lists ls is ids m t none ls-is ids-is t-is =
-    t-is
-    ∙ ap (λ (s : List ClassId). s ++ each_once s (flat_map (λ i. i ∷ list_at ls i) ids)) none
-    ∙ ap (λ (l : List (List ClassId)). each_once [] (flat_map (λ i. i ∷ list_at l i) ids)) ls-is
-    ∙ ap (λ (l : List ClassId). each_once [] (flat_map (λ i. i ∷ list_at lists i) l)) ids-is
-
-pub list_read : (lists : List (List ClassId)) (x y : ClassId) (n m : ℕ) (r t : List ClassId) → t ≡ r
-    → r ≡ get_or lists n r → n ≡ number x → x ≡ y → number y < m → length lists ≡ m → t ≡ list_at lists y
-list_read lists x y n m r t t-is r-is n-is same low long =
-    let at : n ≡ number y = n-is ∙ ap number same in
-    t-is ∙ r-is ∙ get_or_default lists n r [] (omega (arith, at, low, long)) ∙ ap (λ (k : ℕ). get_or lists k []) at
+pub list_read : (lists : List (List ClassId)) (x y : ClassId) (n : ℕ) (t : List ClassId) → slice_get lists n ≡ Some t
+    → n ≡ number x → x ≡ y → t ≡ list_at lists y
+list_read lists x y n t is n-is same = sym (get_or_from_slice_get lists n t [] is)
+    ∙ ap (λ (k : ℕ). get_or lists k []) (n-is ∙ ap number same)
 
 -- ---- the lists of a set
 

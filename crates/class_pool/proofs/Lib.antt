@@ -20,6 +20,7 @@ pub mod Walking
 pub mod Ranking
 pub mod Marking
 pub mod FillingLaws
+pub mod Sharing
 pub mod SupersLaws
 pub mod ObjectLaws
 pub mod Declaring

@@ -1,6 +1,6 @@
 -- A name that is longer than all names is none of them.
 use Rattle.std.proofs.Common.{◌≡◌, ℕ, ◌+◌, ◌<◌, ◌≤◌, Bool, true, false, cond, List, [], ◌∷◌, length, get_or, Some, None}
-use Rattle.std.proofs.Common.{max, refl, sym, ap, subst, ◌∙◌, arith, nat_lt, Option, ◌⊎◌, ⊎_elim}
+use Rattle.std.proofs.Common.{max, refl, sym, ap, ◌∙◌, arith, nat_lt}
 use Rattle.std.specs.List.{All, position, position_or_len}
 use Rattle.std.proofs.lemmas.Bool.Decides.{nat_tests}
 use Rattle.std.proofs.lemmas.List.{get_or_default}

@@ -1,12 +1,12 @@
 -- The list of supertypes has just the proper supertypes.
-use Rattle.std.proofs.Common.{append_assoc, ◌≡◌, ⊎_elim, ℕ, zero, suc, ◌+◌, ◌<◌, ◌≤◌, ◌⊎◌, inl, inr, Bool}
+use Rattle.std.proofs.Common.{◌≡◌, ⊎_elim, ℕ, zero, suc, ◌+◌, ◌<◌, ◌≤◌, ◌⊎◌, inl, inr, Bool}
 use Rattle.std.proofs.Common.{false, ◌||◌, ◌↔◌, IsTrue, nat_lt, List, [], ◌∷◌, ◌++◌, length, get_or, take, Option, Some}
 use Rattle.std.proofs.Common.{None, refl, sym, ap, subst, ◌∙◌, arith}
 use Rattle.std.specs.Prelude.{IfSome}
 use Rattle.std.specs.List.{All, Contains, cons_option, flat_map, list_any, remove}
 use Rattle.std.specs.Option.{option_map_or}
 use Rattle.std.proofs.lemmas.Bool.{both_ways, ltb-true, lt-ltb, or_cases, or_parts}
-use Rattle.std.proofs.lemmas.List.{append-nil, flat_map_more, get_or-append-add, take_more}
+use Rattle.std.proofs.lemmas.List.{flat_map_more, take_more}
 use Rattle.std.proofs.lemmas.List.Folds.{list_any-append}
 use Rattle.std.proofs.lemmas.List.Elements.{All-append, All-cons, All-nil, All-weaker}
 use Rattle.jv_base.proofs.Lists.{all_flat}
@@ -26,7 +26,7 @@ use Rattle.class_pool.specs.Walk.{superinterfaces, supers, upwards, walked}
 use Rattle.class_pool.specs.bodies.Marked.{IsBelow}
 use Rattle.class_pool.proofs.Among.{any_once}
 use Rattle.class_pool.proofs.EachOnce.{bool_cases, same_is, same_itself}
-use Rattle.class_pool.proofs.FillingLaws.{below_all, once_then}
+use Rattle.class_pool.proofs.FillingLaws.{below_all, once_then, walked_all}
 use Rattle.class_pool.proofs.Directs.{class_cases, direct_valid, none_above, proper_direct, proper_on}
 use Rattle.class_pool.proofs.Walking.{Falls, first_of, interfaces_fall, interfaces_valid, no_rank, rest_of}
 use Rattle.class_pool.proofs.Within.{In, in_contains, in_first, in_flat, in_left, in_next, in_right}
@@ -66,18 +66,6 @@ up_all classes (suc n) a c h =
     (opt_all (AtOrAbove classes a) (Proper classes a) (upwards n classes) (superclass classes c)
     (first_of (Proper classes a) (superclass classes c) (interfaces classes c) (direct_proper classes a c h))
     (λ d p. up_all classes n a d (p.0, inr p.1)))
-
--- what superinterfaces keep holds of all of them
-walked_all : (P : ClassId → Type 0) (classes : List Class) → ((x : ClassId) → P x → All P (interfaces classes x))
-    → (n : ℕ) (is : List ClassId) → All P is → All P (walked n classes is)
-unfolding walked
-walked_all P classes closed zero is h = All-nil P
-walked_all P classes closed (suc n) is h =
-    all_flat P (λ i. i ∷ walked n classes (interfaces classes i)) is
-    (λ k d within.
-    let i = get_or is k d in
-    All-cons P i (walked n classes (interfaces classes i)) (h k d within)
-    (walked_all P classes closed n (interfaces classes i) (closed i (h k d within))))
 
 interfaces_proper : (classes : List Class) (a c : ClassId) → AtOrAbove classes a c
     → All (Proper classes a) (interfaces classes c)

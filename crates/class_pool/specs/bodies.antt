@@ -6,6 +6,7 @@ pub mod Descriptors
 pub mod Graph
 pub mod Marked
 pub mod Lists
+pub mod SharedLists
 pub mod Filling
 pub mod Tables
 pub mod Cycles

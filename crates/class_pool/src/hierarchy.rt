@@ -5,6 +5,7 @@ pub mod cycles;
 pub mod graph;
 pub mod met;
 pub mod rounds;
+pub mod shared_lists;
 pub mod superclasses;
 pub mod superinterfaces;
 pub mod supers;

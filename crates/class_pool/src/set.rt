@@ -20,6 +20,7 @@ pub mod package;
 
 use crate::ClassId;
 use crate::hierarchy::graph::number;
+use crate::hierarchy::shared_lists::SharedLists;
 use crate::hierarchy::supers::supers_of;
 use crate::id::{has_class, is_same_class};
 use crate::set::lookup::ClassesByName;
@@ -40,7 +41,7 @@ pub struct ClassSet {
     pub(crate) descriptors: Items<Items<Text>>,
     pub(crate) library: Items<LibId>,
     /// For each class, by its number, the superinterfaces that it has itself.
-    pub(crate) superinterfaces: Items<Items<ClassId>>,
+    pub(crate) superinterfaces: SharedLists,
     /// Object, where its name leads to a class.
     pub(crate) object: Option<ClassId>,
     /// For each class its superclass.
@@ -155,7 +156,7 @@ impl ClassSet {
         ensures are { result.now ≡ each_once [] (own_superinterfaces self.now id) }
         ensures there { All (IsClass self.now) result.now }
     {
-        self.superinterfaces[number(&self.library, id)].as_slice()
+        self.superinterfaces.at(number(&self.library, id))
     }
 
     /// No class of the set is its own supertype (JVMS 5.3.5). It does nothing.

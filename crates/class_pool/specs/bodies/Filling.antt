@@ -18,16 +18,20 @@ is_filled filled a = slice_index_or filled (number a) false
 abbrev pub AreFilled : List Bool → List ClassId → Type 0
 AreFilled filled ids = All (λ b. is_filled filled b ≡ true) ids
 
+-- each class stands once
+abbrev pub IsOnce : List ClassId → Type 0
+IsOnce ids = each_once [] ids ≡ ids
+
 -- the lists that are there are right
 pub record IsFilling (classes : List Class) (f : Filling) : Type 0 where
   pub few : length classes ≤ 4294967295
-  pub lists : length f.lists.items ≡ length library + length classes
+  pub lists : length f.lists ≡ length library + length classes
   pub filled : length f.filled.items ≡ length library + length classes
   pub count : f.met.count ≡ length library + length classes
   pub none : f.met.ids ≡ []
-  pub there : All (All (IsClass classes)) f.lists.items
+  pub there : All (All (IsClass classes)) f.lists
   pub own : (a : ClassId) → IsClass classes a → is_filled f.filled.items a ≡ true
-      → list_at f.lists.items a ≡ each_once [] (own_superinterfaces classes a)
+      → list_at f.lists a ≡ each_once [] (own_superinterfaces classes a)
 
 -- each class that is filled stays so
 abbrev pub Keeps : List Bool → List Bool → Type 0

@@ -16,6 +16,7 @@ ghost use Rattle.class_pool.specs.bodies.Tables.{AreMembers, AreTables, IsAbove}
 use crate::hierarchy::cycles::check_cycles;
 use crate::hierarchy::graph::{graph_of, library_of};
 use crate::hierarchy::rounds::{check_names, check_supertypes};
+use crate::hierarchy::shared_lists::SharedLists;
 use crate::hierarchy::superclasses::superclasses_of;
 use crate::hierarchy::superinterfaces::superinterfaces_of;
 use crate::set::descriptors::descriptors_of;
@@ -91,7 +92,7 @@ struct Tables {
 #[derive(Drop)]
 struct Above {
     library: Items<LibId>,
-    superinterfaces: Items<Items<ClassId>>,
+    superinterfaces: SharedLists,
 }
 
 /// For each class of a set how its members are found, and the descriptors of its methods.
@@ -173,7 +174,7 @@ fn ordered_superinterfaces(
     alloc: Global,
     classes: &ClassesByName,
     library: &Items<LibId>,
-) -> M<Items<Items<ClassId>>>
+) -> M<SharedLists>
     requires library { library.now ≡ library_ids }
     requires ranks { HasRanks classes.now }
     ensures { IfOk result (AreOwn classes.now) }

@@ -1,10 +1,10 @@
 // The superinterfaces that each class has itself, as lists.
-ghost use Rattle.std.specs.Prelude.{◌≡◌, ◌+◌, ◌++◌, ◌<◌, ℕ, false, true, [], ◌∷◌, length, IfOk, IsTrue, OnOk, Some};
+ghost use Rattle.std.specs.Prelude.{◌≡◌, ◌+◌, ◌++◌, ◌<◌, ℕ, false, true, [], ◌∷◌, length, set, IfOk, IsTrue, OnOk, Some};
 ghost use Rattle.std.specs.List.{All, filter_map, flat_map, list_all};
 ghost use Rattle.lib_table.specs.Lookups.{interfaces_of};
 ghost use Rattle.class_pool.specs.declared.id.ClassId.{ClassId};
-ghost use Rattle.class_pool.specs.bodies.Filling.{AreFilled, IsFilling, Keeps, is_filled};
-ghost use Rattle.class_pool.specs.bodies.Lists.{AreOwn, AreSteps, list_at};
+ghost use Rattle.class_pool.specs.bodies.Filling.{AreFilled, IsFilling, IsOnce, Keeps, is_filled};
+ghost use Rattle.class_pool.specs.bodies.Lists.{AreOwn, list_at};
 ghost use Rattle.class_pool.specs.Ranks.{HasRanks};
 ghost use Rattle.class_pool.specs.bodies.Graph.{library_ids};
 ghost use Rattle.class_pool.specs.Hierarchy.{IsClass, classes_named, interfaces};
@@ -14,6 +14,7 @@ ghost use Rattle.class_pool.specs.Walk.{each_once};
 use crate::ClassId;
 use crate::hierarchy::graph::number;
 use crate::hierarchy::met::Met;
+use crate::hierarchy::shared_lists::SharedLists;
 use crate::hierarchy::supers::id_at;
 use crate::set::lookup::ClassesByName;
 use jv_base::{Items, M, Name};
@@ -23,7 +24,7 @@ use std::alloc::Global;
 /// Lists of superinterfaces by the numbers of their classes, while they are made.
 #[derive(Drop)]
 pub(crate) struct Filling {
-    lists: Vec<Items<ClassId>>,
+    lists: SharedLists,
     /// Whether a class has its list.
     filled: Vec<bool>,
     met: Met,
@@ -36,7 +37,7 @@ pub(crate) fn superinterfaces_of(
     classes: &ClassesByName,
     library: &Items<LibId>,
     order: &[usize],
-) -> M<Items<Items<ClassId>>>
+) -> M<SharedLists>
     requires library { library.now ≡ library_ids }
     requires ranks { HasRanks classes.now }
     ensures { IfOk result (AreOwn classes.now) }
@@ -46,11 +47,11 @@ pub(crate) fn superinterfaces_of(
     fill_in_order(alloc, classes, library, &mut filling, order)?;
     for _ in 0..count + 1 {
         if is_full(filling.filled.as_slice()) {
-            return Ok(Items::from_vec(filling.lists));
+            return Ok(filling.lists);
         }
         fill_each(alloc, classes, library, &mut filling)?;
     }
-    Ok(Items::from_vec(filling.lists))
+    Ok(filling.lists)
 }
 
 fn is_full(filled: &[bool]) -> bool
@@ -60,16 +61,12 @@ fn is_full(filled: &[bool]) -> bool
 }
 
 fn filling_of(alloc: Global, count: usize) -> M<Filling>
-    ensures lists { IfOk result (λ f. (length f.lists.items ≡ count) × All (λ ids. ids ≡ []) f.lists.items) }
+    ensures lists { IfOk result (λ f. (length f.lists ≡ count) × All (λ ids. ids ≡ []) f.lists) }
     ensures filled { IfOk result (λ f. (length f.filled.items ≡ count) × All (λ b. b ≡ false) f.filled.items) }
     ensures met { IfOk result (λ f. f.met ≡ record { count = count; ids = [] }) }
 {
-    let mut lists = Vec::new(alloc);
-    for _ in 0..count {
-        lists.push(Items::new(alloc))?;
-    }
     Ok(Filling {
-        lists,
+        lists: SharedLists::new(alloc, count)?,
         filled: vec![in alloc; false; count]?,
         met: Met::new(alloc, count)?,
     })
@@ -83,12 +80,12 @@ fn fill_in_order(
     order: &[usize],
 ) -> M<()>
     requires library { library.now ≡ library_ids }
-    requires steps { AreSteps classes.now }
+    requires ranks { HasRanks classes.now }
     requires filling { IsFilling classes.now filling.old }
     ensures { OnOk result (IsFilling classes.now filling.new) }
 {
     for place in order {
-        if *place < filling.lists.as_slice().len() {
+        if *place < filling.lists.len() {
             fill(alloc, classes, library, filling, &id_at(library, *place))?;
         }
     }
@@ -103,7 +100,7 @@ fn fill_each(
     filling: &mut Filling,
 ) -> M<()>
     requires library { library.now ≡ library_ids }
-    requires steps { AreSteps classes.now }
+    requires ranks { HasRanks classes.now }
     requires filling { IsFilling classes.now filling.old }
     ensures filling { OnOk result (IsFilling classes.now filling.new) }
     ensures keeps { OnOk result (Keeps filling.old.filled.items filling.new.filled.items) }
@@ -111,7 +108,7 @@ fn fill_each(
         → AreFilled filling.old.filled.items (interfaces classes.now a)
         → is_filled filling.new.filled.items a ≡ true) }
 {
-    for place in 0..filling.lists.as_slice().len() {
+    for place in 0..filling.lists.len() {
         fill(alloc, classes, library, filling, &id_at(library, place))?;
     }
     Ok(())
@@ -126,7 +123,7 @@ fn fill(
     id: &ClassId,
 ) -> M<()>
     requires library { library.now ≡ library_ids }
-    requires steps { AreSteps classes.now }
+    requires ranks { HasRanks classes.now }
     requires there { IsClass classes.now id.now }
     requires filling { IsFilling classes.now filling.old }
     ensures filling { OnOk result (IsFilling classes.now filling.new) }
@@ -142,15 +139,39 @@ fn fill(
     if !are_filled(library, filling.filled.as_slice(), interfaces.as_slice()) {
         return Ok(());
     }
-    walk(
-        library,
-        filling.lists.as_slice(),
-        &mut filling.met,
-        interfaces.as_slice(),
-    )?;
-    filling.lists[place] = filling.met.take(alloc, library);
+    put_list(alloc, library, filling, place, interfaces.as_slice())?;
     filling.filled[place] = true;
     Ok(())
+}
+
+/// Gives a class its list: these interfaces, each with its list behind it. That of one interface is shared.
+fn put_list(
+    alloc: Global,
+    library: &Items<LibId>,
+    filling: &mut Filling,
+    place: usize,
+    interfaces: &[ClassId],
+) -> M<()>
+    requires library { library.now ≡ library_ids }
+    requires place { place < length filling.old.lists }
+    requires count { length filling.old.lists ≡ filling.old.met.count }
+    requires none { filling.old.met.ids ≡ [] }
+    requires lists { All (All (IsBelow filling.old.met.count)) filling.old.lists }
+    requires below { All (IsBelow filling.old.met.count) interfaces.now }
+    requires once { All (λ i. IsOnce (i ∷ list_at filling.old.lists i)) interfaces.now }
+    ensures filled { filling.new.filled ≡ filling.old.filled }
+    ensures count { filling.new.met.count ≡ filling.old.met.count }
+    ensures none { OnOk result (filling.new.met.ids ≡ []) }
+    ensures list { OnOk result (filling.new.lists ≡ set filling.old.lists place
+        (each_once [] (flat_map (λ i. i ∷ list_at filling.old.lists i) interfaces.now))) }
+{
+    if let [above] = interfaces {
+        let behind = number(library, *above);
+        return filling.lists.put_before(alloc, place, above, behind);
+    }
+    walk(library, &filling.lists, &mut filling.met, interfaces)?;
+    let ids = filling.met.take(alloc, library);
+    filling.lists.put(place, ids)
 }
 
 fn are_filled(library: &Items<LibId>, filled: &[bool], ids: &[ClassId]) -> bool
@@ -167,12 +188,7 @@ fn are_filled(library: &Items<LibId>, filled: &[bool], ids: &[ClassId]) -> bool
 }
 
 /// Meets each of these interfaces, and after it those of its list.
-fn walk(
-    library: &Items<LibId>,
-    lists: &[Items<ClassId>],
-    met: &mut Met,
-    interfaces: &[ClassId],
-) -> M<()>
+fn walk(library: &Items<LibId>, lists: &SharedLists, met: &mut Met, interfaces: &[ClassId]) -> M<()>
     requires library { library.now ≡ library_ids }
     requires count { length lists.now ≡ met.old.count }
     requires lists { All (All (IsBelow met.old.count)) lists.now }
@@ -183,7 +199,7 @@ fn walk(
 {
     for id in interfaces {
         met.meet(library, id)?;
-        met.meet_all(library, lists[number(library, *id)].as_slice())?;
+        met.meet_all(library, lists.at(number(library, *id)))?;
     }
     Ok(())
 }

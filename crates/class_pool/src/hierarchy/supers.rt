@@ -13,6 +13,7 @@ ghost use Rattle.class_pool.specs.Walk.{each_once, superclasses_from, supers};
 use crate::ClassId;
 use crate::hierarchy::graph::number;
 use crate::hierarchy::met::Met;
+use crate::hierarchy::shared_lists::SharedLists;
 use crate::set::lookup::ClassesByName;
 use jv_base::{Items, M};
 use lib_table::LibId;
@@ -24,7 +25,7 @@ pub(crate) fn supers_of(
     alloc: Global,
     classes: &ClassesByName,
     library: &Items<LibId>,
-    superinterfaces: &Items<Items<ClassId>>,
+    superinterfaces: &SharedLists,
     id: &ClassId,
     chain: &[ClassId],
 ) -> M<Items<ClassId>>
@@ -47,12 +48,7 @@ pub(crate) fn supers_of(
 }
 
 /// Meets those of the list of each of these classes.
-fn meet_lists(
-    library: &Items<LibId>,
-    lists: &Items<Items<ClassId>>,
-    met: &mut Met,
-    ids: &[ClassId],
-) -> M<()>
+fn meet_lists(library: &Items<LibId>, lists: &SharedLists, met: &mut Met, ids: &[ClassId]) -> M<()>
     requires library { library.now ≡ library_ids }
     requires count { length lists.now ≡ met.old.count }
     requires lists { All (All (IsBelow met.old.count)) lists.now }
@@ -60,7 +56,7 @@ fn meet_lists(
     ensures { OnOk result (met.new.ids ≡ met.old.ids ++ each_once met.old.ids (flat_map (list_at lists.now) ids.now)) }
 {
     for id in ids {
-        met.meet_all(library, lists[number(library, *id)].as_slice())?;
+        met.meet_all(library, lists.at(number(library, *id)))?;
     }
     Ok(())
 }

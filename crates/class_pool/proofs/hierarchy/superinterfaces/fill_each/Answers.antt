@@ -1,5 +1,4 @@
-use Rattle.std.proofs.Common.{⊎_elim, List, length, get_or, ap, arith}
-use Rattle.class_pool.specs.declared.id.ClassId.{ClassId}
+use Rattle.std.proofs.Common.{⊎_elim, get_or, arith}
 use Rattle.class_pool.specs.bodies.Graph.{number}
 use Rattle.class_pool.specs.Hierarchy.{interfaces}
 use Rattle.std.proofs.lemmas.Bool.{cases_lt}
@@ -8,8 +7,7 @@ use Rattle.class_pool.proofs.hierarchy.superinterfaces.fill_each.Goals as goal
 
 pub id_at-requires-clause-there : goal.id_at-requires-clause-there
 id_at-requires-clause-there c =
-    let long = ap (λ (t : List (List ClassId)). length t) c.as_slice-place-end.ensures.value in
-    omega (arith, long, c.requires.filling.few, c.requires.filling.lists, c.loop-place-test.true)
+    omega (arith, c.len-place-end.ensures, c.requires.filling.few, c.requires.filling.lists, c.loop-place-test.true)
 
 pub loop-place-preserved : goal.loop-place-preserved
 loop-place-preserved c = record {

@@ -1,8 +1,7 @@
-use Rattle.std.proofs.Common.{◌≡◌, ◌+◌, ◌≤◌, length, sym, subst, arith}
+use Rattle.std.proofs.Common.{◌≡◌, ◌+◌, ◌≤◌, length, arith}
 use Rattle.lib_table.specs.Library.{library}
 use Rattle.lib_table.proofs.Computed.{count}
-use Rattle.class_pool.specs.bodies.Lists.{AreOwn}
-use Rattle.class_pool.proofs.FillingLaws.{filled_below, filling_none, own_of, steps_of}
+use Rattle.class_pool.proofs.FillingLaws.{filled_below, filling_none, own_of}
 use Rattle.class_pool.proofs.Graphing.{library_length}
 use Rattle.class_pool.proofs.hierarchy.superinterfaces.superinterfaces_of.Goals as goal
 
@@ -10,9 +9,6 @@ pub overflow_add-count : goal.overflow_add-count
 overflow_add-count c =
     let long = library_length c.args.library.now c.requires.library in
     omega (arith, long, count, c.len.ensures, c.len-2.ensures)
-
-pub fill_in_order-requires-clause-steps : goal.fill_in_order-requires-clause-steps
-fill_in_order-requires-clause-steps c = steps_of c.args.classes.now c.requires.ranks (omega (arith, c.len-2.ensures))
 
 pub fill_in_order-requires-clause-filling : goal.fill_in_order-requires-clause-filling
 fill_in_order-requires-clause-filling c =
@@ -23,9 +19,6 @@ fill_in_order-requires-clause-filling c =
     filling_none c.args.classes.now c.in_ok-filling.filling
     (c.len.result + c.len-2.result) few total c.in_ok-filling.ensures.lists.0 c.in_ok-filling.ensures.lists.1
     c.in_ok-filling.ensures.filled.0 c.in_ok-filling.ensures.filled.1 c.in_ok-filling.ensures.met
-
-pub fill_each-requires-clause-steps : goal.fill_each-requires-clause-steps
-fill_each-requires-clause-steps c = steps_of c.args.classes.now c.requires.ranks (omega (arith, c.len-2.ensures))
 
 pub loop-preserved : goal.loop-preserved
 loop-preserved c = record {
@@ -39,9 +32,8 @@ loop-preserved c = record {
 pub returns : goal.returns
 returns c =
     let long = library_length c.args.library.now c.requires.library in
-    subst (AreOwn c.args.classes.now) (sym c.from_vec-2.ensures)
-    (own_of c.args.classes.now c.loop.filling c.loop.invariant.filling
+    own_of c.args.classes.now c.loop.filling c.loop.invariant.filling
     (λ a a-in.
     let most = c.requires.ranks.most a a-in in
     c.loop.invariant.low c.requires.ranks a a-in
-    (omega (arith, long, most, c.len.ensures, c.len-2.ensures, c.loop-test.false))))
+    (omega (arith, long, most, c.len.ensures, c.len-2.ensures, c.loop-test.false)))

@@ -22,11 +22,9 @@ loop-id-preserved c =
     ≡ c.loop-id.met.ids ++ each_once c.loop-id.met.ids (get_or xs c.loop-id.id-index x ∷ []) =
     c.in_ok-meet.ensures.ids
     ∙ ap (λ (y : ClassId). c.loop-id.met.ids ++ each_once c.loop-id.met.ids (y ∷ [])) c.id-item.is in
-    let list : c.as_slice.result.now ≡ list_at c.args.lists.now (get_or xs c.loop-id.id-index x) =
-    list_read c.args.lists.now x
-    (get_or xs c.loop-id.id-index x) c.number.result c.args.met.now.count c.index-lists-number.result
-    c.as_slice.result.now c.as_slice.ensures c.index-lists-number.is c.number.ensures c.id-item.is
-    (c.requires.below c.loop-id.id-index x c.loop-id-test.true).1 c.requires.count in
+    let list : c.at.result.now ≡ list_at c.args.lists.now (get_or xs c.loop-id.id-index x) =
+    list_read c.args.lists.now x (get_or xs c.loop-id.id-index x) c.number.result c.at.result.now c.at.ensures
+    c.number.ensures c.id-item.is in
     record {
       count = c.meet_all.ensures.count ∙ c.meet.ensures.count ∙ c.loop-id.invariant.count;
       ids =

@@ -25,23 +25,18 @@ meet_all-requires-clause-below c =
     let at : c.number.result ≡ number (get_or c.args.ids.now c.loop-id.id-index c.id-item.result) = c.number.ensures
     ∙ ap number c.id-item.is in
     let within : c.number.result < length c.args.lists.now = omega (arith, low, at, c.requires.count) in
-    subst (λ (n : ℕ). All (IsBelow n) c.as_slice.result.now) (sym c.loop-id.invariant.count)
+    subst (λ (n : ℕ). All (IsBelow n) c.at.result.now) (sym c.loop-id.invariant.count)
     (subst (All (IsBelow c.args.met.now.count))
-    (get_or_from_slice_get c.args.lists.now c.number.result c.index.result.now [] c.index.ensures
-    ∙ sym c.as_slice.ensures)
+    (get_or_from_slice_get c.args.lists.now c.number.result c.at.result.now [] c.at.ensures)
     (c.requires.lists c.number.result [] within))
 
 pub loop-id-preserved : goal.loop-id-preserved
 loop-id-preserved c =
     let x : ClassId = c.id-item.result in
     let xs : List ClassId = c.args.ids.now in
-    let list : c.as_slice.result.now ≡ list_at c.args.lists.now (get_or xs c.loop-id.id-index x) =
-    list_read c.args.lists.now x
-    (get_or xs c.loop-id.id-index x) c.number.result c.args.met.now.count c.index.result.now c.as_slice.result.now
-    c.as_slice.ensures
-    (sym (get_or_from_slice_get c.args.lists.now c.number.result c.index.result.now c.index.result.now
-    c.index.ensures)) c.number.ensures c.id-item.is
-    (c.requires.below c.loop-id.id-index x c.loop-id-test.true).1 c.requires.count in
+    let list : c.at.result.now ≡ list_at c.args.lists.now (get_or xs c.loop-id.id-index x) =
+    list_read c.args.lists.now x (get_or xs c.loop-id.id-index x) c.number.result c.at.result.now c.at.ensures
+    c.number.ensures c.id-item.is in
     record {
       count = c.meet_all.ensures.count ∙ c.loop-id.invariant.count;
       ids =
