@@ -44,6 +44,24 @@ library_more names i d ids grown name within before is put =
     ∙ ap (λ (ns : List (Bor (List ℕ))). filter_map (λ (n : Bor (List ℕ)). class_named n.now) ns)
     (sym (take_more names i d within))
 
+named_ids : (names : List (Bor (List ℕ)))
+    → filter_map (λ n. class_named n.now) names ≡ filter_map class_named (map (λ n. n.now) names)
+named_ids [] = refl
+named_ids (n ∷ names) = ap (cons_option (class_named n.now)) (named_ids names)
+
+library_found : filter_map class_named (map (λ c. c.name) library) ≡ library_ids
+unfolding library
+library_found = refl
+
+-- the classes with the names of the table are those of the library
+pub library_all : (names : List (Bor (List ℕ))) (i : ℕ) (ids : List ℕ)
+    → ids ≡ filter_map (λ n. class_named n.now) (take i names) → length names ≤ i
+    → map (λ n. n.now) names ≡ map (λ c. c.name) library → ids ≡ library_ids
+library_all names i ids before over is =
+    before
+    ∙ ap (filter_map (λ (n : Bor (List ℕ)). class_named n.now)) (take_all i names over)
+    ∙ named_ids names ∙ ap (filter_map class_named) is ∙ library_found
+
 few_named : list_all (λ c. nat_le (length c.interfaces) 3) library ≡ true
 unfolding library
 few_named = refl

@@ -7,6 +7,7 @@ ghost use Rattle.class_pool.specs.bodies.Graph.{IsThere, above_class, above_libr
 ghost use Rattle.class_pool.specs.Hierarchy.{classes_named};
 
 use crate::ClassId;
+use crate::library::library_names;
 use crate::set::lookup::ClassesByName;
 use class_model::Class;
 use jv_base::{Items, M, Name, Text};
@@ -133,43 +134,4 @@ fn above_library(alloc: Global, library: &Items<LibId>, id: LibId) -> M<Items<us
         k += 1;
     }
     Ok(numbers)
-}
-
-fn library_names() -> &'static [&'static str]
-    ensures { filter_map (λ name. library_class name.now) result.now ≡ library_ids }
-{
-    &[
-        "java/lang/Object",
-        "java/lang/Runnable",
-        "java/lang/Comparable",
-        "java/lang/CharSequence",
-        "java/lang/Cloneable",
-        "java/io/Serializable",
-        "java/lang/String",
-        "java/lang/StringBuilder",
-        "java/lang/System",
-        "java/io/PrintStream",
-        "java/lang/Throwable",
-        "java/lang/Exception",
-        "java/lang/Error",
-        "java/lang/RuntimeException",
-        "java/lang/ArithmeticException",
-        "java/lang/ArrayStoreException",
-        "java/lang/ClassCastException",
-        "java/lang/NegativeArraySizeException",
-        "java/lang/NullPointerException",
-        "java/lang/IndexOutOfBoundsException",
-        "java/lang/ArrayIndexOutOfBoundsException",
-        "java/lang/StringIndexOutOfBoundsException",
-        "java/lang/IllegalArgumentException",
-        "java/lang/IllegalStateException",
-        "java/lang/UnsupportedOperationException",
-        "java/lang/NumberFormatException",
-        "java/lang/LinkageError",
-        "java/lang/NoClassDefFoundError",
-        "java/lang/ExceptionInInitializerError",
-        "java/lang/IncompatibleClassChangeError",
-        "java/lang/IllegalAccessError",
-        "java/lang/AbstractMethodError",
-    ]
 }

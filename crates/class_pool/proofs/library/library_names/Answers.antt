@@ -1,6 +1,6 @@
 use Rattle.std.proofs.Common.{refl}
 use Rattle.lib_table.specs.Library.{library}
-use Rattle.class_pool.proofs.hierarchy.graph.library_names.Goals as goal
+use Rattle.class_pool.proofs.library.library_names.Goals as goal
 
 pub returns : goal.returns
 unfolding library

@@ -1,7 +1,0 @@
-use Rattle.std.proofs.Common.{refl}
-use Rattle.lib_table.specs.Library.{library}
-use Rattle.set_meanings.proofs.names.library_names.Goals as goal
-
-pub returns : goal.returns
-unfolding library
-returns c = refl
