@@ -8,7 +8,7 @@ ghost use Rattle.jvm_model.specs.Types.{is_above_arrays};
 ghost use Rattle.set_meanings.specs.bodies.AllNames.{all_names};
 ghost use Rattle.set_view.specs.ViewOf.{firsts_of, shape_of};
 
-use class_pool::{ClassId, ClassSet};
+use class_pool::{ClassId, ClassSet, library_names};
 use jv_base::{Items, M, Name, Text};
 use lib_table::lib_name;
 use std::alloc::Global;
@@ -102,44 +102,4 @@ fn one_name(alloc: Global, set: &ClassSet, class: ClassId) -> M<Items<Name>>
     let mut names = Items::new(alloc);
     names.push(name)?;
     Ok(names)
-}
-
-/// The names of the classes of the library.
-fn library_names() -> &'static [&'static str]
-    ensures { map (λ name. name.now) result.now ≡ map (λ c. c.name) library }
-{
-    &[
-        "java/lang/Object",
-        "java/lang/Runnable",
-        "java/lang/Comparable",
-        "java/lang/CharSequence",
-        "java/lang/Cloneable",
-        "java/io/Serializable",
-        "java/lang/String",
-        "java/lang/StringBuilder",
-        "java/lang/System",
-        "java/io/PrintStream",
-        "java/lang/Throwable",
-        "java/lang/Exception",
-        "java/lang/Error",
-        "java/lang/RuntimeException",
-        "java/lang/ArithmeticException",
-        "java/lang/ArrayStoreException",
-        "java/lang/ClassCastException",
-        "java/lang/NegativeArraySizeException",
-        "java/lang/NullPointerException",
-        "java/lang/IndexOutOfBoundsException",
-        "java/lang/ArrayIndexOutOfBoundsException",
-        "java/lang/StringIndexOutOfBoundsException",
-        "java/lang/IllegalArgumentException",
-        "java/lang/IllegalStateException",
-        "java/lang/UnsupportedOperationException",
-        "java/lang/NumberFormatException",
-        "java/lang/LinkageError",
-        "java/lang/NoClassDefFoundError",
-        "java/lang/ExceptionInInitializerError",
-        "java/lang/IncompatibleClassChangeError",
-        "java/lang/IllegalAccessError",
-        "java/lang/AbstractMethodError",
-    ]
 }
