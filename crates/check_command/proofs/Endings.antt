@@ -36,7 +36,8 @@ unsaid refusal named x y a b p = made_so (StopsSo (Refused refusal) named) (Stop
     (λ calls s. s.0.wrote) p
 
 -- the command stopped before
-pub ended_before : (stop : Stop Refusal) (named : CheckFiles) (status : ℕ) (x y : Option Files) (f f2 : ℕ) (a b : List Event)
+pub ended_before : (stop : Stop Refusal) (named : CheckFiles) (status : ℕ) (x y : Option Files) (f f2 : ℕ)
+    (a b : List Event)
     (old new : Output)
     → (IsErrOf (no_answer stop) Device → Rose f f2) → AddsCalls a b x y (StopsSo stop named)
     → Says stop status old new

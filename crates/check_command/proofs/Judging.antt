@@ -25,7 +25,8 @@ abbrev pub no_answer : Stop Refusal → Result (Unit {0}) (Stop Refusal)
 no_answer s = Err s
 
 -- the input is no set of classes
-pub input_refused : (found : Found) (s : Stop Refusal) → JudgesInput (no_input s) found.rules.in_dir found.directories.input
+pub input_refused : (found : Found) (s : Stop Refusal) → JudgesInput (no_input s) found.rules.in_dir
+    found.directories.input
     → Judges (no_answer s) found
 input_refused found (Refused (Format path fault)) h = by_format h.0 fault h.2 (ap (λ (p : List _). Format p fault) h.1)
 input_refused found (Refused (Profile fault)) h = by_profile fault h refl

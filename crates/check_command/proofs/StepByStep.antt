@@ -60,7 +60,8 @@ module _ {A B : Type 0} (d : Files → Result A (Stop Refusal)) (f : Files → A
   first_stops OutOfMemory a b x y p = p
 
   -- the first step found something, and the second one came to its end
-  pub then_finds : (m : A) (r : Result B (Stop Refusal)) (a b c : List Event) (x y z : Option Files) → Finds (Ok m) d a b x y
+  pub then_finds : (m : A) (r : Result B (Stop Refusal)) (a b c : List Event) (x y z : Option Files)
+      → Finds (Ok m) d a b x y
       → Finds r (λ fs. f fs m) b c y z → Finds r (λ fs. d fs >>= f fs) a c x z
   then_finds m r a b c x y z p q =
       made_sees (missed r) (λ fs. d fs ≡ Ok m) (λ fs. Told r (f fs m)) (λ fs. Told r (d fs >>= f fs)) a b c x y z
@@ -75,7 +76,8 @@ NamesNone r = absent_by r ≡ []
 module _ {A B : Type 0} (d : Files → Result A (Stop Refusal)) (g : A → Result B (Stop Refusal)) (m : A)
     (a b : List Event) (x y : Option Files)
     (found : Finds (Ok m) d a b x y) where
-  pub then_told : (r : Result B (Stop Refusal)) → ((refusal : Refusal) → g m ≡ Err (Refused refusal) → NamesNone refusal)
+  pub then_told : (r : Result B (Stop Refusal))
+      → ((refusal : Refusal) → g m ≡ Err (Refused refusal) → NamesNone refusal)
       → Told r (g m) → Finds r (λ fs. d fs >>= g) a b x y
   then_told (Ok v) none h =
       weaken [] (λ fs. d fs ≡ Ok m) (λ fs. (d fs >>= g) ≡ Ok v) a b x y
@@ -129,7 +131,8 @@ none_named found refusal (by_system classes accepted many due is) = ap absent_by
 none_named found refusal (by_seeds classes accepted sys due nothing is) = ap absent_by is
 none_named found refusal (by_pair classes sys input answer is_no is) = ap absent_by is
 
-pub checked : (named : CheckFiles) (found : Found) (r : Result (Unit {0}) (Stop Refusal)) (a b : List Event) (x y : Option Files)
+pub checked : (named : CheckFiles) (found : Found) (r : Result (Unit {0}) (Stop Refusal)) (a b : List Event)
+    (x y : Option Files)
     → Finds (Ok found) (λ fs. found_due fs named) a b x y → Judges r found → AddsCalls a b x y (Checks r named)
 checked named found (Ok done) a b x y p h =
     weaken [] (λ fs. found_due fs named ≡ Ok found) (λ fs. IsDue fs named (Ok tt)) a b x y (λ fs e. (found, e, h)) p
@@ -171,6 +174,7 @@ texts_none_in (Ok mapping) (Ok witness) refusal h = absurd cc
 pub texts_none : (map wit : List ℕ) (refusal : Refusal) → texts_in map wit ≡ Err (Refused refusal) → NamesNone refusal
 texts_none map wit refusal h = texts_none_in (read_mapping map) (read_witness wit) refusal h
 
-pub ok_none : {A : Type 0} (v : A) (refusal : Refusal) → (let R : Result A (Stop Refusal) = Ok v in R) ≡ Err (Refused refusal)
+pub ok_none : {A : Type 0} (v : A) (refusal : Refusal) → (let R : Result A (Stop Refusal) = Ok v in R)
+    ≡ Err (Refused refusal)
     → NamesNone refusal
 ok_none v refusal h = absurd cc

@@ -33,55 +33,149 @@ use Rattle.class_model.specs.ReadingClass.{read_head, read_all_fields, read_all_
 use Rattle.class_model.specs.ReadingClass.{read_class_file, class_read}
 
 pub read : IsRead
-unfolding lib.Utf8.encode part_after is_primitive_or_void is_name_byte is_member_name is_method_name is_class_name walk base_text field_text result_text method_text words_of argument_words byte_taken read_mutf8 grown read_field read_method utf16_chars u1 u2 u4 bytes lead bind give here of_result settle part many text_of names_right class_at optional_class_at type_at fieldref_at methodref_at interface_methodref_at read_pool slots slot read_entry all_name_right op_of match_offsets read_instruction until_end ops_from read_type read_row read_frame read_frames_behind read_frames attributes exceptions line_number_table read_handlers read_code field_type_at method_type_at read_field_info read_fields read_method_info read_methods read_head read_all_fields read_all_methods read_interfaces read_class_file class_read
+unfolding lib.Utf8.encode part_after is_primitive_or_void is_name_byte is_member_name is_method_name is_class_name walk
+    base_text field_text result_text method_text words_of argument_words byte_taken read_mutf8 grown read_field
+    read_method utf16_chars u1 u2 u4 bytes lead bind give here of_result settle part many text_of names_right class_at
+    optional_class_at type_at fieldref_at methodref_at interface_methodref_at read_pool slots slot read_entry
+    all_name_right op_of match_offsets read_instruction until_end ops_from read_type read_row read_frame
+    read_frames_behind read_frames attributes exceptions line_number_table read_handlers read_code field_type_at
+    method_type_at read_field_info read_fields read_method_info read_methods read_head read_all_fields read_all_methods
+    read_interfaces read_class_file class_read
 read = refl
 
 pub t_read : TIsRead
-unfolding lib.Utf8.encode part_after is_primitive_or_void is_name_byte is_member_name is_method_name is_class_name walk base_text field_text result_text method_text words_of argument_words byte_taken read_mutf8 grown read_field read_method utf16_chars u1 u2 u4 bytes lead bind give here of_result settle part many text_of names_right class_at optional_class_at type_at fieldref_at methodref_at interface_methodref_at read_pool slots slot read_entry all_name_right op_of match_offsets read_instruction until_end ops_from read_type read_row read_frame read_frames_behind read_frames attributes exceptions line_number_table read_handlers read_code field_type_at method_type_at read_field_info read_fields read_method_info read_methods read_head read_all_fields read_all_methods read_interfaces read_class_file class_read
+unfolding lib.Utf8.encode part_after is_primitive_or_void is_name_byte is_member_name is_method_name is_class_name walk
+    base_text field_text result_text method_text words_of argument_words byte_taken read_mutf8 grown read_field
+    read_method utf16_chars u1 u2 u4 bytes lead bind give here of_result settle part many text_of names_right class_at
+    optional_class_at type_at fieldref_at methodref_at interface_methodref_at read_pool slots slot read_entry
+    all_name_right op_of match_offsets read_instruction until_end ops_from read_type read_row read_frame
+    read_frames_behind read_frames attributes exceptions line_number_table read_handlers read_code field_type_at
+    method_type_at read_field_info read_fields read_method_info read_methods read_head read_all_fields read_all_methods
+    read_interfaces read_class_file class_read
 t_read = refl
 
 pub written : IsWritten
-unfolding lib.Utf8.encode part_after is_primitive_or_void is_name_byte is_member_name is_method_name is_class_name walk base_text field_text result_text method_text words_of argument_words byte_taken read_mutf8 grown read_field read_method utf16_chars u1 u2 u4 bytes lead bind give here of_result settle part many text_of names_right class_at optional_class_at type_at fieldref_at methodref_at interface_methodref_at read_pool slots slot read_entry all_name_right op_of match_offsets read_instruction until_end ops_from read_type read_row read_frame read_frames_behind read_frames attributes exceptions line_number_table read_handlers read_code field_type_at method_type_at read_field_info read_fields read_method_info read_methods read_head read_all_fields read_all_methods read_interfaces read_class_file class_read unit_bytes mutf8 units_of chars filled places code_bytes pool_of layout limits class_written
+unfolding lib.Utf8.encode part_after is_primitive_or_void is_name_byte is_member_name is_method_name is_class_name walk
+    base_text field_text result_text method_text words_of argument_words byte_taken read_mutf8 grown read_field
+    read_method utf16_chars u1 u2 u4 bytes lead bind give here of_result settle part many text_of names_right class_at
+    optional_class_at type_at fieldref_at methodref_at interface_methodref_at read_pool slots slot read_entry
+    all_name_right op_of match_offsets read_instruction until_end ops_from read_type read_row read_frame
+    read_frames_behind read_frames attributes exceptions line_number_table read_handlers read_code field_type_at
+    method_type_at read_field_info read_fields read_method_info read_methods read_head read_all_fields read_all_methods
+    read_interfaces read_class_file class_read unit_bytes mutf8 units_of chars filled places code_bytes pool_of layout
+    limits class_written
 written = refl
 
 pub cut_anywhere : IsCutAnywhere
-unfolding lib.Utf8.encode part_after is_primitive_or_void is_name_byte is_member_name is_method_name is_class_name walk base_text field_text result_text method_text words_of argument_words byte_taken read_mutf8 grown read_field read_method utf16_chars u1 u2 u4 bytes lead bind give here of_result settle part many text_of names_right class_at optional_class_at type_at fieldref_at methodref_at interface_methodref_at read_pool slots slot read_entry all_name_right op_of match_offsets read_instruction until_end ops_from read_type read_row read_frame read_frames_behind read_frames attributes exceptions line_number_table read_handlers read_code field_type_at method_type_at read_field_info read_fields read_method_info read_methods read_head read_all_fields read_all_methods read_interfaces read_class_file class_read
+unfolding lib.Utf8.encode part_after is_primitive_or_void is_name_byte is_member_name is_method_name is_class_name walk
+    base_text field_text result_text method_text words_of argument_words byte_taken read_mutf8 grown read_field
+    read_method utf16_chars u1 u2 u4 bytes lead bind give here of_result settle part many text_of names_right class_at
+    optional_class_at type_at fieldref_at methodref_at interface_methodref_at read_pool slots slot read_entry
+    all_name_right op_of match_offsets read_instruction until_end ops_from read_type read_row read_frame
+    read_frames_behind read_frames attributes exceptions line_number_table read_handlers read_code field_type_at
+    method_type_at read_field_info read_fields read_method_info read_methods read_head read_all_fields read_all_methods
+    read_interfaces read_class_file class_read
 cut_anywhere = refl
 
 pub trailed : IsTrailed
-unfolding lib.Utf8.encode part_after is_primitive_or_void is_name_byte is_member_name is_method_name is_class_name walk base_text field_text result_text method_text words_of argument_words byte_taken read_mutf8 grown read_field read_method utf16_chars u1 u2 u4 bytes lead bind give here of_result settle part many text_of names_right class_at optional_class_at type_at fieldref_at methodref_at interface_methodref_at read_pool slots slot read_entry all_name_right op_of match_offsets read_instruction until_end ops_from read_type read_row read_frame read_frames_behind read_frames attributes exceptions line_number_table read_handlers read_code field_type_at method_type_at read_field_info read_fields read_method_info read_methods read_head read_all_fields read_all_methods read_interfaces read_class_file class_read
+unfolding lib.Utf8.encode part_after is_primitive_or_void is_name_byte is_member_name is_method_name is_class_name walk
+    base_text field_text result_text method_text words_of argument_words byte_taken read_mutf8 grown read_field
+    read_method utf16_chars u1 u2 u4 bytes lead bind give here of_result settle part many text_of names_right class_at
+    optional_class_at type_at fieldref_at methodref_at interface_methodref_at read_pool slots slot read_entry
+    all_name_right op_of match_offsets read_instruction until_end ops_from read_type read_row read_frame
+    read_frames_behind read_frames attributes exceptions line_number_table read_handlers read_code field_type_at
+    method_type_at read_field_info read_fields read_method_info read_methods read_head read_all_fields read_all_methods
+    read_interfaces read_class_file class_read
 trailed = refl
 
 pub head_faults : HeadFaults
-unfolding lib.Utf8.encode part_after is_primitive_or_void is_name_byte is_member_name is_method_name is_class_name walk base_text field_text result_text method_text words_of argument_words byte_taken read_mutf8 grown read_field read_method utf16_chars u1 u2 u4 bytes lead bind give here of_result settle part many text_of names_right class_at optional_class_at type_at fieldref_at methodref_at interface_methodref_at read_pool slots slot read_entry all_name_right op_of match_offsets read_instruction until_end ops_from read_type read_row read_frame read_frames_behind read_frames attributes exceptions line_number_table read_handlers read_code field_type_at method_type_at read_field_info read_fields read_method_info read_methods read_head read_all_fields read_all_methods read_interfaces read_class_file class_read
+unfolding lib.Utf8.encode part_after is_primitive_or_void is_name_byte is_member_name is_method_name is_class_name walk
+    base_text field_text result_text method_text words_of argument_words byte_taken read_mutf8 grown read_field
+    read_method utf16_chars u1 u2 u4 bytes lead bind give here of_result settle part many text_of names_right class_at
+    optional_class_at type_at fieldref_at methodref_at interface_methodref_at read_pool slots slot read_entry
+    all_name_right op_of match_offsets read_instruction until_end ops_from read_type read_row read_frame
+    read_frames_behind read_frames attributes exceptions line_number_table read_handlers read_code field_type_at
+    method_type_at read_field_info read_fields read_method_info read_methods read_head read_all_fields read_all_methods
+    read_interfaces read_class_file class_read
 head_faults = (refl, refl, refl, refl, refl, refl, refl, refl, refl)
 
 pub code_faults : CodeFaults
-unfolding lib.Utf8.encode part_after is_primitive_or_void is_name_byte is_member_name is_method_name is_class_name walk base_text field_text result_text method_text words_of argument_words byte_taken read_mutf8 grown read_field read_method utf16_chars u1 u2 u4 bytes lead bind give here of_result settle part many text_of names_right class_at optional_class_at type_at fieldref_at methodref_at interface_methodref_at read_pool slots slot read_entry all_name_right op_of match_offsets read_instruction until_end ops_from read_type read_row read_frame read_frames_behind read_frames attributes exceptions line_number_table read_handlers read_code field_type_at method_type_at read_field_info read_fields read_method_info read_methods read_head read_all_fields read_all_methods read_interfaces read_class_file class_read
+unfolding lib.Utf8.encode part_after is_primitive_or_void is_name_byte is_member_name is_method_name is_class_name walk
+    base_text field_text result_text method_text words_of argument_words byte_taken read_mutf8 grown read_field
+    read_method utf16_chars u1 u2 u4 bytes lead bind give here of_result settle part many text_of names_right class_at
+    optional_class_at type_at fieldref_at methodref_at interface_methodref_at read_pool slots slot read_entry
+    all_name_right op_of match_offsets read_instruction until_end ops_from read_type read_row read_frame
+    read_frames_behind read_frames attributes exceptions line_number_table read_handlers read_code field_type_at
+    method_type_at read_field_info read_fields read_method_info read_methods read_head read_all_fields read_all_methods
+    read_interfaces read_class_file class_read
 code_faults = (refl, refl, refl, refl, refl, refl, refl, refl, refl, refl, refl, refl, refl, refl, refl, refl)
 
 pub code_left_out : CodeLeftOut
-unfolding lib.Utf8.encode part_after is_primitive_or_void is_name_byte is_member_name is_method_name is_class_name walk base_text field_text result_text method_text words_of argument_words byte_taken read_mutf8 grown read_field read_method utf16_chars u1 u2 u4 bytes lead bind give here of_result settle part many text_of names_right class_at optional_class_at type_at fieldref_at methodref_at interface_methodref_at read_pool slots slot read_entry all_name_right op_of match_offsets read_instruction until_end ops_from read_type read_row read_frame read_frames_behind read_frames attributes exceptions line_number_table read_handlers read_code field_type_at method_type_at read_field_info read_fields read_method_info read_methods read_head read_all_fields read_all_methods read_interfaces read_class_file class_read
+unfolding lib.Utf8.encode part_after is_primitive_or_void is_name_byte is_member_name is_method_name is_class_name walk
+    base_text field_text result_text method_text words_of argument_words byte_taken read_mutf8 grown read_field
+    read_method utf16_chars u1 u2 u4 bytes lead bind give here of_result settle part many text_of names_right class_at
+    optional_class_at type_at fieldref_at methodref_at interface_methodref_at read_pool slots slot read_entry
+    all_name_right op_of match_offsets read_instruction until_end ops_from read_type read_row read_frame
+    read_frames_behind read_frames attributes exceptions line_number_table read_handlers read_code field_type_at
+    method_type_at read_field_info read_fields read_method_info read_methods read_head read_all_fields read_all_methods
+    read_interfaces read_class_file class_read
 code_left_out = (refl, refl, refl)
 
 pub member_faults : MemberFaults
-unfolding lib.Utf8.encode part_after is_primitive_or_void is_name_byte is_member_name is_method_name is_class_name walk base_text field_text result_text method_text words_of argument_words byte_taken read_mutf8 grown read_field read_method utf16_chars u1 u2 u4 bytes lead bind give here of_result settle part many text_of names_right class_at optional_class_at type_at fieldref_at methodref_at interface_methodref_at read_pool slots slot read_entry all_name_right op_of match_offsets read_instruction until_end ops_from read_type read_row read_frame read_frames_behind read_frames attributes exceptions line_number_table read_handlers read_code field_type_at method_type_at read_field_info read_fields read_method_info read_methods read_head read_all_fields read_all_methods read_interfaces read_class_file class_read
+unfolding lib.Utf8.encode part_after is_primitive_or_void is_name_byte is_member_name is_method_name is_class_name walk
+    base_text field_text result_text method_text words_of argument_words byte_taken read_mutf8 grown read_field
+    read_method utf16_chars u1 u2 u4 bytes lead bind give here of_result settle part many text_of names_right class_at
+    optional_class_at type_at fieldref_at methodref_at interface_methodref_at read_pool slots slot read_entry
+    all_name_right op_of match_offsets read_instruction until_end ops_from read_type read_row read_frame
+    read_frames_behind read_frames attributes exceptions line_number_table read_handlers read_code field_type_at
+    method_type_at read_field_info read_fields read_method_info read_methods read_head read_all_fields read_all_methods
+    read_interfaces read_class_file class_read
 member_faults = (refl, refl, refl, refl, refl, refl, refl, refl, refl, refl)
 
 pub pool_faults : PoolFaults
-unfolding lib.Utf8.encode part_after is_primitive_or_void is_name_byte is_member_name is_method_name is_class_name walk base_text field_text result_text method_text words_of argument_words byte_taken read_mutf8 grown read_field read_method utf16_chars u1 u2 u4 bytes lead bind give here of_result settle part many text_of names_right class_at optional_class_at type_at fieldref_at methodref_at interface_methodref_at read_pool slots slot read_entry all_name_right op_of match_offsets read_instruction until_end ops_from read_type read_row read_frame read_frames_behind read_frames attributes exceptions line_number_table read_handlers read_code field_type_at method_type_at read_field_info read_fields read_method_info read_methods read_head read_all_fields read_all_methods read_interfaces read_class_file class_read
+unfolding lib.Utf8.encode part_after is_primitive_or_void is_name_byte is_member_name is_method_name is_class_name walk
+    base_text field_text result_text method_text words_of argument_words byte_taken read_mutf8 grown read_field
+    read_method utf16_chars u1 u2 u4 bytes lead bind give here of_result settle part many text_of names_right class_at
+    optional_class_at type_at fieldref_at methodref_at interface_methodref_at read_pool slots slot read_entry
+    all_name_right op_of match_offsets read_instruction until_end ops_from read_type read_row read_frame
+    read_frames_behind read_frames attributes exceptions line_number_table read_handlers read_code field_type_at
+    method_type_at read_field_info read_fields read_method_info read_methods read_head read_all_fields read_all_methods
+    read_interfaces read_class_file class_read
 pool_faults = (refl, refl, refl, refl, refl, refl)
 
 pub class_left_out : ClassLeftOut
-unfolding lib.Utf8.encode part_after is_primitive_or_void is_name_byte is_member_name is_method_name is_class_name walk base_text field_text result_text method_text words_of argument_words byte_taken read_mutf8 grown read_field read_method utf16_chars u1 u2 u4 bytes lead bind give here of_result settle part many text_of names_right class_at optional_class_at type_at fieldref_at methodref_at interface_methodref_at read_pool slots slot read_entry all_name_right op_of match_offsets read_instruction until_end ops_from read_type read_row read_frame read_frames_behind read_frames attributes exceptions line_number_table read_handlers read_code field_type_at method_type_at read_field_info read_fields read_method_info read_methods read_head read_all_fields read_all_methods read_interfaces read_class_file class_read
+unfolding lib.Utf8.encode part_after is_primitive_or_void is_name_byte is_member_name is_method_name is_class_name walk
+    base_text field_text result_text method_text words_of argument_words byte_taken read_mutf8 grown read_field
+    read_method utf16_chars u1 u2 u4 bytes lead bind give here of_result settle part many text_of names_right class_at
+    optional_class_at type_at fieldref_at methodref_at interface_methodref_at read_pool slots slot read_entry
+    all_name_right op_of match_offsets read_instruction until_end ops_from read_type read_row read_frame
+    read_frames_behind read_frames attributes exceptions line_number_table read_handlers read_code field_type_at
+    method_type_at read_field_info read_fields read_method_info read_methods read_head read_all_fields read_all_methods
+    read_interfaces read_class_file class_read
 class_left_out = (refl, refl, refl)
 
 pub main_is_canonical : MainIsCanonical
-unfolding lib.Utf8.encode part_after is_primitive_or_void is_name_byte is_member_name is_method_name is_class_name walk base_text field_text result_text method_text words_of argument_words byte_taken read_mutf8 grown read_field read_method utf16_chars u1 u2 u4 bytes lead bind give here of_result settle part many text_of names_right class_at optional_class_at type_at fieldref_at methodref_at interface_methodref_at read_pool slots slot read_entry all_name_right op_of match_offsets read_instruction until_end ops_from read_type read_row read_frame read_frames_behind read_frames attributes exceptions line_number_table read_handlers read_code field_type_at method_type_at read_field_info read_fields read_method_info read_methods read_head read_all_fields read_all_methods read_interfaces read_class_file class_read unit_bytes mutf8 units_of chars filled places code_bytes pool_of layout limits class_written
+unfolding lib.Utf8.encode part_after is_primitive_or_void is_name_byte is_member_name is_method_name is_class_name walk
+    base_text field_text result_text method_text words_of argument_words byte_taken read_mutf8 grown read_field
+    read_method utf16_chars u1 u2 u4 bytes lead bind give here of_result settle part many text_of names_right class_at
+    optional_class_at type_at fieldref_at methodref_at interface_methodref_at read_pool slots slot read_entry
+    all_name_right op_of match_offsets read_instruction until_end ops_from read_type read_row read_frame
+    read_frames_behind read_frames attributes exceptions line_number_table read_handlers read_code field_type_at
+    method_type_at read_field_info read_fields read_method_info read_methods read_head read_all_fields read_all_methods
+    read_interfaces read_class_file class_read unit_bytes mutf8 units_of chars filled places code_bytes pool_of layout
+    limits class_written
 main_is_canonical = (refl, refl)
 
 pub compiled_are_respelled : CompiledAreRespelled
-unfolding lib.Utf8.encode part_after is_primitive_or_void is_name_byte is_member_name is_method_name is_class_name walk base_text field_text result_text method_text words_of argument_words byte_taken read_mutf8 grown read_field read_method utf16_chars u1 u2 u4 bytes lead bind give here of_result settle part many text_of names_right class_at optional_class_at type_at fieldref_at methodref_at interface_methodref_at read_pool slots slot read_entry all_name_right op_of match_offsets read_instruction until_end ops_from read_type read_row read_frame read_frames_behind read_frames attributes exceptions line_number_table read_handlers read_code field_type_at method_type_at read_field_info read_fields read_method_info read_methods read_head read_all_fields read_all_methods read_interfaces read_class_file class_read unit_bytes mutf8 units_of chars filled places code_bytes pool_of layout limits class_written
+unfolding lib.Utf8.encode part_after is_primitive_or_void is_name_byte is_member_name is_method_name is_class_name walk
+    base_text field_text result_text method_text words_of argument_words byte_taken read_mutf8 grown read_field
+    read_method utf16_chars u1 u2 u4 bytes lead bind give here of_result settle part many text_of names_right class_at
+    optional_class_at type_at fieldref_at methodref_at interface_methodref_at read_pool slots slot read_entry
+    all_name_right op_of match_offsets read_instruction until_end ops_from read_type read_row read_frame
+    read_frames_behind read_frames attributes exceptions line_number_table read_handlers read_code field_type_at
+    method_type_at read_field_info read_fields read_method_info read_methods read_head read_all_fields read_all_methods
+    read_interfaces read_class_file class_read unit_bytes mutf8 units_of chars filled places code_bytes pool_of layout
+    limits class_written
 compiled_are_respelled = (refl, refl)
 
 pub unknown_opcodes : UnknownOpcodes

@@ -291,7 +291,8 @@ code_is = record {
 }
 
 method_is : IsMethod pool false (codes "T") method_raw method_of_t None
-unfolding is_primitive_or_void is_name_byte is_member_name is_method_name is_class_name base_text field_text result_text method_text words_of argument_words
+unfolding is_primitive_or_void is_name_byte is_member_name is_method_name is_class_name base_text field_text result_text
+    method_text words_of argument_words
 method_is = record {
   flags = record { fit = omega arith; are = refl; good = refl };
   name = (omega arith, f_text);

@@ -15,7 +15,8 @@ use Rattle.class_write.specs.ClassValues.{IsClassValue}
 use Rattle.class_write.specs.SpellingLaws.{SomeIsWritable}
 
 within : limits (pool_of class_t) class_t ≡ Ok tt
-unfolding lib.Utf8.encode chars units_of unit_bytes mutf8 base_text field_text result_text method_text words_of argument_words filled places code_bytes pool_of limits
+unfolding lib.Utf8.encode chars units_of unit_bytes mutf8 base_text field_text result_text method_text words_of
+    argument_words filled places code_bytes pool_of limits
 within = refl
 
 counts : CountsFit class_t

@@ -11,3 +11,4 @@ mod BackRows
 mod BackForms
 mod BackFrames
 pub mod BackGood
+mod Unfolding

@@ -1,5 +1,5 @@
 //! The stack map frames of a code, from their bytes and to their bytes (JVMS 4.7.4).
-#![tactic(auto, unfolding(format_reading::specs::Reader::u1, format_reading::specs::Reader::u2, format_reading::specs::Reader::lead, format_reading::specs::Reader::bind, format_reading::specs::Reader::give))]
+#![tactic(auto, unfolding(crate::proofs::Unfolding::numbers))]
 
 mod back;
 mod comparing;

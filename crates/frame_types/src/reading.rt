@@ -9,7 +9,7 @@ use format_reading::{FormatFault, FormatKind};
 use jv_base::{Cursor, Items, Or};
 use std::alloc::Global;
 
-#[tactic(auto, unfolding(format_reading::specs::Reader::u1, format_reading::specs::Reader::u2, format_reading::specs::Reader::lead, format_reading::specs::Reader::bind, format_reading::specs::Reader::give, class_model::specs::ReadingFrames::read_type))]
+#[tactic(auto, unfolding(crate::proofs::Unfolding::types))]
 fn type_info(cursor: &mut Cursor) -> Result<TypeInfo, FormatFault>
     ensures { ReadsAs info_of result cursor.new (read_type cursor.old) }
 {

@@ -30,7 +30,7 @@ pub struct StackMapTable {
 
 // Appends a row's frame, and gives back whether the row names a float or a double, and its offset. The row before has
 // the offset `previous`.
-#[tactic(auto, unfolding(format_reading::specs::Reader::lead, format_reading::specs::Reader::bind, format_reading::specs::Reader::give, format_reading::specs::Reader::here, format_reading::specs::Reader::settle, class_model::specs::ReadingFrames::read_frame))]
+#[tactic(auto, unfolding(crate::proofs::Unfolding::row))]
 fn frame(
     alloc: Global,
     code: &FrameReader,
@@ -81,7 +81,7 @@ fn frames(
 /// The frames that stand at a cursor: the contents of the StackMapTable of a code.
 ///
 /// A fault of a row is told at its first byte. What stands behind the last row isn't looked at.
-#[tactic(auto, unfolding(format_reading::specs::Reader::u2, format_reading::specs::Reader::lead, format_reading::specs::Reader::bind, class_model::specs::ReadingFrames::read_frames))]
+#[tactic(auto, unfolding(crate::proofs::Unfolding::table))]
 pub fn frames_at(
     alloc: Global,
     code: &FrameReader,

@@ -13,11 +13,15 @@ use Rattle.jv_ops.specs.Constants.{said_at, first_constants}
 use Rattle.jv_ops.specs.rows.Examples.{AreOnMembers, AreOnTypes, AreNewArrays}
 
 pub on_members : AreOnMembers
-unfolding lib.Utf8.encode chars utf16_chars units_of part_after is_primitive_or_void is_name_byte is_class_name walk base_text field_text result_text method_text words_of argument_words grown read_field read_method places code_bytes placed coded said_at first_constants
+unfolding lib.Utf8.encode chars utf16_chars units_of part_after is_primitive_or_void is_name_byte is_class_name walk
+    base_text field_text result_text method_text words_of argument_words grown read_field read_method places code_bytes
+    placed coded said_at first_constants
 on_members = refl
 
 pub on_types : AreOnTypes
-unfolding lib.Utf8.encode chars utf16_chars units_of part_after is_primitive_or_void is_name_byte is_class_name walk base_text field_text result_text method_text words_of argument_words grown read_field read_method places code_bytes placed coded said_at first_constants
+unfolding lib.Utf8.encode chars utf16_chars units_of part_after is_primitive_or_void is_name_byte is_class_name walk
+    base_text field_text result_text method_text words_of argument_words grown read_field read_method places code_bytes
+    placed coded said_at first_constants
 on_types = refl
 
 pub new_arrays : AreNewArrays

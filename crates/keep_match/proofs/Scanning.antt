@@ -7,9 +7,9 @@ use Rattle.std.specs.List.{AllByRecursion}
 use Rattle.jv_base.proofs.Lists.{all_append}
 use Rattle.keep_match.specs.declared.piece.Piece.{Piece}
 use Rattle.keep_match.specs.declared.piece.Piece.TheVariants.{Character, One, Part, Any}
-use Rattle.keep_match.specs.bodies.Scan.{EndsBlock, EndsSection, Fails, IsBehindDot, IsBlock, IsNotAny, IsPassed, IsPassedAny}
-use Rattle.keep_match.specs.bodies.Scan.{IsPlain}
-use Rattle.keep_match.specs.bodies.Scan.{IsRead, IsSame, IsSingle, IsStep, IsStepToBlock, IsStepToSection, allows, is_star}
+use Rattle.keep_match.specs.bodies.Scan.{EndsBlock, EndsSection, Fails, IsBehindDot, IsBlock, IsNotAny, IsPassed}
+use Rattle.keep_match.specs.bodies.Scan.{IsPassedAny, IsPlain, IsRead, IsSame, IsSingle, IsStep, IsStepToBlock}
+use Rattle.keep_match.specs.bodies.Scan.{IsStepToSection, allows, is_star}
 use Rattle.keep_match.specs.Wildcards.{Begins, HasNoDot, IsPart}
 use Rattle.keep_match.proofs.Cutting.{all_front, any_more, begins_append, begins_split, determined}
 use Rattle.keep_match.proofs.Cutting.{dominated, dot_cases, first_dot, later, one_of, part_more}

@@ -69,7 +69,8 @@ both_read mapping trace m t due a b c x y z p q h =
     (file_due fs quantity.Trace trace) text_due due e k h) p q
 
 -- both were read, and the text was made of them or wasn't
-pub all_found : (mapping trace m t : List ℕ) (r : Result (List ℕ) (Stop Refusal)) (a b c : List Event) (x y z : Option Files)
+pub all_found : (mapping trace m t : List ℕ) (r : Result (List ℕ) (Stop Refusal)) (a b c : List Event)
+    (x y z : Option Files)
     → Finds {A = List ℕ} (Ok m) (λ fs. file_due fs quantity.Mapping mapping) a b x y
     → Finds {A = List ℕ} (Ok t) (λ fs. file_due fs quantity.Trace trace) b c y z → Told r (text_due m t)
     → Finds r (λ fs. retrace_due fs mapping trace) a c x z

@@ -22,7 +22,8 @@ null_receiver w v vs f e = rw e refl
 pub object_receiver : (w : Whole) (hs : List Object) (n : ℕ) (o : Object) (v : Value) (vs : List Value)
     (f : Thing → Option Target) → w.heap ≡ map object_of hs → slice_get hs n ≡ Some o → v ≡ Ref n
     → on_receiver w (v ∷ vs) f ≡ of_some (called w (v ∷ vs)) (f (object_of o))
-object_receiver w hs n o v vs f is at e = rw e (ap (λ (t : Option Thing). of_some (called w (Ref n ∷ vs)) (option_and_then f t))
+object_receiver w hs n o v vs f is at e =
+    rw e (ap (λ (t : Option Thing). of_some (called w (Ref n ∷ vs)) (option_and_then f t))
     (ap (λ (ts : List Thing). slice_get ts n) is ∙ slice_get-map object_of hs n ∙ ap (option_map object_of) at))
 
 -- no object

@@ -62,7 +62,8 @@ pub one_more : (w : World) (vs : List Value) (i : ℕ) (v : Value) (told : List 
     → behind told (all_seen w (drop i vs)) ≡ behind (told ++ s ∷ []) (all_seen w (drop (i + 1) vs))
 one_more w vs i v told s lt e is =
     ap (λ (us : List Value). behind told (all_seen w us)) (opened vs i v lt e)
-    ∙ ap (λ (o : Option Seen). behind told (o >>= (λ x. all_seen w (drop (i + 1) vs) >>= (λ xs. Some (x ∷ xs))))) (sym is)
+    ∙ ap (λ (o : Option Seen). behind told (o >>= (λ x. all_seen w (drop (i + 1) vs) >>= (λ xs. Some (x ∷ xs)))))
+    (sym is)
     ∙ by (all_seen w (drop (i + 1) vs))
   where
     by : (o : Option (List Seen)) → behind told (o >>= (λ xs. Some (s ∷ xs))) ≡ behind (told ++ s ∷ []) o
@@ -74,4 +75,5 @@ pub none_more : (w : World) (vs : List Value) (i : ℕ) (v : Value) (told : List
     → v ≡ get_or vs i v → None ≡ seen_operand w v → behind told (all_seen w (drop i vs)) ≡ None
 none_more w vs i v told lt e is =
     ap (λ (us : List Value). behind told (all_seen w us)) (opened vs i v lt e)
-    ∙ ap (λ (o : Option Seen). behind told (o >>= (λ x. all_seen w (drop (i + 1) vs) >>= (λ xs. Some (x ∷ xs))))) (sym is)
+    ∙ ap (λ (o : Option Seen). behind told (o >>= (λ x. all_seen w (drop (i + 1) vs) >>= (λ xs. Some (x ∷ xs)))))
+    (sym is)

@@ -18,7 +18,8 @@ use Rattle.run_heap.specs.declared.world.World.{World}
 -- what a frame does by it
 pub unwound : (p : Shape) (inits : List ℕ → Init) (w : World) (n : ℕ) (f : Frame) (ws : List Wait) (code : Code)
     (codes : Option Code) (o : Option Object) (entry : Option ℕ) → Some code ≡ codes
-    → o ≡ slice_get w.heap.items n → entry ≡ handler_for (is_of_class p (option_map object_of o)) f.body.at code.handlers
+    → o ≡ slice_get w.heap.items n → entry ≡ handler_for (is_of_class p (option_map object_of o)) f.body.at
+    code.handlers
     → enter (world_of inits w) n f ws entry ≡ unwind_frame p (world_of inits w) n f ws codes
 unwound p inits w n f ws code codes o entry e i h =
     ap (enter (world_of inits w) n f ws) (h

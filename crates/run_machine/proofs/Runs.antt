@@ -5,8 +5,8 @@ use Rattle.jvm_model.specs.Heap.{World}
 use Rattle.jvm_model.specs.Initialisation.{frame, state}
 use Rattle.jvm_model.specs.Local.{local}
 use Rattle.jvm_model.specs.Program.{View}
-use Rattle.jvm_model.specs.State.{Body, Completes, Control, Initialises, Prepares, Returned, Runs, State, Threw, Unwinds, Wait}
-use Rattle.jvm_model.specs.State.{Wrong}
+use Rattle.jvm_model.specs.State.{Body, Completes, Control, Initialises, Prepares, Returned, Runs, State, Threw}
+use Rattle.jvm_model.specs.State.{Unwinds, Wait, Wrong}
 use Rattle.jvm_model.specs.Step.{next, on_local, run, run_frame, step}
 use Rattle.jvm_model.specs.Value.{Key}
 use Rattle.run_machine.specs.bodies.Ended.{has_ended}

@@ -18,7 +18,8 @@ judged_by files classes (Breaks place fault) built is =
 judged_by files classes (Untyped place fault) built is =
     ((built.0, built.1, refl), subst (λ (cs : List Class). IsJudgedSet cs (Untyped place fault)) built.2 is)
 
-pub judged : {E : Type 0} (files : List NamedClass) (classes : List Class) (r : Result Judgement E) → Builds (Ok classes) files
+pub judged : {E : Type 0} (files : List NamedClass) (classes : List Class) (r : Result Judgement E)
+    → Builds (Ok classes) files
     → IfOk r (IsJudgedSet classes) → IfOk r (IsJudged files)
 judged files classes (Ok j) built is = judged_by files classes j built is
 judged files classes (Err e) built is = tt

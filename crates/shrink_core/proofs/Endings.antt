@@ -38,7 +38,8 @@ unsaid refusal named x y a b left = made_so (StopsSo (Refused refusal) named) (S
     (λ calls p. inl p.unwritten) left
 
 -- a run that stopped before
-pub ended_before : (stop : Stop Refusal) (named : CommandFiles) (status : ℕ) (x y : Option Files) (f f2 : ℕ) (a b : List Event)
+pub ended_before : (stop : Stop Refusal) (named : CommandFiles) (status : ℕ) (x y : Option Files) (f f2 : ℕ)
+    (a b : List Event)
     (old new : Output)
     → (IsErrOf (no_plan stop) Device → Rose f f2) → AddsCalls a b x y (StopsSo stop named)
     → Says named.config stop status old new

@@ -38,7 +38,8 @@ use Rattle.shrink_core.specs.Due.{by_format, by_text, by_seeds, by_system}
 use Rattle.shrink_core.specs.bodies.Steps.{ConfigOf, Finds, ReadsSet, StopsAs, input_stop, missed, missed_by}
 
 -- where a step was refused, what follows it is refused so
-carried : (stop : Stop Refusal) (Refuses After : Refusal → Type 0) → ((refusal : Refusal) → Refuses refusal → After refusal)
+carried : (stop : Stop Refusal) (Refuses After : Refusal → Type 0)
+    → ((refusal : Refusal) → Refuses refusal → After refusal)
     → StopsAs stop Refuses → StopsAs stop After
 carried (Refused refusal) Refuses After so found = so refusal found
 carried Device Refuses After so found = tt
@@ -116,7 +117,8 @@ stop_seen config directory fault.Failed a b x y p = p
 stop_seen config directory fault.OutOfMemory a b x y p = p
 
 -- the set of class files that were found
-pub set_seen : (config directory : List ℕ) (inputs : List FileAt) (r : Result (List Class) (Stop Refusal)) (a b : List Event)
+pub set_seen : (config directory : List ℕ) (inputs : List FileAt) (r : Result (List Class) (Stop Refusal))
+    (a b : List Event)
     (x y : Option Files)
     → AddsCalls a b x y (Sees (Some []) (λ files. input_due files directory ≡ Ok inputs)) → ReadsSet r directory inputs
     → AddsCalls a b x y (Sees (missed config r)
@@ -214,7 +216,8 @@ none_missed rules classes witness config refusal (by_format marks kept limit pas
 none_missed rules classes witness config refusal (by_text marks kept shrunk is_shrunk long listed is) =
     ap (answer.absent_by config) is
 
-pub planned : (named : CommandFiles) (rules : Rules) (classes : List Class) (r : Result Plan (Stop Refusal)) (a b : List Event)
+pub planned : (named : CommandFiles) (rules : Rules) (classes : List Class) (r : Result Plan (Stop Refusal))
+    (a b : List Event)
     (x y : Option Files)
     → AddsCalls a b x y (Sees (Some []) (Taken named rules classes))
     → Finds r (IsPlan rules classes named.witness) (RefusesPlan rules classes named.witness)

@@ -97,7 +97,8 @@ class_only text name h =
 -- ---- results
 
 void_is_none : type_of (codes "void") ≡ None
-unfolding read_external walk external_byte external_end word_base keyword_base part_after is_name_byte is_class_name is_member_name is_primitive_or_void
+unfolding read_external walk external_byte external_end word_base keyword_base part_after is_name_byte is_class_name
+    is_member_name is_primitive_or_void
 void_is_none = refl
 
 pub result_found : (text : List ℕ) (ret : Option FieldType) → result_of text ≡ Some ret

@@ -1,5 +1,6 @@
 // The superinterfaces that each class has itself, as lists.
-ghost use Rattle.std.specs.Prelude.{◌≡◌, ◌+◌, ◌++◌, ◌<◌, ℕ, false, true, [], ◌∷◌, length, set, IfOk, IsTrue, OnOk, Some};
+ghost use Rattle.std.specs.Prelude.{◌≡◌, ◌+◌, ◌++◌, ◌<◌, ℕ, false, true, [], ◌∷◌, length, set, IfOk, IsTrue, OnOk};
+ghost use Rattle.std.specs.Prelude.{Some};
 ghost use Rattle.std.specs.List.{All, filter_map, flat_map, list_all};
 ghost use Rattle.lib_table.specs.Lookups.{interfaces_of};
 ghost use Rattle.class_pool.specs.declared.id.ClassId.{ClassId};

@@ -163,8 +163,11 @@ module _ (classes : List Class) (marks : List Bool) (rules : Rules) (taken : IsT
     written =
         let j = moved all_renamed (in_order all_renamed) (rank (p classes marks) 0 n)
         (renamed names (f classes marks n c)) same_elements
-        (got_mapped (renamed names) kept (rank (p classes marks) 0 n) (f classes marks n c) kept_at) in
-        (j.0, got_mapped (filtered (filter_of rules)) (in_order all_renamed) j.0 (renamed names (f classes marks n c)) j.1)
+        (got_mapped (renamed names) kept (rank (p classes marks) 0 n) (f classes marks n c) kept_at) in (
+          j.0,
+          got_mapped (filtered (filter_of rules)) (in_order all_renamed) j.0 (renamed names (f classes marks n c))
+              j.1,
+        )
 
     -- and nothing else has its name
     only : (d : Class) → Comes d → d.name ≡ names.class c.name → d ≡ become n c

@@ -345,7 +345,8 @@ module _ (input output : List Class) (mapping : Mapping) (rules : Rules) (taken 
       o.out.methods None =
       subst (λ (x : Option Class). ClassCodeDiffers mapping (filter_of rules) c methods x None) o.one
       (codes_at n c at) in
-      let more = or_parts (nat_lt (length fields) (length o.out.fields)) (nat_lt (length methods) (length o.out.methods))
+      let more = or_parts (nat_lt (length fields) (length o.out.fields))
+      (nat_lt (length methods) (length o.out.methods))
       (no_place (nat_lt (length fields) (length o.out.fields) || nat_lt (length methods) (length o.out.methods))
       (class_place c.name) (sym all.1.1.1)) in
       let few = ltb-false (length fields) (length o.out.fields) more.0 in

@@ -39,4 +39,5 @@ choice_answer choice.Nothing w vs = NoAnswer
 
 -- it is answered what a call is answered that runs this on an object
 abbrev pub IsChoice : Choice → World → List Value → (Thing → Option Run) → Type 0
-IsChoice c w vs f = (inits : List ℕ → Init) → choice_answer c (world_of inits w) vs ≡ on_receiver (world_of inits w) vs f
+IsChoice c w vs f = (inits : List ℕ → Init) → choice_answer c (world_of inits w) vs
+    ≡ on_receiver (world_of inits w) vs f

@@ -12,4 +12,5 @@ returns-in_err-found-clause-asked g c =
 
 pub returns-clause-asked : goal.returns-clause-asked
 returns-clause-asked g c =
-    checked c.args.named.now c.in_ok-found.found c.judge.result _ _ _ _ c.in_ok-found.ensures.found c.judge.ensures.judged
+    checked c.args.named.now c.in_ok-found.found c.judge.result _ _ _ _ c.in_ok-found.ensures.found
+    c.judge.ensures.judged

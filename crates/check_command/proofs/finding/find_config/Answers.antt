@@ -26,7 +26,9 @@ returns-clause-found g c =
     let named = c.args.named.now in
     let bytes = c.in_ok-bytes.bytes in
     let told : Told answer (or_bad_rules (config_read bytes named.witness)) = subst
-    (λ (t : List ℕ). Told answer (or_bad_rules (config_read t named.witness))) c.as_slice.ensures c.config_in.ensures.told in
+    (λ (t : List ℕ). Told answer (or_bad_rules (config_read t named.witness))) c.as_slice.ensures
+    c.config_in.ensures.told in
     then_told (λ (fs : Files). file_due fs quantity.Config named.config)
-    (λ (bytes : List ℕ). or_bad_rules (config_read bytes named.witness)) bytes _ _ _ _ c.in_ok-bytes.ensures.found answer
+    (λ (bytes : List ℕ). or_bad_rules (config_read bytes named.witness)) bytes _ _ _ _ c.in_ok-bytes.ensures.found
+    answer
     (rules_none (config_read bytes named.witness)) told

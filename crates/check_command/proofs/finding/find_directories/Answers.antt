@@ -27,7 +27,8 @@ returns-in_err-output-clause-found g c =
     let p = err_from_is_err_and c.from_residual-in_err-output.result c.from_residual-in_err-output.ensures.1 in
     let to = c.args.to.now in
     rw (p.1, p.2) (then_finds (λ (fs : Files). directory_due fs c.args.from.now)
-    (λ (fs : Files) (input : List FileAt). directory_due fs to >>= both input) c.in_ok-input.input (Err c.in_err-output.field-0.0) _ _ _ _ _ _
+    (λ (fs : Files) (input : List FileAt). directory_due fs to >>= both input) c.in_ok-input.input
+    (Err c.in_err-output.field-0.0) _ _ _ _ _ _
     c.in_ok-input.ensures.found
     (first_stops (λ (fs : Files). directory_due fs to) (λ (fs : Files). both c.in_ok-input.input)
     c.in_err-output.field-0.0 _ _ _ _ c.in_err-output.ensures.found))

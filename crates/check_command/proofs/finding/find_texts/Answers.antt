@@ -13,7 +13,8 @@ returns-in_err-map-clause-found g c =
     let p = err_from_is_err_and c.from_residual.result c.from_residual.ensures.1 in
     let witness = c.args.witness.now in
     rw (p.1, p.2) (first_stops (λ (fs : Files). file_due fs quantity.Mapping c.args.mapping.now)
-    (λ (fs : Files) (map : List ℕ). file_due fs quantity.Witness witness >>= texts_in map) c.in_err-map.field-0.0 _ _ _ _
+    (λ (fs : Files) (map : List ℕ). file_due fs quantity.Witness witness >>= texts_in map)
+    c.in_err-map.field-0.0 _ _ _ _
     c.in_err-map.ensures.found)
 
 pub returns-in_err-wit-clause-found : goal.returns-in_err-wit-clause-found
@@ -21,7 +22,8 @@ returns-in_err-wit-clause-found g c =
     let p = err_from_is_err_and c.from_residual-in_err-wit.result c.from_residual-in_err-wit.ensures.1 in
     let witness = c.args.witness.now in
     rw (p.1, p.2) (then_finds (λ (fs : Files). file_due fs quantity.Mapping c.args.mapping.now)
-    (λ (fs : Files) (map : List ℕ). file_due fs quantity.Witness witness >>= texts_in map) c.in_ok-map.map (Err c.in_err-wit.field-0.0) _ _ _ _ _ _
+    (λ (fs : Files) (map : List ℕ). file_due fs quantity.Witness witness >>= texts_in map) c.in_ok-map.map
+    (Err c.in_err-wit.field-0.0) _ _ _ _ _ _
     c.in_ok-map.ensures.found
     (first_stops (λ (fs : Files). file_due fs quantity.Witness witness) (λ (fs : Files). texts_in c.in_ok-map.map)
     c.in_err-wit.field-0.0 _ _ _ _ c.in_err-wit.ensures.found))
@@ -34,9 +36,10 @@ returns-clause-found g c =
     let wit = c.in_ok-wit.wit in
     let told : Told answer (texts_in map wit) =
     subst (λ (k : List ℕ). Told answer (texts_in k wit)) c.as_slice.ensures
-    (subst (λ (k : List ℕ). Told answer (texts_in c.as_slice.result.now k)) c.as_slice-2.ensures c.texts_in.ensures.told) in
+    (subst (λ (k : List ℕ). Told answer (texts_in c.as_slice.result.now k)) c.as_slice-2.ensures
+    c.texts_in.ensures.told) in
     then_finds (λ (fs : Files). file_due fs quantity.Mapping c.args.mapping.now)
     (λ (fs : Files) (map : List ℕ). file_due fs quantity.Witness witness >>= texts_in map) map answer _ _ _ _ _ _
     c.in_ok-map.ensures.found
-    (then_told (λ (fs : Files). file_due fs quantity.Witness witness) (texts_in map) wit _ _ _ _ c.in_ok-wit.ensures.found
-    answer (texts_none map wit) told)
+    (then_told (λ (fs : Files). file_due fs quantity.Witness witness) (texts_in map)
+    wit _ _ _ _ c.in_ok-wit.ensures.found answer (texts_none map wit) told)

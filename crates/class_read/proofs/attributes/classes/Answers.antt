@@ -10,7 +10,9 @@ returns-in_err-class c =
     let p = err_from_is_err_and c.from_residual-in_err-class.result c.from_residual-in_err-class.ensures.1 in
     let r = item u2 (class_at c.args.pool.now) in
     rw (p.1, p.2)
-    (ends r c.in_err-class.field-0.0 c.read_class.new.cursor c.read_class.new.cursor c.loop.classes c.args.count c.loop.counter c.loop.cursor (many c.args.count r c.args.cursor.now) c.loop-test.true c.in_err-class.ensures c.loop.invariant)
+    (ends r c.in_err-class.field-0.0 c.read_class.new.cursor c.read_class.new.cursor c.loop.classes c.args.count
+    c.loop.counter c.loop.cursor (many c.args.count r c.args.cursor.now) c.loop-test.true c.in_err-class.ensures
+    c.loop.invariant)
 
 pub loop-preserved : goal.loop-preserved
 loop-preserved c =

@@ -11,12 +11,16 @@ returns-in_err-line c =
     let p = err_from_is_err_and c.from_residual-in_err-line.result c.from_residual-in_err-line.ensures.1 in
     rw (p.1, p.2)
     (ends read_line
-    (Fault c.in_err-line.field-0.0) c.read_line.new.cursor c.read_line.new.cursor c.loop.lines c.args.count c.loop.counter c.loop.cursor (many c.args.count read_line c.args.cursor.now) c.loop-test.true c.in_err-line.ensures c.loop.invariant)
+    (Fault c.in_err-line.field-0.0) c.read_line.new.cursor c.read_line.new.cursor c.loop.lines c.args.count
+    c.loop.counter c.loop.cursor (many c.args.count read_line c.args.cursor.now) c.loop-test.true
+    c.in_err-line.ensures c.loop.invariant)
 
 pub loop-preserved : goal.loop-preserved
 loop-preserved c =
     let e : c.push.new.self ≡ c.loop.lines ++ c.in_ok-line.line ∷ [] = c.in_ok-push.ensures in
-    rw e (goes_on read_line c.loop.lines c.args.count c.loop.counter c.loop.cursor c.read_line.new.cursor c.in_ok-line.line (many c.args.count read_line c.args.cursor.now) c.loop-test.true c.in_ok-line.ensures c.loop.invariant)
+    rw e (goes_on read_line c.loop.lines c.args.count c.loop.counter c.loop.cursor c.read_line.new.cursor
+    c.in_ok-line.line (many c.args.count read_line c.args.cursor.now) c.loop-test.true c.in_ok-line.ensures
+    c.loop.invariant)
 
 pub returns : goal.returns
 returns c = is_done read_line c.loop.lines c.args.count c.loop.counter c.loop.cursor

@@ -10,14 +10,17 @@ returns-in_err-seen c =
     let pool = c.args.pool.now in
     let known = known_of_class pool in
     rw (p.1, p.2)
-    (ends pool known c.in_err-seen.field-0.0 c.attribute.new.cursor c.attribute.new.cursor c.args.count c.loop.counter c.loop.seen c.loop.cursor (attributes c.args.count pool known no_class_attribute c.args.cursor.now) c.loop-test.true c.in_err-seen.ensures c.loop.invariant)
+    (ends pool known c.in_err-seen.field-0.0 c.attribute.new.cursor c.attribute.new.cursor c.args.count c.loop.counter
+    c.loop.seen c.loop.cursor (attributes c.args.count pool known no_class_attribute c.args.cursor.now)
+    c.loop-test.true c.in_err-seen.ensures c.loop.invariant)
 
 pub loop-preserved : goal.loop-preserved
 loop-preserved c =
     let pool = c.args.pool.now in
     let known = known_of_class pool in
     goes_on pool known c.args.count c.loop.counter c.loop.seen c.in_ok-seen.seen c.loop.cursor c.attribute.new.cursor
-    (attributes c.args.count pool known no_class_attribute c.args.cursor.now) c.loop-test.true c.in_ok-seen.ensures c.loop.invariant
+    (attributes c.args.count pool known no_class_attribute c.args.cursor.now) c.loop-test.true c.in_ok-seen.ensures
+    c.loop.invariant
 
 pub returns : goal.returns
 returns c =

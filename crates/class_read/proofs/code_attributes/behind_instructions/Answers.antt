@@ -16,7 +16,9 @@ returns-in_err-counted c =
     ∙ c.in_ok-handlers.ensures in
     let seen = rw same at c.in_err-counted.ensures in
     rw (p.1, p.2)
-    (attributes_end pool c.args.first.now.locals c.args.max_stack c.args.max_locals c.args.end starts c.args.decoded.ops c.in_err-counted.field-0.0 c.counted.new.cursor c.counted.new.cursor c.args.cursor.now c.read_handlers.new.cursor c.in_ok-handlers.handlers table seen)
+    (attributes_end pool c.args.first.now.locals c.args.max_stack c.args.max_locals c.args.end starts c.args.decoded.ops
+    c.in_err-counted.field-0.0 c.counted.new.cursor c.counted.new.cursor c.args.cursor.now
+    c.read_handlers.new.cursor c.in_ok-handlers.handlers table seen)
 
 pub returns : goal.returns
 returns c =
@@ -26,6 +28,8 @@ returns c =
     let table = ap (λ (ss : List ℕ). read_handlers pool ss c.args.end c.args.cursor.now) (sym same)
     ∙ c.in_ok-handlers.ensures in
     let seen = rw same at c.in_ok-counted.ensures in
-    is_read pool c.args.first.now.locals c.args.max_stack c.args.max_locals c.args.end starts c.args.decoded.ops c.args.cursor.now c.read_handlers.new.cursor c.counted.new.cursor c.in_ok-handlers.handlers c.in_ok-counted.field-0 table seen
+    is_read pool c.args.first.now.locals c.args.max_stack c.args.max_locals c.args.end starts c.args.decoded.ops
+    c.args.cursor.now c.read_handlers.new.cursor c.counted.new.cursor c.in_ok-handlers.handlers
+    c.in_ok-counted.field-0 table seen
     ∙ ap (λ (body : Body). let R : Result (Body × Place) FormatFault = Ok (body, c.counted.new.cursor) in R)
     (sym c.in_ok-body.ensures)

@@ -10,7 +10,9 @@ returns-in_err-member c =
     let pool = c.args.pool.now in
     let total = read_methods c.args.count pool c.args.in_interface c.args.class.now [] c.args.cursor.now in
     rw (p.1, p.2)
-    (ends pool c.args.in_interface c.args.class.now c.in_err-member.field-0.0 c.method_info.new.cursor c.method_info.new.cursor (c.loop.methods, c.loop.left_out) c.args.count c.loop.counter c.loop.before c.loop.cursor total c.loop-test.true c.in_err-member.ensures.read c.loop.invariant)
+    (ends pool c.args.in_interface c.args.class.now c.in_err-member.field-0.0 c.method_info.new.cursor
+    c.method_info.new.cursor (c.loop.methods, c.loop.left_out) c.args.count c.loop.counter c.loop.before
+    c.loop.cursor total c.loop-test.true c.in_err-member.ensures.read c.loop.invariant)
 
 pub loop-preserved : goal.loop-preserved
 loop-preserved c =
@@ -19,11 +21,13 @@ loop-preserved c =
     let kept = c.in_ok-keep.ensures in
     rw (kept.methods, kept.before, kept.left_out)
     (goes_on pool c.args.in_interface c.args.class.now
-    (c.loop.methods, c.loop.left_out) c.args.count c.loop.counter c.loop.before c.loop.cursor c.method_info.new.cursor c.in_ok-member.member total c.loop-test.true c.in_ok-member.ensures.read c.loop.invariant)
+    (c.loop.methods, c.loop.left_out) c.args.count c.loop.counter c.loop.before c.loop.cursor c.method_info.new.cursor
+    c.in_ok-member.member total c.loop-test.true c.in_ok-member.ensures.read c.loop.invariant)
 
 pub returns : goal.returns
 returns c =
     let pool = c.args.pool.now in
     let total = read_methods c.args.count pool c.args.in_interface c.args.class.now [] c.args.cursor.now in
     is_done pool c.args.in_interface c.args.class.now
-    (c.loop.methods, c.loop.left_out) c.args.count c.loop.counter c.loop.before c.loop.cursor total c.loop-test.false c.loop.invariant
+    (c.loop.methods, c.loop.left_out) c.args.count c.loop.counter c.loop.before c.loop.cursor total c.loop-test.false
+    c.loop.invariant

@@ -7,4 +7,5 @@ use Rattle.class_read.proofs.signatures.has_key.Goals as goal
 pub returns : goal.returns
 returns c =
     c.contains.ensures
-    ∙ ap (λ (f : SignatureKey → SignatureKey → Bool). list_any (f c.args.key.now) c.args.keys.now.keys) key_order_is_same
+    ∙ ap (λ (f : SignatureKey → SignatureKey → Bool). list_any (f c.args.key.now) c.args.keys.now.keys)
+    key_order_is_same

@@ -4,4 +4,10 @@ use Rattle.class_write.proofs.SpellingLaw.{written_spells, written_read, read_re
 use Rattle.class_write.proofs.laws.canonical_spells_the_class.Goals as goal
 
 pub returns : goal.returns
-returns c = record { layout = layout_spells; written = written_spells; read = written_read; rewritten = read_rewritten; some = some_writable }
+returns c = record {
+  layout = layout_spells;
+  written = written_spells;
+  read = written_read;
+  rewritten = read_rewritten;
+  some = some_writable;
+}

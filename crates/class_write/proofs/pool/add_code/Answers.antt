@@ -13,7 +13,14 @@ pub returns : goal.returns
 returns c =
     let code = c.args.code.now in
     IfOk-equal c.add_stack_map.result _ _ _ c.add_stack_map.ensures
-    (rw (c.in_ok-add_lines.ensures, c.in_ok-add_handlers.ensures, c.in_ok-add_instructions.ensures, c.as_slice.ensures, c.as_slice-2.ensures, c.as_slice-3.ensures)
+    (rw (
+      c.in_ok-add_lines.ensures,
+      c.in_ok-add_handlers.ensures,
+      c.in_ok-add_instructions.ensures,
+      c.as_slice.ensures,
+      c.as_slice-2.ensures,
+      c.as_slice-3.ensures,
+    )
     (four_inserted c.args.pool.now (flat_map (λ (i : Ins). op_constants i.op) code.ins)
     (flat_map (λ (h : Handler). caught_constants h.caught) code.handlers)
     (attribute_constants (is_some_item (line_rows None [] code.ins)) (codes "LineNumberTable") [])

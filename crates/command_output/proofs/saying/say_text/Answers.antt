@@ -10,7 +10,15 @@ returns-in-Err-Failed-clause-said g c =
     let answered : Hands c.args.text.now (Err c.in-Err-Failed.field-0) old mid =
     (c.in-Err-Failed.ensures.log, c.in-Err-Failed.ensures.takes) in
     let handed = subst (λ (f : PutFault). Hands c.args.text.now (Err f) old mid) c.in-Err-Failed.field-0-is answered in
-    inr (inl (c.say_device.ensures.said.0, record { mid = mid; handed = handed; line = c.say_device.ensures.said.1; later = c.say_device.ensures.later }))
+    inr (inl (
+      c.say_device.ensures.said.0,
+      record {
+        mid = mid;
+        handed = handed;
+        line = c.say_device.ensures.said.1;
+        later = c.say_device.ensures.later;
+      },
+    ))
 
 pub returns-in-Err-OutOfMemory-clause-said : goal.returns-in-Err-OutOfMemory-clause-said
 returns-in-Err-OutOfMemory-clause-said g c =
@@ -18,5 +26,6 @@ returns-in-Err-OutOfMemory-clause-said g c =
     let mid = output (g.S.Sink.written c.put.new.self) (g.S.Sink.faults c.put.new.self) (g.S.Sink.log c.put.new.self) in
     let answered : Hands c.args.text.now (Err c.in-Err-OutOfMemory.field-0) old mid =
     (c.in-Err-OutOfMemory.ensures.log, c.in-Err-OutOfMemory.ensures.takes) in
-    let handed = subst (λ (f : PutFault). Hands c.args.text.now (Err f) old mid) c.in-Err-OutOfMemory.field-0-is answered in
+    let handed = subst (λ (f : PutFault). Hands c.args.text.now (Err f) old mid) c.in-Err-OutOfMemory.field-0-is
+    answered in
     inr (inr (c.say_no_memory.ensures.0, record { mid = mid; handed = handed; line = c.say_no_memory.ensures.1 }))

@@ -7,5 +7,6 @@ returns c =
     c.in_ok-arg-3.ensures.shape c.workers_argument.ensures.local
     ∙ ap₂ with_rule (c.in_ok-arg-2.ensures.shape c.operands_argument.ensures.local
     ∙ ap₂ with_rule (c.in_ok-arg.ensures.shape c.command_argument.ensures.local
-    ∙ ap₂ with_rule (ap app_of_fields c.no_binary_name-line.ensures ∙ ap (on_top (λ s. record s { no_binary_name = true })) c.new.ensures.app)
+    ∙ ap₂ with_rule (ap app_of_fields c.no_binary_name-line.ensures
+    ∙ ap (on_top (λ s. record s { no_binary_name = true })) c.new.ensures.app)
     c.command_argument.ensures.rule) c.operands_argument.ensures.rule) c.workers_argument.ensures.rule

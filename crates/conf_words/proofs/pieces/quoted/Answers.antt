@@ -11,7 +11,11 @@ split_at-requires c = cut_kind c.args.text.now c.args.quote Quote c.utf8.text c.
 pub returns-in_err-end : goal.returns-in_err-end
 returns-in_err-end c =
     let none = sym c.quote_end.ensures ∙ c.in_err-end.was in
-    rw (c.from_residual.ensures, open_to_end c.args.quote (drop 1 c.args.text.now) c.requires.kind (rw c.split_at.ensures.back at none)) refl
+    rw (
+      c.from_residual.ensures,
+      open_to_end c.args.quote (drop 1 c.args.text.now) c.requires.kind
+          (rw c.split_at.ensures.back at none),
+    ) refl
 
 pub split_at-requires-2 : goal.split_at-requires-2
 split_at-requires-2 c = cut_quote c.args.quote c.split_at.result.1.now c.in_ok-end.end c.requires.kind

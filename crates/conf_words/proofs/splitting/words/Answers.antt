@@ -19,7 +19,8 @@ no_text bytes n h e = rw (no_text_by bytes (is_utf8 bytes) refl h, e) refl
 
 pub returns-in-Ok : goal.returns-in-Ok
 returns-in-Ok c =
-    let k : words_of_bytes c.args.bytes.now ≡ words_at 0 1 c.in-Ok.text.now = text_read c.args.bytes.now c.in-Ok.ensures.cases.1
+    let k : words_of_bytes c.args.bytes.now ≡ words_at 0 1 c.in-Ok.text.now =
+    text_read c.args.bytes.now c.in-Ok.ensures.cases.1
     ∙ ap (words_at 0 1) (sym c.in-Ok.ensures.cases.0) in
     rw k c.words_in.ensures
 

@@ -11,22 +11,29 @@ use Rattle.conf_words.proofs.splitting.words_in.Goals as goal
 
 pub returns-in_default-piece_at : goal.returns-in_default-piece_at
 returns-in_default-piece_at c =
-    let s : slice_get c.loop-first.rest.now 0 ≡ Some c.in-Some.first.now = rw c.as_bytes.ensures.value at (sym c.in-Some.ensures.value) in
+    let s : slice_get c.loop-first.rest.now 0 ≡ Some c.in-Some.first.now =
+    rw c.as_bytes.ensures.value at (sym c.in-Some.ensures.value) in
     sym c.loop-first.invariant.read
-    ∙ ap (with_words c.loop-first.words) (step_open c.loop-first.line c.loop-first.rest.now c.in-Some.first.now s c.in_default-piece_at.ensures)
+    ∙ ap (with_words c.loop-first.words) (step_open c.loop-first.line c.loop-first.rest.now c.in-Some.first.now s
+    c.in_default-piece_at.ensures)
 
 pub loop-first-smaller : goal.loop-first-smaller
 loop-first-smaller c =
-    let s : slice_get c.loop-first.rest.now 0 ≡ Some c.in-Some.first.now = rw c.as_bytes.ensures.value at (sym c.in-Some.ensures.value) in
-    let k = step c.loop-first.line c.loop-first.rest.now c.in-Some.first.now (parts_seen c.in-Some-piece_at.piece) s c.in-Some-piece_at.ensures in
+    let s : slice_get c.loop-first.rest.now 0 ≡ Some c.in-Some.first.now =
+    rw c.as_bytes.ensures.value at (sym c.in-Some.ensures.value) in
+    let k = step c.loop-first.line c.loop-first.rest.now c.in-Some.first.now (parts_seen c.in-Some-piece_at.piece) s
+    c.in-Some-piece_at.ensures in
     k.shorter
 
 pub loop-first-preserved : goal.loop-first-preserved
 loop-first-preserved c =
-    let s : slice_get c.loop-first.rest.now 0 ≡ Some c.in-Some.first.now = rw c.as_bytes.ensures.value at (sym c.in-Some.ensures.value) in
-    let k = step c.loop-first.line c.loop-first.rest.now c.in-Some.first.now (parts_seen c.in-Some-piece_at.piece) s c.in-Some-piece_at.ensures in
+    let s : slice_get c.loop-first.rest.now 0 ≡ Some c.in-Some.first.now =
+    rw c.as_bytes.ensures.value at (sym c.in-Some.ensures.value) in
+    let k = step c.loop-first.line c.loop-first.rest.now c.in-Some.first.now (parts_seen c.in-Some-piece_at.piece) s
+    c.in-Some-piece_at.ensures in
     record {
-      read = rw c.in_ok-push_word.ensures (sym (with_both c.loop-first.words _ _) ∙ ap (with_words c.loop-first.words) (sym k.read) ∙ c.loop-first.invariant.read);
+      read = rw c.in_ok-push_word.ensures (sym (with_both c.loop-first.words _ _) ∙ ap (with_words c.loop-first.words)
+          (sym k.read) ∙ c.loop-first.invariant.read);
       lines = omega (arith, k.lines, c.loop-first.invariant.lines);
       utf8 = search rules;
     }
@@ -37,7 +44,8 @@ nothing_left (b ∷ rest) h = absurd cc
 
 pub returns : goal.returns
 returns c =
-    let none : slice_get c.loop-first.rest.now 0 ≡ None = rw c.as_bytes.ensures.value at (sym c.in_default.ensures.value) in
+    let none : slice_get c.loop-first.rest.now 0 ≡ None =
+    rw c.as_bytes.ensures.value at (sym c.in_default.ensures.value) in
     sym c.loop-first.invariant.read
     ∙ ap (with_words c.loop-first.words) (ap (words_at 0 c.loop-first.line) (nothing_left c.loop-first.rest.now none)
     ∙ nothing_read c.loop-first.line)

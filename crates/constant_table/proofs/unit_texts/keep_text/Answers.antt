@@ -10,5 +10,6 @@ returns-in-Some-clause-number c =
 pub returns-in_ok-key-in-None-clause-grows : goal.returns-in_ok-key-in-None-clause-grows
 returns-in_ok-key-in-None-clause-grows c =
     if_grows c.args.texts.now.items c.push_new.new.texts.items c.args.text c.push_new.result
-    (text_grows c.args.texts.now.items c.args.places.now.entries c.args.text c.requires (sym c.place_kept.ensures ∙ c.in-None.is))
+    (text_grows c.args.texts.now.items c.args.places.now.entries c.args.text c.requires
+    (sym c.place_kept.ensures ∙ c.in-None.is))
     c.push_new.ensures.texts

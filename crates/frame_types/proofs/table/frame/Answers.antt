@@ -8,7 +8,8 @@ use Rattle.frame_types.proofs.table.frame.Goals as goal
 pub returns-in-Some : goal.returns-in-Some
 returns-in-Some c =
     let built = c.row_stands.new.frames in
-    rw c.names_float-floats.ensures (row_appended c.args.code.now.pool.now c.args.code.now.starts.now c.args.code.now.ops.now c.args.code.now.max_stack
+    rw c.names_float-floats.ensures (row_appended c.args.code.now.pool.now c.args.code.now.starts.now
+    c.args.code.now.ops.now c.args.code.now.max_stack
     c.args.code.now.max_locals c.args.frames.now.frames built c.in-Some.at
     (record { locals = c.args.frames.now.locals; offset = c.args.previous }) c.args.cursor.now c.row.new.cursor
     (row_of c.in_ok-row.row) c.in_ok-row.ensures

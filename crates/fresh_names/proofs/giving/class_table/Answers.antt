@@ -17,13 +17,15 @@ loop-class-init c =
 pub loop-class-preserved : goal.loop-class-preserved
 loop-class-preserved c =
     subst (λ (l : List (List ℕ)). IsGiven front_of c.args.taken.now l c.give.new.table.entries c.give.new.next.entries)
-    (mapped_more (λ (k : Class). k.name) c.args.kept.now c.loop-class.class-index c.class-item.result c.loop-class-test.true
-    c.class-item.is)
-    (c.in_ok-give.ensures front_of (class_names (take c.loop-class.class-index c.args.kept.now)) (sym c.in_ok-front.ensures)
-    c.loop-class.invariant)
+    (mapped_more (λ (k : Class). k.name) c.args.kept.now c.loop-class.class-index c.class-item.result
+    c.loop-class-test.true c.class-item.is)
+    (c.in_ok-give.ensures front_of (class_names (take c.loop-class.class-index c.args.kept.now))
+    (sym c.in_ok-front.ensures) c.loop-class.invariant)
 
 pub returns : goal.returns
 returns c =
-    is_given front_of c.args.taken.now (class_names c.args.kept.now) c.loop-class.table.entries c.loop-class.next.entries
-    (subst (λ (l : List Class). IsGiven front_of c.args.taken.now (class_names l) c.loop-class.table.entries c.loop-class.next.entries)
+    is_given front_of c.args.taken.now (class_names c.args.kept.now) c.loop-class.table.entries
+    c.loop-class.next.entries
+    (subst (λ (l : List Class). IsGiven front_of c.args.taken.now (class_names l) c.loop-class.table.entries
+    c.loop-class.next.entries)
     (take_all c.loop-class.class-index c.args.kept.now c.loop-class-test.false) c.loop-class.invariant)

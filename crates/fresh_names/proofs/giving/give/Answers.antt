@@ -12,6 +12,7 @@ pub returns : goal.returns
 returns c = λ front_of done same g.
     given_by_steps front_of c.args.taken.now done c.args.table.now.entries c.put_name.new.table.entries
     c.args.next.now.entries c.put_number.new.next.entries c.args.front.now c.args.name.now c.in_ok-new.new
-    c.in_ok-number.number c.in_ok-behind.behind c.put_number.result same (sym c.is_settled.ensures ∙ c.if-is_settled.false)
+    c.in_ok-number.number c.in_ok-behind.behind c.put_number.result same
+    (sym c.is_settled.ensures ∙ c.if-is_settled.false)
     (c.in_ok-number.ensures ∙ ap (next_free c.args.front.now c.args.taken.now) c.number_of.ensures) c.in_ok-new.ensures
     c.in_ok-behind.ensures c.in_ok-put_name.ensures c.put_number.ensures g

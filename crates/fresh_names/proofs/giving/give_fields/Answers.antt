@@ -14,15 +14,17 @@ loop-field-init c = λ done g.
 pub loop-field-preserved : goal.loop-field-preserved
 loop-field-preserved c = λ done g.
     subst (λ (l : List (List ℕ)). IsGiven no_front c.args.taken.now l c.give.new.table.entries c.give.new.next.entries)
-    (append_assoc done (map (λ (f : Field). f.name) (take c.loop-field.field-index c.args.fields.now)) (c.field-item.result.name ∷ [])
+    (append_assoc done (map (λ (f : Field). f.name) (take c.loop-field.field-index c.args.fields.now))
+    (c.field-item.result.name ∷ [])
     ∙ ap (λ (l : List (List ℕ)). done ++ l)
-    (mapped_more (λ (f : Field). f.name) c.args.fields.now c.loop-field.field-index c.field-item.result c.loop-field-test.true
-    c.field-item.is))
-    (c.in_ok-give.ensures no_front (done ++ map (λ (f : Field). f.name) (take c.loop-field.field-index c.args.fields.now))
+    (mapped_more (λ (f : Field). f.name) c.args.fields.now c.loop-field.field-index c.field-item.result
+    c.loop-field-test.true c.field-item.is))
+    (c.in_ok-give.ensures no_front
+    (done ++ map (λ (f : Field). f.name) (take c.loop-field.field-index c.args.fields.now))
     (sym c.requires) (c.loop-field.invariant done g))
 
 pub returns : goal.returns
 returns c = λ done g.
-    subst (λ (l : List Field). IsGiven no_front c.args.taken.now (done ++ map (λ (f : Field). f.name) l) c.loop-field.table.entries
-    c.loop-field.next.entries)
+    subst (λ (l : List Field). IsGiven no_front c.args.taken.now (done ++ map (λ (f : Field). f.name) l)
+    c.loop-field.table.entries c.loop-field.next.entries)
     (take_all c.loop-field.field-index c.args.fields.now c.loop-field-test.false) (c.loop-field.invariant done g)

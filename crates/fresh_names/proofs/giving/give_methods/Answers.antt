@@ -14,15 +14,17 @@ loop-method-init c = λ done g.
 pub loop-method-preserved : goal.loop-method-preserved
 loop-method-preserved c = λ done g.
     subst (λ (l : List (List ℕ)). IsGiven no_front c.args.taken.now l c.give.new.table.entries c.give.new.next.entries)
-    (append_assoc done (map (λ (m : Method). m.name) (take c.loop-method.method-index c.args.methods.now)) (c.method-item.result.name ∷ [])
+    (append_assoc done (map (λ (m : Method). m.name) (take c.loop-method.method-index c.args.methods.now))
+    (c.method-item.result.name ∷ [])
     ∙ ap (λ (l : List (List ℕ)). done ++ l)
-    (mapped_more (λ (m : Method). m.name) c.args.methods.now c.loop-method.method-index c.method-item.result c.loop-method-test.true
-    c.method-item.is))
-    (c.in_ok-give.ensures no_front (done ++ map (λ (m : Method). m.name) (take c.loop-method.method-index c.args.methods.now))
+    (mapped_more (λ (m : Method). m.name) c.args.methods.now c.loop-method.method-index c.method-item.result
+    c.loop-method-test.true c.method-item.is))
+    (c.in_ok-give.ensures no_front
+    (done ++ map (λ (m : Method). m.name) (take c.loop-method.method-index c.args.methods.now))
     (sym c.requires) (c.loop-method.invariant done g))
 
 pub returns : goal.returns
 returns c = λ done g.
-    subst (λ (l : List Method). IsGiven no_front c.args.taken.now (done ++ map (λ (m : Method). m.name) l) c.loop-method.table.entries
-    c.loop-method.next.entries)
+    subst (λ (l : List Method). IsGiven no_front c.args.taken.now (done ++ map (λ (m : Method). m.name) l)
+    c.loop-method.table.entries c.loop-method.next.entries)
     (take_all c.loop-method.method-index c.args.methods.now c.loop-method-test.false) (c.loop-method.invariant done g)

@@ -17,15 +17,18 @@ loop-class-init c =
 
 pub loop-class-preserved : goal.loop-class-preserved
 loop-class-preserved c =
-    subst (λ (l : List (List ℕ)). IsGiven no_front c.args.taken.now l c.give_methods.new.table.entries c.give_methods.new.next.entries)
-    (same_done (λ (m : Method). m.name) (method_names (take c.loop-class.class-index c.args.kept.now)) c.as_slice.result.now
-    c.class-item.result.methods _ c.as_slice.ensures
-    (flat_more (λ (k : Class). map (λ (m : Method). m.name) k.methods) c.args.kept.now c.loop-class.class-index c.class-item.result
-    c.loop-class-test.true c.class-item.is))
+    subst (λ (l : List (List ℕ)). IsGiven no_front c.args.taken.now l c.give_methods.new.table.entries
+    c.give_methods.new.next.entries)
+    (same_done (λ (m : Method). m.name) (method_names (take c.loop-class.class-index c.args.kept.now))
+    c.as_slice.result.now c.class-item.result.methods _ c.as_slice.ensures
+    (flat_more (λ (k : Class). map (λ (m : Method). m.name) k.methods) c.args.kept.now c.loop-class.class-index
+    c.class-item.result c.loop-class-test.true c.class-item.is))
     (c.in_ok-give_methods.ensures (method_names (take c.loop-class.class-index c.args.kept.now)) c.loop-class.invariant)
 
 pub returns : goal.returns
 returns c =
-    is_given no_front c.args.taken.now (method_names c.args.kept.now) c.loop-class.table.entries c.loop-class.next.entries
-    (subst (λ (l : List Class). IsGiven no_front c.args.taken.now (method_names l) c.loop-class.table.entries c.loop-class.next.entries)
+    is_given no_front c.args.taken.now (method_names c.args.kept.now) c.loop-class.table.entries
+    c.loop-class.next.entries
+    (subst (λ (l : List Class). IsGiven no_front c.args.taken.now (method_names l) c.loop-class.table.entries
+    c.loop-class.next.entries)
     (take_all c.loop-class.class-index c.args.kept.now c.loop-class-test.false) c.loop-class.invariant)

@@ -22,7 +22,8 @@ returns-clause-written c =
     ∙ ap (λ ts. string_bytes c.push_str.new.self ++ flat_map field_text ts) c.as_slice.ensures in
     c.in_ok-from_string.ensures
     ∙ joined _ _ _ _ _
-    (flat_map field_text args) _ c.new-text.ensures.bytes c.in_ok-push_str.ensures.bytes parameters c.in_ok-push_str-2.ensures.bytes c.in_ok-push_result.ensures
+    (flat_map field_text args) _ c.new-text.ensures.bytes c.in_ok-push_str.ensures.bytes parameters
+    c.in_ok-push_str-2.ensures.bytes c.in_ok-push_result.ensures
 
 pub returns-clause-read_back : goal.returns-clause-read_back
 returns-clause-read_back c = λ is. read_method-only _ c.args.ty.now (is, sym (returns-clause-written c))

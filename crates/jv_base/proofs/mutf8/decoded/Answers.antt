@@ -27,7 +27,11 @@ loop-at-preserved c =
     let e : Decoded = record { units = c.keep.new.units; awaited = c.in_ok-awaited.awaited } in
     let some : decode_byte d _ ≡ Some e = ap (decoded_on c.loop-at.units) (sym c.take.ensures.taken ∙ c.in-Some.is)
     ∙ c.in_ok-awaited.ensures.kept in
-    record { bits = c.in_ok-awaited.ensures.bits; same = goes_on decode_byte decode_end c.args.bytes.now c.loop-at.at d e _ c.loop-at-test.true some c.loop-at.invariant.same }
+    record {
+      bits = c.in_ok-awaited.ensures.bits;
+      same = goes_on decode_byte decode_end c.args.bytes.now c.loop-at.at d
+          e _ c.loop-at-test.true some c.loop-at.invariant.same;
+    }
 
 pub returns-in-Lead : goal.returns-in-Lead
 unfolding read_mutf8
@@ -35,7 +39,8 @@ returns-in-Lead c =
     let d : Decoded = record { units = c.loop-at.units; awaited = c.loop-at.awaited } in
     let end : decode_end d ≡ Some c.loop-at.units = ap (whole_units c.loop-at.units) c.in-Lead.is in
     ap bad_utf8
-    (is_done decode_byte decode_end c.args.bytes.now c.loop-at.at d _ c.loop-at.auto.at-end c.loop-at-test.false c.loop-at.invariant.same ∙ ap (or_fault _) end)
+    (is_done decode_byte decode_end c.args.bytes.now c.loop-at.at d _ c.loop-at.auto.at-end c.loop-at-test.false
+    c.loop-at.invariant.same ∙ ap (or_fault _) end)
 
 pub returns-in_default-awaited : goal.returns-in_default-awaited
 unfolding read_mutf8
@@ -43,4 +48,5 @@ returns-in_default-awaited c =
     let d : Decoded = record { units = c.loop-at.units; awaited = c.loop-at.awaited } in
     let end : decode_end d ≡ None = inside c.loop-at.units c.loop-at.awaited c.in_default-awaited.not-Lead in
     ap bad_utf8
-    (is_done decode_byte decode_end c.args.bytes.now c.loop-at.at d _ c.loop-at.auto.at-end c.loop-at-test.false c.loop-at.invariant.same ∙ ap (or_fault _) end)
+    (is_done decode_byte decode_end c.args.bytes.now c.loop-at.at d _ c.loop-at.auto.at-end c.loop-at-test.false
+    c.loop-at.invariant.same ∙ ap (or_fault _) end)

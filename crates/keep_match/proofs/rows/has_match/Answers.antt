@@ -5,10 +5,12 @@ use Rattle.keep_match.proofs.rows.has_match.Goals as goal
 
 pub returns-then-matches_member : goal.returns-then-matches_member
 returns-then-matches_member c =
-    sym (any_step (members_matched c.args.spec.now c.args.class.now) c.loop-member.member true c.if-matches_member.ensures)
+    sym (any_step (members_matched c.args.spec.now c.args.class.now) c.loop-member.member true
+    c.if-matches_member.ensures)
     ∙ c.loop-member.invariant
 
 pub loop-member-preserved : goal.loop-member-preserved
 loop-member-preserved c =
-    sym (any_step (members_matched c.args.spec.now c.args.class.now) c.loop-member.member false c.if-matches_member.ensures)
+    sym (any_step (members_matched c.args.spec.now c.args.class.now) c.loop-member.member false
+    c.if-matches_member.ensures)
     ∙ c.loop-member.invariant

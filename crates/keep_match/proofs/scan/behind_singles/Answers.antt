@@ -10,7 +10,8 @@ returns-in_err-character-clause-found c =
 
 pub returns-then-not-allows-clause-found : goal.returns-then-not-allows-clause-found
 returns-then-not-allows-clause-found c =
-    single_refused _ _ _ _ _ _ c.in-Some.piece c.in_ok-character.character c.loop-piece.invariant.0 c.in-Some.ensures.found
+    single_refused _ _ _ _ _ _ c.in-Some.piece c.in_ok-character.character c.loop-piece.invariant.0
+    c.in-Some.ensures.found
     c.in_ok-character.ensures.found (sym c.if-is_star.ensures) (sym c.if-not-allows.ensures)
 
 pub loop-piece-preserved : goal.loop-piece-preserved

@@ -23,7 +23,8 @@ pub loop-filter-preserved : goal.loop-filter-preserved
 loop-filter-preserved c =
     let at = value_there c.as_slice-filter-items.result.now c.args.keep.now.spec.names c.loop-filter.filter-index
     c.filter-item.result c.as_slice-filter-items.ensures c.loop-filter-test.true c.filter-item.is in
-    named_more c.args.set.now c.args.keep.now c.args.rows.now.items c.loop-filter.rows.items _ c.loop-filter.filter-index
+    named_more c.args.set.now c.args.keep.now c.args.rows.now.items
+    c.loop-filter.rows.items _ c.loop-filter.filter-index
     c.filter-item.result c.requires.rows.count at c.loop-filter.invariant.0 c.loop-filter.invariant.1
     c.mark_pattern.ensures
 

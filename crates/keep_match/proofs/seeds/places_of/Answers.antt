@@ -4,17 +4,20 @@ use Rattle.keep_match.proofs.seeds.places_of.Goals as goal
 
 pub push_places-requires : goal.push_places-requires
 push_places-requires c =
-    let fits = row_fits c.args.rows.now c.loop-row.row-index c.row-item.result c.loop-row-test.true (sym c.row-item.is) in
+    let fits = row_fits c.args.rows.now c.loop-row.row-index c.row-item.result c.loop-row-test.true
+    (sym c.row-item.is) in
     omega (arith, c.requires, fits, c.loop-row.invariant.1, ap length c.as_slice.ensures)
 
 pub overflow_cast-next : goal.overflow_cast-next
 overflow_cast-next c =
-    let fits = row_fits c.args.rows.now c.loop-row.row-index c.row-item.result c.loop-row-test.true (sym c.row-item.is) in
+    let fits = row_fits c.args.rows.now c.loop-row.row-index c.row-item.result c.loop-row-test.true
+    (sym c.row-item.is) in
     omega (arith, c.requires, fits, c.loop-row.invariant.1, c.len.ensures)
 
 pub overflow_add-next : goal.overflow_add-next
 overflow_add-next c =
-    let fits = row_fits c.args.rows.now c.loop-row.row-index c.row-item.result c.loop-row-test.true (sym c.row-item.is) in
+    let fits = row_fits c.args.rows.now c.loop-row.row-index c.row-item.result c.loop-row-test.true
+    (sym c.row-item.is) in
     omega (arith, c.requires, fits, c.loop-row.invariant.1, c.len.ensures)
 
 pub loop-row-preserved : goal.loop-row-preserved

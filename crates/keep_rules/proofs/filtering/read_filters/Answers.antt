@@ -10,8 +10,8 @@ unfolding filters
 returns-in_err-read_filter c =
     let p = err_from_is_err_and c.from_residual.result c.from_residual.ensures.1 in
     rw (p.1, p.2)
-    (list_err MissingName (filter_in (filtered_by c.args.filtered)) c.in_err-read_filter.field-0.0 c.read_filter.new.words
-    c.read_filter.new.words c.loop-filters.filters c.loop-filters.words
+    (list_err MissingName (filter_in (filtered_by c.args.filtered)) c.in_err-read_filter.field-0.0
+    c.read_filter.new.words c.read_filter.new.words c.loop-filters.filters c.loop-filters.words
     (filters (filtered_by c.args.filtered) c.args.words.now) c.in_err-read_filter.ensures c.loop-filters.invariant)
 
 pub returns-then-not-pass : goal.returns-then-not-pass

@@ -12,7 +12,8 @@ returns-in_err-word c = absurd
     (sym c.is_flag_next.ensures ∙ c.loop-alloc-test.true) c.in_err-word.ensures)
 
 pub loop-alloc-smaller : goal.loop-alloc-smaller
-loop-alloc-smaller c = word_less MissingName c.loop-alloc.words c.in_ok-word.word.now c.take.new.self c.in_ok-word.ensures
+loop-alloc-smaller c = word_less MissingName c.loop-alloc.words c.in_ok-word.word.now c.take.new.self
+    c.in_ok-word.ensures
 
 pub loop-alloc-preserved : goal.loop-alloc-preserved
 loop-alloc-preserved c =

@@ -11,11 +11,13 @@ returns-in_err-modifiers c =
     let yes = sym c.pass.ensures.test ∙ c.loop-words-test.true in
     rw (p.1, p.2)
     (modifiers_err c.args.option.now c.loop-words.modifiers c.in_err-modifiers.field-0.0 c.read_modifier.new.words
-    c.read_modifier.new.words c.loop-words.words (modifiers c.args.option.now (unmodified c.args.shrinking) c.args.words.now) yes
+    c.read_modifier.new.words c.loop-words.words (modifiers c.args.option.now (unmodified c.args.shrinking)
+    c.args.words.now) yes
     (rw (c.pass.ensures.passed, c.loop-words-test.true) at c.in_err-modifiers.ensures) c.loop-words.invariant)
 
 pub loop-words-smaller : goal.loop-words-smaller
-loop-words-smaller c = modifier_less c.args.option.now c.loop-words.modifiers c.in_ok-modifiers.modifiers c.loop-words.words
+loop-words-smaller c = modifier_less c.args.option.now c.loop-words.modifiers c.in_ok-modifiers.modifiers
+    c.loop-words.words
     c.read_modifier.new.words (rw (c.pass.ensures.passed, c.loop-words-test.true) at c.in_ok-modifiers.ensures)
 
 pub loop-words-preserved : goal.loop-words-preserved

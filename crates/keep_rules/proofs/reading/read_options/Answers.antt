@@ -15,17 +15,21 @@ returns-in_err-read c =
 
 pub loop-option-smaller : goal.loop-option-smaller
 loop-option-smaller c = rest_less c.loop-option.rest.now c.values_of.result.1.now c.in-Some.option.now
-    (position_or_len word_is_option (drop 1 c.loop-option.rest.now)) (sym c.in-Some.ensures.value) c.values_of.ensures.others
+    (position_or_len word_is_option (drop 1 c.loop-option.rest.now)) (sym c.in-Some.ensures.value)
+    c.values_of.ensures.others
 
 pub loop-option-preserved : goal.loop-option-preserved
 loop-option-preserved c = record {
-  read = first_more c.loop-option.draft c.read.new.self c.loop-option.rest.now c.in-Some.option.now c.values_of.result.0.now
-      c.values_of.result.1.now (options_read blank (sections_of c.args.words.now).sections) (sym c.in-Some.ensures.value)
+  read = first_more c.loop-option.draft c.read.new.self c.loop-option.rest.now c.in-Some.option.now
+      c.values_of.result.0.now
+      c.values_of.result.1.now (options_read blank (sections_of c.args.words.now).sections)
+      (sym c.in-Some.ensures.value)
       c.loop-option.invariant.begins c.values_of.ensures.values c.values_of.ensures.others c.in_ok-read.ensures
       c.loop-option.invariant.read;
   begins = begins_on (drop 1 c.loop-option.rest.now) c.values_of.result.1.now c.values_of.ensures.others;
 }
 
 pub returns : goal.returns
-returns c = option_done c.loop-option.draft c.loop-option.rest.now (options_read blank (sections_of c.args.words.now).sections)
+returns c = option_done c.loop-option.draft c.loop-option.rest.now
+    (options_read blank (sections_of c.args.words.now).sections)
     (none_is c.loop-option.rest.now (sym c.in_default.ensures.value)) c.loop-option.invariant.read

@@ -20,7 +20,8 @@ rest_of given words rest n f e g = f ∙ ap (λ (k : ℕ). drop k given) e
 pub returns-in_err-none_left : goal.returns-in_err-none_left
 returns-in_err-none_left c =
     let p = err_from_is_err_and c.from_residual.result c.from_residual.ensures.1 in
-    let f = front_of _ c.args.words.now c.split_at.result.0.now _ c.split_at.ensures.front c.option_in.ensures.at c.as_slice-words.ensures in
+    let f = front_of _ c.args.words.now c.split_at.result.0.now _ c.split_at.ensures.front c.option_in.ensures.at
+    c.as_slice-words.ensures in
     rw (p.1, p.2)
     (rules_stray c.in_err-none_left.field-0.0 c.args.words.now c.split_at.result.0.now c.args.witness.now f
     c.in_err-none_left.ensures)
@@ -28,16 +29,20 @@ returns-in_err-none_left c =
 pub returns-in_err-draft : goal.returns-in_err-draft
 returns-in_err-draft c =
     let p = err_from_is_err_and c.from_residual-in_err-draft.result c.from_residual-in_err-draft.ensures.1 in
-    let f = front_of _ c.args.words.now c.split_at.result.0.now _ c.split_at.ensures.front c.option_in.ensures.at c.as_slice-words.ensures in
-    let s = rest_of _ c.args.words.now c.split_at.result.1.now _ c.split_at.ensures.back c.option_in.ensures.at c.as_slice-words.ensures in
+    let f = front_of _ c.args.words.now c.split_at.result.0.now _ c.split_at.ensures.front c.option_in.ensures.at
+    c.as_slice-words.ensures in
+    let s = rest_of _ c.args.words.now c.split_at.result.1.now _ c.split_at.ensures.back c.option_in.ensures.at
+    c.as_slice-words.ensures in
     rw (p.1, p.2)
-    (rules_err c.in_err-draft.field-0.0 c.args.words.now c.split_at.result.0.now c.split_at.result.1.now c.args.witness.now f s
-    c.in_ok-none_left.ensures c.in_err-draft.ensures)
+    (rules_err c.in_err-draft.field-0.0 c.args.words.now c.split_at.result.0.now c.split_at.result.1.now
+    c.args.witness.now f s c.in_ok-none_left.ensures c.in_err-draft.ensures)
 
 pub returns : goal.returns
 returns c =
-    let f = front_of _ c.args.words.now c.split_at.result.0.now _ c.split_at.ensures.front c.option_in.ensures.at c.as_slice-words.ensures in
-    let s = rest_of _ c.args.words.now c.split_at.result.1.now _ c.split_at.ensures.back c.option_in.ensures.at c.as_slice-words.ensures in
-    rw (rules_done c.args.words.now c.split_at.result.0.now c.split_at.result.1.now c.args.witness.now c.in_ok-draft.draft f s
-    c.in_ok-none_left.ensures c.in_ok-draft.ensures)
+    let f = front_of _ c.args.words.now c.split_at.result.0.now _ c.split_at.ensures.front c.option_in.ensures.at
+    c.as_slice-words.ensures in
+    let s = rest_of _ c.args.words.now c.split_at.result.1.now _ c.split_at.ensures.back c.option_in.ensures.at
+    c.as_slice-words.ensures in
+    rw (rules_done c.args.words.now c.split_at.result.0.now c.split_at.result.1.now c.args.witness.now
+    c.in_ok-draft.draft f s c.in_ok-none_left.ensures c.in_ok-draft.ensures)
     c.finished.ensures

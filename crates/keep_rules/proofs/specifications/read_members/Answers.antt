@@ -14,20 +14,21 @@ returns-in_err-read_member c =
     (rw (c.pass.ensures.passed, c.loop-alloc-test.true) at c.in_err-read_member.ensures) c.loop-alloc.invariant)
 
 pub loop-alloc-smaller : goal.loop-alloc-smaller
-loop-alloc-smaller c = member_less c.args.names.now c.loop-alloc.words c.in_ok-read_member.field-0 c.read_member.new.words
+loop-alloc-smaller c = member_less c.args.names.now c.loop-alloc.words c.in_ok-read_member.field-0
+    c.read_member.new.words
     (rw (c.pass.ensures.passed, c.loop-alloc-test.true) at c.in_ok-read_member.ensures)
 
 pub loop-alloc-preserved : goal.loop-alloc-preserved
 loop-alloc-preserved c =
     let no = sym c.pass.ensures.test ∙ c.loop-alloc-test.true in
     rw c.in_ok-push.ensures
-    (members_more c.args.names.now c.loop-alloc.members c.loop-alloc.words c.in_ok-read_member.field-0 c.read_member.new.words
-    (members c.args.names.now c.args.words.now) no
+    (members_more c.args.names.now c.loop-alloc.members c.loop-alloc.words c.in_ok-read_member.field-0
+    c.read_member.new.words (members c.args.names.now c.args.words.now) no
     (rw (c.pass.ensures.passed, c.loop-alloc-test.true) at c.in_ok-read_member.ensures) c.loop-alloc.invariant)
 
 pub returns : goal.returns
 returns c =
     let yes = sym c.pass.ensures.test ∙ c.loop-alloc-test.false in
     rw (c.pass.ensures.passed, c.loop-alloc-test.false)
-    (members_done c.args.names.now c.loop-alloc.members c.loop-alloc.words (members c.args.names.now c.args.words.now) yes
-    c.loop-alloc.invariant)
+    (members_done c.args.names.now c.loop-alloc.members c.loop-alloc.words (members c.args.names.now c.args.words.now)
+    yes c.loop-alloc.invariant)

@@ -13,7 +13,8 @@ returns-in_err-read_pattern c =
     let p = err_from_is_err_and c.from_residual.result c.from_residual.ensures.1 in
     rw (p.1, p.2)
     (list_err BadMemberSpec (passing is_part BadMemberSpec) c.in_err-read_pattern.field-0.0 c.read_pattern.new.words
-    c.read_pattern.new.words c.loop-types.types c.loop-types.words (types c.args.words.now) c.in_err-read_pattern.ensures
+    c.read_pattern.new.words c.loop-types.types c.loop-types.words (types c.args.words.now)
+    c.in_err-read_pattern.ensures
     c.loop-types.invariant)
 
 pub returns-then-not-pass : goal.returns-then-not-pass
@@ -21,7 +22,8 @@ unfolding types expected
 returns-then-not-pass c =
     let no = sym c.pass.ensures.test ∙ c.if-not-pass.true in
     rw (c.in_ok-push.ensures, c.pass.ensures.passed, c.if-not-pass.true)
-    (list_done BadMemberSpec (passing is_part BadMemberSpec) c.loop-types.types c.loop-types.words c.in_ok-read_pattern.field-0
+    (list_done BadMemberSpec (passing is_part BadMemberSpec) c.loop-types.types c.loop-types.words
+    c.in_ok-read_pattern.field-0
     c.read_pattern.new.words (types c.args.words.now) c.in_ok-read_pattern.ensures no c.loop-types.invariant)
 
 pub loop-types-smaller : goal.loop-types-smaller
@@ -36,5 +38,6 @@ unfolding types expected
 loop-types-preserved c =
     let yes = sym c.pass.ensures.test ∙ c.if-not-pass.false in
     rw (c.in_ok-push.ensures, c.pass.ensures.passed, c.if-not-pass.false)
-    (list_more BadMemberSpec (passing is_part BadMemberSpec) c.loop-types.types c.loop-types.words c.in_ok-read_pattern.field-0
+    (list_more BadMemberSpec (passing is_part BadMemberSpec) c.loop-types.types c.loop-types.words
+    c.in_ok-read_pattern.field-0
     c.read_pattern.new.words (types c.args.words.now) c.in_ok-read_pattern.ensures yes c.loop-types.invariant)

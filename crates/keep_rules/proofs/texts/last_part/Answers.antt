@@ -9,4 +9,5 @@ returns-in-Some c =
     c.range_from.ensures.value ∙ sym (last_part_is c.args.name.now c.in-Some.at f.0 f.1 f.2)
 
 pub returns-in-None : goal.returns-in-None
-returns-in-None c = sym (last_part_same c.args.name.now (rfind_char 46 c.args.name.now None c.in-None.ensures.cases (omega arith)))
+returns-in-None c =
+    sym (last_part_same c.args.name.now (rfind_char 46 c.args.name.now None c.in-None.ensures.cases (omega arith)))

@@ -4,4 +4,6 @@ use Rattle.keep_rules.proofs.Spelling.{without_not_same}
 use Rattle.keep_rules.proofs.texts.without_not.Goals as goal
 
 pub returns-in-None : goal.returns-in-None
-returns-in-None c = sym (without_not_same c.args.word.now (strip_prefix_char 33 c.args.word.now None c.in-None.ensures.cases (omega arith)))
+returns-in-None c =
+    sym (without_not_same c.args.word.now (strip_prefix_char 33 c.args.word.now None c.in-None.ensures.cases
+    (omega arith)))

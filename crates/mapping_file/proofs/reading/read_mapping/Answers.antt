@@ -7,14 +7,17 @@ use Rattle.mapping_file.proofs.reading.read_mapping.Goals as goal
 
 pub returns-clause-found : goal.returns-clause-found
 returns-clause-found c = read_found c.args.bytes.now c.in_ok-mapping_of.field-0
-    (mapping_read c.args.bytes.now c.in_ok-read.read c.in_ok-mapping_of.field-0 c.in_ok-read.ensures c.in_ok-mapping_of.ensures)
+    (mapping_read c.args.bytes.now c.in_ok-read.read c.in_ok-mapping_of.field-0 c.in_ok-read.ensures
+    c.in_ok-mapping_of.ensures)
 
 pub returns-clause-only : goal.returns-clause-only
 returns-clause-only c = λ map h. sym (read_only c.args.bytes.now map h)
-    ∙ mapping_read c.args.bytes.now c.in_ok-read.read c.in_ok-mapping_of.field-0 c.in_ok-read.ensures c.in_ok-mapping_of.ensures
+    ∙ mapping_read c.args.bytes.now c.in_ok-read.read c.in_ok-mapping_of.field-0 c.in_ok-read.ensures
+    c.in_ok-mapping_of.ensures
 
 pub returns-clause-exact : goal.returns-clause-exact
-returns-clause-exact c = mapping_read c.args.bytes.now c.in_ok-read.read c.in_ok-mapping_of.field-0 c.in_ok-read.ensures c.in_ok-mapping_of.ensures
+returns-clause-exact c = mapping_read c.args.bytes.now c.in_ok-read.read c.in_ok-mapping_of.field-0 c.in_ok-read.ensures
+    c.in_ok-mapping_of.ensures
 
 pub returns-in_err-read-clause-exact : goal.returns-in_err-read-clause-exact
 returns-in_err-read-clause-exact c =

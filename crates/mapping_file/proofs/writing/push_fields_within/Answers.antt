@@ -5,7 +5,8 @@ use Rattle.mapping_file.proofs.writing.push_fields_within.Goals as goal
 
 pub returns-then-len-limit : goal.returns-then-len-limit
 returns-then-len-limit c =
-    stops (λ m. field_line_text m ++ 10 ∷ []) c.args.fields.now c.loop-field.field-index c.args.limit c.args.out.now.items
+    stops (λ m. field_line_text m ++ 10 ∷ []) c.args.fields.now c.loop-field.field-index c.args.limit
+    c.args.out.now.items
     c.loop-field.out.items c.loop-field.invariant (omega (arith, c.if-len-limit.true, c.len.ensures))
 
 pub loop-field-preserved : goal.loop-field-preserved

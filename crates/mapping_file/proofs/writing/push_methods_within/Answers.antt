@@ -5,7 +5,8 @@ use Rattle.mapping_file.proofs.writing.push_methods_within.Goals as goal
 
 pub returns-then-len-limit : goal.returns-then-len-limit
 returns-then-len-limit c =
-    stops (λ m. method_line_text m ++ 10 ∷ []) c.args.methods.now c.loop-method.method-index c.args.limit c.args.out.now.items
+    stops (λ m. method_line_text m ++ 10 ∷ []) c.args.methods.now c.loop-method.method-index c.args.limit
+    c.args.out.now.items
     c.loop-method.out.items c.loop-method.invariant (omega (arith, c.if-len-limit.true, c.len.ensures))
 
 pub loop-method-preserved : goal.loop-method-preserved

@@ -16,6 +16,7 @@ loop-method-preserved c =
     ∙ ap (λ (ls : List MapMethod). lookup (λ key. is_same key (x.name, descriptor.method_text x.ty)) (method_lines ls))
     c.as_slice.ensures in
     let grown : c.push.new.self ≡ c.loop-method.names ++ c.in_ok-method_name.field-0 ∷ [] = search rules in
-    map_more (method_in c.args.line.now) c.args.methods.now c.loop-method.method-index x c.loop-method.names c.push.new.self
+    map_more (method_in c.args.line.now) c.args.methods.now c.loop-method.method-index x c.loop-method.names
+    c.push.new.self
     c.in_ok-method_name.field-0 c.loop-method-test.true c.method-item.is c.loop-method.invariant grown
     (c.in_ok-method_name.ensures ∙ told)

@@ -21,4 +21,5 @@ loop-left-preserved c =
 pub returns : goal.returns
 returns c =
     let zero : c.loop-left.left ≡ 0 = omega arith in
-    subst (λ (n : ℕ). TellsMembers c.loop-left.table (field_lines (drop n c.args.lines.now))) zero c.loop-left.invariant.told
+    subst (λ (n : ℕ). TellsMembers c.loop-left.table (field_lines (drop n c.args.lines.now))) zero
+    c.loop-left.invariant.told

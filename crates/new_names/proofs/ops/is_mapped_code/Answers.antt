@@ -5,8 +5,11 @@ use Rattle.new_names.proofs.Comparing.{alike, all_alike, all_left, apart, unlike
 use Rattle.new_names.proofs.ops.is_mapped_code.Goals as goal
 
 pub returns-then-old-new : goal.returns-then-old-new
-returns-then-old-new c =
-    ((λ t. absurd cc), (λ e. absurd (apart (mapped_ins_if (names_of c.args.names.now) c.args.lines) c.args.old.now c.args.new.now c.if-old-new.true e)))
+returns-then-old-new c = (
+  (λ t. absurd cc),
+  (λ e. absurd (apart (mapped_ins_if (names_of c.args.names.now) c.args.lines) c.args.old.now c.args.new.now
+      c.if-old-new.true e)),
+)
 
 pub loop-index-init : goal.loop-index-init
 loop-index-init c = record {
@@ -17,7 +20,8 @@ loop-index-init c = record {
 pub returns-then-not-branch : goal.returns-then-not-branch
 returns-then-not-branch c = (
   (λ t. absurd cc),
-  (λ e. absurd (unlike (mapped_ins_if (names_of c.args.names.now) c.args.lines) c.args.old.now c.args.new.now c.loop-index.index c.index-old-index.result
+  (λ e. absurd (unlike (mapped_ins_if (names_of c.args.names.now) c.args.lines) c.args.old.now c.args.new.now
+      c.loop-index.index c.index-old-index.result
       c.index-new-index.result (omega arith) (omega (arith, c.loop-index.invariant.lengths)) c.index-old-index.is
       c.index-new-index.is (λ s. let t = c.in_ok-is_mapped_ins.ensures.1 s in cc) c.loop-index.invariant.left e)),
 )
@@ -25,14 +29,16 @@ returns-then-not-branch c = (
 pub loop-index-preserved : goal.loop-index-preserved
 loop-index-preserved c = record {
   lengths = c.loop-index.invariant.lengths;
-  left = alike (mapped_ins_if (names_of c.args.names.now) c.args.lines) c.args.old.now c.args.new.now c.loop-index.index c.index-old-index.result
+  left = alike (mapped_ins_if (names_of c.args.names.now) c.args.lines) c.args.old.now c.args.new.now c.loop-index.index
+      c.index-old-index.result
       c.index-new-index.result (omega arith) (omega (arith, c.loop-index.invariant.lengths)) c.index-old-index.is
       c.index-new-index.is (c.in_ok-is_mapped_ins.ensures.0 c.if-not-branch.false) c.loop-index.invariant.left;
 }
 
 pub returns : goal.returns
 returns c = (
-  (λ t. all_alike (mapped_ins_if (names_of c.args.names.now) c.args.lines) c.args.old.now c.args.new.now c.loop-index.index (omega arith) c.loop-index.invariant.lengths
+  (λ t. all_alike (mapped_ins_if (names_of c.args.names.now) c.args.lines) c.args.old.now c.args.new.now
+      c.loop-index.index (omega arith) c.loop-index.invariant.lengths
       c.loop-index.invariant.left),
   (λ e. refl),
 )

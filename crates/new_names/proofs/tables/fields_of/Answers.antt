@@ -11,10 +11,12 @@ loop-left-preserved c = record {
   told = subst (λ (ls : List MapClass). TellsNames c.put_fields_of.new.table (all_field_names ls))
       (sym (begins_at c.args.lines.now c.loop-left.left c.index-lines-left.result c.loop-left-test.true
       c.loop-left.invariant.within c.index-lines-left.is))
-      (c.in_ok-put_fields_of.ensures (all_field_names (drop c.loop-left.left c.args.lines.now)) c.loop-left.invariant.told);
+      (c.in_ok-put_fields_of.ensures (all_field_names (drop c.loop-left.left c.args.lines.now))
+      c.loop-left.invariant.told);
 }
 
 pub returns : goal.returns
 returns c =
     let zero : c.loop-left.left ≡ 0 = omega arith in
-    subst (λ (n : ℕ). TellsNames c.loop-left.table (all_field_names (drop n c.args.lines.now))) zero c.loop-left.invariant.told
+    subst (λ (n : ℕ). TellsNames c.loop-left.table (all_field_names (drop n c.args.lines.now))) zero
+    c.loop-left.invariant.told

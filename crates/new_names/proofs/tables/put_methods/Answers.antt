@@ -23,7 +23,8 @@ loop-left-preserved c =
       told = λ rest h name. put_before (λ old. is_text old name) (λ (ls : List MapMethod). method_names ls ++ rest)
           c.args.lines.now c.loop-left.left x _ c.loop-left-test.true c.loop-left.invariant.within c.index-lines-left.is
           (c.in_ok-put_method.ensures name
-          ∙ ap (λ (o : Option (List ℕ)). cond (is_text x.old name) (Some x.new) o) (c.loop-left.invariant.told rest h name));
+          ∙ ap (λ (o : Option (List ℕ)). cond (is_text x.old name) (Some x.new) o)
+          (c.loop-left.invariant.told rest h name));
     }
 
 pub returns : goal.returns

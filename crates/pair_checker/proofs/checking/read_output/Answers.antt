@@ -6,7 +6,8 @@ use Rattle.pair_checker.proofs.checking.read_output.Goals as goal
 
 pub returns-in-Ok : goal.returns-in-Ok
 returns-in-Ok c =
-    subst (λ (fs : List FileAt). IsAccepted fs c.in-Ok.set) (c.in_ok-files.ensures ∙ c.as_slice.ensures) c.in-Ok.ensures.exact
+    subst (λ (fs : List FileAt). IsAccepted fs c.in-Ok.set) (c.in_ok-files.ensures ∙ c.as_slice.ensures)
+    c.in-Ok.ensures.exact
 
 pub returns-in-Err-Fault-Format : goal.returns-in-Err-Fault-Format
 returns-in-Err-Fault-Format c =

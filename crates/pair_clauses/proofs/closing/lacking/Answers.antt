@@ -13,12 +13,15 @@ loop-item-preserved c =
     let needs = c.index-needs.result.now in
     elim c.if-has_line_at.branch [
       | then-has_line_at w ↦
-          needs_on lined c.args.sys.now.needs more c.loop-item.item needs c.loop-item.least c.if-has_line_at.least c.index-needs.ensures
+          needs_on lined c.args.sys.now.needs more c.loop-item.item needs c.loop-item.least c.if-has_line_at.least
+          c.index-needs.ensures
           (w.least-is ∙ w.least_lacking-least.ensures ∙ ap (least_of lined c.loop-item.least)
-          (w.as_slice.ensures ∙ needs_lined lined c.loop-item.item needs (sym c.has_line_at.ensures ∙ w.if-has_line_at.true)))
+          (w.as_slice.ensures ∙ needs_lined lined c.loop-item.item needs
+          (sym c.has_line_at.ensures ∙ w.if-has_line_at.true)))
           ∙ c.loop-item.invariant
       | else-has_line_at w ↦
-          needs_on lined c.args.sys.now.needs more c.loop-item.item needs c.loop-item.least c.if-has_line_at.least c.index-needs.ensures
+          needs_on lined c.args.sys.now.needs more c.loop-item.item needs c.loop-item.least c.if-has_line_at.least
+          c.index-needs.ensures
           (w.least-is ∙ ap (least_of lined c.loop-item.least)
           (needs_unlined lined c.loop-item.item needs (sym c.has_line_at.ensures ∙ w.if-has_line_at.false)))
           ∙ c.loop-item.invariant
@@ -29,6 +32,7 @@ returns c =
     let lined = c.args.lined.now in
     let more = flat_map (needed_together lined) c.args.sys.now.pairs in
     c.lacking_together.ensures
-    ∙ ap (λ (ps : List Pair). least_of lined c.loop-item.least (flat_map (needed_together lined) ps)) c.as_slice-2.ensures
+    ∙ ap (λ (ps : List Pair). least_of lined c.loop-item.least (flat_map (needed_together lined) ps))
+    c.as_slice-2.ensures
     ∙ ap (least_of lined c.loop-item.least) (needs_done lined c.args.sys.now.needs more c.loop-item.item (omega arith))
     ∙ c.loop-item.invariant

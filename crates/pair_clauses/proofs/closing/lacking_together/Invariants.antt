@@ -5,5 +5,6 @@ use Rattle.pair_clauses.proofs.closing.lacking_together.Given as goal
 
 abbrev pub invariant-loop-pair : goal.invariant-loop-pair
 invariant-loop-pair l =
-    fold lesser l.least (filter (λ x. not (has_line l.lined x)) (flat_map (needed_together l.lined) (drop l.pair-index l.pairs)))
+    fold lesser l.least
+    (filter (λ x. not (has_line l.lined x)) (flat_map (needed_together l.lined) (drop l.pair-index l.pairs)))
     ≡ fold lesser l.fn.before (filter (λ x. not (has_line l.lined x)) (flat_map (needed_together l.lined) l.pairs))

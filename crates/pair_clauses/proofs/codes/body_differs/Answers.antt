@@ -6,15 +6,22 @@ use Rattle.pair_clauses.specs.Finding.{FirstUnlike}
 use Rattle.pair_clauses.specs.Members.{NewMethod, with_name}
 use Rattle.pair_clauses.specs.Places.{place_of_method}
 use Rattle.pair_clauses.specs.declared.place.Place.{Place}
-use Rattle.pair_clauses.proofs.Unlike.{FoundBehind, found_alike, found_none, found_unlike, found_unnamed, named_done, named_ends, none_there}
+use Rattle.pair_clauses.proofs.Unlike.{FoundBehind, found_alike, found_none, found_unlike, found_unnamed, named_done}
+use Rattle.pair_clauses.proofs.Unlike.{named_ends, none_there}
 use Rattle.pair_clauses.proofs.codes.body_differs.Goals as goal
 use Rattle.pair_clauses.proofs.codes.body_differs.Goals.{then-is_some+in_ok-same+else-not-same, else-is_some}
 
 pub returns-in_default : goal.returns-in_default
-returns-in_default c = found_none (IsSameBody c.args.names.now c.args.filter.now) (λ (e : NewMethod). place_of_method c.args.class.now e.0) c.args.class.now.methods c.args.new.now c.args.outs.now c.loop-index.index c.loop-index.count c.loop-index.invariant.left (named_ends c.args.class.now.methods c.args.new.now c.loop-index.index (sym c.in_default.ensures))
+returns-in_default c = found_none (IsSameBody c.args.names.now c.args.filter.now)
+    (λ (e : NewMethod). place_of_method c.args.class.now e.0) c.args.class.now.methods c.args.new.now c.args.outs.now
+    c.loop-index.index c.loop-index.count c.loop-index.invariant.left
+    (named_ends c.args.class.now.methods c.args.new.now c.loop-index.index (sym c.in_default.ensures))
 
 pub returns : goal.returns
-returns c = found_none (IsSameBody c.args.names.now c.args.filter.now) (λ (e : NewMethod). place_of_method c.args.class.now e.0) c.args.class.now.methods c.args.new.now c.args.outs.now c.loop-index.index c.loop-index.count c.loop-index.invariant.left (named_done c.args.class.now.methods c.args.new.now c.loop-index.index (omega arith))
+returns c = found_none (IsSameBody c.args.names.now c.args.filter.now)
+    (λ (e : NewMethod). place_of_method c.args.class.now e.0) c.args.class.now.methods c.args.new.now c.args.outs.now
+    c.loop-index.index c.loop-index.count c.loop-index.invariant.left
+    (named_done c.args.class.now.methods c.args.new.now c.loop-index.index (omega arith))
 
 pub returns-then-not-same : goal.returns-then-not-same
 returns-then-not-same c =
@@ -25,8 +32,9 @@ returns-then-not-same c =
     (λ (e : NewMethod). place_of_method c.args.class.now e.0)
     (filter_map with_name (zip c.args.class.now.methods c.args.new.now)) c.args.outs.now (Some place))
     (sym c.in_ok-place.ensures)
-    (found_unlike (IsSameBody c.args.names.now c.args.filter.now) (λ (e : NewMethod). place_of_method c.args.class.now e.0) c.args.class.now.methods c.args.new.now c.args.outs.now c.loop-index.index c.loop-index.count c.loop-index.invariant.left
-    method some.0 c.index-method.ensures named
+    (found_unlike (IsSameBody c.args.names.now c.args.filter.now) (λ (e : NewMethod). place_of_method c.args.class.now
+    e.0) c.args.class.now.methods c.args.new.now c.args.outs.now c.loop-index.index c.loop-index.count
+    c.loop-index.invariant.left method some.0 c.index-method.ensures named
     (λ out there same. let yes : c.in_ok-same.same ≡ true =
     c.in_ok-same.ensures.1 (out, c.get-then-is_some.ensures ∙ there, same) in
     let clash : true ≡ false = sym yes ∙ c.if-not-same.true in cc))
@@ -40,16 +48,25 @@ loop-index-preserved c =
           let named = sym c.in-Some.ensures ∙ ap Some some.1 in
           let same = w.in_ok-same.ensures.0 w.if-not-same.false in
           record {
-            left = subst (λ (k : ℕ). FoundBehind (IsSameBody c.args.names.now c.args.filter.now) (λ (e : NewMethod). place_of_method c.args.class.now e.0) c.args.class.now.methods c.args.new.now c.args.outs.now (c.loop-index.index + 1) k) (sym w.count-is)
-                (found_alike (IsSameBody c.args.names.now c.args.filter.now) (λ (e : NewMethod). place_of_method c.args.class.now e.0) c.args.class.now.methods c.args.new.now c.args.outs.now c.loop-index.index c.loop-index.count c.loop-index.invariant.left
+            left = subst (λ (k : ℕ). FoundBehind (IsSameBody c.args.names.now c.args.filter.now)
+                (λ (e : NewMethod). place_of_method c.args.class.now e.0) c.args.class.now.methods c.args.new.now
+                c.args.outs.now (c.loop-index.index + 1) k) (sym w.count-is)
+                (found_alike (IsSameBody c.args.names.now c.args.filter.now)
+                (λ (e : NewMethod). place_of_method c.args.class.now e.0) c.args.class.now.methods c.args.new.now
+                c.args.outs.now c.loop-index.index c.loop-index.count c.loop-index.invariant.left
                 method some.0 same.0 c.index-method.ensures named (sym w.get-then-is_some.ensures ∙ same.1) same.2);
             few = omega (arith, w.count-is, c.loop-index.invariant.few);
           }
       | else-is_some w ↦
-          let unnamed = sym c.in-Some.ensures ∙ ap Some (none_there c.in-Some.given.now (sym c.is_some.ensures ∙ w.if-is_some.false)) in
+          let unnamed = sym c.in-Some.ensures
+          ∙ ap Some (none_there c.in-Some.given.now (sym c.is_some.ensures ∙ w.if-is_some.false)) in
           record {
-            left = subst (λ (k : ℕ). FoundBehind (IsSameBody c.args.names.now c.args.filter.now) (λ (e : NewMethod). place_of_method c.args.class.now e.0) c.args.class.now.methods c.args.new.now c.args.outs.now (c.loop-index.index + 1) k) (sym w.count-is)
-                (found_unnamed (IsSameBody c.args.names.now c.args.filter.now) (λ (e : NewMethod). place_of_method c.args.class.now e.0) c.args.class.now.methods c.args.new.now c.args.outs.now c.loop-index.index c.loop-index.count c.loop-index.invariant.left
+            left = subst (λ (k : ℕ). FoundBehind (IsSameBody c.args.names.now c.args.filter.now)
+                (λ (e : NewMethod). place_of_method c.args.class.now e.0) c.args.class.now.methods c.args.new.now
+                c.args.outs.now (c.loop-index.index + 1) k) (sym w.count-is)
+                (found_unnamed (IsSameBody c.args.names.now c.args.filter.now)
+                (λ (e : NewMethod). place_of_method c.args.class.now e.0) c.args.class.now.methods c.args.new.now
+                c.args.outs.now c.loop-index.index c.loop-index.count c.loop-index.invariant.left
                 method c.index-method.ensures unnamed);
             few = omega (arith, w.count-is, c.loop-index.invariant.few);
           }

@@ -6,7 +6,8 @@ use Rattle.pair_clauses.proofs.codes.body_differs.Given as goal
 
 abbrev pub invariant-loop-index : goal.invariant-loop-index
 invariant-loop-index l = record {
-  left : FoundBehind (IsSameBody l.names l.filter) (λ e. place_of_method l.class e.0) l.class.methods l.new l.outs l.index
+  left : FoundBehind (IsSameBody l.names l.filter) (λ e. place_of_method l.class e.0) l.class.methods l.new
+      l.outs l.index
       l.count;
   few : l.count ≤ l.index;
 }

@@ -6,4 +6,5 @@ use Rattle.pair_clauses.proofs.Searching.{FoundFrom}
 use Rattle.pair_clauses.proofs.codes.code_differs.Given as goal
 
 abbrev pub invariant-loop-number : goal.invariant-loop-number
-invariant-loop-number l = FoundFrom (λ (p : Class × ClassNames). ClassCodeDiffers l.names l.filter p.0 (expected_methods p.0 p.1) (new_one l.output p.1)) l.input l.given l.number
+invariant-loop-number l = FoundFrom (λ (p : Class × ClassNames). ClassCodeDiffers l.names l.filter p.0
+    (expected_methods p.0 p.1) (new_one l.output p.1)) l.input l.given l.number

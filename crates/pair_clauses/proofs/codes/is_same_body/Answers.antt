@@ -5,11 +5,13 @@ use Rattle.pair_clauses.proofs.codes.is_same_body.Goals as goal
 
 pub returns-in-Some-Some : goal.returns-in-Some-Some
 returns-in-Some-Some c = ok_on c.is_same_code.result
-    (both_bodies c.args.names.now c.args.filter.now (option_copied c.args.out) c.in-Some.out.now (ap option_copied c.in-Some.is)
+    (both_bodies c.args.names.now c.args.filter.now (option_copied c.args.out) c.in-Some.out.now
+    (ap option_copied c.in-Some.is)
     c.args.method.now.code c.in-Some-Some.code c.in-Some-Some.out c.in-Some-Some.is-0 c.in-Some-Some.is-1)
     c.is_same_code.ensures
 
 pub returns-in-None-None : goal.returns-in-None-None
 returns-in-None-None c =
-    no_bodies c.args.names.now c.args.filter.now (option_copied c.args.out) c.in-Some.out.now (ap option_copied c.in-Some.is)
+    no_bodies c.args.names.now c.args.filter.now (option_copied c.args.out) c.in-Some.out.now
+    (ap option_copied c.in-Some.is)
     c.args.method.now.code c.in-None-None.is-0 c.in-None-None.is-1

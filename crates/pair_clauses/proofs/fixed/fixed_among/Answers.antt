@@ -12,21 +12,26 @@ returns-in_default c =
 
 pub returns : goal.returns
 returns c =
-    sym (first_done (fixed_in (fixed_kinds c.args.fixed.now)) c.args.input.now c.args.given.now c.loop-number.number (beyond c.args.input.now _ (omega arith)))
+    sym (first_done (fixed_in (fixed_kinds c.args.fixed.now)) c.args.input.now c.args.given.now c.loop-number.number
+    (beyond c.args.input.now _ (omega arith)))
     ∙ c.loop-number.invariant
 
 pub returns-then-is_some : goal.returns-then-is_some
 returns-then-is_some c =
     let names = c.in-Some.names.now in
-    let read = got c.args.given.now c.loop-number.number names c.in-Some.ensures.lookup.3.0 c.in-Some.ensures.lookup.1 in
-    first_found (fixed_in (fixed_kinds c.args.fixed.now)) c.args.input.now c.args.given.now c.loop-number.number c.class.result.now names
+    let read = got c.args.given.now c.loop-number.number names c.in-Some.ensures.lookup.3.0
+    c.in-Some.ensures.lookup.1 in
+    first_found (fixed_in (fixed_kinds c.args.fixed.now)) c.args.input.now c.args.given.now c.loop-number.number
+    c.class.result.now names
     c.in_ok-found.found c.class.ensures.is read c.in_ok-found.ensures
     (sym c.is_some.ensures ∙ c.if-is_some.true) ∙ c.loop-number.invariant
 
 pub loop-number-preserved : goal.loop-number-preserved
 loop-number-preserved c =
     let names = c.in-Some.names.now in
-    let read = got c.args.given.now c.loop-number.number names c.in-Some.ensures.lookup.3.0 c.in-Some.ensures.lookup.1 in
-    first_unfound (fixed_in (fixed_kinds c.args.fixed.now)) c.args.input.now c.args.given.now c.loop-number.number c.class.result.now names
+    let read = got c.args.given.now c.loop-number.number names c.in-Some.ensures.lookup.3.0
+    c.in-Some.ensures.lookup.1 in
+    first_unfound (fixed_in (fixed_kinds c.args.fixed.now)) c.args.input.now c.args.given.now c.loop-number.number
+    c.class.result.now names
     c.in_ok-found.found c.class.ensures.is read c.in_ok-found.ensures
     (sym c.is_some.ensures ∙ c.if-is_some.false) ∙ c.loop-number.invariant

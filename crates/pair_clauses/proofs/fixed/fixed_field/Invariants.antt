@@ -7,5 +7,6 @@ use Rattle.pair_clauses.proofs.fixed.fixed_field.Given as goal
 
 abbrev pub invariant-loop-index : goal.invariant-loop-index
 invariant-loop-index l =
-    first_place (field_fault (is_among (option_copied l.fixed)) l.class) (zip (drop l.index l.class.fields) (drop l.index l.names))
+    first_place (field_fault (is_among (option_copied l.fixed)) l.class)
+    (zip (drop l.index l.class.fields) (drop l.index l.names))
     ≡ first_place (field_fault (is_among (option_copied l.fixed)) l.class) (zip l.class.fields l.names)

@@ -7,5 +7,6 @@ use Rattle.pair_clauses.proofs.fixed.fixed_method.Given as goal
 
 abbrev pub invariant-loop-index : goal.invariant-loop-index
 invariant-loop-index l =
-    first_place (method_fault (is_among (option_copied l.fixed)) l.class) (zip (drop l.index l.class.methods) (drop l.index l.names))
+    first_place (method_fault (is_among (option_copied l.fixed)) l.class)
+    (zip (drop l.index l.class.methods) (drop l.index l.names))
     ≡ first_place (method_fault (is_among (option_copied l.fixed)) l.class) (zip l.class.methods l.names)

@@ -12,16 +12,19 @@ returns-in_default c =
 
 pub returns : goal.returns
 returns c =
-    sym (first_done moved_in c.args.input.now c.args.given.now c.loop-number.number (beyond c.args.input.now _ (omega arith)))
+    sym (first_done moved_in c.args.input.now c.args.given.now c.loop-number.number
+    (beyond c.args.input.now _ (omega arith)))
     ∙ c.loop-number.invariant
 
 pub returns-then-is_moved : goal.returns-then-is_moved
 returns-then-is_moved c =
     let class = c.class-class.result.now in
     let names = c.in-Some.names.now in
-    let read = got c.args.given.now c.loop-number.number names c.in-Some.ensures.lookup.3.0 c.in-Some.ensures.lookup.1 in
+    let read = got c.args.given.now c.loop-number.number names c.in-Some.ensures.lookup.3.0
+    c.in-Some.ensures.lookup.1 in
     ap Some c.in_ok-class_place.ensures
-    ∙ sym (first_here moved_in c.args.input.now c.args.given.now c.loop-number.number class names (class_place class.name) c.class-class.ensures.is read
+    ∙ sym (first_here moved_in c.args.input.now c.args.given.now c.loop-number.number class names
+    (class_place class.name) c.class-class.ensures.is read
     (placed (is_moved class.name names.class) (class_place class.name) (sym c.is_moved.ensures ∙ c.if-is_moved.true)))
     ∙ c.loop-number.invariant
 
@@ -29,7 +32,8 @@ pub loop-number-preserved : goal.loop-number-preserved
 loop-number-preserved c =
     let class = c.class-class.result.now in
     let names = c.in-Some.names.now in
-    let read = got c.args.given.now c.loop-number.number names c.in-Some.ensures.lookup.3.0 c.in-Some.ensures.lookup.1 in
+    let read = got c.args.given.now c.loop-number.number names c.in-Some.ensures.lookup.3.0
+    c.in-Some.ensures.lookup.1 in
     first_on moved_in c.args.input.now c.args.given.now c.loop-number.number class names c.class-class.ensures.is read
     (unplaced (is_moved class.name names.class) (class_place class.name) (sym c.is_moved.ensures ∙ c.if-is_moved.false))
     ∙ c.loop-number.invariant

@@ -8,7 +8,8 @@ use Rattle.pair_clauses.proofs.lined.item_place.Goals as goal
 pub returns : goal.returns
 returns c =
     let standing = c.standing_of-standing.ensures in
-    let there = place_there c.args.set.now c.standing_of-standing.result.class c.class.result.now c.standing_of-standing.result.member
+    let there = place_there c.args.set.now c.standing_of-standing.result.class c.class.result.now
+    c.standing_of-standing.result.member
     c.class.ensures.is (standing.class c.class.result.now c.class.ensures.is) in
     subst (λ (o : Option Place). IfOk c.place_in.result (λ place. o ≡ Some place))
     (sym (ap (slice_get (item_places c.args.set.now)) (sym standing.is) ∙ there)) c.place_in.ensures

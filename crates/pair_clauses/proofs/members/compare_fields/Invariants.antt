@@ -7,7 +7,8 @@ use Rattle.pair_clauses.proofs.members.compare_fields.Given as goal
 
 abbrev pub invariant-loop-index : goal.invariant-loop-index
 invariant-loop-index l = record {
-  left : FoundBehind (IsSameField l.names) (λ e. place_of_field l.class e.0) l.class.fields l.new l.outs l.index l.count;
+  left : FoundBehind (IsSameField l.names) (λ e. place_of_field l.class e.0) l.class.fields l.new l.outs
+      l.index l.count;
   counted : l.count + length (named_from l.class.fields l.new l.index)
       ≡ length (filter_map with_name (zip l.class.fields l.new));
   few : l.count ≤ l.index;

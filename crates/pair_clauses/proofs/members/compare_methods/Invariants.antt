@@ -7,7 +7,8 @@ use Rattle.pair_clauses.proofs.members.compare_methods.Given as goal
 
 abbrev pub invariant-loop-index : goal.invariant-loop-index
 invariant-loop-index l = record {
-  left : FoundBehind (IsSameMethod l.names l.filter) (λ e. place_of_method l.class e.0) l.class.methods l.new l.outs l.index l.count;
+  left : FoundBehind (IsSameMethod l.names l.filter) (λ e. place_of_method l.class e.0) l.class.methods l.new l.outs
+      l.index l.count;
   counted : l.count + length (named_from l.class.methods l.new l.index)
       ≡ length (filter_map with_name (zip l.class.methods l.new));
   few : l.count ≤ l.index;

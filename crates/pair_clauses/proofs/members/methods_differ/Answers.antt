@@ -9,11 +9,15 @@ use Rattle.pair_clauses.proofs.Searching.{then_found}
 use Rattle.pair_clauses.proofs.Unlike.{none_there}
 use Rattle.pair_clauses.proofs.Zipped.{placed}
 use Rattle.pair_clauses.proofs.members.methods_differ.Goals as goal
-use Rattle.pair_clauses.proofs.members.methods_differ.Goals.{then-fields-len-via-then-fields-len, then-fields-len-via-else-fields-len+then-methods-len}
+use Rattle.pair_clauses.proofs.members.methods_differ.Goals.{then-fields-len-via-then-fields-len}
+use Rattle.pair_clauses.proofs.members.methods_differ.Goals.{then-fields-len-via-else-fields-len+then-methods-len}
 
 pub returns-then-is_some : goal.returns-then-is_some
-returns-then-is_some c = then_found (FirstUnlike (IsSameMethod c.args.names.now c.args.filter.now) (λ (e : NewMethod). place_of_method c.args.class.now e.0) (expected_methods c.args.class.now c.args.given.now) c.args.out.now.methods)
-    (λ (found : Option Place). found ≡ further_fault c.args.class.now (expected_fields c.args.class.now c.args.given.now)
+returns-then-is_some c = then_found (FirstUnlike (IsSameMethod c.args.names.now c.args.filter.now)
+    (λ (e : NewMethod). place_of_method c.args.class.now e.0) (expected_methods c.args.class.now c.args.given.now)
+    c.args.out.now.methods)
+    (λ (found : Option Place). found ≡ further_fault c.args.class.now
+    (expected_fields c.args.class.now c.args.given.now)
     (expected_methods c.args.class.now c.args.given.now) c.args.out.now)
     c.in_ok-methods.methods.found (sym c.is_some.ensures ∙ c.if-is_some.true) c.in_ok-methods.ensures.found
 
@@ -30,11 +34,16 @@ returns-then-fields-len c =
           let low : fields < length out.fields = omega (arith, c.requires, c.len.ensures, w.if-fields-len.true) in
           ap (λ (b : Bool). b || nat_lt methods (length out.methods)) (lt-ltb fields (length out.fields) low)
       | then-fields-len-via-else-fields-len+then-methods-len w ↦
-          let low : methods < length out.methods = omega (arith, count, w.len-else-fields-len.ensures, w.if-methods-len.true) in
-          or_right (nat_lt fields (length out.fields)) (nat_lt methods (length out.methods)) (lt-ltb methods (length out.methods) low)
+          let low : methods < length out.methods =
+          omega (arith, count, w.len-else-fields-len.ensures, w.if-methods-len.true) in
+          or_right (nat_lt fields (length out.fields)) (nat_lt methods (length out.methods))
+          (lt-ltb methods (length out.methods) low)
     ] in
     inr (
-      subst (FirstUnlike (IsSameMethod c.args.names.now c.args.filter.now) (λ (e : NewMethod). place_of_method c.args.class.now e.0) (expected_methods c.args.class.now c.args.given.now) c.args.out.now.methods) none c.in_ok-methods.ensures.found,
+      subst (FirstUnlike (IsSameMethod c.args.names.now c.args.filter.now)
+          (λ (e : NewMethod). place_of_method c.args.class.now e.0) (expected_methods c.args.class.now c.args.given.now)
+          c.args.out.now.methods) none c.in_ok-methods.ensures.found,
       ap Some c.in_ok-class_place.ensures
-          ∙ sym (placed (nat_lt fields (length out.fields) || nat_lt methods (length out.methods)) (class_place c.args.class.now.name) more),
+          ∙ sym (placed (nat_lt fields (length out.fields) || nat_lt methods (length out.methods))
+          (class_place c.args.class.now.name) more),
     )

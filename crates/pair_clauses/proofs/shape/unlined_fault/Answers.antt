@@ -13,7 +13,8 @@ returns-then-not-has c = λ lines has.
     let class = c.class-class.result.now in
     let none = unlined lines class.name c.has.result false (c.has.ensures _ has) c.if-not-has.true in
     ap Some c.in_ok-class_place.ensures
-    ∙ sym (one_here (unlined_fault lines) c.args.output.now c.loop-number.number class c.class-class.ensures.is (class_place class.name)
+    ∙ sym (one_here (unlined_fault lines) c.args.output.now c.loop-number.number class c.class-class.ensures.is
+    (class_place class.name)
     (placed (not (list_any (λ (l : MapClass). is_text l.new class.name) lines)) (class_place class.name) none))
     ∙ c.loop-number.invariant lines has
 

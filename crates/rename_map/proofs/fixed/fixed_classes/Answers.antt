@@ -18,7 +18,7 @@ returns c =
     subst (λ (t : List (List ℕ)). AreSame t (names_that_stay c.args.rules.now input).classes) (sym c.new.ensures)
     (both_stay c.gather.new.names.keys c.gather-2.new.names.keys own told (reserved named.Class)
     (subst (λ (l : List (List ℕ)). Adds l own c.gather.new.names.keys) c.no_names-names.ensures
-    (subst (λ (rows : List (List Bool)). Adds c.no_names-names.result.keys (of_each choose.Class rows input) c.gather.new.names.keys)
-    (c.as_slice.ensures ∙ c.in_ok-rows.ensures) c.in_ok-gather.ensures))
-    (subst (λ (rows : List (List Bool)). Adds c.gather.new.names.keys (of_each choose.Described rows input) c.gather-2.new.names.keys)
-    (c.as_slice-2.ensures ∙ c.in_ok-described.ensures) c.in_ok-gather-2.ensures))
+    (subst (λ (rows : List (List Bool)). Adds c.no_names-names.result.keys (of_each choose.Class rows input)
+    c.gather.new.names.keys) (c.as_slice.ensures ∙ c.in_ok-rows.ensures) c.in_ok-gather.ensures))
+    (subst (λ (rows : List (List Bool)). Adds c.gather.new.names.keys (of_each choose.Described rows input)
+    c.gather-2.new.names.keys) (c.as_slice-2.ensures ∙ c.in_ok-described.ensures) c.in_ok-gather-2.ensures))

@@ -12,7 +12,8 @@ pub loop-member-preserved : goal.loop-member-preserved
 loop-member-preserved g c = (
   omega (arith, c.loop-member.invariant.0),
   chosen_adds (g.T.Tells.tells c.args.told) c.args.row.now c.args.first c.args.members.now c.loop-member.member-index
-      c.member-item.result c.args.names.now.keys c.loop-member.names.keys c.add_if.new.names.keys c.is_marked-is_chosen.result
+      c.member-item.result c.args.names.now.keys c.loop-member.names.keys c.add_if.new.names.keys
+      c.is_marked-is_chosen.result
       c.loop-member-test.true c.member-item.is
       (c.is_marked-is_chosen.ensures ∙ ap (is_marked c.args.row.now) c.loop-member.invariant.0)
       c.loop-member.invariant.1 c.in_ok-add_if.ensures,
@@ -20,6 +21,7 @@ loop-member-preserved g c = (
 
 pub returns : goal.returns
 returns g c =
-    subst (λ l. Adds c.args.names.now.keys (flat_map (g.T.Tells.tells c.args.told) (chosen c.args.row.now c.args.first l))
+    subst (λ l. Adds c.args.names.now.keys
+    (flat_map (g.T.Tells.tells c.args.told) (chosen c.args.row.now c.args.first l))
     c.loop-member.names.keys)
     (take_all c.loop-member.member-index c.args.members.now c.loop-member-test.false) c.loop-member.invariant.1

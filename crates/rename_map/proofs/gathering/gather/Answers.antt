@@ -12,7 +12,8 @@ loop-number-init c = adds_none c.args.names.now.keys
 
 pub loop-number-preserved : goal.loop-number-preserved
 loop-number-preserved c =
-    numbered_adds (λ e. marked c.args.what (slice_index_or c.args.rows.now e.0 []) e.1) c.args.input.now c.loop-number.number
+    numbered_adds (λ e. marked c.args.what (slice_index_or c.args.rows.now e.0 []) e.1) c.args.input.now
+    c.loop-number.number
     c.class.result.now c.args.names.now.keys c.loop-number.names.keys c.add_marked.new.names.keys
     (marked c.args.what c.row_of.result.now c.class.result.now) c.class.ensures.is
     (ap (λ (row : List Bool). marked c.args.what row c.class.result.now) c.row_of.ensures) c.loop-number.invariant
@@ -20,6 +21,7 @@ loop-number-preserved c =
 
 pub returns : goal.returns
 returns c =
-    subst (λ (l : List Class). Adds c.args.names.now.keys (of_each c.args.what c.args.rows.now l) c.loop-number.names.keys)
+    subst (λ (l : List Class). Adds c.args.names.now.keys (of_each c.args.what c.args.rows.now l)
+    c.loop-number.names.keys)
     (take_all c.loop-number.number c.args.input.now (omega (arith, c.loop-number-test.false, c.len-number-end.ensures)))
     c.loop-number.invariant

@@ -11,7 +11,8 @@ loop-ty-init c = adds_none c.args.names.now.keys
 
 pub loop-ty-preserved : goal.loop-ty-preserved
 loop-ty-preserved c =
-    more_adds type_classes c.args.types.now c.loop-ty.ty-index c.ty-item.result c.args.names.now.keys c.loop-ty.names.keys
+    more_adds type_classes c.args.types.now c.loop-ty.ty-index c.ty-item.result c.args.names.now.keys
+    c.loop-ty.names.keys
     c.add_type.new.names.keys c.loop-ty-test.true c.ty-item.is c.loop-ty.invariant c.in_ok-add_type.ensures
 
 pub returns : goal.returns

@@ -15,6 +15,7 @@ pub returns-clause-found : goal.returns-clause-found
 returns-clause-found g c =
     let told : Told c.text_of.result (text_due c.in_ok-map.map c.in_ok-text.text) =
     subst (λ k. Told c.text_of.result (text_due k c.in_ok-text.text)) c.as_slice.ensures
-    (subst (λ k. Told c.text_of.result (text_due c.as_slice.result.now k)) c.as_slice-2.ensures c.text_of.ensures.told) in
+    (subst (λ k. Told c.text_of.result (text_due c.as_slice.result.now k)) c.as_slice-2.ensures
+    c.text_of.ensures.told) in
     all_found c.args.mapping.now c.args.trace.now c.in_ok-map.map c.in_ok-text.text c.text_of.result _ _ _ _ _ _
     c.in_ok-map.ensures.found c.in_ok-text.ensures.found told

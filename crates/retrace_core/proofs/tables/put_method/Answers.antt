@@ -12,7 +12,8 @@ returns-then-is_kept c = λ before told.
 
 pub returns : goal.returns
 returns c = λ before told.
-    tells_more IsOldName (λ m. m.new) (kept_in (λ k. k.now) c.args.table.now.entries) (kept_in (λ k. k.now) c.keep.new.table.entries)
+    tells_more IsOldName (λ m. m.new) (kept_in (λ k. k.now) c.args.table.now.entries)
+    (kept_in (λ k. k.now) c.keep.new.table.entries)
     before c.as_bytes-new.result.now c.as_bytes.result c.args.method.now told
     (ap (λ (n : List ℕ). is_some (kept_in (λ k. k.now) c.args.table.now.entries n)) (sym c.as_bytes-new.ensures)
     ∙ sym c.is_kept.ensures ∙ c.if-is_kept.false)

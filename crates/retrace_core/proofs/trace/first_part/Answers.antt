@@ -16,4 +16,5 @@ told None p = p
 told (Some x) p = tt
 
 pub returns-in_err-end-clause-none : goal.returns-in_err-end-clause-none
-returns-in_err-end-clause-none c = told c.from_residual.result (λ m. last_retraced m c.args.text.now (sym c.in_err-end.ensures.is))
+returns-in_err-end-clause-none c = told c.from_residual.result
+    (λ m. last_retraced m c.args.text.now (sym c.in_err-end.ensures.is))

@@ -9,7 +9,8 @@ use Rattle.retrace_core.proofs.trace.push_frame.Goals as goal
 
 pub returns-in-Some : goal.returns-in-Some
 returns-in-Some c = λ m told.
-    let found = answers_some TellsClass c.in-Some.class.now _ _ (ap option_copied (sym c.in-Some.is) ∙ c.class_named.ensures)
+    let found = answers_some TellsClass c.in-Some.class.now _ _ (ap option_copied (sym c.in-Some.is)
+    ∙ c.class_named.ensures)
     (told c.args.frame.now.class.now) in
     subst (λ o. OnOk c.push_old_frame.result (c.push_old_frame.new.out.items
     ≡ c.args.out.now.items ++ frame_retraced c.args.line.now (frame_shown c.args.frame.now) o)) (sym found.1)

@@ -9,7 +9,8 @@ use Rattle.retrace_core.proofs.trace.push_head.Goals as goal
 
 pub returns-in-Some : goal.returns-in-Some
 returns-in-Some c = λ m told.
-    let found = answers_some TellsClass c.in-Some.class.now _ _ (ap option_copied (sym c.in-Some.is) ∙ c.class_named.ensures)
+    let found = answers_some TellsClass c.in-Some.class.now _ _ (ap option_copied (sym c.in-Some.is)
+    ∙ c.class_named.ensures)
     (told c.args.head.now.class.now) in
     subst (λ o. OnOk c.push_old_head.result (c.push_old_head.new.out.items
     ≡ c.args.out.now.items ++ head_retraced c.args.line.now (head_shown c.args.head.now) o)) (sym found.1)

@@ -4,7 +4,8 @@ use Rattle.run_heap.proofs.Receiving.{no_object, no_receiver, null_receiver, obj
 use Rattle.run_heap.proofs.calls.receiver_of.Goals as goal
 
 pub returns-in-Null : goal.returns-in-Null
-returns-in-Null c = λ vs inits f. null_receiver (world_of inits c.args.world.now) c.args.first.now vs f c.in-Null.ensures
+returns-in-Null c = λ vs inits f. null_receiver (world_of inits c.args.world.now) c.args.first.now vs f
+    c.in-Null.ensures
 
 pub returns-in-Some : goal.returns-in-Some
 returns-in-Some c = λ vs inits f. object_receiver (world_of inits c.args.world.now)

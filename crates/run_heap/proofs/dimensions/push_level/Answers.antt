@@ -12,7 +12,8 @@ loop-preserved c =
     record {
       first = next_first first c.loop.counter c.args.size c.loop.first c.in-Some-checked_add.next
           c.loop.invariant.first sum;
-      same = one_array object_of (λ i. Array c.args.component.now (references_from (first + i * c.args.size) c.args.size))
+      same = one_array object_of
+          (λ i. Array c.args.component.now (references_from (first + i * c.args.size) c.args.size))
           c.args.heap.now.items c.loop.heap.items c.push.new.self.items c.in_ok-reference_array.field-0 c.loop.counter
           c.in_ok-push.ensures.items c.loop.invariant.same
           (c.in_ok-reference_array.ensures

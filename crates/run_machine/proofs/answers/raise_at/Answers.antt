@@ -11,8 +11,9 @@ use Rattle.run_machine.proofs.answers.raise_at.Goals as goal
 
 pub returns : goal.returns
 returns c = IfOk-weaker _ (Raised c.args.rest.now.world c.raise.new.world (exception_of c.args.exception))
-    (Answers c.args.rest.now (record c.args.rest.now { world = c.raise.new.world; waits = c.push.new.self }) c.args.frame
-    (λ p w. due.Raises (exception_of c.args.exception)))
+    (Answers c.args.rest.now (record c.args.rest.now { world = c.raise.new.world; waits = c.push.new.self })
+    c.args.frame (λ p w. due.Raises (exception_of c.args.exception)))
     (λ k h p b. h (init_at p c.args.rest.now.marks) (waits_of c.push.new.self)
-    ∙ ap (λ (ws : List Wait). raised (whole p c.args.rest.now) (exception_of c.args.exception) (waits_of ws)) c.in_ok-push.ensures)
+    ∙ ap (λ (ws : List Wait). raised (whole p c.args.rest.now) (exception_of c.args.exception) (waits_of ws))
+    c.in_ok-push.ensures)
     c.raise.ensures

@@ -25,7 +25,10 @@ returns-in-New g c = rw c.in-New.is c.new.ensures
 pub returns-in_default : goal.returns-in_default
 returns-in_default g c = IfOk-weaker _
     (λ k. (b : Body) → state_at (g.S.Shapes.shape c.args.shapes.now) c.ask_other.new.rest k
-    ≡ on_answer (g.S.Shapes.shape c.args.shapes.now) (whole (g.S.Shapes.shape c.args.shapes.now) c.args.rest.now) c.args.frame.method b (body_of c.args.frame.body) (waits_of c.args.rest.now.waits) (answer (g.S.Shapes.shape c.args.shapes.now) c.args.frame.method.class (whole (g.S.Shapes.shape c.args.shapes.now) c.args.rest.now) (request_of c.args.request)))
+    ≡ on_answer (g.S.Shapes.shape c.args.shapes.now) (whole (g.S.Shapes.shape c.args.shapes.now) c.args.rest.now)
+    c.args.frame.method b (body_of c.args.frame.body) (waits_of c.args.rest.now.waits)
+    (answer (g.S.Shapes.shape c.args.shapes.now) c.args.frame.method.class
+    (whole (g.S.Shapes.shape c.args.shapes.now) c.args.rest.now) (request_of c.args.request)))
     (λ k. Asks (g.S.Shapes.shape c.args.shapes.now) c.args.rest.now c.ask_other.new.rest k c.args.frame c.args.request)
     (λ k h b w. h (body_of b))
     (c.ask_other.ensures (plain c.args.request c.in_default.not-GetStatic c.in_default.not-PutStatic

@@ -14,8 +14,11 @@ pub returns : goal.returns
 returns c = IfOk-weaker _
     (Answers (record c.args.rest.now { world = c.called.new.world }) c.on_answer.new.rest c.args.frame
     (λ p w. model_answer c.in_ok-answer.answer w))
-    (Answers c.args.rest.now c.on_answer.new.rest c.args.frame (λ p w. called w c.args.arguments (target_of c.args.target)))
+    (Answers c.args.rest.now c.on_answer.new.rest c.args.frame
+    (λ p w. called w c.args.arguments (target_of c.args.target)))
     (λ k h p b. h p b
-    ∙ carried p (init_at p c.args.rest.now.marks) c.args.frame.method b (body_of c.args.frame.body) (waits_of c.args.rest.now.waits)
-    c.in_ok-answer.answer c.args.rest.now.world c.called.new.world (λ w. called w c.args.arguments (target_of c.args.target))
+    ∙ carried p (init_at p c.args.rest.now.marks) c.args.frame.method b (body_of c.args.frame.body)
+    (waits_of c.args.rest.now.waits)
+    c.in_ok-answer.answer c.args.rest.now.world c.called.new.world
+    (λ w. called w c.args.arguments (target_of c.args.target))
     c.in_ok-answer.ensures) c.on_answer.ensures

@@ -8,9 +8,12 @@ use Rattle.run_steps.specs.Frames.{body_of}
 pub returns-in-To-clause-leads : goal.returns-in-To-clause-leads
 returns-in-To-clause-leads g c =
     let one : c.loop-left.left ≡ suc (c.loop-left.left - 1) = omega (arith, c.loop-left-test.true) in
-    instructed (program (g.S.Shapes.shape c.args.shapes.now) (g.S.Shapes.code_of c.args.shapes.now)) (whole (g.S.Shapes.shape c.args.shapes.now) c.loop-left.rest) (waits_of c.loop-left.rest.waits) c.loop-left.frame.method
+    instructed (program (g.S.Shapes.shape c.args.shapes.now) (g.S.Shapes.code_of c.args.shapes.now))
+    (whole (g.S.Shapes.shape c.args.shapes.now) c.loop-left.rest) (waits_of c.loop-left.rest.waits)
+    c.loop-left.frame.method
     c.args.frame.method (body_of c.loop-left.frame.body) c.args.code.now
-    (state_at (g.S.Shapes.shape c.args.shapes.now) c.step.new.rest c.in-To.control) c.loop-left.left (c.loop-left.left - 1) one c.requires.code
+    (state_at (g.S.Shapes.shape c.args.shapes.now) c.step.new.rest c.in-To.control) c.loop-left.left
+    (c.loop-left.left - 1) one c.requires.code
     c.loop-left.invariant.method (rw c.in-To.is at c.in_ok-next.ensures.does)
     ∙ c.loop-left.invariant.leads
 
@@ -22,9 +25,12 @@ loop-left-preserved g c =
     record {
       within = omega (arith, c.loop-left.invariant.within);
       method = method ∙ c.loop-left.invariant.method;
-      leads = instructed (program (g.S.Shapes.shape c.args.shapes.now) (g.S.Shapes.code_of c.args.shapes.now)) (whole (g.S.Shapes.shape c.args.shapes.now) c.loop-left.rest) (waits_of c.loop-left.rest.waits) c.loop-left.frame.method
+      leads = instructed (program (g.S.Shapes.shape c.args.shapes.now) (g.S.Shapes.code_of c.args.shapes.now))
+          (whole (g.S.Shapes.shape c.args.shapes.now) c.loop-left.rest) (waits_of c.loop-left.rest.waits)
+          c.loop-left.frame.method
           c.args.frame.method (body_of c.loop-left.frame.body) c.args.code.now
-          (state_at (g.S.Shapes.shape c.args.shapes.now) c.step.new.rest (doing.Runs c.in-On.next)) c.loop-left.left (c.loop-left.left - 1) one
+          (state_at (g.S.Shapes.shape c.args.shapes.now) c.step.new.rest (doing.Runs c.in-On.next)) c.loop-left.left
+          (c.loop-left.left - 1) one
           c.requires.code c.loop-left.invariant.method does
           ∙ c.loop-left.invariant.leads;
     }

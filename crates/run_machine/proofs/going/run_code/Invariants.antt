@@ -8,8 +8,10 @@ abbrev pub invariant-loop-left : goal.invariant-loop-left
 invariant-loop-left g l = record {
   within : l.left ≤ l.steps;
   method : l.frame.method ≡ l.fn.frame.method;
-  leads : run (program (g.S.Shapes.shape l.shapes) (g.S.Shapes.code_of l.shapes)) (state_at (g.S.Shapes.shape l.shapes) l.rest (doing.Runs l.frame)) l.left
-      ≡ run (program (g.S.Shapes.shape l.shapes) (g.S.Shapes.code_of l.shapes)) (state_at (g.S.Shapes.shape l.shapes) l.fn.rest (doing.Runs l.fn.frame)) l.steps;
+  leads : run (program (g.S.Shapes.shape l.shapes) (g.S.Shapes.code_of l.shapes))
+      (state_at (g.S.Shapes.shape l.shapes) l.rest (doing.Runs l.frame)) l.left
+      ≡ run (program (g.S.Shapes.shape l.shapes) (g.S.Shapes.code_of l.shapes))
+      (state_at (g.S.Shapes.shape l.shapes) l.fn.rest (doing.Runs l.fn.frame)) l.steps;
 }
 
 abbrev pub decreases-loop-left : goal.decreases-loop-left

@@ -6,5 +6,6 @@ pub returns-then-len-waiting-clause-method : goal.returns-then-len-waiting-claus
 returns-then-len-waiting-clause-method g c =
     let same : length c.ask.new.rest.waits ≡ length c.args.rest.now.waits =
     omega (arith, c.if-len-waiting.true, c.len.ensures, c.len-waiting.ensures) in
-    asked_again (g.S.Shapes.shape c.args.shapes.now) c.args.rest.now c.ask.new.rest c.args.frame c.in-Runs.next c.args.request
+    asked_again (g.S.Shapes.shape c.args.shapes.now) c.args.rest.now c.ask.new.rest c.args.frame c.in-Runs.next
+    c.args.request
     (rw c.in-Runs.is at c.in_ok-other.ensures) same

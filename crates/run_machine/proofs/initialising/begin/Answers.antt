@@ -9,7 +9,8 @@ use Rattle.run_machine.proofs.initialising.begin.Goals as goal
 
 pub returns-in-Failed : goal.returns-in-Failed
 returns-in-Failed g c = IfOk-weaker _ (Raised c.args.rest.now.world c.raise.new.world NoClassDef)
-    (Begins (g.S.Shapes.shape c.args.shapes.now) c.args.rest.now (record c.args.rest.now { world = c.raise.new.world }) c.args.class)
+    (Begins (g.S.Shapes.shape c.args.shapes.now) c.args.rest.now (record c.args.rest.now { world = c.raise.new.world })
+    c.args.class)
     (λ k h. h (init_at (g.S.Shapes.shape c.args.shapes.now) c.args.rest.now.marks) (waits_of c.args.rest.now.waits)
     ∙ ap (begin_by (g.S.Shapes.shape c.args.shapes.now) (whole (g.S.Shapes.shape c.args.shapes.now) c.args.rest.now)
     c.args.class (waits_of c.args.rest.now.waits)) c.in-Failed.ensures) c.raise.ensures

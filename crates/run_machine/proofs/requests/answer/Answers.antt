@@ -13,11 +13,14 @@ use Rattle.run_machine.proofs.requests.answer.Goals as goal
 
 pub returns-in-GetField : goal.returns-in-GetField
 returns-in-GetField g c = rw c.in-GetField.is (λ e. IfOk-weaker _
-    (λ a. Answered a c.args.world.now (λ w. of_some (get_field w c.in-GetField.object) ((g.S.Shapes.shape c.args.shapes.now).field c.in-GetField.field.now)))
+    (λ a. Answered a c.args.world.now (λ w. of_some (get_field w c.in-GetField.object)
+    ((g.S.Shapes.shape c.args.shapes.now).field c.in-GetField.field.now)))
     (λ a. Changes a c.args.world.now c.args.world.now
-    (λ w. of_some (get_field w c.in-GetField.object) ((g.S.Shapes.shape c.args.shapes.now).field c.in-GetField.field.now)))
+    (λ w. of_some (get_field w c.in-GetField.object)
+    ((g.S.Shapes.shape c.args.shapes.now).field c.in-GetField.field.now)))
     (λ a h. as_changes a c.args.world.now
-    (λ w. of_some (get_field w c.in-GetField.object) ((g.S.Shapes.shape c.args.shapes.now).field c.in-GetField.field.now)) h) c.get_field.ensures)
+    (λ w. of_some (get_field w c.in-GetField.object)
+    ((g.S.Shapes.shape c.args.shapes.now).field c.in-GetField.field.now)) h) c.get_field.ensures)
 
 pub returns-in-GetAt : goal.returns-in-GetAt
 returns-in-GetAt g c =
@@ -32,6 +35,9 @@ returns-in-GetAt g c =
 
 pub returns-in-Cast : goal.returns-in-Cast
 returns-in-Cast g c = rw c.in-Cast.is (λ e. IfOk-weaker _
-    (λ a. Answered a c.args.world.now (λ w. cast (g.S.Shapes.shape c.args.shapes.now) w c.in-Cast.ty.now c.in-Cast.object))
-    (λ a. Changes a c.args.world.now c.args.world.now (λ w. cast (g.S.Shapes.shape c.args.shapes.now) w c.in-Cast.ty.now c.in-Cast.object))
-    (λ a h. as_changes a c.args.world.now (λ w. cast (g.S.Shapes.shape c.args.shapes.now) w c.in-Cast.ty.now c.in-Cast.object) h) c.cast.ensures)
+    (λ a. Answered a c.args.world.now (λ w. cast (g.S.Shapes.shape c.args.shapes.now) w c.in-Cast.ty.now
+    c.in-Cast.object))
+    (λ a. Changes a c.args.world.now c.args.world.now (λ w. cast (g.S.Shapes.shape c.args.shapes.now) w c.in-Cast.ty.now
+    c.in-Cast.object))
+    (λ a h. as_changes a c.args.world.now (λ w. cast (g.S.Shapes.shape c.args.shapes.now) w c.in-Cast.ty.now
+    c.in-Cast.object) h) c.cast.ensures)

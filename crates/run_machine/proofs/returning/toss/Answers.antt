@@ -14,13 +14,16 @@ use Rattle.run_machine.proofs.returning.toss.Goals as goal
 pub returns-in-None : goal.returns-in-None
 returns-in-None c = IfOk-weaker _
     (λ k. (p : Shape) → state_at p c.toss_other.new.rest k
-    ≡ toss (whole p c.args.rest.now) (frame_of (record c.args.frame { body = (record c.args.frame.body { stack = c.push.new.self }) })) c.args.thrown (waits_of c.args.rest.now.waits))
+    ≡ toss (whole p c.args.rest.now)
+    (frame_of (record c.args.frame { body = (record c.args.frame.body { stack = c.push.new.self }) })) c.args.thrown
+    (waits_of c.args.rest.now.waits))
     (λ k. (p : Shape) (b : Body) → IsWithout (c.args.thrown ∷ []) b c.args.frame.body
     → state_at p c.toss_other.new.rest k
-    ≡ toss (whole p c.args.rest.now) (record { method = c.args.frame.method; body = body_of b }) c.args.thrown (waits_of c.args.rest.now.waits))
-    (λ k h p b w. h p
-    ∙ ap (λ (x : Standing). toss (whole p c.args.rest.now) (record { method = c.args.frame.method; body = x }) c.args.thrown
+    ≡ toss (whole p c.args.rest.now) (record { method = c.args.frame.method; body = body_of b }) c.args.thrown
     (waits_of c.args.rest.now.waits))
-    (put_back (c.args.thrown ∷ []) b c.args.frame.body (record c.args.frame.body { stack = c.push.new.self }) w refl refl
-    (c.in_ok-push.ensures ∙ ap (λ (v : Value). v ∷ c.args.frame.body.stack) c.in_ok-clone.ensures.cases)))
+    (λ k h p b w. h p
+    ∙ ap (λ (x : Standing). toss (whole p c.args.rest.now) (record { method = c.args.frame.method; body = x })
+    c.args.thrown (waits_of c.args.rest.now.waits))
+    (put_back (c.args.thrown ∷ []) b c.args.frame.body (record c.args.frame.body { stack = c.push.new.self }) w refl
+    refl (c.in_ok-push.ensures ∙ ap (λ (v : Value). v ∷ c.args.frame.body.stack) c.in_ok-clone.ensures.cases)))
     c.toss_other.ensures

@@ -10,4 +10,6 @@ next-requires g c = no_frame c.args.control c.in_default.not-Runs
 pub returns-in_ok-control-in_default-clause-leads : goal.returns-in_ok-control-in_default-clause-leads
 returns-in_ok-control-in_default-clause-leads g c =
     let one : c.args.steps ≡ suc (c.args.steps - 1) = omega (arith, c.requires) in
-    onward (program (g.S.Shapes.shape c.args.shapes.now) (g.S.Shapes.code_of c.args.shapes.now)) (state_at (g.S.Shapes.shape c.args.shapes.now) c.args.rest.now c.args.control) _ c.args.steps (c.args.steps - 1) one c.in_ok-control-in_default.ensures
+    onward (program (g.S.Shapes.shape c.args.shapes.now) (g.S.Shapes.code_of c.args.shapes.now))
+    (state_at (g.S.Shapes.shape c.args.shapes.now) c.args.rest.now c.args.control) _ c.args.steps (c.args.steps - 1)
+    one c.in_ok-control-in_default.ensures

@@ -11,7 +11,10 @@ pub returns-in-Completes : goal.returns-in-Completes
 returns-in-Completes g c = rw c.in-Completes.is (IfOk-weaker _
     (λ k. (p : Shape) → state_at p c.complete.new.rest k
     ≡ complete (whole p c.args.rest.now) c.in-Completes.class (waits_of c.args.rest.now.waits))
-    (λ k. state_at (g.S.Shapes.shape c.args.shapes.now) c.complete.new.rest k ≡ next (program (g.S.Shapes.shape c.args.shapes.now) (g.S.Shapes.code_of c.args.shapes.now)) (whole (g.S.Shapes.shape c.args.shapes.now) c.args.rest.now) (waits_of c.args.rest.now.waits) (Completes c.in-Completes.class))
+    (λ k. state_at (g.S.Shapes.shape c.args.shapes.now) c.complete.new.rest k
+    ≡ next (program (g.S.Shapes.shape c.args.shapes.now) (g.S.Shapes.code_of c.args.shapes.now))
+    (whole (g.S.Shapes.shape c.args.shapes.now) c.args.rest.now) (waits_of c.args.rest.now.waits)
+    (Completes c.in-Completes.class))
     (λ k h. h (g.S.Shapes.shape c.args.shapes.now)) c.complete.ensures)
 
 pub returns-in-Runs : goal.returns-in-Runs

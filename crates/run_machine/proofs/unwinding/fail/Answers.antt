@@ -6,5 +6,6 @@ use Rattle.run_machine.specs.States.{waits_of, whole}
 use Rattle.run_machine.proofs.unwinding.fail.Goals as goal
 
 pub returns : goal.returns
-returns c = λ p. ap (λ (f : List ℕ → Init). state (record (whole p c.args.rest.now) { inits = f }) (Unwinds c.args.number)
+returns c = λ p. ap (λ (f : List ℕ → Init). state (record (whole p c.args.rest.now) { inits = f })
+    (Unwinds c.args.number)
     (waits_of c.args.rest.now.waits)) (c.in_ok-mark.ensures p)

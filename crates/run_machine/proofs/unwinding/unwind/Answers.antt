@@ -11,13 +11,15 @@ use Rattle.run_machine.proofs.unwinding.unwind.Goals as goal
 
 pub returns-in-Some-AfterFirst : goal.returns-in-Some-AfterFirst
 returns-in-Some-AfterFirst g c = IfOk-weaker _
-    (λ k. (p : Shape) → state_at p c.fail.new.rest k ≡ state (marked (whole p c.args.rest.now) c.in-Some-AfterFirst.class Failed)
+    (λ k. (p : Shape) → state_at p c.fail.new.rest k
+    ≡ state (marked (whole p c.args.rest.now) c.in-Some-AfterFirst.class Failed)
     (Unwinds c.args.number) (waits_of c.pop.new.self))
     (λ k. state_at (g.S.Shapes.shape c.args.shapes.now) c.fail.new.rest k
     ≡ unwind (program (g.S.Shapes.shape c.args.shapes.now) (g.S.Shapes.code_of c.args.shapes.now))
     (whole (g.S.Shapes.shape c.args.shapes.now) c.args.rest.now) c.args.number (waits_of c.args.rest.now.waits))
     (λ k h. h (g.S.Shapes.shape c.args.shapes.now)
-    ∙ ap (λ (ws : List Wait). unwind (program (g.S.Shapes.shape c.args.shapes.now) (g.S.Shapes.code_of c.args.shapes.now))
+    ∙ ap (λ (ws : List Wait). unwind
+    (program (g.S.Shapes.shape c.args.shapes.now) (g.S.Shapes.code_of c.args.shapes.now))
     (whole (g.S.Shapes.shape c.args.shapes.now) c.args.rest.now) c.args.number (waits_of ws))
     (sym (c.in-Some-AfterFirst.ensures ∙ ap (λ (w : Wait). w ∷ c.pop.new.self) c.in-Some-AfterFirst.field-0-is)))
     c.fail.ensures

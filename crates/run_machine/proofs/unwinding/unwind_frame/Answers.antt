@@ -22,21 +22,26 @@ returns-in-Some-handler_of g c = IfOk-weaker _
       body = at_handler (body_of c.args.frame.body) c.in-Some-handler_of.entry c.args.number;
     }))
     (λ k. (inits : List ℕ → Init) (ws : List Waiting) → state (world_of inits c.args.world.now) (control_of k) ws
-    ≡ unwind_frame (g.S.Shapes.shape c.args.shapes.now) (world_of inits c.args.world.now) c.args.number (frame_of c.args.frame) ws
+    ≡ unwind_frame (g.S.Shapes.shape c.args.shapes.now) (world_of inits c.args.world.now) c.args.number
+    (frame_of c.args.frame) ws
     (g.S.Shapes.code_of c.args.shapes.now c.args.frame.method))
     (λ k h inits ws. ap (λ (x : Doing). state (world_of inits c.args.world.now) x ws) h
-    ∙ unwound (g.S.Shapes.shape c.args.shapes.now) inits c.args.world.now c.args.number (frame_of c.args.frame) ws c.in-Some.code.now
-    (g.S.Shapes.code_of c.args.shapes.now c.args.frame.method) (option_copied c.get-object.result) (Some c.in-Some-handler_of.entry)
+    ∙ unwound (g.S.Shapes.shape c.args.shapes.now) inits c.args.world.now c.args.number (frame_of c.args.frame) ws
+    c.in-Some.code.now
+    (g.S.Shapes.code_of c.args.shapes.now c.args.frame.method) (option_copied c.get-object.result)
+    (Some c.in-Some-handler_of.entry)
     c.in-Some.ensures
     (looked_up c.get-object.result c.deref.result.now c.args.number c.get-object.ensures.lookup.0
     c.get-object.ensures.lookup.1
     ∙ ap (λ (os : List Object). slice_get os c.args.number) c.deref.ensures.value)
-    (c.in-Some-handler_of.ensures ∙ ap (λ (hs : List Handler). handler_for (is_of_class (g.S.Shapes.shape c.args.shapes.now)
+    (c.in-Some-handler_of.ensures ∙ ap (λ (hs : List Handler). handler_for
+    (is_of_class (g.S.Shapes.shape c.args.shapes.now)
     (option_map object_of (option_copied c.get-object.result))) c.args.frame.body.at hs) c.as_slice.ensures))
     c.at_handler.ensures
 
 pub returns-in-None : goal.returns-in-None
-returns-in-None g c = λ inits ws. unwound (g.S.Shapes.shape c.args.shapes.now) inits c.args.world.now c.args.number (frame_of c.args.frame) ws c.in-Some.code.now
+returns-in-None g c = λ inits ws. unwound (g.S.Shapes.shape c.args.shapes.now) inits c.args.world.now c.args.number
+    (frame_of c.args.frame) ws c.in-Some.code.now
     (g.S.Shapes.code_of c.args.shapes.now c.args.frame.method) (option_copied c.get-object.result) None
     c.in-Some.ensures
     (looked_up c.get-object.result c.deref.result.now c.args.number c.get-object.ensures.lookup.0

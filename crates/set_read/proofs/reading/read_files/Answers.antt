@@ -20,18 +20,21 @@ pub read_file-requires : goal.read_file-requires
 read_file-requires c =
     let rest : List FileAt = into_iter_items c.next.new.self in
     let so : ReadSoFar c.args.files (c.in-Some.file ∷ rest) c.loop-file.classes =
-    subst (λ (left : List FileAt). ReadSoFar c.args.files left c.loop-file.classes) c.in-Some.ensures.steps.0 c.loop-file.invariant.read in
+    subst (λ (left : List FileAt). ReadSoFar c.args.files left c.loop-file.classes) c.in-Some.ensures.steps.0
+    c.loop-file.invariant.read in
     record { short = is_short c.args.files rest c.loop-file.classes c.in-Some.file 4294967295 so c.requires.short }
 
 pub returns-in_err-class : goal.returns-in_err-class
 returns-in_err-class c =
     let rest : List FileAt = into_iter_items c.next.new.self in
     let so : ReadSoFar c.args.files (c.in-Some.file ∷ rest) c.loop-file.classes =
-    subst (λ (left : List FileAt). ReadSoFar c.args.files left c.loop-file.classes) c.in-Some.ensures.steps.0 c.loop-file.invariant.read in
+    subst (λ (left : List FileAt). ReadSoFar c.args.files left c.loop-file.classes) c.in-Some.ensures.steps.0
+    c.loop-file.invariant.read in
     let p = err_from_is_err_and c.from_residual.result c.from_residual.ensures.1 in
     record {
       exact = rw (p.1, p.2)
-          (stops_at c.args.files rest c.loop-file.classes c.in-Some.file c.in_err-class.field-0.0 so c.in_err-class.ensures.exact);
+          (stops_at c.args.files rest c.loop-file.classes c.in-Some.file c.in_err-class.field-0.0 so
+          c.in_err-class.ensures.exact);
     }
 
 pub loop-file-preserved : goal.loop-file-preserved
@@ -44,7 +47,8 @@ loop-file-preserved c =
     record {
       read =
           subst (λ (named : List NamedClass). ReadSoFar c.args.files rest named) (sym put)
-          (goes_on c.args.files rest c.loop-file.classes c.in-Some.file c.in_ok-class.class so c.in_ok-class.ensures.exact);
+          (goes_on c.args.files rest c.loop-file.classes c.in-Some.file c.in_ok-class.class so
+          c.in_ok-class.ensures.exact);
       counted = omega (arith, c.in-Some.ensures.steps.1, c.loop-file.invariant.counted, ap length first);
     }
 

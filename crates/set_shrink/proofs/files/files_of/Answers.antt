@@ -30,7 +30,8 @@ loop-class-preserved c =
     let class : Class = c.in-Some.class in
     let first : into_iter_items c.loop-class.class-iterator ≡ class ∷ rest = c.in-Some.ensures.steps.0 in
     let before = subst
-    (λ (t : List Class). AreWritten (keep c.args.classes) dir c.loop-class.files (keep t)) first c.loop-class.invariant in
+    (λ (t : List Class). AreWritten (keep c.args.classes) dir c.loop-class.files (keep t)) first
+    c.loop-class.invariant in
     rw c.in_ok-push.ensures
     (more_written (keep c.args.classes) dir c.loop-class.files (filtered c.args.filter.now class) (keep rest)
     c.in_ok-file.file before c.in_ok-file.ensures.exact)

@@ -8,7 +8,8 @@ returns-in-Ok-clause-ended g c =
     finished c.in-Ok.plan c.args.named.now c.say_text.result _ _ _ _ _ _ _ _ c.in-Ok.ensures.ended
     (subst (λ t. SaysText t c.say_text.result
     (output (g.S.Sink.written c.args.out.now) (g.S.Sink.faults c.args.out.now) (g.S.Sink.log c.args.out.now))
-    (output (g.S.Sink.written c.say_text.new.out) (g.S.Sink.faults c.say_text.new.out) (g.S.Sink.log c.say_text.new.out)))
+    (output (g.S.Sink.written c.say_text.new.out) (g.S.Sink.faults c.say_text.new.out)
+    (g.S.Sink.log c.say_text.new.out)))
     c.as_bytes.ensures c.say_text.ensures.said) c.say_text.ensures.device
 
 pub returns-in-Ok-clause-memory : goal.returns-in-Ok-clause-memory
@@ -16,7 +17,8 @@ returns-in-Ok-clause-memory g c = answers_memory c.args.named.now c.say_text.res
 
 pub returns-in-Err-clause-ended : goal.returns-in-Err-clause-ended
 returns-in-Err-clause-ended g c =
-    ended_before c.in-Err.stop c.args.named.now c.say.result _ _ _ _ _ _ _ _ c.in-Err.ensures.device c.in-Err.ensures.ended c.say.ensures
+    ended_before c.in-Err.stop c.args.named.now c.say.result _ _ _ _ _ _ _ _ c.in-Err.ensures.device
+    c.in-Err.ensures.ended c.say.ensures
 
 pub returns-in-Err-clause-memory : goal.returns-in-Err-clause-memory
 returns-in-Err-clause-memory g c = answers_memory c.args.named.now c.say.result _ _ (returns-in-Err-clause-ended g c)

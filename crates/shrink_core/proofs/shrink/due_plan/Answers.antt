@@ -9,7 +9,8 @@ returns-in_err-rules-clause-seen g c =
 
 pub returns-in_err-check_empty-clause-seen : goal.returns-in_err-check_empty-clause-seen
 returns-in_err-check_empty-clause-seen g c =
-    let p = err_from_is_err_and c.from_residual-in_err-check_empty.result c.from_residual-in_err-check_empty.ensures.1 in
+    let p = err_from_is_err_and c.from_residual-in_err-check_empty.result
+    c.from_residual-in_err-check_empty.ensures.1 in
     let named = c.args.named.now in
     rw (p.1, p.2) (refused_by_output named c.in_ok-rules.rules c.in_err-check_empty.field-0.0 _ _ _ _ _ _
     c.in_ok-rules.ensures.seen (c.in_err-check_empty.ensures.seen named.config))

@@ -3,4 +3,5 @@ use Rattle.text_lines.proofs.Numerals.{parsed}
 use Rattle.text_lines.proofs.numbers.number.Goals as goal
 
 pub returns : goal.returns
-returns c = c.ok.ensures.value ∙ parsed 32 c.args.text.now c.parse.result c.parse.ensures.value.0 (sym c.is_numeral.ensures ∙ c.if-not-is_numeral.false)
+returns c = c.ok.ensures.value ∙ parsed 32 c.args.text.now c.parse.result c.parse.ensures.value.0
+    (sym c.is_numeral.ensures ∙ c.if-not-is_numeral.false)

@@ -5,4 +5,5 @@ use Rattle.text_lines.proofs.table.keep_value.Goals as goal
 
 pub returns : goal.returns
 returns g c =
-    All-set (HasTold g.V.Told.told_by) c.args.trees.now.items c.place_of-at.result c.put_in_tree.new.tree c.put_in_tree.ensures c.requires.kept
+    All-set (HasTold g.V.Told.told_by) c.args.trees.now.items c.place_of-at.result c.put_in_tree.new.tree
+    c.put_in_tree.ensures c.requires.kept

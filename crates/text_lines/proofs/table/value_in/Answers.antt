@@ -4,4 +4,5 @@ use Rattle.text_lines.proofs.table.value_in.Goals as goal
 pub returns : goal.returns
 returns g c =
     let told = g.V.Told.told_by in
-    lent_told (told c.args.text.now) c.get.result _ c.get.ensures.value (found_told told (c.args.mark, c.args.text) c.args.tree.now.entries c.requires)
+    lent_told (told c.args.text.now) c.get.result _ c.get.ensures.value
+    (found_told told (c.args.mark, c.args.text) c.args.tree.now.entries c.requires)

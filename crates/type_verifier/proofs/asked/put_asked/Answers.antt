@@ -18,8 +18,10 @@ returns c =
 pub returns-in-Some : goal.returns-in-Some
 returns-in-Some c =
     let code = c.args.code.now in
-    let so = subst (λ (place : Option ℕ). IfSome place (StandsForPlace code c.as_slice-2.result.now c.args.number)) c.in-Some.is
+    let so = subst (λ (place : Option ℕ). IfSome place (StandsForPlace code c.as_slice-2.result.now c.args.number))
+    c.in-Some.is
     c.in_ok-place.ensures in
     asked_instead code c.args.asked.now.items c.args.number c.requires.asked c.in-Some.at
     (set c.args.asked.now.items c.in-Some.at c.args.number) c.requires.number
-    (subst (λ (numbers : List ℕ). StandsForPlace code numbers c.args.number c.in-Some.at) c.as_slice-2.ensures.value so) refl
+    (subst (λ (numbers : List ℕ). StandsForPlace code numbers c.args.number c.in-Some.at) c.as_slice-2.ensures.value so)
+    refl

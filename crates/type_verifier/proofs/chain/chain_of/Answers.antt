@@ -45,5 +45,5 @@ returns c =
     let none = c.loop-number-test.false in
     let zero : c.loop-number.number ≡ 0 = omega (arith, none) in
     chained c.args.handlers.now c.args.count (record { first = c.loop-number.first; next = c.loop-number.next })
-    (subst (λ (n : ℕ). IsChainFrom c.args.handlers.now n c.args.count c.loop-number.first.items c.loop-number.next.items)
-    zero c.loop-number.invariant.1)
+    (subst (λ (n : ℕ). IsChainFrom c.args.handlers.now n c.args.count c.loop-number.first.items
+    c.loop-number.next.items) zero c.loop-number.invariant.1)

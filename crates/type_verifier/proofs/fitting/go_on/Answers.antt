@@ -10,7 +10,8 @@ pub returns : goal.returns
 returns c =
     went_on (environment_of c.args.env.now) c.args.at c.args.frame.now c.forget_begun.new.noted.items
     c.note_many.new.noted.items
-    (record { count = Some (length c.as_slice-types.result.now); noted = c.note_many.new.noted }) c.requires.satisfies c.forget_begun.ensures
+    (record { count = Some (length c.as_slice-types.result.now); noted = c.note_many.new.noted }) c.requires.satisfies
+    c.forget_begun.ensures
     (subst (λ (types : List VType). Notes c.forget_begun.new.noted.items c.note_many.new.noted.items types)
     c.as_slice-types.ensures c.in_ok-note_many.ensures)
     (ap (λ (n : ℕ). let o : Option ℕ = Some n in o) (ap length c.as_slice-types.ensures)) refl

@@ -9,6 +9,7 @@ loop-word-preserved c =
     let types = c.args.types.now in
     let word = c.loop-word.word in
     let within : word < length types = omega (arith, c.loop-word-test.true, c.requires) in
-    notes_more c.args.noted.now.items c.loop-word.noted.items c.note.new.noted.items types word c.index-types-word.result
+    notes_more c.args.noted.now.items c.loop-word.noted.items c.note.new.noted.items types word
+    c.index-types-word.result
     c.loop-word.invariant c.in_ok-note.ensures within
     (c.index-types-word.is ∙ get_or_default types word c.index-types-word.result vtype.Top within)

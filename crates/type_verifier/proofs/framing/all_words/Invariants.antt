@@ -5,4 +5,5 @@ use Rattle.type_verifier.specs.Frames.{local_words}
 use Rattle.type_verifier.proofs.framing.all_words.Given as goal
 
 abbrev pub invariant-loop-ty : goal.invariant-loop-ty
-invariant-loop-ty l = l.words.items ++ flat_map local_words (into_iter_items l.ty-iterator) ≡ flat_map local_words l.fn.types.items
+invariant-loop-ty l = l.words.items ++ flat_map local_words (into_iter_items l.ty-iterator)
+    ≡ flat_map local_words l.fn.types.items

@@ -5,5 +5,6 @@ use Rattle.type_verifier.proofs.framing.pad.Goals as goal
 
 pub loop-words-preserved : goal.loop-words-preserved
 loop-words-preserved c =
-    pad_more c.args.max_locals c.loop-words.words.items c.push.new.self.items (padded c.args.max_locals c.args.words.now.items)
+    pad_more c.args.max_locals c.loop-words.words.items c.push.new.self.items
+    (padded c.args.max_locals c.args.words.now.items)
     (omega (arith, c.loop-words-test.true, c.len.ensures)) c.in_ok-push.ensures.items c.loop-words.invariant

@@ -20,4 +20,5 @@ pub returns : goal.returns
 returns c = λ is.
     uncovered c.args.env.now.code.now c.args.at c.args.places.now.asked.items c.requires.places.asked
     (λ i lt. c.loop-number.invariant i
-    (let same = ap length c.asked-number-items.ensures in let test = c.loop-number-test.false in omega (arith, lt, same, test)))
+    (let same = ap length c.asked-number-items.ensures in let test = c.loop-number-test.false in
+    omega (arith, lt, same, test)))

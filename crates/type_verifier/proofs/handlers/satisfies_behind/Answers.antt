@@ -15,7 +15,8 @@ returns c =
     behind_holds (environment_of c.args.env.now) c.args.at c.args.changed c.args.frame.now c.requires.since
     c.args.places.now.asked.items c.requires.places.asked
     (λ i lt. c.loop-number.invariant i
-    (let same = ap length c.asked-number-items.ensures in let test = c.loop-number-test.false in omega (arith, lt, same, test)))
+    (let same = ap length c.asked-number-items.ensures in let test = c.loop-number-test.false in
+    omega (arith, lt, same, test)))
 
 pub loop-number-preserved : goal.loop-number-preserved
 loop-number-preserved c =

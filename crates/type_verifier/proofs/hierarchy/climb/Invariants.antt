@@ -8,5 +8,6 @@ use Rattle.type_verifier.proofs.hierarchy.climb.Given as goal
 abbrev pub invariant-loop : goal.invariant-loop
 invariant-loop l = record {
   there : l.at < length l.set;
-  same : (to : ClassId) → IsFloor l.set l.floor to → is_class_below l.set (Prog l.at) to ≡ is_class_below l.set (Prog l.from) to;
+  same : (to : ClassId) → IsFloor l.set l.floor to → is_class_below l.set (Prog l.at) to
+      ≡ is_class_below l.set (Prog l.from) to;
 }

@@ -7,5 +7,6 @@ returns-in-Some c =
     let known = known_at c.args.set.now c.args.steps.now c.args.from c.in-Some.step c.requires.steps
     (sym c.known_at.ensures ∙ c.in-Some.is) in
     let high = known.height in
-    met_here c.args.set.now c.has_ranks.ensures (omega (arith, c.len-count.ensures)) c.args.from c.args.to c.requires.from
+    met_here c.args.set.now c.has_ranks.ensures (omega (arith, c.len-count.ensures)) c.args.from c.args.to
+    c.requires.from
     (omega (arith, high, c.if-step-floor.true, c.requires.floor))

@@ -8,7 +8,8 @@ use Rattle.type_verifier.proofs.verify.class_fault.Goals as goal
 
 pub returns-then-is_some : goal.returns-then-is_some
 returns-then-is_some c =
-    let h : ℕ × Method → Option TypeFault = λ p. fault_of (method_checked c.args.set.now c.args.own c.args.class.now p.0 p.1) in
+    let h : ℕ × Method → Option TypeFault =
+    λ p. fault_of (method_checked c.args.set.now c.args.own c.args.class.now p.0 p.1) in
     let rest : Option TypeFault = first_from h 0 c.args.class.now.methods (c.loop-number.number + 1) in
     let within : c.loop-number.number < length c.args.class.now.methods = omega
     (arith, c.loop-number-test.true, c.len-number-end.ensures) in
@@ -22,7 +23,8 @@ returns-then-is_some c =
 
 pub loop-number-preserved : goal.loop-number-preserved
 loop-number-preserved c =
-    let h : ℕ × Method → Option TypeFault = λ p. fault_of (method_checked c.args.set.now c.args.own c.args.class.now p.0 p.1) in
+    let h : ℕ × Method → Option TypeFault =
+    λ p. fault_of (method_checked c.args.set.now c.args.own c.args.class.now p.0 p.1) in
     let rest : Option TypeFault = first_from h 0 c.args.class.now.methods (c.loop-number.number + 1) in
     let within : c.loop-number.number < length c.args.class.now.methods = omega
     (arith, c.loop-number-test.true, c.len-number-end.ensures) in

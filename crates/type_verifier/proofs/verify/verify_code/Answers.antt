@@ -11,7 +11,8 @@ pub returns-clause-judged : goal.returns-clause-judged
 returns-clause-judged c =
     code_judged c.args.set.now c.args.class c.args.method c.class-of.result.now c.index.result.now c.args.code.now
     c.check_one.result c.class-of.ensures.is c.index.ensures
-    (subst (λ (cs : List Class). IsDue c.check_one.result (code_checked (environment cs c.args.class c.class-of.result.now
+    (subst (λ (cs : List Class). IsDue c.check_one.result
+    (code_checked (environment cs c.args.class c.class-of.result.now
     c.args.method c.index.result.now c.args.code.now))) c.of-hierarchy.ensures c.check_one.ensures)
 
 pub returns-clause-typed : goal.returns-clause-typed
@@ -19,5 +20,6 @@ returns-clause-typed c = λ t.
     subst (λ (d : Result (Unit {0}) TypeFault). IsDue c.check_one.result d)
     (typed_code c.args.set.now c.args.class c.args.method c.class-of.result.now c.index.result.now c.args.code.now
     c.class-of.ensures.is c.index.ensures t)
-    (subst (λ (cs : List Class). IsDue c.check_one.result (code_checked (environment cs c.args.class c.class-of.result.now
+    (subst (λ (cs : List Class). IsDue c.check_one.result
+    (code_checked (environment cs c.args.class c.class-of.result.now
     c.args.method c.index.result.now c.args.code.now))) c.of-hierarchy.ensures c.check_one.ensures)

@@ -1,4 +1,5 @@
-use Rattle.std.proofs.Common.{◌≡◌, ◌≤◌, ◌+◌, ◌-◌, subst, ℕ, Bool, List, length, Some, Err, Result, refl, sym, ap, ◌∙◌, arith}
+use Rattle.std.proofs.Common.{◌≡◌, ◌≤◌, ◌+◌, ◌-◌, subst, ℕ, Bool, List, length, Some, Err, Result, refl, sym, ap, ◌∙◌}
+use Rattle.std.proofs.Common.{arith}
 use Rattle.std.proofs.lemmas.Option.{get_or_from_slice_get, slice_get_within}
 use Rattle.std.proofs.lemmas.Result.{err_from_is_err_and}
 use Rattle.class_model.specs.declared.code.Ins.{Ins}
@@ -15,7 +16,12 @@ use Rattle.type_verifier.proofs.Walking.{walk_ends, walk_fails, walk_more}
 use Rattle.type_verifier.proofs.walk.walk.Goals as goal
 
 pub loop-at-init : goal.loop-at-init
-loop-at-init c = (refl, tt, fitting_begun (environment_of c.args.env.now) c.new-fitting.result c.new-fitting.ensures.count c.new-fitting.ensures.noted)
+loop-at-init c = (
+  refl,
+  tt,
+  fitting_begun (environment_of c.args.env.now) c.new-fitting.result
+      c.new-fitting.ensures.count c.new-fitting.ensures.noted,
+)
 
 pub returns-in_err-flows : goal.returns-in_err-flows
 returns-in_err-flows c =
@@ -54,7 +60,8 @@ returns-then-flows c =
     let le : length ins ≤ at = omega (arith, c.loop-at-test.false, c.in-Ok.ensures, c.len.ensures) in
     let last : at - 1 ≡ c.saturating_sub.result =
     omega (arith, c.loop-at-test.false, c.loop-at.auto.at-end, c.saturating_sub.ensures) in
-    walk_ends env ins at (flow c.loop-at.flows c.loop-at.frame) (walked env 0 (Some c.args.frame.now) ins) le c.loop-at.invariant.0
+    walk_ends env ins at (flow c.loop-at.flows c.loop-at.frame) (walked env 0 (Some c.args.frame.now) ins) le
+    c.loop-at.invariant.0
     ∙ ap (λ (b : Bool). behind_last env at (flow b c.loop-at.frame)) c.if-flows.true
     ∙ ap (λ (n : ℕ). let R : Result (Unit {0}) TypeFault = Err (fault_at env n FallsOff) in R) last
     ∙ ap (λ (f : TypeFault). let R : Result (Unit {0}) TypeFault = Err f in R) (sym c.fault.ensures)
@@ -65,5 +72,6 @@ returns c =
     let ins : List Ins = c.args.env.now.code.now.ins in
     let at = c.loop-at.at in
     let le : length ins ≤ at = omega (arith, c.loop-at-test.false, c.in-Ok.ensures, c.len.ensures) in
-    walk_ends env ins at (flow c.loop-at.flows c.loop-at.frame) (walked env 0 (Some c.args.frame.now) ins) le c.loop-at.invariant.0
+    walk_ends env ins at (flow c.loop-at.flows c.loop-at.frame) (walked env 0 (Some c.args.frame.now) ins) le
+    c.loop-at.invariant.0
     ∙ ap (λ (b : Bool). behind_last env at (flow b c.loop-at.frame)) c.if-flows.false

@@ -10,15 +10,19 @@ use Rattle.witness_file.specs.declared.reading.WitnessRead.{WitnessRead}
 use Rattle.witness_file.proofs.reading.read_line.Goals as goal
 
 pub returns-in_default-clause-read : goal.returns-in_default-clause-read
-returns-in_default-clause-read c = fault_told (Unit {0}) c.fault.result (fault c.args.number NotUtf8) c.args.read.now _ c.fault.ensures
-    (not_utf8_line fault NotUtf8 BadLine line_said with_line c.args.number c.args.line.now c.args.read.now c.in_default.ensures.cases.0)
+returns-in_default-clause-read c = fault_told (Unit {0}) c.fault.result (fault c.args.number NotUtf8)
+    c.args.read.now _ c.fault.ensures
+    (not_utf8_line fault NotUtf8 BadLine line_said with_line c.args.number c.args.line.now c.args.read.now
+    c.in_default.ensures.cases.0)
 
 pub returns-then-is_passed_over-clause-read : goal.returns-then-is_passed_over-clause-read
-returns-then-is_passed_over-clause-read c = nothing_said fault NotUtf8 BadLine line_said with_line c.args.number c.args.line.now c.args.read.now
+returns-then-is_passed_over-clause-read c = nothing_said fault NotUtf8 BadLine line_said with_line c.args.number
+    c.args.line.now c.args.read.now
     c.in-Ok.ensures.cases.1 (sym c.is_passed_over.ensures ∙ c.if-is_passed_over.true)
 
 pub returns-in_default-2-clause-read : goal.returns-in_default-2-clause-read
-returns-in_default-2-clause-read c = fault_told (Unit {0}) c.fault-in_default-2.result (fault c.args.number BadLine) c.args.read.now _ c.fault-in_default-2.ensures
+returns-in_default-2-clause-read c = fault_told (Unit {0}) c.fault-in_default-2.result (fault c.args.number BadLine)
+    c.args.read.now _ c.fault-in_default-2.ensures
     (item_said fault NotUtf8 BadLine line_said with_line c.args.number c.args.line.now c.args.read.now None
     c.in-Ok.ensures.cases.1 (sym c.is_passed_over.ensures ∙ c.if-is_passed_over.false)
     (ap line_said (sym c.in-Ok.ensures.cases.0) ∙ sym c.in_ok-said.ensures ∙ c.in_default-2.is))
@@ -32,9 +36,11 @@ returns-in-Ok-add-clause-read c =
     ∙ ap (at_line fault c.args.number) c.in-Ok-add.ensures.read
 
 pub returns-in-Err-Fault-clause-read : goal.returns-in-Err-Fault-clause-read
-returns-in-Err-Fault-clause-read c = fault_told (Unit {0}) c.fault-in-Err-Fault.result (fault c.args.number c.in-Err-Fault.kind) c.add.new.read _ c.fault-in-Err-Fault.ensures
+returns-in-Err-Fault-clause-read c = fault_told (Unit {0}) c.fault-in-Err-Fault.result
+    (fault c.args.number c.in-Err-Fault.kind) c.add.new.read _ c.fault-in-Err-Fault.ensures
     (item_said fault NotUtf8 BadLine line_said with_line c.args.number c.args.line.now c.args.read.now
     (Some c.in-Some.said)
     c.in-Ok.ensures.cases.1 (sym c.is_passed_over.ensures ∙ c.if-is_passed_over.false)
     (ap line_said (sym c.in-Ok.ensures.cases.0) ∙ sym c.in_ok-said.ensures ∙ c.in-Some.is)
-    ∙ ap (at_line fault c.args.number) (fault_due c.add.result c.in-Err-Fault.field-0 c.in-Err-Fault.kind c.add.new.read _ c.in-Err-Fault.is c.in-Err-Fault.field-0-is c.add.ensures.read))
+    ∙ ap (at_line fault c.args.number) (fault_due c.add.result c.in-Err-Fault.field-0 c.in-Err-Fault.kind
+    c.add.new.read _ c.in-Err-Fault.is c.in-Err-Fault.field-0-is c.add.ensures.read))

@@ -3,9 +3,11 @@ use Rattle.std.proofs.lemmas.Result.{err_from_is_err_and}
 use Rattle.jv_base.specs.Outcome.{FaultIs}
 use Rattle.jv_base.proofs.Due.{due_only}
 use Rattle.witness_file.specs.WitnessReading.{awaits_more, read_witness}
-use Rattle.witness_file.proofs.WitnessLaw.{more_awaited, not_begun, read_found, read_only, witness_read, witness_refused, witness_short}
+use Rattle.witness_file.proofs.WitnessLaw.{more_awaited, not_begun, read_found, read_only, witness_read}
+use Rattle.witness_file.proofs.WitnessLaw.{witness_refused, witness_short}
 use Rattle.witness_file.proofs.reading.read_witness.Goals as goal
-use Rattle.witness_file.proofs.reading.read_witness.Goals.{then-not-read-via-then-not-read, then-not-read-via-else-not-read+then-awaits_more}
+use Rattle.witness_file.proofs.reading.read_witness.Goals.{then-not-read-via-then-not-read}
+use Rattle.witness_file.proofs.reading.read_witness.Goals.{then-not-read-via-else-not-read+then-awaits_more}
 
 pub returns-in_err-read-clause-exact : goal.returns-in_err-read-clause-exact
 returns-in_err-read-clause-exact c =
@@ -20,13 +22,16 @@ returns-in_err-read-clause-only c = λ w h.
 
 pub returns-then-not-read-clause-exact : goal.returns-then-not-read-clause-exact
 returns-then-not-read-clause-exact c =
-    witness_short c.args.bytes.now c.in_ok-read.read c.fault.result c.in_ok-read.number c.in_ok-read.ensures.read short c.in_ok-read.ensures.count c.fault.ensures
+    witness_short c.args.bytes.now c.in_ok-read.read c.fault.result c.in_ok-read.number c.in_ok-read.ensures.read short
+    c.in_ok-read.ensures.count c.fault.ensures
   where
     short : not c.in_ok-read.read.begun || awaits_more c.in_ok-read.read.last ≡ true
     short = elim c.then-not-read.branch [
-      | then-not-read-via-then-not-read w ↦ not_begun c.in_ok-read.read.begun (awaits_more c.in_ok-read.read.last) w.if-not-read.true
+      | then-not-read-via-then-not-read w ↦ not_begun c.in_ok-read.read.begun (awaits_more c.in_ok-read.read.last)
+          w.if-not-read.true
       | then-not-read-via-else-not-read+then-awaits_more w ↦
-          more_awaited c.in_ok-read.read.begun (awaits_more c.in_ok-read.read.last) (sym w.awaits_more.ensures ∙ w.if-awaits_more.true)
+          more_awaited c.in_ok-read.read.begun (awaits_more c.in_ok-read.read.last)
+          (sym w.awaits_more.ensures ∙ w.if-awaits_more.true)
     ]
 
 pub returns-then-not-read-clause-only : goal.returns-then-not-read-clause-only
@@ -34,7 +39,8 @@ returns-then-not-read-clause-only c = λ w h.
     subst (FaultIs c.fault.result) (read_only c.args.bytes.now w h) (returns-then-not-read-clause-exact c)
 
 pub returns-clause-exact : goal.returns-clause-exact
-returns-clause-exact c = witness_read c.args.bytes.now c.in_ok-read.read c.in_ok-witness_of.field-0 c.in_ok-read.ensures.read
+returns-clause-exact c = witness_read c.args.bytes.now c.in_ok-read.read c.in_ok-witness_of.field-0
+    c.in_ok-read.ensures.read
     c.if-not-read.false (sym c.awaits_more.ensures ∙ c.if-awaits_more.false) c.in_ok-witness_of.ensures
 
 pub returns-clause-found : goal.returns-clause-found

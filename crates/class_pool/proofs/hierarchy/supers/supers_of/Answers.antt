@@ -67,7 +67,8 @@ remove-requires c =
     c.in_ok-meet_lists.ensures in
     let ids : c.into_vec-ids.result.items ≡ c.args.id.now ∷ supers c.args.classes.now c.args.id.now =
     c.into_vec-ids.ensures ∙ c.take.ensures.ids
-    ∙ supers_met c.args.classes.now c.args.superinterfaces.now c.args.id.now up c.in_ok-met.met.ids c.meet_all.new.self.ids
+    ∙ supers_met c.args.classes.now c.args.superinterfaces.now c.args.id.now up c.in_ok-met.met.ids
+    c.meet_all.new.self.ids
     c.meet_lists.new.met.ids c.requires.own c.requires.there c.requires.chain
     (ap (λ (m : Classes). m.ids) c.in_ok-met.ensures) one two in
     let some = ap length ids in
@@ -88,7 +89,8 @@ returns-clause-order c =
     c.in_ok-meet_lists.ensures in
     let ids : c.into_vec-ids.result.items ≡ c.args.id.now ∷ supers c.args.classes.now c.args.id.now =
     c.into_vec-ids.ensures ∙ c.take.ensures.ids
-    ∙ supers_met c.args.classes.now c.args.superinterfaces.now c.args.id.now up c.in_ok-met.met.ids c.meet_all.new.self.ids
+    ∙ supers_met c.args.classes.now c.args.superinterfaces.now c.args.id.now up c.in_ok-met.met.ids
+    c.meet_all.new.self.ids
     c.meet_lists.new.met.ids c.requires.own c.requires.there c.requires.chain
     (ap (λ (m : Classes). m.ids) c.in_ok-met.ensures) one two in
     c.from_vec.ensures ∙ c.remove.ensures.items
@@ -109,7 +111,8 @@ returns-clause-are c =
     c.in_ok-meet_lists.ensures in
     let ids : c.into_vec-ids.result.items ≡ c.args.id.now ∷ supers c.args.classes.now c.args.id.now =
     c.into_vec-ids.ensures ∙ c.take.ensures.ids
-    ∙ supers_met c.args.classes.now c.args.superinterfaces.now c.args.id.now up c.in_ok-met.met.ids c.meet_all.new.self.ids
+    ∙ supers_met c.args.classes.now c.args.superinterfaces.now c.args.id.now up c.in_ok-met.met.ids
+    c.meet_all.new.self.ids
     c.meet_lists.new.met.ids c.requires.own c.requires.there c.requires.chain
     (ap (λ (m : Classes). m.ids) c.in_ok-met.ensures) one two in
     let is : c.from_vec.result ≡ supers c.args.classes.now c.args.id.now =

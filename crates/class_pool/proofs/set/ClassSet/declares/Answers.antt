@@ -13,6 +13,7 @@ index-requires c =
 
 pub find-requires : goal.find-requires
 find-requires c =
-    index_is c.self.inside.classes c.self.inside.members c.in-Prog.number c.class.result.now c.index.result.now c.self.invariant.2
+    index_is c.self.inside.classes c.self.inside.members c.in-Prog.number c.class.result.now c.index.result.now
+    c.self.invariant.2
     (subst (λ (cs : List Class). slice_get cs c.in-Prog.number ≡ Some c.class.result.now)
     (sym c.self.view_is) c.class.ensures.is) c.index.ensures

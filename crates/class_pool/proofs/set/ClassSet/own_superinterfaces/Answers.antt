@@ -14,14 +14,14 @@ at-requires c =
 pub returns-clause-are : goal.returns-clause-are
 returns-clause-are c =
     subst (λ (cs : List Class). c.at.result.now ≡ each_once [] (own_superinterfaces cs c.args.id)) c.self.view_is
-    (own_read c.self.inside.classes c.self.inside.superinterfaces c.args.id c.number.result c.at.result.now c.self.invariant.4
-    (subst (λ (cs : List Class). IsClass cs c.args.id)
+    (own_read c.self.inside.classes c.self.inside.superinterfaces c.args.id c.number.result c.at.result.now
+    c.self.invariant.4 (subst (λ (cs : List Class). IsClass cs c.args.id)
     (sym c.self.view_is) c.requires.there) c.number.ensures c.at.ensures)
 
 pub returns-clause-there : goal.returns-clause-there
 returns-clause-there c =
     subst (λ (cs : List Class). All (IsClass cs) c.at.result.now) c.self.view_is
     (own_there c.self.inside.classes c.args.id c.at.result.now
-    (own_read c.self.inside.classes c.self.inside.superinterfaces c.args.id c.number.result c.at.result.now c.self.invariant.4
-    (subst (λ (cs : List Class). IsClass cs c.args.id)
+    (own_read c.self.inside.classes c.self.inside.superinterfaces c.args.id c.number.result c.at.result.now
+    c.self.invariant.4 (subst (λ (cs : List Class). IsClass cs c.args.id)
     (sym c.self.view_is) c.requires.there) c.number.ensures c.at.ensures))

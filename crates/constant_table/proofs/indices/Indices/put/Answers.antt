@@ -9,7 +9,8 @@ pub returns-in_ok-insert-in_default : goal.returns-in_ok-insert-in_default
 returns-in_ok-insert-in_default c =
     let old = c.args.self.now in
     record {
-      kept = other_put old c.insert.new.self c.args.key c.args.index c.in_default.not-Utf8 c.in_default.not-Class c.in_default.not-Str
+      kept = other_put old c.insert.new.self c.args.key c.args.index c.in_default.not-Utf8 c.in_default.not-Class
+          c.in_default.not-Str
           (subst (λ (f : Key → Key → Bool). (q : Key)
           → lookup (f q) c.insert.new.self.entries
           ≡ cond (f c.args.key q) (Some c.args.index) (lookup (f q) old.others.entries))

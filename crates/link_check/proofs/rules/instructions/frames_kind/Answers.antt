@@ -6,5 +6,6 @@ use Rattle.link_check.proofs.rules.instructions.frames_kind.Goals as goal
 pub loop-at-preserved : goal.loop-at-preserved
 loop-at-preserved c =
     let one = c.in_ok-of_one.ensures in
-    c.lesser-kind.ensures (flat_map (frame_kinds c.args.set.now c.args.number) (take c.loop-at.at c.args.frames.now)) one.0
+    c.lesser-kind.ensures (flat_map (frame_kinds c.args.set.now c.args.number) (take c.loop-at.at c.args.frames.now))
+    one.0
     c.loop-at.invariant one.1 ∙ one.2
