@@ -5,7 +5,7 @@ ghost use Rattle.tree_io.specs.declared.faults.ReadFault.TheVariants as read;
 ghost use Rattle.tree_io.specs.declared.faults.WriteFault.TheVariants as written;
 ghost use Rattle.tree_io.specs.declared.faults.PutFault.TheVariants as appended;
 
-use std::alloc::{AllocError, AllocFailed};
+use std::alloc::AllocError;
 
 /// Why there is no list of the paths below a directory.
 #[derive(Clone, Copy, Debug, PartialEq, Eq)]
@@ -53,26 +53,10 @@ impl From<AllocError> for ListFault {
     }
 }
 
-impl<T: Drop> From<AllocFailed<T>> for ListFault {
-    ghost from_gives = { λ _ fault. fault ≡ listed.OutOfMemory };
-
-    fn from(_: AllocFailed<T>) -> Self {
-        ListFault::OutOfMemory
-    }
-}
-
 impl From<AllocError> for ReadFault {
     ghost from_gives = { λ _ fault. fault ≡ read.OutOfMemory };
 
     fn from(_: AllocError) -> Self {
-        ReadFault::OutOfMemory
-    }
-}
-
-impl<T: Drop> From<AllocFailed<T>> for ReadFault {
-    ghost from_gives = { λ _ fault. fault ≡ read.OutOfMemory };
-
-    fn from(_: AllocFailed<T>) -> Self {
         ReadFault::OutOfMemory
     }
 }
@@ -85,26 +69,10 @@ impl From<AllocError> for WriteFault {
     }
 }
 
-impl<T: Drop> From<AllocFailed<T>> for WriteFault {
-    ghost from_gives = { λ _ fault. fault ≡ written.OutOfMemory };
-
-    fn from(_: AllocFailed<T>) -> Self {
-        WriteFault::OutOfMemory
-    }
-}
-
 impl From<AllocError> for PutFault {
     ghost from_gives = { λ _ fault. fault ≡ appended.OutOfMemory };
 
     fn from(_: AllocError) -> Self {
-        PutFault::OutOfMemory
-    }
-}
-
-impl<T: Drop> From<AllocFailed<T>> for PutFault {
-    ghost from_gives = { λ _ fault. fault ≡ appended.OutOfMemory };
-
-    fn from(_: AllocFailed<T>) -> Self {
         PutFault::OutOfMemory
     }
 }
