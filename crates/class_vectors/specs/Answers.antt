@@ -7,9 +7,8 @@ use Rattle.class_model.specs.declared.class.LeftKind.{LeftKind}
 use Rattle.class_model.specs.declared.class.LeftKind.TheVariants as left
 use Rattle.class_model.specs.declared.class.LeftOut.{LeftOut}
 use Rattle.class_model.specs.declared.limit.WriteLimit.{WriteLimit}
-use Rattle.class_model.specs.declared.limit.WriteLimit.TheVariants as limit
 use Rattle.class_model.specs.WriteLimits.{class_written}
-use Rattle.report_text.specs.Kinds.{format_name}
+use Rattle.report_text.specs.Kinds.{format_name, limit_name}
 use Rattle.hex.specs.Hex.{encode_lower}
 
 -- the name of what is left out
@@ -23,15 +22,6 @@ left_name left.FloatType = codes "FloatType"
 abbrev pub member_text : Option ℕ → List ℕ
 member_text (Some n) = decimal n
 member_text None = codes "-"
-
--- the name of a limit of the format
-abbrev pub limit_name : WriteLimit → List ℕ
-limit_name (limit.PoolFull count) = codes "pool"
-limit_name (limit.TextTooLong length) = codes "utf8"
-limit_name (limit.CodeTooLong length) = codes "code"
-limit_name (limit.BranchTooFar index distance) = codes "branch"
-limit_name (limit.AttributeFull count) = codes "table"
-limit_name (limit.AttributeTooLong length) = codes "attribute"
 
 -- what is said of a class that is written
 abbrev pub written_answer : Result (List ℕ) WriteLimit → List ℕ

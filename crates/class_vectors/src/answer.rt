@@ -5,13 +5,13 @@ ghost use Rattle.class_model.specs.WellFormed.{CountsFit, IsWellFormed};
 ghost use Rattle.class_model.specs.WriteLimits.{class_written};
 ghost use Rattle.class_vectors.specs.Answers.{answer, fault_answer, left_answer, member_text, written_answer};
 
-use crate::kinds::{left_name, limit_name};
+use crate::kinds::left_name;
 use class_model::{Class, LeftOut};
 use class_read::read_class;
 use class_write::{spelled_classes_can_be_written, write_class};
 use format_reading::FormatFault;
 use jv_base::{M, Or, OutOfMemory, Text};
-use report_text::format_name;
+use report_text::{format_name, limit_name};
 use std::alloc::Global;
 
 /// What reading the bytes gives, in words: of a class its canonical spelling in hex.

@@ -1,5 +1,7 @@
--- The names of the rules of class files (the project's own: what the command says).
+-- The names of the rules of class files, and of their limits (the project's own: what the command says).
 use Rattle.std.specs.Prelude.{ℕ, List, codes}
+use Rattle.class_model.specs.declared.limit.WriteLimit.{WriteLimit}
+use Rattle.class_model.specs.declared.limit.WriteLimit.TheVariants as limit
 use Rattle.format_reading.specs.declared.fault.FormatKind.{FormatKind}
 use Rattle.format_reading.specs.declared.fault.FormatKind.TheVariants as bad
 
@@ -24,3 +26,12 @@ format_name bad.BadHandler = codes "BadHandler"
 format_name bad.BadFrame = codes "BadFrame"
 format_name bad.Repeated = codes "Repeated"
 format_name bad.Trailing = codes "Trailing"
+
+-- the word for what a limit of the format counts (the project's own: what the command says)
+abbrev pub limit_name : WriteLimit → List ℕ
+limit_name (limit.PoolFull count) = codes "pool"
+limit_name (limit.TextTooLong length) = codes "utf8"
+limit_name (limit.CodeTooLong length) = codes "code"
+limit_name (limit.BranchTooFar index distance) = codes "branch"
+limit_name (limit.AttributeFull count) = codes "table"
+limit_name (limit.AttributeTooLong length) = codes "attribute"

@@ -1,7 +1,8 @@
-// The names of the rules of class files.
+// The names of the rules of class files, and of their limits.
 ghost use Rattle.std.specs.Prelude.{◌≡◌};
-ghost use Rattle.report_text.specs.Kinds.{format_name};
+ghost use Rattle.report_text.specs.Kinds.{format_name, limit_name};
 
+use class_model::WriteLimit;
 use format_reading::FormatKind;
 
 /// The name of the rule of class files that is broken.
@@ -28,5 +29,19 @@ pub fn format_name(kind: FormatKind) -> &'static str
         FormatKind::BadFrame => "BadFrame",
         FormatKind::Repeated => "Repeated",
         FormatKind::Trailing => "Trailing",
+    }
+}
+
+/// The name of what a limit of the format counts (JVMS 4.11).
+pub fn limit_name(limit: WriteLimit) -> &'static str
+    ensures { result.now ≡ limit_name limit }
+{
+    match limit {
+        WriteLimit::PoolFull(_) => "pool",
+        WriteLimit::TextTooLong(_) => "utf8",
+        WriteLimit::CodeTooLong(_) => "code",
+        WriteLimit::BranchTooFar(..) => "branch",
+        WriteLimit::AttributeFull(_) => "table",
+        WriteLimit::AttributeTooLong(_) => "attribute",
     }
 }

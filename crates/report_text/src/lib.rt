@@ -5,5 +5,5 @@
 mod kinds;
 mod spelled;
 
-pub use kinds::format_name;
+pub use kinds::{format_name, limit_name};
 pub use spelled::{class_text, member_text, name_text, push_type, push_types};
