@@ -33,7 +33,6 @@ use Rattle.shrink_core.specs.Due.{by_config, by_input, by_output, by_plan}
 use Rattle.shrink_core.specs.Due.{by_format, by_text, by_seeds, by_system}
 use Rattle.shrink_core.specs.Due.{RefusesConfig, RefusesInput, RefusesOutput, RefusesPlan}
 use Rattle.shrink_core.specs.OneDue.{IsOneDue}
-use Rattle.shrink_core.specs.Refusal.{quantity_of}
 use Rattle.command_texts.proofs.OneStep.{IsOne, Then, no_err, one_value, then_one}
 use Rattle.command_texts.specs.RuleText.{keeps_nothing, nothing_kept}
 use Rattle.shrink_core.specs.Summary.{summary_text}
@@ -95,12 +94,7 @@ config_refused files named (Profile fault) h = absurd h
 config_refused files named (Limit quantity.Files) h = absurd h
 config_refused files named (Limit quantity.Classes) h = absurd h
 config_refused files named (Limit quantity.Input) h = absurd h
-config_refused files named (Limit quantity.Pool) h = absurd h
-config_refused files named (Limit quantity.Utf8) h = absurd h
-config_refused files named (Limit quantity.Code) h = absurd h
-config_refused files named (Limit quantity.Table) h = absurd h
-config_refused files named (Limit quantity.Branch) h = absurd h
-config_refused files named (Limit quantity.Attribute) h = absurd h
+config_refused files named (Limit (quantity.Written limit)) h = absurd h
 config_refused files named (Limit (quantity.System what)) h = absurd h
 config_refused files named (Limit quantity.Text) h = absurd h
 
@@ -125,12 +119,7 @@ config_not_refused files named rules (Profile fault) h k = k
 config_not_refused files named rules (Limit quantity.Files) h k = k
 config_not_refused files named rules (Limit quantity.Classes) h k = k
 config_not_refused files named rules (Limit quantity.Input) h k = k
-config_not_refused files named rules (Limit quantity.Pool) h k = k
-config_not_refused files named rules (Limit quantity.Utf8) h k = k
-config_not_refused files named rules (Limit quantity.Code) h k = k
-config_not_refused files named rules (Limit quantity.Table) h k = k
-config_not_refused files named rules (Limit quantity.Branch) h k = k
-config_not_refused files named rules (Limit quantity.Attribute) h k = k
+config_not_refused files named rules (Limit (quantity.Written limit)) h k = k
 config_not_refused files named rules (Limit (quantity.System what)) h k = k
 config_not_refused files named rules (Limit quantity.Text) h k = k
 
@@ -199,12 +188,7 @@ input_refused files directory (Format path fault) h =
     inr (h.0, h.1, set.Format h.2 fault, h.4, ap (λ (at : List ℕ). Format at fault) h.3)
 input_refused files directory (Profile fault) h = inr (h.0, h.1, set.Rule fault, h.2, refl)
 input_refused files directory (Limit quantity.Config) h = absurd h
-input_refused files directory (Limit quantity.Pool) h = absurd h
-input_refused files directory (Limit quantity.Utf8) h = absurd h
-input_refused files directory (Limit quantity.Code) h = absurd h
-input_refused files directory (Limit quantity.Table) h = absurd h
-input_refused files directory (Limit quantity.Branch) h = absurd h
-input_refused files directory (Limit quantity.Attribute) h = absurd h
+input_refused files directory (Limit (quantity.Written limit)) h = absurd h
 input_refused files directory (Limit (quantity.System what)) h = absurd h
 input_refused files directory (Limit quantity.Text) h = absurd h
 input_refused files directory NoConfig h = absurd h
@@ -267,7 +251,7 @@ one_marked rules sys (Err refusal) (Err other) h k = ap Err (h.1 ∙ sym k.1)
 abbrev Written : Rules → List Class → List Bool → Result ShrunkSet Refusal → Type 0
 Written rules classes marks (Ok shrunk) = IsShrunk classes marks rules shrunk
 Written rules classes marks (Err refusal) =
-    (limit : WriteLimit) × PassesLimit classes marks rules limit × (refusal ≡ Limit (quantity_of limit))
+    (limit : WriteLimit) × PassesLimit classes marks rules limit × (refusal ≡ Limit (quantity.Written limit))
 
 one_written : (rules : Rules) (classes : List Class) (marks : List Bool) → IsOne (Written rules classes marks)
 one_written rules classes marks (Ok shrunk) (Ok other) h k =
@@ -277,7 +261,7 @@ one_written rules classes marks (Ok shrunk) (Err refusal) h k =
 one_written rules classes marks (Err refusal) (Ok shrunk) h k =
     absurd (not_both_shrunk classes marks rules shrunk h.0 k h.1)
 one_written rules classes marks (Err refusal) (Err other) h k =
-    ap Err (h.2 ∙ (ap (λ (l : WriteLimit). Limit (quantity_of l)) (one_limit classes marks rules h.0 k.0 h.1 k.1)
+    ap Err (h.2 ∙ (ap (λ (l : WriteLimit). Limit (quantity.Written l)) (one_limit classes marks rules h.0 k.0 h.1 k.1)
     ∙ sym k.2))
 
 -- the texts, or that one is too long
@@ -331,7 +315,7 @@ by_steps rules witness classes (Err refusal) (by_format marks kept limit passes 
       inr (
         marks,
         (kept.some, kept.least),
-        inl (Limit (quantity_of limit), (limit, passes, refl), ap Err is),
+        inl (Limit (quantity.Written limit), (limit, passes, refl), ap Err is),
       ),
     )
 by_steps rules witness classes (Err refusal) (by_text marks kept shrunk is_shrunk long told is) =

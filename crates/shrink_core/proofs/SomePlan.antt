@@ -17,7 +17,6 @@ use Rattle.attribute_filter.specs.KeptAttributes.{filter_of}
 use Rattle.mapping_file.specs.declared.mapping.Mapping.{Mapping}
 use Rattle.rename_map.specs.MappingOf.{mapping_of}
 use Rattle.shrink_core.specs.Due.{IsKept, IsPlan, RefusesPlan, by_format, by_text, by_seeds, by_system}
-use Rattle.shrink_core.specs.Refusal.{quantity_of}
 use Rattle.command_texts.specs.RuleText.{keeps_nothing, nothing_kept}
 use Rattle.shrink_core.specs.Summary.{summary_text}
 use Rattle.keep_rules.specs.declared.rules.Rules.{Rules}
@@ -111,7 +110,7 @@ module _ (rules : Rules) (witness : List ℕ) (classes : List Class) where
       (record { files = written; mapping = refl; read = refl; left = refl })
       (texts_due mapping classes marks rules witness) refl
   plan_for marks kept (inr (limit, pass)) =
-      inr (Limit (quantity_of limit), by_format marks kept limit pass refl)
+      inr (Limit (quantity.Written limit), by_format marks kept limit pass refl)
 
   plan_by : (sys : System) → system_due classes rules ≡ Ok sys
       → (nothing : Bool) → keeps_nothing rules sys ≡ nothing → Planned rules witness classes

@@ -22,7 +22,6 @@ use Rattle.set_read.specs.declared.fault.SetFault.TheVariants as set
 use Rattle.set_shrink.specs.ShrunkSet.{IsShrunk, PassesLimit}
 use Rattle.set_shrink.specs.Texts.{texts_due}
 use Rattle.set_shrink.specs.declared.shrunk.ShrunkSet.{ShrunkSet}
-use Rattle.shrink_core.specs.Refusal.{quantity_of}
 use Rattle.shrink_core.specs.Summary.{summary_text}
 use Rattle.shrink_core.specs.declared.words.CommandFiles.{CommandFiles}
 use Rattle.shrink_core.specs.declared.shrink.Plan.{Plan}
@@ -115,7 +114,7 @@ pub data RefusesPlan (rules : Rules) (classes : List Class) (witness : List ℕ)
   by_seeds : (sys : System) → system_due classes rules ≡ Ok sys → keeps_nothing rules sys ≡ true
       → refusal ≡ BadRules nothing_kept → RefusesPlan rules classes witness refusal
   by_format : (marks : List Bool) → IsKept rules classes marks → (limit : WriteLimit)
-      → PassesLimit classes marks rules limit → refusal ≡ Limit (quantity_of limit)
+      → PassesLimit classes marks rules limit → refusal ≡ Limit (quantity.Written limit)
       → RefusesPlan rules classes witness refusal
   by_text : (marks : List Bool) → IsKept rules classes marks → (shrunk : ShrunkSet)
       → IsShrunk classes marks rules shrunk → (long : LongText)

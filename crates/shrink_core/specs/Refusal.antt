@@ -4,10 +4,11 @@ use Rattle.class_model.specs.declared.limit.WriteLimit.{WriteLimit}
 use Rattle.class_model.specs.declared.limit.WriteLimit.TheVariants as limit
 use Rattle.command_texts.specs.Lines.{absent_line, format_line, limit_line, profile_line}
 use Rattle.command_texts.specs.RuleText.{rules_line}
+use Rattle.report_text.specs.Kinds.{limit_name}
 use Rattle.require_sys.specs.Required.{counted_limit, counted_name}
 use Rattle.shrink_core.specs.declared.quantity.Quantity.{Quantity}
-use Rattle.shrink_core.specs.declared.quantity.Quantity.TheVariants.{Config, Files, Classes, Input, Pool, Utf8, Code}
-use Rattle.shrink_core.specs.declared.quantity.Quantity.TheVariants.{Table, Branch, Attribute, System, Text}
+use Rattle.shrink_core.specs.declared.quantity.Quantity.TheVariants.{Config, Files, Classes, Input, System, Text}
+use Rattle.shrink_core.specs.declared.quantity.Quantity.TheVariants.{Written}
 use Rattle.shrink_core.specs.declared.refusal.Refusal.{Refusal}
 use Rattle.shrink_core.specs.declared.refusal.Refusal.TheVariants.{NoConfig, BadRules, NotEmpty, Gone, Format, Profile}
 use Rattle.shrink_core.specs.declared.refusal.Refusal.TheVariants.{Limit}
@@ -23,37 +24,27 @@ quantity_name Files = codes "files"
 quantity_name Classes = codes "classes"
 quantity_name Input = codes "input"
 quantity_name (System what) = counted_name what
-quantity_name Pool = codes "pool"
-quantity_name Utf8 = codes "utf8"
-quantity_name Code = codes "code"
-quantity_name Table = codes "table"
-quantity_name Branch = codes "branch"
-quantity_name Attribute = codes "attribute"
+quantity_name (Written passed) = limit_name passed
 quantity_name Text = codes "text"
 
--- the greatest number that each may be; those of a class file are the format's own (JVMS 4.7, 4.11, 6.5)
+-- the greatest number that the format has room for (JVMS 4.7, 4.11, 6.5)
+abbrev pub most_written : WriteLimit → ℕ
+most_written (limit.PoolFull count) = 65535
+most_written (limit.TextTooLong length) = 65535
+most_written (limit.CodeTooLong length) = 65535
+most_written (limit.BranchTooFar index distance) = 32767
+most_written (limit.AttributeFull count) = 65535
+most_written (limit.AttributeTooLong length) = 4294967295
+
+-- the greatest number that each may be
 abbrev pub quantity_limit : Quantity → ℕ
 quantity_limit Config = 67108864
 quantity_limit Files = 65536
 quantity_limit Classes = 20000
 quantity_limit Input = 67108864
 quantity_limit (System what) = counted_limit what
-quantity_limit Pool = 65535
-quantity_limit Utf8 = 65535
-quantity_limit Code = 65535
-quantity_limit Table = 65535
-quantity_limit Branch = 32767
-quantity_limit Attribute = 4294967295
+quantity_limit (Written passed) = most_written passed
 quantity_limit Text = 67108864
-
--- what a limit of the format counts
-abbrev pub quantity_of : WriteLimit → Quantity
-quantity_of (limit.PoolFull count) = Pool
-quantity_of (limit.TextTooLong length) = Utf8
-quantity_of (limit.CodeTooLong length) = Code
-quantity_of (limit.BranchTooFar index distance) = Branch
-quantity_of (limit.AttributeFull count) = Table
-quantity_of (limit.AttributeTooLong length) = Attribute
 
 -- ---- lines
 

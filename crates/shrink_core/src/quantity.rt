@@ -1,8 +1,9 @@
 // Quantities that have a limit.
 ghost use Rattle.std.specs.Prelude.{◌≡◌};
-ghost use Rattle.shrink_core.specs.Refusal.{quantity_limit, quantity_name, quantity_of};
+ghost use Rattle.shrink_core.specs.Refusal.{most_written, quantity_limit, quantity_name};
 
 use class_model::WriteLimit;
+use report_text::limit_name;
 use require_sys::Counted;
 
 /// A counted quantity with a limit.
@@ -18,18 +19,8 @@ pub enum Quantity {
     Input,
     /// What is counted of the system of requirements.
     System(Counted),
-    /// The constant_pool_count of a class file that is written (JVMS 4.1).
-    Pool,
-    /// The bytes of a text of its constant pool (JVMS 4.4.7).
-    Utf8,
-    /// The bytes of a code (JVMS 4.7.3).
-    Code,
-    /// The rows of a table (JVMS 4.11).
-    Table,
-    /// How far a branch leads (JVMS 6.5).
-    Branch,
-    /// The bytes of an attribute (JVMS 4.7).
-    Attribute,
+    /// What a limit of the format counts in a class file that is written (JVMS 4.11).
+    Written(WriteLimit),
     /// The bytes of a text that is written.
     Text,
 }
@@ -45,12 +36,7 @@ impl Quantity {
             Quantity::Classes => "classes",
             Quantity::Input => "input",
             Quantity::System(counted) => counted.name(),
-            Quantity::Pool => "pool",
-            Quantity::Utf8 => "utf8",
-            Quantity::Code => "code",
-            Quantity::Table => "table",
-            Quantity::Branch => "branch",
-            Quantity::Attribute => "attribute",
+            Quantity::Written(limit) => limit_name(limit),
             Quantity::Text => "text",
         }
     }
@@ -64,23 +50,21 @@ impl Quantity {
             Quantity::Files => 65_536,
             Quantity::Classes => 20_000,
             Quantity::System(counted) => counted.limit(),
-            Quantity::Pool | Quantity::Utf8 | Quantity::Code | Quantity::Table => 65_535,
-            Quantity::Branch => 32_767,
-            Quantity::Attribute => 4_294_967_295,
+            Quantity::Written(limit) => most_written(limit),
         }
     }
 }
 
-/// The quantity that a limit of the format counts.
-pub fn quantity_of(limit: WriteLimit) -> Quantity
-    ensures { result ≡ quantity_of limit }
+/// The greatest number that the format has room for (JVMS 4.7, 4.11, 6.5).
+fn most_written(limit: WriteLimit) -> u64
+    ensures { result ≡ most_written limit }
 {
     match limit {
-        WriteLimit::PoolFull(_) => Quantity::Pool,
-        WriteLimit::TextTooLong(_) => Quantity::Utf8,
-        WriteLimit::CodeTooLong(_) => Quantity::Code,
-        WriteLimit::BranchTooFar(..) => Quantity::Branch,
-        WriteLimit::AttributeFull(_) => Quantity::Table,
-        WriteLimit::AttributeTooLong(_) => Quantity::Attribute,
+        WriteLimit::PoolFull(_)
+        | WriteLimit::TextTooLong(_)
+        | WriteLimit::CodeTooLong(_)
+        | WriteLimit::AttributeFull(_) => 65_535,
+        WriteLimit::BranchTooFar(..) => 32_767,
+        WriteLimit::AttributeTooLong(_) => 4_294_967_295,
     }
 }

@@ -15,7 +15,7 @@ ghost use Rattle.shrink_core.specs.Due.{IsKept, IsPlan, IsRefused, IsResult, Ref
 ghost use Rattle.shrink_core.specs.bodies.Steps.{Finds, Joins, MarksOf, Shrinks, missed};
 
 use crate::finding::{check_empty, find_config, find_set};
-use crate::quantity::{Quantity, quantity_of};
+use crate::quantity::Quantity;
 use crate::refusal::Refusal;
 use crate::summary::summary_text;
 use crate::words::CommandFiles;
@@ -148,7 +148,7 @@ fn kept_plan(
     let lists = lists_of(alloc, &set, marks, rules);
     match shrink_set(alloc, set, marks, rules) {
         Ok(shrunk) => joined(alloc, named, rules, shrunk, lists),
-        Err(Or::Fault(limit)) => Err(Stop::Refused(Refusal::Limit(quantity_of(limit)))),
+        Err(Or::Fault(limit)) => Err(Stop::Refused(Refusal::Limit(Quantity::Written(limit)))),
         Err(Or::OutOfMemory) => Err(Stop::OutOfMemory),
     }
 }

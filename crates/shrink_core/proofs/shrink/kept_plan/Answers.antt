@@ -1,7 +1,8 @@
-use Rattle.std.proofs.Common.{ap, ◌∙◌}
+use Rattle.std.proofs.Common.{ap}
+use Rattle.class_model.specs.declared.limit.WriteLimit.{WriteLimit}
 use Rattle.set_shrink.specs.Lists.{lists_due}
 use Rattle.shrink_core.specs.Due.{by_format}
-use Rattle.shrink_core.specs.Refusal.{quantity_of}
+use Rattle.shrink_core.specs.declared.quantity.Quantity.TheVariants as quantity
 use Rattle.shrink_core.specs.declared.refusal.Refusal.TheVariants.{Limit}
 use Rattle.shrink_core.proofs.Planned.{kept_closed, planned_with}
 use Rattle.shrink_core.proofs.shrink.kept_plan.Goals as goal
@@ -21,4 +22,4 @@ pub returns-in-Err-Fault-clause-planned : goal.returns-in-Err-Fault-clause-plann
 returns-in-Err-Fault-clause-planned c =
     by_format c.args.marks.now c.requires.kept c.in-Err-Fault.limit
     (rw c.in-Err-Fault.field-0-is at c.in-Err-Fault.ensures.exact)
-    (ap Limit (c.quantity_of.ensures ∙ ap quantity_of c.in-Err-Fault.limit-is))
+    (ap (λ (l : WriteLimit). Limit (quantity.Written l)) c.in-Err-Fault.limit-is)
