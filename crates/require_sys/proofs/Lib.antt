@@ -10,6 +10,8 @@ mod SharedFrames
 mod CountedLists
 mod Meeting
 mod Remembering
+mod Stamping
+mod EndsMeet
 mod AloneLaw
 mod SupersLaw
 mod TopsLaw

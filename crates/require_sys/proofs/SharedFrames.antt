@@ -43,6 +43,41 @@ same_more (Ok y) w v u a b first second =
     subst (λ (x : Wanted). HasSame u x) (joins w a (b w.classes)) h
 same_more (Err e) w v u a b first second = tt
 
+same_then : (u v w : Wanted) → HasSame u v → HasSame v w → HasSame u w
+same_then u v w first second = record {
+  classes = first.classes ∙ second.classes;
+  numbers = λ x. first.numbers x ∙ second.numbers x;
+}
+
+-- the same where as much more is wanted
+same_with : (v w : Wanted) (items : List Class → List Item) → HasSame v w
+    → HasSame (wanting v (items v.classes)) (wanting w (items w.classes))
+same_with v w items same = record {
+  classes = same.classes;
+  numbers = λ x. has-append x v.numbers (numbers v.classes (items v.classes))
+      ∙ ap (λ b. b || has x (numbers v.classes (items v.classes))) (same.numbers x)
+      ∙ ap (λ (cs : List Class). has x w.numbers || has x (numbers cs (items cs))) same.classes
+      ∙ sym (has-append x w.numbers (numbers w.classes (items w.classes)));
+}
+
+pub same_in_turn : (w v u : Wanted) (a : List Item) (b : List Class → List Item) → HasSame v (wanting w a)
+    → HasSame u (wanting v (b v.classes)) → HasSame u (wanting w (a ++ b w.classes))
+same_in_turn w v u a b first second =
+    subst (HasSame u) (joins w a (b w.classes))
+    (same_then u (wanting v (b v.classes)) (wanting (wanting w a) (b w.classes)) second
+    (same_with v (wanting w a) b first))
+
+pub same_after : {E : Type 0} (r : Result (Unit {0}) E) (w v u : Wanted) (a : List Item) (b : List Class → List Item)
+    → HasSame v (wanting w a) → OnOk r (HasSame u (wanting v (b v.classes)))
+    → OnOk r (HasSame u (wanting w (a ++ b w.classes)))
+same_after (Ok y) w v u a b first second = same_in_turn w v u a b first second
+same_after (Err e) w v u a b first second = tt
+
+-- what is wanted is the same as it is
+pub on_same : {E : Type 0} (r : Result (Unit {0}) E) (u v : Wanted) → OnOk r (u ≡ v) → OnOk r (HasSame u v)
+on_same (Ok y) u v is = same_is u v is
+on_same (Err e) u v is = tt
+
 module _ (classes : List Class) (x : ℕ) where
   abbrev stands : List Item → Bool
   stands items = has x (numbers classes items)
@@ -174,14 +209,14 @@ nothing_same w = same_is w (wanting w []) (nothing w)
 -- what a code wants, part by part
 pub code_then : {E : Type 0} (r : Result (Unit {0}) E) (n : ℕ) (code : Code) (ins : List Ins) (handlers : List Handler)
     (w v x u : Wanted) → ins ≡ code.ins → handlers ≡ code.handlers
-    → v ≡ wanting w (flat_map (λ (i : Ins). op_wants w.classes n i.op) ins)
+    → HasSame v (wanting w (flat_map (λ (i : Ins). op_wants w.classes n i.op) ins))
     → x ≡ wanting v (flat_map (handler_wants v.classes) handlers)
     → OnOk r (HasSame u (wanting x (flat_map (frame_wants x.classes) code.frames)))
     → OnOk r (HasSame u (wanting w (code_wants w.classes n code)))
 code_then r n code ins handlers w v x u own caught first second third =
-    same_more r w v u (flat_map (λ (i : Ins). op_wants w.classes n i.op) code.ins)
+    same_after r w v u (flat_map (λ (i : Ins). op_wants w.classes n i.op) code.ins)
     (λ cs. flat_map (handler_wants cs) code.handlers ++ flat_map (frame_wants cs) code.frames)
-    (first ∙ ap (λ (is : List Ins). wanting w (flat_map (λ (i : Ins). op_wants w.classes n i.op) is)) own)
+    (subst (λ (is : List Ins). HasSame v (wanting w (flat_map (λ (i : Ins). op_wants w.classes n i.op) is))) own first)
     (same_more r v x u (flat_map (handler_wants v.classes) code.handlers) (λ cs. flat_map (frame_wants cs) code.frames)
     (second ∙ ap (λ (hs : List Handler). wanting v (flat_map (handler_wants v.classes) hs)) caught) third)
 

@@ -11,7 +11,7 @@ ghost use Rattle.require_sys.specs.Requires.Item.{OfMember};
 ghost use Rattle.require_sys.specs.Requires.{field_ref_wants, handler_wants, method_ref_wants, op_wants};
 ghost use Rattle.require_sys.specs.Requires.{special_wants};
 ghost use Rattle.require_sys.specs.bodies.Known.{ref_wants};
-ghost use Rattle.require_sys.specs.bodies.Wanting.{wanting};
+ghost use Rattle.require_sys.specs.bodies.Wanting.{HasSame, wanting};
 
 use crate::known::RefKind;
 use crate::named::{want_base, want_field_text, want_method_text, want_name, want_type};
@@ -30,8 +30,8 @@ pub(crate) fn want_instructions(
     ins: &[Ins],
 ) -> M<()>
     requires { number < length wants.old.classes }
-    ensures { OnOk result (wants.new
-        ≡ wanting wants.old (flat_map (λ i. op_wants wants.old.classes number i.op) ins.now)) }
+    ensures { OnOk result (HasSame wants.new
+        (wanting wants.old (flat_map (λ i. op_wants wants.old.classes number i.op) ins.now))) }
 {
     for instruction in ins {
         want_op(alloc, wants, number, &instruction.op)?;
@@ -41,7 +41,7 @@ pub(crate) fn want_instructions(
 
 fn want_op(alloc: Global, wants: &mut Wants<'_>, number: u32, op: &Op) -> M<()>
     requires { number < length wants.old.classes }
-    ensures { OnOk result (wants.new ≡ wanting wants.old (op_wants wants.old.classes number op.now)) }
+    ensures { OnOk result (HasSame wants.new (wanting wants.old (op_wants wants.old.classes number op.now))) }
 {
     match op {
         Op::GetStatic(r) | Op::PutStatic(r) | Op::GetField(r) | Op::PutField(r) => {
@@ -68,7 +68,7 @@ fn want_ref(
     r: &MemberRef,
 ) -> M<()>
     requires { number < length wants.old.classes }
-    ensures { OnOk result (wants.new ≡ wanting wants.old (ref_wants wants.old.classes number kind r.now)) }
+    ensures { OnOk result (HasSame wants.new (wanting wants.old (ref_wants wants.old.classes number kind r.now))) }
 {
     if wants.want_known(number, kind, r)? {
         return Ok(());
@@ -76,7 +76,8 @@ fn want_ref(
     want_ref_and_keep(alloc, wants, number, kind, r)
 }
 
-/// The same, which is remembered.
+/// The same, which is remembered. It is a call of its own, since most references are remembered already.
+#[inline(never)]
 fn want_ref_and_keep(
     alloc: Global,
     wants: &mut Wants<'_>,

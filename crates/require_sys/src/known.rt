@@ -1,12 +1,13 @@
 // What names, descriptors and references want, remembered: a set has most of them many times.
 //
 // Each has one place by its text, where the one that was looked for last is remembered.
-ghost use Rattle.std.specs.Prelude.{◌≡◌, ℕ, IfOk, IfSome, IsTrue, None, Some, slice_get};
+ghost use Rattle.std.specs.Prelude.{◌≡◌, ◌≤◌, ℕ, IfOk, IfSome, IsTrue, None, Some, set, slice_get};
 ghost use Rattle.std.specs.List.{All};
 ghost use Rattle.require_sys.specs.bodies.Known.{IsFor, IsTextFor};
 
+use crate::same::{half_of, is_same_ref, is_same_text, word_of};
 use class_model::MemberRef;
-use jv_base::{Items, M, Text};
+use jv_base::{Base, Items, M, Text};
 use std::alloc::Global;
 
 /// What a text stands for.
@@ -55,7 +56,7 @@ impl TextRow {
     pub fn is_for(&self, kind: TextKind, text: &Text) -> bool
         ensures { IsTrue result → IsTextFor kind text.now self.now }
     {
-        self.kind == kind && self.text == *text
+        self.kind == kind && is_same_text(&self.text, text)
     }
 }
 
@@ -63,12 +64,12 @@ impl Row {
     pub fn is_for(&self, from: u32, kind: RefKind, r: &MemberRef) -> bool
         ensures { IsTrue result → IsFor from kind r.now self.now }
     {
-        self.from == from && self.kind == kind && self.reference == *r
+        self.from == from && self.kind == kind && is_same_ref(&self.reference, r)
     }
 }
 
 /// So many texts and so many references are remembered.
-const PLACES: usize = 512;
+const PLACES: usize = 1024;
 
 /// No text at any place.
 pub(crate) fn no_texts(alloc: Global) -> M<Vec<Option<TextRow>>>
@@ -92,15 +93,86 @@ pub(crate) fn no_rows(alloc: Global) -> M<Vec<Option<Row>>>
     Ok(rows)
 }
 
-/// The place of a text, which is another one for most texts.
-pub(crate) fn text_place(text: &Text) -> usize {
-    let mark = text.tail().wrapping_mul(0x9E37_79B9_7F4A_7C15) >> 48;
-    (mark as usize ^ text.len()) % PLACES
+/// No reference is wanted by an item yet.
+pub(crate) fn no_stamps(alloc: Global) -> M<Vec<u64>>
+    ensures { IfOk result (λ stamps. All (λ stamp. stamp ≤ 0) stamps.items) }
+{
+    let mut stamps = Vec::with_capacity(alloc, PLACES)?;
+    for _ in 0..PLACES {
+        stamps.push(0)?;
+    }
+    Ok(stamps)
 }
 
-/// The place of a reference.
+/// Whether the reference at a place is wanted by the item with this stamp already.
+pub(crate) fn is_stamped(stamps: &[u64], place: usize, stamp: u64) -> bool
+    ensures { IsTrue result → slice_get stamps.now place ≡ Some stamp }
+{
+    match stamps.get(place) {
+        Some(last) => *last == stamp,
+        None => false,
+    }
+}
+
+/// From then on the reference at a place is wanted by the item with this stamp.
+pub(crate) fn put_stamp(stamps: &mut Vec<u64>, place: usize, stamp: u64)
+    ensures { stamps.new.items ≡ set stamps.old.items place stamp }
+{
+    if place < stamps.len() {
+        stamps[place] = stamp;
+    }
+}
+
+/// The place of a text, which is another one for most texts.
+pub(crate) fn text_place(text: &Text) -> usize {
+    place_by(last_word(text.as_bytes()) ^ text.len() as u64)
+}
+
+/// The place of a reference, which is another one for most references that differ in the end of the name, in the start
+/// of the descriptor or in the end of the class name.
 pub(crate) fn place_of(r: &MemberRef) -> usize {
-    (text_place(&r.name) ^ text_place(&r.ty)) % PLACES
+    let member = last_word(r.name.as_bytes()) ^ first_word(r.ty.as_bytes()).rotate_left(21);
+    match &r.class.base {
+        Base::Class(name) => place_by(member ^ last_word(name.as_bytes()).rotate_left(42)),
+        _ => place_by(member),
+    }
+}
+
+fn place_by(mark: u64) -> usize {
+    (mark.wrapping_mul(0x9E37_79B9_7F4A_7C15) >> 54) as usize
+}
+
+/// Its last eight bytes, where it has so many.
+fn last_word(bytes: &[u8]) -> u64 {
+    match bytes.last_chunk::<8>() {
+        Some(last) => word_of(last),
+        None => short_word(bytes),
+    }
+}
+
+/// Its first eight bytes, where it has so many.
+fn first_word(bytes: &[u8]) -> u64 {
+    match bytes.first_chunk::<8>() {
+        Some(first) => word_of(first),
+        None => short_word(bytes),
+    }
+}
+
+/// All bytes of a text that has less than eight.
+fn short_word(bytes: &[u8]) -> u64 {
+    match (bytes.first_chunk::<4>(), bytes.last_chunk::<4>()) {
+        (Some(first), Some(last)) => { u64::from(half_of(first)) << 32 | u64::from(half_of(last)) }
+        _ => small_word(bytes),
+    }
+}
+
+/// All bytes of a text that has less than four.
+fn small_word(bytes: &[u8]) -> u64 {
+    let mut word = 0u64;
+    for byte in bytes {
+        word = word << 8 | u64::from(*byte);
+    }
+    word
 }
 
 /// The row of a text, if it is remembered.
@@ -120,17 +192,18 @@ pub(crate) fn text_row<'a>(
     }
 }
 
-/// The row of a reference, if it is remembered.
+/// The row of a reference at its place, if it is remembered.
 pub(crate) fn row_of<'a>(
     rows: &'a [Option<Row>],
+    place: usize,
     from: u32,
     kind: RefKind,
     r: &MemberRef,
 ) -> Option<&'a Row>
-    ensures at { IfSome result (λ row. (place : ℕ) × slice_get rows.now place ≡ Some (Some row.now)) }
+    ensures at { IfSome result (λ row. slice_get rows.now place ≡ Some (Some row.now)) }
     ensures is { IfSome result (λ row. IsFor from kind r.now row.now) }
 {
-    let row = rows.get(place_of(r))?.as_ref()?;
+    let row = rows.get(place)?.as_ref()?;
     if row.is_for(from, kind, r) {
         Some(row)
     } else {

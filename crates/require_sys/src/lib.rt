@@ -19,6 +19,7 @@ mod needs;
 mod numbered;
 mod pairs;
 mod receiver;
+mod same;
 mod seeds;
 mod supers;
 mod system;

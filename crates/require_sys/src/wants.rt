@@ -8,15 +8,16 @@ ghost use Rattle.require_sys.specs.bodies.Alone.{IsAlone};
 ghost use Rattle.require_sys.specs.Requires.{numbers};
 ghost use Rattle.require_sys.specs.bodies.Known.{IsBehind, ref_wants, text_wants};
 ghost use Rattle.require_sys.specs.bodies.Tops.{IsTop};
-ghost use Rattle.require_sys.specs.bodies.Wanting.{needs_from, wanting, wanting_nothing};
+ghost use Rattle.require_sys.specs.bodies.Wanting.{HasSame, needs_from, wanting, wanting_nothing};
 
 use crate::known::{
-    RefKind, Row, TextKind, TextRow, no_rows, no_texts, place_of, row_of, text_place, text_row,
+    RefKind, Row, TextKind, TextRow, is_stamped, no_rows, no_stamps, no_texts, place_of, put_stamp,
+    row_of, text_place, text_row,
 };
 use crate::numbered::Numbered;
 use class_model::MemberRef;
 use class_pool::{ClassId, ClassSet, MemberAt};
-use jv_base::{Items, M, Text};
+use jv_base::{Items, M, OutOfMemory, Text};
 use std::alloc::Global;
 use std::marker::Model;
 
@@ -30,20 +31,22 @@ pub(crate) struct Wants<'a> {
     texts: Vec<Option<TextRow>>,
     /// What some references want.
     rows: Vec<Option<Row>>,
+    /// For each of these the stamp of the item that wanted it last.
+    stamps: Vec<u64>,
+    /// The stamp of the item whose wants are gathered, another one for each.
+    stamp: u64,
 }
 
 impl<'a> Model for Wants<'a> {
-    ghost use Rattle.std.specs.Prelude.{IfSome};
-    ghost use Rattle.std.specs.List.{All};
-    ghost use Rattle.require_sys.specs.bodies.Known.{IsRow, IsTextRow};
+    ghost use Rattle.require_sys.specs.bodies.Known.{Remembers};
     ghost use Rattle.require_sys.specs.bodies.Wanting.{Wanted};
 
     ghost Value = { Wanted };
 
     ghost view = { λ w. record { classes = w.numbered.now.set.now; numbers = w.numbers.items } };
 
-    ghost invariant = { λ w. All (λ o. IfSome o (IsTextRow w.numbered.now.set.now)) w.texts.items
-        × All (λ o. IfSome o (IsRow w.numbered.now.set.now)) w.rows.items };
+    ghost invariant = { λ w. Remembers w.numbered.now.set.now w.texts.items w.rows.items w.stamps.items w.stamp
+        w.numbers.items };
 }
 
 impl<'a> Wants<'a> {
@@ -53,12 +56,15 @@ impl<'a> Wants<'a> {
     {
         let texts = no_texts(alloc)?;
         let rows = no_rows(alloc)?;
+        let stamps = no_stamps(alloc)?;
         Ok(Wants {
             numbered,
             numbers: Vec::new(alloc),
             alloc,
             texts,
             rows,
+            stamps,
+            stamp: 0,
         })
     }
 
@@ -145,15 +151,20 @@ impl<'a> Wants<'a> {
         Ok(())
     }
 
-    /// What a reference wants, if that is remembered.
+    /// What a reference wants, if that is remembered. Where the item wanted it before, its numbers are there already.
     pub fn want_known(&mut self, from: u32, kind: RefKind, r: &MemberRef) -> M<bool>
         ensures known { IfOk result (λ known. IsTrue known
-            → self.new ≡ wanting self.old (ref_wants self.old.classes from kind r.now)) }
+            → HasSame self.new (wanting self.old (ref_wants self.old.classes from kind r.now))) }
         ensures other { IfOk result (λ known. known ≡ false → self.new ≡ self.old) }
     {
-        match row_of(self.rows.as_slice(), from, kind, r) {
+        let place = place_of(r);
+        match row_of(self.rows.as_slice(), place, from, kind, r) {
             Some(row) => {
+                if is_stamped(self.stamps.as_slice(), place, self.stamp) {
+                    return Ok(true);
+                }
                 self.numbers.extend_from_slice(row.numbers.as_slice())?;
+                put_stamp(&mut self.stamps, place, self.stamp);
                 Ok(true)
             }
             None => Ok(false),
@@ -185,6 +196,7 @@ impl<'a> Wants<'a> {
         ensures needs { IfOk result (λ needs. needs ≡ needs_from own self.old.numbers) }
         ensures after { OnOk result (self.new ≡ wanting_nothing self.old.classes) }
     {
+        self.stamp = self.stamp.checked_add(1).ok_or(OutOfMemory)?;
         self.numbers.sort_unstable();
         self.numbers.dedup();
         let needs = all_but(alloc, own, self.numbers.as_slice())?;

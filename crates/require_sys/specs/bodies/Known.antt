@@ -1,5 +1,6 @@
 -- What references want, as it is remembered (only the proof of system_of needs it).
-use Rattle.std.specs.Prelude.{◌≡◌, ◌≤◌, ℕ, List, ◌++◌, drop, length}
+use Rattle.std.specs.Prelude.{◌≡◌, ◌≤◌, ℕ, IfSome, List, ◌++◌, Option, Some, drop, length, slice_get, true}
+use Rattle.std.specs.List.{All}
 use Rattle.jv_base.specs.Descriptors.{read_field, read_method}
 use Rattle.class_model.specs.declared.class.Class.{Class}
 use Rattle.class_model.specs.declared.op.MemberRef.{MemberRef}
@@ -8,6 +9,7 @@ use Rattle.link_check.specs.Links.{resolved_method}
 use Rattle.link_check.specs.Profile.{class_of}
 use Rattle.require_sys.specs.Requires.{Item, field_ref_wants, field_text_wants, method_ref_wants, method_text_wants}
 use Rattle.require_sys.specs.Requires.{name_wants, numbers, special_wants}
+use Rattle.require_sys.specs.bodies.Wanting.{has}
 use Rattle.require_sys.specs.declared.known.RefKind.{RefKind}
 use Rattle.require_sys.specs.declared.known.RefKind.TheVariants.{Field, Method, Special}
 use Rattle.require_sys.specs.declared.known.Row.{Row}
@@ -51,3 +53,13 @@ pub record IsFor (n : ℕ) (k : RefKind) (r : MemberRef) (row : Row) : Type 0 wh
   pub from : row.from ≡ n
   pub kind : row.kind ≡ k
   pub reference : row.reference ≡ r
+
+-- what is remembered of a set while the wants of an item are gathered as numbers: each row has what it is to have, and
+-- where a reference has the stamp of the item, what it wants is among the numbers
+pub record Remembers (classes : List Class) (texts : List (Option TextRow)) (rows : List (Option Row))
+    (stamps : List ℕ) (stamp : ℕ) (gathered : List ℕ) : Type 0 where
+  pub of_texts : All (λ o. IfSome o (IsTextRow classes)) texts
+  pub of_rows : All (λ o. IfSome o (IsRow classes)) rows
+  pub before : All (λ s. s ≤ stamp) stamps
+  pub there : (place : ℕ) (row : Row) → slice_get stamps place ≡ Some stamp → slice_get rows place ≡ Some (Some row)
+      → (x : ℕ) → has x row.numbers ≡ true → has x gathered ≡ true

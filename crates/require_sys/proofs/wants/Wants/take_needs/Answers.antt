@@ -1,9 +1,24 @@
-use Rattle.std.proofs.Common.{List, ℕ, Ok, ap, subst}
+use Rattle.std.proofs.Common.{rules, ◌+◌, List, ℕ, Ok, ap, subst}
 use Rattle.std.specs.Prelude.{◌≡◌}
 use Rattle.jv_base.specs.declared.outcome.OutOfMemory.{OutOfMemory}
 use Rattle.require_sys.specs.bodies.Wanting.{Wanted, needs_from}
 use Rattle.require_sys.proofs.SortedNeeds.{needs_then}
+use Rattle.require_sys.proofs.Stamping.{next_item}
 use Rattle.require_sys.proofs.wants.Wants.take_needs.Goals as goal
+
+pub invariant_of-self : goal.invariant_of-self
+invariant_of-self c =
+    let inside = c.self.inside in
+    let next : c.in_ok-self-inside.field-0 ≡ inside.stamp + 1 = search rules in
+    next_item inside.numbered.now.set.now inside.texts.items inside.rows.items inside.stamps.items inside.stamp
+    inside.numbers.items c.self.invariant c.in_ok-self-inside.field-0 c.dedup.new.self.items next
+
+pub invariant_of-self-2 : goal.invariant_of-self-2
+invariant_of-self-2 c =
+    let inside = c.self.inside in
+    let next : c.in_ok-self-inside.field-0 ≡ inside.stamp + 1 = search rules in
+    next_item inside.numbered.now.set.now inside.texts.items inside.rows.items inside.stamps.items inside.stamp
+    inside.numbers.items c.self.invariant c.in_ok-self-inside.field-0 c.clear.new.self.items next
 
 pub returns-clause-needs : goal.returns-clause-needs
 returns-clause-needs c =
