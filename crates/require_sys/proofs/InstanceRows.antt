@@ -11,10 +11,12 @@ use Rattle.std.proofs.lemmas.List.Folds.{find-append}
 use Rattle.std.proofs.lemmas.Option.{same_Some, slice_get_within}
 use Rattle.mark_core.specs.declared.system.Pair.{Pair}
 use Rattle.class_model.specs.declared.class.Class.{Class}
-use Rattle.class_pool.specs.Found.{IsMember, MemberRow, NameAndType, declared_by, declared_in, is_instance_method}
+use Rattle.class_pool.specs.Found.{IsMember, IsMethod, MemberRow, NameAndType, declared_by, declared_in}
+use Rattle.class_pool.specs.Found.{is_instance_method, same_member}
 use Rattle.class_pool.specs.Found.{is_instance_row, is_private_member, is_protected_member, is_public_member, named_at}
 use Rattle.class_pool.specs.Found.{rows_in}
 use Rattle.class_pool.specs.Hierarchy.{IsClass}
+use Rattle.class_pool.specs.Items.{class_item, item_of}
 use Rattle.class_pool.specs.Members.{declared_at}
 use Rattle.class_pool.specs.Resolution.{is_interface_in}
 use Rattle.class_pool.specs.declared.id.ClassId.{ClassId}
@@ -22,8 +24,8 @@ use Rattle.class_pool.specs.declared.id.ClassId.TheVariants.{Prog, Lib}
 use Rattle.class_pool.specs.declared.id.MemberAt.{MemberAt}
 use Rattle.class_pool.proofs.Declaring.{declared_named}
 use Rattle.link_check.proofs.Methods.{instance_is_method}
-use Rattle.require_sys.specs.Requires.{is_inheritable, members_of}
-use Rattle.require_sys.specs.bodies.Alike.{AreAlike, AreNumbers, AreRows, IsFirst, IsRow, Knows, class_rows}
+use Rattle.require_sys.specs.Requires.{class_number, is_inheritable, members_of, pair_from, pair_of}
+use Rattle.require_sys.specs.bodies.Alike.{AreAlike, AreNumbers, AreRows, HasItem, IsFirst, IsRow, Knows, class_rows}
 use Rattle.require_sys.specs.bodies.Alike.{group_number}
 use Rattle.require_sys.specs.bodies.Alike.{member_at, number_in, openness, place_of, row_of}
 use Rattle.require_sys.specs.bodies.Marks.{mark_of}
@@ -77,7 +79,7 @@ module _ (classes : List Class) (number : NameAndType → ℕ) (n : ℕ) where
           → AllByRecursion (IsRow classes number n) (filter_map (row_of classes number)
           (cond b (member p ∷ filter (is_instance_method classes) (map member ps))
           (filter (is_instance_method classes) (map member ps))))
-      by true e rest = (record { class = refl; instance = e; openness = refl; numbered = refl }, rest)
+      by true e rest = (record { class = refl; item = refl; instance = e; openness = refl; numbered = refl }, rest)
       by false e rest = rest
 
   -- each row is one of an instance method of the class
@@ -180,6 +182,25 @@ row_paired classes own t rows i row lt at =
     ∙ ap (λ (x : List MemberAt). filter_map f (filter p x)) (sym (map_push member_at (take i rows) row))
     ∙ ap (λ (x : List InstanceMethod). filter_map f (filter p (map member_at x))) (sym (more_of rows i row lt at))
 
+-- the pair of two rows by their items
+abbrev two_of : (classes : List Class) → ℕ → InstanceMethod → InstanceMethod → Bool → Option Pair
+two_of classes own row found same =
+    cond same None (pair_from classes (class_number classes (Prog own)) (item_of classes (member_at row))
+    (item_of classes (member_at found)))
+
+pub pair_items : (classes : List Class) (own : ℕ) (row found : InstanceMethod) (one : ℕ) → one ≡ class_item classes own
+    → HasItem classes row → HasItem classes found → same_member (member_at found) (member_at row) ≡ false
+    → Some (record { one = one; two = row.item; derived = found.item })
+    ≡ pair_of classes (Prog own) (member_at row) (member_at found)
+pair_items classes own row found one first two derived other =
+    (λ i. Some (record { one = first i; two = two i; derived = derived i }))
+    ∙ sym (ap (two_of classes own row found) other)
+
+pub pair_itself : (classes : List Class) (own : ℕ) (row found : InstanceMethod)
+    → same_member (member_at found) (member_at row) ≡ true
+    → None ≡ pair_of classes (Prog own) (member_at row) (member_at found)
+pair_itself classes own row found same = sym (ap (two_of classes own row found) same)
+
 -- ---- how the table is made
 
 -- a list with some more
@@ -188,19 +209,28 @@ grown ys zs old add new more is whole = more ∙ ap (λ t. t ++ add) is ∙ sym 
 
 -- the row of a member of a class of the set
 pub row_made : (classes : List Class) (number : NameAndType → ℕ) (n : ℕ) (m : MemberAt) → m.class ≡ Prog n
-    → (o : Openness) (g : ℕ) → o ≡ openness classes m → g ≡ number (named_at classes m)
-    → row_of classes number m ≡ Some (record { class = n; index = m.index; openness = o; number = g })
-row_made classes number n m at o g opened numbered =
+    → (o : Openness) (g i : ℕ) → o ≡ openness classes m → g ≡ number (named_at classes m)
+    → i ≡ class_item classes n + 1 + m.index
+    → row_of classes number m ≡ Some (record { class = n; index = m.index; item = i; openness = o; number = g })
+row_made classes number n m at o g i opened numbered item =
     ap (λ (c : ClassId). row_of classes number (record { class = c; index = m.index })) at
     ∙ ap (λ (u : Openness). Some (record {
       class = n;
       index = m.index;
+      item = class_item classes n + 1 + m.index;
       openness = u;
       number = number (named_at classes (record { class = Prog n; index = m.index }));
     }))
     (ap (λ (c : ClassId). openness classes (record { class = c; index = m.index })) (sym at) ∙ sym opened)
-    ∙ ap (λ (k : ℕ). Some (record { class = n; index = m.index; openness = o; number = k }))
+    ∙ ap (λ (k : ℕ). Some (record {
+      class = n;
+      index = m.index;
+      item = class_item classes n + 1 + m.index;
+      openness = o;
+      number = k;
+    }))
     (ap (λ (c : ClassId). number (named_at classes (record { class = c; index = m.index }))) (sym at) ∙ sym numbered)
+    ∙ ap (λ (k : ℕ). Some (record { class = n; index = m.index; item = k; openness = o; number = g })) (sym item)
 
 -- what is known of a group that has a number
 of_group : (classes : List Class) (g : Group) (place : ℕ) (m : MemberAt) → Knows classes g m

@@ -25,5 +25,6 @@ pub mod Validity
 pub mod AskedThere
 pub mod SystemDue
 mod Grouping
+mod Having
 mod InstanceRows
 mod Noting

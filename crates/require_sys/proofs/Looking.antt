@@ -11,7 +11,7 @@ use Rattle.class_pool.specs.Found.{is_instance_method, is_instance_row, rows_in}
 use Rattle.class_pool.specs.Hierarchy.{IsClass, superclass}
 use Rattle.class_pool.specs.Ranks.{HasRanks}
 use Rattle.class_pool.specs.Resolution.{is_class_below}
-use Rattle.class_pool.specs.Walk.{each_once, highest, same_class, upwards}
+use Rattle.class_pool.specs.Walk.{each_once, highest, own_superinterfaces, same_class, upwards}
 use Rattle.class_pool.specs.declared.id.ClassId.{ClassId}
 use Rattle.class_pool.specs.declared.id.ClassId.TheVariants.{Lib, Prog}
 use Rattle.class_pool.proofs.Declaring.{superclass_there}
@@ -20,8 +20,9 @@ use Rattle.class_pool.proofs.Climbing.{upwards_step}
 use Rattle.std.proofs.lemmas.Option.{same_Some}
 use Rattle.require_sys.specs.Requires.{is_program}
 use Rattle.require_sys.specs.bodies.Supers.{program_number}
-use Rattle.require_sys.specs.bodies.Tops.{AreAbove, AreGiven, AreTops, HasNoMethod, IsBlank, IsTop}
-use Rattle.require_sys.proofs.TopsLaw.{blank_top, top_itself}
+use Rattle.require_sys.specs.bodies.Tops.{AreAbove, AreGiven, AreLibraryTops, AreTops, HasNoMethod, IsBlank}
+use Rattle.require_sys.specs.bodies.Tops.{IsLibraryTop, IsTop}
+use Rattle.require_sys.proofs.TopsLaw.{blank_top, library_top_itself, library_top_up, top_itself}
 
 -- each class for itself
 pub own_are : (numbers : List ℕ) (bound k : ℕ) → length numbers ≡ k → bound ≤ k → k ≤ bound
@@ -41,6 +42,11 @@ own_given Is bound numbers itself own = record {
 pub own_tops : (classes : List Class) (numbers : List ℕ) → AreGiven (λ n x. x ≡ n) (length classes) numbers
     → AreTops classes numbers
 own_tops classes numbers own = own_given (IsTop classes) (length classes) numbers (top_itself classes) own
+
+pub own_library_tops : (classes : List Class) (numbers : List ℕ) → AreGiven (λ n x. x ≡ n) (length classes) numbers
+    → AreLibraryTops classes numbers
+own_library_tops classes numbers own =
+    own_given (IsLibraryTop classes) (length classes) numbers (library_top_itself classes) own
 
 above_itself : (classes : List Class) (n : ℕ) → is_class_below classes (Prog n) (Prog n) ≡ true
 above_itself classes n =
@@ -107,6 +113,11 @@ pub top_put : (classes : List Class) (old new : List ℕ) (i t : ℕ) → AreTop
     → IsTop classes i t → new ≡ set old i t → AreTops classes new
 top_put classes old new i t are i-in top put = given_put (IsTop classes) (length classes) old new i t are i-in top put
 
+pub library_top_put : (classes : List Class) (old new : List ℕ) (i t : ℕ) → AreLibraryTops classes old
+    → i < length classes → IsLibraryTop classes i t → new ≡ set old i t → AreLibraryTops classes new
+library_top_put classes old new i t are i-in top put =
+    given_put (IsLibraryTop classes) (length classes) old new i t are i-in top put
+
 pub above_put : (classes : List Class) (old new : List ℕ) (i t : ℕ) → AreAbove classes old → i < length classes
     → is_class_below classes (Prog t) (Prog i) ≡ true → new ≡ set old i t → AreAbove classes new
 above_put classes old new i t are i-in above put =
@@ -147,6 +158,15 @@ pub top_above : (classes : List Class) (r : HasRanks classes) (tops : List ℕ) 
     → IsTop classes n (get_or tops p 0)
 top_above classes r tops n p o few n-in are up is blank =
     blank_top classes r n p few n-in (above_is (superclass classes (Prog n)) p (sym is ∙ up)) blank (get_or tops p 0)
+    (are.each p (above_there classes n p o up is))
+
+-- where the class has no superinterface
+pub library_top_above : (classes : List Class) (r : HasRanks classes) (tops : List ℕ) (n p : ℕ) (o : Option ℕ)
+    → length classes ≤ 4294967295 → n < length classes → AreLibraryTops classes tops
+    → o ≡ program_number (superclass classes (Prog n)) → o ≡ Some p → own_superinterfaces classes (Prog n) ≡ []
+    → IsLibraryTop classes n (get_or tops p 0)
+library_top_above classes r tops n p o few n-in are up is own =
+    library_top_up classes r n p few n-in (above_is (superclass classes (Prog n)) p (sym is ∙ up)) own (get_or tops p 0)
     (are.each p (above_there classes n p o up is))
 
 -- it has no superinterface where none comes once

@@ -34,7 +34,7 @@ use Rattle.require_sys.specs.Requires.{class_number, methods_above, pair_from, p
 use Rattle.class_pool.specs.Items.{item_of}
 use Rattle.require_sys.specs.bodies.Selecting.{called_item, pair_with, pairs_in}
 use Rattle.require_sys.specs.bodies.Supers.{is_library}
-use Rattle.require_sys.specs.bodies.Tops.{HasNoMethod, IsBlank, IsTop}
+use Rattle.require_sys.specs.bodies.Tops.{HasNoMethod, IsBlank, IsLibraryTop, IsTop}
 use Rattle.require_sys.proofs.Meeting.{library_once}
 use Rattle.require_sys.proofs.SupersLaw.{flat_filtered, flat_of}
 
@@ -137,7 +137,24 @@ module _ (classes : List Class) (r : HasRanks classes) (n p : ℕ) (few : length
         ∙ ap first (overriding_later m own rest one none) in
         λ i. if is_interface_in classes m.class then interface i else class i
 
--- ---- a class without superinterfaces of its own too
+-- ---- a class without superinterfaces of its own
+
+module _ (classes : List Class) (r : HasRanks classes) (n p : ℕ) (few : length classes ≤ 4294967295)
+    (n-in : n < length classes) (super : superclass classes (Prog n) ≡ Some (Prog p))
+    (own : own_superinterfaces classes (Prog n) ≡ []) where
+  same_libraries : library_supers classes (Prog n) ≡ library_supers classes (Prog p)
+  same_libraries =
+      library_once classes n
+      ∙ ap (λ cs. each_once [] (filter is_library (cs ++ flat_map (own_superinterfaces classes) cs)))
+      (chain_up classes r n p few n-in super)
+      ∙ ap (λ t. each_once [] (filter is_library (superclasses_from classes (Prog p)
+      ++ (t ++ superinterfaces classes (Prog p))))) own
+      ∙ sym (library_once classes p)
+
+  pub library_top_up : (t : ℕ) → IsLibraryTop classes p t → IsLibraryTop classes n t
+  library_top_up t top = record { there = top.there; same = same_libraries ∙ top.same }
+
+-- ---- one without instance methods and without superinterfaces of its own
 
 module _ (classes : List Class) (r : HasRanks classes) (n p : ℕ) (few : length classes ≤ 4294967295)
     (n-in : n < length classes) (super : superclass classes (Prog n) ≡ Some (Prog p)) (blank : IsBlank classes n p)
@@ -152,12 +169,7 @@ module _ (classes : List Class) (r : HasRanks classes) (n p : ℕ) (few : length
     -- ---- where the library calls
 
     libraries : library_supers classes (Prog n) ≡ library_supers classes (Prog p)
-    libraries =
-        library_once classes n
-        ∙ ap (λ cs. each_once [] (filter is_library (cs ++ flat_map (own_superinterfaces classes) cs))) up
-        ∙ ap (λ t. each_once [] (filter is_library (superclasses_from classes (Prog p)
-        ++ (t ++ superinterfaces classes (Prog p))))) blank.own
-        ∙ sym (library_once classes p)
+    libraries = same_libraries classes r n p few n-in super blank.own
 
     called : filter_map (called_item classes n) (instance_methods classes (library_supers classes (Prog n)))
         ≡ filter_map (called_item classes p) (instance_methods classes (library_supers classes (Prog p)))
@@ -304,3 +316,6 @@ module _ (classes : List Class) (r : HasRanks classes) (n p : ℕ) (few : length
 -- a class for itself
 pub top_itself : (classes : List Class) (n : ℕ) → n < length classes → IsTop classes n n
 top_itself classes n n-in = record { there = n-in; called = refl; pairs = λ own. refl }
+
+pub library_top_itself : (classes : List Class) (n : ℕ) → n < length classes → IsLibraryTop classes n n
+library_top_itself classes n n-in = record { there = n-in; same = refl }

@@ -2,22 +2,24 @@
 //
 // Methods of one name and descriptor have one mark. Where other methods have that mark too, or two methods of one
 // class, their group is mixed, and nothing is known of them.
-ghost use Rattle.std.specs.Prelude.{◌≡◌, ◌+◌, ◌<◌, IfOk, IfSome, IsTrue, Some, length, map, slice_get};
+ghost use Rattle.std.specs.Prelude.{◌≡◌, ◌+◌, ◌<◌, IfOk, IfSome, IsTrue, Some, false, length, map, slice_get};
 ghost use Rattle.std.specs.Prelude.{slice_index_or};
 ghost use Rattle.std.specs.List.Sorted.{IsSorted};
 ghost use Rattle.std.specs.Ordering.{nat_cmp};
 ghost use Rattle.jv_base.specs.Types.{method_text};
-ghost use Rattle.class_pool.specs.Found.{IsMethod, named_at};
-ghost use Rattle.class_pool.specs.declared.id.ClassId.TheVariants.{Prog};
+ghost use Rattle.class_pool.specs.Found.{IsMember, IsMethod, named_at};
+ghost use Rattle.class_pool.specs.declared.id.ClassId.TheVariants.{Lib, Prog};
 ghost use Rattle.class_pool.specs.declared.id.MemberAt.{MemberAt};
-ghost use Rattle.require_sys.specs.bodies.Alike.{AreAlike, AreClassGrouped, AreGrouped, Knows, KnowsEarlier};
-ghost use Rattle.require_sys.specs.bodies.Alike.{StillKnow, class_marks, marked_number, place_of};
+ghost use Rattle.require_sys.specs.bodies.Alike.{AreAlike, AreClassGrouped, AreGrouped, ArePlaced, HasNone, Knows};
+ghost use Rattle.require_sys.specs.bodies.Alike.{KnowsEarlier, StillKnow, class_marks, marked_number, place_of};
+ghost use Rattle.require_sys.specs.bodies.Alone.{AreNone};
 ghost use Rattle.require_sys.specs.declared.alike.Group.TheVariants.{Mixed, Of};
 
 use crate::marks::method_mark;
 use class_model::{Class, Method};
 use class_pool::ClassSet;
 use jv_base::{FieldType, Items, M};
+use lib_table::{LibId, lib_is};
 use std::alloc::Global;
 
 /// What is known of the methods that have one mark.
@@ -38,7 +40,7 @@ pub(crate) struct Alike<'a> {
     pub set: &'a ClassSet,
     /// For each class the marks of its methods.
     pub marks: Items<Items<u64>>,
-    /// The marks of all methods, ascending, each once.
+    /// The marks of all methods, ascending, each once, and behind them the highest one.
     keys: Vec<u64>,
     /// At the place of each mark what is known of its methods.
     groups: Vec<Group<'a>>,
@@ -76,6 +78,54 @@ impl<'a> Alike<'a> {
             _ => 0,
         }
     }
+
+    /// Whether a class of the set may have a method with the name and the descriptor of one of the library. Each group
+    /// is asked once.
+    pub fn may_have(&self, id: LibId, at: u32) -> bool
+        requires alike { AreAlike self.now.set.now self.now.marks self.now.keys.items self.now.groups.items }
+        requires there { IsMember self.now.set.now (record { class = Lib id; index = at }) }
+        requires method { IsMethod self.now.set.now (record { class = Lib id; index = at }) }
+        ensures { result ≡ false → AreNone self.now.set.now
+            (named_at self.now.set.now (record { class = Lib id; index = at })) (length self.now.set.now) }
+    {
+        if !self.has_places() {
+            return true;
+        }
+        for group in self.groups.as_slice() {
+            if may_be_in(self.set, group, id, at) {
+                return true;
+            }
+        }
+        false
+    }
+
+    /// Whether it is known that each mark has a group: the highest one does.
+    fn has_places(&self) -> bool
+        ensures { IsTrue result → ArePlaced self.now.keys.items self.now.groups.items }
+    {
+        let count = self.groups.len();
+        if count == 0 {
+            return false;
+        }
+        if count > self.keys.len() {
+            return false;
+        }
+        self.keys[count - 1] == u64::MAX
+    }
+}
+
+/// Whether a group may have a method with the name and the descriptor of one of the library.
+fn may_be_in(set: &ClassSet, group: &Group, id: LibId, at: u32) -> bool
+    requires method { IsMethod set.now (record { class = Lib id; index = at }) }
+    ensures { result ≡ false
+        → HasNone set.now (named_at set.now (record { class = Lib id; index = at })) group.now }
+{
+    let _ = set;
+    match group {
+        Group::None => false,
+        Group::Of(one, _) => lib_is(id, at, &one.name, &one.ty),
+        Group::Mixed => true,
+    }
 }
 
 /// For each class the marks of its methods.
@@ -100,7 +150,7 @@ fn class_marks(alloc: Global, class: &Class) -> M<Items<u64>>
     Ok(marks)
 }
 
-/// All marks, ascending, each once.
+/// All marks and the highest one, ascending, each once.
 fn keys_of(alloc: Global, marks: &[Items<u64>]) -> M<Vec<u64>>
     ensures { IfOk result (λ keys. IsSorted nat_cmp keys.items) }
 {
@@ -108,6 +158,7 @@ fn keys_of(alloc: Global, marks: &[Items<u64>]) -> M<Vec<u64>>
     for list in marks {
         keys.extend_from_slice(list.as_slice())?;
     }
+    keys.push(u64::MAX)?;
     keys.sort_unstable();
     keys.dedup();
     Ok(keys)

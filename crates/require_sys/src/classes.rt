@@ -111,7 +111,7 @@ fn want_called(alloc: Global, wants: &mut Wants<'_>, number: u32, class: &Class)
         return Ok(());
     }
     let top = wants.top(number);
-    let libraries = library_supers(alloc, wants.set(), top)?;
+    let libraries = library_supers(alloc, wants.set(), wants.library_top(top))?;
     want_called_by(wants, top, libraries.as_slice())
 }
 

@@ -25,6 +25,7 @@ pub(crate) fn no_notes(alloc: Global, highest: usize) -> M<Vec<Note>>
     let row = InstanceMethod {
         class: 0,
         index: 0,
+        item: 0,
         openness: Openness::Private,
         number: 0,
     };

@@ -1,18 +1,16 @@
 // The items of a set by their numbers.
-ghost use Rattle.std.specs.Prelude.{◌≡◌, ◌+◌, ◌<◌, IfOk, IfSome, IsTrue, Some, false, length, slice_get};
+ghost use Rattle.std.specs.Prelude.{◌≡◌, ◌+◌, ◌<◌, IfOk, IsTrue, Some, false, length, slice_get};
 ghost use Rattle.std.specs.Option.{ForSome};
 ghost use Rattle.class_pool.specs.Count.{item_count};
 ghost use Rattle.class_pool.specs.Found.{IsMember};
-ghost use Rattle.class_pool.specs.Hierarchy.{IsClass};
 ghost use Rattle.class_pool.specs.Items.{class_item, item_of};
 ghost use Rattle.class_pool.specs.declared.id.ClassId.TheVariants.{Prog};
 ghost use Rattle.require_sys.specs.bodies.Alone.{AreAlone, IsAlone};
 ghost use Rattle.require_sys.specs.bodies.Starts.{AreStarts};
-ghost use Rattle.require_sys.specs.bodies.Tops.{AreTops, IsTop};
+ghost use Rattle.require_sys.specs.bodies.Tops.{AreLibraryTops, AreTops, IsLibraryTop, IsTop};
 
-use crate::calls::declared_of;
 use crate::supers::is_same_class;
-use crate::tops::tops_of;
+use crate::tops::{Tops, tops_of};
 use class_pool::{ClassId, ClassSet, MemberAt};
 use jv_base::{Items, M};
 use std::alloc::Global;
@@ -26,24 +24,28 @@ pub(crate) struct Numbered<'a> {
     /// Object, where its name leads to a class.
     object: Option<ClassId>,
     /// For each member of Object whether a class of the set may have one with its name and descriptor.
-    declared: Items<bool>,
-    /// For each class one in which the same methods run.
-    tops: Vec<u32>,
-    ghost alone: { ForSome object (λ class. AreAlone set.now class declared) },
+    declared: &'a [bool],
+    tops: Tops,
+    ghost alone: { ForSome object (λ class. AreAlone set.now class declared.now) },
     ghost few: { item_count set.now < 4294967295 },
     ghost are: { AreStarts set.now starts },
-    ghost same: { AreTops set.now tops.items },
+    ghost same: { AreTops set.now tops.methods.items },
+    ghost libraries: { AreLibraryTops set.now tops.libraries.items },
 }
 
 impl<'a> Numbered<'a> {
     /// Numbers the items of a set, once for all look-ups.
-    pub fn of(alloc: Global, set: &'a ClassSet) -> M<Self>
+    pub fn of(
+        alloc: Global,
+        set: &'a ClassSet,
+        object: Option<ClassId>,
+        declared: &'a [bool],
+    ) -> M<Self>
+        requires { ForSome object (λ class. AreAlone set.now class declared.now) }
         ensures { IfOk result (λ numbered. numbered.set.now ≡ set.now) }
     {
         set.few_items();
         let starts = starts_of(alloc, set)?;
-        let object = set.object();
-        let declared = declared_by_others(alloc, set, &object)?;
         let tops = tops_of(alloc, set)?;
         Ok(Numbered {
             set,
@@ -67,8 +69,7 @@ impl<'a> Numbered<'a> {
     {
         match &self.object {
             Some(object) => {
-                is_same_class(object, &member.class)
-                    && is_false(self.declared.as_slice(), member.index)
+                is_same_class(object, &member.class) && is_false(self.declared, member.index)
             }
             None => false,
         }
@@ -79,7 +80,15 @@ impl<'a> Numbered<'a> {
         requires { number < length self.now.set.now }
         ensures { IsTop self.now.set.now number result }
     {
-        self.tops[number as usize]
+        self.tops.methods[number as usize]
+    }
+
+    /// A class above which the same classes of the library are: the class itself, or one above it.
+    pub fn library_top(&self, number: u32) -> u32
+        requires { number < length self.now.set.now }
+        ensures { IsLibraryTop self.now.set.now number result }
+    {
+        self.tops.libraries[number as usize]
     }
 
     /// The item of a class of the set.
@@ -107,27 +116,6 @@ impl<'a> Numbered<'a> {
             ClassId::Prog(number) => Some(self.member_item(number, member.index)),
             ClassId::Lib(_) => None,
         }
-    }
-}
-
-fn declared_by_others(alloc: Global, set: &ClassSet, object: &Option<ClassId>) -> M<Items<bool>>
-    requires { IfSome object.now (IsClass set.now) }
-    ensures { IfOk result (λ flags. ForSome object.now (λ class. AreAlone set.now class flags)) }
-{
-    match object {
-        Some(class) => declared_of_class(alloc, set, class),
-        None => Ok(Items::new(alloc)),
-    }
-}
-
-/// A class of the set is asked for no method of the library.
-fn declared_of_class(alloc: Global, set: &ClassSet, class: &ClassId) -> M<Items<bool>>
-    requires { IsClass set.now class.now }
-    ensures { IfOk result (AreAlone set.now class.now) }
-{
-    match class {
-        ClassId::Lib(id) => declared_of(alloc, set, *id),
-        ClassId::Prog(_) => Ok(Items::new(alloc)),
     }
 }
 

@@ -2,21 +2,21 @@
 ghost use Rattle.std.specs.Prelude.{◌≡◌, ◌+◌, ◌<◌, [], IfOk, OnOk, Some, if◌then◌else◌, length, map, slice_get};
 ghost use Rattle.std.specs.Prelude.{slice_index_or, true};
 ghost use Rattle.std.specs.List.{All, cons_option, filter, filter_map, flat_map};
-ghost use Rattle.class_pool.specs.Found.{IsMember};
+ghost use Rattle.class_pool.specs.Found.{IsMember, same_member};
 ghost use Rattle.class_pool.specs.Hierarchy.{IsClass};
 ghost use Rattle.class_pool.specs.Resolution.{is_class_below};
 ghost use Rattle.class_pool.specs.Walk.{superclasses_from};
 ghost use Rattle.class_pool.specs.declared.id.ClassId.TheVariants.{Prog};
 ghost use Rattle.require_sys.specs.Requires.{class_pairs, is_inheritable, pair_of};
-ghost use Rattle.require_sys.specs.bodies.Above.{IsAbove, IsReceiver};
-ghost use Rattle.require_sys.specs.bodies.Alike.{AreRows, member_at};
+ghost use Rattle.require_sys.specs.bodies.Above.{IsAbove, IsClassAbove, IsReceiver};
+ghost use Rattle.require_sys.specs.bodies.Alike.{AreRows, HasItem, member_at};
 ghost use Rattle.require_sys.specs.bodies.Counting.{AddsPairs, HasPairs};
 ghost use Rattle.require_sys.specs.bodies.Nearest.{IsListed, is_hidden};
 ghost use Rattle.require_sys.specs.bodies.Selecting.{all_pairs, pair_with, pairs_in};
 ghost use Rattle.require_sys.specs.bodies.Tops.{AreAbove};
 
 use crate::limits::Counted;
-use crate::methods::{InstanceMethod, Methods, Openness, methods_of};
+use crate::methods::{InstanceMethod, Methods, Openness};
 use crate::nearest::{Note, no_notes, note_chain};
 use crate::numbered::Numbered;
 use crate::receiver::{Receiver, member_of};
@@ -43,10 +43,12 @@ impl Pairs {
         let Some(pair) = pair else {
             return Ok(());
         };
-        self.count = self.count.saturating_add(1);
-        if self.count <= Counted::Pairs.limit() {
-            self.pairs.push(pair)?;
+        if self.count >= Counted::Pairs.limit() {
+            self.count = self.count.saturating_add(1);
+            return Ok(());
         }
+        self.count += 1;
+        self.pairs.push(pair)?;
         Ok(())
     }
 }
@@ -60,8 +62,20 @@ struct Above {
     notes: Vec<Note>,
 }
 
+/// A class above the one whose pairs are found.
+#[derive(Drop)]
+struct ClassAbove {
+    number: u32,
+    /// Whether it is known to be a superclass.
+    is_known: bool,
+    /// The number and the item of the class whose pairs are found.
+    own: u32,
+    item: u32,
+}
+
 /// The pairs of all classes, in the order of the set.
-pub(crate) fn pairs_of(alloc: Global, numbered: &Numbered) -> M<Pairs>
+pub(crate) fn pairs_of(alloc: Global, numbered: &Numbered, methods: &Methods) -> M<Pairs>
+    requires { AreRows numbered.now.set.now methods.now.of_classes }
     ensures { IfOk result (HasPairs (all_pairs numbered.now.set.now)) }
 {
     let set = numbered.set;
@@ -69,12 +83,11 @@ pub(crate) fn pairs_of(alloc: Global, numbered: &Numbered) -> M<Pairs>
         pairs: Items::new(alloc),
         count: 0,
     };
-    let methods = methods_of(alloc, set)?;
     let mut above = nothing_above(alloc, set, methods.highest)?;
     for number in 0..set.len() {
         let class = set.class(number);
         add_class(
-            alloc, numbered, &methods, &mut above, number, class, &mut pairs,
+            alloc, numbered, methods, &mut above, number, class, &mut pairs,
         )?;
     }
     Ok(pairs)
@@ -210,27 +223,31 @@ fn add_of(receiver: &Receiver, number: u32, above: &u32, pairs: &mut Pairs) -> M
         (pairs_in receiver.now.numbered.now.set.now number receiver.now.class (Prog above.now)) pairs.new) }
 {
     let rows = &receiver.table[*above as usize];
-    add_rows(receiver, number, *above, rows.as_slice(), pairs)
+    let class = ClassAbove {
+        number: *above,
+        is_known: receiver.is_above(*above),
+        own: number,
+        item: receiver.numbered.class_item(number),
+    };
+    add_rows(receiver, &class, rows.as_slice(), pairs)
 }
 
 /// Those of a class with the methods of one class above it.
 fn add_rows(
     receiver: &Receiver,
-    number: u32,
-    above: u32,
+    class: &ClassAbove,
     rows: &[InstanceMethod],
     pairs: &mut Pairs,
 ) -> M<()>
     requires receiver { IsReceiver receiver.now }
-    requires there { number < length receiver.now.numbered.now.set.now }
-    requires above { above < length receiver.now.numbered.now.set.now }
-    requires rows { rows.now ≡ slice_index_or receiver.now.table.now above [] }
+    requires above { IsClassAbove receiver.now class.now }
+    requires rows { rows.now ≡ slice_index_or receiver.now.table.now class.now.number [] }
     ensures { OnOk result (AddsPairs pairs.old
-        (filter_map (pair_with receiver.now.numbered.now.set.now number receiver.now.class)
+        (filter_map (pair_with receiver.now.numbered.now.set.now class.now.own receiver.now.class)
         (filter (is_inheritable receiver.now.numbered.now.set.now) (map member_at rows.now))) pairs.new) }
 {
     for row in rows {
-        add_row(receiver, number, above, row, pairs)?;
+        add_row(receiver, class, row, pairs)?;
     }
     Ok(())
 }
@@ -238,24 +255,22 @@ fn add_rows(
 /// That of a class with a method above it, if this may be inherited.
 fn add_row(
     receiver: &Receiver,
-    number: u32,
-    above: u32,
+    class: &ClassAbove,
     row: &InstanceMethod,
     pairs: &mut Pairs,
 ) -> M<()>
     requires receiver { IsReceiver receiver.now }
-    requires there { number < length receiver.now.numbered.now.set.now }
-    requires above { above < length receiver.now.numbered.now.set.now }
-    requires row { IsListed receiver.now.table.now above row.now }
+    requires above { IsClassAbove receiver.now class.now }
+    requires row { IsListed receiver.now.table.now class.now.number row.now }
     ensures { OnOk result (AddsPairs pairs.old
         (if is_inheritable receiver.now.numbered.now.set.now (member_at row.now)
-        then cons_option (pair_with receiver.now.numbered.now.set.now number receiver.now.class (member_at row.now)) []
-        else []) pairs.new) }
+        then cons_option (pair_with receiver.now.numbered.now.set.now class.now.own receiver.now.class
+        (member_at row.now)) [] else []) pairs.new) }
 {
     if is_hidden(row) {
         return Ok(());
     }
-    pairs.add(pair_with(receiver, number, above, row))
+    pairs.add(pair_with(receiver, class, row))
 }
 
 /// Whether no other class has a method.
@@ -267,15 +282,59 @@ fn is_hidden(row: &InstanceMethod) -> bool
 
 /// What a class and a method above it need together: the method that runs where that one is called on an object of
 /// the class, where it is another one of the program.
-fn pair_with(receiver: &Receiver, number: u32, above: u32, row: &InstanceMethod) -> Option<Pair>
+fn pair_with(receiver: &Receiver, class: &ClassAbove, row: &InstanceMethod) -> Option<Pair>
     requires receiver { IsReceiver receiver.now }
-    requires there { number < length receiver.now.numbered.now.set.now }
-    requires above { above < length receiver.now.numbered.now.set.now }
-    requires row { IsListed receiver.now.table.now above row.now }
-    ensures { result ≡ pair_with receiver.now.numbered.now.set.now number receiver.now.class (member_at row.now) }
+    requires above { IsClassAbove receiver.now class.now }
+    requires row { IsListed receiver.now.table.now class.now.number row.now }
+    ensures { result
+        ≡ pair_with receiver.now.numbered.now.set.now class.now.own receiver.now.class (member_at row.now) }
 {
-    match &receiver.selected(above, row) {
-        Some(selected) => pair_of(receiver.numbered, number, &member_of(row), selected),
+    match receiver.known(class.number, class.is_known, row) {
+        Some(found) => pair_of_rows(receiver, class, row, &found),
+        None => pair_selected(receiver, class, row),
+    }
+}
+
+/// The same with the method of another row.
+fn pair_of_rows(
+    receiver: &Receiver,
+    class: &ClassAbove,
+    row: &InstanceMethod,
+    found: &InstanceMethod,
+) -> Option<Pair>
+    requires above { IsClassAbove receiver.now class.now }
+    requires row { HasItem receiver.now.numbered.now.set.now row.now }
+    requires found { HasItem receiver.now.numbered.now.set.now found.now }
+    ensures { result
+        ≡ pair_of receiver.now.numbered.now.set.now (Prog class.now.own) (member_at row.now) (member_at found.now) }
+{
+    let _ = receiver;
+    if is_same_row(found, row) {
+        return None;
+    }
+    Some(Pair {
+        one: class.item,
+        two: row.item,
+        derived: found.item,
+    })
+}
+
+fn is_same_row(one: &InstanceMethod, other: &InstanceMethod) -> bool
+    ensures { result ≡ same_member (member_at one.now) (member_at other.now) }
+{
+    one.class == other.class && one.index == other.index
+}
+
+/// The same with the method that is found by its name and descriptor.
+fn pair_selected(receiver: &Receiver, class: &ClassAbove, row: &InstanceMethod) -> Option<Pair>
+    requires receiver { IsReceiver receiver.now }
+    requires above { IsClassAbove receiver.now class.now }
+    requires row { IsListed receiver.now.table.now class.now.number row.now }
+    ensures { result
+        ≡ pair_with receiver.now.numbered.now.set.now class.now.own receiver.now.class (member_at row.now) }
+{
+    match &receiver.selected(class.number, row) {
+        Some(selected) => pair_of(receiver.numbered, class.own, &member_of(row), selected),
         None => None,
     }
 }

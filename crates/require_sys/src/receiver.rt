@@ -8,7 +8,7 @@ ghost use Rattle.class_pool.specs.Resolution.{is_class_below};
 ghost use Rattle.class_pool.specs.Selection.{selected};
 ghost use Rattle.class_pool.specs.declared.id.ClassId.TheVariants.{Prog};
 ghost use Rattle.require_sys.specs.bodies.Above.{IsReceiver};
-ghost use Rattle.require_sys.specs.bodies.Alike.{member_at};
+ghost use Rattle.require_sys.specs.bodies.Alike.{HasItem, member_at};
 ghost use Rattle.require_sys.specs.bodies.Nearest.{IsListed, Runs, is_overriding};
 
 use crate::methods::{InstanceMethod, Openness};
@@ -34,7 +34,8 @@ pub(crate) struct Receiver<'a> {
 }
 
 impl<'a> Receiver<'a> {
-    /// The method that runs where that of a row of a class is called on an object of the class.
+    /// The method that runs where that of a row of a class is called on an object of the class, by its name and its
+    /// descriptor.
     pub fn selected(&self, above: u32, row: &InstanceMethod) -> Option<MemberAt>
         requires receiver { IsReceiver self.now }
         requires above { above < length self.now.numbered.now.set.now }
@@ -42,26 +43,25 @@ impl<'a> Receiver<'a> {
         ensures is { result ≡ selected self.now.numbered.now.set.now (Prog self.now.class) (member_at row.now) }
         ensures there { IfSome result (IsMember self.now.numbered.now.set.now) }
     {
-        match &self.known(above, row) {
-            Some(found) => Some(member_of(found)),
-            None => select(self.numbered.set, ClassId::Prog(self.class), member_of(row)),
-        }
+        select(self.numbered.set, ClassId::Prog(self.class), member_of(row))
     }
 
-    /// The same, where the notes tell it.
-    fn known(&self, above: u32, row: &InstanceMethod) -> Option<InstanceMethod>
+    /// The same, where the notes tell it. It is told whether the class of the row is known to be above.
+    pub fn known(&self, above: u32, is_above: bool, row: &InstanceMethod) -> Option<InstanceMethod>
         requires receiver { IsReceiver self.now }
         requires above { above < length self.now.numbered.now.set.now }
+        requires is_above { IsTrue is_above
+            → is_class_below self.now.numbered.now.set.now (Prog self.now.class) (Prog above) ≡ true }
         requires row { IsListed self.now.table.now above row.now }
         ensures is { IfSome result (λ found. selected self.now.numbered.now.set.now (Prog self.now.class)
             (member_at row.now) ≡ Some (member_at found)) }
-        ensures there { IfSome result (λ found. IsMember self.now.numbered.now.set.now (member_at found)) }
+        ensures item { IfSome result (HasItem self.now.numbered.now.set.now) }
     {
         if row.number == 0 {
             return None;
         }
         let nearest = noted(self.notes, self.stamp, row.number)?;
-        if self.runs(row, &nearest) {
+        if self.runs(is_above, row, &nearest) {
             Some(nearest)
         } else {
             None
@@ -69,21 +69,22 @@ impl<'a> Receiver<'a> {
     }
 
     /// Whether it is known that the nearest method of its name and descriptor runs where that of a row is called.
-    fn runs(&self, row: &InstanceMethod, nearest: &InstanceMethod) -> bool
-        requires receiver { IsReceiver self.now }
-        requires row { row.now.class < length self.now.numbered.now.set.now }
+    fn runs(&self, is_above: bool, row: &InstanceMethod, nearest: &InstanceMethod) -> bool
+        requires is_above { IsTrue is_above
+            → is_class_below self.now.numbered.now.set.now (Prog self.now.class) (Prog row.now.class) ≡ true }
         ensures { IsTrue result → Runs self.now.numbered.now.set.now self.now.class row.now nearest.now }
     {
+        let _ = self.numbered;
         nearest.class == row.class
             || match row.openness {
                 Openness::Abstract => true,
-                Openness::Open => is_overriding(nearest) && self.is_above(row.class),
+                Openness::Open => is_overriding(nearest) && is_above,
                 Openness::Package | Openness::Private => false,
             }
     }
 
     /// Whether it is known that a class is the one of the receiver or a superclass of it.
-    fn is_above(&self, class: u32) -> bool
+    pub fn is_above(&self, class: u32) -> bool
         requires receiver { IsReceiver self.now }
         requires class { class < length self.now.numbered.now.set.now }
         ensures { IsTrue result

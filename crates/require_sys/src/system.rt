@@ -5,12 +5,14 @@ ghost use Rattle.mark_core.specs.Valid.{Valid};
 ghost use Rattle.class_pool.specs.Count.{item_count};
 ghost use Rattle.require_sys.specs.Required.{limited_lists, need_count, system_due, within_limit};
 ghost use Rattle.require_sys.specs.Requires.{requires};
+ghost use Rattle.require_sys.specs.bodies.Alike.{AreRows};
 ghost use Rattle.require_sys.specs.bodies.Asked.{AreMembers};
 ghost use Rattle.require_sys.specs.bodies.Selecting.{all_pairs};
 ghost use Rattle.require_sys.specs.declared.limits.Counted.TheVariants as counted;
 
 use crate::kept::{KeptByRules, kept_by_rules};
 use crate::limits::{Counted, TooMany};
+use crate::methods::{Methods, methods_of};
 use crate::needs::needs_of;
 use crate::numbered::Numbered;
 use crate::pairs::pairs_of;
@@ -30,24 +32,28 @@ pub fn system_of(alloc: Global, set: &ClassSet, rules: &Rules) -> Result<System,
     ensures exact { IsDue result (system_due set.now rules.now) }
     ensures valid { IfOk result Valid }
 {
-    let numbered = Numbered::of(alloc, set)?;
+    let object = set.object();
+    let methods = methods_of(alloc, set, &object)?;
+    let numbered = Numbered::of(alloc, set, object, methods.declared.as_slice())?;
     within(Counted::Items, u64::from(numbered.count()))?;
     let kept = kept_by_rules(alloc, set, rules)?;
-    limited_system(alloc, &numbered, &kept)
+    limited_system(alloc, &numbered, &methods, &kept)
 }
 
 /// The system, where it has no more needs and pairs than it may.
 fn limited_system(
     alloc: Global,
     numbered: &Numbered,
+    methods: &Methods,
     kept: &KeptByRules,
 ) -> Result<System, Or<TooMany>>
+    requires methods { AreRows numbered.now.set.now methods.now.of_classes }
     requires few { item_count numbered.now.set.now ≤ 1048576 }
     requires members { AreMembers numbered.now.set.now kept.now.members }
     ensures { IsDue result (limited_lists (requires numbered.now.set.now kept.now)) }
 {
     let needs = limited_needs(alloc, numbered, kept)?;
-    let pairs = limited_pairs(alloc, numbered)?;
+    let pairs = limited_pairs(alloc, numbered, methods)?;
     let seeds = seeds_of(alloc, numbered, kept)?;
     Ok(System {
         n: numbered.count(),
@@ -72,12 +78,17 @@ fn limited_needs(
     Ok(needs.lists)
 }
 
-fn limited_pairs(alloc: Global, numbered: &Numbered) -> Result<Items<Pair>, Or<TooMany>>
-    requires { item_count numbered.now.set.now ≤ 1048576 }
+fn limited_pairs(
+    alloc: Global,
+    numbered: &Numbered,
+    methods: &Methods,
+) -> Result<Items<Pair>, Or<TooMany>>
+    requires methods { AreRows numbered.now.set.now methods.now.of_classes }
+    requires few { item_count numbered.now.set.now ≤ 1048576 }
     ensures { IsDue result (within_limit counted.Pairs (length (all_pairs numbered.now.set.now))
         (Ok (all_pairs numbered.now.set.now))) }
 {
-    let pairs = pairs_of(alloc, numbered)?;
+    let pairs = pairs_of(alloc, numbered, methods)?;
     within(Counted::Pairs, pairs.count)?;
     Ok(pairs.pairs)
 }

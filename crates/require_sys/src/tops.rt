@@ -1,25 +1,39 @@
-// For each class one that stands for it: the class itself, or one above it.
+// For each class those that stand for it: the class itself, or one above it.
 //
 // In a class without instance methods and without superinterfaces of its own the same methods run as in its superclass.
-// In which order classes are looked at is not proved; only speed rests on it.
+// Above a class without superinterfaces of its own the same classes of the library are as above its superclass. In which
+// order classes are looked at is not proved; only speed rests on it.
 ghost use Rattle.std.specs.Prelude.{◌≡◌, ◌<◌, IfOk, IsTrue, false, length};
 ghost use Rattle.std.specs.List.{All};
-ghost use Rattle.require_sys.specs.bodies.Tops.{AreGiven, AreTops, HasNoMethod, IsBlank, IsTop};
+ghost use Rattle.require_sys.specs.bodies.Tops.{AreGiven, AreLibraryTops, AreTops, HasNoMethod, IsBlank};
+ghost use Rattle.require_sys.specs.bodies.Tops.{IsLibraryTop, IsTop};
 
 use crate::supers::{HIGHEST, superclass_number};
 use class_pool::{ClassId, ClassSet, MemberAt};
 use jv_base::M;
 use std::alloc::Global;
 
-/// For each class one in which the same methods run, the topmost that is found.
-pub(crate) fn tops_of(alloc: Global, set: &ClassSet) -> M<Vec<u32>>
-    ensures { IfOk result (λ tops. AreTops set.now tops.items) }
+/// For each class the topmost that are found to stand for it.
+#[derive(Drop)]
+pub(crate) struct Tops {
+    /// One in which the same methods run.
+    pub methods: Vec<u32>,
+    /// One above which the same classes of the library are.
+    pub libraries: Vec<u32>,
+}
+
+pub(crate) fn tops_of(alloc: Global, set: &ClassSet) -> M<Tops>
+    ensures methods { IfOk result (λ tops. AreTops set.now tops.methods.items) }
+    ensures libraries { IfOk result (λ tops. AreLibraryTops set.now tops.libraries.items) }
 {
-    let mut tops = own_numbers(alloc, set)?;
+    let methods = own_numbers(alloc, set)?;
+    let libraries = own_numbers(alloc, set)?;
+    let mut tops = Tops { methods, libraries };
     let mut looked = vec![in alloc; false; set.len() as usize]?;
     for number in 0..set.len() {
         let numbers = others_from(alloc, set, &mut looked, number)?;
-        raise(set, &mut tops, numbers.as_slice());
+        raise(set, &mut tops.methods, numbers.as_slice());
+        raise_libraries(set, &mut tops.libraries, numbers.as_slice());
     }
     Ok(tops)
 }
@@ -77,6 +91,37 @@ fn raise(set: &ClassSet, tops: &mut Vec<u32>, numbers: &[u32])
         let top = top_of(set, tops.as_slice(), number);
         tops[number as usize] = top;
     }
+}
+
+/// The same for the classes of the library.
+fn raise_libraries(set: &ClassSet, tops: &mut Vec<u32>, numbers: &[u32])
+    requires there { All (λ n. n < length set.now) numbers.now }
+    requires tops { AreLibraryTops set.now tops.old.items }
+    ensures { AreLibraryTops set.now tops.new.items }
+{
+    let count = numbers.len();
+    for at in 0..count {
+        let number = numbers[count - 1 - at];
+        let top = library_top_of(set, tops.as_slice(), number);
+        tops[number as usize] = top;
+    }
+}
+
+/// The one of its superclass, where a class has no superinterfaces of its own.
+fn library_top_of(set: &ClassSet, tops: &[u32], number: u32) -> u32
+    requires there { number < length set.now }
+    requires tops { AreLibraryTops set.now tops.now }
+    ensures { IsLibraryTop set.now number result }
+{
+    set.has_ranks();
+    let _count = set.len();
+    let Some(above) = superclass_number(set, number) else {
+        return number;
+    };
+    if set.own_superinterfaces(ClassId::Prog(number)).is_empty() {
+        return tops[above as usize];
+    }
+    number
 }
 
 /// The one of its superclass, where a class is blank.

@@ -7,7 +7,7 @@ ghost use Rattle.require_sys.specs.Requires.Item.{OfClass, OfMember};
 ghost use Rattle.require_sys.specs.bodies.Alone.{IsAlone};
 ghost use Rattle.require_sys.specs.Requires.{numbers};
 ghost use Rattle.require_sys.specs.bodies.Known.{IsBehind, ref_wants, text_wants};
-ghost use Rattle.require_sys.specs.bodies.Tops.{IsTop};
+ghost use Rattle.require_sys.specs.bodies.Tops.{IsLibraryTop, IsTop};
 ghost use Rattle.require_sys.specs.bodies.Wanting.{HasSame, needs_from, wanting, wanting_nothing};
 
 use crate::known::{
@@ -80,6 +80,14 @@ impl<'a> Wants<'a> {
         ensures { IsTrue result → IsAlone self.now.classes member.now }
     {
         self.numbered.is_alone(member)
+    }
+
+    /// A class above which the same classes of the library are as above another one: that class, or one above it.
+    pub fn library_top(&self, number: u32) -> u32
+        requires { number < length self.now.classes }
+        ensures { IsLibraryTop self.now.classes number result }
+    {
+        self.numbered.library_top(number)
     }
 
     /// A class in which the same methods run as in another one: that class, or one above it.

@@ -1,12 +1,15 @@
 -- What is known of the classes above one while the classes are gone over (only the proof of system_of needs it).
-use Rattle.std.specs.Prelude.{ℕ, ◌<◌, List, length}
+use Rattle.std.specs.Prelude.{◌≡◌, ℕ, ◌<◌, true, IsTrue, List, length}
 use Rattle.class_model.specs.declared.class.Class.{Class}
+use Rattle.class_pool.specs.Items.{class_item}
+use Rattle.class_pool.specs.Resolution.{is_class_below}
 use Rattle.class_pool.specs.Walk.{superclasses_from}
 use Rattle.class_pool.specs.declared.id.ClassId.TheVariants.{Prog}
 use Rattle.require_sys.specs.bodies.Alike.{AreRows}
 use Rattle.require_sys.specs.bodies.Nearest.{AreNoted, AreUpTo, front_rows}
 use Rattle.require_sys.specs.bodies.Tops.{AreAbove}
 use Rattle.require_sys.specs.declared.pairs.Above.{Above}
+use Rattle.require_sys.specs.declared.pairs.ClassAbove.{ClassAbove}
 use Rattle.require_sys.specs.declared.receiver.Receiver.{Receiver}
 
 -- each class is one that is given for it or above that, and no note is for a class from this one on
@@ -22,3 +25,11 @@ pub record IsReceiver (receiver : Receiver) : Type 0 where
   pub noted : AreNoted receiver.stamp
       (front_rows receiver.table.now (superclasses_from receiver.numbered.now.set.now (Prog receiver.class)))
       receiver.notes.now
+
+-- it is as it is said of a class above another one, whose pairs are found
+pub record IsClassAbove (receiver : Receiver) (above : ClassAbove) : Type 0 where
+  pub there : above.number < length receiver.numbered.now.set.now
+  pub known : IsTrue above.is_known
+      → is_class_below receiver.numbered.now.set.now (Prog receiver.class) (Prog above.number) ≡ true
+  pub own : above.own < length receiver.numbered.now.set.now
+  pub item : above.item ≡ class_item receiver.numbered.now.set.now above.own

@@ -1,6 +1,6 @@
 -- Methods of one name and descriptor, and the instance methods of each class in a table (only the proof of system_of
 -- needs it).
-use Rattle.std.specs.Prelude.{◌≡◌, ◌≤◌, ◌<◌, ℕ, ◌+◌, true, List, [], length, map, nat_lt, slice_index_or, Option}
+use Rattle.std.specs.Prelude.{◌≡◌, ◌≤◌, ◌<◌, ℕ, ◌+◌, ◌^◌, true, List, [], length, map, nat_lt, slice_index_or, Option}
 use Rattle.std.specs.Prelude.{Some, None, ◌||◌, if◌then◌else◌}
 use Rattle.std.specs.List.{filter, filter_map, prefix_len}
 use Rattle.std.specs.List.Sorted.{IsSorted}
@@ -10,6 +10,7 @@ use Rattle.class_model.specs.declared.class.Method.{Method}
 use Rattle.class_pool.specs.Found.{IsMethod, NameAndType, declared_in, is_instance_method, is_private_member}
 use Rattle.class_pool.specs.Found.{is_protected_member, is_public_member, named_at}
 use Rattle.jv_base.specs.Types.{method_text}
+use Rattle.class_pool.specs.Items.{class_item}
 use Rattle.class_pool.specs.Resolution.{is_interface_in}
 use Rattle.class_pool.specs.declared.id.ClassId.{ClassId}
 use Rattle.class_pool.specs.declared.id.ClassId.TheVariants.{Prog, Lib}
@@ -74,6 +75,14 @@ abbrev pub AreGrouped : List Class → List ℕ → List Group → ℕ → Type 
 AreGrouped classes keys groups count = (n k : ℕ) → n < count
     → IsMethod classes (record { class = Prog n; index = k }) → IsGrouped classes keys groups n k
 
+-- a group has no method of this name and descriptor
+abbrev pub HasNone : List Class → NameAndType → Group → Type 0
+HasNone classes named group = (m : MemberAt) → Knows classes group m → named_at classes m ≡ named → ⊥
+
+-- each mark has the place of a group
+abbrev pub ArePlaced : List ℕ → List Group → Type 0
+ArePlaced keys groups = (mark : ℕ) → mark < 2 ^ 64 → place_of keys mark < length groups
+
 -- of a class its first methods, which stand behind so many fields
 abbrev pub AreClassGrouped : List Class → List ℕ → List Group → ℕ → ℕ → ℕ → Type 0
 AreClassGrouped classes keys groups n fields count = (k : ℕ) → k < count → IsGrouped classes keys groups n (fields + k)
@@ -118,6 +127,7 @@ abbrev pub row_in : List Class → (NameAndType → ℕ) → ℕ → ℕ → Ins
 row_in classes number n k = record {
   class = n;
   index = k;
+  item = class_item classes n + 1 + k;
   openness = openness classes (record { class = Prog n; index = k });
   number = number (named_at classes (record { class = Prog n; index = k }));
 }
@@ -132,9 +142,14 @@ row_of classes number m = of_class m.class m.index where
 abbrev pub member_at : InstanceMethod → MemberAt
 member_at row = record { class = Prog row.class; index = row.index }
 
+-- a row has the item of its method
+abbrev pub HasItem : List Class → InstanceMethod → Type 0
+HasItem classes row = row.item ≡ class_item classes row.class + 1 + row.index
+
 -- a row is that of an instance method of a class
 pub record IsRow (classes : List Class) (number : NameAndType → ℕ) (n : ℕ) (row : InstanceMethod) : Type 0 where
   pub class : row.class ≡ n
+  pub item : HasItem classes row
   pub instance : is_instance_method classes (member_at row) ≡ true
   pub openness : row.openness ≡ openness classes (member_at row)
   pub numbered : row.number ≡ number (named_at classes (member_at row))

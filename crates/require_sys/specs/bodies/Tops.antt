@@ -28,6 +28,11 @@ pub record IsTop (classes : List Class) (n top : ℕ) : Type 0 where
   pub pairs : (own : ℕ) → filter_map (pair_with classes own n) (methods_above classes (Prog n))
       ≡ filter_map (pair_with classes own top) (methods_above classes (Prog top))
 
+-- above two classes the same classes of the library are
+pub record IsLibraryTop (classes : List Class) (n top : ℕ) : Type 0 where
+  pub there : top < length classes
+  pub same : library_supers classes (Prog n) ≡ library_supers classes (Prog top)
+
 -- for each number below a bound there is one that is as it has to be
 pub record AreGiven (Is : ℕ → ℕ → Type 0) (bound : ℕ) (numbers : List ℕ) : Type 0 where
   pub count : length numbers ≡ bound
@@ -36,6 +41,9 @@ pub record AreGiven (Is : ℕ → ℕ → Type 0) (bound : ℕ) (numbers : List 
 -- for each class there is such a class
 abbrev pub AreTops : List Class → List ℕ → Type 0
 AreTops classes tops = AreGiven (IsTop classes) (length classes) tops
+
+abbrev pub AreLibraryTops : List Class → List ℕ → Type 0
+AreLibraryTops classes tops = AreGiven (IsLibraryTop classes) (length classes) tops
 
 -- each class is one that is given for it, or a superclass of that
 abbrev pub AreAbove : List Class → List ℕ → Type 0

@@ -6,5 +6,5 @@ use Rattle.require_sys.proofs.calls.declared_of.Given as goal
 abbrev pub invariant-loop-at : goal.invariant-loop-at
 invariant-loop-at l = record {
   long : length l.flags ≡ l.at;
-  alone : AreAlone l.set (Lib l.id) l.flags;
+  alone : AreAlone l.alike.set.now (Lib l.id) l.flags;
 }

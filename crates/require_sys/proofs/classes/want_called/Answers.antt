@@ -17,7 +17,8 @@ returns c =
     subst (λ (t : List Item). OnOk c.want_called_by.result (c.want_called_by.new.wants ≡ wanting c.args.wants.now t))
     (ap (flat_map (called_by classes top))
     (c.as_slice.ensures.value ∙ c.in_ok-libraries.ensures
-    ∙ ap (λ (cs : List Class). library_supers cs (Prog top)) c.set.ensures)
+    ∙ ap (λ (cs : List Class). library_supers cs (Prog c.library_top.result)) c.set.ensures
+    ∙ sym c.library_top.ensures.same)
     ∙ by_library classes top (supers classes (Prog top))
     ∙ called_is classes c.args.number top c.args.class.now (sym c.is_interface.ensures ∙ c.if-is_interface.false)
     c.top-top.ensures)

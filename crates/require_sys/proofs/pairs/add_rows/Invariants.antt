@@ -8,5 +8,5 @@ use Rattle.require_sys.proofs.pairs.add_rows.Given as goal
 
 abbrev pub invariant-loop-row : goal.invariant-loop-row
 invariant-loop-row l = AddsPairs l.fn.pairs
-    (filter_map (pair_with l.receiver.numbered.now.set.now l.number l.receiver.class)
+    (filter_map (pair_with l.receiver.numbered.now.set.now l.class.own l.receiver.class)
     (filter (is_inheritable l.receiver.numbered.now.set.now) (map member_at (take l.row-index l.rows)))) l.pairs

@@ -18,5 +18,5 @@ returns-in_err-within c =
     subst (λ (r : Result (List Pair) (Or TooMany)). IsDue r
     (within_limit counted.Pairs (length (all_pairs set)) (Ok (all_pairs set)))) (sym same)
     (past counted.Pairs (length (all_pairs set)) c.in_ok-pairs.pairs.count
-    (c.in_ok-pairs.ensures.count (pairs_counted set c.requires)) tt (all_pairs set) c.in_err-within.field-0.0
+    (c.in_ok-pairs.ensures.count (pairs_counted set c.requires.few)) tt (all_pairs set) c.in_err-within.field-0.0
     c.in_err-within.ensures)

@@ -1,9 +1,12 @@
-use Rattle.std.proofs.Common.{rules, ◌≡◌, List, Result, Err, arith, subst, sym, ◌∙◌}
+use Rattle.std.proofs.Common.{rules, ◌≡◌, Bool, List, Result, Err, arith, subst, sym, ◌∙◌}
+use Rattle.std.specs.Option.{ForSome}
 use Rattle.jv_base.specs.Outcome.{IsDue}
 use Rattle.jv_base.specs.declared.outcome.Or.{Or}
 use Rattle.mark_core.specs.declared.system.System.{System}
 use Rattle.class_model.specs.declared.class.Class.{Class}
 use Rattle.require_sys.specs.Required.{system_due}
+use Rattle.require_sys.specs.bodies.Alike.{AreRows}
+use Rattle.require_sys.specs.bodies.Alone.{AreAlone}
 use Rattle.require_sys.specs.bodies.Asked.{AreMembers}
 use Rattle.require_sys.specs.declared.kept.KeptByRules.{KeptByRules}
 use Rattle.require_sys.specs.declared.limits.Counted.TheVariants.{Items}
@@ -20,10 +23,20 @@ returns-in_err-within-clause-exact c =
     (items_fault c.args.set.now _ c.args.rules.now c.from.result tt c.in_err-within.field-0.0 c.in_ok-numbered.ensures
     (count ∙ c.count.ensures) c.in_err-within.ensures)
 
+pub of-requires : goal.of-requires
+of-requires c =
+    subst (λ (flags : List Bool). ForSome c.object-object.result (λ x. AreAlone c.args.set.now x flags))
+    (sym c.as_slice.ensures) c.in_ok-methods.ensures.alone
+
 pub limited_system-requires-clause-few : goal.limited_system-requires-clause-few
 limited_system-requires-clause-few c =
     let low = fits Items _ tt tt c.in_ok-within.ensures in
     omega (arith, low, c.count.ensures)
+
+pub limited_system-requires-clause-methods : goal.limited_system-requires-clause-methods
+limited_system-requires-clause-methods c =
+    subst (λ (set : List Class). AreRows set c.in_ok-methods.methods.of_classes) (sym c.in_ok-numbered.ensures)
+    c.in_ok-methods.ensures.rows
 
 pub limited_system-requires-clause-members : goal.limited_system-requires-clause-members
 limited_system-requires-clause-members c =

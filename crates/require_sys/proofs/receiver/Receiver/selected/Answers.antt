@@ -10,7 +10,7 @@ use Rattle.require_sys.proofs.receiver.Receiver.selected.Goals as goal
 pub select-requires-clause-there : goal.select-requires-clause-there
 select-requires-clause-there c =
     let set = c.args.self.now.numbered.now.set.now in
-    subst (IsMember set) (sym c.member_of-in-None.ensures)
+    subst (IsMember set) (sym c.member_of.ensures)
     (instance_there set c.args.row.now.class c.args.row.now.index
     (listed_row set c.args.self.now.table.now c.requires.receiver.rows c.args.above c.args.row.now c.requires.above
     c.requires.row).instance)
@@ -18,12 +18,12 @@ select-requires-clause-there c =
 pub select-requires-clause-method : goal.select-requires-clause-method
 select-requires-clause-method c =
     let set = c.args.self.now.numbered.now.set.now in
-    subst (IsMethod set) (sym c.member_of-in-None.ensures)
+    subst (IsMethod set) (sym c.member_of.ensures)
     (instance_is_method set (member_at c.args.row.now)
     (listed_row set c.args.self.now.table.now c.requires.receiver.rows c.args.above c.args.row.now c.requires.above
     c.requires.row).instance)
 
-pub returns-in-None-clause-is : goal.returns-in-None-clause-is
-returns-in-None-clause-is c =
+pub returns-clause-is : goal.returns-clause-is
+returns-clause-is c =
     let self = c.args.self.now in
-    c.select.ensures.is ∙ ap (selected self.numbered.now.set.now (Prog self.class)) c.member_of-in-None.ensures
+    c.select.ensures.is ∙ ap (selected self.numbered.now.set.now (Prog self.class)) c.member_of.ensures
