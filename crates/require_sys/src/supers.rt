@@ -18,6 +18,9 @@ use std::alloc::Global;
 /// More than any set has classes, those of the library with them.
 pub(crate) const HIGHEST: u64 = 1 << 33;
 
+/// Few classes have more superclasses; a longer list grows.
+const USUAL: usize = 64;
+
 /// The numbers of the classes of the program above the class with a number, ascending. With it its superclasses are
 /// given.
 pub(crate) fn program_supers(
@@ -62,7 +65,7 @@ pub(crate) fn superclasses_of(alloc: Global, set: &ClassSet, number: u32) -> M<V
     requires { number < length set.now }
     ensures { IfOk result (λ ids. ids.items ≡ superclasses_from set.now (Prog number)) }
 {
-    let mut ids = Vec::new(alloc);
+    let mut ids = Vec::with_capacity(alloc, USUAL)?;
     let mut next = Some(ClassId::Prog(number));
     for _ in 0..HIGHEST {
         let Some(class) = &next else {
@@ -81,7 +84,7 @@ fn others_met(alloc: Global, set: &ClassSet, own: u32, chain: &[ClassId]) -> M<V
     ensures { IfOk result (λ numbers. numbers.items
         ≡ filter_map (other_number own) (chain.now ++ flat_map (own_once set.now) chain.now)) }
 {
-    let mut numbers = Vec::new(alloc);
+    let mut numbers = Vec::with_capacity(alloc, chain.len())?;
     push_others(&mut numbers, own, chain)?;
     push_interfaces(&mut numbers, own, set, chain)?;
     Ok(numbers)

@@ -9,5 +9,5 @@ returns c =
     both_mapped (other_number c.args.own) c.args.chain.now (flat_map (own_once c.args.set.now) c.args.chain.now)
     c.push_others.new.numbers.items c.push_interfaces.new.numbers.items
     (c.in_ok-push_others.ensures
-    ∙ ap (λ (t : List ℕ). t ++ filter_map (other_number c.args.own) c.args.chain.now) c.new-numbers.ensures.items)
+    ∙ ap (λ (t : List ℕ). t ++ filter_map (other_number c.args.own) c.args.chain.now) c.in_ok-numbers.ensures.items)
     c.in_ok-push_interfaces.ensures

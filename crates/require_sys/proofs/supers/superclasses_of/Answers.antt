@@ -14,7 +14,7 @@ loop-init c =
     record {
       there = c.requires;
       ids = ap (λ (t : List ClassId). t ++ option_map_or (upwards (8589934592 - 0) c.args.set.now)
-          (Some (Prog c.args.number)) []) c.new-ids.ensures.items
+          (Some (Prog c.args.number)) []) c.in_ok-ids.ensures.items
           ∙ ap (λ (n : ℕ). option_map_or (upwards n c.args.set.now) (Some (Prog c.args.number)) []) all;
     }
 
