@@ -11,7 +11,7 @@ use Rattle.std.proofs.lemmas.List.Folds.{find-append}
 use Rattle.std.proofs.lemmas.Option.{same_Some, slice_get_within}
 use Rattle.mark_core.specs.declared.system.Pair.{Pair}
 use Rattle.class_model.specs.declared.class.Class.{Class}
-use Rattle.class_pool.specs.Found.{IsMember, IsMethod, MemberRow, NameAndType, declared_by, declared_in}
+use Rattle.class_pool.specs.Found.{IsMember, MemberRow, NameAndType, declared_by, declared_in}
 use Rattle.class_pool.specs.Found.{is_instance_method, same_member}
 use Rattle.class_pool.specs.Found.{is_instance_row, is_private_member, is_protected_member, is_public_member, named_at}
 use Rattle.class_pool.specs.Found.{rows_in}

@@ -12,10 +12,12 @@ use Rattle.require_sys.proofs.pairs.add_row.Goals as goal
 pub returns-then-is_hidden : goal.returns-then-is_hidden
 returns-then-is_hidden c =
     let set = c.args.receiver.now.numbered.now.set.now in
-    let is = listed_row set c.args.receiver.now.table.now c.requires.receiver.rows c.args.class.now.number c.args.row.now
+    let is = listed_row set c.args.receiver.now.table.now c.requires.receiver.rows c.args.class.now.number
+    c.args.row.now
     c.requires.above.there c.requires.row in
     subst (λ (b : Bool). AddsPairs c.args.pairs.now (if b then cons_option
-    (pair_with set c.args.class.now.own c.args.receiver.now.class (member_at c.args.row.now)) [] else []) c.args.pairs.now)
+    (pair_with set c.args.class.now.own c.args.receiver.now.class (member_at c.args.row.now)) [] else [])
+    c.args.pairs.now)
     (sym (inheritable_is set c.requires.receiver.rows.number c.args.class.now.number c.args.row.now is
     ∙ ap not (sym c.is_hidden.ensures ∙ c.if-is_hidden.true)))
     (no_pair c.args.pairs.now)
@@ -23,10 +25,12 @@ returns-then-is_hidden c =
 pub returns : goal.returns
 returns c =
     let set = c.args.receiver.now.numbered.now.set.now in
-    let is = listed_row set c.args.receiver.now.table.now c.requires.receiver.rows c.args.class.now.number c.args.row.now
+    let is = listed_row set c.args.receiver.now.table.now c.requires.receiver.rows c.args.class.now.number
+    c.args.row.now
     c.requires.above.there c.requires.row in
     subst (λ (b : Bool). OnOk c.add.result (AddsPairs c.args.pairs.now (if b then cons_option
-    (pair_with set c.args.class.now.own c.args.receiver.now.class (member_at c.args.row.now)) [] else []) c.add.new.self))
+    (pair_with set c.args.class.now.own c.args.receiver.now.class (member_at c.args.row.now)) [] else [])
+    c.add.new.self))
     (sym (inheritable_is set c.requires.receiver.rows.number c.args.class.now.number c.args.row.now is
     ∙ ap not (sym c.is_hidden.ensures ∙ c.if-is_hidden.false)))
     (subst (λ (p : Option Pair). OnOk c.add.result (AddsPairs c.args.pairs.now (cons_option p []) c.add.new.self))

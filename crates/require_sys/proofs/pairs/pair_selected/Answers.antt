@@ -8,5 +8,5 @@ pair_of-requires-clause-member c =
     let set = c.args.receiver.now.numbered.now.set.now in
     subst (IsMember set) (sym c.member_of.ensures)
     (instance_there set c.args.row.now.class c.args.row.now.index
-    (listed_row set c.args.receiver.now.table.now c.requires.receiver.rows c.args.class.now.number c.args.row.now c.requires.above.there
-    c.requires.row).instance)
+    (listed_row set c.args.receiver.now.table.now c.requires.receiver.rows c.args.class.now.number c.args.row.now
+    c.requires.above.there c.requires.row).instance)
