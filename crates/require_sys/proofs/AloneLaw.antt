@@ -1,5 +1,5 @@
 -- What runs where a method of the library is called that no class of the set has.
-use Rattle.std.proofs.Common.{◌≡◌, ℕ, zero, suc, ◌+◌, ◌-◌, ◌≤◌, ◌<◌, Bool, true, false, cond, List, [], ◌∷◌, ◌++◌}
+use Rattle.std.proofs.Common.{◌≡◌, ℕ, zero, suc, ◌-◌, ◌≤◌, ◌<◌, Bool, true, false, cond, List, [], ◌∷◌, ◌++◌}
 use Rattle.std.proofs.Common.{length, slice_get, is_some, Option, Some, None, IfSome, refl, sym, ap, subst, ◌∙◌}
 use Rattle.std.proofs.Common.{arith, ◌⊎◌, ⊎_elim, inl, inr}
 use Rattle.std.specs.List.{AllByRecursion, cons_option, find}
@@ -202,14 +202,6 @@ pub all_none : (classes : List Class) (named : NameAndType) → AreNone classes 
     → is_some (declared_in classes named (Prog n)) ≡ false
 all_none classes named none n =
     ⊎_elim (λ low. none n low) (λ over. past classes named n over) (cases_lt n (length classes))
-
-pub one_none : (classes : List Class) (named : NameAndType) (k : ℕ) (r : Option MemberAt) → AreNone classes named k
-    → r ≡ declared_in classes named (Prog k) → is_some r ≡ false → AreNone classes named (k + 1)
-one_none classes named k r none is empty n low =
-    ⊎_elim (λ below. none n below)
-    (λ over. let same : n ≡ k = omega (arith, over, low) in
-    ap (λ (i : ℕ). is_some (declared_in classes named (Prog i))) same ∙ ap is_some (sym is) ∙ empty)
-    (cases_lt n k)
 
 -- ---- a list of flags
 
