@@ -10,7 +10,8 @@ use Rattle.std.proofs.lemmas.List.{get_or_default}
 use Rattle.std.proofs.lemmas.Option.{same_Some}
 use Rattle.jv_base.specs.Names.{is_text}
 use Rattle.jv_base.specs.Types.{method_text}
-use Rattle.jv_base.proofs.Equality.{text_Decides}
+use Rattle.jv_base.proofs.Equality.{text_is}
+use Rattle.jv_base.proofs.Lists.{found_at}
 use Rattle.class_model.specs.declared.class.Class.{Class}
 use Rattle.class_model.specs.declared.class.Method.{Method}
 use Rattle.lib_table.specs.Library.{LibraryMember, library}
@@ -79,9 +80,6 @@ library_at kind [] at m is = absurd cc
 library_at kind (x ∷ ms) zero m is = ap (λ y. Some (library_row kind y)) (same_Some x m is)
 library_at kind (x ∷ ms) (suc at) m is = library_at kind ms at m is
 
-alike_text : (a b : List ℕ) → a ≡ b → is_text a b ≡ true
-alike_text a b same = (text_Decides a b).1 same
-
 -- a method with its name and descriptor is like it
 is_like : (classes : List Class) (id at : ℕ) (one : Method) (o : Option LibraryMember)
     → slice_get (table.class_at id).members at ≡ o
@@ -94,8 +92,8 @@ is_like classes id at one (Some m) is method named =
     let same : ◌≡◌ {A = NameAndType} (m.name, m.descriptor) (one.name, method_text one.ty) =
     sym (ap (λ (o : Option MemberRow). option_map_or (λ r. r.named) o ([], [])) row) ∙ named in
     ap (λ b. b && (is_text m.name one.name && is_text m.descriptor (method_text one.ty))) method
-    ∙ ap (λ b. b && is_text m.descriptor (method_text one.ty)) (alike_text m.name one.name (ap (λ t. t.0) same))
-    ∙ alike_text m.descriptor (method_text one.ty) (ap (λ t. t.1) same)
+    ∙ ap (λ b. b && is_text m.descriptor (method_text one.ty)) (text_is m.name one.name (ap (λ t. t.0) same))
+    ∙ text_is m.descriptor (method_text one.ty) (ap (λ t. t.1) same)
 
 pub none_like : (classes : List Class) (id at : ℕ) (one : Method) (b : Bool)
     → IsMethod classes (record { class = Lib id; index = at })
@@ -108,11 +106,6 @@ none_like classes id at one b method is other named =
     absurd cc
 
 -- ---- no class has one
-
-there_at : {X : Type 0} (xs : List X) (i : ℕ) → i < length xs → (x : X) × (slice_get xs i ≡ Some x)
-there_at [] i within = absurd (omega (arith, within))
-there_at (x ∷ xs) zero within = (x, refl)
-there_at (x ∷ xs) (suc i) within = there_at xs i (omega (arith, within))
 
 module _ (classes : List Class) (marks : List (List ℕ)) (keys : List ℕ) (groups : List Group)
     (are : AreAlike classes marks keys groups) (placed : ArePlaced keys groups) (id at : ℕ)
@@ -141,7 +134,7 @@ module _ (classes : List Class) (marks : List (List ℕ)) (keys : List ℕ) (gro
       → declared_in classes named (Prog n) ≡ Some (record { class = Prog n; index = length c.fields + j }) → ⊥
   no_like n c j is n-in within declared =
       let x : MemberAt = record { class = Prog n; index = length c.fields + j } in
-      let d = there_at c.methods j within in
+      let d = found_at c.methods j within in
       let grouped = are.grouped n (length c.fields + j) n-in (method_is classes n j c d.0 is d.1) in
       none (place_of keys (mark_of (named_at classes x)))
       (placed (mark_of (named_at classes x)) (mark_below (named_at classes x))) x grouped
@@ -162,7 +155,7 @@ module _ (classes : List Class) (marks : List (List ℕ)) (keys : List ℕ) (gro
 
   -- no class of the set has a method with its name and descriptor
   pub none_has : AreNone classes named (length classes)
-  none_has n n-in = let c = there_at classes n n-in in none_of n c.0 (likes c.0) c.1 n-in refl
+  none_has n n-in = let c = found_at classes n n-in in none_of n c.0 (likes c.0) c.1 n-in refl
 
 -- one more group has none
 pub more_none : (classes : List Class) (named : NameAndType) (groups : List Group) (i : ℕ) (group : Group)

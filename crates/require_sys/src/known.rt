@@ -130,6 +130,7 @@ pub(crate) fn text_place(text: &Text) -> usize {
 
 /// The place of a reference, which is another one for most references that differ in the end of the name, in the start
 /// of the descriptor or in the end of the class name.
+#[inline(always)]
 pub(crate) fn place_of(r: &MemberRef) -> usize {
     let member = last_word(r.name.as_bytes()) ^ first_word(r.ty.as_bytes()).rotate_left(21);
     match &r.class.base {
@@ -143,6 +144,7 @@ fn place_by(mark: u64) -> usize {
 }
 
 /// Its last eight bytes, where it has so many.
+#[inline(always)]
 fn last_word(bytes: &[u8]) -> u64 {
     match bytes.last_chunk::<8>() {
         Some(last) => word_of(last),
@@ -151,6 +153,7 @@ fn last_word(bytes: &[u8]) -> u64 {
 }
 
 /// Its first eight bytes, where it has so many.
+#[inline(always)]
 fn first_word(bytes: &[u8]) -> u64 {
     match bytes.first_chunk::<8>() {
         Some(first) => word_of(first),
@@ -193,6 +196,7 @@ pub(crate) fn text_row<'a>(
 }
 
 /// The row of a reference at its place, if it is remembered.
+#[inline(always)]
 pub(crate) fn row_of<'a>(
     rows: &'a [Option<Row>],
     place: usize,

@@ -6,6 +6,7 @@ use class_model::MemberRef;
 use jv_base::{Base, FieldType, Text};
 
 /// Whether two references are one.
+#[inline(always)]
 pub(crate) fn is_same_ref(one: &MemberRef, other: &MemberRef) -> bool
     ensures { IsTrue result → one.now ≡ other.now }
 {
@@ -31,12 +32,14 @@ fn is_same_base(one: &Base, other: &Base) -> bool
 }
 
 /// Whether two texts are one.
+#[inline(always)]
 pub(crate) fn is_same_text(one: &Text, other: &Text) -> bool
     ensures { IsTrue result → one.now ≡ other.now }
 {
     are_same_bytes(one.as_bytes(), other.as_bytes())
 }
 
+#[inline(always)]
 fn are_same_bytes(one: &[u8], other: &[u8]) -> bool
     ensures { IsTrue result → one.now ≡ other.now }
 {
@@ -63,6 +66,7 @@ fn is_each_same(one: &[u8], other: &[u8]) -> bool
     true
 }
 
+#[inline(always)]
 fn has_same_first_word(one: &[u8], other: &[u8]) -> bool
     ensures { IsTrue result → take 8 one.now ≡ take 8 other.now }
 {
@@ -72,6 +76,7 @@ fn has_same_first_word(one: &[u8], other: &[u8]) -> bool
     }
 }
 
+#[inline(always)]
 fn has_same_last_word(one: &[u8], other: &[u8]) -> bool
     ensures { IsTrue result → drop (length one.now - 8) one.now ≡ drop (length other.now - 8) other.now }
 {
@@ -100,6 +105,7 @@ fn has_same_last_half(one: &[u8], other: &[u8]) -> bool
 }
 
 /// Eight bytes as one number, which is one load.
+#[inline(always)]
 pub(crate) fn word_of(bytes: &[u8; 8]) -> u64
     ensures { to_le_bytes w64 result ≡ bytes.now }
 {

@@ -1,8 +1,8 @@
 // For each class those that stand for it: the class itself, or one above it.
 //
 // In a class without instance methods and without superinterfaces of its own the same methods run as in its superclass.
-// Above a class without superinterfaces of its own the same classes of the library are as above its superclass. In which
-// order classes are looked at is not proved; only speed rests on it.
+// Above a class without superinterfaces of its own the same classes of the library are as above its superclass. In
+// which order classes are looked at is not proved; only speed rests on it.
 ghost use Rattle.std.specs.Prelude.{◌≡◌, ◌<◌, IfOk, IsTrue, false, length};
 ghost use Rattle.std.specs.List.{All};
 ghost use Rattle.require_sys.specs.bodies.Tops.{AreGiven, AreLibraryTops, AreTops, HasNoMethod, IsBlank};
