@@ -3,8 +3,9 @@
 
     python3 bench/shapes.py write SHAPE N DIR               writes the class files below DIR
     python3 bench/shapes.py time PROGRAM [SHAPE=N,N,..]..   processor seconds and peak of `PROGRAM shrink` for each N
+    python3 bench/shapes.py count PROGRAM [SHAPE=N,N,..]..  its instructions, by valgrind's callgrind, all classes kept
 
-Without shapes `time` goes over all of them. It writes below /dev/shm, and ends a run that takes more than a minute.
+Without shapes `time` and `count` go over all of them. They write below /dev/shm; `time` ends a run of more than a minute.
 """
 import os, resource, shutil, struct, subprocess, sys, tempfile, time
 
@@ -380,11 +381,20 @@ def write(shape, n, top):
             out.write(file_bytes(file))
 
 
+def folder():
+    return tempfile.TemporaryDirectory(dir='/dev/shm' if os.path.isdir('/dev/shm') else None)
+
+
+def prepare(shape, n, top, keep):
+    """The class files of a shape, and a config that keeps some of them."""
+    write(shape, n, f'{top}/in')
+    with open(f'{top}/s.pro', 'w') as out:
+        out.write(f'-injars {top}/in\n-outjars {top}/out\n-printmapping {top}/map.txt\n-keep class {keep}\n')
+
+
 def run(program, shape, n):
-    with tempfile.TemporaryDirectory(dir='/dev/shm' if os.path.isdir('/dev/shm') else None) as top:
-        write(shape, n, f'{top}/in')
-        with open(f'{top}/s.pro', 'w') as out:
-            out.write(f'-injars {top}/in\n-outjars {top}/out\n-printmapping {top}/map.txt\n-keep class Main {{ static int f(); }}\n')
+    with folder() as top:
+        prepare(shape, n, top, 'Main { static int f(); }')
         begun = time.time()
         child = subprocess.Popen([program, 'shrink', f'{top}/s.pro', f'{top}/o.wit'], stdout=subprocess.PIPE)
         peak = 0
@@ -416,13 +426,29 @@ def measure(program, asked):
                 break
 
 
+def count(program, asked):
+    print('| shape | N | M instructions | times the one before | first line |\n|---|---|---|---|---|')
+    for shape, sizes in asked:
+        before = None
+        for n in sizes:
+            with folder() as top:
+                prepare(shape, n, top, '** { *; }')
+                ran = subprocess.run(['valgrind', '--tool=callgrind', f'--callgrind-out-file={top}/cg', program, 'shrink',
+                                      f'{top}/s.pro', f'{top}/o.wit'], capture_output=True, text=True)
+            counted = int(ran.stderr.partition('Collected :')[2].split()[0])
+            grown = f'{counted / before:.2f}' if before else ''
+            print(f'| {shape.__name__} | {n:,} | {counted / 1e6:,.0f} | {grown} | {ran.stdout.split(chr(10))[0][:60]} |', flush=True)
+            before = counted
+
+
 def main(words):
     shapes = {shape.__name__: shape for shape in USUAL + HOSTILE}
     if len(words) == 4 and words[0] == 'write' and words[1] in shapes:
         write(shapes[words[1]], int(words[2]), words[3])
-    elif len(words) >= 2 and words[0] == 'time':
+    elif len(words) >= 2 and words[0] in ('time', 'count'):
         asked = [word.partition('=') for word in words[2:]] or [(name, '', '') for name in shapes]
-        measure(words[1], [(shapes[name], [int(n) for n in sizes.split(',')] if sizes else SIZES.get(name, [1000, 2000, 4000, 8000]))
+        told = measure if words[0] == 'time' else count
+        told(words[1], [(shapes[name], [int(n) for n in sizes.split(',')] if sizes else SIZES.get(name, [1000, 2000, 4000, 8000]))
                            for name, _, sizes in asked])
     else:
         sys.exit(__doc__)
