@@ -3,9 +3,10 @@
 
     python3 bench/shapes.py write SHAPE N DIR               writes the class files below DIR
     python3 bench/shapes.py time PROGRAM [SHAPE=N,N,..]..   processor seconds and peak of `PROGRAM shrink` for each N
-    python3 bench/shapes.py count PROGRAM [SHAPE=N,N,..]..  its instructions, by valgrind's callgrind, all classes kept
+    python3 bench/shapes.py count PROGRAM [SHAPE=N,N,..]..  its instructions, by valgrind's callgrind
 
-Without shapes `time` and `count` go over all of them. They write below /dev/shm; `time` ends a run of more than a minute.
+Without shapes `time` and `count` go over all of them. They keep all classes, and write below /dev/shm; `time` ends a run of
+more than a minute.
 """
 import os, resource, shutil, struct, subprocess, sys, tempfile, time
 
@@ -385,16 +386,16 @@ def folder():
     return tempfile.TemporaryDirectory(dir='/dev/shm' if os.path.isdir('/dev/shm') else None)
 
 
-def prepare(shape, n, top, keep):
-    """The class files of a shape, and a config that keeps some of them."""
+def prepare(shape, n, top):
+    """The class files of a shape, and a config that keeps all of them."""
     write(shape, n, f'{top}/in')
     with open(f'{top}/s.pro', 'w') as out:
-        out.write(f'-injars {top}/in\n-outjars {top}/out\n-printmapping {top}/map.txt\n-keep class {keep}\n')
+        out.write(f'-injars {top}/in\n-outjars {top}/out\n-printmapping {top}/map.txt\n-keep class ** {{ *; }}\n')
 
 
 def run(program, shape, n):
     with folder() as top:
-        prepare(shape, n, top, 'Main { static int f(); }')
+        prepare(shape, n, top)
         begun = time.time()
         child = subprocess.Popen([program, 'shrink', f'{top}/s.pro', f'{top}/o.wit'], stdout=subprocess.PIPE)
         peak = 0
@@ -432,7 +433,7 @@ def count(program, asked):
         before = None
         for n in sizes:
             with folder() as top:
-                prepare(shape, n, top, '** { *; }')
+                prepare(shape, n, top)
                 ran = subprocess.run(['valgrind', '--tool=callgrind', f'--callgrind-out-file={top}/cg', program, 'shrink',
                                       f'{top}/s.pro', f'{top}/o.wit'], capture_output=True, text=True)
             counted = int(ran.stderr.partition('Collected :')[2].split()[0])
