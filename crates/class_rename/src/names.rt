@@ -10,7 +10,7 @@ use jv_base::{M, MethodType, Name, Text};
 use std::marker::Model;
 
 /// The new names of classes, fields and methods. A name that no table has stays. A look-up takes the same time however
-/// many names there are.
+/// many names there are, unless they were chosen to have one hash.
 #[derive(Drop)]
 pub struct NewNames {
     classes: IndexMap<Name, Name>,

@@ -22,7 +22,7 @@ use std::alloc::Global;
 /// The new names of kept classes and of their members: `a` to `z`, `aa` and so on, given in the order in which names
 /// stand first among the classes with their fields and methods. A class gets one of its package, which it doesn't
 /// leave; all fields of a name get one, and all methods of a name. Names that stay are skipped. The time is near linear
-/// in the names there are.
+/// in the names there are, unless they were chosen to have one hash.
 pub fn new_names(alloc: Global, taken: &TakenNames, kept: &Items<Class>) -> M<NewNames>
     ensures { IfOk result (λ names. names_in names ≡ names_given taken.now kept.now) }
 {

@@ -41,7 +41,8 @@ impl TakenSet {
         TakenSet { names, named }
     }
 
-    /// Whether a name is among them. It takes no memory, and the same time however many there are.
+    /// Whether a name is among them. It takes no memory, and the same time however many there are, unless they were
+    /// chosen to have one hash.
     #[tactic(auto, using(crate::proofs::Reserved::taken_parts))]
     pub fn has(&self, name: &Name) -> bool
         ensures { result ≡ is_taken self.now name.now }

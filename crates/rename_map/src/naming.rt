@@ -17,7 +17,8 @@ use std::alloc::Global;
 
 /// The new names of what is kept of a set, for rules: those that stay are found over the whole set; each other kept
 /// class gets one in its package, all fields of a name one, and all methods of a name one, `a` to `z`, `aa` and so on
-/// in the order in which names stand first. The time is near linear in the set and the names.
+/// in the order in which names stand first. The time is near linear in the set and the names, unless these were chosen
+/// to have one hash.
 pub fn names(alloc: Global, input: &ClassSet, kept: &Items<Class>, rules: &Rules) -> M<NewNames>
     ensures { IfOk result (λ names. names_in names ≡ names_of input.now kept.now rules.now) }
 {
