@@ -10,9 +10,8 @@ use crate::reader::FrameReader;
 use crate::row::{Row, TypeInfo};
 use crate::starts::Starts;
 use crate::types::{fit, has_float, is_float, types_of};
-use class_model::{FrameBuilder, Op, VType};
+use class_model::{FrameBuilder, VType};
 use jv_base::{Items, M};
-use known_pool::KnownPool;
 use std::alloc::Global;
 
 /// An offset_delta and the stack that a row writes.
@@ -39,19 +38,20 @@ pub fn names_float(row: &Row) -> bool
 
 // ---- what a row writes
 
-fn with_item(
-    alloc: Global,
-    pool: &KnownPool,
-    starts: &Starts,
-    ops: &[Op],
-    delta: u16,
-    item: TypeInfo,
-) -> M<Option<Written>>
-    ensures { IfOk result (λ w. (locals : List VType) → option_map (written_of locals) w
-        ≡ option_map (written pool.now starts.now ops.now delta locals)
-        (types_of pool.now starts.now ops.now (info_of item ∷ []))) }
+// The types of rows, where the constants and the instructions that they name are there.
+fn types_in(alloc: Global, code: &FrameReader, infos: &[TypeInfo]) -> M<Option<Items<VType>>>
+    ensures { IfOk result (λ types. types
+        ≡ types_of code.now.pool.now code.now.starts.now code.now.ops.now (map info_of infos.now)) }
 {
-    match types_of(alloc, pool, starts, ops, &[item])? {
+    types_of(alloc, code.pool, code.starts, code.ops.as_slice(), infos)
+}
+
+fn with_item(alloc: Global, code: &FrameReader, delta: u16, item: TypeInfo) -> M<Option<Written>>
+    ensures { IfOk result (λ w. (locals : List VType) → option_map (written_of locals) w
+        ≡ option_map (written code.now.pool.now code.now.starts.now code.now.ops.now delta locals)
+        (types_of code.now.pool.now code.now.starts.now code.now.ops.now (info_of item ∷ []))) }
+{
+    match types_in(alloc, code, &[item])? {
         Some(stack) => Ok(Some(Written { delta, stack })),
         None => Ok(None),
     }
@@ -74,19 +74,18 @@ fn chopped(alloc: Global, count: usize, delta: u16, frames: &mut FrameBuilder) -
 
 fn appended(
     alloc: Global,
-    pool: &KnownPool,
-    starts: &Starts,
-    ops: &[Op],
+    code: &FrameReader,
     delta: u16,
     infos: &[TypeInfo],
     frames: &mut FrameBuilder,
 ) -> M<Option<Written>>
     ensures written { IfOk result (λ w. option_map (written_of frames.new.locals) w
-        ≡ option_map (λ types. written pool.now starts.now ops.now delta (frames.old.locals ++ types) [])
-        (types_of pool.now starts.now ops.now (map info_of infos.now))) }
+        ≡ option_map (λ types. written code.now.pool.now code.now.starts.now code.now.ops.now delta
+        (frames.old.locals ++ types) [])
+        (types_of code.now.pool.now code.now.starts.now code.now.ops.now (map info_of infos.now))) }
     ensures frames { OnOk result (frames.new.frames ≡ frames.old.frames) }
 {
-    let Some(types) = types_of(alloc, pool, starts, ops, infos)? else {
+    let Some(types) = types_in(alloc, code, infos)? else {
         return Ok(None);
     };
     frames.append(types)?;
@@ -98,25 +97,23 @@ fn appended(
 
 fn written_whole(
     alloc: Global,
-    pool: &KnownPool,
-    starts: &Starts,
-    ops: &[Op],
+    code: &FrameReader,
     delta: u16,
     locals: &[TypeInfo],
     stack: &[TypeInfo],
     frames: &mut FrameBuilder,
 ) -> M<Option<Written>>
     ensures written { IfOk result (λ w. option_map (written_of frames.new.locals) w
-        ≡ written_by pool.now starts.now ops.now []
+        ≡ written_by code.now.pool.now code.now.starts.now code.now.ops.now []
         (FullFrame delta (map info_of locals.now) (map info_of stack.now))) }
     ensures frames { OnOk result (frames.new.frames ≡ frames.old.frames) }
 {
-    let Some(locals) = types_of(alloc, pool, starts, ops, locals)? else {
+    let Some(locals) = types_in(alloc, code, locals)? else {
         return Ok(None);
     };
     frames.clear();
     frames.append(locals)?;
-    let Some(stack) = types_of(alloc, pool, starts, ops, stack)? else {
+    let Some(stack) = types_in(alloc, code, stack)? else {
         return Ok(None);
     };
     Ok(Some(Written { delta, stack }))
@@ -126,14 +123,12 @@ fn written_whole(
 // is cut off at 0.
 fn written_by(
     alloc: Global,
-    pool: &KnownPool,
-    starts: &Starts,
-    ops: &[Op],
+    code: &FrameReader,
     row: &Row,
     frames: &mut FrameBuilder,
 ) -> M<Option<Written>>
     ensures written { IfOk result (λ w. option_map (written_of frames.new.locals) w
-        ≡ written_by pool.now starts.now ops.now frames.old.locals (row_of row.now)) }
+        ≡ written_by code.now.pool.now code.now.starts.now code.now.ops.now frames.old.locals (row_of row.now)) }
     ensures frames { OnOk result (frames.new.frames ≡ frames.old.frames) }
 {
     match row {
@@ -143,10 +138,10 @@ fn written_by(
         })),
         Row::SameLocalsOneStackItem { frame_type, item } => {
             let delta = u16::from(frame_type.saturating_sub(64));
-            with_item(alloc, pool, starts, ops, delta, *item)
+            with_item(alloc, code, delta, *item)
         }
         Row::SameLocalsOneStackItemExtended { offset_delta, item } => {
-            with_item(alloc, pool, starts, ops, *offset_delta, *item)
+            with_item(alloc, code, *offset_delta, *item)
         }
         Row::Chop {
             frame_type,
@@ -163,24 +158,14 @@ fn written_by(
             offset_delta,
             locals,
             ..
-        } => appended(
-            alloc,
-            pool,
-            starts,
-            ops,
-            *offset_delta,
-            locals.as_slice(),
-            frames,
-        ),
+        } => appended(alloc, code, *offset_delta, locals.as_slice(), frames),
         Row::Full {
             offset_delta,
             locals,
             stack,
         } => written_whole(
             alloc,
-            pool,
-            starts,
-            ops,
+            code,
             *offset_delta,
             locals.as_slice(),
             stack.as_slice(),
@@ -239,8 +224,7 @@ pub fn row_stands(
         code.now.max_stack code.now.max_locals
         (record { locals = frames.old.locals; offset = previous }) (row_of row.now))) }
 {
-    let ops = code.ops.as_slice();
-    match written_by(alloc, code.pool, code.starts, ops, row, frames)? {
+    match written_by(alloc, code, row, frames)? {
         Some(written) => {
             let offset = offset_behind(previous, written.delta);
             frame_of(
