@@ -1,9 +1,10 @@
 -- The entry at the place of a key.
 use Rattle.std.proofs.Common.{◌≡◌, ℕ, zero, suc, ◌+◌, ◌<◌, Bool, true, false, cond, List, [], ◌∷◌, ◌++◌}
-use Rattle.std.proofs.Common.{length, get_or, Option, Some, None, refl, sym, ap, ◌∙◌, arith, ◌||◌}
+use Rattle.std.proofs.Common.{length, get_or, Option, Some, None, refl, sym, ap, ◌∙◌, arith, ◌||◌, true≢false}
 use Rattle.std.specs.Prelude.{slice_get, is_some, IfSome}
 use Rattle.std.specs.List.{position, position_from, list_any, slice_set}
 use Rattle.std.proofs.lemmas.Iterator.Adapters.{position_from-zero}
+use Rattle.std.specs.Cmp.{IsEquivalence}
 use Rattle.std.specs.Map.{keys_of, lookup}
 use Rattle.std.specs.Option.{option_map, option_or}
 use Rattle.std.proofs.lemmas.List.{length-map}
@@ -213,3 +214,53 @@ module _ {K V : Type 0} (eq : K → K → Bool) (key : K) (value : V) (es : List
 pub any_there : {K : Type 0} (test : K → Bool) (keys : List K) (place : Option ℕ) → place ≡ position test keys
     → is_some place ≡ list_any test keys
 any_there test keys place is = ap is_some (is ∙ from_zero test keys) ∙ there_is test 0 keys
+
+module _ {K : Type 0} (test : K → Bool) (keys : List K) (key : K) where
+  -- a key that is there isn't put again
+  pub not_again : (n : ℕ) → Some n ≡ position test keys
+      → keys ≡ cond (list_any test keys) keys (keys ++ key ∷ [])
+  not_again n is = ap (λ b. cond b keys (keys ++ key ∷ [])) (any_there test keys (Some n) is)
+
+  -- one that is missing is put, and found behind the others
+  pub put_new : None ≡ position test keys → keys ++ key ∷ [] ≡ cond (list_any test keys) keys (keys ++ key ∷ [])
+  put_new is = ap (λ b. cond b keys (keys ++ key ∷ [])) (any_there test keys None is)
+
+  pub found_behind : test key ≡ true → None ≡ position test keys → Some (length keys) ≡ position test (keys ++ key ∷ [])
+  found_behind passes is =
+      let none : position_from test 0 keys ≡ None = sym (is ∙ from_zero test keys) in
+      let at : 0 + length keys ≡ length keys = omega arith in
+      sym (from_zero test (keys ++ key ∷ []) ∙ position_more test 0 keys key
+      ∙ ap (λ (o : Option ℕ). option_or o (cond (test key) (Some (0 + length keys)) None)) none
+      ∙ ap (λ b. cond b (Some (0 + length keys)) None) passes ∙ ap Some at)
+
+-- what is there for a key after one was given a value
+pub found_inserted : {K V : Type 0} (eq : K → K → Bool) (laws : IsEquivalence eq) (es : List (K × V)) (key : K) (value : V)
+    (q : K) → lookup (eq q) (insert_entry eq es key value) ≡ cond (eq q key) (Some value) (lookup (eq q) es)
+found_inserted eq laws [] key value q = refl
+found_inserted {K} {V} eq laws (e ∷ es) key value q = by (eq key e.0) refl (found_inserted eq laws es key value q)
+  where
+    turned : eq key e.0 ≡ true → (b : Bool) → eq q e.0 ≡ b → eq q key ≡ b
+    turned same b is = laws.symm q key ∙ laws.congr key e.0 q same ∙ laws.symm e.0 q ∙ is
+
+    shadowed : (b : Bool) → eq q e.0 ≡ b
+        → eq q key ≡ b → cond b (Some value) (lookup (eq q) es)
+        ≡ cond (eq q key) (Some value) (cond b (Some e.1) (lookup (eq q) es))
+    shadowed true is same = sym (ap (λ c. cond c (Some value) (Some e.1)) same)
+    shadowed false is same = sym (ap (λ c. cond c (Some value) (lookup (eq q) es)) same)
+
+    apart : eq key e.0 ≡ false → (b c : Bool) → eq q e.0 ≡ b → eq q key ≡ c
+        → cond b (Some e.1) (cond c (Some value) (lookup (eq q) es))
+        ≡ cond c (Some value) (cond b (Some e.1) (lookup (eq q) es))
+    apart differ true true there same = absurd (true≢false (
+        sym there ∙ sym (laws.congr key q e.0 (laws.symm key q ∙ same)) ∙ differ))
+    apart differ true false there same = refl
+    apart differ false true there same = refl
+    apart differ false false there same = refl
+
+    by : (b : Bool) → eq key e.0 ≡ b
+        → lookup (eq q) (insert_entry eq es key value) ≡ cond (eq q key) (Some value) (lookup (eq q) es)
+        → lookup (eq q) (cond b ((e.0, value) ∷ es) (e ∷ insert_entry eq es key value))
+        ≡ cond (eq q key) (Some value) (cond (eq q e.0) (Some e.1) (lookup (eq q) es))
+    by true same rest = shadowed (eq q e.0) refl (turned same (eq q e.0) refl)
+    by false differ rest = ap (λ (o : Option V). cond (eq q e.0) (Some e.1) o) rest
+        ∙ apart differ (eq q e.0) (eq q key) refl refl

@@ -171,7 +171,8 @@ module _ {K : Type 0} (cmp : K → K → Ordering) (eq : K → K → Bool) (mark
 
 -- ---- entries
 
-keys_more : {K V : Type 0} (es : List (K × V)) (key : K) (value : V)
+-- one more key
+pub keys_more : {K V : Type 0} (es : List (K × V)) (key : K) (value : V)
     → keys_of (es ++ (key, value) ∷ []) ≡ keys_of es ++ key ∷ []
 keys_more [] key value = refl
 keys_more (e ∷ es) key value = ap (λ (ks : List _). e.0 ∷ ks) (keys_more es key value)

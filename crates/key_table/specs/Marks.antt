@@ -1,8 +1,14 @@
--- Marks of keys that have two parts (the project's own: keys are told apart by them at little cost).
-use Rattle.std.specs.Prelude.{◌≡◌, ℕ, ◌+◌, ◌*◌, ◌%◌, ◌^◌, ◌&&◌, Bool, true}
-use Rattle.std.proofs.Common.{ap, ◌∙◌}
+-- Marks of keys that have parts (the project's own: keys are told apart by them at little cost).
+use Rattle.std.specs.Prelude.{◌≡◌, ℕ, ◌+◌, ◌-◌, ◌*◌, ◌%◌, ◌^◌, ◌&&◌, Bool, true, List, [], ◌∷◌, length, drop, map}
+use Rattle.std.specs.Cmp.Lexicographic.{pointwise}
+use Rattle.std.specs.List.{AllZip, fold}
+use Rattle.std.proofs.Common.{ap, sym, refl, ◌∙◌}
+use Rattle.std.proofs.lemmas.List.{drop-map, length-map}
+use Rattle.std.proofs.lemmas.List.Elements.{same_from_all_zip}
+use Rattle.std.proofs.lemmas.List.Folds.{fold-map}
 use Rattle.std.proofs.lemmas.Bool.{and_parts}
 
+-- of a pair, by the marks of its two
 abbrev pub pair_mark : ℕ → ℕ → ℕ
 pair_mark one other = (one * 31 % 2 ^ 64 + other) % 2 ^ 64
 
@@ -20,3 +26,41 @@ module _ {A B : Type 0} where
   pub pair_copies : (copyA : A → A → Type 0) (copyB : B → B → Type 0) → ((x y : A) → copyA x y → y ≡ x)
       → ((x y : B) → copyB x y → y ≡ x) → (x y : A × B) → copyA x.0 y.0 × copyB x.1 y.1 → y ≡ x
   pair_copies copyA copyB isA isB x y is = λ i. (isA x.0 y.0 is.0 i, isB x.1 y.1 is.1 i)
+
+-- by the list of all marks
+abbrev of_marks : List ℕ → ℕ
+of_marks marks = fold (λ number m. (number * 65536 % 2 ^ 64 + m) % 2 ^ 64) 0 (drop (length marks - 4) marks)
+
+module _ {T : Type 0} where
+  -- one item more
+  abbrev pub with_mark : (T → ℕ) → ℕ → T → ℕ
+  with_mark mark number item = (number * 65536 % 2 ^ 64 + mark item) % 2 ^ 64
+
+  -- of a list, by the marks of its last four items
+  abbrev pub list_mark : (T → ℕ) → List T → ℕ
+  list_mark mark items = fold (with_mark mark) 0 (drop (length items - 4) items)
+
+  by_marks : (mark : T → ℕ) (items : List T) → list_mark mark items ≡ of_marks (map mark items)
+  by_marks mark items =
+      sym (ap (λ n. fold (λ number m. (number * 65536 % 2 ^ 64 + m) % 2 ^ 64) 0 (drop (n - 4) (map mark items)))
+      (length-map items mark)
+      ∙ ap (λ (ms : List ℕ). fold (λ number m. (number * 65536 % 2 ^ 64 + m) % 2 ^ 64) 0 ms)
+      (drop-map mark (length items - 4) items)
+      ∙ fold-map (λ number m. (number * 65536 % 2 ^ 64 + m) % 2 ^ 64) mark 0 (drop (length items - 4) items))
+
+  module _ (eq : T → T → Bool) (mark : T → ℕ) (one : (x y : T) → eq x y ≡ true → mark x ≡ mark y) where
+    one_by_one : (xs ys : List T) → pointwise eq xs ys ≡ true → map mark xs ≡ map mark ys
+    one_by_one [] [] same = refl
+    one_by_one [] (y ∷ ys) same = absurd cc
+    one_by_one (x ∷ xs) [] same = absurd cc
+    one_by_one (x ∷ xs) (y ∷ ys) same =
+        let parts = and_parts (eq x y) (pointwise eq xs ys) same in
+        ap (λ m. m ∷ map mark xs) (one x y parts.0) ∙ ap (λ (ms : List ℕ). mark y ∷ ms) (one_by_one xs ys parts.1)
+
+    pub one_list_mark : (xs ys : List T) → pointwise eq xs ys ≡ true → list_mark mark xs ≡ list_mark mark ys
+    one_list_mark xs ys same =
+        by_marks mark xs ∙ ap of_marks (one_by_one xs ys same) ∙ sym (by_marks mark ys)
+
+  pub list_copies : (copy : T → T → Type 0) → ((x y : T) → copy x y → y ≡ x) → (xs ys : List T)
+      → AllZip copy xs ys → ys ≡ xs
+  list_copies copy is xs ys all = same_from_all_zip copy xs ys all is

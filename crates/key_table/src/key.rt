@@ -1,7 +1,9 @@
 // What values are found by.
-ghost use Rattle.jv_base.specs.Tail.{tail};
+ghost use Rattle.std.specs.Prelude.{◌≡◌};
+ghost use Rattle.std.specs.List.{fold};
+ghost use Rattle.key_table.specs.Marks.{with_mark};
 
-use jv_base::Text;
+use jv_base::{Items, Text};
 
 /// What values are found by: it has an order, and a number, its mark, by which most keys are told apart at little cost.
 pub trait Key: Ord + Clone {
@@ -47,4 +49,46 @@ impl<A: Key, B: Key> Key for (A, B) {
     fn mark(&self) -> u64 {
         self.0.mark().wrapping_mul(31).wrapping_add(self.1.mark())
     }
+}
+
+impl Key for u16 {
+    ghost use Rattle.std.proofs.Common.{sym};
+    ghost use Rattle.std.specs.Cmp.{unsigned_Decides};
+
+    ghost mark = { λ unit. unit };
+
+    ghost one_mark = { λ a b same. (unsigned_Decides a b).0 same };
+
+    ghost copies = { λ a b is. is };
+
+    fn mark(&self) -> u64 {
+        u64::from(*self)
+    }
+}
+
+impl<T: Key> Key for Items<T> {
+    ghost use Rattle.key_table.specs.Marks.{list_copies, list_mark, one_list_mark};
+
+    ghost mark = { list_mark T.mark };
+
+    ghost one_mark = { one_list_mark T.eq T.mark T.one_mark };
+
+    ghost copies = { list_copies T.is_clone T.copies };
+
+    fn mark(&self) -> u64 {
+        let items = self.as_slice();
+        let start = items.len().saturating_sub(4);
+        mark_of(&items[start..])
+    }
+}
+
+/// The marks of some items as one.
+fn mark_of<T: Key>(items: &[T]) -> u64
+    ensures { result ≡ fold (with_mark T.mark) 0 items.now }
+{
+    let mut mark = 0u64;
+    for item in items {
+        mark = mark.wrapping_mul(65536).wrapping_add(item.mark());
+    }
+    mark
 }

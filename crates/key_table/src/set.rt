@@ -1,5 +1,6 @@
 // Keys, each once.
-ghost use Rattle.std.specs.Prelude.{◌≡◌, ◌<◌, [], IfOk, IfSome, is_ok, if◌then◌else◌, length, not};
+ghost use Rattle.std.specs.Prelude.{◌≡◌, ◌<◌, [], IfOk, IfSome, None, Some, is_ok, if◌then◌else◌, length, not, slice_get};
+ghost use Rattle.std.specs.Option.{option_copied};
 ghost use Rattle.std.specs.List.{list_any, position};
 ghost use Rattle.indexmap.specs.IndexSet.{insert_key};
 
@@ -33,6 +34,20 @@ impl<K: Key> KeySet<K> {
         }
     }
 
+    /// How many keys there are.
+    pub fn len(&self) -> usize
+        ensures { result ≡ length self.now }
+    {
+        self.table.len()
+    }
+
+    /// The key of a place, if there is one.
+    pub fn get(&self, place: usize) -> Option<&K>
+        ensures { option_copied result ≡ slice_get self.now place }
+    {
+        self.table.key(place)
+    }
+
     /// The place of a key among them, if it is there.
     pub fn place(&self, key: &K) -> Option<usize>
         ensures found { result ≡ position (K.eq key.now) self.now }
@@ -58,5 +73,22 @@ impl<K: Key> KeySet<K> {
         let is_new = !self.has(&key);
         self.table.insert(key, ())?;
         Ok(is_new)
+    }
+
+    /// The place of a key, which is put behind the others unless it is there.
+    pub fn keep(&mut self, key: K) -> M<usize>
+    where
+        K: Drop,
+        ensures place { IfOk result (λ n. Some n ≡ position (K.eq key) self.new) }
+        ensures keys { self.new ≡ (if is_ok result then insert_key K.eq self.old key else self.old) }
+    {
+        match self.place(&key) {
+            Some(place) => Ok(place),
+            None => {
+                let place = self.len();
+                self.table.insert_new(key, ())?;
+                Ok(place)
+            }
+        }
     }
 }

@@ -92,13 +92,41 @@ impl<K: Key, V> Table<K, V> {
                 self.entries[place].1 = value;
                 Ok(())
             }
-            None => push(
-                &mut self.entries,
-                &mut self.firsts,
-                &mut self.others,
-                key,
-                value,
-            ),
+            None => self.insert_new(key, value),
+        }
+    }
+
+    /// Puts a key that isn't there behind the others.
+    pub(crate) fn insert_new(&mut self, key: K, value: V) -> M<()>
+    where
+        K: Drop,
+        V: Drop,
+        requires { position (K.eq key) (keys_of self.old) ≡ None }
+        ensures { self.new ≡ (if is_ok result then self.old ++ (key, value) ∷ [] else self.old) }
+    {
+        push(
+            &mut self.entries,
+            &mut self.firsts,
+            &mut self.others,
+            key,
+            value,
+        )
+    }
+
+    /// How many entries there are.
+    pub fn len(&self) -> usize
+        ensures { result ≡ length self.now }
+    {
+        self.entries.len()
+    }
+
+    /// The key of a place, if there is one.
+    pub fn key(&self, place: usize) -> Option<&K>
+        ensures { option_copied result ≡ slice_get (keys_of self.now) place }
+    {
+        match self.entries.as_slice().get(place) {
+            Some((key, _)) => Some(key),
+            None => None,
         }
     }
 }

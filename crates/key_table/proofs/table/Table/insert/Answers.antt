@@ -16,13 +16,6 @@ invariant_of-self g c =
     (sym (keys_stay g.K.PartialEq.eq c.args.key c.args.value es n c.index_mut.result.now
     (at_place es n c.index_mut.result.now within c.index_mut.ensures.value))) c.self.invariant
 
-pub push-requires-clause-missing : goal.push-requires-clause-missing
-push-requires-clause-missing g c =
-    let eq = g.K.PartialEq.eq in
-    is_missing eq c.args.key c.args.value c.self.inside.entries.items c.place.result
-    (subst (λ (es : List _). c.place.result ≡ position (eq c.args.key) (keys_of es)) (sym c.self.view_is)
-    c.place.ensures.found) c.in-None.is
-
 pub returns-in-Some : goal.returns-in-Some
 returns-in-Some g c =
     let e = c.index_mut.result.now in
@@ -36,7 +29,6 @@ pub returns-in-None : goal.returns-in-None
 returns-in-None g c =
     let eq = g.K.PartialEq.eq in
     let key = c.args.key in
-    c.push.ensures.entries
-    ∙ ap (λ (es : List _). cond (is_ok c.push.result) (es ++ (key, c.args.value) ∷ []) es) c.self.view_is
-    ∙ inserted_behind eq key c.args.value c.args.self.now (is_ok c.push.result)
+    c.insert_new.ensures
+    ∙ inserted_behind eq key c.args.value c.args.self.now (is_ok c.insert_new.result)
     (is_missing eq key c.args.value c.args.self.now c.place.result c.place.ensures.found c.in-None.is)
