@@ -1,19 +1,26 @@
 -- Numbers of texts: those that are kept stay when texts are put behind the others.
 use Rattle.std.proofs.Common.{◌≡◌, ℕ, suc, ◌+◌, ◌<◌, Bool, true, false, cond, not, List, [], ◌∷◌, ◌++◌, length}
 use Rattle.std.proofs.Common.{Option, Some, None, Result, Ok, Err, refl, sym, ap, subst, ◌∙◌, arith}
-use Rattle.std.specs.Prelude.{IfSome, IfOk}
-use Rattle.std.specs.List.{position_or_len}
-use Rattle.std.specs.Ordering.{is_eq, nat_cmp, ordering_then}
-use Rattle.std.specs.Cmp.{both_tied, unsigned_ties}
-use Rattle.std.specs.Cmp.Lexicographic.{slice_cmp, texts_ties}
-use Rattle.std.proofs.Common.{◌&&◌, Decides, nat_eq}
+use Rattle.std.specs.Prelude.{⊤, IfSome, IfOk, OnOk, is_ok}
+use Rattle.std.specs.Cmp.Lexicographic.{nat_list_eq_equiv}
+use Rattle.std.specs.List.{list_any, position, position_from, position_or_len}
+use Rattle.std.specs.Option.{unwrap_or}
+use Rattle.std.proofs.Common.{nat_lt}
+use Rattle.std.proofs.lemmas.List.{append-nil}
+use Rattle.std.proofs.lemmas.List.Quantifiers.{position-Some}
+use Rattle.std.proofs.lemmas.Map.Keys.{IsDistinct-push}
+use Rattle.std.proofs.lemmas.Option.{same_Some}
+use Rattle.indexmap.specs.IndexMap.{insert_entry}
+use Rattle.indexmap.specs.IndexSet.{insert_key}
+use Rattle.key_table.proofs.Found.{found_inserted, from_zero}
 use Rattle.std.specs.Map.{lookup}
 use Rattle.std.proofs.lemmas.List.{length-append}
 use Rattle.jv_base.proofs.Equality.{text_Decides}
 use Rattle.jv_base.specs.Utf16.{units_of}
 use Rattle.class_model.specs.CanonicalPool.{same_text}
 use Rattle.constant_table.specs.bodies.Keys.{number_of, text_of}
-use Rattle.constant_table.specs.bodies.Texts.{HasNumber, HasText, AreNumbers, Grows, MarkedText, marked, same_marked}
+use Rattle.constant_table.specs.bodies.Texts.{HasNumber, HasText, AreNumbers, Grows}
+use Rattle.constant_table.proofs.Indexed.{index_is}
 use Rattle.constant_table.proofs.Told.{text_at}
 
 first_by : (b : Bool) (m n l : ℕ) → cond (not b) (1 + m) 0 < suc l → (m < l → n ≡ m)
@@ -38,7 +45,7 @@ number_grown old new n text g h =
     (arith, h.within, s, length-append old g.more) in
     record { within = w; is = h.is ∙ sym e }
 
-module _ (old new : List (List ℕ)) (numbers : List (MarkedText × ℕ)) where
+module _ (old new : List (List ℕ)) (numbers : List (List ℕ × ℕ)) where
   grown_by : (text : List ℕ) (o : Option ℕ) → Grows old new → IfSome o (λ n. HasNumber old n (units_of text))
       → IfSome o (λ n. HasNumber new n (units_of text))
   grown_by text (Some n) g h = number_grown old new n (units_of text) g h
@@ -46,46 +53,28 @@ module _ (old new : List (List ℕ)) (numbers : List (MarkedText × ℕ)) where
 
   -- the numbers that are kept stay
   pub numbers_grown : Grows old new → AreNumbers old numbers → AreNumbers new numbers
-  numbers_grown g kept text = grown_by text (lookup (same_marked (marked text)) numbers) g (kept text)
+  numbers_grown g kept text = grown_by text (lookup (same_text text) numbers) g (kept text)
 
--- marked texts are one where their order doesn't tell them apart
-pub mark_order_is_same : (λ (a b : MarkedText). is_eq
-    (ordering_then (ordering_then (nat_cmp a.0 b.0) (nat_cmp a.1 b.1)) (slice_cmp nat_cmp a.2 b.2))) ≡ same_marked
-mark_order_is_same = λ i a b. sym (both_tied _ _ (ordering_then (nat_cmp a.0 b.0) (nat_cmp a.1 b.1))
-    (slice_cmp nat_cmp a.2 b.2)
-    (both_tied _ _ (nat_cmp a.0 b.0) (nat_cmp a.1 b.1) (unsigned_ties a.0 b.0) (unsigned_ties a.1 b.1))
-    (texts_ties a.2 b.2)) i
-
--- marked texts that are one are of one text
-one_text : (a b c : Bool) (s t : List ℕ) → Decides c (s ≡ t) → ((a && b) && c) ≡ true → s ≡ t
-one_text true true c s t d h = d.0 h
-one_text true false c s t d h = absurd cc
-one_text false b c s t d h = absurd cc
-
-module _ (texts : List (List ℕ)) (old new : List (MarkedText × ℕ)) (name : List ℕ) (number : ℕ) where
-  put_by : (text : List ℕ) (b : Bool) → same_marked (marked name) (marked text) ≡ b
-      → HasNumber texts number (units_of name)
-      → IfSome (lookup (same_marked (marked text)) old) (λ n. HasNumber texts n (units_of text))
-      → IfSome (cond b (Some number) (lookup (same_marked (marked text)) old)) (λ n. HasNumber texts n (units_of text))
+module _ (texts : List (List ℕ)) (old new : List (List ℕ × ℕ)) (name : List ℕ) (number : ℕ) where
+  put_by : (text : List ℕ) (b : Bool) → same_text text name ≡ b → HasNumber texts number (units_of name)
+      → IfSome (lookup (same_text text) old) (λ n. HasNumber texts n (units_of text))
+      → IfSome (cond b (Some number) (lookup (same_text text) old)) (λ n. HasNumber texts n (units_of text))
   put_by text true e h kept =
-      let same : name ≡ text = one_text (nat_eq (marked name).0 (marked text).0)
-      (nat_eq (marked name).1 (marked text).1) (same_text name text) name text (text_Decides name text) e in
-      subst (λ t. HasNumber texts number (units_of t)) same h
+      subst (λ t. HasNumber texts number (units_of t)) (sym ((text_Decides text name).0 e)) h
   put_by text false e h kept = kept
 
   -- one more is kept
   pub number_put : AreNumbers texts old → HasNumber texts number (units_of name)
-      → ((k : MarkedText) → lookup (same_marked k) new
-      ≡ cond (same_marked (marked name) k) (Some number) (lookup (same_marked k) old))
+      → ((t : List ℕ) → lookup (same_text t) new ≡ cond (same_text t name) (Some number) (lookup (same_text t) old))
       → AreNumbers texts new
   number_put kept h updates text =
-      subst (λ o. IfSome o (λ n. HasNumber texts n (units_of text))) (sym (updates (marked text)))
-      (put_by text (same_marked (marked name) (marked text)) refl h (kept text))
+      subst (λ o. IfSome o (λ n. HasNumber texts n (units_of text))) (sym (updates text))
+      (put_by text (same_text text name) refl h (kept text))
 
 -- what is kept is a number
-pub number_told : (texts : List (List ℕ)) (numbers : List (MarkedText × ℕ)) (text : List ℕ) (n : ℕ)
+pub number_told : (texts : List (List ℕ)) (numbers : List (List ℕ × ℕ)) (text : List ℕ) (n : ℕ)
     → AreNumbers texts numbers
-    → Some n ≡ lookup (same_marked (marked text)) numbers → HasNumber texts n (units_of text)
+    → Some n ≡ lookup (same_text text) numbers → HasNumber texts n (units_of text)
 number_told texts numbers text n kept is =
     subst (λ o. IfSome o (λ m. HasNumber texts m (units_of text))) (sym is) (kept text)
 
@@ -99,3 +88,53 @@ pub if_text : {E : Type 0} (texts : List (List ℕ)) (text : List ℕ) (r : Resu
     → IfOk r (λ n. HasNumber texts n text) → IfOk r (λ n. HasText texts n text)
 if_text texts text (Ok n) h = text_there texts n text h
 if_text texts text (Err e) h = tt
+
+-- the place of a text is its number
+pub number_is : (texts : List (List ℕ)) (text : List ℕ) (n : ℕ) → Some n ≡ position (same_text text) texts
+    → HasNumber texts n text
+number_is texts text n is =
+    let at = position-Some (same_text text) texts n [] (sym is) in
+    record { within = at.0; is = by (nat_lt (number_of texts text) (length texts)) is }
+  where
+    by : (b : Bool) → Some n ≡ cond b (Some (number_of texts text)) None → n ≡ number_of texts text
+    by true e = same_Some n (number_of texts text) e
+    by false e = absurd cc
+
+-- one that has no place would have the number of all
+pub number_behind : (texts : List (List ℕ)) (text : List ℕ) → None ≡ position (same_text text) texts
+    → length texts ≡ number_of texts text
+number_behind texts text is =
+    let none : position_from (same_text text) 0 texts ≡ None = sym (is ∙ from_zero (same_text text) texts) in
+    let at : 0 + number_of texts text ≡ number_of texts text = omega arith in
+    let all : length texts ≡ 0 + length texts = omega arith in
+    all ∙ ap (λ (o : Option ℕ). unwrap_or o (0 + length texts)) (sym none) ∙ index_is (same_text text) 0 texts ∙ at
+
+-- texts grow by one that is kept
+pub grows_kept : {E : Type 0} (old new : List (List ℕ)) (text : List ℕ) (r : Result ℕ E)
+    → new ≡ cond (is_ok r) (insert_key same_text old text) old → Grows old new
+grows_kept old new text r is = subst (Grows old) (sym is) (by (is_ok r) (list_any (same_text text) old) refl)
+  where
+    same : Grows old old
+    same = record { more = []; is = sym (append-nil old); distinct = λ d. d }
+
+    by : (b c : Bool) → list_any (same_text text) old ≡ c
+        → Grows old (cond b (cond c old (old ++ text ∷ [])) old)
+    by true true e = same
+    by true false e =
+        record { more = text ∷ []; is = refl; distinct = λ d. IsDistinct-push nat_list_eq_equiv old text d e }
+    by false c e = same
+
+pub if_number : {E : Type 0} (texts : List (List ℕ)) (text : List ℕ) (r : Result ℕ E)
+    → IfOk r (λ n. Some n ≡ position (same_text text) texts) → IfOk r (λ n. HasNumber texts n text)
+if_number texts text (Ok n) is = number_is texts text n is
+if_number texts text (Err e) is = tt
+
+-- the number that was put with a text is found, and the others as before
+pub number_found : {E : Type 0} (r : Result ⊤ E) (old new : List (List ℕ × ℕ)) (text copy : List ℕ) (number : ℕ)
+    → copy ≡ text → new ≡ cond (is_ok r) (insert_entry same_text old copy number) old
+    → OnOk r ((other : List ℕ) → lookup (same_text other) new
+    ≡ cond (same_text other text) (Some number) (lookup (same_text other) old))
+number_found (Ok x) old new text copy number same is = λ other.
+    ap (lookup (same_text other)) is ∙ found_inserted same_text nat_list_eq_equiv old copy number other
+    ∙ ap (λ t. cond (same_text other t) (Some number) (lookup (same_text other) old)) same
+number_found (Err e) old new text copy number same is = tt

@@ -8,12 +8,10 @@ mod items;
 mod key;
 mod keys;
 mod limits;
-mod marked;
 mod putting;
 mod slots;
 mod table;
 mod texts;
-mod unit_texts;
 
 pub use bytes::{put, put_u2, put_u4};
 pub use finding::MemberNumbers;

@@ -1,22 +1,22 @@
 // Texts in UTF-16, each stored once, with numbers (JVMS 4.4.7).
-ghost use Rattle.std.specs.Prelude.{◌≡◌, [], IfOk, option_copied, slice_get};
+ghost use Rattle.std.specs.Prelude.{◌≡◌, [], ℕ, List, Some, IfOk, OnErr, OnOk, if◌then◌else◌, option_copied, slice_get};
+ghost use Rattle.std.specs.Map.{lookup};
 ghost use Rattle.jv_base.specs.Utf16.{units_of};
+ghost use Rattle.class_model.specs.CanonicalPool.{same_text};
 ghost use Rattle.constant_table.specs.bodies.Keys.{number_of};
-ghost use Rattle.constant_table.specs.bodies.Texts.{HasNumber, HasText, AreNumbers, Grows, marked};
+ghost use Rattle.constant_table.specs.bodies.Texts.{HasNumber, HasText, AreNumbers, Grows};
 
-use crate::marked::{Marked, marked, number_kept, put_number};
-use crate::unit_texts::{UnitTexts, copied};
-use jv_base::{M, Text, Units, units_of_text};
+use jv_base::{Items, M, Text, Units, units_of_text};
+use key_table::{KeySet, Table};
 use std::alloc::Global;
-use std::collections::BTreeMap;
 use std::marker::Model;
 
 /// Texts with numbers from 0 on. Contracts see the list of them, each by its units in UTF-16.
 #[derive(Drop)]
 pub struct Texts {
-    units: UnitTexts,
+    units: KeySet<Units>,
     /// The numbers of those that came as UTF-8, so that they aren't turned into UTF-16 again.
-    numbers: BTreeMap<Marked, usize>,
+    numbers: Table<Text, usize>,
 }
 
 impl Model for Texts {
@@ -27,7 +27,7 @@ impl Model for Texts {
 
     ghost view = { λ t. t.units };
 
-    ghost invariant = { λ t. AreNumbers t.units t.numbers.entries };
+    ghost invariant = { λ t. AreNumbers t.units t.numbers };
 }
 
 impl Texts {
@@ -36,8 +36,8 @@ impl Texts {
         ensures { result ≡ [] }
     {
         Texts {
-            units: UnitTexts::new(alloc),
-            numbers: BTreeMap::new(alloc),
+            units: KeySet::new(alloc),
+            numbers: Table::new(alloc),
         }
     }
 
@@ -52,14 +52,17 @@ impl Texts {
     pub fn number_of_units(&self, units: &Units) -> usize
         ensures { result ≡ number_of self.now units.now }
     {
-        self.units.number_of(units)
+        match self.units.place(units) {
+            Some(number) => number,
+            None => self.units.len(),
+        }
     }
 
     /// The number of a text; where it is missing, how many texts there are.
     pub fn number_of_text(&self, alloc: Global, text: &Text) -> M<usize>
         ensures { IfOk result (λ n. n ≡ number_of self.now (units_of text.now)) }
     {
-        match number_kept(&self.numbers, &marked(text)?) {
+        match number_kept(&self.numbers, text) {
             Some(number) => Ok(number),
             None => {
                 let units = units_of_text(alloc, text)?;
@@ -85,51 +88,67 @@ impl Texts {
     }
 }
 
-fn keep_units(alloc: Global, texts: &mut UnitTexts, units: &Units) -> M<usize>
+fn keep_units(alloc: Global, texts: &mut KeySet<Units>, units: &Units) -> M<usize>
     ensures number { IfOk result (λ n. HasNumber texts.new n units.now) }
     ensures grows { Grows texts.old texts.new }
 {
-    let number = texts.number_of(units);
-    if number < texts.len() {
-        return Ok(number);
+    match texts.place(units) {
+        Some(number) => Ok(number),
+        None => keep(texts, Items::from_vec(units.as_slice().to_vec(alloc)?)),
     }
-    let copy = copied(alloc, units)?;
-    texts.keep(alloc, copy)
+}
+
+fn keep(texts: &mut KeySet<Units>, units: Units) -> M<usize>
+    ensures number { IfOk result (λ n. HasNumber texts.new n units) }
+    ensures grows { Grows texts.old texts.new }
+{
+    texts.keep(units)
 }
 
 fn keep_text(
     alloc: Global,
-    texts: &mut UnitTexts,
-    numbers: &mut BTreeMap<Marked, usize>,
+    texts: &mut KeySet<Units>,
+    numbers: &mut Table<Text, usize>,
     text: &Text,
 ) -> M<usize>
-    requires { AreNumbers texts.old numbers.old.entries }
+    requires { AreNumbers texts.old numbers.old }
     ensures text { IfOk result (λ n. HasText texts.new n (units_of text.now)) }
     ensures grows { Grows texts.old texts.new }
-    ensures numbers { AreNumbers texts.new numbers.new.entries }
+    ensures numbers { AreNumbers texts.new numbers.new }
 {
-    let key = marked(text)?;
-    match number_kept(numbers, &key) {
+    match number_kept(numbers, text) {
         Some(number) => Ok(number),
-        None => keep_new(alloc, texts, numbers, text, key),
+        None => keep_new(alloc, texts, numbers, text),
     }
 }
 
 // The number of a text of which none is kept yet.
 fn keep_new(
     alloc: Global,
-    texts: &mut UnitTexts,
-    numbers: &mut BTreeMap<Marked, usize>,
+    texts: &mut KeySet<Units>,
+    numbers: &mut Table<Text, usize>,
     text: &Text,
-    key: Marked,
 ) -> M<usize>
-    requires numbers { AreNumbers texts.old numbers.old.entries }
-    requires key { key ≡ marked text.now }
+    requires { AreNumbers texts.old numbers.old }
     ensures text { IfOk result (λ n. HasText texts.new n (units_of text.now)) }
     ensures grows { Grows texts.old texts.new }
-    ensures numbers { AreNumbers texts.new numbers.new.entries }
+    ensures numbers { AreNumbers texts.new numbers.new }
 {
-    let number = texts.keep(alloc, units_of_text(alloc, text)?)?;
-    put_number(numbers, key, number)?;
+    let number = keep(texts, units_of_text(alloc, text)?)?;
+    put_number(numbers, text, number)?;
     Ok(number)
+}
+
+fn number_kept(numbers: &Table<Text, usize>, text: &Text) -> Option<usize>
+    ensures { result ≡ lookup (same_text text.now) numbers.now }
+{
+    numbers.get(text).copied()
+}
+
+fn put_number(numbers: &mut Table<Text, usize>, text: &Text, number: usize) -> M<()>
+    ensures kept { OnOk result ((other : List ℕ) → lookup (same_text other) numbers.new
+        ≡ (if same_text other text.now then Some number else lookup (same_text other) numbers.old)) }
+    ensures unchanged { OnErr result (numbers.new ≡ numbers.old) }
+{
+    numbers.insert(text.clone()?, number)
 }
