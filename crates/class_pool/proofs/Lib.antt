@@ -11,7 +11,6 @@ pub mod Graphing
 pub mod Within
 pub mod Directs
 pub mod Listing
-mod LongestName
 pub mod ToldMembers
 pub mod Packages
 pub mod LikeMethods

@@ -1,6 +1,6 @@
 // Classes, found by their names.
-ghost use Rattle.std.specs.Prelude.{◌≡◌, ◌+◌, ◌<◌, ◌≤◌, IfOk, IfSome, OnOk, Some, length, map, slice_get};
-ghost use Rattle.std.specs.List.{All, position};
+ghost use Rattle.std.specs.Prelude.{◌≡◌, ◌+◌, ◌<◌, IfOk, IfSome, OnOk, Some, length, map, slice_get};
+ghost use Rattle.std.specs.List.{position};
 ghost use Rattle.indexmap.specs.IndexSet.{insert_key};
 ghost use Rattle.jv_base.specs.Names.{is_text};
 ghost use Rattle.class_pool.specs.Count.{item_count};
@@ -9,8 +9,8 @@ ghost use Rattle.class_pool.specs.Hierarchy.{IsClass, class_named, superclass};
 
 use crate::ClassId;
 use class_model::Class;
-use indexmap::IndexSet;
 use jv_base::{Items, M, Name};
+use key_table::KeySet;
 use lib_table::{lib_class, lib_super};
 use std::alloc::Global;
 use std::marker::Model;
@@ -19,14 +19,11 @@ use std::marker::Model;
 #[derive(Drop)]
 pub(crate) struct ClassesByName {
     pub(crate) classes: Items<Class>,
-    names: IndexSet<Name>,
-    /// No name is longer.
-    longest: usize,
+    names: KeySet<Name>,
 }
 
 impl Model for ClassesByName {
-    ghost use Rattle.std.specs.Prelude.{List, ◌≡◌, ◌<◌, ◌≤◌, length, map};
-    ghost use Rattle.std.specs.List.{All};
+    ghost use Rattle.std.specs.Prelude.{List, ◌≡◌, ◌<◌, map};
     ghost use Rattle.class_model.specs.declared.class.Class.{Class};
     ghost use Rattle.class_pool.specs.Count.{item_count};
 
@@ -34,8 +31,7 @@ impl Model for ClassesByName {
 
     ghost view = { λ s. s.classes };
 
-    ghost invariant = { λ s. (s.names.keys ≡ map (λ c. c.name) s.classes) × (item_count s.classes < 4294967295)
-        × All (λ c. length c.name ≤ s.longest) s.classes };
+    ghost invariant = { λ s. (s.names ≡ map (λ c. c.name) s.classes) × (item_count s.classes < 4294967295) };
 }
 
 impl ClassesByName {
@@ -45,12 +41,7 @@ impl ClassesByName {
         ensures { IfOk result (λ named. named ≡ classes) }
     {
         let names = names_of(alloc, &classes)?;
-        let longest = longest_name(classes.as_slice());
-        Ok(ClassesByName {
-            classes,
-            names,
-            longest,
-        })
+        Ok(ClassesByName { classes, names })
     }
 
     pub(crate) fn len(&self) -> u32
@@ -84,10 +75,7 @@ impl ClassesByName {
         ensures found { result ≡ position (λ c. is_text name.now c.name) self.now }
         ensures there { IfSome result (λ n. n < length self.now) }
     {
-        if name.len() > self.longest {
-            return None;
-        }
-        let number = self.names.get_index_of(name)?;
+        let number = self.names.place(name)?;
         Some(number as u32)
     }
 
@@ -116,31 +104,20 @@ impl ClassesByName {
     }
 }
 
-/// The length of the longest of the names. A longer one isn't looked for, however often a file names it.
-fn longest_name(classes: &[Class]) -> usize
-    ensures { All (λ c. length c.name ≤ result) classes.now }
-{
-    let mut longest = 0;
-    for class in classes {
-        longest = longest.max(class.name.len());
-    }
-    longest
-}
-
-fn names_of(alloc: Global, classes: &Items<Class>) -> M<IndexSet<Name>>
+fn names_of(alloc: Global, classes: &Items<Class>) -> M<KeySet<Name>>
     requires { NamesDiffer classes.now }
-    ensures { IfOk result (λ names. names.keys ≡ map (λ c. c.name) classes.now) }
+    ensures { IfOk result (λ names. names ≡ map (λ c. c.name) classes.now) }
 {
-    let mut names = IndexSet::new(alloc);
+    let mut names = KeySet::new(alloc);
     for class in classes.as_slice() {
         insert_name(&mut names, &class.name)?;
     }
     Ok(names)
 }
 
-fn insert_name(names: &mut IndexSet<Name>, name: &Name) -> M<()>
-    ensures { OnOk result (names.new.keys ≡ insert_key is_text names.old.keys name.now) }
+fn insert_name(names: &mut KeySet<Name>, name: &Name) -> M<()>
+    ensures { OnOk result (names.new ≡ insert_key is_text names.old name.now) }
 {
-    names.insert_full(name.clone()?)?;
+    names.insert(name.clone()?)?;
     Ok(())
 }

@@ -5,4 +5,4 @@ use Rattle.class_pool.proofs.set.lookup.insert_name.Goals as goal
 
 pub returns : goal.returns
 returns c =
-    c.in_ok-insert_full.ensures.keys ∙ ap (insert_key is_text c.args.names.now.keys) c.in_ok-clone.ensures.cases
+    c.in_ok-insert.ensures.keys ∙ ap (insert_key is_text c.args.names.now) c.in_ok-clone.ensures.cases

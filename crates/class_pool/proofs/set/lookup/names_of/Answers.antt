@@ -11,5 +11,5 @@ loop-class-preserved c =
     let within : c.loop-class.class-index < length c.args.classes.now = omega
     (arith, c.loop-class-test.true, ap length c.as_slice-class-items.ensures) in
     c.in_ok-insert_name.ensures
-    ∙ name_put c.args.classes.now c.loop-class.class-index x c.loop-class.names.keys c.requires within at
+    ∙ name_put c.args.classes.now c.loop-class.class-index x c.loop-class.names c.requires within at
     c.loop-class.invariant

@@ -3,34 +3,27 @@ use Rattle.std.specs.List.{position}
 use Rattle.jv_base.specs.Names.{is_text}
 use Rattle.class_model.specs.declared.class.Class.{Class}
 use Rattle.class_pool.proofs.Counting.{classes_counted}
-use Rattle.class_pool.proofs.LongestName.{none_longer}
 use Rattle.class_pool.proofs.Naming.{number_found, number_below}
 use Rattle.class_pool.proofs.set.lookup.ClassesByName.number_of.Goals as goal
 
 pub returns-in_err-number-clause-found : goal.returns-in_err-number-clause-found
 returns-in_err-number-clause-found c =
     c.from_residual.ensures
-    ∙ sym (sym (number_found c.self.inside.classes c.self.inside.names.keys c.args.name.now c.self.invariant.0)
-    ∙ sym c.get_index_of.ensures.index ∙ c.in_err-number.was)
+    ∙ sym (sym (number_found c.self.inside.classes c.self.inside.names c.args.name.now c.self.invariant.0)
+    ∙ sym c.place.ensures.found ∙ c.in_err-number.was)
     ∙ ap (position (λ (x : Class). is_text c.args.name.now x.name)) c.self.view_is
 
 pub overflow_cast-result : goal.overflow_cast-result
 overflow_cast-result c =
     let below : c.in_ok-number.number < length c.self.inside.classes =
     number_below c.self.inside.classes c.args.name.now c.in_ok-number.number
-    (sym (number_found c.self.inside.classes c.self.inside.names.keys c.args.name.now c.self.invariant.0)
-    ∙ sym c.get_index_of.ensures.index ∙ c.in_ok-number.was) in
+    (sym (number_found c.self.inside.classes c.self.inside.names c.args.name.now c.self.invariant.0)
+    ∙ sym c.place.ensures.found ∙ c.in_ok-number.was) in
     let few = classes_counted c.self.inside.classes in
     omega (arith, below, few, c.self.invariant.1)
 
 pub returns-clause-found : goal.returns-clause-found
 returns-clause-found c =
-    sym (sym (number_found c.self.inside.classes c.self.inside.names.keys c.args.name.now c.self.invariant.0)
-    ∙ sym c.get_index_of.ensures.index ∙ c.in_ok-number.was)
-    ∙ ap (position (λ (x : Class). is_text c.args.name.now x.name)) c.self.view_is
-
-pub returns-then-len-self-clause-found : goal.returns-then-len-self-clause-found
-returns-then-len-self-clause-found c =
-    sym (none_longer c.args.name.now c.self.inside.longest c.self.inside.classes c.self.invariant.2
-    (omega (arith, c.if-len-self.true, c.len.ensures)))
+    sym (sym (number_found c.self.inside.classes c.self.inside.names c.args.name.now c.self.invariant.0)
+    ∙ sym c.place.ensures.found ∙ c.in_ok-number.was)
     ∙ ap (position (λ (x : Class). is_text c.args.name.now x.name)) c.self.view_is
