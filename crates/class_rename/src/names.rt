@@ -5,17 +5,17 @@ ghost use Rattle.jv_base.specs.Names.{is_text};
 ghost use Rattle.jv_base.specs.Types.{method_text};
 ghost use Rattle.class_rename.specs.Names.{names_in, new_name};
 
-use indexmap::IndexMap;
 use jv_base::{M, MethodType, Name, Text};
+use key_table::Table;
 use std::marker::Model;
 
-/// The new names of classes, fields and methods. A name that no table has stays. A look-up takes the same time however
-/// many names there are, unless they were chosen to have one hash.
+/// The new names of classes, fields and methods. A name that no table has stays. A look-up takes the logarithm of
+/// how many names there are.
 #[derive(Drop)]
 pub struct NewNames {
-    classes: IndexMap<Name, Name>,
-    fields: IndexMap<Name, Name>,
-    methods: IndexMap<Name, Name>,
+    classes: Table<Name, Name>,
+    fields: Table<Name, Name>,
+    methods: Table<Name, Name>,
 }
 
 impl Model for NewNames {
@@ -24,20 +24,20 @@ impl Model for NewNames {
     ghost Value = { Tables };
 
     ghost view = { λ n. record {
-      classes = n.classes.entries;
-      fields = n.fields.entries;
-      methods = n.methods.entries;
+      classes = n.classes;
+      fields = n.fields;
+      methods = n.methods;
     } };
 }
 
 impl NewNames {
     /// The names that these tables have, by their old ones.
     pub fn new(
-        classes: IndexMap<Name, Name>,
-        fields: IndexMap<Name, Name>,
-        methods: IndexMap<Name, Name>,
+        classes: Table<Name, Name>,
+        fields: Table<Name, Name>,
+        methods: Table<Name, Name>,
     ) -> Self
-        ensures { result ≡ record { classes = classes.entries; fields = fields.entries; methods = methods.entries } }
+        ensures { result ≡ record { classes = classes; fields = fields; methods = methods } }
     {
         NewNames {
             classes,
@@ -86,8 +86,8 @@ impl NewNames {
 }
 
 /// The name that a table has for an old one.
-pub(crate) fn looked_up(table: &IndexMap<Name, Name>, name: &Name) -> M<Option<Name>>
-    ensures { IfOk result (λ new. new ≡ lookup (is_text name.now) table.now.entries) }
+pub(crate) fn looked_up(table: &Table<Name, Name>, name: &Name) -> M<Option<Name>>
+    ensures { IfOk result (λ new. new ≡ lookup (is_text name.now) table.now) }
 {
     match table.get(name) {
         Some(new) => Ok(Some(new.clone()?)),
@@ -96,8 +96,8 @@ pub(crate) fn looked_up(table: &IndexMap<Name, Name>, name: &Name) -> M<Option<N
 }
 
 /// The name that a table has for an old one, else the old one.
-fn new_name(table: &IndexMap<Name, Name>, name: &Name) -> M<Name>
-    ensures { IfOk result (λ new. new ≡ new_name table.now.entries name.now) }
+fn new_name(table: &Table<Name, Name>, name: &Name) -> M<Name>
+    ensures { IfOk result (λ new. new ≡ new_name table.now name.now) }
 {
     match table.get(name) {
         Some(new) => Ok(new.clone()?),

@@ -12,12 +12,12 @@ use crate::NewNames;
 use crate::renamer::{field_text, method_text};
 use crate::types::renamed_type;
 use class_model::MemberRef;
-use indexmap::IndexMap;
 use jv_base::{Base, M, Name, Shared, Text};
+use key_table::{Key, Table};
 use std::alloc::Global;
 
 /// A reference to a member of a class, or of an array of its objects, by which it is found again.
-#[derive(Drop, PartialEq, Eq, Hash)]
+#[derive(Clone, Drop, PartialEq, Eq, PartialOrd, Ord)]
 pub(crate) struct Reference {
     class: Name,
     dims: u8,
@@ -26,8 +26,28 @@ pub(crate) struct Reference {
     of_interface: bool,
 }
 
+impl Key for Reference {
+    ghost use Rattle.std.proofs.Common.{ap};
+    ghost use Rattle.class_rename.specs.bodies.References.{mark_of, same_parts, same_references};
+
+    ghost mark = { mark_of };
+
+    ghost one_mark = { λ a b same. ap mark_of (same_references a b same) };
+
+    ghost copies = { λ a b same. same_parts same };
+
+    fn mark(&self) -> u64 {
+        let names = self
+            .class
+            .tail()
+            .wrapping_mul(31)
+            .wrapping_add(self.name.tail());
+        names.wrapping_mul(31).wrapping_add(self.ty.tail())
+    }
+}
+
 /// What became of references.
-pub(crate) type References = IndexMap<Reference, Shared<MemberRef>>;
+pub(crate) type References = Table<Reference, Shared<MemberRef>>;
 
 /// By what a reference is found again; that to a member of an array of numbers isn't.
 fn key_of(r: &MemberRef) -> M<Option<Reference>>
@@ -58,7 +78,7 @@ fn keyed(r: &MemberRef, class: &Name) -> M<Reference>
 }
 
 fn found(table: &References, key: &Reference) -> M<Option<Shared<MemberRef>>>
-    ensures { IfOk result (λ new. new ≡ lookup (same_reference key.now) table.now.entries) }
+    ensures { IfOk result (λ new. new ≡ lookup (same_reference key.now) table.now) }
 {
     match table.get(key) {
         Some(new) => Ok(Some(new.clone()?)),
@@ -68,8 +88,8 @@ fn found(table: &References, key: &Reference) -> M<Option<Shared<MemberRef>>>
 
 /// Keeps what became of a reference, and gives it back.
 fn keep(table: &mut References, key: Reference, new: Shared<MemberRef>) -> M<Shared<MemberRef>>
-    ensures entries { table.new.entries ≡ (if is_ok result then insert_entry same_reference table.old.entries key new
-        else table.old.entries) }
+    ensures table { table.new ≡ (if is_ok result then insert_entry same_reference table.old key new
+        else table.old) }
     ensures same { IfOk result (λ kept. kept ≡ new) }
 {
     let kept = new.clone()?;
@@ -83,14 +103,14 @@ fn keep(table: &mut References, key: Reference, new: Shared<MemberRef>) -> M<Sha
 pub(crate) fn field_ref(
     alloc: Global,
     names: &NewNames,
-    texts: &mut IndexMap<Text, Text>,
+    texts: &mut Table<Text, Text>,
     table: &mut References,
     r: &MemberRef,
 ) -> M<Shared<MemberRef>>
-    requires texts { AreKnown (renamed_field_text (names_in names.now)) texts.old.entries }
-    requires table { AreRenamed (renamed_field_ref (names_in names.now)) table.old.entries }
-    ensures texts { AreKnown (renamed_field_text (names_in names.now)) texts.new.entries }
-    ensures table { AreRenamed (renamed_field_ref (names_in names.now)) table.new.entries }
+    requires texts { AreKnown (renamed_field_text (names_in names.now)) texts.old }
+    requires table { AreRenamed (renamed_field_ref (names_in names.now)) table.old }
+    ensures texts { AreKnown (renamed_field_text (names_in names.now)) texts.new }
+    ensures table { AreRenamed (renamed_field_ref (names_in names.now)) table.new }
     ensures renamed { IfOk result (λ new. new ≡ renamed_field_ref (names_in names.now) r.now) }
 {
     match key_of(r)? {
@@ -102,16 +122,16 @@ pub(crate) fn field_ref(
 fn known_field_ref(
     alloc: Global,
     names: &NewNames,
-    texts: &mut IndexMap<Text, Text>,
+    texts: &mut Table<Text, Text>,
     table: &mut References,
     key: Reference,
     r: &MemberRef,
 ) -> M<Shared<MemberRef>>
     requires key { ref_of key ≡ r.now }
-    requires texts { AreKnown (renamed_field_text (names_in names.now)) texts.old.entries }
-    requires table { AreRenamed (renamed_field_ref (names_in names.now)) table.old.entries }
-    ensures texts { AreKnown (renamed_field_text (names_in names.now)) texts.new.entries }
-    ensures table { AreRenamed (renamed_field_ref (names_in names.now)) table.new.entries }
+    requires texts { AreKnown (renamed_field_text (names_in names.now)) texts.old }
+    requires table { AreRenamed (renamed_field_ref (names_in names.now)) table.old }
+    ensures texts { AreKnown (renamed_field_text (names_in names.now)) texts.new }
+    ensures table { AreRenamed (renamed_field_ref (names_in names.now)) table.new }
     ensures renamed { IfOk result (λ new. new ≡ renamed_field_ref (names_in names.now) r.now) }
 {
     if let Some(known) = found(table, &key)? {
@@ -124,11 +144,11 @@ fn known_field_ref(
 fn new_field_ref(
     alloc: Global,
     names: &NewNames,
-    texts: &mut IndexMap<Text, Text>,
+    texts: &mut Table<Text, Text>,
     r: &MemberRef,
 ) -> M<Shared<MemberRef>>
-    requires texts { AreKnown (renamed_field_text (names_in names.now)) texts.old.entries }
-    ensures texts { AreKnown (renamed_field_text (names_in names.now)) texts.new.entries }
+    requires texts { AreKnown (renamed_field_text (names_in names.now)) texts.old }
+    ensures texts { AreKnown (renamed_field_text (names_in names.now)) texts.new }
     ensures renamed { IfOk result (λ new. new ≡ renamed_field_ref (names_in names.now) r.now) }
 {
     let ty = field_text(alloc, names, texts, &r.ty)?;
@@ -142,14 +162,14 @@ fn new_field_ref(
 pub(crate) fn method_ref(
     alloc: Global,
     names: &NewNames,
-    texts: &mut IndexMap<Text, Text>,
+    texts: &mut Table<Text, Text>,
     table: &mut References,
     r: &MemberRef,
 ) -> M<Shared<MemberRef>>
-    requires texts { AreKnown (renamed_method_text (names_in names.now)) texts.old.entries }
-    requires table { AreRenamed (renamed_method_ref (names_in names.now)) table.old.entries }
-    ensures texts { AreKnown (renamed_method_text (names_in names.now)) texts.new.entries }
-    ensures table { AreRenamed (renamed_method_ref (names_in names.now)) table.new.entries }
+    requires texts { AreKnown (renamed_method_text (names_in names.now)) texts.old }
+    requires table { AreRenamed (renamed_method_ref (names_in names.now)) table.old }
+    ensures texts { AreKnown (renamed_method_text (names_in names.now)) texts.new }
+    ensures table { AreRenamed (renamed_method_ref (names_in names.now)) table.new }
     ensures renamed { IfOk result (λ new. new ≡ renamed_method_ref (names_in names.now) r.now) }
 {
     match key_of(r)? {
@@ -161,16 +181,16 @@ pub(crate) fn method_ref(
 fn known_method_ref(
     alloc: Global,
     names: &NewNames,
-    texts: &mut IndexMap<Text, Text>,
+    texts: &mut Table<Text, Text>,
     table: &mut References,
     key: Reference,
     r: &MemberRef,
 ) -> M<Shared<MemberRef>>
     requires key { ref_of key ≡ r.now }
-    requires texts { AreKnown (renamed_method_text (names_in names.now)) texts.old.entries }
-    requires table { AreRenamed (renamed_method_ref (names_in names.now)) table.old.entries }
-    ensures texts { AreKnown (renamed_method_text (names_in names.now)) texts.new.entries }
-    ensures table { AreRenamed (renamed_method_ref (names_in names.now)) table.new.entries }
+    requires texts { AreKnown (renamed_method_text (names_in names.now)) texts.old }
+    requires table { AreRenamed (renamed_method_ref (names_in names.now)) table.old }
+    ensures texts { AreKnown (renamed_method_text (names_in names.now)) texts.new }
+    ensures table { AreRenamed (renamed_method_ref (names_in names.now)) table.new }
     ensures renamed { IfOk result (λ new. new ≡ renamed_method_ref (names_in names.now) r.now) }
 {
     if let Some(known) = found(table, &key)? {
@@ -183,11 +203,11 @@ fn known_method_ref(
 fn new_method_ref(
     alloc: Global,
     names: &NewNames,
-    texts: &mut IndexMap<Text, Text>,
+    texts: &mut Table<Text, Text>,
     r: &MemberRef,
 ) -> M<Shared<MemberRef>>
-    requires texts { AreKnown (renamed_method_text (names_in names.now)) texts.old.entries }
-    ensures texts { AreKnown (renamed_method_text (names_in names.now)) texts.new.entries }
+    requires texts { AreKnown (renamed_method_text (names_in names.now)) texts.old }
+    ensures texts { AreKnown (renamed_method_text (names_in names.now)) texts.new }
     ensures renamed { IfOk result (λ new. new ≡ renamed_method_ref (names_in names.now) r.now) }
 {
     let ty = method_text(alloc, names, texts, &r.ty)?;

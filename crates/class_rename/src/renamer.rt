@@ -12,8 +12,8 @@ use crate::names::looked_up;
 use crate::references::{References, field_ref, method_ref};
 use crate::types::{renamed_field_text, renamed_method_text};
 use class_model::MemberRef;
-use indexmap::IndexMap;
 use jv_base::{M, Shared, Text};
+use key_table::Table;
 use std::alloc::Global;
 use std::marker::Model;
 
@@ -22,8 +22,8 @@ use std::marker::Model;
 #[derive(Drop)]
 pub(crate) struct Renamer<'a> {
     names: &'a NewNames,
-    field_texts: IndexMap<Text, Text>,
-    method_texts: IndexMap<Text, Text>,
+    field_texts: Table<Text, Text>,
+    method_texts: Table<Text, Text>,
     field_refs: References,
     method_refs: References,
 }
@@ -39,10 +39,10 @@ impl<'a> Model for Renamer<'a> {
 
     ghost view = { λ r. r.names.now };
 
-    ghost invariant = { λ r. AreKnown (renamed_field_text (names_in r.names.now)) r.field_texts.entries
-        × AreKnown (renamed_method_text (names_in r.names.now)) r.method_texts.entries
-        × AreRenamed (renamed_field_ref (names_in r.names.now)) r.field_refs.entries
-        × AreRenamed (renamed_method_ref (names_in r.names.now)) r.method_refs.entries };
+    ghost invariant = { λ r. AreKnown (renamed_field_text (names_in r.names.now)) r.field_texts
+        × AreKnown (renamed_method_text (names_in r.names.now)) r.method_texts
+        × AreRenamed (renamed_field_ref (names_in r.names.now)) r.field_refs
+        × AreRenamed (renamed_method_ref (names_in r.names.now)) r.method_refs };
 }
 
 impl<'a> Renamer<'a> {
@@ -51,10 +51,10 @@ impl<'a> Renamer<'a> {
     {
         Renamer {
             names,
-            field_texts: IndexMap::new(alloc),
-            method_texts: IndexMap::new(alloc),
-            field_refs: IndexMap::new(alloc),
-            method_refs: IndexMap::new(alloc),
+            field_texts: Table::new(alloc),
+            method_texts: Table::new(alloc),
+            field_refs: Table::new(alloc),
+            method_refs: Table::new(alloc),
         }
     }
 
@@ -98,11 +98,11 @@ impl<'a> Renamer<'a> {
 pub(crate) fn field_text(
     alloc: Global,
     names: &NewNames,
-    table: &mut IndexMap<Text, Text>,
+    table: &mut Table<Text, Text>,
     text: &Text,
 ) -> M<Text>
-    requires { AreKnown (renamed_field_text (names_in names.now)) table.old.entries }
-    ensures known { AreKnown (renamed_field_text (names_in names.now)) table.new.entries }
+    requires { AreKnown (renamed_field_text (names_in names.now)) table.old }
+    ensures known { AreKnown (renamed_field_text (names_in names.now)) table.new }
     ensures text { IfOk result (λ new. new ≡ renamed_field_text (names_in names.now) text.now) }
 {
     let found = looked_up(table, text)?;
@@ -112,13 +112,13 @@ pub(crate) fn field_text(
 fn known_field_text(
     alloc: Global,
     names: &NewNames,
-    table: &mut IndexMap<Text, Text>,
+    table: &mut Table<Text, Text>,
     text: &Text,
     found: Option<Text>,
 ) -> M<Text>
-    requires known { AreKnown (renamed_field_text (names_in names.now)) table.old.entries }
+    requires known { AreKnown (renamed_field_text (names_in names.now)) table.old }
     requires found { IfSome found (λ new. new ≡ renamed_field_text (names_in names.now) text.now) }
-    ensures known { AreKnown (renamed_field_text (names_in names.now)) table.new.entries }
+    ensures known { AreKnown (renamed_field_text (names_in names.now)) table.new }
     ensures text { IfOk result (λ new. new ≡ renamed_field_text (names_in names.now) text.now) }
 {
     if let Some(found) = found {
@@ -132,11 +132,11 @@ fn known_field_text(
 pub(crate) fn method_text(
     alloc: Global,
     names: &NewNames,
-    table: &mut IndexMap<Text, Text>,
+    table: &mut Table<Text, Text>,
     text: &Text,
 ) -> M<Text>
-    requires { AreKnown (renamed_method_text (names_in names.now)) table.old.entries }
-    ensures known { AreKnown (renamed_method_text (names_in names.now)) table.new.entries }
+    requires { AreKnown (renamed_method_text (names_in names.now)) table.old }
+    ensures known { AreKnown (renamed_method_text (names_in names.now)) table.new }
     ensures text { IfOk result (λ new. new ≡ renamed_method_text (names_in names.now) text.now) }
 {
     let found = looked_up(table, text)?;
@@ -146,13 +146,13 @@ pub(crate) fn method_text(
 fn known_method_text(
     alloc: Global,
     names: &NewNames,
-    table: &mut IndexMap<Text, Text>,
+    table: &mut Table<Text, Text>,
     text: &Text,
     found: Option<Text>,
 ) -> M<Text>
-    requires known { AreKnown (renamed_method_text (names_in names.now)) table.old.entries }
+    requires known { AreKnown (renamed_method_text (names_in names.now)) table.old }
     requires found { IfSome found (λ new. new ≡ renamed_method_text (names_in names.now) text.now) }
-    ensures known { AreKnown (renamed_method_text (names_in names.now)) table.new.entries }
+    ensures known { AreKnown (renamed_method_text (names_in names.now)) table.new }
     ensures text { IfOk result (λ new. new ≡ renamed_method_text (names_in names.now) text.now) }
 {
     if let Some(found) = found {
@@ -163,20 +163,20 @@ fn known_method_text(
 }
 
 /// Keeps what became of a text, and gives it back.
-fn remember(table: &mut IndexMap<Text, Text>, text: &Text, new: Text) -> M<Text>
-    ensures entries { table.new.entries ≡ (if is_ok result
-        then insert_entry (pointwise nat_eq) table.old.entries text.now new
-        else table.old.entries) }
+fn remember(table: &mut Table<Text, Text>, text: &Text, new: Text) -> M<Text>
+    ensures table { table.new ≡ (if is_ok result
+        then insert_entry (pointwise nat_eq) table.old text.now new
+        else table.old) }
     ensures same { IfOk result (λ kept. kept ≡ new) }
 {
     put(table, text, &new)?;
     Ok(new)
 }
 
-fn put(table: &mut IndexMap<Text, Text>, text: &Text, new: &Text) -> M<()>
-    ensures { table.new.entries ≡ (if is_ok result
-        then insert_entry (pointwise nat_eq) table.old.entries text.now new.now
-        else table.old.entries) }
+fn put(table: &mut Table<Text, Text>, text: &Text, new: &Text) -> M<()>
+    ensures { table.new ≡ (if is_ok result
+        then insert_entry (pointwise nat_eq) table.old text.now new.now
+        else table.old) }
 {
     let (text, new) = (text.clone()?, new.clone()?);
     table.insert(text, new)?;

@@ -1,5 +1,5 @@
 -- Frames whose locals end in no Top, and the locals of the frame before (only the proof of renaming needs it).
-use Rattle.std.specs.Prelude.{◌≡◌, ℕ, zero, suc, ◌<◌, List, [], length}
+use Rattle.std.specs.Prelude.{◌≡◌, ℕ, zero, suc, ◌<◌, List, []}
 use Rattle.class_model.specs.FrameLists.{frame_numbered}
 use Rattle.class_model.specs.Frames.{cut_tops}
 use Rattle.class_model.specs.declared.frame.FrameAt.{FrameAt}

@@ -1,4 +1,4 @@
-use Rattle.std.proofs.Common.{◌∙◌, ◌-◌, ℕ, List, ap, arith, slice_get, sym}
+use Rattle.std.proofs.Common.{◌∙◌, ◌-◌, List, ap, arith, slice_get, sym}
 use Rattle.std.proofs.lemmas.Bool.{not-true}
 use Rattle.class_model.specs.FrameLists.{frame_numbered}
 use Rattle.class_model.specs.declared.frame.VType.{VType}

@@ -6,6 +6,6 @@ use Rattle.class_rename.proofs.renamer.field_text.Goals as goal
 pub known_field_text-requires : goal.known_field_text-requires
 known_field_text-requires c = record {
   known = c.requires;
-  found = found_if (renamed_field_text (names_in c.args.names.now)) c.args.table.now.entries c.args.text.now
+  found = found_if (renamed_field_text (names_in c.args.names.now)) c.args.table.now c.args.text.now
       c.in_ok-found.found c.requires c.in_ok-found.ensures;
 }

@@ -1,4 +1,4 @@
-use Rattle.std.proofs.Common.{subst, sym}
+use Rattle.std.proofs.Common.{subst}
 use Rattle.std.specs.Prelude.{◌≡◌, IfOk}
 use Rattle.class_rename.specs.Names.{Tables, names_in}
 use Rattle.class_rename.specs.Renamed.{renamed_method_ref}
