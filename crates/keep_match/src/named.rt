@@ -5,17 +5,17 @@ ghost use Rattle.std.specs.List.{list_any};
 ghost use Rattle.keep_match.specs.bodies.Marks.{AreLiteral, AreNames, IsLiteral, IsNumber, IsUnnamed, is_wildcard};
 
 use class_pool::ClassSet;
-use indexmap::IndexSet;
 use jv_base::{M, Text};
 use keep_rules::Filter;
+use key_table::KeySet;
 use report_text::class_text;
 use std::alloc::Global;
 
 /// The names of the classes with dots, in the order of the set; none where two classes have one of them.
-pub(crate) fn names_of(alloc: Global, set: &ClassSet) -> M<Option<IndexSet<Text>>>
-    ensures { IfOk result (λ found. IfSome found (λ names. AreNames set.now (length set.now) names.keys)) }
+pub(crate) fn names_of(alloc: Global, set: &ClassSet) -> M<Option<KeySet<Text>>>
+    ensures { IfOk result (λ found. IfSome found (λ names. AreNames set.now (length set.now) names)) }
 {
-    let mut names = IndexSet::new(alloc);
+    let mut names = KeySet::new(alloc);
     for number in 0..set.len() {
         let class = set.class(number);
         let _name = class.name.as_str();
@@ -27,20 +27,20 @@ pub(crate) fn names_of(alloc: Global, set: &ClassSet) -> M<Option<IndexSet<Text>
 }
 
 /// Whether the name is a new one, which is then put behind the others.
-fn add_name(names: &mut IndexSet<Text>, name: Text) -> M<bool>
-    ensures new { IfOk result (λ is_new. is_new ≡ not (list_any (is_text name) names.old.keys)) }
-    ensures names { IfOk result (λ is_new. is_new ≡ true → names.new.keys ≡ names.old.keys ++ name ∷ []) }
+fn add_name(names: &mut KeySet<Text>, name: Text) -> M<bool>
+    ensures new { IfOk result (λ is_new. is_new ≡ not (list_any (is_text name) names.old)) }
+    ensures names { IfOk result (λ is_new. is_new ≡ true → names.new ≡ names.old ++ name ∷ []) }
 {
-    Ok(names.insert(name)?)
+    names.insert(name)
 }
 
 /// The number of the class with a name.
-pub(crate) fn number_of(names: &IndexSet<Text>, set: &ClassSet, name: &Text) -> Option<u32>
-    requires { AreNames set.now (length set.now) names.now.keys }
+pub(crate) fn number_of(names: &KeySet<Text>, set: &ClassSet, name: &Text) -> Option<u32>
+    requires { AreNames set.now (length set.now) names.now }
     ensures { MatchOption result (IsUnnamed set.now name.now) (IsNumber set.now name.now) }
 {
     let _count = set.len();
-    let number = names.get_index_of(name)?;
+    let number = names.place(name)?;
     Some(number as u32)
 }
 

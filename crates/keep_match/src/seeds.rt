@@ -19,9 +19,9 @@ use crate::named::{are_literal, names_of, number_of};
 use crate::rows::{are_members_met, mark_row};
 use class_model::Class;
 use class_pool::ClassSet;
-use indexmap::IndexSet;
 use jv_base::{Items, M, Text};
 use keep_rules::{Keep, KeepKind, MemberSpec, Rules};
+use key_table::KeySet;
 use std::alloc::Global;
 use std::mem::replace;
 
@@ -54,11 +54,11 @@ fn mark_all(
     alloc: Global,
     keeps: &[Keep],
     set: &ClassSet,
-    names: &Option<IndexSet<Text>>,
+    names: &Option<KeySet<Text>>,
     rows: &mut Vec<Items<bool>>,
 ) -> M<()>
     requires rows { HasRows set.now [] rows.old.items }
-    requires names { IfSome names.now (λ known. AreNames set.now (length set.now) known.keys) }
+    requires names { IfSome names.now (λ known. AreNames set.now (length set.now) known) }
     ensures { OnOk result (HasRows set.now keeps.now rows.new.items) }
 {
     for keep in keeps {
@@ -103,11 +103,11 @@ fn mark_rows(
     alloc: Global,
     keep: &Keep,
     set: &ClassSet,
-    names: &Option<IndexSet<Text>>,
+    names: &Option<KeySet<Text>>,
     rows: &mut Vec<Items<bool>>,
 ) -> M<()>
     requires rows { AreRows set.now rows.old.items }
-    requires names { IfSome names.now (λ known. AreNames set.now (length set.now) known.keys) }
+    requires names { IfSome names.now (λ known. AreNames set.now (length set.now) known) }
     ensures { OnOk result (AreMarked set.now keep.now rows.old.items rows.new.items) }
 {
     if !keeps_classes(keep) {
@@ -124,12 +124,12 @@ fn mark_kept(
     keep: &Keep,
     set: &ClassSet,
     above: &[Option<bool>],
-    names: &Option<IndexSet<Text>>,
+    names: &Option<KeySet<Text>>,
     rows: &mut Vec<Items<bool>>,
 )
     requires above { AreKnown keep.now.spec.above set.now above.now }
     requires rows { AreRows set.now rows.old.items }
-    requires names { IfSome names.now (λ known. AreNames set.now (length set.now) known.keys) }
+    requires names { IfSome names.now (λ known. AreNames set.now (length set.now) known) }
     requires keeps { keeps_classes keep.now ≡ true }
     ensures { AreMarked set.now keep.now rows.old.items rows.new.items }
 {
@@ -147,14 +147,14 @@ fn mark_named(
     keep: &Keep,
     set: &ClassSet,
     above: &[Option<bool>],
-    names: &IndexSet<Text>,
+    names: &KeySet<Text>,
     rows: &mut Vec<Items<bool>>,
 )
     requires above { AreKnown keep.now.spec.above set.now above.now }
     requires rows { AreRows set.now rows.old.items }
     requires keeps { keeps_classes keep.now ≡ true }
     requires literal { AreLiteral (length keep.now.spec.names) keep.now.spec.names }
-    requires names { AreNames set.now (length set.now) names.now.keys }
+    requires names { AreNames set.now (length set.now) names.now }
     ensures { AreMarked set.now keep.now rows.old.items rows.new.items }
 {
     for filter in keep.spec.names.as_slice() {
@@ -168,14 +168,14 @@ fn mark_pattern(
     keep: &Keep,
     set: &ClassSet,
     above: &[Option<bool>],
-    names: &IndexSet<Text>,
+    names: &KeySet<Text>,
     pattern: &Text,
     rows: &mut Vec<Items<bool>>,
 )
     requires above { AreKnown keep.now.spec.above set.now above.now }
     requires rows { AreRows set.now rows.old.items }
     requires keeps { keeps_classes keep.now ≡ true }
-    requires names { AreNames set.now (length set.now) names.now.keys }
+    requires names { AreNames set.now (length set.now) names.now }
     requires accepted { (n : ℕ) (c : Class) → slice_get set.now n ≡ Some c → class_text c ≡ pattern.now
         → accepts (λ p. matches_class_name p c.name) keep.now.spec.names ≡ true }
     ensures { AreAdded set.now keep.now rows.old.items rows.new.items (IsNamed set.now pattern.now) }

@@ -4,11 +4,11 @@ use Rattle.keep_match.proofs.named.number_of.Goals as goal
 
 pub returns-in_err-number : goal.returns-in_err-number
 returns-in_err-number c =
-    let h = number_is c.args.set.now c.args.names.now.keys c.args.name.now c.requires None
-    (sym c.in_err-number.ensures.index) in
+    let h = number_is c.args.set.now c.args.names.now c.args.name.now c.requires None
+    (sym c.in_err-number.ensures.found) in
     search rules
 
 pub returns : goal.returns
 returns c =
-    number_is c.args.set.now c.args.names.now.keys c.args.name.now c.requires (Some c.in_ok-number.number)
-    (sym c.in_ok-number.ensures.index)
+    number_is c.args.set.now c.args.names.now c.args.name.now c.requires (Some c.in_ok-number.number)
+    (sym c.in_ok-number.ensures.found)

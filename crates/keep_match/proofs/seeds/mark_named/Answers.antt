@@ -30,6 +30,6 @@ loop-filter-preserved c =
 
 pub returns : goal.returns
 returns c =
-    named_all c.args.set.now c.args.keep.now c.args.rows.now.items c.loop-filter.rows.items c.args.names.now.keys
+    named_all c.args.set.now c.args.keep.now c.args.rows.now.items c.loop-filter.rows.items c.args.names.now
     c.requires.keeps c.requires.literal c.requires.names c.loop-filter.invariant.0
     (λ j n f lt. c.loop-filter.invariant.1 j n f (omega (arith, ap length c.as_slice-filter-items.ensures)))
