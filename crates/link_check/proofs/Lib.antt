@@ -4,6 +4,7 @@ mod Frames
 mod Inheriting
 pub mod Least
 mod Likes
+mod EndsMeet
 pub mod Methods
 mod Once
 mod Walks

@@ -7,6 +7,8 @@ mod overriding;
 mod references;
 mod rows;
 mod rules;
+mod same;
+mod text_places;
 
 pub use fault::{LinkKind, ProfileFault, ProfileKind};
 pub use laws::taken_sets_break_no_rule;
@@ -19,3 +21,5 @@ pub use references::special::select_special;
 pub use rows::computed_profile;
 pub use rules::calls::class_of;
 pub use rules::profile::check_links;
+pub use same::{is_same_ref, is_same_text};
+pub use text_places::{PLACES, ref_place, text_place};

@@ -8,3 +8,4 @@ pub mod member_uses;
 pub mod named_classes;
 pub mod places;
 pub mod profile;
+pub mod tested;

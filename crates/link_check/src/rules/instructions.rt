@@ -6,12 +6,14 @@ ghost use Rattle.std.specs.List.{flat_map};
 ghost use Rattle.class_model.specs.FrameLists.{frame_numbered};
 ghost use Rattle.link_check.specs.declared.fault.ProfileKind.{ProfileKind};
 ghost use Rattle.link_check.specs.Profile.{code_kinds, frame_kinds, handler_kinds, least, op_kinds, verification_kinds};
+ghost use Rattle.link_check.specs.bodies.Tested.{AreTested};
 
 use crate::ProfileKind;
-use crate::rules::calls::{new_kind, plain_call_kind, special_call_kind};
-use crate::rules::field_uses::{GET_FIELD, GET_STATIC, PUT_FIELD, PUT_STATIC, field_kind};
+use crate::rules::calls::new_kind;
+use crate::rules::field_uses::{PUT_FIELD, PUT_STATIC, field_kind};
 use crate::rules::kind_order::lesser;
 use crate::rules::named_classes::{name_kind, type_kind};
+use crate::rules::tested::{RefUse, TestedRef, ref_kind};
 use class_model::{Code, Frames, Handler, Ins, Op, VType};
 use class_pool::ClassSet;
 use jv_base::{M, Name};
@@ -21,14 +23,24 @@ use std::alloc::Global;
 pub(crate) fn code_kind(
     alloc: Global,
     set: &ClassSet,
+    tested: &mut Vec<Option<TestedRef>>,
     number: u32,
     method: &Name,
     code: &Code,
 ) -> M<Option<ProfileKind>>
     requires there { number < length set.now }
-    ensures { IfOk result (λ kind. kind ≡ least (code_kinds set.now number method.now code.now)) }
+    requires tested { AreTested set.now tested.old.items }
+    ensures tested { AreTested set.now tested.new.items }
+    ensures kind { IfOk result (λ kind. kind ≡ least (code_kinds set.now number method.now code.now)) }
 {
-    let of_instructions = instructions_kind(alloc, set, number, method, code.ins.as_slice())?;
+    let of_instructions = instructions_kind(
+        alloc,
+        set,
+        tested,
+        number,
+        method,
+        code.ins.as_slice(),
+    )?;
     let of_handlers = handlers_kind(set, number, code.handlers.as_slice());
     let of_frames = frames_kind(alloc, set, number, &code.frames)?;
     Ok(lesser(lesser(of_instructions, of_handlers), of_frames))
@@ -37,17 +49,20 @@ pub(crate) fn code_kind(
 fn instructions_kind(
     alloc: Global,
     set: &ClassSet,
+    tested: &mut Vec<Option<TestedRef>>,
     number: u32,
     method: &Name,
     instructions: &[Ins],
 ) -> M<Option<ProfileKind>>
     requires there { number < length set.now }
-    ensures { IfOk result (λ kind. kind ≡ least
+    requires tested { AreTested set.now tested.old.items }
+    ensures tested { AreTested set.now tested.new.items }
+    ensures kind { IfOk result (λ kind. kind ≡ least
         (flat_map (λ i. op_kinds set.now number method.now i.op) instructions.now)) }
 {
     let mut kind = None;
     for instruction in instructions {
-        let of_one = op_kind(alloc, set, number, method, &instruction.op)?;
+        let of_one = op_kind(alloc, set, tested, number, method, &instruction.op)?;
         kind = lesser(kind, of_one);
     }
     Ok(kind)
@@ -56,22 +71,33 @@ fn instructions_kind(
 fn op_kind(
     alloc: Global,
     set: &ClassSet,
+    tested: &mut Vec<Option<TestedRef>>,
     number: u32,
     method: &Name,
     op: &Op,
 ) -> M<Option<ProfileKind>>
     requires there { number < length set.now }
-    ensures { IfOk result (λ kind. kind ≡ least (op_kinds set.now number method.now op.now)) }
+    requires tested { AreTested set.now tested.old.items }
+    ensures tested { AreTested set.now tested.new.items }
+    ensures kind { IfOk result (λ kind. kind ≡ least (op_kinds set.now number method.now op.now)) }
 {
     match op {
-        Op::GetStatic(r) => field_kind(alloc, set, number, method, &GET_STATIC, r),
+        Op::GetStatic(r) => ref_kind(alloc, set, tested, number, method, RefUse::GetStatic, r),
+        Op::GetField(r) => ref_kind(alloc, set, tested, number, method, RefUse::GetField, r),
         Op::PutStatic(r) => field_kind(alloc, set, number, method, &PUT_STATIC, r),
-        Op::GetField(r) => field_kind(alloc, set, number, method, &GET_FIELD, r),
         Op::PutField(r) => field_kind(alloc, set, number, method, &PUT_FIELD, r),
-        Op::InvokeVirtual(r) => plain_call_kind(alloc, set, number, false, r),
-        Op::InvokeSpecial(r) => special_call_kind(alloc, set, number, r),
-        Op::InvokeStatic(r) => plain_call_kind(alloc, set, number, true, r),
-        Op::InvokeInterface(r) => plain_call_kind(alloc, set, number, false, r),
+        Op::InvokeVirtual(r) => ref_kind(alloc, set, tested, number, method, RefUse::Call, r),
+        Op::InvokeSpecial(r) => ref_kind(
+            alloc,
+            set,
+            tested,
+            number,
+            method,
+            RefUse::CallSpecial,
+            r,
+        ),
+        Op::InvokeStatic(r) => ref_kind(alloc, set, tested, number, method, RefUse::CallStatic, r),
+        Op::InvokeInterface(r) => ref_kind(alloc, set, tested, number, method, RefUse::Call, r),
         Op::New(name) => Ok(new_kind(set, number, name)),
         Op::ANewArray(ty) | Op::CheckCast(ty) | Op::InstanceOf(ty) | Op::MultiNewArray(ty, _) => {
             Ok(type_kind(set, number, ty))

@@ -9,6 +9,7 @@ ghost use Rattle.class_model.specs.Flags.{acc_abstract, has, is_interface, is_le
 ghost use Rattle.class_pool.specs.Found.{IsMethod, IsMember};
 ghost use Rattle.class_pool.specs.declared.id.ClassId.TheVariants.{Prog};
 ghost use Rattle.link_check.specs.bodies.Inherited.{AreKnown};
+ghost use Rattle.link_check.specs.bodies.Tested.{AreTested};
 ghost use Rattle.link_check.specs.Profile.{body_kinds, code_kinds, declaration_kinds, kinds_of_class, kinds_of_field};
 ghost use Rattle.link_check.specs.Profile.{kinds_of_method, least, left_out_at, name_kinds, same_place};
 
@@ -19,6 +20,7 @@ use crate::overriding::overridden::overriding_kind;
 use crate::rules::instructions::code_kind;
 use crate::rules::kind_order::{lesser, unless};
 use crate::rules::named_classes::{method_type_kind, name_kind, names_kind, type_kind};
+use crate::rules::tested::TestedRef;
 use bitflags::Flags;
 use class_model::{Class, Field, Method};
 use class_pool::{ClassId, ClassSet, MemberAt};
@@ -83,6 +85,7 @@ pub(crate) fn kind_of_method(
     alloc: Global,
     set: &ClassSet,
     known: &[Option<Known>],
+    tested: &mut Vec<Option<TestedRef>>,
     number: u32,
     class: &Class,
     index: u32,
@@ -92,7 +95,9 @@ pub(crate) fn kind_of_method(
     requires known { AreKnown set.now known.now }
     requires member { IsMember set.now (record { class = Prog number; index = index }) }
     requires method { IsMethod set.now (record { class = Prog number; index = index }) }
-    ensures { IfOk result (λ kind. kind ≡ least (kinds_of_method set.now number class.now index method.now)) }
+    requires tested { AreTested set.now tested.old.items }
+    ensures tested { AreTested set.now tested.new.items }
+    ensures kind { IfOk result (λ kind. kind ≡ least (kinds_of_method set.now number class.now index method.now)) }
 {
     let m = MemberAt {
         class: ClassId::Prog(number),
@@ -101,7 +106,7 @@ pub(crate) fn kind_of_method(
     let of_declaration = declaration_kind(set, number, class, index, method);
     let of_body = body_kind(class, method);
     let of_overridden = overriding_kind(set, known, number, &m);
-    let of_code = method_code_kind(alloc, set, number, method)?;
+    let of_code = method_code_kind(alloc, set, tested, number, method)?;
     Ok(lesser(
         lesser(lesser(of_declaration, of_body), of_overridden),
         of_code,
@@ -151,15 +156,18 @@ fn may_have_body(class: &Class, method: &Method) -> bool
 fn method_code_kind(
     alloc: Global,
     set: &ClassSet,
+    tested: &mut Vec<Option<TestedRef>>,
     number: u32,
     method: &Method,
 ) -> M<Option<ProfileKind>>
     requires there { number < length set.now }
-    ensures { IfOk result (λ kind. kind ≡ least
+    requires tested { AreTested set.now tested.old.items }
+    ensures tested { AreTested set.now tested.new.items }
+    ensures kind { IfOk result (λ kind. kind ≡ least
         (option_map_or (code_kinds set.now number method.now.name) method.now.code [])) }
 {
     match &method.code {
-        Some(code) => code_kind(alloc, set, number, &method.name, code),
+        Some(code) => code_kind(alloc, set, tested, number, &method.name, code),
         None => Ok(None),
     }
 }

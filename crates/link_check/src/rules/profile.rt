@@ -5,12 +5,14 @@ ghost use Rattle.jv_base.specs.Longest.{IfFault};
 ghost use Rattle.jv_base.specs.Outcome.{IsDue};
 ghost use Rattle.class_pool.specs.Resolution.{first};
 ghost use Rattle.link_check.specs.bodies.Inherited.{AreKnown};
+ghost use Rattle.link_check.specs.bodies.Tested.{AreTested};
 ghost use Rattle.link_check.specs.Profile.{IsPlace, fault_at, faults_of, kinds_of_field, kinds_of_method};
 ghost use Rattle.link_check.specs.Profile.{links_checked};
 
 use crate::ProfileFault;
 use crate::overriding::inherited::{Known, known_of_all};
 use crate::rules::places::{kind_of_class, kind_of_field, kind_of_method};
+use crate::rules::tested::{TestedRef, none_tested};
 use class_model::Class;
 use class_pool::ClassSet;
 use jv_base::{M, Or};
@@ -36,8 +38,16 @@ fn first_fault(alloc: Global, set: &ClassSet) -> M<Option<ProfileFault>>
         (flat_map (λ p. faults_of set.now p.0 p.1) (enumerate_from 0 set.now))) }
 {
     let known = known_of_all(alloc, set)?;
+    let mut tested = none_tested(alloc)?;
     for number in 0..set.len() {
-        let fault = fault_of(alloc, set, known.as_slice(), number, set.class(number))?;
+        let fault = fault_of(
+            alloc,
+            set,
+            known.as_slice(),
+            &mut tested,
+            number,
+            set.class(number),
+        )?;
         if fault.is_some() {
             return Ok(fault);
         }
@@ -50,6 +60,7 @@ fn fault_of(
     alloc: Global,
     set: &ClassSet,
     known: &[Option<Known>],
+    tested: &mut Vec<Option<TestedRef>>,
     number: u32,
     class: &Class,
 ) -> M<Option<ProfileFault>>
@@ -57,7 +68,9 @@ fn fault_of(
     requires known { AreKnown set.now known.now }
     requires class { slice_get set.now number ≡ Some class.now }
     requires few { length class.now.fields + length class.now.methods < 4294967295 }
-    ensures { IfOk result (λ fault. fault ≡ first (faults_of set.now number class.now)) }
+    requires tested { AreTested set.now tested.old.items }
+    ensures tested { AreTested set.now tested.new.items }
+    ensures fault { IfOk result (λ fault. fault ≡ first (faults_of set.now number class.now)) }
 {
     if let Some(kind) = kind_of_class(set, known, number, class) {
         return Ok(Some(ProfileFault {
@@ -69,7 +82,7 @@ fn fault_of(
     if let Some(fault) = field_fault(set, number, class) {
         return Ok(Some(fault));
     }
-    method_fault(alloc, set, known, number, class)
+    method_fault(alloc, set, known, tested, number, class)
 }
 
 /// The first fault of its fields.
@@ -97,6 +110,7 @@ fn method_fault(
     alloc: Global,
     set: &ClassSet,
     known: &[Option<Known>],
+    tested: &mut Vec<Option<TestedRef>>,
     number: u32,
     class: &Class,
 ) -> M<Option<ProfileFault>>
@@ -104,7 +118,9 @@ fn method_fault(
     requires known { AreKnown set.now known.now }
     requires class { slice_get set.now number ≡ Some class.now }
     requires few { length class.now.fields + length class.now.methods < 4294967295 }
-    ensures { IfOk result (λ fault. fault ≡ first
+    requires tested { AreTested set.now tested.old.items }
+    ensures tested { AreTested set.now tested.new.items }
+    ensures fault { IfOk result (λ fault. fault ≡ first
         (filter_map (λ p. fault_at number (Some p.0) (kinds_of_method set.now number class.now p.0 p.1))
         (enumerate_from (length class.now.fields) class.now.methods))) }
 {
@@ -112,7 +128,9 @@ fn method_fault(
     for at in 0..class.methods.len() as u32 {
         let method = &class.methods[at as usize];
         let index = before + at;
-        if let Some(kind) = kind_of_method(alloc, set, known, number, class, index, method)? {
+        if let Some(kind) = kind_of_method(
+            alloc, set, known, tested, number, class, index, method,
+        )? {
             return Ok(Some(ProfileFault {
                 class: number,
                 member: Some(index),

@@ -9,7 +9,10 @@ use Rattle.link_check.proofs.First.{first_flat, first_from, more_at, none_or, so
 use Rattle.link_check.proofs.rules.profile.first_fault.Goals as goal
 
 pub loop-number-init : goal.loop-number-init
-loop-number-init c = first_flat (λ (p : ℕ × Class). faults_of c.args.set.now p.0 p.1) (enumerate_from 0 c.args.set.now)
+loop-number-init c = record {
+  tested = c.in_ok-tested.ensures c.args.set.now;
+  fault = first_flat (λ (p : ℕ × Class). faults_of c.args.set.now p.0 p.1) (enumerate_from 0 c.args.set.now);
+}
 
 pub returns-then-is_some : goal.returns-then-is_some
 returns-then-is_some c =
@@ -18,10 +21,10 @@ returns-then-is_some c =
     let within : c.loop-number.number < length c.args.set.now = omega
     (arith, c.loop-number-test.true, c.len-number-end.ensures) in
     sym (
-    c.loop-number.invariant
+    c.loop-number.invariant.fault
     ∙ more_at h 0 c.args.set.now c.loop-number.number c.loop-number.number c.class.result.now
     (omega arith) within c.class.ensures.is
-    ∙ ap (λ (o : Option ProfileFault). option_or o rest) (sym c.in_ok-fault.ensures)
+    ∙ ap (λ (o : Option ProfileFault). option_or o rest) (sym c.in_ok-fault.ensures.fault)
     ∙ some_or c.in_ok-fault.fault rest (sym c.is_some.ensures ∙ c.if-is_some.true)
     )
 
@@ -31,8 +34,11 @@ loop-number-preserved c =
     let rest : Option ProfileFault = first_from h 0 c.args.set.now (c.loop-number.number + 1) in
     let within : c.loop-number.number < length c.args.set.now = omega
     (arith, c.loop-number-test.true, c.len-number-end.ensures) in
-    c.loop-number.invariant
-    ∙ more_at h 0 c.args.set.now c.loop-number.number c.loop-number.number c.class.result.now
-    (omega arith) within c.class.ensures.is
-    ∙ ap (λ (o : Option ProfileFault). option_or o rest) (sym c.in_ok-fault.ensures)
-    ∙ none_or c.in_ok-fault.fault rest (sym c.is_some.ensures ∙ c.if-is_some.false)
+    record {
+      tested = c.in_ok-fault.ensures.tested;
+      fault = c.loop-number.invariant.fault
+          ∙ more_at h 0 c.args.set.now c.loop-number.number c.loop-number.number c.class.result.now
+          (omega arith) within c.class.ensures.is
+          ∙ ap (λ (o : Option ProfileFault). option_or o rest) (sym c.in_ok-fault.ensures.fault)
+          ∙ none_or c.in_ok-fault.fault rest (sym c.is_some.ensures ∙ c.if-is_some.false);
+    }

@@ -27,10 +27,13 @@ loop-at-init c =
     (kinds_of_method c.args.set.now c.args.number c.args.class.now p.0 p.1) in
     let n : ℕ = length c.args.class.now.fields in
     let e : n ≡ n + 0 = omega arith in
-    ap (λ (k : ℕ). first (filter_map h (enumerate_from k c.args.class.now.methods))) e
+    record {
+      tested = c.requires.tested;
+      fault = ap (λ (k : ℕ). first (filter_map h (enumerate_from k c.args.class.now.methods))) e;
+    }
 
-pub returns-in-Some : goal.returns-in-Some
-returns-in-Some c =
+pub returns-in-Some-clause-fault : goal.returns-in-Some-clause-fault
+returns-in-Some-clause-fault c =
     let h : ℕ × Method → Option ProfileFault = λ p. fault_at c.args.number (Some p.0)
     (kinds_of_method c.args.set.now c.args.number c.args.class.now p.0 p.1) in
     let i : ℕ = c.len-before.result + c.loop-at.at in
@@ -39,12 +42,12 @@ returns-in-Some c =
     (arith, c.loop-at-test.true, c.len-at-end.ensures) in
     let fault : ProfileFault = record { class = c.args.number; member = Some i; kind = c.in-Some.kind } in
     sym (
-    c.loop-at.invariant
+    c.loop-at.invariant.fault
     ∙ first_here h (length c.args.class.now.fields) c.args.class.now.methods c.loop-at.at i m fault
     (ap (λ (n : ℕ). n + c.loop-at.at) c.len-before.ensures) within c.index-method.ensures
     (fault_is c.args.number (Some i)
     (kinds_of_method c.args.set.now c.args.number c.args.class.now i m) c.in_ok-kind.field-0 c.in-Some.kind
-    c.in_ok-kind.ensures c.in-Some.is)
+    c.in_ok-kind.ensures.kind c.in-Some.is)
     )
 
 pub loop-at-preserved : goal.loop-at-preserved
@@ -55,9 +58,12 @@ loop-at-preserved c =
     let m : Method = c.index-method.result.now in
     let within : c.loop-at.at < length c.args.class.now.methods = omega
     (arith, c.loop-at-test.true, c.len-at-end.ensures) in
-    c.loop-at.invariant
-    ∙ first_next h (length c.args.class.now.fields) c.args.class.now.methods c.loop-at.at i m
-    (ap (λ (n : ℕ). n + c.loop-at.at) c.len-before.ensures) within c.index-method.ensures
-    (fault_none c.args.number (Some i)
-    (kinds_of_method c.args.set.now c.args.number c.args.class.now i m) c.in_ok-kind.field-0 c.in_ok-kind.ensures
-    c.in_default.is)
+    record {
+      tested = c.in_ok-kind.ensures.tested;
+      fault = c.loop-at.invariant.fault
+          ∙ first_next h (length c.args.class.now.fields) c.args.class.now.methods c.loop-at.at i m
+          (ap (λ (n : ℕ). n + c.loop-at.at) c.len-before.ensures) within c.index-method.ensures
+          (fault_none c.args.number (Some i)
+          (kinds_of_method c.args.set.now c.args.number c.args.class.now i m) c.in_ok-kind.field-0
+          c.in_ok-kind.ensures.kind c.in_default.is);
+    }
