@@ -1,6 +1,6 @@
 // The new names of a class and of its members.
 ghost use Rattle.std.specs.Prelude.{◌≡◌, IfOk, None, Some, map};
-ghost use Rattle.indexmap.specs.IndexMap.{get};
+ghost use Rattle.std.specs.Map.{lookup};
 ghost use Rattle.jv_base.specs.Types as descriptor;
 ghost use Rattle.new_names.specs.NewNames.{field_in, is_same, method_in, names_given};
 
@@ -59,7 +59,8 @@ fn fields_by(alloc: Global, line: &MapClass, fields: &[Field]) -> M<Items<Option
 }
 
 fn field_name(alloc: Global, table: &MemberTable, field: &Field) -> M<Option<Name>>
-    ensures { IfOk result (λ name. name ≡ get is_same table.now (field.now.name, descriptor.field_text field.now.ty)) }
+    ensures { IfOk result (λ name. name
+        ≡ lookup (is_same (field.now.name, descriptor.field_text field.now.ty)) table.now) }
 {
     member_name(table, &field.name, field_text(alloc, &field.ty)?)
 }
@@ -77,13 +78,13 @@ fn methods_by(alloc: Global, line: &MapClass, methods: &[Method]) -> M<Items<Opt
 
 fn method_name(alloc: Global, table: &MemberTable, method: &Method) -> M<Option<Name>>
     ensures { IfOk result (λ name. name
-        ≡ get is_same table.now (method.now.name, descriptor.method_text method.now.ty)) }
+        ≡ lookup (is_same (method.now.name, descriptor.method_text method.now.ty)) table.now) }
 {
     member_name(table, &method.name, method_text(alloc, &method.ty)?)
 }
 
 fn member_name(table: &MemberTable, name: &Name, ty: Text) -> M<Option<Name>>
-    ensures { IfOk result (λ found. found ≡ get is_same table.now (name.now, ty)) }
+    ensures { IfOk result (λ found. found ≡ lookup (is_same (name.now, ty)) table.now) }
 {
     let key = (name.clone()?, ty);
     match table.get(&key) {

@@ -2,28 +2,28 @@
 //
 // Each table is filled from the last line to the first, so that the first line stays.
 ghost use Rattle.std.specs.Prelude.{◌≡◌, ℕ, List, [], ◌++◌, if◌then◌else◌, IfOk, OnOk, Some};
+ghost use Rattle.std.specs.Map.{lookup};
 ghost use Rattle.std.specs.Option.{option_map};
-ghost use Rattle.indexmap.specs.IndexMap.{get};
 ghost use Rattle.jv_base.specs.Names.{is_text};
 ghost use Rattle.new_names.specs.NewNames.{all_field_names, all_method_names, field_names, method_names};
 ghost use Rattle.new_names.specs.bodies.Tables.{TellsClasses, TellsNames};
 
-use indexmap::IndexMap;
 use jv_base::{M, Name};
+use key_table::Table;
 use mapping_file::{MapClass, MapField, MapMethod};
 use std::alloc::Global;
 
 /// New names by old ones.
-pub(crate) type NameTable = IndexMap<Name, Name>;
+pub(crate) type NameTable = Table<Name, Name>;
 
 /// Lines of classes by their old names.
-pub(crate) type ClassTable<'a> = IndexMap<Name, &'a MapClass>;
+pub(crate) type ClassTable<'a> = Table<Name, &'a MapClass>;
 
 /// The lines of classes.
 pub(crate) fn classes_of<'a>(alloc: Global, lines: &'a [MapClass]) -> M<ClassTable<'a>>
     ensures { IfOk result (λ table. TellsClasses table lines.now) }
 {
-    let mut table = IndexMap::new(alloc);
+    let mut table = Table::new(alloc);
     let mut left = lines.len();
     while left > 0 {
         left -= 1;
@@ -33,27 +33,27 @@ pub(crate) fn classes_of<'a>(alloc: Global, lines: &'a [MapClass]) -> M<ClassTab
 }
 
 fn put_class<'a>(table: &mut ClassTable<'a>, line: &'a MapClass) -> M<()>
-    ensures { OnOk result ((name : List ℕ) → option_map (λ l. l.now) (get is_text table.new name)
+    ensures { OnOk result ((name : List ℕ) → option_map (λ l. l.now) (lookup (is_text name) table.new)
         ≡ (if is_text line.entry.now.old name then Some line.entry.now
-        else option_map (λ l. l.now) (get is_text table.old name))) }
+        else option_map (λ l. l.now) (lookup (is_text name) table.old))) }
 {
     let old = line.old.clone()?;
     put_line(table, old, line)
 }
 
 fn put_line<'a>(table: &mut ClassTable<'a>, old: Name, line: &'a MapClass) -> M<()>
-    ensures { OnOk result ((name : List ℕ) → option_map (λ l. l.now) (get is_text table.new name)
-        ≡ (if is_text old name then Some line.entry.now else option_map (λ l. l.now) (get is_text table.old name))) }
+    ensures { OnOk result ((name : List ℕ) → option_map (λ l. l.now) (lookup (is_text name) table.new)
+        ≡ (if is_text old name then Some line.entry.now
+        else option_map (λ l. l.now) (lookup (is_text name) table.old))) }
 {
-    table.insert(old, line)?;
-    Ok(())
+    table.insert(old, line)
 }
 
 /// The new names of the fields of all classes.
 pub(crate) fn fields_of(alloc: Global, lines: &[MapClass]) -> M<NameTable>
     ensures { IfOk result (λ table. TellsNames table (all_field_names lines.now)) }
 {
-    let mut table = IndexMap::new(alloc);
+    let mut table = Table::new(alloc);
     let mut left = lines.len();
     while left > 0 {
         left -= 1;
@@ -82,8 +82,8 @@ fn put_fields(table: &mut NameTable, lines: &[MapField]) -> M<()>
 }
 
 fn put_field(table: &mut NameTable, line: &MapField) -> M<()>
-    ensures { OnOk result ((name : List ℕ) → get is_text table.new name
-        ≡ (if is_text line.now.old name then Some line.now.new else get is_text table.old name)) }
+    ensures { OnOk result ((name : List ℕ) → lookup (is_text name) table.new
+        ≡ (if is_text line.now.old name then Some line.now.new else lookup (is_text name) table.old)) }
 {
     put_name(table, &line.old, &line.new)
 }
@@ -92,7 +92,7 @@ fn put_field(table: &mut NameTable, line: &MapField) -> M<()>
 pub(crate) fn methods_of(alloc: Global, lines: &[MapClass]) -> M<NameTable>
     ensures { IfOk result (λ table. TellsNames table (all_method_names lines.now)) }
 {
-    let mut table = IndexMap::new(alloc);
+    let mut table = Table::new(alloc);
     let mut left = lines.len();
     while left > 0 {
         left -= 1;
@@ -121,16 +121,15 @@ fn put_methods(table: &mut NameTable, lines: &[MapMethod]) -> M<()>
 }
 
 fn put_method(table: &mut NameTable, line: &MapMethod) -> M<()>
-    ensures { OnOk result ((name : List ℕ) → get is_text table.new name
-        ≡ (if is_text line.now.old name then Some line.now.new else get is_text table.old name)) }
+    ensures { OnOk result ((name : List ℕ) → lookup (is_text name) table.new
+        ≡ (if is_text line.now.old name then Some line.now.new else lookup (is_text name) table.old)) }
 {
     put_name(table, &line.old, &line.new)
 }
 
 fn put_name(table: &mut NameTable, old: &Name, new: &Name) -> M<()>
-    ensures { OnOk result ((name : List ℕ) → get is_text table.new name
-        ≡ (if is_text old.now name then Some new.now else get is_text table.old name)) }
+    ensures { OnOk result ((name : List ℕ) → lookup (is_text name) table.new
+        ≡ (if is_text old.now name then Some new.now else lookup (is_text name) table.old)) }
 {
-    table.insert(old.clone()?, new.clone()?)?;
-    Ok(())
+    table.insert(old.clone()?, new.clone()?)
 }

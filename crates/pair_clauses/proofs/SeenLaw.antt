@@ -1,13 +1,19 @@
 -- What tables have where one line more was put.
 use Rattle.std.proofs.Common.{◌≡◌, ℕ, Bool, true, false, cond, not, ◌||◌, List, [], ◌∷◌, ◌++◌, ◌⊎◌, inl, inr, map}
-use Rattle.std.proofs.Common.{Option, Some, None, refl, sym, ap, ◌∙◌}
+use Rattle.std.proofs.Common.{Option, Some, None, Result, Ok, Err, is_ok, refl, sym, ap, ◌∙◌}
+use Rattle.std.specs.Prelude.{IfOk, OnOk, if◌then◌else◌}
+use Rattle.std.specs.Bool.{Decides}
 use Rattle.std.specs.List.{list_any}
 use Rattle.std.specs.Map.{lookup}
 use Rattle.std.specs.Option.{option_or}
+use Rattle.std.proofs.Math.Bool.{or-false}
 use Rattle.std.proofs.lemmas.Bool.{not-false}
+use Rattle.indexmap.specs.IndexSet.{insert_key}
 use Rattle.jv_base.specs.Names.{is_text}
 use Rattle.jv_base.proofs.Equality.{same_text}
+use Rattle.jv_base.proofs.Lists.{any_more}
 use Rattle.mapping_file.specs.declared.mapping.MapClass.{MapClass}
+use Rattle.new_names.proofs.Inserted.{either_way}
 use Rattle.pair_clauses.specs.Shape.{is_other}
 
 -- what a look-up finds with one pair more
@@ -66,6 +72,48 @@ put_there pairs old new key value there here name none k v put told =
     ∙ ap (λ (t : List ℕ). cond (is_text old name) (Some t) there) v
     ∙ ap (λ (o : Option (List ℕ)). cond (is_text old name) (Some new) o) told
     ∙ first_put pairs old new none name
+
+-- ---- names that were put
+
+-- a name that is put is there, besides the others
+any_inserted : {K : Type 0} (eq : K → K → Bool) → ((a b : K) → Decides (eq a b) (a ≡ b)) → (keys : List K) (k asked : K)
+    → list_any (eq asked) (insert_key eq keys k) ≡ (list_any (eq asked) keys || eq k asked)
+any_inserted {K} eq decides keys k asked = by (list_any (eq k) keys) refl
+  where
+    there : (b : Bool) → eq k asked ≡ b → list_any (eq k) keys ≡ true
+        → list_any (eq asked) keys ≡ (list_any (eq asked) keys || b)
+    there false e has = sym (or-false (list_any (eq asked) keys))
+    there true e has =
+        let same : list_any (eq asked) keys ≡ true =
+        ap (λ (x : K). list_any (eq x) keys) (sym ((decides k asked).0 e)) ∙ has in
+        same ∙ sym (ap (λ (b : Bool). b || true) same)
+
+    by : (b : Bool) → list_any (eq k) keys ≡ b
+        → list_any (eq asked) (cond b keys (keys ++ k ∷ [])) ≡ (list_any (eq asked) keys || eq k asked)
+    by true has = there (eq k asked) refl has
+    by false has = any_more (eq asked) keys k
+        ∙ ap (λ (b : Bool). list_any (eq asked) keys || b) (either_way eq decides asked k)
+
+-- whether a name is new, where the same names were seen as are there
+pub is_new_among : {K E : Type 0} (eq : K → K → Bool) (r : Result Bool E) (keys seen : List K) (k key : K)
+    → IfOk r (λ is_new. is_new ≡ not (list_any (eq key) keys)) → key ≡ k
+    → ((asked : K) → list_any (eq asked) keys ≡ list_any (λ there. eq there asked) seen)
+    → IfOk r (λ is_new. is_new ≡ not (list_any (λ there. eq there k) seen))
+is_new_among {K} eq (Ok b) keys seen k key is same has =
+    is ∙ ap (λ (x : K). not (list_any (eq x) keys)) same ∙ ap not (has k)
+is_new_among eq (Err e) keys seen k key is same has = tt
+
+-- what is there where a name was put, if it was
+pub seen_more : {K T E : Type 0} (eq : K → K → Bool) → ((a b : K) → Decides (eq a b) (a ≡ b)) → (r : Result T E)
+    (keys grown seen : List K) (k key : K) → grown ≡ (if is_ok r then insert_key eq keys key else keys) → key ≡ k
+    → ((asked : K) → list_any (eq asked) keys ≡ list_any (λ there. eq there asked) seen)
+    → OnOk r ((asked : K) → list_any (eq asked) grown ≡ list_any (λ there. eq there asked) (seen ++ k ∷ []))
+seen_more {K} eq decides (Ok x) keys grown seen k key put same has = λ asked.
+    ap (list_any (eq asked)) (put ∙ ap (insert_key eq keys) same) ∙ any_inserted eq decides keys k asked
+    ∙ ap (λ (b : Bool). b || eq k asked) (has asked) ∙ sym (any_more (λ (there : K). eq there asked) seen k)
+seen_more eq decides (Err e) keys grown seen k key put same has = tt
+
+-- ---- lines
 
 map_last : {A B : Type 0} (f : A → B) (xs : List A) (x : A) → map f xs ++ f x ∷ [] ≡ map f (xs ++ x ∷ [])
 map_last f [] x = refl

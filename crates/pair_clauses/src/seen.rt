@@ -7,14 +7,14 @@ ghost use Rattle.new_names.specs.NewNames.{NameAndType, is_same};
 ghost use Rattle.pair_clauses.specs.Shape.{clashes, is_other};
 ghost use Rattle.pair_clauses.specs.bodies.Seen.{HasMembers, HasNames, TellsPairs};
 
-use indexmap::{IndexMap, IndexSet};
 use jv_base::{M, Name, Text};
+use key_table::{KeySet, Table};
 use std::alloc::Global;
 
 /// Names, each once.
 #[derive(Drop)]
 pub(crate) struct SeenNames {
-    names: IndexSet<Name>,
+    names: KeySet<Name>,
 }
 
 impl SeenNames {
@@ -22,7 +22,7 @@ impl SeenNames {
         ensures { HasNames result [] }
     {
         SeenNames {
-            names: IndexSet::new(alloc),
+            names: KeySet::new(alloc),
         }
     }
 
@@ -30,7 +30,7 @@ impl SeenNames {
         ensures { (names : List (List ℕ)) → HasNames self.now names
             → result ≡ list_any (λ seen. is_text seen name.now) names }
     {
-        self.names.contains(name)
+        self.names.has(name)
     }
 
     /// Puts a name, and answers whether it is new.
@@ -40,15 +40,14 @@ impl SeenNames {
         ensures put { (names : List (List ℕ)) → HasNames self.old names
             → OnOk result (HasNames self.new (names ++ name.now ∷ [])) }
     {
-        let (_, is_new) = self.names.insert_full(name.clone()?)?;
-        Ok(is_new)
+        self.names.insert(name.clone()?)
     }
 }
 
 /// Members, each once, by names and descriptors.
 #[derive(Drop)]
 pub(crate) struct SeenMembers {
-    members: IndexSet<(Name, Text)>,
+    members: KeySet<(Name, Text)>,
 }
 
 impl SeenMembers {
@@ -56,7 +55,7 @@ impl SeenMembers {
         ensures { HasMembers result [] }
     {
         SeenMembers {
-            members: IndexSet::new(alloc),
+            members: KeySet::new(alloc),
         }
     }
 
@@ -67,8 +66,7 @@ impl SeenMembers {
         ensures put { (members : List NameAndType) → HasMembers self.old members
             → OnOk result (HasMembers self.new (members ++ (name.now, ty.now) ∷ [])) }
     {
-        let (_, is_new) = self.members.insert_full((name.clone()?, ty.clone()?))?;
-        Ok(is_new)
+        self.members.insert((name.clone()?, ty.clone()?))
     }
 }
 
@@ -76,9 +74,9 @@ impl SeenMembers {
 #[derive(Drop)]
 pub(crate) struct SeenPairs {
     /// New names by old ones.
-    by_old: IndexMap<Name, Name>,
+    by_old: Table<Name, Name>,
     /// Old names by new ones.
-    by_new: IndexMap<Name, Name>,
+    by_new: Table<Name, Name>,
 }
 
 impl SeenPairs {
@@ -86,8 +84,8 @@ impl SeenPairs {
         ensures { TellsPairs result [] }
     {
         SeenPairs {
-            by_old: IndexMap::new(alloc),
-            by_new: IndexMap::new(alloc),
+            by_old: Table::new(alloc),
+            by_new: Table::new(alloc),
         }
     }
 
@@ -106,8 +104,7 @@ impl SeenPairs {
             → OnOk result (TellsPairs self.new (pairs ++ (old.now, new.now) ∷ [])) }
     {
         self.by_old.insert(old.clone()?, new.clone()?)?;
-        self.by_new.insert(new.clone()?, old.clone()?)?;
-        Ok(())
+        self.by_new.insert(new.clone()?, old.clone()?)
     }
 }
 

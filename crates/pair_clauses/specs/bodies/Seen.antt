@@ -2,8 +2,6 @@
 use Rattle.std.specs.Prelude.{◌≡◌, ℕ, List, map}
 use Rattle.std.specs.List.{list_any}
 use Rattle.std.specs.Map.{lookup}
-use Rattle.indexmap.specs.IndexMap.{get}
-use Rattle.indexmap.specs.IndexSet.{contains}
 use Rattle.jv_base.specs.Names.{is_text}
 use Rattle.new_names.specs.NewNames.{NameAndType, is_same}
 use Rattle.pair_clauses.specs.declared.seen.SeenMembers.{SeenMembers}
@@ -13,15 +11,15 @@ use Rattle.pair_clauses.specs.declared.seen.SeenPairs.{SeenPairs}
 -- these names and no others
 abbrev pub HasNames : SeenNames → List (List ℕ) → Type 0
 HasNames seen names =
-    (name : List ℕ) → contains is_text seen.names name ≡ list_any (λ there. is_text there name) names
+    (name : List ℕ) → list_any (is_text name) seen.names ≡ list_any (λ there. is_text there name) names
 
 -- these members and no others
 abbrev pub HasMembers : SeenMembers → List NameAndType → Type 0
 HasMembers seen members =
-    (key : NameAndType) → contains is_same seen.members key ≡ list_any (λ there. is_same there key) members
+    (key : NameAndType) → list_any (is_same key) seen.members ≡ list_any (λ there. is_same there key) members
 
 -- the first of these pairs with an old name, and the first with a new one
 pub record TellsPairs (seen : SeenPairs) (pairs : List (List ℕ × List ℕ)) : Type 0 where
-  pub by_old : (name : List ℕ) → get is_text seen.by_old name ≡ lookup (λ old. is_text old name) pairs
-  pub by_new : (name : List ℕ) → get is_text seen.by_new name
+  pub by_old : (name : List ℕ) → lookup (is_text name) seen.by_old ≡ lookup (λ old. is_text old name) pairs
+  pub by_new : (name : List ℕ) → lookup (is_text name) seen.by_new
       ≡ lookup (λ new. is_text new name) (map (λ (p : List ℕ × List ℕ). (p.1, p.0)) pairs)

@@ -1,6 +1,5 @@
 use Rattle.std.proofs.Common.{rules, ◌≡◌, ◌++◌, ◌∷◌, [], List, ap, ◌∙◌}
 use Rattle.std.specs.Map.{lookup}
-use Rattle.indexmap.specs.IndexMap.{get}
 use Rattle.jv_base.specs.Types as descriptor
 use Rattle.class_model.specs.declared.class.Field.{Field}
 use Rattle.mapping_file.specs.declared.mapping.MapField.{MapField}
@@ -11,7 +10,8 @@ use Rattle.new_names.proofs.class_names.fields_by.Goals as goal
 pub loop-field-preserved : goal.loop-field-preserved
 loop-field-preserved c =
     let x : Field = c.field-item.result in
-    let told : get is_same c.in_ok-table.table (x.name, descriptor.field_text x.ty) ≡ field_in c.args.line.now x =
+    let told : lookup (is_same (x.name, descriptor.field_text x.ty)) c.in_ok-table.table
+    ≡ field_in c.args.line.now x =
     c.in_ok-table.ensures (x.name, descriptor.field_text x.ty)
     ∙ ap (λ (ls : List MapField). lookup (λ key. is_same key (x.name, descriptor.field_text x.ty)) (field_lines ls))
     c.as_slice.ensures in

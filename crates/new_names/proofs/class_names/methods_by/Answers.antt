@@ -1,6 +1,5 @@
 use Rattle.std.proofs.Common.{rules, ◌≡◌, ◌++◌, ◌∷◌, [], List, ap, ◌∙◌}
 use Rattle.std.specs.Map.{lookup}
-use Rattle.indexmap.specs.IndexMap.{get}
 use Rattle.jv_base.specs.Types as descriptor
 use Rattle.class_model.specs.declared.class.Method.{Method}
 use Rattle.mapping_file.specs.declared.mapping.MapMethod.{MapMethod}
@@ -11,7 +10,8 @@ use Rattle.new_names.proofs.class_names.methods_by.Goals as goal
 pub loop-method-preserved : goal.loop-method-preserved
 loop-method-preserved c =
     let x : Method = c.method-item.result in
-    let told : get is_same c.in_ok-table.table (x.name, descriptor.method_text x.ty) ≡ method_in c.args.line.now x =
+    let told : lookup (is_same (x.name, descriptor.method_text x.ty)) c.in_ok-table.table
+    ≡ method_in c.args.line.now x =
     c.in_ok-table.ensures (x.name, descriptor.method_text x.ty)
     ∙ ap (λ (ls : List MapMethod). lookup (λ key. is_same key (x.name, descriptor.method_text x.ty)) (method_lines ls))
     c.as_slice.ensures in

@@ -2,4 +2,4 @@ use Rattle.std.proofs.Common.{◌∙◌}
 use Rattle.pair_clauses.proofs.seen.SeenNames.has.Goals as goal
 
 pub returns : goal.returns
-returns c = λ names has. c.contains.ensures ∙ has c.args.name.now
+returns c = λ names told. c.has.ensures ∙ told c.args.name.now
