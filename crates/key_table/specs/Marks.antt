@@ -8,6 +8,14 @@ use Rattle.std.proofs.lemmas.List.Elements.{same_from_all_zip}
 use Rattle.std.proofs.lemmas.List.Folds.{fold-map}
 use Rattle.std.proofs.lemmas.Bool.{and_parts}
 
+-- one byte of a text more; each bit of those before goes on to count (the factor is a prime of few bits)
+abbrev pub with_byte : ℕ → ℕ → ℕ
+with_byte number byte = (number * 1099511628211 % 2 ^ 64 + byte) % 2 ^ 64
+
+-- of a text, by its last 32 bytes: names that end alike, as `Builder`, mostly differ in them
+abbrev pub text_mark : List ℕ → ℕ
+text_mark text = fold with_byte 0 (drop (length text - 32) text)
+
 -- of a pair, by the marks of its two
 abbrev pub pair_mark : ℕ → ℕ → ℕ
 pair_mark one other = (one * 31 % 2 ^ 64 + other) % 2 ^ 64

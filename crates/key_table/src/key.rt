@@ -1,7 +1,7 @@
 // What values are found by.
 ghost use Rattle.std.specs.Prelude.{◌≡◌};
 ghost use Rattle.std.specs.List.{fold};
-ghost use Rattle.key_table.specs.Marks.{with_mark};
+ghost use Rattle.key_table.specs.Marks.{with_byte, with_mark};
 
 use jv_base::{Items, Text};
 
@@ -22,17 +22,19 @@ pub trait Key: Ord + Clone {
 
 impl Key for Text {
     ghost use Rattle.std.proofs.Common.{ap};
-    ghost use Rattle.jv_base.specs.Tail.{tail};
     ghost use Rattle.jv_base.proofs.Equality.{same_text};
+    ghost use Rattle.key_table.specs.Marks.{text_mark};
 
-    ghost mark = { tail };
+    ghost mark = { text_mark };
 
-    ghost one_mark = { λ a b same. ap tail (same_text a b same) };
+    ghost one_mark = { λ a b same. ap text_mark (same_text a b same) };
 
     ghost copies = { λ a b is. is };
 
     fn mark(&self) -> u64 {
-        self.tail()
+        let bytes = self.as_bytes();
+        let start = bytes.len().saturating_sub(32);
+        mark_of_bytes(&bytes[start..])
     }
 }
 
@@ -80,6 +82,19 @@ impl<T: Key> Key for Items<T> {
         let start = items.len().saturating_sub(4);
         mark_of(&items[start..])
     }
+}
+
+/// The mark of some bytes.
+fn mark_of_bytes(bytes: &[u8]) -> u64
+    ensures { result ≡ fold with_byte 0 bytes.now }
+{
+    let mut mark = 0u64;
+    for byte in bytes {
+        mark = mark
+            .wrapping_mul(1099511628211)
+            .wrapping_add(u64::from(*byte));
+    }
+    mark
 }
 
 /// The marks of some items as one.
