@@ -8,53 +8,43 @@ use Rattle.std.proofs.lemmas.List.Elements.{same_from_all_zip}
 use Rattle.std.proofs.lemmas.List.Folds.{fold-map}
 use Rattle.std.proofs.lemmas.Bool.{and_parts}
 
--- one byte of a text more; each bit of those before goes on to count (the factor is a prime of few bits)
-abbrev pub with_byte : ℕ → ℕ → ℕ
-with_byte number byte = (number * 1099511628211 % 2 ^ 64 + byte) % 2 ^ 64
-
--- of a text, by its last 32 bytes: names that end alike, as `Builder`, mostly differ in them
-abbrev pub text_mark : List ℕ → ℕ
-text_mark text = fold with_byte 0 (drop (length text - 32) text)
-
--- of a pair, by the marks of its two
-abbrev pub pair_mark : ℕ → ℕ → ℕ
-pair_mark one other = (one * 31 % 2 ^ 64 + other) % 2 ^ 64
+-- a mark with another one behind it; each bit of both goes on to count (the factor is a prime of few bits)
+abbrev pub joined : ℕ → ℕ → ℕ
+joined number other = (number * 1099511628211 % 2 ^ 64 + other) % 2 ^ 64
 
 module _ {A B : Type 0} where
   -- equal ones have one
   pub one_pair_mark : (eqA : A → A → Bool) (eqB : B → B → Bool) (markA : A → ℕ) (markB : B → ℕ)
       → ((x y : A) → eqA x y ≡ true → markA x ≡ markA y) → ((x y : B) → eqB x y ≡ true → markB x ≡ markB y)
       → (x y : A × B) → (eqA x.0 y.0 && eqB x.1 y.1) ≡ true
-      → pair_mark (markA x.0) (markB x.1) ≡ pair_mark (markA y.0) (markB y.1)
+      → joined (markA x.0) (markB x.1) ≡ joined (markA y.0) (markB y.1)
   one_pair_mark eqA eqB markA markB oneA oneB x y same =
       let parts = and_parts (eqA x.0 y.0) (eqB x.1 y.1) same in
-      ap (λ m. pair_mark m (markB x.1)) (oneA x.0 y.0 parts.0)
-      ∙ ap (λ m. pair_mark (markA y.0) m) (oneB x.1 y.1 parts.1)
+      ap (λ m. joined m (markB x.1)) (oneA x.0 y.0 parts.0)
+      ∙ ap (λ m. joined (markA y.0) m) (oneB x.1 y.1 parts.1)
 
   pub pair_copies : (copyA : A → A → Type 0) (copyB : B → B → Type 0) → ((x y : A) → copyA x y → y ≡ x)
       → ((x y : B) → copyB x y → y ≡ x) → (x y : A × B) → copyA x.0 y.0 × copyB x.1 y.1 → y ≡ x
   pair_copies copyA copyB isA isB x y is = λ i. (isA x.0 y.0 is.0 i, isB x.1 y.1 is.1 i)
 
--- by the list of all marks
+-- of a list, by the list of all marks: the last 32 count, since names that end alike, as `Builder`, mostly differ in them
 abbrev of_marks : List ℕ → ℕ
-of_marks marks = fold (λ number m. (number * 65536 % 2 ^ 64 + m) % 2 ^ 64) 0 (drop (length marks - 4) marks)
+of_marks marks = fold joined 0 (drop (length marks - 32) marks)
 
 module _ {T : Type 0} where
   -- one item more
   abbrev pub with_mark : (T → ℕ) → ℕ → T → ℕ
-  with_mark mark number item = (number * 65536 % 2 ^ 64 + mark item) % 2 ^ 64
+  with_mark mark number item = joined number (mark item)
 
-  -- of a list, by the marks of its last four items
+  -- of a list, by the marks of its last 32 items
   abbrev pub list_mark : (T → ℕ) → List T → ℕ
-  list_mark mark items = fold (with_mark mark) 0 (drop (length items - 4) items)
+  list_mark mark items = fold (with_mark mark) 0 (drop (length items - 32) items)
 
   by_marks : (mark : T → ℕ) (items : List T) → list_mark mark items ≡ of_marks (map mark items)
   by_marks mark items =
-      sym (ap (λ n. fold (λ number m. (number * 65536 % 2 ^ 64 + m) % 2 ^ 64) 0 (drop (n - 4) (map mark items)))
-      (length-map items mark)
-      ∙ ap (λ (ms : List ℕ). fold (λ number m. (number * 65536 % 2 ^ 64 + m) % 2 ^ 64) 0 ms)
-      (drop-map mark (length items - 4) items)
-      ∙ fold-map (λ number m. (number * 65536 % 2 ^ 64 + m) % 2 ^ 64) mark 0 (drop (length items - 4) items))
+      sym (ap (λ n. fold joined 0 (drop (n - 32) (map mark items))) (length-map items mark)
+      ∙ ap (λ (ms : List ℕ). fold joined 0 ms) (drop-map mark (length items - 32) items)
+      ∙ fold-map joined mark 0 (drop (length items - 32) items))
 
   module _ (eq : T → T → Bool) (mark : T → ℕ) (one : (x y : T) → eq x y ≡ true → mark x ≡ mark y) where
     one_by_one : (xs ys : List T) → pointwise eq xs ys ≡ true → map mark xs ≡ map mark ys

@@ -1,7 +1,7 @@
 // What values are found by.
 ghost use Rattle.std.specs.Prelude.{◌≡◌};
 ghost use Rattle.std.specs.List.{fold};
-ghost use Rattle.key_table.specs.Marks.{with_byte, with_mark};
+ghost use Rattle.key_table.specs.Marks.{joined, list_mark, with_mark};
 
 use jv_base::{Items, Text};
 
@@ -23,38 +23,48 @@ pub trait Key: Ord + Clone {
 impl Key for Text {
     ghost use Rattle.std.proofs.Common.{ap};
     ghost use Rattle.jv_base.proofs.Equality.{same_text};
-    ghost use Rattle.key_table.specs.Marks.{text_mark};
+    ghost use Rattle.key_table.specs.Marks.{list_mark};
 
-    ghost mark = { text_mark };
+    ghost mark = { list_mark (λ byte. byte) };
 
-    ghost one_mark = { λ a b same. ap text_mark (same_text a b same) };
+    ghost one_mark = { λ a b same. ap (list_mark (λ byte. byte)) (same_text a b same) };
 
     ghost copies = { λ a b is. is };
 
     fn mark(&self) -> u64 {
-        let bytes = self.as_bytes();
-        let start = bytes.len().saturating_sub(32);
-        mark_of_bytes(&bytes[start..])
+        mark_of_last(self.as_bytes())
     }
 }
 
 impl<A: Key, B: Key> Key for (A, B) {
-    ghost use Rattle.std.specs.Prelude.{◌+◌, ◌*◌, ◌%◌, ◌^◌};
-    ghost use Rattle.key_table.specs.Marks.{one_pair_mark, pair_copies, pair_mark};
+    ghost use Rattle.key_table.specs.Marks.{joined, one_pair_mark, pair_copies};
 
-    ghost mark = { λ key. pair_mark (A.mark key.0) (B.mark key.1) };
+    ghost mark = { λ key. joined (A.mark key.0) (B.mark key.1) };
 
     ghost one_mark = { one_pair_mark A.eq B.eq A.mark B.mark A.one_mark B.one_mark };
 
     ghost copies = { pair_copies A.is_clone B.is_clone A.copies B.copies };
 
     fn mark(&self) -> u64 {
-        self.0.mark().wrapping_mul(31).wrapping_add(self.1.mark())
+        joined(self.0.mark(), self.1.mark())
+    }
+}
+
+impl Key for u8 {
+    ghost use Rattle.std.specs.Cmp.{unsigned_Decides};
+
+    ghost mark = { λ byte. byte };
+
+    ghost one_mark = { λ a b same. (unsigned_Decides a b).0 same };
+
+    ghost copies = { λ a b is. is };
+
+    fn mark(&self) -> u64 {
+        u64::from(*self)
     }
 }
 
 impl Key for u16 {
-    ghost use Rattle.std.proofs.Common.{sym};
     ghost use Rattle.std.specs.Cmp.{unsigned_Decides};
 
     ghost mark = { λ unit. unit };
@@ -78,23 +88,16 @@ impl<T: Key> Key for Items<T> {
     ghost copies = { list_copies T.is_clone T.copies };
 
     fn mark(&self) -> u64 {
-        let items = self.as_slice();
-        let start = items.len().saturating_sub(4);
-        mark_of(&items[start..])
+        mark_of_last(self.as_slice())
     }
 }
 
-/// The mark of some bytes.
-fn mark_of_bytes(bytes: &[u8]) -> u64
-    ensures { result ≡ fold with_byte 0 bytes.now }
+/// The mark of a list: the last 32 items count, since names that end alike mostly differ in them.
+fn mark_of_last<T: Key>(items: &[T]) -> u64
+    ensures { result ≡ list_mark T.mark items.now }
 {
-    let mut mark = 0u64;
-    for byte in bytes {
-        mark = mark
-            .wrapping_mul(1099511628211)
-            .wrapping_add(u64::from(*byte));
-    }
-    mark
+    let start = items.len().saturating_sub(32);
+    mark_of(&items[start..])
 }
 
 /// The marks of some items as one.
@@ -103,7 +106,14 @@ fn mark_of<T: Key>(items: &[T]) -> u64
 {
     let mut mark = 0u64;
     for item in items {
-        mark = mark.wrapping_mul(65536).wrapping_add(item.mark());
+        mark = joined(mark, item.mark());
     }
     mark
+}
+
+/// Two marks as one.
+fn joined(mark: u64, other: u64) -> u64
+    ensures { result ≡ joined mark other }
+{
+    mark.wrapping_mul(1_099_511_628_211).wrapping_add(other)
 }

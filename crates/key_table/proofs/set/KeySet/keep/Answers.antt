@@ -1,7 +1,6 @@
-use Rattle.std.proofs.Common.{◌≡◌, ◌++◌, ◌∷◌, [], ℕ, List, Some, None, ap, subst, sym, ◌∙◌}
+use Rattle.std.proofs.Common.{◌++◌, ◌∷◌, [], List, Some, ap, sym, ◌∙◌}
 use Rattle.std.specs.List.{position}
 use Rattle.std.specs.Map.{keys_of}
-use Rattle.indexmap.specs.IndexSet.{insert_key}
 use Rattle.key_table.proofs.Found.{found_behind, not_again, put_new}
 use Rattle.key_table.proofs.Placing.{keys_more}
 use Rattle.key_table.proofs.set.KeySet.keep.Goals as goal

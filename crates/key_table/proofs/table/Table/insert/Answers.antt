@@ -1,7 +1,5 @@
-use Rattle.std.proofs.Common.{◌≡◌, ◌++◌, ◌∷◌, [], List, cond, get_or, sym, ap, subst, ◌∙◌, ◌<◌, length}
+use Rattle.std.proofs.Common.{List, get_or, sym, ap, subst, ◌∙◌, ◌<◌, length}
 use Rattle.std.specs.Prelude.{slice_set, is_ok}
-use Rattle.std.specs.List.{position}
-use Rattle.std.specs.Map.{keys_of}
 use Rattle.key_table.specs.Tables.{ArePlaced}
 use Rattle.key_table.proofs.Found.{at_place, inserted_behind, inserted_there, is_missing, keys_stay}
 use Rattle.key_table.proofs.table.Table.insert.Goals as goal
