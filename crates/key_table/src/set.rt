@@ -70,9 +70,13 @@ impl<K: Key> KeySet<K> {
         ensures is_new { IfOk result (λ is_new. is_new ≡ not (list_any (K.eq key) self.old)) }
         ensures keys { self.new ≡ (if is_ok result then insert_key K.eq self.old key else self.old) }
     {
-        let is_new = !self.has(&key);
-        self.table.insert(key, ())?;
-        Ok(is_new)
+        match self.place(&key) {
+            Some(_) => Ok(false),
+            None => {
+                self.table.insert_new(key, ())?;
+                Ok(true)
+            }
+        }
     }
 
     /// The place of a key, which is put behind the others unless it is there.

@@ -6,7 +6,8 @@ ghost use Rattle.std.specs.List.{position, position_from};
 ghost use Rattle.std.specs.Map.{keys_of, lookup};
 ghost use Rattle.std.specs.Option.{option_copied};
 ghost use Rattle.indexmap.specs.IndexMap.{insert_entry};
-ghost use Rattle.key_table.specs.Tables.{ArePlaced, first_place, is_there, place_by};
+ghost use Rattle.std.specs.Ordering.{nat_cmp};
+ghost use Rattle.key_table.specs.Tables.{ArePlaced, is_there, place_by};
 
 use crate::Key;
 use jv_base::M;
@@ -59,7 +60,7 @@ impl<K: Key, V> Table<K, V> {
             self.entries.as_slice(),
             &self.others,
             key,
-            first_place(&self.firsts, key),
+            first_place(&self.firsts, key.mark()),
         )
     }
 
@@ -131,11 +132,11 @@ impl<K: Key, V> Table<K, V> {
     }
 }
 
-/// The place of the first key with the mark of this one.
-fn first_place<K: Key>(firsts: &BTreeMap<u64, usize>, key: &K) -> Option<usize>
-    ensures { result ≡ first_place K.mark firsts.now.entries key.now }
+/// The place of the first key with a mark.
+fn first_place(firsts: &BTreeMap<u64, usize>, mark: u64) -> Option<usize>
+    ensures { result ≡ lookup (is_at (nat_cmp mark)) firsts.now.entries }
 {
-    firsts.get(&key.mark()).copied()
+    firsts.get(&mark).copied()
 }
 
 /// The place of a key by that of the first with its mark.
@@ -180,9 +181,9 @@ fn push<K: Key + Drop, V: Drop>(
         else entries.old.items) }
 {
     let place = entries.len();
-    match first_place(firsts, &key) {
+    let mark = key.mark();
+    match first_place(firsts, mark) {
         None => {
-            let mark = key.mark();
             entries.push((key, value))?;
             keep_or_drop(entries, place, put(firsts, mark, place))
         }

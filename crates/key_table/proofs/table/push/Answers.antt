@@ -12,7 +12,8 @@ returns-in_ok-push-in-None-clause-placed g c =
     placed_with_first g.K.Ord.cmp g.K.PartialEq.eq g.K.Key.mark g.met.K.Eq.laws g.met.K.Ord.matches_eq
     g.met.K.Key.one_mark c.args.entries.now.items c.args.firsts.now.entries c.args.others.now.entries c.requires.placed
     c.args.key c.args.value c.requires.missing c.len-place.result len c.put.result
-    c.put.new.places.entries c.keep_or_drop.new.entries.items (sym c.in-None.ensures)
+    c.put.new.places.entries c.keep_or_drop.new.entries.items
+    (ap (λ m. lookup (is_at (nat_cmp m)) c.args.firsts.now.entries) (sym c.mark-mark.ensures) ∙ sym c.in-None.ensures)
     (subst (λ m. OnOk c.put.result ((q : ℕ) → lookup (is_at (nat_cmp q)) c.put.new.places.entries
     ≡ cond (is_at (nat_cmp m) q) (Some c.len-place.result) (lookup (is_at (nat_cmp q)) c.args.firsts.now.entries)))
     c.mark-mark.ensures c.put.ensures.put)
@@ -28,7 +29,8 @@ returns-in_ok-push-in-Some-clause-placed g c =
     placed_with_other cmp g.K.PartialEq.eq g.K.Key.mark g.met.K.Eq.laws g.met.K.Ord.matches_eq
     g.met.K.Key.one_mark c.args.entries.now.items c.args.firsts.now.entries c.args.others.now.entries c.requires.placed
     c.args.key c.args.value c.requires.missing c.len-place.result len c.put-in-Some.result
-    c.put-in-Some.new.places.entries c.keep_or_drop-in-Some.new.entries.items c.in-Some.field-0 (sym c.in-Some.ensures)
+    c.put-in-Some.new.places.entries c.keep_or_drop-in-Some.new.entries.items c.in-Some.field-0
+    (ap (λ m. lookup (is_at (nat_cmp m)) c.args.firsts.now.entries) (sym c.mark-mark.ensures) ∙ sym c.in-Some.ensures)
     (subst (λ (k : g.row.K.Denot). OnOk c.put-in-Some.result ((q : g.row.K.Denot)
     → lookup (is_at (cmp q)) c.put-in-Some.new.places.entries
     ≡ cond (is_at (cmp k) q) (Some c.len-place.result) (lookup (is_at (cmp q)) c.args.others.now.entries)))

@@ -1,6 +1,8 @@
 use Rattle.std.proofs.Common.{ℕ, Option, List, sym, ap, ◌∙◌}
 use Rattle.std.specs.List.{position}
-use Rattle.std.specs.Map.{keys_of}
+use Rattle.std.specs.BTreeMap.{is_at}
+use Rattle.std.specs.Map.{keys_of, lookup}
+use Rattle.std.specs.Ordering.{nat_cmp}
 use Rattle.key_table.specs.Tables.{place_by}
 use Rattle.key_table.proofs.Found.{from_zero, if_within}
 use Rattle.key_table.proofs.table.Table.place.Goals as goal
@@ -14,7 +16,7 @@ returns-clause-found g c =
     ∙ ap (λ (es : List _). place_by cmp eq (keys_of es) c.self.inside.others.entries key c.first_place.result)
     c.as_slice.ensures.value
     ∙ ap (λ (o : Option ℕ). place_by cmp eq (keys_of c.self.inside.entries.items) c.self.inside.others.entries key o)
-    c.first_place.ensures
+    (c.first_place.ensures ∙ ap (λ m. lookup (is_at (nat_cmp m)) c.self.inside.firsts.entries) c.mark.ensures)
     ∙ c.self.invariant.found key ∙ sym (from_zero (eq key) (keys_of c.self.inside.entries.items))
     ∙ ap (λ (es : List _). position (eq key) (keys_of es)) c.self.view_is
 
