@@ -15,14 +15,14 @@ use crate::front::front_of;
 use crate::{TakenNames, TakenSet};
 use class_model::{Class, Field, Method};
 use class_rename::NewNames;
-use indexmap::IndexMap;
 use jv_base::{Items, M, Name, Text};
+use key_table::Table;
 use std::alloc::Global;
 
 /// The new names of kept classes and of their members: `a` to `z`, `aa` and so on, given in the order in which names
 /// stand first among the classes with their fields and methods. A class gets one of its package, which it doesn't
 /// leave; all fields of a name get one, and all methods of a name. Names that stay are skipped. The time is near linear
-/// in the names there are, unless they were chosen to have one hash.
+/// in the names there are.
 pub fn new_names(alloc: Global, taken: &TakenNames, kept: &Items<Class>) -> M<NewNames>
     ensures { IfOk result (λ names. names_in names ≡ names_given taken.now kept.now) }
 {
@@ -33,12 +33,12 @@ pub fn new_names(alloc: Global, taken: &TakenNames, kept: &Items<Class>) -> M<Ne
     Ok(NewNames::new(classes, fields, methods))
 }
 
-fn class_table(alloc: Global, taken: &TakenSet, kept: &[Class]) -> M<IndexMap<Name, Name>>
-    ensures { IfOk result (λ table. (a : List ℕ) → new_name table.entries a
+fn class_table(alloc: Global, taken: &TakenSet, kept: &[Class]) -> M<Table<Name, Name>>
+    ensures { IfOk result (λ table. (a : List ℕ) → new_name table a
         ≡ given_name front_of taken.now (class_names kept.now) a) }
 {
-    let mut table = no_names(alloc);
-    let mut next = no_numbers(alloc);
+    let mut table = Table::new(alloc);
+    let mut next = Table::new(alloc);
     for class in kept {
         let front = front_of(alloc, &class.name)?;
         give(alloc, taken, &front, &class.name, &mut table, &mut next)?;
@@ -46,13 +46,13 @@ fn class_table(alloc: Global, taken: &TakenSet, kept: &[Class]) -> M<IndexMap<Na
     Ok(table)
 }
 
-fn field_table(alloc: Global, taken: &TakenSet, kept: &[Class]) -> M<IndexMap<Name, Name>>
-    ensures { IfOk result (λ table. (a : List ℕ) → new_name table.entries a
+fn field_table(alloc: Global, taken: &TakenSet, kept: &[Class]) -> M<Table<Name, Name>>
+    ensures { IfOk result (λ table. (a : List ℕ) → new_name table a
         ≡ given_name no_front taken.now (field_names kept.now) a) }
 {
     let front = Text::from_str(alloc, "")?;
-    let mut table = no_names(alloc);
-    let mut next = no_numbers(alloc);
+    let mut table = Table::new(alloc);
+    let mut next = Table::new(alloc);
     for class in kept {
         give_fields(
             alloc,
@@ -71,13 +71,13 @@ fn give_fields(
     taken: &TakenSet,
     front: &Text,
     fields: &[Field],
-    table: &mut IndexMap<Name, Name>,
-    next: &mut IndexMap<Text, u32>,
+    table: &mut Table<Name, Name>,
+    next: &mut Table<Text, u32>,
 ) -> M<()>
     requires { front.now ≡ [] }
-    ensures { (done : List (List ℕ)) → IsGiven no_front taken.now done table.old.entries next.old.entries
+    ensures { (done : List (List ℕ)) → IsGiven no_front taken.now done table.old next.old
         → OnOk result (IsGiven no_front taken.now (done ++ map (λ (f : Field). f.name) fields.now)
-        table.new.entries next.new.entries) }
+        table.new next.new) }
 {
     for field in fields {
         give(alloc, taken, front, &field.name, table, next)?;
@@ -85,13 +85,13 @@ fn give_fields(
     Ok(())
 }
 
-fn method_table(alloc: Global, taken: &TakenSet, kept: &[Class]) -> M<IndexMap<Name, Name>>
-    ensures { IfOk result (λ table. (a : List ℕ) → new_name table.entries a
+fn method_table(alloc: Global, taken: &TakenSet, kept: &[Class]) -> M<Table<Name, Name>>
+    ensures { IfOk result (λ table. (a : List ℕ) → new_name table a
         ≡ given_name no_front taken.now (method_names kept.now) a) }
 {
     let front = Text::from_str(alloc, "")?;
-    let mut table = no_names(alloc);
-    let mut next = no_numbers(alloc);
+    let mut table = Table::new(alloc);
+    let mut next = Table::new(alloc);
     for class in kept {
         give_methods(
             alloc,
@@ -110,30 +110,18 @@ fn give_methods(
     taken: &TakenSet,
     front: &Text,
     methods: &[Method],
-    table: &mut IndexMap<Name, Name>,
-    next: &mut IndexMap<Text, u32>,
+    table: &mut Table<Name, Name>,
+    next: &mut Table<Text, u32>,
 ) -> M<()>
     requires { front.now ≡ [] }
-    ensures { (done : List (List ℕ)) → IsGiven no_front taken.now done table.old.entries next.old.entries
+    ensures { (done : List (List ℕ)) → IsGiven no_front taken.now done table.old next.old
         → OnOk result (IsGiven no_front taken.now (done ++ map (λ (m : Method). m.name) methods.now)
-        table.new.entries next.new.entries) }
+        table.new next.new) }
 {
     for method in methods {
         give(alloc, taken, front, &method.name, table, next)?;
     }
     Ok(())
-}
-
-fn no_names(alloc: Global) -> IndexMap<Name, Name>
-    ensures { result.entries ≡ [] }
-{
-    IndexMap::new(alloc)
-}
-
-fn no_numbers(alloc: Global) -> IndexMap<Text, u32>
-    ensures { result.entries ≡ [] }
-{
-    IndexMap::new(alloc)
 }
 
 /// Gives a name a new one behind this front, unless it stays or has one.
@@ -142,12 +130,12 @@ fn give(
     taken: &TakenSet,
     front: &Text,
     name: &Name,
-    table: &mut IndexMap<Name, Name>,
-    next: &mut IndexMap<Text, u32>,
+    table: &mut Table<Name, Name>,
+    next: &mut Table<Text, u32>,
 ) -> M<()>
     ensures { (front_of : List ℕ → List ℕ) (done : List (List ℕ)) → front_of name.now ≡ front.now
-        → IsGiven front_of taken.now done table.old.entries next.old.entries
-        → OnOk result (IsGiven front_of taken.now (done ++ name.now ∷ []) table.new.entries next.new.entries) }
+        → IsGiven front_of taken.now done table.old next.old
+        → OnOk result (IsGiven front_of taken.now (done ++ name.now ∷ []) table.new next.new) }
 {
     if is_settled(taken, table, name) {
         return Ok(());
@@ -161,21 +149,15 @@ fn give(
 
 /// Whether a name stays, or has a new one. Most names have stood before.
 #[tactic(auto, using(crate::proofs::Once::or_swapped))]
-fn is_settled(taken: &TakenSet, table: &IndexMap<Name, Name>, name: &Name) -> bool
-    ensures { result ≡ (is_taken taken.now name.now || is_some (lookup (is_text name.now) table.now.entries)) }
+fn is_settled(taken: &TakenSet, table: &Table<Name, Name>, name: &Name) -> bool
+    ensures { result ≡ (is_taken taken.now name.now || is_some (lookup (is_text name.now) table.now)) }
 {
-    has_name(table, name) || taken.has(name)
-}
-
-fn has_name(table: &IndexMap<Name, Name>, name: &Name) -> bool
-    ensures { result ≡ is_some (lookup (is_text name.now) table.now.entries) }
-{
-    table.get(name).is_some()
+    table.has(name) || taken.has(name)
 }
 
 /// The number from which on names of a front are to be given.
-fn number_of(next: &IndexMap<Text, u32>, front: &Text) -> u32
-    ensures { result ≡ number_of next.now.entries front.now }
+fn number_of(next: &Table<Text, u32>, front: &Text) -> u32
+    ensures { result ≡ number_of next.now front.now }
 {
     match next.get(front) {
         Some(number) => *number,
@@ -183,16 +165,16 @@ fn number_of(next: &IndexMap<Text, u32>, front: &Text) -> u32
     }
 }
 
-fn put_name(table: &mut IndexMap<Name, Name>, name: &Name, new: Name) -> M<()>
-    ensures { OnOk result (table.new.entries ≡ insert_entry (pointwise nat_eq) table.old.entries name.now new) }
+fn put_name(table: &mut Table<Name, Name>, name: &Name, new: Name) -> M<()>
+    ensures { OnOk result (table.new ≡ insert_entry (pointwise nat_eq) table.old name.now new) }
 {
     let name = name.clone()?;
     table.insert(name, new)?;
     Ok(())
 }
 
-fn put_number(next: &mut IndexMap<Text, u32>, front: &Text, number: u32) -> M<()>
-    ensures { OnOk result (next.new.entries ≡ insert_entry (pointwise nat_eq) next.old.entries front.now number) }
+fn put_number(next: &mut Table<Text, u32>, front: &Text, number: u32) -> M<()>
+    ensures { OnOk result (next.new ≡ insert_entry (pointwise nat_eq) next.old front.now number) }
 {
     let front = front.clone()?;
     next.insert(front, number)?;

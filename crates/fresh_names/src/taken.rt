@@ -4,8 +4,8 @@ ghost use Rattle.lib_table.specs.Lookups.{is_named};
 ghost use Rattle.fresh_names.specs.Fresh.{is_taken};
 ghost use Rattle.fresh_names.specs.Reserved.{library_names, reserved, type_words};
 
-use indexmap::IndexSet;
 use jv_base::Name;
+use key_table::KeySet;
 use lib_table::lib_named;
 use std::marker::Model;
 
@@ -20,7 +20,7 @@ pub enum Named {
 /// Names of classes, of fields or of methods that stay, with those that none of these can get in any case.
 #[derive(Drop)]
 pub struct TakenSet {
-    names: IndexSet<Name>,
+    names: KeySet<Name>,
     named: Named,
 }
 
@@ -30,24 +30,23 @@ impl Model for TakenSet {
 
     ghost Value = { List (List ℕ) };
 
-    ghost view = { λ t. t.names.keys ++ reserved t.named };
+    ghost view = { λ t. t.names ++ reserved t.named };
 }
 
 impl TakenSet {
     /// These names.
-    pub fn new(names: IndexSet<Name>, named: Named) -> Self
-        ensures { result ≡ names.keys ++ reserved named }
+    pub fn new(names: KeySet<Name>, named: Named) -> Self
+        ensures { result ≡ names ++ reserved named }
     {
         TakenSet { names, named }
     }
 
-    /// Whether a name is among them. It takes no memory, and the same time however many there are, unless they were
-    /// chosen to have one hash.
+    /// Whether a name is among them. It takes no memory, and the logarithm of how many there are.
     #[tactic(auto, using(crate::proofs::Reserved::taken_parts))]
     pub fn has(&self, name: &Name) -> bool
         ensures { result ≡ is_taken self.now name.now }
     {
-        let is_fixed = self.names.contains(name);
+        let is_fixed = self.names.has(name);
         let is_reserved = is_reserved(self.named, name);
         is_fixed || is_reserved
     }

@@ -1,10 +1,10 @@
 -- Names that are given beside the same names.
-use Rattle.std.proofs.Common.{◌≡◌, ℕ, Bool, true, false, cond, not, List, filter, Option, Some, None, refl, sym, ap}
+use Rattle.std.proofs.Common.{◌≡◌, ℕ, Bool, true, false, cond, not, List, filter, sym, ap}
 use Rattle.std.proofs.Common.{◌∙◌}
 use Rattle.class_model.specs.declared.class.Class.{Class}
 use Rattle.keep_rules.specs.declared.rules.Rules.{Rules}
 use Rattle.class_rename.specs.Names.{Names, new_name, same_names}
-use Rattle.fresh_names.specs.Fresh.{given, is_taken}
+use Rattle.fresh_names.specs.Fresh.{given}
 use Rattle.fresh_names.specs.Given.{class_names, field_names, front_of, given_name, method_names, names_given}
 use Rattle.fresh_names.specs.Given.{no_front, olds, once, with_front}
 use Rattle.fresh_names.specs.declared.taken.TakenNames.{TakenNames}

@@ -1,5 +1,5 @@
 -- Names that stay by rules (ProGuard manual, "Keep Options", "-keepnames", "includedescriptorclasses").
-use Rattle.std.specs.Prelude.{ℕ, ◌+◌, Bool, true, false, List, [], ◌∷◌, ◌++◌, length, Option, Some, None}
+use Rattle.std.specs.Prelude.{ℕ, ◌+◌, Bool, List, [], ◌∷◌, ◌++◌, length, Option, Some, None}
 use Rattle.std.specs.Prelude.{if◌then◌else◌, slice_index_or}
 use Rattle.std.specs.List.{enumerate_from, flat_map}
 use Rattle.jv_base.specs.declared.types.Base.{Base}

@@ -1,5 +1,5 @@
 // Names that stay by rules (ProGuard manual, "-keepnames", "includedescriptorclasses", "-dontobfuscate").
-ghost use Rattle.std.specs.Prelude.{◌≡◌, ◌++◌, [], IfOk};
+ghost use Rattle.std.specs.Prelude.{◌≡◌, ◌++◌, IfOk};
 ghost use Rattle.keep_match.specs.Fixed.{fixed_rows};
 ghost use Rattle.keep_match.specs.declared.fixed.Fixes.TheVariants as fixes;
 ghost use Rattle.fresh_names.specs.Reserved.{reserved};
@@ -9,10 +9,10 @@ ghost use Rattle.rename_map.specs.Names.{AreFixed, AreSame};
 use crate::gathering::{Chosen, gather};
 use class_pool::ClassSet;
 use fresh_names::{Named, TakenNames, TakenSet};
-use indexmap::IndexSet;
-use jv_base::{Items, M, Name};
+use jv_base::{Items, M};
 use keep_match::{Fixes, fixed_rows};
 use keep_rules::Rules;
+use key_table::KeySet;
 use std::alloc::Global;
 
 /// The names that stay by rules, whatever is kept of a set; with `-dontobfuscate` all stay, which is told by none. A
@@ -46,7 +46,7 @@ pub fn fixed_names(alloc: Global, rules: &Rules, input: &ClassSet) -> M<Option<T
 fn fixed_classes(alloc: Global, rules: &Rules, input: &ClassSet) -> M<TakenSet>
     ensures { IfOk result (λ taken. AreSame taken (names_that_stay rules.now input.now).classes) }
 {
-    let mut names = no_names(alloc);
+    let mut names = KeySet::new(alloc);
     let rows = fixed_rows(alloc, rules, input, Fixes::Classes)?;
     gather(input, rows.as_slice(), Chosen::Class, &mut names)?;
     let described = fixed_rows(alloc, rules, input, Fixes::DescriptorClasses)?;
@@ -64,13 +64,7 @@ fn fixed_members(
 ) -> M<TakenSet>
     ensures { IfOk result (λ taken. AreSame taken (of_each what rows.now input.now ++ reserved named)) }
 {
-    let mut names = no_names(alloc);
+    let mut names = KeySet::new(alloc);
     gather(input, rows, what, &mut names)?;
     Ok(TakenSet::new(names, named))
-}
-
-fn no_names(alloc: Global) -> IndexSet<Name>
-    ensures { result.keys ≡ [] }
-{
-    IndexSet::new(alloc)
 }

@@ -9,8 +9,8 @@ ghost use Rattle.rename_map.specs.bodies.Adding.{Adds};
 use crate::telling::{Tells, Told, add_name};
 use class_model::Class;
 use class_pool::ClassSet;
-use indexmap::IndexSet;
 use jv_base::{Items, M, Name};
+use key_table::KeySet;
 
 /// What marks of a class and its members choose: the name of the class, the classes in the descriptors of members, the
 /// names of fields or those of methods.
@@ -27,9 +27,9 @@ pub(crate) fn gather(
     input: &ClassSet,
     rows: &[Items<bool>],
     what: Chosen,
-    names: &mut IndexSet<Name>,
+    names: &mut KeySet<Name>,
 ) -> M<()>
-    ensures { OnOk result (Adds names.old.keys (of_each what rows.now input.now) names.new.keys) }
+    ensures { OnOk result (Adds names.old (of_each what rows.now input.now) names.new) }
 {
     for number in 0..input.len() {
         add_marked(names, what, row_of(rows, number), input.class(number))?;
@@ -49,9 +49,9 @@ fn row_of(rows: &[Items<bool>], number: u32) -> &[bool]
 
 /// Adds what the marks of a class choose.
 #[tactic(auto, using(crate::proofs::Added::adds_both))]
-fn add_marked(names: &mut IndexSet<Name>, what: Chosen, row: &[bool], class: &Class) -> M<()>
+fn add_marked(names: &mut KeySet<Name>, what: Chosen, row: &[bool], class: &Class) -> M<()>
     requires { length class.now.fields + length class.now.methods < 4294967295 }
-    ensures { OnOk result (Adds names.old.keys (marked what row.now class.now) names.new.keys) }
+    ensures { OnOk result (Adds names.old (marked what row.now class.now) names.new) }
 {
     let fields = class.fields.as_slice();
     let methods = class.methods.as_slice();
@@ -69,8 +69,8 @@ fn add_marked(names: &mut IndexSet<Name>, what: Chosen, row: &[bool], class: &Cl
 
 /// Adds the name of a class, if it is marked.
 #[tactic(auto, using(crate::proofs::Added::adds_none))]
-fn add_class(names: &mut IndexSet<Name>, row: &[bool], class: &Class) -> M<()>
-    ensures { OnOk result (Adds names.old.keys (class_marked row.now class.now) names.new.keys) }
+fn add_class(names: &mut KeySet<Name>, row: &[bool], class: &Class) -> M<()>
+    ensures { OnOk result (Adds names.old (class_marked row.now class.now) names.new) }
 {
     if is_marked(row, 0) {
         add_name(names, &class.name)
@@ -91,15 +91,15 @@ fn is_marked(row: &[bool], item: usize) -> bool
 
 /// Adds what those members tell that are marked; their items follow one another from the first on.
 fn add_chosen<T: Tells>(
-    names: &mut IndexSet<Name>,
+    names: &mut KeySet<Name>,
     told: Told,
     row: &[bool],
     first: usize,
     members: &[T],
 ) -> M<()>
     requires { first + length members.now < 4294967296 }
-    ensures { OnOk result (Adds names.old.keys (flat_map (T.tells told) (chosen row.now first members.now))
-        names.new.keys) }
+    ensures { OnOk result (Adds names.old (flat_map (T.tells told) (chosen row.now first members.now))
+        names.new) }
 {
     let mut item = first;
     for member in members {
@@ -112,8 +112,8 @@ fn add_chosen<T: Tells>(
 
 /// Adds what a member tells, if it is chosen.
 #[tactic(auto, using(crate::proofs::Added::adds_none))]
-fn add_if<T: Tells>(names: &mut IndexSet<Name>, told: Told, member: &T, is_chosen: bool) -> M<()>
-    ensures { OnOk result (Adds names.old.keys (if is_chosen then T.tells told member.now else []) names.new.keys) }
+fn add_if<T: Tells>(names: &mut KeySet<Name>, told: Told, member: &T, is_chosen: bool) -> M<()>
+    ensures { OnOk result (Adds names.old (if is_chosen then T.tells told member.now else []) names.new) }
 {
     if is_chosen {
         member.add_told(told, names)

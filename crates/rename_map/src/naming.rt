@@ -1,5 +1,5 @@
 // New names of what is kept of a set (ProGuard manual, "Usage": obfuscation).
-ghost use Rattle.std.specs.Prelude.{◌≡◌, [], List, IfOk};
+ghost use Rattle.std.specs.Prelude.{◌≡◌, List, IfOk};
 ghost use Rattle.class_model.specs.declared.class.Class.{Class};
 ghost use Rattle.keep_rules.specs.declared.rules.Rules.{Rules};
 ghost use Rattle.class_rename.specs.Names.{names_in, same_names};
@@ -10,15 +10,14 @@ use class_model::Class;
 use class_pool::ClassSet;
 use class_rename::NewNames;
 use fresh_names::{TakenNames, new_names};
-use indexmap::IndexMap;
-use jv_base::{Items, M, Name};
+use jv_base::{Items, M};
 use keep_rules::Rules;
+use key_table::Table;
 use std::alloc::Global;
 
 /// The new names of what is kept of a set, for rules: those that stay are found over the whole set; each other kept
 /// class gets one in its package, all fields of a name one, and all methods of a name one, `a` to `z`, `aa` and so on
-/// in the order in which names stand first. The time is near linear in the set and the names, unless these were chosen
-/// to have one hash.
+/// in the order in which names stand first. The time is near linear in the set and the names.
 pub fn names(alloc: Global, input: &ClassSet, kept: &Items<Class>, rules: &Rules) -> M<NewNames>
     ensures { IfOk result (λ names. names_in names ≡ names_of input.now kept.now rules.now) }
 {
@@ -42,14 +41,8 @@ pub fn names_beside(alloc: Global, fixed: &Option<TakenNames>, kept: &Items<Clas
 fn same_names(alloc: Global) -> NewNames
     ensures { names_in result ≡ same_names }
 {
-    let classes = no_table(alloc);
-    let fields = no_table(alloc);
-    let methods = no_table(alloc);
+    let classes = Table::new(alloc);
+    let fields = Table::new(alloc);
+    let methods = Table::new(alloc);
     NewNames::new(classes, fields, methods)
-}
-
-fn no_table(alloc: Global) -> IndexMap<Name, Name>
-    ensures { result.entries ≡ [] }
-{
-    IndexMap::new(alloc)
 }

@@ -6,8 +6,8 @@ ghost use Rattle.rename_map.specs.Fixed.{field_tells, method_tells, method_type_
 ghost use Rattle.rename_map.specs.bodies.Adding.{Adds};
 
 use class_model::{Field, Method};
-use indexmap::IndexSet;
 use jv_base::{Base, FieldType, M, MethodType, Name};
+use key_table::KeySet;
 
 /// What is asked of a member: its name, or the classes in its descriptor.
 #[derive(Clone, Copy)]
@@ -25,14 +25,14 @@ pub(crate) trait Tells {
     ghost tells: { Told → Self → List (List ℕ) };
 
     /// Adds the names that it tells.
-    fn add_told(&self, told: Told, names: &mut IndexSet<Name>) -> M<()>
-        ensures { OnOk result (Adds names.old.keys (tells told self.now) names.new.keys) };
+    fn add_told(&self, told: Told, names: &mut KeySet<Name>) -> M<()>
+        ensures { OnOk result (Adds names.old (tells told self.now) names.new) };
 }
 
 impl Tells for Field {
     ghost tells = { field_tells };
 
-    fn add_told(&self, told: Told, names: &mut IndexSet<Name>) -> M<()> {
+    fn add_told(&self, told: Told, names: &mut KeySet<Name>) -> M<()> {
         match told {
             Told::Names => add_name(names, &self.name),
             Told::Classes => add_type(names, &self.ty),
@@ -43,7 +43,7 @@ impl Tells for Field {
 impl Tells for Method {
     ghost tells = { method_tells };
 
-    fn add_told(&self, told: Told, names: &mut IndexSet<Name>) -> M<()> {
+    fn add_told(&self, told: Told, names: &mut KeySet<Name>) -> M<()> {
         match told {
             Told::Names => add_name(names, &self.name),
             Told::Classes => add_method_type(names, &self.ty),
@@ -53,10 +53,10 @@ impl Tells for Method {
 
 /// Adds a name.
 #[tactic(auto, using(crate::proofs::Added::adds_one))]
-pub(crate) fn add_name(names: &mut IndexSet<Name>, name: &Name) -> M<()>
-    ensures { OnOk result (Adds names.old.keys (name.now ∷ []) names.new.keys) }
+pub(crate) fn add_name(names: &mut KeySet<Name>, name: &Name) -> M<()>
+    ensures { OnOk result (Adds names.old (name.now ∷ []) names.new) }
 {
-    if names.contains(name) {
+    if names.has(name) {
         return Ok(());
     }
     let name = name.clone()?;
@@ -66,8 +66,8 @@ pub(crate) fn add_name(names: &mut IndexSet<Name>, name: &Name) -> M<()>
 
 /// Adds the class of a type.
 #[tactic(auto, using(crate::proofs::Added::adds_none))]
-fn add_type(names: &mut IndexSet<Name>, ty: &FieldType) -> M<()>
-    ensures { OnOk result (Adds names.old.keys (type_classes ty.now) names.new.keys) }
+fn add_type(names: &mut KeySet<Name>, ty: &FieldType) -> M<()>
+    ensures { OnOk result (Adds names.old (type_classes ty.now) names.new) }
 {
     match &ty.base {
         Base::Class(name) => add_name(names, name),
@@ -76,15 +76,15 @@ fn add_type(names: &mut IndexSet<Name>, ty: &FieldType) -> M<()>
 }
 
 #[tactic(auto, using(crate::proofs::Added::adds_both))]
-fn add_method_type(names: &mut IndexSet<Name>, ty: &MethodType) -> M<()>
-    ensures { OnOk result (Adds names.old.keys (method_type_classes ty.now) names.new.keys) }
+fn add_method_type(names: &mut KeySet<Name>, ty: &MethodType) -> M<()>
+    ensures { OnOk result (Adds names.old (method_type_classes ty.now) names.new) }
 {
     add_arguments(names, ty.args.as_slice())?;
     add_result(names, &ty.ret)
 }
 
-fn add_arguments(names: &mut IndexSet<Name>, types: &[FieldType]) -> M<()>
-    ensures { OnOk result (Adds names.old.keys (flat_map type_classes types.now) names.new.keys) }
+fn add_arguments(names: &mut KeySet<Name>, types: &[FieldType]) -> M<()>
+    ensures { OnOk result (Adds names.old (flat_map type_classes types.now) names.new) }
 {
     for ty in types {
         add_type(names, ty)?;
@@ -93,8 +93,8 @@ fn add_arguments(names: &mut IndexSet<Name>, types: &[FieldType]) -> M<()>
 }
 
 #[tactic(auto, using(crate::proofs::Added::adds_none))]
-fn add_result(names: &mut IndexSet<Name>, ty: &Option<FieldType>) -> M<()>
-    ensures { OnOk result (Adds names.old.keys (result_classes ty.now) names.new.keys) }
+fn add_result(names: &mut KeySet<Name>, ty: &Option<FieldType>) -> M<()>
+    ensures { OnOk result (Adds names.old (result_classes ty.now) names.new) }
 {
     match ty {
         Some(ty) => add_type(names, ty),

@@ -9,14 +9,14 @@ use Rattle.fresh_names.proofs.giving.class_table.Goals as goal
 
 pub loop-class-init : goal.loop-class-init
 loop-class-init c =
-    subst (λ (t : List (List ℕ × List ℕ)). IsGiven front_of c.args.taken.now [] t c.no_numbers-next.result.entries)
-    (sym c.no_names-table.ensures)
-    (subst (λ (n : List (List ℕ × ℕ)). IsGiven front_of c.args.taken.now [] [] n) (sym c.no_numbers-next.ensures)
+    subst (λ (t : List (List ℕ × List ℕ)). IsGiven front_of c.args.taken.now [] t c.new-next.result)
+    (sym c.new-table.ensures)
+    (subst (λ (n : List (List ℕ × ℕ)). IsGiven front_of c.args.taken.now [] [] n) (sym c.new-next.ensures)
     (none_given front_of c.args.taken.now []))
 
 pub loop-class-preserved : goal.loop-class-preserved
 loop-class-preserved c =
-    subst (λ (l : List (List ℕ)). IsGiven front_of c.args.taken.now l c.give.new.table.entries c.give.new.next.entries)
+    subst (λ (l : List (List ℕ)). IsGiven front_of c.args.taken.now l c.give.new.table c.give.new.next)
     (mapped_more (λ (k : Class). k.name) c.args.kept.now c.loop-class.class-index c.class-item.result
     c.loop-class-test.true c.class-item.is)
     (c.in_ok-give.ensures front_of (class_names (take c.loop-class.class-index c.args.kept.now))
@@ -24,8 +24,8 @@ loop-class-preserved c =
 
 pub returns : goal.returns
 returns c =
-    is_given front_of c.args.taken.now (class_names c.args.kept.now) c.loop-class.table.entries
-    c.loop-class.next.entries
-    (subst (λ (l : List Class). IsGiven front_of c.args.taken.now (class_names l) c.loop-class.table.entries
-    c.loop-class.next.entries)
+    is_given front_of c.args.taken.now (class_names c.args.kept.now) c.loop-class.table
+    c.loop-class.next
+    (subst (λ (l : List Class). IsGiven front_of c.args.taken.now (class_names l) c.loop-class.table
+    c.loop-class.next)
     (take_all c.loop-class.class-index c.args.kept.now c.loop-class-test.false) c.loop-class.invariant)

@@ -5,4 +5,4 @@ use Rattle.fresh_names.proofs.giving.class_table.Given as goal
 
 abbrev pub invariant-loop-class : goal.invariant-loop-class
 invariant-loop-class l =
-    IsGiven front_of l.taken (class_names (take l.class-index l.kept)) l.table.entries l.next.entries
+    IsGiven front_of l.taken (class_names (take l.class-index l.kept)) l.table l.next

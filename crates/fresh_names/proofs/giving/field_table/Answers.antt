@@ -10,15 +10,15 @@ use Rattle.fresh_names.proofs.giving.field_table.Goals as goal
 
 pub loop-class-init : goal.loop-class-init
 loop-class-init c =
-    subst (λ (t : List (List ℕ × List ℕ)). IsGiven no_front c.args.taken.now [] t c.no_numbers-next.result.entries)
-    (sym c.no_names-table.ensures)
-    (subst (λ (n : List (List ℕ × ℕ)). IsGiven no_front c.args.taken.now [] [] n) (sym c.no_numbers-next.ensures)
+    subst (λ (t : List (List ℕ × List ℕ)). IsGiven no_front c.args.taken.now [] t c.new-next.result)
+    (sym c.new-table.ensures)
+    (subst (λ (n : List (List ℕ × ℕ)). IsGiven no_front c.args.taken.now [] [] n) (sym c.new-next.ensures)
     (none_given no_front c.args.taken.now []))
 
 pub loop-class-preserved : goal.loop-class-preserved
 loop-class-preserved c =
-    subst (λ (l : List (List ℕ)). IsGiven no_front c.args.taken.now l c.give_fields.new.table.entries
-    c.give_fields.new.next.entries)
+    subst (λ (l : List (List ℕ)). IsGiven no_front c.args.taken.now l c.give_fields.new.table
+    c.give_fields.new.next)
     (same_done (λ (f : Field). f.name) (field_names (take c.loop-class.class-index c.args.kept.now))
     c.as_slice.result.now c.class-item.result.fields _ c.as_slice.ensures
     (flat_more (λ (k : Class). map (λ (f : Field). f.name) k.fields) c.args.kept.now c.loop-class.class-index
@@ -27,8 +27,8 @@ loop-class-preserved c =
 
 pub returns : goal.returns
 returns c =
-    is_given no_front c.args.taken.now (field_names c.args.kept.now) c.loop-class.table.entries
-    c.loop-class.next.entries
-    (subst (λ (l : List Class). IsGiven no_front c.args.taken.now (field_names l) c.loop-class.table.entries
-    c.loop-class.next.entries)
+    is_given no_front c.args.taken.now (field_names c.args.kept.now) c.loop-class.table
+    c.loop-class.next
+    (subst (λ (l : List Class). IsGiven no_front c.args.taken.now (field_names l) c.loop-class.table
+    c.loop-class.next)
     (take_all c.loop-class.class-index c.args.kept.now c.loop-class-test.false) c.loop-class.invariant)

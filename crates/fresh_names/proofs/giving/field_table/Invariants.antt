@@ -5,4 +5,4 @@ use Rattle.fresh_names.proofs.giving.field_table.Given as goal
 
 abbrev pub invariant-loop-class : goal.invariant-loop-class
 invariant-loop-class l =
-    IsGiven no_front l.taken (field_names (take l.class-index l.kept)) l.table.entries l.next.entries
+    IsGiven no_front l.taken (field_names (take l.class-index l.kept)) l.table l.next

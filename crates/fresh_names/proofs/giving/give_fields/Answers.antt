@@ -8,12 +8,12 @@ use Rattle.fresh_names.proofs.giving.give_fields.Goals as goal
 
 pub loop-field-init : goal.loop-field-init
 loop-field-init c = λ done g.
-    subst (λ (l : List (List ℕ)). IsGiven no_front c.args.taken.now l c.args.table.now.entries c.args.next.now.entries)
+    subst (λ (l : List (List ℕ)). IsGiven no_front c.args.taken.now l c.args.table.now c.args.next.now)
     (sym (append-nil done)) g
 
 pub loop-field-preserved : goal.loop-field-preserved
 loop-field-preserved c = λ done g.
-    subst (λ (l : List (List ℕ)). IsGiven no_front c.args.taken.now l c.give.new.table.entries c.give.new.next.entries)
+    subst (λ (l : List (List ℕ)). IsGiven no_front c.args.taken.now l c.give.new.table c.give.new.next)
     (append_assoc done (map (λ (f : Field). f.name) (take c.loop-field.field-index c.args.fields.now))
     (c.field-item.result.name ∷ [])
     ∙ ap (λ (l : List (List ℕ)). done ++ l)
@@ -26,5 +26,5 @@ loop-field-preserved c = λ done g.
 pub returns : goal.returns
 returns c = λ done g.
     subst (λ (l : List Field). IsGiven no_front c.args.taken.now (done ++ map (λ (f : Field). f.name) l)
-    c.loop-field.table.entries c.loop-field.next.entries)
+    c.loop-field.table c.loop-field.next)
     (take_all c.loop-field.field-index c.args.fields.now c.loop-field-test.false) (c.loop-field.invariant done g)

@@ -6,6 +6,6 @@ use Rattle.fresh_names.proofs.giving.give_fields.Given as goal
 
 abbrev pub invariant-loop-field : goal.invariant-loop-field
 invariant-loop-field l = (done : List (List ℕ))
-    → IsGiven no_front l.taken done l.fn.table.entries l.fn.next.entries
+    → IsGiven no_front l.taken done l.fn.table l.fn.next
     → IsGiven no_front l.taken (done ++ map (λ (f : Field). f.name) (take l.field-index l.fields))
-    l.table.entries l.next.entries
+    l.table l.next

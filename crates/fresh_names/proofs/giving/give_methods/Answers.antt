@@ -8,12 +8,12 @@ use Rattle.fresh_names.proofs.giving.give_methods.Goals as goal
 
 pub loop-method-init : goal.loop-method-init
 loop-method-init c = λ done g.
-    subst (λ (l : List (List ℕ)). IsGiven no_front c.args.taken.now l c.args.table.now.entries c.args.next.now.entries)
+    subst (λ (l : List (List ℕ)). IsGiven no_front c.args.taken.now l c.args.table.now c.args.next.now)
     (sym (append-nil done)) g
 
 pub loop-method-preserved : goal.loop-method-preserved
 loop-method-preserved c = λ done g.
-    subst (λ (l : List (List ℕ)). IsGiven no_front c.args.taken.now l c.give.new.table.entries c.give.new.next.entries)
+    subst (λ (l : List (List ℕ)). IsGiven no_front c.args.taken.now l c.give.new.table c.give.new.next)
     (append_assoc done (map (λ (m : Method). m.name) (take c.loop-method.method-index c.args.methods.now))
     (c.method-item.result.name ∷ [])
     ∙ ap (λ (l : List (List ℕ)). done ++ l)
@@ -26,5 +26,5 @@ loop-method-preserved c = λ done g.
 pub returns : goal.returns
 returns c = λ done g.
     subst (λ (l : List Method). IsGiven no_front c.args.taken.now (done ++ map (λ (m : Method). m.name) l)
-    c.loop-method.table.entries c.loop-method.next.entries)
+    c.loop-method.table c.loop-method.next)
     (take_all c.loop-method.method-index c.args.methods.now c.loop-method-test.false) (c.loop-method.invariant done g)

@@ -6,6 +6,6 @@ use Rattle.fresh_names.proofs.giving.give_methods.Given as goal
 
 abbrev pub invariant-loop-method : goal.invariant-loop-method
 invariant-loop-method l = (done : List (List ℕ))
-    → IsGiven no_front l.taken done l.fn.table.entries l.fn.next.entries
+    → IsGiven no_front l.taken done l.fn.table l.fn.next
     → IsGiven no_front l.taken (done ++ map (λ (m : Method). m.name) (take l.method-index l.methods))
-    l.table.entries l.next.entries
+    l.table l.next

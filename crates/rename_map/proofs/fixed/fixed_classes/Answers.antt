@@ -1,4 +1,4 @@
-use Rattle.std.proofs.Common.{ℕ, List, Bool, [], ◌∙◌, sym, subst}
+use Rattle.std.proofs.Common.{ℕ, List, Bool, ◌∙◌, sym, subst}
 use Rattle.keep_match.specs.Fixed.{fixed_rows}
 use Rattle.keep_match.specs.declared.fixed.Fixes.TheVariants as fixes
 use Rattle.fresh_names.specs.Reserved.{reserved}
@@ -16,9 +16,9 @@ returns c =
     let own = of_each choose.Class (fixed_rows fixes.Classes c.args.rules.now input) input in
     let told = of_each choose.Described (fixed_rows fixes.DescriptorClasses c.args.rules.now input) input in
     subst (λ (t : List (List ℕ)). AreSame t (names_that_stay c.args.rules.now input).classes) (sym c.new.ensures)
-    (both_stay c.gather.new.names.keys c.gather-2.new.names.keys own told (reserved named.Class)
-    (subst (λ (l : List (List ℕ)). Adds l own c.gather.new.names.keys) c.no_names-names.ensures
-    (subst (λ (rows : List (List Bool)). Adds c.no_names-names.result.keys (of_each choose.Class rows input)
-    c.gather.new.names.keys) (c.as_slice.ensures ∙ c.in_ok-rows.ensures) c.in_ok-gather.ensures))
-    (subst (λ (rows : List (List Bool)). Adds c.gather.new.names.keys (of_each choose.Described rows input)
-    c.gather-2.new.names.keys) (c.as_slice-2.ensures ∙ c.in_ok-described.ensures) c.in_ok-gather-2.ensures))
+    (both_stay c.gather.new.names c.gather-2.new.names own told (reserved named.Class)
+    (subst (λ (l : List (List ℕ)). Adds l own c.gather.new.names) c.new-names.ensures
+    (subst (λ (rows : List (List Bool)). Adds c.new-names.result (of_each choose.Class rows input)
+    c.gather.new.names) (c.as_slice.ensures ∙ c.in_ok-rows.ensures) c.in_ok-gather.ensures))
+    (subst (λ (rows : List (List Bool)). Adds c.gather.new.names (of_each choose.Described rows input)
+    c.gather-2.new.names) (c.as_slice-2.ensures ∙ c.in_ok-described.ensures) c.in_ok-gather-2.ensures))

@@ -10,6 +10,6 @@ pub returns : goal.returns
 returns c =
     let chosen = of_each c.args.what c.args.rows.now c.args.input.now in
     subst (λ (t : List (List ℕ)). AreSame t (chosen ++ reserved c.args.named)) (sym c.new.ensures)
-    (one_stay c.gather.new.names.keys chosen (reserved c.args.named)
-    (subst (λ (l : List (List ℕ)). Adds l chosen c.gather.new.names.keys) c.no_names-names.ensures
+    (one_stay c.gather.new.names chosen (reserved c.args.named)
+    (subst (λ (l : List (List ℕ)). Adds l chosen c.gather.new.names) c.new-names.ensures
     c.in_ok-gather.ensures))

@@ -5,5 +5,5 @@ use Rattle.rename_map.proofs.gathering.add_chosen.Given as goal
 
 abbrev pub invariant-loop-member : goal.invariant-loop-member
 invariant-loop-member g l = (l.item ≡ l.first + l.member-index)
-    × Adds l.fn.names.keys (flat_map (g.T.Tells.tells l.told) (chosen l.row l.first (take l.member-index l.members)))
-    l.names.keys
+    × Adds l.fn.names (flat_map (g.T.Tells.tells l.told) (chosen l.row l.first (take l.member-index l.members)))
+    l.names

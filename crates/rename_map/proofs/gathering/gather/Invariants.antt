@@ -4,4 +4,4 @@ use Rattle.rename_map.specs.bodies.Adding.{Adds}
 use Rattle.rename_map.proofs.gathering.gather.Given as goal
 
 abbrev pub invariant-loop-number : goal.invariant-loop-number
-invariant-loop-number l = Adds l.fn.names.keys (of_each l.what l.rows (take l.number l.input)) l.names.keys
+invariant-loop-number l = Adds l.fn.names (of_each l.what l.rows (take l.number l.input)) l.names

@@ -6,7 +6,7 @@ pub returns : goal.returns
 returns c =
     ap names_in c.new.ensures
     ∙ (λ i. names_in (record {
-      classes = c.no_table-classes.ensures i;
-      fields = c.no_table-fields.ensures i;
-      methods = c.no_table-methods.ensures i;
+      classes = c.new-classes.ensures i;
+      fields = c.new-fields.ensures i;
+      methods = c.new-methods.ensures i;
     }))

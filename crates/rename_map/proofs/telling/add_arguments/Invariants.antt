@@ -4,4 +4,4 @@ use Rattle.rename_map.specs.bodies.Adding.{Adds}
 use Rattle.rename_map.proofs.telling.add_arguments.Given as goal
 
 abbrev pub invariant-loop-ty : goal.invariant-loop-ty
-invariant-loop-ty l = Adds l.fn.names.keys (flat_map type_classes (take l.ty-index l.types)) l.names.keys
+invariant-loop-ty l = Adds l.fn.names (flat_map type_classes (take l.ty-index l.types)) l.names
