@@ -33,10 +33,8 @@ use Rattle.type_verifier.specs.bodies.Asked.{AreAsked, AreAskedBefore, IsStoodFo
 use Rattle.type_verifier.specs.bodies.Asked.{covers_behind, covers_first, handler_at, locals_at, no_handler}
 use Rattle.type_verifier.specs.bodies.Asked.{satisfies_behind, satisfies_first, IsUncovered, satisfies_if_behind}
 use Rattle.type_verifier.specs.bodies.Marks.{AreNumbers}
-use Rattle.type_verifier.specs.bodies.Same.{is_same_type}
 use Rattle.type_verifier.specs.bodies.Since.{IsKnown, IsSince}
 use Rattle.type_verifier.proofs.Handled.{known_at, known_fits, known_free, same_satisfies, unchanged}
-use Rattle.type_verifier.proofs.SameTypes.{same_types}
 
 -- ---- numbers of handlers
 
@@ -154,10 +152,10 @@ module _ (code : Code) (numbers : List ℕ) (n : ℕ) (h : AreAskedBefore code n
 -- ---- locals that are the same
 
 pub rest_same : (xs ys ls rs : List VType) (n : ℕ) → take n xs ≡ take n ys → ls ≡ drop n xs → rs ≡ drop n ys
-    → pointwise is_same_type ls rs ≡ true → xs ≡ ys
+    → ls ≡ rs → xs ≡ ys
 rest_same xs ys ls rs n front left right same =
     sym (take-append-drop n xs) ∙ ap (λ (r : List VType). r ++ drop n xs) front
-    ∙ ap (λ (r : List VType). take n ys ++ r) (sym left ∙ same_types ls rs same ∙ right) ∙ take-append-drop n ys
+    ∙ ap (λ (r : List VType). take n ys ++ r) (sym left ∙ same ∙ right) ∙ take-append-drop n ys
 
 module _ (code : Code) (numbers : List (Option ℕ)) (are : AreNumbers code.frames (length code.ins) numbers) where
   locals_told : (at i : ℕ) → slice_index_or numbers at None ≡ Some i → i < length code.frames

@@ -1,7 +1,6 @@
 -- Chains of the handlers that cover the same instruction as the first one.
 use Rattle.std.proofs.Common.{◌≡◌, ◌⊎◌, ◌<◌, ◌≤◌, ℕ, suc, ◌+◌, Bool, true, false, nat_eq, List, length, get_or}
 use Rattle.std.proofs.Common.{replicate, set, Option, Some, None, inl, inr, refl, sym, ap, subst, ◌∙◌, arith, ⊎_elim}
-use Rattle.std.specs.List.{list_all, list_any}
 use Rattle.std.specs.Option.{is_some}
 use Rattle.std.proofs.lemmas.Bool.{cases_eq}
 use Rattle.std.proofs.lemmas.Bool.Decides.{eqb_tells, leb_tells}
@@ -14,7 +13,7 @@ use Rattle.type_verifier.specs.declared.chain.Chain.{Chain}
 use Rattle.type_verifier.specs.declared.frame.TypeFrame.{TypeFrame}
 use Rattle.type_verifier.specs.Environment.{Environment}
 use Rattle.type_verifier.specs.bodies.Asked.{no_handler, satisfies_first, satisfies_if_first}
-use Rattle.type_verifier.specs.bodies.Chained.{IsChain, IsChainFrom, IsCovering, IsFirstFrom, IsSatisfiedBefore}
+use Rattle.type_verifier.specs.bodies.Chained.{IsChain, IsChainFrom, IsFirstFrom, IsSatisfiedBefore}
 use Rattle.type_verifier.specs.bodies.Chained.{count_before, from_of}
 use Rattle.type_verifier.specs.bodies.Marking.{is_first_covered}
 

@@ -1,5 +1,5 @@
 -- Walks upwards in long steps.
-use Rattle.std.proofs.Common.{◌≡◌, ◌⊎◌, ◌≤◌, ◌<◌, ℕ, zero, suc, ◌+◌, ◌-◌, Bool, true, false, ◌||◌, nat_eq}
+use Rattle.std.proofs.Common.{◌≡◌, ◌⊎◌, ◌≤◌, ◌<◌, ℕ, zero, suc, ◌+◌, Bool, true, false, ◌||◌, nat_eq}
 use Rattle.std.proofs.Common.{List, [], ◌∷◌, length, set, Option, Some, None, inl, inr, refl, sym, ap, subst, ◌∙◌}
 use Rattle.std.proofs.Common.{arith, ⊎_elim}
 use Rattle.std.proofs.Common.{get_or-set_other, get_or-set_same}
@@ -19,7 +19,7 @@ use Rattle.class_pool.specs.Resolution.{is_class_below}
 use Rattle.class_pool.specs.Walk.{highest, same_class, superclasses_from, upwards}
 use Rattle.class_pool.proofs.Declaring.{superclass_there}
 use Rattle.class_pool.proofs.EachOnce.{same_is}
-use Rattle.class_pool.proofs.Walking.{superclasses_next, up_unfolded}
+use Rattle.class_pool.proofs.Walking.{superclasses_next}
 use Rattle.type_verifier.specs.declared.hierarchy.Step.{Step}
 use Rattle.type_verifier.specs.bodies.Steps.{AreSteps, IsFar, IsFloor, IsStep, height}
 

@@ -9,7 +9,7 @@ pub mod Noting
 pub mod Padding
 pub mod Popping
 pub mod RulesWithoutCodes
-pub mod SameTypes
+pub mod Ruling
 pub mod SetLaw
 pub mod Telling
 pub mod TypedLaw

@@ -1,5 +1,5 @@
 -- Lists of types that are noted, one place of which changes.
-use Rattle.std.proofs.Common.{◌≡◌, ◌⊎◌, ◌≤◌, ◌<◌, ℕ, zero, suc, ◌+◌, ◌-◌, Bool, true, IsTrue, List, [], ◌∷◌, length}
+use Rattle.std.proofs.Common.{◌≡◌, ◌≤◌, ◌<◌, ℕ, zero, suc, ◌+◌, ◌-◌, Bool, true, List, [], ◌∷◌, length}
 use Rattle.std.proofs.Common.{get_or, take, drop, Option, Some, None, inl, inr, refl, sym, ap, subst, ◌∙◌, arith}
 use Rattle.std.proofs.Common.{⊎_elim}
 use Rattle.std.specs.Prelude.{min, slice_get}
@@ -12,8 +12,6 @@ use Rattle.class_model.specs.declared.frame.VType.{VType}
 use Rattle.type_verifier.specs.declared.changed.Changed.{Changed}
 use Rattle.type_verifier.specs.declared.fitting.Noted.{Noted}
 use Rattle.type_verifier.specs.bodies.Noting.{AreTold, HasNoted, Notes, NotesWord, StillNoted, word_of}
-use Rattle.type_verifier.specs.bodies.Same.{is_same_type}
-use Rattle.type_verifier.proofs.SameTypes.{same_type}
 
 -- ---- one place
 
@@ -21,14 +19,13 @@ abbrev Place : Type 0
 Place = Option Noted
 
 -- a place that has the same type of the same word
-pub noted_at : (all : List Place) (place word : ℕ) (n : Noted) (ty : VType) (b : Bool)
-    → slice_get all place ≡ Some (Some n) → n.word ≡ word → b ≡ is_same_type n.ty ty → IsTrue b → HasNoted all word ty
-noted_at all place word n ty b is same tells t = (
+pub noted_at : (all : List Place) (place word : ℕ) (n : Noted) (ty : VType) → slice_get all place ≡ Some (Some n)
+    → n.word ≡ word → n.ty ≡ ty → HasNoted all word ty
+noted_at all place word n ty is here same = (
   place,
   get_or_from_slice_get all place (Some n) None is
-      ∙ ap (λ (w : ℕ). let o : Place = Some (record { word = w; ty = n.ty }) in o) same
-      ∙ ap (λ (x : VType). let o : Place = Some (record { word = word; ty = x }) in o)
-      (same_type n.ty ty (sym tells ∙ t)),
+      ∙ ap (λ (w : ℕ). let o : Place = Some (record { word = w; ty = n.ty }) in o) here
+      ∙ ap (λ (x : VType). let o : Place = Some (record { word = word; ty = x }) in o) same,
 )
 
 -- ---- what is noted

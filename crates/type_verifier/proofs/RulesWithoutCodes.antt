@@ -44,9 +44,9 @@ use Rattle.type_verifier.specs.Effects.{put_local, pushed, read_from, result_tak
 use Rattle.type_verifier.specs.Effects.{used_from, with_stack, words_of_kind}
 use Rattle.type_verifier.specs.Environment.{Environment, declared_frame_at, initial_frame, own_type, targets}
 use Rattle.type_verifier.specs.Members.{is_class_type, is_early_field, is_guarded, is_guarded_field, is_guarded_method}
-use Rattle.type_verifier.specs.Rules.{Rule, Takes, Loads, Stores, Counts, Drops, Doubles, Swaps, ReadsReference, Makes}
-use Rattle.type_verifier.specs.Rules.{Returns, Uses, Initialises, Wanted, Assignable, Reference, OrThis, AnyArray}
-use Rattle.type_verifier.specs.Rules.{SmallArray, arguments, array_wanted, class_of, field_type, meets, method_type}
+use Rattle.type_verifier.specs.Rules.{Rule, Takes, Loads, Stores, Counts, ReadsReference}
+use Rattle.type_verifier.specs.Rules.{Returns, Uses, Initialises, Wanted, Assignable, OrThis}
+use Rattle.type_verifier.specs.Rules.{arguments, array_wanted, class_of, field_type, meets, method_type}
 use Rattle.type_verifier.specs.Rules.{moved, receiver, returned, rule_of, special_call, throwable, written_receiver}
 use Rattle.type_verifier.specs.Typed.{AreInstructionsTyped, IsFirstFault, IsTypedBefore, Stands, Typed}
 use Rattle.type_verifier.specs.Walk.{arrived, at_instruction, caught_type, covers, fault_at, fits_at, fits_declared}
@@ -59,10 +59,9 @@ use Rattle.type_verifier.proofs.WithoutCodes.{same_resolved_method}
 
 module _ (classes : List Class) where
   reaches_same : (from to : Option ClassId) → reaches (bared classes) from to ≡ reaches classes from to
-  reaches_same None None = refl
-  reaches_same (Some f) None = refl
   reaches_same None (Some t) = λ i. same_interface classes i t
   reaches_same (Some f) (Some t) = λ i. same_interface classes i t || same_below classes i f t
+  reaches_same from to = refl
 
   named_reach : (from to : List ℕ)
       → reaches (bared classes) (class_named (bared classes) from) (class_named (bared classes) to)
@@ -74,87 +73,8 @@ module _ (classes : List Class) where
   class_same = λ i from to. is_text from to || named_reach from to i
 
   base_at : (from to : Base) → is_base_assignable (bared classes) from to ≡ is_base_assignable classes from to
-  base_at base.Boolean base.Boolean = refl
-  base_at base.Boolean base.Byte = refl
-  base_at base.Boolean base.Char = refl
-  base_at base.Boolean base.Short = refl
-  base_at base.Boolean base.Int = refl
-  base_at base.Boolean base.Long = refl
-  base_at base.Boolean base.Float = refl
-  base_at base.Boolean base.Double = refl
-  base_at base.Boolean (base.Class b) = refl
-  base_at base.Byte base.Boolean = refl
-  base_at base.Byte base.Byte = refl
-  base_at base.Byte base.Char = refl
-  base_at base.Byte base.Short = refl
-  base_at base.Byte base.Int = refl
-  base_at base.Byte base.Long = refl
-  base_at base.Byte base.Float = refl
-  base_at base.Byte base.Double = refl
-  base_at base.Byte (base.Class b) = refl
-  base_at base.Char base.Boolean = refl
-  base_at base.Char base.Byte = refl
-  base_at base.Char base.Char = refl
-  base_at base.Char base.Short = refl
-  base_at base.Char base.Int = refl
-  base_at base.Char base.Long = refl
-  base_at base.Char base.Float = refl
-  base_at base.Char base.Double = refl
-  base_at base.Char (base.Class b) = refl
-  base_at base.Short base.Boolean = refl
-  base_at base.Short base.Byte = refl
-  base_at base.Short base.Char = refl
-  base_at base.Short base.Short = refl
-  base_at base.Short base.Int = refl
-  base_at base.Short base.Long = refl
-  base_at base.Short base.Float = refl
-  base_at base.Short base.Double = refl
-  base_at base.Short (base.Class b) = refl
-  base_at base.Int base.Boolean = refl
-  base_at base.Int base.Byte = refl
-  base_at base.Int base.Char = refl
-  base_at base.Int base.Short = refl
-  base_at base.Int base.Int = refl
-  base_at base.Int base.Long = refl
-  base_at base.Int base.Float = refl
-  base_at base.Int base.Double = refl
-  base_at base.Int (base.Class b) = refl
-  base_at base.Long base.Boolean = refl
-  base_at base.Long base.Byte = refl
-  base_at base.Long base.Char = refl
-  base_at base.Long base.Short = refl
-  base_at base.Long base.Int = refl
-  base_at base.Long base.Long = refl
-  base_at base.Long base.Float = refl
-  base_at base.Long base.Double = refl
-  base_at base.Long (base.Class b) = refl
-  base_at base.Float base.Boolean = refl
-  base_at base.Float base.Byte = refl
-  base_at base.Float base.Char = refl
-  base_at base.Float base.Short = refl
-  base_at base.Float base.Int = refl
-  base_at base.Float base.Long = refl
-  base_at base.Float base.Float = refl
-  base_at base.Float base.Double = refl
-  base_at base.Float (base.Class b) = refl
-  base_at base.Double base.Boolean = refl
-  base_at base.Double base.Byte = refl
-  base_at base.Double base.Char = refl
-  base_at base.Double base.Short = refl
-  base_at base.Double base.Int = refl
-  base_at base.Double base.Long = refl
-  base_at base.Double base.Float = refl
-  base_at base.Double base.Double = refl
-  base_at base.Double (base.Class b) = refl
-  base_at (base.Class a) base.Boolean = refl
-  base_at (base.Class a) base.Byte = refl
-  base_at (base.Class a) base.Char = refl
-  base_at (base.Class a) base.Short = refl
-  base_at (base.Class a) base.Int = refl
-  base_at (base.Class a) base.Long = refl
-  base_at (base.Class a) base.Float = refl
-  base_at (base.Class a) base.Double = refl
   base_at (base.Class a) (base.Class b) = λ i. class_same i a b
+  base_at from to = refl
 
   java_same : (from to : FieldType) → is_java_assignable (bared classes) from to ≡ is_java_assignable classes from to
   unfolding is_java_assignable
@@ -163,55 +83,8 @@ module _ (classes : List Class) where
 
   assign_at : (from to : VType) → is_assignable (bared classes) from to ≡ is_assignable classes from to
   unfolding is_assignable
-  assign_at vtype.Top vtype.Top = refl
-  assign_at vtype.Int vtype.Top = refl
-  assign_at vtype.Long vtype.Top = refl
-  assign_at vtype.Null vtype.Top = refl
-  assign_at vtype.UninitThis vtype.Top = refl
-  assign_at (vtype.Object a) vtype.Top = refl
-  assign_at (vtype.Uninit a) vtype.Top = refl
-  assign_at vtype.Top vtype.Int = refl
-  assign_at vtype.Int vtype.Int = refl
-  assign_at vtype.Long vtype.Int = refl
-  assign_at vtype.Null vtype.Int = refl
-  assign_at vtype.UninitThis vtype.Int = refl
-  assign_at (vtype.Object a) vtype.Int = refl
-  assign_at (vtype.Uninit a) vtype.Int = refl
-  assign_at vtype.Top vtype.Long = refl
-  assign_at vtype.Int vtype.Long = refl
-  assign_at vtype.Long vtype.Long = refl
-  assign_at vtype.Null vtype.Long = refl
-  assign_at vtype.UninitThis vtype.Long = refl
-  assign_at (vtype.Object a) vtype.Long = refl
-  assign_at (vtype.Uninit a) vtype.Long = refl
-  assign_at vtype.Top vtype.Null = refl
-  assign_at vtype.Int vtype.Null = refl
-  assign_at vtype.Long vtype.Null = refl
-  assign_at vtype.Null vtype.Null = refl
-  assign_at vtype.UninitThis vtype.Null = refl
-  assign_at (vtype.Object a) vtype.Null = refl
-  assign_at (vtype.Uninit a) vtype.Null = refl
-  assign_at vtype.Top vtype.UninitThis = refl
-  assign_at vtype.Int vtype.UninitThis = refl
-  assign_at vtype.Long vtype.UninitThis = refl
-  assign_at vtype.Null vtype.UninitThis = refl
-  assign_at vtype.UninitThis vtype.UninitThis = refl
-  assign_at (vtype.Object a) vtype.UninitThis = refl
-  assign_at (vtype.Uninit a) vtype.UninitThis = refl
-  assign_at vtype.Top (vtype.Object b) = refl
-  assign_at vtype.Int (vtype.Object b) = refl
-  assign_at vtype.Long (vtype.Object b) = refl
-  assign_at vtype.Null (vtype.Object b) = refl
-  assign_at vtype.UninitThis (vtype.Object b) = refl
   assign_at (vtype.Object a) (vtype.Object b) = java_same a b
-  assign_at (vtype.Uninit a) (vtype.Object b) = refl
-  assign_at vtype.Top (vtype.Uninit b) = refl
-  assign_at vtype.Int (vtype.Uninit b) = refl
-  assign_at vtype.Long (vtype.Uninit b) = refl
-  assign_at vtype.Null (vtype.Uninit b) = refl
-  assign_at vtype.UninitThis (vtype.Uninit b) = refl
-  assign_at (vtype.Object a) (vtype.Uninit b) = refl
-  assign_at (vtype.Uninit a) (vtype.Uninit b) = refl
+  assign_at from to = refl
 
   assign_same : is_assignable (bared classes) ≡ is_assignable classes
   assign_same = λ i from to. assign_at from to i
@@ -225,34 +98,9 @@ module _ (classes : List Class) where
 
   meets_at : (w : Wanted) (ty : VType) → meets (bared classes) w ty ≡ meets classes w ty
   meets_at (Assignable to) ty = λ i. assign_same i ty to
-  meets_at Reference vtype.Top = refl
-  meets_at Reference vtype.Int = refl
-  meets_at Reference vtype.Long = refl
-  meets_at Reference vtype.Null = refl
-  meets_at Reference vtype.UninitThis = refl
-  meets_at Reference (vtype.Object a) = refl
-  meets_at Reference (vtype.Uninit a) = refl
-  meets_at (OrThis to) vtype.Top = λ i. assign_same i vtype.Top (vtype.Object to)
-  meets_at (OrThis to) vtype.Int = λ i. assign_same i vtype.Int (vtype.Object to)
-  meets_at (OrThis to) vtype.Long = λ i. assign_same i vtype.Long (vtype.Object to)
-  meets_at (OrThis to) vtype.Null = λ i. assign_same i vtype.Null (vtype.Object to)
   meets_at (OrThis to) vtype.UninitThis = refl
-  meets_at (OrThis to) (vtype.Object a) = λ i. assign_same i (vtype.Object a) (vtype.Object to)
-  meets_at (OrThis to) (vtype.Uninit a) = λ i. assign_same i (vtype.Uninit a) (vtype.Object to)
-  meets_at AnyArray vtype.Top = refl
-  meets_at AnyArray vtype.Int = refl
-  meets_at AnyArray vtype.Long = refl
-  meets_at AnyArray vtype.Null = refl
-  meets_at AnyArray vtype.UninitThis = refl
-  meets_at AnyArray (vtype.Object a) = refl
-  meets_at AnyArray (vtype.Uninit a) = refl
-  meets_at SmallArray vtype.Top = refl
-  meets_at SmallArray vtype.Int = refl
-  meets_at SmallArray vtype.Long = refl
-  meets_at SmallArray vtype.Null = refl
-  meets_at SmallArray vtype.UninitThis = refl
-  meets_at SmallArray (vtype.Object a) = refl
-  meets_at SmallArray (vtype.Uninit a) = refl
+  meets_at (OrThis to) ty = λ i. assign_same i ty (vtype.Object to)
+  meets_at w ty = refl
 
   popped_at : (w : Wanted) (f : TypeFrame) (stack : List VType)
       → popped_from (bared classes) w f stack ≡ popped_from classes w f stack
@@ -325,41 +173,6 @@ module _ (env : Environment) where
 
   rule_at : (o : Op) → rule_of (bare_env env) o ≡ rule_of env o
   unfolding rule_of
-  rule_at op.Nop = refl
-  rule_at op.PushNull = refl
-  rule_at (op.PushInt n) = refl
-  rule_at (op.PushLong n) = refl
-  rule_at (op.PushText units) = refl
-  rule_at (op.Load k slot) = refl
-  rule_at (op.Store k slot) = refl
-  rule_at (op.Inc slot n) = refl
-  rule_at (op.ALoad e) = refl
-  rule_at (op.AStore e) = refl
-  rule_at op.Pop = refl
-  rule_at op.Pop2 = refl
-  rule_at op.Dup = refl
-  rule_at op.DupX1 = refl
-  rule_at op.DupX2 = refl
-  rule_at op.Dup2 = refl
-  rule_at op.Dup2X1 = refl
-  rule_at op.Dup2X2 = refl
-  rule_at op.Swap = refl
-  rule_at (op.Arith o n) = refl
-  rule_at (op.Neg n) = refl
-  rule_at (op.Shift o n) = refl
-  rule_at (op.Logic o n) = refl
-  rule_at (op.Conv c) = refl
-  rule_at op.LCmp = refl
-  rule_at (op.IfZero c to) = refl
-  rule_at (op.IfCmp c to) = refl
-  rule_at (op.IfRef eq to) = refl
-  rule_at (op.IfNull null to) = refl
-  rule_at (op.Goto to) = refl
-  rule_at (op.TableSwitch low other cases) = refl
-  rule_at (op.LookupSwitch other cases) = refl
-  rule_at (op.Return k) = refl
-  rule_at (op.GetStatic r) = refl
-  rule_at (op.PutStatic r) = refl
   rule_at (op.GetField r) =
       λ i. option_map (λ ty. Uses [] (receiver env r) (guarded_field_same r i) (Some ty)) (field_type r)
   rule_at (op.PutField r) =
@@ -368,18 +181,10 @@ module _ (env : Environment) where
       λ i. option_map (λ ty. Uses (arguments ty) (receiver env r) (guarded_method_same r i) (returned ty))
       (method_type r)
   rule_at (op.InvokeSpecial r) = λ i. option_map (λ ty. special_same r ty i) (method_type r)
-  rule_at (op.InvokeStatic r) = refl
   rule_at (op.InvokeInterface r) =
       λ i. option_map (λ ty. Uses (arguments ty) (receiver env r) (guarded_method_same r i) (returned ty))
       (method_type r)
-  rule_at (op.New name) = refl
-  rule_at (op.NewArray b) = refl
-  rule_at (op.ANewArray ty) = refl
-  rule_at op.ArrayLength = refl
-  rule_at op.Throw = refl
-  rule_at (op.CheckCast ty) = refl
-  rule_at (op.InstanceOf ty) = refl
-  rule_at (op.MultiNewArray ty dimensions) = refl
+  rule_at o = refl
 
   made_at : (at : ℕ) (class : FieldType) (guarded : Bool) (o : Option (List ℕ)) (f : TypeFrame) (stack : List VType)
       → new_initialised (bare_env env) at class guarded o f stack ≡ new_initialised env at class guarded o f stack
@@ -392,14 +197,8 @@ module _ (env : Environment) where
 
   object_at : (class : FieldType) (guarded : Bool) (f : TypeFrame) (stack : List VType)
       → object_initialised (bare_env env) class guarded f stack ≡ object_initialised env class guarded f stack
-  object_at class guarded f [] = refl
   object_at class guarded f (vtype.Uninit n ∷ stack) = made_at n class guarded (class_made_at env.code n) f stack
-  object_at class guarded f (vtype.UninitThis ∷ stack) = refl
-  object_at class guarded f (vtype.Top ∷ stack) = refl
-  object_at class guarded f (vtype.Int ∷ stack) = refl
-  object_at class guarded f (vtype.Long ∷ stack) = refl
-  object_at class guarded f (vtype.Null ∷ stack) = refl
-  object_at class guarded f (vtype.Object ty ∷ stack) = refl
+  object_at class guarded f stack = refl
 
   use_at : (guarded : Bool) (ty : VType) → guarded_use (bare_env env) guarded ty ≡ guarded_use env guarded ty
   use_at guarded ty = λ i. if guarded && not (assign_same env.classes i ty (own_type env)) then Err Protected else Ok tt
@@ -412,11 +211,9 @@ module _ (env : Environment) where
 
   result_at : (k : Option Kind) (ret : Option FieldType) (f : TypeFrame)
       → result_taken (bare_env env) k ret f ≡ result_taken env k ret f
-  result_at None None f = refl
   result_at (Some k) (Some ty) f = λ i. if is_returned_by k (vtype_of ty)
       then popped_at env.classes (Assignable (vtype_of ty)) f f.stack i else Err Operand
-  result_at None (Some ty) f = refl
-  result_at (Some k) None f = refl
+  result_at k ret f = refl
 
   acted_at : (at : ℕ) (r : Rule) (f : TypeFrame) → acted (bare_env env) at r f ≡ acted env at r f
   acted_at at (Takes wanted given) f = λ i. all_same env.classes wanted i f >>= λ g. Ok (gives given g)
@@ -424,17 +221,14 @@ module _ (env : Environment) where
   acted_at at (Stores k slot) f = λ i. if nat_le (slot + words_of_kind k) (length f.locals)
       then stored_at env.classes (moved k) slot f f.stack i else Err Local
   acted_at at (Counts slot) f = counted_at env.classes f (slice_get f.locals slot)
-  acted_at at (Drops n) f = refl
-  acted_at at (Doubles copied under) f = refl
-  acted_at at Swaps f = refl
   acted_at at ReadsReference f = λ i. popped_at env.classes (Assignable vtype.Int) f f.stack i
       >>= λ g. read_at env.classes g g.stack i
-  acted_at at Makes f = refl
   acted_at at (Returns k) f = λ i. result_at k env.method.ty.ret f i >>= constructor_returned env
   acted_at at (Uses wanted to guarded given) f = λ i. all_same env.classes wanted i f
       >>= λ g. used_at to guarded g g.stack i >>= λ h. Ok (gives given h)
   acted_at at (Initialises wanted class guarded) f = λ i. all_same env.classes wanted i f
       >>= λ g. object_at class guarded g g.stack i
+  acted_at at r f = refl
 
   if_ruled_at : (at : ℕ) (o : Option Rule) (f : TypeFrame) → if_ruled (bare_env env) at o f ≡ if_ruled env at o f
   if_ruled_at at None f = refl
@@ -464,9 +258,7 @@ module _ (env : Environment) where
   arrived_at : (at : ℕ) (flow declared : Option TypeFrame)
       → arrived (bare_env env) at flow declared ≡ arrived env at flow declared
   arrived_at at (Some f) (Some d) = λ i. if frame_same env.classes i f d then Ok d else Err Mismatch
-  arrived_at at None (Some d) = refl
-  arrived_at at (Some f) None = refl
-  arrived_at at None None = refl
+  arrived_at at flow declared = refl
 
   abbrev Flow : Type 0
   Flow = Result (Option TypeFrame) TypeKind
@@ -486,21 +278,17 @@ module _ (env : Environment) where
   stands_same : (at : ℕ) (flow declared : Option TypeFrame) (f : TypeFrame)
       → Stands (bare_env env) at flow declared f ≡ Stands env at flow declared f
   stands_same at (Some from) (Some d) f = λ i. (f ≡ d) × IsTrue (frame_same env.classes i from d)
-  stands_same at None (Some d) f = refl
-  stands_same at (Some from) None f = refl
-  stands_same at None None f = refl
+  stands_same at flow declared f = refl
 
   all_typed : (at : ℕ) (flow : Option TypeFrame) (ins : List Ins) (fs : List TypeFrame) (behind : Option TypeFrame)
       → AreInstructionsTyped (bare_env env) at flow ins fs behind ≡ AreInstructionsTyped env at flow ins fs behind
-  all_typed at flow [] [] behind = refl
-  all_typed at flow [] (f ∷ fs) behind = refl
-  all_typed at flow (n ∷ ins) [] behind = refl
   all_typed at flow (n ∷ ins) (f ∷ fs) behind = λ i.
       stands_same at flow (declared_frame_at env at) f i
       × (after : TypeFrame) × (step_same at n.op f i ≡ Ok after)
       × IsTrue (targets_same n.op after i)
       × IsTrue (handlers_same at f i)
       × all_typed (at + 1) (flow_after n.op after) ins fs behind i
+  all_typed at flow ins fs behind = refl
 
   pub typed_same : Typed (bare_env env) ≡ Typed env
   typed_same = λ i. (frames : List TypeFrame) × all_typed 0 (Some (initial_frame env)) env.code.ins frames None i

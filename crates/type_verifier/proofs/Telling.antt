@@ -1,6 +1,6 @@
 -- What is noted of the types that fit in the locals where handlers begin, from instruction to instruction.
 use Rattle.std.proofs.Common.{◌≡◌, ◌⊎◌, ◌≤◌, ◌<◌, ℕ, zero, suc, ◌+◌, ◌-◌, Bool, true, false, not, ◌||◌, nat_eq, nat_le}
-use Rattle.std.proofs.Common.{nat_lt, IsTrue, List, [], length, get_or, drop, Option, Some, None, inl, inr, refl, sym}
+use Rattle.std.proofs.Common.{nat_lt, IsTrue, List, [], length, get_or, Option, Some, None, inl, inr, refl, sym}
 use Rattle.std.proofs.Common.{ap, subst, ◌∙◌, arith, ⊎_elim}
 use Rattle.std.specs.Prelude.{IfSome}
 use Rattle.std.specs.Cmp.Lexicographic.{pointwise}

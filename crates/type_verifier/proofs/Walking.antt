@@ -1,5 +1,5 @@
 -- Going over the instructions.
-use Rattle.std.proofs.Common.{◌≡◌, ◌≤◌, ◌<◌, ℕ, ◌+◌, List, length, get_or, drop, Option, Result, Ok, Err}
+use Rattle.std.proofs.Common.{◌≡◌, ◌≤◌, ◌<◌, ℕ, ◌+◌, List, length, get_or, drop, Option, Result, Ok}
 use Rattle.std.proofs.Common.{sym, ap, ◌∙◌}
 use Rattle.std.proofs.lemmas.List.{drop_all}
 use Rattle.jv_base.specs.Outcome.{FaultIs}
@@ -10,9 +10,9 @@ use Rattle.class_model.specs.declared.code.Ins.{Ins}
 use Rattle.type_verifier.specs.declared.fault.TypeFault.{TypeFault}
 use Rattle.type_verifier.specs.declared.fault.TypeKind.{TypeKind}
 use Rattle.type_verifier.specs.declared.frame.TypeFrame.{TypeFrame}
-use Rattle.type_verifier.specs.bodies.Changes.{GoesOn}
+use Rattle.type_verifier.specs.bodies.Changes.{placed}
 use Rattle.type_verifier.specs.Environment.{Environment}
-use Rattle.type_verifier.specs.Walk.{at_instruction, fault_at}
+use Rattle.type_verifier.specs.Walk.{at_instruction}
 use Rattle.type_verifier.specs.bodies.Walked.{behind_last, gone_on, walked}
 
 abbrev Answer : Type 0
@@ -34,21 +34,14 @@ module _ (env : Environment) where
       ∙ ap (λ (r : Result (Option TypeFrame) TypeKind). gone_on env at r
       (λ n. walked env (at + 1) n (drop (at + 1) ins))) h) ∙ so_far
 
-  pub walk_stops : (ins : List Ins) (at : ℕ) (i : Ins) (before : Option TypeFrame) (kind : TypeKind) (total : Answer)
-      → at < length ins → i ≡ get_or ins at i → at_instruction env at i.op before ≡ Err kind
-      → walked env at before (drop at ins) ≡ total → total ≡ Err (fault_at env at kind)
-  walk_stops ins at i before kind total lt is h so_far =
+  pub walk_fails : (ins : List Ins) (at : ℕ) (i : Ins) (before : Option TypeFrame) (e : Or TypeKind) (total : Answer)
+      → at < length ins → i ≡ get_or ins at i → FaultIs e (at_instruction env at i.op before)
+      → walked env at before (drop at ins) ≡ total → FaultIs (placed env at e) total
+  walk_fails ins at i before (or.Fault kind) total lt is h so_far =
       sym so_far ∙ next_is ins at i before lt is
       ∙ ap (λ (r : Result (Option TypeFrame) TypeKind). gone_on env at r
       (λ n. walked env (at + 1) n (drop (at + 1) ins))) h
-
-  pub walk_fails : (ins : List Ins) (at : ℕ) (i : Ins) (before : Option TypeFrame) (new : TypeFrame) (e : Or TypeFault)
-      (total : Answer) → at < length ins → i ≡ get_or ins at i → GoesOn env at (Err e) new i.op before
-      → walked env at before (drop at ins) ≡ total → FaultIs e total
-  walk_fails ins at i before new (or.Fault fault) total lt is h so_far =
-      walk_stops ins at i before h.0 total lt is h.2 so_far
-      ∙ ap (λ (f : TypeFault). let R : Answer = Err f in R) (sym h.1)
-  walk_fails ins at i before new or.OutOfMemory total lt is h so_far = tt
+  walk_fails ins at i before or.OutOfMemory total lt is h so_far = tt
 
   pub walk_ends : (ins : List Ins) (at : ℕ) (before : Option TypeFrame) (total : Answer) → length ins ≤ at
       → walked env at before (drop at ins) ≡ total → total ≡ behind_last env at before

@@ -276,27 +276,13 @@ module _ (classes : List Class) where
   of_array_same from right (base.Class name) =
       (λ i. through (bared classes) from (same_named i name) (λ c. if right then Err LeftOutMember else Err WrongKind))
       ∙ through_same from (class_named classes name) (λ c. if right then Err LeftOutMember else Err WrongKind)
-  of_array_same from right base.Boolean = refl
-  of_array_same from right base.Byte = refl
-  of_array_same from right base.Char = refl
-  of_array_same from right base.Short = refl
-  of_array_same from right base.Int = refl
-  of_array_same from right base.Long = refl
-  of_array_same from right base.Float = refl
-  of_array_same from right base.Double = refl
+  of_array_same from right b = refl
 
   of_class_same : (from : ClassId) (b : Base) (found : Found)
       → of_class (bared classes) from b found ≡ of_class classes from b found
   of_class_same from (base.Class name) found = (λ i. through (bared classes) from (same_named i name) found)
       ∙ through_same from (class_named classes name) found
-  of_class_same from base.Boolean found = refl
-  of_class_same from base.Byte found = refl
-  of_class_same from base.Char found = refl
-  of_class_same from base.Short found = refl
-  of_class_same from base.Int found = refl
-  of_class_same from base.Long found = refl
-  of_class_same from base.Float found = refl
-  of_class_same from base.Double found = refl
+  of_class_same from b found = refl
 
   found_field : (from : ClassId) (named : NameAndType) (c : ClassId)
       → linked (bared classes) from c true (field_found (bared classes) c named)

@@ -12,7 +12,6 @@ pub mod Marks
 pub mod Noting
 pub mod Places
 pub mod Pops
-pub mod Same
 pub mod Seen
 pub mod Since
 pub mod Steps

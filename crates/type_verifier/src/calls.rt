@@ -1,5 +1,5 @@
 // Instructions that call methods (JVMS 4.10.1.9.invokevirtual to 4.10.1.9.invokeinterface).
-#![tactic(auto, unfolding(crate::specs::Assignable::is_assignable))]
+#![tactic(auto, using(crate::proofs::Ruling::no_rule), unfolding(crate::specs::Assignable::is_assignable))]
 
 ghost use Rattle.std.specs.Prelude.{◌≡◌, ◌<◌, ◌+◌, false, IfOk, length};
 ghost use Rattle.std.specs.Option.{option_map};
@@ -41,10 +41,8 @@ pub(crate) fn call_static(
     ensures { AfterOr result frame.new
         (if_ruled (environment_of env.now) 0 (option_map static_call (method_type r.now)) frame.old) }
 {
-    match method_type(alloc, r)? {
-        Some(ty) => call_typed_static(env, frame, &ty),
-        None => Err(Or::Fault(TypeKind::Operand)),
-    }
+    let ty = method_type(alloc, r)?;
+    call_typed_static(env, frame, &ty)
 }
 
 fn call_typed_static(env: &Env, frame: &mut TypeFrame, ty: &MethodType) -> Result<(), Or<TypeKind>>
@@ -70,10 +68,8 @@ pub(crate) fn call_on_object(
         (if_ruled (environment_of env.now) 0
         (option_map (object_call (environment_of env.now) r.now) (method_type r.now)) frame.old) }
 {
-    match method_type(alloc, r)? {
-        Some(ty) => call_typed(env, frame, r, &ty),
-        None => Err(Or::Fault(TypeKind::Operand)),
-    }
+    let ty = method_type(alloc, r)?;
+    call_typed(env, frame, r, &ty)
 }
 
 fn call_typed(
@@ -107,10 +103,8 @@ pub(crate) fn call_special(
         (if_ruled (environment_of env.now) 0
         (option_map (special_call (environment_of env.now) r.now) (method_type r.now)) frame.old) }
 {
-    match method_type(alloc, r)? {
-        Some(ty) => call_typed_special(env, frame, r, &ty),
-        None => Err(Or::Fault(TypeKind::Operand)),
-    }
+    let ty = method_type(alloc, r)?;
+    call_typed_special(env, frame, r, &ty)
 }
 
 fn call_typed_special(

@@ -4,7 +4,9 @@ ghost use Rattle.std.specs.Option.{option_map};
 ghost use Rattle.jv_base.specs.Descriptors.{read_field, read_method};
 ghost use Rattle.class_model.specs.Frames.{base_vtype, vtype_of};
 ghost use Rattle.type_verifier.specs.Rules.{field_type, method_type, returned, told_type};
+ghost use Rattle.type_verifier.specs.bodies.Changes.{Tells};
 
+use crate::TypeKind;
 use class_model::{MemberRef, VType};
 use jv_base::{
     Base, FieldType, M, MethodType, Or, OutOfMemory, Text, read_field_type, read_method_type,
@@ -14,14 +16,14 @@ use std::alloc::Global;
 /// No descriptor of this length is read; a class file has room for 65,535 bytes (JVMS 4.4.7).
 const TOO_LONG: usize = 4_294_967_295;
 
-/// The type of the values of a field; none where the descriptor is none. One that is too long is answered as want of
-/// memory.
-pub(crate) fn field_type(alloc: Global, r: &MemberRef) -> M<Option<VType>>
-    ensures { IfOk result (λ ty. ty ≡ field_type r.now) }
+/// The type of the values of a field; where the descriptor is none no operand is right. One that is too long is
+/// answered as want of memory.
+pub(crate) fn field_type(alloc: Global, r: &MemberRef) -> Result<VType, Or<TypeKind>>
+    ensures { Tells result (field_type r.now) }
 {
     match told_field(alloc, &r.ty)? {
-        Some(ty) => Ok(Some(vtype_of(&ty)?)),
-        None => Ok(None),
+        Some(ty) => Ok(vtype_of(&ty)?),
+        None => Err(Or::Fault(TypeKind::Operand)),
     }
 }
 
@@ -38,17 +40,17 @@ fn told_field(alloc: Global, text: &Text) -> M<Option<FieldType>>
     }
 }
 
-/// The type of a method; none where the descriptor is none. One that is too long is answered as want of memory.
-pub(crate) fn method_type(alloc: Global, r: &MemberRef) -> M<Option<MethodType>>
-    ensures { IfOk result (λ ty. ty ≡ method_type r.now) }
+/// The type of a method; the same of its descriptor.
+pub(crate) fn method_type(alloc: Global, r: &MemberRef) -> Result<MethodType, Or<TypeKind>>
+    ensures { Tells result (method_type r.now) }
 {
     if r.ty.len() >= TOO_LONG {
-        return Err(OutOfMemory);
+        return Err(Or::OutOfMemory);
     }
     match read_method_type(alloc, &r.ty) {
-        Ok(ty) => Ok(Some(ty)),
-        Err(Or::Fault(_)) => Ok(None),
-        Err(Or::OutOfMemory) => Err(OutOfMemory),
+        Ok(ty) => Ok(ty),
+        Err(Or::Fault(_)) => Err(Or::Fault(TypeKind::Operand)),
+        Err(Or::OutOfMemory) => Err(Or::OutOfMemory),
     }
 }
 

@@ -1,4 +1,6 @@
 // Instructions on fields (JVMS 4.10.1.9.getstatic to 4.10.1.9.putfield).
+#![tactic(auto, using(crate::proofs::Ruling::no_rule))]
+
 ghost use Rattle.std.specs.Prelude.{◌<◌, length};
 ghost use Rattle.std.specs.Option.{option_map};
 ghost use Rattle.type_verifier.specs.bodies.Changes.{AfterOr};
@@ -29,10 +31,8 @@ pub(crate) fn read_static(
     ensures { AfterOr result frame.new
         (if_ruled (environment_of env.now) 0 (option_map static_read (field_type r.now)) frame.old) }
 {
-    match field_type(alloc, r)? {
-        Some(ty) => compute(env, frame, &[], Some(ty)),
-        None => Err(Or::Fault(TypeKind::Operand)),
-    }
+    let ty = field_type(alloc, r)?;
+    compute(env, frame, &[], Some(ty))
 }
 
 /// putstatic.
@@ -45,10 +45,8 @@ pub(crate) fn write_static(
     ensures { AfterOr result frame.new
         (if_ruled (environment_of env.now) 0 (option_map static_write (field_type r.now)) frame.old) }
 {
-    match field_type(alloc, r)? {
-        Some(ty) => convert(env, frame, &ty, None),
-        None => Err(Or::Fault(TypeKind::Operand)),
-    }
+    let ty = field_type(alloc, r)?;
+    convert(env, frame, &ty, None)
 }
 
 /// getfield.
@@ -63,10 +61,8 @@ pub(crate) fn read_field(
         (if_ruled (environment_of env.now) 0 (option_map (field_read (environment_of env.now) r.now) (field_type r.now))
         frame.old) }
 {
-    match field_type(alloc, r)? {
-        Some(ty) => read_typed(env, frame, r, ty),
-        None => Err(Or::Fault(TypeKind::Operand)),
-    }
+    let ty = field_type(alloc, r)?;
+    read_typed(env, frame, r, ty)
 }
 
 fn read_typed(
@@ -97,10 +93,8 @@ pub(crate) fn write_field(
         (if_ruled (environment_of env.now) 0
         (option_map (field_write (environment_of env.now) r.now) (field_type r.now)) frame.old) }
 {
-    match field_type(alloc, r)? {
-        Some(ty) => write_typed(env, frame, r, &ty),
-        None => Err(Or::Fault(TypeKind::Operand)),
-    }
+    let ty = field_type(alloc, r)?;
+    write_typed(env, frame, r, &ty)
 }
 
 fn write_typed(

@@ -105,9 +105,8 @@ fn first_fault(alloc: Global, set: &ClassSet) -> M<Option<TypeFault>>
     let steps = steps_of(alloc, set)?;
     let hierarchy = Hierarchy::with(set, steps.as_slice());
     for number in 0..set.len() {
-        let fault = class_fault(alloc, &hierarchy, number, set.class(number), &known)?;
-        if fault.is_some() {
-            return Ok(fault);
+        if let Some(fault) = class_fault(alloc, &hierarchy, number, set.class(number), &known)? {
+            return Ok(Some(fault));
         }
     }
     Ok(None)
@@ -127,9 +126,8 @@ fn class_fault(
 {
     for number in 0..class.methods.len() as u32 {
         let method = &class.methods[number as usize];
-        let fault = method_fault(alloc, set, own, class, number, method, known)?;
-        if fault.is_some() {
-            return Ok(fault);
+        if let Some(fault) = method_fault(alloc, set, own, class, number, method, known)? {
+            return Ok(Some(fault));
         }
     }
     Ok(None)

@@ -4,7 +4,7 @@ ghost use Rattle.std.specs.List.{list_all};
 ghost use Rattle.jv_base.specs.Outcome.{IsDue};
 ghost use Rattle.class_model.specs.declared.op.Case.{Case};
 ghost use Rattle.type_verifier.specs.Assignable.{is_frame_assignable};
-ghost use Rattle.type_verifier.specs.bodies.Changes.{ArrivesOr, FlowsOr, GoesOn, flow};
+ghost use Rattle.type_verifier.specs.bodies.Changes.{AfterOr, FlowsOr, flow, placed};
 ghost use Rattle.type_verifier.specs.Environment.{declared_frame_at, goes_elsewhere};
 ghost use Rattle.type_verifier.specs.bodies.Noting.{AreFitting};
 ghost use Rattle.type_verifier.specs.bodies.Places.{ArePlaces};
@@ -60,7 +60,7 @@ fn walk(
     let mut since = None;
     for at in 0..count {
         let op = &env.code.ins[at as usize].op;
-        flows = go_on(
+        match pass_instruction(
             alloc,
             env,
             places,
@@ -70,7 +70,10 @@ fn walk(
             since,
             at,
             op,
-        )?;
+        ) {
+            Ok(next) => flows = next,
+            Err(error) => return Err(placed(env, at, error)),
+        }
         since = since_after(flows, op);
     }
     if flows {
@@ -90,30 +93,13 @@ fn fault(env: &Env, index: u32, kind: TypeKind) -> TypeFault
     }
 }
 
-/// Goes over an instruction, whose number this is, and tells its fault.
-fn go_on(
-    alloc: Global,
-    env: &Env,
-    places: &Places,
-    fitting: &mut Fitting,
-    frame: &mut TypeFrame,
-    flows: bool,
-    since: Option<Changed>,
-    at: u32,
-    op: &Op,
-) -> Result<bool, Or<TypeFault>>
-    requires there { env.now.own < length env.now.set.now }
-    requires places { ArePlaces env.now.code.now places.now }
-    requires instruction { at < length env.now.code.now.ins }
-    requires since { IsSince (environment_of env.now) at since frame.old }
-    requires fitting { AreFitting (environment_of env.now) at fitting.old }
-    ensures flow { GoesOn (environment_of env.now) at result frame.new op.now (flow flows frame.old) }
-    ensures fitting { IfOk result (λ _. AreFitting (environment_of env.now) (at + 1) fitting.new) }
+/// A fault with the number of its instruction.
+fn placed(env: &Env, at: u32, error: Or<TypeKind>) -> Or<TypeFault>
+    ensures { result ≡ placed (environment_of env.now) at error }
 {
-    match pass_instruction(alloc, env, places, fitting, frame, flows, since, at, op) {
-        Ok(flows) => Ok(flows),
-        Err(Or::Fault(kind)) => Err(Or::Fault(fault(env, at, kind))),
-        Err(Or::OutOfMemory) => Err(Or::OutOfMemory),
+    match error {
+        Or::Fault(kind) => Or::Fault(fault(env, at, kind)),
+        Or::OutOfMemory => Or::OutOfMemory,
     }
 }
 
@@ -203,7 +189,7 @@ fn arrive(
 ) -> Result<bool, Or<TypeKind>>
     requires places { ArePlaces env.now.code.now places.now }
     requires instruction { at < length env.now.code.now.ins }
-    ensures after { ArrivesOr result frame.new
+    ensures after { AfterOr result frame.new
         (arrived (environment_of env.now) at (flow flows frame.old) (declared_frame_at (environment_of env.now) at)) }
     ensures same { IfOk result (λ same. IsTrue same → IsSame frame.old frame.new) }
 {

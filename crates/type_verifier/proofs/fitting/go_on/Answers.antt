@@ -1,6 +1,5 @@
 use Rattle.std.proofs.Common.{ℕ, ap, subst, List, Option, Some, refl, length}
 use Rattle.class_model.specs.declared.frame.VType.{VType}
-use Rattle.type_verifier.specs.declared.fitting.Noted.{Noted}
 use Rattle.type_verifier.specs.bodies.Noting.{Notes}
 use Rattle.type_verifier.specs.bodies.Seen.{environment_of}
 use Rattle.type_verifier.proofs.Telling.{went_on}

@@ -1,4 +1,4 @@
-use Rattle.std.proofs.Common.{◌≡◌, List, Option, length, ap, subst, sym, ◌∙◌, ℕ}
+use Rattle.std.proofs.Common.{List, Option, length, ap, subst, ◌∙◌}
 use Rattle.std.specs.Prelude.{min}
 use Rattle.class_model.specs.declared.frame.VType.{VType}
 use Rattle.type_verifier.specs.declared.fitting.Noted.{Noted}

@@ -1,6 +1,5 @@
-use Rattle.std.proofs.Common.{◌≡◌, ◌<◌, ◌+◌, ℕ, Option, Some, None, get_or, true, length, sym, ap, subst, ◌∙◌, arith}
+use Rattle.std.proofs.Common.{◌≡◌, ◌<◌, ◌+◌, ℕ, Option, Some, None, get_or, length, sym, ap, subst, ◌∙◌, arith}
 use Rattle.type_verifier.specs.declared.chain.Chain.{Chain}
-use Rattle.type_verifier.specs.bodies.Asked.{handler_at, satisfies_if_first}
 use Rattle.type_verifier.specs.bodies.Chained.{IsFirstFrom, IsSatisfiedBefore, from_of}
 use Rattle.type_verifier.specs.bodies.Seen.{environment_of}
 use Rattle.type_verifier.proofs.Chaining.{satisfied_all, satisfied_more}

@@ -1,6 +1,5 @@
-use Rattle.std.proofs.Common.{length, ◌∙◌, sym, arith}
-use Rattle.type_verifier.specs.bodies.Steps.{height}
-use Rattle.type_verifier.proofs.Climbing.{count_low, counted_all, counted_more, counted_none}
+use Rattle.std.proofs.Common.{length, ◌∙◌, arith}
+use Rattle.type_verifier.proofs.Climbing.{count_low, counted_none}
 use Rattle.type_verifier.proofs.hierarchy.height_of.Goals as goal
 
 pub overflow_add-height : goal.overflow_add-height

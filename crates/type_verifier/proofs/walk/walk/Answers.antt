@@ -1,7 +1,6 @@
 use Rattle.std.proofs.Common.{◌≡◌, ◌≤◌, ◌+◌, ◌-◌, subst, ℕ, Bool, List, length, Some, Err, Result, refl, sym, ap, ◌∙◌}
 use Rattle.std.proofs.Common.{arith}
 use Rattle.std.proofs.lemmas.Option.{get_or_from_slice_get, slice_get_within}
-use Rattle.std.proofs.lemmas.Result.{err_from_is_err_and}
 use Rattle.class_model.specs.declared.code.Ins.{Ins}
 use Rattle.type_verifier.specs.declared.fault.TypeFault.{TypeFault}
 use Rattle.type_verifier.specs.declared.fault.TypeKind.TheVariants.{FallsOff}
@@ -23,33 +22,33 @@ loop-at-init c = (
       c.new-fitting.ensures.count c.new-fitting.ensures.noted,
 )
 
-pub returns-in_err-flows : goal.returns-in_err-flows
-returns-in_err-flows c =
-    let p = err_from_is_err_and c.from_residual.result c.from_residual.ensures.1 in
+pub returns-in-Err : goal.returns-in-Err
+returns-in-Err c =
+    let env = environment_of c.args.env.now in
     let ins : List Ins = c.args.env.now.code.now.ins in
     let at = c.loop-at.at in
     let i : Ins = c.index.result.now in
-    rw (p.1, p.2)
-    (walk_fails (environment_of c.args.env.now) ins at i (flow c.loop-at.flows c.loop-at.frame) c.go_on.new.frame
-    c.in_err-flows.field-0.0 (walked (environment_of c.args.env.now) 0 (Some c.args.frame.now) ins)
-    (slice_get_within ins at i c.index.ensures) (sym (get_or_from_slice_get ins at i i c.index.ensures))
-    c.in_err-flows.ensures.flow c.loop-at.invariant.0)
+    rw c.placed.ensures
+    (walk_fails env ins at i (flow c.loop-at.flows c.loop-at.frame) c.in-Err.error
+    (walked env 0 (Some c.args.frame.now) ins) (slice_get_within ins at i c.index.ensures)
+    (sym (get_or_from_slice_get ins at i i c.index.ensures)) c.in-Err.ensures.flow c.loop-at.invariant.0)
 
 pub loop-at-preserved : goal.loop-at-preserved
 loop-at-preserved c =
     let ins : List Ins = c.args.env.now.code.now.ins in
     let at = c.loop-at.at in
     let i : Ins = c.index.result.now in
-    let flows = c.in_ok-flows.flows in
+    let flows = c.in-Ok-pass_instruction.next in
     let old = flow c.loop-at.flows c.loop-at.frame in (
-      walk_more (environment_of c.args.env.now) ins at i old (flow flows c.go_on.new.frame)
+      walk_more (environment_of c.args.env.now) ins at i old (flow flows c.pass_instruction.new.frame)
           (walked (environment_of c.args.env.now) 0 (Some c.args.frame.now) ins)
           (slice_get_within ins at i c.index.ensures) (sym (get_or_from_slice_get ins at i i c.index.ensures))
-          c.in_ok-flows.ensures.flow c.loop-at.invariant.0,
-      subst (λ since. IsSince (environment_of c.args.env.now) (at + 1) since c.go_on.new.frame)
+          c.in-Ok-pass_instruction.ensures.flow c.loop-at.invariant.0,
+      subst (λ since. IsSince (environment_of c.args.env.now) (at + 1) since c.pass_instruction.new.frame)
           (sym c.since_after-since.ensures)
-          (since_more (environment_of c.args.env.now) at i.op old flows c.go_on.new.frame c.in_ok-flows.ensures.flow),
-      c.in_ok-flows.ensures.fitting,
+          (since_more (environment_of c.args.env.now) at i.op old flows c.pass_instruction.new.frame
+          c.in-Ok-pass_instruction.ensures.flow),
+      c.in-Ok-pass_instruction.ensures.fitting,
     )
 
 pub returns-then-flows : goal.returns-then-flows
