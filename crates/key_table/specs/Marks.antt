@@ -62,3 +62,7 @@ module _ {T : Type 0} where
   pub list_copies : (copy : T → T → Type 0) → ((x y : T) → copy x y → y ≡ x) → (xs ys : List T)
       → AllZip copy xs ys → ys ≡ xs
   list_copies copy is xs ys all = same_from_all_zip copy xs ys all is
+
+-- of a text, by its bytes
+abbrev pub text_mark : List ℕ → ℕ
+text_mark text = list_mark (λ byte. byte) text

@@ -23,11 +23,11 @@ pub trait Key: Ord + Clone {
 impl Key for Text {
     ghost use Rattle.std.proofs.Common.{ap};
     ghost use Rattle.jv_base.proofs.Equality.{same_text};
-    ghost use Rattle.key_table.specs.Marks.{list_mark};
+    ghost use Rattle.key_table.specs.Marks.{text_mark};
 
-    ghost mark = { list_mark (λ byte. byte) };
+    ghost mark = { text_mark };
 
-    ghost one_mark = { λ a b same. ap (list_mark (λ byte. byte)) (same_text a b same) };
+    ghost one_mark = { λ a b same. ap text_mark (same_text a b same) };
 
     ghost copies = { λ a b is. is };
 
@@ -111,8 +111,8 @@ fn mark_of<T: Key>(items: &[T]) -> u64
     mark
 }
 
-/// Two marks as one.
-fn joined(mark: u64, other: u64) -> u64
+/// Two marks as one, for keys that have parts.
+pub fn joined(mark: u64, other: u64) -> u64
     ensures { result ≡ joined mark other }
 {
     mark.wrapping_mul(1_099_511_628_211).wrapping_add(other)

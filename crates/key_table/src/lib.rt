@@ -5,6 +5,6 @@ mod key;
 mod set;
 mod table;
 
-pub use key::Key;
+pub use key::{Key, joined};
 pub use set::KeySet;
 pub use table::Table;
