@@ -13,7 +13,7 @@ use crate::renamer::{field_text, method_text};
 use crate::types::renamed_type;
 use class_model::MemberRef;
 use jv_base::{Base, M, Name, Shared, Text};
-use key_table::{Key, Table};
+use key_table::{Key, Table, joined};
 use std::alloc::Global;
 
 /// A reference to a member of a class, or of an array of its objects, by which it is found again.
@@ -37,12 +37,8 @@ impl Key for Reference {
     ghost copies = { λ a b same. same_parts same };
 
     fn mark(&self) -> u64 {
-        let names = self
-            .class
-            .tail()
-            .wrapping_mul(31)
-            .wrapping_add(self.name.tail());
-        names.wrapping_mul(31).wrapping_add(self.ty.tail())
+        let member = joined(self.name.mark(), self.ty.mark());
+        joined(self.class.mark(), member)
     }
 }
 

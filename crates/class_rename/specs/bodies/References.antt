@@ -6,9 +6,8 @@ use Rattle.std.specs.Bool.{beq}
 use Rattle.std.specs.List.{AllByRecursion}
 use Rattle.std.proofs.lemmas.Bool.{and_parts}
 use Rattle.jv_base.specs.Names.{is_text}
-use Rattle.jv_base.specs.Tail.{tail}
 use Rattle.jv_base.proofs.Equality.{same_text}
-use Rattle.key_table.specs.Marks.{pair_mark}
+use Rattle.key_table.specs.Marks.{joined, text_mark}
 use Rattle.jv_base.specs.declared.types.Base.TheVariants.{Class}
 use Rattle.class_model.specs.declared.op.MemberRef.{MemberRef}
 use Rattle.class_rename.specs.declared.references.Reference.{Reference}
@@ -29,7 +28,7 @@ same_reference a b = is_text a.class b.class && (nat_eq a.dims b.dims && (is_tex
 
 -- the number of a reference, by which most are told apart at little cost
 abbrev pub mark_of : Reference → ℕ
-mark_of k = pair_mark (pair_mark (tail k.class) (tail k.name)) (tail k.ty)
+mark_of k = joined (text_mark k.class) (joined (text_mark k.name) (text_mark k.ty))
 
 -- a reference whose parts are those of another is that one
 pub same_parts : {a b : Reference} → (a.class ≡ b.class) × ((a.dims ≡ b.dims)
