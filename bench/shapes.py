@@ -342,26 +342,31 @@ def colliding_names(n):
 
 
 def colliding(n):
-    """One class with N methods whose names have one hash, and their last eight letters too."""
+    """One class with N methods whose names have one hash."""
     yield File('p/A', methods=[body(name=name) for name in colliding_names(n)])
 
 
+def alike_ends(n):
+    """One class with N methods whose names have one mark in key_table, their last 32 letters."""
+    yield File('p/A', methods=[body(name=f'm{i:08}' + 't' * 32) for i in range(n)])
+
+
 def colliding_classes(n):
-    """N classes whose names have one hash, and their last eight letters too; each calls the next one."""
+    """N classes whose names have one hash; each calls the next one."""
     names = list(colliding_names(n))
     for name, other in zip(names, names[1:] + names[:1]):
         yield File(name, methods=[body(name='s'), instance('m', ('invokestatic', (other, 's', '()V')))])
 
 
 USUAL = [classes, deep, deep_large, chain, overriding, implementing, interfaces, extending, calls]
-HOSTILE = [strings, long_calls, handlers, throws, descriptors, long_arguments, frames, full_frames, branches, covering, changing, beginning, differing, ending, making, framing, wanting, deep_frames, tall, overriding_twenty, overloads, two_overloads, colliding, colliding_classes]
+HOSTILE = [strings, long_calls, handlers, throws, descriptors, long_arguments, frames, full_frames, branches, covering, changing, beginning, differing, ending, making, framing, wanting, deep_frames, tall, overriding_twenty, overloads, two_overloads, colliding, alike_ends, colliding_classes]
 SIZES = {
     'classes': [2000, 4000, 8000], 'calls': [4000, 8000, 16000], 'strings': [8000, 16000], 'long_calls': [5000, 10000, 20000],
     'handlers': [16000, 32000, 65000], 'throws': [16000, 32000, 65000], 'descriptors': [5000, 10000, 20000],
     'long_arguments': [5000, 10000, 20000], 'frames': [2500, 5000, 10000, 20000],
     'full_frames': [8000, 16000, 32000], 'branches': [2000, 4000, 8000], 'covering': [500, 1000, 2000, 4000], 'changing': [1000, 2000, 4000], 'beginning': [2000, 4000, 8000], 'differing': [500, 1000, 2000], 'ending': [1000, 2000, 4000], 'making': [1000, 2000, 4000], 'framing': [1000, 2000, 4000], 'wanting': [1000, 2000, 4000], 'deep_frames': [1000, 2000, 4000], 'tall': [500, 1000, 2000],
     'overriding_twenty': [1000, 2000, 4000], 'overloads': [15000, 30000, 60000], 'two_overloads': [5000, 10000, 20000],
-    'colliding': [5000, 10000, 20000], 'colliding_classes': [5000, 10000, 20000],
+    'colliding': [5000, 10000, 20000], 'alike_ends': [5000, 10000, 20000], 'colliding_classes': [5000, 10000, 20000],
 }
 
 
