@@ -11,7 +11,6 @@ mod CountedLists
 mod Meeting
 mod Remembering
 mod Stamping
-mod EndsMeet
 mod AloneLaw
 mod SupersLaw
 mod TopsLaw

@@ -5,9 +5,9 @@ ghost use Rattle.std.specs.Prelude.{◌≡◌, ◌≤◌, ℕ, IfOk, IfSome, IsT
 ghost use Rattle.std.specs.List.{All};
 ghost use Rattle.require_sys.specs.bodies.Known.{IsFor, IsTextFor};
 
-use crate::same::{half_of, is_same_ref, is_same_text, word_of};
 use class_model::MemberRef;
-use jv_base::{Base, Items, M, Text};
+use jv_base::{Items, M, Text};
+use link_check::{PLACES, is_same_ref, is_same_text, text_place};
 use std::alloc::Global;
 
 /// What a text stands for.
@@ -68,9 +68,6 @@ impl Row {
     }
 }
 
-/// So many texts and so many references are remembered.
-const PLACES: usize = 1024;
-
 /// No text at any place.
 pub(crate) fn no_texts(alloc: Global) -> M<Vec<Option<TextRow>>>
     ensures { IfOk result (λ rows. All (λ row. row ≡ None) rows.items) }
@@ -121,61 +118,6 @@ pub(crate) fn put_stamp(stamps: &mut Vec<u64>, place: usize, stamp: u64)
     if place < stamps.len() {
         stamps[place] = stamp;
     }
-}
-
-/// The place of a text, which is another one for most texts.
-pub(crate) fn text_place(text: &Text) -> usize {
-    place_by(last_word(text.as_bytes()) ^ text.len() as u64)
-}
-
-/// The place of a reference, which is another one for most references that differ in the end of the name, in the start
-/// of the descriptor or in the end of the class name.
-#[inline(always)]
-pub(crate) fn place_of(r: &MemberRef) -> usize {
-    let member = last_word(r.name.as_bytes()) ^ first_word(r.ty.as_bytes()).rotate_left(21);
-    match &r.class.base {
-        Base::Class(name) => place_by(member ^ last_word(name.as_bytes()).rotate_left(42)),
-        _ => place_by(member),
-    }
-}
-
-fn place_by(mark: u64) -> usize {
-    (mark.wrapping_mul(0x9E37_79B9_7F4A_7C15) >> 54) as usize
-}
-
-/// Its last eight bytes, where it has so many.
-#[inline(always)]
-fn last_word(bytes: &[u8]) -> u64 {
-    match bytes.last_chunk::<8>() {
-        Some(last) => word_of(last),
-        None => short_word(bytes),
-    }
-}
-
-/// Its first eight bytes, where it has so many.
-#[inline(always)]
-fn first_word(bytes: &[u8]) -> u64 {
-    match bytes.first_chunk::<8>() {
-        Some(first) => word_of(first),
-        None => short_word(bytes),
-    }
-}
-
-/// All bytes of a text that has less than eight.
-fn short_word(bytes: &[u8]) -> u64 {
-    match (bytes.first_chunk::<4>(), bytes.last_chunk::<4>()) {
-        (Some(first), Some(last)) => { u64::from(half_of(first)) << 32 | u64::from(half_of(last)) }
-        _ => small_word(bytes),
-    }
-}
-
-/// All bytes of a text that has less than four.
-fn small_word(bytes: &[u8]) -> u64 {
-    let mut word = 0u64;
-    for byte in bytes {
-        word = word << 8 | u64::from(*byte);
-    }
-    word
 }
 
 /// The row of a text, if it is remembered.

@@ -19,7 +19,6 @@ mod needs;
 mod numbered;
 mod pairs;
 mod receiver;
-mod same;
 mod seeds;
 mod supers;
 mod system;

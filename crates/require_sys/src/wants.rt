@@ -11,13 +11,14 @@ ghost use Rattle.require_sys.specs.bodies.Tops.{IsLibraryTop, IsTop};
 ghost use Rattle.require_sys.specs.bodies.Wanting.{HasSame, needs_from, wanting, wanting_nothing};
 
 use crate::known::{
-    RefKind, Row, TextKind, TextRow, is_stamped, no_rows, no_stamps, no_texts, place_of, put_stamp,
-    row_of, text_place, text_row,
+    RefKind, Row, TextKind, TextRow, is_stamped, no_rows, no_stamps, no_texts, put_stamp, row_of,
+    text_row,
 };
 use crate::numbered::Numbered;
 use class_model::MemberRef;
 use class_pool::{ClassId, ClassSet, MemberAt};
 use jv_base::{Items, M, OutOfMemory, Text};
+use link_check::{ref_place, text_place};
 use std::alloc::Global;
 use std::marker::Model;
 
@@ -165,7 +166,7 @@ impl<'a> Wants<'a> {
             → HasSame self.new (wanting self.old (ref_wants self.old.classes from kind r.now))) }
         ensures other { IfOk result (λ known. known ≡ false → self.new ≡ self.old) }
     {
-        let place = place_of(r);
+        let place = ref_place(r);
         match row_of(self.rows.as_slice(), place, from, kind, r) {
             Some(row) => {
                 if is_stamped(self.stamps.as_slice(), place, self.stamp) {
@@ -187,7 +188,7 @@ impl<'a> Wants<'a> {
     {
         let numbers = copied_from(self.alloc, self.numbers.as_slice(), start)?;
         let reference = r.clone()?;
-        let place = place_of(&reference);
+        let place = ref_place(&reference);
         if place < self.rows.len() {
             self.rows[place] = Some(Row {
                 from,

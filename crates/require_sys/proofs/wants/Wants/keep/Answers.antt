@@ -11,9 +11,9 @@ invariant_of-self c =
     let inside = c.self.inside in
     let same : c.in_ok-reference.reference ≡ c.args.r.now = search rules in
     rows_put inside.numbered.now.set.now inside.texts.items inside.rows.items inside.stamps.items inside.stamp
-    inside.numbers.items c.self.invariant c.place_of-place.result c.args.start _
+    inside.numbers.items c.self.invariant c.ref_place-place.result c.args.start _
     (c.in_ok-numbers.ensures ∙ ap (drop c.args.start) c.as_slice.ensures.value)
-    (row_put inside.numbered.now.set.now inside.rows.items c.place_of-place.result c.args.start
+    (row_put inside.numbered.now.set.now inside.rows.items c.ref_place-place.result c.args.start
     c.args.from c.args.kind c.args.r.now c.in_ok-reference.reference
     inside.numbers.items c.as_slice.result.now c.in_ok-numbers.numbers c.self.invariant.of_rows
     (subst (λ (w : Wanted). IsBehind c.args.start w.numbers
@@ -26,9 +26,9 @@ invariant_of-self-then-place-len-2 c =
     let inside = c.self.inside in
     let same : c.in_ok-reference.reference ≡ c.args.r.now = search rules in
     rows_put inside.numbered.now.set.now inside.texts.items inside.rows.items inside.stamps.items inside.stamp
-    inside.numbers.items c.self.invariant c.place_of-place.result c.args.start _
+    inside.numbers.items c.self.invariant c.ref_place-place.result c.args.start _
     (c.in_ok-numbers.ensures ∙ ap (drop c.args.start) c.as_slice.ensures.value)
-    (row_put inside.numbered.now.set.now inside.rows.items c.place_of-place.result c.args.start
+    (row_put inside.numbered.now.set.now inside.rows.items c.ref_place-place.result c.args.start
     c.args.from c.args.kind c.args.r.now c.in_ok-reference.reference
     inside.numbers.items c.as_slice.result.now c.in_ok-numbers.numbers c.self.invariant.of_rows
     (subst (λ (w : Wanted). IsBehind c.args.start w.numbers

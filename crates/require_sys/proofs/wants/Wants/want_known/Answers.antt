@@ -13,7 +13,7 @@ pub returns-then-is_stamped-clause-known : goal.returns-then-is_stamped-clause-k
 returns-then-is_stamped-clause-known c said =
     let inside = c.self.inside in
     let set = inside.numbered.now.set.now in
-    let place = c.place_of-place.result in
+    let place = c.ref_place-place.result in
     let known = subst (λ (rows : List (Option Row)). slice_get rows place ≡ Some (Some c.in-Some.row.now))
     c.as_slice.ensures.value c.in-Some.ensures.at in
     let stamped = subst (λ (stamps : List ℕ). slice_get stamps place ≡ Some inside.stamp)
@@ -29,7 +29,7 @@ returns-then-is_stamped-clause-known c said =
 pub invariant_of-self-in-Some : goal.invariant_of-self-in-Some
 invariant_of-self-in-Some c =
     let inside = c.self.inside in
-    let place = c.place_of-place.result in
+    let place = c.ref_place-place.result in
     subst (λ (stamps : List ℕ). Remembers inside.numbered.now.set.now inside.texts.items inside.rows.items stamps
     inside.stamp c.extend_from_slice.new.self.items) (sym c.put_stamp.ensures)
     (stamp_put inside.numbered.now.set.now inside.texts.items inside.rows.items inside.stamps.items inside.stamp
@@ -44,7 +44,7 @@ pub returns-in_ok-extend_from_slice-in-Some-clause-known :
 returns-in_ok-extend_from_slice-in-Some-clause-known c said =
     let inside = c.self.inside in
     let set = inside.numbered.now.set.now in
-    let place = c.place_of-place.result in
+    let place = c.ref_place-place.result in
     let row = found_row set inside.rows.items place c.args.from c.args.kind c.args.r.now c.in-Some.row.now
     c.self.invariant.of_rows
     (subst (λ (rows : List (Option Row)). slice_get rows place ≡ Some (Some c.in-Some.row.now))
