@@ -2,7 +2,8 @@
 use Rattle.std.proofs.Common.{◌≡◌, ℕ, ◌+◌, Bool, true, false, cond, ◌||◌, List, [], ◌∷◌, ◌++◌, Option, Some, None}
 use Rattle.std.proofs.Common.{is_some, map, Result, OnOk, refl, sym, ap, ◌∙◌, subst}
 use Rattle.std.specs.Prelude.{nat_eq}
-use Rattle.std.specs.Cmp.Lexicographic.{pointwise}
+use Rattle.std.specs.Cmp.Lexicographic.{nat_list_eq_equiv, pointwise}
+use Rattle.key_table.proofs.Found.{found_inserted}
 use Rattle.std.specs.Map.{lookup}
 use Rattle.std.proofs.lemmas.List.{append-nil}
 use Rattle.std.proofs.lemmas.List.Elements.{filter-append}
@@ -15,7 +16,7 @@ use Rattle.class_rename.specs.Names.{new_name, or_else}
 use Rattle.fresh_names.specs.Fresh.{fresh, given, is_taken, next_free}
 use Rattle.fresh_names.specs.Given.{given_name, olds, once, with_front}
 use Rattle.fresh_names.specs.bodies.Giving.{IsGiven, after, number_of}
-use Rattle.fresh_names.proofs.Found.{after_last, given_found, given_last, lookup_inserted, lookup_last, or_first}
+use Rattle.fresh_names.proofs.Found.{after_last, given_found, given_last, lookup_last, or_first}
 use Rattle.fresh_names.proofs.Once.{kept_taken, olds_new, olds_taken, olds_there, one_kept}
 
 module _ (front : List ℕ → List ℕ) (taken done : List (List ℕ)) where
@@ -164,8 +165,8 @@ module _ (front : List ℕ → List ℕ) (taken done : List (List ℕ)) (table :
   pub gives : IsGiven front taken (done ++ x ∷ []) (insert_entry (pointwise nat_eq) table x new)
       (insert_entry (pointwise nat_eq) next (front x) (number (front x) + 1))
   gives = record {
-    found = λ a. lookup_inserted table x new a ∙ by_front a (is_text (front a) (front x)) refl;
-    counted = λ p. ap (λ (o : Option ℕ). or_else o 0) (lookup_inserted next (front x) (number (front x) + 1) p)
+    found = λ a. found_inserted (pointwise nat_eq) nat_list_eq_equiv table x new a ∙ by_front a (is_text (front a) (front x)) refl;
+    counted = λ p. ap (λ (o : Option ℕ). or_else o 0) (found_inserted (pointwise nat_eq) nat_list_eq_equiv next (front x) (number (front x) + 1) p)
         ∙ count_by p (is_text p (front x)) refl;
   }
 
