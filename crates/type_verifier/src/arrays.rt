@@ -6,7 +6,7 @@ ghost use Rattle.type_verifier.specs.bodies.Changes.{After, AfterOr};
 ghost use Rattle.type_verifier.specs.Effects.{all_popped, element, popped, read_from, ruled};
 ghost use Rattle.type_verifier.specs.Rules.{AnyArray, Assignable, ReadsReference, Takes, array_load, array_of};
 ghost use Rattle.type_verifier.specs.Rules.{array_of_base};
-ghost use Rattle.type_verifier.specs.Rules.{array_store, array_wanted, element_moved};
+ghost use Rattle.type_verifier.specs.Rules.{array_store, array_wanted, element_moved, number};
 ghost use Rattle.type_verifier.specs.bodies.Seen.{environment_of};
 
 use crate::TypeKind;
@@ -16,7 +16,7 @@ use crate::frame::TypeFrame;
 use crate::hierarchy::Hierarchy;
 use crate::operands::{compute, take, take_array, take_number, take_small_array};
 use crate::room::check_room;
-use crate::types::words_of;
+use crate::types::{number, words_of};
 use class_model::{Elem, Num, VType};
 use jv_base::{Base, FieldType, M, Or, OutOfMemory};
 
@@ -91,25 +91,20 @@ pub(crate) fn load_element(env: &Env, frame: &mut TypeFrame, elem: Elem) -> Resu
 {
     match elem {
         Elem::Ref => load_reference(env, frame),
-        Elem::Long => load_number(env, frame, elem, VType::Long),
-        _ => load_number(env, frame, elem, VType::Int),
+        Elem::Long => load_number(env, frame, elem, Num::Long),
+        _ => load_number(env, frame, elem, Num::Int),
     }
 }
 
-fn load_number(
-    env: &Env,
-    frame: &mut TypeFrame,
-    elem: Elem,
-    given: VType,
-) -> Result<(), Or<TypeKind>>
+fn load_number(env: &Env, frame: &mut TypeFrame, elem: Elem, num: Num) -> Result<(), Or<TypeKind>>
     ensures { AfterOr result frame.new
-        (ruled (environment_of env.now) 0 (Takes (Assignable vtype.Int ∷ array_wanted elem ∷ []) (Some given))
+        (ruled (environment_of env.now) 0 (Takes (Assignable vtype.Int ∷ array_wanted elem ∷ []) (Some (number num)))
         frame.old) }
 {
-    check_room(env.code, frame, 2, words_of(&given))?;
+    check_room(env.code, frame, 2, words_of(&number(num)))?;
     take_number(env.set, frame, Num::Int)?;
     take_array_of(env, frame, elem)?;
-    frame.stack.push(given)?;
+    frame.stack.push(number(num))?;
     Ok(())
 }
 
@@ -191,9 +186,9 @@ pub(crate) fn make_arrays(
     ensures { AfterOr result frame.new (ruled (environment_of env.now) 0
         (Takes (replicate dimensions (Assignable vtype.Int)) (Some (vtype.Object ty.now))) frame.old) }
 {
-    let array = VType::Object(ty.clone()?);
     check_room(env.code, frame, usize::from(dimensions), 1)?;
     take_ints(env.set, frame, dimensions)?;
+    let array = VType::Object(ty.clone()?);
     frame.stack.push(array)?;
     Ok(())
 }

@@ -1,12 +1,13 @@
 // Instructions that call methods (JVMS 4.10.1.9.invokevirtual to 4.10.1.9.invokeinterface).
 #![tactic(auto, using(crate::proofs::Ruling::no_rule), unfolding(crate::specs::Assignable::is_assignable))]
 
-ghost use Rattle.std.specs.Prelude.{◌≡◌, ◌<◌, ◌+◌, false, IfOk, length};
+ghost use Rattle.std.specs.Prelude.{◌≡◌, ◌<◌, ◌+◌, false, IfOk, OnOk, length};
 ghost use Rattle.std.specs.Option.{option_map};
 ghost use Rattle.class_model.specs.Frames.{vtype_of, words_of_type};
 ghost use Rattle.class_model.specs.declared.frame.VType.TheVariants as vtype;
 ghost use Rattle.type_verifier.specs.bodies.Changes.{After, AfterOr};
-ghost use Rattle.type_verifier.specs.Effects.{all_popped, all_words_wanted, if_ruled, popped, ruled, used_from};
+ghost use Rattle.type_verifier.specs.Effects.{all_popped, all_words_wanted, gives, if_ruled, popped, ruled};
+ghost use Rattle.type_verifier.specs.Effects.{used_from, words_given};
 ghost use Rattle.type_verifier.specs.Environment.{own_type};
 ghost use Rattle.type_verifier.specs.Members.{is_guarded_method};
 ghost use Rattle.type_verifier.specs.Rules.{Assignable, Initialises, Uses, arguments, method_type, object_call};
@@ -24,7 +25,7 @@ use crate::hierarchy::Hierarchy;
 use crate::objects::initialise;
 use crate::operands::{give, take, take_number};
 use crate::receivers::use_object;
-use crate::room::{check_room, plus, words_given};
+use crate::room::{check_room, plus};
 use class_model::{MemberRef, Num};
 use jv_base::{Base, FieldType, M, MethodType, Or};
 use std::alloc::Global;
@@ -48,11 +49,10 @@ pub(crate) fn call_static(
 fn call_typed_static(env: &Env, frame: &mut TypeFrame, ty: &MethodType) -> Result<(), Or<TypeKind>>
     ensures { AfterOr result frame.new (ruled (environment_of env.now) 0 (static_call ty.now) frame.old) }
 {
-    let given = returned(ty)?;
     let taken = words_of_arguments(ty.args.as_slice())?;
-    check_room(env.code, frame, taken, words_given(&given))?;
+    check_room(env.code, frame, taken, words_of_result(ty))?;
     take_arguments(env.set, frame, ty.args.as_slice())?;
-    give(frame, given)?;
+    give_result(frame, ty)?;
     Ok(())
 }
 
@@ -82,12 +82,11 @@ fn call_typed(
     ensures { AfterOr result frame.new
         (ruled (environment_of env.now) 0 (object_call (environment_of env.now) r.now ty.now) frame.old) }
 {
-    let given = returned(ty)?;
     let taken = words_with_object(ty.args.as_slice())?;
-    check_room(env.code, frame, taken, words_given(&given))?;
+    check_room(env.code, frame, taken, words_of_result(ty))?;
     take_arguments(env.set, frame, ty.args.as_slice())?;
     use_object(env, frame, &r.class, false, is_guarded_method(env, r))?;
-    give(frame, given)?;
+    give_result(frame, ty)?;
     Ok(())
 }
 
@@ -144,12 +143,11 @@ fn call_own(env: &Env, frame: &mut TypeFrame, ty: &MethodType) -> Result<(), Or<
     ensures { AfterOr result frame.new (ruled (environment_of env.now) 0
         (Uses (arguments ty.now) (Assignable (own_type (environment_of env.now))) false (returned ty.now)) frame.old) }
 {
-    let given = returned(ty)?;
     let taken = words_with_object(ty.args.as_slice())?;
-    check_room(env.code, frame, taken, words_given(&given))?;
+    check_room(env.code, frame, taken, words_of_result(ty))?;
     take_arguments(env.set, frame, ty.args.as_slice())?;
     take_own(env, frame)?;
-    give(frame, given)?;
+    give_result(frame, ty)?;
     Ok(())
 }
 
@@ -161,6 +159,26 @@ fn take_own(env: &Env, frame: &mut TypeFrame) -> Result<(), Or<TypeKind>>
     let own = env.own_type()?;
     take(env.set, frame, &own)?;
     Ok(())
+}
+
+// ---- results
+
+/// How many words the result takes, if there is one.
+fn words_of_result(ty: &MethodType) -> usize
+    ensures { result ≡ words_given (returned ty.now) }
+{
+    match &ty.ret {
+        Some(ret) => words_of_value(ret),
+        None => 0,
+    }
+}
+
+/// Puts the result onto the stack, if there is one.
+fn give_result(frame: &mut TypeFrame, ty: &MethodType) -> M<()>
+    ensures { OnOk result (frame.new ≡ gives (returned ty.now) frame.old) }
+{
+    let given = returned(ty)?;
+    give(frame, given)
 }
 
 // ---- arguments
@@ -220,7 +238,7 @@ fn words_of_arguments(types: &[FieldType]) -> M<usize>
 {
     let mut words = 0usize;
     for ty in types {
-        words = plus(words, words_of_argument(ty))?;
+        words = plus(words, words_of_value(ty))?;
     }
     Ok(words)
 }
@@ -232,7 +250,8 @@ fn words_with_object(types: &[FieldType]) -> M<usize>
     plus(words_of_arguments(types)?, 1)
 }
 
-fn words_of_argument(ty: &FieldType) -> usize
+/// How many words a value of a type takes.
+fn words_of_value(ty: &FieldType) -> usize
     ensures { result ≡ words_of_type (vtype_of ty.now) }
 {
     if ty.dims == 0 && matches!(ty.base, Base::Long) {

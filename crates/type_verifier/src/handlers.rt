@@ -4,7 +4,7 @@
 // satisfied its handlers, only handlers that didn't cover that one are looked at. Where some words may have changed,
 // and it is noted that the types that they hold fit, again only those are looked at; else those that stand for the
 // others are looked at in these words.
-ghost use Rattle.std.specs.Prelude.{◌≡◌, ◌<◌, ◌+◌, ◌∷◌, ◌⊎◌, [], false, length, IfOk, IsTrue, Some};
+ghost use Rattle.std.specs.Prelude.{◌≡◌, ◌<◌, ◌+◌, ◌⊎◌, false, length, IfOk, IsTrue, Some};
 ghost use Rattle.std.specs.Cmp.Lexicographic.{pointwise};
 ghost use Rattle.type_verifier.specs.Assignable.{is_assignable, is_frame_assignable};
 ghost use Rattle.type_verifier.specs.Effects.{with_stack};
@@ -150,7 +150,9 @@ fn satisfies(
     if frame.marked || !assignable(env.set, &caught, env.known.throwable()) {
         return Ok(false);
     }
-    fits_handler(alloc, env, places, frame, caught, handler.entry)
+    let mut stack = Stack::new(alloc);
+    stack.push(caught)?;
+    fits_handler(alloc, env, places, frame, &stack, handler.entry)
 }
 
 fn caught_type(env: &Env, handler: &Handler) -> M<VType>
@@ -162,29 +164,25 @@ fn caught_type(env: &Env, handler: &Handler) -> M<VType>
     }
 }
 
-/// Whether the locals of an unmarked frame, and what is caught alone on the stack, fit where a handler begins.
+/// Whether the locals of an unmarked frame and another stack fit where a handler begins.
 fn fits_handler(
     alloc: Global,
     env: &Env,
     places: &Places,
     frame: &TypeFrame,
-    caught: VType,
+    stack: &Stack,
     entry: u32,
 ) -> M<bool>
     requires places { ArePlaces env.now.code.now places.now }
     requires marked { frame.now.marked ≡ false }
-    ensures { IfOk result (λ fits. fits ≡ fits_at (environment_of env.now) (with_stack frame.now (caught ∷ [])) entry) }
+    ensures { IfOk result (λ fits. fits ≡ fits_at (environment_of env.now) (with_stack frame.now stack.now) entry) }
 {
     let entry = entry as usize;
     if env.code.ins.len() <= entry {
         return Ok(false);
     }
     match look_up(alloc, env, places, entry)? {
-        Some(declared) => {
-            let mut stack = Stack::new(alloc);
-            stack.push(caught)?;
-            Ok(is_handler_frame(env.set, frame, &stack, declared.frame()))
-        }
+        Some(declared) => Ok(is_handler_frame(env.set, frame, stack, declared.frame())),
         None => Ok(true),
     }
 }

@@ -36,12 +36,15 @@ impl Model for Known {
 
 impl Known {
     pub(crate) fn new(alloc: Global) -> M<Self> {
-        let name = Name::from_str(alloc, "java/lang/Object")?;
+        let object = Name::from_str(alloc, "java/lang/Object")?;
+        let string = Name::from_str(alloc, "java/lang/String")?;
+        let throwable = Name::from_str(alloc, "java/lang/Throwable")?;
+        let element = object.clone()?;
         Ok(Known {
-            object: class_of(name.clone()?),
-            string: class_named(alloc, "java/lang/String")?,
-            throwable: class_named(alloc, "java/lang/Throwable")?,
-            objects: array_of(Base::Class(name)),
+            object: class_of(object),
+            string: class_of(string),
+            throwable: class_of(throwable),
+            objects: array_of(Base::Class(element)),
             ints: array_of(Base::Int),
             longs: array_of(Base::Long),
             chars: array_of(Base::Char),
@@ -113,12 +116,6 @@ fn class_of(name: Name) -> VType
         dims: 0,
         base: Base::Class(name),
     })
-}
-
-fn class_named(alloc: Global, name: &str) -> M<VType>
-    ensures { IfOk result (λ ty. ty ≡ class_of name.now) }
-{
-    Ok(class_of(Name::from_str(alloc, name)?))
 }
 
 fn array_of(base: Base) -> VType

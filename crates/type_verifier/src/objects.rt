@@ -1,11 +1,10 @@
 // Objects that no constructor was called on (JVMS 4.10.1.9.new, 4.10.1.9.invokespecial).
-ghost use Rattle.std.specs.Prelude.{◌≡◌, IfOk, option_copied};
+ghost use Rattle.std.specs.Prelude.{◌≡◌, IfOk, OnOk, option_copied};
+ghost use Rattle.class_model.specs.Frames.{words_of_type};
 ghost use Rattle.type_verifier.specs.Assignable.{is_assignable};
 ghost use Rattle.type_verifier.specs.bodies.Changes.{AfterOr};
 ghost use Rattle.type_verifier.specs.Effects.{class_made_at, object_made, made_class, new_initialised};
-ghost use Rattle.type_verifier.specs.Effects.{object_initialised};
-ghost use Rattle.type_verifier.specs.Effects.{ruled};
-ghost use Rattle.type_verifier.specs.Effects.{this_initialised};
+ghost use Rattle.type_verifier.specs.Effects.{object_initialised, ruled, substituted, this_initialised};
 ghost use Rattle.type_verifier.specs.Environment.{own_type};
 ghost use Rattle.type_verifier.specs.Members.{is_class_base, is_class_type, is_own_or_super};
 ghost use Rattle.type_verifier.specs.Rules.{Makes};
@@ -15,6 +14,7 @@ use crate::TypeKind;
 use crate::assignability::assignable;
 use crate::environment::Env;
 use crate::frame::TypeFrame;
+use crate::receivers::check_guard;
 use crate::room::check_room;
 use crate::types::class_type;
 use class_model::{Code, Op, VType};
@@ -111,8 +111,7 @@ fn initialise_this(env: &Env, frame: &mut TypeFrame, class: &FieldType) -> Resul
         return Err(Or::Fault(TypeKind::Uninit));
     }
     let own = env.own_type()?;
-    frame.locals.substitute(&VType::UninitThis, &own)?;
-    frame.stack.substitute(&VType::UninitThis, &own)?;
+    substitute(frame, &VType::UninitThis, &own)?;
     frame.marked = false;
     Ok(())
 }
@@ -132,15 +131,25 @@ fn initialise_new(
         return Err(Or::Fault(TypeKind::Uninit));
     };
     let new = VType::Object(class_type(name)?);
-    if guarded && !is_own_object(env, &new)? {
-        return Err(Or::Fault(TypeKind::Protected));
-    }
+    check_guard(env, guarded, &new)?;
     if !is_class_type(name, class) {
         return Err(Or::Fault(TypeKind::Uninit));
     }
-    frame.locals.substitute(&VType::Uninit(at), &new)?;
-    frame.stack.substitute(&VType::Uninit(at), &new)?;
+    substitute(frame, &VType::Uninit(at), &new)?;
     Ok(())
+}
+
+/// Puts an object that is initialised in place of each copy of one that isn't.
+fn substitute(frame: &mut TypeFrame, old: &VType, new: &VType) -> M<()>
+    requires { words_of_type new.now ≡ 1 }
+    ensures { OnOk result (frame.new ≡ record {
+      locals = substituted old.now new.now frame.old.locals;
+      stack = substituted old.now new.now frame.old.stack;
+      marked = frame.old.marked;
+    }) }
+{
+    frame.locals.substitute(old, new)?;
+    frame.stack.substitute(old, new)
 }
 
 /// Whether a value is an object of the own class.

@@ -47,7 +47,8 @@ fn is_receiver(set: &Hierarchy, class: &FieldType, or_this: bool, ty: &VType) ->
     }
 }
 
-fn check_guard(env: &Env, guarded: bool, ty: &VType) -> Result<(), Or<TypeKind>>
+/// A value whose guarded member is used is an object of the own class.
+pub(crate) fn check_guard(env: &Env, guarded: bool, ty: &VType) -> Result<(), Or<TypeKind>>
     ensures { IsDue result (guarded_use (environment_of env.now) guarded ty.now) }
 {
     if guarded && !is_own_object(env, ty)? {

@@ -44,18 +44,15 @@ pub fn verify_code(
     ensures judged { JudgesMethod result (set_with_code set.now class method code.now) class method }
     ensures typed { IsTypedAt (set_with_code set.now class method code.now) class method → IsDue result (Ok tt) }
 {
-    let known = Known::new(alloc)?;
-    let hierarchy = Hierarchy::of(set);
     let of = set.class(class);
-    check_one(
+    check_alone(
         alloc,
-        &hierarchy,
+        set,
         class,
         of,
         method,
         &of.methods[method as usize],
         code,
-        &known,
     )
 }
 
@@ -72,18 +69,44 @@ pub fn verify_method(
     ensures judged { JudgesMethod result set.now class method }
     ensures typed { IsTypedAt set.now class method → IsDue result (Ok tt) }
 {
+    let of = set.class(class);
+    check_own_code(alloc, set, class, of, method, &of.methods[method as usize])
+}
+
+/// The same of a method that is handed in.
+fn check_own_code(
+    alloc: Global,
+    set: &ClassSet,
+    own: u32,
+    class: &Class,
+    number: u32,
+    method: &Method,
+) -> Result<(), Or<TypeFault>>
+    requires there { own < length set.now }
+    ensures { IsDue result (method_checked set.now own class.now number method.now) }
+{
+    match &method.code {
+        Some(code) => check_alone(alloc, set, own, class, number, method, code),
+        None => Ok(()),
+    }
+}
+
+/// Checks one code, with what is known of no class.
+fn check_alone(
+    alloc: Global,
+    set: &ClassSet,
+    own: u32,
+    class: &Class,
+    number: u32,
+    method: &Method,
+    code: &Code,
+) -> Result<(), Or<TypeFault>>
+    requires there { own < length set.now }
+    ensures { IsDue result (code_checked (environment set.now own class.now number method.now code.now)) }
+{
     let known = Known::new(alloc)?;
     let hierarchy = Hierarchy::of(set);
-    let of = set.class(class);
-    check_method(
-        alloc,
-        &hierarchy,
-        class,
-        of,
-        method,
-        &of.methods[method as usize],
-        &known,
-    )
+    check_one(alloc, &hierarchy, own, class, number, method, code, &known)
 }
 
 /// Checks the codes of all methods. The error is the first fault, class after class in order, method after method.
@@ -102,10 +125,30 @@ fn first_fault(alloc: Global, set: &ClassSet) -> M<Option<TypeFault>>
     ensures { IfOk result (λ fault. fault ≡ fault_of_set set.now) }
 {
     let known = Known::new(alloc)?;
+    fault_by_steps(alloc, set, &known)
+}
+
+/// The same, with what is to be known of the classes.
+fn fault_by_steps(alloc: Global, set: &ClassSet, known: &Known) -> M<Option<TypeFault>>
+    ensures { IfOk result (λ fault. fault ≡ fault_of_set set.now) }
+{
     let steps = steps_of(alloc, set)?;
     let hierarchy = Hierarchy::with(set, steps.as_slice());
+    set_fault(alloc, set, &hierarchy, known)
+}
+
+/// The same, by what is known of the classes.
+fn set_fault(
+    alloc: Global,
+    set: &ClassSet,
+    hierarchy: &Hierarchy,
+    known: &Known,
+) -> M<Option<TypeFault>>
+    requires same { hierarchy.now ≡ set.now }
+    ensures { IfOk result (λ fault. fault ≡ fault_of_set set.now) }
+{
     for number in 0..set.len() {
-        if let Some(fault) = class_fault(alloc, &hierarchy, number, set.class(number), &known)? {
+        if let Some(fault) = class_fault(alloc, hierarchy, number, set.class(number), known)? {
             return Ok(Some(fault));
         }
     }

@@ -100,9 +100,16 @@ fn put_below(stack: &mut Stack, top: &Values, under: Words) -> Result<(), Or<Typ
     ensures { Leaves result stack.new (put_below (values_of top.now) (count_of under) stack.old) }
 {
     let next = take_words(stack, under)?;
-    put_values(stack, copies(top)?)?;
+    put_copies(stack, top)?;
     put_values(stack, next)?;
     Ok(())
+}
+
+fn put_copies(stack: &mut Stack, values: &Values) -> M<()>
+    ensures { OnOk result (stack.new ≡ values_of values.now ++ stack.old) }
+{
+    let copies = copies(values)?;
+    put_values(stack, copies)
 }
 
 /// The values that so many words are, which cut none.

@@ -1,25 +1,17 @@
-use Rattle.std.proofs.Common.{List, Result, subst}
+use Rattle.std.proofs.Common.{Result, subst}
 use Rattle.jv_base.specs.Outcome.{IsDue}
-use Rattle.class_model.specs.declared.class.Class.{Class}
 use Rattle.type_verifier.specs.declared.fault.TypeFault.{TypeFault}
-use Rattle.type_verifier.specs.Verified.{environment}
-use Rattle.type_verifier.specs.bodies.Walked.{code_checked}
 use Rattle.type_verifier.proofs.WithCode.{code_judged, typed_code}
 use Rattle.type_verifier.proofs.verify.verify_code.Goals as goal
 
 pub returns-clause-judged : goal.returns-clause-judged
 returns-clause-judged c =
     code_judged c.args.set.now c.args.class c.args.method c.class-of.result.now c.index.result.now c.args.code.now
-    c.check_one.result c.class-of.ensures.is c.index.ensures
-    (subst (λ (cs : List Class). IsDue c.check_one.result
-    (code_checked (environment cs c.args.class c.class-of.result.now
-    c.args.method c.index.result.now c.args.code.now))) c.of-hierarchy.ensures c.check_one.ensures)
+    c.check_alone.result c.class-of.ensures.is c.index.ensures c.check_alone.ensures
 
 pub returns-clause-typed : goal.returns-clause-typed
 returns-clause-typed c = λ t.
-    subst (λ (d : Result (Unit {0}) TypeFault). IsDue c.check_one.result d)
+    subst (λ (d : Result (Unit {0}) TypeFault). IsDue c.check_alone.result d)
     (typed_code c.args.set.now c.args.class c.args.method c.class-of.result.now c.index.result.now c.args.code.now
     c.class-of.ensures.is c.index.ensures t)
-    (subst (λ (cs : List Class). IsDue c.check_one.result
-    (code_checked (environment cs c.args.class c.class-of.result.now
-    c.args.method c.index.result.now c.args.code.now))) c.of-hierarchy.ensures c.check_one.ensures)
+    c.check_alone.ensures

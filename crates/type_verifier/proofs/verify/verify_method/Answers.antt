@@ -1,22 +1,17 @@
-use Rattle.std.proofs.Common.{List, Result, subst}
+use Rattle.std.proofs.Common.{Result, subst}
 use Rattle.jv_base.specs.Outcome.{IsDue}
-use Rattle.class_model.specs.declared.class.Class.{Class}
 use Rattle.type_verifier.specs.declared.fault.TypeFault.{TypeFault}
-use Rattle.type_verifier.specs.bodies.FirstFaults.{method_checked}
 use Rattle.type_verifier.proofs.SetLaw.{method_judged, typed_method}
 use Rattle.type_verifier.proofs.verify.verify_method.Goals as goal
 
 pub returns-clause-judged : goal.returns-clause-judged
 returns-clause-judged c =
     method_judged c.args.set.now c.args.class c.args.method c.class-of.result.now c.index.result.now
-    c.check_method.result c.class-of.ensures.is c.index.ensures
-    (subst (λ (cs : List Class). IsDue c.check_method.result (method_checked cs c.args.class c.class-of.result.now
-    c.args.method c.index.result.now)) c.of-hierarchy.ensures c.check_method.ensures)
+    c.check_own_code.result c.class-of.ensures.is c.index.ensures c.check_own_code.ensures
 
 pub returns-clause-typed : goal.returns-clause-typed
 returns-clause-typed c = λ t.
-    subst (λ (d : Result (Unit {0}) TypeFault). IsDue c.check_method.result d)
+    subst (λ (d : Result (Unit {0}) TypeFault). IsDue c.check_own_code.result d)
     (typed_method c.args.set.now c.args.class c.args.method c.class-of.result.now c.index.result.now
     c.class-of.ensures.is c.index.ensures t)
-    (subst (λ (cs : List Class). IsDue c.check_method.result (method_checked cs c.args.class c.class-of.result.now
-    c.args.method c.index.result.now)) c.of-hierarchy.ensures c.check_method.ensures)
+    c.check_own_code.ensures

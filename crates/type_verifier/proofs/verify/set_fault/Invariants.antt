@@ -3,7 +3,7 @@ use Rattle.std.specs.List.{enumerate_from, flat_map}
 use Rattle.link_check.proofs.First.{first_from}
 use Rattle.class_pool.specs.Resolution.{first}
 use Rattle.type_verifier.specs.bodies.FirstFaults.{faults_of}
-use Rattle.type_verifier.proofs.verify.first_fault.Given as goal
+use Rattle.type_verifier.proofs.verify.set_fault.Given as goal
 
 abbrev pub invariant-loop-number : goal.invariant-loop-number
 invariant-loop-number l =

@@ -5,7 +5,7 @@ use Rattle.class_model.specs.declared.class.Class.{Class}
 use Rattle.class_pool.specs.Resolution.{first}
 use Rattle.type_verifier.specs.declared.fault.TypeFault.{TypeFault}
 use Rattle.type_verifier.specs.bodies.FirstFaults.{faults_of}
-use Rattle.type_verifier.proofs.verify.first_fault.Goals as goal
+use Rattle.type_verifier.proofs.verify.set_fault.Goals as goal
 
 pub loop-number-init : goal.loop-number-init
 loop-number-init c = first_flat (λ (p : ℕ × Class). faults_of c.args.set.now p.0 p.1) (enumerate_from 0 c.args.set.now)
@@ -18,7 +18,7 @@ returns-in-Some c =
     sym (c.loop-number.invariant
     ∙ first_here h 0 c.args.set.now number number c.class.result.now c.in-Some.fault (omega arith) within
     c.class.ensures.is (sym (c.in_ok-fault.ensures ∙ ap (λ (cs : List Class).
-    first (faults_of cs number c.class.result.now)) c.with-hierarchy.ensures) ∙ c.in-Some.is))
+    first (faults_of cs number c.class.result.now)) c.requires.same) ∙ c.in-Some.is))
 
 pub loop-number-preserved : goal.loop-number-preserved
 loop-number-preserved c =
@@ -28,4 +28,4 @@ loop-number-preserved c =
     c.loop-number.invariant
     ∙ first_next h 0 c.args.set.now number number c.class.result.now (omega arith) within c.class.ensures.is
     (sym (c.in_ok-fault.ensures ∙ ap (λ (cs : List Class).
-    first (faults_of cs number c.class.result.now)) c.with-hierarchy.ensures) ∙ c.in_default.is)
+    first (faults_of cs number c.class.result.now)) c.requires.same) ∙ c.in_default.is)
