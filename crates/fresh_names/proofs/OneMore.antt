@@ -165,8 +165,10 @@ module _ (front : List ℕ → List ℕ) (taken done : List (List ℕ)) (table :
   pub gives : IsGiven front taken (done ++ x ∷ []) (insert_entry (pointwise nat_eq) table x new)
       (insert_entry (pointwise nat_eq) next (front x) (number (front x) + 1))
   gives = record {
-    found = λ a. found_inserted (pointwise nat_eq) nat_list_eq_equiv table x new a ∙ by_front a (is_text (front a) (front x)) refl;
-    counted = λ p. ap (λ (o : Option ℕ). or_else o 0) (found_inserted (pointwise nat_eq) nat_list_eq_equiv next (front x) (number (front x) + 1) p)
+    found = λ a. found_inserted (pointwise nat_eq) nat_list_eq_equiv table x new a
+        ∙ by_front a (is_text (front a) (front x)) refl;
+    counted = λ p. ap (λ (o : Option ℕ). or_else o 0)
+        (found_inserted (pointwise nat_eq) nat_list_eq_equiv next (front x) (number (front x) + 1) p)
         ∙ count_by p (is_text p (front x)) refl;
   }
 

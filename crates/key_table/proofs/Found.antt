@@ -29,7 +29,8 @@ abbrev pub entry_of : {A : Type 0} → List A → Option ℕ → Option A
 entry_of entries None = None
 entry_of entries (Some n) = slice_get entries n
 
-entry_later : {A : Type 0} (e : A) (es : List A) (place : Option ℕ) → entry_of (e ∷ es) (option_map suc place) ≡ entry_of es place
+entry_later : {A : Type 0} (e : A) (es : List A) (place : Option ℕ)
+    → entry_of (e ∷ es) (option_map suc place) ≡ entry_of es place
 entry_later e es None = refl
 entry_later e es (Some n) = refl
 
@@ -40,7 +41,8 @@ module _ {K V : Type 0} (test : K → Bool) where
   value_is [] = refl
   value_is (e ∷ es) = by (test e.0) (value_is es)
     where
-      by : (b : Bool) → lookup test es ≡ option_map (λ (e : K × V). e.1) (entry_of es (position_from test 0 (keys_of es)))
+      by : (b : Bool)
+          → lookup test es ≡ option_map (λ (e : K × V). e.1) (entry_of es (position_from test 0 (keys_of es)))
           → cond b (Some e.1) (lookup test es)
           ≡ option_map (λ (e : K × V). e.1) (entry_of (e ∷ es) (cond b (Some 0) (position_from test 1 (keys_of es))))
       by true rest = refl
@@ -149,7 +151,8 @@ module _ {K V : Type 0} (eq : K → K → Bool) (key : K) (value : V) where
 pub keys_inserted : {K V : Type 0} (eq : K → K → Bool) (es : List (K × V)) (key : K) (value : V)
     → keys_of (insert_entry eq es key value) ≡ insert_key eq (keys_of es) key
 keys_inserted eq [] key value = refl
-keys_inserted {K} {V} eq (e ∷ es) key value = by (eq key e.0) (list_any (eq key) (keys_of es)) refl (keys_inserted eq es key value)
+keys_inserted {K} {V} eq (e ∷ es) key value =
+    by (eq key e.0) (list_any (eq key) (keys_of es)) refl (keys_inserted eq es key value)
   where
     by : (b c : Bool) → list_any (eq key) (keys_of es) ≡ c
         → keys_of (insert_entry eq es key value) ≡ insert_key eq (keys_of es) key
@@ -234,8 +237,8 @@ module _ {K : Type 0} (test : K → Bool) (keys : List K) (key : K) where
       ∙ ap (λ b. cond b (Some (0 + length keys)) None) passes ∙ ap Some at)
 
 -- what is there for a key after one was given a value
-pub found_inserted : {K V : Type 0} (eq : K → K → Bool) (laws : IsEquivalence eq) (es : List (K × V)) (key : K) (value : V)
-    (q : K) → lookup (eq q) (insert_entry eq es key value) ≡ cond (eq q key) (Some value) (lookup (eq q) es)
+pub found_inserted : {K V : Type 0} (eq : K → K → Bool) (laws : IsEquivalence eq) (es : List (K × V)) (key : K)
+    (value : V) (q : K) → lookup (eq q) (insert_entry eq es key value) ≡ cond (eq q key) (Some value) (lookup (eq q) es)
 found_inserted eq laws [] key value q = refl
 found_inserted {K} {V} eq laws (e ∷ es) key value q = by (eq key e.0) refl (found_inserted eq laws es key value q)
   where

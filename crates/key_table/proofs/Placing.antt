@@ -214,7 +214,8 @@ module _ {K V : Type 0} (cmp : K → K → Ordering) (eq : K → K → Bool) (ma
   placed_with_first (Ok x) grown last alone put unchanged is =
       subst (λ (ks : List K). ArePlaced cmp eq mark ks grown others) (sym (ap keys_of is ∙ keys_more es key value))
       (placed_first cmp eq mark laws ties one_mark (keys_of es) firsts others placed key missing grown alone
-      (λ m. put m ∙ ap (λ n. cond (is_at (nat_cmp (mark key)) m) (Some n) (lookup (is_at (nat_cmp m)) firsts)) at_place))
+      (λ m. put m
+      ∙ ap (λ n. cond (is_at (nat_cmp (mark key)) m) (Some n) (lookup (is_at (nat_cmp m)) firsts)) at_place))
   placed_with_first (Err e) grown last alone put unchanged is =
       subst (λ (p : List (K × V) × List (ℕ × ℕ)). ArePlaced cmp eq mark (keys_of p.0) p.1 others)
       (λ i. (sym (is ∙ back) i, sym unchanged i)) placed

@@ -27,7 +27,7 @@ module _ {A B : Type 0} where
       → ((x y : B) → copyB x y → y ≡ x) → (x y : A × B) → copyA x.0 y.0 × copyB x.1 y.1 → y ≡ x
   pair_copies copyA copyB isA isB x y is = λ i. (isA x.0 y.0 is.0 i, isB x.1 y.1 is.1 i)
 
--- of a list, by the list of all marks: the last 32 count, since names that end alike, as `Builder`, mostly differ in them
+-- of a list, by the list of all marks: the last 32 count, since names that end alike mostly differ in them
 abbrev of_marks : List ℕ → ℕ
 of_marks marks = fold joined 0 (drop (length marks - 32) marks)
 

@@ -19,7 +19,8 @@ returns-in_ok-push-in-None-clause-placed g c =
     c.mark-mark.ensures c.put.ensures.put)
     c.put.ensures.unchanged
     (c.keep_or_drop.ensures.entries
-    ∙ ap (λ (es : List _). cond (is_ok c.put.result) es (take c.len-place.result es)) c.in_ok-push-in-None.ensures.items)
+    ∙ ap (λ (es : List _). cond (is_ok c.put.result) es (take c.len-place.result es))
+    c.in_ok-push-in-None.ensures.items)
 
 pub returns-in_ok-push-in-Some-clause-placed : goal.returns-in_ok-push-in-Some-clause-placed
 returns-in_ok-push-in-Some-clause-placed g c =
