@@ -9,6 +9,8 @@ mod files;
 #[cfg(test)]
 mod library;
 #[cfg(test)]
+mod lines;
+#[cfg(test)]
 mod marks;
 #[cfg(test)]
 mod spelling;

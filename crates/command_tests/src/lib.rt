@@ -1,5 +1,5 @@
 //! Tests of the commands as a whole, over trees and sinks in memory, in a crate of their own, so that the command isn't
-//! proved twice for them: what it writes and says where there is memory, and each device call failing in turn.
+//! proved twice for them: each device call failing in turn, and files too long or too many for a stored run.
 #![tactic(auto)]
 
 #[cfg(test)]

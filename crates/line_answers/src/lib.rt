@@ -8,8 +8,6 @@
 mod escapes;
 mod lines;
 mod program;
-#[cfg(test)]
-mod tests;
 
 pub use escapes::{escaped_line, first_word, push_escaped, push_listed, unescaped, unescaped_text};
 pub use lines::{Answers, Stop, answer_lines, is_title, put_answer, put_line, read_line};

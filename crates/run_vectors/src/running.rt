@@ -100,9 +100,19 @@ pub fn run_over<Rt: Threads + Sync>(
     tree: MemoryTree,
 ) -> M<Ran> {
     let words = words_of(alloc, line)?;
+    run_all(rt, alloc, &words, tree)
+}
+
+/// A run of the command on any words.
+pub fn run_all<Rt: Threads + Sync>(
+    rt: &Rt,
+    alloc: Global,
+    words: &Items<Text>,
+    tree: MemoryTree,
+) -> M<Ran> {
     let mut tree = tree;
     let mut out = MemorySink::new(alloc, Items::new(alloc))?;
-    let status = run(rt, alloc, &words, &mut tree, &mut out, &OpenGate);
+    let status = run(rt, alloc, words, &mut tree, &mut out, &OpenGate);
     Ok(Ran { status, tree, out })
 }
 

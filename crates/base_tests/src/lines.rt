@@ -1,5 +1,5 @@
-use crate::lines::{Answers, Stop, answer_lines};
 use jv_base::{M, Text};
+use line_answers::{Answers, Stop, answer_lines};
 use std::alloc::Global;
 use std::test::Fail;
 
