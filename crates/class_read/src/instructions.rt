@@ -5,7 +5,7 @@ ghost use Rattle.format_reading.specs.Reader.{ReadsOr, u4, item};
 ghost use Rattle.class_model.specs.ReadingCode.{left_out_kind};
 ghost use Rattle.class_model.specs.ReadingCodeAttribute.{code_length};
 ghost use Rattle.jv_ops.specs.Decoded.{code_decoded};
-ghost use Rattle.class_read.specs.Laws.{AreBytes};
+ghost use Rattle.class_laws.specs.ReadingLaws.{AreBytes};
 ghost use Rattle.class_read.specs.bodies.Instructions.{read_instructions, in_file, or_left_out, offset_told, count_of};
 
 use crate::faults::fault;

@@ -29,7 +29,7 @@ use Rattle.class_model.specs.CanonicalClass.{handler_raw, code_attributes, code_
 use Rattle.class_write.specs.bodies.Writing.{attribute_length, items_text, contents_due}
 use Rattle.class_write.proofs.Counted.{rows_length}
 use Rattle.class_write.proofs.SpelledLines.{lines_counted}
-use Rattle.frame_types.proofs.BackGood.{fewer_than_words}
+use Rattle.class_laws.proofs.FrameWords.{fewer_than_words}
 
 -- ---- lines
 

@@ -28,7 +28,7 @@ use Rattle.class_model.specs.ReadingFrames.{Before, Written, written, frame_of, 
 use Rattle.class_model.specs.ReadingFrames.{read_frames_behind, read_frames}
 use Rattle.frame_types.specs.ReadBack.{IsKnownType, IsKnownFrame, IsBehind, Follow, FramesAreReadBack}
 use Rattle.frame_types.specs.Table.{whole}
-use Rattle.frame_types.proofs.Sameness.{same_types_are}
+use Rattle.class_laws.proofs.Sameness.{same_types_are}
 use Rattle.frame_types.proofs.Counting.{rows_counted}
 use Rattle.frame_types.proofs.BackRows.{row_is_read}
 use Rattle.frame_types.proofs.BackForms.{Stands, same_stands, item_stands, chop_stands, append_stands, full_stands}

@@ -1,10 +1,9 @@
 -- Well-formed frames are read back from their canonical rows (JVMS 4.7.4).
-use Rattle.std.proofs.Common.{◌≡◌, ℕ, zero, suc, ◌+◌, ◌^◌, ◌<◌, ◌≤◌, Bool, true, false, List, [], ◌∷◌, length, map}
+use Rattle.std.proofs.Common.{◌≡◌, ℕ, zero, suc, ◌+◌, ◌^◌, ◌<◌, Bool, true, false, List, [], ◌∷◌, length, map}
 use Rattle.std.proofs.Common.{get_or, Option, Some, None, refl, sym, ap, subst, ◌∙◌, ne_eqb, arith}
 use Rattle.std.specs.Prelude.{AllPairs, option_map, position, nat_eq, slice_get, slice_index}
 use Rattle.std.specs.List.{AllByRecursion, position_from}
 use Rattle.std.proofs.lemmas.Bool.{eq-eqb}
-use Rattle.std.proofs.lemmas.List.Sums.{sum_by-append}
 use Rattle.std.proofs.lemmas.Option.{slice_get-map, slice_get_within}
 use Rattle.std.proofs.lemmas.Iterator.Adapters.{position_from-zero}
 use Rattle.class_model.specs.declared.pool.Entry.{Entry}
@@ -16,9 +15,9 @@ use Rattle.class_model.specs.declared.constant.PoolConstant.{PoolConstant}
 use Rattle.class_model.specs.declared.frame.VType.{VType}
 use Rattle.class_model.specs.declared.frame.VType.TheVariants as vtype
 use Rattle.class_model.specs.declared.frame.FrameAt.{FrameAt}
-use Rattle.class_model.specs.Frames.{words_of_type, words_of_types}
 use Rattle.class_model.specs.ReadingFrames.{is_new}
 use Rattle.class_model.specs.WellFormed.{IsGoodType, IsGoodFrame, Ascend}
+use Rattle.class_laws.proofs.FrameWords.{fewer_than_words, tail_pairs}
 use Rattle.frame_types.specs.ReadBack.{HasPlace, IsKnownType, IsKnownFrame, Follow}
 use Rattle.frame_types.specs.WritableFrames.{IsSaid, TypesAreSaid, AreWritableFrames, GoodFramesAreReadBack}
 use Rattle.frame_types.proofs.BackFrames.{frames_read_back}
@@ -55,35 +54,7 @@ each_holds P [] n all lt = absurd (omega (arith, lt))
 each_holds P (x ∷ xs) zero all lt = all.0
 each_holds P (x ∷ xs) (suc n) all lt = each_holds P xs n all.1 (omega (arith, lt))
 
--- ---- room
-
-pub some_words : (ty : VType) → 1 ≤ words_of_type ty
-some_words vtype.Top = omega arith
-some_words vtype.Int = omega arith
-some_words vtype.Long = omega arith
-some_words vtype.Null = omega arith
-some_words vtype.UninitThis = omega arith
-some_words (vtype.Object class) = omega arith
-some_words (vtype.Uninit n) = omega arith
-
-pub words_more : (ty : VType) (types : List VType)
-    → words_of_types (ty ∷ types) ≡ words_of_type ty + words_of_types types
-words_more ty types = sum_by-append words_of_type (ty ∷ []) types ∙ omega arith
-
--- each type takes a word at least
-pub fewer_than_words : (types : List VType) → length types ≤ words_of_types types
-fewer_than_words [] = omega arith
-fewer_than_words (ty ∷ types) =
-    let one = some_words ty in
-    let others = fewer_than_words types in
-    let both = words_more ty types in
-    omega (arith, one, others, both)
-
 -- ---- frames of a code
-
--- each is behind the one before
-pub tail_pairs : (frame : FrameAt) (frames : List FrameAt) → AllPairs Ascend (frame ∷ frames) → AllPairs Ascend frames
-tail_pairs frame frames pairs = λ i j d lt within. pairs (suc i) (suc j) d (omega (arith, lt)) (omega (arith, within))
 
 module _ (entries : List Entry) (constants : List PoolConstant) (starts : List ℕ) (code : Code) where
   abbrev ops_of : List Op

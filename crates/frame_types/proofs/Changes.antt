@@ -16,7 +16,7 @@ use Rattle.frame_types.specs.declared.form.Change.{Change}
 use Rattle.frame_types.specs.declared.form.Change.TheVariants as change
 use Rattle.frame_types.specs.bodies.Changes.{change_due}
 use Rattle.frame_types.specs.Forms.{IsShortForm}
-use Rattle.frame_types.proofs.Sameness.{same_types_Decides}
+use Rattle.class_laws.proofs.Sameness.{same_types_Decides}
 
 -- ---- what the tests decide
 

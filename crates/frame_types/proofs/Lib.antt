@@ -2,9 +2,7 @@ mod Numbers
 mod Rows
 mod Loops
 mod Behind
-mod Descriptors
 mod Counting
-mod Sameness
 mod Changes
 pub mod ByNumber
 mod BackRows

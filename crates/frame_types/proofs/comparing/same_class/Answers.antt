@@ -1,4 +1,4 @@
-use Rattle.frame_types.proofs.Descriptors.{same_text}
+use Rattle.class_laws.proofs.Descriptors.{same_text}
 use Rattle.frame_types.proofs.comparing.same_class.Goals as goal
 
 pub returns : goal.returns

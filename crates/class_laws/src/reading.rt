@@ -1,5 +1,5 @@
 // What holds of class files and the reading of them.
-ghost use Rattle.class_read.specs.Laws.{ReadIsSpelled, SpelledIsRead, SpellsOne};
+ghost use Rattle.class_laws.specs.ReadingLaws.{ReadIsSpelled, SpelledIsRead, SpellsOne};
 
 /// A class is read from the bytes of a class file exactly where they spell it (JVMS 4.1), and they
 /// spell one class at most.

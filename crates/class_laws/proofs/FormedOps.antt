@@ -41,9 +41,9 @@ use Rattle.class_model.proofs.NameLaw.{HaveUnits}
 use Rattle.class_model.proofs.LookupLaw.{method_only}
 use Rattle.class_model.proofs.ConstantLaw.{AllNameRight}
 use Rattle.class_model.proofs.BackNumbers.{short_fits}
-use Rattle.class_write.specs.ClassValues.{IsPushValue, IsFieldTypeValue}
-use Rattle.class_write.proofs.FormedPool.{EntryFits, class_formed, type_formed, field_formed, method_formed}
-use Rattle.class_write.proofs.FormedPool.{interface_formed}
+use Rattle.class_laws.specs.ClassValues.{IsPushValue, IsFieldTypeValue}
+use Rattle.class_laws.proofs.FormedPool.{EntryFits, class_formed, type_formed, field_formed, method_formed}
+use Rattle.class_laws.proofs.FormedPool.{interface_formed}
 use Rattle.class_model.proofs.InstructionOnly.{none_alone}
 
 -- the instruction of a code of n is well formed, and its numbers and texts are in range

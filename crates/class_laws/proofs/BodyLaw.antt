@@ -43,11 +43,11 @@ use Rattle.class_model.proofs.LeftOutLaw as left_law
 use Rattle.class_model.proofs.UntilLaw.{IsCodeFrom}
 use Rattle.class_model.proofs.MethodInfoLaw.{Bodies}
 use Rattle.class_model.proofs.BackRead.{here_is}
-use Rattle.class_read.proofs.FrameLaw.{AreRows, frames_exact}
-use Rattle.class_read.proofs.StandsLaw.{rows_found, rows_only}
-use Rattle.class_read.proofs.HandlerLaw.{NoneAtZero, table_exact}
-use Rattle.class_read.proofs.CodeAttributeLaw.{Frames, AreCodeAttributes, code_attributes_exact}
-use Rattle.class_read.proofs.PassedOverLaw.{tail_bytes, FitTail, passed_exact}
+use Rattle.class_laws.proofs.FrameLaw.{AreRows, frames_exact}
+use Rattle.class_laws.proofs.StandsLaw.{rows_found, rows_only}
+use Rattle.class_laws.proofs.HandlerLaw.{NoneAtZero, table_exact}
+use Rattle.class_laws.proofs.CodeAttributeLaw.{Frames, AreCodeAttributes, code_attributes_exact}
+use Rattle.class_laws.proofs.PassedOverLaw.{tail_bytes, FitTail, passed_exact}
 
 -- a length that a code may have
 length_found : (n m : ℕ) → code_length n ≡ Ok m → (m ≡ n) × (0 < n) × (n < 2 ^ 16)

@@ -17,8 +17,8 @@ use Rattle.class_model.specs.Frames.{words_of_type, words_of_types, before_cut, 
 use Rattle.class_model.specs.CodeAttribute.{IsIns}
 use Rattle.class_model.specs.WellFormed.{LinesGoOn}
 use Rattle.class_model.proofs.BackSizes.{info_is_there}
-use Rattle.class_write.proofs.SpelledLists.{all_both}
-use Rattle.frame_types.proofs.BackGood.{words_more}
+use Rattle.class_laws.proofs.SpelledLists.{all_both}
+use Rattle.class_laws.proofs.FrameWords.{words_more}
 
 -- ---- lines
 

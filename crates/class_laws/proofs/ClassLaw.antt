@@ -43,8 +43,8 @@ use Rattle.class_model.proofs.ClassAttributeLaw.{AreClassAttributes, class_attri
 use Rattle.class_model.proofs.FieldInfoLaw.{index_then, table, passed_is, fields_exact}
 use Rattle.class_model.proofs.MethodAttributeLaw.{counted_classes_exact}
 use Rattle.class_model.proofs.MethodInfoLaw.{methods_exact}
-use Rattle.class_read.proofs.HandlerLaw.{NoneAtZero}
-use Rattle.class_read.proofs.BodyLaw.{read_code_exact}
+use Rattle.class_laws.proofs.HandlerLaw.{NoneAtZero}
+use Rattle.class_laws.proofs.BodyLaw.{read_code_exact}
 use Rattle.class_model.proofs.FreshLaw.{AreNew, new_found, new_only, none_before, field_signature, fields_apart}
 use Rattle.class_model.proofs.FreshLaw.{fields_told, method_signature, methods_apart, methods_told}
 

@@ -7,8 +7,8 @@ use Rattle.class_model.specs.ReadingClass.{class_read}
 use Rattle.class_model.specs.CanonicalClass.{pool_of, layout}
 use Rattle.class_model.specs.WriteLimits.{limits, class_written}
 use Rattle.class_model.specs.rows.Rows.{class_t}
-use Rattle.class_read.specs.Laws.{AreBytes}
-use Rattle.class_write.specs.ClassValues.{IsClassValue}
+use Rattle.class_laws.specs.ReadingLaws.{AreBytes}
+use Rattle.class_laws.specs.ClassValues.{IsClassValue}
 
 -- a class that can be written: well formed, with counts that fit, its numbers and texts those that the code can hold
 pub record IsWritable (c : Class) : Type 0 where

@@ -28,9 +28,9 @@ use Rattle.class_model.specs.WellFormed.{IsClassName, IsClassOrArray, IsReferenc
 use Rattle.class_model.specs.OpValues.{IsBaseValue, IsReferenceValue}
 use Rattle.class_model.proofs.ConstantLaw.{AllNameRight}
 use Rattle.class_model.proofs.BackEntries.{text_back}
-use Rattle.class_write.specs.ClassValues.{IsFieldTypeValue}
-use Rattle.class_write.proofs.SpelledLists.{all_if, all_whole}
-use Rattle.class_write.proofs.FormedTexts.{field_value}
+use Rattle.class_laws.specs.ClassValues.{IsFieldTypeValue}
+use Rattle.class_laws.proofs.SpelledLists.{all_if, all_whole}
+use Rattle.class_laws.proofs.FormedTexts.{field_value}
 
 -- ---- numbers
 

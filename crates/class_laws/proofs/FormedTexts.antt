@@ -14,8 +14,8 @@ use Rattle.jv_base.specs.declared.types.Base.{Base}
 use Rattle.jv_base.specs.declared.types.Base.TheVariants as base
 use Rattle.class_model.specs.OpValues.{IsBaseValue}
 use Rattle.class_model.proofs.BackEntries.{class_utf8, end_utf8, brackets_utf8}
-use Rattle.class_write.proofs.SpelledWanted.{open_utf8, close_utf8}
-use Rattle.class_write.specs.ClassValues.{IsFieldTypeValue, IsMethodTypeValue}
+use Rattle.class_laws.proofs.SpelledWanted.{open_utf8, close_utf8}
+use Rattle.class_laws.specs.ClassValues.{IsFieldTypeValue, IsMethodTypeValue}
 
 -- ---- parts of a text
 

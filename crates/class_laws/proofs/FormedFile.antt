@@ -37,14 +37,14 @@ use Rattle.class_model.specs.WellFormed.{IsClassName, HasFewWords, IsGoodCode, F
 use Rattle.class_model.proofs.NameLaw.{HaveUnits}
 use Rattle.class_model.proofs.ConstantLaw.{AllNameRight}
 use Rattle.class_model.proofs.GoodPool.{pool_units, pool_names}
-use Rattle.class_write.specs.ClassValues.{IsCodeValue, IsFieldConstant, IsFieldValue, IsMethodValue}
-use Rattle.class_write.specs.SpellingLaws.{IsWritable, SpelledIsWritable}
-use Rattle.class_write.proofs.FormedTexts.{field_value, method_value}
-use Rattle.class_write.proofs.FormedPool.{EntryFits, pool_fits, class_formed}
-use Rattle.class_write.proofs.FormedCode.{IsTypeOf, initial_formed, IsFormedCode, code_formed}
-use Rattle.class_write.proofs.FormedFlags.{meant_again, interface_meant, class_meant, left_out_meant}
-use Rattle.class_write.proofs.FormedFlags.{field_static_meant, field_meant, method_static_meant, native_meant}
-use Rattle.class_write.proofs.FormedFlags.{body_meant, method_meant, initial_meant, body_not_native}
+use Rattle.class_laws.specs.ClassValues.{IsCodeValue, IsFieldConstant, IsFieldValue, IsMethodValue}
+use Rattle.class_laws.specs.SpellingLaws.{IsWritable, SpelledIsWritable}
+use Rattle.class_laws.proofs.FormedTexts.{field_value, method_value}
+use Rattle.class_laws.proofs.FormedPool.{EntryFits, pool_fits, class_formed}
+use Rattle.class_laws.proofs.FormedCode.{IsTypeOf, initial_formed, IsFormedCode, code_formed}
+use Rattle.class_laws.proofs.FormedFlags.{meant_again, interface_meant, class_meant, left_out_meant}
+use Rattle.class_laws.proofs.FormedFlags.{field_static_meant, field_meant, method_static_meant, native_meant}
+use Rattle.class_laws.proofs.FormedFlags.{body_meant, method_meant, initial_meant, body_not_native}
 
 -- ---- flags
 

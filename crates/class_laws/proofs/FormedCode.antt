@@ -38,13 +38,13 @@ use Rattle.class_model.specs.WellFormed.{IsClassName, HasFewWords, IsGoodOp, IsG
 use Rattle.class_model.specs.WellFormed.{Ascend, IsGoodCode}
 use Rattle.class_model.proofs.NameLaw.{HaveUnits}
 use Rattle.class_model.proofs.ConstantLaw.{AllNameRight}
-use Rattle.class_write.specs.ClassValues.{IsFieldTypeValue, IsMethodTypeValue, IsInsValue, IsVTypeValue, IsFrameValue}
-use Rattle.class_write.specs.ClassValues.{IsCodeValue}
-use Rattle.class_write.proofs.SpelledLists.{all_both}
-use Rattle.class_write.proofs.FormedPool.{EntryFits, class_formed, type_formed}
-use Rattle.class_write.proofs.FormedOps.{IsFormed, op_formed}
-use Rattle.class_write.proofs.FormedPlaces.{line_fits, tables_fit, starts_long, stand_long, ends_from, ends_ascend}
-use Rattle.class_write.proofs.FormedPlaces.{starts_ascend, lines_go_on, all_cut, cut_again, words_cut, pairs_more}
+use Rattle.class_laws.specs.ClassValues.{IsFieldTypeValue, IsMethodTypeValue, IsInsValue, IsVTypeValue, IsFrameValue}
+use Rattle.class_laws.specs.ClassValues.{IsCodeValue}
+use Rattle.class_laws.proofs.SpelledLists.{all_both}
+use Rattle.class_laws.proofs.FormedPool.{EntryFits, class_formed, type_formed}
+use Rattle.class_laws.proofs.FormedOps.{IsFormed, op_formed}
+use Rattle.class_laws.proofs.FormedPlaces.{line_fits, tables_fit, starts_long, stand_long, ends_from, ends_ascend}
+use Rattle.class_laws.proofs.FormedPlaces.{starts_ascend, lines_go_on, all_cut, cut_again, words_cut, pairs_more}
 
 -- ---- types
 

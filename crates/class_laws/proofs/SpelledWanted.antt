@@ -29,9 +29,9 @@ use Rattle.class_model.specs.WellFormed.{IsClassName, IsClassOrArray, IsReferenc
 use Rattle.class_model.specs.OpValues.{IsBaseValue, IsReferenceValue, IsOpValue}
 use Rattle.class_model.proofs.BackEntries.{field_utf8, name_utf8}
 use Rattle.class_model.proofs.BackMembers.{constant_by}
-use Rattle.class_write.specs.ClassValues.{IsPushValue, IsFieldTypeValue, IsMethodTypeValue}
-use Rattle.class_write.proofs.SpelledLists.{all_both, all_if}
-use Rattle.class_write.proofs.SpelledPool.{IsTypeNamed, AreNamed, IsDescriptor, HasParts, IsRight}
+use Rattle.class_laws.specs.ClassValues.{IsPushValue, IsFieldTypeValue, IsMethodTypeValue}
+use Rattle.class_laws.proofs.SpelledLists.{all_both, all_if}
+use Rattle.class_laws.proofs.SpelledPool.{IsTypeNamed, AreNamed, IsDescriptor, HasParts, IsRight}
 use Rattle.jv_base.proofs.Utf16Text.{one_unit, two_units}
 
 -- ---- texts

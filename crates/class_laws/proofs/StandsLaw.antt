@@ -26,7 +26,7 @@ use Rattle.class_model.proofs.NameLaw.{HaveUnits, due_is}
 use Rattle.class_model.proofs.LookupLaw.{type_found, type_only}
 use Rattle.class_model.proofs.CodeLaw.{op_in, begins_found, begins_only}
 use Rattle.class_model.proofs.RowLaw.{FitsType, FitTypes, FitsRow}
-use Rattle.class_read.proofs.FrameLaw.{AreRows}
+use Rattle.class_laws.proofs.FrameLaw.{AreRows}
 
 module _ (pool : List Entry) (units : HaveUnits pool) (infos : List Info) (ins : List Ins) where
   -- where the instructions begin, and what they are

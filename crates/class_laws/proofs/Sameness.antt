@@ -8,7 +8,7 @@ use Rattle.jv_base.proofs.Equality.{text_Decides}
 use Rattle.class_model.specs.declared.frame.VType.{VType}
 use Rattle.class_model.specs.declared.frame.VType.TheVariants as vtype
 use Rattle.class_model.specs.CanonicalFrames.{same_type, same_types}
-use Rattle.frame_types.proofs.Descriptors.{type_is}
+use Rattle.class_laws.proofs.Descriptors.{type_is}
 
 same_type_is : (a b : VType) → same_type a b ≡ true → a ≡ b
 same_type_is vtype.Top vtype.Top h = refl
