@@ -1,6 +1,7 @@
 pub mod Mapped
 pub mod RowLine
 pub mod FrameWords
+pub mod FrameRows
 pub mod Descriptors
 pub mod Sameness
 pub mod FrameLaw

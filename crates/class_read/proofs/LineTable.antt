@@ -5,7 +5,7 @@ use Rattle.std.specs.Prelude.{fold}
 use Rattle.std.specs.List.{AllByRecursion}
 use Rattle.std.proofs.lemmas.List.{append-nil}
 use Rattle.std.proofs.lemmas.Bool.{eq-eqb, ne_eqb, le-leb, lt-leb, ltb-true, ltb-false, cases_order}
-use Rattle.frame_types.specs.bodies.Numbers.{found, first_of_two}
+use Rattle.frame_read.specs.bodies.Numbers.{found, first_of_two}
 use Rattle.class_model.specs.declared.op.Op.{Op}
 use Rattle.class_model.specs.declared.code.Ins.{Ins}
 use Rattle.class_model.specs.LineNumbers.{LineNumber, is_nearer, nearer, line_at}

@@ -20,7 +20,7 @@ use Rattle.class_model.specs.WellFormed.{IsGoodFrame}
 use Rattle.class_model.specs.declared.constant.PoolConstant.{PoolConstant}
 use Rattle.class_model.specs.Structure.{AttributeInfo, attribute_info, ExceptionInfo, exception_info}
 use Rattle.class_model.specs.Frames.{stack_map_table}
-use Rattle.frame_types.specs.Writing.{HasShortLists}
+use Rattle.frame_write.specs.Writing.{HasShortLists}
 use Rattle.class_model.specs.LineNumbers.{LineNumber, line_number}
 use Rattle.class_model.specs.CanonicalFrames.{rows}
 use Rattle.class_model.specs.CanonicalCode.{places, code_bytes}
