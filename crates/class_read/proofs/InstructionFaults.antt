@@ -29,10 +29,10 @@ use Rattle.class_model.specs.ReadingCode.{multi_new_array, is_member_opcode, is_
 use Rattle.class_model.specs.ReadingCode.{at_instruction, read_instruction, CodeRead, instructions, in_front, goes_on}
 use Rattle.class_model.specs.ReadingCode.{until_end}
 use Rattle.class_model.proofs.InstructionRead.{read_found}
-use Rattle.jv_ops.specs.declared.fault.Wrong.{Wrong}
-use Rattle.jv_ops.specs.declared.fault.Wrong.TheVariants as wrong
-use Rattle.jv_ops.specs.Fault.{wrong_of}
-use Rattle.jv_ops.proofs.ReadToEnd.{passed_over}
+use Rattle.code_read.specs.declared.fault.Wrong.{Wrong}
+use Rattle.code_read.specs.declared.fault.Wrong.TheVariants as wrong
+use Rattle.code_read.specs.Fault.{wrong_of}
+use Rattle.code_read.proofs.ReadToEnd.{passed_over}
 
 -- the rule of a class file that is broken
 abbrev pub kind_of : Wrong → FormatKind

@@ -22,11 +22,4 @@ mod PartOfCode
 mod PassedLoop
 pub mod BehindCode
 mod CodeSteps
-pub mod FrameLaw
-pub mod StandsLaw
-pub mod HandlerLaw
-pub mod CodeAttributeLaw
-pub mod PassedOverLaw
-pub mod BodyLaw
-pub mod ClassLaw
 mod Unfolding

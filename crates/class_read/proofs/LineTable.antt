@@ -1,15 +1,16 @@
 -- The table of the lines of offsets has for each the line that the rows tell.
 use Rattle.std.proofs.Common.{◌≡◌, ℕ, zero, suc, ◌+◌, ◌<◌, ◌≤◌, ◌⊎◌, inl, inr, Bool, true, false, cond, eqb, leb, ltb}
 use Rattle.std.proofs.Common.{List, [], ◌∷◌, ◌++◌, length, Option, Some, None, refl, sym, ap, ◌∙◌, append_assoc, arith}
-use Rattle.std.specs.Prelude.{fold, option_map}
+use Rattle.std.specs.Prelude.{fold}
 use Rattle.std.specs.List.{AllByRecursion}
 use Rattle.std.proofs.lemmas.List.{append-nil}
 use Rattle.std.proofs.lemmas.Bool.{eq-eqb, ne_eqb, le-leb, lt-leb, ltb-true, ltb-false, cases_order}
-use Rattle.frame_types.specs.bodies.Numbers.{found, first_of_two}
+use Rattle.frame_read.specs.bodies.Numbers.{found, first_of_two}
 use Rattle.class_model.specs.declared.op.Op.{Op}
 use Rattle.class_model.specs.declared.code.Ins.{Ins}
 use Rattle.class_model.specs.LineNumbers.{LineNumber, is_nearer, nearer, line_at}
 use Rattle.class_model.proofs.FirstOfTwo.{or_none}
+use Rattle.class_laws.proofs.RowLine.{number}
 use Rattle.class_read.specs.bodies.Lines.{lined_by, lined, last_there, line_there, carried, past, offsets_up_to}
 
 -- ---- the line at an offset is that of a row that starts there, or the line at the offset before
@@ -75,10 +76,6 @@ apart n [] here before line h = h
 apart n (row ∷ rows) here before line h =
     apart n rows (nearer (suc n) here row) (nearer n before row) (last_there (suc n) line row)
     (next_by n here before line row (cases_order row.start_pc (suc n)) h)
-
--- the line of a row
-abbrev pub number : Option LineNumber → Option ℕ
-number best = option_map (λ (row : LineNumber). row.line_number) best
 
 line_of : (n : ℕ) (here before : Option LineNumber) (line : Option ℕ) → Apart n here before line
     → number here ≡ first_of_two line (number before)

@@ -27,13 +27,13 @@ use Rattle.class_model.specs.ReadingCode.{CodeRead, instructions, has_left_out, 
 use Rattle.class_model.specs.ReadingCode.{ops_of}
 use Rattle.class_model.proofs.BackSizes.{info_is_there}
 use Rattle.class_model.proofs.UntilLaw.{IsCodeFrom, until_exact, until_found}
-use Rattle.jv_ops.specs.declared.reading.decoding.Decoded.{Decoded}
-use Rattle.jv_ops.specs.declared.fault.CodeFault.{CodeFault}
-use Rattle.jv_ops.specs.declared.fault.CodeFault.TheVariants as code
-use Rattle.jv_ops.specs.declared.fault.Wrong.{Wrong}
-use Rattle.jv_ops.specs.declared.fault.Wrong.TheVariants as wrong
-use Rattle.jv_ops.specs.Fault.{code_fault, wrong_of}
-use Rattle.jv_ops.specs.Decoded.{with_starts, as_decoded, code_decoded}
+use Rattle.code_read.specs.declared.decoding.Decoded.{Decoded}
+use Rattle.code_read.specs.declared.fault.CodeFault.{CodeFault}
+use Rattle.code_read.specs.declared.fault.CodeFault.TheVariants as code
+use Rattle.code_read.specs.declared.fault.Wrong.{Wrong}
+use Rattle.code_read.specs.declared.fault.Wrong.TheVariants as wrong
+use Rattle.code_read.specs.Fault.{code_fault, wrong_of}
+use Rattle.code_read.specs.Decoded.{with_starts, as_decoded, code_decoded}
 use Rattle.class_read.specs.declared.instructions.Instructions.{Instructions}
 use Rattle.class_read.specs.declared.instructions.Instructions.TheVariants.{All}
 use Rattle.class_read.specs.bodies.Instructions.{instructions_of, read_instructions, or_left_out, in_file, offset_told}

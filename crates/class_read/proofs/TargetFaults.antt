@@ -26,7 +26,7 @@ use Rattle.class_model.specs.ReadingCode.{op_then, ops_from, ops_of}
 use Rattle.class_model.proofs.InstructionRead.{IsRight}
 use Rattle.class_model.proofs.UntilLaw.{AreRight}
 use Rattle.class_read.proofs.InstructionFaults.{TellsIn}
-use Rattle.jv_ops.proofs.ReadMeant.{mapped_there}
+use Rattle.code_read.proofs.ReadMeant.{mapped_there}
 
 -- only a target is wrong, if anything
 abbrev pub OnlyTarget : {A : Type 0} → Result A FormatKind → Type 0

@@ -3,7 +3,7 @@
 
 ghost use Rattle.std.specs.Prelude.{◌≡◌, ◌<◌, ◌++◌, length, option_map, IfOk};
 ghost use Rattle.format_reading.specs.Reader.{ReadsAsOr, ReadsOr};
-ghost use Rattle.frame_types.specs.Before.{table_of};
+ghost use Rattle.frame_read.specs.Before.{table_of};
 ghost use Rattle.class_model.specs.ReadingAttributes.{attribute, attributes, counted_attributes};
 ghost use Rattle.class_model.specs.ReadingCodeAttribute.{known_of_code, nothing_seen, frames_of, left_out_of};
 ghost use Rattle.class_read.specs.bodies.CodeAttributes.{code_attribute, code_contents, frames_by, code_with};
@@ -15,10 +15,10 @@ use crate::lines::lined;
 use crate::methods::Body;
 use crate::names::is_named;
 use class_model::{Code, Frame, Frames, Handler, LeftKind, Op};
+use code_read::Decoded;
 use format_reading::{FormatFault, of_part};
-use frame_types::{FrameReader, StackMapTable, Starts, frames_at};
+use frame_read::{FrameReader, StackMapTable, Starts, frames_at};
 use jv_base::{Cursor, Items, M, Or, Units};
-use jv_ops::Decoded;
 use known_pool::KnownPool;
 use std::alloc::Global;
 use std::marker::Model;
@@ -39,7 +39,7 @@ pub struct SeenOfCode {
 
 impl Model for SeenOfCode {
     ghost use Rattle.std.specs.Prelude.{option_map};
-    ghost use Rattle.frame_types.specs.Before.{table_of};
+    ghost use Rattle.frame_read.specs.Before.{table_of};
     ghost use Rattle.class_model.specs.ReadingCodeAttribute.{CodeSeen};
 
     ghost Value = { CodeSeen };

@@ -11,7 +11,7 @@ use crate::faults::fault;
 use crate::lookups::class_at;
 use class_model::Handler;
 use format_reading::{FormatFault, FormatKind};
-use frame_types::Starts;
+use frame_read::Starts;
 use jv_base::{Cursor, Items, Name, Or};
 use known_pool::KnownPool;
 use std::alloc::Global;

@@ -4,15 +4,15 @@ ghost use Rattle.jv_base.specs.Outcome.{IsDue};
 ghost use Rattle.format_reading.specs.Reader.{ReadsOr, u4, item};
 ghost use Rattle.class_model.specs.ReadingCode.{left_out_kind};
 ghost use Rattle.class_model.specs.ReadingCodeAttribute.{code_length};
-ghost use Rattle.jv_ops.specs.Decoded.{code_decoded};
-ghost use Rattle.class_read.specs.Laws.{AreBytes};
+ghost use Rattle.code_read.specs.Decoded.{code_decoded};
+ghost use Rattle.class_laws.specs.ReadingLaws.{AreBytes};
 ghost use Rattle.class_read.specs.bodies.Instructions.{read_instructions, in_file, or_left_out, offset_told, count_of};
 
 use crate::faults::fault;
 use class_model::LeftKind;
+use code_read::{CodeFault, Decoded, decode_code};
 use format_reading::{FormatFault, FormatKind};
 use jv_base::{Cursor, Or};
-use jv_ops::{CodeFault, Decoded, decode_code};
 use known_pool::KnownPool;
 use std::alloc::Global;
 

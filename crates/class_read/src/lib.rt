@@ -14,7 +14,6 @@ mod handlers;
 mod head;
 mod initial_frame;
 mod instructions;
-mod laws;
 mod lines;
 mod lookups;
 mod members;
@@ -25,4 +24,3 @@ mod passed_over;
 mod signatures;
 
 pub use class::read_class;
-pub use laws::files_are_read_where_spelled;

@@ -1,6 +1,6 @@
 // The line of each instruction (JVMS 4.7.12).
 ghost use Rattle.std.specs.Prelude.{◌≡◌, ◌<◌, ℕ, length, IfOk, OnOk, None};
-ghost use Rattle.frame_types.specs.bodies.Numbers.{found};
+ghost use Rattle.frame_read.specs.bodies.Numbers.{found};
 ghost use Rattle.class_read.specs.bodies.Lines.{lined_by, lined, last_there, line_there, carried, offsets_up_to};
 
 use crate::attributes::Line;

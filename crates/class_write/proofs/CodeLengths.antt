@@ -20,7 +20,7 @@ use Rattle.class_model.specs.WellFormed.{IsGoodFrame}
 use Rattle.class_model.specs.declared.constant.PoolConstant.{PoolConstant}
 use Rattle.class_model.specs.Structure.{AttributeInfo, attribute_info, ExceptionInfo, exception_info}
 use Rattle.class_model.specs.Frames.{stack_map_table}
-use Rattle.frame_types.specs.Writing.{HasShortLists}
+use Rattle.frame_write.specs.Writing.{HasShortLists}
 use Rattle.class_model.specs.LineNumbers.{LineNumber, line_number}
 use Rattle.class_model.specs.CanonicalFrames.{rows}
 use Rattle.class_model.specs.CanonicalCode.{places, code_bytes}
@@ -29,7 +29,7 @@ use Rattle.class_model.specs.CanonicalClass.{handler_raw, code_attributes, code_
 use Rattle.class_write.specs.bodies.Writing.{attribute_length, items_text, contents_due}
 use Rattle.class_write.proofs.Counted.{rows_length}
 use Rattle.class_write.proofs.SpelledLines.{lines_counted}
-use Rattle.frame_types.proofs.BackGood.{fewer_than_words}
+use Rattle.class_laws.proofs.FrameWords.{fewer_than_words}
 
 -- ---- lines
 

@@ -15,7 +15,7 @@ use Rattle.class_model.specs.CanonicalClass.{line_rows}
 use Rattle.class_model.specs.CanonicalFrames.{same, same_with_item, chop, append, full, form_of, same_types, is_chop}
 use Rattle.class_model.specs.CanonicalFrames.{is_append}
 use Rattle.class_model.specs.WriteLimits.{table_fits, form_fits, frames_fit, body_tables_fit}
-use Rattle.frame_types.specs.Writing.{HasShortLists}
+use Rattle.frame_write.specs.Writing.{HasShortLists}
 
 abbrev Limited : Type 0
 Limited = Result (Unit {0}) WriteLimit

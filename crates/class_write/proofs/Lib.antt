@@ -3,9 +3,6 @@ mod Inserted
 mod Counted
 mod PlacedCodes
 mod CodeLengths
-pub mod SpelledLists
-pub mod SpelledPool
-pub mod SpelledWanted
 pub mod SpelledConstants
 pub mod SpelledAttributes
 pub mod SpelledFields
@@ -18,14 +15,7 @@ pub mod SpelledMethods
 pub mod SpelledFile
 pub mod SpellingLaw
 pub mod SpelledExample
-pub mod FormedTexts
-pub mod FormedPool
-pub mod FormedOps
-pub mod FormedPlaces
-pub mod FormedCode
 mod Fitting
 mod Dues
 mod FileTexts
 mod FewFrames
-pub mod FormedFlags
-pub mod FormedFile

@@ -23,10 +23,10 @@ use Rattle.class_model.specs.CanonicalPool.{same, fieldref, methodref, class_con
 use Rattle.class_model.specs.CanonicalCode.{op_info, size_of, places_from, places, code_bytes}
 use Rattle.class_model.specs.WriteLimits.{branches_fit, code_fits}
 use Rattle.class_model.proofs.BackSizes.{size_is}
-use Rattle.jv_ops.specs.declared.writing.encoding.Coded.{Coded}
-use Rattle.jv_ops.specs.Coded.{HasIndex, HasIndices, placed, coded}
-use Rattle.jv_ops.proofs.Ready.{fit}
-use Rattle.jv_ops.proofs.Ends.{bytes_from}
+use Rattle.code_write.specs.declared.encoding.Coded.{Coded}
+use Rattle.code_write.specs.Coded.{HasIndex, HasIndices, placed, coded}
+use Rattle.code_write.proofs.Ready.{fit}
+use Rattle.code_write.proofs.Ends.{bytes_from}
 use Rattle.class_write.specs.declared.placing.PlacedCode.{PlacedCode}
 use Rattle.class_write.specs.bodies.Placing.{placed_code, code_due}
 

@@ -18,9 +18,9 @@ use Rattle.class_model.specs.CanonicalClass.{text_index, attribute, attribute_co
 use Rattle.class_model.specs.CanonicalClass.{mark_attributes}
 use Rattle.class_model.specs.bodies.PoolEntries.{entries_of, Has}
 use Rattle.class_model.proofs.BackPool.{index_fits}
-use Rattle.class_write.proofs.SpelledLists.{all_front, all_back, all_both}
-use Rattle.class_write.proofs.SpelledPool.{units_there}
-use Rattle.class_write.proofs.SpelledWanted.{HasAll}
+use Rattle.class_laws.proofs.SpelledLists.{all_front, all_back, all_both}
+use Rattle.class_laws.proofs.SpelledPool.{units_there}
+use Rattle.class_laws.proofs.SpelledWanted.{HasAll}
 
 -- ---- names are their units
 

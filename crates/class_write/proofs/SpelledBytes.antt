@@ -34,7 +34,7 @@ use Rattle.class_model.specs.OpValues.{IsOpValue}
 use Rattle.class_model.proofs.LookupLaw.{method_only}
 use Rattle.class_model.proofs.BackNumbers.{byte_fits, byte_below}
 use Rattle.class_model.proofs.BackPlain.{is_load, is_store, is_arith, is_neg, is_shift, is_logic, is_conv, is_return}
-use Rattle.class_write.proofs.SpelledLists.{all_both}
+use Rattle.class_laws.proofs.SpelledLists.{all_both}
 
 -- a byte
 abbrev pub IsByte : ℕ → Type 0

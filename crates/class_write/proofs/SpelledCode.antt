@@ -30,9 +30,9 @@ use Rattle.class_model.specs.CanonicalClass.{handler_raw, line_rows, line_table,
 use Rattle.class_model.specs.CanonicalClass.{code_contents}
 use Rattle.class_model.specs.bodies.PoolEntries.{entries_of, Has}
 use Rattle.class_model.proofs.BackCode.{infos}
-use Rattle.class_write.specs.ClassValues.{IsInsValue}
-use Rattle.class_write.proofs.SpelledLists.{all_front, all_back, all_both}
-use Rattle.class_write.proofs.SpelledWanted.{HasAll}
+use Rattle.class_laws.specs.ClassValues.{IsInsValue}
+use Rattle.class_laws.proofs.SpelledLists.{all_front, all_back, all_both}
+use Rattle.class_laws.proofs.SpelledWanted.{HasAll}
 use Rattle.class_write.proofs.SpelledAttributes.{lines_units, map_units, named_left, named_right, named_this}
 use Rattle.class_write.proofs.SpelledAttributes.{named_other, few, attribute_is}
 use Rattle.class_write.proofs.SpelledLines.{lines_counted, rows_fit, table_is}

@@ -41,12 +41,12 @@ use Rattle.class_model.specs.WellFormed.{FitsField, IsGoodField, IsGoodMethod, I
 use Rattle.class_model.specs.WriteLimits.{first_of, text_fits}
 use Rattle.class_model.proofs.BackPool.{filled_has}
 use Rattle.class_model.proofs.BackPaired.{filled_paired}
-use Rattle.class_write.specs.ClassValues.{IsInsValue, IsVTypeValue, IsFrameValue, IsCodeValue, IsFieldConstant}
-use Rattle.class_write.specs.ClassValues.{IsFieldValue, IsMethodValue, IsClassValue}
-use Rattle.class_write.proofs.SpelledLists.{all_front, all_back, all_both, all_two, all_put}
-use Rattle.class_write.proofs.SpelledPool.{IsRight, pool_is}
-use Rattle.class_write.proofs.SpelledWanted.{HasAll, AllRight, text_right, class_right, type_right, string_right}
-use Rattle.class_write.proofs.SpelledWanted.{pushed_right, op_right, method_utf8}
+use Rattle.class_laws.specs.ClassValues.{IsInsValue, IsVTypeValue, IsFrameValue, IsCodeValue, IsFieldConstant}
+use Rattle.class_laws.specs.ClassValues.{IsFieldValue, IsMethodValue, IsClassValue}
+use Rattle.class_laws.proofs.SpelledLists.{all_front, all_back, all_both, all_two, all_put}
+use Rattle.class_laws.proofs.SpelledPool.{IsRight, pool_is}
+use Rattle.class_laws.proofs.SpelledWanted.{HasAll, AllRight, text_right, class_right, type_right, string_right}
+use Rattle.class_laws.proofs.SpelledWanted.{pushed_right, op_right, method_utf8}
 use Rattle.class_model.proofs.BackCode.{both_passed}
 use Rattle.class_model.proofs.BackEntries.{field_utf8}
 use Rattle.class_write.proofs.Fitting.{count_ok}

@@ -11,8 +11,8 @@ use Rattle.class_model.specs.CanonicalClass.{pool_of}
 use Rattle.class_model.specs.WriteLimits.{limits}
 use Rattle.class_model.specs.WellFormed.{CountsFit}
 use Rattle.class_model.proofs.FormedClass.{well_formed}
-use Rattle.class_write.specs.ClassValues.{IsClassValue}
-use Rattle.class_write.specs.SpellingLaws.{SomeIsWritable}
+use Rattle.class_laws.specs.ClassValues.{IsClassValue}
+use Rattle.class_laws.specs.SpellingLaws.{SomeIsWritable}
 
 within : limits (pool_of class_t) class_t ≡ Ok tt
 unfolding lib.Utf8.encode chars units_of unit_bytes mutf8 base_text field_text result_text method_text words_of

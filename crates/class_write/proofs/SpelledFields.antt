@@ -28,10 +28,10 @@ use Rattle.class_model.specs.bodies.PoolEntries.{entries_of, Has}
 use Rattle.class_model.specs.WellFormed.{AreMeant, FitsField, IsGoodField}
 use Rattle.class_model.proofs.BackPool.{at_index, index_fits}
 use Rattle.class_model.proofs.BackEntries.{field_utf8}
-use Rattle.class_write.specs.ClassValues.{IsFieldValue}
-use Rattle.class_write.proofs.SpelledLists.{all_front, all_back, all_both}
-use Rattle.class_write.proofs.SpelledPool.{units_there, text_there}
-use Rattle.class_write.proofs.SpelledWanted.{HasAll}
+use Rattle.class_laws.specs.ClassValues.{IsFieldValue}
+use Rattle.class_laws.proofs.SpelledLists.{all_front, all_back, all_both}
+use Rattle.class_laws.proofs.SpelledPool.{units_there, text_there}
+use Rattle.class_laws.proofs.SpelledWanted.{HasAll}
 use Rattle.class_write.proofs.SpelledAttributes.{value_units, named_left, named_this, named_other, attribute_is}
 use Rattle.class_write.proofs.SpelledAttributes.{marks_other, synthetic_is, deprecated_is, marks_are, marks_few}
 use Rattle.class_write.proofs.SpelledAttributes.{mark_behind}

@@ -39,11 +39,11 @@ use Rattle.class_model.specs.WriteLimits.{fits_u2, first_of, text_fits, branches
 use Rattle.class_model.specs.WriteLimits.{body_tables_fit, method_tables_fit, tables_fit, body_length_fits}
 use Rattle.class_model.specs.WriteLimits.{contents_fit, body_fits, limits}
 use Rattle.class_model.proofs.BackPool.{index_fits}
-use Rattle.class_write.specs.ClassValues.{IsCodeValue, IsFieldValue, IsMethodValue}
-use Rattle.class_write.specs.SpellingLaws.{IsWritable, LayoutIsSpelling}
-use Rattle.class_write.proofs.SpelledLists.{all_front, all_back, all_both, all_each}
-use Rattle.class_write.proofs.SpelledPool.{units_there}
-use Rattle.class_write.proofs.SpelledWanted.{HasAll, AllRight}
+use Rattle.class_laws.specs.ClassValues.{IsCodeValue, IsFieldValue, IsMethodValue}
+use Rattle.class_laws.specs.SpellingLaws.{IsWritable, LayoutIsSpelling}
+use Rattle.class_laws.proofs.SpelledLists.{all_front, all_back, all_both, all_each}
+use Rattle.class_laws.proofs.SpelledPool.{units_there}
+use Rattle.class_laws.proofs.SpelledWanted.{HasAll, AllRight}
 use Rattle.class_write.proofs.SpelledConstants.{pool_right, pool_wanted, all_passed, constant_pool_is}
 use Rattle.class_write.proofs.SpelledAttributes.{source_units, named_left, named_this, named_other, attribute_is}
 use Rattle.class_write.proofs.SpelledAttributes.{marks_other, synthetic_is, deprecated_is, marks_are, marks_few}

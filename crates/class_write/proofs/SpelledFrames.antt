@@ -40,13 +40,13 @@ use Rattle.class_model.specs.bodies.PoolEntries.{entries_of, Has}
 use Rattle.class_model.specs.WellFormed.{IsClassName, IsGoodType, IsGoodFrame, Ascend}
 use Rattle.class_model.proofs.BackPool.{index_fits}
 use Rattle.class_model.proofs.BackCode.{infos}
-use Rattle.class_write.specs.ClassValues.{IsVTypeValue, IsFrameValue}
-use Rattle.class_write.proofs.SpelledLists.{all_front, all_back, all_two, all_each}
-use Rattle.class_write.proofs.SpelledPool.{IsTypeNamed, type_there}
-use Rattle.class_write.proofs.SpelledWanted.{HasAll}
+use Rattle.class_laws.specs.ClassValues.{IsVTypeValue, IsFrameValue}
+use Rattle.class_laws.proofs.SpelledLists.{all_front, all_back, all_two, all_each}
+use Rattle.class_laws.proofs.SpelledPool.{IsTypeNamed, type_there}
+use Rattle.class_laws.proofs.SpelledWanted.{HasAll}
 use Rattle.class_write.proofs.SpelledConstants.{types_of_form}
 use Rattle.class_write.proofs.SpelledInstructions.{IsWritten, begins_at, place_low, ascends}
-use Rattle.frame_types.proofs.BackGood.{fewer_than_words, tail_pairs}
+use Rattle.class_laws.proofs.FrameWords.{fewer_than_words, tail_pairs}
 
 -- ---- types that are the same
 

@@ -32,10 +32,10 @@ use Rattle.class_model.proofs.BackSizes.{info_is_there, size_is}
 use Rattle.class_model.proofs.BackPlaces.{begins, begins_are, begins_long, place_is, within}
 use Rattle.class_model.proofs.BackCode.{op_in, infos}
 use Rattle.class_model.proofs.BackRead.{code_back, meant_back}
-use Rattle.class_write.specs.ClassValues.{IsInsValue, IsCodeValue}
-use Rattle.class_write.proofs.SpelledLists.{all_front, all_back, all_each}
-use Rattle.class_write.proofs.SpelledPool.{have_units, class_units_there}
-use Rattle.class_write.proofs.SpelledWanted.{HasAll, AllRight}
+use Rattle.class_laws.specs.ClassValues.{IsInsValue, IsCodeValue}
+use Rattle.class_laws.proofs.SpelledLists.{all_front, all_back, all_each}
+use Rattle.class_laws.proofs.SpelledPool.{have_units, class_units_there}
+use Rattle.class_laws.proofs.SpelledWanted.{HasAll, AllRight}
 use Rattle.class_write.proofs.SpelledBytes.{code_is_bytes}
 use Rattle.class_write.proofs.SpelledLines.{lines_back}
 

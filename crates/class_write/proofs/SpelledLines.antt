@@ -5,7 +5,7 @@ use Rattle.std.specs.Prelude.{codes, AllPairs, IfSome, IsSome, fold, slice_index
 use Rattle.std.specs.List.{AllByRecursion}
 use Rattle.std.proofs.lemmas.Bool.{ne_eqb, eqb-true, le-leb, lt-leb}
 use Rattle.std.proofs.lemmas.List.{append-nil, length-append}
-use Rattle.class_read.proofs.LineTable.{number}
+use Rattle.class_laws.proofs.RowLine.{number}
 use Rattle.class_model.specs.declared.constant.PoolConstant.{PoolConstant}
 use Rattle.class_model.specs.declared.code.Ins.{Ins}
 use Rattle.class_model.specs.declared.op.Op.{Op}
@@ -19,7 +19,7 @@ use Rattle.class_model.specs.WellFormed.{LinesGoOn}
 use Rattle.class_model.proofs.BackSizes.{info_is_there, size_is}
 use Rattle.class_model.proofs.BackPlaces.{begins}
 use Rattle.class_model.proofs.BackCode.{op_in}
-use Rattle.class_write.proofs.SpelledLists.{all_both}
+use Rattle.class_laws.proofs.SpelledLists.{all_both}
 
 -- it lies at or before an offset
 abbrev IsBefore : Option LineNumber → ℕ → Type 0

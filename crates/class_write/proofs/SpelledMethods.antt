@@ -26,9 +26,9 @@ use Rattle.class_model.specs.CanonicalClass.{first_locals, code_contents, body_a
 use Rattle.class_model.specs.CanonicalClass.{method_raw}
 use Rattle.class_model.specs.bodies.PoolEntries.{entries_of, Has}
 use Rattle.class_model.specs.WellFormed.{IsClassName, IsGoodMethod}
-use Rattle.class_write.specs.ClassValues.{IsMethodValue}
-use Rattle.class_write.proofs.SpelledLists.{all_front, all_back, all_both}
-use Rattle.class_write.proofs.SpelledWanted.{HasAll, method_utf8}
+use Rattle.class_laws.specs.ClassValues.{IsMethodValue}
+use Rattle.class_laws.proofs.SpelledLists.{all_front, all_back, all_both}
+use Rattle.class_laws.proofs.SpelledWanted.{HasAll, method_utf8}
 use Rattle.class_write.proofs.SpelledAttributes.{code_units, exceptions_units, named_left, named_right, named_this}
 use Rattle.class_write.proofs.SpelledAttributes.{named_other, few, attribute_is, marks_other, synthetic_is}
 use Rattle.class_write.proofs.SpelledAttributes.{deprecated_is, marks_are, marks_few, mark_behind}

@@ -5,10 +5,10 @@ use Rattle.class_model.specs.declared.limit.WriteLimit.{WriteLimit}
 use Rattle.class_model.specs.ClassFile.{File}
 use Rattle.class_model.specs.CanonicalClass.{pool_of, layout}
 use Rattle.class_model.specs.WriteLimits.{limits, spelled_within, class_written}
-use Rattle.class_read.proofs.ClassLaw.{class_read-found, class_read-only, ok_class}
-use Rattle.class_write.specs.SpellingLaws.{WrittenIsSpelling, WrittenIsRead, ReadIsRewritten, ReadIsReadAgain}
+use Rattle.class_laws.proofs.ClassLaw.{class_read-found, class_read-only, ok_class}
+use Rattle.class_laws.specs.SpellingLaws.{WrittenIsSpelling, WrittenIsRead, ReadIsRewritten, ReadIsReadAgain}
 use Rattle.class_write.proofs.SpelledFile.{layout_spells}
-use Rattle.class_write.proofs.FormedFile.{spelled_writable}
+use Rattle.class_laws.proofs.FormedFile.{spelled_writable}
 
 -- what is written within the limits is the layout
 within : (r : Result (Unit {0}) WriteLimit) (c : Class) (bytes : List ℕ) → spelled_within r c ≡ Ok bytes

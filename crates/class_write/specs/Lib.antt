@@ -1,3 +1,1 @@
-pub mod ClassValues
-pub mod SpellingLaws
 pub mod bodies

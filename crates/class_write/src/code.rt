@@ -8,7 +8,7 @@ ghost use Rattle.class_model.specs.Frames.{stack_map_table};
 ghost use Rattle.class_model.specs.LineNumbers.{line_number};
 ghost use Rattle.class_model.specs.CanonicalFrames.{rows};
 ghost use Rattle.class_model.specs.CanonicalClass as canonical;
-ghost use Rattle.frame_types.specs.Writing.{IsOffset};
+ghost use Rattle.frame_write.specs.Writing.{IsOffset};
 
 use crate::indices::class_index;
 use crate::lines::line_count;

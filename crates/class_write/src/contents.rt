@@ -9,7 +9,7 @@ ghost use Rattle.class_model.specs.CanonicalFrames.{rows};
 ghost use Rattle.class_model.specs.CanonicalClass as canonical;
 ghost use Rattle.class_model.specs.WellFormed.{IsGoodCode};
 ghost use Rattle.class_model.specs.declared.frame.FrameAt.{FrameAt};
-ghost use Rattle.frame_types.specs.Writing.{IsOffset, HasShortLists};
+ghost use Rattle.frame_write.specs.Writing.{IsOffset, HasShortLists};
 ghost use Rattle.class_write.specs.bodies.Placing.{placed_code};
 ghost use Rattle.class_write.specs.bodies.Writing.{attribute_length, FitsTables, items_text, contents_due};
 
@@ -19,7 +19,7 @@ use crate::lines::has_rows;
 use crate::placing::PlacedCode;
 use class_model::{Code, Frame, WriteLimit};
 use constant_table::{ConstantTable, put, put_u2, put_u4};
-use frame_types::write_frames_with;
+use frame_write::write_frames_with;
 use jv_base::{Bytes, M, Or};
 use std::alloc::Global;
 

@@ -1,6 +1,6 @@
 // What holds of classes and the bytes that they are written as.
-ghost use Rattle.class_write.specs.SpellingLaws.{LayoutIsSpelling, WrittenIsSpelling, WrittenIsRead, ReadIsRewritten};
-ghost use Rattle.class_write.specs.SpellingLaws.{SomeIsWritable, SpelledIsWritable, ReadIsReadAgain};
+ghost use Rattle.class_laws.specs.SpellingLaws.{LayoutIsSpelling, WrittenIsSpelling, WrittenIsRead, ReadIsRewritten};
+ghost use Rattle.class_laws.specs.SpellingLaws.{SomeIsWritable, SpelledIsWritable, ReadIsReadAgain};
 
 /// The canonical layout of a class spells the class (JVMS 4.1): of each class that is well formed,
 /// whose counts of invokeinterface fit a byte, and that passes no limit of the format (JVMS 4.11).

@@ -4,9 +4,9 @@ ghost use Rattle.jv_base.specs.Outcome.{IsDue};
 ghost use Rattle.class_write.specs.bodies.Placing.{code_due, body_due, bodies_due, IsWritable, HasWritable};
 
 use class_model::{Code, Method, WriteLimit};
+use code_write::encode_with;
 use constant_table::ConstantTable;
 use jv_base::{Bytes, Items, Or};
-use jv_ops::encode_with;
 use std::alloc::Global;
 
 /// A code in its canonical spelling.

@@ -8,14 +8,14 @@ ghost use Rattle.class_model.specs.CanonicalFrames as written;
 ghost use Rattle.class_model.specs.CanonicalClass as canonical;
 ghost use Rattle.class_model.specs.declared.code.Ins.{Ins};
 ghost use Rattle.class_model.specs.declared.code.Handler.{Handler};
-ghost use Rattle.frame_types.specs.Forms.{form_of_row};
+ghost use Rattle.frame_write.specs.Forms.{form_of_row};
 ghost use Rattle.class_write.specs.bodies.Pushes.{pushes_of_body};
 
 use crate::frames::first_frame;
 use crate::lines::has_rows;
 use class_model::{Class, Code, Constant, Field, Frames, Handler, Ins, Method, Op, VType};
 use constant_table::ConstantTable;
-use frame_types::{FrameForm, frame_form};
+use frame_write::{FrameForm, frame_form};
 use jv_base::{Items, M, Name, Text, Units, field_text, method_text};
 use std::alloc::Global;
 

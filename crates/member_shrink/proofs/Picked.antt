@@ -1,12 +1,11 @@
 -- Elements that pass a test of their number and themselves, and what becomes of each: step by step, and what holds of
 -- them.
-use Rattle.std.proofs.Common.{◌≡◌, ℕ, ◌+◌, ◌<◌, Bool, true, false, cond, List, [], ◌∷◌, ◌++◌, length, map, Option, Some}
-use Rattle.std.proofs.Common.{None, ap, subst, ◌∙◌, append_assoc, arith}
-use Rattle.std.specs.Option.{IfSome, option_map}
+use Rattle.std.proofs.Common.{◌≡◌, ℕ, ◌+◌, ◌<◌, Bool, true, false, cond, List, [], ◌∷◌, ◌++◌, length, map}
+use Rattle.std.proofs.Common.{ap, subst, ◌∙◌, append_assoc, arith}
 use Rattle.std.specs.List.{AllByRecursion, AllPairs, filter, enumerate_from}
-use Rattle.std.proofs.lemmas.List.{length-map, get_or-map}
 use Rattle.std.proofs.lemmas.List.FromFn.{length-enumerate_from, get_or-enumerate_from}
 use Rattle.std.proofs.lemmas.List.Kept.{AllPairs-filter}
+use Rattle.class_laws.proofs.Mapped.{pairs_mapped}
 
 -- one element more was looked at
 pub by_test : {A B : Type 0} (f : A → B) (passes : Bool) (x : A) (rest : List A) (kept more : List B)
@@ -14,16 +13,6 @@ pub by_test : {A B : Type 0} (f : A → B) (passes : Bool) (x : A) (rest : List 
     → more ++ map f rest ≡ kept ++ map f (cond passes (x ∷ rest) rest)
 by_test f true x rest kept more is = ap (λ (t : List _). t ++ map f rest) is ∙ append_assoc kept (f x ∷ []) (map f rest)
 by_test f false x rest kept more is = ap (λ (t : List _). t ++ map f rest) is
-
-module _ {A B : Type 0} (P : A → Type 0) (Q : B → Type 0) where
-  pub all_mapped : (f : A → B) → ((x : A) → P x → Q (f x)) → (xs : List A) → AllByRecursion P xs
-      → AllByRecursion Q (map f xs)
-  all_mapped f each [] h = tt
-  all_mapped f each (x ∷ xs) h = (each x h.0, all_mapped f each xs h.1)
-
-  pub some_mapped : (f : A → B) → ((x : A) → P x → Q (f x)) → (o : Option A) → IfSome o P → IfSome (option_map f o) Q
-  some_mapped f each None h = tt
-  some_mapped f each (Some x) h = each x h
 
 module _ {A B : Type 0} (P : A → Type 0) (Q : B → Type 0) (passes : ℕ × A → Bool) (f : ℕ × A → B)
     (each : (e : ℕ × A) → P e.1 → Q (f e)) where
@@ -37,14 +26,6 @@ module _ {A B : Type 0} (P : A → Type 0) (Q : B → Type 0) (passes : ℕ × A
   all_picked first [] h = tt
   all_picked first (x ∷ xs) h = one_picked (passes (first, x)) (first, x)
       (filter passes (enumerate_from (first + 1) xs)) h.0 (all_picked (first + 1) xs h.1)
-
-pub pairs_mapped : {A B : Type 0} (R : B → B → Type 0) (f : A → B) (xs : List A)
-    → AllPairs (λ (x y : A). R (f x) (f y)) xs → AllPairs R (map f xs)
-pairs_mapped R f [] h i j d lt within = absurd (omega (arith, within))
-pairs_mapped R f (x ∷ xs) h i j d lt within =
-    let in_j : j < length (x ∷ xs) = subst (λ n. j < n) (length-map (x ∷ xs) f) within in
-    let in_i : i < length (x ∷ xs) = omega (arith, lt, in_j) in
-    rw (get_or-map f (x ∷ xs) i x d in_i) (rw (get_or-map f (x ∷ xs) j x d in_j) (h i j x lt in_j))
 
 pairs_numbered : {A : Type 0} (R : A → A → Type 0) (first : ℕ) (xs : List A) → AllPairs R xs
     → AllPairs (λ (x y : ℕ × A). R x.1 y.1) (enumerate_from first xs)

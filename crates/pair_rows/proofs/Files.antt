@@ -26,8 +26,8 @@ use Rattle.class_model.specs.ReadingCodeAttribute.{read_code, read_handlers}
 use Rattle.class_model.specs.ReadingFrames.{read_frame, read_frames, read_frames_behind, read_row, read_type}
 use Rattle.class_model.specs.ReadingMembers.{read_field_info, read_fields, read_method_info, read_methods}
 use Rattle.class_model.specs.ReadingPool.{all_name_right, read_entry, read_pool, slot, slots}
-use Rattle.class_read.proofs.ClassLaw.{class_read-found}
-use Rattle.class_read.specs.Laws.{AreBytes}
+use Rattle.class_laws.proofs.ClassLaw.{class_read-found}
+use Rattle.class_laws.specs.ReadingLaws.{AreBytes}
 use Rattle.pair_rows.specs.Examples.{b_hidden, b_longer, b_moved, cut_file, file_of_a, file_of_a_moved, file_of_b}
 use Rattle.pair_rows.specs.Examples.{file_of_b_hidden, file_of_b_longer, file_of_b_moved, file_of_old_a, file_of_old_b}
 use Rattle.pair_rows.specs.Examples.{file_of_orphan, new_a, new_b, old_a, old_b, orphan}

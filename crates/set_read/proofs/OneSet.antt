@@ -16,7 +16,7 @@ use Rattle.class_pool.specs.Supertypes.{NoCycle}
 use Rattle.class_pool.specs.declared.fault.NamedClass.{NamedClass}
 use Rattle.class_pool.specs.declared.fault.PoolFault.{PoolFault}
 use Rattle.class_pool.specs.declared.fault.PoolKind.TheVariants.{Cycle}
-use Rattle.class_read.proofs.ClassLaw.{class_read-only, one_class}
+use Rattle.class_laws.proofs.ClassLaw.{class_read-only, one_class}
 use Rattle.link_check.specs.Profile.{links_checked}
 use Rattle.link_check.specs.declared.fault.ProfileFault.{ProfileFault}
 use Rattle.report_text.specs.Spelled.{class_text, member_texts}

@@ -6,7 +6,7 @@ use Rattle.jv_base.specs.declared.outcome.Or.{Or}
 use Rattle.jv_base.specs.declared.outcome.Or.TheVariants as or
 use Rattle.tree_io.specs.declared.file_at.FileAt.{FileAt}
 use Rattle.class_model.specs.declared.class.Class.{Class}
-use Rattle.class_write.specs.SpellingLaws.{IsWritable}
+use Rattle.class_laws.specs.SpellingLaws.{IsWritable}
 use Rattle.class_pool.specs.Supertypes.{NoCycle}
 use Rattle.class_pool.specs.declared.fault.NamedClass.{NamedClass}
 use Rattle.set_read.specs.Accepted.{AreRead, ReadsClasses}

@@ -14,8 +14,8 @@ use Rattle.class_model.specs.Flags.{is_interface}
 use Rattle.class_model.specs.Members.{IsField}
 use Rattle.class_pool.specs.Faults.{classes_of}
 use Rattle.class_pool.specs.declared.fault.NamedClass.{NamedClass}
-use Rattle.class_write.specs.SpellingLaws.{IsWritable}
-use Rattle.class_write.proofs.FormedFile.{spelled_writable}
+use Rattle.class_laws.specs.SpellingLaws.{IsWritable}
+use Rattle.class_laws.proofs.FormedFile.{spelled_writable}
 use Rattle.link_check.specs.Profile.{all_kinds, declaration_kinds, fault_at, faults_of, kinds_of_class, kinds_of_field}
 use Rattle.link_check.specs.Profile.{kinds_of_method}
 use Rattle.link_check.specs.Profile.{left_out_at, links_checked, of_left, unless}

@@ -2,7 +2,7 @@
 ghost use Rattle.std.specs.Prelude.{◌≡◌, ◌≤◌, ◌<◌, IfOk, Ok, map, length};
 ghost use Rattle.std.specs.List.{AllByRecursion, sum_by};
 ghost use Rattle.tree_io.specs.Below.{IsAscending};
-ghost use Rattle.class_write.specs.SpellingLaws.{IsWritable};
+ghost use Rattle.class_laws.specs.SpellingLaws.{IsWritable};
 ghost use Rattle.class_pool.specs.Count.{item_count};
 ghost use Rattle.class_pool.specs.Faults.{Ascends, classes_of};
 ghost use Rattle.link_check.specs.Profile.{links_checked};

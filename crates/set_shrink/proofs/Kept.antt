@@ -6,7 +6,7 @@ use Rattle.std.specs.Str.{IsUtf8}
 use Rattle.attribute_filter.specs.Filtered.{filtered}
 use Rattle.attribute_filter.specs.declared.filter.AttributeFilter.{AttributeFilter}
 use Rattle.class_model.specs.declared.class.Class.{Class}
-use Rattle.class_write.specs.SpellingLaws.{IsWritable}
+use Rattle.class_laws.specs.SpellingLaws.{IsWritable}
 use Rattle.set_shrink.specs.Order.{in_order}
 use Rattle.set_shrink.proofs.Ordered.{each_in_order}
 use Rattle.set_shrink.proofs.Writable.{filtered_writable}

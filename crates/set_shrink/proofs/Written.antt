@@ -8,7 +8,7 @@ use Rattle.tree_io.specs.declared.file_at.FileAt.{FileAt}
 use Rattle.class_model.specs.WriteLimits.{class_written}
 use Rattle.class_model.specs.declared.class.Class.{Class}
 use Rattle.class_model.specs.declared.limit.WriteLimit.{WriteLimit}
-use Rattle.class_write.specs.SpellingLaws.{IsWritable}
+use Rattle.class_laws.specs.SpellingLaws.{IsWritable}
 use Rattle.set_shrink.specs.ShrunkSet.{AreFilesOf, IsFileOf, Fits, PassLimit}
 use Rattle.set_shrink.specs.bodies.Steps.{Writes, WritesOne}
 

@@ -3,7 +3,7 @@ use Rattle.std.specs.Prelude.{Bool, List, IfSome}
 use Rattle.std.specs.List.{AllByRecursion}
 use Rattle.std.specs.Str.{IsUtf8}
 use Rattle.class_model.specs.declared.class.Class.{Class}
-use Rattle.class_write.specs.SpellingLaws.{IsWritable}
+use Rattle.class_laws.specs.SpellingLaws.{IsWritable}
 use Rattle.attribute_filter.specs.Filtered.{filtered}
 use Rattle.attribute_filter.specs.declared.filter.AttributeFilter.{AttributeFilter}
 use Rattle.member_shrink.specs.Shrunk.{shrunk}

@@ -3,7 +3,7 @@ ghost use Rattle.std.specs.Prelude.{◌≡◌, IfOk, map};
 ghost use Rattle.std.specs.List.{AllByRecursion};
 ghost use Rattle.jv_base.specs.Outcome.{IsDue};
 ghost use Rattle.attribute_filter.specs.Filtered.{filtered};
-ghost use Rattle.class_write.specs.SpellingLaws.{IsWritable};
+ghost use Rattle.class_laws.specs.SpellingLaws.{IsWritable};
 ghost use Rattle.set_shrink.specs.ShrunkSet.{path_of};
 ghost use Rattle.set_shrink.specs.bodies.Steps.{Writes, WritesOne};
 

@@ -4,7 +4,7 @@ ghost use Rattle.std.specs.List.{AllByRecursion};
 ghost use Rattle.attribute_filter.specs.KeptAttributes.{filter_of};
 ghost use Rattle.class_rename.specs.Names.{names_in};
 ghost use Rattle.class_rename.specs.Renamed.{renamed};
-ghost use Rattle.class_write.specs.SpellingLaws.{IsWritable};
+ghost use Rattle.class_laws.specs.SpellingLaws.{IsWritable};
 ghost use Rattle.set_shrink.specs.Order.{in_order};
 ghost use Rattle.set_shrink.specs.bodies.Steps.{WritesNamed};
 

@@ -12,7 +12,7 @@ use Rattle.class_files.specs.Input.{class_paths, files_in, input_due, limited, p
 use Rattle.class_files.specs.declared.input.InputFault.{InputFault}
 use Rattle.class_files.specs.declared.input.InputFault.TheVariants.{TooLong, TooManyClasses, TooManyFiles}
 use Rattle.class_model.specs.declared.class.Class.{Class}
-use Rattle.class_read.specs.Laws.{AreBytes}
+use Rattle.class_laws.specs.ReadingLaws.{AreBytes}
 use Rattle.set_read.specs.Accepted.{IsAccepted, IsFault}
 use Rattle.set_read.specs.declared.fault.SetFault.{SetFault}
 use Rattle.set_read.specs.declared.fault.SetFault.TheVariants as set

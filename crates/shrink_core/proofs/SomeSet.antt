@@ -14,8 +14,8 @@ use Rattle.class_pool.specs.Faults.{IsFirstCycle, classes_of, first_faults}
 use Rattle.class_pool.specs.Supertypes.{NoCycle}
 use Rattle.class_pool.specs.declared.fault.NamedClass.{NamedClass}
 use Rattle.class_pool.specs.declared.fault.PoolFault.{PoolFault}
-use Rattle.class_read.specs.Laws.{AreBytes}
-use Rattle.class_read.proofs.ClassLaw.{class_read-found}
+use Rattle.class_laws.specs.ReadingLaws.{AreBytes}
+use Rattle.class_laws.proofs.ClassLaw.{class_read-found}
 use Rattle.link_check.specs.Profile.{IsPlace, links_checked}
 use Rattle.link_check.specs.declared.fault.ProfileFault.{ProfileFault}
 use Rattle.report_text.specs.Spelled.{class_text, field_text, member_texts, method_text}

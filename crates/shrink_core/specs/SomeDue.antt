@@ -2,7 +2,7 @@
 use Rattle.std.specs.Prelude.{◌≡◌, ℕ, List, Some, Result}
 use Rattle.std.specs.FinMap.{get}
 use Rattle.tree_io.specs.Files.{Files}
-use Rattle.class_read.specs.Laws.{AreBytes}
+use Rattle.class_laws.specs.ReadingLaws.{AreBytes}
 use Rattle.shrink_core.specs.Due.{IsDue}
 use Rattle.shrink_core.specs.declared.refusal.Refusal.{Refusal}
 use Rattle.shrink_core.specs.declared.shrink.Plan.{Plan}

@@ -5,7 +5,7 @@ ghost use Rattle.tree_io.specs.Below.{IsAscending};
 ghost use Rattle.tree_io.specs.Count.{Rose};
 ghost use Rattle.tree_io.specs.Runs.{AddsCalls, Sees};
 ghost use Rattle.class_files.specs.Input.{total};
-ghost use Rattle.class_write.specs.SpellingLaws.{IsWritable};
+ghost use Rattle.class_laws.specs.SpellingLaws.{IsWritable};
 ghost use Rattle.pair_laws.specs.NamedForm.Laws.{IsLinked};
 ghost use Rattle.shrink_core.specs.Due.{HasBytes, HasConfig, HasSet, IsEmpty, RefusesConfig, RefusesInput};
 ghost use Rattle.shrink_core.specs.Due.{RefusesOutput};

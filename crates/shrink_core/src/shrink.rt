@@ -6,7 +6,7 @@ ghost use Rattle.tree_io.specs.Runs.{AddsCalls, Sees};
 ghost use Rattle.mark_core.specs.Valid.{Valid};
 ghost use Rattle.jv_base.specs.Outcome.{IsDue};
 ghost use Rattle.tree_io.specs.declared.file_at.FileAt.{FileAt as FileValue};
-ghost use Rattle.class_write.specs.SpellingLaws.{IsWritable};
+ghost use Rattle.class_laws.specs.SpellingLaws.{IsWritable};
 ghost use Rattle.list_texts.specs.declared.limit.TooLong.{TooLong as LongText};
 ghost use Rattle.pair_laws.specs.NamedForm.Laws.{IsLinked};
 ghost use Rattle.set_shrink.specs.Texts.{texts_beside};

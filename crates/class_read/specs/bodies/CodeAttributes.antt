@@ -14,7 +14,7 @@ use Rattle.class_model.specs.ReadingCodeAttribute.{known_of_code, read_handlers,
 use Rattle.class_read.specs.bodies.Lines.{lined}
 use Rattle.class_read.specs.declared.code_attributes.CodeAttribute.{CodeAttribute}
 use Rattle.class_read.specs.declared.code_attributes.CodeAttribute.TheVariants as known
-use Rattle.frame_types.specs.declared.reader.FrameReader.{FrameReader}
+use Rattle.frame_read.specs.declared.reader.FrameReader.{FrameReader}
 
 -- ---- attributes
 

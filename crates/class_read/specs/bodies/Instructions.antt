@@ -7,9 +7,9 @@ use Rattle.format_reading.specs.declared.fault.FormatKind.TheVariants as bad
 use Rattle.class_model.specs.declared.pool.Entry.{Entry}
 use Rattle.class_model.specs.InstructionStructure.{starts_of}
 use Rattle.class_model.specs.ReadingCode.{CodeRead, instructions, has_left_out, left_out_kind, until_end, ops_of}
-use Rattle.jv_ops.specs.declared.reading.decoding.Decoded.{Decoded}
-use Rattle.jv_ops.specs.declared.fault.CodeFault.{CodeFault}
-use Rattle.jv_ops.specs.declared.fault.CodeFault.TheVariants as code
+use Rattle.code_read.specs.declared.decoding.Decoded.{Decoded}
+use Rattle.code_read.specs.declared.fault.CodeFault.{CodeFault}
+use Rattle.code_read.specs.declared.fault.CodeFault.TheVariants as code
 use Rattle.class_read.specs.declared.instructions.Instructions.{Instructions}
 use Rattle.class_read.specs.declared.instructions.Instructions.TheVariants.{All, LeftOut}
 

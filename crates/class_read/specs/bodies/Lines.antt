@@ -1,6 +1,6 @@
 -- The line of each instruction (JVMS 4.7.12; only the proof of read_class needs it).
 use Rattle.std.specs.Prelude.{ℕ, ◌+◌, List, [], ◌∷◌, fold, nat_eq, nat_lt, Option, Some, None, if◌then◌else◌}
-use Rattle.frame_types.specs.bodies.Numbers.{first_of_two}
+use Rattle.frame_read.specs.bodies.Numbers.{first_of_two}
 use Rattle.class_model.specs.declared.op.Op.{Op}
 use Rattle.class_model.specs.declared.code.Ins.{Ins}
 use Rattle.class_model.specs.LineNumbers.{LineNumber, line_at}

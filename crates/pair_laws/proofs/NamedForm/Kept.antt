@@ -5,7 +5,7 @@ use Rattle.std.specs.List.{AllByRecursion, cons_option, flat_map, position}
 use Rattle.std.specs.Option.{option_map, option_map_or}
 use Rattle.std.proofs.lemmas.List.Quantifiers.{position-Some}
 use Rattle.std.proofs.lemmas.Option.{slice_get-get_or}
-use Rattle.class_write.proofs.SpelledLists.{all_two}
+use Rattle.class_laws.proofs.SpelledLists.{all_two}
 use Rattle.jv_base.specs.Names.{is_text}
 use Rattle.jv_base.proofs.Equality.{text_Decides}
 use Rattle.jv_base.specs.declared.types.Base.{Base}

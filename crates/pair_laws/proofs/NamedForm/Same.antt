@@ -10,7 +10,7 @@ use Rattle.class_model.specs.declared.class.Field.{Field}
 use Rattle.class_model.specs.declared.class.Method.{Method}
 use Rattle.class_rename.specs.Names.{same_names}
 use Rattle.class_rename.specs.Renamed.{renamed}
-use Rattle.class_write.specs.SpellingLaws.{IsWritable}
+use Rattle.class_laws.specs.SpellingLaws.{IsWritable}
 use Rattle.pair_laws.specs.RenamedForm.Form.{IsKnownMethodType, IsKnownType, KeepsForm, TellsApart}
 use Rattle.pair_laws.proofs.RenamedForm.Apart.{kept_apart}
 use Rattle.pair_laws.proofs.RenamedForm.Formed.{counts_fit, formed}

@@ -12,10 +12,10 @@ use Rattle.class_pool.specs.declared.fault.PoolFault.{PoolFault}
 use Rattle.class_pool.proofs.FaultLaws.{names_differ}
 use Rattle.class_rename.specs.Names.{Names, same_names}
 use Rattle.class_rename.specs.Renamed.{renamed}
-use Rattle.class_write.specs.SpellingLaws.{IsWritable}
+use Rattle.class_laws.specs.SpellingLaws.{IsWritable}
 use Rattle.keep_rules.specs.declared.rules.Rules.{Rules}
 use Rattle.member_shrink.specs.Shrunk.{is_marked, shrunk}
-use Rattle.member_shrink.proofs.Picked.{all_mapped}
+use Rattle.class_laws.proofs.Mapped.{all_mapped}
 use Rattle.fresh_names.specs.Given.{class_names, names_given}
 use Rattle.fresh_names.specs.declared.taken.TakenNames.{TakenNames}
 use Rattle.fresh_names.proofs.Tables.{classes_differ}

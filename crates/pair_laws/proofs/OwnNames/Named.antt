@@ -23,7 +23,7 @@ use Rattle.fresh_names.specs.declared.taken.Named.TheVariants as named
 use Rattle.fresh_names.proofs.Reserved.{taken_parts}
 use Rattle.keep_rules.specs.declared.rules.Rules.{Rules}
 use Rattle.member_shrink.specs.Shrunk.{is_marked, shrunk}
-use Rattle.member_shrink.proofs.Picked.{all_mapped}
+use Rattle.class_laws.proofs.Mapped.{all_mapped}
 use Rattle.pair_laws.proofs.NamedForm.Kept.{NoneJava, no_name, none_java}
 use Rattle.pair_laws.proofs.NamedForm.Picked.{all_picked_at}
 use Rattle.pair_laws.proofs.NamedForm.Same.{same_form}

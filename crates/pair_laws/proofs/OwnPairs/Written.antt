@@ -13,7 +13,7 @@ use Rattle.tree_io.specs.declared.file_at.FileAt.{FileAt}
 use Rattle.mark_core.specs.Marks.{Closed, set_of}
 use Rattle.class_model.specs.ClassFile.{File}
 use Rattle.class_model.specs.declared.class.Class.{Class}
-use Rattle.class_write.specs.SpellingLaws.{IsWritable}
+use Rattle.class_laws.specs.SpellingLaws.{IsWritable}
 use Rattle.class_write.proofs.SpellingLaw.{written_spells}
 use Rattle.keep_rules.specs.declared.rules.Rules.{Rules}
 use Rattle.attribute_filter.specs.Filtered.{filtered}

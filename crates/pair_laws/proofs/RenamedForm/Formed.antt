@@ -42,7 +42,7 @@ use Rattle.class_rename.specs.Renamed.{renamed, renamed_base, renamed_code, rena
 use Rattle.class_rename.specs.Renamed.{renamed_field_text, renamed_frame, renamed_handler, renamed_ins, renamed_method}
 use Rattle.class_rename.specs.Renamed.{renamed_method_ref, renamed_method_text, renamed_method_type, renamed_op}
 use Rattle.class_rename.specs.Renamed.{renamed_type, renamed_vtype}
-use Rattle.member_shrink.proofs.Picked.{all_mapped, some_mapped, pairs_mapped}
+use Rattle.class_laws.proofs.Mapped.{all_mapped, some_mapped, pairs_mapped}
 use Rattle.pair_laws.specs.RenamedForm.Form.{KeepsApart, KeepsForm}
 use Rattle.pair_laws.proofs.RenamedForm.Spelled.{field_text_is, method_text_is, method_type_spelled, one_method_type}
 use Rattle.pair_laws.proofs.RenamedForm.Spelled.{arguments_stay, type_spelled}

@@ -17,7 +17,7 @@ use Rattle.jv_base.proofs.MethodLaw.{read_method-only}
 use Rattle.class_rename.specs.Names.{Names}
 use Rattle.class_rename.specs.Renamed.{field_text_of, method_text_of, renamed_base, renamed_field_text}
 use Rattle.class_rename.specs.Renamed.{renamed_method_text, renamed_method_type, renamed_type}
-use Rattle.member_shrink.proofs.Picked.{all_mapped, some_mapped}
+use Rattle.class_laws.proofs.Mapped.{all_mapped, some_mapped}
 
 -- a text is the descriptor of one type
 pub one_type : (ty other : FieldType) → IsFieldType ty → IsFieldType other → field_text ty ≡ field_text other

@@ -24,11 +24,11 @@ use Rattle.class_model.specs.declared.op.MemberRef.{MemberRef}
 use Rattle.class_model.specs.declared.op.Op.{Op}
 use Rattle.class_model.specs.declared.op.Op.TheVariants as op
 use Rattle.class_model.proofs.BackEntries.{field_utf8}
-use Rattle.class_write.specs.ClassValues.{IsClassValue, IsCodeValue, IsFieldTypeValue, IsFieldValue, IsFrameValue}
-use Rattle.class_write.specs.ClassValues.{IsInsValue, IsMethodTypeValue, IsMethodValue, IsPushValue, IsVTypeValue}
-use Rattle.class_write.proofs.FormedTexts.{field_value, method_value}
-use Rattle.class_write.proofs.SpelledWanted.{method_utf8}
-use Rattle.member_shrink.proofs.Picked.{all_mapped, some_mapped}
+use Rattle.class_laws.specs.ClassValues.{IsClassValue, IsCodeValue, IsFieldTypeValue, IsFieldValue, IsFrameValue}
+use Rattle.class_laws.specs.ClassValues.{IsInsValue, IsMethodTypeValue, IsMethodValue, IsPushValue, IsVTypeValue}
+use Rattle.class_laws.proofs.FormedTexts.{field_value, method_value}
+use Rattle.class_laws.proofs.SpelledWanted.{method_utf8}
+use Rattle.class_laws.proofs.Mapped.{all_mapped, some_mapped}
 use Rattle.class_rename.specs.Names.{Names}
 use Rattle.class_rename.specs.Renamed.{renamed, renamed_base, renamed_code, renamed_field, renamed_field_ref}
 use Rattle.class_rename.specs.Renamed.{renamed_field_text, renamed_frame, renamed_ins, renamed_method}

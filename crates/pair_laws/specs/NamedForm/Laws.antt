@@ -4,7 +4,7 @@ use Rattle.std.specs.Prelude.{◌≡◌, Bool, List, IsPermutation, Ok}
 use Rattle.std.specs.List.{AllByRecursion}
 use Rattle.mark_core.specs.Marks.{Closed, set_of}
 use Rattle.class_model.specs.declared.class.Class.{Class}
-use Rattle.class_write.specs.SpellingLaws.{IsWritable}
+use Rattle.class_laws.specs.SpellingLaws.{IsWritable}
 use Rattle.class_pool.specs.Faults.{Ascends, Builds}
 use Rattle.class_pool.specs.declared.fault.NamedClass.{NamedClass}
 use Rattle.keep_rules.specs.declared.rules.Rules.{Rules}

@@ -2,7 +2,7 @@
 use Rattle.std.specs.Prelude.{◌≡◌, ℕ, Bool, true, false, ◌||◌, List, Some, slice_get, codes, map, not}
 use Rattle.class_model.specs.declared.class.Class.{Class}
 use Rattle.class_rename.specs.Renamed.{renamed}
-use Rattle.class_write.specs.SpellingLaws.{IsWritable}
+use Rattle.class_laws.specs.SpellingLaws.{IsWritable}
 use Rattle.fresh_names.specs.Fresh.{is_taken}
 use Rattle.fresh_names.specs.Given.{class_names, front_of, names_given}
 use Rattle.fresh_names.specs.Reserved.{reserved}

@@ -1,7 +1,7 @@
 -- A set that files are taken as is a taken set, and so is what is left of it.
 use Rattle.std.proofs.Common.{◌≡◌, ◌<◌, ℕ, zero, suc, List, [], ◌∷◌, Some, slice_get, sym, subst}
 use Rattle.std.specs.List.{AllByRecursion}
-use Rattle.class_write.specs.SpellingLaws.{IsWritable}
+use Rattle.class_laws.specs.SpellingLaws.{IsWritable}
 use Rattle.class_model.specs.WellFormed.{IsWellFormed}
 use Rattle.class_model.specs.declared.class.Class.{Class}
 use Rattle.class_pool.specs.Count.{item_count}

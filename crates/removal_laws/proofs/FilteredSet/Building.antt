@@ -35,10 +35,10 @@ use Rattle.link_check.specs.Profile.{body_kinds, code_kinds, declaration_kinds, 
 use Rattle.link_check.specs.Profile.{method_type_kinds, name_kinds, overriding_kinds, unless}
 use Rattle.link_check.specs.declared.fault.ProfileKind.TheVariants.{LeftOutFlag}
 use Rattle.link_check.proofs.Taken.{links_taken}
-use Rattle.member_shrink.proofs.Picked.{all_mapped, pairs_mapped}
+use Rattle.class_laws.proofs.Mapped.{all_mapped, pairs_mapped}
 use Rattle.attribute_filter.specs.Filtered.{field_filtered, filtered, method_filtered}
 use Rattle.attribute_filter.specs.declared.filter.AttributeFilter.{AttributeFilter}
-use Rattle.set_shrink.proofs.Writable.{field_good, method_good, source_by}
+use Rattle.attribute_filter.proofs.FilteredMembers.{field_good, method_good, source_by}
 use Rattle.image_laws.specs.TakenSet.TakenSet.{IsTaken}
 use Rattle.image_laws.proofs.TakenSet.Proper.{names_right}
 use Rattle.removal_laws.proofs.RemovalLinks.Places.{none_broken}

@@ -2,7 +2,7 @@ use Rattle.std.proofs.Common.{arith}
 use Rattle.jv_base.proofs.Due.{due_found, due_only}
 use Rattle.class_model.specs.ClassFile.{File}
 use Rattle.class_model.specs.ReadingClass.{class_read}
-use Rattle.class_read.proofs.ClassLaw.{class_read-found, class_read-only}
+use Rattle.class_laws.proofs.ClassLaw.{class_read-found, class_read-only}
 use Rattle.class_read.proofs.class.read_class.Goals as goal
 
 pub returns : goal.returns

@@ -1,9 +1,9 @@
 use Rattle.std.proofs.Common.{◌≡◌, Err, subst, arith}
 use Rattle.jv_base.specs.Outcome.{FaultIs}
 use Rattle.jv_base.specs.declared.outcome.Or.{Or}
-use Rattle.jv_ops.specs.declared.reading.decoding.Decoded.{Decoded}
-use Rattle.jv_ops.specs.declared.fault.CodeFault.{CodeFault}
-use Rattle.jv_ops.specs.Decoded.{code_decoded}
+use Rattle.code_read.specs.declared.decoding.Decoded.{Decoded}
+use Rattle.code_read.specs.declared.fault.CodeFault.{CodeFault}
+use Rattle.code_read.specs.Decoded.{code_decoded}
 use Rattle.class_read.proofs.PartOfCode.{fault_within, count_within}
 use Rattle.class_read.proofs.instructions.decoded.Goals as goal
 

@@ -1,5 +1,5 @@
 use Rattle.std.proofs.Common.{◌≡◌, ◌-◌, ◌≤◌, ℕ, IfOk, ap, subst, ◌∙◌, arith}
-use Rattle.jv_ops.specs.Decoded.{code_decoded}
+use Rattle.code_read.specs.Decoded.{code_decoded}
 use Rattle.class_read.specs.declared.instructions.Instructions.{Instructions}
 use Rattle.class_read.specs.bodies.Instructions.{in_file, count_of}
 use Rattle.class_read.proofs.PartOfCode.{with_place, part_read, part_ends, taken_behind, due_read, ends_read}

@@ -1,5 +1,5 @@
 use Rattle.std.proofs.Common.{ℕ, List, Option, None, ap, ◌∙◌}
-use Rattle.frame_types.specs.bodies.Numbers.{found}
+use Rattle.frame_read.specs.bodies.Numbers.{found}
 use Rattle.class_read.specs.bodies.Lines.{lined_by, carried}
 use Rattle.class_read.proofs.LineTable.{by_table}
 use Rattle.class_read.proofs.lines.lined.Goals as goal

@@ -3,7 +3,7 @@ use Rattle.std.proofs.lemmas.List.{nil_from_length}
 use Rattle.std.specs.Slice.Iter.{iter_rest}
 use Rattle.std.specs.Vec.Iter.{into_iter_items}
 use Rattle.class_model.specs.declared.code.Ins.{Ins}
-use Rattle.frame_types.specs.bodies.Numbers.{found}
+use Rattle.frame_read.specs.bodies.Numbers.{found}
 use Rattle.class_read.specs.bodies.Lines.{lined_by}
 use Rattle.class_read.proofs.LineTable.{one_more, no_more}
 use Rattle.class_read.proofs.lines.lined_by.Goals as goal

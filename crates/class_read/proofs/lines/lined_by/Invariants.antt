@@ -1,7 +1,7 @@
 use Rattle.std.proofs.Common.{◌≡◌, ◌++◌, length}
 use Rattle.std.specs.Slice.Iter.{iter_rest}
 use Rattle.std.specs.Vec.Iter.{into_iter_items, into_iter_len}
-use Rattle.frame_types.specs.bodies.Numbers.{found}
+use Rattle.frame_read.specs.bodies.Numbers.{found}
 use Rattle.class_read.specs.bodies.Lines.{lined_by}
 use Rattle.class_read.proofs.lines.lined_by.Given as goal
 

@@ -1,6 +1,6 @@
 use Rattle.std.proofs.Common.{◌≡◌, ◌<◌, ℕ, drop, length}
 use Rattle.std.specs.Prelude.{fold}
-use Rattle.frame_types.specs.bodies.Numbers.{found}
+use Rattle.frame_read.specs.bodies.Numbers.{found}
 use Rattle.class_read.specs.bodies.Lines.{last_there, line_there}
 use Rattle.class_read.proofs.lines.lines_there.Given as goal
 

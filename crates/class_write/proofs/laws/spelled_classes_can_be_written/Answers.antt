@@ -1,4 +1,4 @@
-use Rattle.class_write.proofs.FormedFile.{spelled_writable}
+use Rattle.class_laws.proofs.FormedFile.{spelled_writable}
 use Rattle.class_write.proofs.SpellingLaw.{read_again}
 use Rattle.class_write.proofs.laws.spelled_classes_can_be_written.Goals as goal
 

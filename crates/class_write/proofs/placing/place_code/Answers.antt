@@ -1,6 +1,6 @@
 use Rattle.std.proofs.Common.{ℕ, List, [], ◌∷◌, ◌++◌, length, ap, ◌∙◌, arith}
 use Rattle.std.proofs.lemmas.Result.{err_from_is_err_and}
-use Rattle.jv_ops.specs.declared.writing.encoding.Coded.{Coded}
+use Rattle.code_write.specs.declared.encoding.Coded.{Coded}
 use Rattle.class_write.proofs.PlacedCodes.{all_have_indices, coded_is, placed_is, fault_due}
 use Rattle.class_write.proofs.placing.place_code.Goals as goal
 

@@ -4,7 +4,7 @@ use Rattle.class_model.specs.declared.constant.PoolConstant.{PoolConstant}
 use Rattle.class_model.specs.CanonicalPool.{same}
 use Rattle.class_model.specs.CanonicalFrames.{Form, type_constants, types_written}
 use Rattle.std.specs.List.{flat_map}
-use Rattle.frame_types.proofs.ByNumber.{constants_from, constants_more, constants_done, form_at}
+use Rattle.frame_write.proofs.ByNumber.{constants_from, constants_more, constants_done, form_at}
 use Rattle.class_write.proofs.Inserted.{inserted}
 use Rattle.class_write.proofs.pool.add_frames.Goals as goal
 

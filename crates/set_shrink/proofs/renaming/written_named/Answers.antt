@@ -4,7 +4,7 @@ use Rattle.attribute_filter.specs.Filtered.{filtered}
 use Rattle.class_model.specs.declared.class.Class.{Class}
 use Rattle.class_rename.specs.Names.{names_in}
 use Rattle.class_rename.specs.Renamed.{renamed}
-use Rattle.class_write.specs.SpellingLaws.{IsWritable}
+use Rattle.class_laws.specs.SpellingLaws.{IsWritable}
 use Rattle.set_shrink.proofs.Kept.{ordered_writable}
 use Rattle.set_shrink.proofs.renaming.written_named.Goals as goal
 

@@ -1,7 +1,7 @@
 use Rattle.std.proofs.Common.{List, subst, sym}
 use Rattle.std.specs.List.{AllByRecursion}
 use Rattle.class_model.specs.declared.class.Class.{Class}
-use Rattle.class_write.specs.SpellingLaws.{IsWritable}
+use Rattle.class_laws.specs.SpellingLaws.{IsWritable}
 use Rattle.set_shrink.specs.ShrunkSet.{renamed_of}
 use Rattle.set_shrink.proofs.shrunk.shrink_set.Goals as goal
 

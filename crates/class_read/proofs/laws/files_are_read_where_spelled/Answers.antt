@@ -1,5 +1,0 @@
-use Rattle.class_read.proofs.ClassLaw.{class_read-found, class_read-only, one_class}
-use Rattle.class_read.proofs.laws.files_are_read_where_spelled.Goals as goal
-
-pub returns : goal.returns
-returns c = record { read = class_read-found; spelled = class_read-only; one = one_class }

@@ -1,0 +1,5 @@
+use Rattle.code_read.proofs.decoding.canonical_is_decoded.Goals as goal
+use Rattle.code_read.proofs.BackDecoded.{decoded_back}
+
+pub returns : goal.returns
+returns c = decoded_back

@@ -1,0 +1,4 @@
+pub mod Constants
+pub mod Coded
+pub mod rows
+pub mod bodies

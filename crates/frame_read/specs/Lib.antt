@@ -1,0 +1,5 @@
+pub mod Before
+pub mod Table
+pub mod ReadBack
+pub mod WritableFrames
+pub mod bodies

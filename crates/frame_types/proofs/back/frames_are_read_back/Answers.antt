@@ -1,9 +1,0 @@
-use Rattle.frame_types.proofs.BackFrames.{frames_read_back}
-use Rattle.frame_types.proofs.BackGood.{good_frames_read_back}
-use Rattle.frame_types.proofs.back.frames_are_read_back.Goals as goal
-
-pub returns-clause-known : goal.returns-clause-known
-returns-clause-known c = frames_read_back
-
-pub returns-clause-good : goal.returns-clause-good
-returns-clause-good c = good_frames_read_back

@@ -1,7 +1,0 @@
-use Rattle.std.proofs.Common.{None, rules}
-use Rattle.frame_types.proofs.Counting.{rows_counted}
-use Rattle.frame_types.proofs.writing.write_frames_with.Goals as goal
-
-pub returns : goal.returns
-returns c = rw (rows_counted c.args.constants.now c.args.starts.now c.args.first.now.locals None c.args.frames.now)
-    (search rules)

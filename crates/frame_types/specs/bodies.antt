@@ -1,5 +1,0 @@
--- Definitions that the proofs of bodies alone need.
-pub mod Rows
-pub mod Numbers
-pub mod Before
-pub mod Changes

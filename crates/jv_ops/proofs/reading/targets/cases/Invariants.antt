@@ -1,9 +1,0 @@
-use Rattle.std.proofs.Common.{◌≡◌, drop}
-use Rattle.jv_ops.specs.Targets.{collected, case_aimed}
-use Rattle.jv_ops.specs.bodies.Targets.{aim_in}
-use Rattle.jv_ops.proofs.Collecting.{onto}
-use Rattle.jv_ops.proofs.reading.targets.cases.Given as goal
-
-abbrev pub invariant-loop-next : goal.invariant-loop-next
-invariant-loop-next l = onto l.cases (collected (case_aimed (aim_in l.table) l.at) (drop l.next-index l.matches))
-    ≡ collected (case_aimed (aim_in l.table) l.at) l.matches

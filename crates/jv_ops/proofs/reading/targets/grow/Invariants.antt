@@ -1,7 +1,0 @@
-use Rattle.std.proofs.Common.{◌≡◌, ◌≤◌, ℕ, length}
-use Rattle.jv_ops.specs.bodies.Targets.{found}
-use Rattle.jv_ops.proofs.reading.targets.grow.Given as goal
-
-abbrev pub invariant-loop : goal.invariant-loop
-invariant-loop l = ((offset : ℕ) → found l.table.items offset ≡ found l.fn.table.items offset)
-    × (l.counter ≤ length l.table.items)

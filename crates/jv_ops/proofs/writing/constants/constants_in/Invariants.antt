@@ -1,7 +1,0 @@
-use Rattle.std.proofs.Common.{◌≡◌, ◌≤◌, ◌-◌, length}
-use Rattle.jv_ops.specs.Constants.{first_constants}
-use Rattle.jv_ops.proofs.writing.constants.constants_in.Given as goal
-
-abbrev pub invariant-loop-index : goal.invariant-loop-index
-invariant-loop-index l = (l.table ≡ first_constants l.pool.entries (l.index - 1))
-    × (l.index - 1 ≤ length l.pool.entries - 1)

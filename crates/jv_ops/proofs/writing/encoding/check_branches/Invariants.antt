@@ -1,6 +1,0 @@
-use Rattle.std.proofs.Common.{◌≡◌, drop}
-use Rattle.class_model.specs.WriteLimits.{branches_fit}
-use Rattle.jv_ops.proofs.writing.encoding.check_branches.Given as goal
-
-abbrev pub invariant-loop-number : goal.invariant-loop-number
-invariant-loop-number l = branches_fit l.places l.number (drop l.number l.ins) ≡ branches_fit l.places 0 l.ins
