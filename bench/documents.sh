@@ -1,6 +1,7 @@
 #!/bin/sh
 # bench/documents.sh [PROGRAM]: tests that documents say what the sources say, in seconds. With PROGRAM (out/try/cixorradde
-# or a proved one) also that help.txt is its text, and each message and row of bench/messages.py. Ends with 1 where
+# or a proved one) also that help.txt is its text, and each message and row of bench/messages.py, and
+# where ProGuard is installed that what it writes of two examples is taken. Ends with 1 where
 # something isn't so.
 cd "$(dirname "$0")/.." || exit 70
 status=0
@@ -43,5 +44,12 @@ python3 bench/man.py >/dev/null || status=1
 if [ $# -gt 0 ]; then
     "$1" --help 2>/dev/null | cmp - bin/help.txt || status=1
     try python3 bench/messages.py "$1"
+    if command -v proguard >/dev/null; then
+        for example in app railway; do
+            said=$(examples/proguard/check.sh "examples/$example/shrink.pro" "$1" 2>/dev/null)
+            echo "what ProGuard wrote of $example: $said"
+            [ "$said" = ok ] || status=1
+        done
+    fi
 fi
 exit $status

@@ -64,6 +64,22 @@ WHOLE = [
     (BASE.replace("out\n", "a-file\n") + KEEP, "error 7 device", "a-file"), (BASE.replace("map.txt", "a-file/map.txt") + KEEP, "error 7 device", "a-file/map.txt"),
     (BASE.replace("map.txt", "empty") + KEEP, "error 7 device", "empty"), (BASE.replace("in\n", "in/Hello.class\n", 1) + KEEP, "error 7 device", "directory"),
 ]
+# Lines of configs that are taken, behind what is read and written and the rule that keeps main; and rules of their own.
+TAKEN = [
+    "-dontoptimize", "-dontobfuscate", "-dontshrink\n-dontshrink", "-keepattributes", "-keepattributes *", "-keepattributes SourceFile,LineNumberTable",
+    "-keepattributes !Exceptions,*", "-keepattributes *Table", "-keepattributes Exceptions,InnerClasses,Signature", "-renamesourcefileattribute Source",
+    "-renamesourcefileattribute ''", "-keepattributes SourceFile -renamesourcefileattribute Source", "-printseeds seeds.txt", "-printusage usage.txt",
+    "-printseeds 'my seeds.txt'", "-libraryjars <java.home>/lib/rt.jar", "-dontwarn javax.**", "-dontwarn", "-dontnote", "-verbose", "-ignorewarnings",
+    "-dontusemixedcaseclassnames", "-dontskipnonpubliclibraryclasses", "-useuniqueclassmembernames", "-optimizationpasses 5", "-allowaccessmodification",
+    "# a comment", "-keep class Hello", "-keep class Hello { *; }", "-keep class Hello { <fields>; <methods>; }", "-keep class Greeting { <init>(java.lang.String); }",
+    "-keep class Greeting { int size(); }", "-keep class Greeting { private final java.lang.String front; }", "-keep class Gr* { *** *(...); }", "-keep public class *",
+    "-keep !public class * { int %; }", "-keep !interface ** { % *; }", "-keep final class *", "-keep class * extends java.lang.Object { ** to(**); }",
+    "-keep class Hello { public static void main(java.lang.String[]); }", "-keep,allowobfuscation class Hello { *; }", "-keep,allowshrinking class Unused",
+    "-keep,allowoptimization class Unused", "-keep,includedescriptorclasses class Hello { <fields>; }", "-keepnames class **", "-keepclassmembers class * { int s???(); }",
+    "-keepclasseswithmembers class * { int count; }", "-keepclasseswithmembernames class * { int count; }", "-keepclassmembernames class * { *; }",
+    "-keep class demo.Mian { *; }", "-keep enum *", "-keep interface *", "-keep class !Hello,* { *; }", "-keep class Hello {}", "-keep class Greeting { <init>(...); }",
+    "-keep class Greeting { !private *; }", "-keep class Hello { public protected *; }",
+]
 WORDS = [
     ("", "usage"), ("shrink s.pro", ""), ("shrink s.pro out.wit more", ""), ("gen 1 out", ""), ("shrink s.pro/ out.wit", ""), ("shrink ./s.pro out.wit", "./s.pro"),
     ("shrink ../s.pro out.wit", ""), ("shrink a//b out.wit", ""), ("shrink s.pro out.wit --workers=65", ""), ("shrink s.pro out.wit --workers 0", ""),
@@ -81,7 +97,7 @@ SOURCES = [
     ("class T { String t(String s) { return s.trim(); } }", "T java.lang.String t(java.lang.String) Unresolved", "library"), ("class T { void e() { System.err.println(); } }", "T void e() Unresolved", ""),
     ("class T { int m() { return Math.abs(1); } }", "T int m() Unresolved", ""), ("class T { int i(String s) { return s.indexOf(s); } }", "T int i(java.lang.String) Unresolved", ""),
     ("class T { int i(String s) { return Integer.parseInt(s); } }", "T int i(java.lang.String) Unresolved", ""), ("class T { Integer i() { return 3; } }", "T java.lang.Integer i() Unresolved", ""),
-    ("class T { void x(int y) { assert y > 0; } }", "T - LeftOutConstant", "assert"),
+    ("class T { void x(int y) { assert y > 0; } }", "T void x(int) Unresolved", "library"),
 ]
 LINES = [
     ("demo.A -> a", "error 11 text 1 BadLine", "old -> new"), ("    int f() -> a", "error 11 text 1 NoClass", "first line"), ("A -> a:\nB -> a:", "error 11 text 2 Repeated", "two mappings"),
@@ -193,6 +209,16 @@ def main():
             room.shrink("config", config, f"{BASE}{config}\n" + ("" if "NothingKept" in line or "{" in config else KEEP), "error 3 rules " + ("" if line in ("SamePath", "NothingKept") else "4 ") + ("0 " if line in ("SamePath", "NothingKept") else "") + line, advice)
         for config, line, advice in WHOLE:
             room.shrink("config", config, config, line, advice)
+        for config in TAKEN:
+            room.shrink("taken", config, f"{BASE}{KEEP}{config}\n", "classes 3 ")
+        room.shrink("taken", "a slash", BASE.replace("in\n", "in/\n", 1) + KEEP, "classes 3 2")
+        for words in ("--workers 1", "--workers=64", "--workers 4"):
+            room.case("taken", words, ["shrink", "s.pro", "out.wit", *words.split()], "classes 3 2")
+            room.case("taken", f"{words} first", [*words.split(), "shrink", "s.pro", "out.wit"], "classes 3 2")
+        for word in ("--help", "-h"):
+            room.case("taken", word, [word], "Shrinks class files")
+        for word in ("--version", "-V"):
+            room.case("taken", word, [word], "cixorradde ")
         room.case("device", "a directory as the config", ["shrink", "empty", "out.wit"], "error 7 device", "empty")
         for number, (kind, content) in enumerate(damaged()):
             room.put("in/Hello.class", content)

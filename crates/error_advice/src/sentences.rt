@@ -142,9 +142,9 @@ fn profile_advice(rest: &str) -> &'static str {
             "enums, annotation types and native methods aren't taken; bin/survey DIRECTORY lists all that \
                 isn't",
         "LeftOutConstant" =>
-            "the class has a float or a double, a lambda or method reference, a class literal (A.class) or \
-                assert, or strings joined as Java 9 does it: compile with javac --release 8; bin/survey \
-                DIRECTORY lists all that isn't taken",
+            "the class has a float or a double, a lambda or method reference, a class literal (A.class), or \
+                strings joined as Java 9 does it: compile with javac --release 8; bin/survey DIRECTORY lists all \
+                that isn't taken",
         "LeftOutOpcode" =>
             "the method computes with float or double, or has a synchronized block (a synchronized method is \
                 taken); bin/survey DIRECTORY lists all that isn't taken",
