@@ -1,5 +1,5 @@
 #!/bin/sh
-# bench/documents.sh [PROGRAM]: tests that documents say what the sources say, in seconds. With PROGRAM (out/try/cixorradde
+# bench/documents.sh [PROGRAM]: tests that documents say what the sources say, in seconds. With PROGRAM (.try/cixorradde
 # or a proved one) also that help.txt is its text, and each message and row of bench/messages.py, and
 # where ProGuard is installed that what it writes of two examples is taken. Ends with 1 where
 # something isn't so.
