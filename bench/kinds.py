@@ -2,8 +2,8 @@
 """Goes through the kinds, clauses and quantities of the sources: each has a row in the index of docs/MANUAL.md, and a
 sentence in crates/error_advice. Ends with 1 where one is missing, and prints it.
 
-A name is found where a function `name`, `format_name`, `limit_name` or `type_rule_name` answers it. A new file with such
-a function has to be added to FILES or to OTHERS; one that is in neither is told.
+A name is found where a function `name`, `format_name`, `limit_name` or `type_rule_name` answers it. Crates whose functions
+of these names tell something else stand in OTHERS.
 """
 
 import re
@@ -33,10 +33,12 @@ def named():
 
 def main():
     found = sorted(set(named()))
-    missing = [f"docs/MANUAL.md has no row of {name} ({crate})" for crate, name in found if not re.search(rf"^\|[^|]*`{name}[ `]", INDEX, re.M)]
+    missing = [f"docs/MANUAL.md has no row of {name} ({crate})" for crate,
+        name in found if not re.search(rf"^\|[^|]*`{name}[ `]", INDEX, re.M)]
     missing += [f"error_advice has no sentence for {name} ({crate})" for crate, name in found
                 if not name.startswith("Type ") and crate != "report_text" and f'"{name}"' not in ADVICE]
-    missing += [f"docs/MANUAL.md has no row of status {status}" for status in range(12) if f"\n| {status} |" not in INDEX]
+    missing += [f"docs/MANUAL.md has no row of status {status}" for status in range(12)
+        if f"\n| {status} |" not in INDEX]
     for it in missing:
         print(it)
     print(f"{len({name for _, name in found})} kinds, clauses and quantities, {len(missing)} missing")

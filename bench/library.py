@@ -92,7 +92,8 @@ def page(table):
             return ", ".join(member_text(simple if n == "<init>" else n, k) for n, k, r in row.members if r == role)
         kind = "interface " if row.is_interface else ""
         lines.append(f"| {kind}`{row.name.replace('/', '.')}` | {of('Callable')} | {of('KnownOnly')} |")
-    forbidden = [f"`{n}` of {r.name.split('/')[-1]}" for r in table.values() for n, _, role in r.members if role == "NoOverride"]
+    forbidden = [f"`{n}` of {r.name.split('/')[-1]}" for r in table.values() for n, _,
+        role in r.members if role == "NoOverride"]
     return "\n".join(lines) + f"\n\nNeither called nor declared may be {' and '.join(forbidden)}.\n"
 
 

@@ -21,28 +21,44 @@ HELLO = TOP / "examples/minimal/in"
 
 # Configs that are refused, each behind a line with what is read and written, by the line and a word of the advice.
 CONFIGS = [
-    ("-frobnicate", "UnknownOption", "PROGUARD"), ("foo", "UnknownOption", ""), ("-injars b", "Repeated -injars", "once"),
-    ("-dontshrink now", "UnknownOption", ""), ("-if class A", "LeftOut -if", "PROGUARD"), ("@other.pro", "LeftOut @other.pro", ""),
-    ("-include x.pro", "LeftOut -include", ""), ("-applymapping m", "LeftOut -applymapping", ""), ("-target 8", "LeftOut -target", ""),
-    ("-optimizations x", "LeftOut -optimizations", ""), ("-dump", "LeftOut -dump", ""), ("-basedirectory x", "LeftOut -basedirectory", ""),
-    ("-printconfiguration", "LeftOut -printconfiguration", ""), ("-assumenosideeffects class A", "LeftOut -assumenosideeffects", ""),
-    ("-overloadaggressively", "LeftOut -overloadaggressively", ""), ("-repackageclasses x", "LeftOut -repackageclasses", ""),
+    ("-frobnicate", "UnknownOption", "PROGUARD"), ("foo", "UnknownOption", ""),
+    ("-injars b", "Repeated -injars", "once"),
+    ("-dontshrink now", "UnknownOption", ""), ("-if class A", "LeftOut -if", "PROGUARD"),
+    ("@other.pro", "LeftOut @other.pro", ""),
+    ("-include x.pro", "LeftOut -include", ""), ("-applymapping m", "LeftOut -applymapping", ""),
+    ("-target 8", "LeftOut -target", ""),
+    ("-optimizations x", "LeftOut -optimizations", ""), ("-dump", "LeftOut -dump", ""),
+    ("-basedirectory x", "LeftOut -basedirectory", ""),
+    ("-printconfiguration", "LeftOut -printconfiguration", ""),
+    ("-assumenosideeffects class A", "LeftOut -assumenosideeffects", ""),
+    ("-overloadaggressively", "LeftOut -overloadaggressively", ""),
+    ("-repackageclasses x", "LeftOut -repackageclasses", ""),
     ("-keep", "MissingName", "value is missing"), ("-keep class", "MissingName", ""), ("-keep,", "MissingName", ""),
-    ("-printseeds", "MissingName", "file"), ("-printusage", "MissingName", ""), ("-renamesourcefileattribute", "MissingName", ""),
-    ("-keepattributes SourceFile,", "MissingName", ""), ("-keepattributes Exceptions InnerClasses", "UnknownOption", ""),
+    ("-printseeds", "MissingName", "file"), ("-printusage", "MissingName", ""),
+    ("-renamesourcefileattribute", "MissingName", ""),
+    ("-keepattributes SourceFile,", "MissingName", ""),
+    ("-keepattributes Exceptions InnerClasses", "UnknownOption", ""),
     ("-printseeds ./s", "BadValue -printseeds", "./"), ("-printusage u/", "BadValue -printusage", ""),
     ("-keep,includecode class A", "BadValue -keep", "allowshrinking"), ("-keep,foo class A", "BadValue -keep", ""),
-    ("-keepattributes ,", "BadValue -keepattributes", "filter"), ("-keep klass A", "BadClassSpec", "class specification"),
-    ("-keep class A foo", "BadClassSpec", ""), ("-keep interface class A", "BadClassSpec", ""), ("-keep class A extends", "MissingName", ""),
+    ("-keepattributes ,", "BadValue -keepattributes", "filter"),
+    ("-keep klass A", "BadClassSpec", "class specification"),
+    ("-keep class A foo", "BadClassSpec", ""), ("-keep interface class A", "BadClassSpec", ""),
+    ("-keep class A extends", "MissingName", ""),
     ("-keep class A { int x }", "BadMemberSpec", "semicolon"), ("-keep class A { int f(int,); }", "BadMemberSpec", ""),
     ("-keep class A { static int x = 1; }", "BadMemberSpec", ""), ("-keep class A { *; ", "BadMemberSpec", ""),
     ("-keep class A { int; }", "BadMemberSpec", ""), ("-keep class A { void f(; }", "BadMemberSpec", ""),
-    ("-keep class @Kept", "LeftOut @Kept", ""), ("-keep class A { @Kept *; }", "LeftOut @Kept", ""), ("-keep class 'A", "QuoteOpen", "quote"),
-    ("-printseeds s -printusage s", "SamePath", "own place"), ("-printseeds out/s", "SamePath", ""), ("-printseeds in/s", "SamePath", ""),
-    ("-printseeds map.txt", "SamePath", ""), ("-printseeds out.wit", "SamePath", ""), ("-printseeds s -printseeds t", "Repeated -printseeds", ""),
-    ("-dontpreverify", "UnknownOption", ""), ("-flattenpackagehierarchy x", "UnknownOption", ""), ("-adaptclassstrings", "UnknownOption", ""),
-    ("-keep class demo.Mian", "NothingKept", "dots"), ("-keep class demo/Main", "NothingKept", "dots"), ("-keepnames class *", "NothingKept", "-keepnames"),
-    ("-keepclassmembers class * { *; }", "NothingKept", "-keepclassmembers"), ("-keep,allowshrinking class *", "NothingKept", "allowshrinking"),
+    ("-keep class @Kept", "LeftOut @Kept", ""), ("-keep class A { @Kept *; }", "LeftOut @Kept", ""),
+    ("-keep class 'A", "QuoteOpen", "quote"),
+    ("-printseeds s -printusage s", "SamePath", "own place"), ("-printseeds out/s", "SamePath", ""),
+    ("-printseeds in/s", "SamePath", ""),
+    ("-printseeds map.txt", "SamePath", ""), ("-printseeds out.wit", "SamePath", ""),
+    ("-printseeds s -printseeds t", "Repeated -printseeds", ""),
+    ("-dontpreverify", "UnknownOption", ""), ("-flattenpackagehierarchy x", "UnknownOption", ""),
+    ("-adaptclassstrings", "UnknownOption", ""),
+    ("-keep class demo.Mian", "NothingKept", "dots"), ("-keep class demo/Main", "NothingKept", "dots"),
+    ("-keepnames class *", "NothingKept", "-keepnames"),
+    ("-keepclassmembers class * { *; }", "NothingKept", "-keepclassmembers"),
+    ("-keep,allowshrinking class *", "NothingKept", "allowshrinking"),
     ("-keep enum *", "NothingKept", ""), ("-keep class Hello extends Greeting", "NothingKept", ""),
 ]
 # Whole configs.
@@ -50,19 +66,31 @@ WHOLE = [
     ("-injars in\n-printmapping map.txt\n" + KEEP, "error 3 rules 0 MissingOption -outjars", "-outjars DIRECTORY"),
     (KEEP, "error 3 rules 0 MissingOption -injars", ""), ("", "error 3 rules 0 MissingOption -injars", ""),
     ("-injars in -outjars out\n" + KEEP, "error 3 rules 0 MissingOption -printmapping", ""),
-    ("-injars in other", "error 3 rules 1 UnknownOption", "one directory"), ("-injars in(!x)", "error 3 rules 1 UnknownOption", ""),
-    ("-injars ./in", "error 3 rules 1 BadValue -injars", "./in"), ("-injars ../in", "error 3 rules 1 BadValue -injars", ""),
+    ("-injars in other", "error 3 rules 1 UnknownOption", "one directory"),
+    ("-injars in(!x)", "error 3 rules 1 UnknownOption", ""),
+    ("-injars ./in", "error 3 rules 1 BadValue -injars", "./in"),
+    ("-injars ../in", "error 3 rules 1 BadValue -injars", ""),
     ("-injars in//", "error 3 rules 1 BadValue -injars", ""), ("-injars /", "error 3 rules 1 BadValue -injars", ""),
-    ("-injars in -outjars ./out", "error 3 rules 1 BadValue -outjars", ""), ("-injars -outjars out", "error 3 rules 1 MissingName", ""),
-    ("-injars in -outjars out -printmapping", "error 3 rules 1 MissingName", ""), ("-printmapping map/", "error 3 rules 1 BadValue -printmapping", ""),
-    ("-injars 'in", "error 3 rules 1 QuoteOpen", ""), ("-injars in -outjars in/out -printmapping m\n" + KEEP, "error 3 rules 0 SamePath", ""),
-    ("-injars in -outjars in -printmapping m\n" + KEEP, "error 3 rules 0 SamePath", ""), ("-injars out/in -outjars out -printmapping m\n" + KEEP, "error 3 rules 0 SamePath", ""),
-    (b"-injars caf\xe9 -outjars out", "error 3 rules 0 NotUtf8", "UTF-8"), ("\ufeff" + BASE + KEEP, "error 3 rules 1 UnknownOption", "byte-order mark"),
-    (BASE.replace("in\n", "nowhere\n", 1) + KEEP, "error 3 rules 0 NothingKept", "unpacked"), (BASE.replace("in\n", "in:lib\n", 1) + KEEP, "error 3 rules 0 NothingKept", "no file"),
-    (BASE.replace("in\n", "empty\n", 1) + KEEP, "error 3 rules 0 NothingKept", "no file"), (BASE.replace("in\n", "hello.jar\n", 1) + KEEP, "error 7 device", "hello.jar"),
-    (BASE.replace("in\n", "nowhere\n", 1) + "-dontshrink\n", "classes 0 0", "no file"), (BASE.replace("out\n", "full\n") + KEEP, "error 8 not-empty full", "nothing but folders"),
-    (BASE.replace("out\n", "a-file\n") + KEEP, "error 7 device", "a-file"), (BASE.replace("map.txt", "a-file/map.txt") + KEEP, "error 7 device", "a-file/map.txt"),
-    (BASE.replace("map.txt", "empty") + KEEP, "error 7 device", "empty"), (BASE.replace("in\n", "in/Hello.class\n", 1) + KEEP, "error 7 device", "directory"),
+    ("-injars in -outjars ./out", "error 3 rules 1 BadValue -outjars", ""),
+    ("-injars -outjars out", "error 3 rules 1 MissingName", ""),
+    ("-injars in -outjars out -printmapping", "error 3 rules 1 MissingName", ""),
+    ("-printmapping map/", "error 3 rules 1 BadValue -printmapping", ""),
+    ("-injars 'in", "error 3 rules 1 QuoteOpen", ""),
+    ("-injars in -outjars in/out -printmapping m\n" + KEEP, "error 3 rules 0 SamePath", ""),
+    ("-injars in -outjars in -printmapping m\n" + KEEP, "error 3 rules 0 SamePath", ""),
+    ("-injars out/in -outjars out -printmapping m\n" + KEEP, "error 3 rules 0 SamePath", ""),
+    (b"-injars caf\xe9 -outjars out", "error 3 rules 0 NotUtf8", "UTF-8"),
+        ("\ufeff" + BASE + KEEP, "error 3 rules 1 UnknownOption", "byte-order mark"),
+    (BASE.replace("in\n", "nowhere\n", 1) + KEEP, "error 3 rules 0 NothingKept", "unpacked"),
+        (BASE.replace("in\n", "in:lib\n", 1) + KEEP, "error 3 rules 0 NothingKept", "no file"),
+    (BASE.replace("in\n", "empty\n", 1) + KEEP, "error 3 rules 0 NothingKept", "no file"),
+        (BASE.replace("in\n", "hello.jar\n", 1) + KEEP, "error 7 device", "hello.jar"),
+    (BASE.replace("in\n", "nowhere\n", 1) + "-dontshrink\n", "classes 0 0", "no file"),
+        (BASE.replace("out\n", "full\n") + KEEP, "error 8 not-empty full", "nothing but folders"),
+    (BASE.replace("out\n", "a-file\n") + KEEP, "error 7 device", "a-file"),
+        (BASE.replace("map.txt", "a-file/map.txt") + KEEP, "error 7 device", "a-file/map.txt"),
+    (BASE.replace("map.txt", "empty") + KEEP, "error 7 device", "empty"),
+        (BASE.replace("in\n", "in/Hello.class\n", 1) + KEEP, "error 7 device", "directory"),
 ]
 # Lines of configs that are taken, behind what is read and written and the rule that keeps main; and rules of their own.
 TAKEN = [
@@ -81,28 +109,48 @@ TAKEN = [
     "-keep class Greeting { !private *; }", "-keep class Hello { public protected *; }",
 ]
 WORDS = [
-    ("", "usage"), ("shrink s.pro", ""), ("shrink s.pro out.wit more", ""), ("gen 1 out", ""), ("shrink s.pro/ out.wit", ""), ("shrink ./s.pro out.wit", "./s.pro"),
-    ("shrink ../s.pro out.wit", ""), ("shrink a//b out.wit", ""), ("shrink s.pro out.wit --workers=65", ""), ("shrink s.pro out.wit --workers 0", ""),
-    ("shrink s.pro out.wit --wrong", ""), ("shrnk s.pro out.wit", "shrink CONFIG"), ("check s.pro", ""), ("retrace map.txt", ""), ("help", ""), ("--help more", ""),
+    ("", "usage"), ("shrink s.pro", ""), ("shrink s.pro out.wit more", ""), ("gen 1 out", ""),
+    ("shrink s.pro/ out.wit", ""), ("shrink ./s.pro out.wit", "./s.pro"),
+    ("shrink ../s.pro out.wit", ""), ("shrink a//b out.wit", ""), ("shrink s.pro out.wit --workers=65", ""),
+    ("shrink s.pro out.wit --workers 0", ""),
+    ("shrink s.pro out.wit --wrong", ""), ("shrnk s.pro out.wit", "shrink CONFIG"), ("check s.pro", ""),
+    ("retrace map.txt", ""), ("help", ""), ("--help more", ""),
 ]
 # Sources that aren't taken, with the kind.
 SOURCES = [
-    ("class T extends Thread { }", "T - SuperMissing", "survey"), ("class T { float f; }", "T float f LeftOutType", "float"), ("class T { double f() { return 1.5; } }", "T - LeftOutConstant", "float"),
-    ("class T { double f(int x) { return x; } }", "T double f(int) LeftOutOpcode", "float"), ("class T { Runnable r() { return () -> { }; } }", "T - LeftOutConstant", "lambda"),
-    ("class T { Object o() { return T.class; } }", "T java.lang.Object o() LeftOutConstant", "A.class"), ("enum T { A }", "T - SuperMissing", "survey"), ("@interface T { }", "T - SuperMissing", ""),
-    ("class T { native void n(); }", "T void n() LeftOutFlag", "native"), ("class T { void s() { synchronized (this) { } } }", "T void s() LeftOutOpcode", "synchronized"),
-    ("interface T { default int d() { return 1; } }", "T int d() LeftOutMember", "interface"), ("interface T { static int d() { return 1; } }", "T int d() LeftOutMember", ""),
-    ("class T { protected void finalize() { } }", "T void finalize() LeftOutMember", "finalize"), ("class T { Object c(int[] a) { return a.clone(); } }", "T java.lang.Object c(int[]) LeftOutMember", "clone"),
-    ("class T { int h(Object o) { return o.hashCode(); } }", "T int h(java.lang.Object) LeftOutMember", "survey"), ("class T { java.util.List l() { return null; } }", "T java.util.List l() Unresolved", "survey"),
-    ("class T { String t(String s) { return s.trim(); } }", "T java.lang.String t(java.lang.String) Unresolved", "library"), ("class T { void e() { System.err.println(); } }", "T void e() Unresolved", ""),
-    ("class T { int m() { return Math.abs(1); } }", "T int m() Unresolved", ""), ("class T { int i(String s) { return s.indexOf(s); } }", "T int i(java.lang.String) Unresolved", ""),
-    ("class T { int i(String s) { return Integer.parseInt(s); } }", "T int i(java.lang.String) Unresolved", ""), ("class T { Integer i() { return 3; } }", "T java.lang.Integer i() Unresolved", ""),
+    ("class T extends Thread { }", "T - SuperMissing", "survey"),
+    ("class T { float f; }", "T float f LeftOutType", "float"),
+    ("class T { double f() { return 1.5; } }", "T - LeftOutConstant", "float"),
+    ("class T { double f(int x) { return x; } }", "T double f(int) LeftOutOpcode", "float"),
+    ("class T { Runnable r() { return () -> { }; } }", "T - LeftOutConstant", "lambda"),
+    ("class T { Object o() { return T.class; } }", "T java.lang.Object o() LeftOutConstant", "A.class"),
+    ("enum T { A }", "T - SuperMissing", "survey"), ("@interface T { }", "T - SuperMissing", ""),
+    ("class T { native void n(); }", "T void n() LeftOutFlag", "native"),
+    ("class T { void s() { synchronized (this) { } } }", "T void s() LeftOutOpcode", "synchronized"),
+    ("interface T { default int d() { return 1; } }", "T int d() LeftOutMember", "interface"),
+    ("interface T { static int d() { return 1; } }", "T int d() LeftOutMember", ""),
+    ("class T { protected void finalize() { } }", "T void finalize() LeftOutMember", "finalize"),
+    ("class T { Object c(int[] a) { return a.clone(); } }", "T java.lang.Object c(int[]) LeftOutMember", "clone"),
+    ("class T { int h(Object o) { return o.hashCode(); } }", "T int h(java.lang.Object) LeftOutMember",
+    "survey"), ("class T { java.util.List l() { return null; } }", "T java.util.List l() Unresolved", "survey"),
+    ("class T { String t(String s) { return s.trim(); } }",
+    "T java.lang.String t(java.lang.String) Unresolved", "library"),
+        ("class T { void e() { System.err.println(); } }", "T void e() Unresolved", ""),
+    ("class T { int m() { return Math.abs(1); } }", "T int m() Unresolved", ""),
+    ("class T { int i(String s) { return s.indexOf(s); } }", "T int i(java.lang.String) Unresolved", ""),
+    ("class T { int i(String s) { return Integer.parseInt(s); } }", "T int i(java.lang.String) Unresolved",
+    ""), ("class T { Integer i() { return 3; } }", "T java.lang.Integer i() Unresolved", ""),
     ("class T { void x(int y) { assert y > 0; } }", "T void x(int) Unresolved", "library"),
 ]
 LINES = [
-    ("demo.A -> a", "error 11 text 1 BadLine", "old -> new"), ("    int f() -> a", "error 11 text 1 NoClass", "first line"), ("A -> a:\nB -> a:", "error 11 text 2 Repeated", "two mappings"),
-    (b"A\xff -> a:", "error 11 text 1 NotUtf8", "UTF-8"), ("A -> a:\n    1:2:int f():3:4 -> a", "error 11 text 2 BadLine", ""), ]
-WITNESSES = [("", "error 11 text 1 BadLine", "witness out.wit"), ("witness 2\n", "error 11 text 1 BadLine", "witness out.wit"), (b"\xff", "error 11 text 1 NotUtf8", "witness out.wit")]
+    ("demo.A -> a", "error 11 text 1 BadLine", "old -> new"),
+    ("    int f() -> a", "error 11 text 1 NoClass", "first line"),
+    ("A -> a:\nB -> a:", "error 11 text 2 Repeated", "two mappings"),
+    (b"A\xff -> a:", "error 11 text 1 NotUtf8", "UTF-8"),
+        ("A -> a:\n    1:2:int f():3:4 -> a", "error 11 text 2 BadLine", ""), ]
+WITNESSES = [("", "error 11 text 1 BadLine", "witness out.wit"),
+    ("witness 2\n", "error 11 text 1 BadLine", "witness out.wit"),
+    (b"\xff", "error 11 text 1 NotUtf8", "witness out.wit")]
 
 
 class Room:
@@ -173,7 +221,8 @@ def pairs(room):
     room.put("out.wit", "witness 1\n")
     first = mapping.split("\n")
     method = next(it for it in first if it.endswith("-> main"))
-    edits = [("SeedLost", [it for it in first if it != method]), ("FixedName", [it.replace("-> main", "-> other") for it in first]),
+    edits = [("SeedLost", [it for it in first if it != method]),
+        ("FixedName", [it.replace("-> main", "-> other") for it in first]),
              ("MapShape", [*first[:-1], "Nothing -> x:", ""]), ("NotClosed", [it for it in first if " to(" not in it]),
              ("Package", [it.replace("Greeting -> a:", "Greeting -> p.a:") for it in first])]
     for clause, lines in edits:
@@ -182,7 +231,8 @@ def pairs(room):
     (room.room / "map.txt").unlink()
     case("pairs", "no mapping", "error 2 absent map.txt", "folder")
     room.put("map.txt", mapping)
-    for name, content, clause in [("cut", b"\xca\xfe", "OutputFormat"), ("other", (HELLO / "Unused.class").read_bytes(), "OutputProfile")]:
+    for name, content, clause in [("cut", b"\xca\xfe", "OutputFormat"),
+        ("other", (HELLO / "Unused.class").read_bytes(), "OutputProfile")]:
         target = room.room / "kept/a.class"
         old = target.read_bytes()
         target.write_bytes(content)
@@ -193,8 +243,10 @@ def pairs(room):
 def damaged():
     """A class file with one thing wrong, and the kind that is told."""
     good = (HELLO / "Hello.class").read_bytes()
-    return [("Cut", good[:-1]), ("Cut", good[:100]), ("Cut", b""), ("BadMagic", b"abcdefghijkl"), ("BadVersion", good[:7] + b"\x3d" + good[8:]),
-            ("Trailing", good + b"x"), ("BadTag", good[:10] + b"\x63" + good[11:]), ("BadVersion", good[:4] + b"\0\1" + good[6:])]
+    return [("Cut", good[:-1]), ("Cut", good[:100]), ("Cut", b""), ("BadMagic", b"abcdefghijkl"),
+        ("BadVersion", good[:7] + b"\x3d" + good[8:]),
+            ("Trailing", good + b"x"), ("BadTag", good[:10] + b"\x63" + good[11:]),
+            ("BadVersion", good[:4] + b"\0\1" + good[6:])]
 
 
 def main():
@@ -203,10 +255,15 @@ def main():
         room = Room(program, Path(name))
         for words, advice in WORDS:
             room.case("words", words, words.split(), "error 1 words", advice)
-        for name, words in [("no config", ["shrink", "x.pro", "out.wit"]), ("no mapping", ["retrace", "x.txt", "y.txt"]), ("no trace", ["retrace", "a-file", "y.txt"]), ("no config to check", ["check", "x.pro", "o.wit"])]:
+        for name, words in [("no config", ["shrink", "x.pro", "out.wit"]),
+            ("no mapping", ["retrace", "x.txt", "y.txt"]), ("no trace", ["retrace", "a-file", "y.txt"]),
+                ("no config to check", ["check", "x.pro", "o.wit"])]:
             room.case("absent", name, words, "error 2 absent", "folder")
         for config, line, advice in CONFIGS:
-            room.shrink("config", config, f"{BASE}{config}\n" + ("" if "NothingKept" in line or "{" in config else KEEP), "error 3 rules " + ("" if line in ("SamePath", "NothingKept") else "4 ") + ("0 " if line in ("SamePath", "NothingKept") else "") + line, advice)
+            room.shrink("config", config,
+                f"{BASE}{config}\n" + ("" if "NothingKept" in line or "{" in config else KEEP),
+                    "error 3 rules " + ("" if line in ("SamePath",
+                        "NothingKept") else "4 ") + ("0 " if line in ("SamePath", "NothingKept") else "") + line, advice)
         for config, line, advice in WHOLE:
             room.shrink("config", config, config, line, advice)
         for config in TAKEN:
@@ -222,7 +279,8 @@ def main():
         room.case("device", "a directory as the config", ["shrink", "empty", "out.wit"], "error 7 device", "empty")
         for number, (kind, content) in enumerate(damaged()):
             room.put("in/Hello.class", content)
-            room.shrink("class files", f"{kind} {number}", BASE + KEEP, "error 4 format in/Hello.class", "javac" if kind == "BadVersion" else "")
+            room.shrink("class files", f"{kind} {number}", BASE + KEEP, "error 4 format in/Hello.class",
+                "javac" if kind == "BadVersion" else "")
         shutil.copy(HELLO / "Hello.class", room.room / "in/Hello.class")
         (room.room / "in/sub").mkdir()
         shutil.copy(HELLO / "Unused.class", room.room / "in/sub/Unused.class")
@@ -233,9 +291,11 @@ def main():
             shutil.rmtree(target, ignore_errors=True)
             target.mkdir()
             (target / "T.java").write_text(source)
-            if not shutil.which("javac") or subprocess.run(["javac", "--release", "8", "-nowarn", "-d", "classes", "T.java"], cwd=target, capture_output=True).returncode:
+            if not shutil.which("javac") or subprocess.run(["javac", "--release", "8", "-nowarn", "-d",
+                "classes", "T.java"], cwd=target, capture_output=True).returncode:
                 sys.exit(f"messages.py: javac doesn't take {source}")
-            room.shrink("sets", source, BASE.replace("in\n", "t/classes\n", 1) + "-keep class *\n", f"error 5 profile {line}", advice)
+            room.shrink("sets", source, BASE.replace("in\n",
+                "t/classes\n", 1) + "-keep class *\n", f"error 5 profile {line}", advice)
         for text, line, advice in LINES:
             room.put("map.txt", text)
             room.put("trace.txt", "x\n")

@@ -47,7 +47,8 @@ def definition(name, crate=None):
     found = []
     for path in sorted(CRATES.glob("*/specs/**/*.antt")):
         lines = path.read_text().split("\n")
-        found += [(path.relative_to(CRATES).parts[0], block_at(lines, at)) for at, it in enumerate(lines) if head.match(it)][:1]
+        found += [(path.relative_to(CRATES).parts[0], block_at(lines, at)) for at,
+            it in enumerate(lines) if head.match(it)][:1]
     crate, text = one_of(found, name, crate)
     return f"`{name}` of `{crate}`:\n\n```\n{text}\n```\n"
 
@@ -58,7 +59,8 @@ def clause(function, label, crate=None):
     found = []
     for path in sorted(CRATES.glob("*/src/**/*.rt")):
         for it in re.finditer(rf"^ *pub fn {function}\b.*?^ *\{{", path.read_text(), re.M | re.S):
-            text = re.search(rf"^ *(ensures {named}\{{.*?\}})(?=\s*(?:ensures|requires|//|\{{))", it[0] + "\n", re.M | re.S)
+            text = re.search(rf"^ *(ensures {named}\{{.*?\}})(?=\s*(?:ensures|requires|//|\{{))", it[0] + "\n",
+                re.M | re.S)
             if text:
                 clean = re.sub(r"\n +", "\n    ", text[1])
                 found.append((path.relative_to(CRATES).parts[0], clean))
@@ -73,7 +75,8 @@ def lines_of(pattern):
 
 def sizes():
     code = lines_of("*/src/**/*.rt")
-    rows = [("code, with its contracts and comments", "src/", code), ("definitions", "specs/", lines_of("*/specs/**/*.antt")),
+    rows = [("code, with its contracts and comments", "src/", code),
+        ("definitions", "specs/", lines_of("*/specs/**/*.antt")),
             ("proofs", "proofs/", lines_of("*/proofs/**/*.antt"))]
     crates = len({it.parent for it in CRATES.glob("*/src")})
     text = f"| In {crates} crates | Where | Lines that aren't blank |\n|---|---|---|\n"
@@ -84,7 +87,8 @@ def is_near(old, new):
     """Whether two tables have figures that differ by a tenth at most."""
     pairs = list(zip(*(re.findall(r"\d[\d,]*", it) for it in (old, new))))
     numbers = [(int(a.replace(",", "")), int(b.replace(",", ""))) for a, b in pairs]
-    return re.sub(r"\d[\d,]*", "", old) == re.sub(r"\d[\d,]*", "", new) and all(abs(a - b) * 10 <= b for a, b in numbers)
+    return re.sub(r"\d[\d,]*", "", old) == re.sub(r"\d[\d,]*",
+        "", new) and all(abs(a - b) * 10 <= b for a, b in numbers)
 
 
 def main():
