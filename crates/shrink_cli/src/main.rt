@@ -2,6 +2,7 @@
 #![tactic(auto)]
 
 use command_words::help_text;
+use error_advice::{Heard, Watched, explain};
 use jv_base::{Items, M, Text};
 use shrink_core::run;
 use std::alloc::Global;
@@ -71,6 +72,9 @@ fn main(rt: HostRuntime) -> ExitCode {
     if let Some(notice) = notice_of(&words) {
         return ExitCode::from(print_notice(alloc, notice, &mut out));
     }
-    let mut tree = FileTree::new(&rt);
-    ExitCode::from(run(&rt, alloc, &words, &mut tree, &mut out, &OpenGate))
+    let mut tree = Watched::new(alloc, FileTree::new(&rt));
+    let mut heard = Heard::new(alloc, out);
+    let status = run(&rt, alloc, &words, &mut tree, &mut heard, &OpenGate);
+    let _ = explain(&rt, alloc, &mut tree, &heard);
+    ExitCode::from(status)
 }

@@ -1,0 +1,130 @@
+// What is said on standard error.
+use crate::{Failing, Heard, Watched, advice};
+use jv_base::{M, Or, Text};
+use mapping_file::read_mapping;
+use std::alloc::Global;
+use std::{io, str};
+use tree_io::{Sink, Tree};
+
+/// The greatest length of a mapping that is read, in bytes.
+const MAX_LENGTH: u64 = 67_108_864;
+
+/// Says what the line means that a command said last, and what to do, where there is something to say. A mapping that
+/// may be at fault is read once more, to tell it from the witness.
+///
+/// # Errors
+///
+/// Those of standard error.
+pub fn explain<R: Eprint, T: Tree, S: Sink>(
+    rt: &R,
+    alloc: Global,
+    tree: &mut Watched<T>,
+    out: &Heard<S>,
+) -> io::Result<()> {
+    let Ok(text) = str::from_utf8(out.last()) else {
+        return Ok(());
+    };
+    let line = text.trim_end();
+    if let Some(path) = &tree.marked {
+        let path = path.as_str();
+        eprintln!(rt;
+            "cixorradde: {path} begins with a byte-order mark (EF BB BF), which is a part of its first word: \
+                save it without one"
+        )?;
+    }
+    if line.starts_with("classes 0 0") {
+        return eprintln!(rt; "cixorradde: {NO_CLASSES}");
+    }
+    if !line.starts_with("error ") {
+        return Ok(());
+    }
+    tell_place(rt, alloc, line, tree)?;
+    match advice(line) {
+        Some(advice) => eprintln!(rt; "cixorradde: {advice}"),
+        None => Ok(()),
+    }
+}
+
+const NO_CLASSES: &str =
+    "no file whose name ends in .class lies below the directory of -injars; paths are taken from the folder \
+        in which the command is called, and a JAR has to be unpacked (jar xf)";
+
+// Says at which path a line is to be read, where it doesn't tell that itself.
+fn tell_place<R: Eprint, T: Tree>(
+    rt: &R,
+    alloc: Global,
+    line: &str,
+    tree: &mut Watched<T>,
+) -> io::Result<()> {
+    if line == "error 7 device" {
+        return tell_failing(rt, tree.failed.as_ref());
+    }
+    if line.ends_with(" NothingKept") && !tree.has_classes {
+        return eprintln!(rt; "cixorradde: {NO_CLASSES}");
+    }
+    if line.starts_with("error 11 ") {
+        return tell_text(rt, alloc, tree);
+    }
+    Ok(())
+}
+
+// Says which call failed.
+fn tell_failing<R: Eprint>(rt: &R, failing: Option<&Failing>) -> io::Result<()> {
+    match failing {
+        Some(Failing::Listing(path)) => {
+            let path = path.as_str();
+            eprintln!(rt;
+                "cixorradde: the directory {path} can't be listed: it is a file (a JAR has to be unpacked, \
+                    jar xf), it may not be read, or a name below it isn't UTF-8"
+            )
+        }
+        Some(Failing::Reading(path)) => {
+            let path = path.as_str();
+            eprintln!(rt;
+                "cixorradde: {path} can't be read as a file: it is a directory, a part of its path is a \
+                    file, or it may not be read"
+            )
+        }
+        Some(Failing::Writing(path)) => {
+            let path = path.as_str();
+            eprintln!(rt;
+                "cixorradde: {path} can't be written: it is a directory, a part of its path is a file, it \
+                    may not be written, or the disk is full"
+            )
+        }
+        None => eprintln!(rt;
+            "cixorradde: standard output can't be written to; the files that were asked for stand"
+        ),
+    }
+}
+
+// Says which file has the text that is at fault.
+fn tell_text<R: Eprint, T: Tree>(rt: &R, alloc: Global, tree: &mut Watched<T>) -> io::Result<()> {
+    let Ok(Some((mapping, other))) = mapping_of(tree.texts.as_slice()) else {
+        return Ok(());
+    };
+    let (what, path) = if is_mapping(alloc, tree, &mapping) {
+        ("witness", other.as_str())
+    } else {
+        ("mapping", mapping.as_str())
+    };
+    eprintln!(rt; "cixorradde: the {what} {path} is at fault, at this line of it")
+}
+
+// The path of the mapping, and of what was read behind it: `check` reads the config, the mapping and the witness, in
+// this order, and `retrace` the mapping and the trace.
+fn mapping_of(texts: &[Text]) -> M<Option<(Text, Text)>> {
+    match texts {
+        [_, mapping, witness] => Ok(Some((mapping.clone()?, witness.clone()?))),
+        [mapping, trace] => Ok(Some((mapping.clone()?, trace.clone()?))),
+        _ => Ok(None),
+    }
+}
+
+// Whether the file at a path is a mapping.
+fn is_mapping<T: Tree>(alloc: Global, tree: &mut T, path: &Text) -> bool {
+    match tree.read(alloc, path, MAX_LENGTH) {
+        Ok(bytes) => !matches!(read_mapping(alloc, bytes.as_slice()), Err(Or::Fault(_))),
+        Err(_) => false,
+    }
+}
