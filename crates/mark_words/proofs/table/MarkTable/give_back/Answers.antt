@@ -1,0 +1,12 @@
+use Rattle.std.proofs.Common.{rules}
+use Rattle.mark_words.proofs.Steps.{gives_back}
+use Rattle.mark_words.proofs.table.MarkTable.give_back.Goals as goal
+
+pub fetch_sub-requires : goal.fetch_sub-requires
+fetch_sub-requires c = (
+  c.requires.seat.0,
+  search rules,
+  gives_back c.args.self.now.table.shared.key
+      c.args.self.now.table.shared.table_id.slots c.args.seat.now.id c.args.seat.now.me c.requires.seat.1
+      c.requires.allowed,
+)
