@@ -1,1 +1,9 @@
 pub mod Acts
+pub mod Flow
+pub mod Rewriting
+pub mod Reach
+pub mod Slots
+pub mod Jumps
+pub mod Applied
+pub mod Legal
+pub mod SoundCode
