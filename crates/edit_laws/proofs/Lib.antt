@@ -1,0 +1,4 @@
+mod Acting
+mod Named
+mod NamingLess
+mod Replacing

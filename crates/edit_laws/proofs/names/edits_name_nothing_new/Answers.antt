@@ -1,0 +1,5 @@
+use Rattle.edit_laws.proofs.NamingLess.{edited_names_no_more}
+use Rattle.edit_laws.proofs.names.edits_name_nothing_new.Goals as goal
+
+pub returns : goal.returns
+returns c = λ steps code. edited_names_no_more code steps

@@ -1,0 +1,8 @@
+//! What holds of programs in which codes were edited by the passes.
+#![tactic(auto)]
+
+pub mod codes;
+pub mod names;
+pub mod passes;
+pub mod rows;
+pub mod sound;

@@ -1,0 +1,14 @@
+pub mod Places
+pub mod Aiming
+pub mod Effects
+pub mod Retargeted
+pub mod Compacting
+pub mod Retargeting
+pub mod Cut
+pub mod Reaching
+pub mod Jumping
+pub mod Slotting
+pub mod Changes
+pub mod Steps
+pub mod StaysSound
+pub mod AppliedSound
