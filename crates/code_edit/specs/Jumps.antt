@@ -86,8 +86,7 @@ skip_target (op.IfRef eq to) = Some to
 skip_target o = None
 
 -- an aim of a target along one or more gotos, or a skip of a branch that leads to the next index
--- after the aims of the
--- step; acts before it that name the same place aside
+-- after the aims of the step; acts before it that name the same place aside
 abbrev pub IsLegalJump : List Act → Code → Act → Type 0
 IsLegalJump acts code (act.Aim at which to) =
     (i : Ins) × (old : ℕ) × (slice_get code.ins at ≡ Some i)

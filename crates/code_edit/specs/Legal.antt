@@ -1,21 +1,23 @@
 -- When the acts of a step are legal, and which one is the first that isn't (the project's own).
-use Rattle.std.specs.Prelude.{◌≡◌, ◌<◌, ℕ, ◌&&◌, ◌==◌, List, [], ◌∷◌, Some, Bool, false}
-use Rattle.std.specs.Prelude.{nat_le, slice_get}
+use Rattle.std.specs.Prelude.{◌≡◌, ◌<◌, ◌≤◌, ℕ, ◌+◌, ◌&&◌, ◌||◌, ◌==◌, List, [], ◌∷◌, Some}
+use Rattle.std.specs.Prelude.{Bool, true, false, length, nat_le, slice_get}
 use Rattle.std.specs.List.{AllByRecursion}
 use Rattle.class_model.specs.declared.code.Code.{Code}
+use Rattle.class_model.specs.declared.code.Handler.{Handler}
+use Rattle.class_model.specs.declared.code.Ins.{Ins}
 use Rattle.code_edit.specs.declared.act.Act.{Act}
 use Rattle.code_edit.specs.declared.act.Act.TheVariants as act
 use Rattle.code_edit.specs.declared.act.Pass.{Pass}
 use Rattle.code_edit.specs.declared.act.Pass.TheVariants.{Reach, Const, Slots, Jumps}
 use Rattle.code_edit.specs.declared.act.PassEdits.{PassEdits}
-use Rattle.code_edit.specs.Applied.{applied}
+use Rattle.code_edit.specs.Applied.{applied, in_place, lives_of}
+use Rattle.code_edit.specs.Flow.{covers, targets}
 use Rattle.code_edit.specs.Jumps.{IsLegalJump}
 use Rattle.code_edit.specs.Reach.{IsLegalDrop}
 use Rattle.code_edit.specs.Slots.{IsLegalCut}
 
 -- An act is right for the code among all acts of its step, of this pass; acts that name its place
--- aside. No act of
--- const is so yet.
+-- aside. No act of const is so yet.
 abbrev pub IsRightAct : Pass → List Act → Code → Act → Type 0
 IsRightAct Reach acts code a = IsLegalDrop acts code a
 IsRightAct Slots acts code a = IsLegalCut acts code a
@@ -35,12 +37,48 @@ share_place (act.Aim at which to) (act.Aim place number other) = at == place && 
 share_place (act.Skip at) (act.Skip place) = at == place
 share_place a b = false
 
--- the act of this number is legal: it is right, and no act before it names its place
+-- ---- the last index
+
+-- after the acts, which are all those of the step, nothing lives at the index or behind it
+abbrev pub IsPastLast : Pass → List Act → Code → ℕ → Type 0
+IsPastLast pass acts code at =
+    (k : ℕ) → at ≤ k → k < length code.ins → lives_of pass acts code k ≡ false
+
+-- after the acts a branch or switch that lives leads to the index, or a handler that covers
+-- something that lives begins there
+pub data IsStillAimedAt (pass : Pass) (acts : List Act) (code : Code) (at : ℕ) : Type 0 where
+  branch : (from which : ℕ) (i : Ins) → lives_of pass acts code from ≡ true
+      → slice_get (in_place pass acts code).ins from ≡ Some i
+      → slice_get (targets i.op) which ≡ Some at → IsStillAimedAt pass acts code at
+  entry : (k from : ℕ) (h : Handler) → slice_get code.handlers k ≡ Some h → from < length code.ins
+      → lives_of pass acts code from ≡ true → covers h from ≡ true → at ≡ h.entry
+      → IsStillAimedAt pass acts code at
+
+-- the act makes the index go: a cut may take the push before its store along
+abbrev pub is_dropped_by : ℕ → Act → Bool
+is_dropped_by at (act.Drop from to) = nat_le from at && nat_le at to
+is_dropped_by at (act.Cut place) = at == place || at + 1 == place
+is_dropped_by at (act.Skip place) = at == place
+is_dropped_by at a = false
+
+-- Nothing is still aimed at an index that the act drops and behind which nothing lives. Right acts
+-- never leave such an index in a sound code; where some act isn't right, this says which one is
+-- told.
+abbrev pub KeepsLast : Pass → List Act → Code → Act → Type 0
+KeepsLast pass acts code a =
+    (at : ℕ) → is_dropped_by at a ≡ true → lives_of pass acts code at ≡ false
+    → IsStillAimedAt pass acts code at → IsPastLast pass acts code at → ⊥
+
+-- ---- legal acts
+
+-- the act of this number is legal: it is right, no act before it names its place, and it moves
+-- nothing that is still aimed at past the last index
 abbrev pub IsLegalAt : Pass → List Act → Code → ℕ → Act → Type 0
 IsLegalAt pass acts code k a =
     IsRightAct pass acts code a
     × ((before : ℕ) (b : Act) → before < k → slice_get acts before ≡ Some b
     → share_place b a ≡ false)
+    × KeepsLast pass acts code a
 
 -- all acts of a step are legal
 abbrev pub AreLegal : Pass → List Act → Code → Type 0

@@ -29,8 +29,7 @@ left_code acts code = compacted (is_left acts) code
 -- ---- which acts are legal
 
 -- Control needs the index: it is the first one, a successor of one that all acts of the step leave,
--- or the entry of a
--- handler that covers such a one.
+-- or the entry of a handler that covers such a one.
 pub data IsNeeded (acts : List Act) (code : Code) (at : ℕ) : Type 0 where
   first : at ≡ 0 → IsNeeded acts code at
   led_to : (from k : ℕ) (i : Ins) → is_left acts from ≡ true → slice_get code.ins from ≡ Some i

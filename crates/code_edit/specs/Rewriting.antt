@@ -66,8 +66,7 @@ abbrev pub rewritten : (ℕ → Op → Op) → Code → Code
 rewritten f code = record code { ins = map_from (λ at i. with_op (f at) i) 0 code.ins; frames = [] }
 
 -- then the indices that don't live are left out: targets and handlers at one move to the next
--- living index, a handler
--- that is empty then goes, and no frame stays
+-- living index, a handler that is empty then goes, and no frame stays
 abbrev pub compacted : (ℕ → Bool) → Code → Code
 compacted lives code =
     record code {

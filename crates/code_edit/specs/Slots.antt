@@ -1,6 +1,5 @@
 -- Slots leaves out stores to local variables that nothing loads: what its acts make of a code, and
--- when one is legal
--- (the project's own).
+-- when one is legal (the project's own).
 use Rattle.std.specs.Prelude.{◌≡◌, ℕ, ◌+◌, ◌-◌, ℤ, not, ◌&&◌, ◌||◌, ◌==◌, List, Some, Bool}
 use Rattle.std.specs.Prelude.{true, false, slice_get, if◌then◌else◌}
 use Rattle.std.specs.List.{AllByRecursion, list_any}

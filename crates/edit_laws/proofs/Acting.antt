@@ -1,5 +1,5 @@
 -- Right acts of a pass are two changes of a code, or none.
-use Rattle.std.proofs.Common.{List, Option, Some, ◌≡◌, inl, inr, sym, subst}
+use Rattle.std.proofs.Common.{List, Option, Some, inl, inr, sym, subst}
 use Rattle.std.specs.List.{AllByRecursion}
 use Rattle.class_model.specs.declared.code.Code.{Code}
 use Rattle.code_edit.specs.declared.act.Act.{Act}

@@ -1,6 +1,5 @@
 -- Steps of edits name nothing but what the code named.
-use Rattle.std.proofs.Common.{ℕ, List, Option, ◌≡◌, refl}
-use Rattle.std.specs.List.{AllByRecursion}
+use Rattle.std.proofs.Common.{ℕ, List, refl}
 use Rattle.class_model.specs.declared.code.Code.{Code}
 use Rattle.class_model.specs.declared.code.Handler.{Handler}
 use Rattle.class_model.specs.declared.code.Ins.{Ins}

@@ -1,6 +1,5 @@
 -- What holds of each operation of a code, whatever its targets, and of each class that a handler
--- catches (the project's
--- own).
+-- catches (the project's own).
 use Rattle.std.specs.Prelude.{ℕ, List, Option}
 use Rattle.std.specs.List.{AllByRecursion}
 use Rattle.class_model.specs.declared.code.Code.{Code}

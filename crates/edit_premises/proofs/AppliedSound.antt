@@ -258,7 +258,7 @@ module _ (acts : List Act) (code : Code) (sound : IsSound code) where
       lead_below n l.1 u l.4 to
 
   module _ (legal : jumps.AreLegalJumps acts code) where
-    aimed_below : (at : ℕ) (i : Ins) → slice_get code.ins at ≡ Some i → (which t : ℕ)
+    pub aimed_below : (at : ℕ) (i : Ins) → slice_get code.ins at ≡ Some i → (which t : ℕ)
         → slice_get (targets i.op) which ≡ Some t
         → jumps.aim acts at which t < length code.ins
     aimed_below at i e which t x =

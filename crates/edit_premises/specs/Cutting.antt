@@ -18,8 +18,7 @@ use Rattle.jvm_model.specs.Value.{Value, as_int}
 -- before them.
 module _ (loaded lost takes : ℕ → Bool) where
   -- What stands in place of an operation: itself; nothing, for a push whose store follows, for that
-  -- store, and for an
-  -- increment; and a pop for any other store.
+  -- store, and for an increment; and a pop for any other store.
   pub data CutOp (at : ℕ) (o o' : Op) : Type 0 where
     stays : takes at ≡ false → takes (at + 1) ≡ false → o' ≡ o
         → ((k : Kind) (slot : ℕ) → o ≡ op.Load k slot → loaded slot ≡ true)

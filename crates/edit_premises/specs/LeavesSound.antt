@@ -11,8 +11,8 @@ abbrev pub LivesFrom : (ℕ → Bool) → ℕ → ℕ → Type 0
 LivesFrom lives n at = (to : ℕ) × (at ≤ to) × (to < n) × (lives to ≡ true)
 
 -- Something lives; where an instruction lives, something does at each target or behind it, and at
--- the entry of each
--- handler that covers it; and behind the last one that lives control doesn't go on.
+-- the entry of each handler that covers it; and behind the last one that lives control doesn't go
+-- on.
 pub record LeavesSound (lives : ℕ → Bool) (code : Code) : Type 0 where
   pub some : LivesFrom lives (length code.ins) 0
   pub jump : (at : ℕ) (i : Ins) → slice_get code.ins at ≡ Some i → lives at ≡ true

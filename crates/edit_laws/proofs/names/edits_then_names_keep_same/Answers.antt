@@ -1,8 +1,4 @@
-use Rattle.std.specs.Prelude.{◌≡◌, List}
-use Rattle.std.proofs.Common.{subst}
-use Rattle.std.specs.List.{Contains}
-use Rattle.jvm_model.specs.Same.{Renamed, own_names}
-use Rattle.jvm_model.specs.Value.{Key}
+use Rattle.jvm_model.specs.Same.{own_names}
 use Rattle.jvm_model.proofs.Compose.{same_trans}
 use Rattle.jvm_model.proofs.Side.{mapped_same}
 use Rattle.edit_premises.proofs.Changes.{own_entries}

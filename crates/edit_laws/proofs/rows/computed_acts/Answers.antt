@@ -1,4 +1,4 @@
-use Rattle.std.proofs.Common.{ap, arith, refl}
+use Rattle.std.proofs.Common.{arith, refl}
 use Rattle.code_edit.specs.Reach.{led_to}
 use Rattle.class_model.specs.declared.op.Op.TheVariants as op
 use Rattle.edit_laws.proofs.rows.computed_acts.Goals as goal
