@@ -5,4 +5,5 @@ pub mod codes;
 pub mod names;
 pub mod passes;
 pub mod rows;
+pub mod sets;
 pub mod sound;

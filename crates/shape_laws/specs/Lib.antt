@@ -1,0 +1,3 @@
+pub mod KeepsMembers
+pub mod Bare
+pub mod Laws
