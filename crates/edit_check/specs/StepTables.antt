@@ -1,0 +1,33 @@
+-- The tables of each pass (the project's own; only the code's contracts need it).
+use Rattle.std.specs.Prelude.{◌≡◌, ℕ, Bool, List, [], length}
+use Rattle.class_model.specs.declared.code.Code.{Code}
+use Rattle.code_edit.specs.declared.act.Act.{Act}
+use Rattle.edit_check.specs.declared.tables.Tables.{Tables}
+use Rattle.edit_check.specs.Aimed.{TellsAims}
+use Rattle.edit_check.specs.Marks.{none, target_marks, with_cuts, with_skips}
+use Rattle.edit_check.specs.Swept.{swept_of}
+use Rattle.edit_check.specs.Uncut.{uncut, unskipped}
+
+-- the indices that acts cut
+abbrev pub cuts_of : List Act → Code → List Bool
+cuts_of acts code = with_cuts acts (none (length code.ins))
+
+-- the indices that acts skip
+abbrev pub skips_of : List Act → Code → List Bool
+skips_of acts code = with_skips acts (none (length code.ins))
+
+abbrev pub IsReachTables : List Act → ℕ → Tables → Type 0
+IsReachTables acts count t =
+    (t.lives.items ≡ swept_of acts count) × (t.pops.items ≡ []) × (t.skips.items ≡ [])
+    × (t.aims.table.entries ≡ [])
+
+abbrev pub IsSlotsTables : List Act → Code → Tables → Type 0
+IsSlotsTables acts code t =
+    (t.lives.items ≡ uncut (cuts_of acts code) (target_marks code) code)
+    × (t.pops.items ≡ cuts_of acts code) × (t.skips.items ≡ [])
+    × (t.aims.table.entries ≡ [])
+
+abbrev pub IsJumpsTables : List Act → Code → Tables → Type 0
+IsJumpsTables acts code t =
+    (t.lives.items ≡ unskipped (skips_of acts code) code) × (t.pops.items ≡ [])
+    × (t.skips.items ≡ skips_of acts code) × TellsAims t.aims acts
