@@ -1,0 +1,5 @@
+pub mod Kept
+pub mod Places
+pub mod Taking
+pub mod Rounds
+pub mod Joining

@@ -1,0 +1,4 @@
+pub mod Index
+pub mod Work
+pub mod Ready
+pub mod Sweep

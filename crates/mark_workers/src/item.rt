@@ -1,0 +1,138 @@
+//! What a seat does with one item: its needs and its pairs.
+ghost use Rattle.std.specs.Prelude.{◌≡◌, ◌<◌, false, length};
+ghost use Rattle.std.specs.List.{All, Contains};
+ghost use Rattle.mark_core.specs.Marks.{needs_of};
+ghost use Rattle.mark_core.specs.Valid.{PairBelow, Valid};
+ghost use Rattle.mark_machine.specs.Machine.{May, PairSeen};
+ghost use Rattle.mark_words.specs.Seats.{view, system_of, IsSeatOf};
+ghost use Rattle.mark_workers.specs.Index.{IsIndex};
+ghost use Rattle.mark_workers.specs.Work.{Did, Fits, IsBusy, Kept, Looked, Sides};
+
+use crate::pair_index::PairIndex;
+use crossbeam_deque::Worker;
+use mark_core::{Pair, System};
+use mark_words::{Claimed, MarkSeat, MarkTable};
+
+/// Does all that the item in hand asks for, and finishes it. Items that are new go to the queue.
+pub(crate) fn do_item(
+    table: &MarkTable,
+    seat: &mut MarkSeat,
+    sys: &System,
+    index: &PairIndex,
+    id: u32,
+    queue: &mut Worker<u32>,
+)
+    requires fits { Fits table.now sys.now index.now }
+    requires id { id < sys.now.n }
+    requires seat { IsSeatOf table.now seat.old }
+    requires busy { IsBusy (view seat.old) id }
+    ensures seat { IsSeatOf table.now seat.new }
+    ensures did { Did (system_of table.now).n (view seat.old) id (view seat.new) }
+{
+    claim_needs(table, seat, sys, id, queue);
+    look_pairs(table, seat, sys, index, id, queue);
+    table.finish(seat);
+}
+
+/// Claims all that the item needs.
+fn claim_needs(
+    table: &MarkTable,
+    seat: &mut MarkSeat,
+    sys: &System,
+    id: u32,
+    queue: &mut Worker<u32>,
+)
+    requires system { system_of table.now ≡ sys.now }
+    requires valid { Valid sys.now }
+    requires id { id < sys.now.n }
+    requires seat { IsSeatOf table.now seat.old }
+    requires busy { IsBusy (view seat.old) id }
+    ensures seat { IsSeatOf table.now seat.new }
+    ensures kept { Kept (system_of table.now).n (view seat.old) (view seat.new) }
+    ensures seen { All (Contains (view seat.new).seen) (needs_of sys.now id) }
+{
+    for item in sys.needs[id as usize].as_slice() {
+        claim(table, seat, *item, queue);
+    }
+}
+
+/// Looks at each pair in which the item stands, the last one first.
+fn look_pairs(
+    table: &MarkTable,
+    seat: &mut MarkSeat,
+    sys: &System,
+    index: &PairIndex,
+    id: u32,
+    queue: &mut Worker<u32>,
+)
+    requires fits { Fits table.now sys.now index.now }
+    requires id { id < sys.now.n }
+    requires seat { IsSeatOf table.now seat.old }
+    requires busy { IsBusy (view seat.old) id }
+    ensures seat { IsSeatOf table.now seat.new }
+    ensures kept { Kept (system_of table.now).n (view seat.old) (view seat.new) }
+    ensures seen { All (PairSeen (view seat.new) id) sys.now.pairs }
+{
+    let mut front = index.fronts[id as usize];
+    while front > 0 {
+        let place = front - 1;
+        look_pair(table, seat, id, sys.pairs[place / 2], queue);
+        front = index.links[place];
+    }
+}
+
+/// Looks at the other item of the pair, or at the item itself where the pair has it twice.
+fn look_pair(table: &MarkTable, seat: &mut MarkSeat, id: u32, pair: Pair, queue: &mut Worker<u32>)
+    requires seat { IsSeatOf table.now seat.old }
+    requires busy { IsBusy (view seat.old) id }
+    requires pair { Contains (system_of table.now).pairs pair }
+    requires below { PairBelow (system_of table.now).n pair }
+    ensures seat { IsSeatOf table.now seat.new }
+    ensures kept { Kept (system_of table.now).n (view seat.old) (view seat.new) }
+    ensures seen { PairSeen (view seat.new) id pair }
+{
+    if pair.one == id {
+        look(table, seat, id, pair.two, pair, queue);
+    }
+    if pair.two == id {
+        look(table, seat, id, pair.one, pair, queue);
+    }
+}
+
+/// Looks at the partner, and claims the consequence where it is marked.
+fn look(
+    table: &MarkTable,
+    seat: &mut MarkSeat,
+    id: u32,
+    partner: u32,
+    pair: Pair,
+    queue: &mut Worker<u32>,
+)
+    requires seat { IsSeatOf table.now seat.old }
+    requires busy { IsBusy (view seat.old) id }
+    requires pair { Contains (system_of table.now).pairs pair }
+    requires below { PairBelow (system_of table.now).n pair }
+    requires sides { Sides pair id partner }
+    ensures seat { IsSeatOf table.now seat.new }
+    ensures kept { Kept (system_of table.now).n (view seat.old) (view seat.new) }
+    ensures seen { Looked (view seat.new) id partner pair }
+{
+    if table.is_marked(seat, partner) {
+        claim(table, seat, pair.derived, queue);
+    }
+}
+
+/// Claims the item, and queues it where it is new. One that the queue refuses for want of memory is left to the sweep.
+pub(crate) fn claim(table: &MarkTable, seat: &mut MarkSeat, item: u32, queue: &mut Worker<u32>)
+    requires seat { IsSeatOf table.now seat.old }
+    requires free { (view seat.old).reserved ≡ false }
+    requires item { item < (system_of table.now).n }
+    requires due { May (system_of table.now) (view seat.old) item }
+    ensures seat { IsSeatOf table.now seat.new }
+    ensures kept { Kept (system_of table.now).n (view seat.old) (view seat.new) }
+    ensures seen { Contains (view seat.new).seen item }
+{
+    if table.claim(seat, item) == Claimed::New {
+        let _ = queue.push(item);
+    }
+}
