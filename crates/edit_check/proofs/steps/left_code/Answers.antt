@@ -7,5 +7,5 @@ pub changed-requires : goal.changed-requires
 changed-requires c =
     reach_few c.args.acts.now c.args.code.now c.in_ok-tables.tables 4294967295
     (subst (λ n. IsReachTables c.args.acts.now n c.in_ok-tables.tables) c.len.ensures
-        c.in_ok-tables.ensures)
+    c.in_ok-tables.ensures)
     c.requires.few
