@@ -5,7 +5,6 @@ mod classes;
 mod files;
 mod left;
 mod links;
-mod pairs;
 mod types;
 mod wanted;
 
@@ -13,6 +12,5 @@ pub use classes::{read_class, write_class};
 pub use files::shrink_set;
 pub use left::shrunk;
 pub use links::{check_links, resolve_method};
-pub use pairs::check_pair;
 pub use types::{assignable, verify_method};
 pub use wanted::system_of;
