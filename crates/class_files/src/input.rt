@@ -12,6 +12,7 @@ ghost use Rattle.class_files.specs.declared.input.InputFault.TheVariants as faul
 
 use jv_base::{Items, M, OutOfMemory, Text};
 use std::alloc::{AllocError, AllocFailed, Global};
+use std::fmt::{self, Display, Formatter};
 use tree_io::{FileAt, ListFault, ReadFault, Tree};
 
 /// The greatest number of files below a directory.
@@ -37,6 +38,19 @@ pub enum InputFault {
     /// The device failed, and the tree's count of faults has risen.
     Failed,
     OutOfMemory,
+}
+
+impl Display for InputFault {
+    fn fmt<W: fmt::Write>(&self, f: &mut Formatter<W>) -> fmt::Result {
+        match self {
+            InputFault::TooManyFiles => f.write_str("more than 65,536 files"),
+            InputFault::TooManyClasses => f.write_str("more than 20,000 class files"),
+            InputFault::TooLong => f.write_str("more than 67,108,864 bytes of class files"),
+            InputFault::Absent(path) => write!(f, "{} was listed and isn't there", path.as_str()),
+            InputFault::Failed => f.write_str("the device failed"),
+            InputFault::OutOfMemory => f.write_str("memory is wanting"),
+        }
+    }
 }
 
 impl From<AllocError> for InputFault {

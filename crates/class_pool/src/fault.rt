@@ -4,6 +4,7 @@ ghost use Rattle.class_pool.specs.KindNames.{pool_name};
 
 use class_model::Class;
 use jv_base::{Name, Text};
+use std::fmt::{self, Display, Formatter};
 
 /// A class, and the path of its file below the directory.
 #[derive(Drop)]
@@ -19,6 +20,12 @@ pub struct PoolFault {
     /// The name of the class at fault.
     pub class: Name,
     pub kind: PoolKind,
+}
+
+impl Display for PoolFault {
+    fn fmt<W: fmt::Write>(&self, f: &mut Formatter<W>) -> fmt::Result {
+        write!(f, "{} at {}", self.kind.name(), self.class.as_str())
+    }
 }
 
 /// What is wrong with a class.

@@ -5,21 +5,27 @@ ghost use Rattle.code_read.specs.declared.fault.Wrong.TheVariants.{Cut as cut_of
 ghost use Rattle.code_read.specs.Fault.{code_fault};
 
 use jv_base::{End, Or};
+use thiserror::Error;
 
 /// The first fault of a code (JVMS 4.9.1), with the offset of the instruction's first byte.
-#[derive(Clone, Copy, Debug, PartialEq, Eq)]
+#[derive(Clone, Copy, Debug, Error, PartialEq, Eq)]
 pub enum CodeFault {
     /// The byte, or the one behind wide, is no opcode (JVMS 6.5).
+    #[error("BadOpcode at byte {0}")]
     BadOpcode(u32),
     /// An operand breaks a rule (JVMS 4.9.1).
+    #[error("BadOperand at byte {0}")]
     BadOperand(u32),
     /// The code ends inside the instruction.
+    #[error("Cut at byte {0}")]
     Cut(u32),
     /// The instruction is one that is left out: of float or double, monitorenter, monitorexit, invokedynamic, or
     /// one that loads a class, a float or a double. Its first byte comes second; it is that of wide where wide
     /// stands in front.
+    #[error("LeftOutOpcode {1} at byte {0}")]
     LeftOutOpcode(u32, u8),
     /// A target of the instruction isn't the first byte of one (JVMS 4.9.1).
+    #[error("BadTarget at byte {0}")]
     BadTarget(u32),
 }
 

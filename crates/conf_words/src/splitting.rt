@@ -8,6 +8,7 @@ ghost use Rattle.conf_words.specs.Reading.{words_at, words_of_bytes};
 use crate::pieces::piece_at;
 use jv_base::{Items, M, Or, Text};
 use std::alloc::Global;
+use std::fmt::{self, Display, Formatter};
 
 /// A word of a config, without the quotes that it may have stood in.
 #[derive(Drop)]
@@ -24,6 +25,15 @@ pub enum WordFault {
     NotUtf8(u32),
     /// A quote isn't closed on its line, which is counted from 1.
     QuoteOpen(u32),
+}
+
+impl Display for WordFault {
+    fn fmt<W: fmt::Write>(&self, f: &mut Formatter<W>) -> fmt::Result {
+        match self {
+            WordFault::NotUtf8(offset) => write!(f, "NotUtf8 at byte {offset}"),
+            WordFault::QuoteOpen(line) => write!(f, "QuoteOpen at line {line}"),
+        }
+    }
 }
 
 /// The words of a config's bytes, or the first fault (ProGuard manual, "Usage").

@@ -4,6 +4,7 @@ ghost use Rattle.format_reading.specs.Fault.{cut, inside, or_inside};
 ghost use Rattle.jv_base.specs.declared.outcome.Or.TheVariants.{Fault};
 
 use jv_base::{End, Or};
+use thiserror::Error;
 
 /// The rule of JVMS 4 that bytes break.
 #[derive(Clone, Copy, Debug, PartialEq, Eq)]
@@ -53,7 +54,8 @@ pub enum FormatKind {
 
 /// The first fault of bytes that are no class file: the rule that is broken, and the offset of the
 /// first byte of the item that breaks it.
-#[derive(Clone, Copy, Debug, PartialEq, Eq)]
+#[derive(Clone, Copy, Debug, Error, PartialEq, Eq)]
+#[error("{kind:?} at byte {offset}")]
 pub struct FormatFault {
     pub offset: u32,
     pub kind: FormatKind,

@@ -5,6 +5,7 @@ ghost use Rattle.jv_base.specs.declared.outcome.Or.TheVariants.{Fault};
 ghost use Rattle.keep_rules.specs.KindNames.{rule_name, rule_option};
 
 use jv_base::{Or, Text};
+use std::fmt::{self, Display, Formatter};
 
 /// The first fault of words that are no config.
 #[derive(Drop)]
@@ -12,6 +13,16 @@ pub struct RuleFault {
     /// The line of the word at fault, from 1; 0 where a fault is of the config as a whole.
     pub line: u32,
     pub kind: RuleKind,
+}
+
+impl Display for RuleFault {
+    fn fmt<W: fmt::Write>(&self, f: &mut Formatter<W>) -> fmt::Result {
+        write!(f, "{} at line {}", self.kind.name(), self.line)?;
+        match self.kind.option() {
+            Some(option) => write!(f, ": {}", option.as_str()),
+            None => Ok(()),
+        }
+    }
 }
 
 /// What is wrong with a config.

@@ -2,6 +2,9 @@
 ghost use Rattle.std.specs.Prelude.{◌≡◌};
 ghost use Rattle.link_check.specs.KindNames.{profile_name};
 
+use std::error::Error;
+use std::fmt::{self, Display, Formatter};
+
 /// What is wrong with a reference to a field or a method. Of several kinds the first counts.
 #[derive(Clone, Copy, Debug, PartialEq, Eq)]
 pub enum LinkKind {
@@ -66,3 +69,15 @@ pub struct ProfileFault {
     pub member: Option<u32>,
     pub kind: ProfileKind,
 }
+
+impl Display for ProfileFault {
+    fn fmt<W: fmt::Write>(&self, f: &mut Formatter<W>) -> fmt::Result {
+        write!(f, "{:?} at class {}", self.kind, self.class)?;
+        match self.member {
+            Some(member) => write!(f, ", member {member}"),
+            None => Ok(()),
+        }
+    }
+}
+
+impl Error for ProfileFault {}

@@ -4,6 +4,7 @@ ghost use Rattle.jv_base.specs.declared.outcome.Or.TheVariants.{Fault};
 ghost use Rattle.mapping_file.specs.KindNames.{map_kind_name};
 
 use jv_base::{FieldType, Items, MethodType, Name, Or};
+use thiserror::Error;
 
 /// The names of classes and of their members, before and after.
 #[derive(Drop)]
@@ -73,7 +74,8 @@ impl MapKind {
 }
 
 /// The first line, from 1, that no mapping file has there.
-#[derive(Clone, Copy, Debug, PartialEq, Eq)]
+#[derive(Clone, Copy, Debug, Error, PartialEq, Eq)]
+#[error("{kind:?} at line {line}")]
 pub struct MapFault {
     pub line: u32,
     pub kind: MapKind,

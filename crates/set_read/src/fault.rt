@@ -7,6 +7,7 @@ use class_pool::PoolKind;
 use format_reading::FormatFault;
 use jv_base::Text;
 use link_check::ProfileKind;
+use std::fmt::{self, Display, Formatter};
 use type_verifier::TypeKind;
 
 /// Why files aren't taken as a set of classes.
@@ -18,6 +19,15 @@ pub enum SetFault {
     Rule(RuleFault),
 }
 
+impl Display for SetFault {
+    fn fmt<W: fmt::Write>(&self, f: &mut Formatter<W>) -> fmt::Result {
+        match self {
+            SetFault::Format(path, fault) => write!(f, "{fault} of {}", path.as_str()),
+            SetFault::Rule(fault) => write!(f, "{fault}"),
+        }
+    }
+}
+
 /// The first place of a set that breaks a rule.
 #[derive(Drop)]
 pub struct RuleFault {
@@ -26,6 +36,16 @@ pub struct RuleFault {
     /// The member as a mapping file has it; none for the class itself.
     pub member: Option<Text>,
     pub kind: RuleKind,
+}
+
+impl Display for RuleFault {
+    fn fmt<W: fmt::Write>(&self, f: &mut Formatter<W>) -> fmt::Result {
+        write!(f, "{} at {}", self.kind.name(), self.class.as_str())?;
+        match &self.member {
+            Some(member) => write!(f, ", {}", member.as_str()),
+            None => Ok(()),
+        }
+    }
 }
 
 /// The rule that is broken.

@@ -4,6 +4,7 @@ ghost use Rattle.jv_base.specs.declared.outcome.Or.TheVariants.{Fault};
 ghost use Rattle.type_verifier.specs.KindNames.{type_name};
 
 use jv_base::Or;
+use thiserror::Error;
 
 /// What is wrong at an instruction. Of several things the first counts; but a target's frame is looked at behind the
 /// instruction's own rule.
@@ -60,7 +61,8 @@ impl From<TypeKind> for Or<TypeKind> {
 
 /// The first fault of a code, or of a set: class after class in order, method after method, instruction after
 /// instruction.
-#[derive(Clone, Copy, Debug, PartialEq, Eq)]
+#[derive(Clone, Copy, Debug, Error, PartialEq, Eq)]
+#[error("{kind:?} at instruction {index} of method {method} of class {class}")]
 pub struct TypeFault {
     /// The number of the class.
     pub class: u32,

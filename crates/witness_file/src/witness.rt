@@ -5,6 +5,7 @@ ghost use Rattle.witness_file.specs.KindNames.{wit_kind_name};
 
 use code_edit::MethodEdits;
 use jv_base::{Items, Name, Or, Text};
+use thiserror::Error;
 
 /// How methods were edited, those that weren't left out.
 #[derive(Drop)]
@@ -46,7 +47,8 @@ impl WitKind {
 }
 
 /// The first line, from 1, that no witness has there. Where the text ends too soon it is the line behind its last.
-#[derive(Clone, Copy, Debug, PartialEq, Eq)]
+#[derive(Clone, Copy, Debug, Error, PartialEq, Eq)]
+#[error("{kind:?} at line {line}")]
 pub struct WitFault {
     pub line: u32,
     pub kind: WitKind,
