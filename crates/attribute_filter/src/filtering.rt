@@ -9,6 +9,7 @@ use crate::AttributeFilter;
 use class_model::{Class, Code, Field, Ins, Method};
 use jv_base::{Items, M, Name, Units, units_of_text};
 use std::alloc::Global;
+use std::mem;
 
 /// The class with those of its optional attributes and of its members' that are kept: SourceFile, Exceptions,
 /// LineNumberTable, Synthetic and Deprecated (JVMS 4.7). The flag ACC_SYNTHETIC stays. A SourceFile that is kept holds
@@ -59,17 +60,14 @@ fn source_named(alloc: Global, filter: &AttributeFilter, own: Units) -> M<Units>
 fn members_filtered(alloc: Global, filter: &AttributeFilter, class: Class) -> Class
     ensures { result ≡ members_filtered filter.now class }
 {
-    let fields = fields_filtered(filter, class.fields);
-    let methods = methods_filtered(alloc, filter, class.methods);
-    let synthetic = both(filter.synthetic, class.synthetic);
-    let deprecated = both(filter.deprecated, class.deprecated);
-    Class {
-        fields,
-        methods,
-        synthetic,
-        deprecated,
-        ..class
-    }
+    let mut class = class;
+    let fields = mem::replace(&mut class.fields, Items::new(alloc));
+    class.fields = fields_filtered(filter, fields);
+    let methods = mem::replace(&mut class.methods, Items::new(alloc));
+    class.methods = methods_filtered(alloc, filter, methods);
+    class.synthetic = both(filter.synthetic, class.synthetic);
+    class.deprecated = both(filter.deprecated, class.deprecated);
+    class
 }
 
 /// Whether an attribute is kept and there.
@@ -118,7 +116,7 @@ fn filter_method(alloc: Global, filter: &AttributeFilter, method: &mut Method)
     ensures { method.new ≡ method_filtered filter.now method.old }
 {
     let code = method.code.take();
-    method.code = code_kept(filter, code);
+    method.code = code_kept(alloc, filter, code);
     filter_throws(alloc, filter, &mut method.throws);
     method.synthetic = both(filter.synthetic, method.synthetic);
     method.deprecated = both(filter.deprecated, method.deprecated);
@@ -134,24 +132,26 @@ fn filter_throws(alloc: Global, filter: &AttributeFilter, throws: &mut Items<Nam
 }
 
 /// The code, with its lines where these are kept.
-fn code_kept(filter: &AttributeFilter, code: Option<Code>) -> Option<Code>
+fn code_kept(alloc: Global, filter: &AttributeFilter, code: Option<Code>) -> Option<Code>
     ensures { result ≡ code_kept filter.now code }
 {
     if filter.line_numbers {
         return code;
     }
     match code {
-        Some(code) => Some(without_lines(code)),
+        Some(code) => Some(without_lines(alloc, code)),
         None => None,
     }
 }
 
 /// The code without the lines of its instructions.
-fn without_lines(code: Code) -> Code
+fn without_lines(alloc: Global, code: Code) -> Code
     ensures { result ≡ without_lines code }
 {
-    let ins = instructions_without_line(code.ins);
-    Code { ins, ..code }
+    let mut code = code;
+    let ins = mem::replace(&mut code.ins, Items::new(alloc));
+    code.ins = instructions_without_line(ins);
+    code
 }
 
 /// Each instruction without its line.

@@ -4,7 +4,6 @@ use jv_base::{Access, FieldType, Items, MethodType, Name, Shared, Units};
 
 /// A class or an interface (JVMS 4.1). Its version, its constant pool and the attributes that have no
 /// place here aren't kept.
-#[derive(Drop)]
 pub struct Class {
     /// The flags that mean something on a class (JVMS 4.1, table 4.1-A).
     pub flags: Access,
@@ -24,6 +23,24 @@ pub struct Class {
     pub deprecated: bool,
     /// The first thing in the class file that no value here stands for.
     pub left_out: Option<LeftOut>,
+}
+
+/// Written out, so that a crate which lets a class go proves one call and not one for each type in it.
+impl Drop for Class {
+    fn drop(self) {
+        let Class {
+            flags: _,
+            name: _,
+            super_name: _,
+            interfaces: _,
+            fields: _,
+            methods: _,
+            source: _,
+            synthetic: _,
+            deprecated: _,
+            left_out: _,
+        } = self;
+    }
 }
 
 /// A field (JVMS 4.5).

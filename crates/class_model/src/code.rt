@@ -3,7 +3,6 @@ use crate::{Frames, Op};
 use jv_base::{Items, Name};
 
 /// The attribute Code. Its instructions are numbered from 0, and places in it are such numbers.
-#[derive(Drop)]
 pub struct Code {
     /// How many words the operand stack takes at most.
     pub max_stack: u16,
@@ -14,6 +13,19 @@ pub struct Code {
     pub handlers: Items<Handler>,
     /// The frames of the attribute StackMapTable, ascending (JVMS 4.7.4).
     pub frames: Frames,
+}
+
+/// Written out, as that of a class is.
+impl Drop for Code {
+    fn drop(self) {
+        let Code {
+            max_stack: _,
+            max_locals: _,
+            ins: _,
+            handlers: _,
+            frames: _,
+        } = self;
+    }
 }
 
 /// An instruction with its line of the source, as LineNumberTable tells it (JVMS 4.7.12).

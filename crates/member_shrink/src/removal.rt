@@ -6,6 +6,7 @@ ghost use Rattle.member_shrink.specs.Shrunk.{is_marked, chosen, with_marked_memb
 use class_model::Class;
 use jv_base::{Items, M};
 use std::alloc::Global;
+use std::mem;
 
 /// The classes whose items are marked, in their order, each with its marked fields and its marked
 /// methods in their order (ProGuard manual, "Usage": what isn't kept is removed). Items are
@@ -51,13 +52,12 @@ fn with_marked_members(alloc: Global, class: Class, marks: &[bool], item: usize)
 {
     let first_field = item + 1;
     let first_method = first_field + class.fields.len();
-    let fields = chosen(alloc, class.fields, marks, first_field)?;
-    let methods = chosen(alloc, class.methods, marks, first_method)?;
-    Ok(Class {
-        fields,
-        methods,
-        ..class
-    })
+    let mut class = class;
+    let fields = mem::replace(&mut class.fields, Items::new(alloc));
+    class.fields = chosen(alloc, fields, marks, first_field)?;
+    let methods = mem::replace(&mut class.methods, Items::new(alloc));
+    class.methods = chosen(alloc, methods, marks, first_method)?;
+    Ok(class)
 }
 
 /// Of elements whose items follow one another from the first on, those that are marked.
