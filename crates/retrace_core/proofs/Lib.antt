@@ -1,4 +1,3 @@
 pub mod LastPlace
 pub mod LineParts
 pub mod Telling
-pub mod Trees

@@ -1,11 +1,12 @@
 -- Tables that tell of texts, filled one by one.
 use Rattle.std.proofs.Common.{◌≡◌, ℕ, Bool, true, false, cond, List, [], ◌∷◌, ◌++◌, Option, Some, None, refl, sym, ap}
-use Rattle.std.proofs.Common.{subst, ◌∙◌}
+use Rattle.std.proofs.Common.{subst, ◌∙◌, Result, Ok, Err}
 use Rattle.std.specs.BTreeMap.{insert_entry}
 use Rattle.std.specs.Cmp.Lexicographic.{slice_cmp}
 use Rattle.std.specs.List.{find}
 use Rattle.std.specs.Map.{lookup}
-use Rattle.std.specs.Option.{is_some, option_map, option_or, unwrap_or}
+use Rattle.std.specs.Option.{is_some, option_copied, option_map, option_or, unwrap_or}
+use Rattle.std.specs.Prelude.{OnOk}
 use Rattle.std.specs.Ordering.{is_eq, match_ordering, nat_cmp}
 use Rattle.std.specs.declared.cmp.Ordering.{Ordering}
 use Rattle.std.specs.declared.cmp.Ordering.TheVariants.{Less, Equal, Greater}
@@ -145,3 +146,13 @@ pub old_none : (name : List ℕ) (o : Option (Bor (List ℕ))) (f : Option MapMe
 old_none name None None is h = refl
 old_none name None (Some m) is h = absurd h
 old_none name (Some v) f is h = absurd cc
+
+-- what was copied is there where it was lent
+pub copied_some : {X : Type 0} (r : Option (Bor X)) → is_some (option_copied r) ≡ is_some r
+copied_some None = refl
+copied_some (Some x) = refl
+
+-- what follows where a call succeeded
+pub on_ok : {X E P Q : Type 0} (r : Result X E) → OnOk r P → (P → Q) → OnOk r Q
+on_ok (Ok x) p f = f p
+on_ok (Err e) p f = tt

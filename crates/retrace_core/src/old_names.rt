@@ -1,13 +1,13 @@
 // What a mapping tells of the names in a trace.
-ghost use Rattle.std.specs.Prelude.{◌≡◌, ℕ, List, [], ◌∷◌, ◌++◌, ◌<◌, Some, if◌then◌else◌, length, IfOk, OnOk};
+ghost use Rattle.std.specs.Prelude.{◌≡◌, ℕ, List, [], ◌∷◌, ◌++◌, Some, if◌then◌else◌, IfOk, OnOk};
 ghost use Rattle.jv_base.specs.Names.{is_text};
 ghost use Rattle.std.specs.Option.{option_copied, option_map};
 ghost use Rattle.jv_base.specs.External.{dotted};
 ghost use Rattle.mapping_file.specs.declared.mapping.MapClass.{MapClass};
 ghost use Rattle.retrace_core.specs.OldNames.{class_named, old_in, outer_length, outermost, simple_name, source_of};
-ghost use Rattle.retrace_core.specs.bodies.Tables.{TellsClass, TellsClasses, found_in, kept_in, mark_with, place_in};
+ghost use Rattle.retrace_core.specs.bodies.Tables.{TellsClass, TellsClasses, kept_in};
 
-use crate::cutting::{last_place_of, place_of as place_of_byte};
+use crate::cutting::{last_place_of, place_of};
 use crate::tables::{OldMethods, old_methods};
 use jv_base::{M, Name};
 use mapping_file::{MapClass, Mapping};
@@ -25,94 +25,48 @@ pub(crate) struct OldClass<'a> {
     pub(crate) methods: OldMethods<'a>,
 }
 
-/// Classes by their new names, with dots. A number by which most names are told apart says in which tree one stands,
-/// and order finds it there, so no choice of names makes a look-up slow.
-pub(crate) type OldClasses<'a> = Vec<Tree<'a>>;
-
-type Tree<'a> = BTreeMap<Vec<u8>, OldClass<'a>>;
+/// Classes by their new names, with dots.
+pub(crate) type OldClasses<'a> = BTreeMap<Vec<u8>, OldClass<'a>>;
 
 /// The classes of a mapping.
 pub(crate) fn old_classes<'a>(alloc: Global, map: &'a Mapping) -> M<OldClasses<'a>>
-    ensures { IfOk result (λ trees. TellsClasses trees.items map.now.classes) }
+    ensures { IfOk result (λ table. TellsClasses table map.now.classes) }
 {
-    let mut trees = empty_trees(alloc, map.classes.len().max(1))?;
+    let mut table = BTreeMap::new(alloc);
     for class in map.classes.as_slice() {
-        put_class(alloc, &mut trees, class)?;
+        put_class(alloc, &mut table, class)?;
     }
-    Ok(trees)
+    Ok(table)
 }
 
-fn empty_trees<'a>(alloc: Global, count: usize) -> M<OldClasses<'a>>
-    ensures empty { IfOk result (λ trees. TellsClasses trees.items []) }
-    ensures count { IfOk result (λ trees. length trees.items ≡ count) }
-{
-    let mut trees = Vec::with_capacity(alloc, count)?;
-    for _ in 0..count {
-        trees.push(BTreeMap::new(alloc))?;
-    }
-    Ok(trees)
-}
-
-fn put_class<'a>(alloc: Global, trees: &mut OldClasses<'a>, class: &'a MapClass) -> M<()>
-    requires { 0 < length trees.old.items }
-    ensures told { (before : List MapClass) → TellsClasses trees.old.items before
-        → OnOk result (TellsClasses trees.new.items (before ++ class.now ∷ [])) }
-    ensures count { length trees.new.items ≡ length trees.old.items }
+fn put_class<'a>(alloc: Global, table: &mut OldClasses<'a>, class: &'a MapClass) -> M<()>
+    ensures { (before : List MapClass) → TellsClasses table.old before
+        → OnOk result (TellsClasses table.new (before ++ class.now ∷ [])) }
 {
     let new = dotted(alloc, &class.new)?;
-    if class_named(trees, &new).is_some() {
+    if class_named(table, &new).is_some() {
         return Ok(());
     }
     let kept = old_class(alloc, class)?;
-    let at = place_of(&new, trees.len());
-    keep(&mut trees[at], new, kept)
+    keep(table, new, kept)
 }
 
-fn keep<'a>(tree: &mut Tree<'a>, new: Vec<u8>, kept: OldClass<'a>) -> M<()>
-    ensures { OnOk result ((name : List ℕ) → kept_in (λ k. k.items) tree.new.entries name
-        ≡ (if is_text new.items name then Some kept.entry else kept_in (λ k. k.items) tree.old.entries name)) }
+fn keep<'a>(table: &mut OldClasses<'a>, new: Vec<u8>, kept: OldClass<'a>) -> M<()>
+    ensures { OnOk result ((name : List ℕ) → kept_in (λ k. k.items) table.new.entries name
+        ≡ (if is_text new.items name then Some kept.entry else kept_in (λ k. k.items) table.old.entries name)) }
 {
-    tree.insert(new, kept)?;
+    table.insert(new, kept)?;
     Ok(())
 }
 
 /// What is kept of the class with this new name, if there is one.
 pub(crate) fn class_named<'t, 'a>(
-    trees: &'t OldClasses<'a>,
+    table: &'t OldClasses<'a>,
     name: &[u8],
 ) -> Option<&'t OldClass<'a>>
-    ensures { option_copied result ≡ found_in trees.now.items name.now }
+    ensures { option_copied result ≡ kept_in (λ k. k.items) table.now.entries name.now }
 {
-    if trees.is_empty() {
-        return None;
-    }
-    in_tree(&trees[place_of(name, trees.len())], name)
-}
-
-fn in_tree<'t, 'a>(tree: &'t Tree<'a>, name: &[u8]) -> Option<&'t OldClass<'a>>
-    ensures { option_copied result ≡ kept_in (λ k. k.items) tree.now.entries name.now }
-{
-    tree.get(name)
-}
-
-// Which of so many trees a name stands in.
-fn place_of(name: &[u8], count: usize) -> usize
-    requires { 0 < count }
-    ensures is { result ≡ place_in count name.now }
-    ensures within { result < count }
-{
-    (mark_of(name) % count as u64) as usize
-}
-
-// A number by which most names are told apart (after Fowler, Noll and Vo).
-fn mark_of(name: &[u8]) -> u64
-    ensures { result ≡ mark_with 0 name.now }
-{
-    let mut mark = 0;
-    for byte in name {
-        mark = (mark * 16_777_619 + u64::from(*byte)) % 4_294_967_296;
-    }
-    mark
+    table.get(name)
 }
 
 fn old_class<'a>(alloc: Global, class: &'a MapClass) -> M<OldClass<'a>>
@@ -163,7 +117,7 @@ fn outermost(simple: &[u8]) -> &[u8]
     let [_, rest @ ..] = simple else {
         return simple;
     };
-    match place_of_byte(b'$', rest) {
+    match place_of(b'$', rest) {
         Some(dollar) => &simple[..dollar + 1],
         None => simple,
     }

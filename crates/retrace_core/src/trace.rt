@@ -35,7 +35,7 @@ pub fn retrace(alloc: Global, map: &Mapping, trace: &[u8]) -> M<Bytes>
 }
 
 fn push_lines(out: &mut Vec<u8>, table: &OldClasses<'_>, trace: &[u8]) -> M<()>
-    ensures { (m : Mapping) → TellsClasses table.now.items m.classes
+    ensures { (m : Mapping) → TellsClasses table.now m.classes
         → OnOk result (out.new.items ≡ out.old.items ++ retraced m trace.now) }
 {
     let mut rest = trace;
@@ -59,7 +59,7 @@ fn first_part(text: &[u8]) -> Option<(&[u8], &[u8])>
 
 // A line that ends with LF or CR LF; the part has no LF.
 fn push_ended(out: &mut Vec<u8>, table: &OldClasses<'_>, part: &[u8]) -> M<()>
-    ensures { (m : Mapping) → TellsClasses table.now.items m.classes
+    ensures { (m : Mapping) → TellsClasses table.now m.classes
         → OnOk result (out.new.items ≡ out.old.items ++ ended_retraced m part.now) }
 {
     let line = without_return(part);
@@ -82,7 +82,7 @@ fn without_return(part: &[u8]) -> &[u8]
 
 #[tactic(auto, unfolding(crate::specs::Retraced::line_retraced))]
 fn push_line(out: &mut Vec<u8>, table: &OldClasses<'_>, line: &[u8]) -> M<()>
-    ensures { (m : Mapping) → TellsClasses table.now.items m.classes
+    ensures { (m : Mapping) → TellsClasses table.now m.classes
         → OnOk result (out.new.items ≡ out.old.items ++ line_retraced m line.now) }
 {
     match frame_of(line) {
@@ -93,7 +93,7 @@ fn push_line(out: &mut Vec<u8>, table: &OldClasses<'_>, line: &[u8]) -> M<()>
 
 // A line that is no frame's.
 fn push_other(out: &mut Vec<u8>, table: &OldClasses<'_>, line: &[u8]) -> M<()>
-    ensures { (m : Mapping) → TellsClasses table.now.items m.classes
+    ensures { (m : Mapping) → TellsClasses table.now m.classes
         → OnOk result (out.new.items ≡ out.old.items ++ other_retraced m line.now (head_of line.now)) }
 {
     match head_of(line) {
@@ -115,7 +115,7 @@ fn push_frame(
     line: &[u8],
     frame: &FrameParts<'_>,
 ) -> M<()>
-    ensures { (m : Mapping) → TellsClasses table.now.items m.classes → OnOk result (out.new.items
+    ensures { (m : Mapping) → TellsClasses table.now m.classes → OnOk result (out.new.items
         ≡ out.old.items
         ++ frame_retraced line.now (frame_shown frame.now) (class_named m.classes frame.now.class.now)) }
 {
@@ -168,7 +168,7 @@ fn push_source(out: &mut Vec<u8>, source: &[u8], number: &[u8]) -> M<()>
 }
 
 fn push_head(out: &mut Vec<u8>, table: &OldClasses<'_>, line: &[u8], head: &HeadParts<'_>) -> M<()>
-    ensures { (m : Mapping) → TellsClasses table.now.items m.classes → OnOk result (out.new.items
+    ensures { (m : Mapping) → TellsClasses table.now m.classes → OnOk result (out.new.items
         ≡ out.old.items ++ head_retraced line.now (head_shown head.now) (class_named m.classes head.now.class.now)) }
 {
     match class_named(table, head.class) {

@@ -1,9 +1,9 @@
 -- Tables of old names (only the proofs of the code need them).
-use Rattle.std.specs.Prelude.{◌≡◌, ℕ, ◌+◌, ◌*◌, ◌%◌, Bool, List, [], ◌∷◌, length, Option, Some, None}
+use Rattle.std.specs.Prelude.{◌≡◌, ℕ, Bool, List, Option, Some, None}
 use Rattle.std.specs.Borrow.{Bor}
 use Rattle.std.specs.BTreeMap.{BTreeMap}
 use Rattle.std.specs.Cmp.Lexicographic.{slice_cmp}
-use Rattle.std.specs.List.{find, slice_get}
+use Rattle.std.specs.List.{find}
 use Rattle.std.specs.Map.{lookup}
 use Rattle.std.specs.Ordering.{is_eq, nat_cmp}
 use Rattle.std.specs.declared.vec.Vec.{Vec}
@@ -46,27 +46,6 @@ pub record TellsClass (kept : OldClass) (c : MapClass) : Type 0 where
   pub source : kept.source.items ≡ source_of c.old
   pub methods : TellsMethods kept.methods c.methods
 
--- the number by which texts are told apart, with one byte more
-abbrev pub mark_on : ℕ → ℕ → ℕ
-mark_on mark byte = (mark * 16777619 + byte) % 4294967296
-
--- the same with a whole text
-unfoldable pub mark_with : ℕ → List ℕ → ℕ
-mark_with mark [] = mark
-mark_with mark (byte ∷ bytes) = mark_with (mark_on mark byte) bytes
-
--- which of so many trees a text stands in
-abbrev pub place_in : ℕ → List ℕ → ℕ
-place_in count text = mark_with 0 text % count
-
-abbrev pub kept_by : {A : Type 0} → Option (BTreeMap (Vec ℕ A) OldClass) → List ℕ → Option OldClass
-kept_by None name = None
-kept_by (Some tree) name = kept_in (λ k. k.items) tree.entries name
-
--- what the trees keep of a text: it stands in its own alone
-abbrev pub found_in : {A : Type 0} → List (BTreeMap (Vec ℕ A) OldClass) → List ℕ → Option OldClass
-found_in trees name = kept_by (slice_get trees (place_in (length trees) name)) name
-
 -- the classes of a mapping, by their new names with dots
-abbrev pub TellsClasses : {A : Type 0} → List (BTreeMap (Vec ℕ A) OldClass) → List MapClass → Type 0
-TellsClasses trees classes = Tells TellsClass (λ c. dotted c.new) (found_in trees) classes
+abbrev pub TellsClasses : {A : Type 0} → BTreeMap (Vec ℕ A) OldClass → List MapClass → Type 0
+TellsClasses table classes = Tells TellsClass (λ c. dotted c.new) (kept_in (λ k. k.items) table.entries) classes

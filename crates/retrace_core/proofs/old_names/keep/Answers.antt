@@ -3,4 +3,4 @@ use Rattle.retrace_core.proofs.old_names.keep.Goals as goal
 
 pub returns : goal.returns
 returns c = λ name. rw c.in_ok-insert.ensures.entries (put_found (λ k. k.items) c.args.new c.args.kept
-    c.args.tree.now.entries name)
+    c.args.table.now.entries name)

@@ -1,4 +1,4 @@
-use Rattle.std.proofs.Common.{◌≡◌, ◌<◌, ◌∷◌, ◌++◌, [], List, take, length, sym, subst, ap, ◌∙◌}
+use Rattle.std.proofs.Common.{◌∷◌, ◌++◌, [], List, take, sym, subst, ap, ◌∙◌}
 use Rattle.std.proofs.lemmas.List.{take_more}
 use Rattle.mapping_file.specs.declared.mapping.MapClass.{MapClass}
 use Rattle.retrace_core.specs.bodies.Tables.{TellsClasses}
@@ -10,10 +10,7 @@ loop-class-preserved c =
     let e = c.as_slice-class-items.ensures in
     let lt = rw e at c.loop-class-test.true in
     let is = rw e at c.class-item.is in
-    record {
-      told = subst (λ (cs : List MapClass). TellsClasses c.put_class.new.trees.items cs)
-          (sym (take_more c.args.map.now.classes i c.class-item.result lt
-          ∙ ap (λ (d : MapClass). take i c.args.map.now.classes ++ d ∷ []) (sym is)))
-          (c.in_ok-put_class.ensures.told (take i c.args.map.now.classes) c.loop-class.invariant.told);
-      some = rw c.in_ok-put_class.ensures.count c.loop-class.invariant.some;
-    }
+    subst (λ (cs : List MapClass). TellsClasses c.put_class.new.table cs)
+    (sym (take_more c.args.map.now.classes i c.class-item.result lt
+    ∙ ap (λ (d : MapClass). take i c.args.map.now.classes ++ d ∷ []) (sym is)))
+    (c.in_ok-put_class.ensures (take i c.args.map.now.classes) c.loop-class.invariant)
