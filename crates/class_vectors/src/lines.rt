@@ -4,25 +4,26 @@ ghost use Rattle.std.specs.Option.{option_map};
 ghost use Rattle.class_vectors.specs.Lines.{bytes_of};
 
 use crate::answer::answer;
+use crate::edits::edit_answer;
 use hex::FromHexError;
 use jv_base::{M, OutOfMemory, Text};
 use line_answers::Answers;
 use std::alloc::Global;
 
-/// Says of a class file in hex what reading it gives.
+/// Says of a class file in hex what reading it gives, and of acts whether they are legal.
 pub struct ClassFiles;
 
 impl Answers for ClassFiles {
     fn answer(&self, alloc: Global, line: &[u8]) -> M<Option<Text>> {
         match bytes_of(alloc, line)? {
             Some(bytes) => Ok(Some(answer(alloc, bytes.as_slice())?)),
-            None => Ok(None),
+            None => edit_answer(alloc, line),
         }
     }
 }
 
-// The bytes that a line is in hex. A class file is shorter than 4 GiB.
-fn bytes_of(alloc: Global, line: &[u8]) -> M<Option<Vec<u8>>>
+/// The bytes that a line is in hex. A class file is shorter than 4 GiB.
+pub fn bytes_of(alloc: Global, line: &[u8]) -> M<Option<Vec<u8>>>
     ensures bytes { IfOk result (λ found. option_map (λ bytes. bytes.items) found ≡ bytes_of line.now) }
     ensures short { IfOk result (λ found. IfSome found (λ bytes. length bytes.items < 4294967295)) }
 {

@@ -5,7 +5,9 @@
 //! for the class itself, or `fault OFFSET KIND`.
 #![tactic(auto)]
 
+mod acts;
 mod answer;
+mod edits;
 mod kinds;
 mod lines;
 

@@ -6,4 +6,5 @@ pub mod Slots
 pub mod Jumps
 pub mod Applied
 pub mod Legal
+pub mod Passes
 pub mod SoundCode

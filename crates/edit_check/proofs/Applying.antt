@@ -27,46 +27,17 @@ use Rattle.code_edit.specs.SoundCode.{IsSound}
 use Rattle.edit_premises.proofs.AppliedSound.{aimed_below}
 use Rattle.edit_premises.proofs.Places.{get_below, map_from_get}
 use Rattle.edit_check.specs.Changed.{changed, cut_op, new_op, skip_op}
-use Rattle.edit_check.specs.Marks.{has, none, target_marks, with_cuts, with_skips}
-use Rattle.edit_check.specs.Places.{counts_from, lives_in, place_in}
-use Rattle.edit_check.specs.Swept.{swept_of}
-use Rattle.edit_check.specs.Uncut.{is_uncut, is_unskipped, takes, uncut, unskipped}
-use Rattle.edit_check.proofs.OnePass.{changed_is, place_is}
-use Rattle.edit_check.proofs.Marking.{cuts_marked, skips_marked, targets_marked}
-use Rattle.edit_check.proofs.Sweeping.{swept_is, swept_long}
+use Rattle.edit_tables.specs.Marks.{has, none, target_marks, with_cuts, with_skips}
+use Rattle.edit_tables.specs.Places.{counts_from, lives_in, place_in}
+use Rattle.edit_tables.specs.Swept.{swept_of}
+use Rattle.edit_check.specs.Uncut.{is_uncut, takes, uncut}
+use Rattle.edit_check.proofs.OnePass.{changed_is}
+use Rattle.edit_tables.proofs.Counting.{place_is}
+use Rattle.edit_tables.proofs.Marking.{cuts_marked, skips_marked, targets_marked}
+use Rattle.edit_tables.proofs.Staying.{and_false, from_long, going, going_long, going_where, none_at}
+use Rattle.edit_tables.proofs.Staying.{outside, skip_list, told_at}
+use Rattle.edit_tables.proofs.Sweeping.{swept_is, swept_long}
 use Rattle.edit_check.proofs.Targets.{retargeted_same, retargeted_twice}
-
--- ---- lists
-
-outside : (xs : List Bool) (at : ℕ) → length xs ≤ at → lives_in xs at ≡ true
-outside [] at le = refl
-outside (x ∷ xs) zero le = absurd (omega (arith, le))
-outside (x ∷ xs) (suc at) le = outside xs at (omega (arith, le))
-
-none_at : {A : Type 0} (xs : List A) (at : ℕ) → length xs ≤ at → slice_get xs at ≡ None
-none_at [] at le = refl
-none_at (x ∷ xs) zero le = absurd (omega (arith, le))
-none_at (x ∷ xs) (suc at) le = none_at xs at (omega (arith, le))
-
-from_long : {A B : Type 0} (f : ℕ → A → B) (k : ℕ) (xs : List A)
-    → length (map_from f k xs) ≡ length xs
-from_long f k [] = refl
-from_long f k (x ∷ xs) = ap suc (from_long f (suc k) xs)
-
--- what a list that goes by the index says of one
-told_at : {A : Type 0} (f : ℕ → A → Bool) (k : ℕ) (xs : List A) (at : ℕ) (x : A)
-    → slice_get xs at ≡ Some x
-    → lives_in (map_from f k xs) at ≡ f (k + at) x
-told_at f k [] at x e = absurd cc
-told_at f k (y ∷ ys) zero x e =
-    let same : y ≡ x = cc in let z : k ≡ k + 0 = omega arith in ap (f k) same ∙ ap (λ q. f q x) z
-told_at f k (y ∷ ys) (suc at) x e =
-    let n : suc k + at ≡ k + suc at = omega arith in
-    told_at f (suc k) ys at x e ∙ ap (λ q. f q x) n
-
-and_false : (a : Bool) → (a && false) ≡ false
-and_false true = refl
-and_false false = refl
 
 -- ---- targets that no aim moves
 
@@ -284,63 +255,25 @@ module _ (acts : List Act) (code : Code) where
 -- ---- jumps
 
 module _ (acts : List Act) (code : Code) where
-  abbrev skip_list : List Bool
-  skip_list = with_skips acts (none (length code.ins))
-
-  abbrev going : List Bool
-  going = unskipped skip_list code
-
-  pub going_long : length going ≡ length code.ins
-  going_long = from_long (is_unskipped skip_list) 0 code.ins
-
-  going_where : (at : ℕ) → lives_in going at ≡ stays acts code at
-  going_where at = by (slice_get code.ins at) refl (leb_tells (suc at) (length code.ins))
-    where
-      by : (o : Option Ins) → slice_get code.ins at ≡ o
-          → ((nat_le (suc at) (length code.ins) ≡ true) × (suc at ≤ length code.ins))
-          ⊎ ((nat_le (suc at) (length code.ins) ≡ false) × (length code.ins < suc at))
-          → lives_in going at ≡ stays acts code at
-      by (Some i) e p =
-          let lt : at < length code.ins = get_below code.ins at i e in
-          let z : 0 + at ≡ at = omega arith in
-          told_at (is_unskipped skip_list) 0 code.ins at i e
-          ∙ ap (λ q. is_unskipped skip_list q i) z
-          ∙ ap (λ b. not (b && is_goto i.op)) (skips_marked acts (length code.ins) at lt)
-          ∙ ap (λ o. not (is_skipped acts at && option_map_or (λ (i : Ins). is_goto i.op) o false))
-          (sym e)
-      by None e (inl p) = absurd (missing code.ins at (omega (arith, p.1)) e)
-        where
-          missing : (xs : List Ins) (k : ℕ) → k < length xs → slice_get xs k ≡ None → ⊥
-          missing [] k lt q = omega (arith, lt)
-          missing (x ∷ xs) zero lt q = absurd cc
-          missing (x ∷ xs) (suc k) lt q = missing xs k (omega (arith, lt)) q
-      by None e (inr p) =
-          let le : length code.ins ≤ at = omega (arith, p.1) in
-          outside going at (subst (λ n. n ≤ at) (sym going_long) le)
-          ∙ sym
-          (ap
-          (λ o. not (is_skipped acts at && option_map_or (λ (i : Ins). is_goto i.op) o false)) e
-          ∙ ap not (and_false (is_skipped acts at)))
-
   module _ (sound : IsSound code) (legal : AreLegalJumps acts code) (aimed : ℕ → ℕ → ℕ → ℕ)
       (same : (at which t : ℕ) → aimed at which t ≡ aim acts at which t) where
     abbrev jump_to : ℕ → ℕ → ℕ
-    jump_to which t = place (lives_in going) t
+    jump_to which t = place (lives_in (going acts code)) t
 
     abbrev jump_here : ℕ → Op → Op
-    jump_here at o = retargeted (λ which t. place_in (counts_from 0 going) (aimed at which t)) o
+    jump_here at o = retargeted (λ which t. place_in (counts_from 0 (going acts code)) (aimed at which t)) o
 
     aim_here : (at : ℕ) (i : Ins) → slice_get code.ins at ≡ Some i
         → jump_here at i.op ≡ retargeted jump_to (retargeted (aim acts at) i.op)
     aim_here at i e =
-        retargeted_same (λ which t. place_in (counts_from 0 going) (aimed at which t))
+        retargeted_same (λ which t. place_in (counts_from 0 (going acts code)) (aimed at which t))
         (λ which t. jump_to which (aim acts at which t)) i.op
         (λ which t x.
         let lt : aim acts at which t < length code.ins =
         aimed_below acts code sound legal at i e which t x in
-        ap (place_in (counts_from 0 going)) (same at which t)
-        ∙ place_is going (aim acts at which t)
-        (subst (λ n. aim acts at which t ≤ n) (sym going_long) (omega (arith, lt))))
+        ap (place_in (counts_from 0 (going acts code))) (same at which t)
+        ∙ place_is (going acts code) (aim acts at which t)
+        (subst (λ n. aim acts at which t ≤ n) (sym (going_long acts code)) (omega (arith, lt))))
         ∙ sym (retargeted_twice (aim acts at) jump_to i.op)
 
     -- what may be skipped becomes what takes its operands
@@ -367,8 +300,8 @@ module _ (acts : List Act) (code : Code) where
         by (inr p) = absurd (let no : true ≡ false = sym q ∙ p.0 in cc)
     right_skip at i e a h q = absurd cc
 
-    jump_ops : (at : ℕ) (i : Ins) → slice_get code.ins at ≡ Some i → lives_in going at ≡ true
-        → new_op going [] skip_list aimed (counts_from 0 going) at i.op ≡ retargeted jump_to
+    jump_ops : (at : ℕ) (i : Ins) → slice_get code.ins at ≡ Some i → lives_in (going acts code) at ≡ true
+        → new_op (going acts code) [] (skip_list acts code) aimed (counts_from 0 (going acts code)) at i.op ≡ retargeted jump_to
         (jumped acts at i.op)
     jump_ops at i e l =
         let lt : at < length code.ins = get_below code.ins at i e in
@@ -386,8 +319,8 @@ module _ (acts : List Act) (code : Code) where
             right_skip at i e x.1 (all_at (IsLegalJump acts code) acts x.0 x.1 legal x.2) x.3 in
             skip_is at i.op r.0 r.1
 
-    pub jumps_is : changed going [] skip_list aimed code ≡ jumped_code acts code
+    pub jumps_is : changed (going acts code) [] (skip_list acts code) aimed code ≡ jumped_code acts code
     jumps_is =
-        changed_is going [] skip_list aimed (jumped acts) code going_long sound.handlers jump_ops
+        changed_is (going acts code) [] (skip_list acts code) aimed (jumped acts) code (going_long acts code) sound.handlers jump_ops
         ∙ ap (λ (f : ℕ → Bool). compacted f (rewritten (jumped acts) code))
-        (λ i at. going_where at i)
+        (λ i at. going_where acts code at i)

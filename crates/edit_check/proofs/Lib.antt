@@ -1,7 +1,4 @@
-mod Aiming
 mod Applying
 mod OnePass
-mod Marking
 mod Stepping
-mod Sweeping
 mod Targets

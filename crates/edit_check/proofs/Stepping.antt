@@ -12,30 +12,20 @@ use Rattle.code_edit.specs.Jumps.{AreLegalJumps, aim, jumped_code, moved_by}
 use Rattle.code_edit.specs.Reach.{AreLegalDrops, left_code}
 use Rattle.code_edit.specs.Slots.{slotted_code}
 use Rattle.code_edit.specs.SoundCode.{IsSound}
-use Rattle.edit_check.specs.declared.aims.Aims.{Aims}
+use Rattle.edit_tables.specs.declared.aims.Aims.{Aims}
 use Rattle.edit_check.specs.declared.tables.Tables.{Tables}
-use Rattle.edit_check.specs.Aimed.{TellsAims, aimed, kept_aim, moved, target_order}
+use Rattle.edit_tables.specs.Aimed.{TellsAims, aimed, kept_aim, moved, target_order}
 use Rattle.edit_check.specs.Changed as by_lists
 use Rattle.edit_check.specs.StepTables.{IsJumpsTables, IsReachTables, IsSlotsTables}
 use Rattle.edit_check.specs.Tables.{changed}
-use Rattle.edit_check.proofs.Applying.{going_long, jumps_is, kept_long, reach_is, slots_is}
-use Rattle.edit_check.proofs.Sweeping.{swept_long}
+use Rattle.edit_check.proofs.Applying.{jumps_is, kept_long, reach_is, slots_is}
+use Rattle.edit_tables.proofs.Aiming.{aim_is}
+use Rattle.edit_tables.proofs.Staying.{going_long}
+use Rattle.edit_tables.proofs.Sweeping.{swept_long}
 
 -- where nothing is kept, each target leads where it led
-no_aim : (aims : Aims) → aims.table.entries ≡ [] → (at which t : ℕ) → aimed aims at which t ≡ t
-no_aim aims none at which t =
-    ap (λ (es : List ((ℕ × ℕ) × ℕ)).
-    unwrap_or (lookup (λ k. is_eq (target_order (at, which) k)) es) t) none
-
-aim_is : (acts : List Act) (at which t : ℕ)
-    → unwrap_or (moved acts at which) t ≡ aim acts at which t
-aim_is [] at which t = refl
-aim_is (a ∷ acts) at which t = by (moved_by at which a) (aim_is acts at which t)
-  where
-    by : (o : Option ℕ) → unwrap_or (moved acts at which) t ≡ aim acts at which t
-        → unwrap_or (option_or o (moved acts at which)) t ≡ unwrap_or o (aim acts at which t)
-    by (Some x) rest = refl
-    by None rest = rest
+no_aim : (aims : Aims) → TellsAims aims [] → (at which t : ℕ) → aimed aims at which t ≡ t
+no_aim aims none at which t = ap (λ o. unwrap_or o t) (none at which)
 
 -- what the tables say is what the lists say
 by_tables : (t : Tables) (code : Code) (lives pops skips : List Bool) → t.lives.items ≡ lives

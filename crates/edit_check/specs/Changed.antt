@@ -9,8 +9,8 @@ use Rattle.class_model.specs.declared.op.Op.{Op}
 use Rattle.class_model.specs.declared.op.Op.TheVariants as op
 use Rattle.code_edit.specs.Rewriting.{is_open, moved_handler, retargeted, with_op}
 use Rattle.code_edit.specs.Slots.{pop_of}
-use Rattle.edit_check.specs.Marks.{has}
-use Rattle.edit_check.specs.Places.{counts_from, lives_in, place_in}
+use Rattle.edit_tables.specs.Marks.{has}
+use Rattle.edit_tables.specs.Places.{counts_from, lives_in, place_in}
 
 -- what stands in place of a branch that is skipped
 abbrev pub skip_op : Op → Option Op

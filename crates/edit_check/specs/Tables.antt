@@ -5,11 +5,11 @@ use Rattle.class_model.specs.declared.code.Code.{Code}
 use Rattle.class_model.specs.declared.code.Ins.{Ins}
 use Rattle.class_model.specs.declared.op.Case.{Case}
 use Rattle.class_model.specs.declared.op.Op.{Op}
-use Rattle.edit_check.specs.declared.aims.Aims.{Aims}
+use Rattle.edit_tables.specs.declared.aims.Aims.{Aims}
 use Rattle.edit_check.specs.declared.tables.Tables.{Tables}
-use Rattle.edit_check.specs.Aimed.{aimed}
+use Rattle.edit_tables.specs.Aimed.{aimed}
 use Rattle.edit_check.specs.Changed as by_lists
-use Rattle.edit_check.specs.Places.{place_in}
+use Rattle.edit_tables.specs.Places.{place_in}
 
 -- where a target of the instruction at an index leads, and then comes to stand
 abbrev pub target_to : Aims → List ℕ → ℕ → ℕ → ℕ → ℕ

@@ -1,13 +1,12 @@
--- Which instructions cuts and skips leave, told as it is computed (the project's own; only the
+-- Which instructions cuts leave, told as it is computed (the project's own; only the
 -- code's contracts need it).
 use Rattle.std.specs.Prelude.{ℕ, List, Bool, not, ◌&&◌, ◌||◌, ◌+◌, ◌-◌}
 use Rattle.class_model.specs.declared.code.Code.{Code}
 use Rattle.class_model.specs.declared.code.Ins.{Ins}
 use Rattle.code_edit.specs.Flow.{of_ins}
-use Rattle.code_edit.specs.Jumps.{is_goto}
 use Rattle.code_edit.specs.Rewriting.{map_from}
 use Rattle.code_edit.specs.Slots.{is_inc, is_push, is_store}
-use Rattle.edit_check.specs.Marks.{has}
+use Rattle.edit_tables.specs.Marks.{has}
 
 -- a store that is marked goes together with the push before it
 abbrev pub takes : List Bool → List Bool → Code → ℕ → Bool
@@ -23,10 +22,3 @@ is_uncut cuts targets code at =
 
 abbrev pub uncut : List Bool → List Bool → Code → List Bool
 uncut cuts targets code = map_from (λ at (i : Ins). is_uncut cuts targets code at) 0 code.ins
-
--- the instruction isn't a goto that is marked
-abbrev pub is_unskipped : List Bool → ℕ → Ins → Bool
-is_unskipped skips at i = not (has skips at && is_goto i.op)
-
-abbrev pub unskipped : List Bool → Code → List Bool
-unskipped skips code = map_from (is_unskipped skips) 0 code.ins

@@ -3,14 +3,14 @@ ghost use Rattle.std.specs.Prelude.{◌≡◌, ◌<◌, IfOk, length, map, optio
 ghost use Rattle.std.specs.List.{filter};
 ghost use Rattle.code_edit.specs.Rewriting.{is_open, moved_handler, with_op};
 ghost use Rattle.edit_check.specs.Changed.{cut_op, skip_op};
-ghost use Rattle.edit_check.specs.Places.{place_in};
+ghost use Rattle.edit_tables.specs.Places.{place_in};
 ghost use Rattle.edit_check.specs.Tables.{changed, left_ins, new_op, other_op};
 
-use crate::marks::has;
 use crate::moving::moved_op;
-use crate::places::{lives_in, place_in, places};
 use crate::tables::Tables;
 use class_model::{Code, Frames, Handler, Ins, Kind, Op};
+use edit_tables::marks::has;
+use edit_tables::places::{lives_in, place_in, places};
 use jv_base::{Items, M, Name};
 use std::alloc::Global;
 

@@ -3,10 +3,10 @@ ghost use Rattle.std.specs.Prelude.{◌≡◌, IfOk};
 ghost use Rattle.code_edit.specs.Rewriting.{map_from, retargeted};
 ghost use Rattle.edit_check.specs.Tables.{moved_case, target_to};
 
-use crate::aims::{Aims, aimed};
 use crate::copying::copied_op;
-use crate::places::place_in;
 use class_model::{Case, Op};
+use edit_tables::aims::{Aims, aimed};
+use edit_tables::places::place_in;
 use jv_base::{Items, M, Shared};
 use std::alloc::Global;
 

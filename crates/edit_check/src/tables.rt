@@ -1,17 +1,17 @@
 // What the acts of a step do at each index.
 ghost use Rattle.std.specs.Prelude.{◌≡◌, ◌<◌, IfOk, length};
 ghost use Rattle.code_edit.specs.Flow.{of_ins};
-ghost use Rattle.code_edit.specs.Jumps.{is_goto};
 ghost use Rattle.code_edit.specs.Slots.{is_inc, is_push, is_store};
 ghost use Rattle.edit_check.specs.StepTables.{IsJumpsTables, IsReachTables};
 ghost use Rattle.edit_check.specs.StepTables.{IsSlotsTables};
-ghost use Rattle.edit_check.specs.Uncut.{is_uncut, is_unskipped, takes, uncut, unskipped};
+ghost use Rattle.edit_check.specs.Uncut.{is_uncut, takes, uncut};
 
-use crate::aims::{Aims, aims_of, no_aims};
-use crate::dropping::left_by;
-use crate::marks::{cut_marks, has, skip_marks, target_marks};
-use class_model::{Code, Ins, Op};
+use class_model::{Code, Op};
 use code_edit::Act;
+use edit_tables::aims::{Aims, aims_of, no_aims};
+use edit_tables::dropping::left_by;
+use edit_tables::marks::{cut_marks, has, skip_marks, target_marks};
+use edit_tables::skipping::unskipped;
 use jv_base::M;
 use std::alloc::Global;
 
@@ -128,24 +128,6 @@ fn uncut(alloc: Global, cuts: &[bool], targets: &[bool], code: &Code) -> M<Vec<b
     let mut at = 0;
     for _ in code.ins.as_slice() {
         lives.push(is_uncut(cuts, targets, code, at))?;
-        at += 1;
-    }
-    Ok(lives)
-}
-
-fn is_unskipped(skips: &[bool], at: usize, ins: &Ins) -> bool
-    ensures { result ≡ is_unskipped skips.now at ins.now }
-{
-    !(has(skips, at) && matches!(ins.op, Op::Goto(_)))
-}
-
-fn unskipped(alloc: Global, skips: &[bool], code: &Code) -> M<Vec<bool>>
-    ensures { IfOk result (λ lives. lives.items ≡ unskipped skips.now code.now) }
-{
-    let mut lives = Vec::with_capacity(alloc, code.ins.len())?;
-    let mut at = 0;
-    for ins in code.ins.as_slice() {
-        lives.push(is_unskipped(skips, at, ins))?;
         at += 1;
     }
     Ok(lives)

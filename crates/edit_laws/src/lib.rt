@@ -2,6 +2,7 @@
 #![tactic(auto)]
 
 pub mod codes;
+pub mod found;
 pub mod names;
 pub mod passes;
 pub mod rows;

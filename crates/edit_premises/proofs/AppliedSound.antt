@@ -344,7 +344,7 @@ module _ (acts : List Act) (code : Code) (sound : IsSound code) where
     one_skip at end (act.Aim place which to) h e = absurd cc
     one_skip at end a h e = absurd h
 
-    not_skipped : (at : ℕ) → at + 1 ≡ length code.ins → jumps.is_skipped acts at ≡ false
+    pub not_skipped : (at : ℕ) → at + 1 ≡ length code.ins → jumps.is_skipped acts at ≡ false
     not_skipped at end = by (jumps.is_skipped acts at) refl
       where
         by : (b : Bool) → jumps.is_skipped acts at ≡ b → b ≡ false

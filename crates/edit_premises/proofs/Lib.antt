@@ -12,3 +12,5 @@ pub mod Changes
 pub mod Steps
 pub mod StaysSound
 pub mod AppliedSound
+pub mod LastStays
+pub mod GoodSound

@@ -1,7 +1,7 @@
 use Rattle.std.proofs.Common.{◌≡◌, ◌++◌, drop, map}
 use Rattle.std.specs.List.{filter}
 use Rattle.code_edit.specs.Rewriting.{is_open, moved_handler}
-use Rattle.edit_check.specs.Places.{place_in}
+use Rattle.edit_tables.specs.Places.{place_in}
 use Rattle.edit_check.proofs.changing.left_handlers.Given as goal
 
 abbrev pub invariant-loop-handler : goal.invariant-loop-handler

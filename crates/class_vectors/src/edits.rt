@@ -1,0 +1,211 @@
+// Acts on the code of a method: which are legal, the code after them, and which a pass finds.
+ghost use Rattle.std.specs.Prelude.{◌<◌, ◌≡◌, ◌-◌, IfOk, IfSome, length};
+ghost use Rattle.class_model.specs.WellFormed.{IsGoodCode, IsWellFormed};
+ghost use Rattle.code_edit.specs.Flow.{goes_elsewhere, of_ins};
+ghost use Rattle.code_edit.specs.SoundCode.{IsSound};
+
+use crate::acts::{acts_of, acts_text, number_of, pass_of};
+use crate::lines::bytes_of;
+use class_model::{Class, Code, Handler, Ins, same_op};
+use class_read::read_class;
+use class_write::spelled_classes_can_be_written;
+use code_edit::{Pass, PassEdits};
+use edit_check::apply;
+use edit_legal::legal;
+use edit_passes::{jumps_edits, reach_edits, slots_edits};
+use edit_tables::flow::goes_elsewhere;
+use jv_base::{Items, M, Or, OutOfMemory, Text};
+use line_answers::{first_word, unescaped};
+use std::alloc::Global;
+
+/// `legal PASS INDEX ACTS FILE`, or the same with the class file after the acts: `ok` where the acts
+/// are legal and the code of the method after them is that of the other file, `other` where it isn't,
+/// `bad K` where the act of the number K is the first that isn't legal. `pass PASS INDEX FILE`: the
+/// acts that the pass finds. None where a line has another form.
+pub fn edit_answer(alloc: Global, line: &[u8]) -> M<Option<Text>> {
+    let (word, rest) = first_word(line);
+    let (pass, rest) = first_word(rest);
+    let (index, rest) = first_word(rest);
+    let (Some(pass), Some(index)) = (pass_of(pass), number_of(index)) else {
+        return Ok(None);
+    };
+    match word {
+        b"legal" => judged_row(alloc, pass, index as usize, rest),
+        b"pass" => found_row(alloc, pass, index as usize, rest),
+        _ => Ok(None),
+    }
+}
+
+fn judged_row(alloc: Global, pass: Pass, index: usize, rest: &[u8]) -> M<Option<Text>> {
+    let (acts, rest) = first_word(rest);
+    let (file, after) = first_word(rest);
+    let Some(acts) = unescaped(alloc, acts)? else {
+        return Ok(None);
+    };
+    let Some(acts) = acts_of(alloc, acts.as_slice())? else {
+        return Ok(None);
+    };
+    let Some(class) = class_of(alloc, file)? else {
+        return Ok(None);
+    };
+    let after = class_of(alloc, after)?;
+    judged(
+        alloc,
+        &class,
+        index,
+        &PassEdits { pass, acts },
+        after.as_ref(),
+    )
+}
+
+fn judged(
+    alloc: Global,
+    class: &Class,
+    index: usize,
+    edits: &PassEdits,
+    after: Option<&Class>,
+) -> M<Option<Text>>
+    requires { IsWellFormed class.now }
+{
+    let Some(code) = sound_code(class, index) else {
+        return Ok(None);
+    };
+    match legal(alloc, code, edits) {
+        Ok(()) => {
+            let edited = apply(alloc, code, edits)?;
+            let is_same = match after {
+                Some(class) => is_code_of(&edited, class, index),
+                None => false,
+            };
+            Ok(Some(Text::from_str(alloc, if is_same { "ok" } else { "other" })?))
+        }
+        Err(Or::Fault(bad)) => {
+            let index = bad.index;
+            Ok(Some(Text::from_string(alloc, format!(in alloc; "bad {index}")?)?))
+        }
+        Err(Or::OutOfMemory) => Err(OutOfMemory),
+    }
+}
+
+fn found_row(alloc: Global, pass: Pass, index: usize, file: &[u8]) -> M<Option<Text>> {
+    let Some(class) = class_of(alloc, file)? else {
+        return Ok(None);
+    };
+    found(alloc, pass, &class, index)
+}
+
+fn found(alloc: Global, pass: Pass, class: &Class, index: usize) -> M<Option<Text>>
+    requires { IsWellFormed class.now }
+{
+    let Some(code) = sound_code(class, index) else {
+        return Ok(None);
+    };
+    let edits = match pass {
+        Pass::Reach => reach_edits(alloc, code)?,
+        Pass::Slots => slots_edits(alloc, code)?,
+        Pass::Jumps => jumps_edits(alloc, code)?,
+        Pass::Const => return Ok(None),
+    };
+    Ok(Some(acts_text(alloc, &edits.acts)?))
+}
+
+// ---- class files
+
+/// The class of a field `PATH=HEX`, if it is one.
+fn class_of(alloc: Global, field: &[u8]) -> M<Option<Class>>
+    ensures { IfOk result (λ found. IfSome found IsWellFormed) }
+{
+    spelled_classes_can_be_written();
+    let Some(at) = field.iter().position(|byte| *byte == b'=') else {
+        return Ok(None);
+    };
+    let Some(bytes) = bytes_of(alloc, &field[at + 1..])? else {
+        return Ok(None);
+    };
+    match read_class(alloc, bytes.as_slice()) {
+        Ok(class) => {
+            if class.left_out.is_some() {
+                return Ok(None);
+            }
+            Ok(Some(class))
+        }
+        Err(Or::Fault(_)) => Ok(None),
+        Err(Or::OutOfMemory) => Err(OutOfMemory),
+    }
+}
+
+/// The code of a method, where it is sound.
+#[tactic(auto, using(crate::proofs::Sound::code_is_sound))]
+fn sound_code(class: &Class, index: usize) -> Option<&Code>
+    requires { IsWellFormed class.now }
+    ensures sound { IfSome result (λ code. IsSound code.now) }
+    ensures few { IfSome result (λ code. length code.now.ins < 4294967295) }
+{
+    let method = class.methods.get(index)?;
+    let Some(code) = &method.code else {
+        return None;
+    };
+    if code.ins.len() < u32::MAX as usize && ends(code) {
+        Some(code)
+    } else {
+        None
+    }
+}
+
+/// Whether the last instruction doesn't go on.
+fn ends(code: &Code) -> bool
+    ensures { result ≡ of_ins goes_elsewhere code.now (length code.now.ins - 1) }
+{
+    match code.ins.get(code.ins.len().saturating_sub(1)) {
+        Some(ins) => goes_elsewhere(&ins.op),
+        None => false,
+    }
+}
+
+// ---- codes
+
+fn is_code_of(code: &Code, class: &Class, index: usize) -> bool {
+    match class.methods.get(index) {
+        Some(method) => match &method.code {
+            Some(other) => is_same(code, other),
+            None => false,
+        },
+        None => false,
+    }
+}
+
+fn is_same(code: &Code, other: &Code) -> bool {
+    code.max_stack == other.max_stack
+        && code.max_locals == other.max_locals
+        && are_same_ins(&code.ins, &other.ins)
+        && are_same_handlers(&code.handlers, &other.handlers)
+        && code.frames.is_empty()
+        && other.frames.is_empty()
+}
+
+fn are_same_ins(ins: &Items<Ins>, others: &Items<Ins>) -> bool {
+    ins.len() == others.len()
+        && ins.as_slice().iter().zip(others.as_slice()).all(|(ins, other)| same_op(
+            &ins.op, &other.op,
+        ) && ins.line == other.line)
+}
+
+fn are_same_handlers(handlers: &Items<Handler>, others: &Items<Handler>) -> bool {
+    handlers.len() == others.len()
+        && handlers
+            .as_slice()
+            .iter()
+            .zip(others.as_slice())
+            .all(|(handler, other)| is_same_handler(handler, other))
+}
+
+fn is_same_handler(handler: &Handler, other: &Handler) -> bool {
+    handler.from == other.from
+        && handler.to == other.to
+        && handler.entry == other.entry
+        && match (&handler.caught, &other.caught) {
+            (Some(name), Some(other)) => name == other,
+            (None, None) => true,
+            _ => false,
+        }
+}

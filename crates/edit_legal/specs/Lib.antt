@@ -1,0 +1,4 @@
+pub mod Cuttable
+pub mod Dropped
+pub mod Fault
+pub mod Movable

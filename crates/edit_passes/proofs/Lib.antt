@@ -1,0 +1,4 @@
+mod Aiming
+mod Reaching
+mod Unloading
+mod Walking

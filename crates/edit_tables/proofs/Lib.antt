@@ -1,0 +1,9 @@
+pub mod Aiming
+pub mod Chains
+pub mod Counting
+pub mod Loading
+pub mod Marking
+pub mod Naming
+pub mod Staying
+pub mod Sweeping
+pub mod Telling
