@@ -44,13 +44,13 @@ next_of n at o = if goes_elsewhere o then [] else if nat_lt (at + 1) n then (at 
 abbrev pub successors_of : ℕ → ℕ → Op → List ℕ
 successors_of n at o = next_of n at o ++ targets o
 
+abbrev pub successors_by : ℕ → ℕ → Option Ins → List ℕ
+successors_by n at None = []
+successors_by n at (Some i) = successors_of n at i.op
+
 -- the same of an index of a code
 abbrev pub successors : Code → ℕ → List ℕ
-successors code at = by (slice_get code.ins at)
-  where
-    by : Option Ins → List ℕ
-    by None = []
-    by (Some i) = successors_of (length code.ins) at i.op
+successors code at = successors_by (length code.ins) at (slice_get code.ins at)
 
 -- what is asked of the operation at an index; no where there is none
 abbrev pub of_ins : (Op → Bool) → Code → ℕ → Bool

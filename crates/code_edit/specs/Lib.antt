@@ -4,6 +4,10 @@ pub mod Rewriting
 pub mod Reach
 pub mod Slots
 pub mod Jumps
+pub mod Deciding
+pub mod Facts
+pub mod Constants
+pub mod ConstEdits
 pub mod Applied
 pub mod Legal
 pub mod Passes

@@ -4,11 +4,13 @@ ghost use Rattle.class_model.specs.declared.code.Code.{Code};
 ghost use Rattle.code_edit.specs.declared.act.Act.{Act};
 ghost use Rattle.code_edit.specs.declared.act.Pass.TheVariants as pass;
 ghost use Rattle.code_edit.specs.Applied.{applied};
+ghost use Rattle.code_edit.specs.Constants.{IsLegalConst, folded_code};
 ghost use Rattle.code_edit.specs.Legal.{IsRightAct};
 ghost use Rattle.edit_laws.specs.Acted.{IsActedOn};
 ghost use Rattle.edit_premises.specs.Changes.{Becomes, Changed, Together};
 ghost use Rattle.edit_premises.specs.Steps.{IsAfter, IsEdited};
 ghost use Rattle.edit_premises.proofs.Changes.{changed_premise};
+ghost use Rattle.edit_premises.proofs.ConstSteps.{const_becomes};
 ghost use Rattle.edit_premises.proofs.Steps.{step_becomes};
 ghost use Rattle.jvm_model.specs.Program.{View};
 ghost use Rattle.jvm_model.specs.Same.{Same, own_names};
@@ -91,6 +93,21 @@ impl CodePass for Jumps {
     ghost changes = { step_becomes pass.Jumps };
 }
 
+/// Branches and switches on constants are decided.
+pub struct Const;
+
+impl CodePass for Const {
+    ghost applied = { folded_code };
+
+    ghost right = { IsLegalConst };
+
+    fn name() -> &'static str {
+        "const"
+    }
+
+    ghost changes = { const_becomes };
+}
+
 /// A program in which codes are after right acts of a pass, or as they were, does the same. It
 /// does nothing.
 pub fn right_acts_keep_same<P: CodePass>()
@@ -124,6 +141,15 @@ pub fn jumps_keep_same()
         → (entries : List Key) → Same v w own_names entries }
 {
     right_acts_keep_same::<Jumps>();
+}
+
+/// So it is of const. It does nothing.
+pub fn const_keeps_same()
+    ensures { (v w : View) → w.shape ≡ v.shape
+        → ((m : Key) → IsActedOn folded_code IsLegalConst (v.code m) (w.code m))
+        → (entries : List Key) → Same v w own_names entries }
+{
+    right_acts_keep_same::<Const>();
 }
 
 /// A program in which codes are after six steps of right acts, or as they were, does the same. It

@@ -6,6 +6,7 @@ ghost use Rattle.code_edit.specs.declared.act.Act.{Act};
 ghost use Rattle.code_edit.specs.declared.act.Pass.{Pass};
 ghost use Rattle.code_edit.specs.declared.act.PassEdits.{PassEdits};
 ghost use Rattle.code_edit.specs.Applied.{applied, edited};
+ghost use Rattle.code_edit.specs.Constants.{AreLegalConst, folded_code};
 ghost use Rattle.code_edit.specs.Flow.{goes_elsewhere, of_ins};
 ghost use Rattle.code_edit.specs.Legal.{AreRightActs, AreRightSteps};
 ghost use Rattle.code_edit.specs.SoundCode.{IsSound};
@@ -23,4 +24,10 @@ pub fn right_acts_keep_sound()
 pub fn good_codes_are_sound()
     ensures { (code : Code) → IsGoodCode code
         → of_ins goes_elsewhere code (length code.ins - 1) ≡ true → IsSound code }
+{}
+
+/// So do legal acts of const. It does nothing.
+pub fn const_keeps_sound()
+    ensures { (acts : List Act) (code : Code) → AreLegalConst acts code → IsSound code
+        → IsSound (folded_code acts code) }
 {}

@@ -85,8 +85,8 @@ closed_leaves lives code is sound = record {
             sym g ∙ sound.last at i e end
 
 -- where the last index lives
-last_leaves : (lives : ℕ → Bool) (code : Code) → (m : ℕ) → m + 1 ≡ length code.ins → lives m ≡ true
-    → IsSound code → LeavesSound lives code
+pub last_leaves : (lives : ℕ → Bool) (code : Code) → (m : ℕ) → m + 1 ≡ length code.ins
+    → lives m ≡ true → IsSound code → LeavesSound lives code
 last_leaves lives code m end l sound = record {
   some = (m, omega arith, omega (arith, end), l);
   jump = λ at i e k. all_from (λ t. LivesFrom lives (length code.ins) t) (targets i.op)
@@ -117,7 +117,7 @@ module _ (f : ℕ → Op → Op) (code : Code) (sound : IsSound code)
     → AllByRecursion (λ t. t < length code.ins) (targets (f at i.op)))
     (last : (at : ℕ) (i : Ins) → slice_get code.ins at ≡ Some i → at + 1 ≡ length code.ins
     → goes_elsewhere (f at i.op) ≡ true) where
-  long : length (rewritten f code).ins ≡ length code.ins
+  pub long : length (rewritten f code).ins ≡ length code.ins
   long = by 0 code.ins
     where
       by : (k : ℕ) (xs : List Ins) → length (map_from (λ at i. with_op (f at) i) k xs) ≡ length xs
@@ -136,7 +136,7 @@ module _ (f : ℕ → Op → Op) (code : Code) (sound : IsSound code)
       by None q h = absurd cc
       by (Some i) q h = let same : with_op (f at) i ≡ j = cc in (i, q, sym same)
 
-  rewritten_sound : IsSound (rewritten f code)
+  pub rewritten_sound : IsSound (rewritten f code)
   rewritten_sound = record {
     some = subst (λ n. 0 < n) (sym long) sound.some;
     jump = λ at j e. let i = was at j e in
@@ -149,7 +149,7 @@ module _ (f : ℕ → Op → Op) (code : Code) (sound : IsSound code)
   }
 
 -- the last index of a code that isn't empty
-last_index : (n : ℕ) → 0 < n → (m : ℕ) × (m + 1 ≡ n)
+pub last_index : (n : ℕ) → 0 < n → (m : ℕ) × (m + 1 ≡ n)
 last_index zero lt = absurd (omega (arith, lt))
 last_index (suc m) lt = (m, omega arith)
 

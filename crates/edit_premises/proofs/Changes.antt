@@ -9,9 +9,11 @@ use Rattle.jvm_model.specs.Value.{Key}
 use Rattle.std.specs.List.{Contains}
 use Rattle.jvm_model.proofs.Codes.{pass_same}
 use Rattle.jvm_model.proofs.Compose.{same_refl, same_trans}
-use Rattle.edit_premises.specs.Changes.{Becomes, Changed, Together, cuts, goes_on, leaves_out}
+use Rattle.edit_premises.specs.Changes.{Becomes, Changed, Together, cuts, decides, goes_on}
+use Rattle.edit_premises.specs.Changes.{leaves_out}
 use Rattle.edit_premises.proofs.Compacting.{compacts_premise}
 use Rattle.edit_premises.proofs.Cut.{cuts_premise}
+use Rattle.edit_premises.proofs.Folded.{folds_premise}
 use Rattle.edit_premises.proofs.Retargeting.{retargets_premise}
 
 pub own_entries : (entries : List Key) → Renamed own_names entries entries
@@ -53,4 +55,5 @@ becomes_more puts (suc m) n a b c h k =
 pub changed_premise : (c d : Code) (h : Changed c d) → Premise (Together c d h) c d
 changed_premise c d (goes_on h) = retargets_premise c d h
 changed_premise c d (cuts h) = cuts_premise c d h
+changed_premise c d (decides h) = folds_premise c d h
 changed_premise c d (leaves_out h) = compacts_premise c d h

@@ -8,9 +8,17 @@ pub mod Cut
 pub mod Reaching
 pub mod Jumping
 pub mod Slotting
+pub mod Targets
+pub mod OwnAims
+pub mod Facing
+pub mod Holding
+pub mod Folded
+pub mod Folds
 pub mod Changes
 pub mod Steps
+pub mod ConstSteps
 pub mod StaysSound
 pub mod AppliedSound
 pub mod LastStays
 pub mod GoodSound
+pub mod FoldsSound

@@ -2,6 +2,8 @@ pub mod Aims
 pub mod Compacts
 pub mod Retargets
 pub mod Cutting
+pub mod Keeping
+pub mod Folding
 pub mod Changes
 pub mod Steps
 pub mod LeavesSound

@@ -1,0 +1,3 @@
+pub mod Marked
+pub mod Order
+pub mod Worklist
