@@ -20,14 +20,14 @@ pub fn right_acts_keep_sound()
         → IsSound code → IsSound (edited steps code) }
 {}
 
-/// A code that follows the format is sound where its last instruction doesn't go on. It does nothing.
-pub fn good_codes_are_sound()
-    ensures { (code : Code) → IsGoodCode code
-        → of_ins goes_elsewhere code (length code.ins - 1) ≡ true → IsSound code }
-{}
-
 /// So do legal acts of const. It does nothing.
 pub fn const_keeps_sound()
     ensures { (acts : List Act) (code : Code) → AreLegalConst acts code → IsSound code
         → IsSound (folded_code acts code) }
+{}
+
+/// A code that follows the format is sound where its last instruction doesn't go on. It does nothing.
+pub fn good_codes_are_sound()
+    ensures { (code : Code) → IsGoodCode code
+        → of_ins goes_elsewhere code (length code.ins - 1) ≡ true → IsSound code }
 {}

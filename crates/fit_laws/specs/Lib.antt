@@ -1,0 +1,11 @@
+pub mod Held
+pub mod Values
+pub mod Frames
+pub mod States
+pub mod Growth
+pub mod Answered
+pub mod RowTypes
+pub mod Order
+pub mod Meaning
+pub mod Sound
+pub mod Laws

@@ -1,0 +1,4 @@
+//! That a set of classes which is taken, and whose methods are typed, never brings the machine to go wrong.
+#![tactic(auto)]
+
+pub mod sound;
