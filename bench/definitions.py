@@ -5,7 +5,12 @@
     definitions.py --write FILE.md          puts each list in place of the old one that FILE.md has
     definitions.py --check FILE.md          ends with 1 where a list in FILE.md isn't that of the sources
 
-In a document a list stands between the lines <!-- definitions CRATE FUNCTION --> and <!-- end of definitions -->.
+In a document a list stands between the lines <!-- definitions CRATE FUNCTION --> and <!-- end of definitions -->. It
+leaves out what a list above it in the document has. Behind the function's name, `but CRATE.FILE.NAME` names a
+definition that isn't followed there: one of another case than the list is of.
+
+A list has its crates in the order in which they are best read: first those of READ_FIRST, then each before those that
+it cites.
 
 Begun with the names in the function's `requires` and `ensures`, each name is looked up in the imports of the file in
 which it stands, and the definition that it means is read in turn. Lines are those of the definition without comments.
@@ -22,6 +27,7 @@ WORD = re.compile(r"(?<![\w.])([A-Za-z_]\w*(?:\.[A-Za-z_]\w*)*)")
 IMPORT = re.compile(r"^(?:ghost )?use Rattle\.([\w.]+?)(?:\.\{([^}]*)\}| as (\w+))[ \t]*;?[ \t]*$", re.M)
 NO_DEFINITION = re.compile(r"\s*(?:module |infix|(?:pub )?mod |use |obeys )")
 DECLARED = "declared"
+READ_FIRST = ("jvm_model", "set_view", "pair_laws", "pair_checker", "pair_clauses")
 
 
 class Module:
@@ -74,8 +80,9 @@ def contract(crate, function):
 class Reach:
     """The definitions that are reached, in the order in which they are met."""
 
-    def __init__(self, crate, function):
+    def __init__(self, crate, function, cuts=()):
         self.modules, self.found, self.types, self.std = {}, {}, {}, {}
+        self.cuts = set(cuts)
         text, clauses = contract(crate, function)
         names, aliases = imports(text)
         waiting = list(self.meant(clauses, None, names, aliases))
@@ -105,6 +112,8 @@ class Reach:
                 yield names.get(name) or (own, name)
 
     def take(self, module, name):
+        if f"{module.replace('.specs.', '.', 1)}.{name}" in self.cuts:
+            return []
         if module.startswith("std") or not (ROOT / module.split(".")[0]).is_dir():
             self.std.setdefault(module, set()).add(name)
             return []
@@ -159,38 +168,63 @@ def declared_lines(crate, file, name):
     return 0
 
 
-def listing(crate, function):
-    reach = Reach(crate, function)
-    rows, total, count = [], 0, 0
-    for module in reach.order():
-        own = [(name, text) for (of, name), text in reach.found.items() if of == module]
-        lines = sum(text.count("\n") + 1 for _, text in own)
-        total, count = total + lines, count + len(own)
+def reading_order(modules):
+    """Gives the crates of modules that stand in an order, those of READ_FIRST first."""
+    crates = list(dict.fromkeys(module.split(".")[0] for module in modules))
+    return [it for it in READ_FIRST if it in crates] + [it for it in crates if it not in READ_FIRST]
+
+
+def listing(crate, function, cuts=(), above=None):
+    """Gives the list of a call, without what `above` has, to which it is added."""
+    reach = Reach(crate, function, cuts)
+    above = above if above is not None else {}
+    found = {key: text for key, text in reach.found.items() if key not in above}
+    order = [it for it in reach.order() if any(of == it for of, _ in found)]
+    rows, total, files = [], 0, {}
+    for module in order:
+        own = [text for (of, _), text in found.items() if of == module]
+        lines = sum(text.count("\n") + 1 for text in own)
         of, _, rest = module.partition(".specs.")
-        rows.append(f"| `{of}` | `{rest}` | {len(own)} | {lines} |")
+        files.setdefault(of, []).append((rest, len(own), lines))
+    for of in reading_order(order):
+        lines = sum(it[2] for it in files[of])
+        total += lines
+        named = ", ".join(f"`{rest}` {count}" for rest, count, _ in files[of])
+        rows.append(f"| `{of}` | {named} | {lines:,} |")
+    said = [f"{len(found):,} definitions in {len(order)} files, {total:,} lines without their comments.", ""]
+    said += ["| Crate | Files of `specs/`, with how many definitions | Lines |", "|---|---|---|", *rows, ""]
     types = {}
     for of, file, name in reach.types:
-        types.setdefault(of, []).append((name, declared_lines(of, file, name)))
+        if (of, file, name) not in above:
+            types.setdefault(of, []).append((name, declared_lines(of, file, name)))
     more = sum(lines for it in types.values() for _, lines in it)
-    said = [f"{count} definitions in {len(rows)} files, {total:,} lines without their comments.", ""]
-    said += ["| Crate | File of `specs/` | Definitions | Lines |", "|---|---|---|---|", *rows, ""]
-    said += [f"The types of the code that they speak of ({sum(map(len, types.values()))}, {more} lines):", ""]
-    order = list(dict.fromkeys(module.split(".")[0] for module in reach.order()))
-    for of in sorted(types, key=lambda it: order.index(it) if it in order else len(order)):
-        said.append(f"- `{of}`: " + ", ".join(f"`{name}`" for name, _ in sorted(types[of])))
-    std = sorted({f"`{module.rpartition('.')[2]}`" for module in reach.std})
-    said += ["", f"Of std's definitions they use those of {', '.join(std)}."]
-    return "\n".join(said)
+    if types:
+        said += [f"The types of the code that they speak of ({sum(map(len, types.values()))}, {more:,} lines):", ""]
+    for of in reading_order([*order, *types]):
+        if of in types:
+            said.append(f"- `{of}`: " + ", ".join(f"`{name}`" for name, _ in sorted(types[of])))
+    std = sorted({f"`{module.rpartition('.')[2]}`" for module in reach.std if module not in above})
+    if std:
+        said += ["", f"Of std's definitions they use those of {', '.join(std)}."]
+    above.update(found)
+    above.update(dict.fromkeys([*reach.types, *reach.std]))
+    return "\n".join(said).rstrip()
 
 
-LIST = re.compile(r"(<!-- definitions (\w+) (\w+) -->\n).*?(<!-- end of definitions -->)", re.S)
+def listings(page):
+    """Gives a document with its lists as the sources have them."""
+    above = {}
+    return LIST.sub(lambda it: f"{it[1]}\n{listing(it[2], it[3], (it[4] or '').split()[1::2], above)}\n\n{it[5]}", page)
+
+
+LIST = re.compile(r"(<!-- definitions (\w+) (\w+)((?: but [\w.]+)*) -->\n).*?(<!-- end of definitions -->)", re.S)
 
 
 def main(words):
     if len(words) == 2 and words[0] in ("--write", "--check"):
         path = Path(words[1])
         old = path.read_text()
-        new = LIST.sub(lambda it: f"{it[1]}\n{listing(it[2], it[3])}\n\n{it[4]}", old)
+        new = listings(old)
         if words[0] == "--write":
             path.write_text(new)
         elif new != old:

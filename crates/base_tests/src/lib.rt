@@ -5,6 +5,8 @@
 #[cfg(test)]
 mod component;
 #[cfg(test)]
+mod disk;
+#[cfg(test)]
 mod files;
 #[cfg(test)]
 mod library;

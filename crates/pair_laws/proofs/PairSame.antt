@@ -7,3 +7,4 @@ pub mod Fixing
 pub mod Naming
 pub mod PairSame
 pub mod Entered
+pub mod OneToOne

@@ -12,3 +12,5 @@ pub mod OwnNames
 pub mod OwnShape
 pub mod OwnLines
 pub mod OwnPairs
+pub mod OwnMapping
+pub mod OwnChecked

@@ -3,7 +3,9 @@
 
 pub mod files_found;
 pub mod named_form;
+pub mod own_checked;
 pub mod own_lines;
+pub mod own_mapping;
 pub mod own_names;
 pub mod own_pairs;
 pub mod own_shape;

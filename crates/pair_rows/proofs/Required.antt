@@ -33,7 +33,7 @@ abbrev pub class_b : Place
 class_b = record { class = codes "p.B"; member = None }
 
 abbrev pub method_f : Place
-method_f = record { class = codes "p.A"; member = Some (codes "int f()") }
+method_f = record { class = codes "p.A"; member = Some (codes "void f()") }
 
 abbrev pub method_g : Place
 method_g = record { class = codes "p.B"; member = Some (codes "int g()") }

@@ -11,7 +11,7 @@ use Rattle.class_model.specs.declared.op.Op.{Op}
 use Rattle.class_model.specs.declared.op.Op.TheVariants as op
 use Rattle.class_model.specs.rows.Rows.{hex}
 use Rattle.class_pool.specs.rows.LinkRows.{object, plain_class}
-use Rattle.link_check.specs.rows.ProfileRows.{code_of, made_method, of_class}
+use Rattle.link_check.specs.rows.ProfileRows.{code_of, made_method, of_class, system_out}
 use Rattle.keep_rules.specs.declared.rules.Keep.{Keep}
 use Rattle.keep_rules.specs.declared.rules.KeepKind.TheVariants as keep
 use Rattle.keep_rules.specs.declared.rules.Rules.{Rules}
@@ -34,10 +34,12 @@ int_method name ops = made_method 0x0009 name [] (Some int) [] (Some (code_of op
 abbrev pub returning : List ℕ → ℕ → Method
 returning name n = int_method name (op.PushInt (pos n) ∷ op.Return (Some kind.Int) ∷ [])
 
--- one that returns what another such method gives
-abbrev pub calling : List ℕ → List ℕ → List ℕ → Method
-calling name class called =
-    int_method name (op.InvokeStatic (of_class class called (codes "()I")) ∷ op.Return (Some kind.Int) ∷ [])
+-- public static void name() that prints what another such method gives, in a line
+abbrev pub printing : List ℕ → List ℕ → List ℕ → Method
+printing name class called = made_method 0x0009 name [] None [] (Some (code_of
+    (op.GetStatic system_out ∷ op.InvokeStatic (of_class class called (codes "()I"))
+    ∷ op.InvokeVirtual (of_class (codes "java/io/PrintStream") (codes "println") (codes "(I)V")) ∷ op.Return None ∷ [])
+    [] []))
 
 -- a public class below Object with these methods
 abbrev pub class : List ℕ → List Method → Class
@@ -45,9 +47,9 @@ class name methods = plain_class 0x0021 name object [] [] methods
 
 -- ---- the input, and what it becomes
 
--- p.A { int f() { return p.B.g(); } } and p.B { int g() { return 7; } int h() { return 8; } }
+-- p.A { void f() { System.out.println(p.B.g()); } } and p.B { int g() { return 7; } int h() { return 8; } }
 abbrev pub old_a : Class
-old_a = class (codes "p/A") (calling (codes "f") (codes "p/B") (codes "g") ∷ [])
+old_a = class (codes "p/A") (printing (codes "f") (codes "p/B") (codes "g") ∷ [])
 
 abbrev pub old_b : Class
 old_b = class (codes "p/B") (returning (codes "g") 7 ∷ returning (codes "h") 8 ∷ [])
@@ -57,7 +59,7 @@ input = old_a ∷ old_b ∷ []
 
 -- p.A, whose f calls the method a of another class
 abbrev pub new_a : List ℕ → Class
-new_a other = class (codes "p/A") (calling (codes "f") other (codes "a") ∷ [])
+new_a other = class (codes "p/A") (printing (codes "f") other (codes "a") ∷ [])
 
 -- p.a { int a() { return 7; } }
 abbrev pub new_b : Class
@@ -67,7 +69,7 @@ new_b = class (codes "p/a") (returning (codes "a") 7 ∷ [])
 abbrev pub output : List Class
 output = new_a (codes "p/a") ∷ new_b ∷ []
 
--- ---- the rules: -keep class p.A { int f(); }
+-- ---- the rules: -keep class p.A { void f(); }
 
 -- the option
 abbrev pub keep_f : Keep
@@ -81,7 +83,7 @@ keep_f = record {
     kind = codes "class";
     names = record { negated = false; pattern = codes "p.A" } ∷ [];
     above = None;
-    members = record { flags = []; ty = Some (codes "int"); name = codes "f"; args = Some [] } ∷ [];
+    members = record { flags = []; ty = Some (codes "void"); name = codes "f"; args = Some [] } ∷ [];
   };
 }
 
@@ -107,13 +109,17 @@ rules = record {
 abbrev pub method_line : List ℕ → List ℕ → MapMethod
 method_line old new = record { lines = None; ty = record { args = []; ret = Some int }; old = old; new = new }
 
+-- that of f, with its new name
+abbrev pub line_of_f : List ℕ → MapMethod
+line_of_f new = record { lines = None; ty = record { args = []; ret = None }; old = codes "f"; new = new }
+
 -- the line of a class, with those of its methods
 abbrev pub class_line : List ℕ → List ℕ → List MapMethod → MapClass
 class_line old new methods = record { old = old; new = new; fields = []; methods = methods }
 
 -- the line of p.A, of which f has this name
 abbrev pub line_of_a : MapClass
-line_of_a = class_line (codes "p/A") (codes "p/A") (method_line (codes "f") (codes "f") ∷ [])
+line_of_a = class_line (codes "p/A") (codes "p/A") (line_of_f (codes "f") ∷ [])
 
 -- the line of p.B, of which g has a new name
 abbrev pub line_of_b : MapClass
@@ -139,7 +145,7 @@ stray_line = lines line_of_a (class_line (codes "p/B") (codes "p/a") (method_lin
 
 -- FixedName: f, which is kept, has another name
 abbrev pub kept_renamed : Mapping
-kept_renamed = lines (class_line (codes "p/A") (codes "p/A") (method_line (codes "f") (codes "b") ∷ [])) line_of_b
+kept_renamed = lines (class_line (codes "p/A") (codes "p/A") (line_of_f (codes "b") ∷ [])) line_of_b
 
 -- SeedLost: f, which is kept, has no line
 abbrev pub seed_lost : Mapping
@@ -200,9 +206,12 @@ file path bytes = record { path = path; bytes = bytes }
 -- those of the input
 abbrev pub file_of_old_a : FileAt
 file_of_old_a = file (codes "p/A.class")
-    (hex (codes "CAFEBABE00000034000D010003702F410700010100106A6176612F6C616E672F4F626A65637407000301000166010003")
-    ++ (hex (codes "282949010004436F6465010003702F42070008010001670C000A00060A0009000B002100020004000000000001000900")
-    ++ (hex (codes "05000600010007000000100002000200000004B8000CAC000000000000"))))
+    (hex (codes "CAFEBABE00000034001A010003702F410700010100106A6176612F6C616E672F4F626A65637407000301000166010003")
+    ++ (hex (codes "282956010004436F64650100106A6176612F6C616E672F53797374656D0700080100036F75740100154C6A6176612F69")
+    ++ (hex (codes "6F2F5072696E7453747265616D3B0C000A000B090009000C010003702F4207000E010001670100032829490C00100011")
+    ++ (hex (codes "0A000F00120100136A6176612F696F2F5072696E7453747265616D0700140100077072696E746C6E010004284929560C")
+    ++ (hex (codes "001600170A001500180021000200040000000000010009000500060001000700000016000200020000000AB2000DB800")
+    ++ (hex (codes "13B60019B1000000000000")))))))
 
 abbrev pub file_of_old_b : FileAt
 file_of_old_b = file (codes "p/B.class")
@@ -216,16 +225,22 @@ input_files = file_of_old_a ∷ file_of_old_b ∷ []
 -- that of p.A
 abbrev pub file_of_a : FileAt
 file_of_a = file (codes "p/A.class")
-    (hex (codes "CAFEBABE00000034000D010003702F410700010100106A6176612F6C616E672F4F626A65637407000301000166010003")
-    ++ (hex (codes "282949010004436F6465010003702F61070008010001610C000A00060A0009000B002100020004000000000001000900")
-    ++ (hex (codes "05000600010007000000100002000200000004B8000CAC000000000000"))))
+    (hex (codes "CAFEBABE00000034001A010003702F410700010100106A6176612F6C616E672F4F626A65637407000301000166010003")
+    ++ (hex (codes "282956010004436F64650100106A6176612F6C616E672F53797374656D0700080100036F75740100154C6A6176612F69")
+    ++ (hex (codes "6F2F5072696E7453747265616D3B0C000A000B090009000C010003702F6107000E010001610100032829490C00100011")
+    ++ (hex (codes "0A000F00120100136A6176612F696F2F5072696E7453747265616D0700140100077072696E746C6E010004284929560C")
+    ++ (hex (codes "001600170A001500180021000200040000000000010009000500060001000700000016000200020000000AB2000DB800")
+    ++ (hex (codes "13B60019B1000000000000")))))))
 
 -- that of p.A with q.a
 abbrev pub file_of_a_moved : FileAt
 file_of_a_moved = file (codes "p/A.class")
-    (hex (codes "CAFEBABE00000034000D010003702F410700010100106A6176612F6C616E672F4F626A65637407000301000166010003")
-    ++ (hex (codes "282949010004436F6465010003712F61070008010001610C000A00060A0009000B002100020004000000000001000900")
-    ++ (hex (codes "05000600010007000000100002000200000004B8000CAC000000000000"))))
+    (hex (codes "CAFEBABE00000034001A010003702F410700010100106A6176612F6C616E672F4F626A65637407000301000166010003")
+    ++ (hex (codes "282956010004436F64650100106A6176612F6C616E672F53797374656D0700080100036F75740100154C6A6176612F69")
+    ++ (hex (codes "6F2F5072696E7453747265616D3B0C000A000B090009000C010003712F6107000E010001610100032829490C00100011")
+    ++ (hex (codes "0A000F00120100136A6176612F696F2F5072696E7453747265616D0700140100077072696E746C6E010004284929560C")
+    ++ (hex (codes "001600170A001500180021000200040000000000010009000500060001000700000016000200020000000AB2000DB800")
+    ++ (hex (codes "13B60019B1000000000000")))))))
 
 -- that of p.a
 abbrev pub file_of_b : FileAt

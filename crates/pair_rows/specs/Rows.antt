@@ -63,7 +63,7 @@ MapShapeRow = Refuses files stray_line unedited clause.MapShape (Some (codes "p.
 
 -- f is kept, and has another name
 abbrev pub FixedNameRow : Type 0
-FixedNameRow = Refuses files kept_renamed unedited clause.FixedName (Some (codes "p.A")) (Some (codes "int f()"))
+FixedNameRow = Refuses files kept_renamed unedited clause.FixedName (Some (codes "p.A")) (Some (codes "void f()"))
 
 -- p.B has become a class of the package q
 abbrev pub PackageRow : Type 0
@@ -71,7 +71,7 @@ PackageRow = Refuses (file_of_a_moved ∷ file_of_b_moved ∷ []) moved unedited
 
 -- f is kept, and has no line
 abbrev pub SeedLostRow : Type 0
-SeedLostRow = Refuses files seed_lost unedited clause.SeedLost (Some (codes "p.A")) (Some (codes "int f()"))
+SeedLostRow = Refuses files seed_lost unedited clause.SeedLost (Some (codes "p.A")) (Some (codes "void f()"))
 
 -- f calls g, which has no line
 abbrev pub NotClosedRow : Type 0

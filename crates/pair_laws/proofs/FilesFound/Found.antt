@@ -81,7 +81,7 @@ no_entries (e ∷ es) h = absurd cc
 
 -- ---- what is put
 
-put_both : (m : Files) (files others : List FileAt) → put_all m (files ++ others) ≡ put_all (put_all m files) others
+pub put_both : (m : Files) (files others : List FileAt) → put_all m (files ++ others) ≡ put_all (put_all m files) others
 put_both m [] others = refl
 put_both m (f ∷ files) others = put_both (insert m f.path f.bytes) files others
 
@@ -113,7 +113,7 @@ module _ (directory : List ℕ) where
       by Equal e = ap (λ z. or_else z (Some w.bytes)) (none_at q w.path there e ascend.0)
 
   -- files elsewhere change nothing there
-  put_elsewhere : (q : List ℕ) (others : List FileAt) → AllByRecursion (IsElsewhere directory) others → (m : Files)
+  pub put_elsewhere : (q : List ℕ) (others : List FileAt) → AllByRecursion (IsElsewhere directory) others → (m : Files)
       → get (put_all m others) (front ++ q) ≡ get m (front ++ q)
   put_elsewhere q [] all m = refl
   put_elsewhere q (f ∷ others) all m =

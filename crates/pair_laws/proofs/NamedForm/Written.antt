@@ -89,7 +89,7 @@ set_apart classes t =
     (subst NamesDiffer (sym t.built.2)
     (names_differ t.files t.ascend (no_name_fault t.files (name_faults t.files) refl t.built.0)))
 
-apart_by : (classes : List Class) (rules : Rules) (marks : List Bool) → IsLinked classes → (obfuscate : Bool)
+pub apart_by : (classes : List Class) (rules : Rules) (marks : List Bool) → IsLinked classes → (obfuscate : Bool)
     → AreApart (map
     (renamed (cond obfuscate (given_beside (names_that_stay rules classes) (shrunk classes marks)) same_names))
     (shrunk classes marks))

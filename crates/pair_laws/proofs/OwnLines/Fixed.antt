@@ -29,7 +29,7 @@ use Rattle.pair_clauses.specs.FixedNames.{field_fault, method_fault, package_fau
 use Rattle.pair_clauses.specs.Places.{class_place, place_if, place_of_field, place_of_method}
 use Rattle.pair_clauses.specs.declared.place.Place.{Place}
 use Rattle.pair_clauses.proofs.Zipped.{unplaced}
-use Rattle.pair_laws.specs.PairSame.Pairs.{given_names}
+use Rattle.pair_checker.specs.Clauses.{given_names}
 use Rattle.pair_laws.specs.OwnLines.Laws.{IsToldByMarks, name_if}
 use Rattle.pair_laws.proofs.OwnLines.Picked.{no_first}
 

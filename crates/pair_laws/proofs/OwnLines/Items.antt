@@ -17,7 +17,7 @@ use Rattle.mapping_file.specs.declared.mapping.Mapping.{Mapping}
 use Rattle.class_rename.specs.Names.{Names}
 use Rattle.new_names.specs.NewNames.{names_given, new_class, new_field, new_method}
 use Rattle.pair_clauses.specs.Closing.{lined_in, lined_items}
-use Rattle.pair_laws.specs.PairSame.Pairs.{given_names}
+use Rattle.pair_checker.specs.Clauses.{given_names}
 use Rattle.pair_laws.proofs.PairSame.Lined.{class_lined, field_lined, method_lined}
 use Rattle.pair_laws.specs.OwnLines.Laws.{name_if}
 

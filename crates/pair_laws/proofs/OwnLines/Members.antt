@@ -35,7 +35,7 @@ use Rattle.pair_clauses.specs.Members.{NewMethod, expected_fields, expected_meth
 use Rattle.pair_clauses.specs.Places.{class_place, place_of_field, place_of_method}
 use Rattle.pair_clauses.specs.Shape.{number_of}
 use Rattle.pair_clauses.proofs.Zipped.{unplaced}
-use Rattle.pair_laws.specs.PairSame.Pairs.{given_names}
+use Rattle.pair_checker.specs.Clauses.{given_names}
 use Rattle.pair_laws.specs.OwnLines.Laws.{IsToldByMarks, name_if}
 use Rattle.pair_laws.proofs.OwnLines.Found.{become, found_new}
 use Rattle.pair_laws.proofs.OwnLines.Picked.{AreGiven, as_many, no_first_of, none_unlike}

@@ -13,8 +13,9 @@ use Rattle.mapping_file.specs.declared.mapping.Mapping.{Mapping}
 use Rattle.class_rename.specs.Names.{Names}
 use Rattle.set_shrink.specs.ShrunkSet.{new_names}
 use Rattle.new_names.specs.NewNames.{new_class, new_field, new_method}
-use Rattle.pair_laws.specs.PairSame.Pairs.{given_names}
-use Rattle.pair_laws.specs.OwnLines.Laws.{IsMarkedSet, LinesAreToldByMarks, OwnLines, name_if, own_mapping}
+use Rattle.pair_checker.specs.Clauses.{given_names}
+use Rattle.pair_laws.specs.OwnLines.Laws.{IsMarkedSet, LinesAreToldByMarks, OwnLines, name_if}
+use Rattle.pair_laws.specs.OwnNames.Laws.{own_mapping}
 use Rattle.pair_laws.proofs.OwnLines.Closing.{no_item_lacks, no_seed_lost}
 use Rattle.pair_laws.proofs.OwnLines.Fixed.{no_name_differs, no_package_differs}
 use Rattle.pair_laws.proofs.OwnLines.Items.{lined_marks}

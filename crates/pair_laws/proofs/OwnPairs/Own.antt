@@ -22,12 +22,14 @@ use Rattle.pair_laws.specs.PairSame.Entries.{AreEntries}
 use Rattle.pair_laws.specs.PairSame.Laws.{pair_names}
 use Rattle.pair_laws.specs.PairSame.Pairs.{IsPair}
 use Rattle.pair_laws.proofs.PairSame.Entered.{entries_kept}
+use Rattle.pair_laws.proofs.PairSame.OneToOne.{one_to_one}
 use Rattle.pair_laws.proofs.PairSame.PairSame.{pair_same}
 use Rattle.pair_laws.proofs.OwnShape.Names.{own_mapping}
 use Rattle.pair_laws.proofs.OwnShape.Names.{mapping_tells}
 use Rattle.pair_laws.proofs.OwnShape.Fits.{mapping_fits}
 use Rattle.pair_laws.specs.OwnLines.Laws.{IsPairButShape}
 use Rattle.pair_laws.proofs.OwnLines.Whole.{own_lines}
+use Rattle.pair_laws.proofs.OwnMapping.Own.{own_mapping_is_read, own_witness_is_read}
 use Rattle.pair_laws.specs.OwnPairs.Laws.{OwnFilesArePaired, OwnIsAccepted, OwnPairs}
 use Rattle.pair_laws.specs.OwnPairs.Written.{AreWritten, no_edit}
 use Rattle.pair_laws.proofs.OwnPairs.Left.{are_back, are_built, is_taken, is_typed, named}
@@ -121,6 +123,11 @@ own_paired files classes marks rules set written h =
       written = written;
       below = h.below;
       pair = own.0;
+      mapping_read = own_mapping_is_read files classes marks rules set written h;
+      witness_read = own_witness_is_read;
+      names = one_to_one classes (left_of classes marks rules) set.mapping rules
+          (taken files classes marks rules set written h) (then_taken files classes marks rules set written h)
+          (is_pair files classes marks rules set written h);
       same = λ entries are. subst
           (λ (output : List Class). Same (view_of classes) (view_of output) (pair_names classes set.mapping) entries)
           (sym own.1) (own_same files classes marks rules set written h entries are);

@@ -54,7 +54,8 @@ use Rattle.image_laws.specs.TakenSet.TakenSet.{IsTaken}
 use Rattle.removal_laws.proofs.RemovalLinks.Left.{stays}
 use Rattle.pair_laws.specs.RenamedImage.Renaming.{IsNewClass, IsNewField, IsNewMethod, IsRenamedSet}
 use Rattle.pair_laws.specs.RenamedSame.NewCodes.{HasNewCode, HasNewCodes, IsNewCode, IsNewIns}
-use Rattle.pair_laws.specs.PairSame.Pairs.{IsPair, given_names}
+use Rattle.pair_checker.specs.Clauses.{given_names}
+use Rattle.pair_laws.specs.PairSame.Pairs.{IsPair}
 use Rattle.pair_laws.proofs.PairSame.ClosedLines.{closed_lines}
 use Rattle.pair_laws.proofs.PairSame.Lined.{class_lined, field_lined, marks, method_lined}
 use Rattle.pair_laws.proofs.PairSame.Lines.{AreLines, IsLine, lines_right, no_place}

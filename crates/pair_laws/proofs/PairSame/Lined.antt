@@ -16,7 +16,7 @@ use Rattle.member_shrink.specs.Shrunk.{is_marked}
 use Rattle.mapping_file.specs.declared.mapping.Mapping.{Mapping}
 use Rattle.new_names.specs.NewNames.{names_given, new_class, new_field, new_method}
 use Rattle.pair_clauses.specs.Closing.{lined_in, lined_items}
-use Rattle.pair_laws.specs.PairSame.Pairs.{given_names}
+use Rattle.pair_checker.specs.Clauses.{given_names}
 
 pub flat_of_map : {X Y Z : Type 0} (f : Y → List Z) (g : X → Y) (xs : List X)
     → flat_map f (map g xs) ≡ flat_map (λ x. f (g x)) xs

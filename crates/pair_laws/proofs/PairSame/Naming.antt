@@ -64,7 +64,8 @@ use Rattle.pair_laws.proofs.RenamedImage.Descriptors.{field_is_none, method_is_o
 use Rattle.pair_laws.proofs.RenamedImage.MemberNames.{library_name_taken, no_init}
 use Rattle.pair_laws.proofs.RenamedImage.MemberNames.{program_row}
 use Rattle.pair_laws.specs.RenamedImage.Renaming.{is_method_text}
-use Rattle.pair_laws.specs.PairSame.Pairs.{IsPair, given_names}
+use Rattle.pair_checker.specs.Clauses.{given_names}
+use Rattle.pair_laws.specs.PairSame.Pairs.{IsPair}
 use Rattle.pair_laws.proofs.PairSame.Expected.{GoodLine, all_good, becomes, field_found, fields_table, left}
 use Rattle.pair_laws.proofs.PairSame.Expected.{line_of}
 use Rattle.pair_laws.proofs.PairSame.Expected.{lined, method_found, methods_table, names, numbered_class}

@@ -12,9 +12,11 @@ use Rattle.pair_checker.specs.PairOk.{PairOk}
 use Rattle.pair_checker.specs.declared.answer.Clause.TheVariants as clause
 use Rattle.pair_laws.specs.PairSame.Pairs.{IsPair}
 use Rattle.pair_laws.proofs.PairSame.Entered.{entries_kept}
+use Rattle.pair_laws.proofs.PairSame.OneToOne.{one_to_one}
 use Rattle.pair_laws.proofs.PairSame.PairSame.{pair_same}
+use Rattle.pair_laws.proofs.PairTrace.Framed.{runs_retraced}
 use Rattle.pair_laws.proofs.PairTrace.Traced.{frames_retraced}
-use Rattle.pair_laws.specs.PairSound.Laws.{CheckedFramesRetrace, CheckedPairsDoTheSame, DoTheSame}
+use Rattle.pair_laws.specs.PairSound.Laws.{CheckedFramesRetrace, CheckedPairsDoTheSame, CheckedRunsRetrace, DoTheSame}
 
 pub is_pair : (input : List Class) (files : List FileAt) (mapping : Mapping) (rules : Rules) (witness : Witness)
     → (pair : PairOk input files mapping rules witness) → IsPair input pair.output mapping rules
@@ -43,6 +45,11 @@ checked_retraced files input written mapping rules witness readable accepted the
     frames_retraced input pair.output mapping rules (are_taken files input readable accepted)
     (are_taken written pair.output then_readable pair.accepted) (is_pair input written mapping rules witness pair)
 
+pub checked_runs : CheckedRunsRetrace
+checked_runs files input written mapping rules witness readable accepted then_readable pair =
+    runs_retraced input pair.output mapping rules (are_taken files input readable accepted)
+    (are_taken written pair.output then_readable pair.accepted) (is_pair input written mapping rules witness pair)
+
 pub pairs_do_the_same : (files : List FileAt) (input : List Class) (written : List FileAt) (mapping : Mapping)
     (rules : Rules) (witness : Witness) → AreReadable files → IsAccepted files input → AreReadable written
     → PairOk input written mapping rules witness → DoTheSame files written rules mapping
@@ -51,6 +58,8 @@ pairs_do_the_same files input written mapping rules witness readable accepted th
   output = pair.output;
   input_taken = accepted;
   output_taken = pair.accepted;
+  names = one_to_one input pair.output mapping rules (are_taken files input readable accepted)
+      (are_taken written pair.output then_readable pair.accepted) (is_pair input written mapping rules witness pair);
   same = λ entries are.
       (checked_same files input written mapping rules witness readable accepted then_readable pair entries are).0;
   typed = pair.accepted.typed;

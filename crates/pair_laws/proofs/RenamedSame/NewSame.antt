@@ -30,7 +30,7 @@ use Rattle.pair_laws.proofs.RenamedSame.NewView.{new_view}
 
 module _ (classes : List Class) (rules : KeptByRules) (marks : List Bool) (names : Names) (place : ℕ → ℕ)
     (out : List Class) (taken : IsTaken classes) (new : IsLeftUnderNames classes rules marks names place out) where
-  abbrev image_names_of : same.Names
+  abbrev pub image_names_of : same.Names
   image_names_of = image_names.names classes out (image_of classes rules marks names place out taken new)
 
   class_names : (c : List ℕ) → image_names_of.class c ≡ (kept_names names classes marks).class c
@@ -67,7 +67,7 @@ module _ (classes : List Class) (rules : KeptByRules) (marks : List Bool) (names
       by None is = refl
       by (Some m) is = at m is (is_member_kept classes marks m) refl
 
-  same_names : image_names_of ≡ kept_names names classes marks
+  pub same_names : image_names_of ≡ kept_names names classes marks
   same_names = λ j. record {
     class = λ c. class_names c j;
     field = λ k. key_names k j;

@@ -11,10 +11,9 @@ use Rattle.class_pool.specs.Items.{class_item}
 use Rattle.keep_rules.specs.declared.rules.Rules.{Rules}
 use Rattle.attribute_filter.specs.KeptAttributes.{filter_of}
 use Rattle.require_sys.specs.Required.{required}
-use Rattle.member_shrink.specs.Shrunk.{is_marked, shrunk}
+use Rattle.member_shrink.specs.Shrunk.{is_marked}
 use Rattle.mapping_file.specs.declared.mapping.Mapping.{Mapping}
 use Rattle.class_rename.specs.Names.{Names}
-use Rattle.rename_map.specs.MappingOf.{mapping_of}
 use Rattle.set_shrink.specs.ShrunkSet.{left_of, new_names}
 use Rattle.image_laws.specs.TakenSet.TakenSet.{IsTaken}
 use Rattle.new_names.specs.NewNames.{names_of, new_class, new_field, new_method}
@@ -22,14 +21,10 @@ use Rattle.pair_clauses.specs.Closing.{closed_fault, lined_items, seed_fault}
 use Rattle.pair_clauses.specs.Codes.{CodeDiffers}
 use Rattle.pair_clauses.specs.FixedNames.{fixed_by, fixed_fault, package_fault}
 use Rattle.pair_clauses.specs.Members.{MemberDiffers}
-use Rattle.pair_laws.specs.PairSame.Pairs.{given_names}
+use Rattle.pair_checker.specs.Clauses.{given_names}
+use Rattle.pair_laws.specs.OwnNames.Laws.{own_mapping}
 
--- ---- what is written
-
--- the mapping of what is marked (ProGuard manual, "-printmapping")
-abbrev pub own_mapping : List Class → List Bool → Rules → Mapping
-own_mapping classes marks rules =
-    mapping_of (new_names classes marks rules) (filter_of rules).line_numbers (shrunk classes marks)
+-- ---- what is marked
 
 -- the set is taken, and the marks are closed for what its rules require
 pub record IsMarkedSet (classes : List Class) (marks : List Bool) (rules : Rules) : Type 0 where

@@ -5,13 +5,14 @@ use Rattle.keep_rules.specs.declared.rules.Rules.{Rules}
 use Rattle.mapping_file.specs.declared.mapping.Mapping.{Mapping}
 use Rattle.new_names.specs.NewNames.{names_of}
 use Rattle.pair_clauses.specs.Closing.{lined_items}
+use Rattle.pair_checker.specs.Clauses.{given_names}
 use Rattle.jvm_model.specs.Same.{AreKept, Names, Same}
 use Rattle.jvm_model.specs.Value.{Key}
 use Rattle.set_view.specs.ViewOf.{view_of}
 use Rattle.image_laws.specs.TakenSet.TakenSet.{IsTaken}
 use Rattle.pair_laws.specs.RenamedSame.NewKeys.{kept_names}
 use Rattle.pair_laws.specs.PairSame.Entries.{AreEntries}
-use Rattle.pair_laws.specs.PairSame.Pairs.{IsPair, given_names}
+use Rattle.pair_laws.specs.PairSame.Pairs.{IsPair}
 
 -- the names of what has a line, and of the library; what has no line isn't kept
 abbrev pub pair_names : List Class → Mapping → Names

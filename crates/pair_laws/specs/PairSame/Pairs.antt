@@ -1,22 +1,17 @@
 -- A pair of sets of which no clause holds: each clause of `pair_clauses` that is said of the two sets finds no place
 -- (the project's own: what the command tests).
-use Rattle.std.specs.Prelude.{◌≡◌, List, map, None}
+use Rattle.std.specs.Prelude.{◌≡◌, List, None}
 use Rattle.class_model.specs.declared.class.Class.{Class}
 use Rattle.keep_rules.specs.declared.rules.Rules.{Rules}
 use Rattle.attribute_filter.specs.KeptAttributes.{filter_of}
 use Rattle.require_sys.specs.Required.{required}
 use Rattle.mapping_file.specs.declared.mapping.Mapping.{Mapping}
-use Rattle.new_names.specs.NewNames.{names_given}
-use Rattle.new_names.specs.declared.class_names.ClassNames.{ClassNames}
 use Rattle.pair_clauses.specs.Closing.{closed_fault, seed_fault}
 use Rattle.pair_clauses.specs.Codes.{CodeDiffers}
 use Rattle.pair_clauses.specs.FixedNames.{fixed_by, fixed_fault, package_fault}
 use Rattle.pair_clauses.specs.Members.{MemberDiffers}
 use Rattle.pair_clauses.specs.Shape.{shape_fault}
-
--- the new names of each class of the input and of its members
-abbrev pub given_names : Mapping → List Class → List ClassNames
-given_names mapping input = map (names_given mapping) input
+use Rattle.pair_checker.specs.Clauses.{given_names}
 
 pub record IsPair (input output : List Class) (mapping : Mapping) (rules : Rules) : Type 0 where
   pub shape : None ≡ shape_fault input output mapping

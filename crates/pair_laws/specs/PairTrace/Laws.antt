@@ -1,12 +1,16 @@
 -- A trace of the output tells, with old names, what the input does, as a statement on all pairs (the project's own).
-use Rattle.std.specs.Prelude.{◌≡◌, ℕ, List, IsSome}
-use Rattle.std.specs.List.{AllZip}
+use Rattle.std.specs.Prelude.{◌≡◌, ◌⊎◌, ℕ, true, List, IsSome}
+use Rattle.std.specs.List.{AllByRecursion, AllZip}
 use Rattle.class_model.specs.declared.class.Class.{Class}
 use Rattle.keep_rules.specs.declared.rules.Rules.{Rules}
 use Rattle.mapping_file.specs.declared.mapping.Mapping.{Mapping}
+use Rattle.jvm_model.specs.Heap.{Object}
 use Rattle.jvm_model.specs.Same.{Corr}
-use Rattle.jvm_model.specs.State.{Frame, State, frames}
-use Rattle.set_view.specs.ViewOf.{view_of}
+use Rattle.jvm_model.specs.Start.{ArePlain}
+use Rattle.jvm_model.specs.State.{Frame, State, WentWrong, frames, status}
+use Rattle.jvm_model.specs.Step.{run, start}
+use Rattle.jvm_model.specs.Value.{Key, Value}
+use Rattle.set_view.specs.ViewOf.{is_startable, view_of}
 use Rattle.retrace_core.specs.OldNames.{source_of}
 use Rattle.retrace_core.specs.Retraced.{line_retraced}
 use Rattle.image_laws.specs.TakenSet.TakenSet.{IsTaken}
@@ -16,10 +20,14 @@ use Rattle.pair_laws.specs.PairTrace.FrameLines.{IsNumber, IsSource, frame_line}
 
 -- the line of a frame of the output, with old names, is that of the frame of the input, at the same number and with the
 -- source file that its class suggests
-abbrev pub IsRetraced : List Class → Mapping → Frame → Frame → Type 0
-IsRetraced input mapping f g = IsSome ((view_of input).code f.method) → (source number : List ℕ) → IsSource source
-    → IsNumber number → line_retraced mapping (frame_line g.method number source)
+abbrev pub IsTold : Mapping → Frame → Frame → Type 0
+IsTold mapping f g = (source number : List ℕ) → IsSource source → IsNumber number
+    → line_retraced mapping (frame_line g.method number source)
     ≡ frame_line f.method number (source_of f.method.class)
+
+-- so it is where the frame of the input is of a method with a code
+abbrev pub IsRetraced : List Class → Mapping → Frame → Frame → Type 0
+IsRetraced input mapping f g = IsSome ((view_of input).code f.method) → IsTold mapping f g
 
 -- so it is of all frames of methods with codes, one by one, wherever both are in step
 abbrev pub FramesRetrace : Type 0
@@ -27,3 +35,20 @@ FramesRetrace = (input output : List Class) (mapping : Mapping) (rules : Rules) 
     → IsPair input output mapping rules → (s t : State)
     → Corr (view_of input) (view_of output) (pair_names input mapping) s t
     → AllZip (IsRetraced input mapping) (frames s) (frames t)
+
+-- in a run from an entry each frame is of a method with a code, unless the run has gone wrong
+abbrev pub FramesHaveCodes : Type 0
+FramesHaveCodes = (classes : List Class) → IsTaken classes → (entry : Key) → is_startable classes entry ≡ true
+    → (heap : List Object) → ArePlain heap → (args : List Value) (n : ℕ)
+    → (status (run (view_of classes) (start (view_of classes) entry heap args) n) ≡ WentWrong)
+    ⊎ AllByRecursion (λ (f : Frame). IsSome ((view_of classes).code f.method))
+    (frames (run (view_of classes) (start (view_of classes) entry heap args) n))
+
+-- so the lines of all frames are told, wherever the output is in step with such a run of the input
+abbrev pub RunsRetrace : Type 0
+RunsRetrace = (input output : List Class) (mapping : Mapping) (rules : Rules) → IsTaken input → IsTaken output
+    → IsPair input output mapping rules → (entry : Key) → is_startable input entry ≡ true → (heap : List Object)
+    → ArePlain heap → (args : List Value) (n : ℕ) (t : State)
+    → Corr (view_of input) (view_of output) (pair_names input mapping)
+    (run (view_of input) (start (view_of input) entry heap args) n) t
+    → AllZip (IsTold mapping) (frames (run (view_of input) (start (view_of input) entry heap args) n)) (frames t)

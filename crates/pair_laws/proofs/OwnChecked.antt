@@ -1,0 +1,4 @@
+pub mod Paths
+pub mod Put
+pub mod Texts
+pub mod Own

@@ -1,0 +1,187 @@
+-- What is written of a set is found again.
+use Rattle.std.proofs.Common.{◌≡◌, ◌≢◌, ◌≤◌, ◌⊎◌, inl, inr, ℕ, ◌||◌, Bool, true, false, List, [], ◌∷◌, ◌++◌, length, map}
+use Rattle.std.proofs.Common.{Ok, Some, refl, sym, ap, subst, ◌∙◌, arith}
+use Rattle.std.specs.FinMap.{get, insert, keys}
+use Rattle.std.specs.List.{AllByRecursion, list_any}
+use Rattle.std.proofs.lemmas.Bool.{or_parts}
+use Rattle.jv_base.specs.Names.{is_text}
+use Rattle.jv_base.proofs.Lists.{all_append}
+use Rattle.tree_io.specs.Below.{front_of, paths_below}
+use Rattle.tree_io.specs.Files.{Files}
+use Rattle.tree_io.specs.declared.file_at.FileAt.{FileAt}
+use Rattle.path_text.specs.Path.{is_below}
+use Rattle.class_files.specs.Input.{input_due}
+use Rattle.class_files.specs.Output.{put_all}
+use Rattle.class_model.specs.declared.class.Class.{Class}
+use Rattle.keep_rules.specs.Reading.{dirs_meet, files_of, has_twice, is_inside, paths_meet}
+use Rattle.keep_rules.specs.declared.rules.Rules.{Rules}
+use Rattle.mapping_file.specs.Mappings.{mapping_text}
+use Rattle.set_shrink.specs.Texts.{texts_due, witness_file}
+use Rattle.set_shrink.specs.declared.shrunk.ShrunkSet.{ShrunkSet}
+use Rattle.witness_file.specs.Witnesses.{witness_text}
+use Rattle.pair_laws.specs.FilesFound.Below.{AreBelow, IsElsewhere}
+use Rattle.pair_laws.proofs.FilesFound.Found.{put_both}
+use Rattle.pair_laws.specs.OwnPairs.Written.{AreWritten, no_edit}
+use Rattle.pair_laws.proofs.OwnPairs.Found.{files_found}
+use Rattle.pair_laws.proofs.OwnMapping.Own.{own_mapping_is_read, own_witness_is_read}
+use Rattle.pair_laws.specs.OwnChecked.Again.{HasMapping, HasWitness, IsFoundAgain, PassesInputLimit}
+use Rattle.pair_laws.specs.OwnChecked.Laws.{IsApartFrom, OwnFilesAreFoundAgain}
+use Rattle.pair_laws.proofs.OwnChecked.Paths.{lies_below, neither_below, none_of, not_below_other}
+use Rattle.pair_laws.proofs.OwnChecked.Put.{elsewhere_same, found_or_limit, stands_at, stays_at}
+use Rattle.pair_laws.proofs.OwnChecked.Texts.{AreTexts, are_texts}
+
+-- ---- class files
+
+-- files below one of two directories that don't meet are elsewhere for the other
+other_directory : (one other : List ℕ) → is_text one other ≡ false → is_below one other ≡ false
+    → is_below other one ≡ false → (files there : List FileAt) → AreBelow other files there
+    → AllByRecursion (IsElsewhere one) files
+other_directory one other no_text no_below no_above [] there below = tt
+other_directory one other no_text no_below no_above (f ∷ files) [] below = absurd below
+other_directory one other no_text no_below no_above (f ∷ files) (w ∷ there) below = (
+  not_below_other one other f.path w.path no_text no_below no_above below.0.0,
+  other_directory one other no_text no_below no_above files there below.1,
+)
+
+-- a path that doesn't lie below the directory is none of theirs
+none_below : (directory path : List ℕ) → is_below path directory ≡ false → (files there : List FileAt)
+    → AreBelow directory files there → AllByRecursion (λ (f : FileAt). path ≢ f.path) files
+none_below directory path outside [] there below = tt
+none_below directory path outside (f ∷ files) [] below = absurd below
+none_below directory path outside (f ∷ files) (w ∷ there) below = (
+  (λ same.
+  let wrong : false ≡ true = sym outside ∙ ap (λ p. is_below p directory) same
+  ∙ lies_below directory f.path w.path below.0.0 in
+  absurd cc),
+  none_below directory path outside files there below.1,
+)
+
+-- ---- paths that don't meet
+
+-- what the test of the paths says
+record DontMeet (rules : Rules) (witness : List ℕ) : Type 0 where
+  once : has_twice (files_of rules witness) ≡ false
+  outside : list_any (is_inside rules) (files_of rules witness) ≡ false
+  no_text : is_text rules.in_dir rules.out_dir ≡ false
+  in_not_below : is_below rules.in_dir rules.out_dir ≡ false
+  out_not_below : is_below rules.out_dir rules.in_dir ≡ false
+
+dont_meet : (rules : Rules) (witness : List ℕ) → paths_meet rules witness ≡ false → DontMeet rules witness
+unfolding paths_meet
+dont_meet rules witness apart =
+    let first = or_parts (has_twice (files_of rules witness))
+    (list_any (is_inside rules) (files_of rules witness) || dirs_meet rules) apart in
+    let second = or_parts (list_any (is_inside rules) (files_of rules witness)) (dirs_meet rules) first.1 in
+    let dirs = or_parts (is_text rules.in_dir rules.out_dir)
+    (is_below rules.in_dir rules.out_dir || is_below rules.out_dir rules.in_dir) second.1 in
+    let below = or_parts (is_below rules.in_dir rules.out_dir) (is_below rules.out_dir rules.in_dir) dirs.1 in
+    record {
+      once = first.0;
+      outside = second.0;
+      no_text = dirs.0;
+      in_not_below = below.0;
+      out_not_below = below.1;
+    }
+
+-- ---- the whole
+
+module _ (files : List FileAt) (classes : List Class) (marks : List Bool) (rules : Rules) (set : ShrunkSet)
+    (written : List FileAt) (h : AreWritten files classes marks rules set written)
+    (old : Files) (config witness : List ℕ) (texts : List FileAt) (empty : paths_below rules.out_dir (keys old) ≡ [])
+    (apart : paths_meet rules witness ≡ false) (own : IsApartFrom config rules witness)
+    (told : texts_due set.mapping classes marks rules witness ≡ Ok texts) where
+  abbrev new : Files
+  new = put_all old (set.files ++ texts)
+
+  abbrev classes_put : Files
+  classes_put = put_all old set.files
+
+  abbrev mapping_at : FileAt
+  mapping_at = record { path = rules.mapping; bytes = mapping_text set.mapping }
+
+  are : AreTexts set.mapping rules witness texts
+  are = are_texts set.mapping classes marks rules witness texts told
+
+  paths : DontMeet rules witness
+  paths = dont_meet rules witness apart
+
+  new_is : new ≡ put_all classes_put texts
+  new_is = put_both old set.files texts
+
+  -- the directories
+
+  elsewhere : AllByRecursion (IsElsewhere rules.in_dir) texts × AllByRecursion (IsElsewhere rules.out_dir) texts
+  elsewhere = neither_below rules.in_dir rules.out_dir texts
+      (ap (list_any (is_inside rules)) are.paths ∙ paths.outside)
+
+  input : input_due new rules.in_dir ≡ input_due old rules.in_dir
+  input = elsewhere_same old rules.in_dir (set.files ++ texts)
+      (all_append (IsElsewhere rules.in_dir) set.files texts
+      (other_directory rules.in_dir rules.out_dir paths.no_text paths.in_not_below paths.out_not_below set.files written
+      h.below) elsewhere.0)
+
+  output_by : ((found : List FileAt) × (input_due new rules.out_dir ≡ Ok found)) ⊎ PassesInputLimit new rules.out_dir
+      → (input_due new rules.out_dir ≡ Ok written) ⊎ PassesInputLimit new rules.out_dir
+  output_by (inr limit) = inr limit
+  output_by (inl given) =
+      inl (given.1 ∙ ap Ok (files_found files classes marks rules set written h old texts empty elsewhere.1 given.0
+      given.1))
+
+  -- the config
+
+  config_put : get new config ≡ get old config
+  config_put =
+      stays_at config (set.files ++ texts)
+      (all_append (λ (f : FileAt). config ≢ f.path) set.files texts
+      (none_below rules.out_dir config own.1 set.files written h.below)
+      (none_of config texts (ap (list_any (is_text config)) are.paths ∙ own.0))) old
+
+  -- the mapping and the witness
+
+  abbrev behind : List FileAt
+  behind = are.lists ++ witness_file witness ∷ []
+
+  others_differ : list_any (is_text rules.mapping) (map (λ (f : FileAt). f.path) behind) ≡ false
+  others_differ =
+      (or_parts (list_any (is_text rules.mapping) (map (λ (f : FileAt). f.path) behind))
+      (has_twice (map (λ (f : FileAt). f.path) behind))
+      (ap has_twice (ap (map (λ (f : FileAt). f.path)) (sym are.are) ∙ are.paths) ∙ paths.once)).0
+
+  mapping_stands : get new rules.mapping ≡ Some (mapping_text set.mapping)
+  mapping_stands =
+      ap (λ (m : Files). get m rules.mapping) (new_is ∙ ap (put_all classes_put) are.are)
+      ∙ stays_at rules.mapping behind (none_of rules.mapping behind others_differ)
+      (insert classes_put rules.mapping (mapping_text set.mapping))
+      ∙ stands_at classes_put rules.mapping (mapping_text set.mapping)
+
+  witness_stands : get new witness ≡ Some (witness_text no_edit)
+  witness_stands =
+      ap (λ (m : Files). get m witness)
+      (new_is ∙ ap (put_all classes_put) are.are
+      ∙ put_both classes_put (mapping_at ∷ are.lists) (witness_file witness ∷ []))
+      ∙ stands_at (put_all classes_put (mapping_at ∷ are.lists)) witness (witness_text no_edit)
+
+  has_mapping : HasMapping new rules.mapping set.mapping
+  has_mapping = (
+    mapping_text set.mapping,
+    record { there = mapping_stands; short = are.short },
+    own_mapping_is_read files classes marks rules set written h,
+  )
+
+  has_witness : HasWitness new witness no_edit
+  unfolding witness_text
+  has_witness =
+      (witness_text no_edit, record { there = witness_stands; short = omega arith }, own_witness_is_read)
+
+  found_again : IsFoundAgain old new config witness rules set.mapping no_edit written
+  found_again = record {
+    config_stays = config_put;
+    mapping_is = has_mapping;
+    witness_is = has_witness;
+    input_stays = input;
+    output_is = output_by (found_or_limit rules.out_dir new);
+  }
+
+pub files_found_again : OwnFilesAreFoundAgain
+files_found_again files classes marks rules set written h old config witness texts empty apart own told =
+    found_again files classes marks rules set written h old config witness texts empty apart own told

@@ -1,0 +1,5 @@
+use Rattle.pair_laws.proofs.OwnMapping.Mapped.{is_mapping}
+use Rattle.pair_laws.proofs.own_mapping.mappings_have_texts.Goals as goal
+
+pub returns : goal.returns
+returns c = is_mapping

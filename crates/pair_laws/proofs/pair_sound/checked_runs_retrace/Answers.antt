@@ -1,0 +1,5 @@
+use Rattle.pair_laws.proofs.PairSound.Sound.{checked_runs}
+use Rattle.pair_laws.proofs.pair_sound.checked_runs_retrace.Goals as goal
+
+pub returns : goal.returns
+returns c = checked_runs

@@ -1,0 +1,5 @@
+use Rattle.pair_laws.proofs.PairTrace.Framed.{frames_coded}
+use Rattle.pair_laws.proofs.pair_trace.frames_have_codes.Goals as goal
+
+pub returns : goal.returns
+returns c = frames_coded
