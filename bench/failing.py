@@ -1,0 +1,581 @@
+#!/usr/bin/env python3
+"""What goes wrong outside: files, rights, devices, memory and kills, and what the command says and leaves then.
+
+    python3 bench/failing.py PROGRAM [table|memory|calls|limits] [--write]
+
+`table` makes each situation of docs/FAILURES.md, runs the command there, and compares its line, its status and the files
+afterwards with the row; with --write it prints the rows as they are. `memory` refuses each request for memory of each command
+in turn, once alone and once with all that follow. `calls` lets each system call that opens, reads, writes, lists, asks or makes
+a folder fail in turn, moves a part of a write, and kills the program at each write. `limits` runs under limits of memory
+(ulimit -v) from too little to enough. Without a word all four are run. Each run has to end with a status that docs/MANUAL.md
+has for it, and the files have to stand as it says; the counts are printed, and the status is 1 where one run doesn't.
+
+`memory` and `calls` put a library between the program and the system's C library, which wants `cc`. Rows about rights are run
+as nobody, those with file systems of their own in a mount namespace: both want root, and are passed over without it.
+"""
+import ctypes
+import os
+import re
+import resource
+import shutil
+import socket
+import subprocess
+import sys
+import tempfile
+import time
+from pathlib import Path
+
+TOP = Path(__file__).resolve().parent.parent
+HELLO = TOP / 'examples/minimal/in'
+KEEP = '-keepclasseswithmembers class * { public static void main(java.lang.String[]); }\n'
+CONFIG = '-injars in\n-outjars out\n-printmapping map.txt\n-printseeds seeds.txt\n-printusage usage.txt\n' + KEEP
+FILES = ['out/Hello.class', 'out/a.class', 'map.txt', 'seeds.txt', 'usage.txt', 'o.wit']  # in the order in which they are written
+SHRINK, CHECK, RETRACE = ['shrink', 's.pro', 'o.wit'], ['check', 's.pro', 'o.wit'], ['retrace', 'map.txt', 'trace.txt']
+TRACE = 'Exception in thread "main" a: x\n\tat a.a(SourceFile:3)\n\tat Hello.main(SourceFile:9)\n'
+OLD = b'what stood here before\n'
+LIMIT = 64 * 1024 * 1024
+
+SHIM = r'''
+#define _GNU_SOURCE
+#include <dlfcn.h>
+#include <errno.h>
+#include <fcntl.h>
+#include <signal.h>
+#include <stdarg.h>
+#include <stdlib.h>
+#include <string.h>
+#include <sys/stat.h>
+#include <unistd.h>
+/* FAIL is KIND:NUMBER:HOW. The call of that kind and number fails: once, on (it and all that follow), part (half of a write
+   is moved), kill (half is moved, and then the program is killed). Without a number its calls are counted into descriptor 9. */
+static char kind[16]; static long number = -1, counted; static char how;
+__attribute__((constructor)) static void begin(void) {
+    char *text = getenv("FAIL"), *colon;
+    if (!text || !(colon = strchr(text, ':')) || colon - text > 15) return;
+    memcpy(kind, text, colon - text);
+    number = strtol(colon + 1, &colon, 10);
+    how = *colon ? colon[1] : 'o';
+}
+__attribute__((destructor)) static void end(void) {
+    if (kind[0] && number == 0) {
+        char text[24]; int at = 24; long left = counted;
+        do text[--at] = '0' + left % 10; while (left /= 10);
+        ssize_t (*put)(int, const void *, size_t) = dlsym(RTLD_NEXT, "write");
+        put(9, text + at, 24 - at);
+    }
+}
+static int fails(const char *name) {
+    if (strcmp(kind, name)) return 0;
+    ++counted;
+    return number > 0 && (how == 'f' ? counted >= number : counted == number);
+}
+#define NEXT(type, name) static type (*next)(); if (!next) next = (type (*)())dlsym(RTLD_NEXT, name)
+void *malloc(size_t n) { NEXT(void *, "malloc"); if (fails("memory")) { errno = ENOMEM; return 0; } return next(n); }
+void *realloc(void *p, size_t n) { NEXT(void *, "realloc"); if (fails("memory")) { errno = ENOMEM; return 0; } return next(p, n); }
+int open(const char *path, int flags, ...) { NEXT(int, "open"); va_list a; va_start(a, flags); int mode = va_arg(a, int); va_end(a);
+    if (fails("open")) { errno = EIO; return -1; } return next(path, flags, mode); }
+int openat(int at, const char *path, int flags, ...) { NEXT(int, "openat"); va_list a; va_start(a, flags); int mode = va_arg(a, int); va_end(a);
+    if (fails("open")) { errno = EIO; return -1; } return next(at, path, flags, mode); }
+ssize_t read(int f, void *to, size_t n) { NEXT(ssize_t, "read"); if (fails("read")) { errno = EIO; return -1; } return next(f, to, n); }
+ssize_t write(int f, const void *from, size_t n) { NEXT(ssize_t, "write");
+    if (f == 2) return next(f, from, n);
+    if (fails("write")) {
+        if (how == 'p') return next(f, from, n > 1 ? n / 2 : n);
+        if (how == 'k') { next(f, from, n / 2); kill(getpid(), SIGKILL); }
+        errno = ENOSPC; return -1;
+    }
+    return next(f, from, n); }
+int mkdir(const char *path, mode_t mode) { NEXT(int, "mkdir"); if (fails("mkdir")) { errno = EIO; return -1; } return next(path, mode); }
+ssize_t getdents64(int f, void *to, size_t n) { NEXT(ssize_t, "getdents64"); if (fails("list")) { errno = EIO; return -1; } return next(f, to, n); }
+int statx(int at, const char *path, int flags, unsigned mask, struct statx *to) { NEXT(int, "statx");
+    if (fails("ask")) { errno = EIO; return -1; } return next(at, path, flags, mask, to); }
+'''
+
+
+# ---- a room with an input, and what stands in it
+
+class Room:
+    def __init__(self, program, top):
+        self.top, self.program, self.at = Path(top), Path(top, 'program'), Path(top, 'at')
+        shutil.copy(program, self.program)
+        os.chmod(top, 0o755)
+        os.chmod(self.program, 0o755)
+        self.wrong, self.counts = [], {}
+        self.fresh()
+        self.run(SHRINK)
+        self.whole = {it: Path(self.at, it).read_bytes() for it in FILES}
+
+    def fresh(self, shrunk=False):
+        """An input, and old files where the mapping, the lists and the witness are to be written; or a whole output."""
+        for path in sorted(self.at.rglob('*'), reverse=True) if self.at.exists() else []:
+            if path.is_dir() and not path.is_symlink():
+                path.chmod(0o755)
+        shutil.rmtree(self.at, ignore_errors=True)
+        (self.at / 'in').mkdir(parents=True)
+        for path in HELLO.iterdir():
+            shutil.copy(path, self.at / 'in')
+        self.put('s.pro', CONFIG)
+        self.put('trace.txt', TRACE)
+        for path in FILES[2:]:
+            self.put(path, OLD)
+        if shrunk:
+            for path, data in self.whole.items():
+                self.put(path, data)
+
+    def put(self, path, data):
+        target = self.at / path
+        target.parent.mkdir(parents=True, exist_ok=True)
+        target.write_bytes(data if isinstance(data, bytes) else data.encode())
+
+    def run(self, words, user=None, before=None, out=subprocess.PIPE, environment=None, pass_fds=()):
+        def begin():
+            if before:
+                before()
+            if user:
+                os.setgroups([])
+                os.setgid(user)
+                os.setuid(user)
+        return subprocess.run([str(self.program), *words], cwd=self.at, stdout=out, stderr=subprocess.PIPE, timeout=60,
+                              preexec_fn=begin if user or before else None, env=environment or {}, pass_fds=pass_fds)
+
+    def stands(self):
+        """What stands: the path of each entry with its kind or its bytes."""
+        found = {}
+        for folder, folders, names in os.walk(os.fsencode(self.at)):
+            for name in folders + names:
+                path = os.path.join(folder, name)
+                said = os.fsdecode(os.path.relpath(path, os.fsencode(self.at)))
+                if os.path.islink(path):
+                    found[said] = 'link ' + os.fsdecode(os.readlink(path))
+                elif os.path.isfile(path):
+                    found[said] = Path(os.fsdecode(path)).read_bytes()
+                elif not os.path.isdir(path):
+                    found[said] = 'other'
+        return found
+
+    def look(self, at=lambda it: it):
+        """The bytes of each file that is to be written, where there are some, also behind links."""
+        found = {}
+        for path in FILES:
+            try:
+                found[path] = Path(self.at, at(path)).read_bytes() if Path(self.at, at(path)).is_file() else None
+            except OSError:
+                found[path] = None
+        return found
+
+    def left(self, before, olds, at=lambda it: it, files=FILES):
+        """In words: which of the files to be written are new, in their order, and whether anything else changed."""
+        after, now = self.stands(), self.look(at)
+        known = {at(it) for it in files}
+        strange = [it for it in sorted({*before, *after}) if before.get(it) != after.get(it) and it not in known]
+        if strange:
+            return f'CHANGED {strange}'
+        states = ['new' if now[it] == self.whole[it] != olds[it] else 'old' if now[it] == olds[it] else 'part' for it in files]
+        first = next((k for k, it in enumerate(states) if it != 'new'), len(states))
+        rest, number = states[first:], len(states)
+        if set(rest) <= {'old'}:
+            return 'all are written' if first == number else f'{first} of {number}' if first else 'none is written'
+        if rest[0] == 'part' and set(rest[1:]) <= {'old'}:
+            return f'{first} of {number}, and a part of the next' if first else f'a part of the first of {number}'
+        return f'CHANGED {states}'
+
+    def count(self, group, good, told):
+        number, right = self.counts.get(group, (0, 0))
+        self.counts[group] = (number + 1, right + bool(good))
+        if not good:
+            self.wrong.append(f'{group}: {told}')
+            print(f'failing.py: {self.wrong[-1]}', file=sys.stderr, flush=True)
+
+
+# ---- the situations of docs/FAILURES.md
+
+SITUATIONS = {}
+NOBODY = 65534
+
+
+def situation(name, words=SHRINK, **more):
+    """Registers a setting up: made(room) is called in a fresh room, with a whole output where `shrunk`."""
+    def outer(made):
+        SITUATIONS[name] = (made, words, more)
+        return made
+    return outer
+
+
+def simple(name, words=SHRINK, **more):
+    return situation(name, words, **more)
+
+
+def link(room, path, to):
+    target = room.at / path
+    if target.is_dir() and not target.is_symlink():
+        shutil.rmtree(target)
+    elif target.exists() or target.is_symlink():
+        target.unlink()
+    target.parent.mkdir(parents=True, exist_ok=True)
+    target.symlink_to(to)
+
+
+def instead(room, path, made):
+    """Something else in place of a file."""
+    target = room.at / path
+    if target.is_dir():
+        shutil.rmtree(target)
+    elif target.exists():
+        target.unlink()
+    made(target)
+
+
+def socket_at(target):
+    # the path of a socket may have 108 bytes
+    here = os.open('.', os.O_RDONLY)
+    os.chdir(target.parent)
+    socket.socket(socket.AF_UNIX).bind(target.name)
+    os.fchdir(here)
+    os.close(here)
+
+
+def long_file(target):
+    with open(target, 'wb') as out:
+        out.truncate(LIMIT + 1)
+
+
+def configured(old, new):
+    return lambda room: room.put('s.pro', CONFIG.replace(old, new))
+
+
+# the config
+simple('the config isn\'t there')(lambda room: (room.at / 's.pro').unlink())
+simple('the config is a directory')(lambda room: instead(room, 's.pro', os.mkdir))
+simple('the config is a link to a file')(lambda room: (room.put('other', CONFIG), link(room, 's.pro', 'other')))
+simple('the config is a link that leads nowhere')(lambda room: link(room, 's.pro', 'nowhere'))
+simple('the config is a pipe that nobody writes to')(lambda room: instead(room, 's.pro', os.mkfifo))
+simple('the config is a socket')(lambda room: instead(room, 's.pro', socket_at))
+simple('the config is a device', ['shrink', '/dev/zero', 'o.wit'])(lambda room: None)
+simple('the config may not be read', user=NOBODY)(lambda room: (room.at / 's.pro').chmod(0))
+simple('the config is empty')(lambda room: room.put('s.pro', ''))
+simple('the config has 64 MiB and a byte')(lambda room: instead(room, 's.pro', long_file))
+simple('the config\'s folder is a file', ['shrink', 's.pro/x', 'o.wit'])(lambda room: None)
+simple('the config\'s name has 300 letters', ['shrink', 'x' * 300, 'o.wit'])(lambda room: None)
+simple('a word isn\'t UTF-8', ['shrink', b's\xff.pro', 'o.wit'])(lambda room: None)
+
+
+@situation('the config is a pipe that somebody writes to')
+def _(room):
+    instead(room, 's.pro', os.mkfifo)
+    room.put('text', CONFIG)
+    subprocess.Popen(['sh', '-c', 'exec 3<>s.pro && cat text >&3 && sleep 1'], cwd=room.at)
+    time.sleep(0.3)
+
+
+# the input
+simple('the input directory isn\'t there')(lambda room: shutil.rmtree(room.at / 'in'))
+simple('the input directory is a file')(lambda room: instead(room, 'in', lambda it: it.write_text('x')))
+simple('the input directory is a link to one')(lambda room: ((room.at / 'in').rename(room.at / 'real'), link(room, 'in', 'real')))
+simple('the input directory may not be read', user=NOBODY)(lambda room: (room.at / 'in').chmod(0o111))
+simple('a folder below the input directory may not be read', user=NOBODY)(lambda room: (room.at / 'in/more').mkdir(mode=0))
+simple('a class file may not be read', user=NOBODY)(lambda room: (room.at / 'in/Unused.class').chmod(0))
+simple('another file of the input may not be read', user=NOBODY)(lambda room: (room.put('in/x.txt', 'x'), (room.at / 'in/x.txt').chmod(0)))
+simple('a class file is a link to one')(lambda room: ((room.at / 'in/Hello.class').rename(room.at / 'h'), link(room, 'in/Hello.class', '../h')))
+simple('a class file is a link that leads nowhere')(lambda room: link(room, 'in/Other.class', 'nowhere'))
+simple('a class file is a link to itself')(lambda room: link(room, 'in/Other.class', 'Other.class'))
+simple('a class file is a pipe that nobody writes to')(lambda room: os.mkfifo(room.at / 'in/Other.class'))
+simple('a folder has the name of a class file')(lambda room: (room.at / 'in/Other.class').mkdir())
+simple('a class file is empty')(lambda room: room.put('in/Hello.class', b''))
+simple('a class file lacks its last byte')(lambda room: room.put('in/Hello.class', (HELLO / 'Hello.class').read_bytes()[:-1]))
+simple('a link to a folder with classes stands below the input directory')(
+    lambda room: ((room.at / 'far').mkdir(), room.put('far/Bad.class', b'x'), link(room, 'in/far', '../far')))
+simple('a link to the input directory stands below it')(lambda room: link(room, 'in/loop', '.'))
+simple('a file below the input directory has a name that isn\'t UTF-8')(
+    lambda room: open(os.fsencode(room.at / 'in') + b'/\xff.txt', 'w').close())
+simple('a folder below the input directory has a name that isn\'t UTF-8')(lambda room: os.mkdir(os.fsencode(room.at / 'in') + b'/\xff'))
+simple('a class file has a name with a blank')(lambda room: room.put('in/a b.class', (HELLO / 'Unused.class').read_bytes()))
+
+# the output directory
+simple('the output directory has a file')(lambda room: room.put('out/x', 'x'))
+simple('the output directory has a file far below')(lambda room: room.put('out/a/b/c/.x', ''))
+simple('the output directory has a link that leads nowhere')(lambda room: ((room.at / 'out').mkdir(), link(room, 'out/x', 'nowhere')))
+simple('the output directory has a pipe')(lambda room: ((room.at / 'out').mkdir(), os.mkfifo(room.at / 'out/x')))
+simple('the output directory has empty folders')(lambda room: (room.at / 'out/a/b').mkdir(parents=True))
+simple('the output directory is a file')(lambda room: room.put('out', 'x'))
+simple('the output directory is a link to an empty folder')(lambda room: ((room.at / 'real').mkdir(), link(room, 'out', 'real')))
+simple('the output directory is a link to the input directory')(lambda room: link(room, 'out', 'in'))
+simple('the output directory is a link that leads nowhere')(lambda room: link(room, 'out', 'nowhere'))
+simple('the output directory may not be written', user=NOBODY)(lambda room: (room.at / 'out').mkdir(mode=0o555))
+simple('the output directory may not be read', user=NOBODY)(lambda room: (room.at / 'out').mkdir(mode=0o333))
+simple('the folder of the output directory may not be written', user=NOBODY)(lambda room: room.at.chmod(0o555))
+simple('a folder stands at the path of a class file')(lambda room: (room.at / 'out/a.class').mkdir(parents=True))
+
+# the other files that are written
+simple('the mapping is a directory')(lambda room: instead(room, 'map.txt', os.mkdir))
+simple('the mapping isn\'t there, and its folder neither')(configured('map.txt', 'new/folder/map.txt'))
+simple('the mapping\'s folder is a file')(configured('map.txt', 'seeds.txt/map.txt'))
+simple('the mapping is a link to a file')(lambda room: (room.put('real', OLD), link(room, 'map.txt', 'real')))
+simple('the mapping is a link that leads nowhere')(lambda room: link(room, 'map.txt', 'nowhere'))
+simple('the mapping is a pipe that nobody reads')(lambda room: instead(room, 'map.txt', os.mkfifo))
+simple('the mapping may not be written', user=NOBODY)(lambda room: (room.at / 'map.txt').chmod(0o444))
+simple('the mapping is /dev/full')(configured('map.txt', '/dev/full'))
+simple('the mapping is /dev/null')(configured('map.txt', '/dev/null'))
+simple('the list of seeds is a directory')(lambda room: instead(room, 'seeds.txt', os.mkdir))
+simple('the witness is a directory', ['shrink', 's.pro', 'folder'])(lambda room: (room.at / 'folder').mkdir())
+simple('the witness is the config', ['shrink', 's.pro', 's.pro'])(lambda room: None)
+simple('the mapping is the config')(configured('map.txt', 's.pro'))
+simple('the mapping is a link to the config')(lambda room: link(room, 'map.txt', 's.pro'))
+simple('the witness lies below the input directory', ['shrink', 's.pro', 'in/Hello.class'])(lambda room: None)
+simple('the witness is a link to a class file of the input', ['shrink', 's.pro', 'w'])(lambda room: link(room, 'w', 'in/Hello.class'))
+
+
+# devices, limits and printing
+def mounted(room, path, options):
+    target = room.at / path
+    target.mkdir(exist_ok=True)
+    subprocess.run(['mount', '-t', 'tmpfs', '-o', options, 'none', str(target)], check=True)
+
+
+simple('the disk of the output directory has 4 KiB', mounts=['out'])(lambda room: mounted(room, 'out', 'size=4k'))
+simple('the disk of the output directory has no more files', mounts=['out'])(lambda room: mounted(room, 'out', 'size=1m,nr_inodes=2'))
+simple('the disk of the output directory is read-only', mounts=['out'])(
+    lambda room: (mounted(room, 'out', 'size=1m'), subprocess.run(['mount', '-o', 'remount,ro', str(room.at / 'out')], check=True)))
+simple('a file may have 500 bytes (ulimit -f), and the signal kills', before=lambda: resource.setrlimit(resource.RLIMIT_FSIZE, (500, 500)))(
+    lambda room: None)
+simple('a file may have 500 bytes (ulimit -f), and the signal is ignored', before=lambda: (
+    __import__('signal').signal(__import__('signal').SIGXFSZ, __import__('signal').SIG_IGN),
+    resource.setrlimit(resource.RLIMIT_FSIZE, (500, 500))))(lambda room: None)
+simple('one file may be open at a time (ulimit -n 4)', before=lambda: resource.setrlimit(resource.RLIMIT_NOFILE, (4, 4)))(lambda room: None)
+simple('4 MiB of memory (ulimit -v)', before=lambda: resource.setrlimit(resource.RLIMIT_AS, (4 << 20, 4 << 20)))(lambda room: None)
+simple('standard output is closed', before=lambda: os.close(1))(lambda room: None)
+simple('standard output and standard error are closed', before=lambda: (os.close(1), os.close(2)))(lambda room: None)
+simple('standard input is closed', before=lambda: os.close(0))(lambda room: None)
+simple('standard output is /dev/full', out='/dev/full')(lambda room: None)
+simple('standard output is a pipe that nobody reads', out='gone')(lambda room: None)
+simple('standard output is /dev/full, and the config is refused', out='/dev/full')(lambda room: room.put('s.pro', '-frobnicate\n'))
+simple('killed while the mapping is written', environment='write:3:kill')(lambda room: None)
+simple('killed while the first class file is written', environment='write:1:kill')(lambda room: None)
+simple('killed while the summary is printed', environment='write:7:kill')(lambda room: None)
+
+# check
+simple('check: the mapping isn\'t there', CHECK, shrunk=True)(lambda room: (room.at / 'map.txt').unlink())
+simple('check: the witness isn\'t there', CHECK, shrunk=True)(lambda room: (room.at / 'o.wit').unlink())
+simple('check: the witness is a directory', CHECK, shrunk=True)(lambda room: instead(room, 'o.wit', os.mkdir))
+simple('check: the mapping may not be read', CHECK, shrunk=True, user=NOBODY)(lambda room: (room.at / 'map.txt').chmod(0))
+simple('check: the mapping has 64 MiB and a byte', CHECK, shrunk=True)(lambda room: instead(room, 'map.txt', long_file))
+simple('check: the output directory isn\'t there', CHECK, shrunk=True)(lambda room: shutil.rmtree(room.at / 'out'))
+simple('check: the output directory is a file', CHECK, shrunk=True)(lambda room: instead(room, 'out', lambda it: it.write_text('x')))
+simple('check: a class file of the output may not be read', CHECK, shrunk=True, user=NOBODY)(lambda room: (room.at / 'out/a.class').chmod(0))
+simple('check: a class file of the output is a link that leads nowhere', CHECK, shrunk=True)(lambda room: link(room, 'out/a.class', 'nowhere'))
+simple('check: a class file of the output is a link to one', CHECK, shrunk=True)(
+    lambda room: ((room.at / 'out/a.class').rename(room.at / 'real'), link(room, 'out/a.class', '../real')))
+simple('check: nothing may be written', CHECK, shrunk=True, user=NOBODY)(lambda room: room.at.chmod(0o555))
+simple('check: standard output is /dev/full', CHECK, shrunk=True, out='/dev/full')(lambda room: None)
+
+# retrace
+simple('retrace: the mapping isn\'t there', RETRACE, shrunk=True)(lambda room: (room.at / 'map.txt').unlink())
+simple('retrace: the trace isn\'t there', RETRACE, shrunk=True)(lambda room: (room.at / 'trace.txt').unlink())
+simple('retrace: the trace is a directory', RETRACE, shrunk=True)(lambda room: instead(room, 'trace.txt', os.mkdir))
+simple('retrace: the trace has 64 MiB and a byte', RETRACE, shrunk=True)(lambda room: instead(room, 'trace.txt', long_file))
+simple('retrace: the trace isn\'t UTF-8', RETRACE, shrunk=True)(lambda room: room.put('trace.txt', b'\xff\n'))
+simple('retrace: the trace is empty', RETRACE, shrunk=True)(lambda room: room.put('trace.txt', b''))
+simple('retrace: standard output is /dev/full', RETRACE, shrunk=True, out='/dev/full')(lambda room: None)
+
+PLACES = {'the output directory is a link to an empty folder': lambda it: it.replace('out/', 'real/'),
+          'the output directory is a link that leads nowhere': lambda it: it.replace('out/', 'nowhere/'),
+          'the mapping isn\'t there, and its folder neither': lambda it: it.replace('map.txt', 'new/folder/map.txt'),
+          'the mapping is a link to a file': lambda it: it.replace('map.txt', 'real'),
+          'the mapping is a link that leads nowhere': lambda it: it.replace('map.txt', 'nowhere'),
+          'the witness is a directory': lambda it: it.replace('o.wit', 'folder'),
+          'the mapping\'s folder is a file': lambda it: it.replace('map.txt', 'seeds.txt/map.txt'),
+          'the mapping is /dev/full': lambda it: it.replace('map.txt', 'absent'),
+          'the mapping is a link to the config': lambda it: it.replace('map.txt', 's.pro'),
+          'the mapping is the config': lambda it: it.replace('map.txt', 's.pro'),
+          'the witness is the config': lambda it: it.replace('o.wit', 's.pro'),
+          'the witness is a link to a class file of the input': lambda it: it.replace('o.wit', 'in/Hello.class'),
+          'the witness lies below the input directory': lambda it: it.replace('o.wit', 'in/Hello.class')}
+
+
+def told(room, name, shim):
+    """The row of a situation: what is printed first, the status, and what stands afterwards."""
+    made, words, more = SITUATIONS[name]
+    if (more.get('user') or more.get('mounts')) and os.getuid():
+        return None
+    if more.get('mounts') and not room.may_mount or more.get('environment') and not shim:
+        return None
+    room.fresh(more.get('shrunk', False))
+    if more.get('user'):
+        for path in [room.at, *room.at.rglob('*')]:
+            path.chmod(0o777 if path.is_dir() else 0o666)
+    made(room)
+    at = PLACES.get(name, lambda it: it)
+    before, olds = room.stands(), room.look(at)
+    out = subprocess.PIPE
+    if more.get('out') == 'gone':
+        reader, out = os.pipe()
+        os.close(reader)
+    elif more.get('out'):
+        out = os.open(more['out'], os.O_WRONLY)
+    environment = {'LD_PRELOAD': shim, 'FAIL': more['environment']} if more.get('environment') else None
+    ran = room.run(words, more.get('user'), more.get('before'), out, environment)
+    if out != subprocess.PIPE:
+        os.close(out)
+    files = [it for it in FILES if it != 'map.txt'] if name == 'the mapping is /dev/null' else FILES
+    after = room.left(before, olds, at, files) if words[0] == 'shrink' else \
+        'no file changes' if room.stands() == before else 'CHANGED'
+    for path in more.get('mounts', []):
+        subprocess.run(['umount', str(room.at / path)], check=True)
+    line = (ran.stdout or b'').decode('utf-8', 'replace').split('\n')[0]
+    status = str(ran.returncode) if ran.returncode >= 0 else f'signal {-ran.returncode}'
+    return f'`{line}`' if line else 'nothing', status, after
+
+
+def documented():
+    rows = {}
+    for line in (TOP / 'docs/FAILURES.md').read_text().split('\n'):
+        cells = [it.strip() for it in line.strip('|').split('|')]
+        if line.startswith('|') and len(cells) == 4:
+            rows[cells[0]] = tuple(cells[1:])
+    return rows
+
+
+def table(room, shim, write):
+    rows = {} if write else documented()
+    for name in SITUATIONS:
+        row = told(room, name, shim)
+        if row is None:
+            print(f'failing.py: passed over: {name}', file=sys.stderr)
+            continue
+        row = tuple(it if len(it) < 90 else it[:60] + '..`' for it in row)
+        if write:
+            print(f'| {name} | {" | ".join(row)} |', flush=True)
+        else:
+            room.count('situations', rows.get(name) == row and 'CHANGED' not in row[2], f'{name}: {row}, and the row has {rows.get(name)}')
+    if not write:
+        for name in set(rows) - set(SITUATIONS) - {'Situation', '---'}:
+            room.count('situations', False, f'{name} is in the document and not tried')
+
+
+# ---- each call in turn
+
+COMMANDS = {
+    'shrink': (SHRINK, False, None), 'check': (CHECK, True, None), 'retrace': (RETRACE, True, None),
+    'check, a pair that is refused': (CHECK, True, lambda room: room.put('map.txt', room.whole['map.txt'].replace(b'main -> main', b'main -> b'))),
+    'check, a witness that is refused': (CHECK, True, lambda room: room.put('o.wit', 'witness 2\n')),
+    'retrace, a mapping that is refused': (RETRACE, True, lambda room: room.put('map.txt', 'x\n')),
+    'shrink, a config that is refused': (SHRINK, False, lambda room: room.put('s.pro', CONFIG + '-frobnicate\n')),
+    'shrink, a class file that is refused': (SHRINK, False, lambda room: room.put('in/Hello.class', b'abc')),
+    'shrink, a class that is missing': (SHRINK, False, lambda room: (room.at / 'in/Greeting.class').unlink()),
+    'shrink, an output directory that isn\'t empty': (SHRINK, False, lambda room: room.put('out/x', 'x')),
+    'shrink, wrong words': (['shrink', 's.pro'], False, None), '--help': (['--help'], False, None), '--version': (['--version'], False, None),
+}
+
+
+def ready(room, command):
+    words, shrunk, made = COMMANDS[command]
+    room.fresh(shrunk)
+    if made:
+        made(room)
+    return words
+
+
+def counted(room, command, kind, shim):
+    """How many calls of a kind the command makes, and what it says."""
+    words = ready(room, command)
+    reader, writer = os.pipe()
+    ran = room.run(words, environment={'LD_PRELOAD': shim, 'FAIL': f'{kind}:0'}, before=lambda: os.dup2(writer, 9), pass_fds=(writer, 9))
+    os.close(writer)
+    text = os.read(reader, 100)
+    os.close(reader)
+    return int(text or 0), ran
+
+
+def in_turn(room, shim, kind, how, allowed, commands, step=1):
+    for command in commands:
+        number, whole = counted(room, command, kind, shim)
+        fine = 0
+        statuses = {}
+        for k in range(1, number + 1, step):
+            words = ready(room, command)
+            before, olds = room.stands(), room.look()
+            ran = room.run(words, environment={'LD_PRELOAD': shim, 'FAIL': f'{kind}:{k}:{how}'})
+            after, first = room.left(before, olds), ran.stdout.decode('utf-8', 'replace')
+            status = ran.returncode
+            statuses[status] = statuses.get(status, 0) + 1
+            good = not after.startswith('CHANGED') and status in {*allowed, whole.returncode}
+            if status == whole.returncode and status != -9:
+                same = whole.stdout.startswith(ran.stdout) if kind == 'write' else ran.stdout == whole.stdout
+                good &= same and after == ('all are written' if words == SHRINK and not status else 'none is written')
+            elif status == 10:
+                # --help says nothing where its text can't be made
+                good &= (first == 'error 10 memory\n' or command == '--help' and not first) and 'a part' not in after
+            elif status == 7:
+                good &= whole.stdout.startswith(ran.stdout) or first.endswith('error 7 device\n')
+            elif status == 2:
+                good &= first.startswith('error 2 absent ')
+            if words[0] != 'shrink':
+                good &= room.stands() == before
+            fine += good
+            room.count(f'{kind} {how}', good, f'{command}, call {k}: status {status}, {first!r}, {after}')
+        said = ', '.join(f'{count} end with {status}' for status, count in sorted(statuses.items()))
+        print(f'{kind} {how}: {command}: {number} calls, {fine} as they are to be: {said}', flush=True)
+
+
+def limits(room):
+    """Limits of memory (ulimit -v) in steps of 16 KiB, from where the system can't start the program to where it ends well."""
+    for command in ('shrink', 'check', 'retrace'):
+        status, size, statuses = None, 2 << 20, {}
+        while status != 0 and size < 64 << 20:
+            words = ready(room, command)
+            before, olds = room.stands(), room.look()
+            try:
+                ran = room.run(words, before=lambda: resource.setrlimit(resource.RLIMIT_AS, (size, size)))
+            except (OSError, subprocess.SubprocessError):
+                size += 16 << 10
+                continue
+            size += 16 << 10
+            status, after = ran.returncode, room.left(before, olds)
+            if status == 127 or status < 0 and b'cixorradde' not in ran.stderr and not ran.stdout:
+                statuses['not started'] = statuses.get('not started', 0) + 1  # the loader
+                continue
+            statuses[status] = statuses.get(status, 0) + 1
+            room.count('limits', status in (0, 10) and (status == 0 or ran.stdout == b'error 10 memory\n') and 'a part' not in after
+                       and not after.startswith('CHANGED'), f'{command}, {size} bytes: {status}, {ran.stdout!r}, {after}')
+        print(f'limits: {command}: ' + ', '.join(f'{count} end with {it}' if it != 'not started' else f'{count} not started by the system'
+                                                 for it, count in statuses.items()), flush=True)
+
+
+def private_mounts():
+    """A mount namespace of its own, where root may have one."""
+    libc = ctypes.CDLL(None, use_errno=True)
+    return os.getuid() == 0 and libc.unshare(0x20000) == 0 and libc.mount(b'none', b'/', None, 0x4000 | 0x40000, None) == 0
+
+
+def main():
+    words = [it for it in sys.argv[1:] if it != '--write']
+    if not words or not set(words[1:]) <= {'table', 'memory', 'calls', 'limits'}:
+        sys.exit(__doc__)
+    asked = set(words[1:]) or {'table', 'memory', 'calls', 'limits'}
+    with tempfile.TemporaryDirectory(dir='/dev/shm' if os.path.isdir('/dev/shm') else None) as top:
+        may_mount = private_mounts()
+        room = Room(words[0], top)
+        room.may_mount = may_mount
+        shim = None
+        if shutil.which('cc'):
+            shim = f'{top}/shim.so'
+            Path(top, 'shim.c').write_text(SHIM)
+            subprocess.run(['cc', '-shared', '-fPIC', '-O1', '-w', '-o', shim, f'{top}/shim.c', '-ldl'], check=True)
+        if 'table' in asked:
+            table(room, shim, '--write' in sys.argv)
+        if shim and 'memory' in asked:
+            in_turn(room, shim, 'memory', 'once', {10}, COMMANDS)
+            in_turn(room, shim, 'memory', 'following', {10}, COMMANDS, 3)
+        if shim and 'calls' in asked:
+            for kind in ('open', 'read', 'list', 'ask', 'mkdir', 'write'):
+                in_turn(room, shim, kind, 'once', {7}, COMMANDS)
+            in_turn(room, shim, 'write', 'part', {0}, COMMANDS)
+            in_turn(room, shim, 'write', 'kill', {-9}, COMMANDS)
+        if 'limits' in asked:
+            limits(room)
+        room.fresh()
+        print(', '.join(f'{group}: {right} of {number}' for group, (number, right) in room.counts.items()) or 'rows as they are')
+        sys.exit(1 if room.wrong else 0)
+
+
+if __name__ == '__main__':
+    main()
