@@ -1,4 +1,2 @@
-mod OneDue
-mod Endings
-mod Judging
-mod StepByStep
+pub mod OneDue
+pub mod Found

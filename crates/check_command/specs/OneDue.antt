@@ -2,11 +2,12 @@
 -- only one).
 use Rattle.std.specs.Prelude.{◌≡◌, Result}
 use Rattle.tree_io.specs.Files.{Files}
+use Rattle.command_frame.specs.declared.command.Plan.{Plan}
+use Rattle.command_frame.specs.declared.refusal.Refusal.{Refusal}
 use Rattle.check_command.specs.Due.{IsDue}
-use Rattle.check_command.specs.declared.finding.CheckFiles.{CheckFiles}
-use Rattle.check_command.specs.declared.refusal.Refusal.{Refusal}
+use Rattle.check_command.specs.declared.command.CheckFiles.{CheckFiles}
 
 -- what is due twice, of the same files and for the same words, is the same
 abbrev pub IsOneDue : Type 0
-IsOneDue = (files : Files) (named : CheckFiles) (one other : Result (Unit {0}) Refusal) → IsDue files named one
-    → IsDue files named other → one ≡ other
+IsOneDue = (files : Files) (named : CheckFiles) (one other : Result Plan Refusal) → IsDue named files one
+    → IsDue named files other → one ≡ other

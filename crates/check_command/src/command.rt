@@ -1,44 +1,19 @@
 // The command.
-ghost use Rattle.std.specs.Prelude.{◌≡◌, ◌≢◌, ◌⊎◌, ◌<◌};
-ghost use Rattle.tree_io.specs.Count.{Rose};
-ghost use Rattle.tree_io.specs.Runs.{memory_faults};
-ghost use Rattle.command_output.specs.Output.{outside, output};
-ghost use Rattle.check_command.specs.Answer.{Ended};
-ghost use Rattle.check_command.specs.bodies.Steps.{Says};
-ghost use Rattle.command_output.specs.declared.stop.Stop.TheVariants.{Refused};
+ghost use Rattle.std.specs.Prelude.{◌≡◌, IfOk};
+ghost use Rattle.command_frame.specs.Steps.{Finds, seen};
+ghost use Rattle.check_command.specs.Due.{FollowsRules, FollowsTexts, IsDue, ok_plan};
 
-use crate::checking::check;
-use crate::finding::CheckFiles;
-use crate::refusal::{Refusal, refusal_line, refusal_status};
-use command_output::{Stop, say_device, say_line, say_no_memory, say_text};
+use crate::finding::{Texts, find_directories, find_texts};
+use crate::judging::judge;
+use command_frame::{Command, Plan, Stop};
+use command_steps::find_config;
+use jv_base::Text;
+use keep_rules::Rules;
 use std::alloc::Global;
-use tree_io::{Sink, Tree};
+use tree_io::Tree;
 
-fn say_refusal<S: Sink>(alloc: Global, refusal: &Refusal, out: &mut S) -> u8
-    ensures { Says (Refused refusal.now) result
-        (output (S.written out.old) (S.faults out.old) (S.log out.old))
-        (output (S.written out.new) (S.faults out.new) (S.log out.new)) }
-{
-    match refusal_line(alloc, refusal) {
-        Ok(line) => say_line(refusal_status(refusal), line.as_bytes(), out),
-        Err(_) => say_no_memory(out),
-    }
-}
-
-fn say_stop<S: Sink>(alloc: Global, stop: &Stop<Refusal>, out: &mut S) -> u8
-    ensures { Says stop.now result
-        (output (S.written out.old) (S.faults out.old) (S.log out.old))
-        (output (S.written out.new) (S.faults out.new) (S.log out.new)) }
-{
-    match stop {
-        Stop::Refused(refusal) => say_refusal(alloc, refusal, out),
-        Stop::Device => say_device(out),
-        Stop::OutOfMemory => say_no_memory(out),
-    }
-}
-
-/// Reads an input and an output directory with the mapping and the witness that join them, says whether the output
-/// belongs to the input (`check_pair` of `pair_checker`), and answers the status.
+/// The files of `check CONFIG WITNESS`, which says whether the output belongs to the input (`check_pair` of
+/// `pair_checker`): an input and an output directory, with the mapping and the witness that join them.
 ///
 /// | Status | Comes | Text |
 /// |---|---|---|
@@ -59,35 +34,51 @@ fn say_stop<S: Sink>(alloc: Global, stop: &Stop<Refusal>, out: &mut S) -> u8
 /// none is named. Limits: `config`, `mapping`, `witness` and `input` (the class files of a directory together)
 /// 67,108,864 bytes, `files` 65,536 and `classes` 20,000 below a directory, `items` 1,048,576, `needs` and `pairs`
 /// 16,777,216. No file changes.
-pub fn check_files<T: Tree, S: Sink>(
-    alloc: Global,
-    named: &CheckFiles,
-    tree: &mut T,
-    out: &mut S,
-) -> u8
-    // No file changes.
-    ensures files { T.files tree.new ≡ T.files tree.old }
+#[derive(Drop)]
+pub struct CheckFiles {
+    pub config: Text,
+    pub witness: Text,
+}
 
-    // The words aren't refused.
-    ensures words { result ≢ 1 }
+impl Command for CheckFiles {
+    ghost plans = { λ _ plan. plan ≡ ok_plan };
 
-    // A device is blamed only where its count rose.
-    ensures device { result ≡ 7 → Rose (T.faults tree.old) (T.faults tree.new)
-        ⊎ Rose (S.faults out.old) (S.faults out.new) }
+    ghost due = { IsDue };
 
-    // Where memory was wanting for a call of the tree, the status says so.
-    ensures memory { memory_faults (T.log tree.old) < memory_faults (T.log tree.new) → result ≡ 10 }
-
-    // The run has an ending, which tells its status, what the tree was asked and what was said: at status 0 the pair is
-    // one, of all files which fit the tree's answers, told ones among them.
-    ensures ended { Ended named.now result
-        (outside (T.files tree.old) (T.faults tree.old) (T.log tree.old)
-        (output (S.written out.old) (S.faults out.old) (S.log out.old)))
-        (outside (T.files tree.new) (T.faults tree.new) (T.log tree.new)
-        (output (S.written out.new) (S.faults out.new) (S.log out.new))) }
-{
-    match check(alloc, named, tree) {
-        Ok(()) => say_text(b"ok\n", out),
-        Err(stop) => say_stop(alloc, &stop, out),
+    fn due_plan<T: Tree>(&self, alloc: Global, tree: &mut T) -> Result<Plan, Stop> {
+        let rules = find_config(alloc, &self.config, &self.witness, tree)?;
+        check_by_rules(alloc, &rules, &self.witness, tree)
     }
+}
+
+/// Whether the output belongs to the input that rules name.
+fn check_by_rules<T: Tree>(
+    alloc: Global,
+    rules: &Rules,
+    witness: &Text,
+    tree: &mut T,
+) -> Result<Plan, Stop>
+    ensures made { IfOk result (λ plan. plan ≡ ok_plan) }
+    ensures found { Finds result (λ fs. FollowsRules fs witness.now rules.now)
+        (seen (T.files tree.old) (T.faults tree.old) (T.log tree.old))
+        (seen (T.files tree.new) (T.faults tree.new) (T.log tree.new)) }
+{
+    let texts = find_texts(alloc, &rules.mapping, witness, tree)?;
+    check_by_texts(alloc, rules, &texts, tree)
+}
+
+/// Whether it belongs to it by the mapping and the witness.
+fn check_by_texts<T: Tree>(
+    alloc: Global,
+    rules: &Rules,
+    texts: &Texts,
+    tree: &mut T,
+) -> Result<Plan, Stop>
+    ensures made { IfOk result (λ plan. plan ≡ ok_plan) }
+    ensures found { Finds result (λ fs. FollowsTexts fs rules.now texts.now)
+        (seen (T.files tree.old) (T.faults tree.old) (T.log tree.old))
+        (seen (T.files tree.new) (T.faults tree.new) (T.log tree.new)) }
+{
+    let directories = find_directories(alloc, &rules.in_dir, &rules.out_dir, tree)?;
+    judge(alloc, rules, texts, directories)
 }

@@ -1,4 +1,1 @@
-pub mod Answer
 pub mod Due
-pub mod Refusal
-pub mod bodies

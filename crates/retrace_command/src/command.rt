@@ -1,43 +1,16 @@
 // The command.
-ghost use Rattle.std.specs.Prelude.{◌≡◌, ◌≢◌, ◌⊎◌, ◌≤◌, ◌<◌};
-ghost use Rattle.tree_io.specs.Count.{Rose};
-ghost use Rattle.tree_io.specs.Runs.{memory_faults};
-ghost use Rattle.command_output.specs.Output.{outside, output};
-ghost use Rattle.retrace_command.specs.Answer.{Ended};
-ghost use Rattle.retrace_command.specs.bodies.Steps.{Says};
-ghost use Rattle.command_output.specs.declared.stop.Stop.TheVariants.{Refused};
+ghost use Rattle.std.specs.Prelude.{◌≡◌, ◌<◌, IfOk, length, []};
+ghost use Rattle.command_frame.specs.Steps.{Finds, Makes, seen};
+ghost use Rattle.retrace_command.specs.Due.{FollowsMapping, IsDue, IsMapping, IsRetraced};
 
-use crate::finding::find_text;
-use crate::refusal::{Refusal, refusal_line, refusal_status};
-use command_output::{Stop, say_device, say_line, say_no_memory, say_text};
-use jv_base::Text;
+use command_frame::{Command, Plan, Quantity, Stop, faulty_text, read_file};
+use jv_base::{Items, Or, Text};
+use mapping_file::{Mapping, read_mapping};
+use retrace_core::retrace;
 use std::alloc::Global;
-use tree_io::{Sink, Tree};
+use tree_io::Tree;
 
-fn say_refusal<S: Sink>(alloc: Global, refusal: &Refusal, out: &mut S) -> u8
-    ensures { Says (Refused refusal.now) result
-        (output (S.written out.old) (S.faults out.old) (S.log out.old))
-        (output (S.written out.new) (S.faults out.new) (S.log out.new)) }
-{
-    match refusal_line(alloc, refusal) {
-        Ok(line) => say_line(refusal_status(refusal), line.as_bytes(), out),
-        Err(_) => say_no_memory(out),
-    }
-}
-
-fn say_stop<S: Sink>(alloc: Global, stop: &Stop<Refusal>, out: &mut S) -> u8
-    ensures { Says stop.now result
-        (output (S.written out.old) (S.faults out.old) (S.log out.old))
-        (output (S.written out.new) (S.faults out.new) (S.log out.new)) }
-{
-    match stop {
-        Stop::Refused(refusal) => say_refusal(alloc, refusal, out),
-        Stop::Device => say_device(out),
-        Stop::OutOfMemory => say_no_memory(out),
-    }
-}
-
-/// Reads a mapping and a trace, each a file of at most 64 MiB, says the trace with old names, and answers the status.
+/// The files of `retrace MAPPING TRACE`, which says the trace with the old names of the mapping.
 ///
 /// | Status | Comes | Text |
 /// |---|---|---|
@@ -49,36 +22,59 @@ fn say_stop<S: Sink>(alloc: Global, stop: &Stop<Refusal>, out: &mut S) -> u8
 /// | 11 | where the mapping's text is outside its grammar | `error 11 text LINE KIND` |
 ///
 /// The mapping's file is looked at first, then the trace's, then the mapping's text. No file changes.
-pub fn retrace_files<T: Tree, S: Sink>(
-    alloc: Global,
-    mapping: &Text,
-    trace: &Text,
-    tree: &mut T,
-    out: &mut S,
-) -> u8
-    // No file changes.
-    ensures files { T.files tree.new ≡ T.files tree.old }
+#[derive(Drop)]
+pub struct RetraceFiles {
+    pub mapping: Text,
+    pub trace: Text,
+}
 
-    // The words aren't refused.
-    ensures words { result ≢ 1 }
+impl Command for RetraceFiles {
+    ghost plans = { λ _ plan. plan.files ≡ [] };
 
-    // A device is blamed only where its count rose.
-    ensures device { result ≡ 7 → Rose (T.faults tree.old) (T.faults tree.new)
-        ⊎ Rose (S.faults out.old) (S.faults out.new) }
+    ghost due = { IsDue };
 
-    // Where memory was wanting for a call of the tree, the status says so.
-    ensures memory { memory_faults (T.log tree.old) < memory_faults (T.log tree.new) → result ≡ 10 }
+    fn due_plan<T: Tree>(&self, alloc: Global, tree: &mut T) -> Result<Plan, Stop> {
+        let map = read_file(alloc, Quantity::Mapping, &self.mapping, tree)?;
+        find_trace(alloc, map.as_slice(), &self.trace, tree)
+    }
+}
 
-    // The run has an ending, which tells its status, what the tree was asked and what was said: at status 0 the trace
-    // with old names that is due of all files which fit the tree's answers, told ones among them.
-    ensures ended { Ended mapping.now trace.now result
-        (outside (T.files tree.old) (T.faults tree.old) (T.log tree.old)
-        (output (S.written out.old) (S.faults out.old) (S.log out.old)))
-        (outside (T.files tree.new) (T.faults tree.new) (T.log tree.new)
-        (output (S.written out.new) (S.faults out.new) (S.log out.new))) }
+/// The plan for a mapping's text and the trace in a file.
+fn find_trace<T: Tree>(alloc: Global, map: &[u8], trace: &Text, tree: &mut T) -> Result<Plan, Stop>
+    requires { length map.now < 4294967295 }
+    ensures made { IfOk result (λ plan. plan.files ≡ []) }
+    ensures found { Finds result (λ fs. FollowsMapping fs trace.now map.now)
+        (seen (T.files tree.old) (T.faults tree.old) (T.log tree.old))
+        (seen (T.files tree.new) (T.faults tree.new) (T.log tree.new)) }
 {
-    match find_text(alloc, mapping, trace, tree) {
-        Ok(text) => say_text(text.as_slice(), out),
-        Err(stop) => say_stop(alloc, &stop, out),
+    let text = read_file(alloc, Quantity::Trace, trace, tree)?;
+    plan_of(alloc, map, text.as_slice())
+}
+
+/// The plan for the texts of a mapping and of a trace.
+fn plan_of(alloc: Global, map: &[u8], trace: &[u8]) -> Result<Plan, Stop>
+    requires { length map.now < 4294967295 }
+    ensures made { IfOk result (λ plan. plan.files ≡ []) }
+    ensures told { Makes result (IsRetraced map.now trace.now) }
+{
+    let mapping = mapping_in(alloc, map)?;
+    let text = retrace(alloc, &mapping, trace)?;
+    Ok(Plan {
+        files: Items::new(alloc),
+        text,
+    })
+}
+
+/// The mapping that a text stands for.
+fn mapping_in(alloc: Global, map: &[u8]) -> Result<Mapping, Stop>
+    requires { length map.now < 4294967295 }
+    ensures { Makes result (IsMapping map.now) }
+{
+    match read_mapping(alloc, map) {
+        Ok(mapping) => Ok(mapping),
+        Err(Or::Fault(fault)) => {
+            Err(Stop::Refused(faulty_text(alloc, fault.line, fault.kind.name())?))
+        }
+        Err(Or::OutOfMemory) => Err(Stop::OutOfMemory),
     }
 }

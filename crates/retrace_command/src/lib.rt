@@ -2,7 +2,5 @@
 #![tactic(auto)]
 
 mod command;
-mod finding;
-mod refusal;
 
-pub use command::retrace_files;
+pub use command::RetraceFiles;

@@ -1,10 +1,16 @@
 -- What a run has done that was given words (the project's own: the command's answers are no part of a standard).
-use Rattle.std.specs.Prelude.{◌≡◌, ◌⊎◌, ℕ, List, Bool, true, false, Option, Some, None, codes}
-use Rattle.command_output.specs.Output.{Outside, SaysLine}
+use Rattle.std.specs.Prelude.{◌≡◌, ◌⊎◌, ℕ, List, [], Bool, true, false, Option, Some, Result, Ok, Err, codes}
+use Rattle.tree_io.specs.Files.{Files}
+use Rattle.command_frame.specs.Answer.{Ended}
+use Rattle.command_frame.specs.Output.{Outside, SaysLine}
+use Rattle.command_frame.specs.declared.command.Plan.{Plan}
+use Rattle.command_frame.specs.declared.refusal.Refusal.{Refusal}
 use Rattle.command_words.specs.declared.command.Command.{Command}
 use Rattle.command_words.specs.declared.command.Command.TheVariants.{Shrink, Check, Retrace, Gen}
-use Rattle.retrace_command.specs.Answer as retrace
-use Rattle.shrink_core.specs.Answer.{Ended}
+use Rattle.retrace_command.specs.Due as retrace
+use Rattle.shrink_command.specs.Due.{IsDue}
+use Rattle.shrink_command.specs.OwnPair.{IsOwnPair}
+use Rattle.shrink_command.specs.declared.command.ShrinkFiles.{ShrinkFiles}
 use Rattle.shrink_core.specs.Checked.{Checked}
 
 -- words ask for a command that can be run; `gen` can't be run yet
@@ -20,13 +26,27 @@ pub record SaysAtOnce (due : ℕ) (line : List ℕ) (status : ℕ) (before after
   pub left : after.files ≡ before.files
   pub said : SaysLine due line status before.out after.out
 
+-- any plan may be done
+abbrev pub IsAny : Plan → Type 0
+IsAny plan = Unit {0}
+
+-- no file is written, whatever the tree answers
+abbrev pub IsText : Plan → Type 0
+IsText plan = plan.files ≡ []
+
+-- what is due of `shrink`; and what is to be written is a pair with what was read
+abbrev pub PairIsDue : ShrinkFiles → Files → Result Plan Refusal → Type 0
+PairIsDue named files (Ok plan) = IsDue named files (Ok plan) × IsOwnPair files named plan
+PairIsDue named files (Err refusal) = IsDue named files (Err refusal)
+
 -- what was done for the command that words ask for; other words are refused
 abbrev pub Does : Option Command → ℕ → Outside → Outside → Type 0
 Does (Some (Shrink config witness)) status before after =
-    Ended (record { config = config; witness = witness }) status before after
+    Ended IsAny (PairIsDue (record { config = config; witness = witness })) status before after
 Does (Some (Check config witness)) status before after =
     Checked (record { config = config; witness = witness }) status before after
-Does (Some (Retrace mapping trace)) status before after = retrace.Ended mapping trace status before after
+Does (Some (Retrace mapping trace)) status before after =
+    Ended IsText (retrace.IsDue (record { mapping = mapping; trace = trace })) status before after
 Does _ status before after = SaysAtOnce 1 (codes "error 1 words\n") status before after
 
 -- a run that was given words which ask for this command did it, or memory was wanting for the words

@@ -1,13 +1,2 @@
-pub mod Commands
-pub mod OneConfig
-pub mod Summary
-pub mod Refusal
-pub mod Due
-pub mod OwnPair
 pub mod Checked
-pub mod Answer
-pub mod OneDue
-pub mod SomeMarks
-pub mod SomeDue
-pub mod LeftFiles
-pub mod bodies
+pub mod Commands

@@ -1,6 +1,6 @@
 -- What is written of a set is found again.
 use Rattle.std.proofs.Common.{◌≡◌, ◌≢◌, ◌≤◌, ◌⊎◌, inl, inr, ℕ, ◌||◌, Bool, true, false, List, [], ◌∷◌, ◌++◌, length, map}
-use Rattle.std.proofs.Common.{Ok, Some, refl, sym, ap, subst, ◌∙◌, arith}
+use Rattle.std.proofs.Common.{Ok, Some, refl, sym, ap, leb-true, ◌∙◌}
 use Rattle.std.specs.FinMap.{get, insert, keys}
 use Rattle.std.specs.List.{AllByRecursion, list_any}
 use Rattle.std.proofs.lemmas.Bool.{or_parts}
@@ -18,6 +18,7 @@ use Rattle.keep_rules.specs.declared.rules.Rules.{Rules}
 use Rattle.mapping_file.specs.Mappings.{mapping_text}
 use Rattle.set_shrink.specs.Texts.{texts_due, witness_file}
 use Rattle.set_shrink.specs.declared.shrunk.ShrunkSet.{ShrunkSet}
+use Rattle.witness_file.specs.WitnessLines.{line_text}
 use Rattle.witness_file.specs.Witnesses.{witness_text}
 use Rattle.pair_laws.specs.FilesFound.Below.{AreBelow, IsElsewhere}
 use Rattle.pair_laws.proofs.FilesFound.Found.{put_both}
@@ -69,18 +70,19 @@ record DontMeet (rules : Rules) (witness : List ℕ) : Type 0 where
 dont_meet : (rules : Rules) (witness : List ℕ) → paths_meet rules witness ≡ false → DontMeet rules witness
 unfolding paths_meet
 dont_meet rules witness apart =
-    let first = or_parts (has_twice (files_of rules witness))
-    (list_any (is_inside rules) (files_of rules witness) || dirs_meet rules) apart in
-    let second = or_parts (list_any (is_inside rules) (files_of rules witness)) (dirs_meet rules) first.1 in
-    let dirs = or_parts (is_text rules.in_dir rules.out_dir)
-    (is_below rules.in_dir rules.out_dir || is_below rules.out_dir rules.in_dir) second.1 in
-    let below = or_parts (is_below rules.in_dir rules.out_dir) (is_below rules.out_dir rules.in_dir) dirs.1 in
+    let first = or_parts (has_twice (files_of rules witness) || list_any (is_inside rules) (files_of rules witness))
+    (dirs_meet rules) apart in
+    let files = or_parts (has_twice (files_of rules witness)) (list_any (is_inside rules) (files_of rules witness))
+    first.0 in
+    let dirs = or_parts (is_text rules.in_dir rules.out_dir || is_below rules.in_dir rules.out_dir)
+    (is_below rules.out_dir rules.in_dir) first.1 in
+    let one = or_parts (is_text rules.in_dir rules.out_dir) (is_below rules.in_dir rules.out_dir) dirs.0 in
     record {
-      once = first.0;
-      outside = second.0;
-      no_text = dirs.0;
-      in_not_below = below.0;
-      out_not_below = below.1;
+      once = files.0;
+      outside = files.1;
+      no_text = one.0;
+      in_not_below = one.1;
+      out_not_below = dirs.1;
     }
 
 -- ---- the whole
@@ -169,9 +171,12 @@ module _ (files : List FileAt) (classes : List Class) (marks : List Bool) (rules
   )
 
   has_witness : HasWitness new witness no_edit
-  unfolding witness_text
-  has_witness =
-      (witness_text no_edit, record { there = witness_stands; short = omega arith }, own_witness_is_read)
+  unfolding witness_text line_text
+  has_witness = (
+    witness_text no_edit,
+    record { there = witness_stands; short = leb-true (length (witness_text no_edit)) 67108864 refl },
+    own_witness_is_read,
+  )
 
   found_again : IsFoundAgain old new config witness rules set.mapping no_edit written
   found_again = record {

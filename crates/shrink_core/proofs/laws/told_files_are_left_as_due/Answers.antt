@@ -1,5 +1,15 @@
-use Rattle.shrink_core.proofs.LeftFiles.{leaves_told}
+use Rattle.check_command.specs.Due as check
+use Rattle.command_frame.proofs.LeftFiles.{leaves_told}
+use Rattle.retrace_command.specs.Due as retrace
+use Rattle.shrink_core.specs.Checked.{IsOk}
+use Rattle.shrink_core.specs.Commands.{IsAny, IsText, PairIsDue}
 use Rattle.shrink_core.proofs.laws.told_files_are_left_as_due.Goals as goal
 
-pub returns : goal.returns
-returns c = leaves_told
+pub returns-clause-shrink : goal.returns-clause-shrink
+returns-clause-shrink c = λ named. leaves_told IsAny (PairIsDue named)
+
+pub returns-clause-check : goal.returns-clause-check
+returns-clause-check c = λ named. leaves_told IsOk (check.IsDue named)
+
+pub returns-clause-retrace : goal.returns-clause-retrace
+returns-clause-retrace c = λ named. leaves_told IsText (retrace.IsDue named)

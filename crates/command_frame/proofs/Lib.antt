@@ -1,0 +1,4 @@
+pub mod Steps
+pub mod OneStep
+pub mod Endings
+pub mod LeftFiles

@@ -1,0 +1,6 @@
+pub mod Refusal
+pub mod Output
+pub mod Steps
+pub mod Answer
+pub mod LeftFiles
+pub mod bodies

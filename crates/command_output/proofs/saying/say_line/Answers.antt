@@ -1,5 +1,0 @@
-use Rattle.std.proofs.Common.{refl}
-use Rattle.command_output.proofs.saying.say_line.Goals as goal
-
-pub returns-clause-said : goal.returns-clause-said
-returns-clause-said g c = (refl, (c.put.result, (c.put.ensures.log, c.put.ensures.takes)))

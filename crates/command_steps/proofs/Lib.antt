@@ -1,0 +1,3 @@
+pub mod OneConfig
+pub mod OneStep
+pub mod Systems

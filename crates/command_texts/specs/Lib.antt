@@ -1,3 +1,0 @@
-pub mod Config
-pub mod Lines
-pub mod RuleText

@@ -1,0 +1,13 @@
+pub mod SomeSystem
+pub mod Planned
+pub mod Paired
+pub mod SamePair
+pub mod SameMarks
+pub mod OneDue
+pub mod Listed
+pub mod SomeMarks
+pub mod SomeCycle
+pub mod SomePlace
+pub mod SomeSet
+pub mod SomePlan
+pub mod SomeDue

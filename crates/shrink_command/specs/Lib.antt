@@ -1,0 +1,7 @@
+pub mod Summary
+pub mod Due
+pub mod OwnPair
+pub mod SamePair
+pub mod OneDue
+pub mod SomeMarks
+pub mod SomeDue

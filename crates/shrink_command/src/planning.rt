@@ -1,0 +1,127 @@
+// The plan for class files.
+ghost use Rattle.std.specs.Prelude.{◌≡◌, ◌++◌, List, IfOk, Ok, Result};
+ghost use Rattle.std.specs.List.{AllByRecursion};
+ghost use Rattle.jv_base.specs.Outcome.{IsDue};
+ghost use Rattle.tree_io.specs.declared.file_at.FileAt.{FileAt as FileValue};
+ghost use Rattle.class_laws.specs.SpellingLaws.{IsWritable};
+ghost use Rattle.list_texts.specs.declared.limit.TooLong.{TooLong as LongText};
+ghost use Rattle.pair_laws.specs.NamedForm.Laws.{IsLinked};
+ghost use Rattle.set_shrink.specs.Texts.{texts_beside};
+ghost use Rattle.command_frame.specs.Steps.{Makes};
+ghost use Rattle.command_steps.specs.Sets.{AreClassFiles};
+ghost use Rattle.shrink_command.specs.Due.{FollowsInput, FollowsMarks, IsKept, IsPlan, IsPlanned, Joins, most_written};
+
+use crate::summary::summary_text;
+use class_model::WriteLimit;
+use class_pool::ClassSet;
+use command_frame::{Plan, Quantity, Stop, passed_limit};
+use command_steps::{requirements, set_of};
+use jv_base::{Items, M, Or, Text};
+use keep_rules::Rules;
+use list_texts::TooLong;
+use mark_core::plain_marks;
+use pair_laws::named_form::kept_can_be_written;
+use report_text::limit_name;
+use set_shrink::{ShrunkSet, lists_of, shrink_set, texts_of};
+use std::alloc::Global;
+use tree_io::FileAt;
+
+/// The plan for the class files of an input directory, by rules.
+pub(crate) fn plan_of(
+    alloc: Global,
+    rules: &Rules,
+    witness: &Text,
+    inputs: Items<FileAt>,
+) -> Result<Plan, Stop>
+    requires { AreClassFiles inputs }
+    ensures { Makes result (FollowsInput rules.now witness.now inputs) }
+{
+    let set = set_of(alloc, &rules.in_dir, inputs)?;
+    set_plan(alloc, rules, witness, set)
+}
+
+/// The plan for a set.
+fn set_plan(alloc: Global, rules: &Rules, witness: &Text, set: ClassSet) -> Result<Plan, Stop>
+    requires writable { AllByRecursion IsWritable set }
+    requires linked { IsLinked set }
+    ensures { Makes result (IsPlanned rules.now witness.now set) }
+{
+    let sys = requirements(alloc, rules, &set)?;
+    let marks = plain_marks(alloc, &sys)?;
+    kept_plan(alloc, rules, witness, set, &marks)
+}
+
+/// The plan for a set of which the marked items are kept. The lists are made while the set is whole; that one of them
+/// is too long is told behind the limits of the classes.
+fn kept_plan(
+    alloc: Global,
+    rules: &Rules,
+    witness: &Text,
+    set: ClassSet,
+    marks: &Items<bool>,
+) -> Result<Plan, Stop>
+    requires writable { AllByRecursion IsWritable set }
+    requires linked { IsLinked set }
+    requires kept { IsKept rules.now set marks.now }
+    ensures { Makes result (FollowsMarks rules.now witness.now set marks.now) }
+{
+    kept_can_be_written();
+    let lists = lists_of(alloc, &set, marks, rules);
+    match shrink_set(alloc, set, marks, rules) {
+        Ok(shrunk) => joined(alloc, rules, witness, shrunk, lists),
+        Err(Or::Fault(limit)) => {
+            Err(Stop::Refused(passed_limit(alloc, limit_name(limit), most_written(limit))?))
+        }
+        Err(Or::OutOfMemory) => Err(Stop::OutOfMemory),
+    }
+}
+
+/// The greatest number that the format has room for (JVMS 4.7, 4.11, 6.5).
+fn most_written(limit: WriteLimit) -> u64
+    ensures { result ≡ most_written limit }
+{
+    match limit {
+        WriteLimit::PoolFull(_)
+        | WriteLimit::TextTooLong(_)
+        | WriteLimit::CodeTooLong(_)
+        | WriteLimit::AttributeFull(_) => 65_535,
+        WriteLimit::BranchTooFar(..) => 32_767,
+        WriteLimit::AttributeTooLong(_) => 4_294_967_295,
+    }
+}
+
+/// The plan of what is written of a set, and of its texts.
+fn joined(
+    alloc: Global,
+    rules: &Rules,
+    witness: &Text,
+    shrunk: ShrunkSet,
+    lists: Result<Items<FileAt>, Or<TooLong>>,
+) -> Result<Plan, Stop>
+    ensures { (due : Result (List FileValue) LongText) → IsDue lists due
+        → Makes result (Joins shrunk (texts_beside shrunk.mapping due rules.now witness.now)) }
+{
+    match texts_of(alloc, &shrunk.mapping, lists, rules, witness) {
+        Ok(texts) => with_summary(alloc, shrunk, texts),
+        Err(Or::Fault(_)) => Err(Stop::Refused(Quantity::Text.passed(alloc)?)),
+        Err(Or::OutOfMemory) => Err(Stop::OutOfMemory),
+    }
+}
+
+/// The plan of what is written of a set, with texts.
+fn with_summary(alloc: Global, shrunk: ShrunkSet, texts: Items<FileAt>) -> Result<Plan, Stop>
+    ensures { Makes result (IsPlan shrunk texts) }
+{
+    let text = summary_text(alloc, shrunk.read, shrunk.kept)?;
+    let files = with_texts(shrunk.files, texts)?;
+    Ok(Plan { files, text })
+}
+
+/// Files, and texts behind them.
+fn with_texts(files: Items<FileAt>, texts: Items<FileAt>) -> M<Items<FileAt>>
+    ensures { IfOk result (λ all. all ≡ files ++ texts) }
+{
+    let mut all = files.into_vec();
+    all.append(&mut texts.into_vec())?;
+    Ok(Items::from_vec(all))
+}

@@ -1,5 +1,0 @@
-use Rattle.pair_laws.proofs.PairSound.Sound.{checked_retraced}
-use Rattle.shrink_core.proofs.laws.frames_retrace.Goals as goal
-
-pub returns : goal.returns
-returns c = checked_retraced

@@ -1,5 +1,0 @@
-use Rattle.shrink_core.proofs.OneDue.{one_due}
-use Rattle.shrink_core.proofs.laws.one_due.Goals as goal
-
-pub returns : goal.returns
-returns c = one_due

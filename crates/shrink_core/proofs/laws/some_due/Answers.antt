@@ -1,5 +1,0 @@
-use Rattle.shrink_core.proofs.SomeDue.{some_due}
-use Rattle.shrink_core.proofs.laws.some_due.Goals as goal
-
-pub returns : goal.returns
-returns c = some_due

@@ -1,5 +1,0 @@
-use Rattle.shrink_core.proofs.Paired.{due_pairs}
-use Rattle.shrink_core.proofs.laws.what_is_due_is_a_pair.Goals as goal
-
-pub returns : goal.returns
-returns c = due_pairs

@@ -1,2 +1,0 @@
--- Definitions that the proofs of bodies alone need.
-pub mod Steps
