@@ -275,7 +275,8 @@ simple('the input directory may not be read', user=NOBODY)(lambda room: (room.at
 simple('a folder below the input directory may not be read', user=NOBODY)(lambda room: (room.at / 'in/more').mkdir(mode=0))
 simple('a class file may not be read', user=NOBODY)(lambda room: (room.at / 'in/Unused.class').chmod(0))
 simple('another file of the input may not be read', user=NOBODY)(lambda room: (room.put('in/x.txt', 'x'), (room.at / 'in/x.txt').chmod(0)))
-simple('a class file is a link to one')(lambda room: ((room.at / 'in/Hello.class').rename(room.at / 'h'), link(room, 'in/Hello.class', '../h')))
+simple('a class file is a link to one')(
+    lambda room: ((room.at / 'in/Hello.class').rename(room.at / 'h'), link(room, 'in/Hello.class', '../h')))
 simple('a class file is a link that leads nowhere')(lambda room: link(room, 'in/Other.class', 'nowhere'))
 simple('a class file is a link to itself')(lambda room: link(room, 'in/Other.class', 'Other.class'))
 simple('a class file is a pipe that nobody writes to')(lambda room: os.mkfifo(room.at / 'in/Other.class'))
@@ -360,8 +361,10 @@ simple('check: the mapping may not be read', CHECK, shrunk=True, user=NOBODY)(la
 simple('check: the mapping has 64 MiB and a byte', CHECK, shrunk=True)(lambda room: instead(room, 'map.txt', long_file))
 simple('check: the output directory isn\'t there', CHECK, shrunk=True)(lambda room: shutil.rmtree(room.at / 'out'))
 simple('check: the output directory is a file', CHECK, shrunk=True)(lambda room: instead(room, 'out', lambda it: it.write_text('x')))
-simple('check: a class file of the output may not be read', CHECK, shrunk=True, user=NOBODY)(lambda room: (room.at / 'out/a.class').chmod(0))
-simple('check: a class file of the output is a link that leads nowhere', CHECK, shrunk=True)(lambda room: link(room, 'out/a.class', 'nowhere'))
+simple('check: a class file of the output may not be read', CHECK, shrunk=True, user=NOBODY)(
+    lambda room: (room.at / 'out/a.class').chmod(0))
+simple('check: a class file of the output is a link that leads nowhere', CHECK, shrunk=True)(
+    lambda room: link(room, 'out/a.class', 'nowhere'))
 simple('check: a class file of the output is a link to one', CHECK, shrunk=True)(
     lambda room: ((room.at / 'out/a.class').rename(room.at / 'real'), link(room, 'out/a.class', '../real')))
 simple('check: nothing may be written', CHECK, shrunk=True, user=NOBODY)(lambda room: room.at.chmod(0o555))
@@ -455,14 +458,16 @@ def table(room, shim, write):
 
 COMMANDS = {
     'shrink': (SHRINK, False, None), 'check': (CHECK, True, None), 'retrace': (RETRACE, True, None),
-    'check, a pair that is refused': (CHECK, True, lambda room: room.put('map.txt', room.whole['map.txt'].replace(b'main -> main', b'main -> b'))),
+    'check, a pair that is refused': (
+        CHECK, True, lambda room: room.put('map.txt', room.whole['map.txt'].replace(b'main -> main', b'main -> b'))),
     'check, a witness that is refused': (CHECK, True, lambda room: room.put('o.wit', 'witness 2\n')),
     'retrace, a mapping that is refused': (RETRACE, True, lambda room: room.put('map.txt', 'x\n')),
     'shrink, a config that is refused': (SHRINK, False, lambda room: room.put('s.pro', CONFIG + '-frobnicate\n')),
     'shrink, a class file that is refused': (SHRINK, False, lambda room: room.put('in/Hello.class', b'abc')),
     'shrink, a class that is missing': (SHRINK, False, lambda room: (room.at / 'in/Greeting.class').unlink()),
     'shrink, an output directory that isn\'t empty': (SHRINK, False, lambda room: room.put('out/x', 'x')),
-    'shrink, wrong words': (['shrink', 's.pro'], False, None), '--help': (['--help'], False, None), '--version': (['--version'], False, None),
+    'shrink, wrong words': (['shrink', 's.pro'], False, None), '--help': (['--help'], False, None),
+    '--version': (['--version'], False, None),
 }
 
 

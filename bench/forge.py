@@ -217,7 +217,8 @@ def line_outside(rng, found, world):
 @of_class
 def meaningless_flag(rng, found, world):
     """Flags that mean nothing in their place are dropped."""
-    it, bits = rng.choice([(found, [2, 4, 8, 0x40, 0x80, 0x100, 0x800, 0x8000]), *((x, [0x20, 0x100, 0x200, 0x400, 0x800, 0x2000]) for x in found.fields),
+    it, bits = rng.choice([(found, [2, 4, 8, 0x40, 0x80, 0x100, 0x800, 0x8000]),
+                           *((x, [0x20, 0x100, 0x200, 0x400, 0x800, 0x2000]) for x in found.fields),
                            *((x, [0x200, 0x2000, 0x4000, 0x8000]) for x in found.methods)])
     it.flags ^= rng.choice(bits)
 
@@ -742,7 +743,8 @@ def handler_entry(rng, code, rows, k):
 
 @of_rows('handlers')
 def handler_class(rng, code, rows, k):
-    rows[k][3] = other(rng, [None, 'java/lang/Exception', 'java/lang/Throwable', 'java/lang/ArithmeticException', judging.OBJECT], rows[k][3])
+    caught = [None, 'java/lang/Exception', 'java/lang/Throwable', 'java/lang/ArithmeticException', judging.OBJECT]
+    rows[k][3] = other(rng, caught, rows[k][3])
 
 
 @of_code
@@ -1183,9 +1185,10 @@ def witness_stranger(rng, world):
 
 @change
 def witness_spelling(rng, world):
-    world.witness = rng.choice(['', 'witness 2\n', 'witness 1', 'witness 1\r\n', '# a comment\nwitness 1\n', '\n\nwitness 1\n\n', ' witness 1\n',
-                                'witness  1\n', 'witness 01\n', 'Witness 1\n', 'witness 1 \n', 'witness 1\nwitness 1\n', '\ufeffwitness 1\n',
-                                'witness 1\n# b\n', 'witness 1\n\udcff\n'])
+    world.witness = rng.choice(['', 'witness 2\n', 'witness 1', 'witness 1\r\n', '# a comment\nwitness 1\n',
+                                '\n\nwitness 1\n\n', ' witness 1\n', 'witness  1\n', 'witness 01\n', 'Witness 1\n',
+                                'witness 1 \n', 'witness 1\nwitness 1\n', '\ufeffwitness 1\n', 'witness 1\n# b\n',
+                                'witness 1\n\udcff\n'])
 
 
 # ---- in several places at once
@@ -1246,8 +1249,11 @@ for pick in ('class', 'field', 'method'):
 
     def clashing(rng, world, pick=pick):
         """To a name that something has, is fixed or of the library, or in another package."""
-        renaming(rng, world, pick, lambda old: rng.choice(
-            ['elsewhere.' + old, re.sub(r'[^.]+$', 'a', old), 'java.lang.String'] if pick == 'class' else ['a', 'b', 'main', 'toString', 'out', 'run']))
+        def name(old):
+            if pick == 'class':
+                return rng.choice(['elsewhere.' + old, re.sub(r'[^.]+$', 'a', old), 'java.lang.String'])
+            return rng.choice(['a', 'b', 'main', 'toString', 'out', 'run'])
+        renaming(rng, world, pick, name)
     KINDS[f'{pick}_renamed_badly'] = clashing
 
 
@@ -1452,17 +1458,20 @@ class Forge:
         sources, classes = self.room / 'sources', self.room / 'classes'
         paths = random_programs.write(seed, count, str(sources))
         classes.mkdir()
-        subprocess.run(['javac', '-J-XX:+UseSerialGC', '-J-XX:TieredStopAtLevel=1', '--release', '8', '-nowarn', '-Xlint:none', '-g:source,lines',
-                        '-d', str(classes), *paths], check=True, stderr=subprocess.DEVNULL)
+        subprocess.run(['javac', '-J-XX:+UseSerialGC', '-J-XX:TieredStopAtLevel=1', '--release', '8', '-nowarn', '-Xlint:none',
+                        '-g:source,lines', '-d', str(classes), *paths], check=True, stderr=subprocess.DEVNULL)
         programs = [(name, tree(TOP / f'examples/{name}/in'), name_of) for name, name_of in
                     (('minimal', 'Hello'), ('app', 'Main'), ('railway', 'Railway'))]
-        programs += [(f'r{k}', {f'r{k}/{path}': data for path, data in tree(classes / f'r{k}').items()}, f'r{k}.Main') for k in range(count)]
+        for k in range(count):
+            programs.append((f'r{k}', {f'r{k}/{path}': data for path, data in tree(classes / f'r{k}').items()}, f'r{k}.Main'))
         found = []
         for number, (name, inputs, main) in enumerate(programs):
             names = sorted(it[:-6] for it in inputs)
             for setting in SETTINGS if number < 3 else self.rng.sample(SETTINGS, 2):
-                extra = [Rule(self.rng.choice(['all', 'class', 'public', 'names']), self.rng.choice(names))] if self.rng.random() < 0.5 else []
-                world = self.made(name, inputs, Rules([Rule('main'), *extra], **setting))
+                rules = Rules([Rule('main')], **setting)
+                if self.rng.random() < 0.5:
+                    rules.rules.append(Rule(self.rng.choice(['all', 'class', 'public', 'names']), self.rng.choice(names)))
+                world = self.made(name, inputs, rules)
                 world.main = main
                 found.append(world)
         return found
@@ -1534,7 +1543,8 @@ class Forge:
             why = self.judged(world)
             if why:
                 self.fail(kind, world, files, f'ok, and the judge says {why}')
-            elif world.inputs != source.inputs or any(world.files.get(it) != data for it, data in source.files.items() if it.endswith('.class')):
+            elif world.inputs != source.inputs or any(
+                    world.files.get(it) != data for it, data in source.files.items() if it.endswith('.class')):
                 row['run'] += 1
                 folder = self.room / 'both' / str(len(self.both))
                 put(folder / 'in', world.inputs)
@@ -1553,10 +1563,11 @@ class Forge:
         if not self.both:
             return 0
         (self.room / 'Both.java').write_text(JAVA)
-        subprocess.run(['javac', '-J-XX:TieredStopAtLevel=1', '-d', str(self.room), str(self.room / 'Both.java')], check=True, stderr=subprocess.DEVNULL)
+        subprocess.run(['javac', '-J-XX:TieredStopAtLevel=1', '-d', str(self.room), str(self.room / 'Both.java')], check=True,
+                       stderr=subprocess.DEVNULL)
         lines = ''.join(f'{folder}/in {folder}/out {main}\n' for *_, folder, main in self.both)
-        ran = subprocess.run(['java', '-XX:+UseSerialGC', '-XX:TieredStopAtLevel=1', '-Xverify:all', '-cp', str(self.room), 'Both'], input=lines,
-                             capture_output=True, text=True)
+        ran = subprocess.run(['java', '-XX:+UseSerialGC', '-XX:TieredStopAtLevel=1', '-Xverify:all', '-cp', str(self.room), 'Both'],
+                             input=lines, capture_output=True, text=True)
         said = [it for it in ran.stdout.split('\n') if it]
         if len(said) != len(self.both):
             sys.exit(f'forge.py: java answered {len(said)} of {len(self.both)}: {ran.stderr[-500:]}')
@@ -1623,8 +1634,9 @@ def main():
         table({f'{kind} ({row["kinds"]} kinds)': row for kind, row in groups.items()}, 'Where')
         total = sum(forge.rows.values(), collections.Counter())
         by = ', '.join(f'{name} {count}' for name, count in total.most_common() if name not in APART)
-        print(f'{len(worlds)} pairs as written, {len(forge.rows)} kinds of change, {total["pairs"]} forged pairs: {total["ok"]} ok, of which '
-              f'{ran} ran under java, which refuses {total["java refuses"]} of kinds that are known; {by}; {total["judge ok"]} refused that the judge would take; {len(forge.wrong)} wrong')
+        print(f'{len(worlds)} pairs as written, {len(forge.rows)} kinds of change, {total["pairs"]} forged pairs: {total["ok"]} ok, '
+              f'of which {ran} ran under java, which refuses {total["java refuses"]} of kinds that are known; {by}; '
+              f'{total["judge ok"]} refused that the judge would take; {len(forge.wrong)} wrong')
         for kind, line in refused[:40] if asked.table else ():
             print(f'refused, and the judge would take it: {kind}: {line}', file=sys.stderr)
         sys.exit(1 if forge.wrong else 0)

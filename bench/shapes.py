@@ -3,16 +3,17 @@
 
     python3 bench/shapes.py write SHAPE N DIR               writes the class files below DIR
     python3 bench/shapes.py time PROGRAM [SHAPE=N,N,..]..   processor seconds and peak of `PROGRAM shrink` for each N
+    python3 bench/shapes.py check PROGRAM [SHAPE=N,N,..]..  the same of `shrink` and then of `check` on what it wrote
     python3 bench/shapes.py count PROGRAM [SHAPE=N,N,..]..  its instructions, by valgrind's callgrind
 
-Without shapes `time` and `count` go over all of them. They keep all classes, and write below /dev/shm; `time` ends a run of
-more than a minute.
+Without shapes `time` and `count` go over all of them, and `check` over the costly ones. They keep all classes, but for shapes
+that have rules of their own, and write below /dev/shm; a run that takes more than a processor minute, or more than 6 GB, is ended.
 """
 import os, resource, shutil, struct, subprocess, sys, tempfile, time
 
 sys.dont_write_bytecode = True
 sys.path.insert(0, os.path.join(os.path.dirname(os.path.abspath(__file__)), '..', 'crates', 'set_vectors'))
-from assembler import OBJECT, PUBLIC, STATIC, File, Method, Pool, abstract, attribute, body, interface
+from assembler import FINAL, OBJECT, PUBLIC, STATIC, File, Method, Pool, abstract, attribute, body, interface
 
 LONG = 'n' * 65000
 
@@ -358,9 +359,162 @@ def colliding_classes(n):
         yield File(name, methods=[body(name='s'), instance('m', ('invokestatic', (other, 's', '()V')))])
 
 
+# ---- costly shapes: those that are known to take more than their size
+
+def chain_methods(n):
+    """A chain of N classes in two packages in turn, each with twenty methods of package access of the same names."""
+    names = [f'{"pq"[i % 2]}/C{i:05}' for i in range(n)] + [OBJECT]
+    for i in range(n):
+        yield File(names[i], names[i + 1], methods=[Method(f'm{k}', '()V', 0, ['return']) for k in range(20)])
+
+
+def below_chain(n):
+    """A chain of N classes whose lowest one implements an interface of N methods, which none of them has."""
+    yield interface('p/I', methods=[abstract(f'm{k}') for k in range(n)])
+    for i in range(n):
+        yield File(f'p/C{i:05}', f'p/C{i + 1:05}' if i + 1 < n else OBJECT, [] if i else ['p/I'])
+
+
+def chain_final(n):
+    """A chain of N classes, each with a final method of its own name."""
+    for i in range(n):
+        yield File(f'p/C{i:05}', f'p/C{i + 1:05}' if i + 1 < n else OBJECT, methods=[Method(f'm{i}', '()V', PUBLIC | FINAL, ['return'])])
+
+
+def interface_dense(n):
+    """N interfaces, each of which extends all those behind it."""
+    names = [f'p/I{i:05}' for i in range(n)]
+    for i in range(n):
+        yield interface(names[i], *names[i + 1:])
+
+
+def interface_dense_up(n):
+    """N interfaces, each of which extends all those before it."""
+    names = [f'p/I{i:05}' for i in range(n)]
+    for i in range(n):
+        yield interface(names[i], *names[:i])
+
+
+def nops(n):
+    """One class file of N methods with 65,000 nop each."""
+    code = code_attribute(0, 0, b'\0' * 65000 + b'\xb1')
+    yield File('p/A', methods=[raw(lambda pool: code, name=f'm{k}') for k in range(n)])
+
+
+def rule_members(n):
+    """One class of 1,240 methods, and a rule with N members that match none of them."""
+    yield File('p/A', methods=[body(name=f'm{k}') for k in range(1240)])
+
+
+rule_members.rules = lambda n: '-keep class p.A { ' + ' '.join(f'void x{k}();' for k in range(n)) + ' }\n'
+
+
+def rule_parameters(n):
+    """One class, and a rule with one method of N parameters."""
+    yield File('p/A', methods=[body()])
+
+
+rule_parameters.rules = lambda n: '-keep class p.A { void run(); void f(' + ','.join(['int'] * n) + '); }\n'
+
+
+def high_references(n):
+    """A chain of N classes whose topmost has N static methods, and N calls of them by the name of the lowest."""
+    for i in range(n):
+        yield File(f'p/C{i:05}', f'p/C{i + 1:05}' if i + 1 < n else OBJECT,
+                   methods=[body(name=f's{k}') for k in range(n)] if i + 1 == n else [])
+    yield File('p/A', methods=[body(*[('invokestatic', ('p/C00000', f's{k}', '()V')) for k in range(n)])])
+
+
+def line_rows(n):
+    """N nop with N rows of lines, the last instruction's first."""
+    def make(pool):
+        rows = b''.join(struct.pack('>HH', n - 1 - k, 1 + k % 60000) for k in range(n))
+        table = attribute(pool, 'LineNumberTable', struct.pack('>H', n) + rows)
+        return code_attribute(0, 0, b'\0' * n + b'\xb1', attributes=[table])
+    yield File('p/A', methods=[raw(make)])
+
+
+line_rows.rules = lambda n: '-keep class ** { *; }\n-keepattributes LineNumberTable\n'
+
+
+def wide_frames(n):
+    """N nop with a frame each, which takes a byte, in a code of 65,535 locals."""
+    def make(pool):
+        table = attribute(pool, 'StackMapTable', struct.pack('>H', n) + b'\0' * n)
+        return code_attribute(0, 65535, b'\0' * n + b'\xb1', attributes=[table])
+    yield File('p/A', methods=[raw(make)])
+
+
+def wide_methods(n):
+    """N methods of one instruction with 65,535 locals."""
+    code = code_attribute(0, 65535, b'\xb1')
+    yield File('p/A', methods=[raw(lambda pool: code, name=f'm{k}') for k in range(n)])
+
+
+def wildcard_rules(n):
+    """N classes, and N rules that name none of them by wildcards."""
+    for i in range(n):
+        yield File(f'p/C{i:05}', methods=[body()])
+
+
+wildcard_rules.rules = lambda n: '-keep class ** { *; }\n' + ''.join(f'-keep class q.*{k} {{ *; }}\n' for k in range(n))
+
+
+def two_chains(n):
+    """Two chains of N interfaces, and N classes that implement the lowest of both."""
+    for side in 'IJ':
+        for i in range(n):
+            yield interface(f'p/{side}{i:05}', *([f'p/{side}{i + 1:05}'] if i + 1 < n else []))
+    for i in range(n):
+        yield File(f'p/C{i:05}', interfaces=['p/I00000', 'p/J00000'])
+
+
+def same_interface(n):
+    """N classes that implement an interface of N methods, which their superclass has."""
+    yield interface('p/I', methods=[abstract(f'm{k}') for k in range(n)])
+    yield File('p/B', methods=[instance(f'm{k}') for k in range(n)])
+    for i in range(n):
+        yield File(f'p/C{i:05}', 'p/B', ['p/I'])
+
+
+def long_pattern(n):
+    """A method with a name of 2 N letters, and a rule with a pattern of N of them and another one behind a star."""
+    yield File('p/A', methods=[body(name='a' * (2 * n))])
+
+
+long_pattern.rules = lambda n: f'-keep class ** {{ *; }}\n-keep class p.A {{ void *{"a" * n}b(); }}\n'
+
+
+def named_rules(n):
+    """N classes, and a rule for each, which names it and what it extends."""
+    for i in range(n):
+        yield File(f'p/C{i:05}', methods=[body()])
+
+
+named_rules.rules = lambda n: ''.join(f'-keep class p.C{k:05} extends java.lang.Object {{ void run(); }}\n' for k in range(n))
+
+
+def attribute_filters(n):
+    """N classes with their source files, and a filter of N patterns for attributes."""
+    for i in range(n):
+        file = File(f'p/C{i:05}', methods=[body(name=f'm{k}') for k in range(4)])
+        yield file
+
+
+attribute_filters.rules = lambda n: '-keep class ** { *; }\n-keepattributes ' + ','.join(f'*x{k}' for k in range(n)) + '\n'
+
+
 USUAL = [classes, deep, deep_large, chain, overriding, implementing, interfaces, extending, calls]
 HOSTILE = [strings, long_calls, handlers, throws, descriptors, long_arguments, frames, full_frames, branches, covering, changing, beginning, differing, ending, making, framing, wanting, deep_frames, tall, overriding_twenty, overloads, two_overloads, colliding, alike_ends, colliding_classes]
+COSTLY = [chain_methods, below_chain, chain_final, same_interface, high_references, interface_dense, interface_dense_up, two_chains, nops, wide_frames,
+          wide_methods, line_rows, rule_members, rule_parameters, long_pattern, wildcard_rules, named_rules, attribute_filters]
 SIZES = {
+    'chain_methods': [20, 40, 80], 'below_chain': [1250, 2500, 5000], 'chain_final': [1250, 2500, 5000], 'same_interface': [250, 500, 1000],
+    'high_references': [1000, 2000, 4000], 'interface_dense': [125, 250, 500], 'interface_dense_up': [125, 250, 500],
+    'two_chains': [500, 1000, 2000], 'nops': [31, 62, 124], 'wide_frames': [250, 500, 1000], 'wide_methods': [250, 500, 1000],
+    'line_rows': [10000, 20000, 40000], 'rule_members': [2000, 4000, 8000], 'rule_parameters': [250000, 500000, 1000000],
+    'long_pattern': [2000, 4000, 8000], 'wildcard_rules': [100, 200, 400], 'named_rules': [500, 1000, 2000],
+    'attribute_filters': [500, 1000, 2000],
     'classes': [2000, 4000, 8000], 'calls': [4000, 8000, 16000], 'strings': [8000, 16000], 'long_calls': [5000, 10000, 20000],
     'handlers': [16000, 32000, 65000], 'throws': [16000, 32000, 65000], 'descriptors': [5000, 10000, 20000],
     'long_arguments': [5000, 10000, 20000], 'frames': [2500, 5000, 10000, 20000],
@@ -399,28 +553,29 @@ def folder():
 
 
 def prepare(shape, n, top):
-    """The class files of a shape, and a config that keeps all of them."""
+    """The class files of a shape, and a config that keeps all of them, or has the rules of the shape."""
     write(shape, n, f'{top}/in')
+    rules = shape.rules(n) if hasattr(shape, 'rules') else '-keep class ** { *; }\n'
     with open(f'{top}/s.pro', 'w') as out:
-        out.write(f'-injars {top}/in\n-outjars {top}/out\n-printmapping {top}/map.txt\n-keep class ** {{ *; }}\n')
+        out.write(f'-injars {top}/in\n-outjars {top}/out\n-printmapping {top}/map.txt\n{rules}')
 
 
-def run(program, shape, n):
-    with folder() as top:
-        prepare(shape, n, top)
-        begun = time.time()
-        child = subprocess.Popen([program, 'shrink', f'{top}/s.pro', f'{top}/o.wit'], stdout=subprocess.PIPE)
-        peak = 0
-        while child.poll() is None:
-            try:
-                peak = max([peak] + [int(line.split()[1]) for line in open(f'/proc/{child.pid}/status') if line.startswith('VmHWM')])
-                if time.time() - begun > 60 or peak > 6_000_000:
-                    child.kill()
-            except OSError:
-                pass
-            time.sleep(0.002)
-        said = child.stdout.read().decode().split('\n')[0]
-    return said or 'stopped', peak / 1000
+def watched(words):
+    """What a command says first, its processor seconds and its peak in MB."""
+    before, ticks, peak = resource.getrusage(resource.RUSAGE_CHILDREN), os.sysconf('SC_CLK_TCK'), 0
+    child = subprocess.Popen(words, stdout=subprocess.PIPE)
+    while child.poll() is None:
+        try:
+            peak = max([peak] + [int(line.split()[1]) for line in open(f'/proc/{child.pid}/status') if line.startswith('VmHWM')])
+            used = sum(map(int, open(f'/proc/{child.pid}/stat').read().rpartition(')')[2].split()[11:13])) / ticks
+            if used > 60 or peak > 6_000_000:
+                child.kill()
+        except OSError:
+            pass
+        time.sleep(0.002)
+    said = child.stdout.read().decode().split('\n')[0]
+    after = resource.getrusage(resource.RUSAGE_CHILDREN)
+    return said or 'stopped', after.ru_utime + after.ru_stime - before.ru_utime - before.ru_stime, peak / 1000
 
 
 def measure(program, asked):
@@ -428,15 +583,36 @@ def measure(program, asked):
     for shape, sizes in asked:
         before = None
         for n in sizes:
-            used = resource.getrusage(resource.RUSAGE_CHILDREN)
-            said, peak = run(program, shape, n)
-            after = resource.getrusage(resource.RUSAGE_CHILDREN)
-            seconds = after.ru_utime + after.ru_stime - used.ru_utime - used.ru_stime
+            with folder() as top:
+                prepare(shape, n, top)
+                said, seconds, peak = watched([program, 'shrink', f'{top}/s.pro', f'{top}/o.wit'])
             grown = f'{seconds / before:.1f}' if before else ''
             print(f'| {shape.__name__} | {n:,} | {seconds:.2f} | {grown} | {peak:.0f} | {said[:60]} |', flush=True)
             before = max(seconds, 0.001)
             if said == 'stopped':
                 break
+
+
+def check(program, asked):
+    print('| Shape | N | MB of input | `shrink` s | times the one before | peak MB | `check` s | times the one before | peak MB | first lines |')
+    print('|---|---|---|---|---|---|---|---|---|---|')
+    for shape, sizes in asked:
+        before = {}
+        for n in sizes:
+            cells, lines = [], []
+            with folder() as top:
+                prepare(shape, n, top)
+                size = sum(os.path.getsize(os.path.join(at, name)) for at, _, names in os.walk(f'{top}/in') for name in names)
+                size += os.path.getsize(f'{top}/s.pro')
+                for word in ('shrink', 'check'):
+                    said, seconds, peak = watched([program, word, f'{top}/s.pro', f'{top}/o.wit'])
+                    cells += [f'{seconds:.2f}', f'{seconds / before[word]:.1f}' if word in before else '', f'{peak:.0f}']
+                    before[word] = max(seconds, 0.001)
+                    lines.append(said[:40])
+                    if said.startswith('error') or said == 'stopped':
+                        cells += ['', '', ''] * (word == 'shrink')
+                        break
+            print(f'| `{shape.__name__}` | {n:,} | {size / 1e6:.2f} | {" | ".join(cells)} | {", ".join(lines)} |', flush=True)
 
 
 def count(program, asked):
@@ -455,12 +631,13 @@ def count(program, asked):
 
 
 def main(words):
-    shapes = {shape.__name__: shape for shape in USUAL + HOSTILE}
+    shapes = {shape.__name__: shape for shape in USUAL + HOSTILE + COSTLY}
     if len(words) == 4 and words[0] == 'write' and words[1] in shapes:
         write(shapes[words[1]], int(words[2]), words[3])
-    elif len(words) >= 2 and words[0] in ('time', 'count'):
-        asked = [word.partition('=') for word in words[2:]] or [(name, '', '') for name in shapes]
-        told = measure if words[0] == 'time' else count
+    elif len(words) >= 2 and words[0] in ('time', 'check', 'count'):
+        every = [shape.__name__ for shape in COSTLY] if words[0] == 'check' else shapes
+        asked = [word.partition('=') for word in words[2:]] or [(name, '', '') for name in every]
+        told = {'time': measure, 'check': check, 'count': count}[words[0]]
         told(words[1], [(shapes[name], [int(n) for n in sizes.split(',')] if sizes else SIZES.get(name, [1000, 2000, 4000, 8000]))
                            for name, _, sizes in asked])
     else:

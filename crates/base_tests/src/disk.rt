@@ -24,8 +24,15 @@ fn what_a_tree_of_the_system_writes_stands_on_the_disk(rt: HostRuntime) -> Resul
     let _ = fs::remove_dir_all(&rt, "tree_io_disk");
     for length in [50_000, 16_384, 16_385, 1, 0, 40_000] {
         let all = bytes(alloc, length, 1)?;
-        assert!(rt; tree.write(alloc, &path, all.as_slice()).is_ok(), "at {length}");
-        assert_eq!(rt; fs::read(&rt, path.as_str())?.as_slice(), all.as_slice(), "at {length}");
+        assert!(rt;
+            tree.write(alloc, &path, all.as_slice()).is_ok(),
+            "at {length}"
+        );
+        assert_eq!(rt;
+            fs::read(&rt, path.as_str())?.as_slice(),
+            all.as_slice(),
+            "at {length}"
+        );
     }
     Ok(())
 }

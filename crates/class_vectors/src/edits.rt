@@ -18,10 +18,10 @@ use jv_base::{Items, M, Or, OutOfMemory, Text};
 use line_answers::{first_word, unescaped};
 use std::alloc::Global;
 
-/// `legal PASS INDEX ACTS FILE`, or the same with the class file after the acts: `ok` where the acts
-/// are legal and the code of the method after them is that of the other file, `other` where it isn't,
-/// `bad K` where the act of the number K is the first that isn't legal. `pass PASS INDEX FILE`: the
-/// acts that the pass finds. None where a line has another form.
+/// `legal PASS INDEX ACTS FILE`, or the same with the class file after the acts: `ok` where the
+/// acts are legal and the code of the method after them is that of the other file, `other` where it
+/// isn't, `bad K` where the act of the number K is the first that isn't legal. `pass PASS INDEX
+/// FILE`: the acts that the pass finds. None where a line has another form.
 pub fn edit_answer(alloc: Global, line: &[u8]) -> M<Option<Text>> {
     let (word, rest) = first_word(line);
     let (pass, rest) = first_word(rest);
@@ -123,12 +123,10 @@ fn class_of(alloc: Global, field: &[u8]) -> M<Option<Class>>
         return Ok(None);
     };
     match read_class(alloc, bytes.as_slice()) {
-        Ok(class) => {
-            if class.left_out.is_some() {
-                return Ok(None);
-            }
-            Ok(Some(class))
-        }
+        Ok(class) => match class.left_out {
+            Some(_) => Ok(None),
+            None => Ok(Some(class)),
+        },
         Err(Or::Fault(_)) => Ok(None),
         Err(Or::OutOfMemory) => Err(OutOfMemory),
     }

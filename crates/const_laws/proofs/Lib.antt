@@ -1,3 +1,4 @@
 mod Own
 mod Once
 mod Fixed
+mod Reached

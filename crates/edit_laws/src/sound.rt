@@ -26,7 +26,8 @@ pub fn const_keeps_sound()
         → IsSound (folded_code acts code) }
 {}
 
-/// A code that follows the format is sound where its last instruction doesn't go on. It does nothing.
+/// A code that follows the format is sound where its last instruction doesn't go on. It does
+/// nothing.
 pub fn good_codes_are_sound()
     ensures { (code : Code) → IsGoodCode code
         → of_ins goes_elsewhere code (length code.ins - 1) ≡ true → IsSound code }

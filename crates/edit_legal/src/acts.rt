@@ -13,12 +13,22 @@ use class_model::Code;
 use code_edit::{Act, Pass, PassEdits};
 use jv_base::{M, Or};
 use std::alloc::Global;
+use std::error::Error;
+use std::fmt::{self, Display, Formatter};
 
 /// The first act of a step that isn't legal, by its number.
-#[derive(Clone, Copy)]
+#[derive(Clone, Copy, Debug)]
 pub struct Bad {
     pub index: usize,
 }
+
+impl Display for Bad {
+    fn fmt<W: fmt::Write>(&self, f: &mut Formatter<W>) -> fmt::Result {
+        write!(f, "act {} isn't legal", self.index)
+    }
+}
+
+impl Error for Bad {}
 
 #[tactic(auto, using(crate::proofs::DropFaults::drop_fault_is))]
 fn drop_fault(alloc: Global, code: &Code, acts: &[Act]) -> M<Option<usize>>
@@ -74,9 +84,9 @@ fn fault_of(alloc: Global, code: &Code, edits: &PassEdits) -> M<Option<usize>>
 }
 
 /// Whether the acts of a step are legal on a code that is lent; where they aren't, the first that
-/// isn't. Each act is tested once, by tables of the code, so the time grows with the code, its targets
-/// and handlers, and with the acts; but targets that aims name are kept in a tree, and of each aim the
-/// gotos are followed one by one.
+/// isn't. Each act is tested once, by tables of the code, so the time grows with the code, its
+/// targets and handlers, and with the acts; but targets that aims name are kept in a tree, and of
+/// each aim the gotos are followed one by one.
 #[tactic(auto, using(crate::proofs::Faults::legal_are_right))]
 pub fn legal(alloc: Global, code: &Code, edits: &PassEdits) -> Result<(), Or<Bad>>
     requires few { length code.now.ins < 4294967295 }

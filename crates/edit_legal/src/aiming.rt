@@ -33,8 +33,8 @@ fn goto_of(code: &Code, at: u32) -> Option<u32>
     }
 }
 
-/// Whether one or more gotos lead from one index to another. There are no more gotos on the way than
-/// instructions in the code.
+/// Whether one or more gotos lead from one index to another. There are no more gotos on the way
+/// than instructions in the code.
 fn follows(code: &Code, from: u32, to: u32) -> bool
     ensures { result ≡ follows code.now.ins code.now from to }
 {

@@ -59,8 +59,8 @@ fn mark_all_successors(marks: Vec<bool>, left: &[bool], ins: &Items<Ins>) -> Vec
     marks
 }
 
-/// Of each index, whether control needs it where these are left: it is the first, a successor of one
-/// that is left, or the entry of a handler that covers one.
+/// Of each index, whether control needs it where these are left: it is the first, a successor of
+/// one that is left, or the entry of a handler that covers one.
 fn needed_of(alloc: Global, left: &[bool], code: &Code) -> M<Vec<bool>>
     requires few { length code.now.ins < 4294967295 }
     requires long { length left.now ≡ length code.now.ins }

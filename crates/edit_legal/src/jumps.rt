@@ -44,8 +44,8 @@ fn skip_target(op: &Op) -> Option<u32>
     }
 }
 
-/// Whether a branch may be skipped: after the aims it leads to the next index, and nothing that lives
-/// leads to it where nothing lives behind it.
+/// Whether a branch may be skipped: after the aims it leads to the next index, and nothing that
+/// lives leads to it where nothing lives behind it.
 fn is_skippable(aims: &Aims, end: usize, marks: &[bool], at: usize, ins: &Ins) -> bool
     requires { at < 4294967295 }
     ensures { result ≡ is_skippable aims.now end marks.now at ins.now }

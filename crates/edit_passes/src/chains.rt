@@ -53,8 +53,8 @@ fn doubled(alloc: Global, table: &[u32]) -> M<Vec<u32>>
     Ok(twice)
 }
 
-/// Where as many steps lead from each index as there are instructions, or more: the end of its chain
-/// of gotos, or some goto of a circle.
+/// Where as many steps lead from each index as there are instructions, or more: the end of its
+/// chain of gotos, or some goto of a circle.
 #[tactic(auto, using(crate::proofs::Walking::first_table))]
 pub(crate) fn chain_table(alloc: Global, code: &Code) -> M<Vec<u32>>
     requires few { length code.now.ins < 4294967295 }

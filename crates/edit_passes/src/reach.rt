@@ -46,9 +46,9 @@ fn runs(alloc: Global, marks: &[bool]) -> M<Items<Act>>
     Ok(acts)
 }
 
-/// The acts of reach: a drop of each maximal run of indices that control doesn't reach, in the order
-/// of the code. An instruction is gone over once in each round; a round more comes where a handler is
-/// entered of which all that was found before covers nothing.
+/// The acts of reach: a drop of each maximal run of indices that control doesn't reach, in the
+/// order of the code. Each round goes over all that was found; one more comes only where handlers
+/// were entered.
 pub fn reach_edits(alloc: Global, code: &Code) -> M<PassEdits>
     requires few { length code.now.ins < 4294967295 }
     requires sound { IsSound code.now }

@@ -1,4 +1,5 @@
--- Which local variables a code loads, marked (the project's own; only the code's contracts need it).
+-- Which local variables a code loads, marked (the project's own; only the code's contracts need
+-- it).
 use Rattle.std.specs.Prelude.{ℕ, ◌+◌, List, [], ◌∷◌, max, Bool}
 use Rattle.class_model.specs.declared.code.Code.{Code}
 use Rattle.class_model.specs.declared.code.Ins.{Ins}

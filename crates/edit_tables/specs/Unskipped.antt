@@ -1,5 +1,5 @@
--- Which instructions skips leave, told as it is computed (the project's own; only the code's contracts
--- need it).
+-- Which instructions skips leave, told as it is computed (the project's own; only the code's
+-- contracts need it).
 use Rattle.std.specs.Prelude.{ℕ, List, Bool, not, ◌&&◌}
 use Rattle.class_model.specs.declared.code.Code.{Code}
 use Rattle.class_model.specs.declared.code.Ins.{Ins}

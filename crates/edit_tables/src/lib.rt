@@ -1,5 +1,5 @@
-//! Tables on the indices of a code: where control goes, what acts do there, and where indices come to
-//! stand.
+//! Tables on the indices of a code: where control goes, what acts do there, and where indices come
+//! to stand.
 #![tactic(auto)]
 
 pub mod aims;

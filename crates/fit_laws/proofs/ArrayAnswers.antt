@@ -198,7 +198,8 @@ module _ (classes : List Class) (sound : IsSound classes) (w : World) (x : FitsW
       read : (k : ℕ) → k < length vs
           → FitsAnswer classes env w (Some given) (of_some (λ v. Gives (Some v) w) (slice_get vs k))
       read k low = let v = found_at vs k low in
-          subst (λ (o : Option Value). FitsAnswer classes env w (Some given) (of_some (λ v. Gives (Some v) w) o)) (sym v.1)
+          subst (λ (o : Option Value). FitsAnswer classes env w (Some given) (of_some (λ v. Gives (Some v) w) o))
+          (sym v.1)
           (given_same classes w x env same given v.0 (to v.0 (all_at (FitsType classes w.heap c) vs k v.0 all v.1)))
 
       at : (k : ℕ) (t : Bool) → nat_lt k (length vs) ≡ t
@@ -266,7 +267,8 @@ module _ (classes : List Class) (sound : IsSound classes) (w : World) (x : FitsW
         by false h = tt
     storable n c vs there e k ty (Ref m) y =
         subst (λ (o : Option Object). FitsAnswer classes env w None (of_some (λ z.
-        cond (is_type_below (shape_of classes).is_sub (type_of z) c) (put_value w n c vs k (Ref m)) (Raises ArrayStore)) o))
+        cond (is_type_below (shape_of classes).is_sub (type_of z) c) (put_value w n c vs k (Ref m))
+        (Raises ArrayStore)) o))
         (sym y.1) (by (is_type_below (shape_of classes).is_sub (type_of y.0) c) refl)
       where
         by : (t : Bool) → is_type_below (shape_of classes).is_sub (type_of y.0) c ≡ t
@@ -288,7 +290,8 @@ module _ (classes : List Class) (sound : IsSound classes) (w : World) (x : FitsW
         → vtype_of c ≡ vtype.Int → (k : ℕ) (v : Value) → (z : ℤ) × (v ≡ Int z)
         → FitsAnswer classes env w None (if_storable (shape_of classes) w c v (put_value w n c vs k v))
     int_stored n c vs there e k v y =
-        subst (λ (u : Value). FitsAnswer classes env w None (if_storable (shape_of classes) w c u (put_value w n c vs k u)))
+        subst (λ (u : Value). FitsAnswer classes env w None
+        (if_storable (shape_of classes) w c u (put_value w n c vs k u)))
         (sym y.1) (put_value_fits n c vs there k (Int y.0)
         (subst (λ (t : VType). FitsKnown classes w.heap t (stored c (Int y.0))) (sym e) (_, refl)))
 
@@ -296,7 +299,8 @@ module _ (classes : List Class) (sound : IsSound classes) (w : World) (x : FitsW
         → vtype_of c ≡ vtype.Long → (k : ℕ) (v : Value) → (z : ℤ) × (v ≡ Long z)
         → FitsAnswer classes env w None (if_storable (shape_of classes) w c v (put_value w n c vs k v))
     long_stored n c vs there e k v y =
-        subst (λ (u : Value). FitsAnswer classes env w None (if_storable (shape_of classes) w c u (put_value w n c vs k u)))
+        subst (λ (u : Value). FitsAnswer classes env w None
+        (if_storable (shape_of classes) w c u (put_value w n c vs k u)))
         (sym y.1) (put_value_fits n c vs there k (Long y.0)
         (subst (λ (t : VType). FitsKnown classes w.heap t (Long y.0)) (sym e) (y.0, refl)))
 

@@ -37,7 +37,8 @@ use Rattle.type_verifier.specs.Effects.{Checked, acted, all_popped, element, pop
 use Rattle.type_verifier.specs.Effects.{with_stack}
 use Rattle.type_verifier.specs.Environment.{Environment}
 use Rattle.type_verifier.specs.Rules.{AnyArray, Assignable, ReadsReference, SmallArray, Takes, Wanted, array_of_base}
-use Rattle.type_verifier.specs.Rules.{array_wanted, element_moved, element_type, is_array, is_small_array, meets, object}
+use Rattle.type_verifier.specs.Rules.{array_wanted, element_moved, element_type, is_array, is_small_array, meets}
+use Rattle.type_verifier.specs.Rules.{object}
 use Rattle.type_verifier.specs.Rules.{rule_of}
 use Rattle.type_verifier.specs.Rules as rules
 use Rattle.type_verifier.proofs.TypedLaw.{bound}
@@ -132,7 +133,8 @@ module _ (classes : List Class) (sound : IsSound classes) (w : World) (world : F
       → is_above_arrays (erased_base classes b) ≡ false → erased_base classes b ≡ b → (v : Value)
       → FitsReference classes w.heap (line b) v → IsArrayFor classes sound w world e v
   of_line e b works no_class below plain v y = for_held e (line b) (omega arith)
-      (λ c h. subst (λ (z : FieldType). is_component e z ≡ true) (sym (flat_component b no_class below plain c h)) works)
+      (λ c h. subst (λ (z : FieldType). is_component e z ≡ true) (sym (flat_component b no_class below plain c h))
+      works)
       v y
 
   -- of bytes or booleans
@@ -477,7 +479,8 @@ module _ (classes : List Class) (sound : IsSound classes) (w : World) (world : F
   counts_taken (suc n) zs m e g h s y q =
       let p = bound (popped env.classes (Assignable vtype.Int) g)
       (all_popped env.classes (replicate n (Assignable vtype.Int))) h q in
-      let r = top_taken env w.heap (Assignable vtype.Int) as_int (λ z. Unit {0}) (int_taken env w.heap hierarchy) g p.0 s y
+      let r = top_taken env w.heap (Assignable vtype.Int) as_int (λ z. Unit {0}) (int_taken env w.heap hierarchy) g
+      p.0 s y
       p.1 in
       let t = counts_taken n (r.value ∷ zs) m (omega (arith, e)) p.0 h r.rest r.fits p.2 in
       record {

@@ -22,7 +22,8 @@ use Rattle.class_model.specs.declared.op.Op.TheVariants as op
 use Rattle.jvm_model.specs.Answers.{of_some}
 use Rattle.jvm_model.specs.Calls.{called_static}
 use Rattle.jvm_model.specs.Heap.{Object, World}
-use Rattle.jvm_model.specs.Instructions.{Asks, CallInterface, CallSpecial, CallStatic, CallVirtual, Request, sort_of, taking}
+use Rattle.jvm_model.specs.Instructions.{Asks, CallInterface, CallSpecial, CallStatic, CallVirtual, Request, sort_of}
+use Rattle.jvm_model.specs.Instructions.{taking}
 use Rattle.jvm_model.specs.Instructions.{with_receiver}
 use Rattle.jvm_model.specs.Local.{after_ask, by_sort}
 use Rattle.jvm_model.specs.Program.{Target}
@@ -97,7 +98,8 @@ many_apart (j ∷ ks) k vs s = by (λ p. many_apart ks k (p.0 ∷ vs) p.1) (top 
   Apart p = many_above (ks ++ k ∷ []) (p.0 ∷ vs) p.1
       ≡ (many_above ks (p.0 ∷ vs) p.1 >>= (λ q. many_above (k ∷ []) q.0 q.1))
 
-  by : ((p : Value × List Value) → Apart p) → (o : Option (Value × List Value)) → (o >>= (λ p. many_above (ks ++ k ∷ []) (p.0 ∷ vs) p.1))
+  by : ((p : Value × List Value) → Apart p) → (o : Option (Value × List Value))
+      → (o >>= (λ p. many_above (ks ++ k ∷ []) (p.0 ∷ vs) p.1))
       ≡ ((o >>= (λ p. many_above ks (p.0 ∷ vs) p.1)) >>= (λ p. many_above (k ∷ []) p.0 p.1))
   by f None = refl
   by f (Some p) = f p
@@ -231,7 +233,8 @@ module _ (classes : List Class) (sound : IsSound classes) (w : World) (world : F
   calls_static r c after h l =
       asks_fit classes w k env is hierarchy b f x (arguments c.typed.ty) (returned c.typed.ty) _ after
       (static_reads env w.heap hierarchy r c.typed.ty c.typed.read c.typed.no_floats (CallStatic r) _
-      (λ vs a. subst (λ (o : Option Target). FitsAnswer classes env w (returned c.typed.ty) (of_some (called_static w vs) o))
+      (λ vs a. subst (λ (o : Option Target). FitsAnswer classes env w (returned c.typed.ty)
+      (of_some (called_static w vs) o))
       (sym c.found)
       (static_fits classes sound w world env is.classes_are c.typed.ty c.typed.no_floats c.target c.runs vs
       (here_values c.typed.ty.args vs a))))
@@ -262,7 +265,8 @@ module _ (classes : List Class) (sound : IsSound classes) (w : World) (world : F
   unfolding rule_of
   calls_virtual r c after h l = uses r c.typed r.class (is_guarded_method env r) (CallVirtual r)
       (λ v y vs a. selected_fits classes sound w world env is.classes_are r c v y vs a) after
-      (acted_of env b.at (op.InvokeVirtual r) (object_call env r c.typed.ty) f after (told r c.typed (object_call env r)) h)
+      (acted_of env b.at (op.InvokeVirtual r) (object_call env r c.typed.ty) f after
+      (told r c.typed (object_call env r)) h)
       l
 
   pub calls_interface : (r : MemberRef) → CallsSelected classes r → (after : TypeFrame)
@@ -305,7 +309,8 @@ module _ (classes : List Class) (sound : IsSound classes) (w : World) (world : F
       let t = arguments_taken env w.heap hierarchy c.typed.ty c.typed.no_floats f m.0 b.stack x.stack m.1 in
       let o = constructor_called env w.heap hierarchy super c.name c.no_string there (is_guarded_method env r) m.0 after
       m.0.stack
-      (subst (λ (z : FieldType). object_initialised env z (is_guarded_method env r) m.0 m.0.stack ≡ Ok after) c.class m.2)
+      (subst (λ (z : FieldType). object_initialised env z (is_guarded_method env r) m.0 m.0.stack ≡ Ok after) c.class
+      m.2)
       b.locals (subst (λ (ts : List VType). FitsLocals env w.heap ts b.locals) (sym t.locals) x.locals) t.rest t.fits in
       subst (λ (z : Option (Request × List Value)). FitsLocal classes w k env is.frames b (after_ask z))
       (sym (below_reads env w.heap hierarchy r c.typed.ty c.typed.read (CallSpecial r) b.stack t.rest o.rest t.value
@@ -317,7 +322,8 @@ module _ (classes : List Class) (sound : IsSound classes) (w : World) (world : F
         subst (λ (z : Option VType). FitsAnswer classes env w z
             (answer (shape_of classes) k.class w (CallSpecial r (Ref o.number ∷ t.value))))
             (ap (option_map vtype_of) c.void)
-            (special_init classes sound w world env is.classes_are c.typed.ty c.typed.no_floats k.class r c.name c.target
+            (special_init classes sound w world env is.classes_are c.typed.ty c.typed.no_floats k.class r c.name
+            c.target
             c.found c.runs o.number (here_reference (class_type c.name) (Ref o.number) o.receiver) t.value
             (here_values c.typed.ty.args t.value t.holds)),
       )

@@ -314,7 +314,8 @@ module _ (classes : List Class) (w : World) (world : FitsWorld classes w) (k : K
     unfolding rule_of
     if_compared c to after h l = jumps_fit classes w k env is hierarchy b f x (op.IfCmp c to)
         (Assignable vtype.Int ∷ Assignable vtype.Int ∷ []) _ after
-        (two_reads env w.heap (Assignable vtype.Int) (Assignable vtype.Int) as_int as_int (λ z. Unit {0}) (λ z. Unit {0})
+        (two_reads env w.heap (Assignable vtype.Int) (Assignable vtype.Int) as_int as_int (λ z. Unit {0})
+        (λ z. Unit {0})
         (int_taken env w.heap hierarchy) (int_taken env w.heap hierarchy) _ (Jump (op.IfCmp c to))
         (λ y z u v. either (op.IfCmp c to) to _ refl refl))
         (acted_of env b.at (op.IfCmp c to) _ f after refl h) l

@@ -185,7 +185,8 @@ module _ (env : Environment) (heap : List Object) (hierarchy : IsHierarchy env.c
       (same_text env.class.name name e) x)
       (λ e. subst (λ (c : List ℕ). FitsReference env.classes heap (class_type c) v)
       (same_text env.class.super_name name e)
-      (held_reference env.classes heap hierarchy (class_type env.class.name) (class_type env.class.super_name) super v x))
+      (held_reference env.classes heap hierarchy (class_type env.class.name) (class_type env.class.super_name) super v
+      x))
       (or_cases (is_text env.class.name name) (is_text env.class.super_name name) h)
 
   of_new : (at : ℕ) (guarded : Bool) (o : Option (List ℕ)) → class_made_at env.code at ≡ o

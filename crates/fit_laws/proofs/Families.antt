@@ -1,5 +1,6 @@
 -- What each of the 49 families of instructions does fits, where its rule applies and its names mean something: which
--- instruction is of which sort is said by `sort_of` of the machine, and what each needs by `rule_of` of the type checker.
+-- instruction is of which sort is said by `sort_of` of the machine, and what each needs by `rule_of` of the type
+-- checker.
 use Rattle.std.proofs.Common.{ℕ, ◌+◌, List, Some, Bool, true, false, ◌≡◌, refl, sym, subst, slice_get, nat_eq}
 use Rattle.std.specs.Prelude.{Ok}
 use Rattle.std.specs.List.{list_any}
@@ -71,7 +72,8 @@ module _ (classes : List Class) (sound : IsSound classes) (w : World) (world : F
   each i there (op.Load d slot) e m after h l = load classes w world k env is hierarchy b f x d slot after h l
   each i there (op.Store d slot) e m after h l = store classes w world k env is hierarchy b f x d slot after h l
   each i there (op.ALoad elem) e m after h l = loads_array classes sound w world k env is b f x elem after h (l.0 refl)
-  each i there (op.AStore elem) e m after h l = stores_array classes sound w world k env is b f x elem after h (l.0 refl)
+  each i there (op.AStore elem) e m after h l = stores_array classes sound w world k env is b f x elem after h
+      (l.0 refl)
   each i there op.Pop e m after h l = pop classes w world k env is hierarchy b f x after h l
   each i there op.Pop2 e m after h l = pop2 classes w world k env is hierarchy b f x after h l
   each i there op.Dup e m after h l = dup classes w world k env is hierarchy b f x after h l
@@ -93,25 +95,33 @@ module _ (classes : List Class) (sound : IsSound classes) (w : World) (world : F
   each i there (op.IfRef c to) e m after h l = if_same classes w world k env is hierarchy b f x c to after h l
   each i there (op.IfNull c to) e m after h l = if_null classes w world k env is hierarchy b f x c to after h l
   each i there (op.Goto to) e m after h l = goes_to classes w world k env is hierarchy b f x to after h l
-  each i there (op.TableSwitch low other cases) e m after h l = table classes w world k env is hierarchy b f x low other cases after h l
-  each i there (op.LookupSwitch other cases) e m after h l = lookup classes w world k env is hierarchy b f x other cases after h l
+  each i there (op.TableSwitch low other cases) e m after h l =
+      table classes w world k env is hierarchy b f x low other cases after h l
+  each i there (op.LookupSwitch other cases) e m after h l =
+      lookup classes w world k env is hierarchy b f x other cases after h l
   each i there (op.Return d) e m after h l = leaves_fit classes w k env is hierarchy b f x d after h
   each i there op.Throw e m after h l = throw classes w world k env is hierarchy b f x after never h
   each i there (op.GetStatic r) e m after h l = gets_static classes sound w world k env is b f x r m after h (l.0 refl)
   each i there (op.PutStatic r) e m after h l = puts_static classes sound w world k env is b f x r m after h (l.0 refl)
   each i there (op.GetField r) e m after h l = gets_field classes sound w world k env is b f x r m after h (l.0 refl)
   each i there (op.PutField r) e m after h l = puts_field classes sound w world k env is b f x r m after h (l.0 refl)
-  each i there (op.InvokeVirtual r) e m after h l = calls_virtual classes sound w world k env is b f x r m after h (l.0 refl)
+  each i there (op.InvokeVirtual r) e m after h l = calls_virtual classes sound w world k env is b f x r m after h
+      (l.0 refl)
   each i there (op.InvokeSpecial r) e m after h l = special r (is_init r.name) refl m after h (l.0 refl)
-  each i there (op.InvokeStatic r) e m after h l = calls_static classes sound w world k env is b f x r m after h (l.0 refl)
-  each i there (op.InvokeInterface r) e m after h l = calls_interface classes sound w world k env is b f x r m after h (l.0 refl)
-  each i there (op.New class) e m after h l = makes classes sound w world k env is b f x class m i there e after h (l.0 refl)
+  each i there (op.InvokeStatic r) e m after h l = calls_static classes sound w world k env is b f x r m after h
+      (l.0 refl)
+  each i there (op.InvokeInterface r) e m after h l = calls_interface classes sound w world k env is b f x r m after h
+      (l.0 refl)
+  each i there (op.New class) e m after h l = makes classes sound w world k env is b f x class m i there e after h
+      (l.0 refl)
   each i there (op.NewArray c) e m after h l = makes_numbers classes sound w world k env is b f x c m after h (l.0 refl)
-  each i there (op.ANewArray ty) e m after h l = makes_objects classes sound w world k env is b f x ty m after h (l.0 refl)
+  each i there (op.ANewArray ty) e m after h l = makes_objects classes sound w world k env is b f x ty m after h
+      (l.0 refl)
   each i there op.ArrayLength e m after h l = measures classes sound w world k env is b f x after h (l.0 refl)
   each i there (op.CheckCast ty) e m after h l = casts classes sound w world k env is b f x ty after h (l.0 refl)
   each i there (op.InstanceOf ty) e m after h l = tests classes sound w world k env is b f x ty after h (l.0 refl)
-  each i there (op.MultiNewArray ty n) e m after h l = makes_many classes sound w world k env is b f x ty n m.0 m.1 m.2 after h (l.0 refl)
+  each i there (op.MultiNewArray ty n) e m after h l = makes_many classes sound w world k env is b f x ty n m.0 m.1
+      m.2 after h (l.0 refl)
 
 -- what each frame that fits does fits
 pub instructions_fit : InstructionsFit

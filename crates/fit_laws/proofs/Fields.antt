@@ -126,7 +126,8 @@ module _ (classes : List Class) (w : World) (x : FitsWorld classes w) (env : Env
       pub cause : Value
       pub is : o ≡ Instance class fields message cause
 
-    instance_of : (ty : FieldType) → HasInstances classes ty → (o : Object) → FitsObject classes w.heap ty o → IsInstance o
+    instance_of : (ty : FieldType) → HasInstances classes ty → (o : Object) → FitsObject classes w.heap ty o
+        → IsInstance o
     instance_of ty all (Instance class fields message cause) f =
         record { class = class; fields = fields; message = message; cause = cause; is = refl }
     instance_of ty all (Array component values) f = absurd (both _ (all.no_array component) f.held)
@@ -251,7 +252,8 @@ module _ (classes : List Class) (sound : IsSound classes) (w : World) (world : F
   unfolding rule_of
   gets_field r m after h l =
       asks_fit classes w k env is hierarchy b f x (receiver env r ∷ []) (Some (vtype_of m.field.typed.ty)) _ after
-      (one_reads env w.heap (Assignable (vtype.Object r.class)) (as_kind kind.Ref) (FitsReference env.classes w.heap r.class)
+      (one_reads env w.heap (Assignable (vtype.Object r.class)) (as_kind kind.Ref)
+      (FitsReference env.classes w.heap r.class)
       (object_taken env w.heap hierarchy r.class) (GetField r) _
       (λ v y. subst (λ (o : Option Key). FitsAnswer classes env w (Some (vtype_of m.field.typed.ty))
       (of_some (get_field w v) o)) (sym m.field.found)
@@ -265,7 +267,8 @@ module _ (classes : List Class) (sound : IsSound classes) (w : World) (world : F
   -- ---- the object whose field is written: of the class that is named, or `this` of a constructor
 
   this_is : (r : MemberRef) → is_class_type env.class.name r.class ≡ true → class_type env.class.name ≡ r.class
-  this_is r e = by r.class.dims r.class.base (and_parts (r.class.dims == 0) (is_class_base env.class.name r.class.base) e)
+  this_is r e =
+      by r.class.dims r.class.base (and_parts (r.class.dims == 0) (is_class_base env.class.name r.class.base) e)
     where
       by : (d : ℕ) (c : Base) → ((d == 0) ≡ true) × (is_class_base env.class.name c ≡ true)
           → class_type env.class.name ≡ record { dims = d; base = c }

@@ -1,6 +1,7 @@
 -- Arrays that are made fit (JVMS 6.5.newarray, 6.5.anewarray, 6.5.multianewarray).
 use Rattle.std.proofs.Common.{ℕ, ℤ, pos, negsuc, zero, suc, ◌+◌, ◌*◌, ◌++◌, ◌<◌, ◌≤◌, List, [], ◌∷◌, Some}
-use Rattle.std.proofs.Common.{Bool, true, false, ◌≡◌, ◌⊎◌, inl, inr, ⊎_elim, refl, sym, ap, ◌∙◌, subst, arith, slice_get}
+use Rattle.std.proofs.Common.{Bool, true, false, ◌≡◌, ◌⊎◌, inl, inr, ⊎_elim, refl, sym, ap, ◌∙◌, subst, arith}
+use Rattle.std.proofs.Common.{slice_get}
 use Rattle.std.proofs.Common.{length}
 use Rattle.std.specs.Prelude.{◌-◌, ◌==◌, cond, int_lt, map, replicate}
 use Rattle.std.specs.Int.RustNames.{unsigned_abs}
@@ -150,7 +151,8 @@ module _ (classes : List Class) (itself : (ty : FieldType) → is_there classes 
   first_at first count ty n (m ∷ ns) some h i low = record {
     object = Array (component_of ty) (references_from (first + count + (0 + i) * n) n);
     there = h i _ (got_in_front (row_of first count ty n) _ i _
-        (got_mapped (λ j. Array (component_of ty) (references_from (first + count + j * n) n)) (range_with_len 0 count) i
+        (got_mapped (λ j. Array (component_of ty) (references_from (first + count + j * n) n))
+        (range_with_len 0 count) i
         (0 + i) (range_at 0 count i low)));
     type = array_again ty some;
     whole = refl;

@@ -367,7 +367,8 @@ module _ (classes : List Class) (sound : IsSound classes) (w : World) (x : FitsW
           → Fits (Some (vtype.Object (class_type string_builder))) (act (BuilderAppend ty) (s ∷ t ∷ []))
       appended ty s k t l = on_building
           (λ z. Fits (Some (vtype.Object (class_type string_builder))) (act (BuilderAppend ty) (z ∷ t ∷ [])))
-          (λ m us f. told_fits (Some (vtype.Object (class_type string_builder))) _ (λ zs. (us, f, builder_itself m us f))
+          (λ m us f. told_fits (Some (vtype.Object (class_type string_builder))) _
+          (λ zs. (us, f, builder_itself m us f))
           (value_text ty t) l) s k
         where
           builder_itself : (m : ℕ) (us : List ℕ) → slice_get w.heap m ≡ Some (Builder us)

@@ -152,7 +152,8 @@ module _ (classes : List Class) (sound : IsSound classes) (w : World) (x : FitsW
   never : (b : Bool) (v : Value) → b ≡ false → b ≡ true → (n : ℕ) × (v ≡ Ref n)
   never b v e f = absurd cc
 
-  pub ofloatsits : (ty : MethodType) → Takes ty → (from : FieldType) (t : Target) → RunsOn classes from ty t → (v : Value)
+  pub ofloatsits : (ty : MethodType) → Takes ty → (from : FieldType) (t : Target) → RunsOn classes from ty t
+      → (v : Value)
       → FitsReference classes w.heap from v → v ≢ Null → (vs : List Value) → Args ty vs
       → Fits ty (called w (v ∷ vs) t)
   ofloatsits ty n from (Program key) m v y some vs a = begins_on classes w.heap key ty m.0 n false m.1 v

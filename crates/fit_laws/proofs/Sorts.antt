@@ -125,7 +125,8 @@ module _ (classes : List Class) (w : World) (k : Key) (env : Environment)
         → gives given g ≡ after → Leads env.classes is.frames (b.at + 1) after
         → FitsLocal classes w k env is.frames b (by_sort b (Asks read))
     asked given read g after took e l =
-        subst (λ (z : Option (Request × List Value)). FitsLocal classes w k env is.frames b (after_ask z)) (sym took.reads) (
+        subst (λ (z : Option (Request × List Value)). FitsLocal classes w k env is.frames b (after_ask z))
+        (sym took.reads) (
           given,
           g,
           record {

@@ -28,7 +28,8 @@ FitsReturned classes heap None None = Unit {0}
 FitsReturned classes heap (Some ty) (Some v) = FitsKnown classes heap ty v
 FitsReturned classes heap _ _ = ⊥
 
--- An answer fits: a result is given in a world that fits, in which no object is gone; or a method begins that gives such
+-- An answer fits: a result is given in a world that fits, in which no object is gone; or a method begins that gives
+-- such
 -- a result; or an exception is thrown, or a class initialised first, of which nothing more is owed. There is an answer
 -- (JVMS 6.5).
 abbrev pub FitsAnswer : List Class → Environment → World → Option VType → Answer → Type 0

@@ -1,4 +1,5 @@
--- The types of the methods of the library, row by row: the class of the receiver, the parameters and the result (Java SE
+-- The types of the methods of the library, row by row: the class of the receiver, the parameters and the result (Java
+-- SE
 -- 8 API). What a row does is said in `Library` of `jvm_model`; that the descriptors by which a program calls them tell
 -- these types is a fact on the library's table.
 use Rattle.std.specs.Prelude.{◌≡◌, ℕ, List, [], ◌∷◌, Option, Some, None, codes}

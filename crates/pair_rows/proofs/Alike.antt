@@ -1,8 +1,9 @@
 -- Classes of an output that are those of the input under new names, and that aren't, computed.
 use Rattle.std.proofs.Common.{refl, ap, arith, inl, inr, List, length, Some, None}
-use Rattle.jv_base.specs.Descriptors.{grown, read_method}
+use Rattle.jv_base.specs.Descriptors.{grown, read_field, read_method}
 use Rattle.jv_base.specs.External.{external_text, word_text}
-use Rattle.jv_base.specs.Types.{base_text, field_text, method_text, result_text}
+use Rattle.jv_base.specs.Names.{is_class_name, is_member_name, is_name_byte, is_primitive_or_void, part_after}
+use Rattle.jv_base.specs.Types.{argument_words, base_text, field_text, method_text, result_text, words_of}
 use Rattle.jv_base.specs.Walk.{walk}
 use Rattle.keep_match.specs.Filters.{accepts}
 use Rattle.jv_base.specs.declared.access.Access.{Access}
@@ -31,7 +32,8 @@ members_alike = (
 )
 
 pub codes_alike : CodeDiffers mapping (filter_of rules) input (given_names mapping input) output None
-unfolding field_text base_text method_text result_text word_text external_text grown read_method walk accepts
+unfolding field_text base_text method_text result_text word_text external_text grown read_field read_method walk accepts
+    words_of argument_words is_class_name is_member_name is_name_byte is_primitive_or_void part_after
 codes_alike = ((record { ins = refl; handlers = refl }, refl), ((record { ins = refl; handlers = refl }, refl), refl))
 
 pub members_alike_longer : MemberDiffers mapping (filter_of rules) input (given_names mapping input) output_longer None
@@ -70,7 +72,8 @@ g_hidden = inr (
 )
 
 pub g_longer : CodeDiffers mapping (filter_of rules) input (given_names mapping input) output_longer (Some method_g)
-unfolding field_text base_text method_text result_text word_text external_text grown read_method walk accepts
+unfolding field_text base_text method_text result_text word_text external_text grown read_field read_method walk accepts
+    words_of argument_words is_class_name is_member_name is_name_byte is_primitive_or_void part_after
 g_longer = inr (
   (record { ins = refl; handlers = refl }, refl),
   inl (inl (

@@ -1,6 +1,6 @@
-mod Required
+pub mod Required
 mod Names
 mod Alike
 mod Files
-mod Sets
-mod Answered
+pub mod Sets
+pub mod Answered

@@ -4,7 +4,8 @@ use Rattle.std.specs.Prelude.{codes}
 use Rattle.std.specs.Str.{chars}
 use Rattle.jv_base.specs.Descriptors.{grown, read_field, read_method}
 use Rattle.jv_base.specs.External.{external_text, word_text}
-use Rattle.jv_base.specs.Types.{base_text, field_text, method_text, result_text}
+use Rattle.jv_base.specs.Names.{is_class_name, is_member_name, is_name_byte, is_primitive_or_void, part_after}
+use Rattle.jv_base.specs.Types.{argument_words, base_text, field_text, method_text, result_text, words_of}
 use Rattle.jv_base.specs.Walk.{walk}
 use Rattle.lib_table.specs.Library.{library}
 use Rattle.class_pool.specs.Walk.{each_once, upwards, walked}
@@ -24,7 +25,8 @@ use Rattle.pair_rows.specs.Rows.{RequiredRow}
 pub system : RequiredRow
 unfolding library upwards walked each_once field_text base_text method_text result_text word_text grown read_field
     read_method walk chars pieces is_cut wild wild_class accepts flags_met is_kind_met matches_class matches_method
-    matches_result matches_type matches_element without_pairs match_each keeps_class asks_class
+    matches_result matches_type matches_element without_pairs match_each keeps_class asks_class words_of argument_words
+    is_class_name is_member_name is_name_byte is_primitive_or_void part_after
 system = refl
 
 -- ---- places

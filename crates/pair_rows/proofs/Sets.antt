@@ -4,8 +4,9 @@ use Rattle.std.proofs.Common.{sym, subst, arith}
 use Rattle.std.specs.Prelude.{codes}
 use Rattle.std.specs.List.{All}
 use Rattle.std.proofs.lemmas.List.Elements.{All-cons}
-use Rattle.jv_base.specs.Descriptors.{grown, read_method}
-use Rattle.jv_base.specs.Types.{base_text, field_text, method_text, result_text}
+use Rattle.jv_base.specs.Descriptors.{grown, read_field, read_method}
+use Rattle.jv_base.specs.Names.{is_class_name, is_member_name, is_name_byte, is_primitive_or_void, part_after}
+use Rattle.jv_base.specs.Types.{argument_words, base_text, field_text, method_text, result_text, words_of}
 use Rattle.jv_base.specs.Walk.{walk}
 use Rattle.tree_io.specs.declared.file_at.FileAt.{FileAt}
 use Rattle.lib_table.specs.Library.{library}
@@ -22,7 +23,7 @@ use Rattle.class_pool.specs.declared.id.ClassId.TheVariants.{Lib, Prog}
 use Rattle.link_check.specs.Profile.{least, links_checked}
 use Rattle.set_read.specs.Accepted.{IsAccepted}
 use Rattle.type_verifier.proofs.SetLaw.{set_typed}
-use Rattle.type_verifier.specs.Assignable.{is_assignable}
+use Rattle.type_verifier.specs.Assignable.{is_assignable, is_java_assignable}
 use Rattle.type_verifier.specs.Rules.{rule_of}
 use Rattle.type_verifier.specs.bodies.FirstFaults.{fault_of_set}
 use Rattle.type_verifier.specs.bodies.Walked.{walked as code_walked}
@@ -77,31 +78,36 @@ two_accepted one other c d spelled_c spelled_d first above_c above_d linked type
 }
 
 pub input_accepted : IsAccepted (file_of_old_a ∷ file_of_old_b ∷ []) input
-unfolding library upwards walked method_text result_text field_text base_text grown read_method walk least is_assignable
-    rule_of code_walked
+unfolding library upwards walked method_text result_text field_text base_text grown read_field read_method walk least
+    is_assignable is_java_assignable rule_of code_walked words_of argument_words is_class_name is_member_name is_name_byte
+    is_primitive_or_void part_after
 input_accepted =
     two_accepted file_of_old_a file_of_old_b old_a old_b old_a_spelled old_b_spelled refl refl refl refl refl
 
 pub accepted : IsAccepted (file_of_a ∷ file_of_b ∷ []) output
-unfolding library upwards walked method_text result_text field_text base_text grown read_method walk least is_assignable
-    rule_of code_walked
+unfolding library upwards walked method_text result_text field_text base_text grown read_field read_method walk least
+    is_assignable is_java_assignable rule_of code_walked words_of argument_words is_class_name is_member_name is_name_byte
+    is_primitive_or_void part_after
 accepted = two_accepted file_of_a file_of_b (new_a (codes "p/a")) new_b a_spelled b_spelled refl refl refl refl refl
 
 pub moved_accepted : IsAccepted (file_of_a_moved ∷ file_of_b_moved ∷ []) output_moved
-unfolding library upwards walked method_text result_text field_text base_text grown read_method walk least is_assignable
-    rule_of code_walked
+unfolding library upwards walked method_text result_text field_text base_text grown read_field read_method walk least
+    is_assignable is_java_assignable rule_of code_walked words_of argument_words is_class_name is_member_name is_name_byte
+    is_primitive_or_void part_after
 moved_accepted = two_accepted file_of_a_moved file_of_b_moved (new_a (codes "q/a")) b_moved
     a_moved_spelled b_moved_spelled refl refl refl refl refl
 
 pub hidden_accepted : IsAccepted (file_of_a ∷ file_of_b_hidden ∷ []) output_hidden
-unfolding library upwards walked method_text result_text field_text base_text grown read_method walk least is_assignable
-    rule_of code_walked
+unfolding library upwards walked method_text result_text field_text base_text grown read_field read_method walk least
+    is_assignable is_java_assignable rule_of code_walked words_of argument_words is_class_name is_member_name is_name_byte
+    is_primitive_or_void part_after
 hidden_accepted = two_accepted file_of_a file_of_b_hidden (new_a (codes "p/a")) b_hidden
     a_spelled b_hidden_spelled refl refl refl refl refl
 
 pub longer_accepted : IsAccepted (file_of_a ∷ file_of_b_longer ∷ []) output_longer
-unfolding library upwards walked method_text result_text field_text base_text grown read_method walk least is_assignable
-    rule_of code_walked
+unfolding library upwards walked method_text result_text field_text base_text grown read_field read_method walk least
+    is_assignable is_java_assignable rule_of code_walked words_of argument_words is_class_name is_member_name is_name_byte
+    is_primitive_or_void part_after
 longer_accepted = two_accepted file_of_a file_of_b_longer (new_a (codes "p/a")) b_longer
     a_spelled b_longer_spelled refl refl refl refl refl
 

@@ -22,7 +22,7 @@ use Rattle.class_model.specs.CanonicalClass.{layout, pool_of}
 use Rattle.class_model.specs.CanonicalCode.{code_bytes, places}
 use Rattle.class_model.specs.CanonicalPool.{filled}
 use Rattle.class_model.specs.WriteLimits.{class_written, limits}
-use Rattle.class_pool.specs.Walk.{each_once, upwards, walked}
+use Rattle.class_pool.specs.Walk.{upwards, walked}
 use Rattle.class_pool.specs.declared.id.ClassId.TheVariants.{Prog}
 use Rattle.keep_match.specs.Filters.{accepts, flags_met}
 use Rattle.keep_match.specs.Fixed.{fixes_class}
@@ -42,7 +42,7 @@ use Rattle.same_rows.specs.Rows.{EntryRow, MarksRow, NamesRow, RunRow, ShrunkRow
 
 pub entry_is : EntryRow
 unfolding library upwards walked field_text base_text method_text result_text grown read_field read_method walk
-    words_of argument_words
+    words_of argument_words is_class_name is_member_name is_primitive_or_void is_name_byte part_after
 entry_is = record {
   startable = refl;
   member = record { class = Prog 0; index = 0 };
@@ -101,7 +101,8 @@ pub shrunk_is : ShrunkRow
 unfolding unit_bytes mutf8 units_of chars filled places code_bytes pool_of layout limits class_written library field_text
     base_text method_text result_text word_text external_text words_of argument_words pieces is_cut wild wild_class
     accepts flags_met is_kind_met matches_class matches_method matches_result matches_type matches_element
-    without_pairs match_each fixes_class type_words library_names free_from given once spelled
+    without_pairs match_each fixes_class type_words library_names free_from given once spelled grown read_field
+    read_method walk upwards walked is_class_name is_member_name is_primitive_or_void is_name_byte part_after
 shrunk_is = record { files = ((refl, refl), ((refl, refl), tt)); mapping = refl; read = refl; left = refl }
 
 pub texts_are : TextsRow
@@ -112,7 +113,7 @@ texts_are = (refl, refl)
 
 pub names_are : NamesRow
 unfolding field_text base_text method_text result_text word_text external_text library grown read_field read_method walk
-    upwards walked
+    upwards walked words_of argument_words is_class_name is_member_name is_primitive_or_void is_name_byte part_after
 names_are = (refl, refl, refl)
 
 pub runs_are : RunRow

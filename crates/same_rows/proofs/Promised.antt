@@ -7,7 +7,7 @@ use Rattle.pair_laws.specs.OwnPairs.Written.{AreWritten}
 use Rattle.pair_laws.proofs.OwnPairs.Own.{own_paired}
 use Rattle.pair_laws.proofs.PairSound.Sound.{is_pair, pairs_do_the_same}
 use Rattle.pair_rows.specs.Examples.{files, input, input_files, mapping, output, rules, unedited}
-use Rattle.pair_rows.proofs.Answered.{taken}
+use Rattle.pair_rows.proofs.Answered.{none, taken}
 use Rattle.pair_rows.proofs.Sets.{accepted, input_accepted}
 use Rattle.same_rows.specs.Rows.{PairRow, PairedRow, SameRow, TakenRow, marks, shrunk_set}
 use Rattle.same_rows.proofs.Computed.{marks_are, shrunk_is}
@@ -25,7 +25,7 @@ both_taken =
     (are_taken input_files input input_readable input_accepted, are_taken files output output_readable accepted)
 
 pub pair_is : PairRow
-pair_is = is_pair input files mapping rules unedited taken
+pair_is = is_pair input files mapping rules unedited (record { output = output; accepted = accepted; none = none })
 
 pub does_the_same : SameRow
 does_the_same =

@@ -15,7 +15,8 @@ use Rattle.class_model.specs.declared.op.MemberRef.{MemberRef}
 use Rattle.lib_table.specs.Library.{LibraryMember}
 use Rattle.lib_table.specs.Lookups as table
 use Rattle.class_pool.specs.Found.{MemberRow, NameAndType}
-use Rattle.class_pool.specs.Found.{is_instance_method, is_instance_row, is_method_at, is_public_member, is_static_member}
+use Rattle.class_pool.specs.Found.{is_instance_method, is_instance_row, is_method_at, is_public_member}
+use Rattle.class_pool.specs.Found.{is_static_member}
 use Rattle.class_pool.specs.Found.{named_at, role_at, row_at}
 use Rattle.class_pool.specs.Hierarchy.{IsClass, class_named, is_interface_kind}
 use Rattle.class_pool.specs.Resolution.{chosen, class_method_found, first, first_declared, interface_method_found}
@@ -240,7 +241,8 @@ module _ (classes : List Class) (t : IsTaken classes) (typed : AreTyped classes)
         → is_callable_role (role_at (record { class = Lib id; index = k })) ≡ is_callable_role e.member.role
     role_is id k e = ap (λ o. is_callable_role (option_map_or (λ (x : LibraryMember). x.role) o Callable)) e.there
 
-    -- a method of this name that a class of the library declares may be called, where it is at or below the one that was
+    -- a method of this name that a class of the library declares may be called, where it is at or below the one that
+    -- was
     -- found
     lib_over : (id k j l : ℕ) → Stands classes (r.name, r.ty) (record { class = Lib id; index = k })
         → Stands classes (r.name, r.ty) (record { class = Lib j; index = l })
@@ -252,7 +254,8 @@ module _ (classes : List Class) (t : IsTaken classes) (typed : AreTyped classes)
         let f = entry j l (is_method classes t (r.name, r.ty) _ m_stands (text_begins r.ty m.typed.ty m.typed.read)) in
         role_is id k e.0
         ∙ callable_over classes t id k e.0 (class_there classes (r.name, r.ty) (Lib id) _ s_stands) j l f.0
-        (class_there classes (r.name, r.ty) (Lib j) _ m_stands) below f.1 (sym (role_is j l f.0) ∙ callable) (r.name, r.ty)
+        (class_there classes (r.name, r.ty) (Lib j) _ m_stands) below f.1 (sym (role_is j l f.0) ∙ callable)
+        (r.name, r.ty)
         (sym (declared_named classes (r.name, r.ty) (Lib id) _ s_stands) ∙ e.2)
         (sym (declared_named classes (r.name, r.ty) (Lib j) _ m_stands) ∙ f.2)
 
@@ -284,7 +287,8 @@ module _ (classes : List Class) (t : IsTaken classes) (typed : AreTyped classes)
       by (Prog own) k y l s_stands z_stands below callable = refl
       by (Lib id) k (Lib j) l s_stands z_stands below callable = lib_over id k j l s_stands z_stands below callable
       by (Lib id) k (Prog own) l s_stands z_stands below callable =
-          let p = above_library classes t id (Prog own) (class_there classes (r.name, r.ty) (Lib id) _ s_stands) below in
+          let p = above_library classes t id (Prog own) (class_there classes (r.name, r.ty) (Lib id) _ s_stands)
+          below in
           absurd (no_lib own p.0 p.1)
         where
           no_lib : (n k : ℕ) → Prog n ≡ Lib k → ⊥
@@ -316,7 +320,8 @@ module _ (classes : List Class) (t : IsTaken classes) (typed : AreTyped classes)
       x_in = class_in classes t name concrete.id concrete.named
 
       -- a method that is selected runs
-      runs_selected : (s : MemberAt) → Stands classes (r.name, r.ty) s → is_class_below classes concrete.id s.class ≡ true
+      runs_selected : (s : MemberAt) → Stands classes (r.name, r.ty) s
+          → is_class_below classes concrete.id s.class ≡ true
           → is_instance_method classes s ≡ true → is_callable_role (role_at s) ≡ true
           → (y : Target) × (target_at classes s ≡ Some y) × RunsOn classes (class_type name) m.typed.ty y
       runs_selected s stands above is callable =
@@ -421,7 +426,8 @@ module _ (classes : List Class) (t : IsTaken classes) (typed : AreTyped classes)
           below : is_class_below classes concrete.id m.link.class ≡ true
           below = ⊎_elim
               (λ e. subst (λ v. is_class_below classes concrete.id v ≡ true)
-              (one (sym concrete.named ∙ ap (class_named classes) e ∙ m.link.named)) (below_itself classes t concrete.id))
+              (one (sym concrete.named ∙ ap (class_named classes) e ∙ m.link.named))
+              (below_itself classes t concrete.id))
               (λ u. ⊎_elim
               (λ j. absurd (both (is_interface_in classes m.link.class) no_interface
               (subst (λ v. is_interface_in classes v ≡ true) (one (sym u.1.named ∙ m.link.named)) j)))
@@ -464,8 +470,10 @@ module _ (classes : List Class) (t : IsTaken classes) (typed : AreTyped classes)
           let f = runs_from held in (
             f.0,
             ap (λ o. option_map_or (selected_of classes r) o None) concrete.named
-                ∙ ap (λ b. cond b None (of_method classes (selected_from classes r concrete.id) r)) concrete.no_interface
-                ∙ ap (option_and_then (λ y. option_and_then (selected_from classes r concrete.id y) (method_of classes r y)))
+                ∙ ap (λ b. cond b None (of_method classes (selected_from classes r concrete.id) r))
+                concrete.no_interface
+                ∙ ap (option_and_then
+                (λ y. option_and_then (selected_from classes r concrete.id y) (method_of classes r y)))
                 (class_of_link classes n r (λ y. method_found classes y (r.name, r.ty))
                 (λ y. beq (is_interface_in classes y) r.of_interface) m.member m.link)
                 ∙ ap (option_and_then (selected_from classes r concrete.id m.link.class)) m.link.member_is ∙ f.1,

@@ -152,7 +152,8 @@ module _ (classes : List Class) (t : IsTaken classes) where
         ap (class_named classes) named ∙ object_named classes t
   interface_super (Lib id) there h = by (table.super_of id) refl where
     row : option_map_or (λ s. s == 0) (table.super_of id) false ≡ true
-    row = when (is_interface_kind (table.class_at id).kind) _ h (at_row (λ k. not (is_interface_kind (table.class_at k).kind)
+    row = when (is_interface_kind (table.class_at id).kind) _ h
+        (at_row (λ k. not (is_interface_kind (table.class_at k).kind)
         || option_map_or (λ s. s == 0) (table.super_of k) false) id rows_interface there)
 
     by : (o : Option ℕ) → table.super_of id ≡ o → option_map Lib o ≡ Some (Lib 0)
@@ -253,7 +254,8 @@ module _ (classes : List Class) (t : IsTaken classes) where
 
   -- Object is above each class (JVMS 4.1)
   pub below_object : (x : ClassId) → IsClass classes x → Below x (Lib 0)
-  below_object x there = climb (λ z. Below z (Lib 0)) (λ z z_there up. by z z_there up (superclass classes z) refl) x there
+  below_object x there = climb (λ z. Below z (Lib 0)) (λ z z_there up. by z z_there up (superclass classes z) refl) x
+      there
     where
       by : (z : ClassId) → IsClass classes z → ((y : ClassId) → superclass classes z ≡ Some y → Below y (Lib 0))
           → (o : Option ClassId) → superclass classes z ≡ o → Below z (Lib 0)

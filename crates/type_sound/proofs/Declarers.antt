@@ -2,7 +2,8 @@
 use Rattle.std.proofs.Common.{◌≡◌, ◌<◌, ◌+◌, ◌&&◌, ◌||◌, ◌++◌, ℕ, zero, suc, not, Bool, true, false, cond, List, []}
 use Rattle.std.proofs.Common.{◌∷◌, length, map, Option, Some, None, slice_get, refl, sym, ap, subst, ◌∙◌, arith}
 use Rattle.std.specs.Prelude.{IfSome, IsTrue}
-use Rattle.std.specs.List.{All, AllByRecursion, cons_option, enumerate_from, filter, filter_map, find, flat_map, list_all}
+use Rattle.std.specs.List.{All, AllByRecursion, cons_option, enumerate_from, filter, filter_map, find, flat_map}
+use Rattle.std.specs.List.{list_all}
 use Rattle.std.specs.Option.{option_and_then, option_map, option_map_or, option_or}
 use Rattle.std.proofs.lemmas.List.Elements.{All-cons, All-nil}
 use Rattle.jv_base.proofs.Lists.{all_at, all_weaker, any_where, found_at, got_mapped, nil_parts}
@@ -10,7 +11,8 @@ use Rattle.class_model.specs.Flags.{acc_abstract, acc_static, has, is_left_out_c
 use Rattle.class_model.specs.declared.class.Class.{Class}
 use Rattle.lib_table.specs.Library.{LibraryMember, library}
 use Rattle.lib_table.specs.Lookups as table
-use Rattle.class_pool.specs.Found.{MemberRow, NameAndType, declared_by, declared_in, is_instance_method, is_instance_row}
+use Rattle.class_pool.specs.Found.{MemberRow, NameAndType, declared_by, declared_in, is_instance_method}
+use Rattle.class_pool.specs.Found.{is_instance_row}
 use Rattle.class_pool.specs.Found.{is_method_at, is_public_member, is_static_member, role_at}
 use Rattle.class_pool.specs.Found.{rows_in}
 use Rattle.class_pool.specs.Hierarchy.{IsClass, interfaces, is_interface_kind}
@@ -177,7 +179,8 @@ module _ (classes : List Class) (t : IsTaken classes) where
           ++ flat_map (name_kinds classes n) (c.0.super_name ∷ c.0.interfaces)) (implementing_kinds classes n c.0)
           ((links_taken classes t.linked).class n c.0 c.1)).1
 
-      all : flat_map (λ i. flat_map (selected_kinds classes n) (methods_of classes i)) (superinterfaces classes (Prog n))
+      all : flat_map (λ i. flat_map (selected_kinds classes n) (methods_of classes i))
+          (superinterfaces classes (Prog n))
           ≡ []
       all = sym (ap (λ b. cond b []
           (flat_map (λ i. flat_map (selected_kinds classes n) (methods_of classes i))
@@ -218,7 +221,8 @@ module _ (classes : List Class) (t : IsTaken classes) where
           (map (λ p. record { class = Prog k; index = p.0 }) (enumerate_from 0 (rows_in classes (Prog k)))) m.index
           (record { class = Prog k; index = m.index })
           (none_each (selected_kinds classes n) (methods_of classes (Prog k)) here)
-          (got_mapped (λ p. record { class = Prog k; index = p.0 }) (enumerate_from 0 (rows_in classes (Prog k))) m.index
+          (got_mapped (λ p. record { class = Prog k; index = p.0 }) (enumerate_from 0 (rows_in classes (Prog k)))
+          m.index
           (m.index, its_row.0) (numbered (rows_in classes (Prog k)) m.index its_row.0 its_row.1))
           (subst (λ z. is_instance_method classes z ≡ true) same instance))
 

@@ -137,7 +137,8 @@ module _ (classes : List Class) (t : IsTaken classes) where
 
   field_other : (n : NameAndType) (c : ClassId) → IsClass classes c → is_other c ≡ true
       → IfSome (field_found classes c n) (λ m. is_other m.class ≡ true)
-  field_other n c there o = first_all classes (λ m. is_other m.class ≡ true) (declared_by classes n (field_order classes c))
+  field_other n c there o =
+      first_all classes (λ m. is_other m.class ≡ true) (declared_by classes n (field_order classes c))
       (declared_of (λ d. is_other d ≡ true) n (field_order classes c)
       (order_other (superclasses_from classes c) (up_other highest c there o)))
 
@@ -161,7 +162,8 @@ module _ (classes : List Class) (t : IsTaken classes) where
       (library_static (table.class_at id).kind m.0
       (told (begins m.0.descriptor) m.0.is_static
       (passes_at (λ (x : LibraryMember). begins x.descriptor || x.is_static) (table.class_at id).members k m.0
-      (row_or_past (λ c. list_all (λ (x : LibraryMember). begins x.descriptor || x.is_static) c.members) rows_fields refl id)
+      (row_or_past (λ c. list_all (λ (x : LibraryMember). begins x.descriptor || x.is_static) c.members) rows_fields
+      refl id)
       m.1)
       (ap (λ (r : MemberRow). begins r.named.1) (sym m.2) ∙ shut)))
     where
@@ -179,7 +181,8 @@ module _ (classes : List Class) (t : IsTaken classes) where
         by false b e = absurd cc
   other_row (Prog n) k row i is shut = by (slice_get classes n) refl is where
     by : (o : Option Class) → slice_get classes n ≡ o
-        → slice_get (option_map_or (λ (c : Class). map field_row c.fields ++ map method_row c.methods) o []) k ≡ Some row
+        → slice_get (option_map_or (λ (c : Class). map field_row c.fields ++ map method_row c.methods) o []) k
+        ≡ Some row
         → has acc_static row.flags ≡ true
     by None e q = absurd cc
     by (Some c) e q = ⊎_elim

@@ -45,7 +45,8 @@ use Rattle.image_laws.proofs.ViewImage.Standing.{Stands, class_there}
 use Rattle.type_sound.proofs.CallMeaning.{method_stand}
 use Rattle.type_sound.proofs.LibraryClasses.{held_class, string_at}
 use Rattle.type_sound.proofs.Links.{TakenMethod, class_of_link, method_taken, unbroken}
-use Rattle.type_sound.proofs.Members.{ProgramMethod, good_method, is_method, member_there, method_named, method_of as its_method}
+use Rattle.type_sound.proofs.Members.{ProgramMethod, good_method, is_method, member_there, method_named}
+use Rattle.type_sound.proofs.Members.{method_of as its_method}
 use Rattle.type_sound.proofs.Members.{program_method, text_begins, type_is}
 use Rattle.type_sound.proofs.RowTable.{InTable, Receiver, in_table, instance_row, row_is, row_typed, table_row}
 use Rattle.type_sound.proofs.Selecting.{at_member}

@@ -54,7 +54,8 @@ use Rattle.image_laws.proofs.ViewImage.Standing.{Stands, class_there}
 use Rattle.type_sound.proofs.Flags.{no_flags, static_concrete}
 use Rattle.type_sound.proofs.LibraryClasses.{has_library, held_class, string_at}
 use Rattle.type_sound.proofs.Meanings.{means, super_held}
-use Rattle.type_sound.proofs.Members.{ProgramMethod, good_method, is_method, member_there, method_environs, method_named}
+use Rattle.type_sound.proofs.Members.{ProgramMethod, good_method, is_method, member_there, method_environs}
+use Rattle.type_sound.proofs.Members.{method_named}
 use Rattle.type_sound.proofs.Members.{program_method}
 use Rattle.type_sound.proofs.Chains.{below_itself}
 use Rattle.type_sound.proofs.Order.{ordered}
@@ -180,7 +181,8 @@ module _ (classes : List Class) (t : IsTaken classes) (typed : AreTyped classes)
 
   string_held : (heap : List Object) (units : List ℕ)
       → FitsKnown classes heap (vtype.Object (class_type string)) (Lit units)
-  string_held heap units = held_class classes t string string (Lib 6) (Lib 6) (string_at classes t) (string_at classes t)
+  string_held heap units = held_class classes t string string (Lib 6) (Lib 6) (string_at classes t)
+      (string_at classes t)
       (below_itself classes t (Lib 6))
 
   constant_fits : (heap : List Object) (ty : FieldType) (c : Constant) → FitsField ty c
@@ -254,7 +256,8 @@ module _ (classes : List Class) (t : IsTaken classes) (typed : AreTyped classes)
         → slice_get (option_map_or (λ (c : Class). map field_row c.fields ++ map method_row c.methods) o []) index
         ≡ Some row
         → option_map value_of (option_and_then (λ (c : Class). option_and_then (λ x. x)
-        (slice_get (map (λ (f : Field). f.constant) c.fields ++ map (λ (m : Method). None) c.methods) index)) o) ≡ Some v
+        (slice_get (map (λ (f : Field). f.constant) c.fields ++ map (λ (m : Method). None) c.methods) index)) o)
+        ≡ Some v
         → IfSome (field_type text) (λ ty. FitsType classes heap ty v)
     by None at q h = absurd cc
     by (Some c) at q h = told c at (row_parts c.fields c.methods index row q) h

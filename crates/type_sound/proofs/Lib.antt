@@ -18,3 +18,6 @@ mod Meanings
 mod Initialisers
 mod Starting
 mod Whole
+mod RowsUnset
+mod RowsTyped
+mod RowsTaken

@@ -18,7 +18,8 @@ use Rattle.jvm_model.specs.Exceptions.{ArrayStore, ClassCast, TextIndex, NoClass
 use Rattle.jvm_model.specs.Exceptions.{IncompatibleChange, IllegalAccess, AbstractMethod, exception_class}
 use Rattle.jvm_model.specs.Heap.{string, string_builder}
 use Rattle.jvm_model.specs.Types.{array_of}
-use Rattle.type_verifier.specs.Assignable.{class_type, is_above_arrays, is_class_assignable, is_java_assignable, reaches}
+use Rattle.type_verifier.specs.Assignable.{class_type, is_above_arrays, is_class_assignable, is_java_assignable}
+use Rattle.type_verifier.specs.Assignable.{reaches}
 use Rattle.fit_laws.specs.Held.{IsConcrete, erased_name, is_held}
 use Rattle.fit_laws.specs.Order.{HasInstances}
 use Rattle.fit_laws.specs.RowTypes.{print_stream}

@@ -26,7 +26,8 @@ use Rattle.class_pool.specs.declared.id.ClassId.{ClassId}
 use Rattle.class_pool.specs.declared.id.ClassId.TheVariants.{Prog}
 use Rattle.class_pool.specs.declared.id.MemberAt.{MemberAt}
 use Rattle.link_check.specs.Links.{is_callable_role, linked, linked_field, linked_method, of_array, of_class, through}
-use Rattle.link_check.specs.Profile.{base_kinds, call_kinds, class_kinds, class_of, field_kinds, field_text_kinds, member_kinds}
+use Rattle.link_check.specs.Profile.{base_kinds, call_kinds, class_kinds, class_of, field_kinds, field_text_kinds}
+use Rattle.link_check.specs.Profile.{member_kinds}
 use Rattle.link_check.specs.Profile.{method_text_kinds, static_kinds, type_kinds, unless}
 use Rattle.link_check.specs.Profile.{used_kinds}
 use Rattle.link_check.specs.declared.fault.LinkKind.{LinkKind}
@@ -251,7 +252,13 @@ module _ (classes : List Class) (number : ℕ) where
       → member_kinds r of_member ≡ [] → Taken r of_member
   is_taken (Ok m) of_member e =
       let p = nil_parts (unless (is_callable_role (role_at m)) LeftOutMember) (of_member m) e in
-      record { member = m; linked = refl; callable = unbroken (is_callable_role (role_at m)) LeftOutMember p.0; rest = p.1 }
+      record {
+        member = m;
+        linked = refl;
+        callable = unbroken (is_callable_role (role_at m)) LeftOutMember p.0;
+        rest =
+            p.1;
+      }
   is_taken (Err kind) of_member e = absurd cc
 
   -- a field
@@ -310,7 +317,8 @@ module _ (classes : List Class) (number : ℕ) where
         member = m.member;
         linked = m.linked;
         callable = m.callable;
-        link = in_type (λ c. method_found classes c (r.name, r.ty)) (λ c. beq (is_interface_in classes c) r.of_interface)
+        link = in_type (λ c. method_found classes c (r.name, r.ty))
+            (λ c. beq (is_interface_in classes c) r.of_interface)
             m.member r (not r.of_interface) m.linked;
         static_is = static_is static m.member m.rest;
       }

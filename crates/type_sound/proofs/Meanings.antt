@@ -56,7 +56,8 @@ number_base c code e name q = by (code == 4) (code == 5) (code == 8) (code == 9)
     (e ∙ ap (λ (b : Base). Some b) q)
   where
     by : (b4 b5 b8 b9 b10 b11 : Bool) → cond b4 (Some base.Boolean) (cond b5 (Some base.Char) (cond b8 (Some base.Byte)
-        (cond b9 (Some base.Short) (cond b10 (Some base.Int) (cond b11 (Some base.Long) None))))) ≡ Some (base.Class name)
+        (cond b9 (Some base.Short) (cond b10 (Some base.Int) (cond b11 (Some base.Long) None)))))
+        ≡ Some (base.Class name)
         → ⊥
     by true b5 b8 b9 b10 b11 h = cc
     by false true b8 b9 b10 b11 h = cc
@@ -94,9 +95,11 @@ module _ (classes : List Class) (t : IsTaken classes) (typed : AreTyped classes)
   pub super_held : is_held classes (class_type env.class.name) (class_type env.class.super_name) ≡ true
   super_held = by (class_named classes env.class.super_name) refl kinds where
     rules : flat_map (name_kinds classes env.own) (env.class.super_name ∷ env.class.interfaces) ≡ []
-    rules = (nil_parts (left_out_at env.class.left_out None ++ unless (not (is_left_out_class env.class.flags.0)) LeftOutFlag)
+    rules = (nil_parts (left_out_at env.class.left_out None ++ unless (not (is_left_out_class env.class.flags.0))
+        LeftOutFlag)
         (flat_map (name_kinds classes env.own) (env.class.super_name ∷ env.class.interfaces))
-        (nil_parts (left_out_at env.class.left_out None ++ unless (not (is_left_out_class env.class.flags.0)) LeftOutFlag
+        (nil_parts (left_out_at env.class.left_out None ++ unless (not (is_left_out_class env.class.flags.0))
+        LeftOutFlag
         ++ flat_map (name_kinds classes env.own) (env.class.super_name ∷ env.class.interfaces))
         (implementing_kinds classes env.own env.class)
         ((links_taken classes t.linked).class env.own env.class is.class_there)).0).1
@@ -154,7 +157,8 @@ module _ (classes : List Class) (t : IsTaken classes) (typed : AreTyped classes)
       let p = nil_parts (call_kinds classes env.own true r) (no_init_kinds r) h in
       calls_static classes t typed env.own r (method_taken classes env.own true r d p.0)
 
-  special_at : (b : Bool) (r : MemberRef) → is_init r.name ≡ b → IsMethodText r.ty → special_kinds classes env.own r ≡ []
+  special_at : (b : Bool) (r : MemberRef) → is_init r.name ≡ b → IsMethodText r.ty
+      → special_kinds classes env.own r ≡ []
       → CallsSpecialBy classes b k.class env.class.name r
   special_at true r e d h = calls_init classes t typed env.own k.class from_named r d h e
   special_at false r e d h = calls_special classes t typed env.own k.class env.class.name from_named own_named r d h e

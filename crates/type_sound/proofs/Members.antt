@@ -20,7 +20,8 @@ use Rattle.class_model.specs.declared.class.Method.{Method}
 use Rattle.class_model.specs.declared.code.Code.{Code}
 use Rattle.lib_table.specs.Library.{LibraryMember, library}
 use Rattle.lib_table.specs.Lookups as table
-use Rattle.class_pool.specs.Found.{IsMember, MemberRow, NameAndType, declared_in, field_row, has_flag, is_abstract_member}
+use Rattle.class_pool.specs.Found.{IsMember, MemberRow, NameAndType, declared_in, field_row, has_flag}
+use Rattle.class_pool.specs.Found.{is_abstract_member}
 use Rattle.class_pool.specs.Found.{is_method_at, is_static_member, library_row, method_row, name_of, named_at, row_at}
 use Rattle.class_pool.specs.Found.{rows_in}
 use Rattle.class_pool.specs.declared.id.ClassId.{ClassId}
@@ -83,7 +84,8 @@ module _ (classes : List Class) (t : IsTaken classes) where
           → begins row.named.1 ≡ true → row.is_method ≡ true
       row_is (Prog own) row is h = at (slice_get classes own) is where
         at : (o : Option Class)
-            → slice_get (option_map_or (λ c. map field_row c.fields ++ map method_row c.methods) o []) m.index ≡ Some row
+            → slice_get (option_map_or (λ c. map field_row c.fields ++ map method_row c.methods) o []) m.index
+            ≡ Some row
             → row.is_method ≡ true
         at None is = absurd cc
         at (Some c) is = ⊎_elim
@@ -108,10 +110,12 @@ module _ (classes : List Class) (t : IsTaken classes) where
 
       by : (c : ClassId) (o : Option MemberRow) → row_at classes m ≡ o → begins (named_at classes m).1 ≡ true
           → is_method_at classes m ≡ true
-      by c None e h = absurd (never (sym (sym (ap (λ o. begins (option_map_or (λ (r : MemberRow). r.named) o ([], [])).1) e)
+      by c None e h =
+          absurd (never (sym (sym (ap (λ o. begins (option_map_or (λ (r : MemberRow). r.named) o ([], [])).1) e)
           ∙ h)))
       by c (Some row) e h = ap (λ o. option_map_or (λ (r : MemberRow). r.is_method) o false) e
-          ∙ row_is m.class row e (sym (ap (λ o. begins (option_map_or (λ (r : MemberRow). r.named) o ([], [])).1) e) ∙ h)
+          ∙ row_is m.class row e (sym (ap (λ o. begins (option_map_or (λ (r : MemberRow). r.named) o ([], [])).1) e)
+          ∙ h)
 
   -- the number of a member that stands is one of its class's
   pub index_below : (n : NameAndType) (c : ClassId) (m : MemberAt) → declared_in classes n c ≡ Some m
@@ -204,7 +208,11 @@ module _ (classes : List Class) (t : IsTaken classes) where
   pub type_is : (m : MemberAt) (p : ProgramMethod m) (text : List ℕ) (ty : MethodType) → (named_at classes m).1 ≡ text
       → read_method text ≡ Ok ty → p.method.ty ≡ ty
   type_is m p text ty named read = one_type p.method.ty ty text
-      (read_method-only text p.method.ty ((good m p).typed, sym (ap (λ (x : NameAndType). x.1) (method_named m p)) ∙ named))
+      (read_method-only text p.method.ty (
+        (good m p).typed,
+        sym (ap (λ (x : NameAndType). x.1) (method_named m p))
+            ∙ named,
+      ))
       read
 
   module _ (typed : AreTyped classes) where
@@ -224,7 +232,8 @@ module _ (classes : List Class) (t : IsTaken classes) where
           method_there = p.method_at;
           code_there = is;
           member = found;
-          code = code_found classes (key_at classes m) p.own p.class p.number p.method code found p.class_at p.method_at is;
+          code = code_found classes (key_at classes m) p.own p.class p.number p.method code found p.class_at
+              p.method_at is;
           frames = frames.0;
           typed = frames.1;
         }

@@ -23,7 +23,8 @@ use Rattle.class_pool.specs.declared.id.ClassId.TheVariants.{Lib}
 use Rattle.class_pool.proofs.Declaring.{named_there}
 use Rattle.class_pool.proofs.EachOnce.{same_is}
 use Rattle.set_view.specs.ViewOf.{shape_of}
-use Rattle.type_verifier.specs.Assignable.{class_type, is_above_arrays, is_class_assignable, is_java_assignable, reaches}
+use Rattle.type_verifier.specs.Assignable.{class_type, is_above_arrays, is_class_assignable, is_java_assignable}
+use Rattle.type_verifier.specs.Assignable.{reaches}
 use Rattle.fit_laws.specs.Held.{erased_name, is_held, is_interface_name}
 use Rattle.fit_laws.specs.Order.{IsOrdered}
 use Rattle.image_laws.specs.TakenSet.TakenSet.{IsTaken}
@@ -169,7 +170,8 @@ module _ (classes : List Class) (t : IsTaken classes) where
           (λ i. to_object (erased_interface c z u.named i))
           (λ r. ⊎_elim
           (λ j. ⊎_elim
-          (λ same. to_object (erased_interface c z u.named (subst (λ v. is_interface_in classes v ≡ true) (sym same) j)))
+          (λ same. to_object
+          (erased_interface c z u.named (subst (λ v. is_interface_in classes v ≡ true) (sym same) j)))
           (λ first. held z u.named (subst (λ v. is_class_below classes x v ≡ true) (sym first)
           (below_object classes t x (class_in a x at.1))))
           (above_interface classes t r.0 z (class_in b r.0 r.1) j r.2))
@@ -225,7 +227,8 @@ module _ (classes : List Class) (t : IsTaken classes) where
       to_object e = ap (λ n. is_above_arrays (base.Class n)) e
 
       is_object : (z : ClassId) → Named b z → z ≡ Lib 0 → is_above_arrays (base.Class (erased_name classes b)) ≡ true
-      is_object z f e = to_object (erased_own b z f (subst (λ v. is_interface_in classes v ≡ false) (sym e) object_class)
+      is_object z f e =
+          to_object (erased_own b z f (subst (λ v. is_interface_in classes v ≡ false) (sym e) object_class)
           ∙ sym (class_name classes b z f) ∙ ap (name_of classes) e ∙ object_is)
 
       above : (z : ClassId) → IsAbove a b z → is_above_arrays (base.Class (erased_name classes b)) ≡ true
@@ -233,7 +236,8 @@ module _ (classes : List Class) (t : IsTaken classes) where
           (λ i. to_object (erased_interface b z u.named i))
           (λ r. ⊎_elim
           (λ j. ⊎_elim
-          (λ same. to_object (erased_interface b z u.named (subst (λ v. is_interface_in classes v ≡ true) (sym same) j)))
+          (λ same. to_object
+          (erased_interface b z u.named (subst (λ v. is_interface_in classes v ≡ true) (sym same) j)))
           (λ first. is_object z u.named first)
           (above_interface classes t r.0 z (class_in a r.0 r.1) j r.2))
           (λ j. is_object z u.named (above_object classes t z

@@ -94,7 +94,8 @@ row_is StringEquals = one_is (class_type object) (Some (plain base.Boolean)) obj
 row_is StringHashCode = none_is (Some (plain base.Int)) (plain_is base.Int tt)
 row_is StringIsEmpty = none_is (Some (plain base.Boolean)) (plain_is base.Boolean tt)
 row_is StringFrom = one_is (plain base.Int) (Some (class_type string)) (plain_is base.Int tt) string_is
-row_is StringBetween = two_is (plain base.Int) (plain base.Int) (Some (class_type string)) (plain_is base.Int tt) (plain_is base.Int tt) string_is
+row_is StringBetween = two_is (plain base.Int) (plain base.Int) (Some (class_type string)) (plain_is base.Int tt)
+    (plain_is base.Int tt) string_is
 row_is StringCompareTo = one_is (class_type string) (Some (plain base.Int)) string_is (plain_is base.Int tt)
 row_is StringToString = none_is (Some (class_type string)) string_is
 row_is (StringValueOf ty) = one_is (told ty) (Some (class_type string)) (told_is ty) string_is

@@ -87,7 +87,8 @@ module _ (classes : List Class) where
     by : (o : Option MemberRow) → row_at classes (at_index id index) ≡ o
         → option_map_or (λ (r : MemberRow). r.is_method) o false ≡ true → InTable id index
     by None e k = absurd cc
-    by (Some r) e k = let m = mapped_from (library_row (table.class_at id).kind) (table.class_at id).members index r e in
+    by (Some r) e k = let m = mapped_from (library_row (table.class_at id).kind) (table.class_at id).members index r
+        e in
         record { member = m.0; there = m.1 }
 
   -- the superclasses of a class of the library are the same in each set
@@ -140,7 +141,8 @@ module _ (classes : List Class) where
       by None q h = absurd cc
       by (Some row) q h =
           let p = and_parts (is_text e.member.descriptor (method_text (row_type row))
-          && has_receiver id e.member.is_static (row_class row)) (is_right_init (table.class_at id).name e.member.name row)
+          && has_receiver id e.member.is_static (row_class row))
+          (is_right_init (table.class_at id).name e.member.name row)
           h in
           let r = and_parts (is_text e.member.descriptor (method_text (row_type row)))
           (has_receiver id e.member.is_static (row_class row)) p.0 in

@@ -161,7 +161,8 @@ module _ (classes : List Class) (t : IsTaken classes) where
           (below_trans classes t s z.class m.class (super_there classes t y s there e) h.0.on.above h.0.below)
 
       others : (y : ClassId) → IsClass classes y
-          → ((s : ClassId) → superclass classes y ≡ Some s → AllByRecursion (IsOver n m s) (overriding classes m (line n s)))
+          → ((s : ClassId) → superclass classes y ≡ Some s
+          → AllByRecursion (IsOver n m s) (overriding classes m (line n s)))
           → (o : Option ClassId) → superclass classes y ≡ o
           → AllByRecursion (IsOver n m y) (overriding classes m (rest n o))
           × (list_any (may_be_overridden classes y) (overriding classes m (rest n o)) ≡ true → Below y m.class)
@@ -224,7 +225,8 @@ module _ (classes : List Class) (t : IsTaken classes) where
               instance = is_one (same_member z m) (may_override classes z) _ z_instance q;
               below = low (same_member z m) (may_override classes z)
                   (list_any (may_be_overridden classes z.class) (overriding classes m ms))
-                  (λ s. subst (λ (v : MemberAt). Below v.class m.class) (sym (member_is z m s)) (below_itself classes t m.class))
+                  (λ s. subst (λ (v : MemberAt). Below v.class m.class) (sym (member_is z m s))
+                  (below_itself classes t m.class))
                   (λ s. subst (λ c. Below c m.class) (sym (declared_class n y z e))
                   (k (subst (λ c. list_any (may_be_overridden classes c) (overriding classes m ms) ≡ true)
                   (declared_class n y z e) s)))
@@ -234,7 +236,8 @@ module _ (classes : List Class) (t : IsTaken classes) where
           )
 
       step : (y : ClassId) → IsClass classes y
-          → ((s : ClassId) → superclass classes y ≡ Some s → AllByRecursion (IsOver n m s) (overriding classes m (line n s)))
+          → ((s : ClassId) → superclass classes y ≡ Some s
+          → AllByRecursion (IsOver n m s) (overriding classes m (line n s)))
           → AllByRecursion (IsOver n m y) (overriding classes m (line n y))
       step y y_there f =
           let r = others y y_there f (superclass classes y) refl in
@@ -304,7 +307,8 @@ module _ (classes : List Class) (t : IsTaken classes) where
   callable_over id k e low j l f under below method callable n p q = by (is_callable_role e.member.role) refl
       (at_member is_right_over rows_over id k low e)
     where
-      there : list_any (λ i. is_row_below id i && list_any (is_called_like e.member) (table.class_at i).members) library_ids
+      there : list_any (λ i. is_row_below id i && list_any (is_called_like e.member) (table.class_at i).members)
+          library_ids
           ≡ true
       there = some_row (λ i. is_row_below id i && list_any (is_called_like e.member) (table.class_at i).members) j under
           (and_from (is_row_below id j) (list_any (is_called_like e.member) (table.class_at j).members)
@@ -325,5 +329,6 @@ module _ (classes : List Class) (t : IsTaken classes) where
       (second (is_interface_kind (table.class_at id).kind) _ class (at_member is_apart rows_apart id k low e))
       (some_row (λ i. is_interface_kind (table.class_at i).kind
       && list_any (is_called_like e.member) (table.class_at i).members) j under
-      (and_from (is_interface_kind (table.class_at j).kind) (list_any (is_called_like e.member) (table.class_at j).members)
+      (and_from (is_interface_kind (table.class_at j).kind)
+      (list_any (is_called_like e.member) (table.class_at j).members)
       interface (called_like e.member j l f method callable (alike e.member f.member n p q))))

@@ -48,7 +48,8 @@ use Rattle.fit_laws.specs.Held.{is_base_there, is_there}
 use Rattle.fit_laws.specs.RowTypes.{print_stream}
 use Rattle.fit_laws.specs.Sound.{IsSound}
 use Rattle.fit_laws.specs.States.{Fits}
-use Rattle.fit_laws.specs.Values.{FitsKey, FitsKnown, FitsReference, FitsType, FitsValue, FitsWithin, FitsWorld, is_whole}
+use Rattle.fit_laws.specs.Values.{FitsKey, FitsKnown, FitsReference, FitsType, FitsValue, FitsWithin, FitsWorld}
+use Rattle.fit_laws.specs.Values.{is_whole}
 use Rattle.fit_laws.proofs.Arguments.{NoTops}
 use Rattle.fit_laws.proofs.Beginning.{begins_with}
 use Rattle.fit_laws.proofs.Going.{hierarchy}
@@ -59,7 +60,8 @@ use Rattle.image_laws.proofs.ViewImage.Naming.{Member, member_is}
 use Rattle.image_laws.proofs.ViewImage.Standing.{Stands}
 use Rattle.type_sound.proofs.Flags.{no_flags, static_concrete}
 use Rattle.type_sound.proofs.Initialisers.{some_code, sound}
-use Rattle.type_sound.proofs.Members.{ProgramMethod, good_method, member_there, method_environs, method_flag, method_named}
+use Rattle.type_sound.proofs.Members.{ProgramMethod, good_method, member_there, method_environs, method_flag}
+use Rattle.type_sound.proofs.Members.{method_named}
 use Rattle.type_sound.proofs.Members.{program_method}
 
 -- ---- types
@@ -72,7 +74,8 @@ same_types a b h =
     let bases = same_bases a.base b.base p.1 in
     λ i. record { dims = dims i; base = bases i }
   where
-    same_bases : (c d : Base) → is_type_below is_text (record { dims = 0; base = c }) (record { dims = 0; base = d }) ≡ true
+    same_bases : (c d : Base) → is_type_below is_text (record { dims = 0; base = c }) (record { dims = 0; base = d })
+        ≡ true
         → c ≡ d
     same_bases (base.Class m) (base.Class n) e = ap base.Class (same_text m n e)
     same_bases (base.Class m) base.Boolean e = absurd cc
@@ -193,7 +196,8 @@ module _ (classes : List Class) (t : IsTaken classes) (typed : AreTyped classes)
   -- a plain type is there: its class is that of strings
   plain_there : (c : Base) → is_plain_base c ≡ true → is_base_there classes c ≡ true
   plain_there (base.Class name) h =
-      ap (λ (n : List ℕ). is_some (class_named classes n)) (same_text name string h) ∙ ap is_some facts.library.strings.named
+      ap (λ (n : List ℕ). is_some (class_named classes n)) (same_text name string h)
+      ∙ ap is_some facts.library.strings.named
   plain_there base.Boolean h = refl
   plain_there base.Byte h = refl
   plain_there base.Char h = refl
@@ -374,7 +378,8 @@ module _ (classes : List Class) (t : IsTaken classes) (typed : AreTyped classes)
       result_of env,
       begins_with classes all entry env
           (subst (λ (k : Key). Environs classes k env) key_is
-          (method_environs classes t typed m p (member_there classes t (entry.name, entry.descriptor) m stands) code.0 code.1))
+          (method_environs classes t typed m p (member_there classes t (entry.name, entry.descriptor) m stands) code.0
+          code.1))
           args
           (subst (λ (ts : List VType). NoTops env all ts × AllZip (FitsValue env all) ts args) (sym locals)
           (arguments_fit env refl p.method.ty.args args
@@ -384,7 +389,8 @@ module _ (classes : List Class) (t : IsTaken classes) (typed : AreTyped classes)
       parts : ((is_method_at classes m ≡ true) × (is_static_member classes m ≡ true))
           × (not (is_of_library m.class) ≡ true)
       parts =
-          let q = and_parts (is_method_at classes m && is_static_member classes m) (not (is_of_library m.class)) method in
+          let q = and_parts (is_method_at classes m && is_static_member classes m) (not (is_of_library m.class))
+          method in
           (and_parts (is_method_at classes m) (is_static_member classes m) q.0, q.1)
 
       which : Member classes entry m

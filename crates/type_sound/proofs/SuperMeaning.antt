@@ -13,7 +13,8 @@ use Rattle.class_model.specs.declared.op.MemberRef.{MemberRef}
 use Rattle.lib_table.specs.Library.{LibraryMember}
 use Rattle.lib_table.specs.Lookups as table
 use Rattle.lib_table.specs.declared.class.LibKind.{LibKind}
-use Rattle.class_pool.specs.Found.{MemberRow, NameAndType, declared_by, declared_in, is_instance_method, is_instance_row}
+use Rattle.class_pool.specs.Found.{MemberRow, NameAndType, declared_by, declared_in, is_instance_method}
+use Rattle.class_pool.specs.Found.{is_instance_row}
 use Rattle.class_pool.specs.Found.{is_method_at, is_public_member}
 use Rattle.class_pool.specs.Found.{is_static_member, library_row, named_at, role_at, row_at}
 use Rattle.class_pool.specs.Hierarchy.{IsClass, class_named, is_interface_kind, superclass}
@@ -44,8 +45,10 @@ use Rattle.image_laws.proofs.TakenSet.Proper.{is_proper}
 use Rattle.image_laws.proofs.ViewImage.Standing.{Stands}
 use Rattle.type_sound.proofs.CallMeaning.{apart_callable, both, instance, instance_parts, its_name, lib_only}
 use Rattle.type_sound.proofs.CallMeaning.{method_stand, over_callable}
-use Rattle.type_sound.proofs.Chains.{above_class, above_interface, above_library, below_cases, below_itself, below_object, below_super}
-use Rattle.type_sound.proofs.Chains.{below_there, below_trans, climb, super_there, superclass_class, superinterfaces_are}
+use Rattle.type_sound.proofs.Chains.{above_class, above_interface, above_library, below_cases, below_itself}
+use Rattle.type_sound.proofs.Chains.{below_object, below_super}
+use Rattle.type_sound.proofs.Chains.{below_there, below_trans, climb, super_there, superclass_class}
+use Rattle.type_sound.proofs.Chains.{superinterfaces_are}
 use Rattle.type_sound.proofs.Declarers.{declared_in_list, object_found, open_in_list}
 use Rattle.type_sound.proofs.LibraryClasses.{held_class}
 use Rattle.type_sound.proofs.Links.{TakenMethod, class_of_link, method_taken, unbroken}

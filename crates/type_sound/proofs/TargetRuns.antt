@@ -80,7 +80,8 @@ module _ (classes : List Class) (t : IsTaken classes) (typed : AreTyped classes)
     named = sym named ∙ is_named;
     row = r;
     target = ap (λ (x : NameAndType).
-        option_map Library (row_of (record { class = (table.class_at id).name; name = x.0; descriptor = x.1 }))) is_named
+        option_map Library (row_of (record { class = (table.class_at id).name; name = x.0; descriptor = x.1 })))
+        is_named
         ∙ ap (option_map Library) r.found;
   } where
     method : is_method_at classes (lib id k) ≡ true
@@ -101,7 +102,8 @@ module _ (classes : List Class) (t : IsTaken classes) (typed : AreTyped classes)
     r : HasRow classes id e.member
     r = member_row classes id k e
         (sym (ap (λ o. option_map_or (λ (r : MemberRow). r.is_method) o false) row_is_there) ∙ method)
-        (sym (ap (λ o. is_callable_role (option_map_or (λ (m : LibraryMember). m.role) o Callable)) e.there) ∙ f.callable)
+        (sym (ap (λ o. is_callable_role (option_map_or (λ (m : LibraryMember). m.role) o Callable)) e.there)
+        ∙ f.callable)
         (f.lib_class id refl)
 
   -- ---- what the target is
@@ -110,7 +112,8 @@ module _ (classes : List Class) (t : IsTaken classes) (typed : AreTyped classes)
       → target_at classes m ≡ target_in m.class (key_at classes m)
   target_is m h = ap (λ b. cond b (Some (Fails AbstractMethod)) (target_in m.class (key_at classes m))) h
 
-  target_fails : (m : MemberAt) → is_abstract_member classes m ≡ true → target_at classes m ≡ Some (Fails AbstractMethod)
+  target_fails : (m : MemberAt) → is_abstract_member classes m ≡ true
+      → target_at classes m ≡ Some (Fails AbstractMethod)
   target_fails m h = ap (λ b. cond b (Some (Fails AbstractMethod)) (target_in m.class (key_at classes m))) h
 
   pub text_is : (n : NameAndType) (m : MemberAt) → Stands classes n m → (named_at classes m).1 ≡ n.1

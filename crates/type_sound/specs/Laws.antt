@@ -26,7 +26,7 @@ StepFits = (classes : List Class) → IsTaken classes → AreTyped classes → (
     → Fits classes (step (view_of classes) s)
 
 -- what a run may begin with: an entry, a heap and arguments that are typed (the project's own: what an entry is given)
-pub record IsEntry (classes : List Class) (entry : Key) (heap : List Object) (args : List Value) : Type 0 where
+pub record MayBegin (classes : List Class) (entry : Key) (heap : List Object) (args : List Value) : Type 0 where
   pub startable : is_startable classes entry ≡ true
   pub typed : IsTypedHeap heap
   pub right : AreArguments heap entry args
@@ -34,12 +34,12 @@ pub record IsEntry (classes : List Class) (entry : Key) (heap : List Object) (ar
 -- a run that begins so begins with a state that fits
 abbrev pub StartFits : Type 0
 StartFits = (classes : List Class) → IsTaken classes → AreTyped classes → (entry : Key) (heap : List Object)
-    (args : List Value) → IsEntry classes entry heap args → Fits classes (start (view_of classes) entry heap args)
+    (args : List Value) → MayBegin classes entry heap args → Fits classes (start (view_of classes) entry heap args)
 
 -- so no run that begins so goes wrong
 abbrev pub NeverGoesWrong : Type 0
 NeverGoesWrong = (classes : List Class) → IsTaken classes → AreTyped classes → (entry : Key) (heap : List Object)
-    (args : List Value) → IsEntry classes entry heap args → (n : ℕ)
+    (args : List Value) → MayBegin classes entry heap args → (n : ℕ)
     → status (run (view_of classes) (start (view_of classes) entry heap args) n) ≢ WentWrong
 
 -- A program that does the same as such a set does the whole of it: from each entry, with each heap and arguments that
@@ -47,5 +47,5 @@ NeverGoesWrong = (classes : List Class) → IsTaken classes → AreTyped classes
 abbrev pub SameWhole : Type 0
 SameWhole = (classes : List Class) → IsTaken classes → AreTyped classes → (w : View) (names : Names)
     (entries : List Key) → Same (view_of classes) w names entries → (entry entry' : Key) → Contains entries entry
-    → names.method entry ≡ Some entry' → (heap : List Object) (args : List Value) → IsEntry classes entry heap args
+    → names.method entry ≡ Some entry' → (heap : List Object) (args : List Value) → MayBegin classes entry heap args
     → AlikeWhole (view_of classes) w names (start (view_of classes) entry heap args) (start w entry' heap args)

@@ -51,9 +51,9 @@ none_below directory path outside [] there below = tt
 none_below directory path outside (f ∷ files) [] below = absurd below
 none_below directory path outside (f ∷ files) (w ∷ there) below = (
   (λ same.
-  let wrong : false ≡ true = sym outside ∙ ap (λ p. is_below p directory) same
-  ∙ lies_below directory f.path w.path below.0.0 in
-  absurd cc),
+      let wrong : false ≡ true = sym outside ∙ ap (λ p. is_below p directory) same
+      ∙ lies_below directory f.path w.path below.0.0 in
+      absurd cc),
   none_below directory path outside files there below.1,
 )
 

@@ -79,8 +79,7 @@ pub none_of : (path : List ℕ) (files : List FileAt)
     → AllByRecursion (λ (f : FileAt). path ≢ f.path) files
 none_of path [] none = tt
 none_of path (f ∷ files) none =
-    let parts = or_parts (is_text path f.path) (list_any (is_text path) (map (λ (f : FileAt). f.path) files)) none in
-    (
+    let parts = or_parts (is_text path f.path) (list_any (is_text path) (map (λ (f : FileAt). f.path) files)) none in (
       (λ same. let wrong : false ≡ true = sym parts.0 ∙ text_is path f.path same in absurd cc),
       none_of path files parts.1,
     )

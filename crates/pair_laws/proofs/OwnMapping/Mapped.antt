@@ -112,8 +112,7 @@ module _ (names : Names) (lines : Bool) where
       → AllByRecursion IsTextMethod (map (method_line names lines) ms)
   methods_told is is_new [] old values new = tt
   methods_told is is_new (m ∷ ms) old values new =
-      let range = told_range lines _ (code_range m.code values.0.code) in
-      (
+      let range = told_range lines _ (code_range m.code values.0.code) in (
         (
           record { lines = range; typed = old.0.typed; old = old.0.name.1; new = new.0.name.1 },
           method_line_utf8 (method_line names lines m) range values.0.ty old.0.name.0 new.0.name.0,

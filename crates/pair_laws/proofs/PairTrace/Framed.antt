@@ -245,10 +245,14 @@ module _ (classes : List Class) (taken : IsTaken classes) where
 
   codes_same : (from : List ℕ) (o : Option Code) → IfSome o IsGoodCode → OptionCorr (CodeMap itself from) o o
   codes_same from None good = refl
-  codes_same from (Some code) good = (code, refl, record {
-    ins = instructions_same from _ code.ins good.instructions;
-    handlers = zip_refl (HandlerMap itself) handler_same code.handlers;
-  })
+  codes_same from (Some code) good = (
+    code,
+    refl,
+    record {
+      ins = instructions_same from _ code.ins good.instructions;
+      handlers = zip_refl (HandlerMap itself) handler_same code.handlers;
+    },
+  )
 
   code_same : (k l : Key) → names.method k ≡ Some l → OptionCorr (CodeMap itself k.class) (v.code k) (v.code l)
   code_same k l e =

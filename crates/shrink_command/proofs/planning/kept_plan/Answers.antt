@@ -32,11 +32,10 @@ pub returns-in-Err-Fault : goal.returns-in-Err-Fault
 returns-in-Err-Fault c =
     let same = c.in_ok-passed_limit-in-Err-Fault.ensures in (
       ap absent_by same,
-      stops c.in_ok-passed_limit-in-Err-Fault.field-0
-          (
-            c.in-Err-Fault.limit,
-            (rw c.in-Err-Fault.field-0-is at c.in-Err-Fault.ensures.exact),
-            same ∙ (λ i. limit_refused (c.limit_name.ensures i) (c.most_written.ensures i)),
-          )
+      stops c.in_ok-passed_limit-in-Err-Fault.field-0 (
+        c.in-Err-Fault.limit,
+        (rw c.in-Err-Fault.field-0-is at c.in-Err-Fault.ensures.exact),
+        same ∙ (λ i. limit_refused (c.limit_name.ensures i) (c.most_written.ensures i)),
+      )
           refl,
     )

@@ -1,0 +1,5 @@
+mod Cases
+mod Stepping
+mod Marking
+mod Knowing
+mod Listing

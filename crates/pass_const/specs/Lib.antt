@@ -1,0 +1,5 @@
+pub mod Distance
+pub mod Folding
+pub mod Known
+pub mod Running
+pub mod Taking
