@@ -1,12 +1,10 @@
 -- No run of a set that is taken goes wrong, and what does the same as it does the whole.
-use Rattle.std.proofs.Common.{◌≡◌, ◌&&◌, true, List, [], ◌∷◌, Some, refl, sym, subst, ◌∙◌}
+use Rattle.std.proofs.Common.{◌≡◌, ◌&&◌, true, List, [], ◌∷◌, refl}
 use Rattle.std.specs.List.{list_all}
 use Rattle.std.proofs.lemmas.Bool.{and_from, and_parts}
 use Rattle.jvm_model.specs.Heap.{Array, Builder, Instance, Object, Str}
-use Rattle.jvm_model.specs.Same.{Alike}
 use Rattle.jvm_model.specs.Start.{ArePlain, is_plain, is_plain_object, is_typed, is_value_of}
 use Rattle.jvm_model.specs.Step.{start, stream}
-use Rattle.jvm_model.specs.Value.{Key}
 use Rattle.set_view.specs.ViewOf.{view_of}
 use Rattle.fit_laws.proofs.Runs.{runs_go_right, steps_fit, whole_alike}
 use Rattle.type_sound.specs.Laws.{NeverGoesWrong, SameWhole, StartFits, StepFits, TakenSound}
@@ -43,14 +41,12 @@ never_goes_wrong classes t typed entry heap args e n = runs_go_right classes (so
     (start (view_of classes) entry heap args) (starts_fit classes t typed entry heap args e) n
 
 pub same_whole : SameWhole
-same_whole classes t typed w names entries same entry entry' there is heap args e =
-    let s = same entry there in
-    let at : s.0 ≡ entry' = one s.0 entry' (sym s.1 ∙ is) in
-    whole_alike (view_of classes) w names (start (view_of classes) entry heap args) (start w entry' heap args)
-    (subst (λ (k : Key).
-    Alike (view_of classes) w names (start (view_of classes) entry heap args) (start w k heap args)) at
-    (s.2 heap (plain_objects (stream ∷ heap) heap e.typed) args))
-    (never_goes_wrong classes t typed entry heap args e)
-  where
-    one : (x y : Key) → Some x ≡ Some y → x ≡ y
-    one x y q = cc
+same_whole classes t typed w names entries same entry there =
+    let s = same entry there in (
+      s.0,
+      s.1,
+      λ heap args e.
+          whole_alike (view_of classes) w names (start (view_of classes) entry heap args) (start w s.0 heap args)
+          (s.2 heap (plain_objects (stream ∷ heap) heap e.typed) args)
+          (never_goes_wrong classes t typed entry heap args e),
+    )

@@ -42,10 +42,16 @@ NeverGoesWrong = (classes : List Class) → IsTaken classes → AreTyped classes
     (args : List Value) → MayBegin classes entry heap args → (n : ℕ)
     → status (run (view_of classes) (start (view_of classes) entry heap args) n) ≢ WentWrong
 
--- A program that does the same as such a set does the whole of it: from each entry, with each heap and arguments that
--- are typed, it gets as far as the set does and goes no further, without an exception.
+-- Each of these entries has a new name, and from there the second program does the whole of what the set does from the
+-- entry, whatever typed heap and whatever arguments of the parameters' types they are given: it gets as far as the set
+-- does and goes no further, and neither goes wrong (the project's own).
+abbrev pub DoesWhole : List Class → View → Names → List Key → Type 0
+DoesWhole classes w names entries = (entry : Key) → Contains entries entry
+    → (entry' : Key) × (names.method entry ≡ Some entry') × ((heap : List Object) (args : List Value)
+    → MayBegin classes entry heap args
+    → AlikeWhole (view_of classes) w names (start (view_of classes) entry heap args) (start w entry' heap args))
+
+-- so does each program that does the same as such a set where this doesn't go wrong
 abbrev pub SameWhole : Type 0
 SameWhole = (classes : List Class) → IsTaken classes → AreTyped classes → (w : View) (names : Names)
-    (entries : List Key) → Same (view_of classes) w names entries → (entry entry' : Key) → Contains entries entry
-    → names.method entry ≡ Some entry' → (heap : List Object) (args : List Value) → MayBegin classes entry heap args
-    → AlikeWhole (view_of classes) w names (start (view_of classes) entry heap args) (start w entry' heap args)
+    (entries : List Key) → Same (view_of classes) w names entries → DoesWhole classes w names entries

@@ -13,6 +13,7 @@ use Rattle.set_read.proofs.Writable.{accepted_are_writable}
 use Rattle.set_shrink.specs.ShrunkSet.{left_of}
 use Rattle.set_shrink.specs.declared.shrunk.ShrunkSet.{ShrunkSet}
 use Rattle.image_laws.specs.TakenSet.TakenSet.{IsTaken}
+use Rattle.type_sound.proofs.Whole.{same_whole}
 use Rattle.removal_laws.proofs.AcceptedSets.Taken.{are_taken}
 use Rattle.pair_checker.specs.Clauses.{Finds}
 use Rattle.pair_checker.specs.PairOk.{PairOk}
@@ -119,17 +120,20 @@ own_same files classes marks rules set written h entries are =
 pub own_paired : OwnFilesArePaired
 own_paired files classes marks rules set written h =
     let own = own_pairs files classes marks rules set written h in
+    let first = taken files classes marks rules set written h in
+    let same = λ (entries : List Key) (are : AreEntries classes rules entries). subst
+    (λ (output : List Class). Same (view_of classes) (view_of output) (pair_names classes set.mapping) entries)
+    (sym own.1) (own_same files classes marks rules set written h entries are) in
     record {
       written = written;
       below = h.below;
       pair = own.0;
       mapping_read = own_mapping_is_read files classes marks rules set written h;
       witness_read = own_witness_is_read;
-      names = one_to_one classes (left_of classes marks rules) set.mapping rules
-          (taken files classes marks rules set written h) (then_taken files classes marks rules set written h)
-          (is_pair files classes marks rules set written h);
-      same = λ entries are. subst
-          (λ (output : List Class). Same (view_of classes) (view_of output) (pair_names classes set.mapping) entries)
-          (sym own.1) (own_same files classes marks rules set written h entries are);
+      names = one_to_one classes (left_of classes marks rules) set.mapping rules first
+          (then_taken files classes marks rules set written h) (is_pair files classes marks rules set written h);
+      same = same;
+      whole = λ entries are. same_whole classes first h.accepted.typed (view_of own.0.output)
+          (pair_names classes set.mapping) entries (same entries are);
       typed = own.0.accepted.typed;
     }

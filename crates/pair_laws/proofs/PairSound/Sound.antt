@@ -8,8 +8,13 @@ use Rattle.set_read.specs.Accepted.{IsAccepted}
 use Rattle.keep_rules.specs.declared.rules.Rules.{Rules}
 use Rattle.mapping_file.specs.declared.mapping.Mapping.{Mapping}
 use Rattle.witness_file.specs.declared.witness.Witness.{Witness}
+use Rattle.jvm_model.specs.Value.{Key}
+use Rattle.set_view.specs.ViewOf.{view_of}
+use Rattle.type_sound.proofs.Whole.{same_whole}
 use Rattle.pair_checker.specs.PairOk.{PairOk}
 use Rattle.pair_checker.specs.declared.answer.Clause.TheVariants as clause
+use Rattle.pair_laws.specs.PairSame.Entries.{AreEntries}
+use Rattle.pair_laws.specs.PairSame.Laws.{pair_names}
 use Rattle.pair_laws.specs.PairSame.Pairs.{IsPair}
 use Rattle.pair_laws.proofs.PairSame.Entered.{entries_kept}
 use Rattle.pair_laws.proofs.PairSame.OneToOne.{one_to_one}
@@ -53,14 +58,20 @@ checked_runs files input written mapping rules witness readable accepted then_re
 pub pairs_do_the_same : (files : List FileAt) (input : List Class) (written : List FileAt) (mapping : Mapping)
     (rules : Rules) (witness : Witness) → AreReadable files → IsAccepted files input → AreReadable written
     → PairOk input written mapping rules witness → DoTheSame files written rules mapping
-pairs_do_the_same files input written mapping rules witness readable accepted then_readable pair = record {
-  input = input;
-  output = pair.output;
-  input_taken = accepted;
-  output_taken = pair.accepted;
-  names = one_to_one input pair.output mapping rules (are_taken files input readable accepted)
-      (are_taken written pair.output then_readable pair.accepted) (is_pair input written mapping rules witness pair);
-  same = λ entries are.
-      (checked_same files input written mapping rules witness readable accepted then_readable pair entries are).0;
-  typed = pair.accepted.typed;
-}
+pairs_do_the_same files input written mapping rules witness readable accepted then_readable pair =
+    let taken = are_taken files input readable accepted in
+    let same = λ (entries : List Key) (are : AreEntries input rules entries).
+    (checked_same files input written mapping rules witness readable accepted then_readable pair entries are).0 in
+    record {
+      input = input;
+      output = pair.output;
+      input_taken = accepted;
+      output_taken = pair.accepted;
+      names = one_to_one input pair.output mapping rules taken
+          (are_taken written pair.output then_readable pair.accepted)
+          (is_pair input written mapping rules witness pair);
+      same = same;
+      whole = λ entries are. same_whole input taken accepted.typed (view_of pair.output) (pair_names input mapping)
+          entries (same entries are);
+      typed = pair.accepted.typed;
+    }

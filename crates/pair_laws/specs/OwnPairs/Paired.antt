@@ -13,6 +13,7 @@ use Rattle.witness_file.specs.Witnesses.{witness_text}
 use Rattle.jvm_model.specs.Same.{Same}
 use Rattle.jvm_model.specs.Value.{Key}
 use Rattle.set_view.specs.ViewOf.{view_of}
+use Rattle.type_sound.specs.Laws.{DoesWhole}
 use Rattle.type_verifier.specs.Verified.{AreTyped}
 use Rattle.pair_checker.specs.PairOk.{PairOk}
 use Rattle.pair_laws.specs.PairSame.Entries.{AreEntries}
@@ -23,7 +24,7 @@ use Rattle.pair_laws.specs.OwnPairs.Written.{no_edit}
 -- told by their paths below the output directory, the files are taken as a set, and no clause of a pair holds of it, of
 -- the input, the mapping, the rules and a witness without an entry; the texts of the mapping and of this witness are
 -- read back as they are. So this set does what the input does, from each entry, names read through the mapping, which
--- are one to one, and each of its methods is typed
+-- are one to one, and neither goes wrong where the entry is given what it may be given; and each of its methods is typed
 pub record ArePaired (input : List Class) (rules : Rules) (mapping : Mapping) (class_files : List FileAt) : Type 0 where
   pub written : List FileAt
   pub below : AreBelow rules.out_dir class_files written
@@ -33,4 +34,6 @@ pub record ArePaired (input : List Class) (rules : Rules) (mapping : Mapping) (c
   pub names : AreOneToOne input (pair_names input mapping)
   pub same : (entries : List Key) → AreEntries input rules entries
       → Same (view_of input) (view_of pair.output) (pair_names input mapping) entries
+  pub whole : (entries : List Key) → AreEntries input rules entries
+      → DoesWhole input (view_of pair.output) (pair_names input mapping) entries
   pub typed : AreTyped pair.output

@@ -16,6 +16,7 @@ use Rattle.jvm_model.specs.State.{State, frames}
 use Rattle.jvm_model.specs.Step.{run, start}
 use Rattle.jvm_model.specs.Value.{Key, Value}
 use Rattle.set_view.specs.ViewOf.{is_startable, view_of}
+use Rattle.type_sound.specs.Laws.{DoesWhole}
 use Rattle.type_verifier.specs.Verified.{AreTyped}
 use Rattle.pair_checker.specs.PairOk.{PairOk}
 use Rattle.pair_laws.specs.PairSame.Entries.{AreEntries}
@@ -25,7 +26,7 @@ use Rattle.pair_laws.specs.PairTrace.Laws.{IsRetraced, IsTold}
 
 -- the files of an input and those of an output are taken as sets; the names that the mapping gives are one to one, and
 -- the library's stay; from each entry that the rules keep the output does what the input does, names read through the
--- mapping; and each method of the output is typed
+-- mapping, and neither goes wrong where the entry is given what it may be given; and each method of the output is typed
 pub record DoTheSame (input_files output_files : List FileAt) (rules : Rules) (mapping : Mapping) : Type 0 where
   pub input : List Class
   pub output : List Class
@@ -34,6 +35,8 @@ pub record DoTheSame (input_files output_files : List FileAt) (rules : Rules) (m
   pub names : AreOneToOne input (pair_names input mapping)
   pub same : (entries : List Key) → AreEntries input rules entries
       → Same (view_of input) (view_of output) (pair_names input mapping) entries
+  pub whole : (entries : List Key) → AreEntries input rules entries
+      → DoesWhole input (view_of output) (pair_names input mapping) entries
   pub typed : AreTyped output
 
 -- where files are taken as the input, and a pair is one, the output does what the input does, from each entry, names
