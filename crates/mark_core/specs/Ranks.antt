@@ -16,6 +16,10 @@ abbrev pub IsRankedBefore : ℕ → List (List ℕ) → List ℕ → Type 0
 IsRankedBefore first needs ranks = (n : ℕ) → n < first
     → All (λ m. rank_of ranks m < rank_of ranks n) (slice_index_or needs n [])
 
+-- something that an item needs has no lower rank
+abbrev pub IsUnrankedAt : ℕ → List (List ℕ) → List ℕ → Type 0
+IsUnrankedAt item needs ranks = All (λ m. rank_of ranks m < rank_of ranks item) (slice_index_or needs item []) → ⊥
+
 -- nothing that an item needs has a higher rank
 abbrev pub NoneRises : List (List ℕ) → List ℕ → Type 0
 NoneRises needs ranks = (n : ℕ) → n < length needs

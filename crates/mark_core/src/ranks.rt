@@ -1,9 +1,9 @@
 //! Ranks of items, so that each item stands above those that it needs.
 //!
 //! How the ranks are found is not proved. Whether they are such ranks is tested, and that test is.
-ghost use Rattle.std.specs.Prelude.{◌≡◌, ◌<◌, ◌≤◌, ◌↔◌, IfSome, IsTrue, length};
+ghost use Rattle.std.specs.Prelude.{◌≡◌, ◌<◌, ◌≤◌, ◌↔◌, IfNone, IfSome, IsTrue, length};
 ghost use Rattle.std.specs.List.{All};
-ghost use Rattle.mark_core.specs.Ranks.{IsRanked, IsRankedBefore, NoneRises, rank_of};
+ghost use Rattle.mark_core.specs.Ranks.{IsRanked, IsRankedBefore, IsUnrankedAt, NoneRises, rank_of};
 
 use crate::System;
 use jv_base::{Items, M};
@@ -11,7 +11,7 @@ use std::alloc::Global;
 
 /// Whether no rank is higher than there are items, and each item's needs have lower ranks than it.
 pub fn are_ranked(needs: &[Items<u32>], ranks: &[usize]) -> bool
-    ensures { IsTrue result → IsRanked needs.now ranks.now }
+    ensures { IsTrue result ↔ IsRanked needs.now ranks.now }
 {
     let mut number = 0;
     for list in needs {
@@ -26,7 +26,7 @@ pub fn are_ranked(needs: &[Items<u32>], ranks: &[usize]) -> bool
 
 /// Whether no item's needs have higher ranks than it.
 pub fn none_rises(needs: &[Items<u32>], ranks: &[usize]) -> bool
-    ensures { IsTrue result → NoneRises needs.now ranks.now }
+    ensures { IsTrue result ↔ NoneRises needs.now ranks.now }
 {
     let mut number = 0;
     for list in needs {
@@ -43,6 +43,8 @@ pub fn first_unranked(sys: &System, ranks: &[usize]) -> Option<u32>
     requires { sys.now.n ≡ length sys.now.needs }
     ensures there { IfSome result (λ first. first < sys.now.n) }
     ensures before { IfSome result (λ first. IsRankedBefore first sys.now.needs ranks.now) }
+    ensures first { IfSome result (λ first. IsUnrankedAt first sys.now.needs ranks.now) }
+    ensures none { IfNone result (IsRankedBefore sys.now.n sys.now.needs ranks.now) }
 {
     for number in 0..sys.n {
         let index = number as usize;
