@@ -18,7 +18,8 @@ use Rattle.keep_rules.specs.declared.draft.Draft.{Draft}
 use Rattle.keep_rules.specs.Texts.{is_option}
 use Rattle.keep_rules.specs.Reader.{fault, none_left}
 use Rattle.keep_rules.specs.Reading.{Section, Sections, word_before, sections_of, options_read, option_read, blank}
-use Rattle.keep_rules.specs.Reading.{needed, whole_rules, rules_of, apart, finished, rules_read, paths_meet}
+use Rattle.keep_rules.specs.Paths.{paths_meet}
+use Rattle.keep_rules.specs.Reading.{needed, whole_rules, rules_of, apart, finished, rules_read}
 use Rattle.keep_rules.specs.Grammar.{in_order, Saying, in_dir, out_dir, mapping, seeds, usage, source_name, no_shrink}
 use Rattle.keep_rules.specs.Grammar.{no_optimise, no_obfuscate, keeps, nothing, Says, IsSection, in_dirs, out_dirs}
 use Rattle.keep_rules.specs.Grammar.{mappings, seed_files, usage_files, source_names, filters_of, keeps_of}

@@ -20,7 +20,8 @@ use Rattle.keep_rules.specs.Texts.{names_above, is_any_member, is_constructor}
 use Rattle.keep_rules.specs.Texts as texts
 use Rattle.keep_rules.specs.Options.{is_ignored}
 use Rattle.keep_rules.specs.Specifications.{without_parameters, or_constructor, unmodified, with_modifier, keep_of}
-use Rattle.keep_rules.specs.Reading.{every, paths_meet}
+use Rattle.keep_rules.specs.Paths.{paths_meet}
+use Rattle.keep_rules.specs.Reading.{every}
 
 -- ---- lists
 

@@ -4,6 +4,7 @@ pub mod Options
 pub mod Reader
 pub mod Filtering
 pub mod Specifications
+pub mod Paths
 pub mod Reading
 pub mod Grammar
 pub mod Laws

@@ -1,10 +1,8 @@
 -- Reading a config, with the first fault (ProGuard manual, "Usage"; the order of faults is the project's own).
-use Rattle.std.specs.Prelude.{◌≡◌, ℕ, Bool, true, false, ◌||◌, if◌then◌else◌, List, [], ◌∷◌, ◌++◌, codes}
+use Rattle.std.specs.Prelude.{◌≡◌, ℕ, Bool, true, false, if◌then◌else◌, List, [], ◌∷◌, ◌++◌, codes}
 use Rattle.std.specs.Prelude.{Option, Some, None, is_some, Result, Ok, Err}
-use Rattle.std.specs.List.{list_any}
-use Rattle.jv_base.specs.Names.{is_text}
 use Rattle.jv_base.specs.Outcome.{◌>>=◌}
-use Rattle.path_text.specs.Path.{directory_in, file_in, is_below}
+use Rattle.path_text.specs.Path.{directory_in, file_in}
 use Rattle.conf_words.specs.declared.splitting.Word.{Word}
 use Rattle.keep_rules.specs.declared.fault.RuleFault.{RuleFault}
 use Rattle.keep_rules.specs.declared.fault.RuleKind.{RuleKind}
@@ -28,6 +26,7 @@ use Rattle.keep_rules.specs.Options.{setting_of}
 use Rattle.keep_rules.specs.Reader.{fault, Reader, give, item, if_end, whole, none_left}
 use Rattle.keep_rules.specs.Texts.{Attributes}
 use Rattle.keep_rules.specs.Filtering.{filters}
+use Rattle.keep_rules.specs.Paths.{paths_meet}
 use Rattle.keep_rules.specs.Specifications.{keep}
 
 -- ---- the values of options
@@ -171,35 +170,6 @@ blank = record {
 abbrev pub needed : List ℕ → Option (List ℕ) → Result (List ℕ) RuleFault
 needed option (Some value) = Ok value
 needed option None = Err (fault 0 (MissingOption option))
-
--- two texts of a list are one
-abbrev pub has_twice : List (List ℕ) → Bool
-has_twice [] = false
-has_twice (text ∷ texts) = list_any (is_text text) texts || has_twice texts
-
--- a text, if there is one, before others
-abbrev pub before_texts : Option (List ℕ) → List (List ℕ) → List (List ℕ)
-before_texts None texts = texts
-before_texts (Some text) texts = text ∷ texts
-
--- the files that a run writes beside the classes
-abbrev pub files_of : Rules → List ℕ → List (List ℕ)
-files_of rules witness = rules.mapping ∷ before_texts rules.seeds (before_texts rules.usage (witness ∷ []))
-
--- one of the directories is the other, or lies below it
-abbrev pub dirs_meet : Rules → Bool
-dirs_meet rules = is_text rules.in_dir rules.out_dir || is_below rules.in_dir rules.out_dir
-    || is_below rules.out_dir rules.in_dir
-
--- a file lies below a directory
-abbrev pub is_inside : Rules → List ℕ → Bool
-is_inside rules file = is_below file rules.in_dir || is_below file rules.out_dir
-
--- two files are one, or a file or a directory lies below a directory, or the directories are one (the project's own:
--- what is written may not be read again)
-unfoldable pub paths_meet : Rules → List ℕ → Bool
-paths_meet rules witness = has_twice (files_of rules witness)
-    || list_any (is_inside rules) (files_of rules witness) || dirs_meet rules
 
 -- the rules, by the three values that have to be there
 abbrev pub rules_of : Draft → List ℕ → List ℕ → List ℕ → Rules

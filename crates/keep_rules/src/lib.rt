@@ -8,6 +8,7 @@ mod filtering;
 mod keeping;
 mod laws;
 mod options;
+mod paths;
 mod reading;
 mod rules;
 mod specifications;
@@ -16,5 +17,6 @@ mod values;
 
 pub use fault::{RuleFault, RuleKind};
 pub use laws::rules_are_read;
+pub use paths::meets_config;
 pub use reading::read_rules;
 pub use rules::{ClassSpec, Filter, Keep, KeepKind, MemberSpec, Rules};

@@ -1,22 +1,19 @@
 // The rules that the words of a config stand for.
 ghost use Rattle.std.specs.Prelude.{◌≡◌, ◌≤◌, ◌++◌, [], IfOk, IsTrue, OnOk, drop, length, take};
-ghost use Rattle.std.specs.List.{list_any, position, position_or_len};
-ghost use Rattle.jv_base.specs.Names.{is_text};
+ghost use Rattle.std.specs.List.{position, position_or_len};
 ghost use Rattle.jv_base.specs.Outcome.{IsDue};
 ghost use Rattle.keep_rules.specs.Reader.{IsFault, fault};
-ghost use Rattle.keep_rules.specs.Reading.{before_texts, begins_so, blank, dirs_meet, files_of, finished, has_twice};
-ghost use Rattle.keep_rules.specs.Reading.{is_inside, needed};
-ghost use Rattle.keep_rules.specs.Reading.{options_read, paths_meet, rules_read, sections_of, whole_rules};
-ghost use Rattle.keep_rules.specs.Reading.{word_is_option};
+ghost use Rattle.keep_rules.specs.Reading.{begins_so, blank, finished, needed, options_read, rules_read, sections_of};
+ghost use Rattle.keep_rules.specs.Reading.{whole_rules, word_is_option};
 ghost use Rattle.keep_rules.specs.declared.fault.RuleKind.TheVariants.{MissingOption};
 
 use crate::draft::Draft;
+use crate::paths::paths_meet;
 use crate::texts::is_option;
 use crate::values::none_left;
 use crate::{RuleFault, RuleKind, Rules};
 use conf_words::Word;
 use jv_base::{Items, M, Or, Text};
-use path_text::is_below;
 use std::alloc::Global;
 
 /// The rules that the words of a config stand for, where the witness goes to this file, or the first fault (ProGuard
@@ -161,73 +158,4 @@ fn rules_of(alloc: Global, draft: Draft) -> Result<Rules, Or<RuleFault>>
         source_name,
         keeps,
     })
-}
-
-fn dirs_meet(rules: &Rules) -> bool
-    ensures { result ≡ dirs_meet rules.now }
-{
-    let (in_dir, out_dir) = (rules.in_dir.as_str(), rules.out_dir.as_str());
-    in_dir == out_dir || is_below(in_dir, out_dir) || is_below(out_dir, in_dir)
-}
-
-fn is_inside(rules: &Rules, file: &Text) -> bool
-    ensures { result ≡ is_inside rules.now file.now }
-{
-    is_below(file.as_str(), rules.in_dir.as_str())
-        || is_below(file.as_str(), rules.out_dir.as_str())
-}
-
-fn any_inside(rules: &Rules, files: &[Text]) -> bool
-    ensures { result ≡ list_any (is_inside rules.now) files.now }
-{
-    files.iter().any(|file| is_inside(rules, file))
-}
-
-fn stands_in(file: &Text, files: &[Text]) -> bool
-    ensures { result ≡ list_any (is_text file.now) files.now }
-{
-    files.iter().any(|other| file.as_str() == other.as_str())
-}
-
-fn has_twice(files: &[Text]) -> bool
-    ensures { result ≡ has_twice files.now }
-{
-    let mut rest = files;
-    while let [file, others @ ..] = rest {
-        if stands_in(file, others) {
-            return true;
-        }
-        rest = others;
-    }
-    false
-}
-
-// The files that a run writes beside the classes.
-fn files_of(alloc: Global, rules: &Rules, witness: &Text) -> M<Items<Text>>
-    ensures { IfOk result (λ files. files ≡ files_of rules.now witness.now) }
-{
-    let mut files = Items::new(alloc);
-    files.push(rules.mapping.clone()?)?;
-    push_file(&mut files, &rules.seeds)?;
-    push_file(&mut files, &rules.usage)?;
-    files.push(witness.clone()?)?;
-    Ok(files)
-}
-
-fn push_file(files: &mut Items<Text>, file: &Option<Text>) -> M<()>
-    ensures { OnOk result (files.new ≡ files.old ++ before_texts file.now []) }
-{
-    if let Some(file) = file {
-        files.push(file.clone()?)?;
-    }
-    Ok(())
-}
-
-// Whether two files are one, or a file or a directory lies below a directory, or the directories are one.
-#[tactic(auto, unfolding(crate::specs::Reading::paths_meet))]
-fn paths_meet(alloc: Global, rules: &Rules, witness: &Text) -> M<bool>
-    ensures { IfOk result (λ meet. meet ≡ paths_meet rules.now witness.now) }
-{
-    let files = files_of(alloc, rules, witness)?;
-    Ok(has_twice(files.as_slice()) || any_inside(rules, files.as_slice()) || dirs_meet(rules))
 }

@@ -13,7 +13,7 @@ use Rattle.path_text.specs.Path.{is_below}
 use Rattle.class_files.specs.Input.{input_due}
 use Rattle.class_files.specs.Output.{put_all}
 use Rattle.class_model.specs.declared.class.Class.{Class}
-use Rattle.keep_rules.specs.Reading.{dirs_meet, files_of, has_twice, is_inside, paths_meet}
+use Rattle.keep_rules.specs.Paths.{any_meet, files_of, is_at, meets, meets_config, paths_meet}
 use Rattle.keep_rules.specs.declared.rules.Rules.{Rules}
 use Rattle.mapping_file.specs.Mappings.{mapping_text}
 use Rattle.set_shrink.specs.Texts.{texts_due, witness_file}
@@ -26,8 +26,9 @@ use Rattle.pair_laws.specs.OwnPairs.Written.{AreWritten, no_edit}
 use Rattle.pair_laws.proofs.OwnPairs.Found.{files_found}
 use Rattle.pair_laws.proofs.OwnMapping.Own.{own_mapping_is_read, own_witness_is_read}
 use Rattle.pair_laws.specs.OwnChecked.Again.{HasMapping, HasWitness, IsFoundAgain, PassesInputLimit}
-use Rattle.pair_laws.specs.OwnChecked.Laws.{IsApartFrom, OwnFilesAreFoundAgain}
-use Rattle.pair_laws.proofs.OwnChecked.Paths.{lies_below, neither_below, none_of, not_below_other}
+use Rattle.pair_laws.specs.OwnChecked.Laws.{OwnFilesAreFoundAgain}
+use Rattle.pair_laws.proofs.OwnChecked.Paths.{AreApart, all_elsewhere, any_less, are_apart, lies_below, none_of}
+use Rattle.pair_laws.proofs.OwnChecked.Paths.{not_below_other}
 use Rattle.pair_laws.proofs.OwnChecked.Put.{elsewhere_same, found_or_limit, stands_at, stays_at}
 use Rattle.pair_laws.proofs.OwnChecked.Texts.{AreTexts, are_texts}
 
@@ -61,28 +62,44 @@ none_below directory path outside (f ∷ files) (w ∷ there) below = (
 
 -- what the test of the paths says
 record DontMeet (rules : Rules) (witness : List ℕ) : Type 0 where
-  once : has_twice (files_of rules witness) ≡ false
-  outside : list_any (is_inside rules) (files_of rules witness) ≡ false
-  no_text : is_text rules.in_dir rules.out_dir ≡ false
-  in_not_below : is_below rules.in_dir rules.out_dir ≡ false
-  out_not_below : is_below rules.out_dir rules.in_dir ≡ false
+  directories : AreApart rules.in_dir rules.out_dir
+  from_input : list_any (meets rules.in_dir) (files_of rules witness) ≡ false
+  from_output : list_any (meets rules.out_dir) (files_of rules witness) ≡ false
+  files : any_meet (files_of rules witness) ≡ false
 
 dont_meet : (rules : Rules) (witness : List ℕ) → paths_meet rules witness ≡ false → DontMeet rules witness
 unfolding paths_meet
 dont_meet rules witness apart =
-    let first = or_parts (has_twice (files_of rules witness) || list_any (is_inside rules) (files_of rules witness))
-    (dirs_meet rules) apart in
-    let files = or_parts (has_twice (files_of rules witness)) (list_any (is_inside rules) (files_of rules witness))
+    let first = or_parts (list_any (meets rules.in_dir) (rules.out_dir ∷ files_of rules witness))
+    (any_meet (rules.out_dir ∷ files_of rules witness)) apart in
+    let input = or_parts (meets rules.in_dir rules.out_dir) (list_any (meets rules.in_dir) (files_of rules witness))
     first.0 in
-    let dirs = or_parts (is_text rules.in_dir rules.out_dir || is_below rules.in_dir rules.out_dir)
-    (is_below rules.out_dir rules.in_dir) first.1 in
-    let one = or_parts (is_text rules.in_dir rules.out_dir) (is_below rules.in_dir rules.out_dir) dirs.0 in
+    let output = or_parts (list_any (meets rules.out_dir) (files_of rules witness))
+    (any_meet (files_of rules witness)) first.1 in
     record {
-      once = files.0;
-      outside = files.1;
-      no_text = one.0;
-      in_not_below = one.1;
-      out_not_below = dirs.1;
+      directories = are_apart rules.in_dir rules.out_dir input.0;
+      from_input = input.1;
+      from_output = output.0;
+      files = output.1;
+    }
+
+-- what the test of the config says
+record IsApartFrom (config : List ℕ) (rules : Rules) (witness : List ℕ) : Type 0 where
+  not_below : is_below config rules.out_dir ≡ false
+  no_text : list_any (is_text config) (files_of rules witness) ≡ false
+
+is_apart_from : (config : List ℕ) (rules : Rules) (witness : List ℕ) → meets_config config rules witness ≡ false
+    → IsApartFrom config rules witness
+unfolding meets_config
+is_apart_from config rules witness apart =
+    let first = or_parts (is_below config rules.out_dir)
+    (list_any (is_at config) (rules.out_dir ∷ files_of rules witness)) apart in
+    let files = or_parts (is_at config rules.out_dir) (list_any (is_at config) (files_of rules witness)) first.1 in
+    record {
+      not_below = first.0;
+      no_text = any_less (is_at config) (is_text config)
+          (λ path none. (or_parts (is_text config path) (is_below path config) none).0)
+          (files_of rules witness) files.1;
     }
 
 -- ---- the whole
@@ -90,7 +107,7 @@ dont_meet rules witness apart =
 module _ (files : List FileAt) (classes : List Class) (marks : List Bool) (rules : Rules) (set : ShrunkSet)
     (written : List FileAt) (h : AreWritten files classes marks rules set written)
     (old : Files) (config witness : List ℕ) (texts : List FileAt) (empty : paths_below rules.out_dir (keys old) ≡ [])
-    (apart : paths_meet rules witness ≡ false) (own : IsApartFrom config rules witness)
+    (apart : paths_meet rules witness ≡ false) (clear : meets_config config rules witness ≡ false)
     (told : texts_due set.mapping classes marks rules witness ≡ Ok texts) where
   abbrev new : Files
   new = put_all old (set.files ++ texts)
@@ -107,20 +124,25 @@ module _ (files : List FileAt) (classes : List Class) (marks : List Bool) (rules
   paths : DontMeet rules witness
   paths = dont_meet rules witness apart
 
+  own : IsApartFrom config rules witness
+  own = is_apart_from config rules witness clear
+
   new_is : new ≡ put_all classes_put texts
   new_is = put_both old set.files texts
 
   -- the directories
 
   elsewhere : AllByRecursion (IsElsewhere rules.in_dir) texts × AllByRecursion (IsElsewhere rules.out_dir) texts
-  elsewhere = neither_below rules.in_dir rules.out_dir texts
-      (ap (list_any (is_inside rules)) are.paths ∙ paths.outside)
+  elsewhere = (
+    all_elsewhere rules.in_dir texts (ap (list_any (meets rules.in_dir)) are.paths ∙ paths.from_input),
+    all_elsewhere rules.out_dir texts (ap (list_any (meets rules.out_dir)) are.paths ∙ paths.from_output),
+  )
 
   input : input_due new rules.in_dir ≡ input_due old rules.in_dir
   input = elsewhere_same old rules.in_dir (set.files ++ texts)
       (all_append (IsElsewhere rules.in_dir) set.files texts
-      (other_directory rules.in_dir rules.out_dir paths.no_text paths.in_not_below paths.out_not_below set.files written
-      h.below) elsewhere.0)
+      (other_directory rules.in_dir rules.out_dir paths.directories.no_text paths.directories.not_below
+      paths.directories.not_above set.files written h.below) elsewhere.0)
 
   output_by : ((found : List FileAt) × (input_due new rules.out_dir ≡ Ok found)) ⊎ PassesInputLimit new rules.out_dir
       → (input_due new rules.out_dir ≡ Ok written) ⊎ PassesInputLimit new rules.out_dir
@@ -135,8 +157,8 @@ module _ (files : List FileAt) (classes : List Class) (marks : List Bool) (rules
   config_put =
       stays_at config (set.files ++ texts)
       (all_append (λ (f : FileAt). config ≢ f.path) set.files texts
-      (none_below rules.out_dir config own.1 set.files written h.below)
-      (none_of config texts (ap (list_any (is_text config)) are.paths ∙ own.0))) old
+      (none_below rules.out_dir config own.not_below set.files written h.below)
+      (none_of config texts (ap (list_any (is_text config)) are.paths ∙ own.no_text))) old
 
   -- the mapping and the witness
 
@@ -145,9 +167,11 @@ module _ (files : List FileAt) (classes : List Class) (marks : List Bool) (rules
 
   others_differ : list_any (is_text rules.mapping) (map (λ (f : FileAt). f.path) behind) ≡ false
   others_differ =
-      (or_parts (list_any (is_text rules.mapping) (map (λ (f : FileAt). f.path) behind))
-      (has_twice (map (λ (f : FileAt). f.path) behind))
-      (ap has_twice (ap (map (λ (f : FileAt). f.path)) (sym are.are) ∙ are.paths) ∙ paths.once)).0
+      any_less (meets rules.mapping) (is_text rules.mapping)
+      (λ path none. (are_apart rules.mapping path none).no_text) (map (λ (f : FileAt). f.path) behind)
+      (or_parts (list_any (meets rules.mapping) (map (λ (f : FileAt). f.path) behind))
+      (any_meet (map (λ (f : FileAt). f.path) behind))
+      (ap any_meet (ap (map (λ (f : FileAt). f.path)) (sym are.are) ∙ are.paths) ∙ paths.files)).0
 
   mapping_stands : get new rules.mapping ≡ Some (mapping_text set.mapping)
   mapping_stands =
@@ -188,5 +212,5 @@ module _ (files : List FileAt) (classes : List Class) (marks : List Bool) (rules
   }
 
 pub files_found_again : OwnFilesAreFoundAgain
-files_found_again files classes marks rules set written h old config witness texts empty apart own told =
-    found_again files classes marks rules set written h old config witness texts empty apart own told
+files_found_again files classes marks rules set written h old config witness texts empty apart clear told =
+    found_again files classes marks rules set written h old config witness texts empty apart clear told

@@ -9,6 +9,7 @@ use Rattle.tree_io.specs.Below.{front_of, rest_after}
 use Rattle.tree_io.specs.declared.file_at.FileAt.{FileAt}
 use Rattle.tree_io.proofs.Below.{behind}
 use Rattle.path_text.specs.Path.{is_below}
+use Rattle.keep_rules.specs.Paths.{meets}
 use Rattle.pair_laws.specs.FilesFound.Below.{IsElsewhere}
 
 -- ---- one directory
@@ -84,13 +85,36 @@ none_of path (f ∷ files) none =
       none_of path files parts.1,
     )
 
--- files whose paths lie below neither of two directories
-pub neither_below : (one other : List ℕ) (files : List FileAt)
-    → list_any (λ path. is_below path one || is_below path other) (map (λ (f : FileAt). f.path) files) ≡ false
-    → AllByRecursion (IsElsewhere one) files × AllByRecursion (IsElsewhere other) files
-neither_below one other [] none = (tt, tt)
-neither_below one other (f ∷ files) none =
-    let parts = or_parts (is_below f.path one || is_below f.path other) _ none in
-    let two = or_parts (is_below f.path one) (is_below f.path other) parts.0 in
-    let rest = neither_below one other files parts.1 in
-    ((is_elsewhere one f.path two.0, rest.0), (is_elsewhere other f.path two.1, rest.1))
+-- where a test is false of each, so is one that asks for more
+pub any_less : (p q : List ℕ → Bool) → ((path : List ℕ) → p path ≡ false → q path ≡ false) → (paths : List (List ℕ))
+    → list_any p paths ≡ false → list_any q paths ≡ false
+any_less p q less [] none = refl
+any_less p q less (path ∷ paths) none =
+    let parts = or_parts (p path) (list_any p paths) none in
+    ap (λ b. b || list_any q paths) (less path parts.0) ∙ any_less p q less paths parts.1
+
+-- ---- paths that don't meet
+
+-- two paths that don't meet are two, and neither lies below the other
+pub record AreApart (a b : List ℕ) : Type 0 where
+  pub no_text : is_text a b ≡ false
+  pub not_below : is_below a b ≡ false
+  pub not_above : is_below b a ≡ false
+
+pub are_apart : (a b : List ℕ) → meets a b ≡ false → AreApart a b
+are_apart a b h =
+    let two = or_parts (is_text a b || is_below a b) (is_below b a) h in
+    let one = or_parts (is_text a b) (is_below a b) two.0 in
+    record { no_text = one.0; not_below = one.1; not_above = two.1 }
+
+-- files that a directory doesn't meet are elsewhere
+pub all_elsewhere : (directory : List ℕ) (files : List FileAt)
+    → list_any (meets directory) (map (λ (f : FileAt). f.path) files) ≡ false
+    → AllByRecursion (IsElsewhere directory) files
+all_elsewhere directory [] none = tt
+all_elsewhere directory (f ∷ files) none =
+    let parts = or_parts (meets directory f.path) (list_any (meets directory) (map (λ (f : FileAt). f.path) files)) none
+    in (
+      is_elsewhere directory f.path (are_apart directory f.path parts.0).not_above,
+      all_elsewhere directory files parts.1,
+    )

@@ -7,7 +7,7 @@ use Rattle.jv_base.specs.Outcome.{◌>>=◌}
 use Rattle.jv_base.proofs.Results.{same_ok, then_ok}
 use Rattle.tree_io.specs.declared.file_at.FileAt.{FileAt}
 use Rattle.class_model.specs.declared.class.Class.{Class}
-use Rattle.keep_rules.specs.Reading.{before_texts, files_of}
+use Rattle.keep_rules.specs.Paths.{before_texts, files_of}
 use Rattle.keep_rules.specs.declared.rules.Rules.{Rules}
 use Rattle.list_texts.specs.declared.limit.TooLong.{TooLong}
 use Rattle.mapping_file.specs.Mappings.{mapping_text}

@@ -2,16 +2,14 @@
 -- project's own).
 use Rattle.std.specs.Prelude.{◌≡◌, ℕ, Bool, false, List, [], ◌++◌, Ok}
 use Rattle.std.specs.FinMap.{keys}
-use Rattle.std.specs.List.{AllByRecursion, list_any}
-use Rattle.jv_base.specs.Names.{is_text}
+use Rattle.std.specs.List.{AllByRecursion}
 use Rattle.tree_io.specs.Below.{paths_below}
 use Rattle.tree_io.specs.Files.{Files}
 use Rattle.tree_io.specs.declared.file_at.FileAt.{FileAt}
-use Rattle.path_text.specs.Path.{is_below}
 use Rattle.class_files.specs.Input.{input_due}
 use Rattle.class_files.specs.Output.{put_all}
 use Rattle.class_model.specs.declared.class.Class.{Class}
-use Rattle.keep_rules.specs.Reading.{files_of, paths_meet}
+use Rattle.keep_rules.specs.Paths.{meets_config, paths_meet}
 use Rattle.keep_rules.specs.declared.rules.Rules.{Rules}
 use Rattle.set_shrink.specs.Texts.{texts_due}
 use Rattle.set_shrink.specs.declared.shrunk.ShrunkSet.{ShrunkSet}
@@ -25,17 +23,12 @@ ElsewhereChangesNothing = (old : Files) (directory : List ℕ) (others : List Fi
     → AllByRecursion (IsElsewhere directory) others
     → input_due (put_all old others) directory ≡ input_due old directory
 
--- the config is none of the files that are written beside the classes, and doesn't lie below the output directory
-abbrev pub IsApartFrom : List ℕ → Rules → List ℕ → Type 0
-IsApartFrom config rules witness =
-    (list_any (is_text config) (files_of rules witness) ≡ false) × (is_below config rules.out_dir ≡ false)
-
 -- what is written of a set where no file lay below the output directory, with its texts behind it, is found again by
--- the config, where no paths meet
+-- the config, where no paths meet, nor any the config
 abbrev pub OwnFilesAreFoundAgain : Type 0
 OwnFilesAreFoundAgain = (files : List FileAt) (classes : List Class) (marks : List Bool) (rules : Rules)
     (set : ShrunkSet) (written : List FileAt) → AreWritten files classes marks rules set written
     → (old : Files) (config witness : List ℕ) (texts : List FileAt) → paths_below rules.out_dir (keys old) ≡ []
-    → paths_meet rules witness ≡ false → IsApartFrom config rules witness
+    → paths_meet rules witness ≡ false → meets_config config rules witness ≡ false
     → texts_due set.mapping classes marks rules witness ≡ Ok texts
     → IsFoundAgain old (put_all old (set.files ++ texts)) config witness rules set.mapping no_edit written

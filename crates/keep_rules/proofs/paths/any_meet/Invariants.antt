@@ -1,9 +1,9 @@
 use Rattle.std.proofs.Common.{◌≡◌, length}
-use Rattle.keep_rules.specs.Reading.{has_twice}
-use Rattle.keep_rules.proofs.reading.has_twice.Given as goal
+use Rattle.keep_rules.specs.Paths.{any_meet}
+use Rattle.keep_rules.proofs.paths.any_meet.Given as goal
 
 abbrev pub invariant-loop-rest : goal.invariant-loop-rest
-invariant-loop-rest l = has_twice l.rest ≡ has_twice l.files
+invariant-loop-rest l = any_meet l.rest ≡ any_meet l.paths
 
 abbrev pub decreases-loop-rest : goal.decreases-loop-rest
 decreases-loop-rest l = length l.rest
