@@ -16,7 +16,7 @@ use Rattle.command_frame.specs.declared.refusal.Quantity.TheVariants as quantity
 use Rattle.command_frame.specs.declared.refusal.Refusal.{Refusal}
 use Rattle.command_frame.specs.declared.stop.Stop.{Stop}
 use Rattle.command_frame.specs.declared.stop.Stop.TheVariants.{Refused}
-use Rattle.command_steps.specs.Config.{IsConfigured, IsRules, config_read}
+use Rattle.command_steps.specs.Config.{IsConfigApart, IsConfigured, IsRules, config_read, rules_apart}
 use Rattle.command_steps.specs.Refusals.{rules_refused}
 use Rattle.command_steps.specs.Sets.{IsDirectory, IsSet, input_stop, set_refused}
 use Rattle.command_steps.proofs.OneConfig.{config_only, one_config}
@@ -36,6 +36,11 @@ pub one_configured : (files : Files) (config witness : List ℕ) → IsOne (IsCo
 one_configured files config witness =
     then_one (IsFile files quantity.Config config) (λ bytes. IsRules bytes witness)
     (one_value (bytes_in quantity.Config config (get files config))) (λ bytes. one_rules bytes witness)
+
+pub one_config_apart : (files : Files) (config witness : List ℕ) → IsOne (IsConfigApart files config witness)
+one_config_apart files config witness =
+    then_one (IsConfigured files config witness) (λ rules due. due ≡ rules_apart config witness rules)
+    (one_configured files config witness) (λ rules. one_value (rules_apart config witness rules))
 
 -- ---- class files
 

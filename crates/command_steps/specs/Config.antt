@@ -1,5 +1,5 @@
 -- The rules that the bytes of a config give, or the first fault (ProGuard manual, "Usage").
-use Rattle.std.specs.Prelude.{◌≡◌, ℕ, List, map, Result, Ok, Err}
+use Rattle.std.specs.Prelude.{◌≡◌, ℕ, List, map, Result, Ok, Err, if◌then◌else◌}
 use Rattle.std.specs.Str.{IsUtf8}
 use Rattle.tree_io.specs.Files.{Files}
 use Rattle.conf_words.specs.Pieces.{HasWords}
@@ -9,9 +9,10 @@ use Rattle.conf_words.specs.declared.splitting.WordFault.{WordFault}
 use Rattle.conf_words.specs.declared.splitting.WordFault.TheVariants as word
 use Rattle.keep_rules.specs.Grammar as grammar
 use Rattle.keep_rules.specs.Laws.{text_of}
+use Rattle.keep_rules.specs.Paths.{meets_config}
 use Rattle.keep_rules.specs.Reading.{rules_read}
 use Rattle.keep_rules.specs.declared.fault.RuleFault.{RuleFault}
-use Rattle.keep_rules.specs.declared.fault.RuleKind.TheVariants.{NotUtf8, QuoteOpen}
+use Rattle.keep_rules.specs.declared.fault.RuleKind.TheVariants.{NotUtf8, QuoteOpen, SamePath}
 use Rattle.keep_rules.specs.declared.rules.Rules.{Rules}
 use Rattle.command_frame.specs.Steps.{IsFile, Then}
 use Rattle.command_frame.specs.declared.refusal.Quantity.TheVariants as quantity
@@ -56,3 +57,19 @@ IsRules bytes witness (Err refusal) =
 abbrev pub IsConfigured : Files → List ℕ → List ℕ → Result Rules Refusal → Type 0
 IsConfigured files config witness =
     Then (IsFile files quantity.Config config) (λ bytes. IsRules bytes witness)
+
+-- ---- a config that stands apart from what is written
+
+-- a run would write over its config, or below it
+abbrev pub same_path : RuleFault
+same_path = record { line = 0; kind = SamePath }
+
+-- rules whose files and output directory don't meet their config
+abbrev pub rules_apart : List ℕ → List ℕ → Rules → Result Rules Refusal
+rules_apart config witness rules =
+    if meets_config config rules witness then Err (rules_refused same_path) else Ok rules
+
+-- the rules of the told config at a path, which nothing that is written meets
+abbrev pub IsConfigApart : Files → List ℕ → List ℕ → Result Rules Refusal → Type 0
+IsConfigApart files config witness =
+    Then (IsConfigured files config witness) (λ rules due. due ≡ rules_apart config witness rules)

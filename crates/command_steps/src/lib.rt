@@ -9,7 +9,7 @@ mod set;
 mod system;
 mod texts;
 
-pub use config::find_config;
+pub use config::{find_config, find_config_apart};
 pub use directory::find_files;
 pub use laws::{configs_are_read, one_config};
 pub use refusals::name_or_dash;

@@ -8,8 +8,8 @@ use Rattle.require_sys.specs.Required.{system_due}
 use Rattle.set_shrink.proofs.OneShrunk.{not_both_shrunk, one_limit, one_shrunk}
 use Rattle.set_shrink.specs.Texts.{texts_due}
 use Rattle.command_frame.proofs.OneStep.{IsOne, one_value, then_one}
-use Rattle.command_steps.proofs.OneStep.{one_configured, one_directory, one_taken}
-use Rattle.command_steps.specs.Config.{IsConfigured}
+use Rattle.command_steps.proofs.OneStep.{one_config_apart, one_directory, one_taken}
+use Rattle.command_steps.specs.Config.{IsConfigApart}
 use Rattle.command_steps.specs.Sets.{IsDirectory, IsSet}
 use Rattle.command_steps.specs.System.{IsSystem, or_many}
 use Rattle.shrink_command.specs.Due.{AreMarks, FollowsInput, FollowsMarks, FollowsOutput, FollowsRules, FollowsSystem}
@@ -56,8 +56,8 @@ one_planned rules witness classes =
 
 pub one_due : IsOneDue
 one_due files named one other h k =
-    then_one (IsConfigured files named.config named.witness) (FollowsRules files named.witness)
-    (one_configured files named.config named.witness)
+    then_one (IsConfigApart files named.config named.witness) (FollowsRules files named.witness)
+    (one_config_apart files named.config named.witness)
     (λ rules. then_one (IsEmptied files rules.out_dir) (λ done. FollowsOutput files named.witness rules)
     (one_emptied files rules.out_dir)
     (λ done. then_one (IsDirectory files rules.in_dir) (FollowsInput rules named.witness)

@@ -1,12 +1,15 @@
 -- What is written is a pair with what was read.
 use Rattle.std.proofs.Common.{◌≡◌, ℕ, Bool, true, false, cond, nat_le, List, [], ◌∷◌, ◌++◌, length, Result, Ok, Err}
-use Rattle.std.proofs.Common.{sym, ap, ◌∙◌, arith}
+use Rattle.std.proofs.Common.{refl, sym, ap, subst, ◌∙◌, arith}
+use Rattle.std.specs.FinMap.{keys}
 use Rattle.jv_base.proofs.Results.{same_ok}
 use Rattle.jv_base.specs.Outcome.{◌>>=◌}
+use Rattle.tree_io.specs.Below.{paths_below}
 use Rattle.tree_io.specs.Files.{Files}
 use Rattle.tree_io.specs.declared.file_at.FileAt.{FileAt}
 use Rattle.class_files.specs.Input.{input_due}
 use Rattle.class_model.specs.declared.class.Class.{Class}
+use Rattle.keep_rules.specs.Paths.{meets_config}
 use Rattle.keep_rules.specs.declared.rules.Rules.{Rules}
 use Rattle.list_texts.specs.declared.limit.TooLong.{TooLong}
 use Rattle.mapping_file.specs.Mappings.{mapping_text}
@@ -27,7 +30,8 @@ use Rattle.command_frame.specs.Steps.{IsFile}
 use Rattle.command_frame.specs.declared.command.Plan.{Plan}
 use Rattle.command_frame.specs.declared.refusal.Quantity.TheVariants as quantity
 use Rattle.command_frame.specs.declared.refusal.Refusal.{Refusal}
-use Rattle.command_steps.specs.Config.{IsConfig, IsConfigured, IsRules}
+use Rattle.command_steps.specs.Config.{IsConfig, IsConfigApart, IsConfigured, IsRules, rules_apart, same_path}
+use Rattle.command_steps.specs.Refusals.{rules_refused}
 use Rattle.command_steps.specs.Sets.{IsDirectory, IsSet}
 use Rattle.command_steps.specs.System.{IsSystem}
 use Rattle.shrink_command.specs.Due.{AreMarks, FollowsInput, FollowsMarks, FollowsOutput, FollowsRules, FollowsSystem}
@@ -63,6 +67,8 @@ pub record IsResult (files : Files) (named : ShrinkFiles) (plan : Plan) : Type 0
   pub bytes : List ℕ
   pub config : IsConfig bytes named.witness rules
   pub configured : IsConfigured files named.config named.witness (Ok rules)
+  pub clear : meets_config named.config rules named.witness ≡ false
+  pub empty : paths_below rules.out_dir (keys files) ≡ []
   pub inputs : List FileAt
   pub given : input_due files rules.in_dir ≡ Ok inputs
   pub classes : List Class
@@ -75,15 +81,34 @@ pub record IsResult (files : Files) (named : ShrinkFiles) (plan : Plan) : Type 0
   pub told : texts_due shrunk.mapping classes marks rules named.witness ≡ Ok texts
   pub files_are : plan.files ≡ shrunk.files ++ texts
 
+apart_by : (meets : Bool) (rules same : Rules)
+    → (let R : Result Rules Refusal = Ok same in R) ≡ cond meets (Err (rules_refused same_path)) (Ok rules)
+    → (rules ≡ same) × (meets ≡ false)
+apart_by true rules same h = absurd (no_err same (rules_refused same_path) h)
+apart_by false rules same h = (sym (same_ok same rules h), refl)
+
+-- the config gave the rules, and nothing that is written meets it
+config_apart : (files : Files) (config witness : List ℕ) (rules : Rules)
+    → IsConfigApart files config witness (Ok rules)
+    → IsConfigured files config witness (Ok rules) × (meets_config config rules witness ≡ false)
+config_apart files config witness rules due =
+    let a = both_gave (IsConfigured files config witness) (λ given told. told ≡ rules_apart config witness given) rules
+    due in
+    let b = apart_by (meets_config config a.0 witness) a.0 rules a.2 in (
+      subst (λ (r : Rules). IsConfigured files config witness (Ok r)) b.0 a.1,
+      subst (λ (r : Rules). meets_config config r witness ≡ false) b.0 b.1,
+    )
+
 texts_told : (r : Result (List FileAt) TooLong) (texts : List FileAt) → Ok texts ≡ or_long r → r ≡ Ok texts
 texts_told (Ok others) texts h = ap Ok (same_ok others texts (sym h))
 texts_told (Err long) texts h = absurd (no_err texts (passed quantity.Text) h)
 
-result : (files : Files) (named : ShrinkFiles) (plan : Plan) → IsDue named files (Ok plan) → IsResult files named plan
+pub result : (files : Files) (named : ShrinkFiles) (plan : Plan) → IsDue named files (Ok plan) → IsResult files named plan
 result files named plan due =
-    let a = both_gave (IsConfigured files named.config named.witness) (FollowsRules files named.witness) plan due in
-    let rules = a.0 in
-    let b = both_gave (IsEmptied files rules.out_dir) (λ done. FollowsOutput files named.witness rules) plan a.2 in
+    let y = both_gave (IsConfigApart files named.config named.witness) (FollowsRules files named.witness) plan due in
+    let rules = y.0 in
+    let z = config_apart files named.config named.witness rules y.1 in
+    let b = both_gave (IsEmptied files rules.out_dir) (λ done. FollowsOutput files named.witness rules) plan y.2 in
     let c = both_gave (IsDirectory files rules.in_dir) (FollowsInput rules named.witness) plan b.2 in
     let d = both_gave (IsSet rules.in_dir c.0) (IsPlanned rules named.witness) plan c.2 in
     let classes = d.0 in
@@ -93,12 +118,14 @@ result files named plan due =
     (λ shrunk. Joins shrunk (texts_due shrunk.mapping classes f.0 rules named.witness)) plan f.2 in
     let told = texts_due g.0.mapping classes f.0 rules named.witness in
     let h = both_gave (λ (due : Result (List FileAt) Refusal). due ≡ or_long told) (IsPlan g.0) plan g.2 in
-    let k = both_gave (IsFile files quantity.Config named.config) (λ bytes. IsRules bytes named.witness) rules a.1 in
+    let k = both_gave (IsFile files quantity.Config named.config) (λ bytes. IsRules bytes named.witness) rules z.0 in
     record {
       rules = rules;
       bytes = k.0;
       config = k.2;
-      configured = a.1;
+      configured = z.0;
+      clear = z.1;
+      empty = b.1;
       inputs = c.0;
       given = c.1;
       classes = classes;
@@ -115,10 +142,10 @@ result files named plan due =
 -- ---- the pair
 
 module _ (files : Files) (named : ShrinkFiles) (plan : Plan) (r : IsResult files named plan) where
-  below : (written : List FileAt) × AreBelow r.rules.out_dir r.shrunk.files written
+  pub below : (written : List FileAt) × AreBelow r.rules.out_dir r.shrunk.files written
   below = files_below r.classes r.marks r.rules r.shrunk r.is_shrunk
 
-  written_so : AreWritten r.inputs r.classes r.marks r.rules r.shrunk below.0
+  pub written_so : AreWritten r.inputs r.classes r.marks r.rules r.shrunk below.0
   written_so =
       let config = r.config in
       let found = ascend_found files r.rules.in_dir r.inputs r.given in

@@ -23,7 +23,7 @@ use Rattle.command_frame.specs.Steps.{IsFile, bytes_in}
 use Rattle.command_frame.specs.declared.refusal.Quantity.TheVariants as quantity
 use Rattle.command_frame.specs.declared.refusal.Refusal.{Refusal}
 use Rattle.command_steps.proofs.OneConfig.{config_found}
-use Rattle.command_steps.specs.Config.{IsConfigured, IsRules, config_read}
+use Rattle.command_steps.specs.Config.{IsConfigApart, IsConfigured, IsRules, config_read, rules_apart}
 use Rattle.command_steps.specs.Refusals.{rules_refused}
 use Rattle.command_steps.specs.Sets.{IsDirectory, IsSet, set_refused}
 use Rattle.shrink_command.specs.Due.{FollowsInput, FollowsOutput, FollowsRules, IsEmptied, IsEmpty, IsPlanned, not_empty}
@@ -43,6 +43,11 @@ some_configured files config witness =
     then_some (IsFile files quantity.Config config) (λ bytes. IsRules bytes witness)
     (some_value (bytes_in quantity.Config config (get files config)))
     (λ bytes told. rules_by bytes witness (config_read bytes witness) refl)
+
+some_config_apart : (files : Files) (config witness : List ℕ) → IsSome (IsConfigApart files config witness)
+some_config_apart files config witness =
+    then_some (IsConfigured files config witness) (λ rules due. due ≡ rules_apart config witness rules)
+    (some_configured files config witness) (λ rules told. some_value (rules_apart config witness rules))
 
 -- ---- the output directory
 
@@ -117,8 +122,8 @@ some_set files directory inputs hold due =
 
 pub some_due : IsSomeDue
 some_due files named hold =
-    then_some (IsConfigured files named.config named.witness) (FollowsRules files named.witness)
-    (some_configured files named.config named.witness)
+    then_some (IsConfigApart files named.config named.witness) (FollowsRules files named.witness)
+    (some_config_apart files named.config named.witness)
     (λ rules has. then_some (IsEmptied files rules.out_dir) (λ done. FollowsOutput files named.witness rules)
     (emptied_by files rules.out_dir (paths_below rules.out_dir (keys files)) refl)
     (λ done empty. then_some (IsDirectory files rules.in_dir) (FollowsInput rules named.witness)

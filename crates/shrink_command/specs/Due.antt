@@ -23,7 +23,7 @@ use Rattle.command_frame.specs.declared.command.Plan.{Plan}
 use Rattle.command_frame.specs.declared.refusal.Quantity.TheVariants as quantity
 use Rattle.command_frame.specs.declared.refusal.Reason.TheVariants.{NotEmpty}
 use Rattle.command_frame.specs.declared.refusal.Refusal.{Refusal}
-use Rattle.command_steps.specs.Config.{IsConfigured}
+use Rattle.command_steps.specs.Config.{IsConfigApart}
 use Rattle.command_steps.specs.Sets.{IsDirectory, IsSet}
 use Rattle.command_steps.specs.System.{IsSystem, keeps_nothing}
 use Rattle.shrink_command.specs.Summary.{summary_text}
@@ -124,4 +124,4 @@ FollowsRules files witness rules = Then (IsEmptied files rules.out_dir) (λ done
 
 -- what `shrink CONFIG OUTWIT` is to write and to say, or the first refusal
 abbrev pub IsDue : ShrinkFiles → Files → Result Plan Refusal → Type 0
-IsDue named files = Then (IsConfigured files named.config named.witness) (FollowsRules files named.witness)
+IsDue named files = Then (IsConfigApart files named.config named.witness) (FollowsRules files named.witness)

@@ -5,7 +5,7 @@ ghost use Rattle.shrink_command.specs.Due.{FollowsOutput, FollowsRules, IsDue, I
 
 use crate::planning::plan_of;
 use command_frame::{Command, Plan, Reason, Refusal, Stop};
-use command_steps::{find_config, find_files};
+use command_steps::{find_config_apart, find_files};
 use jv_base::Text;
 use keep_rules::Rules;
 use std::alloc::Global;
@@ -32,7 +32,7 @@ use tree_io::{ListFault, Tree};
 /// |---|---|---|
 /// | 0 | where the files were written | the summary |
 /// | 2 | where no file stands at CONFIG, or a class file that was listed isn't there any more | `error 2 absent PATH` |
-/// | 3 | where the config breaks its grammar, or no rule keeps anything | `error 3 rules LINE KIND` |
+/// | 3 | where the config breaks its grammar, something would be written over it or below it, or no rule keeps anything | `error 3 rules LINE KIND` |
 /// | 4 | where a file below IN that ends in `.class` is no class file | `error 4 format PATH OFFSET KIND` |
 /// | 5 | where these are no set, a rule is broken, or a code isn't typed | `error 5 profile CLASS MEMBER KIND` |
 /// | 6 | where a quantity passes its limit | `error 6 limit QUANTITY LIMIT` |
@@ -70,7 +70,7 @@ impl Command for ShrinkFiles {
     ghost due = { IsDue };
 
     fn due_plan<T: Tree>(&self, alloc: Global, tree: &mut T) -> Result<Plan, Stop> {
-        let rules = find_config(alloc, &self.config, &self.witness, tree)?;
+        let rules = find_config_apart(alloc, &self.config, &self.witness, tree)?;
         shrink_by_rules(alloc, &rules, &self.witness, tree)
     }
 }
