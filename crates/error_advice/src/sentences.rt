@@ -76,8 +76,8 @@ fn rules_advice(rest: &str) -> Option<&'static str> {
             "a config has -injars DIRECTORY, -outjars DIRECTORY and -printmapping FILE",
         ),
         "SamePath" => Some(
-            "two of the files that the config and the command name are one, or one lies below the input or \
-                the output directory, or one of these lies below the other: give each its own place",
+            "of the directories and files that the config and the command name two are one, or one lies below \
+                another, or something would be written over the config: give each its own place",
         ),
         "LeftOut" => Some(
             "ProGuard has this option, and it isn't built here: docs/PROGUARD.md tells what can be done in \
