@@ -5,6 +5,7 @@ ghost use Rattle.command_frame.specs.LeftFiles.{LeavesTold};
 ghost use Rattle.retrace_command.specs.Due as retrace;
 ghost use Rattle.retrace_command.specs.declared.command.RetraceFiles.{RetraceFiles};
 ghost use Rattle.shrink_command.specs.declared.command.ShrinkFiles.{ShrinkFiles};
+ghost use Rattle.shrink_core.specs.Again.{PlanIsChecked};
 ghost use Rattle.shrink_core.specs.Checked.{IsOk, OkDoesTheSame};
 ghost use Rattle.shrink_core.specs.Commands.{IsAny, IsText, PairIsDue};
 
@@ -22,4 +23,10 @@ pub fn told_files_are_left_as_due()
 /// directory does, and is typed. It does nothing.
 pub fn what_is_ok_does_the_same()
     ensures { OkDoesTheSame }
+{}
+
+/// Of told files to which a plan was put that was due of `shrink`, `check` by the same config and witness has to say `ok`,
+/// unless the class files below the output directory pass a limit on what is read. It does nothing.
+pub fn what_is_written_is_ok()
+    ensures { PlanIsChecked }
 {}

@@ -5,4 +5,4 @@ mod command;
 mod laws;
 
 pub use command::run;
-pub use laws::{told_files_are_left_as_due, what_is_ok_does_the_same};
+pub use laws::{told_files_are_left_as_due, what_is_ok_does_the_same, what_is_written_is_ok};

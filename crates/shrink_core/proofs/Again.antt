@@ -31,7 +31,7 @@ use Rattle.pair_laws.specs.OwnPairs.Written.{no_edit}
 use Rattle.shrink_command.specs.Due as shrink
 use Rattle.shrink_command.specs.declared.command.ShrinkFiles.{ShrinkFiles}
 use Rattle.shrink_command.proofs.Paired.{IsResult, result, below, written_so}
-use Rattle.again_laws.specs.Again.{PlanIsChecked}
+use Rattle.shrink_core.specs.Again.{PlanIsChecked}
 
 -- a told file that is no longer than 64 MiB
 file_is : (files : Files) (q : Quantity) (path bytes : List ℕ) → HasText files path bytes

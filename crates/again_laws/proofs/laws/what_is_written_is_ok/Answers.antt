@@ -1,5 +1,0 @@
-use Rattle.again_laws.proofs.Again.{plan_checked}
-use Rattle.again_laws.proofs.laws.what_is_written_is_ok.Goals as goal
-
-pub returns : goal.returns
-returns c = plan_checked

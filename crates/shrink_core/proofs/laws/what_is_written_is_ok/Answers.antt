@@ -1,0 +1,5 @@
+use Rattle.shrink_core.proofs.Again.{plan_checked}
+use Rattle.shrink_core.proofs.laws.what_is_written_is_ok.Goals as goal
+
+pub returns : goal.returns
+returns c = plan_checked
