@@ -36,7 +36,7 @@ use Rattle.mapping_file.specs.MapLines.{line_text}
 use Rattle.mapping_file.specs.Mappings.{mapping_text}
 use Rattle.require_sys.specs.Required.{limited, system_due}
 use Rattle.pair_rows.proofs.Required.{system}
-use Rattle.same_rows.specs.Rows.{EntryRow, MarksRow, NamesRow, RunRow, ShrunkRow, TextsRow, marks}
+use Rattle.same_rows.specs.Rows.{BeginRow, EntryRow, MarksRow, NamesRow, RunRow, ShrunkRow, TextsRow, marks}
 
 -- ---- the entry
 
@@ -51,6 +51,11 @@ entry_is = record {
   item_is = refl;
   seed = subst (λ (sys : System). Contains sys.seeds 1) (sym system) (1, omega arith, refl);
 }
+
+pub may_begin : BeginRow
+unfolding library upwards walked field_text base_text method_text result_text grown read_field read_method walk
+    words_of argument_words is_class_name is_member_name is_primitive_or_void is_name_byte part_after
+may_begin = record { startable = refl; typed = refl; right = tt }
 
 -- ---- what is kept
 

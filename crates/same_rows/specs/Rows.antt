@@ -23,6 +23,7 @@ use Rattle.pair_laws.specs.PairSame.Entries.{IsEntry}
 use Rattle.pair_laws.specs.PairSame.Laws.{pair_names}
 use Rattle.pair_laws.specs.PairSame.Pairs.{IsPair}
 use Rattle.pair_laws.specs.PairSound.Laws.{DoTheSame}
+use Rattle.type_sound.specs.Laws.{MayBegin}
 use Rattle.pair_rows.specs.Examples.{file_of_a, file_of_b, files, input, input_files, mapping, output, rules}
 
 -- ---- the entry
@@ -38,6 +39,10 @@ entry = key (codes "p/A") (codes "f") (codes "()V")
 -- it is an entry of the set and the rules
 abbrev pub EntryRow : Type 0
 EntryRow = IsEntry input rules entry
+
+-- a run may begin there without an object and without an argument
+abbrev pub BeginRow : Type 0
+BeginRow = MayBegin input entry [] []
 
 -- ---- the sets
 

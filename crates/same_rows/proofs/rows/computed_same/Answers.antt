@@ -5,6 +5,7 @@ use Rattle.same_rows.proofs.rows.computed_same.Goals as goal
 pub returns : goal.returns
 returns c = record {
   entry = computed.entry_is;
+  begin = computed.may_begin;
   taken = promised.both_taken;
   pair = promised.pair_is;
   marks = computed.marks_are;
