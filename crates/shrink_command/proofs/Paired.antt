@@ -8,6 +8,7 @@ use Rattle.tree_io.specs.Below.{paths_below}
 use Rattle.tree_io.specs.Files.{Files}
 use Rattle.tree_io.specs.declared.file_at.FileAt.{FileAt}
 use Rattle.class_files.specs.Input.{input_due}
+use Rattle.class_files.specs.Output.{put_all}
 use Rattle.class_model.specs.declared.class.Class.{Class}
 use Rattle.keep_rules.specs.Paths.{meets_config}
 use Rattle.keep_rules.specs.declared.rules.Rules.{Rules}
@@ -15,11 +16,13 @@ use Rattle.list_texts.specs.declared.limit.TooLong.{TooLong}
 use Rattle.mapping_file.specs.Mappings.{mapping_text}
 use Rattle.mapping_file.specs.declared.mapping.Mapping.{Mapping}
 use Rattle.pair_laws.proofs.FilesFound.Found.{ascend_found}
+use Rattle.pair_laws.proofs.OwnChecked.Own.{files_found_again}
 use Rattle.pair_laws.proofs.OwnPairs.Found.{files_below}
 use Rattle.pair_laws.proofs.OwnPairs.Own.{own_paired}
 use Rattle.pair_laws.proofs.OwnPairs.WordTexts.{source_name_text}
 use Rattle.pair_laws.specs.FilesFound.Below.{AreBelow}
-use Rattle.pair_laws.specs.OwnPairs.Written.{AreWritten}
+use Rattle.pair_laws.specs.OwnChecked.Again.{IsFoundAgain}
+use Rattle.pair_laws.specs.OwnPairs.Written.{AreWritten, no_edit}
 use Rattle.set_read.specs.Accepted.{IsAccepted}
 use Rattle.set_shrink.specs.ShrunkSet.{IsShrunk}
 use Rattle.set_shrink.specs.Texts.{texts_beside, texts_due, witness_file}
@@ -160,6 +163,12 @@ module _ (files : Files) (named : ShrinkFiles) (plan : Plan) (r : IsResult files
         below = below.1;
       }
 
+  -- what is found where the plan was written
+  pub again : IsFoundAgain files (put_all files (r.shrunk.files ++ r.texts)) named.config named.witness r.rules
+      r.shrunk.mapping no_edit below.0
+  again = files_found_again r.inputs r.classes r.marks r.rules r.shrunk below.0 written_so files named.config
+      named.witness r.texts r.empty r.config.stand.apart r.clear r.told
+
   own_pair : IsOwnPair files named plan
   own_pair =
       let text = first_text r.shrunk.mapping _ r.rules named.witness r.texts r.told in
@@ -175,6 +184,8 @@ module _ (files : Files) (named : ShrinkFiles) (plan : Plan) (r : IsResult files
         others = text.0;
         files_are = r.files_are ∙ ap (λ (texts : List FileAt). r.shrunk.files ++ texts) text.1;
         paired = own_paired r.inputs r.classes r.marks r.rules r.shrunk below.0 written_so;
+        again = subst (λ (put : List FileAt). IsFoundAgain files (put_all files put) named.config named.witness r.rules
+            r.shrunk.mapping no_edit below.0) (sym r.files_are) again;
       }
 
 pub due_pairs : DueIsOwnPair

@@ -7,9 +7,12 @@ use Rattle.class_model.specs.declared.class.Class.{Class}
 use Rattle.keep_rules.specs.declared.rules.Rules.{Rules}
 use Rattle.mapping_file.specs.Mappings.{mapping_text}
 use Rattle.mapping_file.specs.declared.mapping.Mapping.{Mapping}
+use Rattle.pair_laws.specs.OwnChecked.Again.{IsFoundAgain}
 use Rattle.pair_laws.specs.OwnPairs.Paired.{ArePaired}
+use Rattle.pair_laws.specs.OwnPairs.Written.{no_edit}
 use Rattle.set_read.specs.Accepted.{IsAccepted}
 use Rattle.class_files.specs.Input.{input_due}
+use Rattle.class_files.specs.Output.{put_all}
 use Rattle.command_frame.specs.declared.command.Plan.{Plan}
 use Rattle.command_steps.specs.Config.{IsConfigured}
 use Rattle.shrink_command.specs.Due.{IsDue}
@@ -21,7 +24,8 @@ mapping_file rules mapping = record { path = rules.mapping; bytes = mapping_text
 
 -- the files of a plan are class files, a mapping behind them, and other texts; and by this mapping the class files are
 -- a pair with the set that the config's input directory has: no clause of `check` holds, from each entry they do what
--- the set does, and each method is typed
+-- the set does, and each method is typed; and where the plan was written, all of it is found again by the config: below
+-- the output directory stand these class files and no other, unless they pass a limit on what is read
 pub record IsOwnPair (files : Files) (named : ShrinkFiles) (plan : Plan) : Type 0 where
   pub rules : Rules
   pub inputs : List FileAt
@@ -34,6 +38,8 @@ pub record IsOwnPair (files : Files) (named : ShrinkFiles) (plan : Plan) : Type 
   pub others : List FileAt
   pub files_are : plan.files ≡ class_files ++ mapping_file rules mapping ∷ others
   pub paired : ArePaired classes rules mapping class_files
+  pub again : IsFoundAgain files (put_all files plan.files) named.config named.witness rules mapping no_edit
+      paired.written
 
 -- so it is of each plan that is due for told files
 abbrev pub DueIsOwnPair : Type 0

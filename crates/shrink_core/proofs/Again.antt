@@ -25,12 +25,11 @@ use Rattle.check_command.specs.Due as check
 use Rattle.check_command.specs.Due.{AreDirectories, IsJudged, IsTexts, belongs, ok_plan}
 use Rattle.check_command.specs.declared.finding.Texts.{Texts}
 use Rattle.pair_laws.proofs.OwnPairs.Own.{own_pairs}
-use Rattle.pair_laws.proofs.OwnChecked.Own.{files_found_again}
 use Rattle.pair_laws.specs.OwnChecked.Again.{HasText, IsFoundAgain, PassesInputLimit, by_classes, by_files, by_length}
 use Rattle.pair_laws.specs.OwnPairs.Written.{no_edit}
 use Rattle.shrink_command.specs.Due as shrink
 use Rattle.shrink_command.specs.declared.command.ShrinkFiles.{ShrinkFiles}
-use Rattle.shrink_command.proofs.Paired.{IsResult, result, below, written_so}
+use Rattle.shrink_command.proofs.Paired.{IsResult, again, below, result, written_so}
 use Rattle.shrink_core.specs.Again.{PlanIsChecked}
 
 -- a told file that is no longer than 64 MiB
@@ -48,23 +47,22 @@ module _ (files : Files) (named : ShrinkFiles) (plan : Plan) (r : IsResult files
   abbrev written : List FileAt
   written = (below files named plan r).0
 
-  again : IsFoundAgain files new named.config named.witness r.rules r.shrunk.mapping no_edit written
-  again = files_found_again r.inputs r.classes r.marks r.rules r.shrunk written (written_so files named plan r) files
-      named.config named.witness r.texts r.empty r.config.stand.apart r.clear r.told
+  found : IsFoundAgain files new named.config named.witness r.rules r.shrunk.mapping no_edit written
+  found = again files named plan r
 
   configured : IsConfigured new named.config named.witness (Ok r.rules)
   configured =
       let k = both_gave (IsFile files quantity.Config named.config) (λ bytes. IsRules bytes named.witness) r.rules
       r.configured in
-      follows k.0 (k.1 ∙ ap (bytes_in quantity.Config named.config) (sym again.config_stays)) k.2
+      follows k.0 (k.1 ∙ ap (bytes_in quantity.Config named.config) (sym found.config_stays)) k.2
 
   abbrev texts : Texts
   texts = record { mapping = r.shrunk.mapping; witness = no_edit }
 
   told : IsTexts new r.rules.mapping named.witness (Ok texts)
   told =
-      let m = again.mapping_is in
-      let w = again.witness_is in
+      let m = found.mapping_is in
+      let w = found.witness_is in
       follows m.0 (file_is new quantity.Mapping r.rules.mapping m.0 m.1 (le-leb _ _ m.1.short) refl)
       (follows w.0 (file_is new quantity.Witness named.witness w.0 w.1 (le-leb _ _ w.1.short) refl)
       (follows r.shrunk.mapping (sym (ap or_bad_mapping m.2)) (follows no_edit (sym (ap or_bad_witness w.2)) refl)))
@@ -78,7 +76,7 @@ module _ (files : Files) (named : ShrinkFiles) (plan : Plan) (r : IsResult files
       (belongs pair.0 refl))
 
   input_is : IsDirectory new r.rules.in_dir (Ok r.inputs)
-  input_is = again.input_stays ∙ r.given
+  input_is = found.input_stays ∙ r.given
 
   abbrev Checked : Files → Result Plan Refusal → Type 0
   Checked = check.IsDue (record { config = named.config; witness = named.witness })
@@ -104,7 +102,7 @@ module _ (files : Files) (named : ShrinkFiles) (plan : Plan) (r : IsResult files
   is_checked : Checked (put_all files plan.files) (Ok ok_plan)
       ⊎ ((q : Quantity) × Checked (put_all files plan.files) (Err (passed q)))
   is_checked = subst (λ (put : List FileAt). Checked (put_all files put) (Ok ok_plan)
-      ⊎ ((q : Quantity) × Checked (put_all files put) (Err (passed q)))) (sym r.files_are) (by_output again.output_is)
+      ⊎ ((q : Quantity) × Checked (put_all files put) (Err (passed q)))) (sym r.files_are) (by_output found.output_is)
 
 pub plan_checked : PlanIsChecked
 plan_checked files config witness plan due =
