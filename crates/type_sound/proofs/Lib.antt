@@ -17,7 +17,7 @@ mod SuperMeaning
 mod Meanings
 mod Initialisers
 mod Starting
-mod Whole
+pub mod Whole
 mod RowsUnset
 mod RowsTyped
 mod RowsTaken
