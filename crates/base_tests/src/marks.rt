@@ -1,7 +1,13 @@
+ghost use Rattle.std.specs.Prelude.{◌≤◌};
+ghost use Rattle.mark_core.specs.Valid.{Valid};
+
 use jv_base::{Items, M};
 use mark_core::{Pair, System, plain_marks, valid};
+use mark_workers::mark_all;
 use std::alloc::Global;
 use std::test::Fail;
+use std::thread::Threads;
+use tree_io::OpenGate;
 
 /// The number of items, the seeds, what each item needs, and pairs, each with what it marks.
 type Row<'a> = (u32, &'a [u32], &'a [&'a [u32]], &'a [[u32; 3]]);
@@ -67,23 +73,51 @@ const MARKED: &[(Row<'static>, &[bool])] = &[
     ((0, &[], &[], &[]), &[]),
 ];
 
-fn has_marks(alloc: Global, sys: &System, marks: &[bool]) -> M<bool> {
+// Whether so many workers find these marks.
+fn is_marked_by(
+    rt: &(impl Threads + Sync),
+    alloc: Global,
+    sys: &System,
+    workers: u32,
+    marks: &[bool],
+) -> M<bool>
+    requires valid { Valid sys.now }
+    requires workers { (1 ≤ workers) × (workers ≤ 64) }
+{
+    let found = mark_all(rt, alloc, sys, workers, &OpenGate)?;
+    Ok(found.marks().as_slice() == marks)
+}
+
+fn has_marks(
+    rt: &(impl Threads + Sync),
+    alloc: Global,
+    sys: &System,
+    marks: &[bool],
+) -> M<bool> {
     if !valid(sys) {
         return Ok(false);
     }
     let found = plain_marks(alloc, sys)?;
-    Ok(found.as_slice() == marks)
+    let by_one = is_marked_by(rt, alloc, sys, 1, marks)?;
+    let by_two = is_marked_by(rt, alloc, sys, 2, marks)?;
+    let by_most = is_marked_by(rt, alloc, sys, 64, marks)?;
+    Ok(found.as_slice() == marks && by_one && by_two && by_most)
 }
 
-fn is_marked(alloc: Global, row: &Row, marks: &[bool]) -> M<bool> {
+fn is_marked(
+    rt: &(impl Threads + Sync),
+    alloc: Global,
+    row: &Row,
+    marks: &[bool],
+) -> M<bool> {
     let sys = system(alloc, row)?;
-    has_marks(alloc, &sys, marks)
+    has_marks(rt, alloc, &sys, marks)
 }
 
 #[test]
 fn needs_and_pairs_are_followed_to_their_end(rt: HostRuntime) -> Result<(), Fail> {
     for (row, marks) in MARKED {
-        assert!(rt; is_marked(rt.alloc(), row, marks)?);
+        assert!(rt; is_marked(&rt, rt.alloc(), row, marks)?);
     }
     Ok(())
 }

@@ -170,6 +170,7 @@ module _ (files : Files) (named : ShrinkFiles) (plan : Plan) (r : IsResult files
       named.witness r.texts r.empty r.config.stand.apart r.clear r.told
 
   own_pair : IsOwnPair files named plan
+  unfolding own_paired
   own_pair =
       let text = first_text r.shrunk.mapping _ r.rules named.witness r.texts r.told in
       record {

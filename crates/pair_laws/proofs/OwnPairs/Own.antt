@@ -117,7 +117,7 @@ own_same files classes marks rules set written h entries are =
     pair_same classes (left_of classes marks rules) set.mapping rules first second pair entries
     (entries_kept classes (left_of classes marks rules) set.mapping rules first pair entries are)
 
-pub own_paired : OwnFilesArePaired
+unfoldable pub own_paired : OwnFilesArePaired
 own_paired files classes marks rules set written h =
     let own = own_pairs files classes marks rules set written h in
     let first = taken files classes marks rules set written h in
