@@ -1,0 +1,12 @@
+pub mod Finding
+pub mod Growing
+pub mod Rounds
+pub mod Deriving
+pub mod Room
+pub mod Bounding
+pub mod Marking
+pub mod Listing
+pub mod Reasoning
+pub mod NotedItems
+pub mod OrderedKeys
+pub mod ToldSteps

@@ -1,0 +1,5 @@
+use Rattle.why_kept.proofs.Marking.{marked_by_derivations}
+use Rattle.why_kept.proofs.laws.derivations_mark.Goals as goal
+
+pub returns : goal.returns
+returns c = marked_by_derivations

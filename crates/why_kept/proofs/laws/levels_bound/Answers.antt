@@ -1,0 +1,5 @@
+use Rattle.why_kept.proofs.Bounding.{bound_derivations}
+use Rattle.why_kept.proofs.laws.levels_bound.Goals as goal
+
+pub returns : goal.returns
+returns c = bound_derivations

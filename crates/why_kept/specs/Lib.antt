@@ -1,0 +1,5 @@
+pub mod Derivations
+pub mod Levels
+pub mod Steps
+pub mod Laws
+pub mod bodies
