@@ -18,7 +18,7 @@ use Rattle.mapping_file.specs.declared.mapping.Mapping.{Mapping}
 use Rattle.pair_laws.proofs.FilesFound.Found.{ascend_found}
 use Rattle.pair_laws.proofs.OwnChecked.Own.{files_found_again}
 use Rattle.pair_laws.proofs.OwnPairs.Found.{files_below}
-use Rattle.pair_laws.proofs.OwnPairs.Own.{own_paired}
+use Rattle.pair_laws.proofs.OwnPairs.Own.{own_paired, own_written}
 use Rattle.pair_laws.proofs.OwnPairs.WordTexts.{source_name_text}
 use Rattle.pair_laws.specs.FilesFound.Below.{AreBelow}
 use Rattle.pair_laws.specs.OwnChecked.Again.{IsFoundAgain}
@@ -170,7 +170,6 @@ module _ (files : Files) (named : ShrinkFiles) (plan : Plan) (r : IsResult files
       named.witness r.texts r.empty r.config.stand.apart r.clear r.told
 
   own_pair : IsOwnPair files named plan
-  unfolding own_paired
   own_pair =
       let text = first_text r.shrunk.mapping _ r.rules named.witness r.texts r.told in
       record {
@@ -185,8 +184,11 @@ module _ (files : Files) (named : ShrinkFiles) (plan : Plan) (r : IsResult files
         others = text.0;
         files_are = r.files_are ∙ ap (λ (texts : List FileAt). r.shrunk.files ++ texts) text.1;
         paired = own_paired r.inputs r.classes r.marks r.rules r.shrunk below.0 written_so;
-        again = subst (λ (put : List FileAt). IsFoundAgain files (put_all files put) named.config named.witness r.rules
-            r.shrunk.mapping no_edit below.0) (sym r.files_are) again;
+        again = subst (λ (there : List FileAt). IsFoundAgain files (put_all files plan.files) named.config named.witness
+            r.rules r.shrunk.mapping no_edit there)
+            (sym (own_written r.inputs r.classes r.marks r.rules r.shrunk below.0 written_so))
+            (subst (λ (put : List FileAt). IsFoundAgain files (put_all files put) named.config named.witness r.rules
+            r.shrunk.mapping no_edit below.0) (sym r.files_are) again);
       }
 
 pub due_pairs : DueIsOwnPair

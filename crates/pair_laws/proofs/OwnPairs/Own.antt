@@ -1,5 +1,5 @@
 -- What is written is a pair with the set, so it does what the set does.
-use Rattle.std.proofs.Common.{Bool, List, None, refl, sym, subst}
+use Rattle.std.proofs.Common.{◌≡◌, Bool, List, None, refl, sym, subst}
 use Rattle.tree_io.specs.declared.file_at.FileAt.{FileAt}
 use Rattle.class_model.specs.declared.class.Class.{Class}
 use Rattle.class_pool.specs.Supertypes.{NoCycle}
@@ -117,7 +117,7 @@ own_same files classes marks rules set written h entries are =
     pair_same classes (left_of classes marks rules) set.mapping rules first second pair entries
     (entries_kept classes (left_of classes marks rules) set.mapping rules first pair entries are)
 
-unfoldable pub own_paired : OwnFilesArePaired
+pub own_paired : OwnFilesArePaired
 own_paired files classes marks rules set written h =
     let own = own_pairs files classes marks rules set written h in
     let first = taken files classes marks rules set written h in
@@ -137,3 +137,10 @@ own_paired files classes marks rules set written h =
           (pair_names classes set.mapping) entries (same entries are);
       typed = own.0.accepted.typed;
     }
+
+-- the files that it tells by their paths below the output directory are those that were written
+pub own_written : (files : List FileAt) (classes : List Class) (marks : List Bool) (rules : Rules) (set : ShrunkSet)
+    (written : List FileAt) (h : AreWritten files classes marks rules set written)
+    → (own_paired files classes marks rules set written h).written ≡ written
+unfolding own_paired
+own_written files classes marks rules set written h = refl
