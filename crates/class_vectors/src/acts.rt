@@ -20,36 +20,38 @@ pub fn number_of(word: &[u8]) -> Option<u32> {
     std::str::from_utf8(word).ok()?.parse::<u32>().ok()
 }
 
-/// The numbers of a line, four at most.
-fn numbers(line: &[u8]) -> [Option<u32>; 4] {
+/// The numbers of a line, three at most, and what stands behind them.
+fn numbers(line: &[u8]) -> ([Option<u32>; 3], &[u8]) {
     let (first, rest) = first_word(line);
     let (second, rest) = first_word(rest);
     let (third, rest) = first_word(rest);
-    let (fourth, _) = first_word(rest);
-    [
-        number_of(first),
-        number_of(second),
-        number_of(third),
-        number_of(fourth),
-    ]
+    (
+        [number_of(first), number_of(second), number_of(third)],
+        rest,
+    )
 }
 
-/// The act of a line. Of a fact the value isn't read, since no act of const is legal.
+/// An int.
+fn int_of(word: &[u8]) -> Option<i32> {
+    std::str::from_utf8(word).ok()?.parse::<i32>().ok()
+}
+
+/// The act of a line.
 fn act_of(line: &[u8]) -> Option<Act> {
     let (word, rest) = first_word(line);
-    let numbers = numbers(rest);
+    let (numbers, rest) = numbers(rest);
     match (word, numbers) {
-        (b"drop", [Some(from), Some(to), _, _]) => Some(Act::Drop { from, to }),
-        (b"fact", [Some(from), Some(to), Some(slot), _]) => Some(Act::Fact {
+        (b"drop", [Some(from), Some(to), _]) => Some(Act::Drop { from, to }),
+        (b"fact", [Some(from), Some(to), Some(slot)]) => Some(Act::Fact {
             from,
             to,
             slot,
-            value: 0,
+            value: int_of(rest)?,
         }),
-        (b"fold", [Some(at), Some(to), _, _]) => Some(Act::Fold { at, to }),
-        (b"cut", [Some(at), _, _, _]) => Some(Act::Cut { at }),
-        (b"aim", [Some(at), Some(which), Some(to), _]) => Some(Act::Aim { at, which, to }),
-        (b"skip", [Some(at), _, _, _]) => Some(Act::Skip { at }),
+        (b"fold", [Some(at), Some(to), _]) => Some(Act::Fold { at, to }),
+        (b"cut", [Some(at), _, _]) => Some(Act::Cut { at }),
+        (b"aim", [Some(at), Some(which), Some(to)]) => Some(Act::Aim { at, which, to }),
+        (b"skip", [Some(at), _, _]) => Some(Act::Skip { at }),
         _ => None,
     }
 }

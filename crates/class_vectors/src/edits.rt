@@ -10,6 +10,7 @@ use class_model::{Class, Code, Handler, Ins, same_op};
 use class_read::read_class;
 use class_write::spelled_classes_can_be_written;
 use code_edit::{Pass, PassEdits};
+use const_laws::acts::left_codes_are_reached;
 use edit_check::apply;
 use edit_legal::legal;
 use edit_passes::{jumps_edits, reach_edits, slots_edits};
@@ -104,9 +105,25 @@ fn found(alloc: Global, pass: Pass, class: &Class, index: usize) -> M<Option<Tex
         Pass::Reach => reach_edits(alloc, code)?,
         Pass::Slots => slots_edits(alloc, code)?,
         Pass::Jumps => jumps_edits(alloc, code)?,
-        Pass::Const => return Ok(None),
+        Pass::Const => match const_found(alloc, code)? {
+            Some(edits) => edits,
+            None => return Ok(None),
+        },
     };
     Ok(Some(acts_text(alloc, &edits.acts)?))
+}
+
+/// What const finds on a code, where reach finds nothing on it.
+fn const_found(alloc: Global, code: &Code) -> M<Option<PassEdits>>
+    requires few { length code.now.ins < 4294967295 }
+    requires sound { IsSound code.now }
+{
+    let left_out = reach_edits(alloc, code)?;
+    if !left_out.acts.is_empty() {
+        return Ok(None);
+    }
+    left_codes_are_reached();
+    Ok(Some(pass_const::edits(alloc, code)?))
 }
 
 // ---- class files

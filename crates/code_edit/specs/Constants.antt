@@ -57,6 +57,10 @@ abbrev pub count_by : Option ℕ → Option Ins → Count
 count_by (Some to) (Some i) = operands i.op
 count_by f o = NoOperand
 
+abbrev pub count_of : Option Ins → Count
+count_of None = NoOperand
+count_of (Some i) = operands i.op
+
 -- how many operands go with the branch or switch at an index: none where no act folds it
 abbrev pub count : List Act → Code → ℕ → Count
 count acts code at = count_by (fold_to acts at) (slice_get code.ins at)
@@ -94,6 +98,18 @@ is_next at None = false
 -- the instruction goes: as an operand, or as a branch to the next index
 abbrev pub goes : List Act → Code → ℕ → Bool
 goes acts code at = is_operand acts code at || is_next at (fold_to acts at)
+
+-- how many ints the instruction at an index takes to choose where control goes
+abbrev pub operands_at : Code → ℕ → Count
+operands_at code at = count_of (slice_get code.ins at)
+
+-- a fold of the instruction at a place to an index makes another one go: an operand, or the place
+-- itself where it leads to the next index
+abbrev pub takes_along : Code → ℕ → ℕ → ℕ → Bool
+takes_along code place to at =
+    (at == place && to == place + 1)
+    || ((at + 1 == place && is_fold (operands_at code place))
+    || (at + 1 + 1 == place && is_two (operands_at code place)))
 
 -- the code after the acts
 abbrev pub folded_code : List Act → Code → Code
@@ -149,12 +165,3 @@ IsLegalConst acts code a = ⊥
 
 abbrev pub AreLegalConst : List Act → Code → Type 0
 AreLegalConst acts code = AllByRecursion (IsLegalConst acts code) acts
-
--- ---- places that are named once
-
--- two facts name an index and slot both, or two folds an index
-abbrev pub share_const_place : Act → Act → Bool
-share_const_place (act.Fact from to slot value) (act.Fact start end named other) =
-    (slot == named) && (nat_le from end && nat_le start to)
-share_const_place (act.Fold at to) (act.Fold place other) = at == place
-share_const_place a b = false

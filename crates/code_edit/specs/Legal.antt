@@ -11,27 +11,31 @@ use Rattle.code_edit.specs.declared.act.Pass.{Pass}
 use Rattle.code_edit.specs.declared.act.Pass.TheVariants.{Reach, Const, Slots, Jumps}
 use Rattle.code_edit.specs.declared.act.PassEdits.{PassEdits}
 use Rattle.code_edit.specs.Applied.{applied, in_place, lives_of}
+use Rattle.code_edit.specs.Constants.{IsLegalConst, takes_along}
 use Rattle.code_edit.specs.Flow.{covers, targets}
 use Rattle.code_edit.specs.Jumps.{IsLegalJump}
 use Rattle.code_edit.specs.Reach.{IsLegalDrop}
 use Rattle.code_edit.specs.Slots.{IsLegalCut}
 
--- An act is right for the code among all acts of its step, of this pass; acts that name its place
--- aside. No act of const is so yet.
+-- an act is right for the code among all acts of its step, of this pass; acts that name its place
+-- aside
 abbrev pub IsRightAct : Pass → List Act → Code → Act → Type 0
 IsRightAct Reach acts code a = IsLegalDrop acts code a
 IsRightAct Slots acts code a = IsLegalCut acts code a
 IsRightAct Jumps acts code a = IsLegalJump acts code a
-IsRightAct Const acts code a = ⊥
+IsRightAct Const acts code a = IsLegalConst acts code a
 
 -- each act of a step is so: what the laws ask
 abbrev pub AreRightActs : Pass → List Act → Code → Type 0
 AreRightActs pass acts code = AllByRecursion (IsRightAct pass acts code) acts
 
--- two acts of one kind name one place: drops an index, an aim a target of an index, any other the
--- index itself
+-- two acts of one kind name one place: drops an index, facts an index and a slot, an aim a target of
+-- an index, any other the index itself
 abbrev pub share_place : Act → Act → Bool
 share_place (act.Drop from to) (act.Drop start end) = nat_le from end && nat_le start to
+share_place (act.Fact from to slot value) (act.Fact start end named other) =
+    slot == named && (nat_le from end && nat_le start to)
+share_place (act.Fold at to) (act.Fold place other) = at == place
 share_place (act.Cut at) (act.Cut place) = at == place
 share_place (act.Aim at which to) (act.Aim place number other) = at == place && which == number
 share_place (act.Skip at) (act.Skip place) = at == place
@@ -54,19 +58,21 @@ pub data IsStillAimedAt (pass : Pass) (acts : List Act) (code : Code) (at : ℕ)
       → lives_of pass acts code from ≡ true → covers h from ≡ true → at ≡ h.entry
       → IsStillAimedAt pass acts code at
 
--- the act makes the index go: a cut may take the push before its store along
-abbrev pub is_dropped_by : ℕ → Act → Bool
-is_dropped_by at (act.Drop from to) = nat_le from at && nat_le at to
-is_dropped_by at (act.Cut place) = at == place || at + 1 == place
-is_dropped_by at (act.Skip place) = at == place
-is_dropped_by at a = false
+-- the act makes the index go: a fold takes its operands along, a cut may take the push before its
+-- store
+abbrev pub is_dropped_by : Code → ℕ → Act → Bool
+is_dropped_by code at (act.Drop from to) = nat_le from at && nat_le at to
+is_dropped_by code at (act.Fold place to) = takes_along code place to at
+is_dropped_by code at (act.Cut place) = at == place || at + 1 == place
+is_dropped_by code at (act.Skip place) = at == place
+is_dropped_by code at a = false
 
 -- Nothing is still aimed at an index that the act drops and behind which nothing lives. Right acts
 -- never leave such an index in a sound code; where some act isn't right, this says which one is
 -- told.
 abbrev pub KeepsLast : Pass → List Act → Code → Act → Type 0
 KeepsLast pass acts code a =
-    (at : ℕ) → is_dropped_by at a ≡ true → lives_of pass acts code at ≡ false
+    (at : ℕ) → is_dropped_by code at a ≡ true → lives_of pass acts code at ≡ false
     → IsStillAimedAt pass acts code at → IsPastLast pass acts code at → ⊥
 
 -- ---- legal acts

@@ -12,6 +12,7 @@ use Rattle.code_edit.specs.declared.act.Act.{Act}
 use Rattle.code_edit.specs.declared.act.Act.TheVariants as act
 use Rattle.code_edit.specs.declared.act.Pass.{Pass}
 use Rattle.code_edit.specs.declared.act.Pass.TheVariants.{Reach, Const, Slots, Jumps}
+use Rattle.code_edit.specs.ConstEdits.{IsConstEdits}
 use Rattle.code_edit.specs.Flow.{covers, of_ins, successors_of, targets}
 use Rattle.code_edit.specs.Jumps.{LeadsTo, is_goto, skip_target}
 use Rattle.code_edit.specs.Slots.{is_loaded}
@@ -123,9 +124,9 @@ IsJumpsEdits code acts =
 
 -- ---- all
 
--- the acts of a pass on a code; const finds none yet
+-- the acts of a pass on a code
 abbrev pub IsFound : Pass → Code → List Act → Type 0
 IsFound Reach code acts = IsReachEdits code acts
-IsFound Const code acts = acts ≡ []
+IsFound Const code acts = IsConstEdits code acts
 IsFound Slots code acts = acts ≡ slots_edits code
 IsFound Jumps code acts = IsJumpsEdits code acts

@@ -18,7 +18,9 @@ pub fn change_at(code: &Code, marks: &[bool], slot: u32, at: u32) -> Change
     change_of(&code.ins[at as usize].op, pushed, slot)
 }
 
-fn change_of(op: &Op, pushed: Option<i32>, slot: u32) -> Change
+/// What an operation does to the int in a slot, where this int was pushed directly before, if one
+/// was.
+pub fn change_of(op: &Op, pushed: Option<i32>, slot: u32) -> Change
     ensures { result ≡ change_of op.now pushed slot }
 {
     match op {
@@ -66,7 +68,8 @@ pub fn is_marked(code: &Code, marks: &[bool], at: u32) -> bool
     }
 }
 
-fn int_pushed(op: &Op) -> Option<i32>
+/// The int that an instruction pushes.
+pub fn int_pushed(op: &Op) -> Option<i32>
     ensures { result ≡ int_pushed op.now }
 {
     match op {

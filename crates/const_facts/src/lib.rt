@@ -6,5 +6,5 @@ mod changes;
 mod held;
 mod work;
 
-pub use changes::{change_at, is_marked};
+pub use changes::{change_at, change_of, int_pushed, is_marked};
 pub use work::facts_of_slot;

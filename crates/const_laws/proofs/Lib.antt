@@ -1,4 +1,4 @@
-mod Own
-mod Once
+pub mod Own
+pub mod Once
 mod Fixed
 mod Reached

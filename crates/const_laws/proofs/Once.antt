@@ -10,17 +10,19 @@ use Rattle.jv_base.proofs.Lists.{all_at}
 use Rattle.class_model.specs.declared.code.Code.{Code}
 use Rattle.code_edit.specs.declared.act.Act.{Act}
 use Rattle.code_edit.specs.declared.act.Act.TheVariants as act
-use Rattle.code_edit.specs.Constants.{share_const_place}
 use Rattle.code_edit.specs.ConstEdits.{ByBound, IsConstEdits, Run, Shut, Open, fold_act}
 use Rattle.code_edit.specs.ConstEdits.{fold_target}
 use Rattle.code_edit.specs.ConstEdits.{folds_below, is_beyond, runs}
+use Rattle.code_edit.specs.Legal.{share_place}
 
 -- two acts of one kind name no place both
 abbrev AreApart : Act → Act → Type 0
 AreApart (act.Fact from to slot value) (act.Fact from' to' slot' value') =
     (slot ≢ slot') ⊎ (to < from') ⊎ (to' < from)
 AreApart (act.Fold at to) (act.Fold at' to') = at ≢ at'
-AreApart a b = Unit {0}
+AreApart (act.Fact from to slot value) (act.Fold at to') = Unit {0}
+AreApart (act.Fold at to) (act.Fact from to' slot value) = Unit {0}
+AreApart a b = ⊥
 
 -- no place is named twice
 abbrev NamesOnce : List Act → Type 0
@@ -350,7 +352,7 @@ above_is a b lt = by (leb_tells a b)
     by (inl q) = absurd (omega (arith, lt, q.1))
     by (inr q) = q.0
 
-apart_share : (a b : Act) → AreApart a b → share_const_place a b ≡ false
+apart_share : (a b : Act) → AreApart a b → share_place a b ≡ false
 apart_share (act.Fact from to slot v) (act.Fact start end named w) (inl n) =
     first_unlike (slot == named) (nat_le from end && nat_le start to) (unequal_is slot named n)
 apart_share (act.Fact from to slot v) (act.Fact start end named w) (inr (inl lt)) =
@@ -358,23 +360,23 @@ apart_share (act.Fact from to slot v) (act.Fact start end named w) (inr (inl lt)
 apart_share (act.Fact from to slot v) (act.Fact start end named w) (inr (inr lt)) =
     second_unlike (slot == named) (nat_le from end) (nat_le start to) (above_is from end lt)
 apart_share (act.Fact f t s v) (act.Fold a b) h = refl
-apart_share (act.Fact f t s v) (act.Drop a b) h = refl
-apart_share (act.Fact f t s v) (act.Cut a) h = refl
-apart_share (act.Fact f t s v) (act.Aim a w b) h = refl
-apart_share (act.Fact f t s v) (act.Skip a) h = refl
+apart_share (act.Fact f t s v) (act.Drop a b) h = absurd h
+apart_share (act.Fact f t s v) (act.Cut a) h = absurd h
+apart_share (act.Fact f t s v) (act.Aim a w b) h = absurd h
+apart_share (act.Fact f t s v) (act.Skip a) h = absurd h
 apart_share (act.Fold at to) (act.Fold place other) n = unequal_is at place n
 apart_share (act.Fold at to) (act.Fact f t s v) h = refl
-apart_share (act.Fold at to) (act.Drop a b) h = refl
-apart_share (act.Fold at to) (act.Cut a) h = refl
-apart_share (act.Fold at to) (act.Aim a w b) h = refl
-apart_share (act.Fold at to) (act.Skip a) h = refl
-apart_share (act.Drop a b) c h = refl
-apart_share (act.Cut a) c h = refl
-apart_share (act.Aim a w b) c h = refl
-apart_share (act.Skip a) c h = refl
+apart_share (act.Fold at to) (act.Drop a b) h = absurd h
+apart_share (act.Fold at to) (act.Cut a) h = absurd h
+apart_share (act.Fold at to) (act.Aim a w b) h = absurd h
+apart_share (act.Fold at to) (act.Skip a) h = absurd h
+apart_share (act.Drop a b) c h = absurd h
+apart_share (act.Cut a) c h = absurd h
+apart_share (act.Aim a w b) c h = absurd h
+apart_share (act.Skip a) c h = absurd h
 
 by_indices : (acts : List Act) → NamesOnce acts → (before k : ℕ) (b a : Act) → before < k
-    → slice_get acts before ≡ Some b → slice_get acts k ≡ Some a → share_const_place b a ≡ false
+    → slice_get acts before ≡ Some b → slice_get acts k ≡ Some a → share_place b a ≡ false
 by_indices [] h before k b a lt e f = absurd cc
 by_indices (x ∷ acts) h before zero b a lt e f = absurd (omega (arith, lt))
 by_indices (x ∷ acts) h zero (suc k) b a lt e f =
@@ -386,7 +388,7 @@ by_indices (x ∷ acts) h (suc before) (suc k) b a lt e f =
 -- no place is named by two acts of const
 pub own_acts_once : (code : Code) (acts : List Act) → IsConstEdits code acts → (before k : ℕ)
     (b a : Act) → before < k → slice_get acts before ≡ Some b → slice_get acts k ≡ Some a
-    → share_const_place b a ≡ false
+    → share_place b a ≡ false
 own_acts_once code acts own = by_indices acts
     (by (is_beyond (length own.asked) (length code.ins)) own.is)
   where

@@ -2,9 +2,10 @@
 ghost use Rattle.std.specs.Prelude.{◌≡◌, ◌<◌, ℕ, [], false, List, Some, slice_get};
 ghost use Rattle.class_model.specs.declared.code.Code.{Code};
 ghost use Rattle.code_edit.specs.declared.act.Act.{Act};
-ghost use Rattle.code_edit.specs.Constants.{AreLegalConst, share_const_place};
+ghost use Rattle.code_edit.specs.Constants.{AreLegalConst};
 ghost use Rattle.code_edit.specs.ConstEdits.{IsConstEdits};
 ghost use Rattle.code_edit.specs.Facts.{IsAllReached};
+ghost use Rattle.code_edit.specs.Legal.{share_place};
 ghost use Rattle.code_edit.specs.Passes.{IsReachEdits};
 
 /// They are legal, and no two of them name one place. It does nothing.
@@ -13,7 +14,7 @@ pub fn own_acts_are_legal()
         → AreLegalConst acts code }
     ensures once { (code : Code) (acts : List Act) → IsConstEdits code acts
         → (before k : ℕ) (b a : Act) → before < k → slice_get acts before ≡ Some b
-        → slice_get acts k ≡ Some a → share_const_place b a ≡ false }
+        → slice_get acts k ≡ Some a → share_place b a ≡ false }
 {}
 
 /// There is one list of them. It does nothing.

@@ -15,6 +15,9 @@ use Rattle.class_model.specs.declared.op.Op.{Op}
 use Rattle.class_model.specs.declared.op.Op.TheVariants as op
 use Rattle.code_edit.specs.declared.act.Act.{Act}
 use Rattle.code_edit.specs.declared.act.Act.TheVariants as act
+use Rattle.code_edit.specs.Constants as folding
+use Rattle.code_edit.specs.Constants.{AreLegalConst, fold_to, folded, folded_code, is_next}
+use Rattle.code_edit.specs.Constants.{is_operand, landed, new_op as new_op_of}
 use Rattle.code_edit.specs.Flow.{is_target, of_ins, targets}
 use Rattle.code_edit.specs.Jumps.{AreLegalJumps, IsLegalJump, aim, is_goto, is_skipped, jumped}
 use Rattle.code_edit.specs.Jumps.{jumped_code}
@@ -25,8 +28,12 @@ use Rattle.code_edit.specs.Slots.{goes, is_cut, is_inc, is_push, is_store, poppe
 use Rattle.code_edit.specs.Slots.{slotted_code, takes_push}
 use Rattle.code_edit.specs.SoundCode.{IsSound}
 use Rattle.edit_premises.proofs.AppliedSound.{aimed_below}
+use Rattle.edit_premises.proofs.Folds.{Here, here, no_fold, one_here, two_here}
+use Rattle.edit_premises.proofs.FoldsSound.{in_place_long, in_place_sound}
 use Rattle.edit_premises.proofs.Places.{get_below, map_from_get}
-use Rattle.edit_check.specs.Changed.{changed, cut_op, new_op, skip_op}
+use Rattle.const_tables.proofs.FoldTable.{fold_list, folds_tell, no_operand, unfolded_list}
+use Rattle.const_tables.proofs.FoldTable.{unfolded_long, unfolded_where}
+use Rattle.edit_check.specs.Changed.{changed, cut_op, goto_op, new_op, skip_op}
 use Rattle.edit_tables.specs.Marks.{has, none, target_marks, with_cuts, with_skips}
 use Rattle.edit_tables.specs.Places.{counts_from, lives_in, place_in}
 use Rattle.edit_tables.specs.Swept.{swept_of}
@@ -105,16 +112,117 @@ module _ (all : List Act) (code : Code) where
 
     pub reach_is : IsSound code → (aimed : ℕ → ℕ → ℕ → ℕ)
         → ((at which t : ℕ) → aimed at which t ≡ t)
-        → changed (swept_of all (length code.ins)) [] [] aimed code ≡ left_code all code
+        → changed (swept_of all (length code.ins)) [] [] [] aimed code ≡ left_code all code
     reach_is sound aimed same =
         let lives = swept_of all (length code.ins) in
-        changed_is lives [] [] aimed (λ at o. o) code
+        changed_is lives [] [] [] aimed (λ at o. o) code
         (swept_long all (length code.ins)) sound.handlers
         (λ at i e l. stays_put code sound lives
         (swept_long all (length code.ins)) aimed same at i e)
         ∙ ap (λ (f : ℕ → Bool). compacted f (rewritten (λ at o. o) code)) (λ i at. left_where at i)
         ∙ ap (λ (xs : List Ins). compacted (is_left all) (record code { ins = xs; frames = [] }))
         (id_is 0 code.ins)
+
+-- ---- const
+
+module _ (acts : List Act) (code : Code) (sound : IsSound code) (right : AreLegalConst acts code)
+    (aimed : ℕ → ℕ → ℕ → ℕ) (same : (at which t : ℕ) → aimed at which t ≡ t) where
+  abbrev fold_lives : List Bool
+  fold_lives = unfolded_list acts code
+
+  abbrev fold_to_place : ℕ → ℕ → ℕ
+  fold_to_place which t = place (lives_in fold_lives) t
+
+  abbrev folded_here : ℕ → Op → Op
+  folded_here at o =
+      retargeted (λ which t. place_in (counts_from 0 fold_lives) (aimed at which t)) o
+
+  folded_ins : (at to : ℕ) → fold_to acts at ≡ Some to
+      → (i : Ins) × (slice_get code.ins at ≡ Some i)
+  folded_ins at to e = by (here acts code right at)
+    where
+      by : Here acts code right at → (i : Ins) × (slice_get code.ins at ≡ Some i)
+      by (no_fold g c) = absurd (let q : None ≡ Some to = sym g ∙ e in cc)
+      by (one_here t g h c) = (h.ins, h.here)
+      by (two_here t g h c) = (h.ins, h.here)
+
+  -- what becomes a goto leads to an index of the code
+  fold_below : (at to : ℕ) (i : Ins) → slice_get code.ins at ≡ Some i
+      → is_operand acts code at ≡ false → fold_to acts at ≡ Some to → (to == at + 1) ≡ false
+      → to < length code.ins
+  fold_below at to i e p q n =
+      let r = in_place_sound acts code right sound in
+      let z : 0 + at ≡ at = omega arith in
+      let there =
+      map_from_get (λ k (x : Ins). with_op (folded acts code k) x) 0 code.ins at
+      ∙ ap (λ k. option_map (with_op (folded acts code k)) (slice_get code.ins at)) z
+      ∙ ap (option_map (with_op (folded acts code at))) e in
+      let is : folded acts code at i.op ≡ op.Goto to =
+      (λ k. new_op_of (p k) (q k) at i.op) ∙ ap (λ b. if b then op.Nop else op.Goto to) n in
+      subst (λ m. to < m) (in_place_long acts code right sound)
+      (subst (λ o. AllByRecursion (λ t. t < length (rewritten (folded acts code) code).ins)
+      (targets o)) is (r.jump at (with_op (folded acts code at) i) there)).0
+
+  nothing_folded : (at : ℕ) → length code.ins ≤ at → (f : Option ℕ) → fold_to acts at ≡ f
+      → is_next at f ≡ false
+  nothing_folded at le None e = refl
+  nothing_folded at le (Some to) e =
+      let i = folded_ins at to e in
+      absurd (omega (arith, le, get_below code.ins at i.0 i.1))
+
+  fold_where : (at : ℕ) → lives_in fold_lives at ≡ not (folding.goes acts code at)
+  fold_where at = by (leb_tells (suc at) (length code.ins))
+    where
+      by : ((nat_le (suc at) (length code.ins) ≡ true) × (suc at ≤ length code.ins))
+          ⊎ ((nat_le (suc at) (length code.ins) ≡ false) × (length code.ins < suc at))
+          → lives_in fold_lives at ≡ not (folding.goes acts code at)
+      by (inl p) = unfolded_where acts code at (omega (arith, p.1))
+      by (inr p) =
+          let le : length code.ins ≤ at = omega (arith, p.1) in
+          outside fold_lives at (subst (λ n. n ≤ at) (sym (unfolded_long acts code)) le)
+          ∙ ap not (sym (ap (λ b. b || is_next at (fold_to acts at)) (no_operand acts code at le)
+          ∙ nothing_folded at le (fold_to acts at) refl))
+
+  -- what a fold leaves becomes a goto; any other instruction that lives stays
+  goto_is : (at : ℕ) (i : Ins) → slice_get code.ins at ≡ Some i → (f : Option ℕ)
+      → is_operand acts code at ≡ false → fold_to acts at ≡ f → is_next at f ≡ false
+      → unwrap_or (goto_op (counts_from 0 fold_lives) f) (folded_here at i.op)
+      ≡ retargeted fold_to_place (landed at i.op f)
+  goto_is at i e None p q n =
+      stays_put code sound fold_lives (unfolded_long acts code) aimed same at i e
+  goto_is at i e (Some to) p q n =
+      ap op.Goto (place_is fold_lives to (below (fold_below at to i e p q n)))
+      ∙ ap (λ b. retargeted fold_to_place (if b then op.Nop else op.Goto to)) (sym n)
+    where
+      below : to < length code.ins → to ≤ length fold_lives
+      below lt = subst (λ m. to ≤ m) (sym (unfolded_long acts code)) (omega (arith, lt))
+
+  fold_ops : (at : ℕ) (i : Ins) → slice_get code.ins at ≡ Some i → lives_in fold_lives at ≡ true
+      → new_op fold_lives [] [] (fold_list acts code) aimed (counts_from 0 fold_lives) at i.op
+      ≡ retargeted fold_to_place (folded acts code at i.op)
+  fold_ops at i e l =
+      let lt : at < length code.ins = get_below code.ins at i e in
+      let gone = none_gone (is_operand acts code at) (is_next at (fold_to acts at))
+      (un_not _ (sym (fold_where at) ∙ l)) in
+      ap (λ f. unwrap_or (goto_op (counts_from 0 fold_lives) f) (folded_here at i.op))
+      (folds_tell acts (length code.ins) at lt)
+      ∙ goto_is at i e (fold_to acts at) gone.0 refl gone.1
+      ∙ ap (λ b. retargeted fold_to_place (new_op_of b (fold_to acts at) at i.op)) (sym gone.0)
+    where
+      un_not : (b : Bool) → not b ≡ true → b ≡ false
+      un_not true q = absurd cc
+      un_not false q = refl
+
+      none_gone : (a b : Bool) → (a || b) ≡ false → (a ≡ false) × (b ≡ false)
+      none_gone true b q = absurd cc
+      none_gone false b q = (refl, q)
+
+  pub folds_is : changed fold_lives [] [] (fold_list acts code) aimed code ≡ folded_code acts code
+  folds_is =
+      changed_is fold_lives [] [] (fold_list acts code) aimed (folded acts code) code
+      (unfolded_long acts code) sound.handlers fold_ops
+      ∙ ap (λ (f : ℕ → Bool). compacted f (rewritten (folded acts code) code))
+      (λ i at. fold_where at i)
 
 -- ---- slots
 
@@ -228,7 +336,7 @@ module _ (acts : List Act) (code : Code) where
     cut_op_is at o false h = h
 
     slot_ops : (at : ℕ) (i : Ins) → slice_get code.ins at ≡ Some i → lives_in kept at ≡ true
-        → new_op kept cuts [] aimed (counts_from 0 kept) at i.op ≡ retargeted slot_to
+        → new_op kept cuts [] [] aimed (counts_from 0 kept) at i.op ≡ retargeted slot_to
         (slotted acts code at i.op)
     slot_ops at i e l =
         let lt : at < length code.ins = get_below code.ins at i e in
@@ -246,9 +354,9 @@ module _ (acts : List Act) (code : Code) where
         un_not true q = absurd cc
         un_not false q = refl
 
-    pub slots_is : changed kept cuts [] aimed code ≡ slotted_code acts code
+    pub slots_is : changed kept cuts [] [] aimed code ≡ slotted_code acts code
     slots_is =
-        changed_is kept cuts [] aimed (slotted acts code) code kept_long sound.handlers slot_ops
+        changed_is kept cuts [] [] aimed (slotted acts code) code kept_long sound.handlers slot_ops
         ∙ ap (λ (f : ℕ → Bool). compacted f (rewritten (slotted acts code) code))
         (λ i at. kept_where at i)
 
@@ -301,7 +409,7 @@ module _ (acts : List Act) (code : Code) where
     right_skip at i e a h q = absurd cc
 
     jump_ops : (at : ℕ) (i : Ins) → slice_get code.ins at ≡ Some i → lives_in (going acts code) at ≡ true
-        → new_op (going acts code) [] (skip_list acts code) aimed (counts_from 0 (going acts code)) at i.op ≡ retargeted jump_to
+        → new_op (going acts code) [] (skip_list acts code) [] aimed (counts_from 0 (going acts code)) at i.op ≡ retargeted jump_to
         (jumped acts at i.op)
     jump_ops at i e l =
         let lt : at < length code.ins = get_below code.ins at i e in
@@ -319,8 +427,8 @@ module _ (acts : List Act) (code : Code) where
             right_skip at i e x.1 (all_at (IsLegalJump acts code) acts x.0 x.1 legal x.2) x.3 in
             skip_is at i.op r.0 r.1
 
-    pub jumps_is : changed (going acts code) [] (skip_list acts code) aimed code ≡ jumped_code acts code
+    pub jumps_is : changed (going acts code) [] (skip_list acts code) [] aimed code ≡ jumped_code acts code
     jumps_is =
-        changed_is (going acts code) [] (skip_list acts code) aimed (jumped acts) code (going_long acts code) sound.handlers jump_ops
+        changed_is (going acts code) [] (skip_list acts code) [] aimed (jumped acts) code (going_long acts code) sound.handlers jump_ops
         ∙ ap (λ (f : ℕ → Bool). compacted f (rewritten (jumped acts) code))
         (λ i at. going_where acts code at i)

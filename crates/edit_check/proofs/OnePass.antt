@@ -1,5 +1,5 @@
 -- A code that changes in one pass is rewritten and then compacted.
-use Rattle.std.proofs.Common.{ℕ, zero, suc, ◌+◌, ◌<◌, ◌≤◌, List, [], ◌∷◌, Some, Bool, true, false}
+use Rattle.std.proofs.Common.{ℕ, zero, suc, ◌+◌, ◌<◌, ◌≤◌, List, [], ◌∷◌, Option, Some, Bool, true, false}
 use Rattle.std.proofs.Common.{◌≡◌, refl, sym, ap}
 use Rattle.std.proofs.Common.{◌∙◌, subst, arith}
 use Rattle.std.specs.Prelude.{length, map, slice_get, slice_index_or, if◌then◌else◌}
@@ -17,7 +17,8 @@ use Rattle.edit_tables.proofs.Counting.{place_is}
 
 -- ---- codes
 
-module _ (lives pops skips : List Bool) (aimed : ℕ → ℕ → ℕ → ℕ) (f : ℕ → Op → Op) where
+module _ (lives pops skips : List Bool) (folds : List (Option ℕ)) (aimed : ℕ → ℕ → ℕ → ℕ)
+    (f : ℕ → Op → Op) where
   abbrev to : ℕ → ℕ → ℕ
   to which t = place (lives_in lives) t
 
@@ -27,30 +28,30 @@ module _ (lives pops skips : List Bool) (aimed : ℕ → ℕ → ℕ → ℕ) (f
   module _ (places : List ℕ) where
     ins_are : (k : ℕ) (xs : List Ins)
         → ((j : ℕ) (i : Ins) → slice_get xs j ≡ Some i → lives_in lives (k + j) ≡ true
-        → new_op lives pops skips aimed places (k + j) i.op ≡ retargeted to (f (k + j) i.op))
-        → left_ins lives pops skips aimed places k xs
+        → new_op lives pops skips folds aimed places (k + j) i.op ≡ retargeted to (f (k + j) i.op))
+        → left_ins lives pops skips folds aimed places k xs
         ≡ map (with_op (retargeted to))
         (survivors (lives_in lives) k (map_from (λ at i. with_op (f at) i) k xs))
     ins_are k [] h = refl
     ins_are k (x ∷ xs) h = by (lives_in lives k) refl
         (ins_are (suc k) xs (λ j i e l. let n : k + suc j ≡ suc k + j = omega arith in
-        subst (λ q. new_op lives pops skips aimed places q i.op ≡ retargeted to (f q i.op)) n
+        subst (λ q. new_op lives pops skips folds aimed places q i.op ≡ retargeted to (f q i.op)) n
         (h (suc j) i e (subst (λ q. lives_in lives q ≡ true) (sym n) l))))
       where
         here : lives_in lives k ≡ true
-            → new_op lives pops skips aimed places k x.op ≡ retargeted to (f k x.op)
+            → new_op lives pops skips folds aimed places k x.op ≡ retargeted to (f k x.op)
         here l = let n : k + 0 ≡ k = omega arith in
-            subst (λ q. new_op lives pops skips aimed places q x.op ≡ retargeted to (f q x.op)) n
+            subst (λ q. new_op lives pops skips folds aimed places q x.op ≡ retargeted to (f q x.op)) n
             (h 0 x refl (subst (λ q. lives_in lives q ≡ true) (sym n) l))
 
         by : (b : Bool) → lives_in lives k ≡ b
-            → left_ins lives pops skips aimed places (suc k) xs
+            → left_ins lives pops skips folds aimed places (suc k) xs
             ≡ map (with_op (retargeted to))
             (survivors (lives_in lives) (suc k)
             (map_from (λ at i. with_op (f at) i) (suc k) xs))
-            → (if b then with_op (new_op lives pops skips aimed places k) x
-            ∷ left_ins lives pops skips aimed places (suc k) xs
-            else left_ins lives pops skips aimed places (suc k) xs)
+            → (if b then with_op (new_op lives pops skips folds aimed places k) x
+            ∷ left_ins lives pops skips folds aimed places (suc k) xs
+            else left_ins lives pops skips folds aimed places (suc k) xs)
             ≡ map (with_op (retargeted to))
             (if b then with_op (f k) x
             ∷ survivors (lives_in lives) (suc k)
@@ -75,12 +76,12 @@ module _ (lives pops skips : List Bool) (aimed : ℕ → ℕ → ℕ → ℕ) (f
   pub changed_is : (code : Code) → length lives ≡ length code.ins
       → AllByRecursion (IsPlaced (length code.ins)) code.handlers
       → ((at : ℕ) (i : Ins) → slice_get code.ins at ≡ Some i → lives_in lives at ≡ true
-      → new_op lives pops skips aimed (counts_from 0 lives) at i.op ≡ retargeted to (f at i.op))
-      → changed lives pops skips aimed code ≡ compacted (lives_in lives) (rewritten f code)
+      → new_op lives pops skips folds aimed (counts_from 0 lives) at i.op ≡ retargeted to (f at i.op))
+      → changed lives pops skips folds aimed code ≡ compacted (lives_in lives) (rewritten f code)
   changed_is code long placed each =
       let ins = ins_are (counts_from 0 lives) 0 code.ins
       (λ j i e l. let z : j ≡ 0 + j = omega arith in
-      subst (λ q. new_op lives pops skips aimed (counts_from 0 lives) q i.op ≡ retargeted to
+      subst (λ q. new_op lives pops skips folds aimed (counts_from 0 lives) q i.op ≡ retargeted to
       (f q i.op)) z
       (each j i e (subst (λ q. lives_in lives q ≡ true) (sym z) l))) in
       let handlers = handlers_are code.handlers

@@ -19,19 +19,23 @@ abbrev pub moved_case : Aims → List ℕ → ℕ → ℕ → Case → Case
 moved_case aims places at which c = record c { to = target_to aims places at which c.to }
 
 -- what stands in place of the operation at an index, where another one does
-abbrev pub other_op : Tables → ℕ → Op → Option Op
-other_op t at o = by_lists.other_op t.lives.items t.pops.items t.skips.items (aimed t.aims) at o
+abbrev pub other_op : Tables → List ℕ → ℕ → Op → Option Op
+other_op t places at o =
+    by_lists.other_op t.lives.items t.pops.items t.skips.items t.folds.items (aimed t.aims) places
+    at o
 
 -- the operation at an index after the acts, its targets where they come to stand
 abbrev pub new_op : Tables → List ℕ → ℕ → Op → Op
 new_op t places at o =
-    by_lists.new_op t.lives.items t.pops.items t.skips.items (aimed t.aims) places at o
+    by_lists.new_op t.lives.items t.pops.items t.skips.items t.folds.items (aimed t.aims) places at o
 
 -- the instructions that are left, the first one's index being at
 abbrev pub left_ins : Tables → List ℕ → ℕ → List Ins → List Ins
 left_ins t places at ins =
-    by_lists.left_ins t.lives.items t.pops.items t.skips.items (aimed t.aims) places at ins
+    by_lists.left_ins t.lives.items t.pops.items t.skips.items t.folds.items (aimed t.aims) places at
+    ins
 
 -- the code after the acts
 abbrev pub changed : Tables → Code → Code
-changed t code = by_lists.changed t.lives.items t.pops.items t.skips.items (aimed t.aims) code
+changed t code =
+    by_lists.changed t.lives.items t.pops.items t.skips.items t.folds.items (aimed t.aims) code

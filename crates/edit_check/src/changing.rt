@@ -2,13 +2,14 @@
 ghost use Rattle.std.specs.Prelude.{◌≡◌, ◌<◌, IfOk, length, map, option_copied};
 ghost use Rattle.std.specs.List.{filter};
 ghost use Rattle.code_edit.specs.Rewriting.{is_open, moved_handler, with_op};
-ghost use Rattle.edit_check.specs.Changed.{cut_op, skip_op};
+ghost use Rattle.edit_check.specs.Changed.{cut_op, goto_op, skip_op};
 ghost use Rattle.edit_tables.specs.Places.{place_in};
 ghost use Rattle.edit_check.specs.Tables.{changed, left_ins, new_op, other_op};
 
 use crate::moving::moved_op;
 use crate::tables::Tables;
 use class_model::{Code, Frames, Handler, Ins, Kind, Op};
+use const_tables::folding::fold_in;
 use edit_tables::marks::has;
 use edit_tables::places::{lives_in, place_in, places};
 use jv_base::{Items, M, Name};
@@ -37,9 +38,19 @@ fn cut_op(op: &Op) -> Option<Op>
     }
 }
 
+/// What stands in place of a branch or switch that is folded.
+fn goto_op(places: &[u32], fold: Option<u32>) -> Option<Op>
+    ensures { result ≡ goto_op places.now fold }
+{
+    match fold {
+        Some(to) => Some(Op::Goto(place_in(places, to))),
+        None => None,
+    }
+}
+
 /// What stands in place of the operation at an index, where another one does.
-fn other_op(tables: &Tables, at: usize, op: &Op) -> Option<Op>
-    ensures { result ≡ other_op tables.now at op.now }
+fn other_op(tables: &Tables, places: &[u32], at: usize, op: &Op) -> Option<Op>
+    ensures { result ≡ other_op tables.now places.now at op.now }
 {
     if has(&tables.skips, at) {
         return skip_op(op);
@@ -47,14 +58,14 @@ fn other_op(tables: &Tables, at: usize, op: &Op) -> Option<Op>
     if has(&tables.pops, at) {
         return cut_op(op);
     }
-    None
+    goto_op(places, fold_in(&tables.folds, at))
 }
 
 /// The operation at an index after the acts, its targets where they come to stand.
 fn new_op(alloc: Global, tables: &Tables, places: &[u32], at: usize, op: &Op) -> M<Op>
     ensures { IfOk result (λ new. new ≡ new_op tables.now places.now at op.now) }
 {
-    match other_op(tables, at, op) {
+    match other_op(tables, places, at, op) {
         Some(other) => Ok(other),
         None => moved_op(alloc, &tables.aims, places, at, op),
     }

@@ -1,6 +1,7 @@
 // The code after the acts of a step.
-ghost use Rattle.std.specs.Prelude.{◌≡◌, ◌<◌, [], IfOk, length};
+ghost use Rattle.std.specs.Prelude.{◌≡◌, ◌<◌, IfOk, length};
 ghost use Rattle.code_edit.specs.Applied.{applied};
+ghost use Rattle.code_edit.specs.Constants.{AreLegalConst, folded_code};
 ghost use Rattle.code_edit.specs.Jumps.{AreLegalJumps, jumped_code};
 ghost use Rattle.code_edit.specs.Legal.{AreRightActs};
 ghost use Rattle.code_edit.specs.Reach.{AreLegalDrops, left_code};
@@ -8,7 +9,7 @@ ghost use Rattle.code_edit.specs.Slots.{slotted_code};
 ghost use Rattle.code_edit.specs.SoundCode.{IsSound};
 
 use crate::changing::changed;
-use crate::tables::{jumps_tables, reach_tables, slots_tables};
+use crate::tables::{const_tables, jumps_tables, reach_tables, slots_tables};
 use class_model::Code;
 use code_edit::{Act, Pass, PassEdits};
 use jv_base::M;
@@ -22,6 +23,18 @@ fn left_code(alloc: Global, code: &Code, acts: &[Act]) -> M<Code>
     ensures { IfOk result (λ after. after ≡ left_code acts.now code.now) }
 {
     let tables = reach_tables(alloc, acts, code.ins.len())?;
+    let after = changed(alloc, &tables, code)?;
+    Ok(after)
+}
+
+#[tactic(auto, using(crate::proofs::Stepping::const_after, crate::proofs::Stepping::const_few))]
+fn folded_code(alloc: Global, code: &Code, acts: &[Act]) -> M<Code>
+    requires few { length code.now.ins < 4294967295 }
+    requires sound { IsSound code.now }
+    requires right { AreLegalConst acts.now code.now }
+    ensures { IfOk result (λ after. after ≡ folded_code acts.now code.now) }
+{
+    let tables = const_tables(alloc, acts, code)?;
     let after = changed(alloc, &tables, code)?;
     Ok(after)
 }
@@ -62,7 +75,7 @@ pub fn apply(alloc: Global, code: &Code, edits: &PassEdits) -> M<Code>
     let acts = edits.acts.as_slice();
     match edits.pass {
         Pass::Reach => left_code(alloc, code, acts),
-        Pass::Const => left_code(alloc, code, &[]),
+        Pass::Const => folded_code(alloc, code, acts),
         Pass::Slots => slotted_code(alloc, code, acts),
         Pass::Jumps => jumped_code(alloc, code, acts),
     }

@@ -2,12 +2,13 @@
 ghost use Rattle.std.specs.Prelude.{◌≡◌, ◌<◌, IfOk, length};
 ghost use Rattle.code_edit.specs.Flow.{of_ins};
 ghost use Rattle.code_edit.specs.Slots.{is_inc, is_push, is_store};
-ghost use Rattle.edit_check.specs.StepTables.{IsJumpsTables, IsReachTables};
+ghost use Rattle.edit_check.specs.StepTables.{IsConstTables, IsJumpsTables, IsReachTables};
 ghost use Rattle.edit_check.specs.StepTables.{IsSlotsTables};
 ghost use Rattle.edit_check.specs.Uncut.{is_uncut, takes, uncut};
 
 use class_model::{Code, Op};
 use code_edit::Act;
+use const_tables::folding::{folds_of, unfolded};
 use edit_tables::aims::{Aims, aims_of, no_aims};
 use edit_tables::dropping::left_by;
 use edit_tables::marks::{cut_marks, has, skip_marks, target_marks};
@@ -24,6 +25,8 @@ pub(crate) struct Tables {
     pub(crate) pops: Vec<bool>,
     /// Whether a branch becomes what takes its operands from the stack.
     pub(crate) skips: Vec<bool>,
+    /// Where a branch or switch leads that becomes a goto.
+    pub(crate) folds: Vec<Option<u32>>,
     pub(crate) aims: Aims,
 }
 
@@ -35,6 +38,23 @@ pub(crate) fn reach_tables(alloc: Global, acts: &[Act], count: usize) -> M<Table
         lives: left_by(alloc, acts, count)?,
         pops: Vec::new(alloc),
         skips: Vec::new(alloc),
+        folds: Vec::new(alloc),
+        aims: no_aims(alloc),
+    })
+}
+
+/// Acts of const.
+pub(crate) fn const_tables(alloc: Global, acts: &[Act], code: &Code) -> M<Tables>
+    requires { length code.now.ins < 4294967295 }
+    ensures { IfOk result (IsConstTables acts.now code.now) }
+{
+    let folds = folds_of(alloc, acts, code.ins.len())?;
+    let lives = unfolded(alloc, &folds, code)?;
+    Ok(Tables {
+        lives,
+        pops: Vec::new(alloc),
+        skips: Vec::new(alloc),
+        folds,
         aims: no_aims(alloc),
     })
 }
@@ -51,6 +71,7 @@ pub(crate) fn slots_tables(alloc: Global, acts: &[Act], code: &Code) -> M<Tables
         lives,
         pops: cuts,
         skips: Vec::new(alloc),
+        folds: Vec::new(alloc),
         aims: no_aims(alloc),
     })
 }
@@ -65,6 +86,7 @@ pub(crate) fn jumps_tables(alloc: Global, acts: &[Act], code: &Code) -> M<Tables
         lives,
         pops: Vec::new(alloc),
         skips,
+        folds: Vec::new(alloc),
         aims: aims_of(alloc, acts)?,
     })
 }

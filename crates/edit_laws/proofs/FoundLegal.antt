@@ -7,6 +7,7 @@ use Rattle.code_edit.specs.declared.act.Pass.TheVariants.{Reach, Const, Slots, J
 use Rattle.code_edit.specs.Legal.{AreLegal}
 use Rattle.code_edit.specs.Passes.{IsFound}
 use Rattle.code_edit.specs.SoundCode.{IsSound}
+use Rattle.edit_laws.proofs.FoundConst.{const_legal}
 use Rattle.edit_laws.proofs.FoundJumps.{jumps_legal}
 use Rattle.edit_laws.proofs.FoundReach.{reach_legal}
 use Rattle.edit_laws.proofs.FoundSlots.{slots_legal}
@@ -21,5 +22,4 @@ found_legal Slots acts code f sound =
 found_legal Jumps acts code f sound =
     subst (λ (xs : List Act). AreLegal Jumps xs code) (sym f.2)
     (jumps_legal code sound f.0 f.1)
-found_legal Const acts code f sound =
-    subst (λ (xs : List Act). AreLegal Const xs code) (sym f) (λ k a e. absurd cc)
+found_legal Const acts code f sound = const_legal code acts sound f

@@ -1,4 +1,5 @@
 mod Acting
+mod FoundConst
 mod FoundJumps
 mod FoundLegal
 mod FoundReach

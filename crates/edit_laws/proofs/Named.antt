@@ -1,6 +1,6 @@
 -- What holds of the names of a code holds after each step.
-use Rattle.std.proofs.Common.{ℕ, suc, List, [], ◌∷◌, Option, Bool, true, false}
-use Rattle.std.specs.Prelude.{map, not, if◌then◌else◌}
+use Rattle.std.proofs.Common.{ℕ, suc, ◌+◌, List, [], ◌∷◌, Option, Some, None, Bool, true, false}
+use Rattle.std.specs.Prelude.{map, not, ◌==◌, if◌then◌else◌}
 use Rattle.std.specs.List.{AllByRecursion, filter}
 use Rattle.class_model.specs.declared.code.Code.{Code}
 use Rattle.class_model.specs.declared.code.Handler.{Handler}
@@ -14,6 +14,7 @@ use Rattle.code_edit.specs.declared.act.Pass.TheVariants.{Reach, Const, Slots, J
 use Rattle.code_edit.specs.declared.act.PassEdits.{PassEdits}
 use Rattle.code_edit.specs.Rewriting.{compacted, is_open, map_from, moved_handler, place}
 use Rattle.code_edit.specs.Rewriting.{retargeted, rewritten, survivors, with_op}
+use Rattle.code_edit.specs.Constants as constants
 use Rattle.code_edit.specs.Jumps as jumps
 use Rattle.code_edit.specs.Reach as reach
 use Rattle.code_edit.specs.Slots as slots
@@ -111,6 +112,22 @@ module _ (Good : Op → Type 0) (is : IsOfNames Good) (Caught : Option (List ℕ
       by false true = popped_good o g
       by false false = g
 
+  landed_good : (at : ℕ) (o : Op) (f : Option ℕ) → Good o → Good (constants.landed at o f)
+  landed_good at o None g = g
+  landed_good at o (Some to) g = by (to == at + 1)
+    where
+      by : (b : Bool) → Good (if b then op.Nop else op.Goto to)
+      by true = is.nop
+      by false = is.goto to
+
+  folded_good : (acts : List Act) (code : Code) (at : ℕ) (o : Op) → Good o
+      → Good (constants.folded acts code at o)
+  folded_good acts code at o g = by (constants.is_operand acts code at)
+    where
+      by : (b : Bool) → Good (constants.new_op b (constants.fold_to acts at) at o)
+      by true = is.nop
+      by false = landed_good at o (constants.fold_to acts at) g
+
   applied_holds : (p : Pass) (acts : List Act) (code : Code) → HoldsOf Good Caught code
       → HoldsOf Good Caught (applied p acts code)
   applied_holds Reach acts code h = compacted_holds (reach.is_left acts) code h
@@ -121,7 +138,10 @@ module _ (Good : Op → Type 0) (is : IsOfNames Good) (Caught : Option (List ℕ
   applied_holds Jumps acts code h =
       compacted_holds (jumps.stays acts code) (rewritten (jumps.jumped acts) code)
       (rewritten_holds (jumps.jumped acts) (jumped_good acts) code h)
-  applied_holds Const acts code h = compacted_holds (λ at. true) code h
+  applied_holds Const acts code h =
+      compacted_holds (λ at. not (constants.goes acts code at))
+      (rewritten (constants.folded acts code) code)
+      (rewritten_holds (constants.folded acts code) (folded_good acts code) code h)
 
   -- what holds of the names of a code holds of the code after any steps
   pub edited_holds : (steps : List PassEdits) (code : Code) → HoldsOf Good Caught code

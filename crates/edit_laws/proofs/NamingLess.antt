@@ -26,7 +26,13 @@ module _ (code : Code) where
   moves f o g = g
 
   of_names : IsOfNames (IsOpOf code.ins)
-  of_names = record { moves = moves; nop = plain refl; pop = plain refl; pop2 = plain refl }
+  of_names = record {
+    moves = moves;
+    nop = plain refl;
+    goto = λ to. plain refl;
+    pop = plain refl;
+    pop2 = plain refl;
+  }
 
   own : HoldsOf (IsOpOf code.ins) (IsCaughtIn code.handlers) code
   own = record {

@@ -13,6 +13,7 @@ use Rattle.code_edit.specs.Rewriting.{retargeted}
 pub record IsOfNames (Good : Op → Type 0) : Type 0 where
   pub moves : (f : ℕ → ℕ → ℕ) (o : Op) → Good o → Good (retargeted f o)
   pub nop : Good op.Nop
+  pub goto : (to : ℕ) → Good (op.Goto to)
   pub pop : Good op.Pop
   pub pop2 : Good op.Pop2
 

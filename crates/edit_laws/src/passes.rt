@@ -4,13 +4,11 @@ ghost use Rattle.class_model.specs.declared.code.Code.{Code};
 ghost use Rattle.code_edit.specs.declared.act.Act.{Act};
 ghost use Rattle.code_edit.specs.declared.act.Pass.TheVariants as pass;
 ghost use Rattle.code_edit.specs.Applied.{applied};
-ghost use Rattle.code_edit.specs.Constants.{IsLegalConst, folded_code};
 ghost use Rattle.code_edit.specs.Legal.{IsRightAct};
 ghost use Rattle.edit_laws.specs.Acted.{IsActedOn};
 ghost use Rattle.edit_premises.specs.Changes.{Becomes, Changed, Together};
 ghost use Rattle.edit_premises.specs.Steps.{IsAfter, IsEdited};
 ghost use Rattle.edit_premises.proofs.Changes.{changed_premise};
-ghost use Rattle.edit_premises.proofs.ConstSteps.{const_becomes};
 ghost use Rattle.edit_premises.proofs.Steps.{step_becomes};
 ghost use Rattle.jvm_model.specs.Program.{View};
 ghost use Rattle.jvm_model.specs.Same.{Same, own_names};
@@ -97,15 +95,15 @@ impl CodePass for Jumps {
 pub struct Const;
 
 impl CodePass for Const {
-    ghost applied = { folded_code };
+    ghost applied = { applied pass.Const };
 
-    ghost right = { IsLegalConst };
+    ghost right = { IsRightAct pass.Const };
 
     fn name() -> &'static str {
         "const"
     }
 
-    ghost changes = { const_becomes };
+    ghost changes = { step_becomes pass.Const };
 }
 
 /// A program in which codes are after right acts of a pass, or as they were, does the same. It
@@ -146,7 +144,7 @@ pub fn jumps_keep_same()
 /// So it is of const. It does nothing.
 pub fn const_keeps_same()
     ensures { (v w : View) → w.shape ≡ v.shape
-        → ((m : Key) → IsActedOn folded_code IsLegalConst (v.code m) (w.code m))
+        → ((m : Key) → IsAfter pass.Const (v.code m) (w.code m))
         → (entries : List Key) → Same v w own_names entries }
 {
     right_acts_keep_same::<Const>();

@@ -2,8 +2,6 @@
 ghost use Rattle.std.specs.Prelude.{List};
 ghost use Rattle.class_model.specs.declared.class.Class.{Class};
 ghost use Rattle.code_edit.specs.declared.act.Pass.{Pass};
-ghost use Rattle.code_edit.specs.Constants.{IsLegalConst, folded_code};
-ghost use Rattle.edit_laws.specs.Acted.{IsActedOn};
 ghost use Rattle.edit_premises.specs.Steps.{IsAfter, IsEdited};
 ghost use Rattle.jvm_model.specs.Same.{Same, own_names};
 ghost use Rattle.jvm_model.specs.Value.{Key};
@@ -17,13 +15,5 @@ pub fn edited_sets_keep_same()
     ensures step { (p : Pass) (a b : List Class) → DifferInCodes a b → CodesAre (IsAfter p) a b
         → (entries : List Key) → Same (view_of a) (view_of b) own_names entries }
     ensures steps { (a b : List Class) → DifferInCodes a b → CodesAre IsEdited a b
-        → (entries : List Key) → Same (view_of a) (view_of b) own_names entries }
-{}
-
-/// So it is where each code of the one is that of the other, or is after legal acts of const on it.
-/// It does nothing.
-pub fn const_sets_keep_same()
-    ensures { (a b : List Class) → DifferInCodes a b
-        → CodesAre (IsActedOn folded_code IsLegalConst) a b
         → (entries : List Key) → Same (view_of a) (view_of b) own_names entries }
 {}

@@ -6,7 +6,6 @@ ghost use Rattle.code_edit.specs.declared.act.Act.{Act};
 ghost use Rattle.code_edit.specs.declared.act.Pass.{Pass};
 ghost use Rattle.code_edit.specs.declared.act.PassEdits.{PassEdits};
 ghost use Rattle.code_edit.specs.Applied.{applied, edited};
-ghost use Rattle.code_edit.specs.Constants.{AreLegalConst, folded_code};
 ghost use Rattle.code_edit.specs.Flow.{goes_elsewhere, of_ins};
 ghost use Rattle.code_edit.specs.Legal.{AreRightActs, AreRightSteps};
 ghost use Rattle.code_edit.specs.SoundCode.{IsSound};
@@ -18,12 +17,6 @@ pub fn right_acts_keep_sound()
         → IsSound code → IsSound (applied p acts code) }
     ensures steps { (steps : List PassEdits) (code : Code) → AreRightSteps steps code
         → IsSound code → IsSound (edited steps code) }
-{}
-
-/// So do legal acts of const. It does nothing.
-pub fn const_keeps_sound()
-    ensures { (acts : List Act) (code : Code) → AreLegalConst acts code → IsSound code
-        → IsSound (folded_code acts code) }
 {}
 
 /// A code that follows the format is sound where its last instruction doesn't go on. It does

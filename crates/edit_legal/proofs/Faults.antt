@@ -9,7 +9,6 @@ use Rattle.jv_base.proofs.Lists.{all_from, any_at, any_where, got_left, got_righ
 use Rattle.class_model.specs.declared.code.Code.{Code}
 use Rattle.code_edit.specs.declared.act.Act.{Act}
 use Rattle.code_edit.specs.declared.act.Pass.{Pass}
-use Rattle.code_edit.specs.declared.act.Pass.TheVariants as pass
 use Rattle.code_edit.specs.Legal.{AreLegal, AreRightActs, IsLegalAt, IsRightAct, share_place}
 use Rattle.edit_premises.proofs.Places.{get_below}
 use Rattle.edit_legal.specs.Fault.{IsFault, fault_after}
@@ -90,13 +89,6 @@ module _ (p : Pass) (acts : List Act) (code : Code) (test : List Act → Act →
     faults = go acts [] 0 refl refl (λ j b e. absurd cc)
 
 -- ---- what else is asked
-
-pub no_act_is : (acts : List Act) (code : Code) (fault : Option ℕ)
-    → fault ≡ fault_after (λ before a. false) 0 [] acts → IsFault pass.Const acts code fault
-no_act_is acts code fault e =
-    subst (IsFault pass.Const acts code) (sym e)
-    (faults pass.Const acts code (λ before a. false)
-    (λ before rest a x prior. inr (refl, λ legal. absurd legal.0)))
 
 pub legal_are_right : (p : Pass) (acts : List Act) (code : Code) → AreLegal p acts code
     → AreRightActs p acts code

@@ -26,6 +26,7 @@ use Rattle.edit_legal.specs.Movable.{end_from, follows_from, is_skippable, may_j
 use Rattle.edit_legal.specs.Movable.{skippable, still_aimed, target_at, targets_after}
 use Rattle.edit_legal.proofs.Faults.{faults, none_shares, shares_tells}
 use Rattle.edit_legal.proofs.Following.{follows_tells}
+use Rattle.edit_legal.proofs.LastIndex.{end_above, is_le, last_of, le_is}
 use Rattle.edit_tables.proofs.Naming.{IsLed, before, enters, led_tells, named}
 use Rattle.edit_tables.proofs.Telling.{Tells, and_both, both, is_false, is_not, numbers_same}
 use Rattle.edit_tables.proofs.Telling.{same_number, tells, told, turned, un_not}
@@ -37,47 +38,6 @@ use Rattle.edit_tables.specs.Unskipped.{unskipped}
 use Rattle.edit_tables.proofs.Aiming.{aim_is}
 use Rattle.edit_tables.proofs.Marking.{has_none, none_long, skips_marked}
 use Rattle.edit_tables.proofs.Staying.{from_long, going_long, going_where}
-
--- ---- the last index
-
-last_of : (e k : ℕ) (bs : List Bool) → (end_from e k bs ≡ e)
-    ⊎ ((j : ℕ) × (j < length bs) × (lives_in bs j ≡ true) × (end_from e k bs ≡ k + j + 1))
-last_of e k [] = inl refl
-last_of e k (b ∷ bs) = by b (last_of (if b then k + 1 else e) (k + 1) bs)
-  where
-    by : (c : Bool) → (end_from (if c then k + 1 else e) (k + 1) bs ≡ (if c then k + 1 else e))
-        ⊎ ((j : ℕ) × (j < length bs) × (lives_in bs j ≡ true)
-        × (end_from (if c then k + 1 else e) (k + 1) bs ≡ k + 1 + j + 1))
-        → (end_from (if c then k + 1 else e) (k + 1) bs ≡ e)
-        ⊎ ((j : ℕ) × (j < length (c ∷ bs)) × (lives_in (c ∷ bs) j ≡ true)
-        × (end_from (if c then k + 1 else e) (k + 1) bs ≡ k + j + 1))
-    by true (inl q) = inr (0, omega arith, refl, q ∙ omega arith)
-    by false (inl q) = inl q
-    by c (inr q) = inr (suc q.0, omega (arith, q.1), q.2, q.3 ∙ omega arith)
-
-end_up : (e k : ℕ) (bs : List Bool) → e ≤ k → e ≤ end_from e k bs
-end_up e k [] le = omega arith
-end_up e k (b ∷ bs) le = by b
-    (λ e' le'. end_up e' (k + 1) bs le')
-  where
-    by : (c : Bool) → ((e' : ℕ) → e' ≤ k + 1 → e' ≤ end_from e' (k + 1) bs)
-        → e ≤ end_from (if c then k + 1 else e) (k + 1) bs
-    by true up = let u = up (k + 1) (omega arith) in omega (arith, u, le)
-    by false up = up e (omega (arith, le))
-
-end_above : (e k : ℕ) (bs : List Bool) → e ≤ k → (j : ℕ) → j < length bs
-    → lives_in bs j ≡ true → k + j < end_from e k bs
-end_above e k [] le j lt l = absurd (omega (arith, lt))
-end_above e k (true ∷ bs) le zero lt l =
-    let u = end_up (k + 1) (k + 1) bs (omega arith) in omega (arith, u)
-end_above e k (false ∷ bs) le zero lt l = absurd cc
-end_above e k (b ∷ bs) le (suc j) lt l =
-    let h = end_above (if b then k + 1 else e) (k + 1) bs (small b) j (omega (arith, lt)) l in
-    omega (arith, h)
-  where
-    small : (c : Bool) → (if c then k + 1 else e) ≤ k + 1
-    small true = omega arith
-    small false = omega (arith, le)
 
 -- ---- after the acts
 
@@ -181,21 +141,6 @@ module _ (acts : List Act) (code : Code) (sound : IsSound code) (aims : Aims)
               let gone = past q.0 p.1 (subst (λ m. q.0 < m) (going_long acts code) q.1) in
               let no : true ≡ false = sym q.2 ∙ going_where acts code q.0 ∙ gone in absurd cc
           near (inr p) = omega (arith, p.1, q.3)
-
-  le_is : (a b : ℕ) → a ≤ b → nat_le a b ≡ true
-  le_is a b le = by (leb_tells a b)
-    where
-      by : ((nat_le a b ≡ true) × (a ≤ b)) ⊎ ((nat_le a b ≡ false) × (b < a))
-          → nat_le a b ≡ true
-      by (inl q) = q.0
-      by (inr q) = absurd (omega (arith, le, q.1))
-
-  is_le : (a b : ℕ) → nat_le a b ≡ true → a ≤ b
-  is_le a b e = by (leb_tells a b)
-    where
-      by : ((nat_le a b ≡ true) × (a ≤ b)) ⊎ ((nat_le a b ≡ false) × (b < a)) → a ≤ b
-      by (inl q) = q.1
-      by (inr q) = absurd (let no : true ≡ false = sym e ∙ q.0 in cc)
 
   -- ---- skips
 

@@ -6,3 +6,8 @@ mod JumpFaults
 mod Lengths
 mod Noting
 mod Ranges
+mod LastIndex
+mod FoldsLast
+mod FoldsRight
+mod FactsRight
+mod ConstFaults

@@ -1,8 +1,12 @@
 -- What is noted of one act more.
-use Rattle.std.proofs.Common.{ℕ, List, [], ◌∷◌, ◌++◌, Bool, ◌≡◌, refl, sym, ap, ◌∙◌}
+use Rattle.std.proofs.Common.{ℕ, suc, ◌+◌, ◌<◌, ◌≤◌, List, [], ◌∷◌, ◌++◌, Bool, true, false, ◌≡◌}
+use Rattle.std.proofs.Common.{◌⊎◌, inl, inr, refl, sym, ap, ◌∙◌, arith, length-append}
+use Rattle.std.specs.Prelude.{length, nat_le, if◌then◌else◌}
+use Rattle.std.proofs.lemmas.Bool.Decides.{leb_tells}
 use Rattle.std.specs.Option.{option_or}
 use Rattle.code_edit.specs.declared.act.Act.{Act}
 use Rattle.code_edit.specs.Jumps.{moved_by}
+use Rattle.edit_legal.specs.Decidable.{all_folded, next_up_to, up_to, with_folded}
 use Rattle.edit_legal.specs.Dropped.{with_drop, with_drops}
 use Rattle.edit_tables.specs.declared.aims.Aims.{Aims}
 use Rattle.edit_tables.specs.Aimed.{TellsAims, kept_aim, moved}
@@ -38,3 +42,45 @@ pub aims_more : (old new : Aims) (before : List Act) (a : Act) → TellsAims old
 aims_more old new before a told kept at which =
     kept at which ∙ ap (λ o. option_or o (moved_by at which a)) (told at which)
     ∙ sym (moved_more before a at which)
+
+pub folds_more : (before : List Act) (a : Act) (marks : List Bool)
+    → all_folded (before ++ a ∷ []) marks ≡ with_folded a (all_folded before marks)
+folds_more [] a marks = refl
+folds_more (b ∷ before) a marks = folds_more before a (with_folded b marks)
+
+pub number_more : (before : List Act) (a : Act) (n : ℕ)
+    → next_up_to (up_to (length before) n) n ≡ up_to (length (before ++ a ∷ [])) n
+number_more before a n =
+    by (leb_tells (suc (length before)) n) (leb_tells (suc (length (before ++ a ∷ []))) n)
+  where
+    long : length (before ++ a ∷ []) ≡ length before + 1
+    long = length-append before (a ∷ [])
+
+    full : next_up_to n n ≡ n
+    full = of (leb_tells (suc n) n)
+      where
+        of : ((nat_le (suc n) n ≡ true) × (suc n ≤ n)) ⊎ ((nat_le (suc n) n ≡ false) × (n < suc n))
+            → next_up_to n n ≡ n
+        of (inl q) = absurd (omega (arith, q.1))
+        of (inr q) = ap (λ b. if b then n + 1 else n) q.0
+
+    by : ((nat_le (suc (length before)) n ≡ true) × (suc (length before) ≤ n))
+        ⊎ ((nat_le (suc (length before)) n ≡ false) × (n < suc (length before)))
+        → ((nat_le (suc (length (before ++ a ∷ []))) n ≡ true)
+        × (suc (length (before ++ a ∷ [])) ≤ n))
+        ⊎ ((nat_le (suc (length (before ++ a ∷ []))) n ≡ false)
+        × (n < suc (length (before ++ a ∷ []))))
+        → next_up_to (up_to (length before) n) n ≡ up_to (length (before ++ a ∷ [])) n
+    by (inl p) (inl q) =
+        ap (λ b. next_up_to (if b then length before else n) n) p.0
+        ∙ ap (λ b. if b then length before + 1 else length before) p.0 ∙ sym long
+        ∙ ap (λ b. if b then length (before ++ a ∷ []) else n) (sym q.0)
+    by (inl p) (inr q) =
+        let end : length before + 1 ≡ n = omega (arith, p.1, q.1, long) in
+        ap (λ b. next_up_to (if b then length before else n) n) p.0
+        ∙ ap (λ b. if b then length before + 1 else length before) p.0 ∙ end
+        ∙ ap (λ b. if b then length (before ++ a ∷ []) else n) (sym q.0)
+    by (inr p) (inl q) = absurd (omega (arith, p.1, q.1, long))
+    by (inr p) (inr q) =
+        ap (λ b. next_up_to (if b then length before else n) n) p.0 ∙ full
+        ∙ ap (λ b. if b then length (before ++ a ∷ []) else n) (sym q.0)

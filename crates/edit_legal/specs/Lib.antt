@@ -2,3 +2,5 @@ pub mod Cuttable
 pub mod Dropped
 pub mod Fault
 pub mod Movable
+pub mod Decidable
+pub mod ConstTables

@@ -5,10 +5,11 @@ ghost use Rattle.code_edit.specs.Legal.{AreRightActs};
 ghost use Rattle.code_edit.specs.SoundCode.{IsSound};
 ghost use Rattle.edit_legal.specs.Fault.{IsFault, Judges};
 
+use crate::constants::constants_of;
 use crate::cuts::cuts_of;
 use crate::drops::drops_of;
 use crate::jumps::jumps_of;
-use crate::rules::{NoActs, first_fault};
+use crate::rules::first_fault;
 use class_model::Code;
 use code_edit::{Act, Pass, PassEdits};
 use jv_base::{M, Or};
@@ -61,11 +62,13 @@ fn jump_fault(alloc: Global, code: &Code, acts: &[Act]) -> M<Option<usize>>
     Ok(fault)
 }
 
-#[tactic(auto, using(crate::proofs::Faults::no_act_is))]
-fn const_fault(code: &Code, acts: &[Act]) -> M<Option<usize>>
+fn const_fault(alloc: Global, code: &Code, acts: &[Act]) -> M<Option<usize>>
+    requires few { length code.now.ins < 4294967295 }
+    requires sound { IsSound code.now }
     ensures { IfOk result (IsFault pass.Const acts.now code.now) }
 {
-    let fault = first_fault(&mut NoActs, acts)?;
+    let mut constants = constants_of(alloc, acts, code)?;
+    let fault = first_fault(&mut constants, acts)?;
     Ok(fault)
 }
 
@@ -77,7 +80,7 @@ fn fault_of(alloc: Global, code: &Code, edits: &PassEdits) -> M<Option<usize>>
     let acts = edits.acts.as_slice();
     match edits.pass {
         Pass::Reach => drop_fault(alloc, code, acts),
-        Pass::Const => const_fault(code, acts),
+        Pass::Const => const_fault(alloc, code, acts),
         Pass::Slots => cut_fault(alloc, code, acts),
         Pass::Jumps => jump_fault(alloc, code, acts),
     }

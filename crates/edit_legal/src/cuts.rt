@@ -94,6 +94,8 @@ impl Rules for Cuts {
     ghost noted = { λ cuts before. cuts.cut.items
         ≡ with_cuts before (none (length cuts.cuttable.items)) };
 
+    ghost holds = { λ cuts. Unit {0} };
+
     fn allows(&self, act: &Act) -> bool {
         match act {
             Act::Cut { at } => {

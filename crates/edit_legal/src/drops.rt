@@ -117,6 +117,8 @@ impl Rules for Drops {
     ghost noted = { λ drops before. drops.dropped.items
         ≡ with_drops before (none (length drops.needed.items)) };
 
+    ghost holds = { λ drops. Unit {0} };
+
     fn allows(&self, act: &Act) -> bool {
         match act {
             Act::Drop { from, to } => {

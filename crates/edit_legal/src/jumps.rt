@@ -124,6 +124,8 @@ impl Rules for Jumps<'_> {
     ghost noted = { λ jumps before. TellsAims jumps.aims before
         × (jumps.skipped.items ≡ with_skips before (none (length jumps.skippable.items))) };
 
+    ghost holds = { λ jumps. Unit {0} };
+
     fn allows(&self, act: &Act) -> bool {
         match act {
             Act::Aim { at, which, to } => {

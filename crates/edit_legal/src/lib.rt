@@ -3,10 +3,12 @@
 
 mod acts;
 mod aiming;
+mod constants;
 mod cuts;
 mod drops;
 mod jumps;
 mod marking;
 mod rules;
+mod support;
 
 pub use acts::{Bad, legal};

@@ -17,13 +17,19 @@ pub(crate) trait Rules {
     /// The acts that were noted are these.
     ghost noted: { Self → List Act → Type 0 };
 
+    /// What holds all along.
+    ghost holds: { Self → Type 0 };
+
     /// Whether an act is legal behind those that were noted.
     fn allows(&self, act: &Act) -> bool
+        requires { holds self.now }
         ensures { (before : List Act) → noted self.now before
             → result ≡ allows self.now before act.now };
 
     /// Takes note of an act.
     fn note(&mut self, act: &Act) -> M<()>
+        requires { holds self.old }
+        ensures holds { OnOk result (holds self.new) }
         ensures same { OnOk result (allows self.new ≡ allows self.old) }
         ensures noted { OnOk result ((before : List Act) → noted self.old before
             → noted self.new (before ++ act.now ∷ [])) };
@@ -31,7 +37,8 @@ pub(crate) trait Rules {
 
 /// The number of the first act that the rules refuse.
 pub(crate) fn first_fault<R: Rules>(rules: &mut R, acts: &[Act]) -> M<Option<usize>>
-    requires { R.noted rules.old [] }
+    requires noted { R.noted rules.old [] }
+    requires holds { R.holds rules.old }
     ensures { IfOk result (λ fault. fault ≡ fault_after (R.allows rules.old) 0 [] acts.now) }
 {
     let mut number = 0;
@@ -43,22 +50,4 @@ pub(crate) fn first_fault<R: Rules>(rules: &mut R, acts: &[Act]) -> M<Option<usi
         number += 1;
     }
     Ok(None)
-}
-
-/// The rules of const, of which no act is legal yet.
-#[derive(Drop)]
-pub(crate) struct NoActs;
-
-impl Rules for NoActs {
-    ghost allows = { λ rules before act. false };
-
-    ghost noted = { λ rules before. Unit {0} };
-
-    fn allows(&self, _act: &Act) -> bool {
-        false
-    }
-
-    fn note(&mut self, _act: &Act) -> M<()> {
-        Ok(())
-    }
 }

@@ -1,4 +1,4 @@
--- Legal acts leave a sound code sound.
+-- Acts of slots and right acts of jumps leave a sound code sound.
 use Rattle.std.proofs.Common.{ℕ, zero, suc, ◌+◌, ◌<◌, ◌≤◌, List, [], ◌∷◌, Option, Some, None, Bool}
 use Rattle.std.proofs.Common.{true, false, ◌≡◌, ◌≢◌, ◌⊎◌, inl, inr, refl, sym, ap, ◌∙◌, subst}
 use Rattle.std.proofs.Common.{arith}
@@ -16,30 +16,22 @@ use Rattle.class_model.specs.declared.op.Op.{Op}
 use Rattle.class_model.specs.declared.op.Op.TheVariants as op
 use Rattle.code_edit.specs.declared.act.Act.{Act}
 use Rattle.code_edit.specs.declared.act.Act.TheVariants as act
-use Rattle.code_edit.specs.declared.act.Pass.{Pass}
-use Rattle.code_edit.specs.declared.act.Pass.TheVariants.{Reach, Const, Slots, Jumps}
-use Rattle.code_edit.specs.declared.act.PassEdits.{PassEdits}
 use Rattle.edit_premises.specs.Compacts.{IsClosed}
 use Rattle.code_edit.specs.Rewriting.{map_from, retargeted, rewritten, with_op}
 use Rattle.code_edit.specs.Flow.{covers, goes_elsewhere, of_ins, targets}
 use Rattle.code_edit.specs.Jumps as jumps
-use Rattle.code_edit.specs.Reach as reach
 use Rattle.code_edit.specs.Slots as slots
 use Rattle.edit_premises.proofs.Jumping.{aims_lead, first_target}
 use Rattle.edit_premises.proofs.Places.{get_below, map_from_get}
-use Rattle.edit_premises.proofs.Reaching.{closed}
-use Rattle.edit_premises.proofs.Retargeted.{all_closed}
 use Rattle.code_edit.specs.SoundCode.{IsPlaced, IsSound}
 use Rattle.edit_premises.specs.LeavesSound.{LeavesSound, LivesFrom}
 use Rattle.edit_premises.proofs.StaysSound.{compacted_sound, ends_moved}
 use Rattle.code_edit.specs.Jumps.{Leads}
-use Rattle.code_edit.specs.Legal.{AreRightActs, AreRightSteps}
-use Rattle.code_edit.specs.Applied.{applied, edited}
 
 -- ---- what is left out
 
 -- where what lives is closed
-closed_leaves : (lives : ℕ → Bool) (code : Code) → IsClosed code lives → IsSound code
+pub closed_leaves : (lives : ℕ → Bool) (code : Code) → IsClosed code lives → IsSound code
     → LeavesSound lives code
 closed_leaves lives code is sound = record {
   some = (0, omega arith, sound.some, is.first);
@@ -235,7 +227,7 @@ module _ (acts : List Act) (code : Code) (sound : IsSound code) where
       by true ends = ap goes_elsewhere (popped_same i.op (no_store i.op ends)) ∙ ends
       by false ends = ends
 
-  slots_sound : IsSound (slots.slotted_code acts code)
+  pub slots_sound : IsSound (slots.slotted_code acts code)
   slots_sound =
       let m = last_index (length code.ins) sound.some in
       let i = found_at code.ins m.0 (omega (arith, m.1)) in
@@ -362,7 +354,7 @@ module _ (acts : List Act) (code : Code) (sound : IsSound code) where
         (not_skipped at end)
         ∙ ends_moved (jumps.aim acts at) i.op ∙ sound.last at i e end
 
-    jumps_sound : IsSound (jumps.jumped_code acts code)
+    pub jumps_sound : IsSound (jumps.jumped_code acts code)
     jumps_sound =
         let m = last_index (length code.ins) sound.some in
         let r = rewritten_sound (jumps.jumped acts) code sound jumps_jump jumps_last in
@@ -373,24 +365,3 @@ module _ (acts : List Act) (code : Code) (sound : IsSound code) where
         (λ b. not
         (b && option_map_or (λ (i : Ins). jumps.is_goto i.op) (slice_get code.ins m.0) false))
         (not_skipped m.0 m.1)) r) r
-
--- ---- all passes
-
-pub applied_sound : (p : Pass) (acts : List Act) (code : Code) → AreRightActs p acts code
-    → IsSound code → IsSound (applied p acts code)
-applied_sound Reach acts code legal sound =
-    compacted_sound (reach.is_left acts) code
-    (closed_leaves (reach.is_left acts) code (closed acts code legal) sound) sound
-applied_sound Slots acts code legal sound = slots_sound acts code sound
-applied_sound Jumps acts code legal sound = jumps_sound acts code sound legal
-applied_sound Const acts code legal sound =
-    compacted_sound (λ at. true) code
-    (closed_leaves (λ at. true) code (all_closed code) sound) sound
-
--- so is the code after legal steps
-pub edited_sound : (steps : List PassEdits) (code : Code) → AreRightSteps steps code → IsSound code
-    → IsSound (edited steps code)
-edited_sound [] code legal sound = sound
-edited_sound (s ∷ steps) code legal sound =
-    edited_sound steps (applied s.pass s.acts code) legal.1
-    (applied_sound s.pass s.acts code legal.0 sound)

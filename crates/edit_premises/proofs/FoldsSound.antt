@@ -166,12 +166,17 @@ module _ (acts : List Act) (code : Code) (legal : AreLegalConst acts code) (soun
         by None g = refl
         by (Some to) g = stays to (fold_lands at to i e g) (eqb_tells to (at + 1))
 
+    -- before anything is left out it is sound too
+    pub in_place_sound : IsSound (rewritten (folded acts code) code)
+    in_place_sound = rewritten_sound (folded acts code) code sound fold_jump fold_last
+
+    pub in_place_long : length (rewritten (folded acts code) code).ins ≡ length code.ins
+    in_place_long = long (folded acts code) code sound fold_jump fold_last
+
     pub folds_sound : IsSound (folded_code acts code)
     folds_sound =
         let m = last_index (length code.ins) sound.some in
         let i = found_at code.ins m.0 (omega (arith, m.1)) in
-        let r = rewritten_sound (folded acts code) code sound fold_jump fold_last in
         compacted_sound (λ at. not (goes acts code at)) (rewritten (folded acts code) code)
         (last_leaves (λ at. not (goes acts code at)) (rewritten (folded acts code) code) m.0
-        (m.1 ∙ sym (long (folded acts code) code sound fold_jump fold_last))
-        (last_stays m.0 i.0 i.1 m.1) r) r
+        (m.1 ∙ sym in_place_long) (last_stays m.0 i.0 i.1 m.1) in_place_sound) in_place_sound

@@ -16,9 +16,9 @@ pub mod Folded
 pub mod Folds
 pub mod Changes
 pub mod Steps
-pub mod ConstSteps
 pub mod StaysSound
 pub mod AppliedSound
 pub mod LastStays
 pub mod GoodSound
 pub mod FoldsSound
+pub mod EditedSound

@@ -1,5 +1,5 @@
 -- Legal steps are changes one after another.
-use Rattle.std.proofs.Common.{ℕ, ◌+◌, true, List, [], ◌∷◌, Option, Some, ◌≡◌, inl, inr, refl, sym}
+use Rattle.std.proofs.Common.{ℕ, ◌+◌, List, [], ◌∷◌, Option, Some, ◌≡◌, inl, inr, refl, sym}
 use Rattle.std.proofs.Common.{ap, ◌∙◌, subst, arith}
 use Rattle.std.specs.Prelude.{length, map}
 use Rattle.class_model.specs.declared.code.Code.{Code}
@@ -10,14 +10,15 @@ use Rattle.code_edit.specs.declared.act.PassEdits.{PassEdits}
 use Rattle.jvm_model.specs.Program.{View}
 use Rattle.jvm_model.specs.Same.{Same, own_names}
 use Rattle.jvm_model.specs.Value.{Key}
-use Rattle.edit_premises.specs.Changes.{Becomes, Changed, Together, cuts, goes_on, leaves_out}
-use Rattle.code_edit.specs.Rewriting.{compacted, rewritten}
-use Rattle.edit_premises.specs.Compacts.{Compacts}
-use Rattle.edit_premises.proofs.Retargeted.{all_closed}
+use Rattle.edit_premises.specs.Changes.{Becomes, Changed, Together, cuts, decides, goes_on}
+use Rattle.edit_premises.specs.Changes.{leaves_out}
+use Rattle.code_edit.specs.Constants.{folded}
+use Rattle.code_edit.specs.Rewriting.{rewritten}
 use Rattle.code_edit.specs.Jumps.{jumped}
 use Rattle.code_edit.specs.Slots.{slotted}
 use Rattle.edit_premises.specs.Steps.{IsAfter, IsEdited}
 use Rattle.edit_premises.proofs.Changes.{becomes_more, becomes_same, changed_premise, stays_so}
+use Rattle.edit_premises.proofs.Folds.{acts_fold, acts_leave_out}
 use Rattle.edit_premises.proofs.Jumping.{jumps_leave_out, jumps_retarget}
 use Rattle.edit_premises.proofs.Reaching.{drops_leave_out}
 use Rattle.edit_premises.proofs.Slotting.{slots_cut, slots_leave_out}
@@ -26,16 +27,6 @@ use Rattle.code_edit.specs.Applied.{applied, edited}
 
 two : (a b c : Code) → Changed a b → Changed b c → Becomes Changed 2 (Some a) (Some c)
 two a b c h k = (Some b, inr (a, b, refl, refl, h), (Some c, inr (b, c, refl, refl, k), refl))
-
--- no instruction is left out
-none_leaves : (code : Code) → Compacts code (compacted (λ at. true) code)
-none_leaves code = record {
-  lives = λ at. true;
-  reached = λ at. true;
-  closed = all_closed code;
-  nops = λ at i r l e. absurd cc;
-  is = refl;
-}
 
 pub step_becomes : (p : Pass) (acts : List Act) (code : Code) → AreRightActs p acts code
     → Becomes Changed 2 (Some code) (Some (applied p acts code))
@@ -50,11 +41,9 @@ step_becomes Slots acts code h =
 step_becomes Jumps acts code h =
     two code (rewritten (jumped acts) code) _ (goes_on (jumps_retarget acts code h))
     (leaves_out (jumps_leave_out acts code h))
-step_becomes Const acts code h = (
-  Some (applied Const acts code),
-  inr (code, applied Const acts code, refl, refl, leaves_out (none_leaves code)),
-  stays_so Changed 1 _,
-)
+step_becomes Const acts code h =
+    two code (rewritten (folded acts code) code) _ (decides (acts_fold acts code h))
+    (leaves_out (acts_leave_out acts code h))
 
 abbrev changes : List PassEdits → ℕ
 changes [] = 0

@@ -145,6 +145,16 @@ has_entries (h ∷ hs) ms at lt =
     ∙ ap (λ b. b || list_any (λ (h : Handler). nat_eq at h.entry) hs) (has_put h.entry ms at lt)
     ∙ or_later (has ms at) (nat_eq at h.entry) (list_any (λ (h : Handler). nat_eq at h.entry) hs)
 
+-- where handlers begin
+pub entries_marked : (code : Code) (at : ℕ) → at < length code.ins
+    → has (with_entries code.handlers (none (length code.ins))) at
+    ≡ list_any (λ (h : Handler). nat_eq at h.entry) code.handlers
+entries_marked code at lt =
+    let n = none (length code.ins) in
+    has_entries code.handlers n at (subst (λ k. at < k) (sym (none_long (length code.ins))) lt)
+    ∙ ap (λ b. b || list_any (λ (h : Handler). nat_eq at h.entry) code.handlers)
+    (has_none (length code.ins) at)
+
 pub targets_marked : (code : Code) (at : ℕ) → at < length code.ins
     → has (target_marks code) at ≡ is_target code at
 targets_marked code at lt =

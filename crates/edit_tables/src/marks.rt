@@ -78,7 +78,8 @@ fn mark_all_targets(marks: Vec<bool>, ins: &Items<Ins>) -> Vec<bool>
     marks
 }
 
-fn mark_entries(marks: Vec<bool>, handlers: &Items<Handler>) -> Vec<bool>
+/// Marks where handlers begin.
+pub fn mark_entries(marks: Vec<bool>, handlers: &Items<Handler>) -> Vec<bool>
     ensures { result.items ≡ with_entries handlers.now marks.items }
 {
     let mut marks = marks;

@@ -1,4 +1,3 @@
-mod Cases
 mod Stepping
 mod Marking
 mod Knowing

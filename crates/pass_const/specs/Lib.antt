@@ -1,4 +1,3 @@
-pub mod Distance
 pub mod Folding
 pub mod Known
 pub mod Running

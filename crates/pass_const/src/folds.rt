@@ -1,68 +1,23 @@
 // The branches and switches that are folded.
-ghost use Rattle.std.specs.Prelude.{◌≡◌, ◌<◌, ◌≤◌, ◌+◌, ◌++◌, [], ◌∷◌, IfOk, OnOk, length, map};
-ghost use Rattle.std.specs.Option.{is_some, option_and_then, unwrap_or};
+ghost use Rattle.std.specs.Prelude.{◌≡◌, ◌<◌, ◌≤◌, ◌++◌, IfOk, OnOk, length, map};
+ghost use Rattle.std.specs.Option.{is_some};
 ghost use Rattle.class_model.specs.declared.code.Ins.{Ins};
 ghost use Rattle.code_edit.specs.ConstEdits.{fold_target, one_at, target_by, two_at};
-ghost use Rattle.code_edit.specs.Deciding.{decided, operands};
+ghost use Rattle.code_edit.specs.Deciding.{operands};
 ghost use Rattle.code_edit.specs.Rewriting.{map_from};
 ghost use Rattle.const_facts.specs.Marked.{AreMarks};
 ghost use Rattle.pass_const.specs.Folding.{act_of, acts_to};
 ghost use Rattle.pass_const.specs.Known.{known_in};
 ghost use Rattle.pass_const.specs.Taking.{slot_marks};
 
-use crate::deciding::{decided_by_one, decided_by_two};
 use crate::known::known_at;
 use crate::slots::slot_marks;
 use class_model::{Code, Op};
 use code_edit::Act;
 use const_facts::is_marked;
+use const_tables::deciding::{led_by_one, led_by_two};
 use jv_base::{Items, M};
 use std::alloc::Global;
-
-/// To the target, or to the next index.
-fn landed(point: Option<Option<u32>>, at: u32) -> Option<u32>
-    requires { at < 4294967295 }
-    ensures { result ≡ option_and_then (λ p. Some (unwrap_or p (at + 1))) point }
-{
-    match point {
-        Some(Some(to)) => Some(to),
-        Some(None) => Some(at + 1),
-        None => None,
-    }
-}
-
-fn led_by_one(op: &Op, operand: Option<i32>, at: u32) -> Option<u32>
-    requires { at < 4294967295 }
-    ensures { result ≡ option_and_then (λ z. option_and_then (λ p. Some (unwrap_or p (at + 1)))
-        (decided op.now (z ∷ []))) operand }
-{
-    match operand {
-        Some(operand) => landed(decided_by_one(op, operand), at),
-        None => None,
-    }
-}
-
-fn led_by_second(op: &Op, first: i32, second: Option<i32>, at: u32) -> Option<u32>
-    requires { at < 4294967295 }
-    ensures { result ≡ option_and_then (λ b. option_and_then (λ p. Some (unwrap_or p (at + 1)))
-        (decided op.now (b ∷ first ∷ []))) second }
-{
-    match second {
-        Some(second) => landed(decided_by_two(op, first, second), at),
-        None => None,
-    }
-}
-
-fn led_by_two(op: &Op, first: Option<i32>, second: Option<i32>, at: u32) -> Option<u32>
-    requires { at < 4294967295 }
-    ensures { result ≡ option_and_then (λ a. option_and_then (λ b. option_and_then
-        (λ p. Some (unwrap_or p (at + 1))) (decided op.now (b ∷ a ∷ []))) second) first }
-{
-    match first {
-        Some(first) => led_by_second(op, first, second, at),
-        None => None,
-    }
-}
 
 /// Where a branch or switch on one operand leads, if that is known and it is no target.
 fn one_at(

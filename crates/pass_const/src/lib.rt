@@ -2,7 +2,6 @@
 #![tactic(auto)]
 
 mod acts;
-mod deciding;
 mod folds;
 mod known;
 mod runs;

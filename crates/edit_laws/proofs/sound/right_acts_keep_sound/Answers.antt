@@ -1,4 +1,4 @@
-use Rattle.edit_premises.proofs.AppliedSound.{applied_sound, edited_sound}
+use Rattle.edit_premises.proofs.EditedSound.{applied_sound, edited_sound}
 use Rattle.edit_laws.proofs.sound.right_acts_keep_sound.Goals as goal
 
 pub returns-clause-step : goal.returns-clause-step

@@ -10,6 +10,7 @@ invariant-loop-act g l =
           fault_after (allows l.rules) l.number (take l.act-index l.acts)
           (drop l.act-index l.acts)
           ≡ fault_after (allows l.fn.rules) 0 [] l.acts;
+      holds : g.R.Rules.holds l.rules;
       noted : g.R.Rules.noted l.rules (take l.act-index l.acts);
       place : l.number ≡ l.act-index;
     }

@@ -1,9 +1,9 @@
 // Where a branch or switch leads whose operands are known (JVMS 6.5.if_cond, 6.5.if_icmp_cond,
 // 6.5.tableswitch, 6.5.lookupswitch).
-ghost use Rattle.std.specs.Prelude.{◌≡◌, ◌-ℤ◌, [], ◌∷◌, pos};
-ghost use Rattle.std.specs.Option.{unwrap_or};
+ghost use Rattle.std.specs.Prelude.{◌≡◌, ◌<◌, ◌+◌, ◌-ℤ◌, [], ◌∷◌, pos};
+ghost use Rattle.std.specs.Option.{option_and_then, unwrap_or};
 ghost use Rattle.code_edit.specs.Deciding.{decided, is_met, lookup_case, table_case, taken};
-ghost use Rattle.pass_const.specs.Distance.{IsDistance};
+ghost use Rattle.const_tables.specs.Distance.{IsDistance};
 
 use class_model::{Case, Cond, Op};
 
@@ -67,7 +67,7 @@ fn lookup_case(cases: &[Case], other: u32, key: i32) -> u32
 }
 
 /// Where a branch or switch leads with one operand.
-pub(crate) fn decided_by_one(op: &Op, operand: i32) -> Option<Option<u32>>
+fn decided_by_one(op: &Op, operand: i32) -> Option<Option<u32>>
     ensures { result ≡ decided op.now (operand ∷ []) }
 {
     match op {
@@ -83,11 +83,60 @@ pub(crate) fn decided_by_one(op: &Op, operand: i32) -> Option<Option<u32>>
 }
 
 /// Where a branch leads with two operands, the second one being on the top.
-pub(crate) fn decided_by_two(op: &Op, first: i32, second: i32) -> Option<Option<u32>>
+fn decided_by_two(op: &Op, first: i32, second: i32) -> Option<Option<u32>>
     ensures { result ≡ decided op.now (second ∷ first ∷ []) }
 {
     match op {
         Op::IfCmp(condition, to) => Some(taken(is_met(*condition, first, second), *to)),
         _ => None,
+    }
+}
+
+// ---- operands that may be known
+
+/// To the target, or to the next index.
+fn landed(point: Option<Option<u32>>, at: u32) -> Option<u32>
+    requires { at < 4294967295 }
+    ensures { result ≡ option_and_then (λ p. Some (unwrap_or p (at + 1))) point }
+{
+    match point {
+        Some(Some(to)) => Some(to),
+        Some(None) => Some(at + 1),
+        None => None,
+    }
+}
+
+/// Where a branch or switch at an index leads, if its one operand is known.
+pub fn led_by_one(op: &Op, operand: Option<i32>, at: u32) -> Option<u32>
+    requires { at < 4294967295 }
+    ensures { result ≡ option_and_then (λ z. option_and_then (λ p. Some (unwrap_or p (at + 1)))
+        (decided op.now (z ∷ []))) operand }
+{
+    match operand {
+        Some(operand) => landed(decided_by_one(op, operand), at),
+        None => None,
+    }
+}
+
+fn led_by_second(op: &Op, first: i32, second: Option<i32>, at: u32) -> Option<u32>
+    requires { at < 4294967295 }
+    ensures { result ≡ option_and_then (λ b. option_and_then (λ p. Some (unwrap_or p (at + 1)))
+        (decided op.now (b ∷ first ∷ []))) second }
+{
+    match second {
+        Some(second) => landed(decided_by_two(op, first, second), at),
+        None => None,
+    }
+}
+
+/// Where a branch at an index leads, if its two operands are known.
+pub fn led_by_two(op: &Op, first: Option<i32>, second: Option<i32>, at: u32) -> Option<u32>
+    requires { at < 4294967295 }
+    ensures { result ≡ option_and_then (λ a. option_and_then (λ b. option_and_then
+        (λ p. Some (unwrap_or p (at + 1))) (decided op.now (b ∷ a ∷ []))) second) first }
+{
+    match first {
+        Some(first) => led_by_second(op, first, second, at),
+        None => None,
     }
 }

@@ -2,8 +2,8 @@ use Rattle.std.proofs.Common.{◌∙◌, sym, rules}
 use Rattle.std.proofs.lemmas.Int.{to_z-of_z}
 use mir.Syntax.{w32}
 use mir.Val.{SFits}
-use Rattle.pass_const.proofs.Cases.{case_at, case_before}
-use Rattle.pass_const.proofs.deciding.table_case.Goals as goal
+use Rattle.const_tables.proofs.Cases.{case_at, case_before}
+use Rattle.const_tables.proofs.deciding.table_case.Goals as goal
 
 pub returns-in-Some : goal.returns-in-Some
 returns-in-Some c =

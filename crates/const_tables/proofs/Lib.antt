@@ -1,0 +1,8 @@
+mod Cases
+mod Ordering
+mod Joining
+mod Splitting
+mod Naming
+pub mod FoldTable
+pub mod Linking
+pub mod FirstActs

@@ -1,0 +1,5 @@
+pub mod Distance
+pub mod Stretches
+pub mod FirstFacts
+pub mod Folding
+pub mod Predecessors

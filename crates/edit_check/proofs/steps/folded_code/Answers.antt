@@ -1,0 +1,7 @@
+use Rattle.edit_check.proofs.Stepping.{const_few}
+use Rattle.edit_check.proofs.steps.folded_code.Goals as goal
+
+pub changed-requires : goal.changed-requires
+changed-requires c =
+    const_few c.args.acts.now c.args.code.now c.in_ok-tables.tables 4294967295 c.in_ok-tables.ensures
+    c.requires.few
