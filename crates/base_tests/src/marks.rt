@@ -88,12 +88,7 @@ fn is_marked_by(
     Ok(found.marks().as_slice() == marks)
 }
 
-fn has_marks(
-    rt: &(impl Threads + Sync),
-    alloc: Global,
-    sys: &System,
-    marks: &[bool],
-) -> M<bool> {
+fn has_marks(rt: &(impl Threads + Sync), alloc: Global, sys: &System, marks: &[bool]) -> M<bool> {
     if !valid(sys) {
         return Ok(false);
     }
@@ -104,12 +99,7 @@ fn has_marks(
     Ok(found.as_slice() == marks && by_one && by_two && by_most)
 }
 
-fn is_marked(
-    rt: &(impl Threads + Sync),
-    alloc: Global,
-    row: &Row,
-    marks: &[bool],
-) -> M<bool> {
+fn is_marked(rt: &(impl Threads + Sync), alloc: Global, row: &Row, marks: &[bool]) -> M<bool> {
     let sys = system(alloc, row)?;
     has_marks(rt, alloc, &sys, marks)
 }

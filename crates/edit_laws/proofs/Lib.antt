@@ -4,6 +4,6 @@ mod FoundJumps
 mod FoundLegal
 mod FoundReach
 mod FoundSlots
-mod Named
-mod NamingLess
+pub mod Named
+pub mod NamingLess
 mod Replacing

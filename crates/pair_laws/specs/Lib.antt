@@ -14,3 +14,5 @@ pub mod OwnLines
 pub mod OwnPairs
 pub mod OwnMapping
 pub mod OwnChecked
+pub mod SwappedPairs
+pub mod EditedPairs

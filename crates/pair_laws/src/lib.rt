@@ -1,6 +1,7 @@
 //! What holds of a set of classes under new names, of a pair of programs that the check takes, and of what is written.
 #![tactic(auto)]
 
+pub mod edited_pairs;
 pub mod files_found;
 pub mod named_form;
 pub mod own_checked;
@@ -17,3 +18,4 @@ pub mod renamed_image;
 pub mod renamed_same;
 pub mod renamed_taken;
 pub mod renamed_typed;
+pub mod swapped_pairs;

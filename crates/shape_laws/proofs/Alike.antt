@@ -141,7 +141,7 @@ module _ (f : Class → Class) (keeps : KeepsMembers f) (a : List Class) where
   pub rows_in_is : rows_in b ≡ rows_in a
   rows_in_is = λ i x. rows_in_at x i
 
-  row_at_is : row_at b ≡ row_at a
+  pub row_at_is : row_at b ≡ row_at a
   row_at_is = λ i m. slice_get (rows_in_is i m.class) m.index
 
   pub has_flag_is : has_flag b ≡ has_flag a
@@ -235,7 +235,7 @@ module _ (f : Class → Class) (keeps : KeepsMembers f) (a : List Class) where
       (has_flag_is i acc_static m || is_class_below_is i named from || is_class_below_is i from
       named)
 
-  is_member_accessible_is : is_member_accessible b ≡ is_member_accessible a
+  pub is_member_accessible_is : is_member_accessible b ≡ is_member_accessible a
   is_member_accessible_is = λ i from named m. cond (has_flag_is i acc_public m) true
       (cond (has_flag_is i acc_private m) (same_class from m.class)
       (same_package_is i from m.class ||

@@ -57,7 +57,7 @@ bare_keeps = record {
 }
 
 -- what is the same without codes is the same of both
-same : {X : Type 0} (a b : List Class) → DifferInCodes a b → (of : List Class → X)
+pub same : {X : Type 0} (a b : List Class) → DifferInCodes a b → (of : List Class → X)
     → ((s : List Class) → of (map bare s) ≡ of s) → of b ≡ of a
 same a b like of is = sym (is b) ∙ ap of (sym like) ∙ is a
 
@@ -67,7 +67,7 @@ same_shape a b like = same a b like shape_of (shape_of_is bare bare_keeps)
 -- ---- codes
 
 -- a class of the one set has its class in the other
-class_from : (a b : List Class) → DifferInCodes a b → (n : ℕ) (e : Class) → slice_get b n ≡ Some e
+pub class_from : (a b : List Class) → DifferInCodes a b → (n : ℕ) (e : Class) → slice_get b n ≡ Some e
     → (c : Class) × (slice_get a n ≡ Some c) × (bare e ≡ bare c)
 class_from a b like n e there = by (slice_get a n) refl
     (sym (slice_get-map bare a n) ∙ ap (λ (s : List Class). slice_get s n) like

@@ -77,10 +77,10 @@ module _ (f : Class → Class) (keeps : KeepsMembers f) (a : List Class) where
       λ i. cond (d == 0) (alike.class_named_is f keeps a i cn) None
   class_of_by d ty name text t = refl
 
-  class_of_is : class_of b ≡ class_of a
+  pub class_of_is : class_of b ≡ class_of a
   class_of_is = λ i r. class_of_by r.class.dims r.class.base r.name r.ty r.of_interface i
 
-  key_at_is : key_at b ≡ key_at a
+  pub key_at_is : key_at b ≡ key_at a
   key_at_is = λ i m. record {
     class = alike.name_of_at f keeps a m.class i;
     name = (alike.named_at_is f keeps a i m).0;

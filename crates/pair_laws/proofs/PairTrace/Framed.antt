@@ -44,6 +44,7 @@ use Rattle.image_laws.specs.TakenSet.TakenSet.{IsTaken}
 use Rattle.removal_laws.proofs.RemovalSame.Told.{code_found}
 use Rattle.pair_laws.specs.RenamedImage.Renaming.{is_method_text}
 use Rattle.pair_laws.proofs.RenamedImage.Descriptors.{method_is_one}
+use Rattle.pair_laws.specs.PairSame.Laws.{pair_names}
 use Rattle.pair_laws.specs.PairTrace.Laws.{FramesHaveCodes, IsRetraced, IsTold, RunsRetrace}
 use Rattle.pair_laws.proofs.PairTrace.Coded.{IsCoded, RunsCoded, array_coded, clinit_coded, entry_coded, selected_coded}
 use Rattle.pair_laws.proofs.PairTrace.Coded.{special_coded, static_coded}
@@ -313,8 +314,14 @@ each_told input mapping (f ∷ fs) [] zip coded = absurd zip
 each_told input mapping (f ∷ fs) (g ∷ gs) zip coded =
     (zip.0 coded.0, each_told input mapping fs gs zip.1 coded.1)
 
-pub runs_retraced : RunsRetrace
-runs_retraced input output mapping rules taken then_taken pair entry startable heap plain args n t corr =
+-- all frames of a run from an entry have codes, so wherever a state agrees with it, and the lines of frames with codes
+-- are told, all lines are
+pub all_told : (input : List Class) (mapping : Names_file) → IsTaken input → (w : View) (names : Names) (entry : Key)
+    → is_startable input entry ≡ true → (heap : List Object) → ArePlain heap → (args : List Value) (n : ℕ) (t : State)
+    → Corr (view_of input) w names (run (view_of input) (start (view_of input) entry heap args) n) t
+    → AllZip (IsRetraced input mapping) (frames (run (view_of input) (start (view_of input) entry heap args) n)) (frames t)
+    → AllZip (IsTold mapping) (frames (run (view_of input) (start (view_of input) entry heap args) n)) (frames t)
+all_told input mapping taken w names entry startable heap plain args n t corr retraced =
     by (frames_coded input taken entry startable heap plain args n)
   where
     by : (status (run (view_of input) (start (view_of input) entry heap args) n) ≡ WentWrong)
@@ -324,5 +331,10 @@ runs_retraced input output mapping rules taken then_taken pair entry startable h
     by (inl wrong) = absurd (corr.ending.1 wrong)
     by (inr coded) =
         each_told input mapping (frames (run (view_of input) (start (view_of input) entry heap args) n)) (frames t)
-        (frames_retraced input output mapping rules taken then_taken pair
-        (run (view_of input) (start (view_of input) entry heap args) n) t corr) coded
+        retraced coded
+
+pub runs_retraced : RunsRetrace
+runs_retraced input output mapping rules taken then_taken pair entry startable heap plain args n t corr =
+    all_told input mapping taken (view_of output) (pair_names input mapping) entry startable heap plain args n t corr
+    (frames_retraced input output mapping rules taken then_taken pair
+    (run (view_of input) (start (view_of input) entry heap args) n) t corr)

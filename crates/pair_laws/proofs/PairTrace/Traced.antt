@@ -29,7 +29,8 @@ use Rattle.mapping_file.specs.declared.mapping.MapClass.{MapClass}
 use Rattle.mapping_file.specs.declared.mapping.MapMethod.{MapMethod}
 use Rattle.mapping_file.specs.declared.mapping.Mapping.{Mapping}
 use Rattle.member_shrink.specs.Shrunk.{is_marked}
-use Rattle.jvm_model.specs.Same.{FrameCorr}
+use Rattle.jvm_model.specs.Program.{View}
+use Rattle.jvm_model.specs.Same.{FrameCorr, Names}
 use Rattle.jvm_model.specs.State.{Frame, frames}
 use Rattle.jvm_model.specs.Value.{Key}
 use Rattle.set_view.specs.ViewOf.{code_at, member_of, view_of}
@@ -99,6 +100,10 @@ find_holds {X} P test (y ∷ xs) x all e = by (test y) refl e (find_holds P test
         → (find test xs ≡ Some x → P x × (test x ≡ true)) → P x × (test x ≡ true)
     by true f e r = let same = same_Some y x e in (subst P same all.0, ap test (sym same) ∙ f)
     by false f e r = r e
+
+-- each frame is of the method that has the new name of the other one's
+abbrev pub AreNamed : Names → List Frame → List Frame → Type 0
+AreNamed names fs gs = AllZip (λ (f g : Frame). names.method f.method ≡ Some g.method) fs gs
 
 module _ (input output : List Class) (mapping : Mapping) (rules : Rules) (taken : IsTaken input)
     (then_taken : IsTaken output) (pair : IsPair input output mapping rules) where
@@ -275,17 +280,25 @@ module _ (input output : List Class) (mapping : Mapping) (rules : Rules) (taken 
       by None found e h = absurd cc
       by (Some m) found e h = at m found (is_member_kept input marks m) refl e (code_at input m) refl h
 
-  frames_traced : (fs gs : List Frame)
-      → AllZip (FrameCorr (view_of input) (view_of output) (pair_names input mapping)) fs gs
+  pub frames_named : (fs gs : List Frame) → AreNamed (pair_names input mapping) fs gs
       → AllZip (IsRetraced input mapping) fs gs
-  frames_traced [] [] zip = tt
-  frames_traced [] (g ∷ gs) zip = absurd zip
-  frames_traced (f ∷ fs) [] zip = absurd zip
-  frames_traced (f ∷ fs) (g ∷ gs) zip = (
-    λ code source number is digits. key_traced f.method g.method zip.0.method code source number is digits,
-    frames_traced fs gs zip.1,
+  frames_named [] [] zip = tt
+  frames_named [] (g ∷ gs) zip = absurd zip
+  frames_named (f ∷ fs) [] zip = absurd zip
+  frames_named (f ∷ fs) (g ∷ gs) zip = (
+    λ code source number is digits. key_traced f.method g.method zip.0 code source number is digits,
+    frames_named fs gs zip.1,
   )
+
+-- frames that agree are of methods of the new names
+named_frames : (v w : View) (names : Names) (fs gs : List Frame) → AllZip (FrameCorr v w names) fs gs
+    → AreNamed names fs gs
+named_frames v w names [] [] zip = tt
+named_frames v w names [] (g ∷ gs) zip = absurd zip
+named_frames v w names (f ∷ fs) [] zip = absurd zip
+named_frames v w names (f ∷ fs) (g ∷ gs) zip = (zip.0.method, named_frames v w names fs gs zip.1)
 
 pub frames_retraced : FramesRetrace
 frames_retraced input output mapping rules taken then_taken pair s t corr =
-    frames_traced input output mapping rules taken then_taken pair (frames s) (frames t) corr.stack
+    frames_named input output mapping rules taken then_taken pair (frames s) (frames t)
+    (named_frames (view_of input) (view_of output) (pair_names input mapping) (frames s) (frames t) corr.stack)

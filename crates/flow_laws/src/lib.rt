@@ -1,0 +1,4 @@
+//! How typed codes end.
+#![tactic(auto)]
+
+pub mod laws;

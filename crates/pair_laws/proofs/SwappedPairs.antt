@@ -1,0 +1,4 @@
+pub mod Clauses
+pub mod Members
+pub mod Names
+pub mod Whole

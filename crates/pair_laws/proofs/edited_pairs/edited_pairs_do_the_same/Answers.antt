@@ -1,0 +1,5 @@
+use Rattle.pair_laws.proofs.EditedPairs.Whole.{edited_pairs}
+use Rattle.pair_laws.proofs.edited_pairs.edited_pairs_do_the_same.Goals as goal
+
+pub returns : goal.returns
+returns c = edited_pairs

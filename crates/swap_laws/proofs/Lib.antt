@@ -1,0 +1,10 @@
+pub mod Referring
+pub mod LinkKinds
+pub mod Places
+pub mod Links
+pub mod Taken
+pub mod Matching
+pub mod Wants
+pub mod Closing
+pub mod InFormat
+pub mod EditedSets

@@ -1,0 +1,5 @@
+use Rattle.swap_laws.proofs.Closing.{swap_keeps_closed}
+use Rattle.swap_laws.proofs.laws.swapped_sets_stay_closed.Goals as goal
+
+pub returns : goal.returns
+returns c = swap_keeps_closed
