@@ -27,7 +27,7 @@ WORD = re.compile(r"(?<![\w.])([A-Za-z_]\w*(?:\.[A-Za-z_]\w*)*)")
 IMPORT = re.compile(r"^(?:ghost )?use Rattle\.([\w.]+?)(?:\.\{([^}]*)\}| as (\w+))[ \t]*;?[ \t]*$", re.M)
 NO_DEFINITION = re.compile(r"\s*(?:module |infix|(?:pub )?mod |use |obeys )")
 DECLARED = "declared"
-READ_FIRST = ("jvm_model", "set_view", "pair_laws", "pair_checker", "pair_clauses")
+READ_FIRST = ("jvm_model", "set_view", "pair_laws", "pair_checker", "pair_clauses", "pair_edits")
 
 
 class Module:

@@ -1,14 +1,16 @@
 #!/usr/bin/env python3
 """What goes wrong outside: files, rights, devices, memory and kills, and what the command says and leaves then.
 
-    python3 bench/failing.py PROGRAM [table|memory|calls|limits] [--write]
+    python3 bench/failing.py PROGRAM [table|memory|calls|limits] [--write] [--only PATTERN]
 
 `table` makes each situation of docs/FAILURES.md, runs the command there, and compares its line, its status and the files
-afterwards with the row; with --write it prints the rows as they are. `memory` refuses each request for memory of each command
-in turn, once alone and once with all that follow. `calls` lets each system call that opens, reads, writes, lists, asks or makes
-a folder fail in turn, moves a part of a write, and kills the program at each write. `limits` runs under limits of memory
-(ulimit -v) from too little to enough. Without a word all four are run. Each run has to end with a status that docs/MANUAL.md
-has for it, and the files have to stand as it says; the counts are printed, and the status is 1 where one run doesn't.
+afterwards with the row; with --write it prints the rows as they are. The other three take each line of COMMANDS: a command
+more is a line more. `memory` refuses each request for memory in turn, once alone and once with all that follow. `calls` lets
+each system call that opens, reads, writes, lists, asks or makes a folder, and each start of a thread, fail in turn, moves a part
+of a write, and kills the program at each write. `limits` runs under limits of memory (ulimit -v) from too little to enough.
+Without a word all four are run; with --only of the commands those whose name has the pattern in it. Each run has to end with a
+status that docs/MANUAL.md has for it, and the files have to stand as it says; the counts are printed, and the status is 1 where one
+run doesn't.
 
 `memory` and `calls` put a library between the program and the system's C library, which wants `cc`. Rows about rights are run
 as nobody, those with file systems of their own in a mount namespace: both want root, and are passed over without it.
@@ -24,6 +26,7 @@ import sys
 import tempfile
 import time
 from pathlib import Path
+from typing import Callable, NamedTuple
 
 TOP = Path(__file__).resolve().parent.parent
 HELLO = TOP / 'examples/minimal/in'
@@ -40,6 +43,7 @@ SHIM = r'''
 #include <dlfcn.h>
 #include <errno.h>
 #include <fcntl.h>
+#include <pthread.h>
 #include <signal.h>
 #include <stdarg.h>
 #include <stdlib.h>
@@ -56,7 +60,7 @@ __attribute__((constructor)) static void begin(void) {
     number = strtol(colon + 1, &colon, 10);
     how = *colon ? colon[1] : 'o';
 }
-__attribute__((destructor)) static void end(void) {
+static void end(void) {
     if (kind[0] && number == 0) {
         char text[24]; int at = 24; long left = counted;
         do text[--at] = '0' + left % 10; while (left /= 10);
@@ -64,10 +68,11 @@ __attribute__((destructor)) static void end(void) {
         put(9, text + at, 24 - at);
     }
 }
+void _exit(int status) { void (*next)(int) = dlsym(RTLD_NEXT, "_exit"); end(); next(status); for (;;); }
 static int fails(const char *name) {
     if (strcmp(kind, name)) return 0;
-    ++counted;
-    return number > 0 && (how == 'f' ? counted >= number : counted == number);
+    long now = __atomic_add_fetch(&counted, 1, __ATOMIC_SEQ_CST);
+    return number > 0 && (how == 'f' ? now >= number : now == number);
 }
 #define NEXT(type, name) static type (*next)(); if (!next) next = (type (*)())dlsym(RTLD_NEXT, name)
 void *malloc(size_t n) { NEXT(void *, "malloc"); if (fails("memory")) { errno = ENOMEM; return 0; } return next(n); }
@@ -89,6 +94,8 @@ int mkdir(const char *path, mode_t mode) { NEXT(int, "mkdir"); if (fails("mkdir"
 ssize_t getdents64(int f, void *to, size_t n) { NEXT(ssize_t, "getdents64"); if (fails("list")) { errno = EIO; return -1; } return next(f, to, n); }
 int statx(int at, const char *path, int flags, unsigned mask, struct statx *to) { NEXT(int, "statx");
     if (fails("ask")) { errno = EIO; return -1; } return next(at, path, flags, mask, to); }
+int pthread_create(pthread_t *to, const pthread_attr_t *how, void *(*run)(void *), void *with) { NEXT(int, "pthread_create");
+    if (fails("thread")) return EAGAIN; return next(to, how, run, with); }
 '''
 
 
@@ -153,24 +160,24 @@ class Room:
                     found[said] = 'other'
         return found
 
-    def look(self, at=lambda it: it):
+    def look(self, files=FILES, at=lambda it: it):
         """The bytes of each file that is to be written, where there are some, also behind links."""
         found = {}
-        for path in FILES:
+        for path in files:
             try:
                 found[path] = Path(self.at, at(path)).read_bytes() if Path(self.at, at(path)).is_file() else None
             except OSError:
                 found[path] = None
         return found
 
-    def left(self, before, olds, at=lambda it: it, files=FILES):
+    def left(self, before, olds, at=lambda it: it, files=FILES, whole=None):
         """In words: which of the files to be written are new, in their order, and whether anything else changed."""
-        after, now = self.stands(), self.look(at)
+        after, now, whole = self.stands(), self.look(files, at), whole or self.whole
         known = {at(it) for it in files}
         strange = [it for it in sorted({*before, *after}) if before.get(it) != after.get(it) and it not in known]
         if strange:
             return f'CHANGED {strange}'
-        states = ['new' if now[it] == self.whole[it] != olds[it] else 'old' if now[it] == olds[it] else 'part' for it in files]
+        states = ['new' if now[it] == whole[it] != olds[it] else 'old' if now[it] == olds[it] else 'part' for it in files]
         first = next((k for k, it in enumerate(states) if it != 'new'), len(states))
         rest, number = states[first:], len(states)
         if set(rest) <= {'old'}:
@@ -309,7 +316,7 @@ simple('a folder stands at the path of a class file')(lambda room: (room.at / 'o
 # the other files that are written
 simple('the mapping is a directory')(lambda room: instead(room, 'map.txt', os.mkdir))
 simple('the mapping isn\'t there, and its folder neither')(configured('map.txt', 'new/folder/map.txt'))
-simple('the mapping\'s folder is a file')(configured('map.txt', 'seeds.txt/map.txt'))
+simple('the mapping\'s folder is a file')(configured('map.txt', 'trace.txt/map.txt'))
 simple('the mapping is a link to a file')(lambda room: (room.put('real', OLD), link(room, 'map.txt', 'real')))
 simple('the mapping is a link that leads nowhere')(lambda room: link(room, 'map.txt', 'nowhere'))
 simple('the mapping is a pipe that nobody reads')(lambda room: instead(room, 'map.txt', os.mkfifo))
@@ -343,6 +350,7 @@ simple('a file may have 500 bytes (ulimit -f), and the signal is ignored', befor
     resource.setrlimit(resource.RLIMIT_FSIZE, (500, 500))))(lambda room: None)
 simple('one file may be open at a time (ulimit -n 4)', before=lambda: resource.setrlimit(resource.RLIMIT_NOFILE, (4, 4)))(lambda room: None)
 simple('4 MiB of memory (ulimit -v)', before=lambda: resource.setrlimit(resource.RLIMIT_AS, (4 << 20, 4 << 20)))(lambda room: None)
+simple('no thread can be started (ulimit -u)', user=NOBODY, before=lambda: resource.setrlimit(resource.RLIMIT_NPROC, (1, 1)))(lambda room: None)
 simple('standard output is closed', before=lambda: os.close(1))(lambda room: None)
 simple('standard output and standard error are closed', before=lambda: (os.close(1), os.close(2)))(lambda room: None)
 simple('standard input is closed', before=lambda: os.close(0))(lambda room: None)
@@ -385,7 +393,7 @@ PLACES = {'the output directory is a link to an empty folder': lambda it: it.rep
           'the mapping is a link to a file': lambda it: it.replace('map.txt', 'real'),
           'the mapping is a link that leads nowhere': lambda it: it.replace('map.txt', 'nowhere'),
           'the witness is a directory': lambda it: it.replace('o.wit', 'folder'),
-          'the mapping\'s folder is a file': lambda it: it.replace('map.txt', 'seeds.txt/map.txt'),
+          'the mapping\'s folder is a file': lambda it: it.replace('map.txt', 'trace.txt/map.txt'),
           'the mapping is /dev/full': lambda it: it.replace('map.txt', 'absent'),
           'the mapping is a link to the config': lambda it: it.replace('map.txt', 's.pro'),
           'the mapping is the config': lambda it: it.replace('map.txt', 's.pro'),
@@ -407,7 +415,7 @@ def told(room, name, shim):
             path.chmod(0o777 if path.is_dir() else 0o666)
     made(room)
     at = PLACES.get(name, lambda it: it)
-    before, olds = room.stands(), room.look(at)
+    before, olds = room.stands(), room.look(FILES, at)
     out = subprocess.PIPE
     if more.get('out') == 'gone':
         reader, out = os.pipe()
@@ -456,93 +464,149 @@ def table(room, shim, write):
 
 # ---- each call in turn
 
+class Command(NamedTuple):
+    """A line of the table: the words, whether a whole output stands there, what else is made, and the files that a run which
+    ends well writes, in their order."""
+    words: list
+    shrunk: bool = False
+    made: Callable = lambda room: None
+    writes: tuple = ()
+
+
+def row_files(title):
+    """The files of the row behind a title of the stored run of the commands, and of them those that are written."""
+    def read(text):
+        escapes = {'n': '\n', 's': ' ', '\\': '\\', 'e': ''}
+        return re.sub(r'\\([ns\\e])', lambda it: escapes[it[1]], text).encode()
+
+    folder = TOP / 'crates/run_vectors'
+    asked, answered = ((folder / it).read_text().split('\n') for it in ('stdin', 'stdout'))
+    at = asked.index(title) + 1
+    found = []
+    for line in (asked[at], answered[at]):
+        words = [re.fullmatch(r'([^=:]+)(=|:)(.*)', it) for it in line.split(' ')[2:]]
+        found.append({it[1]: bytes.fromhex(it[3]) if it[2] == '=' else read(it[3]) for it in words if it})
+    return found
+
+
+ROW = row_files('# a class that is called gets a new name, and lines are kept')
+
+
+def two_classes(room):
+    """Another input, with lines, and without a list of seeds."""
+    shutil.rmtree(room.at / 'in')
+    shutil.rmtree(room.at / 'out', ignore_errors=True)
+    for path, data in ROW[0].items():
+        room.put('s.pro' if path == 'shrink.pro' else path, data)
+
+
+def two_classes_shrunk(room):
+    two_classes(room)
+    for path, data in ROW[1].items():
+        room.put('o.wit' if path == 'wit.txt' else path, data)
+
+
 COMMANDS = {
-    'shrink': (SHRINK, False, None), 'check': (CHECK, True, None), 'retrace': (RETRACE, True, None),
-    'check, a pair that is refused': (
-        CHECK, True, lambda room: room.put('map.txt', room.whole['map.txt'].replace(b'main -> main', b'main -> b'))),
-    'check, a witness that is refused': (CHECK, True, lambda room: room.put('o.wit', 'witness 2\n')),
-    'retrace, a mapping that is refused': (RETRACE, True, lambda room: room.put('map.txt', 'x\n')),
-    'shrink, a config that is refused': (SHRINK, False, lambda room: room.put('s.pro', CONFIG + '-frobnicate\n')),
-    'shrink, a class file that is refused': (SHRINK, False, lambda room: room.put('in/Hello.class', b'abc')),
-    'shrink, a class that is missing': (SHRINK, False, lambda room: (room.at / 'in/Greeting.class').unlink()),
-    'shrink, an output directory that isn\'t empty': (SHRINK, False, lambda room: room.put('out/x', 'x')),
-    'shrink, wrong words': (['shrink', 's.pro'], False, None), '--help': (['--help'], False, None),
-    '--version': (['--version'], False, None),
+    'shrink': Command(SHRINK, writes=FILES),
+    'check': Command(CHECK, True),
+    'retrace': Command(RETRACE, True),
+    'shrink, two classes': Command(
+        SHRINK, made=two_classes, writes=('out/demo/Main.class', 'out/demo/a.class', 'map.txt', 'use.txt', 'o.wit')),
+    'check, two classes': Command(CHECK, made=two_classes_shrunk),
+    'check, a pair that is refused': Command(
+        CHECK, True, lambda room: room.put('map.txt', room.whole['map.txt'].replace(b') -> main', b') -> b'))),
+    'check, a witness that is refused': Command(CHECK, True, lambda room: room.put('o.wit', 'witness 2\n')),
+    'retrace, a mapping that is refused': Command(RETRACE, True, lambda room: room.put('map.txt', 'x\n')),
+    'shrink, a config that is refused': Command(SHRINK, made=lambda room: room.put('s.pro', CONFIG + '-frobnicate\n')),
+    'shrink, a class file that is refused': Command(SHRINK, made=lambda room: room.put('in/Hello.class', b'abc')),
+    'shrink, a class that is missing': Command(SHRINK, made=lambda room: (room.at / 'in/Greeting.class').unlink()),
+    'shrink, an output directory that isn\'t empty': Command(SHRINK, made=lambda room: room.put('out/x', 'x')),
+    'shrink, wrong words': Command(['shrink', 's.pro']),
+    '--help': Command(['--help']),
+    '--version': Command(['--version']),
 }
 
 
 def ready(room, command):
-    words, shrunk, made = COMMANDS[command]
-    room.fresh(shrunk)
-    if made:
-        made(room)
-    return words
+    room.fresh(command.shrunk)
+    command.made(room)
 
 
 def counted(room, command, kind, shim):
-    """How many calls of a kind the command makes, and what it says."""
-    words = ready(room, command)
+    """How many calls of a kind the command makes, what it says, and the files that it writes."""
+    ready(room, command)
+    before = room.stands()
     reader, writer = os.pipe()
-    ran = room.run(words, environment={'LD_PRELOAD': shim, 'FAIL': f'{kind}:0'}, before=lambda: os.dup2(writer, 9), pass_fds=(writer, 9))
+    ran = room.run(command.words, environment={'LD_PRELOAD': shim, 'FAIL': f'{kind}:0'}, before=lambda: os.dup2(writer, 9),
+                   pass_fds=(writer, 9))
     os.close(writer)
     text = os.read(reader, 100)
     os.close(reader)
-    return int(text or 0), ran
+    after = room.stands()
+    changed = {path for path in {*before, *after} if before.get(path) != after.get(path)}
+    room.count('commands', changed == set(command.writes), f'{" ".join(command.words)} writes {sorted(changed)}')
+    return int(text or 0), ran, room.look(command.writes)
 
 
-def in_turn(room, shim, kind, how, allowed, commands, step=1):
-    for command in commands:
-        number, whole = counted(room, command, kind, shim)
-        fine = 0
-        statuses = {}
+def is_as_due(ran, whole, after, kind, command):
+    """Whether a run in which something failed ended as it may, by the run in which nothing does."""
+    status, first = ran.returncode, ran.stdout.decode('utf-8', 'replace')
+    if status == whole.returncode and status != -9:
+        same = whole.stdout.startswith(ran.stdout) if kind == 'write' else ran.stdout == whole.stdout
+        return same and after == ('none is written' if status and command.writes else 'all are written')
+    if status == 10:
+        # --help says nothing where its text can't be made
+        return (first == 'error 10 memory\n' or command.words == ['--help'] and not first) and 'a part' not in after
+    if status == 7:
+        return whole.stdout.startswith(ran.stdout) or first.endswith('error 7 device\n')
+    return first.startswith('error 2 absent ') if status == 2 else status == -9
+
+
+def in_turn(room, shim, kind, how, allowed, step=1):
+    for name, command in COMMANDS.items():
+        number, whole, news = counted(room, command, kind, shim)
+        fine, statuses = 0, {}
         for k in range(1, number + 1, step):
-            words = ready(room, command)
-            before, olds = room.stands(), room.look()
-            ran = room.run(words, environment={'LD_PRELOAD': shim, 'FAIL': f'{kind}:{k}:{how}'})
-            after, first = room.left(before, olds), ran.stdout.decode('utf-8', 'replace')
-            status = ran.returncode
+            ready(room, command)
+            before, olds = room.stands(), room.look(command.writes)
+            ran = room.run(command.words, environment={'LD_PRELOAD': shim, 'FAIL': f'{kind}:{k}:{how}'})
+            after, status = room.left(before, olds, files=command.writes, whole=news), ran.returncode
             statuses[status] = statuses.get(status, 0) + 1
-            good = not after.startswith('CHANGED') and status in {*allowed, whole.returncode}
-            if status == whole.returncode and status != -9:
-                same = whole.stdout.startswith(ran.stdout) if kind == 'write' else ran.stdout == whole.stdout
-                good &= same and after == ('all are written' if words == SHRINK and not status else 'none is written')
-            elif status == 10:
-                # --help says nothing where its text can't be made
-                good &= (first == 'error 10 memory\n' or command == '--help' and not first) and 'a part' not in after
-            elif status == 7:
-                good &= whole.stdout.startswith(ran.stdout) or first.endswith('error 7 device\n')
-            elif status == 2:
-                good &= first.startswith('error 2 absent ')
-            if words[0] != 'shrink':
-                good &= room.stands() == before
+            good = (not after.startswith('CHANGED') and status in {*allowed, whole.returncode}
+                    and is_as_due(ran, whole, after, kind, command))
             fine += good
-            room.count(f'{kind} {how}', good, f'{command}, call {k}: status {status}, {first!r}, {after}')
+            room.count(f'{kind} {how}', good, f'{name}, call {k}: status {status}, {ran.stdout!r}, {after}')
         said = ', '.join(f'{count} end with {status}' for status, count in sorted(statuses.items()))
-        print(f'{kind} {how}: {command}: {number} calls, {fine} as they are to be: {said}', flush=True)
+        print(f'{kind} {how}: {name}: {number} calls, {fine} as they are to be: {said}', flush=True)
 
 
 def limits(room):
     """Limits of memory (ulimit -v) in steps of 16 KiB, from where the system can't start the program to where it ends well."""
-    for command in ('shrink', 'check', 'retrace'):
+    for name, command in COMMANDS.items():
+        if ',' in name or name.startswith('--'):
+            continue
+        ready(room, command)
+        room.run(command.words)
+        news = room.look(command.writes)
         status, size, statuses = None, 2 << 20, {}
         while status != 0 and size < 64 << 20:
-            words = ready(room, command)
-            before, olds = room.stands(), room.look()
+            ready(room, command)
+            before, olds = room.stands(), room.look(command.writes)
             try:
-                ran = room.run(words, before=lambda: resource.setrlimit(resource.RLIMIT_AS, (size, size)))
+                ran = room.run(command.words, before=lambda: resource.setrlimit(resource.RLIMIT_AS, (size, size)))
             except (OSError, subprocess.SubprocessError):
                 size += 16 << 10
                 continue
             size += 16 << 10
-            status, after = ran.returncode, room.left(before, olds)
+            status, after = ran.returncode, room.left(before, olds, files=command.writes, whole=news)
             if status == 127 or status < 0 and b'cixorradde' not in ran.stderr and not ran.stdout:
                 statuses['not started'] = statuses.get('not started', 0) + 1  # the loader
                 continue
             statuses[status] = statuses.get(status, 0) + 1
             room.count('limits', status in (0, 10) and (status == 0 or ran.stdout == b'error 10 memory\n') and 'a part' not in after
-                       and not after.startswith('CHANGED'), f'{command}, {size} bytes: {status}, {ran.stdout!r}, {after}')
-        print(f'limits: {command}: ' + ', '.join(f'{count} end with {it}' if it != 'not started' else f'{count} not started by the system'
-                                                 for it, count in statuses.items()), flush=True)
+                       and not after.startswith('CHANGED'), f'{name}, {size} bytes: {status}, {ran.stdout!r}, {after}')
+        print(f'limits: {name}: ' + ', '.join(f'{count} end with {it}' if it != 'not started' else f'{count} not started by the system'
+                                              for it, count in statuses.items()), flush=True)
 
 
 def private_mounts():
@@ -553,6 +617,11 @@ def private_mounts():
 
 def main():
     words = [it for it in sys.argv[1:] if it != '--write']
+    if '--only' in words:
+        at = words.index('--only')
+        for name in [it for it in COMMANDS if not re.search(words[at + 1], it)]:
+            del COMMANDS[name]
+        del words[at:at + 2]
     if not words or not set(words[1:]) <= {'table', 'memory', 'calls', 'limits'}:
         sys.exit(__doc__)
     asked = set(words[1:]) or {'table', 'memory', 'calls', 'limits'}
@@ -568,13 +637,15 @@ def main():
         if 'table' in asked:
             table(room, shim, '--write' in sys.argv)
         if shim and 'memory' in asked:
-            in_turn(room, shim, 'memory', 'once', {10}, COMMANDS)
-            in_turn(room, shim, 'memory', 'following', {10}, COMMANDS, 3)
+            in_turn(room, shim, 'memory', 'once', {10})
+            in_turn(room, shim, 'memory', 'following', {10}, 3)
         if shim and 'calls' in asked:
             for kind in ('open', 'read', 'list', 'ask', 'mkdir', 'write'):
-                in_turn(room, shim, kind, 'once', {7}, COMMANDS)
-            in_turn(room, shim, 'write', 'part', {0}, COMMANDS)
-            in_turn(room, shim, 'write', 'kill', {-9}, COMMANDS)
+                in_turn(room, shim, kind, 'once', {7})
+            in_turn(room, shim, 'write', 'part', {0})
+            in_turn(room, shim, 'write', 'kill', {-9})
+            in_turn(room, shim, 'thread', 'once', {0})
+            in_turn(room, shim, 'thread', 'following', {0})
         if 'limits' in asked:
             limits(room)
         room.fresh()

@@ -4,11 +4,13 @@
     python3 bench/forge.py PROGRAM [--each N] [--seed N] [--only WORD] [--keep DIR] [--table]
 
 PROGRAM is a built program (bin/cixorradde's, or one of .try). The pairs are what it writes by `shrink` of the examples and of
-random programs (random_programs.py), under several rules. Each kind of change below is made N times (40 unless said
-otherwise) at places that a fixed seed picks, then pairs of changes; `check` runs on each. Where it says ok, the pair is judged
-by judge.py, which reads class files by itself, and where the classes aren't byte for byte those that were written, both main
-methods run under `java` with all classes verified, and have to print the same. A pair that is taken and shouldn't be, and an
-answer of another form than docs/MANUAL.md has, are failures: they are kept below DIR (forged/) and the status is 1.
+random programs (random_programs.py), under several rules; and the same of programs whose codes were made rough before
+(edited.py), with each code edited by the passes of passes.py and a witness that tells of it. Each kind of change below is made N
+times (40 unless said otherwise) at places that a fixed seed picks, then pairs of changes; `check` runs on each. Where it says
+ok, the pair is judged by judge.py, which reads class files and goes through the acts of the witness by itself, and where the
+classes aren't byte for byte those that were there before, both main methods run under `java` with all classes verified, and
+have to print the same. A pair that is taken and shouldn't be, and an answer of another form than docs/MANUAL.md has, are
+failures: they are kept below DIR (forged/) and the status is 1.
 
 Of the pairs that `check` refuses it is counted how many the judge would take; it judges no types, so these aren't failures.
 """
@@ -27,8 +29,11 @@ from pathlib import Path
 
 sys.dont_write_bytecode = True
 sys.path.insert(0, os.path.dirname(os.path.abspath(__file__)))
+import edited
 import judge as judging
+import passes
 import random_programs
+from both import JAVA, put, tree
 from classes import Bad, Builder, Member, aimed, attribute, read_class, read_entries, Reader, targets, write_class
 from judge import Names, Rule, Rules, renamed_ins
 
@@ -1191,6 +1196,64 @@ def witness_spelling(rng, world):
                                 'witness 1\n\udcff\n'])
 
 
+def of_witness(made):
+    """made(rng, lines, k) changes the lines of a witness with entries; k is the number of one."""
+    def whole(rng, world):
+        lines = world.witness.split('\n')[:-1]
+        if len(lines) > 1:
+            made(rng, lines, rng.randrange(1, len(lines)))
+            world.witness = '\n'.join(lines) + '\n'
+    whole.__name__ = made.__name__
+    whole.wants_entries = True
+    return change(whole)
+
+
+@of_witness
+def witness_dropped(rng, lines, k):
+    del lines[k]
+
+
+@of_witness
+def witness_repeated(rng, lines, k):
+    lines.insert(k, lines[k])
+
+
+@of_witness
+def witness_moved(rng, lines, k):
+    lines.insert(rng.randrange(1, len(lines)), lines.pop(k))
+
+
+@of_witness
+def witness_swapped(rng, lines, k):
+    j = rng.randrange(1, len(lines))
+    lines[k], lines[j] = lines[j], lines[k]
+
+
+@of_witness
+def witness_number(rng, lines, k):
+    """One number of an act, or of a step, is another one."""
+    places = [(j, at) for j, line in enumerate(lines) if j and not line.startswith('method') for at in range(1, len(line.split()))]
+    j, at = rng.choice(places)
+    words = lines[j].split()
+    words[at] = str(max(0, int(words[at]) + rng.choice([-2, -1, 1, 2, 1000])))
+    lines[j] = ' '.join(words)
+
+
+@of_witness
+def witness_word(rng, lines, k):
+    """Another kind of act, or another method, in one line."""
+    others = [it for it in lines[1:] if it.startswith('method') == lines[k].startswith('method')]
+    lines[k] = ' '.join([rng.choice(['drop', 'fold', 'cut', 'aim', 'skip', 'fact']), *lines[k].split()[1:]]) \
+        if not lines[k].startswith(('method', 'step')) else rng.choice(others)
+
+
+@of_witness
+def witness_entry_dropped(rng, lines, k):
+    begins = [j for j, it in enumerate(lines) if it.startswith('method')] + [len(lines)]
+    j = rng.randrange(len(begins) - 1)
+    del lines[begins[j]:begins[j + 1]]
+
+
 # ---- in several places at once
 KINDS.now = 'several places at once, and rules'
 
@@ -1369,49 +1432,6 @@ INPUTS = [made for name, made in KINDS.items() if name.startswith('input_')]
 # ---- the pairs
 
 SETTINGS = [dict(), dict(lines=True), dict(throws=True, lines=True), dict(obfuscate=False), dict(shrink=False)]
-JAVA = '''
-import java.io.*; import java.net.*; import java.nio.file.*; import java.util.*;
-public class Both {
-    static String run(String folder, String main) throws Exception {
-        ByteArrayOutputStream bytes = new ByteArrayOutputStream();
-        PrintStream before = System.out;
-        System.setOut(new PrintStream(bytes, true));
-        String[] end = {"hangs"};
-        try (URLClassLoader loader = new URLClassLoader(new URL[] {new File(folder).toURI().toURL()}, null)) {
-            Thread thread = new Thread(() -> {
-                try {
-                    Class.forName(main, true, loader).getMethod("main", String[].class).invoke(null, (Object) new String[0]);
-                    end[0] = "ends";
-                } catch (java.lang.reflect.InvocationTargetException e) {
-                    end[0] = e.getCause() instanceof LinkageError ? "fault " + e.getCause() : "throws " + e.getCause().getMessage();
-                } catch (Throwable e) { end[0] = "fault " + e; }
-            });
-            thread.setDaemon(true); thread.start(); thread.join(5000);
-        } finally { System.setOut(before); }
-        return end[0] + " " + bytes;
-    }
-    public static void main(String[] words) throws Exception {
-        BufferedReader in = new BufferedReader(new InputStreamReader(System.in));
-        for (String line; (line = in.readLine()) != null; ) {
-            String[] part = line.split(" ");
-            String first = run(part[0], part[2]), second = run(part[1], part[2]);
-            System.out.println(first.equals(second) ? "same" : ("differ " + first + " / " + second).replace('\\n', '|'));
-        }
-        System.exit(0);
-    }
-}
-'''
-
-
-def tree(top):
-    return {str(it.relative_to(top)): it.read_bytes() for it in sorted(Path(top).rglob('*')) if it.is_file()}
-
-
-def put(top, files):
-    for path, data in files.items():
-        target = Path(top, path)
-        target.parent.mkdir(parents=True, exist_ok=True)
-        target.write_bytes(data)
 
 
 def config(rules):
@@ -1421,7 +1441,7 @@ def config(rules):
 class Forge:
     def __init__(self, program, room, seed, kept):
         self.program, self.room, self.rng, self.kept = str(Path(program).resolve()), Path(room), random.Random(seed), Path(kept)
-        self.read, self.lacks, self.wrong, self.rows, self.both = {}, {}, [], {}, []
+        self.read, self.lacks, self.wrong, self.rows, self.both, self.edits = {}, {}, [], {}, [], 0
         self.at = self.room / 'at'
         self.shown = {}
 
@@ -1474,7 +1494,31 @@ class Forge:
                 world = self.made(name, inputs, rules)
                 world.main = main
                 found.append(world)
+            if number < 3 or number % 2:
+                rough = {path: edited.roughened(self.rng, data, 5) for path, data in inputs.items()}
+                rules = Rules([Rule('main')], optimise=False, **self.rng.choice(SETTINGS))
+                found.append(self.edited(self.made(f'{name}, edited', rough, rules), main))
         return found
+
+    def edited(self, world, main):
+        """The pair with each code edited that is typed then, by the passes of passes.py."""
+        self.clear()
+        pair = edited.Pair(world.name, world.inputs, world.files, world.mapping, '')
+        bodies, steps = {}, {}
+        for key in pair.order:
+            body, acts = passes.optimised(pair.bodies[key])
+            if acts:
+                bodies[key], steps[key] = body, acts
+        while True:
+            world.files = pair.put(bodies)
+            world.witness = edited.text([edited.entry_of(pair, key, steps[key]) for key in pair.order if key in steps])
+            line = self.check(world)[1].rstrip('\n')
+            untyped = [key for key in steps if line == f'error 9 no OutputProfile {" ".join(edited.output_name(pair, key))}']
+            if len(untyped) != 1:
+                break
+            del bodies[untyped[0]], steps[untyped[0]]
+        world.main, self.edits = main, self.edits + len(steps)
+        return world
 
     def classes_of(self, inputs):
         found = {}
@@ -1502,7 +1546,7 @@ class Forge:
                 self.lacks[key] = f'lines: {fault}'
         plain, judging.lacking = judging.lacking, lambda *_: self.lacks[key]
         try:
-            return judging.judge(classes, world.files, world.mapping.encode('utf-8', 'surrogateescape'), world.rules)
+            return judging.judge(classes, world.files, world.mapping.encode('utf-8', 'surrogateescape'), world.rules, world.witness)
         finally:
             judging.lacking = plain
 
@@ -1608,8 +1652,9 @@ def main():
         plan = collections.defaultdict(list)
         for kind in sorted(KINDS):
             if asked.only in kind:
+                places = [k for k, it in enumerate(worlds) if '\nmethod ' in it.witness or not hasattr(KINDS[kind], 'wants_entries')]
                 for _ in range(asked.each):
-                    plan[forge.rng.randrange(len(worlds))].append((kind, [KINDS[kind]]))
+                    plan[forge.rng.choice(places)].append((kind, [KINDS[kind]]))
         for _ in range(8 * asked.each if not asked.only else 0):
             two = forge.rng.sample(sorted(KINDS), 2)
             plan[forge.rng.randrange(len(worlds))].append(('two changes', [KINDS[it] for it in two]))
@@ -1619,7 +1664,7 @@ def main():
             status, line, files = forge.check(world)
             why = forge.judged(world)
             if (status, line) != (0, 'ok\n') or why:
-                forge.fail('as written', world, files, f'{line!r}, the judge says {why}')
+                forge.fail('before', world, files, f'{line!r}, the judge says {why}')
             for kind, made in plan[number]:
                 forge.forge(kind, world, made)
         ran = forge.run_both()
@@ -1634,7 +1679,8 @@ def main():
         table({f'{kind} ({row["kinds"]} kinds)': row for kind, row in groups.items()}, 'Where')
         total = sum(forge.rows.values(), collections.Counter())
         by = ', '.join(f'{name} {count}' for name, count in total.most_common() if name not in APART)
-        print(f'{len(worlds)} pairs as written, {len(forge.rows)} kinds of change, {total["pairs"]} forged pairs: {total["ok"]} ok, '
+        print(f'{len(worlds)} pairs before, of them {sum("edited" in it.name for it in worlds)} with {forge.edits} edited codes, '
+              f'{len(forge.rows)} kinds of change, {total["pairs"]} forged pairs: {total["ok"]} ok, '
               f'of which {ran} ran under java, which refuses {total["java refuses"]} of kinds that are known; {by}; '
               f'{total["judge ok"]} refused that the judge would take; {len(forge.wrong)} wrong')
         for kind, line in refused[:40] if asked.table else ():

@@ -1,12 +1,14 @@
 """Whether an output belongs to an input by a mapping and rules, judged without the project's crates, for forge.py.
 
 `judge` answers None where it does and else why not. It is told the rules as values (`Rule`), reads class files by classes.py,
-and follows docs/MANUAL.md: what is kept, new names; and docs/CHECKING.md. It judges no types: a code that it takes is that of
-the input under new names. The library's methods are listed by name and descriptor as the JDK has them.
+and follows docs/MANUAL.md: what is kept, new names; docs/CHECKING.md; and, by passes.py, docs/PASSES.md. It judges no types: a
+code that it takes is that of the input, after the acts of the witness, under new names. The library's methods are listed by name and descriptor as the JDK has them.
 """
+import copy
 import re
 from dataclasses import dataclass
 
+import passes
 from classes import MAIN, Bad, Class, Code, Member, read_class, targets
 
 OBJECT = 'java/lang/Object'
@@ -62,11 +64,13 @@ class Rules:
     obfuscate: bool = True
     lines: bool = False
     throws: bool = False
+    optimise: bool = True
 
     def text(self):
         kept = ','.join(['SourceFile', 'LineNumberTable'] * self.lines + ['Exceptions'] * self.throws)
         return '\n'.join([it.text() for it in self.rules] + ['-dontshrink'] * (not self.shrink)
-                         + ['-dontobfuscate'] * (not self.obfuscate) + [f'-keepattributes {kept}'] * bool(kept)) + '\n'
+                         + ['-dontobfuscate'] * (not self.obfuscate) + ['-dontoptimize'] * (not self.optimise)
+                         + [f'-keepattributes {kept}'] * bool(kept)) + '\n'
 
     def has_lines(self):
         return self.lines or not self.obfuscate
@@ -326,9 +330,53 @@ def lacking(classes, kept, rules):
     return None
 
 
+# ---- edited codes
+
+ENTRY = re.compile(r'method (\S+) (\S+) ([^\s()]+)\((\S*)\)')
+
+
+def entries_of(witness):
+    """The methods that a witness names, by class, name and descriptor, each with its acts by steps."""
+    entries, steps, acts = {}, None, None
+    for line in witness.replace('\r\n', '\n').split('\n'):
+        words = line.split()
+        if not words or line.startswith('#') or words[0] == 'witness':
+            continue
+        found = ENTRY.fullmatch(line)
+        if found:
+            holder, type_, name, arguments = found.groups()
+            text = '(' + ''.join(descriptor_of(it) for it in arguments.split(',') if it) + ')' + descriptor_of(type_)
+            steps = entries.setdefault((holder.replace('.', '/'), name, text), {})
+        elif words[0] == 'step' and steps is not None:
+            acts = steps.setdefault(int(words[1]), [])
+        elif acts is not None:
+            acts.append((words[0], *map(int, words[1:])))
+        else:
+            raise Bad(f'witness line {line}')
+    return entries
+
+
+def after_edits(classes, witness, members):
+    """The classes of the input with their codes after the acts of a witness, which names kept methods alone."""
+    edited = dict(classes)
+    for (holder, name, descriptor), steps in entries_of(witness).items():
+        if (holder, True, name, descriptor) not in members:
+            raise Bad(f'stray entry {holder} {name}')
+        edited[holder] = found = copy.copy(edited[holder])
+        at = next(k for k, it in enumerate(found.methods) if it.key() == (name, descriptor))
+        if not found.methods[at].code:
+            raise Bad(f'entry without a code {holder} {name}')
+        body = passes.after_steps(passes.body_of(holder, found.methods[at]), steps)
+        if body is None:
+            raise Bad(f'illegal edit {holder} {name}')
+        found.methods = [copy.deepcopy(it) if k == at else it for k, it in enumerate(found.methods)]
+        passes.put(body, found.methods[at].code)
+    return edited
+
+
 # ---- the judgement
 
-def judge(classes, files, mapping, rules):
+def judge(classes, files, mapping, rules, witness):
     """Classes of the input by their names, files of the output by their paths; None or why they don't belong together."""
     try:
         names = names_of(mapping, classes)
@@ -352,7 +400,11 @@ def judge(classes, files, mapping, rules):
             library = LIBRARY_NAMES if is_method else {'out'}
             if old != new and (not rules.obfuscate or {(is_method, old), (is_method, new)} & stay or {old, new} & library):
                 return f'fixed member {old} {new}'
+    try:
+        edited = after_edits(classes, witness, names.members)
+    except (Bad, ValueError, IndexError, KeyError) as fault:
+        return f'witness: {fault}'
     for old, new in names.classes.items():
-        if class_under(classes[old], names, rules) != as_it_is(output[new + '.class']):
+        if class_under(edited[old], names, rules) != as_it_is(output[new + '.class']):
             return f'class {old}'
     return lacking(classes, set(names.classes) | names.members, rules)

@@ -150,7 +150,10 @@ LINES = [
         ("A -> a:\n    1:2:int f():3:4 -> a", "error 11 text 2 BadLine", ""), ]
 WITNESSES = [("", "error 11 text 1 BadLine", "witness out.wit"),
     ("witness 2\n", "error 11 text 1 BadLine", "witness out.wit"),
-    (b"\xff", "error 11 text 1 NotUtf8", "witness out.wit")]
+    (b"\xff", "error 11 text 1 NotUtf8", "witness out.wit"),
+    ("witness 1\nmethod Hello int none(int)\nstep 1\ndrop 0 0\n", "error 9 no WitnessStray Hello int none(int)", "isn't kept"),
+    ("witness 1\nmethod Hello void main(java.lang.String[])\nstep 1\ndrop 0 0\n",
+     "error 9 no EditIllegal Hello void main(java.lang.String[])", "docs/PASSES.md")]
 
 
 class Room:

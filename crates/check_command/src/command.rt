@@ -41,6 +41,8 @@ pub struct CheckFiles {
 }
 
 impl Command for CheckFiles {
+    ghost ready = { λ _. Unit {0} };
+
     ghost plans = { λ _ plan. plan ≡ ok_plan };
 
     ghost due = { IsDue };

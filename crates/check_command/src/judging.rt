@@ -1,5 +1,7 @@
 // What is said of what was read.
-ghost use Rattle.std.specs.Prelude.{◌≡◌, ◌++◌, IfOk, Ok};
+ghost use Rattle.std.specs.Prelude.{◌≡◌, ◌++◌, IfOk, List, Ok};
+ghost use Rattle.tree_io.specs.declared.file_at.FileAt.{FileAt};
+ghost use Rattle.set_read.specs.Accepted.{IsAccepted};
 ghost use Rattle.mark_core.specs.Valid.{Valid};
 ghost use Rattle.require_sys.specs.Required.{system_due};
 ghost use Rattle.command_frame.specs.Steps.{Makes};
@@ -44,6 +46,7 @@ fn judge_set(
     set: &ClassSet,
 ) -> Result<Plan, Stop>
     requires output { AreClassFiles output.now }
+    requires accepted { (files : List FileAt) × IsAccepted files set.now }
     ensures made { IfOk result (λ plan. plan ≡ ok_plan) }
     ensures judged { Makes result (FollowsSet rules.now texts.now output.now set.now) }
 {
@@ -61,6 +64,7 @@ fn judge_pair(
     sys: &System,
 ) -> Result<Plan, Stop>
     requires output { AreClassFiles output.now }
+    requires accepted { (files : List FileAt) × IsAccepted files set.now }
     requires system { IsSystem rules.now set.now (Ok sys.now) }
     requires valid { Valid sys.now }
     ensures made { IfOk result (λ plan. plan ≡ ok_plan) }

@@ -4,20 +4,24 @@ ghost use Rattle.std.specs.Option.{option_map};
 ghost use Rattle.class_vectors.specs.Lines.{bytes_of};
 
 use crate::answer::answer;
+use crate::cuts::cuts_answer;
 use crate::edits::edit_answer;
 use hex::FromHexError;
 use jv_base::{M, OutOfMemory, Text};
 use line_answers::Answers;
 use std::alloc::Global;
 
-/// Says of a class file in hex what reading it gives, and of acts whether they are legal.
+/// Says of a class file in hex what reading it gives, of its fronts whether they are cut, and of acts whether they are legal.
 pub struct ClassFiles;
 
 impl Answers for ClassFiles {
     fn answer(&self, alloc: Global, line: &[u8]) -> M<Option<Text>> {
         match bytes_of(alloc, line)? {
             Some(bytes) => Ok(Some(answer(alloc, bytes.as_slice())?)),
-            None => edit_answer(alloc, line),
+            None => match cuts_answer(alloc, line)? {
+                Some(text) => Ok(Some(text)),
+                None => edit_answer(alloc, line),
+            },
         }
     }
 }

@@ -1,6 +1,6 @@
 -- Why a command is refused, and what it says then: the statuses, the words and the limits of all commands (the
 -- project's own: what a command says).
-use Rattle.std.specs.Prelude.{ℕ, List, [], ◌∷◌, ◌++◌, codes}
+use Rattle.std.specs.Prelude.{ℕ, List, [], ◌∷◌, ◌++◌, Bool, true, false, codes, if◌then◌else◌}
 use Rattle.std.specs.Fmt.{decimal}
 use Rattle.command_frame.specs.declared.refusal.Quantity.{Quantity}
 use Rattle.command_frame.specs.declared.refusal.Quantity.TheVariants as quantity
@@ -22,6 +22,9 @@ reason_status reason.Limit = 6
 reason_status reason.NotEmpty = 8
 reason_status reason.No = 9
 reason_status reason.Text = 11
+reason_status reason.Entry = 12
+reason_status reason.Differs = 13
+reason_status reason.Item = 14
 
 -- the word for each
 abbrev pub reason_word : Reason → List ℕ
@@ -33,14 +36,26 @@ reason_word reason.Limit = codes "limit"
 reason_word reason.NotEmpty = codes "not-empty"
 reason_word reason.No = codes "no"
 reason_word reason.Text = codes "text"
+reason_word reason.Entry = codes "entry"
+reason_word reason.Differs = codes "differs"
+reason_word reason.Item = codes "item"
+
+-- the line tells more behind the word: what it is that is refused, but for an output that differs
+abbrev pub tells_more : Reason → Bool
+tells_more reason.Differs = false
+tells_more _ = true
 
 -- ---- refusals
+
+-- the end of a line behind its word
+abbrev pub line_end : Bool → List ℕ → List ℕ
+line_end tells_more told = if tells_more then codes " " ++ (told ++ codes "\n") else codes "\n"
 
 -- the line of a refusal: its status, its word, and what is told behind them
 abbrev pub refusal_line : Refusal → List ℕ
 refusal_line refusal =
     codes "error " ++ (decimal (reason_status refusal.reason) ++ (codes " " ++ (reason_word refusal.reason
-    ++ (codes " " ++ (refusal.told ++ codes "\n")))))
+    ++ line_end (tells_more refusal.reason) refusal.told)))
 
 -- no file stands at a path
 abbrev pub absent : List ℕ → Refusal

@@ -27,6 +27,9 @@ pub struct Plan {
 
 /// A command: what is due of it, and how that is found in a tree of files.
 pub trait Command {
+    /// What has to hold of it before it is run: that it may call what it was handed.
+    ghost ready: { Self → Type 0 };
+
     /// The plans that it may have, whatever the tree answers.
     ghost plans: { Self → PlanValue → Type 0 };
 
@@ -35,6 +38,7 @@ pub trait Command {
 
     /// The plan that is due, or why there is none. No file changes.
     fn due_plan<T: Tree>(&self, alloc: Global, tree: &mut T) -> Result<Plan, Stop>
+        requires { ready self.now }
         ensures made { IfOk result (plans self.now) }
         ensures found { Finds result (due self.now)
             (seen (T.files tree.old) (T.faults tree.old) (T.log tree.old))
@@ -50,6 +54,8 @@ pub fn run_command<C: Command, T: Tree, S: Sink>(
     tree: &mut T,
     out: &mut S,
 ) -> u8
+    requires { C.ready command.now }
+
     // The words aren't refused.
     ensures words { result ≢ 1 }
 
@@ -76,6 +82,7 @@ pub fn run_command<C: Command, T: Tree, S: Sink>(
 
 /// Writes the files of the plan that is due.
 fn carry_out<C: Command, T: Tree>(alloc: Global, command: &C, tree: &mut T) -> Result<Plan, Stop>
+    requires { C.ready command.now }
     ensures device { IsErrOf result Stop.Device → Rose (T.faults tree.old) (T.faults tree.new) }
     ensures left { AddsCalls (T.log tree.old) (T.log tree.new) (T.files tree.old) (T.files tree.new)
         (CarriesOut (C.plans command.now) (C.due command.now) result) }

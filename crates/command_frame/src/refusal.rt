@@ -1,7 +1,8 @@
 // Why a command is refused, and what it says then.
 ghost use Rattle.std.specs.Prelude.{◌≡◌, IfOk, string_bytes};
 ghost use Rattle.command_frame.specs.Refusal.{absent, limit_refused, passed, quantity_limit, quantity_name};
-ghost use Rattle.command_frame.specs.Refusal.{reason_status, reason_word, refusal_line, text_refused};
+ghost use Rattle.command_frame.specs.Refusal.{reason_status, reason_word, refusal_line, tells_more};
+ghost use Rattle.command_frame.specs.Refusal.{text_refused};
 
 use jv_base::{M, Text};
 use std::alloc::Global;
@@ -25,6 +26,12 @@ pub enum Reason {
     No,
     /// A text is outside its grammar.
     Text,
+    /// No method can be run as an entry with the words behind it.
+    Entry,
+    /// An output doesn't do the same as its input.
+    Differs,
+    /// An item isn't one of the set.
+    Item,
 }
 
 impl Reason {
@@ -41,7 +48,17 @@ impl Reason {
             Reason::NotEmpty => 8,
             Reason::No => 9,
             Reason::Text => 11,
+            Reason::Entry => 12,
+            Reason::Differs => 13,
+            Reason::Item => 14,
         }
+    }
+
+    /// Whether its line tells more behind the word.
+    fn tells_more(self) -> bool
+        ensures { result ≡ tells_more self }
+    {
+        !matches!(self, Reason::Differs)
     }
 
     /// The word for it in a line.
@@ -57,6 +74,9 @@ impl Reason {
             Reason::NotEmpty => "not-empty",
             Reason::No => "no",
             Reason::Text => "text",
+            Reason::Entry => "entry",
+            Reason::Differs => "differs",
+            Reason::Item => "item",
         }
     }
 }
@@ -83,8 +103,12 @@ impl Refusal {
     {
         let status = self.reason.status();
         let word = self.reason.word();
-        let told = self.told.as_str();
-        let line = format!(in alloc; "error {status} {word} {told}\n")?;
+        let line = if self.reason.tells_more() {
+            let told = self.told.as_str();
+            format!(in alloc; "error {status} {word} {told}\n")?
+        } else {
+            format!(in alloc; "error {status} {word}\n")?
+        };
         Ok(Text::from_string(alloc, line)?)
     }
 }

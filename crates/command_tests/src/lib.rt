@@ -1,12 +1,10 @@
 //! Tests of the commands as a whole, over trees and sinks in memory, in a crate of their own, so that the command isn't
-//! proved twice for them: each device call failing in turn, and files too long or too many for a stored run.
+//! proved twice for them: files too long or too many for a stored run, and workers that meet.
 #![tactic(auto)]
 
 #[cfg(test)]
-mod check;
+mod gates;
 #[cfg(test)]
-mod retrace;
-#[cfg(test)]
-mod runs;
+mod marks;
 #[cfg(test)]
 mod shrink;

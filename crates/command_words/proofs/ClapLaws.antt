@@ -1,5 +1,5 @@
 -- What clap answers, by the definition of the command line.
-use Rattle.std.proofs.Common.{◌≡◌, ◌≢◌, ◌⊎◌, ℕ, Bool, true, false, List, [], ◌∷◌, Option, Some, None, Result, Ok, Err}
+use Rattle.std.proofs.Common.{◌≡◌, ◌≢◌, ℕ, true, List, [], ◌∷◌, Option, Some, None, Result, Ok, Err}
 use Rattle.std.proofs.Common.{refl, sym, ap, subst, ◌∙◌, inl, inr, codes}
 use Rattle.std.specs.Prelude.{IfOk, OnOk}
 use Rattle.jv_base.specs.declared.outcome.OutOfMemory.{OutOfMemory}
@@ -7,21 +7,23 @@ use Rattle.clap.specs.declared.parser.matches.ArgMatches.{ArgMatches}
 use Rattle.command_words.specs.bodies.Reads.{ReadsWords}
 use Rattle.std.specs.List.{find}
 use Rattle.std.specs.Option.{option_map}
+use Rattle.std.specs.Prelude.{unwrap_or}
+use Rattle.std.specs.Str.Parse.{ParsesUnsigned}
 use Rattle.std.specs.Str.{bytes_eq}
 use Rattle.clap.specs.Facts.{Entry}
 use Rattle.clap.specs.Kinds.{FailsBy, HasKind, Kinds}
-use Rattle.clap.specs.Matches.{found_of, matched_of, raw_values}
+use Rattle.clap.specs.Matches.{ReadsOne, found_of, matched_of, one_text, raw_values}
 use Rattle.clap.specs.Values.{kind_of}
-use Rattle.clap.specs.Walk.{Row, Text, all_of, first_of, row_of, rows_of}
+use Rattle.clap.specs.Walk.{Row, Text, all_of, byte_or_zero, first_of, one_of, row_of, rows_of}
 use Rattle.clap.specs.Simple.{App, HasMatchesOf, is_simple, matches_of}
 use Rattle.clap.specs.Faults.{fault_of, is_simple_and_free}
 use Rattle.clap.specs.declared.error.Error.{Error}
 use Rattle.clap.specs.declared.error.kind.ErrorKind.TheVariants as kind
 use Rattle.clap.specs.declared.parser.matches.Found.{Found}
 use Rattle.clap.proofs.OnLiterals.{clap_on_literals}
-use Rattle.clap.proofs.WalkLemmas.{find_row}
+use Rattle.clap.proofs.WalkLemmas.{byte_read, find_row, one_text-rows}
 use Rattle.command_words.specs.CommandLine.{command_line}
-use Rattle.command_words.specs.Words.{command_named, commanded, said_in, two_in, where_taken}
+use Rattle.command_words.specs.Words.{command_named, commanded, number_in, said_in, where_taken, workers_in}
 
 -- all values of an argument, by the rows
 pub all_values : (f : Found) (id : Text) → option_map raw_values (matched_of f id) ≡ all_of id (rows_of f)
@@ -48,19 +50,37 @@ pub is_simple_line : is_simple command_line ≡ true
 unfolding clap_on_literals
 is_simple_line = refl
 
--- what is said where there is a name and two operands
-pub said_both : (rows : List Row) (name : Text) (operands : Text × Text) → first_of (codes "command") rows ≡ Some name
-    → two_in (all_of (codes "operands") rows) ≡ Some operands → said_in rows ≡ command_named name operands.0 operands.1
+-- what is said where there are a name and operands
+pub said_both : (rows : List Row) (name : Text) (operands : List Text) → first_of (codes "command") rows ≡ Some name
+    → all_of (codes "operands") rows ≡ Some operands
+    → said_in rows ≡ command_named name operands (workers_in rows)
 said_both rows name operands n o = rw (n, o) refl
 
 -- where there is no name
 pub said_no_name : (rows : List Row) → first_of (codes "command") rows ≡ None → said_in rows ≡ None
 said_no_name rows n = rw n refl
 
--- where there are not two operands
-pub said_not_two : (rows : List Row) (name : Text) → first_of (codes "command") rows ≡ Some name
-    → two_in (all_of (codes "operands") rows) ≡ None → said_in rows ≡ None
-said_not_two rows name n o = rw (n, o) refl
+-- where there are no operands
+pub said_name_alone : (rows : List Row) (name : Text) → first_of (codes "command") rows ≡ Some name
+    → all_of (codes "operands") rows ≡ None → said_in rows ≡ None
+said_name_alone rows name n o = rw (n, o) refl
+
+-- the number that is read of an argument, or 0 where there is none
+pub number_read : {E : Type 0} (gives : Text → Result ℕ E → Type 0) (f : Found) (id : Text) (read : Option ℕ)
+    → ((text : Text) (r : Result ℕ E) → gives text r → ParsesUnsigned 8 10 text r)
+    → (one_text f id ≡ None → read ≡ None)
+    → ((text : Text) → one_text f id ≡ Some text → ReadsOne gives text read)
+    → unwrap_or read 0 ≡ number_in (one_of id (rows_of f))
+number_read {E} gives f id read parses none value =
+    go (one_text f id) refl ∙ ap number_in (one_text-rows f id)
+  where
+    of_text : (text : Text) (r : Option ℕ) → ReadsOne gives text r → unwrap_or r 0 ≡ byte_or_zero text
+    of_text text (Some n) h = byte_read {E = E} text (Ok n) (parses text (Ok n) h)
+    of_text text None h = byte_read {E = E} text (Err h.0) (parses text (Err h.0) h.1)
+
+    go : (o : Option Text) → one_text f id ≡ o → unwrap_or read 0 ≡ number_in o
+    go None is = ap (λ (r : Option ℕ). unwrap_or r 0) (none is)
+    go (Some text) is = of_text text read (value text is)
 
 -- the words are taken
 pub taken_says : (words : List Text) (rows : List Row) → fault_of command_line words ≡ []

@@ -1,1 +1,2 @@
 pub mod ClapLaws
+pub mod LastCut

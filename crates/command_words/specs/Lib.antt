@@ -1,3 +1,4 @@
 pub mod CommandLine
+pub mod Entries
 pub mod Words
 pub mod bodies

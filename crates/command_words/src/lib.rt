@@ -3,6 +3,7 @@
 
 mod arguments;
 mod command;
+mod entries;
 mod help;
 mod words;
 

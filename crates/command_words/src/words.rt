@@ -1,12 +1,15 @@
 // What the words of a command line ask for.
 ghost use Rattle.std.specs.Prelude.{◌≡◌, ◌≢◌, None, IfOk, OnOk, codes, map, option_map};
 ghost use Rattle.clap.specs.Words.{all_of, found_of, kind_of, rows_of};
-ghost use Rattle.command_words.specs.Words.{command_named, both_files, check_asked, commanded, gen_asked, gen_number};
-ghost use Rattle.command_words.specs.Words.{both_in, retrace_asked, said_in, shrink_asked, two_in};
+ghost use Rattle.command_words.specs.Words.{both_files, check_asked, command_named, commanded, compare_asked};
+ghost use Rattle.command_words.specs.Words.{entry_in, gen_asked, gen_number, retrace_asked, run_asked, said_in};
+ghost use Rattle.command_words.specs.Words.{shrink_asked, steps_in, two_asked, two_named, why_asked, workers_in};
 ghost use Rattle.command_words.specs.bodies.Reads.{ReadsWords};
+ghost use Rattle.path_text.specs.Path.{file_in};
 
 use crate::Command;
 use crate::arguments::command_line;
+use crate::entries::is_entry;
 use clap::error::ErrorKind;
 use clap::{ArgMatches, Error};
 use jv_base::{Items, M, OutOfMemory, Text};
@@ -15,7 +18,7 @@ use std::alloc::Global;
 use text_lines::number_below;
 
 /// The command that words ask for, none where they ask for none. They are the words behind the program's name: the
-/// name of a command and its two operands, and anywhere `--workers N` with N from 1 to 64.
+/// name of a command and its operands, and anywhere `--workers N` with N from 1 to 64.
 pub fn read_command(alloc: Global, words: &Items<Text>) -> M<Option<Command>>
     ensures { IfOk result (λ command. command ≡ commanded words.now) }
 {
@@ -65,53 +68,76 @@ fn said_in(alloc: Global, matches: &ArgMatches<'_>) -> M<Option<Command>>
     let Some(name) = matches.get_str("command") else {
         return Ok(None);
     };
-    match two_operands(matches) {
-        Some((first, second)) => command_named(alloc, name, first, second),
+    let workers = workers_in(matches);
+    match matches.get_strs("operands") {
+        Some(operands) => command_named(alloc, name, operands, workers),
         None => Ok(None),
     }
 }
 
-fn two_operands<'m, 'a>(matches: &'m ArgMatches<'a>) -> Option<(&'a str, &'a str)>
-    ensures { option_map (λ p. (p.0.now, p.1.now)) result
-        ≡ two_in (all_of (codes "operands") (rows_of (found_of matches.now))) }
+// How many workers are asked for.
+fn workers_in(matches: &ArgMatches<'_>) -> u32
+    ensures { result ≡ workers_in (rows_of (found_of matches.now)) }
 {
-    match matches.get_strs("operands") {
-        Some(operands) => both_of(operands),
-        None => None,
-    }
-}
-
-fn both_of<'a>(operands: &[&'a str]) -> Option<(&'a str, &'a str)>
-    ensures { option_map (λ p. (p.0.now, p.1.now)) result ≡ both_in (map (λ s. s.now) operands.now) }
-{
-    match operands {
-        [first, second] => Some((*first, *second)),
-        _ => None,
-    }
+    u32::from(matches.get_one::<u8>("workers").unwrap_or(0))
 }
 
 #[tactic(auto, unfolding(crate::specs::Words::command_named))]
-fn command_named(alloc: Global, name: &str, first: &str, second: &str) -> M<Option<Command>>
-    ensures { IfOk result (λ command. command ≡ command_named name.now first.now second.now) }
+fn command_named(alloc: Global, name: &str, operands: &[&str], workers: u32) -> M<Option<Command>>
+    ensures { IfOk result (λ command. command ≡ command_named name.now (map (λ s. s.now) operands.now) workers) }
+{
+    if name == "run" {
+        run_asked(alloc, operands)
+    } else if name == "compare" {
+        compare_asked(alloc, operands)
+    } else {
+        two_asked(alloc, name, operands, workers)
+    }
+}
+
+fn two_asked(alloc: Global, name: &str, operands: &[&str], workers: u32) -> M<Option<Command>>
+    ensures { IfOk result (λ command. command ≡ two_asked name.now (map (λ s. s.now) operands.now) workers) }
+{
+    match operands {
+        [first, second] => two_named(alloc, name, *first, *second, workers),
+        _ => Ok(None),
+    }
+}
+
+#[tactic(auto, unfolding(crate::specs::Words::two_named))]
+fn two_named(
+    alloc: Global,
+    name: &str,
+    first: &str,
+    second: &str,
+    workers: u32,
+) -> M<Option<Command>>
+    ensures { IfOk result (λ command. command ≡ two_named name.now first.now second.now workers) }
 {
     if name == "shrink" {
-        shrink_asked(alloc, first, second)
+        shrink_asked(alloc, first, second, workers)
     } else if name == "check" {
         check_asked(alloc, first, second)
     } else if name == "retrace" {
         retrace_asked(alloc, first, second)
     } else if name == "gen" {
         gen_asked(alloc, first, second)
+    } else if name == "why" {
+        why_asked(alloc, first, second)
     } else {
         Ok(None)
     }
 }
 
-fn shrink_asked(alloc: Global, first: &str, second: &str) -> M<Option<Command>>
-    ensures { IfOk result (λ command. command ≡ shrink_asked (both_files first.now second.now)) }
+fn shrink_asked(alloc: Global, first: &str, second: &str, workers: u32) -> M<Option<Command>>
+    ensures { IfOk result (λ command. command ≡ shrink_asked (both_files first.now second.now) workers) }
 {
     match both_files(alloc, first, second)? {
-        Some((config, witness)) => Ok(Some(Command::Shrink { config, witness })),
+        Some((config, witness)) => Ok(Some(Command::Shrink {
+            config,
+            witness,
+            workers,
+        })),
         None => Ok(None),
     }
 }
@@ -166,4 +192,88 @@ fn gen_number(text: &str) -> Option<u32>
         Some(0) => None,
         number => number,
     }
+}
+
+fn why_asked(alloc: Global, first: &str, item: &str) -> M<Option<Command>>
+    ensures { IfOk result (λ command. command ≡ why_asked (file_in first.now) item.now) }
+{
+    match file_in(first) {
+        Some(config) => {
+            let config = Text::from_str(alloc, config)?;
+            let item = Text::from_str(alloc, item)?;
+            Ok(Some(Command::Why { config, item }))
+        }
+        None => Ok(None),
+    }
+}
+
+fn run_asked(alloc: Global, operands: &[&str]) -> M<Option<Command>>
+    ensures { IfOk result (λ command. command ≡ run_asked (map (λ s. s.now) operands.now)) }
+{
+    let [directory, entry, steps, words @ ..] = operands else {
+        return Ok(None);
+    };
+    let entry = entry_in(alloc, *entry)?;
+    match (directory_in(*directory), entry, steps_in(*steps)) {
+        (Some(directory), Some(entry), Some(steps)) => {
+            let directory = Text::from_str(alloc, directory)?;
+            let words = words_in(alloc, words)?;
+            Ok(Some(Command::Run {
+                directory,
+                entry,
+                steps,
+                words,
+            }))
+        }
+        _ => Ok(None),
+    }
+}
+
+fn compare_asked(alloc: Global, operands: &[&str]) -> M<Option<Command>>
+    ensures { IfOk result (λ command. command ≡ compare_asked (map (λ s. s.now) operands.now)) }
+{
+    let [config, entry, steps, words @ ..] = operands else {
+        return Ok(None);
+    };
+    let entry = entry_in(alloc, *entry)?;
+    match (file_in(*config), entry, steps_in(*steps)) {
+        (Some(config), Some(entry), Some(steps)) => {
+            let config = Text::from_str(alloc, config)?;
+            let words = words_in(alloc, words)?;
+            Ok(Some(Command::Compare {
+                config,
+                entry,
+                steps,
+                words,
+            }))
+        }
+        _ => Ok(None),
+    }
+}
+
+fn entry_in(alloc: Global, word: &str) -> M<Option<Text>>
+    ensures { IfOk result (λ entry. entry ≡ entry_in word.now) }
+{
+    if is_entry(alloc, word)? {
+        Ok(Some(Text::from_str(alloc, word)?))
+    } else {
+        Ok(None)
+    }
+}
+
+// A number up to 100,000,000.
+fn steps_in(word: &str) -> Option<u32>
+    ensures { result ≡ steps_in word.now }
+{
+    number_below(word, 100_000_001)
+}
+
+fn words_in(alloc: Global, words: &[&str]) -> M<Items<Text>>
+    ensures { IfOk result (λ copied. copied ≡ map (λ s. s.now) words.now) }
+{
+    let mut copied = Items::new(alloc);
+    for word in words {
+        copied.push(Text::from_str(alloc, *word)?)?;
+    }
+    Ok(copied)
 }

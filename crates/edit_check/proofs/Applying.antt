@@ -293,7 +293,7 @@ module _ (acts : List Act) (code : Code) where
   pub kept_long : length kept ≡ length code.ins
   kept_long = from_long (λ at (i : Ins). is_uncut cuts target_list code at) 0 code.ins
 
-  kept_where : (at : ℕ) → lives_in kept at ≡ not (goes acts code at)
+  pub kept_where : (at : ℕ) → lives_in kept at ≡ not (goes acts code at)
   kept_where at = by (slice_get code.ins at) refl
     where
       by : (o : Option Ins) → slice_get code.ins at ≡ o → lives_in kept at ≡ not (goes acts code at)

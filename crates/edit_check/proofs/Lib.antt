@@ -1,4 +1,5 @@
 mod Applying
+mod Living
 mod OnePass
 mod Stepping
 mod Targets

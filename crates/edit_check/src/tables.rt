@@ -142,7 +142,8 @@ fn is_uncut(cuts: &[bool], targets: &[bool], code: &Code, at: usize) -> bool
         || has(cuts, at) && is_inc_at(code, at))
 }
 
-fn uncut(alloc: Global, cuts: &[bool], targets: &[bool], code: &Code) -> M<Vec<bool>>
+/// Of each index, whether no cut makes the instruction go.
+pub(crate) fn uncut(alloc: Global, cuts: &[bool], targets: &[bool], code: &Code) -> M<Vec<bool>>
     requires { length code.now.ins < 4294967295 }
     ensures { IfOk result (λ lives. lives.items ≡ uncut cuts.now targets.now code.now) }
 {

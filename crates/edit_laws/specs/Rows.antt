@@ -1,5 +1,5 @@
 -- Codes that show what the acts do, before and after (docs/PASSES.md goes through them).
-use Rattle.std.specs.Prelude.{◌≡◌, pos, List, [], ◌∷◌, None, Some, map}
+use Rattle.std.specs.Prelude.{◌≡◌, ℕ, pos, List, [], ◌∷◌, None, Some, map}
 use Rattle.class_model.specs.declared.code.Code.{Code}
 use Rattle.class_model.specs.declared.code.Ins.{Ins}
 use Rattle.class_model.specs.declared.op.Cond.TheVariants as cond
@@ -13,6 +13,12 @@ use Rattle.code_edit.specs.declared.act.Pass.{Pass}
 use Rattle.code_edit.specs.declared.act.Pass.TheVariants.{Reach, Jumps, Slots}
 use Rattle.code_edit.specs.Applied.{applied}
 use Rattle.code_edit.specs.Legal.{IsRightAct}
+use Rattle.jvm_model.specs.Heap.{World}
+use Rattle.jvm_model.specs.Local.{called_with}
+use Rattle.jvm_model.specs.Program.{Shape}
+use Rattle.jvm_model.specs.State.{HasReturned, Runs, Status, status}
+use Rattle.jvm_model.specs.Step.{run}
+use Rattle.jvm_model.specs.Value.{Int, Key, Value}
 
 abbrev pub code_of : List Op → Code
 code_of ops = record {
@@ -80,3 +86,39 @@ CircleRow =
 -- a goto to itself is no goto to the next index
 abbrev pub ItselfRow : Type 0
 ItselfRow = IsRightAct Jumps (act.Skip 0 ∷ []) (code_of (op.Goto 0 ∷ [])) (act.Skip 0) → ⊥
+
+-- ---- runs
+
+-- what has become, after so many steps, of a method with these operations, in a program in which each method has them
+abbrev pub status_after : Shape → World → Key → List Value → ℕ → List Op → Status
+status_after shape world method args steps ops =
+    status (run (record { shape = shape; code = λ k. Some (code_of ops) }) (record {
+      world = world;
+      control = Runs (record { method = method; body = called_with args });
+      waits = [];
+    }) steps)
+
+-- before the acts of a pass it has come to this after so many steps, and with them after so many
+abbrev pub EndsAlike : Pass → List Act → List Op → List Value → Status → ℕ → ℕ → Type 0
+EndsAlike pass acts ops args ending before after =
+    (shape : Shape) (world : World) (method : Key)
+    → (status_after shape world method args before ops ≡ ending)
+    × (status_after shape world method args after (ops_after pass acts ops) ≡ ending)
+
+-- the goto over the nop, and the return
+abbrev pub DropRun : Type 0
+DropRun = EndsAlike Reach (act.Drop 1 1 ∷ []) over_a_nop [] (HasReturned None) 2 2
+
+-- a number is stored and added to, and then an argument is returned
+abbrev pub CutRun : Type 0
+CutRun =
+    EndsAlike Slots (act.Cut 1 ∷ act.Cut 2 ∷ [])
+    (op.PushInt (pos 5) ∷ op.Store kind.Int 1 ∷ op.Inc 1 (pos 1) ∷ op.Load kind.Int 0
+    ∷ op.Return (Some kind.Int) ∷ [])
+    (Int (pos 7) ∷ []) (HasReturned (Some (Int (pos 7)))) 5 2
+
+-- the branch to the goto
+abbrev pub AimRun : Type 0
+AimRun =
+    EndsAlike Jumps (act.Aim 1 0 2 ∷ act.Skip 1 ∷ []) to_a_goto (Int (pos 0) ∷ [])
+    (HasReturned (Some (Int (pos 1)))) 5 4

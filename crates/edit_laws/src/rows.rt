@@ -1,7 +1,7 @@
 // What acts make of some codes.
 ghost use Rattle.class_model.specs.declared.op.MemberRef.{MemberRef};
-ghost use Rattle.edit_laws.specs.Rows.{AimRow, BranchToStoreRow, CircleRow, CutRow, DropRow};
-ghost use Rattle.edit_laws.specs.Rows.{ItselfRow, NeededRow};
+ghost use Rattle.edit_laws.specs.Rows.{AimRow, AimRun, BranchToStoreRow, CircleRow, CutRow, CutRun};
+ghost use Rattle.edit_laws.specs.Rows.{DropRow, DropRun, ItselfRow, NeededRow};
 
 /// What acts make of small codes, computed from the definitions, and two acts that aren't right:
 /// a drop of what control needs, and a skip of a goto to itself. It does nothing.
@@ -13,4 +13,12 @@ pub fn computed_acts()
     ensures aim { AimRow }
     ensures circle { CircleRow }
     ensures itself { ItselfRow }
+{}
+
+/// Small methods before acts of each pass and after them, run to their end: both return the same.
+/// It does nothing.
+pub fn computed_runs()
+    ensures drop { DropRun }
+    ensures cut { CutRun }
+    ensures aim { AimRun }
 {}

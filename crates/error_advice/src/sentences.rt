@@ -22,13 +22,19 @@ pub fn advice(line: &str) -> Option<&'static str> {
                 empty output directory",
         ),
         "11" => text_advice(last_word(rest)),
+        "14" => Some(
+            "no class and no member of the input is spelled so: demo.Helper, demo.Helper: int size and \
+                demo.Helper: int twice(int), in quotes, as the list of -printseeds has them; with -keep class \
+                ** { *; } in the config that list has all",
+        ),
         _ => None,
     }
 }
 
 const WORDS: &str =
-    "usage: shrink CONFIG WITNESS, check CONFIG WITNESS or retrace MAPPING TRACE, each of the two a path \
-        without ./, ../ or // in it and without / at its end: s.pro and not ./s.pro; --help tells more";
+    "usage: shrink CONFIG WITNESS, check CONFIG WITNESS, retrace MAPPING TRACE or why CONFIG ITEM, all but ITEM \
+        paths without ./, ../ or // in them and without / at their ends: s.pro and not ./s.pro; --help tells \
+        more";
 
 const SURVEY: &str =
     "it uses what is neither below the directory of -injars nor in the small library, or may not be used of \
@@ -221,12 +227,16 @@ fn clause_advice(rest: &str) -> Option<&'static str> {
             "it isn't as in the input: flags, supertypes, a type, a constant, or Exceptions; or the class \
                 has members that have no line, or the wrong rules were used",
         ),
-        "WitnessStray" | "EditIllegal" => Some(
-            "the witness tells of an edit; nothing is optimised yet, so it is the one line: witness 1",
+        "WitnessStray" => Some(
+            "the witness tells of a method that isn't kept, or has no code: is it the witness of this \
+                mapping?",
+        ),
+        "EditIllegal" => Some(
+            "the witness tells of an act that may change what the method does: docs/PASSES.md has the rules",
         ),
         "CodeDiffers" => Some(
-            "the code, or its lines, isn't that of the input under new names: it was optimised, or \
-                -keepattributes LineNumberTable isn't in both configs",
+            "the code, or its lines, isn't that of the input under new names: it was optimised otherwise \
+                than the witness tells, or -keepattributes LineNumberTable isn't in both configs",
         ),
         _ => None,
     }

@@ -1,14 +1,15 @@
 // Paths that stand in one another's way.
 ghost use Rattle.std.specs.Prelude.{◌≡◌, ◌++◌, [], IfOk, OnOk};
 ghost use Rattle.std.specs.List.{list_any};
-ghost use Rattle.keep_rules.specs.Paths.{any_meet, before_texts, files_of, is_at, meets, meets_config, paths_meet};
+ghost use Rattle.keep_rules.specs.Paths.{any_meet, before_texts, files_of, is_at, is_below_file, meets, meets_config};
+ghost use Rattle.keep_rules.specs.Paths.{meets_file, paths_meet};
 
 use crate::Rules;
 use jv_base::{Items, M, Text};
 use path_text::is_below;
 use std::alloc::Global;
 
-// The files that a run writes beside the classes.
+// The files that a run writes beside the classes; the witness is the empty text where none is written.
 fn files_of(alloc: Global, rules: &Rules, witness: &Text) -> M<Items<Text>>
     ensures { IfOk result (λ files. files ≡ files_of rules.now witness.now) }
 {
@@ -39,18 +40,33 @@ fn meets(path: &Text, other: &Text) -> bool
     path == other || is_below(path, other) || is_below(other, path)
 }
 
-fn meets_any(path: &Text, others: &[Text]) -> bool
-    ensures { result ≡ list_any (meets path.now) others.now }
+// Below the empty text, which stands for no file, lies none.
+fn is_below_file(path: &Text, file: &Text) -> bool
+    ensures { result ≡ is_below_file path.now file.now }
 {
-    others.iter().any(|other| meets(path, other))
+    !file.as_str().is_empty() && is_below(path.as_str(), file.as_str())
 }
 
-fn any_meet(paths: &[Text]) -> bool
-    ensures { result ≡ any_meet paths.now }
+fn meets_file(path: &Text, file: &Text) -> bool
+    ensures { result ≡ meets_file path.now file.now }
 {
-    let mut rest = paths;
-    while let [path, others @ ..] = rest {
-        if meets_any(path, others) {
+    path.as_str() == file.as_str()
+        || is_below_file(path, file)
+        || is_below(file.as_str(), path.as_str())
+}
+
+fn meets_any(path: &Text, files: &[Text]) -> bool
+    ensures { result ≡ list_any (meets_file path.now) files.now }
+{
+    files.iter().any(|file| meets_file(path, file))
+}
+
+fn any_meet(files: &[Text]) -> bool
+    ensures { result ≡ any_meet files.now }
+{
+    let mut rest = files;
+    while let [file, others @ ..] = rest {
+        if meets_any(file, others) {
             return true;
         }
         rest = others;
@@ -58,7 +74,8 @@ fn any_meet(paths: &[Text]) -> bool
     false
 }
 
-/// Whether two of both directories and of the files that are written meet.
+/// Whether two of both directories and of the files that are written meet; the witness is the empty text where none is
+/// written.
 #[tactic(auto, unfolding(crate::specs::Paths::paths_meet))]
 pub(crate) fn paths_meet(alloc: Global, rules: &Rules, witness: &Text) -> M<bool>
     ensures { IfOk result (λ meet. meet ≡ paths_meet rules.now witness.now) }

@@ -16,7 +16,8 @@ use conf_words::Word;
 use jv_base::{Items, M, Or, Text};
 use std::alloc::Global;
 
-/// The rules that the words of a config stand for, where the witness goes to this file, or the first fault (ProGuard
+/// The rules that the words of a config stand for, where the witness goes to this file (to none where its path is the
+/// empty text), or the first fault (ProGuard
 /// manual, "Usage").
 ///
 /// Words are read in their order, and the fault of the first word at fault is told; then an option that is missing, and

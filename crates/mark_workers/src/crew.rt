@@ -5,6 +5,7 @@ ghost use Rattle.mark_words.specs.Seats.{view, system_of, IsNewcomer, IsSeatOf};
 ghost use Rattle.mark_workers.specs.Ready.{Hired, IsFree};
 ghost use Rattle.mark_workers.specs.Sweep.{Rests};
 
+use crate::tasks::Tasks;
 use crossbeam_deque::{Stealer, Worker};
 use jv_base::M;
 use mark_words::{MarkSeat, MarkTable};
@@ -20,14 +21,15 @@ pub(crate) struct Member {
     pub number: u32,
     pub seat: MarkSeat,
     /// Items that it marked first and nobody has taken from it.
-    pub queue: Worker<u32>,
+    pub tasks: Tasks,
 }
 
-/// A member with an empty deque, from which others take by the stealer that is added.
+/// A member without tasks, who keeps so many of them near. From its deque others take by the stealer that is added.
 pub(crate) fn new_member(
     alloc: Global,
     number: u32,
     seat: MarkSeat,
+    room: usize,
     stealers: &mut Vec<Stealer<u32>>,
 ) -> M<Member>
     ensures { IfOk result (λ member. member.seat ≡ seat) }
@@ -37,11 +39,16 @@ pub(crate) fn new_member(
     Ok(Member {
         number,
         seat,
-        queue,
+        tasks: Tasks {
+            near: Vec::new(alloc),
+            room,
+            queue,
+        },
     })
 }
 
-/// A member for each of the seats.
+/// A member for each of the seats. One who is alone keeps all tasks near; of several each has one there, and shares the
+/// others.
 pub(crate) fn hire(
     alloc: Global,
     table: &MarkTable,
@@ -55,10 +62,11 @@ pub(crate) fn hire(
     ensures count { IfOk result (λ crew. length crew.items ≡ workers) }
 {
     let mut seats = seats;
+    let room = if workers == 1 { usize::MAX } else { 1 };
     let mut crew = Vec::new(alloc);
     let mut number = 0;
     while let Some(seat) = seats.pop() {
-        crew.push(new_member(alloc, number, seat, stealers)?)?;
+        crew.push(new_member(alloc, number, seat, room, stealers)?)?;
         number += 1;
     }
     Ok(crew)

@@ -9,18 +9,18 @@ ghost use Rattle.mark_workers.specs.Index.{IsIndex};
 ghost use Rattle.mark_workers.specs.Work.{Did, Fits, IsBusy, Kept, Looked, Sides};
 
 use crate::pair_index::PairIndex;
-use crossbeam_deque::Worker;
+use crate::tasks::Tasks;
 use mark_core::{Pair, System};
 use mark_words::{Claimed, MarkSeat, MarkTable};
 
-/// Does all that the item in hand asks for, and finishes it. Items that are new go to the queue.
+/// Does all that the item in hand asks for, and finishes it. Items that are new go to the tasks.
 pub(crate) fn do_item(
     table: &MarkTable,
     seat: &mut MarkSeat,
     sys: &System,
     index: &PairIndex,
     id: u32,
-    queue: &mut Worker<u32>,
+    tasks: &mut Tasks,
 )
     requires fits { Fits table.now sys.now index.now }
     requires id { id < sys.now.n }
@@ -29,19 +29,13 @@ pub(crate) fn do_item(
     ensures seat { IsSeatOf table.now seat.new }
     ensures did { Did (system_of table.now).n (view seat.old) id (view seat.new) }
 {
-    claim_needs(table, seat, sys, id, queue);
-    look_pairs(table, seat, sys, index, id, queue);
+    claim_needs(table, seat, sys, id, tasks);
+    look_pairs(table, seat, sys, index, id, tasks);
     table.finish(seat);
 }
 
 /// Claims all that the item needs.
-fn claim_needs(
-    table: &MarkTable,
-    seat: &mut MarkSeat,
-    sys: &System,
-    id: u32,
-    queue: &mut Worker<u32>,
-)
+fn claim_needs(table: &MarkTable, seat: &mut MarkSeat, sys: &System, id: u32, tasks: &mut Tasks)
     requires system { system_of table.now ≡ sys.now }
     requires valid { Valid sys.now }
     requires id { id < sys.now.n }
@@ -52,7 +46,7 @@ fn claim_needs(
     ensures seen { All (Contains (view seat.new).seen) (needs_of sys.now id) }
 {
     for item in sys.needs[id as usize].as_slice() {
-        claim(table, seat, *item, queue);
+        claim(table, seat, *item, tasks);
     }
 }
 
@@ -63,7 +57,7 @@ fn look_pairs(
     sys: &System,
     index: &PairIndex,
     id: u32,
-    queue: &mut Worker<u32>,
+    tasks: &mut Tasks,
 )
     requires fits { Fits table.now sys.now index.now }
     requires id { id < sys.now.n }
@@ -76,13 +70,13 @@ fn look_pairs(
     let mut front = index.fronts[id as usize];
     while front > 0 {
         let place = front - 1;
-        look_pair(table, seat, id, sys.pairs[place / 2], queue);
+        look_pair(table, seat, id, sys.pairs[place / 2], tasks);
         front = index.links[place];
     }
 }
 
 /// Looks at the other item of the pair, or at the item itself where the pair has it twice.
-fn look_pair(table: &MarkTable, seat: &mut MarkSeat, id: u32, pair: Pair, queue: &mut Worker<u32>)
+fn look_pair(table: &MarkTable, seat: &mut MarkSeat, id: u32, pair: Pair, tasks: &mut Tasks)
     requires seat { IsSeatOf table.now seat.old }
     requires busy { IsBusy (view seat.old) id }
     requires pair { Contains (system_of table.now).pairs pair }
@@ -92,10 +86,10 @@ fn look_pair(table: &MarkTable, seat: &mut MarkSeat, id: u32, pair: Pair, queue:
     ensures seen { PairSeen (view seat.new) id pair }
 {
     if pair.one == id {
-        look(table, seat, id, pair.two, pair, queue);
+        look(table, seat, id, pair.two, pair, tasks);
     }
     if pair.two == id {
-        look(table, seat, id, pair.one, pair, queue);
+        look(table, seat, id, pair.one, pair, tasks);
     }
 }
 
@@ -106,7 +100,7 @@ fn look(
     id: u32,
     partner: u32,
     pair: Pair,
-    queue: &mut Worker<u32>,
+    tasks: &mut Tasks,
 )
     requires seat { IsSeatOf table.now seat.old }
     requires busy { IsBusy (view seat.old) id }
@@ -118,12 +112,12 @@ fn look(
     ensures seen { Looked (view seat.new) id partner pair }
 {
     if table.is_marked(seat, partner) {
-        claim(table, seat, pair.derived, queue);
+        claim(table, seat, pair.derived, tasks);
     }
 }
 
-/// Claims the item, and queues it where it is new. One that the queue refuses for want of memory is left to the sweep.
-pub(crate) fn claim(table: &MarkTable, seat: &mut MarkSeat, item: u32, queue: &mut Worker<u32>)
+/// Claims the item, and adds it to the tasks where it is new. One for which there is no memory is left to the sweep.
+pub(crate) fn claim(table: &MarkTable, seat: &mut MarkSeat, item: u32, tasks: &mut Tasks)
     requires seat { IsSeatOf table.now seat.old }
     requires free { (view seat.old).reserved ≡ false }
     requires item { item < (system_of table.now).n }
@@ -133,6 +127,6 @@ pub(crate) fn claim(table: &MarkTable, seat: &mut MarkSeat, item: u32, queue: &m
     ensures seen { Contains (view seat.new).seen item }
 {
     if table.claim(seat, item) == Claimed::New {
-        let _ = queue.push(item);
+        tasks.add(item);
     }
 }

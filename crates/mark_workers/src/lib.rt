@@ -6,6 +6,7 @@ mod item;
 mod marking;
 mod pair_index;
 mod sweep;
+mod tasks;
 mod working;
 
 pub use marking::mark_all;

@@ -41,7 +41,7 @@ pub fn mark_all<R: Threads + Sync, G: Gate>(
     let first = seats.remove(0);
     let mut stealers = Vec::new(alloc);
     let mut crew = hire(alloc, &table, workers, seats, &mut stealers)?;
-    let mut driver = new_member(alloc, workers, first, &mut stealers)?;
+    let mut driver = new_member(alloc, workers, first, 0, &mut stealers)?;
     seed(&table, sys, &mut driver);
     work_all(
         rt,
@@ -62,7 +62,7 @@ pub fn mark_all<R: Threads + Sync, G: Gate>(
         &OpenGate,
         &mut driver,
     );
-    settle(&table, &mut driver.seat, sys, &index, &mut driver.queue);
+    settle(&table, &mut driver.seat, sys, &index, &mut driver.tasks);
     table.close(alloc, driver.seat)
 }
 
@@ -76,7 +76,7 @@ fn seed(table: &MarkTable, sys: &System, driver: &mut Member)
     ensures seats { SameSeats (view driver.old.seat) (view driver.new.seat) }
 {
     for id in sys.seeds.as_slice() {
-        claim(table, &mut driver.seat, *id, &mut driver.queue);
+        claim(table, &mut driver.seat, *id, &mut driver.tasks);
     }
     table.end_seeding(&mut driver.seat);
 }

@@ -6,7 +6,7 @@ ghost use Rattle.mark_workers.specs.Work.{Fits};
 
 use crate::item::do_item;
 use crate::pair_index::PairIndex;
-use crossbeam_deque::Worker;
+use crate::tasks::Tasks;
 use mark_core::System;
 use mark_words::{MarkSeat, MarkTable, Taken};
 
@@ -16,7 +16,7 @@ pub(crate) fn settle(
     seat: &mut MarkSeat,
     sys: &System,
     index: &PairIndex,
-    queue: &mut Worker<u32>,
+    tasks: &mut Tasks,
 )
     requires fits { Fits table.now sys.now index.now }
     requires seat { IsSeatOf table.now seat.old }
@@ -27,18 +27,12 @@ pub(crate) fn settle(
     if table.idle(seat) {
         return;
     }
-    sweep(table, seat, sys, index, queue);
+    sweep(table, seat, sys, index, tasks);
     table.idle(seat);
 }
 
 /// Rounds over all items, until one takes none.
-fn sweep(
-    table: &MarkTable,
-    seat: &mut MarkSeat,
-    sys: &System,
-    index: &PairIndex,
-    queue: &mut Worker<u32>,
-)
+fn sweep(table: &MarkTable, seat: &mut MarkSeat, sys: &System, index: &PairIndex, tasks: &mut Tasks)
     requires fits { Fits table.now sys.now index.now }
     requires seat { IsSeatOf table.now seat.old }
     requires rests { Rests (system_of table.now).n (view seat.old) }
@@ -47,7 +41,7 @@ fn sweep(
     ensures swept { IsSwept sys.now.n (view seat.new) }
 {
     loop {
-        let took = round(table, seat, sys, index, queue);
+        let took = round(table, seat, sys, index, tasks);
         if !took {
             return;
         }
@@ -60,7 +54,7 @@ fn round(
     seat: &mut MarkSeat,
     sys: &System,
     index: &PairIndex,
-    queue: &mut Worker<u32>,
+    tasks: &mut Tasks,
 ) -> bool
     requires fits { Fits table.now sys.now index.now }
     requires seat { IsSeatOf table.now seat.old }
@@ -72,7 +66,7 @@ fn round(
 {
     let mut took = false;
     for id in 0..sys.n {
-        if visit(table, seat, sys, index, id, queue) {
+        if visit(table, seat, sys, index, id, tasks) {
             took = true;
         }
     }
@@ -86,7 +80,7 @@ fn visit(
     sys: &System,
     index: &PairIndex,
     id: u32,
-    queue: &mut Worker<u32>,
+    tasks: &mut Tasks,
 ) -> bool
     requires fits { Fits table.now sys.now index.now }
     requires id { id < sys.now.n }
@@ -98,7 +92,7 @@ fn visit(
     if table.is_marked(seat, id) {
         match table.take(seat, id) {
             Taken::Mine => {
-                do_item(table, seat, sys, index, id, queue);
+                do_item(table, seat, sys, index, id, tasks);
                 true
             }
             Taken::Others => false,

@@ -8,7 +8,7 @@ ghost use Rattle.mark_workers.specs.Work.{Fits};
 use crate::crew::Member;
 use crate::item::do_item;
 use crate::pair_index::PairIndex;
-use crossbeam_deque::{Steal, Stealer, Worker};
+use crossbeam_deque::Stealer;
 use mark_core::System;
 use mark_words::{MarkTable, Taken};
 use std::thread::{Threads, for_each_mut};
@@ -62,7 +62,7 @@ pub(crate) fn work<G: Gate>(
     ensures seats { SameSeats (view member.old.seat) (view member.new.seat) }
 {
     for _ in 0..u64::from(sys.n) + IDLE_TURNS {
-        match find_task(&mut member.queue, stealers) {
+        match member.tasks.find(stealers) {
             Some(id) => {
                 if id < sys.n {
                     try_item(table, sys, index, gate, id, member);
@@ -75,6 +75,7 @@ pub(crate) fn work<G: Gate>(
             }
         }
     }
+    member.tasks.share();
     gate.turn(member.number, Turn::Left);
 }
 
@@ -97,23 +98,10 @@ fn try_item<G: Gate>(
         match table.take(&mut member.seat, id) {
             Taken::Mine => {
                 gate.turn(member.number, Turn::Took);
-                do_item(table, &mut member.seat, sys, index, id, &mut member.queue);
+                do_item(table, &mut member.seat, sys, index, id, &mut member.tasks);
                 gate.turn(member.number, Turn::Finished);
             }
             Taken::Others => {}
         }
     }
-}
-
-/// An item of its own queue, or else one of those that it takes from another.
-fn find_task(queue: &mut Worker<u32>, stealers: &[Stealer<u32>]) -> Option<u32> {
-    if let Some(task) = queue.pop() {
-        return Some(task);
-    }
-    for other in stealers {
-        if let Steal::Success(task) = other.steal_batch_and_pop(queue) {
-            return Some(task);
-        }
-    }
-    None
 }

@@ -5,18 +5,19 @@ ghost use Rattle.member_shrink.specs.Shrunk.{is_marked, chosen, with_marked_memb
 
 use class_model::Class;
 use jv_base::{Items, M};
+use mark_words::Marked;
 use std::alloc::Global;
 use std::mem;
 
 /// The classes whose items are marked, in their order, each with its marked fields and its marked
 /// methods in their order (ProGuard manual, "Usage": what isn't kept is removed). Items are
 /// numbered from 0: each class is followed by its fields, then by its methods, then by the next
-/// class. What is kept is moved, so no code is copied.
-pub fn shrunk(alloc: Global, classes: Items<Class>, marks: &Items<bool>) -> M<Items<Class>>
-    requires { length marks.now ≡ item_count classes }
-    ensures { IfOk result (λ kept. kept ≡ shrunk classes marks.now) }
+/// class. The marks are those of a closed table. What is kept is moved, so no code is copied.
+pub fn shrunk(alloc: Global, classes: Items<Class>, marked: &Marked) -> M<Items<Class>>
+    requires { length marked.now ≡ item_count classes }
+    ensures { IfOk result (λ kept. kept ≡ shrunk classes marked.now) }
 {
-    let marks = marks.as_slice();
+    let marks = marked.marks().as_slice();
     let mut kept = Items::new(alloc);
     let mut item = 0usize;
     for class in classes.into_vec() {

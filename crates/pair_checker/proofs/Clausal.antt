@@ -1,5 +1,5 @@
 -- What is found of each clause, of a pair that was read.
-use Rattle.std.proofs.Common.{◌≡◌, ℕ, List, Bool, Option, Some, None, Result, subst}
+use Rattle.std.proofs.Common.{◌≡◌, ℕ, List, Bool, Option, Some, None, Result, map, subst}
 use Rattle.std.specs.Prelude.{IfOk}
 use Rattle.mark_core.specs.declared.system.System.{System}
 use Rattle.class_model.specs.declared.class.Class.{Class}
@@ -8,14 +8,20 @@ use Rattle.attribute_filter.specs.KeptAttributes.{filter_of}
 use Rattle.attribute_filter.specs.declared.filter.AttributeFilter.{AttributeFilter}
 use Rattle.require_sys.specs.Required.{required}
 use Rattle.mapping_file.specs.declared.mapping.Mapping.{Mapping}
+use Rattle.witness_file.specs.declared.witness.MethodWitness.{MethodWitness}
+use Rattle.new_names.specs.NewNames.{names_given}
 use Rattle.new_names.specs.declared.class_names.ClassNames.{ClassNames}
 use Rattle.rename_map.specs.Names.{AreFixed}
 use Rattle.pair_clauses.specs.Closing.{lacking, lined_items, lost_seed, place_of_item}
 use Rattle.pair_clauses.specs.Codes as coded
+use Rattle.pair_clauses.specs.Finding.{FirstOf}
 use Rattle.pair_clauses.specs.FixedNames.{fixed_by, fixed_fault, package_fault}
 use Rattle.pair_clauses.specs.Members as members
 use Rattle.pair_clauses.specs.declared.place.Place.{Place}
-use Rattle.pair_checker.specs.Clauses.{CodeDiffers, FixedName, MemberDiffers, NotClosed, Package, SeedLost, given_names}
+use Rattle.pair_edits.specs.Edits.{ClassEditIllegal, stray_fault}
+use Rattle.pair_edits.specs.Entries.{edited_class, edited_input}
+use Rattle.pair_checker.specs.Clauses.{CodeDiffers, EditIllegal, FixedName, MemberDiffers, NotClosed, Package}
+use Rattle.pair_checker.specs.Clauses.{SeedLost, WitnessStray, given_names}
 use Rattle.pair_checker.specs.bodies.Matching.{IsRead}
 use Rattle.pair_checker.specs.declared.matching.Pair.{Pair}
 
@@ -64,17 +70,32 @@ module _ {E : Type 0} (pair : Pair) (rules : Rules) (is : IsRead pair rules) (r 
       (λ (m : Mapping). IfOk r (members.MemberDiffers m pair.filter.now pair.input.now pair.given.now pair.output.now))
       is.names h))
 
-  pub found_code : IfOk r (coded.CodeDiffers pair.names.now pair.filter.now pair.input.now pair.given.now
-      pair.output.now)
+  pub found_stray : ((mapping : Mapping) → pair.given.now ≡ map (names_given mapping) pair.input.now
+      → IfOk r (λ found. found ≡ stray_fault mapping pair.input.now pair.witness.now))
+      → IfOk r (WitnessStray pair.input.now pair.output.now pair.mapping.now rules pair.witness.now)
+  found_stray h = h pair.mapping.now is.given
+
+  pub found_illegal : IfOk r (FirstOf (ClassEditIllegal pair.entries.now) pair.input.now)
+      → IfOk r (EditIllegal pair.input.now pair.output.now pair.mapping.now rules pair.witness.now)
+  found_illegal h = subst
+      (λ (entries : List MethodWitness). IfOk r (FirstOf (ClassEditIllegal entries) pair.input.now)) is.entries h
+
+  pub found_code : IfOk r (coded.CodeDiffers pair.names.now pair.filter.now
+      (map (edited_class pair.entries.now) pair.input.now) pair.given.now pair.output.now)
       → IfOk r (CodeDiffers pair.input.now pair.output.now pair.mapping.now rules pair.witness.now)
   found_code h = subst
-      (λ (g : List ClassNames). IfOk r
-      (coded.CodeDiffers pair.mapping.now (filter_of rules) pair.input.now g pair.output.now))
+      (λ (g : List ClassNames). IfOk r (coded.CodeDiffers pair.mapping.now (filter_of rules)
+      (edited_input pair.witness.now pair.input.now) g pair.output.now))
       is.given
       (subst
-      (λ (f : AttributeFilter). IfOk r
-      (coded.CodeDiffers pair.mapping.now f pair.input.now pair.given.now pair.output.now))
+      (λ (f : AttributeFilter). IfOk r (coded.CodeDiffers pair.mapping.now f
+      (edited_input pair.witness.now pair.input.now) pair.given.now pair.output.now))
       is.filter
       (subst
-      (λ (m : Mapping). IfOk r (coded.CodeDiffers m pair.filter.now pair.input.now pair.given.now pair.output.now))
-      is.names h))
+      (λ (m : Mapping). IfOk r (coded.CodeDiffers m pair.filter.now
+      (edited_input pair.witness.now pair.input.now) pair.given.now pair.output.now))
+      is.names
+      (subst
+      (λ (entries : List MethodWitness). IfOk r (coded.CodeDiffers pair.names.now pair.filter.now
+      (map (edited_class entries) pair.input.now) pair.given.now pair.output.now))
+      is.entries h)))

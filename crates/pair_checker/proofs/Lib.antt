@@ -3,3 +3,4 @@ mod InOrder
 mod Mapped
 mod OnlyOne
 mod Reading
+mod Sounding

@@ -5,6 +5,7 @@ use Rattle.std.proofs.lemmas.Bool.{cases_lt}
 use Rattle.std.proofs.lemmas.Option.{same_Some}
 use Rattle.tree_io.specs.declared.file_at.FileAt.{FileAt}
 use Rattle.class_model.specs.declared.class.Class.{Class}
+use Rattle.class_model.specs.declared.class.Method.{Method}
 use Rattle.set_read.specs.Accepted.{IsAccepted, IsFault}
 use Rattle.set_read.specs.declared.fault.RuleFault.{RuleFault}
 use Rattle.set_read.specs.declared.fault.SetFault.{SetFault}
@@ -14,10 +15,13 @@ use Rattle.keep_rules.specs.declared.rules.Rules.{Rules}
 use Rattle.attribute_filter.specs.KeptAttributes.{filter_of}
 use Rattle.mapping_file.specs.declared.mapping.Mapping.{Mapping}
 use Rattle.witness_file.specs.declared.witness.Witness.{Witness}
-use Rattle.pair_clauses.specs.Finding.{IsOne}
+use Rattle.pair_clauses.specs.Finding.{FindsUnless, IsOne}
+use Rattle.pair_clauses.specs.Places.{place_of_method}
 use Rattle.pair_clauses.specs.declared.place.Place.{Place}
-use Rattle.pair_clauses.proofs.OneFinding.{one_equal}
+use Rattle.pair_clauses.proofs.OneFinding.{one_equal, one_first, one_unless}
 use Rattle.pair_clauses.proofs.OnePlace.{one_code_place, one_member_place}
+use Rattle.pair_edits.specs.Edits.{AreLegalOn, ClassEditIllegal, EditIllegal}
+use Rattle.pair_edits.specs.Entries.{edited_input, steps_of}
 use Rattle.pair_checker.specs.Clauses.{Finds, given_names, number}
 use Rattle.pair_checker.specs.OneAnswer.{IsOneNo, NotBoth}
 use Rattle.pair_checker.specs.PairOk.{IsFirst, IsNo, PairOk, by_clause, by_format, by_profile}
@@ -32,6 +36,12 @@ use Rattle.pair_checker.proofs.Reading.{profile_no}
 same_clause : (c d : Clause) → number c ≡ number d → c ≡ d
 same_clause c d h = same_Some c d (sym (stands_at c) ∙ ap (slice_get order) h ∙ stands_at d)
 
+-- one first edit at most isn't legal
+one_illegal : (witness : Witness) (input : List Class) → IsOne (EditIllegal witness input)
+one_illegal witness input = one_first (ClassEditIllegal witness.methods)
+    (λ c. one_first (λ (m : Method). FindsUnless (AreLegalOn (steps_of witness.methods c m) m.code) (place_of_method c m))
+    (λ m. one_unless (AreLegalOn (steps_of witness.methods c m) m.code) (place_of_method c m)) c.methods) input
+
 module _ (input output : List Class) (mapping : Mapping) (rules : Rules) (witness : Witness) where
   -- a clause has one first place at most
   one_place : (c : Clause) → IsOne (Finds input output mapping rules witness c)
@@ -45,8 +55,9 @@ module _ (input output : List Class) (mapping : Mapping) (rules : Rules) (witnes
   one_place clause.MemberDiffers =
       one_member_place mapping (filter_of rules) input (given_names mapping input) output
   one_place clause.WitnessStray = one_equal _
-  one_place clause.EditIllegal = one_equal _
-  one_place clause.CodeDiffers = one_code_place mapping (filter_of rules) input (given_names mapping input) output
+  one_place clause.EditIllegal = one_illegal witness input
+  one_place clause.CodeDiffers =
+      one_code_place mapping (filter_of rules) (edited_input witness input) (given_names mapping input) output
 
   -- a clause that holds isn't one that finds nothing
   not_none : (c : Clause) (p : Place) → Finds input output mapping rules witness c (Some p)

@@ -1,8 +1,6 @@
 -- The clauses by which a pair of programs is refused, in their order, each with the first place at which it holds (the
 -- project's own: what the command tests).
 use Rattle.std.specs.Prelude.{◌≡◌, ℕ, List, ◌∷◌, [], map, Option, Some, None, codes}
-use Rattle.jv_base.specs.Descriptors.{read_method}
-use Rattle.jv_base.specs.External.{dotted}
 use Rattle.tree_io.specs.declared.file_at.FileAt.{FileAt}
 use Rattle.format_reading.specs.declared.fault.FormatFault.{FormatFault}
 use Rattle.class_model.specs.declared.class.Class.{Class}
@@ -13,18 +11,17 @@ use Rattle.keep_rules.specs.declared.rules.Rules.{Rules}
 use Rattle.attribute_filter.specs.KeptAttributes.{filter_of}
 use Rattle.require_sys.specs.Required.{required}
 use Rattle.mapping_file.specs.declared.mapping.Mapping.{Mapping}
-use Rattle.witness_file.specs.declared.witness.MethodWitness.{MethodWitness}
 use Rattle.witness_file.specs.declared.witness.Witness.{Witness}
 use Rattle.new_names.specs.NewNames.{names_given}
 use Rattle.new_names.specs.declared.class_names.ClassNames.{ClassNames}
 use Rattle.pair_clauses.specs.Closing as closing
 use Rattle.pair_clauses.specs.Codes as codes_of
-use Rattle.pair_clauses.specs.Finding.{first_place}
 use Rattle.pair_clauses.specs.FixedNames as names
 use Rattle.pair_clauses.specs.Members as members
-use Rattle.pair_clauses.specs.Places.{described_text}
 use Rattle.pair_clauses.specs.Shape.{shape_fault}
 use Rattle.pair_clauses.specs.declared.place.Place.{Place}
+use Rattle.pair_edits.specs.Edits as edits
+use Rattle.pair_edits.specs.Entries.{edited_input}
 use Rattle.pair_checker.specs.declared.answer.Clause.{Clause}
 use Rattle.pair_checker.specs.declared.answer.Clause.TheVariants as clause
 
@@ -69,16 +66,6 @@ OutputFormat files = (path : List ℕ) × (fault : FormatFault) × IsFault files
 abbrev pub OutputProfile : List FileAt → RuleFault → Type 0
 OutputProfile files fault = IsFault files (set.Rule fault)
 
--- ---- the witness
-
--- an entry of a witness, by its class and its method
-abbrev pub entry_place : MethodWitness → Place
-entry_place e = record { class = dotted e.class; member = Some (described_text e.name e.ty (read_method e.ty)) }
-
--- the first entry of a witness, if it has one
-abbrev pub stray_entry : Witness → Option Place
-stray_entry witness = first_place (λ (e : MethodWitness). Some (entry_place e)) witness.methods
-
 -- ---- the other clauses: the first place of each, if it holds
 
 -- the new names of each class of the input and of its members
@@ -110,18 +97,19 @@ module _ (input output : List Class) (mapping : Mapping) (rules : Rules) where
   abbrev pub MemberDiffers : Option Place → Type 0
   MemberDiffers found = members.MemberDiffers mapping (filter_of rules) input (given_names mapping input) output found
 
-  -- the witness has an entry: as long as no code is edited there is nothing to be told of one
+  -- an entry of the witness names no method with a code and a line, or one that an entry before names, or its steps
+  -- aren't one of each pass
   abbrev pub WitnessStray : Witness → Option Place → Type 0
-  WitnessStray witness found = found ≡ stray_entry witness
+  WitnessStray witness found = found ≡ edits.stray_fault mapping input witness
 
-  -- an act of the witness isn't allowed: as long as there is no entry there is no act
+  -- an act of an entry isn't legal on the code that the steps before it left
   abbrev pub EditIllegal : Witness → Option Place → Type 0
-  EditIllegal witness found = found ≡ None
+  EditIllegal witness found = edits.EditIllegal witness input found
 
-  -- a code of the output isn't the input's own under the new names
+  -- a code of the output isn't that of the input, after the acts of its entry, under the new names
   abbrev pub CodeDiffers : Witness → Option Place → Type 0
   CodeDiffers witness found =
-      codes_of.CodeDiffers mapping (filter_of rules) input (given_names mapping input) output found
+      codes_of.CodeDiffers mapping (filter_of rules) (edited_input witness input) (given_names mapping input) output found
 
   -- the first place of a clause; an output that was read as a set of classes doesn't fail by its files
   abbrev pub Finds : Witness → Clause → Option Place → Type 0

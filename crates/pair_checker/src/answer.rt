@@ -23,11 +23,11 @@ pub enum Clause {
     NotClosed,
     /// A class of the output isn't the one of the input with its kept members under new names.
     MemberDiffers,
-    /// The witness has an entry: nothing is edited yet.
+    /// An entry of the witness names no method that is kept, or one again, or lacks a step.
     WitnessStray,
-    /// An edit of the witness isn't allowed: this holds of no pair yet.
+    /// An act of the witness isn't legal on the code that the steps before it left.
     EditIllegal,
-    /// A code of the output isn't the one of the input under new names.
+    /// A code of the output isn't the one of the input, after the acts of the witness, under new names.
     CodeDiffers,
 }
 

@@ -1,10 +1,13 @@
 // Whether an output belongs to an input.
-ghost use Rattle.std.specs.Prelude.{◌≡◌, ◌<◌, Ok, Some, None, IfOk, length, map};
+ghost use Rattle.std.specs.Prelude.{◌≡◌, ◌<◌, List, Ok, Some, None, IfOk, length, map};
 ghost use Rattle.std.specs.List.{sum_by};
 ghost use Rattle.tree_io.specs.Below.{IsAscending};
+ghost use Rattle.tree_io.specs.declared.file_at.FileAt.{FileAt};
+ghost use Rattle.set_read.specs.Accepted.{IsAccepted};
 ghost use Rattle.mark_core.specs.Valid.{Valid};
 ghost use Rattle.mark_core.specs.declared.system.System.{System};
 ghost use Rattle.require_sys.specs.Required.{required, system_due};
+ghost use Rattle.pair_edits.specs.Sound.{AreSound};
 ghost use Rattle.pair_checker.specs.Clauses.{given_names};
 ghost use Rattle.pair_checker.specs.PairOk.{Checks};
 ghost use Rattle.pair_checker.specs.bodies.Lining.{AreLines};
@@ -20,6 +23,7 @@ use mapping_file::Mapping;
 use mark_core::System;
 use new_names::{ClassNames, NewNames, names_given};
 use pair_clauses::lined_items;
+use pair_edits::Entries;
 use rename_map::fixed_names;
 use require_sys::system_of;
 use set_read::{RuleFault, SetFault, read_set};
@@ -39,8 +43,8 @@ pub struct Told<'a> {
 }
 
 /// Whether an output belongs to an input by a mapping, rules and a witness; or the first clause that says that it
-/// doesn't, with its first place. The input is a set that is taken, and what has to be kept of it passes no limit of
-/// `system_of`. The output is the class files of a directory, their paths ascending, with fewer than 2^32 - 1 bytes
+/// doesn't, with its first place. The input is the set that some files are taken as, and what has to be kept of it passes
+/// no limit of `system_of`. The output is the class files of a directory, their paths ascending, with fewer than 2^32 - 1 bytes
 /// together.
 pub fn check_pair(
     alloc: Global,
@@ -53,6 +57,7 @@ pub fn check_pair(
     requires ascending { IsAscending (map (λ f. f.path) output.now) }
     requires short { sum_by (λ f. length f.bytes) output.now < 4294967295 }
     requires few { (sys : System) × (system_due input.now rules.now ≡ Ok sys) }
+    requires accepted { (files : List FileAt) × IsAccepted files input.now }
     ensures { Checks input.now output.now mapping.now rules.now witness.now result }
 {
     let told = Told {
@@ -78,6 +83,7 @@ pub fn check_required(
     requires short { sum_by (λ f. length f.bytes) output.now < 4294967295 }
     requires required { sys.now ≡ required input.now told.now.rules.now }
     requires valid { Valid sys.now }
+    requires accepted { (files : List FileAt) × IsAccepted files input.now }
     ensures { Checks input.now output.now told.now.mapping.now told.now.rules.now told.now.witness.now result }
 {
     let set = read_output(alloc, output)?;
@@ -150,6 +156,7 @@ fn check_set(
 ) -> Result<(), Or<No>>
     requires required { sys.now ≡ required input.now told.now.rules.now }
     requires valid { Valid sys.now }
+    requires sound { AreSound input.now }
     ensures { Matches input.now output.now told.now.mapping.now told.now.rules.now told.now.witness.now result }
 {
     let names = NewNames::of(alloc, told.mapping)?;
@@ -196,15 +203,18 @@ fn check_lined(
     requires required { sys.now ≡ required input.now told.now.rules.now }
     requires valid { Valid sys.now }
     requires lines { AreLines lines.now told.now.mapping.now input.now }
+    requires sound { AreSound input.now }
     ensures { Matches input.now output.now told.now.mapping.now told.now.rules.now told.now.witness.now result }
 {
     let fixed = fixed_names(alloc, told.rules, input)?;
     let filter = attribute_filter(alloc, told.rules)?;
+    let entries = Entries::of(alloc, told.witness)?;
     let pair = Pair {
         input,
         output,
         mapping: told.mapping,
         witness: told.witness,
+        entries: &entries,
         names: lines.names,
         given: lines.given,
         lined: lines.lined,

@@ -1,9 +1,11 @@
 // The clauses of a pair whose output was read, and the first that holds.
-ghost use Rattle.std.specs.Prelude.{◌≡◌, IfOk};
+ghost use Rattle.std.specs.Prelude.{◌≡◌, IfOk, map};
 ghost use Rattle.keep_rules.specs.declared.rules.Rules.{Rules};
 ghost use Rattle.mark_core.specs.Valid.{Valid};
 ghost use Rattle.class_pool.specs.Count.{item_count};
-ghost use Rattle.pair_checker.specs.Clauses.{Finds, entry_place, stray_entry};
+ghost use Rattle.pair_edits.specs.Entries.{edited_class};
+ghost use Rattle.pair_edits.specs.Sound.{AreSound};
+ghost use Rattle.pair_checker.specs.Clauses.{Finds};
 ghost use Rattle.pair_clauses.specs.Codes as coded;
 ghost use Rattle.pair_clauses.specs.Members as members;
 ghost use Rattle.pair_checker.specs.bodies.Matching.{IsRead, Matches, Tests, no_at};
@@ -17,20 +19,21 @@ use mapping_file::Mapping;
 use mark_core::System;
 use new_names::{ClassNames, NewNames};
 use pair_clauses::{
-    Place, closed_fault, code_differs, described_text, fixed_fault, member_differs, package_fault,
-    seed_fault, shape_fault,
+    Place, closed_fault, fixed_fault, member_differs, package_fault, seed_fault, shape_fault,
 };
-use report_text::name_text;
+use pair_edits::{Entries, code_differs, illegal_edit, stray_entry};
 use std::alloc::Global;
-use witness_file::{MethodWitness, Witness};
+use witness_file::Witness;
 
 /// A pair that was read, with what its clauses ask for, made once.
 #[derive(Clone, Copy)]
-pub(crate) struct Pair<'a, 'm> {
+pub(crate) struct Pair<'a, 'm, 'w> {
     pub(crate) input: &'a ClassSet,
     pub(crate) output: &'a ClassSet,
     pub(crate) mapping: &'a Mapping,
     pub(crate) witness: &'a Witness,
+    /// Its entries, found by the methods that they name.
+    pub(crate) entries: &'a Entries<'w>,
     /// The names that the mapping gives.
     pub(crate) names: &'a NewNames<'m>,
     /// Those of each class of the input and of its members.
@@ -46,9 +49,10 @@ pub(crate) struct Pair<'a, 'm> {
 }
 
 /// The first clause that holds, with its first place.
-pub(crate) fn check_clauses(alloc: Global, pair: &Pair<'_, '_>) -> Result<(), Or<No>>
+pub(crate) fn check_clauses(alloc: Global, pair: &Pair<'_, '_, '_>) -> Result<(), Or<No>>
     requires valid { Valid pair.now.sys.now }
     requires items { pair.now.sys.now.n ≡ item_count pair.now.input.now }
+    requires sound { AreSound pair.now.input.now }
     ensures { (rules : Rules) → IsRead pair.now rules → Matches pair.now.input.now pair.now.output.now
         pair.now.mapping.now rules pair.now.witness.now result }
 {
@@ -67,9 +71,10 @@ pub(crate) fn check_clauses(alloc: Global, pair: &Pair<'_, '_>) -> Result<(), Or
 }
 
 /// The first of these clauses that holds, with its first place.
-fn test_clauses(alloc: Global, pair: &Pair<'_, '_>, clauses: &[Clause]) -> Result<(), Or<No>>
+fn test_clauses(alloc: Global, pair: &Pair<'_, '_, '_>, clauses: &[Clause]) -> Result<(), Or<No>>
     requires valid { Valid pair.now.sys.now }
     requires items { pair.now.sys.now.n ≡ item_count pair.now.input.now }
+    requires sound { AreSound pair.now.input.now }
     ensures { (rules : Rules) → IsRead pair.now rules → Tests pair.now.input.now pair.now.output.now
         pair.now.mapping.now rules pair.now.witness.now clauses.now result }
 {
@@ -93,9 +98,10 @@ fn no_at(clause: Clause, place: Place) -> No
 }
 
 /// The first place of a clause, if it holds.
-fn place_of(alloc: Global, pair: &Pair<'_, '_>, clause: Clause) -> M<Option<Place>>
+fn place_of(alloc: Global, pair: &Pair<'_, '_, '_>, clause: Clause) -> M<Option<Place>>
     requires valid { Valid pair.now.sys.now }
     requires items { pair.now.sys.now.n ≡ item_count pair.now.input.now }
+    requires sound { AreSound pair.now.input.now }
     ensures { (rules : Rules) → IsRead pair.now rules → IfOk result (Finds pair.now.input.now pair.now.output.now
         pair.now.mapping.now rules pair.now.witness.now clause) }
 {
@@ -107,13 +113,13 @@ fn place_of(alloc: Global, pair: &Pair<'_, '_>, clause: Clause) -> M<Option<Plac
         Clause::SeedLost => seed_fault(alloc, pair.input, pair.lined, pair.sys),
         Clause::NotClosed => closed_fault(alloc, pair.input, pair.lined, pair.sys),
         Clause::MemberDiffers => members_place(alloc, pair),
-        Clause::WitnessStray => stray_entry(alloc, pair.witness),
-        Clause::EditIllegal => Ok(None),
+        Clause::WitnessStray => stray_entry(alloc, pair.input, pair.given, pair.witness),
+        Clause::EditIllegal => illegal_edit(alloc, pair.entries, pair.input),
         Clause::CodeDiffers => codes_place(alloc, pair),
     }
 }
 
-fn members_place(alloc: Global, pair: &Pair<'_, '_>) -> M<Option<Place>>
+fn members_place(alloc: Global, pair: &Pair<'_, '_, '_>) -> M<Option<Place>>
     ensures { IfOk result (members.MemberDiffers pair.now.names.now pair.now.filter.now pair.now.input.now
         pair.now.given.now pair.now.output.now) }
 {
@@ -127,37 +133,18 @@ fn members_place(alloc: Global, pair: &Pair<'_, '_>) -> M<Option<Place>>
     )
 }
 
-fn codes_place(alloc: Global, pair: &Pair<'_, '_>) -> M<Option<Place>>
-    ensures { IfOk result (coded.CodeDiffers pair.now.names.now pair.now.filter.now pair.now.input.now
-        pair.now.given.now pair.now.output.now) }
+fn codes_place(alloc: Global, pair: &Pair<'_, '_, '_>) -> M<Option<Place>>
+    requires sound { AreSound pair.now.input.now }
+    ensures { IfOk result (coded.CodeDiffers pair.now.names.now pair.now.filter.now
+        (map (edited_class pair.now.entries.now) pair.now.input.now) pair.now.given.now pair.now.output.now) }
 {
     code_differs(
         alloc,
         pair.names,
         pair.filter,
+        pair.entries,
         pair.input,
         pair.given,
         pair.output,
     )
-}
-
-/// The first entry of a witness: there may be none.
-fn stray_entry(alloc: Global, witness: &Witness) -> M<Option<Place>>
-    ensures { IfOk result (λ found. found ≡ stray_entry witness.now) }
-{
-    match witness.methods.as_slice() {
-        [entry, ..] => Ok(Some(entry_place(alloc, entry)?)),
-        [] => Ok(None),
-    }
-}
-
-fn entry_place(alloc: Global, entry: &MethodWitness) -> M<Place>
-    ensures { IfOk result (λ place. place ≡ entry_place entry.now) }
-{
-    let class = name_text(alloc, &entry.class)?;
-    let member = described_text(alloc, &entry.name, &entry.ty)?;
-    Ok(Place {
-        class,
-        member: Some(member),
-    })
 }

@@ -1,10 +1,10 @@
 mod Bodies
 pub mod OneFinding
 pub mod OnePlace
-mod Searching
-mod SeenLaw
+pub mod Searching
+pub mod SeenLaw
 mod Fixing
 mod Needed
 mod Standing
-mod Unlike
+pub mod Unlike
 pub mod Zipped

@@ -12,10 +12,10 @@ mod shape;
 mod texts;
 
 pub use closing::{closed_fault, seed_fault};
-pub use codes::code_differs;
+pub use codes::has_same_code;
 pub use fixed::{fixed_fault, package_fault};
 pub use lined::lined_items;
-pub use members::member_differs;
-pub use place::Place;
+pub use members::{member_differs, new_one};
+pub use place::{Place, method_place};
 pub use shape::shape_fault;
 pub use texts::described_text;

@@ -65,7 +65,7 @@ fn lined_differs(
 }
 
 /// What a class has become, if it has a line.
-pub(crate) fn new_one<'a>(output: &'a ClassSet, given: &ClassNames) -> Option<&'a Class>
+pub fn new_one<'a>(output: &'a ClassSet, given: &ClassNames) -> Option<&'a Class>
     ensures { option_copied result ≡ new_one output.now given.now }
 {
     match &given.class {

@@ -40,7 +40,7 @@ pub(crate) fn field_place(alloc: Global, class: &Name, ty: &FieldType, name: &Na
 }
 
 /// A method of a class.
-pub(crate) fn method_place(alloc: Global, class: &Name, ty: &MethodType, name: &Name) -> M<Place>
+pub fn method_place(alloc: Global, class: &Name, ty: &MethodType, name: &Name) -> M<Place>
     ensures { IfOk result (λ place. place ≡ method_place class.now ty.now name.now) }
 {
     let member = method_text(alloc, ty, name)?;

@@ -3,3 +3,4 @@ pub mod Written
 pub mod Own
 pub mod Found
 pub mod WordTexts
+pub mod NoEdit

@@ -3,6 +3,7 @@ use Rattle.std.proofs.Common.{◌≡◌, ◌<◌, refl, arith, List, [], ◌∷�
 use Rattle.std.specs.Prelude.{codes}
 use Rattle.jv_base.specs.Descriptors.{grown, read_method}
 use Rattle.jv_base.specs.External.{external_text, word_text}
+use Rattle.jv_base.specs.Types.{base_text, field_text, method_text, result_text}
 use Rattle.jv_base.specs.Walk.{walk}
 use Rattle.format_reading.specs.Fault.{fault}
 use Rattle.format_reading.specs.declared.fault.FormatKind.TheVariants.{Cut}
@@ -14,17 +15,20 @@ use Rattle.set_read.specs.declared.fault.RuleFault.{RuleFault}
 use Rattle.set_read.specs.declared.fault.RuleKind.TheVariants as rule
 use Rattle.mapping_file.specs.declared.mapping.Mapping.{Mapping}
 use Rattle.witness_file.specs.declared.witness.Witness.{Witness}
-use Rattle.pair_checker.specs.Clauses.{Finds, OutputFormat, OutputProfile, number, stray_entry}
+use Rattle.pair_edits.specs.Edits.{stray_fault}
+use Rattle.pair_checker.specs.Clauses.{Finds, OutputFormat, OutputProfile, number}
 use Rattle.pair_checker.specs.PairOk.{IsFirst, by_clause, by_format, by_profile}
 use Rattle.pair_checker.specs.declared.answer.Clause.{Clause}
 use Rattle.pair_checker.specs.declared.answer.Clause.TheVariants as clause
-use Rattle.pair_rows.specs.Examples.{cut_file, edited, file_of_orphan, input, kept_renamed, mapping, moved, needed_lost}
+use Rattle.pair_rows.specs.Examples.{cut_file, dropped, edited, file_of_orphan, input, kept_renamed, mapping}
+use Rattle.pair_rows.specs.Examples.{moved, needed_lost}
 use Rattle.pair_rows.specs.Examples.{orphan, output, output_hidden, output_longer, output_moved, rules}
 use Rattle.pair_rows.specs.Examples.{seed_lost as lost, stray_line, unedited}
 use Rattle.pair_rows.specs.Rows.{CodeDiffersRow, EditIllegalRow, FixedNameRow, MapShapeRow, MemberDiffersRow, NoneRow}
 use Rattle.pair_rows.specs.Rows.{NotClosedRow, OutputFormatRow, OutputProfileRow, PackageRow, SeedLostRow, TakenRow}
 use Rattle.pair_rows.specs.Rows.{WitnessStrayRow}
 use Rattle.pair_rows.proofs.Alike.{codes_alike, g_hidden, g_longer, members_alike, members_alike_longer}
+use Rattle.pair_rows.proofs.Edits.{g_dropped, g_kept, nothing_edited}
 use Rattle.pair_rows.proofs.Files.{cut_unread, orphan_spelled}
 use Rattle.pair_rows.proofs.Names.{b_gone, f_renamed, k_stray, names_stay, names_stay_moved, names_stay_without_f}
 use Rattle.pair_rows.proofs.Names.{names_stay_without_g, packages_stay, packages_stay_without_f}
@@ -46,7 +50,7 @@ none clause.SeedLost = no_seed_lost
 none clause.NotClosed = closed
 none clause.MemberDiffers = members_alike
 none clause.WitnessStray = refl
-none clause.EditIllegal = refl
+none clause.EditIllegal = nothing_edited
 none clause.CodeDiffers = codes_alike
 
 pub taken : TakenRow
@@ -94,8 +98,8 @@ abbrev NoneBefore : List Class → Mapping → Witness → Clause → Type 0
 NoneBefore output mapping witness clause = (earlier : Clause) → number earlier < number clause
     → Finds input output mapping rules witness earlier None
 
-g_told : Some method_g ≡ stray_entry edited
-unfolding grown read_method walk word_text external_text
+g_told : Some method_g ≡ stray_fault mapping input edited
+unfolding field_text base_text method_text result_text grown read_method walk word_text external_text
 g_told = refl
 
 before_map_shape : NoneBefore output stray_line unedited clause.MapShape
@@ -206,7 +210,7 @@ before_code_differs clause.SeedLost lt = no_seed_lost
 before_code_differs clause.NotClosed lt = closed
 before_code_differs clause.MemberDiffers lt = members_alike_longer
 before_code_differs clause.WitnessStray lt = refl
-before_code_differs clause.EditIllegal lt = refl
+before_code_differs clause.EditIllegal lt = nothing_edited
 before_code_differs clause.CodeDiffers lt = absurd (omega (arith, lt))
 
 first_code_differs : IsFirst input output_longer mapping rules unedited clause.CodeDiffers method_g
@@ -215,5 +219,20 @@ first_code_differs = record { holds = g_longer; before = before_code_differs }
 pub code_differs : CodeDiffersRow
 code_differs = by_clause output_longer longer_accepted clause.CodeDiffers method_g first_code_differs refl
 
+before_edit_illegal : NoneBefore output mapping dropped clause.EditIllegal
+before_edit_illegal clause.OutputFormat lt = refl
+before_edit_illegal clause.OutputProfile lt = refl
+before_edit_illegal clause.MapShape lt = shaped
+before_edit_illegal clause.FixedName lt = names_stay
+before_edit_illegal clause.Package lt = packages_stay
+before_edit_illegal clause.SeedLost lt = no_seed_lost
+before_edit_illegal clause.NotClosed lt = closed
+before_edit_illegal clause.MemberDiffers lt = members_alike
+before_edit_illegal clause.WitnessStray lt = g_kept
+before_edit_illegal c lt = absurd (omega (arith, lt))
+
+first_edit_illegal : IsFirst input output mapping rules dropped clause.EditIllegal method_g
+first_edit_illegal = record { holds = g_dropped; before = before_edit_illegal }
+
 pub edit_illegal : EditIllegalRow
-edit_illegal input output mapping rules witness place found = let e : Some place ≡ None = found in absurd cc
+edit_illegal = by_clause output accepted clause.EditIllegal method_g first_edit_illegal refl

@@ -4,3 +4,4 @@ mod Alike
 mod Files
 pub mod Sets
 pub mod Answered
+pub mod Edits

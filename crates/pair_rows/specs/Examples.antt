@@ -12,6 +12,10 @@ use Rattle.class_model.specs.declared.op.Op.TheVariants as op
 use Rattle.class_model.specs.rows.Rows.{hex}
 use Rattle.class_pool.specs.rows.LinkRows.{object, plain_class}
 use Rattle.link_check.specs.rows.ProfileRows.{code_of, made_method, of_class, system_out}
+use Rattle.code_edit.specs.declared.act.Act.TheVariants as act
+use Rattle.code_edit.specs.declared.act.Pass.{Pass}
+use Rattle.code_edit.specs.declared.act.Pass.TheVariants as passes
+use Rattle.code_edit.specs.declared.act.PassEdits.{PassEdits}
 use Rattle.keep_rules.specs.declared.rules.Keep.{Keep}
 use Rattle.keep_rules.specs.declared.rules.KeepKind.TheVariants as keep
 use Rattle.keep_rules.specs.declared.rules.Rules.{Rules}
@@ -155,16 +159,29 @@ seed_lost = lines (class_line (codes "p/A") (codes "p/A") []) line_of_b
 abbrev pub needed_lost : Mapping
 needed_lost = lines line_of_a (class_line (codes "p/B") (codes "p/a") [])
 
--- WitnessStray: g has an entry, without an act
-abbrev pub edited : Witness
-edited = record {
+-- a witness that tells of g alone
+abbrev pub of_g : List PassEdits → Witness
+of_g steps = record {
   methods = record {
     class = codes "p/B";
     name = codes "g";
     ty = codes "()I";
-    edits = record { steps = [] };
+    edits = record { steps = steps };
   } ∷ [];
 }
+
+-- WitnessStray: g has an entry without steps
+abbrev pub edited : Witness
+edited = of_g []
+
+-- a step without an act
+abbrev pub no_act : Pass → PassEdits
+no_act pass = record { pass = pass; acts = [] }
+
+-- EditIllegal: the first step drops the first instruction of g, where control begins
+abbrev pub dropped : Witness
+dropped = of_g (record { pass = passes.Reach; acts = act.Drop 0 0 ∷ [] } ∷ no_act passes.Const ∷ no_act passes.Reach
+    ∷ no_act passes.Slots ∷ no_act passes.Jumps ∷ no_act passes.Reach ∷ [])
 
 -- ---- outputs that break a clause
 

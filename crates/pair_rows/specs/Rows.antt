@@ -8,12 +8,12 @@ use Rattle.set_read.specs.Accepted.{IsAccepted}
 use Rattle.require_sys.specs.Required.{required}
 use Rattle.mapping_file.specs.declared.mapping.Mapping.{Mapping}
 use Rattle.witness_file.specs.declared.witness.Witness.{Witness}
-use Rattle.pair_clauses.specs.declared.place.Place.{Place}
 use Rattle.pair_checker.specs.Clauses.{Finds}
 use Rattle.pair_checker.specs.PairOk.{IsNo, PairOk}
 use Rattle.pair_checker.specs.declared.answer.Clause.{Clause}
 use Rattle.pair_checker.specs.declared.answer.Clause.TheVariants as clause
-use Rattle.pair_rows.specs.Examples.{cut_file, edited, file_of_a, file_of_a_moved, file_of_b_hidden, file_of_b_longer}
+use Rattle.pair_rows.specs.Examples.{cut_file, dropped, edited, file_of_a, file_of_a_moved, file_of_b_hidden}
+use Rattle.pair_rows.specs.Examples.{file_of_b_longer}
 use Rattle.pair_rows.specs.Examples.{file_of_b_moved, file_of_orphan, files, input, input_files, kept_renamed, mapping}
 use Rattle.pair_rows.specs.Examples.{moved, needed_lost, output, rules, seed_lost, stray_line, unedited}
 
@@ -82,14 +82,13 @@ abbrev pub MemberDiffersRow : Type 0
 MemberDiffersRow = Refuses (file_of_a ∷ file_of_b_hidden ∷ []) mapping unedited clause.MemberDiffers
     (Some (codes "p.B")) (Some (codes "int g()"))
 
--- the witness has an entry of g
+-- the witness has an entry of g that lacks its steps
 abbrev pub WitnessStrayRow : Type 0
 WitnessStrayRow = Refuses files mapping edited clause.WitnessStray (Some (codes "p.B")) (Some (codes "int g()"))
 
--- of no pair does this clause hold, since no code is edited
+-- the witness drops the first instruction of g
 abbrev pub EditIllegalRow : Type 0
-EditIllegalRow = (input output : List Class) (mapping : Mapping) (rules : Rules) (witness : Witness) (place : Place)
-    → Finds input output mapping rules witness clause.EditIllegal (Some place) → ⊥
+EditIllegalRow = Refuses files mapping dropped clause.EditIllegal (Some (codes "p.B")) (Some (codes "int g()"))
 
 -- g has an instruction more
 abbrev pub CodeDiffersRow : Type 0

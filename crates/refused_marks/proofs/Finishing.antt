@@ -1,5 +1,5 @@
 -- What an item asks for that needs nothing and stands first in the only pair.
-use Rattle.std.proofs.Common.{◌≡◌, ◌≢◌, ℕ, List, [], ◌∷◌, subst, sym, arith}
+use Rattle.std.proofs.Common.{◌≡◌, ◌≢◌, List, [], ◌∷◌, subst, sym}
 use Rattle.std.specs.List.{All, Contains}
 use Rattle.std.proofs.lemmas.List.Elements.{All-cons, All-nil, Contains-push}
 use Rattle.mark_core.specs.declared.system.Pair.{Pair}

@@ -7,8 +7,9 @@ ghost use Rattle.set_shrink.specs.ShrunkSet.{Shrinks, renamed_of};
 
 use class_model::WriteLimit;
 use class_pool::ClassSet;
-use jv_base::{Items, Or};
+use jv_base::Or;
 use keep_rules::Rules;
+use mark_words::Marked;
 use set_shrink::ShrunkSet;
 use std::alloc::Global;
 
@@ -16,12 +17,12 @@ use std::alloc::Global;
 pub fn shrink_set(
     alloc: Global,
     set: ClassSet,
-    marks: &Items<bool>,
+    marked: &Marked,
     rules: &Rules,
 ) -> Result<ShrunkSet, Or<WriteLimit>>
-    requires marks { length marks.now ≡ item_count set }
-    requires writable { AllByRecursion IsWritable (renamed_of set marks.now rules.now) }
-    ensures exact { Shrinks result set marks.now rules.now }
+    requires marks { length marked.now ≡ item_count set }
+    requires writable { AllByRecursion IsWritable (renamed_of set marked.now rules.now) }
+    ensures exact { Shrinks result set marked.now rules.now }
 {
-    set_shrink::shrink_set(alloc, set, marks, rules)
+    set_shrink::shrink_set(alloc, set, marked, rules)
 }

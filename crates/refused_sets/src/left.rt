@@ -5,12 +5,13 @@ ghost use Rattle.member_shrink.specs.Shrunk.{shrunk};
 
 use class_model::Class;
 use jv_base::{Items, M};
+use mark_words::Marked;
 use std::alloc::Global;
 
 /// `shrunk` of `member_shrink`.
-pub fn shrunk(alloc: Global, classes: Items<Class>, marks: &Items<bool>) -> M<Items<Class>>
-    requires { length marks.now ≡ item_count classes }
-    ensures { IfOk result (λ kept. kept ≡ shrunk classes marks.now) }
+pub fn shrunk(alloc: Global, classes: Items<Class>, marked: &Marked) -> M<Items<Class>>
+    requires { length marked.now ≡ item_count classes }
+    ensures { IfOk result (λ kept. kept ≡ shrunk classes marked.now) }
 {
-    member_shrink::shrunk(alloc, classes, marks)
+    member_shrink::shrunk(alloc, classes, marked)
 }

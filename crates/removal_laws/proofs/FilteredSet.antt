@@ -1,4 +1,4 @@
-pub mod Alike
+pub mod Keeping
 pub mod LinkKinds
 pub mod Building
 pub mod Typing

@@ -29,6 +29,8 @@ pub struct RetraceFiles {
 }
 
 impl Command for RetraceFiles {
+    ghost ready = { λ _. Unit {0} };
+
     ghost plans = { λ _ plan. plan.files ≡ [] };
 
     ghost due = { IsDue };

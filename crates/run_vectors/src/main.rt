@@ -1,8 +1,8 @@
 //! Whole runs of the command in memory, one for each line of standard input: says what the run kept, wrote and said.
 //!
 //! A line is `kept CONFIG FILES`, `names CONFIG FILES`, `written CONFIG FILES`, `check CONFIG MAPPING WITNESS FILES`,
-//! `retrace MAPPING TRACE` or `run WORDS FILES`; the README tells how texts and files are written, and what is answered.
-//! The status is that of `line_answers`.
+//! `retrace MAPPING TRACE`, `run WORDS FILES` or `fails CALLS PUTS WORDS FILES`; the README tells how texts and files are
+//! written, and what is answered. The status is that of `line_answers`.
 #![tactic(auto)]
 
 mod checked;
@@ -29,6 +29,7 @@ fn answer<Rt: Threads + Sync>(rt: &Rt, alloc: Global, line: &[u8]) -> M<Option<T
         b"written" => checked::written_answer(rt, alloc, row),
         b"retrace" => traced::answer(rt, alloc, row),
         b"run" => whole::answer(rt, alloc, row),
+        b"fails" => whole::failing_answer(rt, alloc, row),
         _ => Ok(None),
     }
 }

@@ -100,18 +100,20 @@ pub fn run_over<Rt: Threads + Sync>(
     tree: MemoryTree,
 ) -> M<Ran> {
     let words = words_of(alloc, line)?;
-    run_all(rt, alloc, &words, tree)
+    let out = MemorySink::new(alloc, Items::new(alloc))?;
+    run_all(rt, alloc, &words, tree, out)
 }
 
-/// A run of the command on any words.
+/// A run of the command on any words, a tree and a sink, whose devices may fail.
 pub fn run_all<Rt: Threads + Sync>(
     rt: &Rt,
     alloc: Global,
     words: &Items<Text>,
     tree: MemoryTree,
+    out: MemorySink,
 ) -> M<Ran> {
     let mut tree = tree;
-    let mut out = MemorySink::new(alloc, Items::new(alloc))?;
+    let mut out = out;
     let status = run(rt, alloc, words, &mut tree, &mut out, &OpenGate);
     Ok(Ran { status, tree, out })
 }

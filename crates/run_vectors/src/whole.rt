@@ -5,14 +5,37 @@ use line_answers::{first_word, push_escaped, unescaped_text};
 use line_sets::bytes_of;
 use std::alloc::Global;
 use std::thread::Threads;
-use tree_io::{FileAt, ListFault, MemoryTree, Tree};
+use tree_io::{FileAt, ListFault, MemorySink, MemoryTree, Tree};
 
 /// The files that `shrink` writes beside the classes.
 const TEXTS: [&str; 4] = ["map.txt", "seeds.txt", "use.txt", "wit.txt"];
 
-/// The status, what was said, and each file that isn't as it was given: the given ones in their order, then those below
-/// the output directory in the order of their paths, then the texts.
+/// `WORDS FILES`: the status, what was said, and each file that isn't as it was given: the given ones in their order, then
+/// those below the output directory in the order of their paths, then the texts.
 pub fn answer<Rt: Threads + Sync>(rt: &Rt, alloc: Global, row: &[u8]) -> M<Option<Text>> {
+    answer_of(rt, alloc, row, Items::new(alloc), Items::new(alloc))
+}
+
+/// `CALLS PUTS WORDS FILES`: the same where these calls of the tree and these puts of the sink fail.
+pub fn failing_answer<Rt: Threads + Sync>(rt: &Rt, alloc: Global, row: &[u8]) -> M<Option<Text>> {
+    let (calls, rest) = first_word(row);
+    let (puts, rest) = first_word(rest);
+    let Some(calls) = numbers_of(alloc, calls)? else {
+        return Ok(None);
+    };
+    let Some(puts) = numbers_of(alloc, puts)? else {
+        return Ok(None);
+    };
+    answer_of(rt, alloc, rest, calls, puts)
+}
+
+fn answer_of<Rt: Threads + Sync>(
+    rt: &Rt,
+    alloc: Global,
+    row: &[u8],
+    calls: Items<u64>,
+    puts: Items<u64>,
+) -> M<Option<Text>> {
     let (words, rest) = first_word(row);
     let Some(words) = words_of(alloc, words)? else {
         return Ok(None);
@@ -23,12 +46,32 @@ pub fn answer<Rt: Threads + Sync>(rt: &Rt, alloc: Global, row: &[u8]) -> M<Optio
     let Some(files) = files_of(alloc, rest)? else {
         return Ok(None);
     };
-    let tree = MemoryTree::new(alloc, files, Items::new(alloc))?;
-    let mut ran = run_all(rt, alloc, &words, tree)?;
+    let tree = MemoryTree::new(alloc, files, calls)?;
+    let out = MemorySink::new(alloc, puts)?;
+    let mut ran = run_all(rt, alloc, &words, tree, out)?;
     ran_answer(alloc, &given, &mut ran)
 }
 
-// The words of a text, with a blank between each two; none of no text.
+// The numbers of a word, with a comma between each two; none of `-`.
+fn numbers_of(alloc: Global, word: &[u8]) -> M<Option<Items<u64>>> {
+    let mut numbers = Items::new(alloc);
+    if word == b"-".as_slice() {
+        return Ok(Some(numbers));
+    }
+    for digits in word.split(|byte| *byte == b',') {
+        match number_of(digits) {
+            Some(number) => numbers.push(number)?,
+            None => return Ok(None),
+        }
+    }
+    Ok(Some(numbers))
+}
+
+fn number_of(digits: &[u8]) -> Option<u64> {
+    std::str::from_utf8(digits).ok()?.parse::<u64>().ok()
+}
+
+// The words of a text, with an LF between each two where it has one, else a blank; none of no text.
 fn words_of(alloc: Global, word: &[u8]) -> M<Option<Items<Text>>> {
     let Some(text) = unescaped_text(alloc, word)? else {
         return Ok(None);
@@ -37,7 +80,12 @@ fn words_of(alloc: Global, word: &[u8]) -> M<Option<Items<Text>>> {
     if text.is_empty() {
         return Ok(Some(words));
     }
-    for word in text.as_str().split(' ') {
+    let between = if text.as_bytes().contains(&b'\n') {
+        '\n'
+    } else {
+        ' '
+    };
+    for word in text.as_str().split(between) {
         words.push(Text::from_str(alloc, word)?)?;
     }
     Ok(Some(words))
@@ -104,16 +152,28 @@ fn ran_answer(alloc: Global, given: &Items<FileAt>, ran: &mut Ran) -> M<Option<T
 
 // The paths of the files below the output directory, and those of the texts.
 fn paths_of(alloc: Global, tree: &mut MemoryTree) -> M<Option<Items<Text>>> {
+    let Some(below) = paths_below_output(alloc, tree)? else {
+        return Ok(None);
+    };
     let mut paths = Items::new(alloc);
-    match tree.list(alloc, &Text::from_str(alloc, "out")?, u32::MAX) {
-        Ok(below) => push_below(alloc, &mut paths, &below)?,
-        Err(ListFault::OutOfMemory) => return Err(OutOfMemory),
-        Err(_) => return Ok(None),
-    }
+    push_below(alloc, &mut paths, &below)?;
     for path in TEXTS {
         paths.push(Text::from_str(alloc, path)?)?;
     }
     Ok(Some(paths))
+}
+
+// The paths below the output directory; the first call behind the run may be one that fails.
+fn paths_below_output(alloc: Global, tree: &mut MemoryTree) -> M<Option<Items<Text>>> {
+    let output = Text::from_str(alloc, "out")?;
+    for _ in 0..2 {
+        match tree.list(alloc, &output, u32::MAX) {
+            Ok(below) => return Ok(Some(below)),
+            Err(ListFault::OutOfMemory) => return Err(OutOfMemory),
+            Err(_) => {}
+        }
+    }
+    Ok(None)
 }
 
 fn push_below(alloc: Global, paths: &mut Items<Text>, below: &Items<Text>) -> M<()> {

@@ -3,9 +3,10 @@ use Rattle.std.proofs.Common.{refl, ltb-true}
 use Rattle.std.specs.List.Sorted.{IsStrictlySortedBy}
 use Rattle.removal_laws.specs.AcceptedSets.Laws.{AreReadable}
 use Rattle.removal_laws.proofs.AcceptedSets.Taken.{are_taken}
+use Rattle.pair_checker.specs.declared.answer.Clause.TheVariants as clause
 use Rattle.pair_laws.specs.OwnPairs.Written.{AreWritten}
 use Rattle.pair_laws.proofs.OwnPairs.Own.{own_paired}
-use Rattle.pair_laws.proofs.PairSound.Sound.{is_pair, pairs_do_the_same}
+use Rattle.pair_laws.proofs.PairSound.Sound.{pairs_do_the_same}
 use Rattle.pair_rows.specs.Examples.{files, input, input_files, mapping, output, rules, unedited}
 use Rattle.pair_rows.proofs.Answered.{none, taken}
 use Rattle.pair_rows.proofs.Sets.{accepted, input_accepted}
@@ -25,7 +26,15 @@ both_taken =
     (are_taken input_files input input_readable input_accepted, are_taken files output output_readable accepted)
 
 pub pair_is : PairRow
-pair_is = is_pair input files mapping rules unedited (record { output = output; accepted = accepted; none = none })
+pair_is = record {
+  shape = none clause.MapShape;
+  fixed = none clause.FixedName;
+  packages = none clause.Package;
+  seeds = none clause.SeedLost;
+  closed = none clause.NotClosed;
+  members = none clause.MemberDiffers;
+  codes = none clause.CodeDiffers;
+}
 
 pub does_the_same : SameRow
 does_the_same =

@@ -10,6 +10,7 @@ use jv_base::{Bytes, Items, M, Or, Text};
 use keep_match::seeds_of;
 use keep_rules::Rules;
 use list_texts::{TooLong, seeds_text, usage_text};
+use mark_words::Marked;
 use std::alloc::Global;
 use tree_io::FileAt;
 
@@ -23,15 +24,15 @@ pub(crate) const MAX_TEXT: usize = 67_108_864;
 pub fn lists_of(
     alloc: Global,
     set: &ClassSet,
-    marks: &Items<bool>,
+    marked: &Marked,
     rules: &Rules,
 ) -> Result<Items<FileAt>, Or<TooLong>>
-    requires { length marks.now ≡ item_count set.now }
-    ensures { IsDue result (lists_due set.now marks.now rules.now) }
+    requires { length marked.now ≡ item_count set.now }
+    ensures { IsDue result (lists_due set.now marked.now rules.now) }
 {
     let mut lists = Items::new(alloc);
     push_list(&mut lists, seeds_list(alloc, set, rules)?)?;
-    push_list(&mut lists, usage_list(alloc, set, marks, rules)?)?;
+    push_list(&mut lists, usage_list(alloc, set, marked, rules)?)?;
     Ok(lists)
 }
 
@@ -61,16 +62,16 @@ fn seeds_list(alloc: Global, set: &ClassSet, rules: &Rules) -> Result<Option<Fil
 fn usage_list(
     alloc: Global,
     set: &ClassSet,
-    marks: &Items<bool>,
+    marked: &Marked,
     rules: &Rules,
 ) -> Result<Option<FileAt>, Or<TooLong>>
-    requires { length marks.now ≡ item_count set.now }
-    ensures { IsDue result (usage_due set.now marks.now rules.now) }
+    requires { length marked.now ≡ item_count set.now }
+    ensures { IsDue result (usage_due set.now marked.now rules.now) }
 {
     let Some(path) = &rules.usage else {
         return Ok(None);
     };
-    let text = usage_text(alloc, set, marks, MAX_TEXT)?;
+    let text = usage_text(alloc, set, marked.marks(), MAX_TEXT)?;
     Ok(Some(list_at(alloc, path, &text)?))
 }
 

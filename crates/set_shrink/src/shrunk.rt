@@ -14,6 +14,7 @@ use fresh_names::TakenNames;
 use jv_base::{Items, Or};
 use keep_rules::Rules;
 use mapping_file::Mapping;
+use mark_words::Marked;
 use member_shrink::shrunk;
 use rename_map::{fixed_names, names_beside};
 use std::alloc::Global;
@@ -41,17 +42,17 @@ pub struct ShrunkSet {
 pub fn shrink_set(
     alloc: Global,
     set: ClassSet,
-    marks: &Items<bool>,
+    marked: &Marked,
     rules: &Rules,
 ) -> Result<ShrunkSet, Or<WriteLimit>>
-    requires marks { length marks.now ≡ item_count set }
-    requires writable { AllByRecursion IsWritable (renamed_of set marks.now rules.now) }
-    ensures exact { Shrinks result set marks.now rules.now }
+    requires marks { length marked.now ≡ item_count set }
+    requires writable { AllByRecursion IsWritable (renamed_of set marked.now rules.now) }
+    ensures exact { Shrinks result set marked.now rules.now }
 {
     let fixed = fixed_names(alloc, rules, &set)?;
     set.few_items();
     let classes = set.into_classes();
-    shrink_classes(alloc, classes, &fixed, marks, rules)
+    shrink_classes(alloc, classes, &fixed, marked, rules)
 }
 
 /// The same of the classes of a set, beside the names that stay.
@@ -59,17 +60,17 @@ fn shrink_classes(
     alloc: Global,
     classes: Items<Class>,
     fixed: &Option<TakenNames>,
-    marks: &Items<bool>,
+    marked: &Marked,
     rules: &Rules,
 ) -> Result<ShrunkSet, Or<WriteLimit>>
     requires few { item_count classes < 4294967295 }
-    requires marks { length marks.now ≡ item_count classes }
+    requires marks { length marked.now ≡ item_count classes }
     requires fixed { AreFixed rules.now classes fixed.now }
-    requires writable { AllByRecursion IsWritable (renamed_of classes marks.now rules.now) }
-    ensures exact { Shrinks result classes marks.now rules.now }
+    requires writable { AllByRecursion IsWritable (renamed_of classes marked.now rules.now) }
+    ensures exact { Shrinks result classes marked.now rules.now }
 {
     let read = counts_of(classes.as_slice());
-    let kept = shrunk(alloc, classes, marks)?;
+    let kept = shrunk(alloc, classes, marked)?;
     let counts = counts_of(kept.as_slice());
     let names = names_beside(alloc, fixed, &kept)?;
     let written = written_named(alloc, &names, kept, rules)?;

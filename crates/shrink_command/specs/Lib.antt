@@ -1,4 +1,5 @@
 pub mod Summary
+pub mod Marking
 pub mod Due
 pub mod OwnPair
 pub mod SamePair

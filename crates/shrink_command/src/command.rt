@@ -1,13 +1,16 @@
 // The command.
 ghost use Rattle.std.specs.Prelude.{◌≡◌};
 ghost use Rattle.command_frame.specs.Steps.{Finds, seen};
+ghost use Rattle.shrink_command.specs.Marking.{FindsMarks};
 ghost use Rattle.shrink_command.specs.Due.{FollowsOutput, FollowsRules, IsDue, IsEmptied};
 
 use crate::planning::plan_of;
 use command_frame::{Command, Plan, Reason, Refusal, Stop};
 use command_steps::{find_config_apart, find_files};
-use jv_base::Text;
+use jv_base::{M, Text};
 use keep_rules::Rules;
+use mark_core::System;
+use mark_words::Marked;
 use std::alloc::Global;
 use tree_io::{ListFault, Tree};
 
@@ -64,45 +67,60 @@ pub struct ShrinkFiles {
     pub witness: Text,
 }
 
-impl Command for ShrinkFiles {
+/// The command with who finds the marks of what is kept. What is due is a matter of the files alone.
+#[derive(Drop)]
+pub struct Shrinking<F> {
+    pub files: ShrinkFiles,
+    /// Finds the least closed set of a system of requirements.
+    pub mark: F,
+}
+
+impl<F: Fn(&System) -> M<Marked>> Command for Shrinking<F> {
+    ghost ready = { λ shrinking. FindsMarks (F.pre shrinking.mark) (F.post shrinking.mark) };
+
     ghost plans = { λ _ _. Unit {0} };
 
-    ghost due = { IsDue };
+    ghost due = { λ shrinking. IsDue shrinking.files };
 
     fn due_plan<T: Tree>(&self, alloc: Global, tree: &mut T) -> Result<Plan, Stop> {
-        let rules = find_config_apart(alloc, &self.config, &self.witness, tree)?;
-        shrink_by_rules(alloc, &rules, &self.witness, tree)
+        let files = &self.files;
+        let rules = find_config_apart(alloc, &files.config, &files.witness, tree)?;
+        shrink_by_rules(&self.mark, alloc, &rules, &files.witness, tree)
     }
 }
 
 /// The plan for the directories that rules name.
-fn shrink_by_rules<T: Tree>(
+fn shrink_by_rules<F: Fn(&System) -> M<Marked>, T: Tree>(
+    mark: &F,
     alloc: Global,
     rules: &Rules,
     witness: &Text,
     tree: &mut T,
 ) -> Result<Plan, Stop>
+    requires { FindsMarks (F.pre mark.now) (F.post mark.now) }
     ensures { Finds result (λ fs. FollowsRules fs witness.now rules.now)
         (seen (T.files tree.old) (T.faults tree.old) (T.log tree.old))
         (seen (T.files tree.new) (T.faults tree.new) (T.log tree.new)) }
 {
     check_empty(alloc, &rules.out_dir, tree)?;
-    shrink_input(alloc, rules, witness, tree)
+    shrink_input(mark, alloc, rules, witness, tree)
 }
 
 /// The plan for the input directory, where the output directory is empty.
-fn shrink_input<T: Tree>(
+fn shrink_input<F: Fn(&System) -> M<Marked>, T: Tree>(
+    mark: &F,
     alloc: Global,
     rules: &Rules,
     witness: &Text,
     tree: &mut T,
 ) -> Result<Plan, Stop>
+    requires { FindsMarks (F.pre mark.now) (F.post mark.now) }
     ensures { Finds result (λ fs. FollowsOutput fs witness.now rules.now)
         (seen (T.files tree.old) (T.faults tree.old) (T.log tree.old))
         (seen (T.files tree.new) (T.faults tree.new) (T.log tree.new)) }
 {
     let inputs = find_files(alloc, &rules.in_dir, tree)?;
-    plan_of(alloc, rules, witness, inputs)
+    plan_of(mark, alloc, rules, witness, inputs)
 }
 
 /// Whether no file lies below a directory.

@@ -9,6 +9,7 @@ ghost use Rattle.pair_laws.specs.NamedForm.Laws.{IsLinked};
 ghost use Rattle.set_shrink.specs.Texts.{texts_beside};
 ghost use Rattle.command_frame.specs.Steps.{Makes};
 ghost use Rattle.command_steps.specs.Sets.{AreClassFiles};
+ghost use Rattle.shrink_command.specs.Marking.{FindsMarks};
 ghost use Rattle.shrink_command.specs.Due.{FollowsInput, FollowsMarks, IsKept, IsPlan, IsPlanned, Joins, most_written};
 
 use crate::summary::summary_text;
@@ -19,7 +20,8 @@ use command_steps::{requirements, set_of};
 use jv_base::{Items, M, Or, Text};
 use keep_rules::Rules;
 use list_texts::TooLong;
-use mark_core::plain_marks;
+use mark_core::System;
+use mark_words::Marked;
 use pair_laws::named_form::kept_can_be_written;
 use report_text::limit_name;
 use set_shrink::{ShrunkSet, lists_of, shrink_set, texts_of};
@@ -27,28 +29,37 @@ use std::alloc::Global;
 use tree_io::FileAt;
 
 /// The plan for the class files of an input directory, by rules.
-pub(crate) fn plan_of(
+pub(crate) fn plan_of<F: Fn(&System) -> M<Marked>>(
+    mark: &F,
     alloc: Global,
     rules: &Rules,
     witness: &Text,
     inputs: Items<FileAt>,
 ) -> Result<Plan, Stop>
-    requires { AreClassFiles inputs }
+    requires mark { FindsMarks (F.pre mark.now) (F.post mark.now) }
+    requires files { AreClassFiles inputs }
     ensures { Makes result (FollowsInput rules.now witness.now inputs) }
 {
     let set = set_of(alloc, &rules.in_dir, inputs)?;
-    set_plan(alloc, rules, witness, set)
+    set_plan(mark, alloc, rules, witness, set)
 }
 
 /// The plan for a set.
-fn set_plan(alloc: Global, rules: &Rules, witness: &Text, set: ClassSet) -> Result<Plan, Stop>
+fn set_plan<F: Fn(&System) -> M<Marked>>(
+    mark: &F,
+    alloc: Global,
+    rules: &Rules,
+    witness: &Text,
+    set: ClassSet,
+) -> Result<Plan, Stop>
+    requires mark { FindsMarks (F.pre mark.now) (F.post mark.now) }
     requires writable { AllByRecursion IsWritable set }
     requires linked { IsLinked set }
     ensures { Makes result (IsPlanned rules.now witness.now set) }
 {
     let sys = requirements(alloc, rules, &set)?;
-    let marks = plain_marks(alloc, &sys)?;
-    kept_plan(alloc, rules, witness, set, &marks)
+    let marked = mark(&sys)?;
+    kept_plan(alloc, rules, witness, set, &marked)
 }
 
 /// The plan for a set of which the marked items are kept. The lists are made while the set is whole; that one of them
@@ -58,16 +69,16 @@ fn kept_plan(
     rules: &Rules,
     witness: &Text,
     set: ClassSet,
-    marks: &Items<bool>,
+    marked: &Marked,
 ) -> Result<Plan, Stop>
     requires writable { AllByRecursion IsWritable set }
     requires linked { IsLinked set }
-    requires kept { IsKept rules.now set marks.now }
-    ensures { Makes result (FollowsMarks rules.now witness.now set marks.now) }
+    requires kept { IsKept rules.now set marked.now }
+    ensures { Makes result (FollowsMarks rules.now witness.now set marked.now) }
 {
     kept_can_be_written();
-    let lists = lists_of(alloc, &set, marks, rules);
-    match shrink_set(alloc, set, marks, rules) {
+    let lists = lists_of(alloc, &set, marked, rules);
+    match shrink_set(alloc, set, marked, rules) {
         Ok(shrunk) => joined(alloc, rules, witness, shrunk, lists),
         Err(Or::Fault(limit)) => {
             Err(Stop::Refused(passed_limit(alloc, limit_name(limit), most_written(limit))?))

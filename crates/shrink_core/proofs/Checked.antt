@@ -57,6 +57,9 @@ no_reason reason.Limit h = omega (arith, h)
 no_reason reason.NotEmpty h = omega (arith, h)
 no_reason reason.No h = omega (arith, h)
 no_reason reason.Text h = omega (arith, h)
+no_reason reason.Entry h = omega (arith, h)
+no_reason reason.Differs h = omega (arith, h)
+no_reason reason.Item h = omega (arith, h)
 
 no_stop : (stop : Stop) → status_of stop ≡ 0 → ⊥
 no_stop (Refused refusal) h = no_reason refusal.reason h

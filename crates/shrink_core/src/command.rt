@@ -1,5 +1,8 @@
 // The command line: words in, a status out.
-ghost use Rattle.std.specs.Prelude.{◌≡◌, ◌⊎◌, ◌<◌, Some, codes, false};
+ghost use Rattle.std.specs.Prelude.{◌≡◌, ◌⊎◌, ◌<◌, IfOk, Some, codes, false};
+ghost use Rattle.std.specs.Thread.{IsSync};
+ghost use Rattle.mark_core.specs.Marks.{Marks};
+ghost use Rattle.mark_core.specs.Valid.{Valid};
 ghost use Rattle.tree_io.specs.Count.{Rose};
 ghost use Rattle.tree_io.specs.Runs.{memory_faults};
 ghost use Rattle.command_frame.specs.Output.{SaysLine, outside, output};
@@ -9,32 +12,45 @@ ghost use Rattle.shrink_core.specs.Commands.{Does, Ran, is_there};
 use check_command::CheckFiles;
 use command_frame::{run_command, say_line, say_no_memory};
 use command_words::{Command, read_command};
-use jv_base::{Items, Text};
+use gen_command::GenFiles;
+use jv_base::{Items, M, Text};
+use mark_core::System;
+use mark_words::Marked;
+use mark_workers::mark_all;
 use retrace_command::RetraceFiles;
-use shrink_command::ShrinkFiles;
+use shrink_command::{ShrinkFiles, Shrinking};
 use std::alloc::Global;
 use std::thread::Threads;
 use tree_io::{Gate, Sink, Tree};
+use why_command::WhyFiles;
+
+/// The most workers that there are.
+const MOST_WORKERS: u32 = 64;
+
+/// The most pairs of classes that `gen` makes.
+const MOST_PAIRS: u32 = 4000;
 
 /// Runs a command and answers the status with which the program ends. The words are read by `read_command` of
-/// `command_words`; `gen` can't be run yet. What `shrink CONFIG OUTWIT`, `check CONFIG WITNESS` and
-/// `retrace MAPPING TRACE` do, and what their statuses say, is told where their files are: `ShrinkFiles`, `CheckFiles`
-/// and `RetraceFiles`.
+/// `command_words`; `run` and `compare` can't be run yet. What `shrink CONFIG OUTWIT`, `check CONFIG WITNESS`,
+/// `retrace MAPPING TRACE`, `gen NUMBER DIRECTORY` and `why CONFIG ITEM` do, and what their statuses say, is told where
+/// their files are: `ShrinkFiles`, `CheckFiles`, `RetraceFiles`, `GenFiles` and `WhyFiles`. The gate is told of turns of
+/// those who mark what `shrink` keeps (`mark_all` of `mark_workers`); what is due, written and said is the same for each
+/// number of workers and each gate.
 ///
 /// | Status | Comes | Text |
 /// |---|---|---|
 /// | 0 | where all that is due was written and said | the command's text |
 /// | 1 | where the words ask for no command that can be run | `error 1 words` |
-/// | 2 to 6, 8, 9, 11 | where a refusal is due | `error STATUS WORD ..` |
+/// | 2 to 6, 8, 9, 11, 14 | where a refusal is due | `error STATUS WORD ..` |
 /// | 7 | only where a count of faults rose, the tree's or (once the files stand) the sink's | `error 7 device` |
 /// | 10 | where memory is wanting | `error 10 memory` |
 pub fn run<Rt: Threads + Sync, T: Tree, S: Sink, G: Gate>(
-    _rt: &Rt,
+    rt: &Rt,
     alloc: Global,
     words: &Items<Text>,
     tree: &mut T,
     out: &mut S,
-    _gate: &G,
+    gate: &G,
 ) -> u8
     // The words are refused only where they ask for no command that is there, and no status but want of memory comes
     // then beside.
@@ -57,14 +73,21 @@ pub fn run<Rt: Threads + Sync, T: Tree, S: Sink, G: Gate>(
         (output (S.written out.new) (S.faults out.new) (S.log out.new))) }
 {
     match read_command(alloc, words) {
-        Ok(Some(command)) => run_asked(alloc, command, tree, out),
+        Ok(Some(command)) => run_asked(rt, alloc, command, tree, out, gate),
         Ok(None) => refuse_words(out),
         Err(_) => say_no_memory(out),
     }
 }
 
-/// Runs the command that words ask for; `gen` can't be run yet.
-fn run_asked<T: Tree, S: Sink>(alloc: Global, command: Command, tree: &mut T, out: &mut S) -> u8
+/// Runs the command that words ask for; `run` and `compare` can't be run yet.
+fn run_asked<Rt: Threads + Sync, T: Tree, S: Sink, G: Gate>(
+    rt: &Rt,
+    alloc: Global,
+    command: Command,
+    tree: &mut T,
+    out: &mut S,
+    gate: &G,
+) -> u8
     ensures refused { result ≡ 1 → is_there (Some command) ≡ false }
     ensures words { is_there (Some command) ≡ false → result ≡ 1 }
     ensures device { result ≡ 7 → Rose (T.faults tree.old) (T.faults tree.new)
@@ -77,8 +100,17 @@ fn run_asked<T: Tree, S: Sink>(alloc: Global, command: Command, tree: &mut T, ou
         (output (S.written out.new) (S.faults out.new) (S.log out.new))) }
 {
     match command {
-        Command::Shrink { config, witness } => {
-            run_command(alloc, &ShrinkFiles { config, witness }, tree, out)
+        Command::Shrink {
+            config,
+            witness,
+            workers,
+        } => {
+            let files = ShrinkFiles { config, witness };
+            let mark = |sys: &System| -> M<Marked>
+                requires { IsSync Rt.row × IsSync G.row × Valid sys.now }
+                ensures { IfOk result (Marks sys.now) }
+            { mark_all(rt, alloc, sys, workers.clamp(1, MOST_WORKERS), gate) };
+            run_command(alloc, &Shrinking { files, mark }, tree, out)
         }
         Command::Check { config, witness } => {
             run_command(alloc, &CheckFiles { config, witness }, tree, out)
@@ -86,7 +118,13 @@ fn run_asked<T: Tree, S: Sink>(alloc: Global, command: Command, tree: &mut T, ou
         Command::Retrace { mapping, trace } => {
             run_command(alloc, &RetraceFiles { mapping, trace }, tree, out)
         }
-        Command::Gen { .. } => refuse_words(out),
+        Command::Gen { number, directory } if number <= MOST_PAIRS => {
+            run_command(alloc, &GenFiles { number, directory }, tree, out)
+        }
+        Command::Why { config, item } => {
+            run_command(alloc, &WhyFiles { config, item }, tree, out)
+        }
+        Command::Gen { .. } | Command::Run { .. } | Command::Compare { .. } => refuse_words(out),
     }
 }
 

@@ -2,12 +2,16 @@
 ghost use Rattle.check_command.specs.Due as check;
 ghost use Rattle.check_command.specs.declared.command.CheckFiles.{CheckFiles};
 ghost use Rattle.command_frame.specs.LeftFiles.{LeavesTold};
+ghost use Rattle.gen_command.specs.Due as generation;
+ghost use Rattle.gen_command.specs.declared.command.GenFiles.{GenFiles};
 ghost use Rattle.retrace_command.specs.Due as retrace;
 ghost use Rattle.retrace_command.specs.declared.command.RetraceFiles.{RetraceFiles};
 ghost use Rattle.shrink_command.specs.declared.command.ShrinkFiles.{ShrinkFiles};
+ghost use Rattle.why_command.specs.Due as why;
+ghost use Rattle.why_command.specs.declared.command.WhyFiles.{WhyFiles};
 ghost use Rattle.shrink_core.specs.Again.{PlanIsChecked};
 ghost use Rattle.shrink_core.specs.Checked.{IsOk, OkDoesTheSame};
-ghost use Rattle.shrink_core.specs.Commands.{IsAny, IsText, PairIsDue};
+ghost use Rattle.shrink_core.specs.Commands.{IsAny, IsGenerated, IsText, PairIsDue};
 
 /// Where a tree tells its files, what `run` says of its calls settles them: after status 0 they are the old ones with
 /// the plan that is due put, after a refusal that is due they are as they were, after 10 they are as they were or hold
@@ -17,6 +21,8 @@ pub fn told_files_are_left_as_due()
     ensures shrink { (named : ShrinkFiles) → LeavesTold IsAny (PairIsDue named) }
     ensures check { (named : CheckFiles) → LeavesTold IsOk (check.IsDue named) }
     ensures retrace { (named : RetraceFiles) → LeavesTold IsText (retrace.IsDue named) }
+    ensures generation { (named : GenFiles) → LeavesTold (IsGenerated named) (generation.IsDue named) }
+    ensures why { (named : WhyFiles) → LeavesTold IsText (why.IsDue named) }
 {}
 
 /// Of files at which `check` has to say `ok`, what stands below the output directory does what stands below the input

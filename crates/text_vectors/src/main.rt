@@ -4,12 +4,14 @@
 //! A line is `mapping` or `witness`, a space, and the text, or `retrace`, a space, the text of a mapping without
 //! spaces, a space, and the text of a trace. In a text `\s`, `\n`, `\r`, `\t` and `\\` stand for a space, LF, CR, a
 //! tab and a backslash, and `\xHH` for the byte of a number in two hexadecimal digits; each other byte stands for
-//! itself. An answer is `ok`, a space, and the text, spelled in the same way, or `LINE KIND`. The status is that of
+//! itself. `why ITEM SYSTEM` asks by what an item of a system of requirements is kept, and `levels LEVELS SYSTEM` whether
+//! levels of its items are certified; the README has the form of a system. An answer on a text is `ok`, a space, and the text, spelled in the same way, or `LINE KIND`. The status is that of
 //! `line_answers`.
 #![tactic(auto)]
 
 mod answer;
 mod rows;
+mod systems;
 
 use line_answers::answer_standard_input;
 use rows::Rows;

@@ -2,11 +2,12 @@
 ghost use Rattle.std.specs.Prelude.{◌<◌, IfOk, IfSome, length};
 
 use crate::answer::{mapping_answer, retrace_answer, witness_answer};
+use crate::systems::{levels_row, why_row};
 use jv_base::{M, Text};
 use line_answers::{Answers, escaped_line, unescaped};
 use std::alloc::Global;
 
-/// The answers to mappings, witnesses and traces.
+/// The answers to mappings, witnesses, traces and systems.
 pub(crate) struct Rows;
 
 impl Answers for Rows {
@@ -16,6 +17,12 @@ impl Answers for Rows {
         }
         if let Some(text) = line.strip_prefix(b"retrace ") {
             return retrace_row(alloc, text);
+        }
+        if let Some(texts) = line.strip_prefix(b"why ") {
+            return why_row(alloc, texts);
+        }
+        if let Some(texts) = line.strip_prefix(b"levels ") {
+            return levels_row(alloc, texts);
         }
         match line.strip_prefix(b"witness ") {
             Some(text) => witness_row(alloc, text),

@@ -7,6 +7,7 @@ mod assignability;
 mod calls;
 mod chain;
 mod changed;
+mod checker;
 mod declared;
 mod descriptors;
 mod environment;
@@ -35,6 +36,7 @@ mod verify;
 mod walk;
 mod words;
 
+pub use checker::CodeChecker;
 pub use fault::{TypeFault, TypeKind};
 pub use laws::{codes_are_typed_or_at_fault, sets_are_typed_or_at_fault};
 pub use verify::{assignable, verify_code, verify_method, verify_set};

@@ -213,7 +213,7 @@ fn check_method(
     }
 }
 
-fn check_one(
+pub(crate) fn check_one(
     alloc: Global,
     set: &Hierarchy,
     own: u32,

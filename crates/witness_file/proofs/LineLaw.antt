@@ -1,11 +1,11 @@
 -- A line says what it spells, and what it spells it says.
 use Rattle.std.proofs.Common.{◌≡◌, ℕ, zero, suc, ◌+◌, ◌-◌, ◌<◌, ◌≤◌, ◌^◌, ℤ, pos, negsuc, Bool, true, false, not, cond}
-use Rattle.std.proofs.Common.{eqb, ◌&&◌, List, [], ◌∷◌, ◌++◌, length, Option, Some, None, Result, Ok, Err, refl, sym}
+use Rattle.std.proofs.Common.{eqb, leb, ltb, ◌&&◌, List, [], ◌∷◌, ◌++◌, length, Option, Some, None, Result, Ok, Err, refl, sym}
 use Rattle.std.proofs.Common.{ap, subst, ◌∙◌, append_assoc, arith, codes, inl, inr}
 use Rattle.std.specs.Prelude.{◌⊎◌, IsTrue, neg_ℤ}
 use Rattle.std.specs.Fmt.{decimal, signed_decimal}
 use Rattle.std.specs.Char.{is_ascii_digit}
-use Rattle.std.specs.List.{list_all}
+use Rattle.std.specs.List.{AllByRecursion, find, list_all}
 use Rattle.std.proofs.lemmas.Fmt.{decimal_digit}
 use Rattle.std.specs.Option.{option_map}
 use Rattle.std.proofs.lemmas.Bool.{and_parts, eqb-true, cases_Bool}
@@ -22,10 +22,11 @@ use Rattle.jv_base.proofs.Equality.{same_text}
 use Rattle.jv_base.proofs.MethodLaw.{read_method-only}
 use Rattle.jv_base.proofs.Options.{mapped}
 use Rattle.text_lines.specs.Cut.{◌>>=◌, where_true, cut, after}
+use Rattle.text_lines.specs.Lines.{is_passed_over}
 use Rattle.text_lines.specs.Members.{arguments_text, class_of, method_text, method_type_of, result_text}
 use Rattle.text_lines.specs.Numbers.{number_below}
 use Rattle.text_lines.proofs.Numerals.{decimal_digits, number_found, number_only}
-use Rattle.text_lines.proofs.Parts.{after_is, after_none, after_some, cut_is, cut_some}
+use Rattle.text_lines.proofs.Parts.{after_is, after_none, after_some, cut_is, cut_lacks, cut_some}
 use Rattle.text_lines.proofs.ReadLines.{Says}
 use Rattle.text_lines.proofs.Spelling.{class_found, class_only, method_type_found, method_type_only, then_some}
 use Rattle.text_lines.proofs.Spelling.{where_some}
@@ -34,10 +35,13 @@ use Rattle.text_lines.proofs.Words.{result_word, word_lacks}
 use Rattle.text_lines.proofs.Arguments.{arguments_lack_byte}
 use Rattle.code_edit.specs.declared.act.Act.{Act}
 use Rattle.code_edit.specs.declared.act.Act.TheVariants as act
-use Rattle.witness_file.specs.LineReading.{MethodParts, act_of, aim_of, drop_of, fact_of, fold_of, line_said, method_of}
-use Rattle.witness_file.specs.LineReading.{method_parts, method_said, number_of, said, step_of, value_in, value_of}
-use Rattle.witness_file.specs.WitnessLines.{IsAct, IsLine, IsMethodLine, IsTextOf, IsValue, SpellsLine, act_text}
-use Rattle.witness_file.specs.WitnessLines.{line_text, member_text, method_line_text, signed_zero_text}
+use Rattle.witness_file.specs.ActWords.{act_with, acts_with, parts_of}
+use Rattle.witness_file.specs.LineReading.{MethodParts, act_of, first_in, line_said, method_of, method_parts}
+use Rattle.witness_file.specs.LineReading.{method_said, number_of, said, second_in, step_of, third_in, value_in, value_of}
+use Rattle.witness_file.specs.WitnessLines.{AreNumbers, IsMethodLine, IsNumbersText, IsValue, IsValueText}
+use Rattle.witness_file.specs.WitnessLines.{SpellsLine, line_text, member_text, method_line_text, numbers_text, spaced}
+use Rattle.witness_file.specs.declared.acts.Numbers.{Numbers}
+use Rattle.witness_file.specs.declared.acts.Numbers.TheVariants.{One, Two, Three, Four}
 use Rattle.witness_file.specs.declared.line.WitnessLine.{WitnessLine}
 use Rattle.witness_file.specs.declared.line.WitnessLine.TheVariants as line
 
@@ -65,10 +69,6 @@ digits n h = digits_word (decimal n) (decimal_digits n (omega (arith, h))).0
 blank_cut : (n : ℕ) (rest : List ℕ) → n < 2 ^ 32 → cut 32 (decimal n ++ 32 ∷ rest) ≡ Some (decimal n, rest)
 unfolding is_name_byte
 blank_cut n rest h = cut_is 32 (decimal n) rest (word_lacks 32 (decimal n) refl (digits n h))
-
--- the text is the value's, or that of 0 with a sign
-abbrev IsValueText : List ℕ → ℤ → Type 0
-IsValueText text value = (text ≡ signed_decimal value) ⊎ ((value ≡ pos 0) × (text ≡ codes "-0"))
 
 negative : (text d : List ℕ) (n : ℕ) → n < 2147483649 → d ≡ decimal n → text ≡ 45 ∷ d
     → IsValue (neg_ℤ (pos n)) × IsValueText text (neg_ℤ (pos n))
@@ -130,148 +130,130 @@ value_read text value h (inr e) =
     ap (λ (t : List ℕ). 45 ∷ t) (sym (decimal_digit 0 (omega arith))) in
     ap value_of (e.1 ∙ zero_text) ∙ rw (some, read) (ap (λ (v : ℤ). let o : Option ℤ = Some v in o) (sym e.0))
 
+-- ---- numbers behind a word
+
+cut_number : (text : List ℕ) (p : List ℕ × List ℕ) (n : ℕ) → cut 32 text ≡ Some p → p.0 ≡ decimal n
+    → text ≡ spaced n p.1
+cut_number text p n h e = (cut_some 32 text p h).0 ∙ ap (λ (t : List ℕ). t ++ 32 ∷ p.1) e
+
+-- the text spells the numbers
+abbrev SpellsNumbers : List ℕ → Numbers → Type 0
+SpellsNumbers text n = AreNumbers n × IsNumbersText text n
+
+third_is : (a b : ℕ) (text : List ℕ) (o : Option (List ℕ × List ℕ)) (n : Numbers) → a < 2 ^ 32 → b < 2 ^ 32
+    → cut 32 text ≡ o → third_in a b text o ≡ Some n → SpellsNumbers (spaced a (spaced b text)) n
+third_is a b text None n x y e h =
+    let c = then_some (number_of text) _ n h in
+    let is = number_is text c.0 c.1 in
+    subst (SpellsNumbers (spaced a (spaced b text))) (same_Some (Three a b c.0) n c.2)
+    ((x, y, is.0), ap (λ (t : List ℕ). spaced a (spaced b t)) is.1)
+third_is a b text (Some p) n x y e h =
+    let c = then_some (number_of p.0) _ n h in
+    let v = then_some (value_of p.1) _ n c.2 in
+    let is = number_is p.0 c.0 c.1 in
+    let value = value_is p.1 v.0 v.1 in
+    subst (SpellsNumbers (spaced a (spaced b text))) (same_Some (Four a b c.0 v.0) n v.2) (
+      (x, y, is.0, value.0),
+      (p.1, value.1, ap (λ (t : List ℕ). spaced a (spaced b t)) (cut_number text p c.0 e is.1)),
+    )
+
+second_is : (a : ℕ) (text : List ℕ) (o : Option (List ℕ × List ℕ)) (n : Numbers) → a < 2 ^ 32
+    → cut 32 text ≡ o → second_in a text o ≡ Some n → SpellsNumbers (spaced a text) n
+second_is a text None n x e h =
+    let b = then_some (number_of text) _ n h in
+    let is = number_is text b.0 b.1 in
+    subst (SpellsNumbers (spaced a text)) (same_Some (Two a b.0) n b.2) ((x, is.0), ap (spaced a) is.1)
+second_is a text (Some p) n x e h =
+    let b = then_some (number_of p.0) _ n h in
+    let is = number_is p.0 b.0 b.1 in
+    subst (λ (t : List ℕ). SpellsNumbers (spaced a t) n) (sym (cut_number text p b.0 e is.1))
+    (third_is a b.0 p.1 (cut 32 p.1) n x is.0 refl b.2)
+
+first_is : (text : List ℕ) (o : Option (List ℕ × List ℕ)) (n : Numbers) → cut 32 text ≡ o
+    → first_in text o ≡ Some n → SpellsNumbers text n
+first_is text None n e h =
+    let a = then_some (number_of text) _ n h in
+    subst (SpellsNumbers text) (same_Some (One a.0) n a.2) (number_is text a.0 a.1)
+first_is text (Some p) n e h =
+    let a = then_some (number_of p.0) _ n h in
+    let is = number_is p.0 a.0 a.1 in
+    subst (λ (t : List ℕ). SpellsNumbers t n) (sym (cut_number text p a.0 e is.1))
+    (second_is a.0 p.1 (cut 32 p.1) n is.0 refl a.2)
+
+no_blank : (n : ℕ) → n < 2 ^ 32 → cut 32 (decimal n) ≡ None
+unfolding is_name_byte
+no_blank n h = cut_lacks 32 (decimal n) (word_lacks 32 (decimal n) refl (digits n h))
+
+numbers_read : (n : Numbers) (text : List ℕ) → AreNumbers n → IsNumbersText text n
+    → first_in text (cut 32 text) ≡ Some n
+numbers_read (One a) text h e = ap (λ (t : List ℕ). first_in t (cut 32 t)) e ∙ rw (no_blank a h, number_read a h) refl
+numbers_read (Two a b) text h e =
+    ap (λ (t : List ℕ). first_in t (cut 32 t)) e ∙ rw (blank_cut a (decimal b) h.0, number_read a h.0, no_blank b h.1, number_read b h.1) refl
+numbers_read (Three a b c) text h e =
+    ap (λ (t : List ℕ). first_in t (cut 32 t)) e ∙ rw (
+      blank_cut a (spaced b (decimal c)) h.0,
+      number_read a h.0,
+      blank_cut b (decimal c) h.1,
+      number_read b h.1,
+      no_blank c h.2,
+      number_read c h.2,
+    ) refl
+numbers_read (Four a b c v) text h e =
+    ap (λ (t : List ℕ). first_in t (cut 32 t)) e.2 ∙ rw (
+      blank_cut a (spaced b (spaced c e.0)) h.0,
+      number_read a h.0,
+      blank_cut b (spaced c e.0) h.1,
+      number_read b h.1,
+      blank_cut c e.0 h.2,
+      number_read c h.2,
+      value_read e.0 v h.3 e.1,
+    ) refl
+
 -- ---- acts
 
-abbrev ActIs : List ℕ → Act → Type 0
-ActIs text a = IsAct a × IsTextOf text (line.Act a)
+-- each act with some numbers has these
+with_numbers : (n : Numbers) → AllByRecursion (λ a. (parts_of a).1 ≡ n) (acts_with n)
+with_numbers (One a) = (refl, (refl, tt))
+with_numbers (Two a b) = (refl, (refl, tt))
+with_numbers (Three a b c) = (refl, tt)
+with_numbers (Four a b c v) = (refl, tt)
 
-two_numbers : (text : List ℕ) (p : List ℕ × List ℕ) (m n : ℕ) → cut 32 text ≡ Some p → number_of p.0 ≡ Some m
-    → number_of p.1 ≡ Some n → (m < 2 ^ 32) × (n < 2 ^ 32) × (text ≡ decimal m ++ 32 ∷ decimal n)
-two_numbers text p m n h a b =
-    let one = number_is p.0 m a in
-    let two = number_is p.1 n b in (
-      one.0,
-      two.0,
-      (cut_some 32 text p h).0 ∙ ap (λ (t : List ℕ). t ++ 32 ∷ p.1) one.1
-          ∙ ap (λ (t : List ℕ). decimal m ++ 32 ∷ t) two.1,
-    )
-
-drop_is : (text : List ℕ) (a : Act) → drop_of text ≡ Some a → ActIs (codes "drop " ++ text) a
-unfolding line_text act_text
-drop_is text a h =
-    let p = then_some (cut 32 text) _ a h in
-    let m = then_some (number_of p.0.0) _ a p.2 in
-    let n = then_some (number_of p.0.1) _ a m.2 in
-    let two = two_numbers text p.0 m.0 n.0 p.1 m.1 n.1 in
-    let is : act.Drop m.0 n.0 ≡ a = same_Some (act.Drop m.0 n.0) a n.2 in
-    subst (ActIs (codes "drop " ++ text)) is ((two.0, two.1), ap (λ (t : List ℕ). codes "drop " ++ t) two.2)
-
-fold_is : (text : List ℕ) (a : Act) → fold_of text ≡ Some a → ActIs (codes "fold " ++ text) a
-unfolding line_text act_text
-fold_is text a h =
-    let p = then_some (cut 32 text) _ a h in
-    let m = then_some (number_of p.0.0) _ a p.2 in
-    let n = then_some (number_of p.0.1) _ a m.2 in
-    let two = two_numbers text p.0 m.0 n.0 p.1 m.1 n.1 in
-    let is : act.Fold m.0 n.0 ≡ a = same_Some (act.Fold m.0 n.0) a n.2 in
-    subst (ActIs (codes "fold " ++ text)) is ((two.0, two.1), ap (λ (t : List ℕ). codes "fold " ++ t) two.2)
-
-aim_is : (text : List ℕ) (a : Act) → aim_of text ≡ Some a → ActIs (codes "aim " ++ text) a
-unfolding line_text act_text
-aim_is text a h =
-    let p = then_some (cut 32 text) _ a h in
-    let q = then_some (cut 32 p.0.1) _ a p.2 in
-    let m = then_some (number_of p.0.0) _ a q.2 in
-    let n = then_some (number_of q.0.0) _ a m.2 in
-    let o = then_some (number_of q.0.1) _ a n.2 in
-    let one = number_is p.0.0 m.0 m.1 in
-    let two = two_numbers p.0.1 q.0 n.0 o.0 q.1 n.1 o.1 in
-    let is : act.Aim m.0 n.0 o.0 ≡ a = same_Some (act.Aim m.0 n.0 o.0) a o.2 in
-    subst (ActIs (codes "aim " ++ text)) is (
-      (one.0, two.0, two.1),
-      ap (λ (t : List ℕ). codes "aim " ++ t)
-          ((cut_some 32 text p.0 p.1).0 ∙ ap (λ (t : List ℕ). t ++ 32 ∷ p.0.1) one.1
-          ∙ ap (λ (t : List ℕ). decimal m.0 ++ 32 ∷ t) two.2),
-    )
-
-fact_value : (m n o : ℕ) (v : ℤ) (value text : List ℕ) → (m < 2 ^ 32) × (n < 2 ^ 32) × (o < 2 ^ 32) → IsValue v
-    → IsValueText value v
-    → text ≡ decimal m ++ 32 ∷ (decimal n ++ 32 ∷ (decimal o ++ 32 ∷ value))
-    → ActIs (codes "fact " ++ text) (act.Fact m n o v)
-unfolding line_text act_text
-fact_value m n o v value text small h (inl e) f = (
-  (small.0, small.1, small.2, h),
-  inl (ap (λ (t : List ℕ). codes "fact " ++ t)
-      (f ∙ ap (λ (t : List ℕ). decimal m ++ 32 ∷ (decimal n ++ 32 ∷ (decimal o ++ 32 ∷ t))) e)),
-)
-fact_value m n o v value text small h (inr e) f = (
-  (small.0, small.1, small.2, h),
-  inr (
-    e.0,
-    ap (λ (t : List ℕ). codes "fact " ++ t)
-        (f ∙ ap (λ (t : List ℕ). decimal m ++ 32 ∷ (decimal n ++ 32 ∷ (decimal o ++ 32 ∷ t))) e.1),
-  ),
-)
-
-fact_is : (text : List ℕ) (a : Act) → fact_of text ≡ Some a → ActIs (codes "fact " ++ text) a
-fact_is text a h =
-    let p = then_some (cut 32 text) _ a h in
-    let q = then_some (cut 32 p.0.1) _ a p.2 in
-    let r = then_some (cut 32 q.0.1) _ a q.2 in
-    let m = then_some (number_of p.0.0) _ a r.2 in
-    let n = then_some (number_of q.0.0) _ a m.2 in
-    let o = then_some (number_of r.0.0) _ a n.2 in
-    let v = then_some (value_of r.0.1) _ a o.2 in
-    let one = number_is p.0.0 m.0 m.1 in
-    let two = number_is q.0.0 n.0 n.1 in
-    let three = number_is r.0.0 o.0 o.1 in
-    let four = value_is r.0.1 v.0 v.1 in
-    let is : act.Fact m.0 n.0 o.0 v.0 ≡ a = same_Some (act.Fact m.0 n.0 o.0 v.0) a v.2 in
-    subst (ActIs (codes "fact " ++ text)) is
-    (fact_value m.0 n.0 o.0 v.0 r.0.1 text (one.0, two.0, three.0) four.0 four.1
-    ((cut_some 32 text p.0 p.1).0 ∙ ap (λ (t : List ℕ). t ++ 32 ∷ p.0.1) one.1
-    ∙ ap (λ (t : List ℕ). decimal m.0 ++ 32 ∷ t)
-    ((cut_some 32 p.0.1 q.0 q.1).0 ∙ ap (λ (t : List ℕ). t ++ 32 ∷ q.0.1) two.1
-    ∙ ap (λ (t : List ℕ). decimal n.0 ++ 32 ∷ t)
-    ((cut_some 32 q.0.1 r.0 r.1).0 ∙ ap (λ (t : List ℕ). t ++ 32 ∷ r.0.1) three.1))))
-
-cut_act_is : (text : List ℕ) (a : Act) → option_map (λ at. act.Cut at) (number_of text) ≡ Some a
-    → ActIs (codes "cut " ++ text) a
-unfolding line_text act_text
-cut_act_is text a h =
-    let m = mapped (λ at. act.Cut at) (number_of text) a h in
-    let one = number_is text m.0 m.1 in
-    subst (ActIs (codes "cut " ++ text)) m.2 (one.0, ap (λ (t : List ℕ). codes "cut " ++ t) one.1)
-
-skip_is : (text : List ℕ) (a : Act) → option_map (λ at. act.Skip at) (number_of text) ≡ Some a
-    → ActIs (codes "skip " ++ text) a
-unfolding line_text act_text
-skip_is text a h =
-    let m = mapped (λ at. act.Skip at) (number_of text) a h in
-    let one = number_is text m.0 m.1 in
-    subst (ActIs (codes "skip " ++ text)) m.2 (one.0, ap (λ (t : List ℕ). codes "skip " ++ t) one.1)
+found_with : (word : List ℕ) (n : Numbers) (acts : List Act) (a : Act)
+    → AllByRecursion (λ x. (parts_of x).1 ≡ n) acts
+    → find (λ x. is_text word (parts_of x).0) acts ≡ Some a → parts_of a ≡ (word, n)
+found_with word n [] a all h = absurd cc
+found_with word n (x ∷ acts) a all h = elim (choose (is_text word (parts_of x).0) (Some x) _ a h) [
+  | inl p ↦ subst (λ (b : Act). parts_of b ≡ (word, n)) (same_Some x a p.1)
+      (λ i. (sym (same_text word (parts_of x).0 p.0) i, all.0 i))
+  | inr p ↦ found_with word n acts a all.1 p.1
+]
 
 -- a word before a blank
 abbrev at_word : List ℕ → List ℕ → List ℕ
 at_word word text = word ++ 32 ∷ text
 
-act_is : (word text : List ℕ) (a : Act) → act_of word text ≡ Some a → ActIs (at_word word text) a
-unfolding act_of
-act_is word text a h = elim (choose (is_text word (codes "drop")) _ _ a h) [
-  | inl p ↦ subst (λ (w : List ℕ). ActIs (at_word w text) a) (sym (same_text word (codes "drop") p.0))
-      (drop_is text a p.1)
-  | inr p ↦ elim (choose (is_text word (codes "fact")) _ _ a p.1) [
-    | inl q ↦ subst (λ (w : List ℕ). ActIs (at_word w text) a) (sym (same_text word (codes "fact") q.0))
-        (fact_is text a q.1)
-    | inr q ↦ elim (choose (is_text word (codes "fold")) _ _ a q.1) [
-      | inl r ↦ subst (λ (w : List ℕ). ActIs (at_word w text) a) (sym (same_text word (codes "fold") r.0))
-          (fold_is text a r.1)
-      | inr r ↦ elim (choose (is_text word (codes "cut")) _ _ a r.1) [
-        | inl s ↦ subst (λ (w : List ℕ). ActIs (at_word w text) a) (sym (same_text word (codes "cut") s.0))
-            (cut_act_is text a s.1)
-        | inr s ↦ elim (choose (is_text word (codes "aim")) _ _ a s.1) [
-          | inl t ↦ subst (λ (w : List ℕ). ActIs (at_word w text) a) (sym (same_text word (codes "aim") t.0))
-              (aim_is text a t.1)
-          | inr t ↦ elim (choose (is_text word (codes "skip")) _ None a t.1) [
-            | inl u ↦ subst (λ (w : List ℕ). ActIs (at_word w text) a) (sym (same_text word (codes "skip") u.0))
-                (skip_is text a u.1)
-            | inr u ↦ absurd cc
-          ]
-        ]
-      ]
-    ]
-  ]
-]
+-- bytes of ASCII from a space on, with which a line begins that says something
+abbrev pub IsActWord : List ℕ → Type 0
+IsActWord word = (list_all (λ b. leb 32 b) word ≡ true) × (list_all (λ b. ltb b 128) word ≡ true)
+    × ((rest : List ℕ) → is_passed_over (word ++ rest) ≡ false)
+
+pub act_word : (a : Act) → IsActWord (parts_of a).0
+unfolding is_passed_over
+act_word (act.Drop from to) = (refl, refl, λ rest. refl)
+act_word (act.Fact from to slot value) = (refl, refl, λ rest. refl)
+act_word (act.Fold at to) = (refl, refl, λ rest. refl)
+act_word (act.Cut at) = (refl, refl, λ rest. refl)
+act_word (act.Aim at which to) = (refl, refl, λ rest. refl)
+act_word (act.Skip at) = (refl, refl, λ rest. refl)
+
+act_is : (word text : List ℕ) (a : Act) → act_of word text ≡ Some a → SpellsLine (at_word word text) (line.Act a)
+unfolding act_of act_with
+act_is word text a h =
+    let n = then_some (first_in text (cut 32 text)) (act_with word) a h in
+    let spelled = first_is text (cut 32 text) n.0 refl n.1 in
+    let parts = found_with word n.0 (acts_with n.0) a (with_numbers n.0) n.2 in
+    subst (λ (p : List ℕ × Numbers). AreNumbers p.1 × ((t : List ℕ) × IsNumbersText t p.1
+    × (at_word word text ≡ p.0 ++ (codes " " ++ t)))) (sym parts) (spelled.0, (text, spelled.1, refl))
 
 -- ---- methods
 
@@ -369,39 +351,16 @@ line_found text l h =
 
 -- ---- what is spelled so is read
 
-fact_read : (m n o : ℕ) (v : ℤ) (value : List ℕ) → IsAct (act.Fact m n o v) → IsValueText value v
-    → line_said (codes "fact " ++ (decimal m ++ 32 ∷ (decimal n ++ 32 ∷ (decimal o ++ 32 ∷ value))))
-    ≡ Some (line.Act (act.Fact m n o v))
-unfolding line_said said act_of cut
-fact_read m n o v value h e =
-    let a : cut 32 (decimal m ++ 32 ∷ (decimal n ++ 32 ∷ (decimal o ++ 32 ∷ value)))
-    ≡ Some (decimal m, decimal n ++ 32 ∷ (decimal o ++ 32 ∷ value)) = blank_cut m _ h.0 in
-    let b : cut 32 (decimal n ++ 32 ∷ (decimal o ++ 32 ∷ value)) ≡ Some (decimal n, decimal o ++ 32 ∷ value) =
-    blank_cut n _ h.1 in
-    let c : cut 32 (decimal o ++ 32 ∷ value) ≡ Some (decimal o, value) = blank_cut o value h.2 in
-    let d : value_of value ≡ Some v = value_read value v h.3 e in
-    rw (a, b, c, number_read m h.0, number_read n h.1, number_read o h.2, d) refl
-
-act_read : (text : List ℕ) (a : Act) → IsAct a → IsTextOf text (line.Act a) → line_said text ≡ Some (line.Act a)
-unfolding line_said said act_of cut line_text act_text
-act_read text (act.Drop m n) h e =
-    ap line_said e
-    ∙ (let a : cut 32 (decimal m ++ 32 ∷ decimal n) ≡ Some (decimal m, decimal n) = blank_cut m (decimal n) h.0 in
-    rw (a, number_read m h.0, number_read n h.1) refl)
-act_read text (act.Fold m n) h e =
-    ap line_said e
-    ∙ (let a : cut 32 (decimal m ++ 32 ∷ decimal n) ≡ Some (decimal m, decimal n) = blank_cut m (decimal n) h.0 in
-    rw (a, number_read m h.0, number_read n h.1) refl)
-act_read text (act.Cut m) h e = ap line_said e ∙ rw (number_read m h) refl
-act_read text (act.Skip m) h e = ap line_said e ∙ rw (number_read m h) refl
-act_read text (act.Aim m n o) h e =
-    ap line_said e
-    ∙ (let a : cut 32 (decimal m ++ 32 ∷ (decimal n ++ 32 ∷ decimal o))
-    ≡ Some (decimal m, decimal n ++ 32 ∷ decimal o) = blank_cut m _ h.0 in
-    let b : cut 32 (decimal n ++ 32 ∷ decimal o) ≡ Some (decimal n, decimal o) = blank_cut n (decimal o) h.1 in
-    rw (a, b, number_read m h.0, number_read n h.1, number_read o h.2) refl)
-act_read text (act.Fact m n o v) h (inl e) = ap line_said e ∙ fact_read m n o v (signed_decimal v) h (inl refl)
-act_read text (act.Fact m n o v) h (inr e) = ap line_said e.1 ∙ fact_read m n o v (codes "-0") h (inr (e.0, refl))
+-- the line of an act by its word
+word_read : (a : Act) (text : List ℕ) → first_in text (cut 32 text) ≡ Some (parts_of a).1
+    → line_said (at_word (parts_of a).0 text) ≡ Some (line.Act a)
+unfolding line_said said act_of act_with cut
+word_read (act.Drop from to) text h = rw h refl
+word_read (act.Fact from to slot value) text h = rw h refl
+word_read (act.Fold at to) text h = rw h refl
+word_read (act.Cut at) text h = rw h refl
+word_read (act.Aim at which to) text h = rw h refl
+word_read (act.Skip at) text h = rw h refl
 
 method_read : (class name : List ℕ) (ty : MethodType) → IsTrue (is_class_name class) → IsTrue (is_method_name name)
     → IsMethodType ty
@@ -447,7 +406,8 @@ line_only text (line.Method class name ty) h =
     ∙ method_read class name of_type h.0.class_named h.0.method_named spelled.0
     ∙ ap (λ (d : List ℕ). let o : Option WitnessLine = Some (line.Method class name d) in o) spelled.1
 line_only text (line.Step n) h = ap line_said h.1 ∙ step_read n h.0.0 h.0.1
-line_only text (line.Act a) h = act_read text a h.0 h.1
+line_only text (line.Act a) h =
+    ap line_said h.1.2 ∙ word_read a h.1.0 (numbers_read (parts_of a).1 h.1.0 h.0 h.1.1)
 
 -- a line is read as what it spells, and as nothing else
 pub line_says : Says SpellsLine line_said

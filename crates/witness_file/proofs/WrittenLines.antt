@@ -30,15 +30,18 @@ use Rattle.code_edit.specs.Acts.{pass_of, step_passes}
 use Rattle.code_edit.specs.declared.act.Act.{Act}
 use Rattle.code_edit.specs.declared.act.Act.TheVariants as act
 use Rattle.code_edit.specs.declared.act.PassEdits.{PassEdits}
-use Rattle.witness_file.specs.WitnessLines.{IsAct, IsLine, IsMethodLine, IsTextOf, IsValue, SpellsLine, act_text}
-use Rattle.witness_file.specs.WitnessLines.{line_text, method_line_text}
+use Rattle.witness_file.specs.ActWords.{parts_of}
+use Rattle.witness_file.specs.WitnessLines.{AreNumbers, IsAct, IsLine, IsMethodLine, IsNumbersText, IsTextOf, IsValue}
+use Rattle.witness_file.specs.WitnessLines.{SpellsLine, act_text, line_text, method_line_text, numbers_text}
+use Rattle.witness_file.specs.declared.acts.Numbers.{Numbers}
+use Rattle.witness_file.specs.declared.acts.Numbers.TheVariants.{One, Two, Three, Four}
 use Rattle.witness_file.specs.Witnesses.{AreTexts, HasActsOfPass, IsMethodWitness, IsWitness, ended_line, method_lines}
 use Rattle.witness_file.specs.Witnesses.{step_lines, steps_lines, witness_lines, witness_text}
 use Rattle.witness_file.specs.declared.line.WitnessLine.{WitnessLine}
 use Rattle.witness_file.specs.declared.line.WitnessLine.TheVariants as line
 use Rattle.witness_file.specs.declared.witness.MethodWitness.{MethodWitness}
 use Rattle.witness_file.specs.declared.witness.Witness.{Witness}
-use Rattle.witness_file.proofs.LineLaw.{described}
+use Rattle.witness_file.proofs.LineLaw.{act_word, described}
 
 -- ---- bytes
 
@@ -61,28 +64,25 @@ value_lacks byte (negsuc n) small none h =
 spaced : (byte : ℕ) (x y : List ℕ) → byte < 32 → Lacks byte x → Lacks byte y → Lacks byte (x ++ (codes " " ++ y))
 spaced byte x y small h k = lacks_append byte x (codes " " ++ y) h ((λ e. omega (arith, small, e)), k)
 
+numbers_lacks : (byte : ℕ) (n : Numbers) → byte < 32 → is_word_byte byte ≡ false → AreNumbers n
+    → Lacks byte (numbers_text n)
+numbers_lacks byte (One a) small none h = number_lacks byte a none h
+numbers_lacks byte (Two a b) small none h =
+    spaced byte (decimal a) (decimal b) small (number_lacks byte a none h.0) (number_lacks byte b none h.1)
+numbers_lacks byte (Three a b c) small none h =
+    spaced byte (decimal a) _ small (number_lacks byte a none h.0)
+    (spaced byte (decimal b) (decimal c) small (number_lacks byte b none h.1) (number_lacks byte c none h.2))
+numbers_lacks byte (Four a b c v) small none h =
+    spaced byte (decimal a) _ small (number_lacks byte a none h.0)
+    (spaced byte (decimal b) _ small (number_lacks byte b none h.1)
+    (spaced byte (decimal c) (signed_decimal v) small (number_lacks byte c none h.2)
+    (value_lacks byte v small none h.3)))
+
 act_lacks : (byte : ℕ) (a : Act) → byte < 32 → is_word_byte byte ≡ false → IsAct a → Lacks byte (act_text a)
 unfolding act_text
-act_lacks byte (act.Drop m n) small none h =
-    lacks_append byte (codes "drop ") _ (literal byte (codes "drop ") small refl)
-    (spaced byte (decimal m) (decimal n) small (number_lacks byte m none h.0) (number_lacks byte n none h.1))
-act_lacks byte (act.Fact m n o v) small none h =
-    lacks_append byte (codes "fact ") _ (literal byte (codes "fact ") small refl)
-    (spaced byte (decimal m) _ small (number_lacks byte m none h.0)
-    (spaced byte (decimal n) _ small (number_lacks byte n none h.1)
-    (spaced byte (decimal o) (signed_decimal v) small (number_lacks byte o none h.2)
-    (value_lacks byte v small none h.3))))
-act_lacks byte (act.Fold m n) small none h =
-    lacks_append byte (codes "fold ") _ (literal byte (codes "fold ") small refl)
-    (spaced byte (decimal m) (decimal n) small (number_lacks byte m none h.0) (number_lacks byte n none h.1))
-act_lacks byte (act.Cut m) small none h =
-    lacks_append byte (codes "cut ") _ (literal byte (codes "cut ") small refl) (number_lacks byte m none h)
-act_lacks byte (act.Aim m n o) small none h =
-    lacks_append byte (codes "aim ") _ (literal byte (codes "aim ") small refl)
-    (spaced byte (decimal m) _ small (number_lacks byte m none h.0)
-    (spaced byte (decimal n) (decimal o) small (number_lacks byte n none h.1) (number_lacks byte o none h.2)))
-act_lacks byte (act.Skip m) small none h =
-    lacks_append byte (codes "skip ") _ (literal byte (codes "skip ") small refl) (number_lacks byte m none h)
+act_lacks byte a small none h =
+    spaced byte (parts_of a).0 (numbers_text (parts_of a).1) small (literal byte (parts_of a).0 small (act_word a).0)
+    (numbers_lacks byte (parts_of a).1 small none h)
 
 member_lacks : (byte : ℕ) (ty : MethodType) (name : List ℕ) → byte < 32 → is_word_byte byte ≡ false
     → descriptor.IsMethodType ty
@@ -121,12 +121,7 @@ unfolding is_passed_over line_text act_text
 line_says_something line.Head = refl
 line_says_something (line.Method class name ty) = refl
 line_says_something (line.Step n) = refl
-line_says_something (line.Act (act.Drop m n)) = refl
-line_says_something (line.Act (act.Fact m n o v)) = refl
-line_says_something (line.Act (act.Fold m n)) = refl
-line_says_something (line.Act (act.Cut m)) = refl
-line_says_something (line.Act (act.Aim m n o)) = refl
-line_says_something (line.Act (act.Skip m)) = refl
+line_says_something (line.Act a) = (act_word a).2 (codes " " ++ numbers_text (parts_of a).1)
 
 -- ---- UTF-8
 
@@ -147,23 +142,20 @@ spaced_ascii : (x y : List ℕ) → IsAscii x → IsAscii y → IsAscii (x ++ (c
 spaced_ascii x y h k =
     IsAscii-append x (codes " " ++ y) h (IsAscii-append (codes " ") y (ascii_from (codes " ") refl) k)
 
+numbers_ascii : (n : Numbers) → AreNumbers n → IsAscii (numbers_text n)
+numbers_ascii (One a) h = number_ascii a h
+numbers_ascii (Two a b) h = spaced_ascii (decimal a) (decimal b) (number_ascii a h.0) (number_ascii b h.1)
+numbers_ascii (Three a b c) h = spaced_ascii (decimal a) _ (number_ascii a h.0)
+    (spaced_ascii (decimal b) (decimal c) (number_ascii b h.1) (number_ascii c h.2))
+numbers_ascii (Four a b c v) h = spaced_ascii (decimal a) _ (number_ascii a h.0)
+    (spaced_ascii (decimal b) _ (number_ascii b h.1)
+    (spaced_ascii (decimal c) (signed_decimal v) (number_ascii c h.2) (value_ascii v h.3)))
+
 act_ascii : (a : Act) → IsAct a → IsAscii (act_text a)
 unfolding act_text
-act_ascii (act.Drop m n) h =
-    IsAscii-append (codes "drop ") _ (ascii_from (codes "drop ") refl)
-    (spaced_ascii (decimal m) (decimal n) (number_ascii m h.0) (number_ascii n h.1))
-act_ascii (act.Fact m n o v) h =
-    IsAscii-append (codes "fact ") _ (ascii_from (codes "fact ") refl) (spaced_ascii (decimal m) _ (number_ascii m h.0)
-    (spaced_ascii (decimal n) _ (number_ascii n h.1)
-    (spaced_ascii (decimal o) (signed_decimal v) (number_ascii o h.2) (value_ascii v h.3))))
-act_ascii (act.Fold m n) h =
-    IsAscii-append (codes "fold ") _ (ascii_from (codes "fold ") refl)
-    (spaced_ascii (decimal m) (decimal n) (number_ascii m h.0) (number_ascii n h.1))
-act_ascii (act.Cut m) h = IsAscii-append (codes "cut ") _ (ascii_from (codes "cut ") refl) (number_ascii m h)
-act_ascii (act.Aim m n o) h =
-    IsAscii-append (codes "aim ") _ (ascii_from (codes "aim ") refl) (spaced_ascii (decimal m) _ (number_ascii m h.0)
-    (spaced_ascii (decimal n) (decimal o) (number_ascii n h.1) (number_ascii o h.2)))
-act_ascii (act.Skip m) h = IsAscii-append (codes "skip ") _ (ascii_from (codes "skip ") refl) (number_ascii m h)
+act_ascii a h =
+    spaced_ascii (parts_of a).0 (numbers_text (parts_of a).1) (ascii_from (parts_of a).0 (act_word a).1)
+    (numbers_ascii (parts_of a).1 h)
 
 -- a method's line is in UTF-8
 abbrev pub IsTextLine : WitnessLine → Type 0
@@ -179,15 +171,17 @@ line_utf8 (line.Step n) h t = IsUtf8-from_ascii (codes "step " ++ decimal n)
 line_utf8 (line.Act a) h t = IsUtf8-from_ascii (act_text a) (act_ascii a h)
 
 own_text : (l : WitnessLine) → IsTextOf (line_text l) l
+unfolding line_text act_text
 own_text line.Head = refl
 own_text (line.Method class name ty) = refl
 own_text (line.Step n) = refl
-own_text (line.Act (act.Drop m n)) = refl
-own_text (line.Act (act.Fact m n o v)) = inl refl
-own_text (line.Act (act.Fold m n)) = refl
-own_text (line.Act (act.Cut m)) = refl
-own_text (line.Act (act.Aim m n o)) = refl
-own_text (line.Act (act.Skip m)) = refl
+own_text (line.Act a) = (numbers_text (parts_of a).1, own (parts_of a).1, refl)
+  where
+    own : (n : Numbers) → IsNumbersText (numbers_text n) n
+    own (One b) = refl
+    own (Two b c) = refl
+    own (Three b c d) = refl
+    own (Four b c d v) = (signed_decimal v, inl refl, refl)
 
 line_written : (l : WitnessLine) → IsLine l → IsTextLine l → IsWritten SpellsLine line_text l
 line_written l h t =

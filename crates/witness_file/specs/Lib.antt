@@ -1,3 +1,4 @@
+pub mod ActWords
 pub mod KindNames
 pub mod LineReading
 pub mod WitnessLines

@@ -8,7 +8,9 @@ use Rattle.text_lines.specs.Cut.{◌>>=◌, where_true, after, cut}
 use Rattle.text_lines.specs.Members.{class_of, method_type_of}
 use Rattle.text_lines.specs.Numbers.{number_below}
 use Rattle.code_edit.specs.declared.act.Act.{Act}
-use Rattle.code_edit.specs.declared.act.Act.TheVariants as act
+use Rattle.witness_file.specs.ActWords.{act_with}
+use Rattle.witness_file.specs.declared.acts.Numbers.{Numbers}
+use Rattle.witness_file.specs.declared.acts.Numbers.TheVariants.{One, Two, Three, Four}
 use Rattle.witness_file.specs.declared.line.MethodParts as kept
 use Rattle.witness_file.specs.declared.line.WitnessLine.{WitnessLine}
 use Rattle.witness_file.specs.declared.line.WitnessLine.TheVariants as line
@@ -26,54 +28,24 @@ value_in text None = number_below 2147483648 text >>= (λ n. Some (pos n))
 unfoldable pub value_of : List ℕ → Option ℤ
 value_of text = value_in text (after (codes "-") text)
 
--- two numbers
-abbrev pub drop_of : List ℕ → Option Act
-drop_of text = do
-  p ← cut 32 text
-  from ← number_of p.0
-  to ← number_of p.1
-  Some (act.Drop from to)
+-- three numbers, or a value behind the third, by the first blank behind the second
+abbrev pub third_in : ℕ → ℕ → List ℕ → Option (List ℕ × List ℕ) → Option Numbers
+third_in a b text None = number_of text >>= (λ c. Some (Three a b c))
+third_in a b text (Some p) = number_of p.0 >>= (λ c. value_of p.1 >>= (λ v. Some (Four a b c v)))
 
--- three numbers and a value
-abbrev pub fact_of : List ℕ → Option Act
-fact_of text = do
-  p ← cut 32 text
-  q ← cut 32 p.1
-  r ← cut 32 q.1
-  from ← number_of p.0
-  to ← number_of q.0
-  slot ← number_of r.0
-  value ← value_of r.1
-  Some (act.Fact from to slot value)
+-- two numbers, or more behind the second
+abbrev pub second_in : ℕ → List ℕ → Option (List ℕ × List ℕ) → Option Numbers
+second_in a text None = number_of text >>= (λ b. Some (Two a b))
+second_in a text (Some p) = number_of p.0 >>= (λ b. third_in a b p.1 (cut 32 p.1))
 
--- two numbers
-abbrev pub fold_of : List ℕ → Option Act
-fold_of text = do
-  p ← cut 32 text
-  at ← number_of p.0
-  to ← number_of p.1
-  Some (act.Fold at to)
-
--- three numbers
-abbrev pub aim_of : List ℕ → Option Act
-aim_of text = do
-  p ← cut 32 text
-  q ← cut 32 p.1
-  at ← number_of p.0
-  which ← number_of q.0
-  to ← number_of q.1
-  Some (act.Aim at which to)
+-- one number, or more behind it
+abbrev pub first_in : List ℕ → Option (List ℕ × List ℕ) → Option Numbers
+first_in text None = number_of text >>= (λ a. Some (One a))
+first_in text (Some p) = number_of p.0 >>= (λ a. second_in a p.1 (cut 32 p.1))
 
 -- an act by its word and what stands behind it
 unfoldable pub act_of : List ℕ → List ℕ → Option Act
-act_of word text =
-    if is_text word (codes "drop") then drop_of text
-    else if is_text word (codes "fact") then fact_of text
-    else if is_text word (codes "fold") then fold_of text
-    else if is_text word (codes "cut") then option_map (λ at. act.Cut at) (number_of text)
-    else if is_text word (codes "aim") then aim_of text
-    else if is_text word (codes "skip") then option_map (λ at. act.Skip at) (number_of text)
-    else None
+act_of word text = first_in text (cut 32 text) >>= act_with word
 
 -- the number of a step
 abbrev pub step_of : List ℕ → Option WitnessLine

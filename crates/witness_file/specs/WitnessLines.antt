@@ -8,21 +8,26 @@ use Rattle.jv_base.specs.declared.descriptors.BadDescriptor.{BadDescriptor}
 use Rattle.jv_base.specs.declared.types.MethodType.{MethodType}
 use Rattle.text_lines.specs.Members.{method_text}
 use Rattle.code_edit.specs.declared.act.Act.{Act}
-use Rattle.code_edit.specs.declared.act.Act.TheVariants as act
+use Rattle.witness_file.specs.ActWords.{parts_of}
+use Rattle.witness_file.specs.declared.acts.Numbers.{Numbers}
+use Rattle.witness_file.specs.declared.acts.Numbers.TheVariants.{One, Two, Three, Four}
 use Rattle.witness_file.specs.declared.line.WitnessLine.{WitnessLine}
 use Rattle.witness_file.specs.declared.line.WitnessLine.TheVariants as line
 
--- the word of an act and its numbers: places, a slot, a value
+-- a number and what stands behind it
+abbrev pub spaced : ℕ → List ℕ → List ℕ
+spaced n text = decimal n ++ (codes " " ++ text)
+
+-- numbers, of which the fourth is a value
+abbrev pub numbers_text : Numbers → List ℕ
+numbers_text (One a) = decimal a
+numbers_text (Two a b) = spaced a (decimal b)
+numbers_text (Three a b c) = spaced a (spaced b (decimal c))
+numbers_text (Four a b c v) = spaced a (spaced b (spaced c (signed_decimal v)))
+
+-- the word of an act and its numbers
 unfoldable pub act_text : Act → List ℕ
-act_text (act.Drop from to) = codes "drop " ++ (decimal from ++ (codes " " ++ decimal to))
-act_text (act.Fact from to slot value) =
-    codes "fact " ++ (decimal from ++ (codes " " ++ (decimal to
-    ++ (codes " " ++ (decimal slot ++ (codes " " ++ signed_decimal value))))))
-act_text (act.Fold at to) = codes "fold " ++ (decimal at ++ (codes " " ++ decimal to))
-act_text (act.Cut at) = codes "cut " ++ decimal at
-act_text (act.Aim at which to) =
-    codes "aim " ++ (decimal at ++ (codes " " ++ (decimal which ++ (codes " " ++ decimal to))))
-act_text (act.Skip at) = codes "skip " ++ decimal at
+act_text a = (parts_of a).0 ++ (codes " " ++ numbers_text (parts_of a).1)
 
 -- a method by its descriptor, as `int twice(int)`; what is no descriptor stands as it is
 abbrev pub member_text : List ℕ → Result MethodType BadDescriptor → List ℕ → List ℕ
@@ -46,14 +51,16 @@ abbrev pub IsValue : ℤ → Type 0
 IsValue (pos n) = n < 2 ^ 31
 IsValue (negsuc n) = n < 2 ^ 31
 
+-- numbers of 32 bits
+abbrev pub AreNumbers : Numbers → Type 0
+AreNumbers (One a) = a < 2 ^ 32
+AreNumbers (Two a b) = (a < 2 ^ 32) × (b < 2 ^ 32)
+AreNumbers (Three a b c) = (a < 2 ^ 32) × (b < 2 ^ 32) × (c < 2 ^ 32)
+AreNumbers (Four a b c v) = (a < 2 ^ 32) × (b < 2 ^ 32) × (c < 2 ^ 32) × IsValue v
+
 -- the numbers of an act are of 32 bits
 abbrev pub IsAct : Act → Type 0
-IsAct (act.Drop from to) = (from < 2 ^ 32) × (to < 2 ^ 32)
-IsAct (act.Fact from to slot value) = (from < 2 ^ 32) × (to < 2 ^ 32) × (slot < 2 ^ 32) × IsValue value
-IsAct (act.Fold at to) = (at < 2 ^ 32) × (to < 2 ^ 32)
-IsAct (act.Cut at) = at < 2 ^ 32
-IsAct (act.Aim at which to) = (at < 2 ^ 32) × (which < 2 ^ 32) × (to < 2 ^ 32)
-IsAct (act.Skip at) = at < 2 ^ 32
+IsAct a = AreNumbers (parts_of a).1
 
 -- a class, a method's name and a descriptor (JVMS 4.2, 4.3.3)
 pub record IsMethodLine (class name ty : List ℕ) : Type 0 where
@@ -68,15 +75,20 @@ IsLine (line.Method class name ty) = IsMethodLine class name ty
 IsLine (line.Step number) = (1 ≤ number) × (number ≤ 6)
 IsLine (line.Act a) = IsAct a
 
--- a fact whose value 0 is spelled with a sign
-abbrev pub signed_zero_text : ℕ → ℕ → ℕ → List ℕ
-signed_zero_text from to slot = codes "fact " ++ (decimal from
-    ++ (codes " " ++ (decimal to ++ (codes " " ++ (decimal slot ++ codes " -0")))))
+-- the text is a value's; 0 may have a sign
+abbrev pub IsValueText : List ℕ → ℤ → Type 0
+IsValueText text value = (text ≡ signed_decimal value) ⊎ ((value ≡ pos 0) × (text ≡ codes "-0"))
 
--- the text is the line's spelling; a value 0 may have a sign
+-- the text is that of the numbers
+abbrev pub IsNumbersText : List ℕ → Numbers → Type 0
+IsNumbersText text (Four a b c v) =
+    (value : List ℕ) × IsValueText value v × (text ≡ spaced a (spaced b (spaced c value)))
+IsNumbersText text n = text ≡ numbers_text n
+
+-- the text is the line's spelling
 abbrev pub IsTextOf : List ℕ → WitnessLine → Type 0
-IsTextOf text (line.Act (act.Fact from to slot value)) = (text ≡ line_text (line.Act (act.Fact from to slot value)))
-    ⊎ ((value ≡ pos 0) × (text ≡ signed_zero_text from to slot))
+IsTextOf text (line.Act a) =
+    (numbers : List ℕ) × IsNumbersText numbers (parts_of a).1 × (text ≡ (parts_of a).0 ++ (codes " " ++ numbers))
 IsTextOf text l = text ≡ line_text l
 
 -- the text says this

@@ -8,6 +8,7 @@ ghost use Rattle.witness_file.specs.WitnessReading.{read_witness};
 ghost use Rattle.witness_file.specs.Witnesses.{AreTexts, IsWitness, Reading, ended_line, method_lines};
 ghost use Rattle.witness_file.specs.Witnesses.{step_lines, steps_lines, witness_text};
 
+use crate::acts::push_act;
 use crate::{MethodWitness, Witness};
 use code_edit::{Act, PassEdits};
 use jv_base::{Bytes, Items, M, Or, OutOfMemory, read_method_type};
@@ -125,26 +126,5 @@ fn push_act_line(alloc: Global, out: &mut Vec<u8>, act: &Act) -> M<()>
 {
     push_act(alloc, out, act)?;
     out.extend_from_slice(b"\n")?;
-    Ok(())
-}
-
-#[tactic(auto, unfolding(crate::specs::WitnessLines::act_text))]
-fn push_act(alloc: Global, out: &mut Vec<u8>, act: &Act) -> M<()>
-    ensures { OnOk result (out.new.items ≡ out.old.items ++ act_text act.now) }
-{
-    let text = match *act {
-        Act::Drop { from, to } => format!(in alloc; "drop {from} {to}")?,
-        Act::Fact {
-            from,
-            to,
-            slot,
-            value,
-        } => format!(in alloc; "fact {from} {to} {slot} {value}")?,
-        Act::Fold { at, to } => format!(in alloc; "fold {at} {to}")?,
-        Act::Cut { at } => format!(in alloc; "cut {at}")?,
-        Act::Aim { at, which, to } => format!(in alloc; "aim {at} {which} {to}")?,
-        Act::Skip { at } => format!(in alloc; "skip {at}")?,
-    };
-    out.extend_from_slice(text.as_bytes())?;
     Ok(())
 }

@@ -30,6 +30,7 @@ pub record IsRead (pair : Pair) (rules : Rules) : Type 0 where
   pub fixed : AreFixed rules pair.input.now pair.fixed.now
   pub filter : pair.filter.now ≡ filter_of rules
   pub sys : pair.sys.now ≡ required pair.input.now rules
+  pub entries : pair.entries.now ≡ pair.witness.now.methods
 
 -- the answer at the first place of a clause
 abbrev pub no_at : Clause → Place → No

@@ -13,7 +13,8 @@ use Rattle.path_text.specs.Path.{is_below}
 use Rattle.class_files.specs.Input.{input_due}
 use Rattle.class_files.specs.Output.{put_all}
 use Rattle.class_model.specs.declared.class.Class.{Class}
-use Rattle.keep_rules.specs.Paths.{any_meet, files_of, is_at, meets, meets_config, paths_meet}
+use Rattle.keep_rules.specs.Paths.{any_meet, files_of, is_at, meets, meets_config, meets_file}
+use Rattle.keep_rules.specs.Paths.{paths_meet}
 use Rattle.keep_rules.specs.declared.rules.Rules.{Rules}
 use Rattle.mapping_file.specs.Mappings.{mapping_text}
 use Rattle.set_shrink.specs.Texts.{texts_due, witness_file}
@@ -27,8 +28,8 @@ use Rattle.pair_laws.proofs.OwnPairs.Found.{files_found}
 use Rattle.pair_laws.proofs.OwnMapping.Own.{own_mapping_is_read, own_witness_is_read}
 use Rattle.pair_laws.specs.OwnChecked.Again.{HasMapping, HasWitness, IsFoundAgain, PassesInputLimit}
 use Rattle.pair_laws.specs.OwnChecked.Laws.{OwnFilesAreFoundAgain}
-use Rattle.pair_laws.proofs.OwnChecked.Paths.{AreApart, all_elsewhere, any_less, are_apart, lies_below, none_of}
-use Rattle.pair_laws.proofs.OwnChecked.Paths.{not_below_other}
+use Rattle.pair_laws.proofs.OwnChecked.Paths.{AreApart, all_elsewhere, another_file, any_less, are_apart, lies_below}
+use Rattle.pair_laws.proofs.OwnChecked.Paths.{none_of, not_below_other}
 use Rattle.pair_laws.proofs.OwnChecked.Put.{elsewhere_same, found_or_limit, stands_at, stays_at}
 use Rattle.pair_laws.proofs.OwnChecked.Texts.{AreTexts, are_texts}
 
@@ -63,18 +64,18 @@ none_below directory path outside (f ∷ files) (w ∷ there) below = (
 -- what the test of the paths says
 record DontMeet (rules : Rules) (witness : List ℕ) : Type 0 where
   directories : AreApart rules.in_dir rules.out_dir
-  from_input : list_any (meets rules.in_dir) (files_of rules witness) ≡ false
-  from_output : list_any (meets rules.out_dir) (files_of rules witness) ≡ false
+  from_input : list_any (meets_file rules.in_dir) (files_of rules witness) ≡ false
+  from_output : list_any (meets_file rules.out_dir) (files_of rules witness) ≡ false
   files : any_meet (files_of rules witness) ≡ false
 
 dont_meet : (rules : Rules) (witness : List ℕ) → paths_meet rules witness ≡ false → DontMeet rules witness
 unfolding paths_meet
 dont_meet rules witness apart =
-    let first = or_parts (list_any (meets rules.in_dir) (rules.out_dir ∷ files_of rules witness))
-    (any_meet (rules.out_dir ∷ files_of rules witness)) apart in
-    let input = or_parts (meets rules.in_dir rules.out_dir) (list_any (meets rules.in_dir) (files_of rules witness))
-    first.0 in
-    let output = or_parts (list_any (meets rules.out_dir) (files_of rules witness))
+    let first = or_parts (meets rules.in_dir rules.out_dir || list_any (meets_file rules.in_dir) (files_of rules witness))
+    (list_any (meets_file rules.out_dir) (files_of rules witness) || any_meet (files_of rules witness)) apart in
+    let input = or_parts (meets rules.in_dir rules.out_dir)
+    (list_any (meets_file rules.in_dir) (files_of rules witness)) first.0 in
+    let output = or_parts (list_any (meets_file rules.out_dir) (files_of rules witness))
     (any_meet (files_of rules witness)) first.1 in
     record {
       directories = are_apart rules.in_dir rules.out_dir input.0;
@@ -134,8 +135,8 @@ module _ (files : List FileAt) (classes : List Class) (marks : List Bool) (rules
 
   elsewhere : AllByRecursion (IsElsewhere rules.in_dir) texts × AllByRecursion (IsElsewhere rules.out_dir) texts
   elsewhere = (
-    all_elsewhere rules.in_dir texts (ap (list_any (meets rules.in_dir)) are.paths ∙ paths.from_input),
-    all_elsewhere rules.out_dir texts (ap (list_any (meets rules.out_dir)) are.paths ∙ paths.from_output),
+    all_elsewhere rules.in_dir texts (ap (list_any (meets_file rules.in_dir)) are.paths ∙ paths.from_input),
+    all_elsewhere rules.out_dir texts (ap (list_any (meets_file rules.out_dir)) are.paths ∙ paths.from_output),
   )
 
   input : input_due new rules.in_dir ≡ input_due old rules.in_dir
@@ -167,9 +168,9 @@ module _ (files : List FileAt) (classes : List Class) (marks : List Bool) (rules
 
   others_differ : list_any (is_text rules.mapping) (map (λ (f : FileAt). f.path) behind) ≡ false
   others_differ =
-      any_less (meets rules.mapping) (is_text rules.mapping)
-      (λ path none. (are_apart rules.mapping path none).no_text) (map (λ (f : FileAt). f.path) behind)
-      (or_parts (list_any (meets rules.mapping) (map (λ (f : FileAt). f.path) behind))
+      any_less (meets_file rules.mapping) (is_text rules.mapping) (another_file rules.mapping)
+      (map (λ (f : FileAt). f.path) behind)
+      (or_parts (list_any (meets_file rules.mapping) (map (λ (f : FileAt). f.path) behind))
       (any_meet (map (λ (f : FileAt). f.path) behind))
       (ap any_meet (ap (map (λ (f : FileAt). f.path)) (sym are.are) ∙ are.paths) ∙ paths.files)).0
 

@@ -9,7 +9,7 @@ use Rattle.tree_io.specs.Below.{front_of, rest_after}
 use Rattle.tree_io.specs.declared.file_at.FileAt.{FileAt}
 use Rattle.tree_io.proofs.Below.{behind}
 use Rattle.path_text.specs.Path.{is_below}
-use Rattle.keep_rules.specs.Paths.{meets}
+use Rattle.keep_rules.specs.Paths.{is_below_file, meets, meets_file}
 use Rattle.pair_laws.specs.FilesFound.Below.{IsElsewhere}
 
 -- ---- one directory
@@ -107,14 +107,25 @@ are_apart a b h =
     let one = or_parts (is_text a b) (is_below a b) two.0 in
     record { no_text = one.0; not_below = one.1; not_above = two.1 }
 
+-- a path that a file doesn't meet is another one
+pub another_file : (path file : List ℕ) → meets_file path file ≡ false → is_text path file ≡ false
+another_file path file h =
+    let two = or_parts (is_text path file || is_below_file path file) (is_below file path) h in
+    (or_parts (is_text path file) (is_below_file path file) two.0).0
+
+-- a file that a directory doesn't meet doesn't lie below it
+not_below_directory : (directory file : List ℕ) → meets_file directory file ≡ false → is_below file directory ≡ false
+not_below_directory directory file h =
+    (or_parts (is_text directory file || is_below_file directory file) (is_below file directory) h).1
+
 -- files that a directory doesn't meet are elsewhere
 pub all_elsewhere : (directory : List ℕ) (files : List FileAt)
-    → list_any (meets directory) (map (λ (f : FileAt). f.path) files) ≡ false
+    → list_any (meets_file directory) (map (λ (f : FileAt). f.path) files) ≡ false
     → AllByRecursion (IsElsewhere directory) files
 all_elsewhere directory [] none = tt
 all_elsewhere directory (f ∷ files) none =
-    let parts = or_parts (meets directory f.path) (list_any (meets directory) (map (λ (f : FileAt). f.path) files)) none
+    let parts = or_parts (meets_file directory f.path) (list_any (meets_file directory) (map (λ (f : FileAt). f.path) files)) none
     in (
-      is_elsewhere directory f.path (are_apart directory f.path parts.0).not_above,
+      is_elsewhere directory f.path (not_below_directory directory f.path parts.0),
       all_elsewhere directory files parts.1,
     )

@@ -15,7 +15,9 @@ use Rattle.set_shrink.specs.declared.shrunk.ShrunkSet.{ShrunkSet}
 use Rattle.image_laws.specs.TakenSet.TakenSet.{IsTaken}
 use Rattle.type_sound.proofs.Whole.{same_whole}
 use Rattle.removal_laws.proofs.AcceptedSets.Taken.{are_taken}
-use Rattle.pair_checker.specs.Clauses.{Finds}
+use Rattle.attribute_filter.specs.KeptAttributes.{filter_of}
+use Rattle.pair_clauses.specs.Codes.{CodeDiffers}
+use Rattle.pair_checker.specs.Clauses.{Finds, given_names}
 use Rattle.pair_checker.specs.PairOk.{PairOk}
 use Rattle.pair_checker.specs.declared.answer.Clause.{Clause}
 use Rattle.pair_checker.specs.declared.answer.Clause.TheVariants as clause
@@ -33,6 +35,7 @@ use Rattle.pair_laws.proofs.OwnLines.Whole.{own_lines}
 use Rattle.pair_laws.proofs.OwnMapping.Own.{own_mapping_is_read, own_witness_is_read}
 use Rattle.pair_laws.specs.OwnPairs.Laws.{OwnFilesArePaired, OwnIsAccepted, OwnPairs}
 use Rattle.pair_laws.specs.OwnPairs.Written.{AreWritten, no_edit}
+use Rattle.pair_laws.proofs.OwnPairs.NoEdit.{nothing_edited, nothing_illegal}
 use Rattle.pair_laws.proofs.OwnPairs.Left.{are_back, are_built, is_taken, is_typed, named}
 use Rattle.pair_laws.proofs.OwnPairs.Written.{are_read, left_writable}
 
@@ -93,8 +96,9 @@ module _ (files : List FileAt) (classes : List Class) (marks : List Bool) (rules
   none clause.NotClosed = is_pair.closed
   none clause.MemberDiffers = is_pair.members
   none clause.WitnessStray = refl
-  none clause.EditIllegal = refl
-  none clause.CodeDiffers = is_pair.codes
+  none clause.EditIllegal = nothing_illegal classes
+  none clause.CodeDiffers = subst (λ (cs : List Class). CodeDiffers set.mapping (filter_of rules) cs
+      (given_names set.mapping classes) left None) (sym (nothing_edited classes)) is_pair.codes
 
   checked : PairOk classes written set.mapping rules no_edit
   checked = record { output = left; accepted = accepted; none = none }

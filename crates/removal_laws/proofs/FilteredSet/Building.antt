@@ -36,6 +36,8 @@ use Rattle.link_check.specs.Profile.{method_type_kinds, name_kinds, overriding_k
 use Rattle.link_check.specs.declared.fault.ProfileKind.TheVariants.{LeftOutFlag}
 use Rattle.link_check.proofs.Taken.{links_taken}
 use Rattle.class_laws.proofs.Mapped.{all_mapped, pairs_mapped}
+use Rattle.shape_laws.specs.KeepsMembers.{KeepsMembers}
+use Rattle.shape_laws.proofs.Alike as alike
 use Rattle.attribute_filter.specs.Filtered.{field_filtered, filtered, method_filtered}
 use Rattle.attribute_filter.specs.declared.filter.AttributeFilter.{AttributeFilter}
 use Rattle.attribute_filter.proofs.FilteredMembers.{field_good, method_good, source_by}
@@ -43,7 +45,7 @@ use Rattle.image_laws.specs.TakenSet.TakenSet.{IsTaken}
 use Rattle.image_laws.proofs.TakenSet.Proper.{names_right}
 use Rattle.removal_laws.proofs.RemovalLinks.Places.{none_broken}
 use Rattle.removal_laws.specs.FilteredSet.Laws.{FilteringKeepsTaken}
-use Rattle.removal_laws.proofs.FilteredSet.Alike as alike
+use Rattle.removal_laws.proofs.FilteredSet.Keeping.{filtered_keeps}
 use Rattle.removal_laws.proofs.FilteredSet.LinkKinds.{BreaksNone, filtered_breaks_none}
 
 -- what building and the format give of a set
@@ -119,18 +121,21 @@ module _ (filter_by : AttributeFilter) (utf8 : IfSome filter_by.source_name IsUt
           ∙ ap (λ (n : ℕ). 1 + length c.fields + n) (length-map c.methods (method_filtered filter_by))
 
   module _ (a : List Class) where
+    abbrev keeps : KeepsMembers new
+    keeps = filtered_keeps filter_by
+
     abbrev b : List Class
     b = map new a
 
     -- ---- supertypes
 
     super_same : (c : Class) → super_fault b (new c) ≡ super_fault a c
-    super_same c = λ i. cond (is_none (alike.class_named_is filter_by a i c.super_name)
-        || list_any (λ name. is_none (alike.class_named_is filter_by a i name)) c.interfaces) (Some SuperMissing)
-        (cond (option_map_or (λ id. not (is_open_kind (alike.kind_in_is filter_by a i id)))
-        (alike.class_named_is filter_by a i c.super_name) false
-        || list_any (λ name. option_map_or (λ id. not (is_interface_kind (alike.kind_in_is filter_by a i id)))
-        (alike.class_named_is filter_by a i name) false) c.interfaces
+    super_same c = λ i. cond (is_none (alike.class_named_is new keeps a i c.super_name)
+        || list_any (λ name. is_none (alike.class_named_is new keeps a i name)) c.interfaces) (Some SuperMissing)
+        (cond (option_map_or (λ id. not (is_open_kind (alike.kind_in_is new keeps a i id)))
+        (alike.class_named_is new keeps a i c.super_name) false
+        || list_any (λ name. option_map_or (λ id. not (is_interface_kind (alike.kind_in_is new keeps a i id)))
+        (alike.class_named_is new keeps a i name) false) c.interfaces
         || (is_interface c.flags.0 && not (is_text c.super_name (codes "java/lang/Object")))) (Some SuperKind) None)
 
     supers_same : (cs : List Class)
@@ -142,7 +147,7 @@ module _ (filter_by : AttributeFilter) (utf8 : IfSome filter_by.source_name IsUt
         ∙ ap (fault_of c (super_fault a c)) (supers_same cs)
 
     direct_is : direct b ≡ direct a
-    direct_is = λ i x. cons_option (alike.superclass_is filter_by a i x) (alike.interfaces_is filter_by a i x)
+    direct_is = λ i x. cons_option (alike.superclass_is new keeps a i x) (alike.interfaces_is new keeps a i x)
 
     class_there : (x : ClassId) → IsClass b x → IsClass a x
     class_there (Prog n) there = subst (λ (k : ℕ). n < k) (length-map a new) there

@@ -44,55 +44,64 @@ use Rattle.link_check.specs.Profile.{used_kinds, verification_kinds, written_kin
 use Rattle.link_check.specs.Taken.{BreaksNoRule}
 use Rattle.link_check.specs.declared.fault.ProfileKind.{ProfileKind}
 use Rattle.link_check.specs.declared.fault.ProfileKind.TheVariants.{Inaccessible, LeftOutFlag, LeftOutMember, WrongKind}
+use Rattle.shape_laws.specs.KeepsMembers.{KeepsMembers}
+use Rattle.shape_laws.proofs.Alike as alike
 use Rattle.attribute_filter.specs.Filtered.{code_kept, field_filtered, filtered, method_filtered, throws_kept}
 use Rattle.attribute_filter.specs.Filtered.{without_line}
 use Rattle.attribute_filter.specs.Filtered.{without_lines}
 use Rattle.attribute_filter.specs.declared.filter.AttributeFilter.{AttributeFilter}
-use Rattle.removal_laws.proofs.FilteredSet.Alike as alike
+use Rattle.removal_laws.proofs.FilteredSet.Keeping.{filtered_keeps}
+use Rattle.removal_laws.proofs.FilteredSet.Keeping as keeping
 
 module _ (filter_by : AttributeFilter) (a : List Class) where
+  abbrev filters : Class → Class
+  filters = filtered filter_by
+
+  abbrev keeps : KeepsMembers filters
+  keeps = filtered_keeps filter_by
+
   abbrev b : List Class
-  b = alike.b filter_by a
+  b = map filters a
 
   abstract_at : (x : ClassId) → is_abstract_class b x ≡ is_abstract_class a x
-  abstract_at (Prog n) = alike.told filter_by a (λ c. has acc_abstract c.flags.0) false (λ c. refl) n
+  abstract_at (Prog n) = alike.told filters keeps a (λ c. has acc_abstract c.flags.0) false (λ c. refl) n
   abstract_at (Lib id) = refl
 
   class_of_by : (d : ℕ) (ty : Base) (name text : List ℕ) (f : Bool)
       → class_of b (record { class = record { dims = d; base = ty }; name = name; ty = text; of_interface = f })
       ≡ class_of a (record { class = record { dims = d; base = ty }; name = name; ty = text; of_interface = f })
-  class_of_by d (base.Class cn) name text f = λ i. cond (d == 0) (alike.class_named_is filter_by a i cn) None
+  class_of_by d (base.Class cn) name text f = λ i. cond (d == 0) (alike.class_named_is filters keeps a i cn) None
   class_of_by d ty name text f = refl
 
   pub class_of_is : class_of b ≡ class_of a
   class_of_is = λ i r. class_of_by r.class.dims r.class.base r.name r.ty r.of_interface i
 
   static_kinds_is : static_kinds b ≡ static_kinds a
-  static_kinds_is = λ i wanted m. unless (beq (alike.has_flag_is filter_by a i acc_static m) wanted) WrongKind
+  static_kinds_is = λ i wanted m. unless (beq (alike.has_flag_is filters keeps a i acc_static m) wanted) WrongKind
 
   made_kinds_is : made_kinds b ≡ made_kinds a
-  made_kinds_is = λ i x. unless (not (alike.is_interface_in_is filter_by a i x) && not (abstract_at x i)) WrongKind
+  made_kinds_is = λ i x. unless (not (alike.is_interface_in_is filters keeps a i x) && not (abstract_at x i)) WrongKind
 
   overridden_kinds_is : overridden_kinds b ≡ overridden_kinds a
   overridden_kinds_is = λ i m above.
-      cond (not (same_class m.class above.class) && alike.overrides_is filter_by a i m above)
-      (unless (not (alike.has_flag_is filter_by a i acc_final above)) WrongKind
+      cond (not (same_class m.class above.class) && alike.overrides_is filters keeps a i m above)
+      (unless (not (alike.has_flag_is filters keeps a i acc_final above)) WrongKind
       ++ unless (may_be_overridden_role (role_at above)) LeftOutMember) []
 
   methods_of_at : (x : ClassId) → methods_of b x ≡ methods_of a x
   methods_of_at (Lib id) = refl
-  methods_of_at (Prog n) = λ i. filter (alike.is_instance_method_is filter_by a i)
-      (map (λ p. record { class = Prog n; index = p.0 }) (enumerate_from 0 (alike.rows_in_is filter_by a i (Prog n))))
+  methods_of_at (Prog n) = λ i. filter (alike.is_instance_method_is filters keeps a i)
+      (map (λ p. record { class = Prog n; index = p.0 }) (enumerate_from 0 (alike.rows_in_is filters keeps a i (Prog n))))
 
   module _ (n : ℕ) where
     -- ---- names and types
 
     class_kinds_at : (o : Option ClassId) → class_kinds b n o ≡ class_kinds a n o
     class_kinds_at None = refl
-    class_kinds_at (Some x) = λ i. unless (alike.is_class_accessible_is filter_by a i (Prog n) x) Inaccessible
+    class_kinds_at (Some x) = λ i. unless (alike.is_class_accessible_is filters keeps a i (Prog n) x) Inaccessible
 
     pub name_kinds_is : name_kinds b n ≡ name_kinds a n
-    name_kinds_is = λ i name. class_kinds_at (alike.class_named_is filter_by a i name) i
+    name_kinds_is = λ i name. class_kinds_at (alike.class_named_is filters keeps a i name) i
 
     base_kinds_at : (ty : Base) → base_kinds b n ty ≡ base_kinds a n ty
     base_kinds_at (base.Class name) = λ i. name_kinds_is i name
@@ -115,7 +124,7 @@ module _ (filter_by : AttributeFilter) (a : List Class) where
     -- ---- members
 
     written_kinds_is : written_kinds b n ≡ written_kinds a n
-    written_kinds_is = λ i writer method m. unless (not (alike.has_flag_is filter_by a i acc_final m)
+    written_kinds_is = λ i writer method m. unless (not (alike.has_flag_is filters keeps a i acc_final m)
         || (same_class m.class (Prog n) && is_text method writer)) WrongKind
 
     changed_kinds_is : changed_kinds b n ≡ changed_kinds a n
@@ -129,24 +138,24 @@ module _ (filter_by : AttributeFilter) (a : List Class) where
 
     field_kinds_is : field_kinds b n ≡ field_kinds a n
     field_kinds_is = λ i method static written r. field_text_kinds_at (read_field r.ty) i
-        ++ member_kinds (alike.linked_field_is filter_by a i (Prog n) r) (used_kinds_is i method static written)
+        ++ member_kinds (keeping.linked_field_is filter_by a i (Prog n) r) (used_kinds_is i method static written)
 
     call_kinds_is : call_kinds b n ≡ call_kinds a n
     call_kinds_is = λ i static r. method_text_kinds_at (read_method r.ty) i
         ++ unless (not (is_text r.name (codes "<clinit>"))) WrongKind
-        ++ member_kinds (alike.linked_method_is filter_by a i (Prog n) r) (static_kinds_is i static)
+        ++ member_kinds (keeping.linked_method_is filter_by a i (Prog n) r) (static_kinds_is i static)
 
     special_class_kinds_is : special_class_kinds b n ≡ special_class_kinds a n
     special_class_kinds_is = λ i r. option_map_or
         (λ named. cond (is_init r.name)
-        (member_kinds (alike.linked_method_is filter_by a i (Prog n) r)
+        (member_kinds (keeping.linked_method_is filter_by a i (Prog n) r)
         (λ m. unless (same_class m.class named) WrongKind))
-        (unless (alike.is_class_below_is filter_by a i (Prog n) named) WrongKind))
+        (unless (alike.is_class_below_is filters keeps a i (Prog n) named) WrongKind))
         (class_of_is i r) (WrongKind ∷ [])
 
     new_kinds_is : new_kinds b n ≡ new_kinds a n
     new_kinds_is = λ i name. name_kinds_is i name
-        ++ option_map_or (made_kinds_is i) (alike.class_named_is filter_by a i name) []
+        ++ option_map_or (made_kinds_is i) (alike.class_named_is filters keeps a i name) []
 
     -- ---- code
 
@@ -200,17 +209,17 @@ module _ (filter_by : AttributeFilter) (a : List Class) where
 
     overriding_kinds_is : overriding_kinds b n ≡ overriding_kinds a n
     overriding_kinds_is = λ i m. flat_map (overridden_kinds_is i m)
-        (alike.declared_by_is filter_by a i (alike.named_at_is filter_by a i m)
-        (alike.superclasses_from_is filter_by a i (Prog n)))
+        (alike.declared_by_is filters keeps a i (alike.named_at_is filters keeps a i m)
+        (alike.superclasses_from_is filters keeps a i (Prog n)))
 
     selected_kinds_is : selected_kinds b n ≡ selected_kinds a n
     selected_kinds_is = λ i m. option_map_or (λ one. unless (is_callable_role (role_at one)) LeftOutMember)
-        (alike.selected_is filter_by a i (Prog n) m) []
+        (alike.selected_is filters keeps a i (Prog n) m) []
 
     implementing_kinds_is : implementing_kinds b n ≡ implementing_kinds a n
     implementing_kinds_is = λ i c. cond (has acc_abstract c.flags.0) []
         (flat_map (λ x. flat_map (selected_kinds_is i) (methods_of_at x i))
-        (alike.superinterfaces_is filter_by a i (Prog n)))
+        (alike.superinterfaces_is filters keeps a i (Prog n)))
 
     class_kinds_same : (c : Class) → kinds_of_class b n (filtered filter_by c) ≡ kinds_of_class a n c
     class_kinds_same c = λ i. left_out_at c.left_out None ++ unless (not (is_left_out_class c.flags.0)) LeftOutFlag

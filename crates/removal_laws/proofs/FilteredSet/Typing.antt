@@ -33,6 +33,8 @@ use Rattle.link_check.specs.Links.{callable}
 use Rattle.link_check.specs.declared.fault.LinkKind.{LinkKind}
 use Rattle.class_rename.specs.Names.{same_names}
 use Rattle.image_laws.specs.SetImage.Image.{Image, if_kept}
+use Rattle.shape_laws.specs.KeepsMembers.{KeepsMembers}
+use Rattle.shape_laws.proofs.Alike as alike
 use Rattle.attribute_filter.specs.Filtered.{code_kept, filtered, method_filtered, without_lines}
 use Rattle.attribute_filter.specs.declared.filter.AttributeFilter.{AttributeFilter}
 use Rattle.type_verifier.specs.Environment.{Environment}
@@ -45,7 +47,8 @@ use Rattle.image_laws.specs.TypedImage.Named.{IsTypeNamed, IsVTypeNamed}
 use Rattle.image_laws.proofs.TypedImage.Staying.{field_ref_stays, itself, known_stay, lines_stay, method_ref_stays}
 use Rattle.image_laws.proofs.TypedImage.Staying.{method_told_stays, method_type_stays, told_stays}
 use Rattle.image_laws.proofs.TypedImage.Walking.{is_typed}
-use Rattle.removal_laws.proofs.FilteredSet.Alike as alike
+use Rattle.removal_laws.proofs.FilteredSet.Keeping.{filtered_keeps}
+use Rattle.removal_laws.proofs.FilteredSet.Keeping as keeping
 
 -- ---- all is kept
 
@@ -78,8 +81,14 @@ kept None = refl
 kept (Some m) = refl
 
 module _ (filter_by : AttributeFilter) (a : List Class) where
+  abbrev filters : Class → Class
+  filters = filtered filter_by
+
+  abbrev keeps : KeepsMembers filters
+  keeps = filtered_keeps filter_by
+
   abbrev b : List Class
-  b = alike.b filter_by a
+  b = map filters a
 
   declared : (n o : NameAndType) → Some n ≡ Some o → (x : ClassId)
       → declared_in b o x ≡ option_and_then (if_kept (λ m. true) (λ m. m)) (declared_in a n x)
@@ -87,7 +96,7 @@ module _ (filter_by : AttributeFilter) (a : List Class) where
       let same : n ≡ o = cc in
       subst (λ (z : NameAndType). declared_in b z x
       ≡ option_and_then (if_kept (λ m. true) (λ m. m)) (declared_in a n x)) same
-      ((λ i. alike.declared_in_is filter_by a i n x) ∙ kept (declared_in a n x))
+      ((λ i. alike.declared_in_is filters keeps a i n x) ∙ kept (declared_in a n x))
 
   abbrev image : Image a b
   image = record {
@@ -98,23 +107,23 @@ module _ (filter_by : AttributeFilter) (a : List Class) where
     renamed = λ n. Some n;
     same_moved = λ x y k h. refl;
     super_kept = λ x k. some (superclass a x);
-    super_moved = λ x k. (λ i. alike.superclass_is filter_by a i x) ∙ stays (superclass a x);
+    super_moved = λ x k. (λ i. alike.superclass_is filters keeps a i x) ∙ stays (superclass a x);
     interfaces_kept = λ x k. all (interfaces a x);
-    interfaces_moved = λ x k. (λ i. alike.interfaces_is filter_by a i x) ∙ all_stay (interfaces a x);
-    interface_moved = λ x k i. alike.is_interface_in_is filter_by a i x;
-    public_moved = λ x k. alike.is_public_at filter_by a x;
-    package_moved = λ x y k h i. alike.same_package_is filter_by a i x y;
+    interfaces_moved = λ x k. (λ i. alike.interfaces_is filters keeps a i x) ∙ all_stay (interfaces a x);
+    interface_moved = λ x k i. alike.is_interface_in_is filters keeps a i x;
+    public_moved = λ x k. alike.is_public_at filters keeps a x;
+    package_moved = λ x y k h i. alike.same_package_is filters keeps a i x y;
     object_kept = some (class_named a (codes "java/lang/Object"));
-    object_moved = (λ i. alike.class_named_is filter_by a i (codes "java/lang/Object"))
+    object_moved = (λ i. alike.class_named_is filters keeps a i (codes "java/lang/Object"))
         ∙ stays (class_named a (codes "java/lang/Object"));
     class_kept = λ m k. refl;
     class_moved = λ m. refl;
     same_member_moved = λ m n k h. refl;
     declared_moved = λ n o e x k. declared n o e x;
-    flag_moved = λ g m k i. alike.has_flag_is filter_by a i g m;
-    instance_moved = λ m k i. alike.is_instance_method_is filter_by a i m;
-    name_moved = λ m k. sym (λ i. Some (alike.named_at_is filter_by a i m));
-    init_moved = λ m k i. is_init (alike.named_at_is filter_by a i m).0;
+    flag_moved = λ g m k i. alike.has_flag_is filters keeps a i g m;
+    instance_moved = λ m k i. alike.is_instance_method_is filters keeps a i m;
+    name_moved = λ m k. sym (λ i. Some (alike.named_at_is filters keeps a i m));
+    init_moved = λ m k i. is_init (alike.named_at_is filters keeps a i m).0;
   }
 
   -- ---- names
@@ -122,7 +131,7 @@ module _ (filter_by : AttributeFilter) (a : List Class) where
   named : (name : List ℕ) → IsNamed same_names a b image name
   named name = (
     some (class_named a name),
-    (λ i. alike.class_named_is filter_by a i name) ∙ stays (class_named a name),
+    (λ i. alike.class_named_is filters keeps a i name) ∙ stays (class_named a name),
   )
 
   base_named : (ty : Base) → IsBaseNamed same_names a b image ty
@@ -166,9 +175,9 @@ module _ (filter_by : AttributeFilter) (a : List Class) where
     rest = environment b n (filtered filter_by c) k (method_filtered filter_by m) left
 
     guarded_at : (r : Result MemberAt LinkKind) → is_guarded rest r ≡ is_guarded whole r
-    guarded_at (Ok m) = λ i. alike.has_flag_is filter_by a i acc_protected m
-        && not (alike.has_flag_is filter_by a i acc_static m)
-        && not (alike.same_package_is filter_by a i (Prog n) m.class)
+    guarded_at (Ok m) = λ i. alike.has_flag_is filters keeps a i acc_protected m
+        && not (alike.has_flag_is filters keeps a i acc_static m)
+        && not (alike.same_package_is filters keeps a i (Prog n) m.class)
     guarded_at (Err kind) = refl
 
     field_named : (r : MemberRef) → IsFieldNamed same_names whole rest image r
@@ -178,10 +187,10 @@ module _ (filter_by : AttributeFilter) (a : List Class) where
       told = ap (λ (s : MemberRef). told_type (read_field s.ty)) (field_ref_stays r)
           ∙ told_stays (told_type (read_field r.ty));
       guarded = ap (is_guarded_field rest) (field_ref_stays r)
-          ∙ (λ i. guarded_at (callable_at (Prog n) (alike.linked_field_is filter_by a i (Prog n) r) i) i);
+          ∙ (λ i. guarded_at (callable_at (Prog n) (keeping.linked_field_is filter_by a i (Prog n) r) i) i);
       early = ap (is_early_field rest) (field_ref_stays r)
           ∙ (λ i. is_init m.name && is_class_type c.name r.class
-          && is_some (alike.declared_at_at filter_by a (Prog n) r.name r.ty i));
+          && is_some (alike.declared_at_at filters keeps a (Prog n) r.name r.ty i));
     }
 
     method_named : (r : MemberRef) → IsMethodNamed same_names whole rest image r
@@ -191,7 +200,7 @@ module _ (filter_by : AttributeFilter) (a : List Class) where
       told = ap (λ (s : MemberRef). told_type (read_method s.ty)) (method_ref_stays r)
           ∙ method_told_stays (told_type (read_method r.ty));
       guarded = ap (is_guarded_method rest) (method_ref_stays r)
-          ∙ (λ i. guarded_at (callable_at (Prog n) (alike.linked_method_is filter_by a i (Prog n) r) i) i);
+          ∙ (λ i. guarded_at (callable_at (Prog n) (keeping.linked_method_is filter_by a i (Prog n) r) i) i);
       constructor = refl;
     }
 

@@ -16,3 +16,6 @@ returns-clause-judged c =
     then_makes (IsSet c.args.rules.now.in_dir c.args.directories.input)
     (FollowsSet c.args.rules.now c.args.texts.now c.args.directories.output) c.in_ok-set.set c.judge_set.result
     c.in_ok-set.ensures.made c.judge_set.ensures.judged
+
+pub judge_set-requires-clause-accepted : goal.judge_set-requires-clause-accepted
+judge_set-requires-clause-accepted c = (c.args.directories.input, c.in_ok-set.ensures.made)

@@ -12,7 +12,7 @@ loop-preserved g c =
     let t = c.args.table.now in
     let start = view c.args.member.now.seat in
     let i = c.loop.invariant in
-    elim c.match-find_task.branch [
+    elim c.match-find.branch [
       | in-Some+then-id-sys w ↦ subst (λ (m : Member). Ready t m × SameSeats start (view m.seat)) (sym w.member-is)
           (w.try_item.ensures.ready, (w.try_item.ensures.seats.0 ∙ i.1.0, w.try_item.ensures.seats.1 ∙ i.1.1))
       | in-Some+else-id-sys w ↦ subst (λ (m : Member). Ready t m × SameSeats start (view m.seat)) (sym w.member-is) i

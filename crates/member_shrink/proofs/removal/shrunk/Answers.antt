@@ -12,7 +12,7 @@ loop-class-init c =
     ≡ c.args.classes = c.into_iter-class-iterator.ensures.into_iter_gives.0 ∙ c.into_vec-class-items.ensures in
     record {
       kept = rw c.new-kept.ensures (rw all (sym (left_all c.as_slice-marks.result.now c.args.classes)));
-      left = rw all (omega (arith, ap length c.as_slice-marks.ensures, c.requires));
+      left = rw all (omega (arith, ap length (c.as_slice-marks.ensures ∙ c.marks.ensures), c.requires));
     }
 
 pub loop-class-preserved : goal.loop-class-preserved

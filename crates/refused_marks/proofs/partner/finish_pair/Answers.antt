@@ -1,9 +1,6 @@
-use Rattle.std.proofs.Common.{List, [], ◌∷◌, refl, subst, sym, ◌∙◌}
-use Rattle.std.specs.List.{All, Contains}
+use Rattle.std.proofs.Common.{subst, sym, ◌∙◌}
+use Rattle.std.specs.List.{Contains}
 use Rattle.std.proofs.lemmas.List.Elements.{Contains-push}
-use Rattle.mark_core.specs.declared.system.Pair.{Pair}
-use Rattle.mark_machine.specs.Machine.{PairSeen}
-use Rattle.mark_machine.specs.declared.machine.View.{View}
 use Rattle.mark_words.specs.Seats.{view, system_of}
 use Rattle.mark_workers.specs.Work.{Did}
 use Rattle.mark_workers.proofs.Kept.{did_all}

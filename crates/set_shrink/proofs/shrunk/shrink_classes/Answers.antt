@@ -10,14 +10,14 @@ use Rattle.set_shrink.proofs.shrunk.shrink_classes.Goals as goal
 pub counts_of-counts-requires : goal.counts_of-counts-requires
 counts_of-counts-requires c = record {
   few =
-      let few = shrunk_few c.args.classes c.args.marks.now in
+      let few = shrunk_few c.args.classes c.args.marked.now in
       let kept = ap item_count (c.as_slice-2.ensures ∙ c.in_ok-kept.ensures) in
       omega (arith, few, kept, c.requires.few);
 }
 
 pub written_named-requires : goal.written_named-requires
 written_named-requires c = record {
-  writable = named_writable c.args.classes c.args.marks.now c.args.rules.now (names_in c.in_ok-names.names)
+  writable = named_writable c.args.classes c.args.marked.now c.args.rules.now (names_in c.in_ok-names.names)
       c.in_ok-kept.kept c.in_ok-kept.ensures
       (c.in_ok-names.ensures c.args.rules.now c.args.classes c.requires.fixed) c.requires.writable;
 }
@@ -27,14 +27,14 @@ returns-in_err-written c =
     let p = err_from_is_err_and c.from_residual-in_err-written.result c.from_residual-in_err-written.ensures.1 in
     record {
       exact = rw (p.1, p.2)
-          (named_stops c.args.classes c.args.marks.now c.args.rules.now (names_in c.in_ok-names.names) c.in_ok-kept.kept
+          (named_stops c.args.classes c.args.marked.now c.args.rules.now (names_in c.in_ok-names.names) c.in_ok-kept.kept
           c.in_ok-kept.ensures (c.in_ok-names.ensures c.args.rules.now c.args.classes c.requires.fixed)
           c.in_err-written.field-0.0 c.in_err-written.ensures.exact);
     }
 
 pub returns : goal.returns
 returns c = record {
-  exact = named_shrunk c.args.classes c.args.marks.now c.args.rules.now (names_in c.in_ok-names.names)
+  exact = named_shrunk c.args.classes c.args.marked.now c.args.rules.now (names_in c.in_ok-names.names)
       c.in_ok-kept.kept c.in_ok-kept.ensures
       (c.in_ok-names.ensures c.args.rules.now c.args.classes c.requires.fixed) c.in_ok-written.written
       c.counts_of-read.result c.counts_of-counts.result c.in_ok-written.ensures.exact

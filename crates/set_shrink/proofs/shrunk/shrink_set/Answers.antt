@@ -7,5 +7,5 @@ use Rattle.set_shrink.proofs.shrunk.shrink_set.Goals as goal
 
 pub shrink_classes-requires-clause-writable : goal.shrink_classes-requires-clause-writable
 shrink_classes-requires-clause-writable c =
-    subst (λ (cs : List Class). AllByRecursion IsWritable (renamed_of cs c.args.marks.now c.args.rules.now))
+    subst (λ (cs : List Class). AllByRecursion IsWritable (renamed_of cs c.args.marked.now c.args.rules.now))
     (sym c.into_classes-classes.ensures) c.requires.writable

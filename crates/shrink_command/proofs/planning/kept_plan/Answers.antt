@@ -11,22 +11,22 @@ use Rattle.shrink_command.proofs.planning.kept_plan.Goals as goal
 
 pub shrink_set-requires-clause-writable : goal.shrink_set-requires-clause-writable
 shrink_set-requires-clause-writable c =
-    c.kept_can_be_written.ensures c.args.set c.args.rules.now c.args.marks.now c.requires.linked
-    (kept_closed c.args.rules.now c.args.set c.args.marks.now c.requires.kept) c.requires.writable
+    c.kept_can_be_written.ensures c.args.set c.args.rules.now c.args.marked.now c.requires.linked
+    (kept_closed c.args.rules.now c.args.set c.args.marked.now c.requires.kept) c.requires.writable
 
 pub returns-in-Ok : goal.returns-in-Ok
 returns-in-Ok c =
-    then_makes (IsWritten c.args.rules.now c.args.set c.args.marks.now)
+    then_makes (IsWritten c.args.rules.now c.args.set c.args.marked.now)
     (λ (shrunk : ShrunkSet). Joins shrunk
-    (texts_due shrunk.mapping c.args.set c.args.marks.now c.args.rules.now c.args.witness.now))
+    (texts_due shrunk.mapping c.args.set c.args.marked.now c.args.rules.now c.args.witness.now))
     c.in-Ok.shrunk c.joined.result c.in-Ok.ensures.exact
-    (c.joined.ensures (lists_due c.args.set c.args.marks.now c.args.rules.now) c.lists_of-lists.ensures)
+    (c.joined.ensures (lists_due c.args.set c.args.marked.now c.args.rules.now) c.lists_of-lists.ensures)
 
 pub lists_of-lists-requires : goal.lists_of-lists-requires
-lists_of-lists-requires c = kept_count c.args.rules.now c.args.set c.args.marks.now c.requires.kept
+lists_of-lists-requires c = kept_count c.args.rules.now c.args.set c.args.marked.now c.requires.kept
 
 pub shrink_set-requires-clause-marks : goal.shrink_set-requires-clause-marks
-shrink_set-requires-clause-marks c = kept_count c.args.rules.now c.args.set c.args.marks.now c.requires.kept
+shrink_set-requires-clause-marks c = kept_count c.args.rules.now c.args.set c.args.marked.now c.requires.kept
 
 pub returns-in-Err-Fault : goal.returns-in-Err-Fault
 returns-in-Err-Fault c =

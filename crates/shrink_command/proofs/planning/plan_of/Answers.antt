@@ -6,16 +6,16 @@ use Rattle.shrink_command.proofs.Planned.{linked_set}
 use Rattle.shrink_command.proofs.planning.plan_of.Goals as goal
 
 pub set_plan-requires-clause-linked : goal.set_plan-requires-clause-linked
-set_plan-requires-clause-linked c =
-    linked_set c.args.inputs c.in_ok-set.set c.requires.ascending c.in_ok-set.ensures.made
+set_plan-requires-clause-linked g c =
+    linked_set c.args.inputs c.in_ok-set.set c.requires.files.ascending c.in_ok-set.ensures.made
 
 pub returns-in_err-set : goal.returns-in_err-set
-returns-in_err-set c =
+returns-in_err-set g c =
     let p = err_from_is_err_and c.from_residual.result c.from_residual.ensures.1 in
     rw (p.1, p.2) (makes_stops (IsSet c.args.rules.now.in_dir c.args.inputs)
     (IsPlanned c.args.rules.now c.args.witness.now) c.in_err-set.field-0.0 c.in_err-set.ensures.made)
 
 pub returns : goal.returns
-returns c =
+returns g c =
     then_makes (IsSet c.args.rules.now.in_dir c.args.inputs) (IsPlanned c.args.rules.now c.args.witness.now)
     c.in_ok-set.set c.set_plan.result c.in_ok-set.ensures.made c.set_plan.ensures

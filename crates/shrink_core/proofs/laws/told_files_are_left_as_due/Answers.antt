@@ -1,8 +1,10 @@
 use Rattle.check_command.specs.Due as check
 use Rattle.command_frame.proofs.LeftFiles.{leaves_told}
+use Rattle.gen_command.specs.Due as generation
 use Rattle.retrace_command.specs.Due as retrace
+use Rattle.why_command.specs.Due as why
 use Rattle.shrink_core.specs.Checked.{IsOk}
-use Rattle.shrink_core.specs.Commands.{IsAny, IsText, PairIsDue}
+use Rattle.shrink_core.specs.Commands.{IsAny, IsGenerated, IsText, PairIsDue}
 use Rattle.shrink_core.proofs.laws.told_files_are_left_as_due.Goals as goal
 
 pub returns-clause-shrink : goal.returns-clause-shrink
@@ -13,3 +15,9 @@ returns-clause-check c = λ named. leaves_told IsOk (check.IsDue named)
 
 pub returns-clause-retrace : goal.returns-clause-retrace
 returns-clause-retrace c = λ named. leaves_told IsText (retrace.IsDue named)
+
+pub returns-clause-generation : goal.returns-clause-generation
+returns-clause-generation c = λ named. leaves_told (IsGenerated named) (generation.IsDue named)
+
+pub returns-clause-why : goal.returns-clause-why
+returns-clause-why c = λ named. leaves_told IsText (why.IsDue named)

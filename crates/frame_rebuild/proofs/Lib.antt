@@ -1,0 +1,4 @@
+mod Fronts
+mod Same
+mod Telling
+mod Rows

@@ -1,0 +1,5 @@
+pub mod Finding
+pub mod Keyed
+pub mod StepByStep
+pub mod Naming
+pub mod Straying

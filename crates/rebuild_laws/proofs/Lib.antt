@@ -1,0 +1,6 @@
+mod Types
+mod Ordered
+mod Standing
+mod News
+pub mod Kept
+pub mod Naming

@@ -1,0 +1,12 @@
+use Rattle.std.proofs.Common.{List, subst}
+use Rattle.jv_base.specs.Outcome.{IsDue}
+use Rattle.class_model.specs.declared.class.Class.{Class}
+use Rattle.type_verifier.specs.Verified.{environment}
+use Rattle.type_verifier.specs.bodies.Walked.{code_checked}
+use Rattle.type_verifier.proofs.checker.check_by_steps.Goals as goal
+
+pub returns : goal.returns
+returns c =
+    subst (λ (cs : List Class). IsDue c.check_one.result (code_checked
+    (environment cs c.args.own c.args.class.now c.args.number c.args.method.now c.args.code.now)))
+    c.with-hierarchy.ensures c.check_one.ensures

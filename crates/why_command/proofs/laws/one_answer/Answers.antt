@@ -1,0 +1,5 @@
+use Rattle.why_command.proofs.OneDue.{one_due}
+use Rattle.why_command.proofs.laws.one_answer.Goals as goal
+
+pub returns : goal.returns
+returns c = one_due
