@@ -11,7 +11,7 @@ sys.path.insert(0, os.path.join(os.path.dirname(os.path.abspath(__file__)), '..'
 from assembler import File, Method, PUBLIC, body, init
 
 CONFIG = ('-injars in\n-outjars out\n-printmapping map.txt\n-printseeds seeds.txt\n-printusage use.txt\n'
-          '-keep class %s { %s; }\n')
+          '-keep class %s { %s; }\n-dontoptimize\n')
 
 
 def void(name, flags=0, code=()):

@@ -482,7 +482,7 @@ def read_acts(text):
 
 
 def answer(words):
-    """The acts that are found; or whether acts are legal, and give the code of another class file."""
+    """The acts that are found; or whether acts are legal, and give the code of another class file, or that with its frames."""
     kind, index = words[1].lower(), int(words[2])
     if words[0] == 'pass':
         return found(kind, read_body(words[3], index))
@@ -490,14 +490,15 @@ def answer(words):
     if not are_legal(kind, acts, body):
         return 'bad'
     after, told = applied(kind, acts, body), read_body(words[5], index)
-    return 'ok' if (after.ins, after.handlers, after.lines) == (told.ins, told.handlers, told.lines) else 'other'
+    frames = after.frames if words[0] == 'carry' else {}
+    return 'ok' if (after.ins, after.handlers, after.lines, frames) == (told.ins, told.handlers, told.lines, told.frames) else 'other'
 
 
 def main():
     folder, counts, wrong = Path(__file__).resolve().parent.parent / 'crates/class_vectors', {}, 0
     for row, right in zip((folder / 'stdin').read_text().splitlines(), (folder / 'stdout').read_text().splitlines()):
         words = row.split(' ')
-        if words[0] in ('pass', 'legal'):
+        if words[0] in ('pass', 'legal', 'carry'):
             counts[words[0]] = counts.get(words[0], 0) + 1
             if answer(words) != (read_acts(right) if words[0] == 'pass' else right.split(' ')[0]):
                 wrong += 1

@@ -138,9 +138,9 @@ class Writer:
         return ' '.join(lines) + ' note(WORDS[count & 1]); } }'
 
 
-def program(rng, top):
-    """The sources of one program by their paths."""
-    writer, files = Writer(rng, top), {}
+def program(rng, top, of=Writer):
+    """The sources of one program by their paths, its bodies by a writer."""
+    writer, files = of(rng, top), {}
     faces = [f'{top}.{place}.I{k}' for k, place in enumerate('xy')]
     for name in faces:
         package, _, short = name.rpartition('.')
@@ -158,10 +158,10 @@ def program(rng, top):
     return files
 
 
-def write(seed, count, top):
+def write(seed, count, top, of=Writer):
     rng, paths = random.Random(seed), []
     for k in range(count):
-        for name, text in program(rng, f'r{k}').items():
+        for name, text in program(rng, f'r{k}', of).items():
             path = os.path.join(top, name.replace('.', '/') + '.java')
             os.makedirs(os.path.dirname(path), exist_ok=True)
             with open(path, 'w') as out:

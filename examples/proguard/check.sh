@@ -1,6 +1,6 @@
 #!/bin/sh
 # examples/proguard/check.sh CONFIG [PROGRAM]: shrinks by CONFIG, has ProGuard shrink the same input under the same new
-# names, and checks ProGuard's output. PROGRAM is bin/cixorradde, or what is given. It prints what check says, and ends
+# names, both without optimisation, and checks ProGuard's output. PROGRAM is bin/cixorradde, or what is given. It prints what check says, and ends
 # with its status; 70 where ProGuard or a JDK isn't there. Call it in the folder from which CONFIG's paths are taken.
 #
 # It works in a new folder, which it names: ours/ is what the program wrote, theirs/ what ProGuard wrote.
@@ -24,7 +24,11 @@ awk '/^[ \t]*-(injars|outjars|printmapping|printseeds|printusage|libraryjars|ver
 input=$(awk '$1 == "-injars" { print $2; exit }' "$config")
 [ -d "$input" ] || fail "-injars of $config names no directory here: $input"
 
-{ printf -- '-injars %s\n-outjars %s/ours\n-printmapping %s/map.txt\n' "$input" "$room" "$room"; cat "$room/rules.pro"; } >"$room/ours.pro"
+{
+    printf -- '-injars %s\n-outjars %s/ours\n-printmapping %s/map.txt\n' "$input" "$room" "$room"
+    printf -- '-dontoptimize\n'
+    cat "$room/rules.pro"
+} >"$room/ours.pro"
 "$program" shrink "$room/ours.pro" "$room/wit.txt" >&2 || exit
 
 # The classes of the library as ProGuard 6 reads them: those of the JDK, of which only the version is told anew.

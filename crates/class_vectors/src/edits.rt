@@ -2,11 +2,13 @@
 ghost use Rattle.std.specs.Prelude.{◌<◌, ◌≡◌, ◌-◌, IfOk, IfSome, length};
 ghost use Rattle.class_model.specs.WellFormed.{IsGoodCode, IsWellFormed};
 ghost use Rattle.code_edit.specs.Flow.{goes_elsewhere, of_ins};
+ghost use Rattle.code_edit.specs.Legal.{AreRightActs};
 ghost use Rattle.code_edit.specs.SoundCode.{IsSound};
 
 use crate::acts::{acts_of, acts_text, number_of, pass_of};
+use crate::codes::is_code_of;
 use crate::lines::bytes_of;
-use class_model::{Class, Code, Handler, Ins, same_op};
+use class_model::{Class, Code};
 use class_read::read_class;
 use class_write::spelled_classes_can_be_written;
 use code_edit::{Pass, PassEdits};
@@ -15,14 +17,16 @@ use edit_check::apply;
 use edit_legal::legal;
 use edit_passes::{jumps_edits, reach_edits, slots_edits};
 use edit_tables::flow::goes_elsewhere;
-use jv_base::{Items, M, Or, OutOfMemory, Text};
+use frame_rebuild::rebuild;
+use jv_base::{M, Or, OutOfMemory, Text};
 use line_answers::{first_word, unescaped};
 use std::alloc::Global;
 
 /// `legal PASS INDEX ACTS FILE`, or the same with the class file after the acts: `ok` where the
 /// acts are legal and the code of the method after them is that of the other file, `other` where it
-/// isn't, `bad K` where the act of the number K is the first that isn't legal. `pass PASS INDEX
-/// FILE`: the acts that the pass finds. None where a line has another form.
+/// isn't, `bad K` where the act of the number K is the first that isn't legal. `carry` is the same of
+/// the code with its frames. `pass PASS INDEX FILE`: the acts that the pass finds. None where a line
+/// has another form.
 pub fn edit_answer(alloc: Global, line: &[u8]) -> M<Option<Text>> {
     let (word, rest) = first_word(line);
     let (pass, rest) = first_word(rest);
@@ -31,13 +35,29 @@ pub fn edit_answer(alloc: Global, line: &[u8]) -> M<Option<Text>> {
         return Ok(None);
     };
     match word {
-        b"legal" => judged_row(alloc, pass, index as usize, rest),
+        b"legal" => judged_row(alloc, Asked::Code, pass, index as usize, rest),
+        b"carry" => judged_row(alloc, Asked::Frames, pass, index as usize, rest),
         b"pass" => found_row(alloc, pass, index as usize, rest),
         _ => Ok(None),
     }
 }
 
-fn judged_row(alloc: Global, pass: Pass, index: usize, rest: &[u8]) -> M<Option<Text>> {
+/// What of a method after acts is looked at.
+#[derive(Clone, Copy)]
+enum Asked {
+    /// Its code without frames.
+    Code,
+    /// Its code with the frames that were carried.
+    Frames,
+}
+
+fn judged_row(
+    alloc: Global,
+    asked: Asked,
+    pass: Pass,
+    index: usize,
+    rest: &[u8],
+) -> M<Option<Text>> {
     let (acts, rest) = first_word(rest);
     let (file, after) = first_word(rest);
     let Some(acts) = unescaped(alloc, acts)? else {
@@ -52,6 +72,7 @@ fn judged_row(alloc: Global, pass: Pass, index: usize, rest: &[u8]) -> M<Option<
     let after = class_of(alloc, after)?;
     judged(
         alloc,
+        asked,
         &class,
         index,
         &PassEdits { pass, acts },
@@ -61,6 +82,7 @@ fn judged_row(alloc: Global, pass: Pass, index: usize, rest: &[u8]) -> M<Option<
 
 fn judged(
     alloc: Global,
+    asked: Asked,
     class: &Class,
     index: usize,
     edits: &PassEdits,
@@ -73,9 +95,9 @@ fn judged(
     };
     match legal(alloc, code, edits) {
         Ok(()) => {
-            let edited = apply(alloc, code, edits)?;
+            let edited = after_acts(alloc, asked, code, edits)?;
             let is_same = match after {
-                Some(class) => is_code_of(&edited, class, index),
+                Some(class) => is_code_of(alloc, &edited, class, index)?,
                 None => false,
             };
             Ok(Some(Text::from_str(alloc, if is_same { "ok" } else { "other" })?))
@@ -85,6 +107,19 @@ fn judged(
             Ok(Some(Text::from_string(alloc, format!(in alloc; "bad {index}")?)?))
         }
         Err(Or::OutOfMemory) => Err(OutOfMemory),
+    }
+}
+
+/// The code after the acts of a step.
+fn after_acts(alloc: Global, asked: Asked, code: &Code, edits: &PassEdits) -> M<Code>
+    requires few { length code.now.ins < 4294967295 }
+    requires good { IsGoodCode code.now }
+    requires sound { IsSound code.now }
+    requires right { AreRightActs edits.now.pass edits.now.acts code.now }
+{
+    match asked {
+        Asked::Code => apply(alloc, code, edits),
+        Asked::Frames => rebuild(alloc, code, edits),
     }
 }
 
@@ -150,9 +185,10 @@ fn class_of(alloc: Global, field: &[u8]) -> M<Option<Class>>
 }
 
 /// The code of a method, where it is sound.
-#[tactic(auto, using(crate::proofs::Sound::code_is_sound))]
+#[tactic(auto, using(crate::proofs::Sound::code_is_good, crate::proofs::Sound::code_is_sound))]
 fn sound_code(class: &Class, index: usize) -> Option<&Code>
     requires { IsWellFormed class.now }
+    ensures good { IfSome result (λ code. IsGoodCode code.now) }
     ensures sound { IfSome result (λ code. IsSound code.now) }
     ensures few { IfSome result (λ code. length code.now.ins < 4294967295) }
 {
@@ -175,52 +211,4 @@ fn ends(code: &Code) -> bool
         Some(ins) => goes_elsewhere(&ins.op),
         None => false,
     }
-}
-
-// ---- codes
-
-fn is_code_of(code: &Code, class: &Class, index: usize) -> bool {
-    match class.methods.get(index) {
-        Some(method) => match &method.code {
-            Some(other) => is_same(code, other),
-            None => false,
-        },
-        None => false,
-    }
-}
-
-fn is_same(code: &Code, other: &Code) -> bool {
-    code.max_stack == other.max_stack
-        && code.max_locals == other.max_locals
-        && are_same_ins(&code.ins, &other.ins)
-        && are_same_handlers(&code.handlers, &other.handlers)
-        && code.frames.is_empty()
-        && other.frames.is_empty()
-}
-
-fn are_same_ins(ins: &Items<Ins>, others: &Items<Ins>) -> bool {
-    ins.len() == others.len()
-        && ins.as_slice().iter().zip(others.as_slice()).all(|(ins, other)| same_op(
-            &ins.op, &other.op,
-        ) && ins.line == other.line)
-}
-
-fn are_same_handlers(handlers: &Items<Handler>, others: &Items<Handler>) -> bool {
-    handlers.len() == others.len()
-        && handlers
-            .as_slice()
-            .iter()
-            .zip(others.as_slice())
-            .all(|(handler, other)| is_same_handler(handler, other))
-}
-
-fn is_same_handler(handler: &Handler, other: &Handler) -> bool {
-    handler.from == other.from
-        && handler.to == other.to
-        && handler.entry == other.entry
-        && match (&handler.caught, &other.caught) {
-            (Some(name), Some(other)) => name == other,
-            (None, None) => true,
-            _ => false,
-        }
 }

@@ -7,6 +7,7 @@
 
 mod acts;
 mod answer;
+mod codes;
 mod cuts;
 mod edits;
 mod kinds;

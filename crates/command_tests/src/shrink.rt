@@ -19,11 +19,28 @@ const FAR_FRONT: &[u8] = b"\xCA\xFE\xBA\xBE\0\0\0\x34\0\x09\
 // The rest of it from the target on, with frames behind the goto_w and at the target.
 const FAR_REST: &[u8] = b"\x03\xAC\0\0\0\x01\0\x08\0\0\0\x06\0\x02\x05\xFB\x7F\xFC\0\0";
 
+// `Main` with `static int f(int)` alone, up to two branches, by which control comes to each of its places.
+const LED_FRONT: &[u8] = b"\xCA\xFE\xBA\xBE\0\0\0\x34\0\x09\
+\x01\0\x04Main\x07\0\x01\x01\0\x10java/lang/Object\x07\0\x03\x01\0\x01f\x01\0\x04(I)I\x01\0\x04Code\
+\x01\0\x0DStackMapTable\
+\0\x21\0\x02\0\x04\0\0\0\0\0\x01\
+\0\x09\0\x05\0\x06\0\x01\0\x07\0\0\x9C\x6A\0\x01\0\x01\0\0\x9C\x4F\x1A\x99\x4E\x29\x1A\x9D\x4E\x28";
+
+// Behind 20,000 bytes a return, and the goto to which the first branch leads, over 20,003 bytes.
+const LED_MIDDLE: &[u8] = b"\x04\xAC\xA7\x4E\x23";
+
+// The rest of it from the goto's target on, with frames at the goto, behind it and at its target.
+const LED_REST: &[u8] = b"\x05\xAC\0\0\0\x01\0\x08\0\0\0\x09\0\x03\xFB\x4E\x2A\x02\xFB\x4E\x1F\0\0";
+
 // ---- configs
 
 // The config that keeps `f(int)` of `Main`.
 const KEEP_F: &[u8] = b"-injars in\n-outjars out/\n-printmapping map.txt\n\
 -keep class Main { static int f(int); }\n";
+
+// The same, with the codes as they are.
+const KEEP_F_AS_IT_IS: &[u8] = b"-injars in\n-outjars out/\n-printmapping map.txt\n\
+-keep class Main { static int f(int); }\n-dontoptimize\n";
 
 // The config that keeps a method that `Main` doesn't have, and `g(int)`.
 const KEEP_G: &[u8] = b"-injars in/\n-outjars out\n-printmapping map.txt\n\
@@ -173,12 +190,17 @@ fn far_branch(alloc: Global) -> M<Vec<u8>> {
     Ok(bytes)
 }
 
-// What isn't kept may be of any length.
+// What isn't kept may be of any length, and so may what control doesn't reach.
 #[test]
 fn what_is_kept_has_to_fit_into_a_class_file(rt: HostRuntime) -> Result<(), Fail> {
     let alloc = rt.alloc();
     for (config, status, said) in [
-        (KEEP_F, 6, "error 6 limit branch 32767\n"),
+        (KEEP_F_AS_IT_IS, 6, "error 6 limit branch 32767\n"),
+        (
+            KEEP_F,
+            0,
+            "classes 1 1\nfields 0 0\nmethods 1 1\nedited 1\nfallback 0\n",
+        ),
         (
             KEEP_G,
             0,
@@ -187,6 +209,35 @@ fn what_is_kept_has_to_fit_into_a_class_file(rt: HostRuntime) -> Result<(), Fail
     ] {
         let rows = [(CONFIG, config)];
         let bytes = far_branch(alloc)?;
+        expect_with(&rt, alloc, &rows, "in/Main.class", bytes, status, said)?;
+    }
+    Ok(())
+}
+
+// `Main` with a `static int f(int)` whose first branch leads to a goto, from which it is far to the goto's target.
+fn led_branch(alloc: Global) -> M<Vec<u8>> {
+    let mut bytes = LED_FRONT.to_vec(alloc)?;
+    bytes.extend_from_slice(&vec![in alloc; 0u8; 20_000]?)?;
+    bytes.extend_from_slice(LED_MIDDLE)?;
+    bytes.extend_from_slice(&vec![in alloc; 0u8; 20_000]?)?;
+    bytes.extend_from_slice(LED_REST)?;
+    Ok(bytes)
+}
+
+// A branch that is led on may come to lead too far.
+#[test]
+fn edited_branches_have_to_fit_into_a_class_file(rt: HostRuntime) -> Result<(), Fail> {
+    let alloc = rt.alloc();
+    for (config, status, said) in [
+        (KEEP_F, 6, "error 6 limit branch 32767\n"),
+        (
+            KEEP_F_AS_IT_IS,
+            0,
+            "classes 1 1\nfields 0 0\nmethods 1 1\nedited 0\nfallback 0\n",
+        ),
+    ] {
+        let rows = [(CONFIG, config)];
+        let bytes = led_branch(alloc)?;
         expect_with(&rt, alloc, &rows, "in/Main.class", bytes, status, said)?;
     }
     Ok(())

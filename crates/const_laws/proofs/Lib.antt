@@ -1,4 +1,4 @@
 pub mod Own
 pub mod Once
-mod Fixed
-mod Reached
+pub mod Fixed
+pub mod Reached

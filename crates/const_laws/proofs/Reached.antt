@@ -52,7 +52,7 @@ below a b e = by (leb_tells a b)
     by (inr q) = absurd (let x : true ≡ false = sym e ∙ q.0 in cc)
 
 module _ (code : Code) (set : ℕ → Bool) (holds : HoldsReached code set) where
-  in_set : (at : ℕ) → IsReached code at → IsTrue (set at)
+  pub in_set : (at : ℕ) → IsReached code at → IsTrue (set at)
   in_set at (first e) = subst (λ n. IsTrue (set n)) (sym e) holds.first
   in_set at (led_to from k i r here e) =
       holds.next from at (slice_get_within code.ins from i here) (in_set from r)

@@ -1,7 +1,7 @@
 mod Acting
 mod FoundConst
 mod FoundJumps
-mod FoundLegal
+pub mod FoundLegal
 mod FoundReach
 mod FoundSlots
 pub mod Named

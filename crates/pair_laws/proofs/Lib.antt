@@ -16,3 +16,4 @@ pub mod OwnMapping
 pub mod OwnChecked
 pub mod SwappedPairs
 pub mod EditedPairs
+pub mod OptimisedPairs

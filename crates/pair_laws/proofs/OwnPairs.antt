@@ -3,4 +3,3 @@ pub mod Written
 pub mod Own
 pub mod Found
 pub mod WordTexts
-pub mod NoEdit

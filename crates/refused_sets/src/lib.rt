@@ -9,7 +9,7 @@ mod types;
 mod wanted;
 
 pub use classes::{read_class, write_class};
-pub use files::shrink_set;
+pub use files::shrink_classes;
 pub use left::shrunk;
 pub use links::{check_links, resolve_method};
 pub use types::{assignable, verify_method};

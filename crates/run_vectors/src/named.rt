@@ -1,4 +1,4 @@
-// What a run wrote: the mapping and the class files.
+// What a run wrote: the mapping and the class files, and of one with passes what it said and the witness too.
 use crate::kept::refusal_answer;
 use crate::running::{Ran, run_row};
 use jv_base::{Bytes, Items, M, OutOfMemory, Text};
@@ -20,9 +20,37 @@ pub fn answer<Rt: Threads + Sync>(rt: &Rt, alloc: Global, row: &[u8]) -> M<Optio
     }
 }
 
-fn done_answer(alloc: Global, ran: &mut Ran) -> M<Option<Text>> {
+/// `ok`, what was said, the witness, and what `answer` tells; or what was said where the status isn't 0.
+pub fn optimised_answer<Rt: Threads + Sync>(rt: &Rt, alloc: Global, row: &[u8]) -> M<Option<Text>> {
+    let Some(mut ran) = run_row(rt, alloc, row, "")? else {
+        return Ok(None);
+    };
+    if ran.status == 0 {
+        told_answer(alloc, &mut ran)
+    } else {
+        refusal_answer(alloc, ran.out.written())
+    }
+}
+
+fn told_answer(alloc: Global, ran: &mut Ran) -> M<Option<Text>> {
     let mut line = String::from_str(alloc, "ok ")?;
-    if !push_mapping(alloc, &mut line, &ran.tree)? {
+    push_escaped(&mut line, ran.out.written())?;
+    line.push_str(" ")?;
+    if !push_text(alloc, &mut line, &ran.tree, "wit.txt")? {
+        return Ok(None);
+    }
+    line.push_str(" ")?;
+    files_answer(alloc, line, ran)
+}
+
+fn done_answer(alloc: Global, ran: &mut Ran) -> M<Option<Text>> {
+    files_answer(alloc, String::from_str(alloc, "ok ")?, ran)
+}
+
+// A line with the mapping and the class files behind it.
+fn files_answer(alloc: Global, line: String, ran: &mut Ran) -> M<Option<Text>> {
+    let mut line = line;
+    if !push_text(alloc, &mut line, &ran.tree, "map.txt")? {
         return Ok(None);
     }
     let Some(paths) = paths_written(alloc, &mut ran.tree)? else {
@@ -36,9 +64,9 @@ fn done_answer(alloc: Global, ran: &mut Ran) -> M<Option<Text>> {
     Ok(Some(Text::from_string(alloc, line)?))
 }
 
-// Appends the mapping, if it was written.
-fn push_mapping(alloc: Global, line: &mut String, tree: &MemoryTree) -> M<bool> {
-    match tree.file(alloc, &Text::from_str(alloc, "map.txt")?)? {
+// Appends what stands at a path, if it was written.
+fn push_text(alloc: Global, line: &mut String, tree: &MemoryTree, path: &str) -> M<bool> {
+    match tree.file(alloc, &Text::from_str(alloc, path)?)? {
         Some(bytes) => {
             push_escaped(line, bytes.as_slice())?;
             Ok(true)

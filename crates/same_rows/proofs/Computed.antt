@@ -34,6 +34,8 @@ use Rattle.fresh_names.specs.Given.{once}
 use Rattle.fresh_names.specs.Reserved.{library_names, type_words}
 use Rattle.mapping_file.specs.MapLines.{line_text}
 use Rattle.mapping_file.specs.Mappings.{mapping_text}
+use Rattle.witness_file.specs.WitnessLines.{line_text as entry_text}
+use Rattle.witness_file.specs.Witnesses.{witness_text}
 use Rattle.require_sys.specs.Required.{limited, system_due}
 use Rattle.pair_rows.proofs.Required.{system}
 use Rattle.same_rows.specs.Rows.{BeginRow, EntryRow, MarksRow, NamesRow, RunRow, ShrunkRow, TextsRow, marks}
@@ -111,8 +113,9 @@ unfolding unit_bytes mutf8 units_of chars filled places code_bytes pool_of layou
 shrunk_is = record { files = ((refl, refl), ((refl, refl), tt)); mapping = refl; read = refl; left = refl }
 
 pub texts_are : TextsRow
-unfolding field_text base_text method_text result_text word_text external_text line_text mapping_text
-texts_are = (refl, refl)
+unfolding field_text base_text method_text result_text word_text external_text line_text mapping_text entry_text
+    witness_text
+texts_are = (refl, refl, refl)
 
 -- ---- names, and runs
 

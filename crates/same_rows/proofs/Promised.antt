@@ -4,8 +4,9 @@ use Rattle.std.specs.List.Sorted.{IsStrictlySortedBy}
 use Rattle.removal_laws.specs.AcceptedSets.Laws.{AreReadable}
 use Rattle.removal_laws.proofs.AcceptedSets.Taken.{are_taken}
 use Rattle.pair_checker.specs.declared.answer.Clause.TheVariants as clause
+use Rattle.pass_driver.specs.Optimised.{as_it_is}
+use Rattle.pair_laws.specs.OwnPairs.Laws.{OwnFilesArePaired}
 use Rattle.pair_laws.specs.OwnPairs.Written.{AreWritten}
-use Rattle.pair_laws.proofs.OwnPairs.Own.{own_paired}
 use Rattle.pair_laws.proofs.PairSound.Sound.{pairs_do_the_same}
 use Rattle.pair_rows.specs.Examples.{files, input, input_files, mapping, output, rules, unedited}
 use Rattle.pair_rows.proofs.Answered.{none, taken}
@@ -40,16 +41,18 @@ pub does_the_same : SameRow
 does_the_same =
     pairs_do_the_same input_files input files mapping rules unedited input_readable input_accepted output_readable taken
 
-written_so : AreWritten input_files input marks rules shrunk_set files
+-- the rules leave the codes as they are
+written_so : AreWritten input_files input marks rules as_it_is shrunk_set files
 written_so = record {
   readable = input_readable;
   accepted = input_accepted;
   closed = marks_are.0.closed;
   count = refl;
   source_name = tt;
+  optimised = refl;
   shrunk = shrunk_is;
   below = ((refl, refl), ((refl, refl), tt));
 }
 
-pub is_paired : PairedRow
-is_paired = own_paired input_files input marks rules shrunk_set files written_so
+pub is_paired : OwnFilesArePaired → PairedRow
+is_paired paired = paired input_files input marks rules as_it_is shrunk_set files written_so

@@ -16,8 +16,9 @@ use Rattle.mapping_file.specs.Mappings.{mapping_text}
 use Rattle.mark_core.specs.Marks.{Marks}
 use Rattle.require_sys.specs.Required.{required, system_due}
 use Rattle.set_shrink.specs.ShrunkSet.{IsShrunk}
-use Rattle.set_shrink.specs.Texts.{texts_due, witness_file}
+use Rattle.set_shrink.specs.Texts.{texts_due}
 use Rattle.set_shrink.specs.declared.shrunk.ShrunkSet.{ShrunkSet}
+use Rattle.witness_file.specs.Witnesses.{witness_text}
 use Rattle.pair_laws.specs.OwnPairs.Paired.{ArePaired}
 use Rattle.pair_laws.specs.PairSame.Entries.{IsEntry}
 use Rattle.pair_laws.specs.PairSame.Laws.{pair_names}
@@ -25,6 +26,7 @@ use Rattle.pair_laws.specs.PairSame.Pairs.{IsPair}
 use Rattle.pair_laws.specs.PairSound.Laws.{DoTheSame}
 use Rattle.type_sound.specs.Laws.{MayBegin}
 use Rattle.pair_rows.specs.Examples.{file_of_a, file_of_b, files, input, input_files, mapping, output, rules}
+use Rattle.pair_rows.specs.Examples.{unedited}
 
 -- ---- the entry
 
@@ -86,10 +88,16 @@ abbrev pub mapping_lines : List ℕ
 mapping_lines = codes "p.A -> p.A:" ++ 10 ∷ codes "    void f() -> f" ++ 10 ∷ codes "p.B -> p.a:"
     ++ 10 ∷ codes "    int g() -> a" ++ 10 ∷ []
 
--- the texts behind the classes are that one, and the witness
+-- the text of a witness without an entry
+abbrev pub witness_lines : List ℕ
+witness_lines = codes "witness 1" ++ 10 ∷ []
+
+-- the texts behind the classes are that one and the witness
 abbrev pub TextsRow : Type 0
-TextsRow = (mapping_text mapping ≡ mapping_lines) × (texts_due mapping input marks rules (codes "wit")
-    ≡ Ok (record { path = codes "map"; bytes = mapping_lines } ∷ witness_file (codes "wit") ∷ []))
+TextsRow = (mapping_text mapping ≡ mapping_lines) × (witness_text unedited ≡ witness_lines)
+    × (texts_due mapping unedited input marks rules (codes "wit")
+    ≡ Ok (record { path = codes "map"; bytes = mapping_lines }
+    ∷ record { path = codes "wit"; bytes = witness_lines } ∷ []))
 
 -- ---- names
 
@@ -108,7 +116,7 @@ SameRow = DoTheSame input_files files rules mapping
 
 -- and by `shrink`
 abbrev pub PairedRow : Type 0
-PairedRow = ArePaired input rules mapping shrunk_set.files
+PairedRow = ArePaired input rules mapping unedited shrunk_set.files
 
 -- ---- what they do
 

@@ -2,6 +2,8 @@
 ghost use Rattle.same_rows.specs.Rows.{BeginRow, EntryRow, MarksRow, NamesRow, PairRow, PairedRow, SameRow, ShrunkRow, TakenRow};
 ghost use Rattle.same_rows.specs.Rows.{RunRow, TextsRow};
 
+use pair_laws::own_pairs::own_files_are_paired;
+
 /// Carries that a small set has an entry with which a run may begin, what is kept of it and what is written, that this does the same as the set by
 /// what is promised of a pair, and that a run of each from the entry comes to its end and prints the same. It does
 /// nothing.
@@ -17,4 +19,6 @@ pub fn computed_same()
     ensures same { SameRow }
     ensures paired { PairedRow }
     ensures run { RunRow }
-{}
+{
+    own_files_are_paired();
+}

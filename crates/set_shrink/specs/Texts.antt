@@ -11,6 +11,7 @@ use Rattle.mapping_file.specs.Mappings.{mapping_text}
 use Rattle.mapping_file.specs.declared.mapping.Mapping.{Mapping}
 use Rattle.set_shrink.specs.Lists.{lists_due}
 use Rattle.witness_file.specs.Witnesses.{witness_text}
+use Rattle.witness_file.specs.declared.witness.Witness.{Witness}
 
 -- the mapping at the path that the rules name, of at most 64 MiB (ProGuard manual, "-printmapping"; the limit is the
 -- project's own)
@@ -19,17 +20,22 @@ mapping_due mapping rules = do
   bytes ← up_to 67108864 (mapping_text mapping)
   Ok (record { path = rules.mapping; bytes = bytes })
 
--- the witness at its path: no method is edited so far (the project's own)
-abbrev pub witness_file : List ℕ → FileAt
-witness_file path = record { path = path; bytes = witness_text (record { methods = [] }) }
+-- the witness at its path, of at most 64 MiB (the project's own)
+abbrev pub witness_due : Witness → List ℕ → Result FileAt TooLong
+witness_due edits path = do
+  bytes ← up_to 67108864 (witness_text edits)
+  Ok (record { path = path; bytes = bytes })
 
--- the mapping, lists that are due, and the witness, in this order (the project's own)
-abbrev pub texts_beside : Mapping → Result (List FileAt) TooLong → Rules → List ℕ → Result (List FileAt) TooLong
-texts_beside mapping lists rules witness = do
+-- the mapping, lists that are due, and the witness of how methods were edited, in this order (the project's own)
+abbrev pub texts_beside : Mapping → Witness → Result (List FileAt) TooLong → Rules → List ℕ
+    → Result (List FileAt) TooLong
+texts_beside mapping edits lists rules witness = do
   first ← mapping_due mapping rules
   others ← lists
-  Ok (first ∷ (others ++ witness_file witness ∷ []))
+  last ← witness_due edits witness
+  Ok (first ∷ (others ++ last ∷ []))
 
 -- those of a set of which the marked items are kept (the project's own)
-abbrev pub texts_due : Mapping → List Class → List Bool → Rules → List ℕ → Result (List FileAt) TooLong
-texts_due mapping classes marks rules witness = texts_beside mapping (lists_due classes marks rules) rules witness
+abbrev pub texts_due : Mapping → Witness → List Class → List Bool → Rules → List ℕ → Result (List FileAt) TooLong
+texts_due mapping edits classes marks rules witness =
+    texts_beside mapping edits (lists_due classes marks rules) rules witness

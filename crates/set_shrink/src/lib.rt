@@ -13,5 +13,5 @@ mod texts;
 pub use counts::Counts;
 pub use laws::{filtered_can_be_written, one_shrunk_set, order_keeps_all, shrunk_can_be_written};
 pub use lists::lists_of;
-pub use shrunk::{ShrunkSet, shrink_set};
+pub use shrunk::{ShrunkSet, shrink_classes};
 pub use texts::texts_of;

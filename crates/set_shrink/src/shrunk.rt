@@ -9,14 +9,13 @@ ghost use Rattle.set_shrink.specs.ShrunkSet.{Shrinks, renamed_of};
 use crate::counts::{Counts, counts_of};
 use crate::renaming::written_named;
 use class_model::{Class, WriteLimit};
-use class_pool::ClassSet;
 use fresh_names::TakenNames;
 use jv_base::{Items, Or};
 use keep_rules::Rules;
 use mapping_file::Mapping;
 use mark_words::Marked;
 use member_shrink::shrunk;
-use rename_map::{fixed_names, names_beside};
+use rename_map::names_beside;
 use std::alloc::Global;
 use tree_io::FileAt;
 
@@ -33,30 +32,13 @@ pub struct ShrunkSet {
     pub kept: Counts,
 }
 
-/// The files of a set without what isn't kept, below the output directory of the rules: each kept class with its kept
-/// members under the new names that the rules leave to be given (ProGuard manual, "Usage": obfuscation), and with those
-/// optional attributes that the rules keep, in its canonical spelling (JVMS 4). What is kept is marked, one mark for
-/// each item: each class of the set in its order, then its fields, then its methods. Each kept class can be written
-/// under its new names. The error is the first limit of the format that a kept class passes (JVMS 4.11), in the order
-/// of the files.
-pub fn shrink_set(
-    alloc: Global,
-    set: ClassSet,
-    marked: &Marked,
-    rules: &Rules,
-) -> Result<ShrunkSet, Or<WriteLimit>>
-    requires marks { length marked.now ≡ item_count set }
-    requires writable { AllByRecursion IsWritable (renamed_of set marked.now rules.now) }
-    ensures exact { Shrinks result set marked.now rules.now }
-{
-    let fixed = fixed_names(alloc, rules, &set)?;
-    set.few_items();
-    let classes = set.into_classes();
-    shrink_classes(alloc, classes, &fixed, marked, rules)
-}
-
-/// The same of the classes of a set, beside the names that stay.
-fn shrink_classes(
+/// The files of classes without what isn't kept, below the output directory of the rules: each kept class with its kept
+/// members under the new names that the rules leave to be given, beside those that stay (ProGuard manual, "Usage":
+/// obfuscation), and with those optional attributes that the rules keep, in its canonical spelling (JVMS 4). What is kept
+/// is marked, one mark for each item: each class in its order, then its fields, then its methods. Each kept class can be
+/// written under its new names. The error is the first limit of the format that a kept class passes (JVMS 4.11), in the
+/// order of the files.
+pub fn shrink_classes(
     alloc: Global,
     classes: Items<Class>,
     fixed: &Option<TakenNames>,

@@ -1,20 +1,30 @@
 -- One thing at most is due of told files: one plan, or one refusal.
-use Rattle.std.proofs.Common.{◌≡◌, ℕ, Bool, List, Result, Ok, Err, refl, sym, ap, ◌∙◌}
+use Rattle.std.proofs.Common.{◌≡◌, ℕ, Bool, List, Result, Ok, Err, refl, sym, ap, subst, ◌∙◌}
+use Rattle.jv_base.proofs.Results.{same_fault, same_ok}
 use Rattle.tree_io.specs.Files.{Files}
 use Rattle.class_model.specs.declared.class.Class.{Class}
 use Rattle.keep_rules.specs.declared.rules.Rules.{Rules}
+use Rattle.image_laws.specs.TakenSet.TakenSet.{IsTaken}
 use Rattle.mark_core.specs.declared.system.System.{System}
+use Rattle.optimised_laws.proofs.OneOptimised.{one_optimised}
+use Rattle.pass_driver.specs.Optimised.{with_codes}
+use Rattle.pass_driver.specs.declared.optimising.Optimised.{Optimised}
+use Rattle.removal_laws.proofs.AcceptedSets.Taken.{are_taken}
+use Rattle.type_verifier.specs.Verified.{AreTyped}
 use Rattle.require_sys.specs.Required.{system_due}
 use Rattle.set_shrink.proofs.OneShrunk.{not_both_shrunk, one_limit, one_shrunk}
 use Rattle.set_shrink.specs.Texts.{texts_due}
-use Rattle.command_frame.proofs.OneStep.{IsOne, one_value, then_one}
+use Rattle.command_frame.proofs.OneStep.{IsOne, no_err, one_value, then_one}
+use Rattle.command_frame.specs.Steps.{Then, follows, stops}
+use Rattle.command_frame.specs.declared.refusal.Refusal.{Refusal}
 use Rattle.command_steps.proofs.OneStep.{one_config_apart, one_directory, one_taken}
 use Rattle.command_steps.specs.Config.{IsConfigApart}
 use Rattle.command_steps.specs.Sets.{IsDirectory, IsSet}
 use Rattle.command_steps.specs.System.{IsSystem, or_many}
-use Rattle.shrink_command.specs.Due.{AreMarks, FollowsInput, FollowsMarks, FollowsOutput, FollowsRules, FollowsSystem}
-use Rattle.shrink_command.specs.Due.{IsEmptied, IsPlan, IsPlanned, IsWritten, Joins, limit_told, or_long, plan_for}
+use Rattle.shrink_command.specs.Due.{AreMarks, AreOptimised, FollowsCodes, FollowsInput, FollowsMarks, FollowsOutput}
+use Rattle.shrink_command.specs.Due.{FollowsRules, FollowsSystem, IsEmptied, IsPlan, IsPlanned, IsWritten, Joins, limit_told, or_long, plan_for}
 use Rattle.shrink_command.specs.OneDue.{IsOneDue}
+use Rattle.shrink_command.proofs.Planned.{found_readable}
 use Rattle.shrink_command.proofs.SameMarks.{same_marks}
 
 -- ---- the output directory
@@ -42,15 +52,41 @@ one_written rules classes marks (Err refusal) (Ok shrunk) h k =
 one_written rules classes marks (Err refusal) (Err other) h k =
     ap Err (h.2 ∙ (ap limit_told (one_limit classes marks rules h.0 k.0 h.1 k.1) ∙ sym k.2))
 
-one_planned : (rules : Rules) (witness : List ℕ) (classes : List Class) → IsOne (IsPlanned rules witness classes)
-one_planned rules witness classes =
+-- two steps, of which the second is one where the first gave something
+module _ {A B : Type 0} (First : Result A Refusal → Type 0) (Next : A → Result B Refusal → Type 0) where
+  then_one_so : IsOne First → ((x : A) → First (Ok x) → IsOne (Next x)) → IsOne (Then First Next)
+  then_one_so first next one other (stops r h e) (stops s k f) =
+      e ∙ (ap Err (same_fault r s (first (Err r) (Err s) h k)) ∙ sym f)
+  then_one_so first next one other (stops r h e) (follows x k f) = absurd (no_err x r (first (Ok x) (Err r) k h))
+  then_one_so first next one other (follows x h e) (stops s k f) = absurd (no_err x s (first (Ok x) (Err s) h k))
+  then_one_so first next one other (follows x h e) (follows y k f) =
+      let same : x ≡ y = same_ok x y (first (Ok x) (Ok y) h k) in
+      next y k one other (subst (λ (x : A). Next x one) same e) f
+
+one_optimised_by : (rules : Rules) (classes : List Class) (marks : List Bool) → IsTaken classes → AreTyped classes
+    → IsOne (AreOptimised rules classes marks)
+one_optimised_by rules classes marks taken typed (Ok o) (Ok other) h k =
+    ap Ok (one_optimised rules.optimise marks classes o other taken typed h k)
+one_optimised_by rules classes marks taken typed (Ok o) (Err refusal) h k = absurd k
+one_optimised_by rules classes marks taken typed (Err refusal) other h k = absurd h
+
+one_of_codes : (rules : Rules) (witness : List ℕ) (classes : List Class) (marks : List Bool) (o : Optimised)
+    → IsOne (FollowsCodes rules witness classes marks o)
+one_of_codes rules witness classes marks o =
+    then_one (IsWritten rules (with_codes o.codes classes) marks) _
+    (one_written rules (with_codes o.codes classes) marks)
+    (λ shrunk. then_one _ (IsPlan shrunk o.witness o.fallback)
+    (one_value (or_long (texts_due shrunk.mapping o.witness classes marks rules witness)))
+    (λ texts. one_value (Ok (plan_for shrunk o.witness o.fallback texts))))
+
+one_planned : (rules : Rules) (witness : List ℕ) (classes : List Class) → IsTaken classes → AreTyped classes
+    → IsOne (IsPlanned rules witness classes)
+one_planned rules witness classes taken typed =
     then_one (IsSystem rules classes) (FollowsSystem rules witness classes)
     (one_value (or_many rules (system_due classes rules)))
     (λ sys. then_one (AreMarks sys) (FollowsMarks rules witness classes) (one_marked sys)
-    (λ marks. then_one (IsWritten rules classes marks) _ (one_written rules classes marks)
-    (λ shrunk. then_one _ (IsPlan shrunk)
-    (one_value (or_long (texts_due shrunk.mapping classes marks rules witness)))
-    (λ texts. one_value (Ok (plan_for shrunk texts))))))
+    (λ marks. then_one (AreOptimised rules classes marks) (FollowsCodes rules witness classes marks)
+    (one_optimised_by rules classes marks taken typed) (one_of_codes rules witness classes marks)))
 
 -- ---- the law
 
@@ -60,8 +96,10 @@ one_due files named one other h k =
     (one_config_apart files named.config named.witness)
     (λ rules. then_one (IsEmptied files rules.out_dir) (λ done. FollowsOutput files named.witness rules)
     (one_emptied files rules.out_dir)
-    (λ done. then_one (IsDirectory files rules.in_dir) (FollowsInput rules named.witness)
+    (λ done. then_one_so (IsDirectory files rules.in_dir) (FollowsInput rules named.witness)
     (one_directory files rules.in_dir)
-    (λ inputs. then_one (IsSet rules.in_dir inputs) (IsPlanned rules named.witness) (one_taken rules.in_dir inputs)
-    (λ classes. one_planned rules named.witness classes))))
+    (λ inputs given. then_one_so (IsSet rules.in_dir inputs) (IsPlanned rules named.witness)
+    (one_taken rules.in_dir inputs)
+    (λ classes accepted. one_planned rules named.witness classes
+    (are_taken inputs classes (found_readable files rules.in_dir inputs given) accepted) accepted.typed))))
     one other h k

@@ -1,21 +1,29 @@
 -- What is known of a set that is kept.
-use Rattle.std.proofs.Common.{◌≡◌, Bool, List, length, map, Ok, subst, ◌∙◌}
-use Rattle.tree_io.specs.Below.{IsAscending}
+use Rattle.std.proofs.Common.{◌≡◌, ℕ, Bool, List, length, Ok, subst, ◌∙◌, arith}
+use Rattle.std.specs.List.{AllByRecursion}
+use Rattle.tree_io.specs.Files.{Files}
 use Rattle.tree_io.specs.declared.file_at.FileAt.{FileAt}
+use Rattle.class_files.specs.Input.{input_due}
 use Rattle.mark_core.specs.Marks.{Closed, Marks, set_of}
 use Rattle.mark_core.specs.declared.system.System.{System}
 use Rattle.class_model.specs.declared.class.Class.{Class}
 use Rattle.class_pool.specs.Count.{item_count}
-use Rattle.class_pool.specs.Supertypes.{NoCycle}
 use Rattle.keep_rules.specs.declared.rules.Rules.{Rules}
-use Rattle.pair_laws.specs.NamedForm.Laws.{IsLinked}
+use Rattle.class_laws.specs.SpellingLaws.{IsWritable}
+use Rattle.pair_laws.specs.NamedForm.Laws.{KeepsWritable, OptimisedKeepsWritable}
+use Rattle.pass_driver.specs.Optimised.{IsOptimisedIf}
+use Rattle.pass_driver.specs.declared.optimising.Optimised.{Optimised}
+use Rattle.pair_laws.proofs.FilesFound.Found.{ascend_found}
+use Rattle.removal_laws.proofs.AcceptedSets.Taken.{are_taken}
+use Rattle.removal_laws.specs.AcceptedSets.Laws.{AreReadable}
 use Rattle.require_sys.specs.Required.{required}
 use Rattle.require_sys.proofs.SystemDue.{due_is}
 use Rattle.set_read.specs.Accepted.{IsAccepted}
-use Rattle.set_read.proofs.Few.{ascending_kept}
 use Rattle.command_steps.proofs.Systems.{system_told}
+use Rattle.command_steps.specs.Sets.{AreClassFiles}
 use Rattle.command_steps.specs.System.{IsSystem}
 use Rattle.shrink_command.specs.Due.{IsKept}
+use Rattle.shrink_command.specs.bodies.Given.{IsGiven}
 use Rattle.shrink_command.proofs.SomeSystem.{due_counted}
 
 -- what the least set of a system has is kept
@@ -36,12 +44,30 @@ pub kept_count : (rules : Rules) (classes : List Class) (marks : List Bool) → 
     → length marks ≡ item_count classes
 kept_count rules classes marks kept = kept.least.count ∙ due_counted classes rules kept.sys kept.due
 
--- a set that is taken was built and breaks no rule for links
-pub linked_set : (inputs : List FileAt) (classes : List Class)
-    → IsAscending (map (λ (f : FileAt). f.path) inputs) → IsAccepted inputs classes → IsLinked classes
-linked_set inputs classes ascending taken = record {
-  files = taken.named;
-  ascend = ascending_kept inputs taken.named taken.read ascending;
-  built = (taken.first, subst NoCycle taken.are taken.acyclic, taken.are);
-  linked = taken.linked;
+-- files that are read below a directory are such as a set is read of
+pub readable : (files : List FileAt) → AreClassFiles files → AreReadable files
+readable files h = let short = h.short in record { ascending = h.ascending; short = omega (arith, short) }
+
+-- a set that they are taken as, of which each class can be written
+pub given_set : (files : List FileAt) (classes : List Class) → AreClassFiles files → IsAccepted files classes
+    → AllByRecursion IsWritable classes → IsGiven classes
+given_set files classes are taken writable = record {
+  taken = are_taken files classes (readable files are) taken;
+  typed = taken.typed;
+  writable = writable;
 }
+
+-- so are those of told files
+pub found_readable : (files : Files) (directory : List ℕ) (inputs : List FileAt)
+    → input_due files directory ≡ Ok inputs → AreReadable inputs
+found_readable files directory inputs given =
+    let found = ascend_found files directory inputs given in
+    record { ascending = found.0; short = omega (arith, found.1) }
+
+-- ---- with the codes that become of what is kept
+
+pub codes_so : OptimisedKeepsWritable → (classes : List Class) (rules : Rules) (marks : List Bool) (o : Optimised)
+    → IsGiven classes → IsKept rules classes marks → IsOptimisedIf rules.optimise marks classes o
+    → KeepsWritable classes rules marks o
+codes_so law classes rules marks o given kept optimised =
+    law classes rules marks o given.taken given.typed (kept_closed rules classes marks kept) given.writable optimised

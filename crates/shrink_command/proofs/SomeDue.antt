@@ -28,6 +28,8 @@ use Rattle.command_steps.specs.Refusals.{rules_refused}
 use Rattle.command_steps.specs.Sets.{IsDirectory, IsSet, set_refused}
 use Rattle.shrink_command.specs.Due.{FollowsInput, FollowsOutput, FollowsRules, IsEmptied, IsEmpty, IsPlanned, not_empty}
 use Rattle.shrink_command.specs.SomeDue.{HoldBytes, IsSomeDue}
+use Rattle.removal_laws.proofs.AcceptedSets.Taken.{are_taken}
+use Rattle.shrink_command.proofs.Planned.{found_readable}
 use Rattle.shrink_command.proofs.SomePlan.{some_planned}
 use Rattle.shrink_command.proofs.SomeSet.{set_or}
 
@@ -130,4 +132,5 @@ some_due files named hold =
     (some_directory files rules.in_dir)
     (λ inputs given. then_some (IsSet rules.in_dir inputs) (IsPlanned rules named.witness)
     (some_set files rules.in_dir inputs hold given)
-    (λ classes taken. some_planned rules classes named.witness))))
+    (λ classes accepted. some_planned rules classes named.witness
+    (are_taken inputs classes (found_readable files rules.in_dir inputs given) accepted) accepted.typed))))

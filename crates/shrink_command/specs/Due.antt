@@ -1,6 +1,6 @@
 -- What `shrink CONFIG OUTWIT` is to write and to say of told files, or why it is refused (the project's own: what the
 -- command promises).
-use Rattle.std.specs.Prelude.{◌≡◌, ℕ, Bool, false, List, [], ◌++◌, Result, Ok, Err}
+use Rattle.std.specs.Prelude.{◌≡◌, ℕ, Bool, false, List, [], ◌++◌, length, Result, Ok, Err}
 use Rattle.std.specs.FinMap.{keys}
 use Rattle.tree_io.specs.Below.{paths_below}
 use Rattle.tree_io.specs.Files.{Files}
@@ -12,11 +12,14 @@ use Rattle.keep_rules.specs.declared.rules.Rules.{Rules}
 use Rattle.list_texts.specs.declared.limit.TooLong.{TooLong as LongText}
 use Rattle.mark_core.specs.Marks.{Marks}
 use Rattle.mark_core.specs.declared.system.System.{System}
+use Rattle.pass_driver.specs.Optimised.{IsOptimisedIf, with_codes}
+use Rattle.pass_driver.specs.declared.optimising.Optimised.{Optimised}
 use Rattle.report_text.specs.Kinds.{limit_name}
 use Rattle.require_sys.specs.Required.{system_due}
 use Rattle.set_shrink.specs.ShrunkSet.{IsShrunk, PassesLimit}
 use Rattle.set_shrink.specs.Texts.{texts_due}
 use Rattle.set_shrink.specs.declared.shrunk.ShrunkSet.{ShrunkSet}
+use Rattle.witness_file.specs.declared.witness.Witness.{Witness}
 use Rattle.command_frame.specs.Refusal.{limit_refused, passed}
 use Rattle.command_frame.specs.Steps.{Then}
 use Rattle.command_frame.specs.declared.command.Plan.{Plan}
@@ -84,22 +87,36 @@ abbrev pub or_long : Result (List FileAt) LongText → Result (List FileAt) Refu
 or_long (Ok texts) = Ok texts
 or_long (Err long) = Err (passed quantity.Text)
 
--- the class files, behind them the texts; and the summary
-abbrev pub plan_for : ShrunkSet → List FileAt → Plan
-plan_for shrunk texts = record { files = shrunk.files ++ texts; text = summary_text shrunk.read shrunk.kept }
+-- what becomes of the codes of what is kept, where the rules want it; there always is something (ProGuard manual,
+-- "-dontoptimize")
+abbrev pub AreOptimised : Rules → List Class → List Bool → Result Optimised Refusal → Type 0
+AreOptimised rules classes marks (Ok o) = IsOptimisedIf rules.optimise marks classes o
+AreOptimised rules classes marks (Err refusal) = ⊥
 
-abbrev pub IsPlan : ShrunkSet → List FileAt → Result Plan Refusal → Type 0
-IsPlan shrunk texts due = due ≡ Ok (plan_for shrunk texts)
+-- the class files, behind them the texts; and the summary
+abbrev pub plan_for : ShrunkSet → Witness → ℕ → List FileAt → Plan
+plan_for shrunk edits fallback texts = record {
+  files = shrunk.files ++ texts;
+  text = summary_text shrunk.read shrunk.kept (length edits.methods) fallback;
+}
+
+abbrev pub IsPlan : ShrunkSet → Witness → ℕ → List FileAt → Result Plan Refusal → Type 0
+IsPlan shrunk edits fallback texts due = due ≡ Ok (plan_for shrunk edits fallback texts)
 
 -- class files and what their texts are
-abbrev pub Joins : ShrunkSet → Result (List FileAt) LongText → Result Plan Refusal → Type 0
-Joins shrunk told = Then (λ due. due ≡ or_long told) (IsPlan shrunk)
+abbrev pub Joins : ShrunkSet → Witness → ℕ → Result (List FileAt) LongText → Result Plan Refusal → Type 0
+Joins shrunk edits fallback told = Then (λ due. due ≡ or_long told) (IsPlan shrunk edits fallback)
 
--- the class files of what is kept, and behind them the mapping, the list of what the rules keep and the list of what is
--- dropped, where these are asked for, and the witness at its path
+-- the class files of what is kept, with the codes that become of its methods; behind them the mapping, the list of what
+-- the rules keep and the list of what is dropped, where these are asked for, and the witness at its path
+abbrev pub FollowsCodes : Rules → List ℕ → List Class → List Bool → Optimised → Result Plan Refusal → Type 0
+FollowsCodes rules witness classes marks o = Then (IsWritten rules (with_codes o.codes classes) marks)
+    (λ shrunk. Joins shrunk o.witness o.fallback (texts_due shrunk.mapping o.witness classes marks rules witness))
+
+-- what is kept is optimised and written
 abbrev pub FollowsMarks : Rules → List ℕ → List Class → List Bool → Result Plan Refusal → Type 0
-FollowsMarks rules witness classes marks = Then (IsWritten rules classes marks)
-    (λ shrunk. Joins shrunk (texts_due shrunk.mapping classes marks rules witness))
+FollowsMarks rules witness classes marks =
+    Then (AreOptimised rules classes marks) (FollowsCodes rules witness classes marks)
 
 -- what is kept of the classes by the rules, and what is written of it
 abbrev pub FollowsSystem : Rules → List ℕ → List Class → System → Result Plan Refusal → Type 0

@@ -6,3 +6,4 @@ pub mod SamePair
 pub mod OneDue
 pub mod SomeMarks
 pub mod SomeDue
+pub mod bodies

@@ -14,16 +14,18 @@ use mark_words::Marked;
 use std::alloc::Global;
 use tree_io::{ListFault, Tree};
 
-/// The files of `shrink CONFIG OUTWIT`, which keeps what the rules of a config keep of a directory of class files, gives
-/// it new names, and writes the classes that are left to another directory. OUTWIT gets the witness, which is the one
-/// line `witness 1`, since nothing is optimised yet.
+/// The files of `shrink CONFIG OUTWIT`, which keeps what the rules of a config keep of a directory of class files,
+/// optimises its codes, gives it new names, and writes the classes that are left to another directory. OUTWIT gets the
+/// witness, which tells each edit of a code.
 ///
 /// A config has options as ProGuard has them (`read_rules` of `keep_rules`): `-injars IN`, `-outjars OUT` and
 /// `-printmapping MAP`, which have to be there, and others. IN, OUT and MAP are paths; one `/` at the end of a
 /// directory is dropped.
 ///
 /// Kept is the least set of classes, fields and methods that has what keep rules keep and what all that is kept needs
-/// (`system_of` of `require_sys`); under `-dontshrink` all. Each class is written in its canonical spelling, with its
+/// (`system_of` of `require_sys`); under `-dontshrink` all. The codes of kept methods go through the six steps of the
+/// passes (`optimise` of `pass_driver`), unless `-dontoptimize` is given; where the edited code isn't typed, the method
+/// keeps its own. Each class is written in its canonical spelling, with its
 /// kept members and the attributes ConstantValue, Code and StackMapTable, and of SourceFile, Exceptions,
 /// LineNumberTable, Synthetic and Deprecated those that `-keepattributes` keeps, or all under `-dontobfuscate`. Names
 /// that the rules don't keep become short ones (`names_of` of `rename_map`), and each class is written at the path of
@@ -50,15 +52,16 @@ use tree_io::{ListFault, Tree};
 /// a name with dots, MEMBER as `int x` or `int f(int)`, and `-` where the class itself is at fault; of a code that
 /// isn't typed KIND is two words, as `Type Local`. Limits: `config` and `input` (the class files together) 67,108,864
 /// bytes, `files` 65,536 and `classes` 20,000 below IN, `items` 1,048,576, `needs` and `pairs` 16,777,216, what a class
-/// file has room for (`pool`, `utf8`, `code`, `table`, `branch`, `attribute`), and `text` (the mapping, a list)
-/// 67,108,864 bytes.
+/// file has room for (`pool`, `utf8`, `code`, `table`, `branch`, `attribute`), and `text` (the mapping, a list, the
+/// witness) 67,108,864 bytes.
 ///
 /// After 2 to 6 and 8 no file has changed. After 7 and 10 the first of the files to be written may stand: the class
 /// files in the order of their paths, then the mapping, both lists and the witness; after 7 the next path may hold any
 /// bytes.
 ///
 /// The summary is five lines: `classes`, `fields` and `methods`, each with how many were read and how many are kept,
-/// `edited 0` and `fallback 0`.
+/// `edited` with how many methods have another code, and `fallback` with how many keep their own because the edited one
+/// isn't typed.
 #[derive(Drop)]
 pub struct ShrinkFiles {
     /// The config that is read.

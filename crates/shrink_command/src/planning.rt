@@ -1,16 +1,17 @@
 // The plan for class files.
 ghost use Rattle.std.specs.Prelude.{◌≡◌, ◌++◌, List, IfOk, Ok, Result};
-ghost use Rattle.std.specs.List.{AllByRecursion};
 ghost use Rattle.jv_base.specs.Outcome.{IsDue};
 ghost use Rattle.tree_io.specs.declared.file_at.FileAt.{FileAt as FileValue};
-ghost use Rattle.class_laws.specs.SpellingLaws.{IsWritable};
 ghost use Rattle.list_texts.specs.declared.limit.TooLong.{TooLong as LongText};
-ghost use Rattle.pair_laws.specs.NamedForm.Laws.{IsLinked};
+ghost use Rattle.pass_driver.specs.Optimised.{IsOptimisedIf};
+ghost use Rattle.set_shrink.specs.Lists.{lists_due};
 ghost use Rattle.set_shrink.specs.Texts.{texts_beside};
 ghost use Rattle.command_frame.specs.Steps.{Makes};
 ghost use Rattle.command_steps.specs.Sets.{AreClassFiles};
 ghost use Rattle.shrink_command.specs.Marking.{FindsMarks};
-ghost use Rattle.shrink_command.specs.Due.{FollowsInput, FollowsMarks, IsKept, IsPlan, IsPlanned, Joins, most_written};
+ghost use Rattle.shrink_command.specs.Due.{FollowsCodes, FollowsInput, FollowsMarks, IsKept, IsPlan, IsPlanned, Joins};
+ghost use Rattle.shrink_command.specs.Due.{most_written};
+ghost use Rattle.shrink_command.specs.bodies.Given.{IsGiven};
 
 use crate::summary::summary_text;
 use class_model::WriteLimit;
@@ -22,11 +23,14 @@ use keep_rules::Rules;
 use list_texts::TooLong;
 use mark_core::System;
 use mark_words::Marked;
-use pair_laws::named_form::kept_can_be_written;
+use pair_laws::named_form::optimised_can_be_written;
+use pass_driver::{Optimised, optimise_if, with_codes};
+use rename_map::fixed_names;
 use report_text::limit_name;
-use set_shrink::{ShrunkSet, lists_of, shrink_set, texts_of};
+use set_shrink::{ShrunkSet, lists_of, shrink_classes, texts_of};
 use std::alloc::Global;
 use tree_io::FileAt;
+use witness_file::Witness;
 
 /// The plan for the class files of an input directory, by rules.
 pub(crate) fn plan_of<F: Fn(&System) -> M<Marked>>(
@@ -53,8 +57,7 @@ fn set_plan<F: Fn(&System) -> M<Marked>>(
     set: ClassSet,
 ) -> Result<Plan, Stop>
     requires mark { FindsMarks (F.pre mark.now) (F.post mark.now) }
-    requires writable { AllByRecursion IsWritable set }
-    requires linked { IsLinked set }
+    requires given { IsGiven set }
     ensures { Makes result (IsPlanned rules.now witness.now set) }
 {
     let sys = requirements(alloc, rules, &set)?;
@@ -71,15 +74,43 @@ fn kept_plan(
     set: ClassSet,
     marked: &Marked,
 ) -> Result<Plan, Stop>
-    requires writable { AllByRecursion IsWritable set }
-    requires linked { IsLinked set }
+    requires given { IsGiven set }
     requires kept { IsKept rules.now set marked.now }
     ensures { Makes result (FollowsMarks rules.now witness.now set marked.now) }
 {
-    kept_can_be_written();
     let lists = lists_of(alloc, &set, marked, rules);
-    match shrink_set(alloc, set, marked, rules) {
-        Ok(shrunk) => joined(alloc, rules, witness, shrunk, lists),
+    let optimised = optimise_if(alloc, rules.optimise, &set, marked)?;
+    codes_plan(alloc, rules, witness, set, marked, optimised, lists)
+}
+
+/// The plan for a set, where this becomes of the codes of what is kept. No rule looks at a code, so the names that stay
+/// are those of the set as it was read.
+fn codes_plan(
+    alloc: Global,
+    rules: &Rules,
+    witness: &Text,
+    set: ClassSet,
+    marked: &Marked,
+    optimised: Optimised,
+    lists: Result<Items<FileAt>, Or<TooLong>>,
+) -> Result<Plan, Stop>
+    requires given { IsGiven set }
+    requires kept { IsKept rules.now set marked.now }
+    requires optimised { IsOptimisedIf rules.now.optimise marked.now set optimised }
+    requires lists { IsDue lists (lists_due set marked.now rules.now) }
+    ensures { Makes result (FollowsCodes rules.now witness.now set marked.now optimised) }
+{
+    optimised_can_be_written();
+    let fixed = fixed_names(alloc, rules, &set)?;
+    set.few_items();
+    let Optimised {
+        codes,
+        witness: edits,
+        fallback,
+    } = optimised;
+    let classes = with_codes(alloc, set.into_classes(), codes);
+    match shrink_classes(alloc, classes, &fixed, marked, rules) {
+        Ok(shrunk) => joined(alloc, rules, witness, shrunk, &edits, fallback, lists),
         Err(Or::Fault(limit)) => {
             Err(Stop::Refused(passed_limit(alloc, limit_name(limit), most_written(limit))?))
         }
@@ -101,29 +132,39 @@ fn most_written(limit: WriteLimit) -> u64
     }
 }
 
-/// The plan of what is written of a set, and of its texts.
+/// The plan of what is written of a set, of how its methods were edited, and of its texts.
 fn joined(
     alloc: Global,
     rules: &Rules,
     witness: &Text,
     shrunk: ShrunkSet,
+    edits: &Witness,
+    fallback: usize,
     lists: Result<Items<FileAt>, Or<TooLong>>,
 ) -> Result<Plan, Stop>
     ensures { (due : Result (List FileValue) LongText) → IsDue lists due
-        → Makes result (Joins shrunk (texts_beside shrunk.mapping due rules.now witness.now)) }
+        → Makes result (Joins shrunk edits.now fallback
+        (texts_beside shrunk.mapping edits.now due rules.now witness.now)) }
 {
-    match texts_of(alloc, &shrunk.mapping, lists, rules, witness) {
-        Ok(texts) => with_summary(alloc, shrunk, texts),
+    match texts_of(alloc, &shrunk.mapping, edits, lists, rules, witness) {
+        Ok(texts) => with_summary(alloc, shrunk, edits, fallback, texts),
         Err(Or::Fault(_)) => Err(Stop::Refused(Quantity::Text.passed(alloc)?)),
         Err(Or::OutOfMemory) => Err(Stop::OutOfMemory),
     }
 }
 
 /// The plan of what is written of a set, with texts.
-fn with_summary(alloc: Global, shrunk: ShrunkSet, texts: Items<FileAt>) -> Result<Plan, Stop>
-    ensures { Makes result (IsPlan shrunk texts) }
+fn with_summary(
+    alloc: Global,
+    shrunk: ShrunkSet,
+    edits: &Witness,
+    fallback: usize,
+    texts: Items<FileAt>,
+) -> Result<Plan, Stop>
+    ensures { Makes result (IsPlan shrunk edits.now fallback texts) }
 {
-    let text = summary_text(alloc, shrunk.read, shrunk.kept)?;
+    let edited = edits.methods.len();
+    let text = summary_text(alloc, shrunk.read, shrunk.kept, edited, fallback)?;
     let files = with_texts(shrunk.files, texts)?;
     Ok(Plan { files, text })
 }

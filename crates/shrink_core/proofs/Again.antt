@@ -26,10 +26,9 @@ use Rattle.check_command.specs.Due.{AreDirectories, IsJudged, IsTexts, belongs, 
 use Rattle.check_command.specs.declared.finding.Texts.{Texts}
 use Rattle.pair_laws.proofs.OwnPairs.Own.{own_pairs}
 use Rattle.pair_laws.specs.OwnChecked.Again.{HasText, IsFoundAgain, PassesInputLimit, by_classes, by_files, by_length}
-use Rattle.pair_laws.specs.OwnPairs.Written.{no_edit}
 use Rattle.shrink_command.specs.Due as shrink
 use Rattle.shrink_command.specs.declared.command.ShrinkFiles.{ShrinkFiles}
-use Rattle.shrink_command.proofs.Paired.{IsResult, again, below, result, written_so}
+use Rattle.shrink_command.proofs.Paired.{IsResult, again, below, pass_laws, result, written_so}
 use Rattle.shrink_core.specs.Again.{PlanIsChecked}
 
 -- a told file that is no longer than 64 MiB
@@ -47,7 +46,8 @@ module _ (files : Files) (named : ShrinkFiles) (plan : Plan) (r : IsResult files
   abbrev written : List FileAt
   written = (below files named plan r).0
 
-  found : IsFoundAgain files new named.config named.witness r.rules r.shrunk.mapping no_edit written
+  found : IsFoundAgain files new named.config named.witness r.rules r.shrunk.mapping r.optimised.witness
+      written
   found = again files named plan r
 
   configured : IsConfigured new named.config named.witness (Ok r.rules)
@@ -57,7 +57,7 @@ module _ (files : Files) (named : ShrinkFiles) (plan : Plan) (r : IsResult files
       follows k.0 (k.1 ∙ ap (bytes_in quantity.Config named.config) (sym found.config_stays)) k.2
 
   abbrev texts : Texts
-  texts = record { mapping = r.shrunk.mapping; witness = no_edit }
+  texts = record { mapping = r.shrunk.mapping; witness = r.optimised.witness }
 
   told : IsTexts new r.rules.mapping named.witness (Ok texts)
   told =
@@ -65,11 +65,12 @@ module _ (files : Files) (named : ShrinkFiles) (plan : Plan) (r : IsResult files
       let w = found.witness_is in
       follows m.0 (file_is new quantity.Mapping r.rules.mapping m.0 m.1 (le-leb _ _ m.1.short) refl)
       (follows w.0 (file_is new quantity.Witness named.witness w.0 w.1 (le-leb _ _ w.1.short) refl)
-      (follows r.shrunk.mapping (sym (ap or_bad_mapping m.2)) (follows no_edit (sym (ap or_bad_witness w.2)) refl)))
+      (follows r.shrunk.mapping (sym (ap or_bad_mapping m.2))
+      (follows r.optimised.witness (sym (ap or_bad_witness w.2)) refl)))
 
   judged : IsJudged r.rules texts (record { input = r.inputs; output = written }) (Ok ok_plan)
   judged =
-      let pair = own_pairs r.inputs r.classes r.marks r.rules r.shrunk written (written_so files named plan r) in
+      let pair = own_pairs pass_laws r.inputs r.classes r.marks r.rules r.optimised r.shrunk written (written_so files named plan r) in
       follows r.classes r.taken
       (follows r.kept.sys
       (sym (ap (or_many r.rules) r.kept.due ∙ ap (λ (b : Bool). or_nothing b r.kept.sys) r.kept.some))

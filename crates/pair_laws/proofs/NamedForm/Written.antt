@@ -83,11 +83,15 @@ no_name_fault : (files : List NamedClass) (r : Result (Unit {0}) PoolFault) → 
 no_name_fault files (Ok t) is h = is
 no_name_fault files (Err f) is h = absurd cc
 
+-- each class of such a set has a name of its own, which its path follows
+pub files_named : (classes : List Class) (t : IsLinked classes) → name_faults t.files ≡ Ok tt
+files_named classes t = no_name_fault t.files (name_faults t.files) refl t.built.0
+
+pub names_apart : (classes : List Class) → IsLinked classes → NamesDiffer classes
+names_apart classes t = subst NamesDiffer (sym t.built.2) (names_differ t.files t.ascend (files_named classes t))
+
 pub set_apart : (classes : List Class) → IsLinked classes → AreApart classes
-set_apart classes t =
-    pairs_apart classes
-    (subst NamesDiffer (sym t.built.2)
-    (names_differ t.files t.ascend (no_name_fault t.files (name_faults t.files) refl t.built.0)))
+set_apart classes t = pairs_apart classes (names_apart classes t)
 
 pub apart_by : (classes : List Class) (rules : Rules) (marks : List Bool) → IsLinked classes → (obfuscate : Bool)
     → AreApart (map

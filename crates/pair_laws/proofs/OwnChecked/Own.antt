@@ -1,12 +1,12 @@
 -- What is written of a set is found again.
-use Rattle.std.proofs.Common.{◌≡◌, ◌≢◌, ◌≤◌, ◌⊎◌, inl, inr, ℕ, ◌||◌, Bool, true, false, List, [], ◌∷◌, ◌++◌, length, map}
-use Rattle.std.proofs.Common.{Ok, Some, refl, sym, ap, leb-true, ◌∙◌}
+use Rattle.std.proofs.Common.{◌≡◌, ◌≢◌, ◌⊎◌, inl, inr, ℕ, ◌||◌, Bool, true, false, List, [], ◌∷◌, ◌++◌, map}
+use Rattle.std.proofs.Common.{Ok, Some, sym, ap, ◌∙◌}
 use Rattle.std.specs.FinMap.{get, insert, keys}
 use Rattle.std.specs.List.{AllByRecursion, list_any}
 use Rattle.std.proofs.lemmas.Bool.{or_parts}
 use Rattle.jv_base.specs.Names.{is_text}
 use Rattle.jv_base.proofs.Lists.{all_append}
-use Rattle.tree_io.specs.Below.{front_of, paths_below}
+use Rattle.tree_io.specs.Below.{paths_below}
 use Rattle.tree_io.specs.Files.{Files}
 use Rattle.tree_io.specs.declared.file_at.FileAt.{FileAt}
 use Rattle.path_text.specs.Path.{is_below}
@@ -17,13 +17,14 @@ use Rattle.keep_rules.specs.Paths.{any_meet, files_of, is_at, meets, meets_confi
 use Rattle.keep_rules.specs.Paths.{paths_meet}
 use Rattle.keep_rules.specs.declared.rules.Rules.{Rules}
 use Rattle.mapping_file.specs.Mappings.{mapping_text}
-use Rattle.set_shrink.specs.Texts.{texts_due, witness_file}
+use Rattle.pass_driver.specs.declared.optimising.Optimised.{Optimised}
+use Rattle.set_shrink.specs.Texts.{texts_due}
 use Rattle.set_shrink.specs.declared.shrunk.ShrunkSet.{ShrunkSet}
-use Rattle.witness_file.specs.WitnessLines.{line_text}
 use Rattle.witness_file.specs.Witnesses.{witness_text}
 use Rattle.pair_laws.specs.FilesFound.Below.{AreBelow, IsElsewhere}
 use Rattle.pair_laws.proofs.FilesFound.Found.{put_both}
-use Rattle.pair_laws.specs.OwnPairs.Written.{AreWritten, no_edit}
+use Rattle.pair_laws.proofs.OptimisedPairs.OptimisedSet.{PassLaws}
+use Rattle.pair_laws.specs.OwnPairs.Written.{AreWritten}
 use Rattle.pair_laws.proofs.OwnPairs.Found.{files_found}
 use Rattle.pair_laws.proofs.OwnMapping.Own.{own_mapping_is_read, own_witness_is_read}
 use Rattle.pair_laws.specs.OwnChecked.Again.{HasMapping, HasWitness, IsFoundAgain, PassesInputLimit}
@@ -105,11 +106,11 @@ is_apart_from config rules witness apart =
 
 -- ---- the whole
 
-module _ (files : List FileAt) (classes : List Class) (marks : List Bool) (rules : Rules) (set : ShrunkSet)
-    (written : List FileAt) (h : AreWritten files classes marks rules set written)
+module _ (laws : PassLaws) (files : List FileAt) (classes : List Class) (marks : List Bool) (rules : Rules)
+    (o : Optimised) (set : ShrunkSet) (written : List FileAt) (h : AreWritten files classes marks rules o set written)
     (old : Files) (config witness : List ℕ) (texts : List FileAt) (empty : paths_below rules.out_dir (keys old) ≡ [])
     (apart : paths_meet rules witness ≡ false) (clear : meets_config config rules witness ≡ false)
-    (told : texts_due set.mapping classes marks rules witness ≡ Ok texts) where
+    (told : texts_due set.mapping o.witness classes marks rules witness ≡ Ok texts) where
   abbrev new : Files
   new = put_all old (set.files ++ texts)
 
@@ -119,8 +120,11 @@ module _ (files : List FileAt) (classes : List Class) (marks : List Bool) (rules
   abbrev mapping_at : FileAt
   mapping_at = record { path = rules.mapping; bytes = mapping_text set.mapping }
 
-  are : AreTexts set.mapping rules witness texts
-  are = are_texts set.mapping classes marks rules witness texts told
+  abbrev witness_at : FileAt
+  witness_at = record { path = witness; bytes = witness_text o.witness }
+
+  are : AreTexts set.mapping o.witness rules witness texts
+  are = are_texts set.mapping o.witness classes marks rules witness texts told
 
   paths : DontMeet rules witness
   paths = dont_meet rules witness apart
@@ -149,7 +153,7 @@ module _ (files : List FileAt) (classes : List Class) (marks : List Bool) (rules
       → (input_due new rules.out_dir ≡ Ok written) ⊎ PassesInputLimit new rules.out_dir
   output_by (inr limit) = inr limit
   output_by (inl given) =
-      inl (given.1 ∙ ap Ok (files_found files classes marks rules set written h old texts empty elsewhere.1 given.0
+      inl (given.1 ∙ ap Ok (files_found files classes marks rules o set written h old texts empty elsewhere.1 given.0
       given.1))
 
   -- the config
@@ -164,7 +168,7 @@ module _ (files : List FileAt) (classes : List Class) (marks : List Bool) (rules
   -- the mapping and the witness
 
   abbrev behind : List FileAt
-  behind = are.lists ++ witness_file witness ∷ []
+  behind = are.lists ++ witness_at ∷ []
 
   others_differ : list_any (is_text rules.mapping) (map (λ (f : FileAt). f.path) behind) ≡ false
   others_differ =
@@ -181,29 +185,28 @@ module _ (files : List FileAt) (classes : List Class) (marks : List Bool) (rules
       (insert classes_put rules.mapping (mapping_text set.mapping))
       ∙ stands_at classes_put rules.mapping (mapping_text set.mapping)
 
-  witness_stands : get new witness ≡ Some (witness_text no_edit)
+  witness_stands : get new witness ≡ Some (witness_text o.witness)
   witness_stands =
       ap (λ (m : Files). get m witness)
       (new_is ∙ ap (put_all classes_put) are.are
-      ∙ put_both classes_put (mapping_at ∷ are.lists) (witness_file witness ∷ []))
-      ∙ stands_at (put_all classes_put (mapping_at ∷ are.lists)) witness (witness_text no_edit)
+      ∙ put_both classes_put (mapping_at ∷ are.lists) (witness_at ∷ []))
+      ∙ stands_at (put_all classes_put (mapping_at ∷ are.lists)) witness (witness_text o.witness)
 
   has_mapping : HasMapping new rules.mapping set.mapping
   has_mapping = (
     mapping_text set.mapping,
     record { there = mapping_stands; short = are.short },
-    own_mapping_is_read files classes marks rules set written h,
+    own_mapping_is_read laws files classes marks rules o set written h,
   )
 
-  has_witness : HasWitness new witness no_edit
-  unfolding witness_text line_text
+  has_witness : HasWitness new witness o.witness
   has_witness = (
-    witness_text no_edit,
-    record { there = witness_stands; short = leb-true (length (witness_text no_edit)) 67108864 refl },
-    own_witness_is_read,
+    witness_text o.witness,
+    record { there = witness_stands; short = are.edits_short },
+    (own_witness_is_read laws files classes marks rules o set written h).1,
   )
 
-  found_again : IsFoundAgain old new config witness rules set.mapping no_edit written
+  found_again : IsFoundAgain old new config witness rules set.mapping o.witness written
   found_again = record {
     config_stays = config_put;
     mapping_is = has_mapping;
@@ -212,6 +215,6 @@ module _ (files : List FileAt) (classes : List Class) (marks : List Bool) (rules
     output_is = output_by (found_or_limit rules.out_dir new);
   }
 
-pub files_found_again : OwnFilesAreFoundAgain
-files_found_again files classes marks rules set written h old config witness texts empty apart clear told =
-    found_again files classes marks rules set written h old config witness texts empty apart clear told
+pub files_found_again : PassLaws → OwnFilesAreFoundAgain
+files_found_again laws files classes marks rules o set written h old config witness texts empty apart clear told =
+    found_again laws files classes marks rules o set written h old config witness texts empty apart clear told

@@ -13,7 +13,9 @@ use Rattle.list_texts.specs.declared.limit.TooLong.{TooLong}
 use Rattle.mapping_file.specs.Mappings.{mapping_text}
 use Rattle.mapping_file.specs.declared.mapping.Mapping.{Mapping}
 use Rattle.set_shrink.specs.Lists.{list_due, lists_due, seeds_due, usage_due}
-use Rattle.set_shrink.specs.Texts.{mapping_due, texts_due, witness_file}
+use Rattle.set_shrink.specs.Texts.{mapping_due, texts_due, witness_due}
+use Rattle.witness_file.specs.Witnesses.{witness_text}
+use Rattle.witness_file.specs.declared.witness.Witness.{Witness}
 
 abbrev too_long : TooLong
 too_long = record { limit = 67108864 }
@@ -52,52 +54,63 @@ map_last (g ∷ files) f = ap (λ (t : List (List ℕ)). g.path ∷ t) (map_last
 
 -- ---- all of them
 
--- the mapping, no longer than 64 MiB, then the lists, then the witness, at the paths that the rules name
-pub record AreTexts (mapping : Mapping) (rules : Rules) (witness : List ℕ) (texts : List FileAt) : Type 0 where
+-- the mapping, no longer than 64 MiB, then the lists, then the witness, no longer either, at the paths that the rules
+-- name
+pub record AreTexts (mapping : Mapping) (edits : Witness) (rules : Rules) (witness : List ℕ) (texts : List FileAt)
+    : Type 0 where
   pub lists : List FileAt
   pub short : length (mapping_text mapping) ≤ 67108864
-  pub are : texts ≡ record { path = rules.mapping; bytes = mapping_text mapping } ∷ (lists ++ witness_file witness ∷ [])
+  pub edits_short : length (witness_text edits) ≤ 67108864
+  pub are : texts ≡ record { path = rules.mapping; bytes = mapping_text mapping }
+      ∷ (lists ++ record { path = witness; bytes = witness_text edits } ∷ [])
   pub paths : map (λ (f : FileAt). f.path) texts ≡ files_of rules witness
 
-mapping_by : (mapping : Mapping) (path : List ℕ) (first : FileAt) (short : Bool)
-    → nat_le (length (mapping_text mapping)) 67108864 ≡ short
-    → ((let r : Result (List ℕ) TooLong = cond short (Ok (mapping_text mapping)) (Err too_long) in r)
+-- a text that is no longer, at its path
+text_by : (text path : List ℕ) (first : FileAt) (short : Bool) → nat_le (length text) 67108864 ≡ short
+    → ((let r : Result (List ℕ) TooLong = cond short (Ok text) (Err too_long) in r)
     >>= (λ (bytes : List ℕ). Ok (record { path = path; bytes = bytes }))) ≡ Ok first
-    → (length (mapping_text mapping) ≤ 67108864) × (first ≡ record { path = path; bytes = mapping_text mapping })
-mapping_by mapping path first false is h = absurd cc
-mapping_by mapping path first true is h = (
-  leb-true (length (mapping_text mapping)) 67108864 is,
-  sym (same_ok (record { path = path; bytes = mapping_text mapping }) first h),
+    → (length text ≤ 67108864) × (first ≡ record { path = path; bytes = text })
+text_by text path first false is h = absurd cc
+text_by text path first true is h = (
+  leb-true (length text) 67108864 is,
+  sym (same_ok (record { path = path; bytes = text }) first h),
 )
 
-pub are_texts : (mapping : Mapping) (classes : List Class) (marks : List Bool) (rules : Rules) (witness : List ℕ)
-    (texts : List FileAt) → texts_due mapping classes marks rules witness ≡ Ok texts
-    → AreTexts mapping rules witness texts
-are_texts mapping classes marks rules witness texts h =
+pub are_texts : (mapping : Mapping) (edits : Witness) (classes : List Class) (marks : List Bool) (rules : Rules)
+    (witness : List ℕ) (texts : List FileAt) → texts_due mapping edits classes marks rules witness ≡ Ok texts
+    → AreTexts mapping edits rules witness texts
+are_texts mapping edits classes marks rules witness texts h =
     let first = then_ok (mapping_due mapping rules)
     (λ (f : FileAt). lists_due classes marks rules
-    >>= (λ (others : List FileAt). Ok (f ∷ (others ++ witness_file witness ∷ [])))) texts h in
+    >>= (λ (others : List FileAt). witness_due edits witness
+    >>= (λ (last : FileAt). Ok (f ∷ (others ++ last ∷ []))))) texts h in
     let lists = then_ok (lists_due classes marks rules)
-    (λ (others : List FileAt). Ok (first.0 ∷ (others ++ witness_file witness ∷ []))) texts first.2 in
+    (λ (others : List FileAt). witness_due edits witness
+    >>= (λ (last : FileAt). Ok (first.0 ∷ (others ++ last ∷ [])))) texts first.2 in
+    let last = then_ok (witness_due edits witness)
+    (λ (last : FileAt). Ok (first.0 ∷ (lists.0 ++ last ∷ []))) texts lists.2 in
     let seeds = then_ok (seeds_due classes rules)
     (λ (s : Option FileAt). usage_due classes marks rules
     >>= (λ (u : Option FileAt). Ok (cons_option s (cons_option u [])))) lists.0 lists.1 in
     let usage = then_ok (usage_due classes marks rules)
     (λ (u : Option FileAt). Ok (cons_option seeds.0 (cons_option u []))) lists.0 seeds.2 in
-    let mapped = mapping_by mapping rules.mapping first.0 (nat_le (length (mapping_text mapping)) 67108864) refl first.1 in
+    let mapped = text_by (mapping_text mapping) rules.mapping first.0 (nat_le (length (mapping_text mapping)) 67108864)
+    refl first.1 in
+    let edited = text_by (witness_text edits) witness last.0 (nat_le (length (witness_text edits)) 67108864) refl last.1 in
     let lists_are : lists.0 ≡ cons_option seeds.0 (cons_option usage.0 []) =
     sym (same_ok (cons_option seeds.0 (cons_option usage.0 [])) lists.0 usage.2) in
-    let texts_are : texts ≡ record { path = rules.mapping; bytes = mapping_text mapping }
-    ∷ (lists.0 ++ witness_file witness ∷ []) =
-    sym (same_ok (first.0 ∷ (lists.0 ++ witness_file witness ∷ [])) texts lists.2)
-    ∙ ap (λ (f : FileAt). f ∷ (lists.0 ++ witness_file witness ∷ [])) mapped.1 in
+    let at_end : FileAt = record { path = witness; bytes = witness_text edits } in
+    let texts_are : texts ≡ record { path = rules.mapping; bytes = mapping_text mapping } ∷ (lists.0 ++ at_end ∷ []) =
+    sym (same_ok (first.0 ∷ (lists.0 ++ last.0 ∷ [])) texts last.2)
+    ∙ (λ i. mapped.1 i ∷ (lists.0 ++ edited.1 i ∷ [])) in
     record {
       lists = lists.0;
       short = mapped.0;
+      edits_short = edited.0;
       are = texts_are;
       paths = ap (map (λ (f : FileAt). f.path)) texts_are
           ∙ ap (λ (t : List (List ℕ)). rules.mapping ∷ t)
-          (map_last lists.0 (witness_file witness)
+          (map_last lists.0 at_end
           ∙ ap (λ (t : List FileAt). map (λ (f : FileAt). f.path) t ++ witness ∷ []) lists_are
           ∙ sym (paths_so seeds.0 usage.0 witness)
           ∙ (λ i. before_texts (list_at rules.seeds _ seeds.0 seeds.1 i)

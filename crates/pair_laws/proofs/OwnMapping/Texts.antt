@@ -46,7 +46,7 @@ swapped_all (c ∷ cs) =
     ∙ sym (map-append (swapped 47 46) (encode c) (encodes cs))
 
 -- a name with dots in place of slashes is a text
-dotted_utf8 : (name : List ℕ) → IsUtf8 name → IsUtf8 (dotted name)
+pub dotted_utf8 : (name : List ℕ) → IsUtf8 name → IsUtf8 (dotted name)
 dotted_utf8 name h =
     (map (swapped 47 46) h.0, (swapped_scalars h.0 h.1.0, swapped_all h.0 ∙ ap (map (swapped 47 46)) h.1.1))
 
@@ -107,7 +107,7 @@ colon_utf8 : IsUtf8 (codes ":")
 unfolding lib.Utf8.encode
 colon_utf8 = (codes ":", (refl, refl))
 
-blank_utf8 : IsUtf8 (codes " ")
+pub blank_utf8 : IsUtf8 (codes " ")
 unfolding lib.Utf8.encode
 blank_utf8 = (codes " ", (refl, refl))
 
@@ -149,7 +149,7 @@ field_line_utf8 f ty old new =
     (IsUtf8-append (codes " ") (f.old ++ (codes " -> " ++ f.new)) blank_utf8
     (IsUtf8-append f.old (codes " -> " ++ f.new) old (IsUtf8-append (codes " -> ") f.new arrow_utf8 new))))
 
-member_utf8 : (ty : MethodType) (name : List ℕ) → IsMethodTypeValue ty → IsUtf8 name → IsUtf8 (method_text ty name)
+pub member_utf8 : (ty : MethodType) (name : List ℕ) → IsMethodTypeValue ty → IsUtf8 name → IsUtf8 (method_text ty name)
 member_utf8 ty name value text =
     IsUtf8-append (result_text ty.ret) (codes " " ++ (name ++ (codes "(" ++ (arguments_text ty.args ++ codes ")"))))
     (result_utf8 ty.ret value.returned)

@@ -16,6 +16,7 @@ use Rattle.class_model.specs.declared.class.Class.{Class}
 use Rattle.class_pool.specs.Faults.{Ascends}
 use Rattle.class_pool.specs.declared.fault.NamedClass.{NamedClass}
 use Rattle.class_pool.proofs.Ascending.{less}
+use Rattle.pass_driver.specs.Optimised.{with_codes}
 use Rattle.set_shrink.specs.Order.{class_path}
 use Rattle.set_shrink.specs.ShrunkSet.{AreFilesOf, left_of}
 use Rattle.pair_laws.specs.FilesFound.Below.{AreBelow}
@@ -101,11 +102,12 @@ files_below classes marks rules set shrunk =
     below_all rules.out_dir (left_of classes marks rules) set.files shrunk.files
 
 pub files_found : OwnFilesAreFound
-files_found files classes marks rules set written h old others empty elsewhere found due =
-    let left = left_of classes marks rules in
+files_found files classes marks rules o set written h old others empty elsewhere found due =
+    let new = with_codes o.codes classes in
+    let left = left_of new marks rules in
     let paths = class_paths_of rules.out_dir left set.files written h.shrunk.files h.below in
     let ascend : IsAscending (map (λ (f : FileAt). f.path) written) =
     subst IsAscending (sym paths) (ascending (map at_its_path left)
-    (left_ascends classes marks rules (map at_its_path left) (at_paths left) (classes_back left))) in
+    (left_ascends new marks rules (map at_its_path left) (at_paths left) (classes_back left))) in
     are_found old rules.out_dir set.files others written found empty h.below ascend
     (all_class_paths left written paths) elsewhere due

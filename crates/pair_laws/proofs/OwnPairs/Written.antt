@@ -55,6 +55,18 @@ module _ (directory : List ℕ) where
     are_read cs files written all.1 are.1 below.1,
   )
 
+  -- files below the directory tell one list of files by their paths there
+  pub below_one : (files a b : List FileAt) → AreBelow directory files a → AreBelow directory files b → a ≡ b
+  below_one [] [] [] first second = refl
+  below_one [] (x ∷ a) b first second = absurd first
+  below_one [] [] (y ∷ b) first second = absurd second
+  below_one (f ∷ files) [] b first second = absurd first
+  below_one (f ∷ files) (x ∷ a) [] first second = absurd second
+  below_one (f ∷ files) (x ∷ a) (y ∷ b) first second =
+      let path = same_rest (front_of directory) x.path y.path (sym first.0.0 ∙ second.0.0) in
+      let bytes = first.0.1 ∙ sym second.0.1 in
+      λ i. record { path = path i; bytes = bytes i } ∷ below_one files a b first.1 second.1 i
+
 -- ---- what is left can be written
 
 module _ (classes : List Class) (marks : List Bool) (rules : Rules) (taken : IsTaken classes)

@@ -202,7 +202,7 @@ module _ (a b : List Class) (like : DifferInCodes a b) where
   pub item_places_same : item_places b ≡ item_places a
   item_places_same = same a b like item_places item_places_is
 
-  stay_same : (rules : Rules) → names_that_stay rules b ≡ names_that_stay rules a
+  pub stay_same : (rules : Rules) → names_that_stay rules b ≡ names_that_stay rules a
   stay_same rules =
       let m = match_alike rules a b like in
       let classes = each_same class_marked (λ marks c. refl) a b like (fixed_rows fixes.Classes rules a)

@@ -20,7 +20,11 @@ use Rattle.pair_clauses.specs.Members.{further_fault, new_one, with_name}
 use Rattle.pair_clauses.specs.Places.{class_place, place_if, place_of_field, place_of_method}
 use Rattle.pair_clauses.specs.declared.place.Place.{Place}
 use Rattle.shape_laws.specs.Bare.{bare, bare_method}
-use Rattle.swap_laws.specs.Swapped.{CodeSwaps, IsSwapped, NamesLessThan}
+use Rattle.swap_laws.specs.Swapped.{CodeSwaps, NamesLessThan}
+
+-- a method has a code where another one has one
+abbrev pub HasToo : Method → Method → Type 0
+HasToo m o = is_some o.code ≡ is_some m.code
 
 there_too : (x y : Option Code) → NamesLessThan x y → is_some y ≡ is_some x
 there_too (Some x) (Some y) h = refl
@@ -28,24 +32,37 @@ there_too None None h = refl
 there_too (Some x) None h = absurd h
 there_too None (Some y) h = absurd h
 
+-- so have methods whose codes are swapped, and it holds both ways
+pub have_too : (ms os : List Method) → AllZip CodeSwaps ms os → AllZip HasToo ms os
+have_too [] [] zip = tt
+have_too [] (o ∷ os) zip = absurd zip
+have_too (m ∷ ms) [] zip = absurd zip
+have_too (m ∷ ms) (o ∷ os) zip = (there_too m.code o.code zip.0.no_more, have_too ms os zip.1)
+
+pub had_too : (ms os : List Method) → AllZip HasToo ms os → AllZip HasToo os ms
+had_too [] [] zip = tt
+had_too [] (o ∷ os) zip = absurd zip
+had_too (m ∷ ms) [] zip = absurd zip
+had_too (m ∷ ms) (o ∷ os) zip = (sym zip.0, had_too ms os zip.1)
+
 module _ (mapping : Mapping) (filter : AttributeFilter) where
   abbrev Same : NewMethod → Method → Type 0
   Same = IsSameMethod mapping filter
 
-  same_again : (m o : Method) (new : List ℕ) (out : Method) → bare_method m ≡ bare_method o → CodeSwaps m o
+  same_again : (m o : Method) (new : List ℕ) (out : Method) → bare_method m ≡ bare_method o → HasToo m o
       → Same (m, new) out → Same (o, new) out
-  same_again m o new out like swaps h = record {
+  same_again m o new out like has h = record {
     flags = (λ i. (sym like i).flags) ∙ h.flags;
     name = h.name;
     ty = subst (λ (x : Method). renamed_method_type (names_of mapping) x.ty ≡ out.ty) like h.ty;
-    code = there_too m.code o.code swaps.no_more ∙ h.code;
+    code = has ∙ h.code;
     throws = subst (λ (x : Method). map (names_of mapping).class (throws_kept filter x.throws) ≡ out.throws) like
         h.throws;
   }
 
   -- the expected methods of both
   module _ (P Q : NewMethod → Place) where
-    unlike_again : (ms os : List Method) → map bare_method ms ≡ map bare_method os → AllZip CodeSwaps ms os
+    unlike_again : (ms os : List Method) → map bare_method ms ≡ map bare_method os → AllZip HasToo ms os
         → (new : List (Option (List ℕ))) (outs : List Method)
         → FirstUnlike Same P (filter_map with_name (zip ms new)) outs None
         → FirstUnlike Same Q (filter_map with_name (zip os new)) outs None
@@ -65,7 +82,7 @@ module _ (mapping : Mapping) (filter : AttributeFilter) where
     )
 
   -- as many methods are expected
-  as_many : (ms os : List Method) → AllZip CodeSwaps ms os → (new : List (Option (List ℕ)))
+  as_many : (ms os : List Method) → AllZip HasToo ms os → (new : List (Option (List ℕ)))
       → length (filter_map with_name (zip ms new)) ≡ length (filter_map with_name (zip os new))
   as_many [] [] zip new = refl
   as_many [] (o ∷ os) zip new = absurd zip
@@ -76,7 +93,7 @@ module _ (mapping : Mapping) (filter : AttributeFilter) where
 
   -- ---- a class
 
-  module _ (c e : Class) (like : bare c ≡ bare e) (swaps : AllZip CodeSwaps c.methods e.methods) (given : ClassNames)
+  module _ (c e : Class) (like : bare c ≡ bare e) (has : AllZip HasToo c.methods e.methods) (given : ClassNames)
       (out : Class) where
     head_again : IsSameClass mapping c out → IsSameClass mapping e out
     head_again h = record {
@@ -99,8 +116,8 @@ module _ (mapping : Mapping) (filter : AttributeFilter) where
             (filter_map with_name (zip x.fields given.fields)) out.fields None) like h.1.0,
         (
           unlike_again (λ (m : NewMethod). place_of_method c m.0) (λ (m : NewMethod). place_of_method e m.0) c.methods
-              e.methods (λ i. (like i).methods) swaps given.methods out.methods h.1.1.0,
-          subst (λ (n : ℕ). IsNone e n) (as_many c.methods e.methods swaps given.methods)
+              e.methods (λ i. (like i).methods) has given.methods out.methods h.1.1.0,
+          subst (λ (n : ℕ). IsNone e n) (as_many c.methods e.methods has given.methods)
               (subst (λ (x : Class). IsNone x (length (expected_methods c given))) like h.1.1.1),
         ),
       ),
@@ -114,13 +131,13 @@ module _ (mapping : Mapping) (filter : AttributeFilter) where
         subst (λ (y : Class). LinedDiffers mapping filter e given (Some y) None) (sym same)
         (class_again (subst (λ (y : Class). LinedDiffers mapping filter c given (Some y) None) same h))
 
-  one_again : (c e : Class) → bare c ≡ bare e → AllZip CodeSwaps c.methods e.methods → (given : ClassNames)
+  one_again : (c e : Class) → bare c ≡ bare e → AllZip HasToo c.methods e.methods → (given : ClassNames)
       → (o : Option Class) → LinedDiffers mapping filter c given o None → LinedDiffers mapping filter e given o None
-  one_again c e like swaps given None h = refl
-  one_again c e like swaps given (Some out) h = lined_again c e like swaps given out (Some out) refl h
+  one_again c e like has given None h = refl
+  one_again c e like has given (Some out) h = lined_again c e like has given out (Some out) refl h
 
   pub members_again : (output : List Class) (a b : List Class) → map bare a ≡ map bare b
-      → ((n : ℕ) (c e : Class) → slice_get a n ≡ Some c → slice_get b n ≡ Some e → AllZip CodeSwaps c.methods e.methods)
+      → ((n : ℕ) (c e : Class) → slice_get a n ≡ Some c → slice_get b n ≡ Some e → AllZip HasToo c.methods e.methods)
       → (given : List ClassNames) → MemberDiffers mapping filter a given output None
       → MemberDiffers mapping filter b given output None
   members_again output [] [] like codes given h = refl

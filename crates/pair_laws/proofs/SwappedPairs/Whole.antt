@@ -20,7 +20,7 @@ use Rattle.pair_laws.specs.SwappedPairs.Laws.{IsPairButCodes, SwapKeepsPairs}
 use Rattle.pair_laws.proofs.OwnLines.Closing.{no_item_lacks, no_seed_lost}
 use Rattle.pair_laws.proofs.PairSame.ClosedLines.{closed_lines}
 use Rattle.pair_laws.proofs.SwappedPairs.Clauses.{fixed_same, given_same, package_same, shape_same}
-use Rattle.pair_laws.proofs.SwappedPairs.Members.{members_again}
+use Rattle.pair_laws.proofs.SwappedPairs.Members.{have_too, members_again}
 use Rattle.pair_laws.proofs.SwappedPairs.Names.{kept_same}
 
 module _ (input other output : List Class) (mapping : Mapping) (rules : Rules) (swapped : IsSwapped input other)
@@ -48,7 +48,8 @@ module _ (input other output : List Class) (mapping : Mapping) (rules : Rules) (
     closed = no_item_lacks other (given_names mapping other) (required other rules) (lined_items given) closed
         (ap lined_items given_is);
     members = subst (λ (g : List ClassNames). MemberDiffers mapping (filter_of rules) other g output None) (sym given_is)
-        (members_again mapping (filter_of rules) output input other swapped.alike swapped.codes given pair.members);
+        (members_again mapping (filter_of rules) output input other swapped.alike
+        (λ n c e at there. have_too c.methods e.methods (swapped.codes n c e at there)) given pair.members);
     codes = subst (λ (g : List ClassNames). CodeDiffers mapping (filter_of rules) other g output None) (sym given_is)
         codes;
   }

@@ -1,14 +1,21 @@
--- What is kept of a set can be written under its new names, and all of it is, as statements on all sets, rules and
--- marks (the project's own).
-use Rattle.std.specs.Prelude.{◌≡◌, Bool, List, IsPermutation, Ok}
+-- What is kept of a set can be written under its new names, and all of it is, and so it is of the set with the codes
+-- that the passes leave, as statements on all sets, rules and marks (the project's own).
+use Rattle.std.specs.Prelude.{◌≡◌, Bool, List, IsPermutation, Ok, Option}
 use Rattle.std.specs.List.{AllByRecursion}
 use Rattle.mark_core.specs.Marks.{Closed, set_of}
 use Rattle.class_model.specs.declared.class.Class.{Class}
 use Rattle.class_laws.specs.SpellingLaws.{IsWritable}
+use Rattle.class_pool.specs.Count.{item_count}
 use Rattle.class_pool.specs.Faults.{Ascends, Builds}
 use Rattle.class_pool.specs.declared.fault.NamedClass.{NamedClass}
 use Rattle.keep_rules.specs.declared.rules.Rules.{Rules}
+use Rattle.fresh_names.specs.declared.taken.TakenNames.{TakenNames}
 use Rattle.link_check.specs.Profile.{links_checked}
+use Rattle.type_verifier.specs.Verified.{AreTyped}
+use Rattle.image_laws.specs.TakenSet.TakenSet.{IsTaken}
+use Rattle.pass_driver.specs.Optimised.{IsOptimisedIf, with_codes}
+use Rattle.pass_driver.specs.declared.optimising.Optimised.{Optimised}
+use Rattle.rename_map.specs.Names.{AreFixed}
 use Rattle.require_sys.specs.Required.{required}
 use Rattle.set_shrink.specs.Order.{in_order}
 use Rattle.set_shrink.specs.ShrunkSet.{renamed_of}
@@ -30,3 +37,19 @@ KeptAreWritable = (classes : List Class) (rules : Rules) (marks : List Bool) →
 abbrev pub KeptAreAllWritten : Type 0
 KeptAreAllWritten = (classes : List Class) (rules : Rules) (marks : List Bool) → IsLinked classes
     → IsPermutation (renamed_of classes marks rules) (in_order (renamed_of classes marks rules))
+
+-- ---- with other codes
+
+-- what is kept of a set with the codes that become of it can be written under its new names; the set has as many items,
+-- and the names that stay are the same
+pub record KeepsWritable (classes : List Class) (rules : Rules) (marks : List Bool) (o : Optimised) : Type 0 where
+  pub writable : AllByRecursion IsWritable (renamed_of (with_codes o.codes classes) marks rules)
+  pub count : item_count (with_codes o.codes classes) ≡ item_count classes
+  pub fixed : (taken : Option TakenNames) → AreFixed rules classes taken
+      → AreFixed rules (with_codes o.codes classes) taken
+
+-- so it is of a set that is taken and typed, and of which each class can be written, by closed marks
+abbrev pub OptimisedKeepsWritable : Type 0
+OptimisedKeepsWritable = (classes : List Class) (rules : Rules) (marks : List Bool) (o : Optimised) → IsTaken classes
+    → AreTyped classes → Closed (required classes rules) (set_of marks) → AllByRecursion IsWritable classes
+    → IsOptimisedIf rules.optimise marks classes o → KeepsWritable classes rules marks o

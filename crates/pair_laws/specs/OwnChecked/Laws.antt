@@ -11,10 +11,11 @@ use Rattle.class_files.specs.Output.{put_all}
 use Rattle.class_model.specs.declared.class.Class.{Class}
 use Rattle.keep_rules.specs.Paths.{meets_config, paths_meet}
 use Rattle.keep_rules.specs.declared.rules.Rules.{Rules}
+use Rattle.pass_driver.specs.declared.optimising.Optimised.{Optimised}
 use Rattle.set_shrink.specs.Texts.{texts_due}
 use Rattle.set_shrink.specs.declared.shrunk.ShrunkSet.{ShrunkSet}
 use Rattle.pair_laws.specs.FilesFound.Below.{IsElsewhere}
-use Rattle.pair_laws.specs.OwnPairs.Written.{AreWritten, no_edit}
+use Rattle.pair_laws.specs.OwnPairs.Written.{AreWritten}
 use Rattle.pair_laws.specs.OwnChecked.Again.{IsFoundAgain}
 
 -- files that are put elsewhere change nothing below a directory
@@ -27,8 +28,8 @@ ElsewhereChangesNothing = (old : Files) (directory : List ℕ) (others : List Fi
 -- the config, where no paths meet, nor any the config
 abbrev pub OwnFilesAreFoundAgain : Type 0
 OwnFilesAreFoundAgain = (files : List FileAt) (classes : List Class) (marks : List Bool) (rules : Rules)
-    (set : ShrunkSet) (written : List FileAt) → AreWritten files classes marks rules set written
+    (o : Optimised) (set : ShrunkSet) (written : List FileAt) → AreWritten files classes marks rules o set written
     → (old : Files) (config witness : List ℕ) (texts : List FileAt) → paths_below rules.out_dir (keys old) ≡ []
     → paths_meet rules witness ≡ false → meets_config config rules witness ≡ false
-    → texts_due set.mapping classes marks rules witness ≡ Ok texts
-    → IsFoundAgain old (put_all old (set.files ++ texts)) config witness rules set.mapping no_edit written
+    → texts_due set.mapping o.witness classes marks rules witness ≡ Ok texts
+    → IsFoundAgain old (put_all old (set.files ++ texts)) config witness rules set.mapping o.witness written

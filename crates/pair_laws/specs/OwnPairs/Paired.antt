@@ -10,6 +10,7 @@ use Rattle.mapping_file.specs.Mappings.{mapping_text}
 use Rattle.mapping_file.specs.declared.mapping.Mapping.{Mapping}
 use Rattle.witness_file.specs.WitnessReading.{read_witness}
 use Rattle.witness_file.specs.Witnesses.{witness_text}
+use Rattle.witness_file.specs.declared.witness.Witness.{Witness}
 use Rattle.jvm_model.specs.Same.{Same}
 use Rattle.jvm_model.specs.Value.{Key}
 use Rattle.set_view.specs.ViewOf.{view_of}
@@ -19,18 +20,18 @@ use Rattle.pair_checker.specs.PairOk.{PairOk}
 use Rattle.pair_laws.specs.PairSame.Entries.{AreEntries}
 use Rattle.pair_laws.specs.PairSame.Laws.{pair_names}
 use Rattle.pair_laws.specs.PairSame.OneToOne.{AreOneToOne}
-use Rattle.pair_laws.specs.OwnPairs.Written.{no_edit}
 
 -- told by their paths below the output directory, the files are taken as a set, and no clause of a pair holds of it, of
--- the input, the mapping, the rules and a witness without an entry; the texts of the mapping and of this witness are
--- read back as they are. So this set does what the input does, from each entry, names read through the mapping, which
+-- the input, the mapping, the rules and the witness; the texts of the mapping and of the witness are read back as they
+-- are. So this set does what the input does, from each entry, names read through the mapping, which
 -- are one to one, and neither goes wrong where the entry is given what it may be given; and each of its methods is typed
-pub record ArePaired (input : List Class) (rules : Rules) (mapping : Mapping) (class_files : List FileAt) : Type 0 where
+pub record ArePaired (input : List Class) (rules : Rules) (mapping : Mapping) (witness : Witness)
+    (class_files : List FileAt) : Type 0 where
   pub written : List FileAt
   pub below : AreBelow rules.out_dir class_files written
-  pub pair : PairOk input written mapping rules no_edit
+  pub pair : PairOk input written mapping rules witness
   pub mapping_read : read_mapping (mapping_text mapping) ≡ Ok mapping
-  pub witness_read : read_witness (witness_text no_edit) ≡ Ok no_edit
+  pub witness_read : read_witness (witness_text witness) ≡ Ok witness
   pub names : AreOneToOne input (pair_names input mapping)
   pub same : (entries : List Key) → AreEntries input rules entries
       → Same (view_of input) (view_of pair.output) (pair_names input mapping) entries

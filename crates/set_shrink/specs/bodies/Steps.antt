@@ -1,4 +1,4 @@
--- What the steps give on the way to what is written of a set (only the proof of shrink_set needs it).
+-- What the steps give on the way to what is written of a set (only the proof of shrink_classes needs it).
 use Rattle.std.specs.Prelude.{◌≡◌, ℕ, List, Result, Ok, Err, map}
 use Rattle.jv_base.specs.declared.outcome.Or.{Or}
 use Rattle.jv_base.specs.declared.outcome.Or.TheVariants.{Fault, OutOfMemory}

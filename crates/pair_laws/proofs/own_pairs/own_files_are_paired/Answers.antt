@@ -1,5 +1,12 @@
+use Rattle.pair_laws.proofs.OptimisedPairs.OptimisedSet.{PassLaws}
 use Rattle.pair_laws.proofs.OwnPairs.Own.{own_paired}
 use Rattle.pair_laws.proofs.own_pairs.own_files_are_paired.Goals as goal
 
 pub returns : goal.returns
-returns c = own_paired
+returns c =
+    let laws : PassLaws = record {
+      legal = c.found_acts_are_legal.ensures;
+      swapped = c.sets_by_rules_are_swapped.ensures.swapped;
+      typed = c.sets_by_rules_are_swapped.ensures.typed;
+    } in
+    own_paired laws

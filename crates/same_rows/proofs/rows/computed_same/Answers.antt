@@ -13,6 +13,6 @@ returns c = record {
   texts = computed.texts_are;
   names = computed.names_are;
   same = promised.does_the_same;
-  paired = promised.is_paired;
+  paired = promised.is_paired c.own_files_are_paired.ensures;
   run = computed.runs_are;
 }

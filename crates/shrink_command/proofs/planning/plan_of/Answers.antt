@@ -2,12 +2,12 @@ use Rattle.std.proofs.lemmas.Result.{err_from_is_err_and}
 use Rattle.command_frame.proofs.Steps.{makes_stops, then_makes}
 use Rattle.command_steps.specs.Sets.{IsSet}
 use Rattle.shrink_command.specs.Due.{IsPlanned}
-use Rattle.shrink_command.proofs.Planned.{linked_set}
+use Rattle.shrink_command.proofs.Planned.{given_set}
 use Rattle.shrink_command.proofs.planning.plan_of.Goals as goal
 
-pub set_plan-requires-clause-linked : goal.set_plan-requires-clause-linked
-set_plan-requires-clause-linked g c =
-    linked_set c.args.inputs c.in_ok-set.set c.requires.files.ascending c.in_ok-set.ensures.made
+pub set_plan-requires-clause-given : goal.set_plan-requires-clause-given
+set_plan-requires-clause-given g c =
+    given_set c.args.inputs c.in_ok-set.set c.requires.files c.in_ok-set.ensures.made c.in_ok-set.ensures.writable
 
 pub returns-in_err-set : goal.returns-in_err-set
 returns-in_err-set g c =

@@ -1,0 +1,5 @@
+use Rattle.found_laws.proofs.OneActs.{one_acts}
+use Rattle.found_laws.proofs.laws.found_acts_are_one.Goals as goal
+
+pub returns : goal.returns
+returns c = one_acts

@@ -1,0 +1,5 @@
+use Rattle.found_laws.proofs.SomeActs.{some_acts}
+use Rattle.found_laws.proofs.laws.found_acts_are_some.Goals as goal
+
+pub returns : goal.returns
+returns c = some_acts

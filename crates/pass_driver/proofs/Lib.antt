@@ -1,0 +1,4 @@
+pub mod LeftReached
+mod Stepping
+pub mod Spotting
+mod Faults

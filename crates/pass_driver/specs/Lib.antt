@@ -1,0 +1,4 @@
+pub mod Stepped
+pub mod Outcomes
+pub mod Optimised
+pub mod bodies
