@@ -34,6 +34,21 @@ def seconds():
     return used.ru_utime + used.ru_stime
 
 
+def tried(rt, crate, edits):
+    """Whether each edit is refused, and what is said of it, over what one check of the crate as it stands proved."""
+    flags, start = ["--jobs", "1"], f"{crate.folder}/out/incremental"
+    room = rt.seeded(crate, flags, start if os.path.isdir(start) else None)
+    try:
+        for number, edit in enumerate(edits):
+            over = f"{room}/{number}" if room else None
+            if room:
+                rt.linked(f"{room}/seed", over)
+            came_to, text = rt.must_fail(crate, edit, flags, over)
+            yield came_to in (rt.REFUSED, rt.AT_LIMIT), text
+    finally:
+        shutil.rmtree(room or "", ignore_errors=True)
+
+
 def main(words):
     ending = ".edit" if "--in-gate" in words else ".edit.md"
     names = [word for word in words if not word.startswith("--")]
@@ -50,8 +65,8 @@ def main(words):
         if edits and any(below.build_rlib(["--jobs", "1"], anew=False) for below in crate.below()):
             return 1
         used, begun = seconds(), time.time()
-        for refused, text in rt.must_fail_all(crate, edits, ["--jobs", "1"]):
-            print(text)
+        for refused, text in tried(rt, crate, edits):
+            print(text, flush=True)
             failed += [] if refused else [text.partition(": ")[0]]
         print(f"{crate.name}: {len(edits)} edits, {seconds() - used:.0f} processor seconds, {time.time() - begun:.0f} s", flush=True)
     print("\n".join(failed) if failed else "ok")

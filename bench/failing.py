@@ -34,6 +34,7 @@ KEEP = '-keepclasseswithmembers class * { public static void main(java.lang.Stri
 CONFIG = '-injars in\n-outjars out\n-printmapping map.txt\n-printseeds seeds.txt\n-printusage usage.txt\n' + KEEP
 FILES = ['out/Hello.class', 'out/a.class', 'map.txt', 'seeds.txt', 'usage.txt', 'o.wit']  # in the order in which they are written
 SHRINK, CHECK, RETRACE = ['shrink', 's.pro', 'o.wit'], ['check', 's.pro', 'o.wit'], ['retrace', 'map.txt', 'trace.txt']
+MAIN = 'Hello.main(java.lang.String[])'
 TRACE = 'Exception in thread "main" a: x\n\tat a.a(SourceFile:3)\n\tat Hello.main(SourceFile:9)\n'
 OLD = b'what stood here before\n'
 LIMIT = 64 * 1024 * 1024
@@ -522,6 +523,20 @@ COMMANDS = {
     'shrink, a class that is missing': Command(SHRINK, made=lambda room: (room.at / 'in/Greeting.class').unlink()),
     'shrink, an output directory that isn\'t empty': Command(SHRINK, made=lambda room: room.put('out/x', 'x')),
     'shrink, wrong words': Command(['shrink', 's.pro']),
+    'gen': Command(['gen', '1', 'set'], writes=('set/g/C0.class', 'set/g/D0.class', 'set/g/I.class')),
+    'gen, a directory that isn\'t empty': Command(['gen', '1', 'in']),
+    'why': Command(['why', 's.pro', 'Greeting: java.lang.String to(java.lang.String)']),
+    'why, an item that goes': Command(['why', 's.pro', 'Unused']),
+    'why, no such item': Command(['why', 's.pro', 'Nothing']),
+    'run': Command(['run', 'in', MAIN, '1000', 'you']),
+    'run, no such method': Command(['run', 'in', 'Hello.none()', '1000']),
+    'run, a class file that is refused': Command(
+        ['run', 'in', MAIN, '1000', 'you'], made=lambda room: room.put('in/Hello.class', b'abc')),
+    'compare': Command(['compare', 's.pro', MAIN, '1000', 'you'], True),
+    'compare, an output that differs': Command(
+        ['compare', 's.pro', MAIN, '1000', 'you'], True, lambda room: (room.at / 'out/Hello.class').unlink()),
+    'compare, a mapping that is refused': Command(
+        ['compare', 's.pro', MAIN, '1000', 'you'], True, lambda room: room.put('map.txt', 'x\n')),
     '--help': Command(['--help']),
     '--version': Command(['--version']),
 }

@@ -7,10 +7,10 @@ PROGRAM is a built program (bin/cixorradde's, or one of .try). The pairs are wha
 random programs (random_programs.py), under several rules; and the same of programs whose codes were made rough before
 (edited.py), with each code edited by the passes of passes.py and a witness that tells of it. Each kind of change below is made N
 times (40 unless said otherwise) at places that a fixed seed picks, then pairs of changes; `check` runs on each. Where it says
-ok, the pair is judged by judge.py, which reads class files and goes through the acts of the witness by itself, and where the
-classes aren't byte for byte those that were there before, both main methods run under `java` with all classes verified, and
-have to print the same. A pair that is taken and shouldn't be, and an answer of another form than docs/MANUAL.md has, are
-failures: they are kept below DIR (forged/) and the status is 1.
+ok, `compare` may not say that the main method does otherwise, and the pair is judged by judge.py, which reads class files and
+goes through the acts of the witness by itself; where the classes aren't byte for byte those that were there before, both main
+methods run under `java` with all classes verified, and have to print the same. A pair that is taken and shouldn't be, and an answer of
+another form than docs/MANUAL.md has, are failures: they are kept below DIR (forged/) and the status is 1.
 
 Of the pairs that `check` refuses it is counted how many the judge would take; it judges no types, so these aren't failures.
 """
@@ -1584,9 +1584,12 @@ class Forge:
         row['pairs'] += 1
         if status == 0 and line == 'ok\n':
             row['ok'] += 1
-            why = self.judged(world)
+            why, shown = self.judged(world), self.compared(source.main)
+            row['compared'] += shown == 'same'
             if why:
                 self.fail(kind, world, files, f'ok, and the judge says {why}')
+            elif shown != 'same' and not shown.startswith('error 12 entry '):
+                self.fail(kind, world, files, f'ok, and compare says {shown}')
             elif world.inputs != source.inputs or any(
                     world.files.get(it) != data for it, data in source.files.items() if it.endswith('.class')):
                 row['run'] += 1
@@ -1602,6 +1605,10 @@ class Forge:
         if form and form[2] and self.judged(world) is None:
             row['judge ok'] += 1
             self.rows.setdefault('_refused', []).append((kind, line.strip()))
+
+    def compared(self, main):
+        """What `compare` says of the pair that was checked last, from its main method, which the rules may not keep any more."""
+        return self.call('compare', 's.pro', f'{main}.main(java.lang.String[])', '1000000').stdout.decode('utf-8', 'replace').strip()
 
     def run_both(self):
         if not self.both:
@@ -1624,7 +1631,7 @@ class Forge:
         return len(said)
 
 
-APART = ('pairs', 'ok', 'run', 'judge ok', 'java refuses', 'kinds')
+APART = ('pairs', 'ok', 'run', 'compared', 'judge ok', 'java refuses', 'kinds')
 
 
 def table(rows, head='Change'):
@@ -1681,7 +1688,8 @@ def main():
         by = ', '.join(f'{name} {count}' for name, count in total.most_common() if name not in APART)
         print(f'{len(worlds)} pairs before, of them {sum("edited" in it.name for it in worlds)} with {forge.edits} edited codes, '
               f'{len(forge.rows)} kinds of change, {total["pairs"]} forged pairs: {total["ok"]} ok, '
-              f'of which {ran} ran under java, which refuses {total["java refuses"]} of kinds that are known; {by}; '
+              f'of which {ran} ran under java, which refuses {total["java refuses"]} of kinds that are known, and of {total["compared"]} '
+              f'compare says same; {by}; '
               f'{total["judge ok"]} refused that the judge would take; {len(forge.wrong)} wrong')
         for kind, line in refused[:40] if asked.table else ():
             print(f'refused, and the judge would take it: {kind}: {line}', file=sys.stderr)

@@ -109,7 +109,9 @@ TAKEN = [
     "-keep class Greeting { !private *; }", "-keep class Hello { public protected *; }",
 ]
 WORDS = [
-    ("", "usage"), ("shrink s.pro", ""), ("shrink s.pro out.wit more", ""), ("gen 1 out", ""),
+    ("", "usage"), ("shrink s.pro", ""), ("shrink s.pro out.wit more", ""), ("gen 4001 out", ""), ("gen 1", ""),
+    ("why s.pro", ""), ("run in", ""), ("run in Hello.main 100", ""), ("run in Hello.none() x", ""), ("run in Hello.none() 100000001", ""),
+    ("compare s.pro Hello.none()", ""), ("compare ./s.pro Hello.none() 100", ""),
     ("shrink s.pro/ out.wit", ""), ("shrink ./s.pro out.wit", "./s.pro"),
     ("shrink ../s.pro out.wit", ""), ("shrink a//b out.wit", ""), ("shrink s.pro out.wit --workers=65", ""),
     ("shrink s.pro out.wit --workers 0", ""),
@@ -141,6 +143,19 @@ SOURCES = [
     ("class T { int i(String s) { return Integer.parseInt(s); } }", "T int i(java.lang.String) Unresolved",
     ""), ("class T { Integer i() { return 3; } }", "T java.lang.Integer i() Unresolved", ""),
     ("class T { void x(int y) { assert y > 0; } }", "T void x(int) Unresolved", "library"),
+]
+MAIN = "Hello.main(java.lang.String[])"
+# What commands answer on an input and an output, behind `shrink`.
+RUNS = [
+    (["gen", "1", "set"], "classes 3", ""), (["gen", "1", "full"], "error 8 not-empty full", "nothing but folders"),
+    (["why", "s.pro", "Greeting"], "depth ", ""), (["why", "s.pro", "Unused"], "none", ""),
+    (["why", "s.pro", "Nothing"], "error 14 item Nothing", "-printseeds"),
+    (["run", "in", MAIN, "1000", "you"], "hello you", ""), (["run", "in", MAIN, "0"], "end running", ""),
+    (["run", "in", "Hello.unused()", "100"], "end returned 1", ""), (["run", "in", "Hello.unused()", "100", "1"], "error 12 entry Hello.unused()", "spelled"),
+    (["run", "in", "Greeting.size()", "100"], "error 12 entry Greeting.size()", "static"), (["run", "empty", MAIN, "100"], f"error 12 entry {MAIN}", ""),
+    (["run", "in/Hello.class", MAIN, "100"], "error 7 device", "directory"),
+    (["compare", "s.pro", MAIN, "1000", "you"], "same", ""), (["compare", "s.pro", "Hello.unused()", "100"], "error 12 entry Hello.unused()", "rules keep"),
+    (["compare", "x.pro", MAIN, "1000"], "error 2 absent x.pro", "folder"),
 ]
 LINES = [
     ("demo.A -> a", "error 11 text 1 BadLine", "old -> new"),
@@ -199,10 +214,11 @@ def pairs(room):
     shutil.copytree(room.room / "out", room.room / "kept")
     mapping, check = (room.room / "map.txt").read_text(), ["check", "s.pro", "out.wit"]
 
-    def case(group, name, line, advice):
-        shutil.rmtree(room.room / "out", ignore_errors=True)
+    def case(group, name, line, advice, words=check):
+        for folder in ("out", "set"):
+            shutil.rmtree(room.room / folder, ignore_errors=True)
         shutil.copytree(room.room / "kept", room.room / "out", dirs_exist_ok=True)
-        done = room.run(check)
+        done = room.run(words)
         first, told = done.stdout.decode().split("\n")[0], done.stderr.decode()
         good = first.startswith(line) and advice.lower() in told.lower() and ("cixorradde:" in told) == line.startswith("error")
         number, right = room.counts.get(group, (0, 0))
@@ -221,6 +237,15 @@ def pairs(room):
     for text, line, advice in WITNESSES:
         room.put("out.wit", text)
         case("pairs", text, line, advice)
+    for words, line, advice in RUNS:
+        case("runs", " ".join(words), line, advice, words)
+    compare = ["compare", "s.pro", MAIN, "1000"]
+    for text, line, advice in LINES:
+        room.put("map.txt", text)
+        case("runs", f"compare by {text!r}", line, "mapping map.txt", compare)
+    room.put("map.txt", "Hello -> Other:\n")
+    case("runs", "compare with another class", "error 13 differs", "both directories", compare)
+    room.put("map.txt", mapping)
     room.put("out.wit", "witness 1\n")
     first = mapping.split("\n")
     method = next(it for it in first if it.endswith("-> main"))

@@ -368,6 +368,14 @@ def chain_methods(n):
         yield File(names[i], names[i + 1], methods=[Method(f'm{k}', '()V', 0, ['return']) for k in range(20)])
 
 
+def chain_opened(n):
+    """The same, but the methods of every third class are public, which opens those of its package above it to all packages."""
+    for i, file in enumerate(chain_methods(n)):
+        if i % 3 == 0:
+            file.methods = [Method(f'm{k}', '()V', PUBLIC, ['return']) for k in range(20)]
+        yield file
+
+
 def below_chain(n):
     """A chain of N classes whose lowest one implements an interface of N methods, which none of them has."""
     yield interface('p/I', methods=[abstract(f'm{k}') for k in range(n)])
@@ -506,10 +514,10 @@ attribute_filters.rules = lambda n: '-keep class ** { *; }\n-keepattributes ' + 
 
 USUAL = [classes, deep, deep_large, chain, overriding, implementing, interfaces, extending, calls]
 HOSTILE = [strings, long_calls, handlers, throws, descriptors, long_arguments, frames, full_frames, branches, covering, changing, beginning, differing, ending, making, framing, wanting, deep_frames, tall, overriding_twenty, overloads, two_overloads, colliding, alike_ends, colliding_classes]
-COSTLY = [chain_methods, below_chain, chain_final, same_interface, high_references, interface_dense, interface_dense_up, two_chains, nops, wide_frames,
+COSTLY = [chain_methods, chain_opened, below_chain, chain_final, same_interface, high_references, interface_dense, interface_dense_up, two_chains, nops, wide_frames,
           wide_methods, line_rows, rule_members, rule_parameters, long_pattern, wildcard_rules, named_rules, attribute_filters]
 SIZES = {
-    'chain_methods': [20, 40, 80], 'below_chain': [1250, 2500, 5000], 'chain_final': [1250, 2500, 5000], 'same_interface': [250, 500, 1000],
+    'chain_methods': [200, 400, 800], 'chain_opened': [20, 40, 80], 'below_chain': [1250, 2500, 5000], 'chain_final': [1250, 2500, 5000], 'same_interface': [250, 500, 1000],
     'high_references': [1000, 2000, 4000], 'interface_dense': [125, 250, 500], 'interface_dense_up': [125, 250, 500],
     'two_chains': [500, 1000, 2000], 'nops': [31, 62, 124], 'wide_frames': [250, 500, 1000], 'wide_methods': [250, 500, 1000],
     'line_rows': [10000, 20000, 40000], 'rule_members': [2000, 4000, 8000], 'rule_parameters': [250000, 500000, 1000000],

@@ -3,7 +3,7 @@
 #![tactic(auto)]
 
 #[cfg(test)]
-mod component;
+mod batches;
 #[cfg(test)]
 mod disk;
 #[cfg(test)]
@@ -13,7 +13,7 @@ mod library;
 #[cfg(test)]
 mod lines;
 #[cfg(test)]
-mod marks;
+mod queues;
 #[cfg(test)]
 mod spelling;
 #[cfg(test)]

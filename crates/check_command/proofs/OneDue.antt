@@ -1,5 +1,5 @@
 -- One thing at most is due of told files: that the pair is one, or one refusal.
-use Rattle.std.proofs.Common.{◌≡◌, ℕ, List, Result, Ok, Err, sym, ap, ◌∙◌}
+use Rattle.std.proofs.Common.{ℕ, List, Result, Ok, Err, sym, ap, ◌∙◌}
 use Rattle.std.specs.FinMap.{get}
 use Rattle.tree_io.specs.Files.{Files}
 use Rattle.tree_io.specs.declared.file_at.FileAt.{FileAt}
@@ -22,7 +22,7 @@ use Rattle.command_steps.specs.Sets.{IsDirectory, IsSet}
 use Rattle.command_steps.specs.System.{IsSystem, or_many}
 use Rattle.command_steps.specs.Texts.{IsMapping, IsWitness, or_bad_mapping, or_bad_witness}
 use Rattle.check_command.specs.Due.{AreDirectories, AreTexts, FollowsInput, FollowsMapping, FollowsRules, FollowsSet}
-use Rattle.check_command.specs.Due.{FollowsTexts, IsJudged, IsPair, IsTexts, belongs, differs, no_refused, ok_plan}
+use Rattle.check_command.specs.Due.{FollowsTexts, IsJudged, IsPair, IsTexts, belongs, differs, no_refused}
 use Rattle.check_command.specs.OneDue.{IsOneDue}
 use Rattle.check_command.specs.declared.finding.Directories.{Directories}
 use Rattle.check_command.specs.declared.finding.Texts.{Texts}

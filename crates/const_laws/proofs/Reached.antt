@@ -1,5 +1,5 @@
 -- Control may come to each index of a code of which reach drops none.
-use Rattle.std.proofs.Common.{ℕ, zero, suc, ◌+◌, ◌<◌, ◌≤◌, List, [], ◌∷◌, ◌++◌, Option, Some, None}
+use Rattle.std.proofs.Common.{ℕ, zero, suc, ◌<◌, ◌≤◌, List, [], ◌∷◌, Some, None}
 use Rattle.std.proofs.Common.{Bool}
 use Rattle.std.proofs.Common.{true, false, IsTrue, ◌≡◌, ◌⊎◌, inl, inr, refl, sym, ap, ◌∙◌, subst}
 use Rattle.std.proofs.Common.{arith}
@@ -10,12 +10,9 @@ use Rattle.std.proofs.lemmas.List.Elements.{All-contains}
 use Rattle.std.proofs.lemmas.Option.{get_or_from_slice_get, slice_get_within}
 use Rattle.class_model.specs.declared.code.Code.{Code}
 use Rattle.class_model.specs.declared.code.Handler.{Handler}
-use Rattle.class_model.specs.declared.code.Ins.{Ins}
-use Rattle.code_edit.specs.declared.act.Act.{Act}
-use Rattle.code_edit.specs.declared.act.Act.TheVariants as act
 use Rattle.code_edit.specs.Facts.{HoldsReached, IsAllReached}
-use Rattle.code_edit.specs.Flow.{covers, successors, successors_by, successors_of}
-use Rattle.code_edit.specs.Passes.{IsReachEdits, IsReached, TellsReached, entered, first, led_to}
+use Rattle.code_edit.specs.Flow.{successors_by, successors_of}
+use Rattle.code_edit.specs.Passes.{IsReachEdits, IsReached, entered, first, led_to}
 use Rattle.code_edit.specs.Passes.{runs}
 
 -- ---- no run is dropped

@@ -2,7 +2,7 @@
 use Rattle.std.proofs.Common.{ℕ, zero, suc, ◌+◌, ◌-◌, ◌<◌, ◌≤◌, ℤ, List, [], ◌∷◌, ◌++◌, Option, Some}
 use Rattle.std.proofs.Common.{None, Bool, true, false, ◌≡◌, ◌⊎◌, inl, inr, refl, sym, ap, ◌∙◌, subst}
 use Rattle.std.proofs.Common.{arith, length-append}
-use Rattle.std.specs.Prelude.{length, nat_eq, nat_le, nat_lt, not, slice_get, ◌&&◌, ◌||◌, ◌==◌}
+use Rattle.std.specs.Prelude.{length, nat_le, not, slice_get, ◌&&◌, ◌||◌, ◌==◌}
 use Rattle.std.specs.Prelude.{if◌then◌else◌}
 use Rattle.std.specs.List.{list_any}
 use Rattle.std.proofs.lemmas.Bool.Decides.{leb_tells}
@@ -11,9 +11,8 @@ use Rattle.class_model.specs.declared.code.Ins.{Ins}
 use Rattle.code_edit.specs.declared.act.Act.{Act}
 use Rattle.code_edit.specs.declared.act.Act.TheVariants as act
 use Rattle.code_edit.specs.declared.act.Pass.TheVariants as pass
-use Rattle.code_edit.specs.Constants.{IsLegalConst, IsPlace, OneFold, TwoFold}
-use Rattle.code_edit.specs.Deciding.{operands}
-use Rattle.code_edit.specs.Legal.{IsLegalAt, KeepsLast, share_place}
+use Rattle.code_edit.specs.Constants.{IsLegalConst, IsPlace}
+use Rattle.code_edit.specs.Legal.{IsLegalAt, share_place}
 use Rattle.code_edit.specs.SoundCode.{IsSound}
 use Rattle.const_tables.specs.declared.facts.Stretch.{Stretch}
 use Rattle.const_tables.specs.FirstFacts.{AreFirst, first_from, names}
@@ -31,8 +30,8 @@ use Rattle.edit_legal.proofs.Faults.{Prior, faults, got_next, none_shares, share
 use Rattle.edit_legal.proofs.FoldsLast.{end, keeps_tells, still}
 use Rattle.edit_legal.proofs.FoldsRight.{one_behind, right_tells, two_behind}
 use Rattle.edit_legal.proofs.LastIndex.{is_le, le_is}
-use Rattle.edit_tables.proofs.Telling.{Tells, and_both, both, is_false, is_not, numbers_same}
-use Rattle.edit_tables.proofs.Telling.{same_number, tells, told, turned, un_not}
+use Rattle.edit_tables.proofs.Telling.{Tells, and_both, both, is_false}
+use Rattle.edit_tables.proofs.Telling.{same_number, tells, told, turned}
 use Rattle.edit_tables.proofs.Marking.{has_none, has_put, none_long, or_false, or_later, put_long}
 use Rattle.edit_tables.specs.Marks.{has, none, target_marks, with_entries}
 

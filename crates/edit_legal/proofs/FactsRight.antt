@@ -2,11 +2,10 @@
 use Rattle.std.proofs.Common.{ℕ, zero, suc, ◌+◌, ◌-◌, ◌<◌, ◌≤◌, ℤ, List, [], ◌∷◌, Option, Some, None}
 use Rattle.std.proofs.Common.{Bool, true, false, IsTrue, ◌≡◌, ◌≢◌, ◌⊎◌, inl, inr, refl, sym, ap, ◌∙◌}
 use Rattle.std.proofs.Common.{subst, arith}
-use Rattle.std.specs.Prelude.{length, nat_eq, nat_le, nat_lt, not, slice_get, ◌&&◌, ◌||◌, ◌==◌}
+use Rattle.std.specs.Prelude.{length, nat_eq, nat_le, not, slice_get, ◌&&◌, ◌||◌, ◌==◌}
 use Rattle.std.specs.Prelude.{if◌then◌else◌}
 use Rattle.std.specs.Int.{w32, int_wrapping_add}
-use Rattle.std.specs.List.{All, Contains, list_all, list_any}
-use Rattle.std.specs.Ordering.{int_eq}
+use Rattle.std.specs.List.{All, Contains, list_any}
 use Rattle.std.specs.Cmp.{signed_Decides}
 use Rattle.std.proofs.lemmas.Bool.Decides.{eqb_tells, leb_tells}
 use Rattle.class_model.specs.declared.code.Code.{Code}
@@ -16,11 +15,9 @@ use Rattle.code_edit.specs.declared.change.Change.{Change}
 use Rattle.code_edit.specs.declared.change.Change.TheVariants.{Keeps, Becomes, Adds, Clobbers}
 use Rattle.code_edit.specs.Constants.{IsPlace, fact_at, facts_of}
 use Rattle.code_edit.specs.Facts.{Yields, change_at, change_by, int_pushed_by, is_int, pushed_before}
-use Rattle.code_edit.specs.Flow.{is_target, successors}
 use Rattle.const_tables.specs.declared.facts.Stretch.{Stretch}
-use Rattle.const_tables.specs.FirstFacts.{AreFirst, first_from, int_at}
-use Rattle.const_tables.specs.Predecessors.{predecessors, row}
-use Rattle.const_tables.specs.Stretches.{first_in}
+use Rattle.const_tables.specs.FirstFacts.{AreFirst, first_from}
+use Rattle.const_tables.specs.Predecessors.{predecessors}
 use Rattle.const_tables.proofs.FirstActs.{ints_tell}
 use Rattle.const_tables.proofs.Linking.{all_tell}
 use Rattle.edit_legal.specs.Decidable.{change_in, is_number, is_sum, may_stand, may_stand_on}
@@ -28,7 +25,7 @@ use Rattle.edit_legal.specs.Decidable.{pushed_in, supports, yields}
 use Rattle.edit_tables.proofs.Marking.{entries_marked, targets_marked}
 use Rattle.edit_tables.proofs.Telling.{Tells, and_both, both, is_false, is_not, numbers_same}
 use Rattle.edit_tables.proofs.Telling.{same_number, tells, told, un_not}
-use Rattle.edit_tables.specs.Marks.{has, none, target_marks, with_entries}
+use Rattle.edit_tables.specs.Marks.{none, target_marks, with_entries}
 use Rattle.edit_legal.proofs.LastIndex.{is_le, le_is}
 use Rattle.jv_base.proofs.Lists.{any_at, any_where}
 use Rattle.std.proofs.lemmas.Option.{get_or_from_slice_get, slice_get_within}

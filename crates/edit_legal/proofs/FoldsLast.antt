@@ -1,5 +1,5 @@
 -- What folds move past the last index.
-use Rattle.std.proofs.Common.{ℕ, ◌+◌, ◌-◌, ◌<◌, ◌≤◌, List, ◌∷◌, [], Option, Some, None, Bool, true}
+use Rattle.std.proofs.Common.{ℕ, ◌+◌, ◌-◌, ◌<◌, ◌≤◌, List, Option, Some, None, Bool, true}
 use Rattle.std.proofs.Common.{false, ◌≡◌, ◌⊎◌, inl, inr, refl, sym, ap, ◌∙◌, subst, arith}
 use Rattle.std.specs.Prelude.{length, nat_eq, nat_le, not, slice_get, ◌&&◌, ◌||◌, ◌==◌}
 use Rattle.std.specs.Prelude.{if◌then◌else◌}
@@ -8,7 +8,6 @@ use Rattle.std.specs.Option.{option_map}
 use Rattle.std.proofs.lemmas.Bool.Decides.{leb_tells}
 use Rattle.class_model.specs.declared.code.Code.{Code}
 use Rattle.class_model.specs.declared.code.Ins.{Ins}
-use Rattle.class_model.specs.declared.op.Op.{Op}
 use Rattle.class_model.specs.declared.op.Op.TheVariants as op
 use Rattle.code_edit.specs.declared.act.Act.{Act}
 use Rattle.code_edit.specs.declared.act.Act.TheVariants as act
@@ -16,13 +15,13 @@ use Rattle.code_edit.specs.declared.act.Pass.TheVariants as pass
 use Rattle.code_edit.specs.Applied.{in_place}
 use Rattle.code_edit.specs.Constants.{count_of, fold_to, folded, goes, is_fold, is_next, is_operand}
 use Rattle.code_edit.specs.Constants.{is_two, landed, new_op, operands_at, takes_along}
-use Rattle.code_edit.specs.Deciding.{Count, operands}
+use Rattle.code_edit.specs.Deciding.{operands}
 use Rattle.code_edit.specs.Flow.{targets}
 use Rattle.code_edit.specs.Legal.{IsPastLast, IsStillAimedAt, KeepsLast, branch, entry}
 use Rattle.code_edit.specs.Rewriting.{with_op}
 use Rattle.code_edit.specs.SoundCode.{IsPlaced, IsSound}
 use Rattle.edit_premises.proofs.Places.{get_below, map_from_get}
-use Rattle.const_tables.specs.Folding.{fold_in, folds_of, unfolded}
+use Rattle.const_tables.specs.Folding.{folds_of, unfolded}
 use Rattle.const_tables.proofs.FoldTable.{folds_tell, unfolded_long, unfolded_where}
 use Rattle.edit_legal.specs.Decidable.{is_lost, keeps_last, still_aimed, targets_after}
 use Rattle.edit_legal.specs.Decidable.{targets_folded}

@@ -22,10 +22,9 @@ use Rattle.code_edit.specs.Facts.{change_by, int_pushed_by, is_int}
 use Rattle.code_edit.specs.Flow.{targets}
 use Rattle.const_tables.specs.declared.facts.Stretch.{Stretch}
 use Rattle.const_tables.specs.FirstFacts.{int_at}
-use Rattle.const_tables.specs.Folding.{fold_in, unfolded}
+use Rattle.const_tables.specs.Folding.{fold_in}
 use Rattle.const_tables.specs.Predecessors.{row}
 use Rattle.const_tables.specs.Stretches.{first_in}
-use Rattle.edit_legal.specs.Movable.{end_from}
 use Rattle.edit_tables.specs.Marks.{has, none, put}
 use Rattle.edit_tables.specs.Places.{counts_from}
 use Rattle.edit_tables.specs.Spread.{entered, spread}

@@ -22,6 +22,15 @@ pub fn advice(line: &str) -> Option<&'static str> {
                 empty output directory",
         ),
         "11" => text_advice(last_word(rest)),
+        "12" => Some(
+            "no static method of the class files is spelled so that can be run with these words: \
+                demo.Main.sum(int,long) with a decimal number for each, ~1 for -1; docs/RUNNING.md has the \
+                words of each type. compare asks besides that the rules keep the method",
+        ),
+        "13" => Some(
+            "from this method the output doesn't print, return or throw what the input does, or doesn't have \
+                it; run on both directories shows what each does",
+        ),
         "14" => Some(
             "no class and no member of the input is spelled so: demo.Helper, demo.Helper: int size and \
                 demo.Helper: int twice(int), in quotes, as the list of -printseeds has them; with -keep class \
@@ -34,7 +43,7 @@ pub fn advice(line: &str) -> Option<&'static str> {
 const WORDS: &str =
     "usage: shrink CONFIG WITNESS, check CONFIG WITNESS, retrace MAPPING TRACE or why CONFIG ITEM, all but ITEM \
         paths without ./, ../ or // in them and without / at their ends: s.pro and not ./s.pro; --help tells \
-        more";
+        more, and of run, compare and gen too";
 
 const SURVEY: &str =
     "it uses what is neither below the directory of -injars nor in the small library, or may not be used of \

@@ -9,8 +9,8 @@ use tree_io::{Sink, Tree};
 /// The greatest length of a mapping that is read, in bytes.
 const MAX_LENGTH: u64 = 67_108_864;
 
-/// Says what the line means that a command said last, and what to do, where there is something to say. A mapping that
-/// may be at fault is read once more, to tell it from the witness.
+/// Says what the line means that a command said last, and what to do, where there is something to say. The words are
+/// those of its command line. A mapping that may be at fault is read once more, to tell it from the witness.
 ///
 /// # Errors
 ///
@@ -18,6 +18,7 @@ const MAX_LENGTH: u64 = 67_108_864;
 pub fn explain<R: Eprint, T: Tree, S: Sink>(
     rt: &R,
     alloc: Global,
+    words: &[Text],
     tree: &mut Watched<T>,
     out: &Heard<S>,
 ) -> io::Result<()> {
@@ -35,10 +36,11 @@ pub fn explain<R: Eprint, T: Tree, S: Sink>(
     if line.starts_with("classes 0 0") {
         return eprintln!(rt; "cixorradde: {NO_CLASSES}");
     }
-    if !line.starts_with("error ") {
+    // A refusal is one line; what a program prints that is run has another line behind it.
+    if !line.starts_with("error ") || line.as_bytes().contains(&b'\n') {
         return Ok(());
     }
-    tell_place(rt, alloc, line, tree)?;
+    tell_place(rt, alloc, words, line, tree)?;
     match advice(line) {
         Some(advice) => eprintln!(rt; "cixorradde: {advice}"),
         None => Ok(()),
@@ -53,6 +55,7 @@ const NO_CLASSES: &str =
 fn tell_place<R: Eprint, T: Tree>(
     rt: &R,
     alloc: Global,
+    words: &[Text],
     line: &str,
     tree: &mut Watched<T>,
 ) -> io::Result<()> {
@@ -63,7 +66,7 @@ fn tell_place<R: Eprint, T: Tree>(
         return eprintln!(rt; "cixorradde: {NO_CLASSES}");
     }
     if line.starts_with("error 11 ") {
-        return tell_text(rt, alloc, tree);
+        return tell_text(rt, alloc, words, tree);
     }
     Ok(())
 }
@@ -99,26 +102,49 @@ fn tell_failing<R: Eprint>(rt: &R, failing: Option<&Failing>) -> io::Result<()> 
 }
 
 // Says which file has the text that is at fault.
-fn tell_text<R: Eprint, T: Tree>(rt: &R, alloc: Global, tree: &mut Watched<T>) -> io::Result<()> {
-    let Ok(Some((mapping, other))) = mapping_of(tree.texts.as_slice()) else {
+fn tell_text<R: Eprint, T: Tree>(
+    rt: &R,
+    alloc: Global,
+    words: &[Text],
+    tree: &mut Watched<T>,
+) -> io::Result<()> {
+    let Ok(Some((what, path))) = faulty_text(alloc, words, tree) else {
         return Ok(());
     };
-    let (what, path) = if is_mapping(alloc, tree, &mapping) {
-        ("witness", other.as_str())
-    } else {
-        ("mapping", mapping.as_str())
-    };
+    let path = path.as_str();
     eprintln!(rt; "cixorradde: the {what} {path} is at fault, at this line of it")
 }
 
-// The path of the mapping, and of what was read behind it: `check` reads the config, the mapping and the witness, in
-// this order, and `retrace` the mapping and the trace.
-fn mapping_of(texts: &[Text]) -> M<Option<(Text, Text)>> {
-    match texts {
-        [_, mapping, witness] => Ok(Some((mapping.clone()?, witness.clone()?))),
-        [mapping, trace] => Ok(Some((mapping.clone()?, trace.clone()?))),
-        _ => Ok(None),
+// The text that is at fault, and its path: `check` reads the config, the mapping and the witness, in this order,
+// `compare` the config and the mapping, and `retrace` the mapping and the trace.
+fn faulty_text<T: Tree>(
+    alloc: Global,
+    words: &[Text],
+    tree: &mut Watched<T>,
+) -> M<Option<(&'static str, Text)>> {
+    let (mapping, witness) = match tree.texts.as_slice() {
+        [_, mapping, witness] => (mapping.clone()?, witness.clone()?),
+        [_, mapping] if is_compare(words) => return Ok(Some(("mapping", mapping.clone()?))),
+        [mapping, _] => return Ok(Some(("mapping", mapping.clone()?))),
+        _ => return Ok(None),
+    };
+    if is_mapping(alloc, tree, &mapping) {
+        Ok(Some(("witness", witness)))
+    } else {
+        Ok(Some(("mapping", mapping)))
     }
+}
+
+// Whether the command is `compare`: of the commands that read a mapping, the first one that is named.
+fn is_compare(words: &[Text]) -> bool {
+    for word in words {
+        match word.as_str() {
+            "compare" => return true,
+            "check" | "retrace" => return false,
+            _ => {}
+        }
+    }
+    false
 }
 
 // Whether the file at a path is a mapping.

@@ -36,7 +36,7 @@ use Rattle.type_verifier.specs.Assignable.{is_java_assignable}
 use Rattle.type_verifier.specs.Effects.{Checked, acted, all_popped, element, popped, read_from, stepped}
 use Rattle.type_verifier.specs.Effects.{with_stack}
 use Rattle.type_verifier.specs.Environment.{Environment}
-use Rattle.type_verifier.specs.Rules.{AnyArray, Assignable, ReadsReference, SmallArray, Takes, Wanted, array_of_base}
+use Rattle.type_verifier.specs.Rules.{AnyArray, Assignable, ReadsReference, SmallArray, Takes, array_of_base}
 use Rattle.type_verifier.specs.Rules.{array_wanted, element_moved, element_type, is_array, is_small_array, meets}
 use Rattle.type_verifier.specs.Rules.{object}
 use Rattle.type_verifier.specs.Rules.{rule_of}

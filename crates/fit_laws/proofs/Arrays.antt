@@ -9,7 +9,7 @@ use Rattle.jv_base.specs.declared.types.Base.{Base}
 use Rattle.jv_base.specs.declared.types.Base.TheVariants as base
 use Rattle.jv_base.specs.declared.types.FieldType.{FieldType}
 use Rattle.class_model.specs.declared.class.Class.{Class}
-use Rattle.jvm_model.specs.Types.{array_of, is_array_below, is_base_below, is_component}
+use Rattle.jvm_model.specs.Types.{array_of, is_array_below, is_base_below}
 use Rattle.jvm_model.specs.Types.{is_type_below}
 use Rattle.jvm_model.specs.Types as machine
 use Rattle.set_view.specs.ViewOf.{shape_of}

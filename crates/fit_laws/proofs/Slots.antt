@@ -19,7 +19,7 @@ use Rattle.jvm_model.specs.Heap.{Object, World, string}
 use Rattle.jvm_model.specs.Instructions.{Sort, OnStack, Loads, Stores, Incs, Throws}
 use Rattle.jvm_model.specs.Local.{Moves, after_inc, after_load, after_stack, after_store}
 use Rattle.jvm_model.specs.Local.{after_throw, by_sort, goes_on}
-use Rattle.jvm_model.specs.Stack.{◌>>=◌, many_above, one, top, with}
+use Rattle.jvm_model.specs.Stack.{◌>>=◌, top}
 use Rattle.jvm_model.specs.State.{Body}
 use Rattle.jvm_model.specs.Value.{Key, Value, Int, Long, Null, Ref, Lit, as_int, as_kind, set_at}
 use Rattle.std.proofs.Common.{false, ◌≡◌, ◌≢◌, ◌⊎◌, inl, inr, ⊎_elim, refl, sym, ap, ◌∙◌, subst}
@@ -32,12 +32,12 @@ use Rattle.std.specs.Prelude.{cond, nat_le, ◌==◌, Ok, Err, length, ◌-◌, 
 use Rattle.type_verifier.proofs.TypedLaw.{bound}
 use Rattle.type_verifier.specs.Assignable.{class_type, is_assignable, is_reference}
 use Rattle.type_verifier.specs.Effects.{Checked, acted, counted_from, loaded_from, or_operand}
-use Rattle.type_verifier.specs.Effects.{all_popped, class_made_at, cut_before, initialised}
-use Rattle.type_verifier.specs.Effects.{new_initialised, object_initialised, popped, put_local}
+use Rattle.type_verifier.specs.Effects.{all_popped, cut_before}
+use Rattle.type_verifier.specs.Effects.{popped, put_local}
 use Rattle.type_verifier.specs.Effects.{pushed, stored_from, with_stack, words_of_kind}
 use Rattle.type_verifier.specs.Environment.{Environment}
-use Rattle.type_verifier.specs.Rules.{Assignable, Counts, Doubles, Drops, Reference, Swaps, Takes, Wanted}
-use Rattle.type_verifier.specs.Rules.{class_of, meets, moved, throwable}
+use Rattle.type_verifier.specs.Rules.{Assignable, Counts, Doubles, Drops, Swaps, Takes}
+use Rattle.type_verifier.specs.Rules.{meets, moved, throwable}
 use Rattle.type_verifier.specs.declared.fault.TypeKind.TheVariants.{Local as BadLocal, Operand}
 use Rattle.type_verifier.specs.declared.fault.TypeKind.{TypeKind}
 use Rattle.type_verifier.specs.declared.frame.TypeFrame.{TypeFrame}

@@ -24,7 +24,6 @@ use Rattle.jvm_model.specs.Value.{Ref}
 use Rattle.set_view.specs.ViewOf.{shape_of, view_of}
 use Rattle.type_verifier.specs.declared.frame.TypeFrame.{TypeFrame}
 use Rattle.type_verifier.specs.Assignable.{class_type, is_assignable}
-use Rattle.type_verifier.specs.Effects.{gives}
 use Rattle.type_verifier.specs.Effects as effects
 use Rattle.type_verifier.specs.Walk.{caught_type, covers, fits_at, satisfies, satisfies_handlers}
 use Rattle.fit_laws.specs.Frames.{FitsBody, Leads, Stands, result_of}

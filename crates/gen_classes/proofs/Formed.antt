@@ -1,17 +1,16 @@
 -- The generated classes follow the rules of the format.
-use Rattle.std.proofs.Common.{◌≡◌, ℕ, zero, suc, ◌<◌, ◌≤◌, Bool, true, false, List, [], ◌∷◌, ◌++◌, length, map, Ok, codes}
+use Rattle.std.proofs.Common.{◌≡◌, ℕ, ◌<◌, ◌≤◌, true, false, List, [], ◌∷◌, ◌++◌, length, codes}
 use Rattle.std.proofs.Common.{refl, sym, ap, ◌∙◌, subst, arith, inr}
 use Rattle.std.specs.Prelude.{AllPairs, None, Some, pos, nat_eq, slice_index}
 use Rattle.std.specs.List.{AllByRecursion, flat_map}
 use Rattle.jv_base.specs.Descriptors.{read_method}
 use Rattle.jv_base.specs.Names.{is_class_name, is_member_name, is_method_name, is_name_byte, is_primitive_or_void}
-use Rattle.jv_base.specs.Types.{IsFieldType, IsMethodType, argument_words, base_text, field_text, method_text, result_text}
+use Rattle.jv_base.specs.Types.{IsMethodType, argument_words, base_text, field_text, method_text, result_text}
 use Rattle.jv_base.specs.Types.{words_of}
 use Rattle.jv_base.specs.declared.types.MethodType.{MethodType}
 use Rattle.jv_base.proofs.Lists.{no_pairs}
 use Rattle.jv_base.proofs.MethodLaw.{read_method-only}
 use Rattle.jv_base.proofs.Results.{same_ok}
-use Rattle.class_model.specs.declared.op.MemberRef.{MemberRef}
 use Rattle.class_model.specs.declared.op.Op.{Op}
 use Rattle.class_model.specs.declared.op.Op.TheVariants as op
 use Rattle.class_model.specs.declared.op.ArithOp.TheVariants as computed
@@ -19,16 +18,14 @@ use Rattle.class_model.specs.declared.op.Kind.TheVariants as kind
 use Rattle.class_model.specs.declared.op.Num.TheVariants as num
 use Rattle.class_model.specs.declared.code.Ins.{Ins}
 use Rattle.class_model.specs.declared.class.Method.{Method}
-use Rattle.class_model.specs.declared.class.Class.{Class}
-use Rattle.class_model.specs.ConstantPool.{IsMethodText, class_type}
+use Rattle.class_model.specs.ConstantPool.{class_type}
 use Rattle.class_model.specs.Members.{FieldsDiffer, MethodsDiffer}
-use Rattle.class_model.specs.WellFormed.{Ascend, CountsFit, HasFewWords, IsClassName, IsClassOrArray, IsGoodCode}
+use Rattle.class_model.specs.WellFormed.{Ascend, CountsFit, HasFewWords, IsClassName, IsClassOrArray}
 use Rattle.class_model.specs.WellFormed.{IsGoodMethod, IsGoodOp, IsMethodReference, IsName, IsWellFormed, LinesGoOn}
 use Rattle.class_laws.proofs.FormedPlaces.{pairs_more}
-use Rattle.class_laws.proofs.SpelledLists.{all_both}
 use Rattle.gen_classes.specs.Generated.{abstract_v, adding, begins, caller_of, calling, calls, calls_v, constructor, constructor_of, dead, f_of}
-use Rattle.gen_classes.specs.Generated.{frame_behind, giving_back, int_to_int, interface_class, interface_name, method}
-use Rattle.gen_classes.specs.Generated.{nothing_to_nothing, object_name, plain_of, reference, v_of_interface}
+use Rattle.gen_classes.specs.Generated.{frame_behind, giving_back, int_to_int, interface_class, interface_name}
+use Rattle.gen_classes.specs.Generated.{nothing_to_nothing, object_name, plain_of, v_of_interface}
 use Rattle.gen_classes.specs.Generated.{without_lines}
 
 -- ---- texts

@@ -3,7 +3,6 @@ use Rattle.std.proofs.Common.{◌≡◌, ℕ, ◌+◌, ◌*◌, Bool, true, fals
 use Rattle.std.specs.Prelude.{None, Some, nat_lt}
 use Rattle.std.specs.List.{flat_map}
 use Rattle.class_model.specs.declared.code.Ins.{Ins}
-use Rattle.class_model.specs.declared.op.Op.{Op}
 use Rattle.class_model.specs.declared.op.Op.TheVariants as op
 use Rattle.class_model.specs.declared.op.Kind.TheVariants as kind
 use Rattle.gen_classes.specs.Generated.{begins, called, caller_name, calls, calls_v, without_lines}

@@ -2,8 +2,8 @@
 use Rattle.std.proofs.Common.{◌≡◌, ℕ, suc, ◌+◌, List, [], ◌∷◌, ◌++◌, map, Result, Ok, refl, ap, ◌∙◌, arith}
 use Rattle.class_model.specs.declared.class.Class.{Class}
 use Rattle.class_model.specs.declared.limit.WriteLimit.{WriteLimit}
-use Rattle.class_model.specs.CanonicalClass.{layout, pool_of}
-use Rattle.class_model.specs.WriteLimits.{class_written, limits, spelled_within}
+use Rattle.class_model.specs.CanonicalClass.{layout}
+use Rattle.class_model.specs.WriteLimits.{class_written, spelled_within}
 use Rattle.gen_classes.specs.Generated.{Placed, caller_class, file_of, interface_class, pairs_below, plain_class, put_file}
 use Rattle.gen_classes.specs.Generated.{put_files}
 use Rattle.gen_classes.specs.Laws.{CanBeWritten}

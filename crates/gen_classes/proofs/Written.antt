@@ -1,10 +1,10 @@
 -- The generated classes can be written.
-use Rattle.std.proofs.Common.{◌≡◌, ℕ, ◌+◌, ◌*◌, ◌^◌, ◌<◌, ◌≤◌, Bool, true, false, cond, List, [], ◌∷◌, length, map, refl, arith}
+use Rattle.std.proofs.Common.{◌≡◌, ℕ, ◌+◌, ◌*◌, ◌<◌, ◌≤◌, Bool, true, false, cond, List, [], ◌∷◌, length, map, refl, arith}
 use Rattle.std.specs.Prelude.{nat_lt}
 use Rattle.std.specs.List.{AllByRecursion, filter}
 use Rattle.std.proofs.lemmas.Bool.{ltb-true}
 use Rattle.class_model.specs.WellFormed.{IsClassName}
-use Rattle.gen_classes.specs.Generated.{caller_class, caller_name, called, interface_class, plain_class, plain_name}
+use Rattle.gen_classes.specs.Generated.{caller_class, caller_name, interface_class, plain_class, plain_name}
 use Rattle.gen_classes.specs.Laws.{CanBeWritten, GeneratedCanBeWritten}
 use Rattle.gen_classes.proofs.Formed.{caller_counts, caller_formed, interface_counts, interface_formed, plain_counts}
 use Rattle.gen_classes.proofs.Formed.{plain_formed}

@@ -1,12 +1,11 @@
 -- Exactly one thing is due of told files.
-use Rattle.std.proofs.Common.{◌≡◌, ℕ, List, [], ◌∷◌, Result, Ok, Err, refl, sym, ap, ◌∙◌}
+use Rattle.std.proofs.Common.{◌≡◌, ℕ, List, [], ◌∷◌, Ok, Err, refl, sym, ap, ◌∙◌}
 use Rattle.std.specs.FinMap.{keys}
 use Rattle.tree_io.specs.Below.{paths_below}
 use Rattle.tree_io.specs.Files.{Files}
 use Rattle.command_frame.proofs.OneStep.{IsOne, IsSome, one_value, some_value, then_one, then_some}
 use Rattle.gen_command.specs.Due.{IsEmptied, not_empty, plan_for}
 use Rattle.gen_command.specs.OneDue.{IsOneDue, IsSomeDue}
-use Rattle.gen_command.specs.declared.command.GenFiles.{GenFiles}
 
 one_emptied : (files : Files) (directory : List ℕ) → IsOne (IsEmptied files directory)
 one_emptied files directory (Ok one) (Ok other) h k = refl

@@ -1,7 +1,7 @@
 -- Seats that come together, and how the seeding ends.
 use Rattle.std.proofs.Common.{◌≡◌, ℕ, ◌+◌, ◌<◌, Bool, true, false, if◌then◌else◌, List, [], ◌∷◌, ◌++◌, subst}
 use Rattle.std.proofs.Common.{sym, ◌∙◌, ap, refl, arith}
-use Rattle.std.proofs.Common.{⊎_elim, length, slice_index_or, take}
+use Rattle.std.proofs.Common.{⊎_elim, length, replicate, slice_index_or, take}
 use Rattle.std.proofs.Math.Seq.{take-append_seam}
 use Rattle.std.specs.List.{All, Contains, remove}
 use Rattle.std.proofs.lemmas.List.{get_or_append_left, length_push}
@@ -19,7 +19,8 @@ use Rattle.mark_words.proofs.Steps.{same_seats}
 use Rattle.mark_workers.specs.declared.crew.Member.{Member}
 use Rattle.mark_workers.specs.Ready.{Hired, IsFree, IsSeeding, SameSeats}
 use Rattle.mark_workers.specs.Sweep.{Rests}
-use Rattle.mark_workers.specs.Work.{Kept}
+use Rattle.mark_workers.specs.Work.{Kept, Knows}
+use Rattle.mark_workers.proofs.Known.{knows_none}
 
 pub joined_free : (n : ℕ) (v w : View) → IsFree n v → IsFree n w → IsFree n (joined v w)
 joined_free n v w a b = (a.0, a.1, a.2, λ x h. ⊎_elim (a.3 x) (b.3 x) (Contains-append_cases v.seen w.seen x h))
@@ -51,12 +52,23 @@ none : {X : Type 0} (x : X) → Contains [] x → ⊥
 none x (k, lt, e) = omega (arith, lt)
 
 pub hired : (t : MarkTable) (seats : ℕ) (seat : MarkSeat) (member : Member) → member.seat ≡ seat
+    → member.tasks.known.items ≡ replicate (system_of t).n false
     → IsNewcomer t seats seat → Hired t seats member
-hired t seats seat member is new = subst (λ (s : MarkSeat). (IsSeatOf t s × IsFree (system_of t).n (view s))
+hired t seats seat member is known new =
+    let free : IsFree (system_of t).n (view seat) = subst (IsFree (system_of t).n) (sym new.1)
+    (refl, refl, refl, λ x c. absurd (none x c)) in
+    subst (λ (s : MarkSeat). (IsSeatOf t s × IsFree (system_of t).n (view s)
+    × Knows (system_of t).n (view s) member.tasks.known.items)
     × ((view s).seats ≡ 1) × ((view s).all ≡ seats))
-    (sym is)
-    (subst (λ (v : View). (IsSeatOf t seat × IsFree (system_of t).n v) × (v.seats ≡ 1) × (v.all ≡ seats)) (sym new.1)
-    ((new.0, (refl, refl, refl, λ x c. absurd (none x c))), refl, refl))
+    (sym is) (
+      (
+        new.0,
+        free,
+        subst (Knows (system_of t).n (view seat)) (sym known) (knows_none (system_of t).n (view seat)),
+      ),
+      ap (λ (v : View). v.seats) new.1,
+      ap (λ (v : View). v.all) new.1,
+    )
 
 -- a seat after an event of its own
 pub seat_after : (t : MarkTable) (old new : MarkSeat) (e : Event) (found : Bool) → IsSeatOf t old

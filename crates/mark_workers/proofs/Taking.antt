@@ -6,7 +6,7 @@ use Rattle.mark_machine.specs.declared.machine.View.{View}
 use Rattle.mark_machine.specs.declared.machine.Event.TheVariants.{LookAt, Take}
 use Rattle.mark_machine.specs.Machine.{looking, view_after}
 use Rattle.mark_workers.specs.Ready.{IsFree}
-use Rattle.mark_workers.specs.Work.{Did}
+use Rattle.mark_workers.specs.Work.{Did, Kept}
 use Rattle.mark_workers.proofs.Kept.{below_push}
 
 -- a marked item may be taken
@@ -37,3 +37,16 @@ free_done n v m t w x lt free em et did =
     let d : Did n (view_after (view_after v (LookAt x) true) (Take x) false) x w =
     subst (λ (u : View). Did n u x w) is did in
     (d.hand, d.reserved, d.standing ∙ free.2, d.below (below_push n x v.seen lt free.3))
+
+-- the same of one that was seen, on the table or before
+pub free_kept : (n : ℕ) (v w : View) → IsFree n v → Kept n v w → IsFree n w
+free_kept n v w free k = (k.hand ∙ free.0, k.reserved ∙ free.1, k.standing ∙ free.2, k.below free.3)
+
+pub free_refused : (n : ℕ) (m t : View) (x : ℕ) → IsFree n m → t ≡ view_after m (Take x) true → IsFree n t
+free_refused n m t x free is = subst (IsFree n) (sym is) free
+
+pub free_finished : (n : ℕ) (m t w : View) (x : ℕ) → IsFree n m → t ≡ view_after m (Take x) false → Did n t x w
+    → IsFree n w
+free_finished n m t w x free is did =
+    let d : Did n (view_after m (Take x) false) x w = subst (λ (u : View). Did n u x w) is did in
+    (d.hand, d.reserved, d.standing ∙ free.2, d.below free.3)

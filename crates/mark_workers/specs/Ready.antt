@@ -3,7 +3,7 @@ use Rattle.std.specs.Prelude.{◌≡◌, ℕ, false, true, None}
 use Rattle.mark_machine.specs.declared.machine.View.{View}
 use Rattle.mark_words.specs.Seats.{view, system_of, IsSeatOf}
 use Rattle.mark_words.specs.declared.table.MarkTable.{MarkTable}
-use Rattle.mark_workers.specs.Work.{SeenBelow}
+use Rattle.mark_workers.specs.Work.{Knows, SeenBelow}
 use Rattle.mark_workers.specs.declared.crew.Member.{Member}
 
 -- the view has no hand and no note, and what it has seen lies below n
@@ -18,9 +18,11 @@ IsSeeding n v = (v.hand ≡ None) × (v.reserved ≡ false) × (v.standing ≡ t
 abbrev pub SameSeats : View → View → Type 0
 SameSeats v w = (w.seats ≡ v.seats) × (w.all ≡ v.all)
 
--- it may take an item
+-- it may take an item, and what it has noted was seen
 abbrev pub Ready : MarkTable → Member → Type 0
-Ready table member = IsSeatOf table member.seat × IsFree (system_of table).n (view member.seat)
+Ready table member =
+    IsSeatOf table member.seat × IsFree (system_of table).n (view member.seat)
+    × Knows (system_of table).n (view member.seat) member.tasks.known.items
 
 -- and has one of so many seats
 abbrev pub Hired : MarkTable → ℕ → Member → Type 0

@@ -1,6 +1,7 @@
 -- What a seat keeps while it does an item, and what it has then done.
-use Rattle.std.specs.Prelude.{◌≡◌, ◌⊎◌, ℕ, ◌<◌, false, Some, None, [], ◌∷◌, ◌++◌}
+use Rattle.std.specs.Prelude.{◌≡◌, ◌⊎◌, ℕ, ◌<◌, Bool, false, IsTrue, Some, None, List, [], ◌∷◌, ◌++◌, length}
 use Rattle.std.specs.List.{Contains}
+use Rattle.mark_core.specs.Marks.{set_of}
 use Rattle.mark_core.specs.Valid.{Valid}
 use Rattle.mark_core.specs.declared.system.Pair.{Pair}
 use Rattle.mark_core.specs.declared.system.System.{System}
@@ -23,6 +24,11 @@ IsBusy v x = (v.hand ≡ Some x) × (v.reserved ≡ false)
 -- what it has seen lies below n
 abbrev pub SeenBelow : ℕ → View → Type 0
 SeenBelow n v = (x : ℕ) → Contains v.seen x → x < n
+
+-- there is a note for each item, and what is noted was seen
+pub record Knows (n : ℕ) (v : View) (known : List Bool) : Type 0 where
+  pub count : length known ≡ n
+  pub seen : (x : ℕ) → IsTrue (set_of known x) → Contains v.seen x
 
 -- the view may have seen and looked at more
 pub record Kept (n : ℕ) (v w : View) : Type 0 where

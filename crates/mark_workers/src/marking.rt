@@ -4,6 +4,7 @@ ghost use Rattle.mark_core.specs.Marks.{Marks};
 ghost use Rattle.mark_core.specs.Valid.{Valid};
 ghost use Rattle.mark_words.specs.Seats.{view, system_of, IsSeatOf};
 ghost use Rattle.mark_workers.specs.Ready.{IsSeeding, Ready, SameSeats};
+ghost use Rattle.mark_workers.specs.Work.{Knows};
 
 use crate::crew::{Member, hire, join_all, new_member};
 use crate::item::claim;
@@ -40,8 +41,8 @@ pub fn mark_all<R: Threads + Sync, G: Gate>(
     let mut seats = seats.into_vec();
     let first = seats.remove(0);
     let mut stealers = Vec::new(alloc);
-    let mut crew = hire(alloc, &table, workers, seats, &mut stealers)?;
-    let mut driver = new_member(alloc, workers, first, 0, &mut stealers)?;
+    let mut crew = hire(alloc, &table, sys.n, workers, seats, &mut stealers)?;
+    let mut driver = new_member(alloc, sys.n, workers, first, 0, &mut stealers)?;
     seed(&table, sys, &mut driver);
     work_all(
         rt,
@@ -53,7 +54,7 @@ pub fn mark_all<R: Threads + Sync, G: Gate>(
         crew.as_mut_slice(),
         workers + 1,
     );
-    join_all(&table, &mut driver.seat, crew);
+    join_all(&table, &mut driver, crew);
     work(
         &table,
         sys,
@@ -72,6 +73,7 @@ fn seed(table: &MarkTable, sys: &System, driver: &mut Member)
     requires valid { Valid sys.now }
     requires seat { IsSeatOf table.now driver.old.seat }
     requires seeding { IsSeeding (system_of table.now).n (view driver.old.seat) }
+    requires knows { Knows (system_of table.now).n (view driver.old.seat) driver.old.tasks.known.items }
     ensures ready { Ready table.now driver.new }
     ensures seats { SameSeats (view driver.old.seat) (view driver.new.seat) }
 {

@@ -2,7 +2,7 @@
 ghost use Rattle.std.specs.Prelude.{◌≡◌, ◌<◌, false, true};
 ghost use Rattle.mark_words.specs.Seats.{view, system_of, IsSeatOf};
 ghost use Rattle.mark_workers.specs.Sweep.{IsSwept, Rests, Visited, left_of};
-ghost use Rattle.mark_workers.specs.Work.{Fits};
+ghost use Rattle.mark_workers.specs.Work.{Fits, Knows};
 
 use crate::item::do_item;
 use crate::pair_index::PairIndex;
@@ -21,6 +21,7 @@ pub(crate) fn settle(
     requires fits { Fits table.now sys.now index.now }
     requires seat { IsSeatOf table.now seat.old }
     requires rests { Rests (system_of table.now).n (view seat.old) }
+    requires knows { Knows (system_of table.now).n (view seat.old) tasks.old.known.items }
     ensures seat { IsSeatOf table.now seat.new }
     ensures quiet { (view seat.new).quiet ≡ true }
 {
@@ -36,7 +37,9 @@ fn sweep(table: &MarkTable, seat: &mut MarkSeat, sys: &System, index: &PairIndex
     requires fits { Fits table.now sys.now index.now }
     requires seat { IsSeatOf table.now seat.old }
     requires rests { Rests (system_of table.now).n (view seat.old) }
+    requires knows { Knows (system_of table.now).n (view seat.old) tasks.old.known.items }
     ensures seat { IsSeatOf table.now seat.new }
+    ensures knows { Knows (system_of table.now).n (view seat.new) tasks.new.known.items }
     ensures rests { Rests (system_of table.now).n (view seat.new) }
     ensures swept { IsSwept sys.now.n (view seat.new) }
 {
@@ -59,7 +62,9 @@ fn round(
     requires fits { Fits table.now sys.now index.now }
     requires seat { IsSeatOf table.now seat.old }
     requires rests { Rests (system_of table.now).n (view seat.old) }
+    requires knows { Knows (system_of table.now).n (view seat.old) tasks.old.known.items }
     ensures seat { IsSeatOf table.now seat.new }
+    ensures knows { Knows (system_of table.now).n (view seat.new) tasks.new.known.items }
     ensures rests { Rests (system_of table.now).n (view seat.new) }
     ensures swept { result ≡ false → IsSwept sys.now.n (view seat.new) }
     ensures less { result ≡ true → left_of sys.now.n (view seat.new) < left_of sys.now.n (view seat.old) }
@@ -86,7 +91,9 @@ fn visit(
     requires id { id < sys.now.n }
     requires seat { IsSeatOf table.now seat.old }
     requires rests { Rests (system_of table.now).n (view seat.old) }
+    requires knows { Knows (system_of table.now).n (view seat.old) tasks.old.known.items }
     ensures seat { IsSeatOf table.now seat.new }
+    ensures knows { Knows (system_of table.now).n (view seat.new) tasks.new.known.items }
     ensures visited { Visited (system_of table.now).n (view seat.old) id result (view seat.new) }
 {
     if table.is_marked(seat, id) {

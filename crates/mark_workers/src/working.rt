@@ -6,7 +6,7 @@ ghost use Rattle.mark_workers.specs.Ready.{Hired, Ready, SameSeats};
 ghost use Rattle.mark_workers.specs.Work.{Fits};
 
 use crate::crew::Member;
-use crate::item::do_item;
+use crate::item::{do_item, sees};
 use crate::pair_index::PairIndex;
 use crossbeam_deque::Stealer;
 use mark_core::System;
@@ -94,7 +94,7 @@ fn try_item<G: Gate>(
     ensures ready { Ready table.now member.new }
     ensures seats { SameSeats (view member.old.seat) (view member.new.seat) }
 {
-    if table.is_marked(&mut member.seat, id) {
+    if sees(table, &mut member.seat, id, &mut member.tasks) {
         match table.take(&mut member.seat, id) {
             Taken::Mine => {
                 gate.turn(member.number, Turn::Took);

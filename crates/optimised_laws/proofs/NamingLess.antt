@@ -1,14 +1,12 @@
 -- A code names nothing but what it names, and what names nothing but what another names nothing but, does so too.
-use Rattle.std.proofs.Common.{◌≡◌, ℕ, Bool, true, false, List, Option, Some, slice_get, refl, sym, subst, ◌∙◌}
-use Rattle.std.specs.List.{AllByRecursion}
+use Rattle.std.proofs.Common.{ℕ, List, Option, refl, subst}
 use Rattle.jv_base.proofs.Lists.{all_at, all_from, all_weaker}
 use Rattle.class_model.specs.declared.code.Code.{Code}
 use Rattle.class_model.specs.declared.code.Handler.{Handler}
 use Rattle.class_model.specs.declared.code.Ins.{Ins}
-use Rattle.class_model.specs.declared.frame.FrameAt.{FrameAt}
 use Rattle.class_model.specs.declared.frame.VType.{VType}
 use Rattle.class_model.specs.declared.op.Op.{Op}
-use Rattle.edit_laws.specs.NamesNoMore.{IsCaughtIn, IsOpOf, NamesNoMore, plain, there}
+use Rattle.edit_laws.specs.NamesNoMore.{IsCaughtIn, IsOpOf, plain, there}
 use Rattle.swap_laws.specs.Swapped.{IsFrameOf, IsTypeOf, NamesLess, in_locals, in_stack, top, uninit}
 
 pub own_less : (code : Code) → NamesLess code code

@@ -1,5 +1,5 @@
 -- The new codes of a set: each is that of a method, after the steps of the passes, and typed in its place.
-use Rattle.std.proofs.Common.{◌≡◌, ℕ, List, [], ◌∷◌, ◌++◌, Some, slice_get, sym, subst}
+use Rattle.std.proofs.Common.{◌≡◌, ℕ, List, [], ◌∷◌, Some, slice_get, sym, subst}
 use Rattle.std.specs.List.{AllByRecursion}
 use Rattle.jv_base.proofs.Lists.{all_append}
 use Rattle.class_model.specs.declared.class.Class.{Class}

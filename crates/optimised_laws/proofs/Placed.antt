@@ -1,5 +1,5 @@
 -- Which method stands where after codes were put in place.
-use Rattle.std.proofs.Common.{◌≡◌, ◌⊎◌, inl, inr, ℕ, zero, suc, List, [], ◌∷◌, map, Option, Some, None, slice_get, refl, sym, ap}
+use Rattle.std.proofs.Common.{◌≡◌, ◌⊎◌, inl, inr, ℕ, zero, suc, List, [], ◌∷◌, map, Some, slice_get, refl, sym, ap}
 use Rattle.std.proofs.Common.{subst, ◌∙◌}
 use Rattle.std.proofs.lemmas.Option.{same_Some}
 use Rattle.class_model.specs.declared.class.Class.{Class}
@@ -7,7 +7,7 @@ use Rattle.class_model.specs.declared.class.Method.{Method}
 use Rattle.class_model.specs.declared.code.Code.{Code}
 use Rattle.pass_driver.specs.Optimised.{with_codes}
 use Rattle.pass_driver.specs.declared.optimising.NewCode.{NewCode}
-use Rattle.shape_laws.specs.Bare.{DifferInCodes, bare, bare_method}
+use Rattle.shape_laws.specs.Bare.{bare, bare_method}
 use Rattle.type_verifier.specs.WithCode.{changed_at, class_with_code, method_with_code, set_with_code}
 
 -- ---- lists

@@ -1,5 +1,5 @@
 -- A code after steps that the passes found follows the format and names nothing more.
-use Rattle.std.proofs.Common.{◌≡◌, Bool, true, false, cond, List, [], ◌∷◌, refl, sym, subst}
+use Rattle.std.proofs.Common.{Bool, true, false, cond, List, [], ◌∷◌, sym, subst}
 use Rattle.class_model.specs.WellFormed.{IsGoodCode}
 use Rattle.class_model.specs.declared.code.Code.{Code}
 use Rattle.code_edit.specs.declared.act.Pass.{Pass}
@@ -10,7 +10,7 @@ use Rattle.code_edit.specs.SoundCode.{IsSound}
 use Rattle.edit_premises.proofs.EditedSound.{applied_sound}
 use Rattle.frame_rebuild.specs.Rebuilt.{rebuilt}
 use Rattle.pass_driver.specs.Stepped.{AreFound, is_some_act, step_after, stepped}
-use Rattle.optimised_laws.proofs.NamingLess.{own_less, then_less}
+use Rattle.optimised_laws.proofs.NamingLess.{then_less}
 use Rattle.rebuild_laws.proofs.Kept.{rebuilt_follows}
 use Rattle.rebuild_laws.proofs.Naming.{rebuilt_less}
 use Rattle.swap_laws.specs.Swapped.{NamesLess}

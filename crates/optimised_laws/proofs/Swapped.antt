@@ -1,12 +1,12 @@
 -- A set with new codes is swapped for its own: the codes follow the format and name nothing more.
-use Rattle.std.proofs.Common.{◌≡◌, ◌<◌, inl, inr, true, false, ℕ, zero, suc, List, [], ◌∷◌, map, length, Option, Some, None, slice_get, refl}
+use Rattle.std.proofs.Common.{◌≡◌, inl, inr, true, false, ℕ, zero, suc, List, [], ◌∷◌, map, length, Option, Some, None, slice_get, refl}
 use Rattle.std.proofs.Common.{sym, ap, subst, ◌∙◌, arith}
 use Rattle.std.specs.Prelude.{IfSome}
 use Rattle.std.specs.List.{AllByRecursion, AllZip}
 use Rattle.std.proofs.lemmas.Option.{same_Some}
 use Rattle.jv_base.proofs.Lists.{all_at, all_from}
 use Rattle.class_model.specs.Flags.{is_interface}
-use Rattle.class_model.specs.WellFormed.{IsGoodCode, IsGoodMethod, IsWellFormed}
+use Rattle.class_model.specs.WellFormed.{IsGoodCode, IsGoodMethod}
 use Rattle.class_model.specs.declared.class.Class.{Class}
 use Rattle.class_model.specs.declared.class.Method.{Method}
 use Rattle.class_model.specs.declared.code.Code.{Code}
@@ -28,7 +28,7 @@ use Rattle.pass_driver.specs.Optimised.{spots, with_codes}
 use Rattle.pass_driver.specs.declared.optimising.NewCode.{NewCode}
 use Rattle.pass_driver.specs.declared.optimising.Optimised.{Optimised}
 use Rattle.shape_laws.specs.Bare.{bare, bare_method}
-use Rattle.swap_laws.specs.Swapped.{CodeSwaps, IsSwapped, NamesLess, NamesLessThan}
+use Rattle.swap_laws.specs.Swapped.{CodeSwaps, IsSwapped, NamesLessThan}
 use Rattle.type_verifier.specs.Verified.{AreTyped}
 
 -- right acts are found

@@ -1,7 +1,6 @@
 -- Each method of a set with new codes is typed.
-use Rattle.std.proofs.Common.{◌≡◌, inl, inr, true, false, ℕ, zero, suc, List, ◌∷◌, [], map, Option, Some, slice_get, refl, sym, ap, subst, ◌∙◌}
+use Rattle.std.proofs.Common.{◌≡◌, inl, inr, true, false, ℕ, zero, suc, List, ◌∷◌, [], map, Some, slice_get, refl, sym, ap, subst, ◌∙◌}
 use Rattle.std.proofs.Math.Path.{transport, transport⁻¹}
-use Rattle.std.specs.Prelude.{None}
 use Rattle.std.proofs.lemmas.Option.{same_Some}
 use Rattle.std.specs.List.{AllByRecursion}
 use Rattle.jv_base.proofs.Lists.{all_at}

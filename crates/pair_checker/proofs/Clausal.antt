@@ -1,12 +1,10 @@
 -- What is found of each clause, of a pair that was read.
-use Rattle.std.proofs.Common.{◌≡◌, ℕ, List, Bool, Option, Some, None, Result, map, subst}
+use Rattle.std.proofs.Common.{◌≡◌, List, Bool, Option, Result, map, subst}
 use Rattle.std.specs.Prelude.{IfOk}
 use Rattle.mark_core.specs.declared.system.System.{System}
-use Rattle.class_model.specs.declared.class.Class.{Class}
 use Rattle.keep_rules.specs.declared.rules.Rules.{Rules}
 use Rattle.attribute_filter.specs.KeptAttributes.{filter_of}
 use Rattle.attribute_filter.specs.declared.filter.AttributeFilter.{AttributeFilter}
-use Rattle.require_sys.specs.Required.{required}
 use Rattle.mapping_file.specs.declared.mapping.Mapping.{Mapping}
 use Rattle.witness_file.specs.declared.witness.MethodWitness.{MethodWitness}
 use Rattle.new_names.specs.NewNames.{names_given}

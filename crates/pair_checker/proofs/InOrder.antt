@@ -1,6 +1,6 @@
 -- The first clause that holds, in the order of all of them.
 use Rattle.std.proofs.Common.{◌≡◌, ◌<◌, ℕ, zero, suc, List, [], ◌∷◌, take, slice_get, Option, Some, None, Result, Ok}
-use Rattle.std.proofs.Common.{Err, ◌≤◌, ◌-◌, drop, get_or, length, inl, inr, refl, sym, ap, subst, arith}
+use Rattle.std.proofs.Common.{Err, ◌≤◌, ◌-◌, drop, get_or, length, inl, inr, refl, subst, arith}
 use Rattle.std.proofs.lemmas.List.{take_all}
 use Rattle.std.specs.List.{AllByRecursion}
 use Rattle.std.proofs.lemmas.Option.{same_Some}
@@ -11,7 +11,6 @@ use Rattle.keep_rules.specs.declared.rules.Rules.{Rules}
 use Rattle.mapping_file.specs.declared.mapping.Mapping.{Mapping}
 use Rattle.witness_file.specs.declared.witness.Witness.{Witness}
 use Rattle.pair_checker.specs.Clauses.{Finds, number}
-use Rattle.pair_checker.specs.PairOk.{IsFirst}
 use Rattle.pair_checker.specs.bodies.Matching.{FirstAmong, Matches, Tests, no_at, tested_clauses}
 use Rattle.pair_checker.specs.declared.answer.Clause.{Clause}
 use Rattle.pair_clauses.specs.declared.place.Place.{Place}

@@ -1,14 +1,11 @@
 -- The same pair has one answer.
-use Rattle.std.proofs.Common.{◌≡◌, ◌<◌, ℕ, List, slice_get, Option, Some, None, ⊎_elim, refl, sym, ap, subst, ◌∙◌}
+use Rattle.std.proofs.Common.{◌≡◌, ◌<◌, ℕ, List, slice_get, Some, None, ⊎_elim, sym, ap, subst, ◌∙◌}
 use Rattle.std.proofs.Common.{arith}
 use Rattle.std.proofs.lemmas.Bool.{cases_lt}
 use Rattle.std.proofs.lemmas.Option.{same_Some}
-use Rattle.tree_io.specs.declared.file_at.FileAt.{FileAt}
 use Rattle.class_model.specs.declared.class.Class.{Class}
 use Rattle.class_model.specs.declared.class.Method.{Method}
-use Rattle.set_read.specs.Accepted.{IsAccepted, IsFault}
 use Rattle.set_read.specs.declared.fault.RuleFault.{RuleFault}
-use Rattle.set_read.specs.declared.fault.SetFault.{SetFault}
 use Rattle.set_read.specs.declared.fault.SetFault.TheVariants.{Format, Rule}
 use Rattle.set_read.proofs.OneSet.{not_both, one_fault, one_set}
 use Rattle.keep_rules.specs.declared.rules.Rules.{Rules}
@@ -24,11 +21,10 @@ use Rattle.pair_edits.specs.Edits.{AreLegalOn, ClassEditIllegal, EditIllegal}
 use Rattle.pair_edits.specs.Entries.{edited_input, steps_of}
 use Rattle.pair_checker.specs.Clauses.{Finds, given_names, number}
 use Rattle.pair_checker.specs.OneAnswer.{IsOneNo, NotBoth}
-use Rattle.pair_checker.specs.PairOk.{IsFirst, IsNo, PairOk, by_clause, by_format, by_profile}
+use Rattle.pair_checker.specs.PairOk.{IsFirst, by_clause, by_format, by_profile}
 use Rattle.pair_checker.specs.bodies.Matching.{no_at}
 use Rattle.pair_checker.specs.declared.answer.Clause.{Clause}
 use Rattle.pair_checker.specs.declared.answer.Clause.TheVariants as clause
-use Rattle.pair_checker.specs.declared.answer.No.{No}
 use Rattle.pair_checker.proofs.InOrder.{order, stands_at}
 use Rattle.pair_checker.proofs.Reading.{profile_no}
 

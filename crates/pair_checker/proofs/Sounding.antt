@@ -1,11 +1,10 @@
 -- The codes of a set that files are taken as are sound.
-use Rattle.std.proofs.Common.{◌≡◌, ℕ, List, Option, Some, None, slice_get, refl}
+use Rattle.std.proofs.Common.{◌≡◌, List, Option, Some, None, refl}
 use Rattle.std.specs.Prelude.{IfSome}
 use Rattle.jv_base.proofs.Lists.{all_at, all_from}
 use Rattle.tree_io.specs.declared.file_at.FileAt.{FileAt}
 use Rattle.class_laws.specs.SpellingLaws.{IsWritable}
 use Rattle.class_model.specs.declared.class.Class.{Class}
-use Rattle.class_model.specs.declared.class.Method.{Method}
 use Rattle.class_model.specs.declared.code.Code.{Code}
 use Rattle.code_edit.specs.SoundCode.{IsSound}
 use Rattle.flow_laws.proofs.LastGoes.{typed_sound}

@@ -1,6 +1,6 @@
 -- The clauses by which a pair of programs is refused, in their order, each with the first place at which it holds (the
 -- project's own: what the command tests).
-use Rattle.std.specs.Prelude.{◌≡◌, ℕ, List, ◌∷◌, [], map, Option, Some, None, codes}
+use Rattle.std.specs.Prelude.{◌≡◌, ℕ, List, map, Option, None, codes}
 use Rattle.tree_io.specs.declared.file_at.FileAt.{FileAt}
 use Rattle.format_reading.specs.declared.fault.FormatFault.{FormatFault}
 use Rattle.class_model.specs.declared.class.Class.{Class}

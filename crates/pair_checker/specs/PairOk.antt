@@ -1,6 +1,6 @@
 -- Which output belongs to an input, by a mapping, rules and a witness; and why another one doesn't (the project's own:
 -- what the command promises).
-use Rattle.std.specs.Prelude.{◌≡◌, ◌<◌, ℕ, List, Option, Some, None, Result, Ok, Err}
+use Rattle.std.specs.Prelude.{◌≡◌, ◌<◌, List, Some, None, Result, Ok, Err}
 use Rattle.jv_base.specs.declared.outcome.Or.{Or}
 use Rattle.jv_base.specs.declared.outcome.Or.TheVariants as or
 use Rattle.tree_io.specs.declared.file_at.FileAt.{FileAt}

@@ -1,5 +1,5 @@
 -- What steps make of a code, step by step.
-use Rattle.std.proofs.Common.{◌≡◌, ◌+◌, ℕ, List, [], ◌∷◌, drop, slice_get, Option, Some, None, sym, ap, subst, ◌∙◌}
+use Rattle.std.proofs.Common.{◌≡◌, ◌+◌, ℕ, List, [], ◌∷◌, drop, slice_get, Some, None, sym, ap, subst, ◌∙◌}
 use Rattle.class_model.specs.declared.code.Code.{Code}
 use Rattle.code_edit.specs.Applied.{applied, edited}
 use Rattle.code_edit.specs.Legal.{AreLegal, IsFirstFault}

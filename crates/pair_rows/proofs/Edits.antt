@@ -1,16 +1,13 @@
 -- Edits that a witness tells of, computed.
 use Rattle.std.proofs.Common.{◌≡◌, refl, arith, inl, inr, None, Some}
-use Rattle.jv_base.specs.Descriptors.{grown, read_field, read_method}
 use Rattle.jv_base.specs.External.{external_text, word_text}
 use Rattle.jv_base.specs.Types.{base_text, field_text, method_text, result_text}
-use Rattle.jv_base.specs.Walk.{walk}
 use Rattle.class_model.specs.declared.code.Code.{Code}
-use Rattle.class_model.specs.declared.op.Kind.TheVariants as kind
 use Rattle.code_edit.specs.Legal.{AreLegal}
 use Rattle.code_edit.specs.Reach.{first}
 use Rattle.code_edit.specs.declared.act.Act.TheVariants as act
 use Rattle.code_edit.specs.declared.act.Pass.TheVariants as passes
-use Rattle.std.specs.Prelude.{List, [], ◌∷◌}
+use Rattle.std.specs.Prelude.{[], ◌∷◌}
 use Rattle.pair_edits.specs.Edits.{EditIllegal, stray_fault}
 use Rattle.pair_rows.specs.Examples.{dropped, input, mapping, unedited}
 use Rattle.pair_rows.proofs.Required.{method_g}

@@ -2,8 +2,6 @@
 -- it, which is so the first that holds, at its first place (the project's own: definitions are tried on pairs).
 use Rattle.std.specs.Prelude.{◌≡◌, ℕ, List, [], ◌∷◌, Option, Some, None, codes}
 use Rattle.tree_io.specs.declared.file_at.FileAt.{FileAt}
-use Rattle.class_model.specs.declared.class.Class.{Class}
-use Rattle.keep_rules.specs.declared.rules.Rules.{Rules}
 use Rattle.set_read.specs.Accepted.{IsAccepted}
 use Rattle.require_sys.specs.Required.{required}
 use Rattle.mapping_file.specs.declared.mapping.Mapping.{Mapping}

@@ -1,6 +1,6 @@
 -- A code after right acts follows the format with the frames that are carried.
-use Rattle.std.proofs.Common.{◌≡◌, ◌≤◌, ◌<◌, ℕ, Bool, true, false, cond, List, [], ◌∷◌, length, map, refl, sym, ap, subst}
-use Rattle.std.proofs.Common.{◌∙◌, arith, Some, slice_get}
+use Rattle.std.proofs.Common.{◌≡◌, ◌≤◌, ◌<◌, ℕ, Bool, true, false, cond, List, [], ◌∷◌, length, map, refl, sym, subst}
+use Rattle.std.proofs.Common.{arith}
 use Rattle.std.specs.List.{AllByRecursion}
 use Rattle.jv_base.proofs.Lists.{all_weaker}
 use Rattle.class_model.specs.Frames.{cut_tops, words_of_types}
@@ -12,15 +12,14 @@ use Rattle.class_model.specs.declared.frame.VType.TheVariants as vtype
 use Rattle.code_edit.specs.declared.act.Act.{Act}
 use Rattle.code_edit.specs.declared.act.Pass.{Pass}
 use Rattle.code_edit.specs.declared.act.Pass.TheVariants.{Reach, Const, Slots, Jumps}
-use Rattle.code_edit.specs.declared.act.PassEdits.{PassEdits}
 use Rattle.code_edit.specs.Applied.{applied, lives_of}
 use Rattle.code_edit.specs.Flow.{is_target}
 use Rattle.code_edit.specs.Legal.{AreRightActs}
 use Rattle.code_edit.specs.Rewriting.{place}
 use Rattle.code_edit.specs.SoundCode.{IsSound}
 use Rattle.edit_premises.proofs.Places.{place_le}
-use Rattle.frame_rebuild.specs.Carried.{carried, moved_frame, moved_locals, moved_type}
-use Rattle.frame_rebuild.specs.Rebuilt.{frames_after, is_slot_cut, rebuilt}
+use Rattle.frame_rebuild.specs.Carried.{moved_frame, moved_locals, moved_type}
+use Rattle.frame_rebuild.specs.Rebuilt.{is_slot_cut, rebuilt}
 use Rattle.swap_laws.proofs.InFormat.{edited_good}
 use Rattle.rebuild_laws.specs.Laws.{RebuiltCodesFollowFormat}
 use Rattle.rebuild_laws.proofs.News.{applied_long, new_stays}

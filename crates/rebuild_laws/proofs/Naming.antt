@@ -1,9 +1,8 @@
 -- A code names nothing with its carried frames but what it named.
-use Rattle.std.proofs.Common.{◌≡◌, ℕ, suc, ◌+◌, Bool, true, false, cond, List, [], ◌∷◌, length, map, refl, sym, subst, arith}
+use Rattle.std.proofs.Common.{◌≡◌, ℕ, suc, ◌+◌, Bool, true, false, cond, List, [], ◌∷◌, length, refl, subst, arith}
 use Rattle.std.proofs.Common.{Some, slice_get}
 use Rattle.std.specs.List.{AllByRecursion}
 use Rattle.jv_base.proofs.Lists.{all_from}
-use Rattle.class_model.specs.declared.code.Code.{Code}
 use Rattle.class_model.specs.declared.frame.FrameAt.{FrameAt}
 use Rattle.class_model.specs.declared.frame.VType.{VType}
 use Rattle.class_model.specs.declared.frame.VType.TheVariants as vtype
@@ -12,8 +11,8 @@ use Rattle.code_edit.specs.Flow.{is_target}
 use Rattle.code_edit.specs.Rewriting.{place}
 use Rattle.edit_laws.proofs.NamingLess.{edited_names_no_more}
 use Rattle.frame_rebuild.specs.Carried.{carried, is_carried, moved_frame, moved_locals, moved_type}
-use Rattle.frame_rebuild.specs.Rebuilt.{is_slot_cut, rebuilt}
-use Rattle.swap_laws.specs.Swapped.{IsFrameOf, IsTypeOf, NamesLess, in_locals, in_stack, top, uninit}
+use Rattle.frame_rebuild.specs.Rebuilt.{is_slot_cut}
+use Rattle.swap_laws.specs.Swapped.{IsFrameOf, IsTypeOf, in_locals, in_stack, top, uninit}
 use Rattle.rebuild_laws.specs.Laws.{RebuiltCodesNameLess}
 use Rattle.rebuild_laws.proofs.Types.{cut_has, locals_have, stack_has}
 

@@ -1,6 +1,6 @@
 -- Instructions that stay: how many, where they come to stand, and that a new stays one.
-use Rattle.std.proofs.Common.{◌≡◌, ◌≤◌, ◌<◌, ℕ, zero, suc, ◌+◌, not, ◌||◌, Bool, true, false, cond, List, [], ◌∷◌, length, map}
-use Rattle.std.proofs.Common.{refl, sym, ap, subst, ◌∙◌, arith, Option, Some, None, slice_get}
+use Rattle.std.proofs.Common.{◌≡◌, ℕ, suc, ◌+◌, not, ◌||◌, Bool, true, false, cond, List, [], ◌∷◌, length, map}
+use Rattle.std.proofs.Common.{refl, sym, ap, subst, ◌∙◌, arith, Some, None, slice_get}
 use Rattle.std.specs.Option.{option_map}
 use Rattle.class_model.specs.declared.code.Code.{Code}
 use Rattle.class_model.specs.declared.code.Ins.{Ins}

@@ -27,7 +27,7 @@ use Rattle.link_check.proofs.Methods.{instance_is_method}
 use Rattle.require_sys.specs.Requires.{class_number, is_inheritable, members_of, pair_from, pair_of}
 use Rattle.require_sys.specs.bodies.Alike.{AreAlike, AreNumbers, AreRows, HasItem, IsFirst, IsRow, Knows, class_rows}
 use Rattle.require_sys.specs.bodies.Alike.{group_number}
-use Rattle.require_sys.specs.bodies.Alike.{member_at, number_in, openness, place_of, row_of}
+use Rattle.require_sys.specs.bodies.Alike.{member_at, number_in, openness, place_of, row_in, row_of}
 use Rattle.require_sys.specs.bodies.Marks.{mark_of}
 use Rattle.require_sys.specs.bodies.Nearest.{IsListed, front_rows, is_hidden, row_with}
 use Rattle.require_sys.specs.bodies.Selecting.{pair_with, pairs_in}
@@ -112,6 +112,30 @@ module _ (classes : List Class) (number : NameAndType → ℕ) (n : ℕ) where
       member_among classes
       (λ m. is_instance_method classes m ≡ true → (number (named_at classes m) == g) ≡ false)
       (record { class = Prog n; index = k }) (others g (enumerate_from 0 (rows_in classes (Prog n))) h) i i
+
+  each_over : (Q : InstanceMethod → Type 0) (ps : List (ℕ × MemberRow)) → AllByRecursion Q (rows_over ps)
+      → AllByRecursion (λ m. is_instance_method classes m ≡ true → Q (row_in classes number n m.index)) (map member ps)
+  each_over Q [] h = tt
+  each_over Q (p ∷ ps) h = by (is_instance_method classes (member p)) refl h (λ k. each_over Q ps k)
+    where
+      by : (b : Bool) → is_instance_method classes (member p) ≡ b
+          → AllByRecursion Q (filter_map (row_of classes number)
+          (cond b (member p ∷ filter (is_instance_method classes) (map member ps))
+          (filter (is_instance_method classes) (map member ps))))
+          → (AllByRecursion Q (rows_over ps)
+          → AllByRecursion (λ m. is_instance_method classes m ≡ true → Q (row_in classes number n m.index))
+          (map member ps))
+          → AllByRecursion (λ m. is_instance_method classes m ≡ true → Q (row_in classes number n m.index))
+          (map member (p ∷ ps))
+      by true e h rest = (λ i. h.0, rest h.1)
+      by false e h rest = (λ i. absurd (let q : true ≡ false = sym i ∙ e in cc), rest h)
+
+  -- what holds of each row holds of that of an instance method
+  pub each_row : (Q : InstanceMethod → Type 0) (k : ℕ) → AllByRecursion Q (class_rows classes number n)
+      → is_instance_method classes (record { class = Prog n; index = k }) ≡ true → Q (row_in classes number n k)
+  each_row Q k h i =
+      member_among classes (λ m. is_instance_method classes m ≡ true → Q (row_in classes number n m.index))
+      (record { class = Prog n; index = k }) (each_over Q (enumerate_from 0 (rows_in classes (Prog n))) h) i i
 
   inheritable_over : (ps : List (ℕ × MemberRow)) → filter (is_inheritable classes) (map member_at (rows_over ps))
       ≡ filter (is_inheritable classes) (map member ps)
@@ -293,7 +317,7 @@ rows_made classes marks keys groups rows count are long low high each = record {
 
 -- ---- the nearest one
 
-found_holds : (P : InstanceMethod → Type 0) (test : InstanceMethod → Bool) (rows : List InstanceMethod)
+pub found_holds : (P : InstanceMethod → Type 0) (test : InstanceMethod → Bool) (rows : List InstanceMethod)
     (row : InstanceMethod) → AllByRecursion P rows → find test rows ≡ Some row → P row × (test row ≡ true)
 found_holds P test [] row all is = absurd cc
 found_holds P test (r ∷ rows) row all is = by (test r) refl is (λ h. found_holds P test rows row all.1 h)
@@ -303,7 +327,7 @@ found_holds P test (r ∷ rows) row all is = by (test r) refl is (λ h. found_ho
     by true e h next = let same : r ≡ row = same_Some r row h in (subst P same all.0, ap test (sym same) ∙ e)
     by false e h next = next h
 
-none_holds : (test : InstanceMethod → Bool) (rows : List InstanceMethod) → find test rows ≡ None
+pub none_holds : (test : InstanceMethod → Bool) (rows : List InstanceMethod) → find test rows ≡ None
     → AllByRecursion (λ row. test row ≡ false) rows
 none_holds test [] is = tt
 none_holds test (r ∷ rows) is = by (test r) refl is (λ h. none_holds test rows h)
@@ -488,3 +512,10 @@ front_row classes table are cs there g r found =
     let h = found_holds (IsSome classes table are) (λ x. x.number == g) (front_rows table cs) r
     (front_all classes table are cs there) found in
     (h.0.1, h.1)
+
+-- a row that passes a test from a class upwards is one of a class of the set
+pub front_tested : (classes : List Class) (table : List (List InstanceMethod)) (are : AreRows classes table)
+    (cs : List ClassId) → All (IsClass classes) cs → (q : InstanceMethod → Bool) (r : InstanceMethod)
+    → find q (front_rows table cs) ≡ Some r → IsRow classes are.number r.class r
+front_tested classes table are cs there q r found =
+    (found_holds (IsSome classes table are) q (front_rows table cs) r (front_all classes table are cs there) found).0.1

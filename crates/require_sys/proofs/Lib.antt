@@ -27,3 +27,5 @@ mod Grouping
 mod Having
 mod InstanceRows
 mod Noting
+mod PackageRows
+mod PackageRuns

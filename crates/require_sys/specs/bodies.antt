@@ -15,3 +15,4 @@ pub mod Marks
 pub mod Alike
 pub mod Nearest
 pub mod Above
+pub mod Places

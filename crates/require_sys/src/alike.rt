@@ -165,7 +165,7 @@ fn keys_of(alloc: Global, marks: &[Items<u64>]) -> M<Vec<u64>>
 }
 
 /// How many of the first keys are less than a mark.
-fn place_of(keys: &[u64], mark: u64) -> usize
+pub(crate) fn place_of(keys: &[u64], mark: u64) -> usize
     requires { IsSorted nat_cmp keys.now }
     ensures { result ≡ place_of keys.now mark }
 {

@@ -18,6 +18,7 @@ mod nearest;
 mod needs;
 mod numbered;
 mod pairs;
+mod places;
 mod receiver;
 mod seeds;
 mod supers;

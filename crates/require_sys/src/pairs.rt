@@ -12,6 +12,7 @@ ghost use Rattle.require_sys.specs.bodies.Above.{IsAbove, IsClassAbove, IsReceiv
 ghost use Rattle.require_sys.specs.bodies.Alike.{AreRows, HasItem, member_at};
 ghost use Rattle.require_sys.specs.bodies.Counting.{AddsPairs, HasPairs};
 ghost use Rattle.require_sys.specs.bodies.Nearest.{IsListed, is_hidden};
+ghost use Rattle.require_sys.specs.bodies.Places.{HavePlaces};
 ghost use Rattle.require_sys.specs.bodies.Selecting.{all_pairs, pair_with, pairs_in};
 ghost use Rattle.require_sys.specs.bodies.Tops.{AreAbove};
 
@@ -19,6 +20,7 @@ use crate::limits::Counted;
 use crate::methods::{InstanceMethod, Methods, Openness};
 use crate::nearest::{Note, no_notes, note_chain};
 use crate::numbered::Numbered;
+use crate::places::Places;
 use crate::receiver::{Receiver, member_of};
 use crate::supers::{is_interface, is_same_member, program_supers, superclasses_of};
 use crate::tops::own_numbers;
@@ -60,6 +62,9 @@ struct Above {
     below: Vec<u32>,
     /// The nearest methods from a class upwards.
     notes: Vec<Note>,
+    /// Those of each place, and of these the ones that methods of all packages may override.
+    placed: Vec<Note>,
+    opening: Vec<Note>,
 }
 
 /// A class above the one whose pairs are found.
@@ -83,22 +88,30 @@ pub(crate) fn pairs_of(alloc: Global, numbered: &Numbered, methods: &Methods) ->
         pairs: Items::new(alloc),
         count: 0,
     };
-    let mut above = nothing_above(alloc, set, methods.highest)?;
+    let places = Places::of(alloc, set, methods.of_classes.as_slice())?;
+    let mut above = nothing_above(alloc, set, methods.highest, places.highest())?;
     for number in 0..set.len() {
         let class = set.class(number);
         add_class(
-            alloc, numbered, methods, &mut above, number, class, &mut pairs,
+            alloc, numbered, methods, &places, &mut above, number, class, &mut pairs,
         )?;
     }
     Ok(pairs)
 }
 
-fn nothing_above(alloc: Global, set: &ClassSet, highest: usize) -> M<Above>
+fn nothing_above(alloc: Global, set: &ClassSet, highest: usize, highest_place: usize) -> M<Above>
     ensures { IfOk result (IsAbove set.now 0) }
 {
     let below = own_numbers(alloc, set)?;
     let notes = no_notes(alloc, highest)?;
-    Ok(Above { below, notes })
+    let placed = no_notes(alloc, highest_place)?;
+    let opening = no_notes(alloc, highest_place)?;
+    Ok(Above {
+        below,
+        notes,
+        placed,
+        opening,
+    })
 }
 
 /// The pairs of a class; no object is of an interface.
@@ -106,12 +119,14 @@ fn add_class(
     alloc: Global,
     numbered: &Numbered,
     methods: &Methods,
+    places: &Places,
     above: &mut Above,
     number: u32,
     class: &Class,
     pairs: &mut Pairs,
 ) -> M<()>
     requires methods { AreRows numbered.now.set.now methods.now.of_classes }
+    requires places { HavePlaces numbered.now.set.now methods.now.of_classes places.now }
     requires above { IsAbove numbered.now.set.now number above.old }
     requires there { slice_get numbered.now.set.now number ≡ Some class.now }
     ensures pairs { OnOk result (AddsPairs pairs.old (class_pairs numbered.now.set.now (number, class.now)) pairs.new) }
@@ -127,6 +142,7 @@ fn add_class(
     add_above(
         numbered,
         methods,
+        places,
         above,
         number,
         top,
@@ -141,6 +157,7 @@ fn add_class(
 fn add_above(
     numbered: &Numbered,
     methods: &Methods,
+    places: &Places,
     above: &mut Above,
     number: u32,
     top: u32,
@@ -149,6 +166,7 @@ fn add_above(
     pairs: &mut Pairs,
 ) -> M<()>
     requires methods { AreRows numbered.now.set.now methods.now.of_classes }
+    requires places { HavePlaces numbered.now.set.now methods.now.of_classes places.now }
     requires above { IsAbove numbered.now.set.now number above.old }
     requires there { number < length numbered.now.set.now }
     requires top { top < length numbered.now.set.now }
@@ -165,6 +183,8 @@ fn add_above(
     let stamp = number + 1;
     mark_above(numbered.set, &mut above.below, top, chain);
     note_chain(&methods.of_classes, &mut above.notes, stamp, chain);
+    note_chain(&places.each, &mut above.placed, stamp, chain);
+    note_chain(&places.opening, &mut above.opening, stamp, chain);
     let receiver = Receiver {
         numbered,
         class: top,
@@ -172,6 +192,9 @@ fn add_above(
         below: above.below.as_slice(),
         stamp,
         notes: above.notes.as_slice(),
+        places,
+        placed: above.placed.as_slice(),
+        opening: above.opening.as_slice(),
     };
     add_each(&receiver, number, supers, pairs)
 }

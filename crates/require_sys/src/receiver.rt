@@ -1,7 +1,7 @@
 // Which method runs where another one is called on objects of a class (JVMS 5.4.5, 6.5).
 //
-// `select` walks up to the class of the method. Here the nearest method of its name and descriptor is noted, and a
-// table tells at once whether the class of the method is above.
+// `select` walks up to the class of the method. Here the nearest method of its name and descriptor is noted, also the
+// nearest one of each package, and a table tells at once whether the class of the method is above.
 ghost use Rattle.std.specs.Prelude.{◌≡◌, ◌<◌, IfSome, IsTrue, Some, length, true};
 ghost use Rattle.class_pool.specs.Found.{IsMember};
 ghost use Rattle.class_pool.specs.Resolution.{is_class_below};
@@ -9,11 +9,13 @@ ghost use Rattle.class_pool.specs.Selection.{selected};
 ghost use Rattle.class_pool.specs.declared.id.ClassId.TheVariants.{Prog};
 ghost use Rattle.require_sys.specs.bodies.Above.{IsReceiver};
 ghost use Rattle.require_sys.specs.bodies.Alike.{HasItem, member_at};
-ghost use Rattle.require_sys.specs.bodies.Nearest.{IsListed, Runs, is_overriding};
+ghost use Rattle.require_sys.specs.bodies.Nearest.{IsListed, Runs};
+ghost use Rattle.require_sys.specs.declared.methods.Openness.TheVariants.{Package};
 
 use crate::methods::{InstanceMethod, Openness};
 use crate::nearest::{Note, noted};
 use crate::numbered::Numbered;
+use crate::places::{Places, is_overriding};
 use class_pool::{ClassId, MemberAt};
 use jv_base::Items;
 use link_check::select;
@@ -31,6 +33,11 @@ pub(crate) struct Receiver<'a> {
     pub stamp: u32,
     /// With that stamp the nearest methods from the class upwards.
     pub notes: &'a [Note],
+    /// The methods that may override others by their places.
+    pub places: &'a Places,
+    /// The nearest methods of each place, and of those that methods of all packages may override.
+    pub placed: &'a [Note],
+    pub opening: &'a [Note],
 }
 
 impl<'a> Receiver<'a> {
@@ -62,10 +69,35 @@ impl<'a> Receiver<'a> {
         }
         let nearest = noted(self.notes, self.stamp, row.number)?;
         if self.runs(is_above, row, &nearest) {
-            Some(nearest)
-        } else {
-            None
+            return Some(nearest);
         }
+        if is_above && is_of_package(row) {
+            return self.known_of_package(above, row);
+        }
+        None
+    }
+
+    /// The same of a method that methods of its package alone may override: the nearest one of its place, unless a
+    /// method of that place opens it to all packages.
+    fn known_of_package(&self, above: u32, row: &InstanceMethod) -> Option<InstanceMethod>
+        requires receiver { IsReceiver self.now }
+        requires above { above < length self.now.numbered.now.set.now }
+        requires is_above { is_class_below self.now.numbered.now.set.now (Prog self.now.class) (Prog above) ≡ true }
+        requires row { IsListed self.now.table.now above row.now }
+        requires kind { row.now.openness ≡ Package }
+        requires number { 0 < row.now.number }
+        ensures is { IfSome result (λ found. selected self.now.numbered.now.set.now (Prog self.now.class)
+            (member_at row.now) ≡ Some (member_at found)) }
+        ensures item { IfSome result (HasItem self.now.numbered.now.set.now) }
+    {
+        let place = self.places.place(row);
+        if place == 0 || place >= self.opening.len() {
+            return None;
+        }
+        if noted(self.opening, self.stamp, place).is_some() {
+            return None;
+        }
+        noted(self.placed, self.stamp, place)
     }
 
     /// Whether it is known that the nearest method of its name and descriptor runs where that of a row is called.
@@ -94,11 +126,11 @@ impl<'a> Receiver<'a> {
     }
 }
 
-/// Whether a method may override others.
-fn is_overriding(row: &InstanceMethod) -> bool
-    ensures { result ≡ is_overriding row.now.openness }
+/// Whether only methods of its package may override a method.
+fn is_of_package(row: &InstanceMethod) -> bool
+    ensures { IsTrue result → row.now.openness ≡ Package }
 {
-    matches!(row.openness, Openness::Package | Openness::Open)
+    matches!(row.openness, Openness::Package)
 }
 
 /// The member of a row.

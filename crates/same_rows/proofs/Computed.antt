@@ -1,7 +1,6 @@
 -- What is kept, written and run, computed.
 use Rattle.std.proofs.Common.{◌≡◌, ℕ, zero, suc, Bool, [], ◌∷◌, Ok, refl, sym, subst, arith}
 use Rattle.std.specs.Prelude.{IsTrue}
-use Rattle.std.specs.Char.Utf16.{utf16_chars}
 use Rattle.std.specs.Fmt.{digits}
 use Rattle.std.specs.Int.{int_wrap}
 use Rattle.std.specs.List.{All, Contains}
@@ -10,7 +9,7 @@ use Rattle.std.proofs.lemmas.List.Elements.{All-from_recursion}
 use Rattle.jv_base.specs.Descriptors.{grown, read_field, read_method}
 use Rattle.jv_base.specs.External.{external_text, word_text}
 use Rattle.jv_base.specs.Mutf8.{mutf8, unit_bytes}
-use Rattle.jv_base.specs.Names.{is_class_name, is_member_name, is_method_name, is_name_byte, is_primitive_or_void}
+use Rattle.jv_base.specs.Names.{is_class_name, is_member_name, is_name_byte, is_primitive_or_void}
 use Rattle.jv_base.specs.Names.{part_after}
 use Rattle.jv_base.specs.Types.{argument_words, base_text, field_text, method_text, result_text, words_of}
 use Rattle.jv_base.specs.Utf16.{units_of}

@@ -3,9 +3,7 @@
 -- System.out.println(p.B.g()); } } and p.B { static int g() { return 7; } static int h() { return 8; } }; the rules
 -- keep f, and p.B becomes p.a, without h.
 use Rattle.std.specs.Prelude.{◌≡◌, true, false, ℕ, Bool, List, [], ◌∷◌, ◌++◌, Some, None, Ok, codes}
-use Rattle.std.specs.List.{Contains}
 use Rattle.tree_io.specs.declared.file_at.FileAt.{FileAt}
-use Rattle.class_model.specs.declared.class.Class.{Class}
 use Rattle.class_run.specs.Ended.{ended_after}
 use Rattle.class_run.specs.declared.ended.Back.TheVariants as back
 use Rattle.class_run.specs.declared.ended.End.TheVariants as end

@@ -75,6 +75,6 @@ fn main(rt: HostRuntime) -> ExitCode {
     let mut tree = Watched::new(alloc, FileTree::new(&rt));
     let mut heard = Heard::new(alloc, out);
     let status = run(&rt, alloc, &words, &mut tree, &mut heard, &OpenGate);
-    let _ = explain(&rt, alloc, &mut tree, &heard);
+    let _ = explain(&rt, alloc, words.as_slice(), &mut tree, &heard);
     ExitCode::from(status)
 }

@@ -1,28 +1,27 @@
 -- What `shrink` was due to write is found again, and belongs to the input.
-use Rattle.std.proofs.Common.{◌≡◌, ◌≤◌, ◌⊎◌, inl, inr, ℕ, nat_le, Bool, true, false, cond, List, [], ◌++◌, length}
-use Rattle.std.proofs.Common.{Option, Some, None, Result, Ok, Err, refl, sym, ap, subst, ◌∙◌}
+use Rattle.std.proofs.Common.{◌≡◌, ◌⊎◌, inl, inr, ℕ, nat_le, Bool, true, cond, List, ◌++◌, length}
+use Rattle.std.proofs.Common.{Some, Result, Ok, Err, refl, sym, ap, subst, ◌∙◌}
 use Rattle.std.proofs.lemmas.Bool.{le-leb}
 use Rattle.tree_io.specs.Files.{Files}
 use Rattle.tree_io.specs.declared.file_at.FileAt.{FileAt}
 use Rattle.class_files.specs.Input.{input_due}
 use Rattle.class_files.specs.Output.{put_all}
 use Rattle.class_files.specs.declared.input.InputFault.TheVariants.{TooManyFiles, TooManyClasses, TooLong}
-use Rattle.keep_rules.specs.declared.rules.Rules.{Rules}
 use Rattle.mapping_file.specs.declared.mapping.Mapping.{Mapping}
 use Rattle.witness_file.specs.declared.witness.Witness.{Witness}
 use Rattle.command_frame.proofs.OneStep.{both_gave}
 use Rattle.command_frame.specs.Refusal.{passed}
-use Rattle.command_frame.specs.Steps.{IsFile, Then, bytes_in, follows, stops}
+use Rattle.command_frame.specs.Steps.{IsFile, bytes_in, follows, stops}
 use Rattle.command_frame.specs.declared.command.Plan.{Plan}
 use Rattle.command_frame.specs.declared.refusal.Quantity.{Quantity}
 use Rattle.command_frame.specs.declared.refusal.Quantity.TheVariants as quantity
 use Rattle.command_frame.specs.declared.refusal.Refusal.{Refusal}
 use Rattle.command_steps.specs.Config.{IsConfigured, IsRules}
 use Rattle.command_steps.specs.Sets.{IsDirectory}
-use Rattle.command_steps.specs.System.{IsSystem, or_many, or_nothing}
+use Rattle.command_steps.specs.System.{or_many, or_nothing}
 use Rattle.command_steps.specs.Texts.{or_bad_mapping, or_bad_witness}
 use Rattle.check_command.specs.Due as check
-use Rattle.check_command.specs.Due.{AreDirectories, IsJudged, IsTexts, belongs, ok_plan}
+use Rattle.check_command.specs.Due.{IsJudged, IsTexts, belongs, ok_plan}
 use Rattle.check_command.specs.declared.finding.Texts.{Texts}
 use Rattle.pair_laws.proofs.OwnPairs.Own.{own_pairs}
 use Rattle.pair_laws.specs.OwnChecked.Again.{HasText, IsFoundAgain, PassesInputLimit, by_classes, by_files, by_length}

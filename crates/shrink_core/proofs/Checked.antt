@@ -1,6 +1,5 @@
 -- Where `check` said `ok`, what was read is a pair that does the same.
 use Rattle.std.proofs.Common.{◌≡◌, ℕ, List, [], Some, Result, Ok, Err, sym, ap, subst, ◌∙◌, arith}
-use Rattle.tree_io.specs.Event.{files_to_write}
 use Rattle.tree_io.specs.Files.{Files}
 use Rattle.tree_io.specs.Runs.{AddsCalls, Did, Sees}
 use Rattle.tree_io.specs.declared.event.Event.{Event}

@@ -7,11 +7,15 @@ use Rattle.command_frame.specs.Output.{Outside, SaysLine}
 use Rattle.command_frame.specs.declared.command.Plan.{Plan}
 use Rattle.command_frame.specs.declared.refusal.Refusal.{Refusal}
 use Rattle.command_words.specs.declared.command.Command.{Command}
-use Rattle.command_words.specs.declared.command.Command.TheVariants.{Shrink, Check, Retrace, Gen, Why}
+use Rattle.command_words.specs.declared.command.Command.TheVariants.{Shrink, Check, Retrace, Gen, Why, Run}
+use Rattle.command_words.specs.declared.command.Command.TheVariants.{Compare}
+use Rattle.compare_command.specs.Due as comparing
+use Rattle.compare_command.specs.Due.{same_plan}
 use Rattle.gen_command.specs.Due as gen
 use Rattle.gen_command.specs.Due.{plan_for}
 use Rattle.gen_command.specs.declared.command.GenFiles.{GenFiles}
 use Rattle.retrace_command.specs.Due as retrace
+use Rattle.run_command.specs.Due as running
 use Rattle.shrink_command.specs.Due.{IsDue}
 use Rattle.shrink_command.specs.OwnPair.{IsOwnPair}
 use Rattle.shrink_command.specs.declared.command.ShrinkFiles.{ShrinkFiles}
@@ -22,13 +26,15 @@ use Rattle.shrink_core.specs.Checked.{Checked}
 abbrev pub most_pairs : ℕ
 most_pairs = 4000
 
--- words ask for a command that can be run; `run` and `compare` can't be run yet
+-- words ask for a command that can be run
 abbrev pub is_there : Option Command → Bool
 is_there (Some (Shrink config witness workers)) = true
 is_there (Some (Check config witness)) = true
 is_there (Some (Retrace mapping trace)) = true
 is_there (Some (Gen number directory)) = nat_le number most_pairs
 is_there (Some (Why config item)) = true
+is_there (Some (Run directory entry steps words)) = true
+is_there (Some (Compare config entry steps words)) = true
 is_there _ = false
 
 -- a line was said at once, with its status, and the tree wasn't asked
@@ -49,6 +55,10 @@ IsText plan = plan.files ≡ []
 abbrev pub PairIsDue : ShrinkFiles → Files → Result Plan Refusal → Type 0
 PairIsDue named files (Ok plan) = IsDue named files (Ok plan) × IsOwnPair files named plan
 PairIsDue named files (Err refusal) = IsDue named files (Err refusal)
+
+-- `same` is said, or nothing, whatever the tree answers
+abbrev pub IsSame : Plan → Type 0
+IsSame plan = plan ≡ same_plan
 
 -- the one plan of `gen`
 abbrev pub IsGenerated : GenFiles → Plan → Type 0
@@ -71,6 +81,12 @@ Does (Some (Gen number directory)) status before after =
     Generates (nat_le number most_pairs) (record { number = number; directory = directory }) status before after
 Does (Some (Why config item)) status before after =
     Ended IsText (why.IsDue (record { config = config; item = item })) status before after
+Does (Some (Run directory entry steps words)) status before after =
+    Ended IsText (running.IsDue (record { directory = directory; entry = entry; steps = steps; words = words })) status
+    before after
+Does (Some (Compare config entry steps words)) status before after =
+    Ended IsSame (comparing.IsDue (record { config = config; entry = entry; steps = steps; words = words })) status
+    before after
 Does _ status before after = SaysAtOnce 1 (codes "error 1 words\n") status before after
 
 -- a run that was given words which ask for this command did it, or memory was wanting for the words

@@ -12,12 +12,14 @@ ghost use Rattle.shrink_core.specs.Commands.{Does, Ran, is_there};
 use check_command::CheckFiles;
 use command_frame::{run_command, say_line, say_no_memory};
 use command_words::{Command, read_command};
+use compare_command::CompareFiles;
 use gen_command::GenFiles;
 use jv_base::{Items, M, Text};
 use mark_core::System;
 use mark_words::Marked;
 use mark_workers::mark_all;
 use retrace_command::RetraceFiles;
+use run_command::RunFiles;
 use shrink_command::{ShrinkFiles, Shrinking};
 use std::alloc::Global;
 use std::thread::Threads;
@@ -31,17 +33,17 @@ const MOST_WORKERS: u32 = 64;
 const MOST_PAIRS: u32 = 4000;
 
 /// Runs a command and answers the status with which the program ends. The words are read by `read_command` of
-/// `command_words`; `run` and `compare` can't be run yet. What `shrink CONFIG OUTWIT`, `check CONFIG WITNESS`,
-/// `retrace MAPPING TRACE`, `gen NUMBER DIRECTORY` and `why CONFIG ITEM` do, and what their statuses say, is told where
-/// their files are: `ShrinkFiles`, `CheckFiles`, `RetraceFiles`, `GenFiles` and `WhyFiles`. The gate is told of turns of
-/// those who mark what `shrink` keeps (`mark_all` of `mark_workers`); what is due, written and said is the same for each
-/// number of workers and each gate.
+/// `command_words`. What `shrink CONFIG OUTWIT`, `check CONFIG WITNESS`, `retrace MAPPING TRACE`, `gen NUMBER DIRECTORY`,
+/// `why CONFIG ITEM`, `run DIRECTORY ENTRY STEPS WORD..` and `compare CONFIG ENTRY STEPS WORD..` do, and what their
+/// statuses say, is told where their files are: `ShrinkFiles`, `CheckFiles`, `RetraceFiles`, `GenFiles`, `WhyFiles`,
+/// `RunFiles` and `CompareFiles`. The gate is told of turns of those who mark what `shrink` keeps (`mark_all` of
+/// `mark_workers`); what is due, written and said is the same for each number of workers and each gate.
 ///
 /// | Status | Comes | Text |
 /// |---|---|---|
 /// | 0 | where all that is due was written and said | the command's text |
-/// | 1 | where the words ask for no command that can be run | `error 1 words` |
-/// | 2 to 6, 8, 9, 11, 14 | where a refusal is due | `error STATUS WORD ..` |
+/// | 1 | where the words ask for no command | `error 1 words` |
+/// | 2 to 6, 8, 9, 11 to 14 | where a refusal is due | `error STATUS WORD ..` |
 /// | 7 | only where a count of faults rose, the tree's or (once the files stand) the sink's | `error 7 device` |
 /// | 10 | where memory is wanting | `error 10 memory` |
 pub fn run<Rt: Threads + Sync, T: Tree, S: Sink, G: Gate>(
@@ -79,7 +81,7 @@ pub fn run<Rt: Threads + Sync, T: Tree, S: Sink, G: Gate>(
     }
 }
 
-/// Runs the command that words ask for; `run` and `compare` can't be run yet.
+/// Runs the command that words ask for.
 fn run_asked<Rt: Threads + Sync, T: Tree, S: Sink, G: Gate>(
     rt: &Rt,
     alloc: Global,
@@ -124,11 +126,39 @@ fn run_asked<Rt: Threads + Sync, T: Tree, S: Sink, G: Gate>(
         Command::Why { config, item } => {
             run_command(alloc, &WhyFiles { config, item }, tree, out)
         }
-        Command::Gen { .. } | Command::Run { .. } | Command::Compare { .. } => refuse_words(out),
+        Command::Run {
+            directory,
+            entry,
+            steps,
+            words,
+        } => {
+            let files = RunFiles {
+                directory,
+                entry,
+                steps,
+                words,
+            };
+            run_command(alloc, &files, tree, out)
+        }
+        Command::Compare {
+            config,
+            entry,
+            steps,
+            words,
+        } => {
+            let files = CompareFiles {
+                config,
+                entry,
+                steps,
+                words,
+            };
+            run_command(alloc, &files, tree, out)
+        }
+        Command::Gen { .. } => refuse_words(out),
     }
 }
 
-/// Refuses words that ask for no command that can be run.
+/// Refuses words that ask for no command.
 fn refuse_words<S: Sink>(out: &mut S) -> u8
     ensures { SaysLine 1 (codes "error 1 words\n") result
         (output (S.written out.old) (S.faults out.old) (S.log out.old))

@@ -2,16 +2,20 @@
 ghost use Rattle.check_command.specs.Due as check;
 ghost use Rattle.check_command.specs.declared.command.CheckFiles.{CheckFiles};
 ghost use Rattle.command_frame.specs.LeftFiles.{LeavesTold};
+ghost use Rattle.compare_command.specs.Due as comparing;
+ghost use Rattle.compare_command.specs.declared.command.CompareFiles.{CompareFiles};
 ghost use Rattle.gen_command.specs.Due as generation;
 ghost use Rattle.gen_command.specs.declared.command.GenFiles.{GenFiles};
 ghost use Rattle.retrace_command.specs.Due as retrace;
 ghost use Rattle.retrace_command.specs.declared.command.RetraceFiles.{RetraceFiles};
+ghost use Rattle.run_command.specs.Due as running;
+ghost use Rattle.run_command.specs.declared.command.RunFiles.{RunFiles};
 ghost use Rattle.shrink_command.specs.declared.command.ShrinkFiles.{ShrinkFiles};
 ghost use Rattle.why_command.specs.Due as why;
 ghost use Rattle.why_command.specs.declared.command.WhyFiles.{WhyFiles};
 ghost use Rattle.shrink_core.specs.Again.{PlanIsChecked};
 ghost use Rattle.shrink_core.specs.Checked.{IsOk, OkDoesTheSame};
-ghost use Rattle.shrink_core.specs.Commands.{IsAny, IsGenerated, IsText, PairIsDue};
+ghost use Rattle.shrink_core.specs.Commands.{IsAny, IsGenerated, IsSame, IsText, PairIsDue};
 
 /// Where a tree tells its files, what `run` says of its calls settles them: after status 0 they are the old ones with
 /// the plan that is due put, after a refusal that is due they are as they were, after 10 they are as they were or hold
@@ -23,6 +27,8 @@ pub fn told_files_are_left_as_due()
     ensures retrace { (named : RetraceFiles) → LeavesTold IsText (retrace.IsDue named) }
     ensures generation { (named : GenFiles) → LeavesTold (IsGenerated named) (generation.IsDue named) }
     ensures why { (named : WhyFiles) → LeavesTold IsText (why.IsDue named) }
+    ensures running { (named : RunFiles) → LeavesTold IsText (running.IsDue named) }
+    ensures comparing { (named : CompareFiles) → LeavesTold IsSame (comparing.IsDue named) }
 {}
 
 /// Of files at which `check` has to say `ok`, what stands below the output directory does what stands below the input

@@ -1,12 +1,10 @@
 -- What is closed for a set is closed for it with codes that name nothing more.
-use Rattle.std.proofs.Common.{◌≡◌, ◌<◌, ℕ, zero, suc, ◌+◌, not, ◌||◌, Bool, true, false, cond, List, [], ◌∷◌, ◌++◌, length}
-use Rattle.std.proofs.Common.{map, Option, Some, None, slice_get, get_or, refl, sym, ap, subst, ◌∙◌, arith, filter, nat_lt}
+use Rattle.std.proofs.Common.{◌≡◌, ℕ, zero, suc, ◌+◌, not, Bool, true, false, cond, List, [], ◌∷◌, ◌++◌, length}
+use Rattle.std.proofs.Common.{map, Option, Some, None, slice_get, refl, sym, ap, subst, ◌∙◌, arith, filter, nat_lt}
 use Rattle.std.specs.Prelude.{IfSome, IsTrue, ◌==◌, slice_index_or}
 use Rattle.std.specs.List.{All, AllByRecursion, AllZip, cons_option, enumerate_from, filter_map, flat_map}
 use Rattle.std.specs.Option.{option_map_or}
-use Rattle.std.proofs.lemmas.Bool.{eqb-true}
 use Rattle.jv_base.proofs.Lists.{all_append, all_split, all_weaker, heads, tails}
-use Rattle.mark_core.specs.Marks.{Closed}
 use Rattle.mark_core.specs.declared.system.Pair.{Pair}
 use Rattle.class_model.specs.declared.class.Class.{Class}
 use Rattle.class_model.specs.declared.class.Field.{Field}
@@ -19,14 +17,14 @@ use Rattle.class_model.specs.declared.frame.VType.{VType}
 use Rattle.class_model.specs.declared.op.Op.{Op}
 use Rattle.class_model.specs.declared.op.Op.TheVariants as op
 use Rattle.class_pool.specs.Items.{class_item}
-use Rattle.require_sys.specs.Requires.{Item, OfClass, ascending, class_needs, class_pairs, class_wants, code_wants, field_wants}
+use Rattle.require_sys.specs.Requires.{Item, ascending, class_needs, class_pairs, class_wants, code_wants, field_wants}
 use Rattle.require_sys.specs.Requires.{frame_wants, handler_wants, method_type_wants, method_wants, name_wants, needs_of, number_of}
 use Rattle.require_sys.specs.Requires.{numbers, op_wants, put, requires, seeds_of, throws_wants, verification_wants}
 use Rattle.require_sys.specs.declared.kept.KeptByRules.{KeptByRules}
 use Rattle.require_sys.proofs.Parts.{all_ascending, all_filter, all_filter_map, from_all}
-use Rattle.shape_laws.specs.Bare.{DifferInCodes, bare, bare_method}
+use Rattle.shape_laws.specs.Bare.{bare, bare_method}
 use Rattle.edit_laws.specs.NamesNoMore.{IsCaughtIn, IsOpOf, names_nothing, plain, there}
-use Rattle.swap_laws.specs.Swapped.{CodeSwaps, IsFrameOf, IsSwapped, IsTypeOf, NamesLess, NamesLessThan}
+use Rattle.swap_laws.specs.Swapped.{CodeSwaps, IsFrameOf, IsTypeOf, NamesLess, NamesLessThan}
 use Rattle.swap_laws.specs.Swapped.{in_locals, in_stack, top, uninit}
 use Rattle.shape_laws.proofs.BareSets.{same}
 use Rattle.swap_laws.specs.Laws.{SwapKeepsClosed}

@@ -1,26 +1,22 @@
 -- Codes after right steps name nothing more and follow the format, so a set with them is swapped for its own.
-use Rattle.std.proofs.Common.{◌≡◌, ℕ, zero, suc, ◌+◌, List, [], ◌∷◌, Option, Some, None, slice_get, inl, inr, refl, sym, ap}
-use Rattle.std.proofs.Common.{subst, ◌∙◌, arith}
+use Rattle.std.proofs.Common.{◌≡◌, ℕ, suc, List, [], ◌∷◌, Option, Some, None, slice_get, inl, inr, refl, sym}
+use Rattle.std.proofs.Common.{subst}
 use Rattle.std.specs.Prelude.{IfSome}
 use Rattle.std.specs.List.{AllByRecursion, AllZip}
 use Rattle.jv_base.proofs.Lists.{all_at, all_from}
 use Rattle.class_model.specs.Flags.{is_interface}
 use Rattle.class_model.specs.WellFormed.{IsGoodCode, IsGoodMethod}
-use Rattle.class_model.specs.declared.class.Class.{Class}
 use Rattle.class_model.specs.declared.class.Method.{Method}
 use Rattle.class_model.specs.declared.code.Code.{Code}
 use Rattle.class_model.specs.declared.frame.FrameAt.{FrameAt}
-use Rattle.type_verifier.specs.Verified.{AreTyped}
 use Rattle.code_edit.specs.Applied.{edited}
-use Rattle.code_edit.specs.Legal.{AreRightSteps}
 use Rattle.code_edit.specs.SoundCode.{IsSound}
 use Rattle.code_edit.specs.declared.act.PassEdits.{PassEdits}
-use Rattle.image_laws.specs.TakenSet.TakenSet.{IsTaken}
 use Rattle.edit_premises.specs.Steps.{IsEdited}
 use Rattle.flow_laws.proofs.LastGoes.{typed_sound}
 use Rattle.edit_laws.proofs.NamingLess.{edited_names_no_more}
 use Rattle.swap_laws.specs.Laws.{EditedSetsAreSwapped}
-use Rattle.swap_laws.specs.Swapped.{CodeSwaps, IsFrameOf, IsSwapped, IsTypeOf, NamesLess, NamesLessThan, in_locals, in_stack}
+use Rattle.swap_laws.specs.Swapped.{CodeSwaps, IsFrameOf, IsTypeOf, NamesLess, NamesLessThan, in_locals, in_stack}
 use Rattle.swap_laws.proofs.InFormat.{edited_good, frames_of}
 
 -- ---- codes

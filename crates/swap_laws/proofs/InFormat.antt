@@ -1,9 +1,8 @@
 -- A code after steps of right acts follows the format where it did.
-use Rattle.std.proofs.Common.{◌≡◌, ◌<◌, ℕ, zero, suc, ◌+◌, Bool, true, false, List, [], ◌∷◌, Option, length, map, refl, sym, ap}
+use Rattle.std.proofs.Common.{◌≡◌, ◌<◌, ℕ, suc, ◌+◌, Bool, true, false, List, [], ◌∷◌, Option, length, map, refl, sym, ap}
 use Rattle.std.proofs.Common.{subst, arith}
 use Rattle.std.specs.Prelude.{◌^◌, not, ℤ, pos, ◌+ℤ◌, ◌<ℤ◌, AllPairs, IfSome, get_or, if◌then◌else◌}
 use Rattle.std.specs.List.{AllByRecursion}
-use Rattle.jv_base.specs.Mutf8.{IsUnits}
 use Rattle.jv_base.proofs.Lists.{all_at, all_both, all_from, all_weaker}
 use Rattle.class_model.specs.WellFormed.{Ascend, IsClassName, IsGoodCode, IsGoodFrame, IsGoodHandler, IsGoodOp}
 use Rattle.class_model.specs.WellFormed.{LinesGoOn}

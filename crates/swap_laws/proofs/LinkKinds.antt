@@ -1,13 +1,11 @@
 -- The rules for links ask of a set what they ask of it without the codes of its methods. Each lemma is named after the
 -- definition of which it says so, and goes the definition's way.
-use Rattle.std.proofs.Common.{◌≡◌, ℕ, ◌+◌, not, ◌&&◌, ◌||◌, Bool, true, false, cond, List, [], ◌∷◌, ◌++◌, length, map}
-use Rattle.std.proofs.Common.{Option, Some, None, Result, Ok, Err, slice_get, refl, sym, ap, subst, ◌∙◌, codes, filter}
+use Rattle.std.proofs.Common.{◌≡◌, ℕ, ◌+◌, not, ◌&&◌, ◌||◌, Bool, true, false, cond, List, [], ◌∷◌, ◌++◌, map}
+use Rattle.std.proofs.Common.{Option, Some, None, Result, Ok, Err, refl, codes, filter}
 use Rattle.std.specs.Prelude.{◌==◌}
 use Rattle.std.specs.Bool.{beq}
 use Rattle.std.specs.List.{cons_option, enumerate_from, flat_map}
-use Rattle.std.specs.Option.{option_map, option_map_or}
-use Rattle.std.proofs.lemmas.List.{length-map}
-use Rattle.std.proofs.lemmas.List.Folds.{flat_map-map}
+use Rattle.std.specs.Option.{option_map_or}
 use Rattle.jv_base.specs.Descriptors.{read_field, read_method}
 use Rattle.jv_base.specs.Names.{is_text}
 use Rattle.jv_base.specs.declared.descriptors.BadDescriptor.{BadDescriptor}
@@ -15,12 +13,8 @@ use Rattle.jv_base.specs.declared.types.Base.{Base}
 use Rattle.jv_base.specs.declared.types.Base.TheVariants as base
 use Rattle.jv_base.specs.declared.types.FieldType.{FieldType}
 use Rattle.jv_base.specs.declared.types.MethodType.{MethodType}
-use Rattle.jv_base.proofs.Lists.{mapped_from}
-use Rattle.class_model.specs.Flags.{acc_abstract, acc_final, acc_static, has, is_init, is_left_out_class, is_native}
+use Rattle.class_model.specs.Flags.{acc_abstract, acc_final, acc_static, has, is_init}
 use Rattle.class_model.specs.declared.class.Class.{Class}
-use Rattle.class_model.specs.declared.class.Field.{Field}
-use Rattle.class_model.specs.declared.class.Method.{Method}
-use Rattle.class_model.specs.declared.code.Code.{Code}
 use Rattle.class_model.specs.declared.code.Ins.{Ins}
 use Rattle.class_model.specs.declared.frame.VType.{VType}
 use Rattle.class_model.specs.declared.frame.VType.TheVariants as vtype
@@ -31,19 +25,17 @@ use Rattle.class_pool.specs.Walk.{same_class}
 use Rattle.class_pool.specs.declared.id.ClassId.{ClassId}
 use Rattle.class_pool.specs.declared.id.ClassId.TheVariants.{Prog, Lib}
 use Rattle.link_check.specs.Links.{is_callable_role}
-use Rattle.link_check.specs.Profile.{base_kinds, body_kinds, call_kinds, changed_kinds, class_kinds, class_of}
+use Rattle.link_check.specs.Profile.{base_kinds, call_kinds, changed_kinds, class_kinds, class_of}
 use Rattle.link_check.specs.Profile.{code_kinds}
-use Rattle.link_check.specs.Profile.{field_kinds, field_text_kinds, frame_kinds, handler_kinds}
-use Rattle.link_check.specs.Profile.{implementing_kinds, is_abstract_class, is_of_library, kinds_of_class}
-use Rattle.link_check.specs.Profile.{kinds_of_field, kinds_of_method, left_out_at, made_kinds, may_be_overridden_role}
+use Rattle.link_check.specs.Profile.{field_kinds, field_text_kinds}
+use Rattle.link_check.specs.Profile.{implementing_kinds, is_abstract_class, is_of_library}
+use Rattle.link_check.specs.Profile.{made_kinds, may_be_overridden_role}
 use Rattle.link_check.specs.Profile.{member_kinds, method_text_kinds, method_type_kinds, methods_of, name_kinds}
 use Rattle.link_check.specs.Profile.{new_kinds}
 use Rattle.link_check.specs.Profile.{no_init_kinds, op_kinds, overridden_kinds, overriding_kinds, selected_kinds}
 use Rattle.link_check.specs.Profile.{special_class_kinds, static_kinds, type_kinds, unless}
 use Rattle.link_check.specs.Profile.{used_kinds, verification_kinds, written_kinds}
-use Rattle.link_check.specs.Taken.{BreaksNoRule}
-use Rattle.link_check.specs.declared.fault.ProfileKind.{ProfileKind}
-use Rattle.link_check.specs.declared.fault.ProfileKind.TheVariants.{Inaccessible, LeftOutFlag, LeftOutMember, WrongKind}
+use Rattle.link_check.specs.declared.fault.ProfileKind.TheVariants.{Inaccessible, LeftOutMember, WrongKind}
 use Rattle.shape_laws.specs.Bare.{bare}
 use Rattle.shape_laws.proofs.Alike as alike
 use Rattle.shape_laws.proofs.BareSets.{bare_keeps}

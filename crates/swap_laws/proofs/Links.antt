@@ -1,6 +1,6 @@
 -- A set in which methods get codes that name nothing more breaks no rule for links where it broke none.
-use Rattle.std.proofs.Common.{◌≡◌, ℕ, zero, suc, ◌+◌, not, Bool, true, false, List, [], ◌∷◌, ◌++◌, length, map, Option}
-use Rattle.std.proofs.Common.{Some, None, Ok, slice_get, refl, sym, ap, subst, ◌∙◌, codes}
+use Rattle.std.proofs.Common.{◌≡◌, ℕ, zero, suc, ◌+◌, not, true, List, [], ◌∷◌, ◌++◌, length, map, Option}
+use Rattle.std.proofs.Common.{Some, None, slice_get, refl, sym, ap, subst, ◌∙◌, codes}
 use Rattle.std.specs.List.{AllByRecursion, AllZip, flat_map}
 use Rattle.std.specs.Option.{option_map, option_map_or}
 use Rattle.std.proofs.lemmas.Option.{slice_get-map, same_Some}
@@ -18,14 +18,14 @@ use Rattle.class_model.specs.declared.op.Op.{Op}
 use Rattle.class_model.specs.declared.op.Op.TheVariants as op
 use Rattle.class_pool.specs.declared.id.ClassId.TheVariants.{Prog}
 use Rattle.link_check.specs.Profile.{body_kinds, code_kinds, declaration_kinds, frame_kinds, handler_kinds}
-use Rattle.link_check.specs.Profile.{kinds_of_class, kinds_of_field, kinds_of_method, left_out_at, links_checked}
-use Rattle.link_check.specs.Profile.{method_type_kinds, name_kinds, op_kinds, overriding_kinds, type_kinds, unless}
+use Rattle.link_check.specs.Profile.{kinds_of_class, kinds_of_field, kinds_of_method, left_out_at}
+use Rattle.link_check.specs.Profile.{name_kinds, op_kinds, overriding_kinds, unless}
 use Rattle.link_check.specs.Profile.{verification_kinds}
 use Rattle.link_check.specs.Taken.{BreaksNoRule}
 use Rattle.link_check.specs.declared.fault.ProfileKind.{ProfileKind}
 use Rattle.link_check.specs.declared.fault.ProfileKind.TheVariants.{LeftOutFlag}
 use Rattle.link_check.proofs.Taken.{links_taken}
-use Rattle.shape_laws.specs.Bare.{DifferInCodes, bare, bare_method}
+use Rattle.shape_laws.specs.Bare.{bare, bare_method}
 use Rattle.swap_laws.specs.Laws.{SwapKeepsLinks}
 use Rattle.edit_laws.specs.NamesNoMore.{IsCaughtIn, IsOpOf, names_nothing, plain, there}
 use Rattle.swap_laws.specs.Swapped.{CodeSwaps, IsFrameOf, IsSwapped, IsTypeOf, NamesLess, NamesLessThan}

@@ -1,5 +1,5 @@
 -- No rule looks at a code.
-use Rattle.std.proofs.Common.{◌≡◌, ℕ, ◌+◌, ◌&&◌, Bool, List, [], ◌∷◌, ◌++◌, map, Option, Some, None, refl, sym, ap, ◌∙◌}
+use Rattle.std.proofs.Common.{◌≡◌, ℕ, ◌+◌, ◌&&◌, Bool, List, [], ◌∷◌, ◌++◌, map, Option, Some, None, refl, ap}
 use Rattle.std.specs.List.{enumerate_from, flat_map, list_all, list_any}
 use Rattle.class_model.specs.declared.class.Class.{Class}
 use Rattle.class_model.specs.declared.class.Field.{Field}
@@ -11,19 +11,17 @@ use Rattle.keep_rules.specs.declared.rules.Keep.{Keep}
 use Rattle.keep_rules.specs.declared.rules.KeepKind.{KeepKind}
 use Rattle.keep_rules.specs.declared.rules.KeepKind.TheVariants as kind
 use Rattle.keep_rules.specs.declared.rules.MemberSpec.{MemberSpec}
-use Rattle.keep_rules.specs.declared.rules.Rules.{Rules}
 use Rattle.keep_match.specs.Asked.{are_asked, asks_class, asks_members, members_asked}
 use Rattle.keep_match.specs.Fixed.{are_fixed, fixed_rows, fixes_class, fixes_names}
-use Rattle.keep_match.specs.Matches.{is_above_met, matches_class, matches_class_name, matches_field, matches_method, members_matched}
+use Rattle.keep_match.specs.Matches.{is_above_met, matches_class, matches_class_name, matches_field, matches_method}
 use Rattle.keep_match.specs.Seeds.{are_kept, are_members_met, has_match, keeps_class, keeps_classes, places_of_true, seeds_of}
 use Rattle.keep_match.specs.declared.fixed.Fixes.{Fixes}
 use Rattle.keep_match.specs.Matches.{fits_method}
-use Rattle.shape_laws.specs.Bare.{DifferInCodes, bare, bare_method}
+use Rattle.shape_laws.specs.Bare.{bare, bare_method}
 use Rattle.shape_laws.proofs.Alike as alike
 use Rattle.shape_laws.proofs.BareSets.{bare_keeps}
-use Rattle.swap_laws.proofs.Referring as refers
 use Rattle.shape_laws.proofs.BareSets.{same}
-use Rattle.swap_laws.specs.Laws.{MatchAlike, RulesMatchAlike}
+use Rattle.swap_laws.specs.Laws.{RulesMatchAlike}
 
 fits_at : (ty : Option (List ℕ)) (name : List ℕ) (args : Option (List (List ℕ))) (m : Method)
     → fits_method ty name args (bare_method m) ≡ fits_method ty name args m

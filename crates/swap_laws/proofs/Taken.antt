@@ -1,7 +1,7 @@
 -- A set in which methods get codes that name nothing more is taken where it was.
-use Rattle.std.proofs.Common.{◌≡◌, ◌<◌, ◌≤◌, ℕ, zero, suc, ◌+◌, not, ◌&&◌, ◌||◌, Bool, true, false, cond, List, []}
-use Rattle.std.proofs.Common.{◌∷◌, ◌++◌, length, map, get_or, arith}
-use Rattle.std.proofs.Common.{Option, Some, None, Result, Ok, Err, slice_get, refl, sym, ap, subst, ◌∙◌, codes, is_lt}
+use Rattle.std.proofs.Common.{◌≡◌, ◌<◌, ◌≤◌, ℕ, ◌+◌, not, ◌&&◌, ◌||◌, Bool, true, false, cond, List, []}
+use Rattle.std.proofs.Common.{◌∷◌, length, map, get_or, arith}
+use Rattle.std.proofs.Common.{Option, Some, None, Result, Ok, Err, refl, sym, ap, subst, ◌∙◌, codes, is_lt}
 use Rattle.std.specs.Prelude.{IfSome, IsTrue, is_some, AllPairs}
 use Rattle.std.specs.Cmp.Lexicographic.{slice_cmp}
 use Rattle.std.specs.List.{All, AllByRecursion, AllZip, cons_option, list_any}
@@ -12,15 +12,15 @@ use Rattle.std.proofs.lemmas.List.Sums.{sum_by-cons}
 use Rattle.jv_base.specs.Mutf8.{IsUnits}
 use Rattle.jv_base.specs.Names.{is_text}
 use Rattle.jv_base.proofs.Lists.{heads, tails}
-use Rattle.class_model.specs.Flags.{are_class_flags, class_mask, has_body, is_interface, is_left_out_class}
+use Rattle.class_model.specs.Flags.{are_class_flags, class_mask, is_interface, is_left_out_class}
 use Rattle.class_model.specs.Members.{FieldsDiffer, MethodsDiffer}
-use Rattle.class_model.specs.WellFormed.{AreMeant, IsClassName, IsGoodCode, IsGoodField, IsGoodMethod, IsWellFormed}
+use Rattle.class_model.specs.WellFormed.{AreMeant, IsClassName, IsGoodField, IsGoodMethod, IsWellFormed}
 use Rattle.class_model.specs.declared.class.Class.{Class}
 use Rattle.class_model.specs.declared.class.Method.{Method}
 use Rattle.class_model.specs.declared.code.Code.{Code}
 use Rattle.lib_table.specs.Library.{library}
 use Rattle.class_pool.specs.Count.{item_count, items_of}
-use Rattle.class_pool.specs.Faults.{Ascends, Builds, classes_of, fault_of, first_fault, first_faults}
+use Rattle.class_pool.specs.Faults.{Ascends, classes_of, fault_of, first_fault, first_faults}
 use Rattle.class_pool.specs.Faults.{name_fault, name_faults, super_fault, super_faults, then_super_faults}
 use Rattle.class_pool.specs.Hierarchy.{IsClass, is_interface_kind, is_open_kind}
 use Rattle.class_pool.specs.Ranks.{HasRanks}
@@ -32,12 +32,11 @@ use Rattle.class_pool.specs.declared.fault.PoolKind.TheVariants.{SuperKind, Supe
 use Rattle.class_pool.specs.declared.id.ClassId.{ClassId}
 use Rattle.class_pool.specs.declared.id.ClassId.TheVariants.{Prog, Lib}
 use Rattle.image_laws.specs.TakenSet.TakenSet.{IsTaken}
-use Rattle.shape_laws.specs.Bare.{DifferInCodes, bare, bare_method}
+use Rattle.shape_laws.specs.Bare.{bare, bare_method}
 use Rattle.swap_laws.specs.Laws.{SwapKeepsTaken}
 use Rattle.swap_laws.specs.Swapped.{CodeSwaps, IsSwapped, NamesLessThan}
 use Rattle.shape_laws.proofs.Alike as alike
 use Rattle.shape_laws.proofs.BareSets.{bare_keeps}
-use Rattle.swap_laws.proofs.Referring as refers
 use Rattle.shape_laws.proofs.BareSets.{class_from, same}
 use Rattle.swap_laws.proofs.Links.{links_again}
 

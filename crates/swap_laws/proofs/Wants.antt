@@ -1,8 +1,8 @@
 -- What items of a set want is what they want of it without the codes of its methods. Each lemma is named after the
 -- definition of which it says so.
-use Rattle.std.proofs.Common.{◌≡◌, ℕ, zero, suc, ◌+◌, not, ◌&&◌, ◌||◌, Bool, true, false, cond, List, [], ◌∷◌, ◌++◌, length}
-use Rattle.std.proofs.Common.{map, take, Option, Some, None, Result, Ok, Err, refl, sym, ap, ◌∙◌, codes, filter, slice_get}
-use Rattle.std.specs.Prelude.{◌==◌, slice_index_or}
+use Rattle.std.proofs.Common.{◌≡◌, ℕ, zero, suc, ◌+◌, not, ◌&&◌, cond, List, [], ◌∷◌, ◌++◌, length}
+use Rattle.std.proofs.Common.{map, take, Option, Some, None, Result, Ok, Err, refl, ap, ◌∙◌, codes, filter}
+use Rattle.std.specs.Prelude.{◌==◌}
 use Rattle.std.specs.List.{cons_option, enumerate_from, filter_map, flat_map, list_any, range_with_len}
 use Rattle.std.specs.Option.{option_and_then, option_map, option_map_or}
 use Rattle.jv_base.specs.Descriptors.{read_field, read_method}
@@ -11,20 +11,16 @@ use Rattle.jv_base.specs.declared.types.Base.TheVariants as base
 use Rattle.jv_base.specs.declared.types.FieldType.{FieldType}
 use Rattle.jv_base.specs.declared.types.MethodType.{MethodType}
 use Rattle.jv_base.specs.declared.descriptors.BadDescriptor.{BadDescriptor}
-use Rattle.mark_core.specs.declared.system.Pair.{Pair}
 use Rattle.class_model.specs.Flags.{acc_private, is_interface}
 use Rattle.class_model.specs.declared.class.Class.{Class}
-use Rattle.class_model.specs.declared.class.Field.{Field}
-use Rattle.class_model.specs.declared.class.Method.{Method}
 use Rattle.class_model.specs.declared.code.Ins.{Ins}
 use Rattle.class_model.specs.declared.frame.VType.{VType}
 use Rattle.class_model.specs.declared.frame.VType.TheVariants as vtype
-use Rattle.class_model.specs.declared.op.MemberRef.{MemberRef}
 use Rattle.class_model.specs.declared.op.Op.{Op}
 use Rattle.class_model.specs.declared.op.Op.TheVariants as op
 use Rattle.class_pool.specs.Count.{item_count}
 use Rattle.class_pool.specs.Found.{same_member}
-use Rattle.class_pool.specs.Items.{class_item, item_in, item_of}
+use Rattle.class_pool.specs.Items.{class_item, item_in}
 use Rattle.class_pool.specs.Supers.{is_below}
 use Rattle.class_pool.specs.Walk.{each_once, same_class, supers}
 use Rattle.class_pool.specs.declared.id.ClassId.{ClassId}
@@ -33,9 +29,9 @@ use Rattle.class_pool.specs.declared.id.MemberAt.{MemberAt}
 use Rattle.link_check.specs.Links.{callable, resolved_field, resolved_method}
 use Rattle.require_sys.specs.Requires.{Item, OfClass, OfMember, ascending, base_wants, class_needs, class_number, class_pairs}
 use Rattle.require_sys.specs.Requires.{called_wants, class_wants, code_wants, field_ref_wants, field_text_wants, field_wants, is_program}
-use Rattle.require_sys.specs.Requires.{frame_wants, handler_wants, initialisation_wants, instance_methods, is_inheritable, library_supers}
+use Rattle.require_sys.specs.Requires.{initialisation_wants, instance_methods, is_inheritable, library_supers}
 use Rattle.require_sys.specs.Requires.{members_of, method_ref_wants, method_text_wants, method_type_wants, method_wants, methods_above, name_wants}
-use Rattle.require_sys.specs.Requires.{needs_of, number_of, numbers, op_wants, pair_from, pair_of, program_supers, resolved_wants, rule_wants}
+use Rattle.require_sys.specs.Requires.{needs_of, number_of, op_wants, pair_from, pair_of, program_supers, resolved_wants, rule_wants}
 use Rattle.require_sys.specs.Requires.{seeds_of, special_wants, super_wants, throws_wants, type_wants, verification_wants}
 use Rattle.require_sys.specs.declared.kept.KeptByRules.{KeptByRules}
 use Rattle.shape_laws.specs.Bare.{bare}

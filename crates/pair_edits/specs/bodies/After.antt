@@ -1,8 +1,5 @@
 -- What steps make of a code, as it is found (only the proofs of bodies need it).
-use Rattle.std.specs.Prelude.{◌≡◌, List, Option, Some, None, IfSome}
-use Rattle.std.specs.List.{AllByRecursion}
-use Rattle.class_model.specs.declared.class.Class.{Class}
-use Rattle.class_model.specs.declared.class.Method.{Method}
+use Rattle.std.specs.Prelude.{◌≡◌, List, Option, Some, None}
 use Rattle.class_model.specs.declared.code.Code.{Code}
 use Rattle.code_edit.specs.Applied.{applied, edited}
 use Rattle.code_edit.specs.Legal.{AreLegal}

@@ -1,6 +1,6 @@
 -- What stands at a path, and below a directory, after files were put elsewhere.
 use Rattle.std.proofs.Common.{◌≡◌, ◌≢◌, ◌⊎◌, inl, inr, ℕ, Bool, true, false, cond, List, [], ◌∷◌, ◌++◌, length, map}
-use Rattle.std.proofs.Common.{Option, Some, Result, Ok, Err, nat_lt, refl, sym, ap, subst, ◌∙◌}
+use Rattle.std.proofs.Common.{Some, Result, Ok, Err, nat_lt, refl, sym, ap, subst, ◌∙◌}
 use Rattle.std.specs.Cmp.Lexicographic.{nat_list_cmp_total}
 use Rattle.std.specs.FinMap.{entries, entries_sorted, get, get-entries, get-insert, insert, keys}
 use Rattle.std.specs.FinMap.Entries.{same_entries}
@@ -21,7 +21,6 @@ use Rattle.class_files.specs.declared.input.InputFault.{InputFault}
 use Rattle.class_files.specs.declared.input.InputFault.TheVariants.{TooLong, TooManyClasses, TooManyFiles}
 use Rattle.pair_laws.proofs.FilesFound.Entries.{Entry, below_of, found_below, order, paths_of, sorted_from, sorted_to}
 use Rattle.pair_laws.proofs.FilesFound.Found.{put_elsewhere}
-use Rattle.pair_laws.specs.FilesFound.Below.{IsElsewhere}
 use Rattle.pair_laws.specs.OwnChecked.Again.{PassesInputLimit, by_classes, by_files, by_length}
 use Rattle.pair_laws.specs.OwnChecked.Laws.{ElsewhereChangesNothing}
 

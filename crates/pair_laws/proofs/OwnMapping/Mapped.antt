@@ -1,10 +1,9 @@
 -- The mapping of classes that can be written, before and after, has a text.
-use Rattle.std.proofs.Common.{◌≡◌, ◌≢◌, ℕ, ◌<◌, ◌^◌, Bool, true, false, cond, List, [], ◌∷◌, ◌++◌, map, min, max, Option}
-use Rattle.std.proofs.Common.{Some, None, refl, sym, ap, subst, ◌∙◌, arith}
+use Rattle.std.proofs.Common.{◌≢◌, ℕ, ◌<◌, ◌^◌, Bool, true, false, cond, List, [], ◌∷◌, ◌++◌, map, min, max, Option}
+use Rattle.std.proofs.Common.{Some, None, arith}
 use Rattle.std.specs.Prelude.{IfSome, IsUtf8}
 use Rattle.std.specs.List.{AllByRecursion, cons_option, filter_map, fold}
 use Rattle.std.specs.Option.{option_and_then}
-use Rattle.jv_base.specs.Types.{method_text}
 use Rattle.jv_base.proofs.Lists.{all_append}
 use Rattle.class_model.specs.Flags.{is_interface}
 use Rattle.class_model.specs.WellFormed.{IsGoodField, IsGoodMethod}
@@ -18,13 +17,13 @@ use Rattle.class_laws.specs.SpellingLaws.{IsWritable}
 use Rattle.class_rename.specs.Names.{Names}
 use Rattle.class_rename.specs.Renamed.{renamed, renamed_field, renamed_method}
 use Rattle.mapping_file.specs.MapLines.{IsField, IsMethod, IsRange, field_line_text, line_text, method_line_text}
-use Rattle.mapping_file.specs.Mappings.{HasOtherNames, IsMapping, IsTextLine}
+use Rattle.mapping_file.specs.Mappings.{HasOtherNames, IsTextLine}
 use Rattle.mapping_file.specs.Mappings.{AreApart as LinesAreApart, class_lines as lines_of_class}
 use Rattle.mapping_file.specs.declared.mapping.MapClass.{MapClass}
 use Rattle.mapping_file.specs.declared.mapping.MapField.{MapField}
 use Rattle.mapping_file.specs.declared.mapping.MapMethod.{MapMethod}
 use Rattle.mapping_file.specs.declared.mapping.Range.{Range}
-use Rattle.rename_map.specs.MappingOf.{class_lines, field_line, lines_of, mapping_of, method_line, range_of, widened}
+use Rattle.rename_map.specs.MappingOf.{class_lines, field_line, lines_of, method_line, range_of, widened}
 use Rattle.set_shrink.specs.Order.{AreApart}
 use Rattle.pair_laws.proofs.OwnMapping.Texts.{class_line_utf8, field_line_utf8, method_line_utf8}
 use Rattle.pair_laws.specs.OwnMapping.Laws.{WritableHaveMapping}

@@ -8,14 +8,10 @@ use Rattle.class_pool.specs.declared.id.ClassId.{ClassId}
 use Rattle.class_pool.specs.declared.id.ClassId.TheVariants.{Lib, Prog}
 use Rattle.class_pool.specs.declared.id.MemberAt.{MemberAt}
 use Rattle.class_rename.specs.Names.{Names}
-use Rattle.keep_rules.specs.declared.rules.Rules.{Rules}
 use Rattle.lib_table.specs.Library.{library}
 use Rattle.link_check.specs.Profile.{is_of_library}
-use Rattle.mapping_file.specs.declared.mapping.Mapping.{Mapping}
 use Rattle.require_sys.specs.Required.{kept_by_rules}
 use Rattle.require_sys.specs.declared.kept.KeptByRules.{KeptByRules}
-use Rattle.jvm_model.specs.Same as same
-use Rattle.jvm_model.specs.Value.{Key}
 use Rattle.set_view.specs.ViewOf.{key_at}
 use Rattle.image_laws.specs.SetImage.Image.{Image}
 use Rattle.image_laws.specs.ViewImage.ImageView.{IsImageView}
@@ -29,7 +25,6 @@ use Rattle.pair_laws.proofs.RenamedSame.Codes.{image_of}
 use Rattle.pair_laws.proofs.RenamedSame.NewSame.{image_names_of, same_names}
 use Rattle.pair_laws.proofs.RenamedSame.NewView.{new_view}
 use Rattle.pair_laws.specs.PairSame.OneToOne.{AreOneToOne, NamesAreOneToOne}
-use Rattle.pair_laws.specs.PairSame.Pairs.{IsPair}
 use Rattle.pair_laws.proofs.PairSame.Expected.{lined, names, place}
 use Rattle.pair_laws.proofs.PairSame.PairSame.{left_under_names}
 

@@ -1,6 +1,6 @@
 -- What the clauses look at of an input they look at without the codes of its methods. Each lemma is named after the
 -- definition of which it says so, and goes the definition's way.
-use Rattle.std.proofs.Common.{◌≡◌, ℕ, ◌+◌, not, ◌||◌, Bool, true, false, cond, List, [], ◌∷◌, ◌++◌, map, length, Option, Some, None}
+use Rattle.std.proofs.Common.{◌≡◌, ℕ, ◌+◌, not, ◌||◌, Bool, true, false, cond, List, [], ◌∷◌, ◌++◌, map, length, Option}
 use Rattle.std.proofs.Common.{refl, ap, ◌∙◌, is_some}
 use Rattle.std.specs.Prelude.{slice_index_or}
 use Rattle.std.specs.List.{enumerate_from, filter, flat_map, list_any, zip}
@@ -23,7 +23,7 @@ use Rattle.mapping_file.specs.declared.mapping.MapField.{MapField}
 use Rattle.mapping_file.specs.declared.mapping.MapMethod.{MapMethod}
 use Rattle.mapping_file.specs.declared.mapping.Mapping.{Mapping}
 use Rattle.rename_map.specs.Fixed.{class_marked, method_type_classes, names_that_stay, type_classes}
-use Rattle.new_names.specs.NewNames.{NameAndType, field_names, is_same, method_names, names_given, new_method}
+use Rattle.new_names.specs.NewNames.{field_names, is_same, method_names, names_given, new_method}
 use Rattle.new_names.specs.declared.class_names.ClassNames.{ClassNames}
 use Rattle.pair_clauses.specs.Finding.{first_place}
 use Rattle.pair_clauses.specs.FixedNames.{Fixed, fixed_by, fixed_fault, fixed_in, field_fault, method_fault}

@@ -1,10 +1,9 @@
 -- Where each method has a code where it had one, the members of a class are as they were for the clause MemberDiffers.
-use Rattle.std.proofs.Common.{◌≡◌, ℕ, zero, suc, List, [], ◌∷◌, ◌||◌, map, length, nat_lt, Option, Some, None, slice_get, refl, sym, ap}
+use Rattle.std.proofs.Common.{◌≡◌, ℕ, suc, List, [], ◌∷◌, ◌||◌, map, length, nat_lt, Option, Some, None, slice_get, refl, sym, ap}
 use Rattle.std.proofs.Common.{subst, ◌∙◌, is_some}
 use Rattle.std.specs.List.{AllZip, filter_map, zip}
 use Rattle.jv_base.proofs.Lists.{heads, tails}
 use Rattle.class_model.specs.declared.class.Class.{Class}
-use Rattle.class_model.specs.declared.class.Field.{Field}
 use Rattle.class_model.specs.declared.class.Method.{Method}
 use Rattle.class_model.specs.declared.code.Code.{Code}
 use Rattle.attribute_filter.specs.Filtered.{throws_kept}
@@ -13,10 +12,10 @@ use Rattle.mapping_file.specs.declared.mapping.Mapping.{Mapping}
 use Rattle.class_rename.specs.Renamed.{renamed_method_type}
 use Rattle.new_names.specs.NewNames.{names_of}
 use Rattle.new_names.specs.declared.class_names.ClassNames.{ClassNames}
-use Rattle.pair_clauses.specs.Finding.{FirstOf, FirstUnlike}
+use Rattle.pair_clauses.specs.Finding.{FirstUnlike}
 use Rattle.pair_clauses.specs.Members.{ClassDiffers, IsSameClass, IsSameField, IsSameMethod, LinedDiffers, MemberDiffers}
-use Rattle.pair_clauses.specs.Members.{MethodsDiffer, NewField, NewMethod, expected_fields, expected_methods}
-use Rattle.pair_clauses.specs.Members.{further_fault, new_one, with_name}
+use Rattle.pair_clauses.specs.Members.{NewField, NewMethod, expected_fields, expected_methods}
+use Rattle.pair_clauses.specs.Members.{new_one, with_name}
 use Rattle.pair_clauses.specs.Places.{class_place, place_if, place_of_field, place_of_method}
 use Rattle.pair_clauses.specs.declared.place.Place.{Place}
 use Rattle.shape_laws.specs.Bare.{bare, bare_method}

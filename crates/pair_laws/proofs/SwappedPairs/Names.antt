@@ -5,11 +5,10 @@ use Rattle.std.specs.List.{Contains}
 use Rattle.std.specs.Option.{option_map_or}
 use Rattle.std.proofs.lemmas.List.{length-map}
 use Rattle.jv_base.specs.Names.{is_text}
-use Rattle.mark_core.specs.declared.system.System.{System}
 use Rattle.class_model.specs.Flags.{acc_static}
 use Rattle.class_model.specs.declared.class.Class.{Class}
-use Rattle.class_pool.specs.Found.{IsMember, is_method_at, is_static_member, row_at}
-use Rattle.class_pool.specs.Items.{class_item, item_of}
+use Rattle.class_pool.specs.Found.{IsMember, row_at}
+use Rattle.class_pool.specs.Items.{item_of}
 use Rattle.class_pool.specs.declared.id.ClassId.{ClassId}
 use Rattle.class_pool.specs.declared.id.ClassId.TheVariants.{Prog, Lib}
 use Rattle.class_pool.specs.declared.id.MemberAt.{MemberAt}
@@ -19,7 +18,6 @@ use Rattle.mapping_file.specs.declared.mapping.Mapping.{Mapping}
 use Rattle.member_shrink.specs.Shrunk.{is_marked}
 use Rattle.require_sys.specs.Required.{kept_by_rules, required}
 use Rattle.require_sys.specs.Requires.{seeds_of}
-use Rattle.require_sys.specs.declared.kept.KeptByRules.{KeptByRules}
 use Rattle.class_rename.specs.Names as class_rename
 use Rattle.new_names.specs.NewNames.{names_of}
 use Rattle.jvm_model.specs.Same.{Names}

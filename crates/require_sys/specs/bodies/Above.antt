@@ -7,6 +7,7 @@ use Rattle.class_pool.specs.Walk.{superclasses_from}
 use Rattle.class_pool.specs.declared.id.ClassId.TheVariants.{Prog}
 use Rattle.require_sys.specs.bodies.Alike.{AreRows}
 use Rattle.require_sys.specs.bodies.Nearest.{AreNoted, AreUpTo, front_rows}
+use Rattle.require_sys.specs.bodies.Places.{HavePlaces}
 use Rattle.require_sys.specs.bodies.Tops.{AreAbove}
 use Rattle.require_sys.specs.declared.pairs.Above.{Above}
 use Rattle.require_sys.specs.declared.pairs.ClassAbove.{ClassAbove}
@@ -16,6 +17,8 @@ use Rattle.require_sys.specs.declared.receiver.Receiver.{Receiver}
 pub record IsAbove (classes : List Class) (number : ℕ) (above : Above) : Type 0 where
   pub below : AreAbove classes above.below.items
   pub notes : AreUpTo number above.notes.items
+  pub placed : AreUpTo number above.placed.items
+  pub opening : AreUpTo number above.opening.items
 
 -- what a receiver has is so, and the nearest methods from its class upwards are noted
 pub record IsReceiver (receiver : Receiver) : Type 0 where
@@ -25,6 +28,13 @@ pub record IsReceiver (receiver : Receiver) : Type 0 where
   pub noted : AreNoted receiver.stamp
       (front_rows receiver.table.now (superclasses_from receiver.numbered.now.set.now (Prog receiver.class)))
       receiver.notes.now
+  pub places : HavePlaces receiver.numbered.now.set.now receiver.table.now receiver.places.now
+  pub placed : AreNoted receiver.stamp
+      (front_rows receiver.places.now.each (superclasses_from receiver.numbered.now.set.now (Prog receiver.class)))
+      receiver.placed.now
+  pub opening : AreNoted receiver.stamp
+      (front_rows receiver.places.now.opening (superclasses_from receiver.numbered.now.set.now (Prog receiver.class)))
+      receiver.opening.now
 
 -- it is as it is said of a class above another one, whose pairs are found
 pub record IsClassAbove (receiver : Receiver) (above : ClassAbove) : Type 0 where

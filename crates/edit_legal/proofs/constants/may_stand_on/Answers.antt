@@ -1,4 +1,4 @@
-use Rattle.std.proofs.Common.{◌≡◌, ◌∙◌, ◌+◌, ◌-◌, true, rules, sym, arith}
+use Rattle.std.proofs.Common.{◌≡◌, ◌∙◌, ◌-◌, true, rules, sym, arith}
 use Rattle.edit_legal.specs.Decidable.{may_stand}
 use Rattle.edit_legal.proofs.Ranges.{stand_step}
 use Rattle.edit_legal.proofs.constants.may_stand_on.Goals as goal

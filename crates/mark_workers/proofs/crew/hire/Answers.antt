@@ -1,4 +1,4 @@
-use Rattle.std.proofs.Common.{◌≡◌, ◌+◌, ℕ, [], ◌∷◌, ◌++◌, ap, arith, length, subst, sym, ◌∙◌}
+use Rattle.std.proofs.Common.{◌≡◌, ◌+◌, ℕ, [], ◌∷◌, ◌++◌, ap, arith, false, length, replicate, subst, sym, ◌∙◌}
 use Rattle.std.specs.List.{All}
 use Rattle.std.proofs.lemmas.List.{length_push}
 use Rattle.std.proofs.lemmas.List.Elements.{All-push}
@@ -25,7 +25,8 @@ loop-seat-preserved c =
       all_but_last (IsNewcomer c.args.table.now k) rest seat before,
       subst (All (Hired c.args.table.now k)) (sym c.in_ok-push.ensures.items)
           (All-push (Hired c.args.table.now k) c.loop-seat.crew.items member c.loop-seat.invariant.1
-          (hired c.args.table.now k seat member c.in_ok-new_member.ensures
+          (hired c.args.table.now k seat member c.in_ok-new_member.ensures.seat
+          (subst (λ k. member.tasks.known.items ≡ replicate k false) c.requires.items c.in_ok-new_member.ensures.known)
           (of_last (IsNewcomer c.args.table.now k) rest seat before))),
       omega (arith, longer, number),
       omega (arith, shorter, longer, sum),

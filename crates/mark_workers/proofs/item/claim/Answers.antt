@@ -1,28 +1,14 @@
-use Rattle.std.proofs.Common.{subst, sym}
-use Rattle.std.specs.List.{Contains}
-use Rattle.mark_machine.specs.declared.machine.View.{View}
-use Rattle.mark_words.specs.Seats.{view, system_of, after_claim}
-use Rattle.mark_workers.proofs.Kept.{kept_claim, seen_claim, seat_kept}
+use Rattle.std.proofs.Common.{◌<◌, subst, sym}
+use Rattle.mark_core.proofs.Sets.{read_true}
+use Rattle.mark_words.specs.Seats.{view, system_of}
+use Rattle.mark_workers.proofs.Kept.{kept_refl}
 use Rattle.mark_workers.proofs.item.claim.Goals as goal
 
-pub returns-then-eq-clause-kept : goal.returns-then-eq-clause-kept
-returns-then-eq-clause-kept c =
-    let n = (system_of c.args.table.now).n in
-    let v = view c.args.seat.now in
-    (seat_kept n c.args.table.now c.args.seat.now c.claim.new.seat (after_claim v c.args.item c.claim.result)
-    c.requires.seat c.claim.ensures (kept_claim n v c.args.item c.claim.result c.requires.item c.requires.free)).1
+pub returns-else-not-index-clause-kept : goal.returns-else-not-index-clause-kept
+returns-else-not-index-clause-kept c = kept_refl (system_of c.args.table.now).n (view c.args.seat.now)
 
-pub returns-then-eq-clause-seen : goal.returns-then-eq-clause-seen
-returns-then-eq-clause-seen c = subst (λ (u : View). Contains u.seen c.args.item) (sym c.claim.ensures.1)
-    (seen_claim (view c.args.seat.now) c.args.item c.claim.result)
-
-pub returns-else-eq-clause-kept : goal.returns-else-eq-clause-kept
-returns-else-eq-clause-kept c =
-    let n = (system_of c.args.table.now).n in
-    let v = view c.args.seat.now in
-    (seat_kept n c.args.table.now c.args.seat.now c.claim.new.seat (after_claim v c.args.item c.claim.result)
-    c.requires.seat c.claim.ensures (kept_claim n v c.args.item c.claim.result c.requires.item c.requires.free)).1
-
-pub returns-else-eq-clause-seen : goal.returns-else-eq-clause-seen
-returns-else-eq-clause-seen c = subst (λ (u : View). Contains u.seen c.args.item) (sym c.claim.ensures.1)
-    (seen_claim (view c.args.seat.now) c.args.item c.claim.result)
+pub returns-else-not-index-clause-seen : goal.returns-else-not-index-clause-seen
+returns-else-not-index-clause-seen c =
+    c.requires.knows.seen c.args.item
+    (read_true c.args.tasks.now.known.items c.args.item _
+    (subst (λ k. c.args.item < k) (sym c.requires.knows.count) c.requires.item) c.index.ensures c.if-not-index.false)

@@ -51,6 +51,7 @@ loop-item-preserved c =
           (All-weaker (Contains (view c.loop-item.seat).seen) (Contains (view c.claim.new.seat).seen) k.seen
           (take c.loop-item.item-index c.as_slice-item-items.result.now) c.loop-item.invariant.2)
           c.claim.ensures.seen,
+      c.claim.ensures.knows,
     )
 
 pub returns-clause-seen : goal.returns-clause-seen

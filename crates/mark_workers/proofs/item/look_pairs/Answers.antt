@@ -23,6 +23,7 @@ loop-front-init c =
       kept_refl (system_of c.args.table.now).n (view c.args.seat.now),
       subst (IsWalked c.args.sys.now (view c.args.seat.now) c.args.id) (sym read)
           (walk_first c.args.sys.now c.args.index.now (view c.args.seat.now) c.args.id ix),
+      c.requires.knows,
     )
 
 pub look_pair-requires-clause-busy : goal.look_pair-requires-clause-busy
@@ -82,6 +83,7 @@ loop-front-preserved c =
       subst (IsWalked c.args.sys.now new c.args.id) (sym read)
           (walk_on n c.args.sys.now c.args.index.now old new c.args.id c.loop-front.front place c.requires.fits.2
           c.loop-front.invariant.2 is kept seen),
+      c.look_pair.ensures.knows,
     )
 
 pub returns-clause-seen : goal.returns-clause-seen

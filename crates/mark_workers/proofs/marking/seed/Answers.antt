@@ -3,9 +3,11 @@ use Rattle.std.specs.List.{All, Contains}
 use Rattle.std.proofs.lemmas.List.Elements.{All-more, All-weaker}
 use Rattle.mark_core.specs.declared.system.System.{System}
 use Rattle.mark_machine.specs.declared.machine.Event.TheVariants.{GiveBack}
+use Rattle.mark_machine.specs.Machine.{view_after}
 use Rattle.mark_words.specs.Seats.{view, system_of}
 use Rattle.mark_workers.proofs.Joining.{seat_after, seeded}
 use Rattle.mark_workers.proofs.Kept.{kept_trans}
+use Rattle.mark_workers.proofs.Known.{knows_after, seen_giving}
 use Rattle.mark_workers.proofs.marking.seed.Goals as goal
 
 pub loop-id-preserved : goal.loop-id-preserved
@@ -21,6 +23,7 @@ loop-id-preserved c =
           (All-weaker (Contains v.seen) (Contains w.seen) k.seen (take c.loop-id.id-index seeds)
           c.loop-id.invariant.2)
           c.claim.ensures.seen,
+      c.claim.ensures.knows,
     )
 
 pub end_seeding-requires-clause-seen : goal.end_seeding-requires-clause-seen
@@ -38,4 +41,8 @@ returns-clause-ready c = (
       c.end_seeding.ensures,
   (seeded (system_of c.args.table.now).n (view c.args.driver.now.seat) (view c.loop-id.driver.seat)
       (view c.end_seeding.new.seat) c.requires.seeding c.loop-id.invariant.1 c.end_seeding.ensures.1).0,
+  knows_after (system_of c.args.table.now).n (view c.loop-id.driver.seat)
+      (view_after (view c.loop-id.driver.seat) GiveBack false) (view c.end_seeding.new.seat)
+      c.loop-id.driver.tasks.known.items c.end_seeding.ensures.1 (seen_giving (view c.loop-id.driver.seat))
+      c.loop-id.invariant.3,
 )

@@ -21,10 +21,10 @@ loop-id-preserved c =
           (subst (λ k. Visited k v x true w) same (subst (λ (k : Bool). Visited m v x k w) b.if-visit.true
           c.visit.ensures.visited))
           b.took-is i.2 i.3 i.4 in
-          (c.visit.ensures.seat, subst (λ k. Rests k w) (sym same) r.0, r.1, r.2, r.3))
+          (c.visit.ensures.seat, subst (λ k. Rests k w) (sym same) r.0, r.1, r.2, r.3, c.visit.ensures.knows))
       | else-visit b ↦ (let r = round_step n x u v w c.loop-id.took false c.if-visit.took c.loop-id-test.true
           (subst (λ k. Visited k v x false w) same (subst (λ (k : Bool). Visited m v x k w) b.if-visit.false
           c.visit.ensures.visited))
           b.took-is i.2 i.3 i.4 in
-          (c.visit.ensures.seat, subst (λ k. Rests k w) (sym same) r.0, r.1, r.2, r.3))
+          (c.visit.ensures.seat, subst (λ k. Rests k w) (sym same) r.0, r.1, r.2, r.3, c.visit.ensures.knows))
     ]

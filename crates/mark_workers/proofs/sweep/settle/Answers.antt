@@ -6,6 +6,7 @@ use Rattle.mark_machine.specs.Machine.{view_after}
 use Rattle.mark_words.specs.Seats.{view, system_of}
 use Rattle.mark_workers.specs.Sweep.{IsSwept}
 use Rattle.mark_workers.proofs.Joining.{rests_idle}
+use Rattle.mark_workers.proofs.Known.{knows_after, seen_idle}
 use Rattle.mark_workers.proofs.Rounds.{swept_done}
 use Rattle.mark_workers.proofs.sweep.settle.Goals as goal
 
@@ -13,6 +14,12 @@ pub sweep-requires-clause-rests : goal.sweep-requires-clause-rests
 sweep-requires-clause-rests c = rests_idle (system_of c.args.table.now).n (view c.args.seat.now)
     (view c.idle.new.seat)
     c.requires.rests c.if-idle.ensures.event.1
+
+pub sweep-requires-clause-knows : goal.sweep-requires-clause-knows
+sweep-requires-clause-knows c =
+    let v = view c.args.seat.now in
+    knows_after (system_of c.args.table.now).n v (view_after v SeeIdle c.idle.result) (view c.idle.new.seat)
+    c.args.tasks.now.known.items c.idle.ensures.event.1 (seen_idle v c.idle.result) c.requires.knows
 
 pub returns-clause-quiet : goal.returns-clause-quiet
 returns-clause-quiet c =

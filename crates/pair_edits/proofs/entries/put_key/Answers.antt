@@ -1,4 +1,4 @@
-use Rattle.std.proofs.Common.{Bool, Some, Option, cond, ap, refl, ◌∙◌}
+use Rattle.std.proofs.Common.{Bool, Some, cond, ap, refl, ◌∙◌}
 use Rattle.std.proofs.lemmas.Result.{on_ok_weaker}
 use Rattle.std.specs.Borrow.{Bor}
 use Rattle.std.specs.Map.{lookup}

@@ -1,7 +1,6 @@
-use Rattle.std.proofs.Common.{◌≡◌, ◌<◌, ◌≤◌, ◌-◌, ◌&&◌, ◌∙◌, ℕ, Bool, length, Some, None, is_some, slice_get}
+use Rattle.std.proofs.Common.{◌-◌, ◌&&◌, ◌∙◌, ℕ, Bool, Some, None, is_some, slice_get}
 use Rattle.std.proofs.Common.{sym, ap, arith}
 use Rattle.std.specs.Option.{option_copied}
-use Rattle.class_pool.specs.Hierarchy.{class_named}
 use Rattle.class_pool.specs.declared.id.ClassId.TheVariants.{Prog}
 use Rattle.new_names.specs.NewNames.{new_method}
 use Rattle.pair_clauses.proofs.Zipped.{got}

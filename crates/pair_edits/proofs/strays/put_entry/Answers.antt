@@ -1,4 +1,4 @@
-use Rattle.std.proofs.Common.{◌≡◌, Bool, List, ap, map, not, subst, sym, ◌∙◌}
+use Rattle.std.proofs.Common.{ap, map, not, sym, ◌∙◌}
 use Rattle.std.proofs.lemmas.Result.{IfOk-weaker, on_ok_weaker}
 use Rattle.std.specs.List.{list_any}
 use Rattle.pair_clauses.proofs.SeenLaw.{is_new_among, seen_more}

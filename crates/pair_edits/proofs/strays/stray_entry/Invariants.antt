@@ -1,4 +1,4 @@
-use Rattle.std.proofs.Common.{◌≡◌, List, [], drop, map, take}
+use Rattle.std.proofs.Common.{◌≡◌, [], drop, map, take}
 use Rattle.mapping_file.specs.declared.mapping.Mapping.{Mapping}
 use Rattle.new_names.specs.NewNames.{names_given}
 use Rattle.pair_edits.specs.Edits.{entries_fault}

@@ -1,10 +1,12 @@
 use Rattle.check_command.specs.Due as check
 use Rattle.command_frame.proofs.LeftFiles.{leaves_told}
+use Rattle.compare_command.specs.Due as comparing
 use Rattle.gen_command.specs.Due as generation
 use Rattle.retrace_command.specs.Due as retrace
+use Rattle.run_command.specs.Due as running
 use Rattle.why_command.specs.Due as why
 use Rattle.shrink_core.specs.Checked.{IsOk}
-use Rattle.shrink_core.specs.Commands.{IsAny, IsGenerated, IsText, PairIsDue}
+use Rattle.shrink_core.specs.Commands.{IsAny, IsGenerated, IsSame, IsText, PairIsDue}
 use Rattle.shrink_core.proofs.laws.told_files_are_left_as_due.Goals as goal
 
 pub returns-clause-shrink : goal.returns-clause-shrink
@@ -21,3 +23,9 @@ returns-clause-generation c = λ named. leaves_told (IsGenerated named) (generat
 
 pub returns-clause-why : goal.returns-clause-why
 returns-clause-why c = λ named. leaves_told IsText (why.IsDue named)
+
+pub returns-clause-running : goal.returns-clause-running
+returns-clause-running c = λ named. leaves_told IsText (running.IsDue named)
+
+pub returns-clause-comparing : goal.returns-clause-comparing
+returns-clause-comparing c = λ named. leaves_told IsSame (comparing.IsDue named)

@@ -1,0 +1,4 @@
+mod Items
+mod NoCalls
+mod OneDue
+mod Saying

@@ -1,0 +1,5 @@
+use Rattle.compare_command.proofs.OneDue.{one_due}
+use Rattle.compare_command.proofs.laws.one_answer.Goals as goal
+
+pub returns : goal.returns
+returns c = one_due

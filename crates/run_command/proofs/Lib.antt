@@ -1,0 +1,6 @@
+mod FirstGiven
+mod Longs
+mod OneDue
+mod Strings
+mod Taking
+mod Units

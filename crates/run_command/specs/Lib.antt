@@ -1,0 +1,6 @@
+pub mod Arguments
+pub mod Due
+pub mod Entries
+pub mod OneDue
+pub mod Shown
+pub mod bodies

@@ -1,0 +1,10 @@
+mod Compared
+mod Entered
+mod Given
+mod NewEntry
+mod Pairs
+mod Printing
+mod Reasons
+mod Runs
+mod Seeds
+mod Shown

@@ -1,0 +1,5 @@
+use Rattle.run_laws.proofs.Runs.{runs_right}
+use Rattle.run_laws.proofs.laws.runs_never_go_wrong.Goals as goal
+
+pub returns : goal.returns
+returns c = runs_right
