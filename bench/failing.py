@@ -26,6 +26,7 @@ import sys
 import tempfile
 import time
 from pathlib import Path
+from string import ascii_lowercase
 from typing import Callable, NamedTuple
 
 TOP = Path(__file__).resolve().parent.parent
@@ -108,7 +109,7 @@ class Room:
         shutil.copy(program, self.program)
         os.chmod(top, 0o755)
         os.chmod(self.program, 0o755)
-        self.wrong, self.counts = [], {}
+        self.wrong, self.counts, self.many = [], {}, {}
         self.fresh()
         self.run(SHRINK)
         self.whole = {it: Path(self.at, it).read_bytes() for it in FILES}
@@ -156,10 +157,26 @@ class Room:
                 if os.path.islink(path):
                     found[said] = 'link ' + os.fsdecode(os.readlink(path))
                 elif os.path.isfile(path):
-                    found[said] = Path(os.fsdecode(path)).read_bytes()
+                    with open(path, 'rb') as file:
+                        found[said] = file.read()
                 elif not os.path.isdir(path):
                     found[said] = 'other'
         return found
+
+    def folders(self):
+        return {folder for folder, _, _ in os.walk(self.at)}
+
+    def back(self, before, folders):
+        """Makes all as it was: these files, of which none is a link, and these folders."""
+        now = self.stands()
+        for path in set(now) - set(before):
+            (self.at / path).unlink()
+        for path, data in before.items():
+            if now.get(path) != data:
+                self.put(path, data)
+        for folder, _, _ in os.walk(self.at, topdown=False):
+            if folder not in folders:
+                os.rmdir(folder)
 
     def look(self, files=FILES, at=lambda it: it):
         """The bytes of each file that is to be written, where there are some, also behind links."""
@@ -245,6 +262,28 @@ def socket_at(target):
 def long_file(target):
     with open(target, 'wb') as out:
         out.truncate(LIMIT + 1)
+
+
+def limited(size):
+    resource.setrlimit(resource.RLIMIT_AS, (size, size))
+
+
+def runs_within(room, words, size):
+    """A run under a limit of memory, or None where the system doesn't start the program."""
+    try:
+        ran = room.run(words, before=lambda: limited(size))
+    except (OSError, subprocess.SubprocessError):
+        return None
+    # the loader's own refusals
+    return None if ran.returncode == 127 or ran.returncode < 0 and b'cixorradde' not in ran.stderr and not ran.stdout else ran
+
+
+def least_memory(room):
+    """The least limit of memory, in steps of 16 KiB, under which the system starts the program."""
+    return next(it for it in range(2 << 20, 64 << 20, 16 << 10) if runs_within(room, ['--version'], it))
+
+
+LEAST_MEMORY = [0]
 
 
 def configured(old, new):
@@ -350,7 +389,8 @@ simple('a file may have 500 bytes (ulimit -f), and the signal is ignored', befor
     __import__('signal').signal(__import__('signal').SIGXFSZ, __import__('signal').SIG_IGN),
     resource.setrlimit(resource.RLIMIT_FSIZE, (500, 500))))(lambda room: None)
 simple('one file may be open at a time (ulimit -n 4)', before=lambda: resource.setrlimit(resource.RLIMIT_NOFILE, (4, 4)))(lambda room: None)
-simple('4 MiB of memory (ulimit -v)', before=lambda: resource.setrlimit(resource.RLIMIT_AS, (4 << 20, 4 << 20)))(lambda room: None)
+simple('hardly more memory than it takes to start (ulimit -v)', before=lambda: limited(LEAST_MEMORY[0]))(
+    lambda room: LEAST_MEMORY.append(least_memory(room)) or LEAST_MEMORY.pop(0))
 simple('no thread can be started (ulimit -u)', user=NOBODY, before=lambda: resource.setrlimit(resource.RLIMIT_NPROC, (1, 1)))(lambda room: None)
 simple('standard output is closed', before=lambda: os.close(1))(lambda room: None)
 simple('standard output and standard error are closed', before=lambda: (os.close(1), os.close(2)))(lambda room: None)
@@ -466,12 +506,13 @@ def table(room, shim, write):
 # ---- each call in turn
 
 class Command(NamedTuple):
-    """A line of the table: the words, whether a whole output stands there, what else is made, and the files that a run which
-    ends well writes, in their order."""
+    """A line of the table: the words, whether a whole output stands there, what else is made, the files that a run which ends
+    well writes, in their order, and of how many requests for memory one is refused."""
     words: list
     shrunk: bool = False
     made: Callable = lambda room: None
     writes: tuple = ()
+    step: int = 1
 
 
 def row_files(title):
@@ -507,6 +548,32 @@ def two_classes_shrunk(room):
         room.put('o.wit' if path == 'wit.txt' else path, data)
 
 
+# So many of them, and of their methods, that four workers share them: what is kept are a first class and 45 with new names.
+MANY = (*sorted(f'out/g/{it}.class' for it in ['C0', *ascii_lowercase, *(f'a{it}' for it in ascii_lowercase[:19])]), 'map.txt', 'o.wit')
+
+
+def many_classes(room):
+    """A generated set, of whose methods some are edited."""
+    shutil.rmtree(room.at / 'in')
+    shutil.rmtree(room.at / 'out', ignore_errors=True)
+    if not room.many:
+        room.run(['gen', '45', 'in'])
+        room.many = {it.name: it.read_bytes() for it in (room.at / 'in/g').iterdir()}
+    for name, data in room.many.items():
+        room.put(f'in/g/{name}', data)
+    room.put('s.pro', '-injars in\n-outjars out\n-printmapping map.txt\n-keep class g.C0 { public static int f(int); }\n')
+
+
+BATCH = ['batch', 'list.txt']
+JOBS = (*FILES, 'out2/Hello.class', 'out2/a.class', 'map2.txt', 'u.wit')
+
+
+def two_jobs(room):
+    """A list of two jobs on one input."""
+    room.put('list.txt', 's.pro o.wit\nt.pro u.wit\n')
+    room.put('t.pro', '-injars in\n-outjars out2\n-printmapping map2.txt\n' + KEEP)
+
+
 COMMANDS = {
     'shrink': Command(SHRINK, writes=FILES),
     'check': Command(CHECK, True),
@@ -514,6 +581,7 @@ COMMANDS = {
     'shrink, two classes': Command(
         SHRINK, made=two_classes, writes=('out/demo/Main.class', 'out/demo/a.class', 'map.txt', 'use.txt', 'o.wit')),
     'check, two classes': Command(CHECK, made=two_classes_shrunk),
+    'shrink, many classes, four workers': Command([*SHRINK, '--workers=4'], made=many_classes, writes=MANY, step=16),
     'check, a pair that is refused': Command(
         CHECK, True, lambda room: room.put('map.txt', room.whole['map.txt'].replace(b') -> main', b') -> b'))),
     'check, a witness that is refused': Command(CHECK, True, lambda room: room.put('o.wit', 'witness 2\n')),
@@ -537,6 +605,10 @@ COMMANDS = {
         ['compare', 's.pro', MAIN, '1000', 'you'], True, lambda room: (room.at / 'out/Hello.class').unlink()),
     'compare, a mapping that is refused': Command(
         ['compare', 's.pro', MAIN, '1000', 'you'], True, lambda room: room.put('map.txt', 'x\n')),
+    'batch': Command(BATCH, made=two_jobs, writes=JOBS),
+    'batch, a job that is refused': Command(
+        BATCH, made=lambda room: (two_jobs(room), room.put('t.pro', CONFIG + '-frobnicate\n')), writes=FILES),
+    'batch, jobs that meet': Command(BATCH, made=lambda room: room.put('list.txt', 's.pro o.wit\ns.pro u.wit\n')),
     '--help': Command(['--help']),
     '--version': Command(['--version']),
 }
@@ -568,7 +640,7 @@ def is_as_due(ran, whole, after, kind, command):
     status, first = ran.returncode, ran.stdout.decode('utf-8', 'replace')
     if status == whole.returncode and status != -9:
         same = whole.stdout.startswith(ran.stdout) if kind == 'write' else ran.stdout == whole.stdout
-        return same and after == ('none is written' if status and command.writes else 'all are written')
+        return same and after == 'all are written'
     if status == 10:
         # --help says nothing where its text can't be made
         return (first == 'error 10 memory\n' or command.words == ['--help'] and not first) and 'a part' not in after
@@ -581,9 +653,9 @@ def in_turn(room, shim, kind, how, allowed, step=1):
     for name, command in COMMANDS.items():
         number, whole, news = counted(room, command, kind, shim)
         fine, statuses = 0, {}
-        for k in range(1, number + 1, step):
-            ready(room, command)
-            before, olds = room.stands(), room.look(command.writes)
+        ready(room, command)
+        before, folders, olds = room.stands(), room.folders(), room.look(command.writes)
+        for k in range(1, number + 1, step * command.step if kind == 'memory' else step):
             ran = room.run(command.words, environment={'LD_PRELOAD': shim, 'FAIL': f'{kind}:{k}:{how}'})
             after, status = room.left(before, olds, files=command.writes, whole=news), ran.returncode
             statuses[status] = statuses.get(status, 0) + 1
@@ -591,6 +663,7 @@ def in_turn(room, shim, kind, how, allowed, step=1):
                     and is_as_due(ran, whole, after, kind, command))
             fine += good
             room.count(f'{kind} {how}', good, f'{name}, call {k}: status {status}, {ran.stdout!r}, {after}')
+            room.back(before, folders)
         said = ', '.join(f'{count} end with {status}' for status, count in sorted(statuses.items()))
         print(f'{kind} {how}: {name}: {number} calls, {fine} as they are to be: {said}', flush=True)
 
@@ -607,16 +680,12 @@ def limits(room):
         while status != 0 and size < 64 << 20:
             ready(room, command)
             before, olds = room.stands(), room.look(command.writes)
-            try:
-                ran = room.run(command.words, before=lambda: resource.setrlimit(resource.RLIMIT_AS, (size, size)))
-            except (OSError, subprocess.SubprocessError):
-                size += 16 << 10
-                continue
+            ran = runs_within(room, command.words, size)
             size += 16 << 10
-            status, after = ran.returncode, room.left(before, olds, files=command.writes, whole=news)
-            if status == 127 or status < 0 and b'cixorradde' not in ran.stderr and not ran.stdout:
-                statuses['not started'] = statuses.get('not started', 0) + 1  # the loader
+            if not ran:
+                statuses['not started'] = statuses.get('not started', 0) + 1
                 continue
+            status, after = ran.returncode, room.left(before, olds, files=command.writes, whole=news)
             statuses[status] = statuses.get(status, 0) + 1
             room.count('limits', status in (0, 10) and (status == 0 or ran.stdout == b'error 10 memory\n') and 'a part' not in after
                        and not after.startswith('CHANGED'), f'{name}, {size} bytes: {status}, {ran.stdout!r}, {after}')

@@ -79,9 +79,9 @@ fn texts(alloc: Global, words: &[&str]) -> Result<Items<Text>, AllocError> {
 
 // The first of some lines, each with what its job reads and writes, that gets in the way of `list.txt` or of a line
 // before it, or 0.
-fn overlap(alloc: Global, lines: &[(&[&str], &[&str])]) -> Result<u32, AllocError> {
+fn overlap(alloc: Global, lines: &[(&[&str], &[&str])]) -> Result<usize, AllocError> {
     let mut jobs = Vec::new(alloc);
-    let mut line = 0u32;
+    let mut line = 0usize;
     for (reads, writes) in lines {
         line = line.saturating_add(1);
         let reads = texts(alloc, *reads)?;

@@ -10,7 +10,7 @@ use path_text::is_below;
 #[derive(Drop)]
 pub struct JobPaths {
     /// The line of the list that names the job, counted from 1.
-    pub line: u32,
+    pub line: usize,
     pub reads: Items<Text>,
     pub writes: Items<Text>,
 }
@@ -20,7 +20,7 @@ pub struct JobPaths {
 ///
 /// A path is written over where the same path is written, one below it or one above it. Of two jobs each path of one is
 /// compared with each of the other, as many at most as a config names: a list has few jobs.
-pub fn first_overlap(list: &Text, jobs: &[JobPaths]) -> Option<u32>
+pub fn first_overlap(list: &Text, jobs: &[JobPaths]) -> Option<usize>
     ensures { result ≡ first_overlap list.now jobs.now }
 {
     for at in 0..jobs.len() {

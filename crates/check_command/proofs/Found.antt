@@ -41,7 +41,7 @@ pub record AreGiven (files : Files) (from to : List ℕ) (directories : Director
   pub input : input_due files from ≡ Ok directories.input
   pub output : input_due files to ≡ Ok directories.output
 
-given : (files : Files) (from to : List ℕ) (directories : Directories)
+pub given : (files : Files) (from to : List ℕ) (directories : Directories)
     → AreDirectories files from to (Ok directories) → AreGiven files from to directories
 given files from to directories due =
     let i = both_gave (IsDirectory files from) (FollowsInput files to) directories due in

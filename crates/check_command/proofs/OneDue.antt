@@ -7,7 +7,7 @@ use Rattle.class_model.specs.declared.class.Class.{Class}
 use Rattle.keep_rules.specs.declared.rules.Rules.{Rules}
 use Rattle.mapping_file.specs.MapReading.{read_mapping}
 use Rattle.mapping_file.specs.declared.mapping.Mapping.{Mapping}
-use Rattle.require_sys.specs.Required.{system_due}
+use Rattle.rule_system.specs.Required.{system_due}
 use Rattle.witness_file.specs.WitnessReading.{read_witness}
 use Rattle.pair_checker.specs.OneAnswer.{IsOneNo, NotBoth}
 use Rattle.pair_checker.specs.declared.answer.No.{No as Answer}

@@ -3,7 +3,7 @@ ghost use Rattle.std.specs.Prelude.{◌≡◌, ◌++◌, IfOk, List, Ok};
 ghost use Rattle.tree_io.specs.declared.file_at.FileAt.{FileAt};
 ghost use Rattle.set_read.specs.Accepted.{IsAccepted};
 ghost use Rattle.mark_core.specs.Valid.{Valid};
-ghost use Rattle.require_sys.specs.Required.{system_due};
+ghost use Rattle.rule_system.specs.Required.{system_due};
 ghost use Rattle.command_frame.specs.Steps.{Makes};
 ghost use Rattle.command_steps.specs.Sets.{AreClassFiles};
 ghost use Rattle.command_steps.specs.System.{IsSystem};

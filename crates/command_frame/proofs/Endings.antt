@@ -16,7 +16,8 @@ use Rattle.command_frame.specs.Answer.{Ended, Ending, LeavesSo, StopsBefore, Sto
 use Rattle.command_frame.specs.Answer.{Writes, WritesUntil, done, status_of, stopped, text_failed, text_without_memory}
 use Rattle.command_frame.specs.Output.{Output, Outside, SaysText, outside}
 use Rattle.command_frame.specs.Steps.{Told, missed_by}
-use Rattle.command_frame.specs.bodies.Steps.{CarriesOut, Says}
+use Rattle.command_frame.specs.bodies.Steps.{CarriesOut}
+use Rattle.command_frame.specs.Saying.{Says}
 use Rattle.command_frame.specs.declared.command.Plan.{Plan}
 use Rattle.command_frame.specs.declared.refusal.Refusal.{Refusal}
 use Rattle.command_frame.specs.declared.stop.Stop.{Stop}

@@ -25,6 +25,7 @@ reason_status reason.Text = 11
 reason_status reason.Entry = 12
 reason_status reason.Differs = 13
 reason_status reason.Item = 14
+reason_status reason.Overlap = 15
 
 -- the word for each
 abbrev pub reason_word : Reason → List ℕ
@@ -39,6 +40,7 @@ reason_word reason.Text = codes "text"
 reason_word reason.Entry = codes "entry"
 reason_word reason.Differs = codes "differs"
 reason_word reason.Item = codes "item"
+reason_word reason.Overlap = codes "overlap"
 
 -- the line tells more behind the word: what it is that is refused, but for an output that differs
 abbrev pub tells_more : Reason → Bool
@@ -103,11 +105,14 @@ quantity_name quantity.Text = codes "text"
 quantity_name quantity.Files = codes "files"
 quantity_name quantity.Classes = codes "classes"
 quantity_name quantity.Input = codes "input"
+quantity_name quantity.Jobs = codes "jobs"
+quantity_name quantity.Batch = codes "batch"
 
--- the greatest number that each may be: files, class files, and bytes
+-- the greatest number that each may be: files, class files, jobs, and bytes
 abbrev pub quantity_limit : Quantity → ℕ
 quantity_limit quantity.Files = 65536
 quantity_limit quantity.Classes = 20000
+quantity_limit quantity.Jobs = 64
 quantity_limit _ = 67108864
 
 -- it passes that

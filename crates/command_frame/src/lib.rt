@@ -11,5 +11,5 @@ mod stop;
 pub use command::{Command, Plan, run_command};
 pub use reading::read_file;
 pub use refusal::{Quantity, Reason, Refusal, absent_file, faulty_text, passed_limit};
-pub use saying::{say_line, say_no_memory};
+pub use saying::{say_line, say_no_memory, say_stop, say_text};
 pub use stop::Stop;

@@ -32,6 +32,8 @@ pub enum Reason {
     Differs,
     /// An item isn't one of the set.
     Item,
+    /// Jobs of a batch would get in one another's way.
+    Overlap,
 }
 
 impl Reason {
@@ -51,6 +53,7 @@ impl Reason {
             Reason::Entry => 12,
             Reason::Differs => 13,
             Reason::Item => 14,
+            Reason::Overlap => 15,
         }
     }
 
@@ -77,6 +80,7 @@ impl Reason {
             Reason::Entry => "entry",
             Reason::Differs => "differs",
             Reason::Item => "item",
+            Reason::Overlap => "overlap",
         }
     }
 }
@@ -162,6 +166,10 @@ pub enum Quantity {
     Classes,
     /// The bytes of these together.
     Input,
+    /// The jobs of a batch.
+    Jobs,
+    /// The bytes of the class files of all its jobs together.
+    Batch,
 }
 
 impl Quantity {
@@ -178,6 +186,8 @@ impl Quantity {
             Quantity::Files => "files",
             Quantity::Classes => "classes",
             Quantity::Input => "input",
+            Quantity::Jobs => "jobs",
+            Quantity::Batch => "batch",
         }
     }
 
@@ -188,6 +198,7 @@ impl Quantity {
         match self {
             Quantity::Files => 65_536,
             Quantity::Classes => 20_000,
+            Quantity::Jobs => 64,
             _ => 67_108_864,
         }
     }

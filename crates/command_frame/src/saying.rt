@@ -2,7 +2,7 @@
 ghost use Rattle.std.specs.Prelude.{◌≡◌, ◌≤◌, codes};
 ghost use Rattle.tree_io.specs.Count.{Rose};
 ghost use Rattle.command_frame.specs.Output.{SaysLine, SaysText, output};
-ghost use Rattle.command_frame.specs.bodies.Steps.{Says};
+ghost use Rattle.command_frame.specs.Saying.{Says};
 ghost use Rattle.command_frame.specs.declared.stop.Stop.TheVariants.{Refused};
 
 use crate::{Refusal, Stop};
@@ -40,7 +40,7 @@ fn say_device<S: Sink>(out: &mut S) -> u8
 }
 
 /// Says a command's own text, and answers the status.
-pub(crate) fn say_text<S: Sink>(text: &[u8], out: &mut S) -> u8
+pub fn say_text<S: Sink>(text: &[u8], out: &mut S) -> u8
     ensures device { result ≡ 7 → Rose (S.faults out.old) (S.faults out.new) }
     ensures said { SaysText text.now result
         (output (S.written out.old) (S.faults out.old) (S.log out.old))
@@ -54,7 +54,7 @@ pub(crate) fn say_text<S: Sink>(text: &[u8], out: &mut S) -> u8
 }
 
 /// Says why a command ends without its result, and answers the status.
-pub(crate) fn say_stop<S: Sink>(alloc: Global, stop: &Stop, out: &mut S) -> u8
+pub fn say_stop<S: Sink>(alloc: Global, stop: &Stop, out: &mut S) -> u8
     ensures { Says stop.now result
         (output (S.written out.old) (S.faults out.old) (S.log out.old))
         (output (S.written out.new) (S.faults out.new) (S.log out.new)) }

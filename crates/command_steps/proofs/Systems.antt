@@ -4,7 +4,8 @@ use Rattle.jv_base.proofs.Results.{same_ok}
 use Rattle.class_model.specs.declared.class.Class.{Class}
 use Rattle.keep_rules.specs.declared.rules.Rules.{Rules}
 use Rattle.mark_core.specs.declared.system.System.{System}
-use Rattle.require_sys.specs.Required.{counted_limit, counted_name, system_due}
+use Rattle.require_sys.specs.Limits.{counted_limit, counted_name}
+use Rattle.rule_system.specs.Required.{system_due}
 use Rattle.require_sys.specs.declared.limits.TooMany.{TooMany}
 use Rattle.command_frame.proofs.OneStep.{no_err}
 use Rattle.command_frame.specs.Refusal.{limit_refused}

@@ -5,7 +5,8 @@ use Rattle.keep_rules.specs.declared.fault.RuleFault.{RuleFault}
 use Rattle.keep_rules.specs.declared.fault.RuleKind.TheVariants as kind
 use Rattle.keep_rules.specs.declared.rules.Rules.{Rules}
 use Rattle.mark_core.specs.declared.system.System.{System}
-use Rattle.require_sys.specs.Required.{counted_limit, counted_name, system_due}
+use Rattle.require_sys.specs.Limits.{counted_limit, counted_name}
+use Rattle.rule_system.specs.Required.{system_due}
 use Rattle.require_sys.specs.declared.limits.TooMany.{TooMany}
 use Rattle.command_frame.specs.Refusal.{limit_refused}
 use Rattle.command_frame.specs.declared.refusal.Refusal.{Refusal}

@@ -10,7 +10,7 @@ use command_frame::{Stop, passed_limit};
 use jv_base::Or;
 use keep_rules::{RuleFault, RuleKind, Rules};
 use mark_core::System;
-use require_sys::system_of;
+use rule_system::system_of;
 use std::alloc::Global;
 
 /// The requirements of a set by rules, which keep something.

@@ -78,7 +78,7 @@ fn marked_by_two(
 // ---- runs
 
 // A class file of `Main` with 64 static methods, each of which returns.
-fn many_methods(alloc: Global) -> M<Bytes> {
+pub(crate) fn many_methods(alloc: Global) -> M<Bytes> {
     let mut bytes =
         b"\xCA\xFE\xBA\xBE\0\0\0\x34\0\x47\x01\0\x04Main\x07\0\x01\x01\0\x10java/lang/Object\x07\0\x03\
 \x01\0\x03()V\x01\0\x04Code"

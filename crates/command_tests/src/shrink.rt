@@ -55,7 +55,7 @@ const COMMAND: &[&str] = &["shrink", CONFIG, "wit.txt"];
 // A path and the bytes of the file there.
 pub(crate) type Row<'a> = (&'a str, &'a [u8]);
 
-fn text(alloc: Global, text: &str) -> M<Text> {
+pub(crate) fn text(alloc: Global, text: &str) -> M<Text> {
     Ok(Text::from_str(alloc, text)?)
 }
 
@@ -79,7 +79,7 @@ pub(crate) fn files_of(alloc: Global, rows: &[Row<'_>]) -> M<Items<FileAt>> {
 }
 
 // The status of a run on a tree, and the whole text that it says.
-fn expect_end(
+pub(crate) fn expect_end(
     rt: &(impl Abort + Threads + Sync),
     alloc: Global,
     words: &[&str],

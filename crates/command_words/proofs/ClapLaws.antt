@@ -23,6 +23,9 @@ use Rattle.clap.specs.declared.parser.matches.Found.{Found}
 use Rattle.clap.proofs.OnLiterals.{clap_on_literals}
 use Rattle.clap.proofs.WalkLemmas.{byte_read, find_row, one_text-rows}
 use Rattle.command_words.specs.CommandLine.{command_line}
+use Rattle.command_words.specs.Batch.{batch_commanded, batch_in, batch_named}
+use Rattle.command_words.specs.declared.batch.Batch.{Batch}
+use Rattle.command_words.specs.declared.command.Command.{Command}
 use Rattle.command_words.specs.Words.{command_named, commanded, number_in, said_in, where_taken, workers_in}
 
 -- all values of an argument, by the rows
@@ -65,6 +68,19 @@ pub said_name_alone : (rows : List Row) (name : Text) → first_of (codes "comma
     → all_of (codes "operands") rows ≡ None → said_in rows ≡ None
 said_name_alone rows name n o = rw (n, o) refl
 
+-- the same of a batch
+pub batch_both : (rows : List Row) (name : Text) (operands : List Text) → first_of (codes "command") rows ≡ Some name
+    → all_of (codes "operands") rows ≡ Some operands
+    → batch_in rows ≡ batch_named name operands (workers_in rows)
+batch_both rows name operands n o = rw (n, o) refl
+
+pub batch_no_name : (rows : List Row) → first_of (codes "command") rows ≡ None → batch_in rows ≡ None
+batch_no_name rows n = rw n refl
+
+pub batch_name_alone : (rows : List Row) (name : Text) → first_of (codes "command") rows ≡ Some name
+    → all_of (codes "operands") rows ≡ None → batch_in rows ≡ None
+batch_name_alone rows name n o = rw (n, o) refl
+
 -- the number that is read of an argument, or 0 where there is none
 pub number_read : {E : Type 0} (gives : Text → Result ℕ E → Type 0) (f : Found) (id : Text) (read : Option ℕ)
     → ((text : Text) (r : Result ℕ E) → gives text r → ParsesUnsigned 8 10 text r)
@@ -82,21 +98,38 @@ number_read {E} gives f id read parses none value =
     go None is = ap (λ (r : Option ℕ). unwrap_or r 0) (none is)
     go (Some text) is = of_text text read (value text is)
 
--- the words are taken
-pub taken_says : (words : List Text) (rows : List Row) → fault_of command_line words ≡ []
-    → rows ≡ matches_of command_line words
-    → said_in rows ≡ commanded words
-unfolding commanded
-taken_says words rows f r = ap said_in r ∙ ap (λ k. where_taken k (said_in (matches_of command_line words))) (sym f)
+-- what is read of matches, where words are taken
+module _ {A : Type 0} (say : List Row → Option A) where
+  abbrev pub Asked : List Text → Option A
+  Asked words = where_taken (fault_of command_line words) (say (matches_of command_line words))
 
--- the words are not taken
-pub refused_says : (words : List Text) → fault_of command_line words ≢ [] → None ≡ commanded words
-unfolding commanded
-refused_says words f = by (fault_of command_line words) f
-  where
-    by : (k : Kinds) → k ≢ [] → None ≡ where_taken k (said_in (matches_of command_line words))
-    by [] f = absurd (f refl)
-    by (x ∷ xs) f = refl
+  -- the words are taken
+  pub taken_says : (words : List Text) (rows : List Row) → fault_of command_line words ≡ []
+      → rows ≡ matches_of command_line words
+      → say rows ≡ Asked words
+  taken_says words rows f r = ap say r ∙ ap (λ k. where_taken k (say (matches_of command_line words))) (sym f)
+
+  -- the words are not taken
+  pub refused_says : (words : List Text) → fault_of command_line words ≢ [] → None ≡ Asked words
+  refused_says words f = by (fault_of command_line words) f
+    where
+      by : (k : Kinds) → k ≢ [] → None ≡ where_taken k (say (matches_of command_line words))
+      by [] f = absurd (f refl)
+      by (x ∷ xs) f = refl
+
+  -- what is said of words that were taken
+  taken_asked : (words texts : List Text) (m : Option ArgMatches) (n : ArgMatches) → m ≡ Some n → texts ≡ words
+      → ReadsWords texts m
+      → say (rows_of (found_of n)) ≡ Asked words
+  taken_asked words texts m n is same reads =
+      let read : ReadsWords texts (Some n) = subst (ReadsWords texts) is reads in
+      taken_says texts (rows_of (found_of n)) read.0 read.1 ∙ ap Asked same
+
+  -- what is said of words that were refused
+  refused_asked : (words texts : List Text) (m : Option ArgMatches) → m ≡ None → texts ≡ words → ReadsWords texts m
+      → None ≡ Asked words
+  refused_asked words texts m is same reads =
+      refused_says texts (subst (ReadsWords texts) is reads) ∙ ap Asked same
 
 -- words that clap took
 pub reads_ok : (app : App) (words : List Text) (r : Result ArgMatches Error) (m : ArgMatches) → r ≡ Ok m
@@ -133,14 +166,25 @@ refused_reads words (Err e) n p f = tt
 pub taken_said : (words texts : List Text) (m : Option ArgMatches) (n : ArgMatches) → m ≡ Some n → texts ≡ words
     → ReadsWords texts m
     → said_in (rows_of (found_of n)) ≡ commanded words
-taken_said words texts m n is same reads =
-    let read : ReadsWords texts (Some n) = subst (ReadsWords texts) is reads in
-    taken_says texts (rows_of (found_of n)) read.0 read.1 ∙ ap commanded same
+unfolding commanded
+taken_said words texts m n is same reads = taken_asked said_in words texts m n is same reads
+
+pub taken_batch : (words texts : List Text) (m : Option ArgMatches) (n : ArgMatches) → m ≡ Some n → texts ≡ words
+    → ReadsWords texts m
+    → batch_in (rows_of (found_of n)) ≡ batch_commanded words
+unfolding batch_commanded
+taken_batch words texts m n is same reads = taken_asked batch_in words texts m n is same reads
 
 -- what is said of words that were refused
 pub refused_said : (words texts : List Text) (m : Option ArgMatches) → m ≡ None → texts ≡ words → ReadsWords texts m
     → None ≡ commanded words
-refused_said words texts m is same reads = refused_says texts (subst (ReadsWords texts) is reads) ∙ ap commanded same
+unfolding commanded
+refused_said words texts m is same reads = refused_asked said_in words texts m is same reads
+
+pub refused_batch : (words texts : List Text) (m : Option ArgMatches) → m ≡ None → texts ≡ words → ReadsWords texts m
+    → None ≡ batch_commanded words
+unfolding batch_commanded
+refused_batch words texts m is same reads = refused_asked batch_in words texts m is same reads
 
 -- an answer by another value that is the same
 pub answers : {X E : Type 0} (r : Result X E) (x y : X) → IfOk r (λ z. z ≡ x) → x ≡ y → IfOk r (λ z. z ≡ y)

@@ -1,4 +1,5 @@
 pub mod CommandLine
 pub mod Entries
 pub mod Words
+pub mod Batch
 pub mod bodies

@@ -124,9 +124,9 @@ abbrev pub said_in : List Row → Option Command
 said_in rows = asked_with (first_of (codes "command") rows) (all_of (codes "operands") rows) (workers_in rows)
 
 -- where clap has no fault to find
-abbrev pub where_taken : Kinds → Option Command → Option Command
-where_taken [] command = command
-where_taken (fault ∷ faults) command = None
+abbrev pub where_taken : {A : Type 0} → Kinds → Option A → Option A
+where_taken [] asked = asked
+where_taken (fault ∷ faults) asked = None
 
 -- the command that words ask for: clap takes them, and their operands are those of the command
 unfoldable pub commanded : List (List ℕ) → Option Command

@@ -29,7 +29,7 @@ pub fn read_command(alloc: Global, words: &Items<Text>) -> M<Option<Command>>
     }
 }
 
-fn texts_of(alloc: Global, words: &[Text]) -> M<Vec<&str>>
+pub(crate) fn texts_of(alloc: Global, words: &[Text]) -> M<Vec<&str>>
     ensures { IfOk result (λ texts. map (λ t. t.now) texts.items ≡ words.now) }
 {
     let mut texts = Vec::new(alloc);
@@ -40,7 +40,7 @@ fn texts_of(alloc: Global, words: &[Text]) -> M<Vec<&str>>
 }
 
 // What clap finds in words, where it takes them.
-fn matches_in<'a>(alloc: Global, words: &'a [&'a str]) -> M<Option<ArgMatches<'a>>>
+pub(crate) fn matches_in<'a>(alloc: Global, words: &'a [&'a str]) -> M<Option<ArgMatches<'a>>>
     ensures { IfOk result (ReadsWords (map (λ t. t.now) words.now)) }
 {
     let line = command_line(alloc)?;
@@ -76,7 +76,7 @@ fn said_in(alloc: Global, matches: &ArgMatches<'_>) -> M<Option<Command>>
 }
 
 // How many workers are asked for.
-fn workers_in(matches: &ArgMatches<'_>) -> u32
+pub(crate) fn workers_in(matches: &ArgMatches<'_>) -> u32
     ensures { result ≡ workers_in (rows_of (found_of matches.now)) }
 {
     u32::from(matches.get_one::<u8>("workers").unwrap_or(0))

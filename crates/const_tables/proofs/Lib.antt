@@ -1,8 +1,8 @@
 mod Cases
 mod Ordering
-mod Joining
+pub mod Joining
 mod Splitting
-mod Naming
+pub mod Naming
 pub mod FoldTable
 pub mod Linking
 pub mod FirstActs

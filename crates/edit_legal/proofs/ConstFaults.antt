@@ -298,6 +298,15 @@ const_fault_is acts code rules fault sound is f =
     (λ before rest a e prior.
     one_tells acts code sound rules.known.facts is.tells.first before rest a e prior))
 
+-- of a sound code and stretches that tell the acts there always is such a fault, or none
+pub const_fault_some : (acts : List Act) (code : Code) (facts : List Stretch) → IsSound code
+    → AreFirst 0 acts facts → (fault : Option ℕ) × IsFault pass.Const acts code fault
+const_fault_some acts code facts sound first = (
+  fault_after (may acts code sound facts first) 0 [] acts,
+  faults pass.Const acts code (may acts code sound facts first)
+      (λ before rest a e prior. one_tells acts code sound facts first before rest a e prior),
+)
+
 -- of rules that were made just now no act is noted
 pub none_noted : (acts : List Act) (code : Code) (rules : Constants) → IsConstants acts code rules
     → (rules.count ≡ up_to (length {A = Act} []) (length rules.known.acts.now))

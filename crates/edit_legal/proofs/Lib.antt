@@ -1,8 +1,8 @@
-mod CutFaults
-mod DropFaults
+pub mod CutFaults
+pub mod DropFaults
 mod Faults
 mod Following
-mod JumpFaults
+pub mod JumpFaults
 mod Lengths
 mod Noting
 mod Ranges
@@ -10,4 +10,4 @@ mod LastIndex
 mod FoldsLast
 mod FoldsRight
 mod FactsRight
-mod ConstFaults
+pub mod ConstFaults

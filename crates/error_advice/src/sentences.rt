@@ -36,12 +36,17 @@ pub fn advice(line: &str) -> Option<&'static str> {
                 demo.Helper: int twice(int), in quotes, as the list of -printseeds has them; with -keep class \
                 ** { *; } in the config that list has all",
         ),
+        "15" => Some(
+            "the job of this line of the list would write over the list or over what an earlier line's job reads \
+                or writes, or read what an earlier one writes: give each job its own output directory, mapping, \
+                lists and witness",
+        ),
         _ => None,
     }
 }
 
 const WORDS: &str =
-    "usage: shrink CONFIG WITNESS, check CONFIG WITNESS, retrace MAPPING TRACE or why CONFIG ITEM, all but ITEM \
+    "usage: shrink CONFIG WITNESS, check CONFIG WITNESS, retrace MAPPING TRACE, why CONFIG ITEM or batch LIST, all but ITEM \
         paths without ./, ../ or // in them and without / at their ends: s.pro and not ./s.pro; --help tells \
         more, and of run, compare and gen too";
 
@@ -191,6 +196,7 @@ fn limit_advice(rest: &str) -> Option<&'static str> {
         "classes" | "input" | "items" | "needs" | "pairs" => Some(
             "the program is larger than what is taken together: docs/LIMITS.md has the limits",
         ),
+        "jobs" | "batch" => Some("make two lists of it, and call batch for each"),
         "text" => Some(
             "the mapping or one of the lists would have more bytes than that: do without -printseeds and \
                 -printusage, or keep fewer classes",
@@ -257,7 +263,8 @@ fn text_advice(kind: &str) -> Option<&'static str> {
         "NotUtf8" => Some("the line isn't in UTF-8"),
         "BadLine" => Some(
             "the line is none of its grammar: in a mapping, old -> new: for a class and four blanks before a \
-                member's line (docs/MANUAL.md); a witness begins with the line witness 1",
+                member's line (docs/MANUAL.md); a witness begins with the line witness 1; a line of a batch's list \
+                is a config's path, one blank and a witness's path (docs/BATCH.md)",
         ),
         "NoClass" => Some("a member's line comes before the first line of a class"),
         "Repeated" => Some(

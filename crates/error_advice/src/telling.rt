@@ -36,6 +36,9 @@ pub fn explain<R: Eprint, T: Tree, S: Sink>(
     if line.starts_with("classes 0 0") {
         return eprintln!(rt; "cixorradde: {NO_CLASSES}");
     }
+    if is_batch(words) && line.starts_with("job ") {
+        return explain_reports(rt, line);
+    }
     // A refusal is one line; what a program prints that is run has another line behind it.
     if !line.starts_with("error ") || line.as_bytes().contains(&b'\n') {
         return Ok(());
@@ -50,6 +53,20 @@ pub fn explain<R: Eprint, T: Tree, S: Sink>(
 const NO_CLASSES: &str =
     "no file whose name ends in .class lies below the directory of -injars; paths are taken from the folder \
         in which the command is called, and a JAR has to be unpacked (jar xf)";
+
+// Says what the refusals mean in the reports of a batch, each behind its job.
+fn explain_reports<R: Eprint>(rt: &R, reports: &str) -> io::Result<()> {
+    let mut job = "";
+    for line in reports.lines() {
+        if line.starts_with("job ") {
+            job = line;
+        }
+        if let Some(advice) = advice(line) {
+            eprintln!(rt; "cixorradde: {job}: {advice}")?;
+        }
+    }
+    Ok(())
+}
 
 // Says at which path a line is to be read, where it doesn't tell that itself.
 fn tell_place<R: Eprint, T: Tree>(
@@ -116,7 +133,7 @@ fn tell_text<R: Eprint, T: Tree>(
 }
 
 // The text that is at fault, and its path: `check` reads the config, the mapping and the witness, in this order,
-// `compare` the config and the mapping, and `retrace` the mapping and the trace.
+// `compare` the config and the mapping, `retrace` the mapping and the trace, and `batch` the list before all others.
 fn faulty_text<T: Tree>(
     alloc: Global,
     words: &[Text],
@@ -124,6 +141,7 @@ fn faulty_text<T: Tree>(
 ) -> M<Option<(&'static str, Text)>> {
     let (mapping, witness) = match tree.texts.as_slice() {
         [_, mapping, witness] => (mapping.clone()?, witness.clone()?),
+        [list] if is_batch(words) => return Ok(Some(("list", list.clone()?))),
         [_, mapping] if is_compare(words) => return Ok(Some(("mapping", mapping.clone()?))),
         [mapping, _] => return Ok(Some(("mapping", mapping.clone()?))),
         _ => return Ok(None),
@@ -133,6 +151,11 @@ fn faulty_text<T: Tree>(
     } else {
         Ok(Some(("mapping", mapping)))
     }
+}
+
+// Whether the command is `batch`.
+fn is_batch(words: &[Text]) -> bool {
+    matches!(words.first(), Some(word) if word.as_str() == "batch")
 }
 
 // Whether the command is `compare`: of the commands that read a mapping, the first one that is named.

@@ -3,4 +3,4 @@ mod InOrder
 mod Mapped
 mod OnlyOne
 mod Reading
-mod Sounding
+pub mod Sounding

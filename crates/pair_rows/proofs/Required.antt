@@ -15,7 +15,7 @@ use Rattle.keep_match.specs.Matches.{is_kind_met, matches_class, matches_method}
 use Rattle.keep_match.specs.Seeds.{keeps_class}
 use Rattle.keep_match.specs.TypePatterns.{match_each, matches_element, matches_result, matches_type, without_pairs}
 use Rattle.keep_match.specs.Wildcards.{is_cut, pieces, wild, wild_class}
-use Rattle.require_sys.specs.Required.{required}
+use Rattle.rule_system.specs.Required.{required}
 use Rattle.pair_clauses.specs.Closing.{closed_fault, seed_fault}
 use Rattle.pair_clauses.specs.declared.place.Place.{Place}
 use Rattle.pair_checker.specs.Clauses.{given_names}

@@ -3,7 +3,7 @@
 use Rattle.std.specs.Prelude.{◌≡◌, ℕ, List, [], ◌∷◌, Option, Some, None, codes}
 use Rattle.tree_io.specs.declared.file_at.FileAt.{FileAt}
 use Rattle.set_read.specs.Accepted.{IsAccepted}
-use Rattle.require_sys.specs.Required.{required}
+use Rattle.rule_system.specs.Required.{required}
 use Rattle.mapping_file.specs.declared.mapping.Mapping.{Mapping}
 use Rattle.witness_file.specs.declared.witness.Witness.{Witness}
 use Rattle.pair_checker.specs.Clauses.{Finds}

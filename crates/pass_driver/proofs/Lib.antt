@@ -2,3 +2,4 @@ pub mod LeftReached
 mod Stepping
 pub mod Spotting
 mod Faults
+mod Parting

@@ -1,11 +1,13 @@
 // What becomes of the codes of a set.
 ghost use Rattle.std.specs.Prelude.{◌≡◌, ◌<◌, ℕ, ◌+◌, ◌++◌, IfOk, Some, length, slice_get};
+ghost use Rattle.std.specs.List.{AllByRecursion};
 ghost use Rattle.jv_base.specs.Types.{method_text};
 ghost use Rattle.class_model.specs.WellFormed.{IsWellFormed};
 ghost use Rattle.class_model.specs.declared.class.Class.{Class};
 ghost use Rattle.class_pool.specs.Count.{item_count};
 ghost use Rattle.pass_driver.specs.Optimised.{IsOptimised, IsOptimisedIf, as_it_is, code_for};
 ghost use Rattle.pass_driver.specs.Optimised.{entry_for, fallback_for, with_codes};
+ghost use Rattle.pass_driver.specs.bodies.Parts.{ArePartsDone, CanBeDone, IsPartDone};
 ghost use Rattle.pass_driver.specs.bodies.Spotted.{IsSpot, IsSpotDone};
 ghost use Rattle.type_verifier.specs.Verified.{AreTyped};
 ghost use Rattle.type_verifier.specs.WithCode.{changed_at, class_with_code, method_with_code};
@@ -17,12 +19,17 @@ use class_model::{Class, Code, Method};
 use class_pool::ClassSet;
 use code_edit::MethodEdits;
 use flow_laws::laws::typed_codes_are_sound;
-use jv_base::{Items, M, method_text};
+use jv_base::{Items, M, OutOfMemory, method_text};
 use mark_words::Marked;
+use rayon::prelude::*;
 use std::alloc::Global;
 use std::mem;
+use std::thread::Threads;
 use type_verifier::CodeChecker;
 use witness_file::{MethodWitness, Witness};
+
+/// How many methods are worth a thread of their own.
+const LEAST_PART: usize = 64;
 
 /// A code that a method of a set gets in place of its own, by the numbers of its class and of the method there.
 #[derive(Drop)]
@@ -136,9 +143,93 @@ fn put_spot(
     }
 }
 
+/// What becomes of the methods of some spots, one after another.
+fn optimise_spots(
+    alloc: Global,
+    checker: &CodeChecker,
+    set: &ClassSet,
+    spots: &[Spot],
+) -> M<Optimised>
+    requires same { checker.now ≡ set.now }
+    requires there { AllByRecursion (IsSpot set.now) spots.now }
+    requires formed { (n : ℕ) (c : Class) → slice_get set.now n ≡ Some c → IsWellFormed c }
+    requires typed { AreTyped set.now }
+    ensures { IfOk result (IsPartDone set.now spots.now) }
+{
+    let mut optimised = Optimised::new(alloc);
+    for spot in spots {
+        optimised = put_spot(alloc, checker, set, *spot, optimised)?;
+    }
+    Ok(optimised)
+}
+
+/// The same in parts of this size, by as many threads as there are parts, and two for each processor at most.
+fn optimise_parts<Rt: Threads + Sync>(
+    rt: &Rt,
+    alloc: Global,
+    checker: &CodeChecker,
+    set: &ClassSet,
+    spots: &[Spot],
+    size: usize,
+) -> M<Vec<Optimised>>
+    requires size { 0 < size }
+    requires same { checker.now ≡ set.now }
+    requires there { AllByRecursion (IsSpot set.now) spots.now }
+    requires formed { (n : ℕ) (c : Class) → slice_get set.now n ≡ Some c → IsWellFormed c }
+    requires typed { AreTyped set.now }
+    ensures { IfOk result (λ parts. ArePartsDone set.now spots.now parts.items) }
+{
+    let parts: Result<Vec<Optimised>, OutOfMemory> = spots
+        .par_chunks(size)
+        .with_min_len(1)
+        .map(
+            |part: &[Spot]| -> M<Optimised>
+                requires { CanBeDone checker.now set.now part.now }
+                ensures { IfOk result (IsPartDone set.entry.now part.now) }
+            { optimise_spots(alloc, checker, set, part) },
+        )
+        .collect(rt, alloc)?;
+    parts
+}
+
+/// Appends what becomes of further methods.
+fn put_part(optimised: Optimised, part: Optimised) -> M<Optimised>
+    requires { optimised.fallback + part.fallback < 18446744073709551616 }
+    ensures codes { IfOk result (λ more. more.codes ≡ optimised.codes ++ part.codes) }
+    ensures entries { IfOk result (λ more. more.witness.methods ≡ optimised.witness.methods ++ part.witness.methods) }
+    ensures fallback { IfOk result (λ more. more.fallback ≡ optimised.fallback + part.fallback) }
+{
+    let mut codes = optimised.codes.into_vec();
+    codes.append(&mut part.codes.into_vec())?;
+    let mut methods = optimised.witness.methods.into_vec();
+    methods.append(&mut part.witness.methods.into_vec())?;
+    Ok(Optimised {
+        codes: Items::from_vec(codes),
+        witness: Witness {
+            methods: Items::from_vec(methods),
+        },
+        fallback: optimised.fallback + part.fallback,
+    })
+}
+
+/// How many of so many methods a part has, where there are no more parts than workers. Fewer of them aren't worth a
+/// thread.
+fn part_size(count: usize, workers: usize) -> usize
+    ensures { 0 < result }
+{
+    count.div_ceil(workers.max(1)).max(LEAST_PART)
+}
+
 /// What becomes of the kept methods of a set: each code goes through the six steps, and stays as it is where it then
-/// isn't typed. Codes are typed in the set as it stands, since no code names after the steps what it didn't name.
-pub fn optimise(alloc: Global, set: &ClassSet, marked: &Marked) -> M<Optimised>
+/// isn't typed. Codes are typed in the set as it stands, since no code names after the steps what it didn't name. The
+/// methods are shared out among so many workers, each in a thread of its own; the answer is that of one.
+pub fn optimise<Rt: Threads + Sync>(
+    rt: &Rt,
+    workers: usize,
+    alloc: Global,
+    set: &ClassSet,
+    marked: &Marked,
+) -> M<Optimised>
     requires marks { length marked.now ≡ item_count set.now }
     requires formed { (n : ℕ) (c : Class) → slice_get set.now n ≡ Some c → IsWellFormed c }
     requires typed { AreTyped set.now }
@@ -146,22 +237,31 @@ pub fn optimise(alloc: Global, set: &ClassSet, marked: &Marked) -> M<Optimised>
 {
     let checker = CodeChecker::new(alloc, set)?;
     let spots = spots_of(alloc, set, marked.marks().as_slice())?;
+    let size = part_size(spots.len(), workers);
+    let parts = optimise_parts(rt, alloc, &checker, set, spots.as_slice(), size)?;
     let mut optimised = Optimised::new(alloc);
-    for spot in spots.as_slice() {
-        optimised = put_spot(alloc, &checker, set, *spot, optimised)?;
+    for part in parts {
+        optimised = put_part(optimised, part)?;
     }
     Ok(optimised)
 }
 
 /// The same where the rules want it (ProGuard manual, "-dontoptimize"); else nothing becomes of the set.
-pub fn optimise_if(alloc: Global, wanted: bool, set: &ClassSet, marked: &Marked) -> M<Optimised>
+pub fn optimise_if<Rt: Threads + Sync>(
+    rt: &Rt,
+    workers: usize,
+    alloc: Global,
+    wanted: bool,
+    set: &ClassSet,
+    marked: &Marked,
+) -> M<Optimised>
     requires marks { length marked.now ≡ item_count set.now }
     requires formed { (n : ℕ) (c : Class) → slice_get set.now n ≡ Some c → IsWellFormed c }
     requires typed { AreTyped set.now }
     ensures { IfOk result (IsOptimisedIf wanted marked.now set.now) }
 {
     if wanted {
-        optimise(alloc, set, marked)
+        optimise(rt, workers, alloc, set, marked)
     } else {
         Ok(Optimised::new(alloc))
     }

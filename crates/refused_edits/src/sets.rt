@@ -11,13 +11,20 @@ use jv_base::M;
 use mark_words::Marked;
 use pass_driver::Optimised;
 use std::alloc::Global;
+use std::thread::Threads;
 
 /// Has the contract of the call that is its body.
-pub fn optimise(alloc: Global, set: &ClassSet, marked: &Marked) -> M<Optimised>
+pub fn optimise<Rt: Threads + Sync>(
+    rt: &Rt,
+    workers: usize,
+    alloc: Global,
+    set: &ClassSet,
+    marked: &Marked,
+) -> M<Optimised>
     requires marks { length marked.now ≡ item_count set.now }
     requires formed { (n : ℕ) (c : Class) → slice_get set.now n ≡ Some c → IsWellFormed c }
     requires typed { AreTyped set.now }
     ensures { IfOk result (IsOptimised marked.now set.now) }
 {
-    pass_driver::optimise(alloc, set, marked)
+    pass_driver::optimise(rt, workers, alloc, set, marked)
 }

@@ -13,9 +13,12 @@ use keep_rules::Rules;
 use mark_words::Marked;
 use set_shrink::ShrunkSet;
 use std::alloc::Global;
+use std::thread::Threads;
 
 /// `shrink_classes` of `set_shrink`.
-pub fn shrink_classes(
+pub fn shrink_classes<Rt: Threads + Sync>(
+    rt: &Rt,
+    workers: usize,
     alloc: Global,
     classes: Items<Class>,
     fixed: &Option<TakenNames>,
@@ -28,5 +31,5 @@ pub fn shrink_classes(
     requires writable { AllByRecursion IsWritable (renamed_of classes marked.now rules.now) }
     ensures exact { Shrinks result classes marked.now rules.now }
 {
-    set_shrink::shrink_classes(alloc, classes, fixed, marked, rules)
+    set_shrink::shrink_classes(rt, workers, alloc, classes, fixed, marked, rules)
 }

@@ -1,12 +1,11 @@
 -- The items of classes and members by their numbers.
-use Rattle.std.proofs.Common.{◌≡◌, ℕ, ◌+◌, ◌<◌, ◌≤◌, ◌⊎◌, inl, inr, Bool, true, false, List, [], ◌∷◌, ◌++◌, length}
+use Rattle.std.proofs.Common.{◌≡◌, ℕ, ◌+◌, ◌<◌, ◌≤◌, ◌⊎◌, inl, inr, List, [], ◌∷◌, ◌++◌, length}
 use Rattle.std.proofs.Common.{get_or, map, slice_get, Option, Some, None, All, refl, sym, ap, subst, ◌∙◌, arith}
 use Rattle.std.proofs.Common.{length-append}
 use Rattle.std.specs.Option.{option_map_or}
 use Rattle.std.proofs.Math.Seq.{get_or-append_seam}
 use Rattle.std.proofs.lemmas.Bool.{cases_lt}
 use Rattle.std.proofs.lemmas.List.{get_or_append_left, length-map}
-use Rattle.std.proofs.lemmas.List.Elements.{All-nil, All-cons}
 use Rattle.std.proofs.lemmas.Option.{slice_get_within, get_or_from_slice_get}
 use Rattle.std.specs.List.{enumerate_from}
 use Rattle.std.proofs.lemmas.List.FromFn.{length-enumerate_from}
@@ -17,7 +16,6 @@ use Rattle.class_pool.specs.Count.{items_of, item_count}
 use Rattle.class_pool.specs.Found.{field_row, IsMember, method_row, rows_in}
 use Rattle.class_pool.specs.declared.id.ClassId.TheVariants.{Prog}
 use Rattle.class_pool.specs.Items.{class_item}
-use Rattle.keep_match.specs.Seeds.{places_of_true}
 use Rattle.require_sys.specs.bodies.Starts.{AreStarts}
 use Rattle.require_sys.specs.Requires.{class_needs, field_wants, method_wants, needs_of}
 use Rattle.require_sys.specs.declared.kept.KeptByRules.{KeptByRules}
@@ -92,14 +90,6 @@ table_more classes n v old new count each is grown = (
   λ k most. ap (λ (t : List ℕ). get_or t k 0) grown
       ∙ more_at classes n v old count each is k most (cases_lt k (length old)),
 )
-
--- ---- places
-
-pub places_below : (m n : ℕ) (bs : List Bool) → n + length bs ≤ m → All (λ x. x < m) (places_of_true n bs)
-places_below m n [] most = All-nil (λ x. x < m)
-places_below m n (true ∷ bs) most = All-cons (λ x. x < m) n (places_of_true (n + 1) bs) (omega arith)
-    (places_below m (n + 1) bs (omega arith))
-places_below m n (false ∷ bs) most = places_below m (n + 1) bs (omega arith)
 
 -- a member whose number is listed is there
 pub member_listed : (classes : List Class) (n : ℕ) (members : List ℕ) (i k : ℕ) → n < length classes

@@ -1,5 +1,5 @@
 -- Steps of loops.
-use Rattle.std.proofs.Common.{◌≡◌, ℕ, zero, suc, ◌+◌, ◌<◌, Bool, true, false, cond, List, [], ◌∷◌, ◌++◌, length}
+use Rattle.std.proofs.Common.{◌≡◌, ℕ, zero, suc, ◌+◌, ◌<◌, List, [], ◌∷◌, ◌++◌, length}
 use Rattle.std.proofs.Common.{get_or, map, take}
 use Rattle.std.proofs.Common.{slice_get, Option, Some, None, refl, sym, ap, ◌∙◌, arith, append_assoc, append-nil}
 use Rattle.std.specs.List.{cons_option, enumerate_from, filter_map, flat_map, range_with_len}
@@ -8,7 +8,6 @@ use Rattle.std.proofs.lemmas.List.Concat.{flat_map-append}
 use Rattle.std.proofs.lemmas.List.Elements.{filter_map-append}
 use Rattle.std.proofs.lemmas.Option.{slice_get_within}
 use Rattle.jv_base.proofs.Lists.{take_got, enumerate_from-append}
-use Rattle.keep_match.specs.Seeds.{places_of_true}
 
 one_of : {Y : Type 0} (y : Y) (r : Option Y) → r ≡ Some y → cons_option r [] ≡ y ∷ []
 one_of y None e = absurd cc
@@ -78,18 +77,6 @@ numbered_given f xs i x ys zs at is grown =
     ∙ sym (flat_map-append f (enumerate_from 0 (take i xs)) ((i, x) ∷ []))
     ∙ ap (flat_map f) (sym (numbered_more xs i x at))
 
--- one more truth value
-pub places_push : (n : ℕ) (bs : List Bool) (b : Bool)
-    → places_of_true n (bs ++ b ∷ []) ≡ places_of_true n bs ++ cond b ((n + length bs) ∷ []) []
-places_push n [] true = let same : n ≡ n + length {A = Bool} [] = omega arith in ap (λ k. k ∷ []) same
-places_push n [] false = refl
-places_push n (true ∷ bs) b =
-    let next : n + 1 + length bs ≡ n + length (true ∷ bs) = omega arith in
-    ap (λ t. n ∷ t) (places_push (n + 1) bs b) ∙ ap (λ k. n ∷ (places_of_true (n + 1) bs ++ cond b (k ∷ []) [])) next
-places_push n (false ∷ bs) b =
-    let next : n + 1 + length bs ≡ n + length (false ∷ bs) = omega arith in
-    places_push (n + 1) bs b ∙ ap (λ k. places_of_true (n + 1) bs ++ cond b (k ∷ []) []) next
-
 -- one more piece
 pub piece_given : {X Y : Type 0} (f : X → List Y) (xs : List X) (i : ℕ) (x : X) (ys zs : List Y)
     → slice_get xs i ≡ Some x → ys ≡ flat_map f (take i xs)
@@ -99,16 +86,6 @@ piece_given f xs i x ys zs at is grown =
     ∙ ap (λ t. flat_map f (take i xs) ++ t) (sym (append-nil (f x)))
     ∙ sym (flat_map-append f (take i xs) (x ∷ []))
     ∙ ap (flat_map f) (sym (take_got xs i x at))
-
-pub place_given : (bs : List Bool) (i : ℕ) (b : Bool) (places grown : List ℕ) → i < length bs → get_or bs i false ≡ b
-    → places ≡ places_of_true 0 (take i bs)
-    → grown ≡ places ++ cond b (i ∷ []) [] → grown ≡ places_of_true 0 (take (i + 1) bs)
-place_given bs i b places grown lt at is more =
-    let so_far : 0 + length (take i bs) ≡ i = omega (arith, length-take i bs, lt) in
-    more ∙ ap (λ t. t ++ cond b (i ∷ []) []) is
-    ∙ ap (λ k. places_of_true 0 (take i bs) ++ cond b (k ∷ []) []) (sym so_far)
-    ∙ sym (places_push 0 (take i bs) b)
-    ∙ ap (places_of_true 0) (sym (take_more bs i false lt ∙ ap (λ y. take i bs ++ y ∷ []) at))
 
 -- one more that may give nothing
 pub optional_given : {X Y : Type 0} (h : X → Option Y) (xs : List X) (i : ℕ) (x : X) (ys zs : List Y) → i < length xs

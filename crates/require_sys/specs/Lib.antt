@@ -1,4 +1,4 @@
 pub mod Requires
 pub mod Closing
-pub mod Required
+pub mod Limits
 pub mod bodies

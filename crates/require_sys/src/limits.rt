@@ -1,6 +1,6 @@
 // Counts that have a limit.
 ghost use Rattle.std.specs.Prelude.{◌≡◌};
-ghost use Rattle.require_sys.specs.Required.{counted_limit, counted_name};
+ghost use Rattle.require_sys.specs.Limits.{counted_limit, counted_name};
 
 /// What is counted of a system.
 #[derive(Clone, Copy, PartialEq, Eq)]

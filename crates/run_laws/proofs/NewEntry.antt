@@ -35,7 +35,7 @@ use Rattle.mapping_file.specs.declared.mapping.MapMethod.{MapMethod}
 use Rattle.mapping_file.specs.declared.mapping.Mapping.{Mapping}
 use Rattle.member_shrink.specs.Shrunk.{is_marked}
 use Rattle.new_names.specs.NewNames.{class_line, is_same, method_in, method_lines, new_method}
-use Rattle.require_sys.specs.Required.{kept_by_rules}
+use Rattle.rule_system.specs.Required.{kept_by_rules}
 use Rattle.require_sys.specs.declared.kept.KeptByRules.{KeptByRules}
 use Rattle.jvm_model.specs.Heap.{string}
 use Rattle.jvm_model.specs.Start.{are_plain_parameters, is_plain, is_plain_base}

@@ -20,7 +20,7 @@ use Rattle.class_pool.proofs.ToldMembers.{rows_counted}
 use Rattle.keep_match.specs.Seeds.{seeds_of}
 use Rattle.keep_rules.specs.declared.rules.Rules.{Rules}
 use Rattle.link_check.specs.Profile.{is_of_library}
-use Rattle.require_sys.specs.Required.{required}
+use Rattle.rule_system.specs.Required.{required}
 use Rattle.jvm_model.specs.Start.{are_plain_parameters}
 use Rattle.jvm_model.specs.Value.{Key}
 use Rattle.set_view.specs.ViewOf.{is_startable, is_static_method, member_of}

@@ -35,7 +35,8 @@ use Rattle.mapping_file.specs.MapLines.{line_text}
 use Rattle.mapping_file.specs.Mappings.{mapping_text}
 use Rattle.witness_file.specs.WitnessLines.{line_text as entry_text}
 use Rattle.witness_file.specs.Witnesses.{witness_text}
-use Rattle.require_sys.specs.Required.{limited, system_due}
+use Rattle.require_sys.specs.Limits.{limited}
+use Rattle.rule_system.specs.Required.{system_due}
 use Rattle.pair_rows.proofs.Required.{system}
 use Rattle.same_rows.specs.Rows.{BeginRow, EntryRow, MarksRow, NamesRow, RunRow, ShrunkRow, TextsRow, marks}
 

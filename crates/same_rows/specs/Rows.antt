@@ -12,7 +12,7 @@ use Rattle.image_laws.specs.TakenSet.TakenSet.{IsTaken}
 use Rattle.jvm_model.specs.Value.{Key}
 use Rattle.mapping_file.specs.Mappings.{mapping_text}
 use Rattle.mark_core.specs.Marks.{Marks}
-use Rattle.require_sys.specs.Required.{required, system_due}
+use Rattle.rule_system.specs.Required.{required, system_due}
 use Rattle.set_shrink.specs.ShrunkSet.{IsShrunk}
 use Rattle.set_shrink.specs.Texts.{texts_due}
 use Rattle.set_shrink.specs.declared.shrunk.ShrunkSet.{ShrunkSet}

@@ -5,18 +5,25 @@ ghost use Rattle.jv_base.specs.Outcome.{IsDue};
 ghost use Rattle.attribute_filter.specs.Filtered.{filtered};
 ghost use Rattle.class_laws.specs.SpellingLaws.{IsWritable};
 ghost use Rattle.set_shrink.specs.ShrunkSet.{path_of};
-ghost use Rattle.set_shrink.specs.bodies.Steps.{Writes, WritesOne};
+ghost use Rattle.set_shrink.specs.bodies.Steps.{AreEachWritten, Writes, WritesOne};
 
 use attribute_filter::{AttributeFilter, filtered};
 use class_model::{Class, WriteLimit};
 use class_write::write_class;
 use jv_base::{Items, M, Or, Text};
+use rayon::prelude::*;
 use std::alloc::Global;
+use std::thread::Threads;
 use tree_io::FileAt;
 
-/// The files of classes below a directory, in their order, each with those optional attributes that are kept. Classes
-/// are filtered one by one, so that what they all get stands once in memory.
-pub fn files_of(
+/// How many classes are worth a thread of their own.
+const LEAST_PART: usize = 16;
+
+/// The files of classes below a directory, in their order, each with those optional attributes that are kept. The
+/// classes are shared out among so many workers, each in a thread of its own; the answer is that of one.
+pub fn files_of<Rt: Threads + Sync>(
+    rt: &Rt,
+    workers: usize,
     alloc: Global,
     classes: Items<Class>,
     filter: &AttributeFilter,
@@ -25,12 +32,47 @@ pub fn files_of(
     requires writable { AllByRecursion IsWritable (map (filtered filter.now) classes) }
     ensures exact { Writes result (map (filtered filter.now) classes) directory.now }
 {
+    let all = each_written(rt, workers, alloc, classes, filter, directory)?;
     let mut files = Items::new(alloc);
-    for class in classes.into_vec() {
-        let file = file_of(alloc, class, filter, directory)?;
+    for written in all {
+        let file = written?;
         files.push(file)?;
     }
     Ok(files)
+}
+
+/// For each class its file, or the limit that it passes: all are written, also those behind one that passes a limit. A
+/// worker filters its classes one by one, so that what they all get stands in memory once for each worker.
+fn each_written<Rt: Threads + Sync>(
+    rt: &Rt,
+    workers: usize,
+    alloc: Global,
+    classes: Items<Class>,
+    filter: &AttributeFilter,
+    directory: &Text,
+) -> M<Vec<Result<FileAt, Or<WriteLimit>>>>
+    requires writable { AllByRecursion IsWritable (map (filtered filter.now) classes) }
+    ensures { IfOk result (λ all. AreEachWritten directory.now (map (filtered filter.now) classes) all.items) }
+{
+    let size = part_size(classes.len(), workers);
+    let all: Vec<Result<FileAt, Or<WriteLimit>>> = classes
+        .into_vec()
+        .into_par_iter()
+        .with_min_len(size)
+        .map(
+            |class: Class| -> Result<FileAt, Or<WriteLimit>>
+                requires { IsWritable (filtered filter.now class) }
+                ensures { WritesOne result (filtered filter.entry.now class) directory.entry.now }
+            { file_of(alloc, class, filter, directory) },
+        )
+        .collect(rt, alloc)?;
+    Ok(all)
+}
+
+/// How many of so many classes a part has at least. Parts are halved, so there are as many as the greatest power of two
+/// that isn't above the number of workers. Fewer classes aren't worth a thread.
+fn part_size(count: usize, workers: usize) -> usize {
+    (count >> workers.max(1).ilog2()).max(LEAST_PART)
 }
 
 /// The file of a class with those optional attributes that are kept.

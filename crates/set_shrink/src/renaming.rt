@@ -18,6 +18,7 @@ use keep_rules::Rules;
 use mapping_file::Mapping;
 use rename_map::mapping_of;
 use std::alloc::Global;
+use std::thread::Threads;
 use tree_io::FileAt;
 
 /// The files of classes, and the mapping that tells their old names.
@@ -27,8 +28,10 @@ pub(crate) struct NamedFiles {
     pub(crate) mapping: Mapping,
 }
 
-/// The files of kept classes under new names, in the order of their paths, and the mapping.
-pub(crate) fn written_named(
+/// The files of kept classes under new names, in the order of their paths, and the mapping. So many workers write them.
+pub(crate) fn written_named<Rt: Threads + Sync>(
+    rt: &Rt,
+    workers: usize,
     alloc: Global,
     names: &NewNames,
     kept: Items<Class>,
@@ -40,7 +43,7 @@ pub(crate) fn written_named(
     let filter = attribute_filter(alloc, rules)?;
     let mapping = mapping_of(alloc, names, &kept, filter.line_numbers)?;
     let classes = renamed(alloc, names, kept)?;
-    let files = files_of(alloc, classes, &filter, &rules.out_dir)?;
+    let files = files_of(rt, workers, alloc, classes, &filter, &rules.out_dir)?;
     Ok(NamedFiles { files, mapping })
 }
 

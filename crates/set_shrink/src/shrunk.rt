@@ -17,6 +17,7 @@ use mark_words::Marked;
 use member_shrink::shrunk;
 use rename_map::names_beside;
 use std::alloc::Global;
+use std::thread::Threads;
 use tree_io::FileAt;
 
 /// What is written of a set, and what was kept of it.
@@ -37,8 +38,10 @@ pub struct ShrunkSet {
 /// obfuscation), and with those optional attributes that the rules keep, in its canonical spelling (JVMS 4). What is kept
 /// is marked, one mark for each item: each class in its order, then its fields, then its methods. Each kept class can be
 /// written under its new names. The error is the first limit of the format that a kept class passes (JVMS 4.11), in the
-/// order of the files.
-pub fn shrink_classes(
+/// order of the files. So many workers write the classes, each in a thread of its own; the answer is that of one.
+pub fn shrink_classes<Rt: Threads + Sync>(
+    rt: &Rt,
+    workers: usize,
     alloc: Global,
     classes: Items<Class>,
     fixed: &Option<TakenNames>,
@@ -55,7 +58,7 @@ pub fn shrink_classes(
     let kept = shrunk(alloc, classes, marked)?;
     let counts = counts_of(kept.as_slice());
     let names = names_beside(alloc, fixed, &kept)?;
-    let written = written_named(alloc, &names, kept, rules)?;
+    let written = written_named(rt, workers, alloc, &names, kept, rules)?;
     Ok(ShrunkSet {
         files: written.files,
         mapping: written.mapping,

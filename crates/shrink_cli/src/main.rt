@@ -4,7 +4,7 @@
 use command_words::help_text;
 use error_advice::{Heard, Watched, explain};
 use jv_base::{Items, M, Text};
-use shrink_core::run;
+use shrink_core::{run, run_batch};
 use std::alloc::Global;
 use std::env;
 use std::io::ErrorKind;
@@ -29,6 +29,11 @@ fn notice_of(words: &Items<Text>) -> Option<Notice> {
         "-V" | "--version" => Some(Notice::Version),
         _ => None,
     }
+}
+
+// Whether the first word is that of a batch.
+fn is_batch(words: &Items<Text>) -> bool {
+    words.get(0).is_some_and(|word| word.as_str() == "batch")
 }
 
 // Prints what was asked for, and answers the status.
@@ -74,7 +79,11 @@ fn main(rt: HostRuntime) -> ExitCode {
     }
     let mut tree = Watched::new(alloc, FileTree::new(&rt));
     let mut heard = Heard::new(alloc, out);
-    let status = run(&rt, alloc, &words, &mut tree, &mut heard, &OpenGate);
+    let status = if is_batch(&words) {
+        run_batch(&rt, alloc, &words, &mut tree, &mut heard, &OpenGate)
+    } else {
+        run(&rt, alloc, &words, &mut tree, &mut heard, &OpenGate)
+    };
     let _ = explain(&rt, alloc, words.as_slice(), &mut tree, &heard);
     ExitCode::from(status)
 }

@@ -11,7 +11,7 @@ use Rattle.pass_driver.specs.Optimised.{with_codes}
 use Rattle.pass_driver.specs.declared.optimising.Optimised.{Optimised}
 use Rattle.removal_laws.proofs.AcceptedSets.Taken.{are_taken}
 use Rattle.type_verifier.specs.Verified.{AreTyped}
-use Rattle.require_sys.specs.Required.{system_due}
+use Rattle.rule_system.specs.Required.{system_due}
 use Rattle.set_shrink.proofs.OneShrunk.{not_both_shrunk, one_limit, one_shrunk}
 use Rattle.set_shrink.specs.Texts.{texts_due}
 use Rattle.command_frame.proofs.OneStep.{IsOne, no_err, one_value, then_one}

@@ -16,8 +16,8 @@ use Rattle.pass_driver.specs.declared.optimising.Optimised.{Optimised}
 use Rattle.pair_laws.proofs.FilesFound.Found.{ascend_found}
 use Rattle.removal_laws.proofs.AcceptedSets.Taken.{are_taken}
 use Rattle.removal_laws.specs.AcceptedSets.Laws.{AreReadable}
-use Rattle.require_sys.specs.Required.{required}
-use Rattle.require_sys.proofs.SystemDue.{due_is}
+use Rattle.rule_system.specs.Required.{required}
+use Rattle.rule_system.proofs.SystemDue.{due_is}
 use Rattle.set_read.specs.Accepted.{IsAccepted}
 use Rattle.command_steps.proofs.Systems.{system_told}
 use Rattle.command_steps.specs.Sets.{AreClassFiles}

@@ -40,7 +40,7 @@ rules_by : (bytes witness : List ℕ) (read : Result Rules RuleFault) → config
 rules_by bytes witness (Ok rules) read = (Ok rules, config_found bytes witness rules read)
 rules_by bytes witness (Err fault) read = (Err (rules_refused fault), (fault, read, refl))
 
-some_configured : (files : Files) (config witness : List ℕ) → IsSome (IsConfigured files config witness)
+pub some_configured : (files : Files) (config witness : List ℕ) → IsSome (IsConfigured files config witness)
 some_configured files config witness =
     then_some (IsFile files quantity.Config config) (λ bytes. IsRules bytes witness)
     (some_value (bytes_in quantity.Config config (get files config)))
@@ -70,7 +70,7 @@ limit_by files directory false true long inputs e = (Err (passed quantity.Classe
 limit_by files directory false false true inputs e = (Err (passed quantity.Input), (TooLong, e, refl))
 limit_by files directory false false false inputs e = (Ok inputs, e)
 
-some_directory : (files : Files) (directory : List ℕ) → IsSome (IsDirectory files directory)
+pub some_directory : (files : Files) (directory : List ℕ) → IsSome (IsDirectory files directory)
 some_directory files directory =
     limit_by files directory (nat_lt 65536 (length (paths_below directory (keys files))))
     (nat_lt 20000 (length (class_paths files directory)))
@@ -84,7 +84,7 @@ bytes_told : (files : Files) (path : List ℕ) → HoldBytes files → (o : Opti
 bytes_told files path hold (Some bytes) there = hold path bytes there
 bytes_told files path hold None absent = λ i. omega arith
 
-bytes_of : (files : Files) (directory : List ℕ) → HoldBytes files → (paths : List (List ℕ))
+pub bytes_of : (files : Files) (directory : List ℕ) → HoldBytes files → (paths : List (List ℕ))
     → AllByRecursion (λ (f : FileAt). AreBytes f.bytes) (files_in files directory paths)
 bytes_of files directory hold [] = tt
 bytes_of files directory hold (p ∷ paths) = (
@@ -94,7 +94,7 @@ bytes_of files directory hold (p ∷ paths) = (
 )
 
 -- what files are read below a directory are its class files
-input_is : (all : List FileAt) (many more long : Bool) (inputs : List FileAt)
+pub input_is : (all : List FileAt) (many more long : Bool) (inputs : List FileAt)
     → (let R : Result (List FileAt) InputFault =
     cond many (Err TooManyFiles) (cond more (Err TooManyClasses) (cond long (Err TooLong) (Ok all))) in R) ≡ Ok inputs
     → all ≡ inputs
@@ -109,7 +109,7 @@ set_by : (directory : List ℕ) (inputs : List FileAt)
 set_by directory inputs (inl (classes, accepted)) = (Ok classes, accepted)
 set_by directory inputs (inr (fault, is)) = (Err (set_refused directory fault), (fault, is, refl))
 
-some_set : (files : Files) (directory : List ℕ) (inputs : List FileAt) → HoldBytes files
+pub some_set : (files : Files) (directory : List ℕ) (inputs : List FileAt) → HoldBytes files
     → IsDirectory files directory (Ok inputs) → IsSome (IsSet directory inputs)
 some_set files directory inputs hold due =
     let all : List FileAt = files_in files directory (class_paths files directory) in

@@ -14,7 +14,7 @@ use Rattle.optimised_laws.proofs.SomeOptimised.{some_optimised}
 use Rattle.pass_driver.specs.Optimised.{with_codes}
 use Rattle.pass_driver.specs.declared.optimising.Optimised.{Optimised}
 use Rattle.rename_map.specs.MappingOf.{mapping_of}
-use Rattle.require_sys.specs.Required.{system_due}
+use Rattle.rule_system.specs.Required.{system_due}
 use Rattle.set_shrink.specs.ShrunkSet.{AreFilesOf, PassLimit, counts_of, left_of, new_names, path_of}
 use Rattle.set_shrink.specs.Texts.{texts_due}
 use Rattle.set_shrink.specs.declared.shrunk.ShrunkSet.{ShrunkSet}

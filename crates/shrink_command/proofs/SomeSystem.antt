@@ -5,9 +5,9 @@ use Rattle.mark_core.specs.declared.system.System.{System}
 use Rattle.class_model.specs.declared.class.Class.{Class}
 use Rattle.class_pool.specs.Count.{item_count}
 use Rattle.keep_rules.specs.declared.rules.Rules.{Rules}
-use Rattle.require_sys.specs.Required.{system_due}
-use Rattle.require_sys.proofs.AskedThere.{required_valid}
-use Rattle.require_sys.proofs.SystemDue.{due_is}
+use Rattle.rule_system.specs.Required.{system_due}
+use Rattle.rule_system.proofs.AskedThere.{required_valid}
+use Rattle.rule_system.proofs.SystemDue.{due_is}
 
 pub due_valid : (classes : List Class) (rules : Rules) (sys : System) → system_due classes rules ≡ Ok sys → Valid sys
 due_valid classes rules sys h = subst Valid (sym (due_is classes rules sys h)) (required_valid classes rules)

@@ -15,7 +15,7 @@ use Rattle.mark_core.specs.declared.system.System.{System}
 use Rattle.pass_driver.specs.Optimised.{IsOptimisedIf, with_codes}
 use Rattle.pass_driver.specs.declared.optimising.Optimised.{Optimised}
 use Rattle.report_text.specs.Kinds.{limit_name}
-use Rattle.require_sys.specs.Required.{system_due}
+use Rattle.rule_system.specs.Required.{system_due}
 use Rattle.set_shrink.specs.ShrunkSet.{IsShrunk, PassesLimit}
 use Rattle.set_shrink.specs.Texts.{texts_due}
 use Rattle.set_shrink.specs.declared.shrunk.ShrunkSet.{ShrunkSet}

@@ -1,5 +1,6 @@
 // The command.
 ghost use Rattle.std.specs.Prelude.{◌≡◌};
+ghost use Rattle.std.specs.Thread.{IsSync};
 ghost use Rattle.command_frame.specs.Steps.{Finds, seen};
 ghost use Rattle.shrink_command.specs.Marking.{FindsMarks};
 ghost use Rattle.shrink_command.specs.Due.{FollowsOutput, FollowsRules, IsDue, IsEmptied};
@@ -12,6 +13,7 @@ use keep_rules::Rules;
 use mark_core::System;
 use mark_words::Marked;
 use std::alloc::Global;
+use std::thread::Threads;
 use tree_io::{ListFault, Tree};
 
 /// The files of `shrink CONFIG OUTWIT`, which keeps what the rules of a config keep of a directory of class files,
@@ -70,16 +72,21 @@ pub struct ShrinkFiles {
     pub witness: Text,
 }
 
-/// The command with who finds the marks of what is kept. What is due is a matter of the files alone.
+/// The command with its workers, and with who finds the marks of what is kept. What is due is a matter of the files
+/// alone.
 #[derive(Drop)]
-pub struct Shrinking<F> {
+pub struct Shrinking<'r, Rt, F> {
     pub files: ShrinkFiles,
+    /// Has the threads in which workers edit and write classes.
+    pub rt: &'r Rt,
+    /// How many of these there are.
+    pub workers: usize,
     /// Finds the least closed set of a system of requirements.
     pub mark: F,
 }
 
-impl<F: Fn(&System) -> M<Marked>> Command for Shrinking<F> {
-    ghost ready = { λ shrinking. FindsMarks (F.pre shrinking.mark) (F.post shrinking.mark) };
+impl<'r, Rt: Threads + Sync, F: Fn(&System) -> M<Marked>> Command for Shrinking<'r, Rt, F> {
+    ghost ready = { λ shrinking. IsSync Rt.row × FindsMarks (F.pre shrinking.mark) (F.post shrinking.mark) };
 
     ghost plans = { λ _ _. Unit {0} };
 
@@ -88,12 +95,22 @@ impl<F: Fn(&System) -> M<Marked>> Command for Shrinking<F> {
     fn due_plan<T: Tree>(&self, alloc: Global, tree: &mut T) -> Result<Plan, Stop> {
         let files = &self.files;
         let rules = find_config_apart(alloc, &files.config, &files.witness, tree)?;
-        shrink_by_rules(&self.mark, alloc, &rules, &files.witness, tree)
+        shrink_by_rules(
+            self.rt,
+            self.workers,
+            &self.mark,
+            alloc,
+            &rules,
+            &files.witness,
+            tree,
+        )
     }
 }
 
 /// The plan for the directories that rules name.
-fn shrink_by_rules<F: Fn(&System) -> M<Marked>, T: Tree>(
+fn shrink_by_rules<Rt: Threads + Sync, F: Fn(&System) -> M<Marked>, T: Tree>(
+    rt: &Rt,
+    workers: usize,
     mark: &F,
     alloc: Global,
     rules: &Rules,
@@ -106,11 +123,13 @@ fn shrink_by_rules<F: Fn(&System) -> M<Marked>, T: Tree>(
         (seen (T.files tree.new) (T.faults tree.new) (T.log tree.new)) }
 {
     check_empty(alloc, &rules.out_dir, tree)?;
-    shrink_input(mark, alloc, rules, witness, tree)
+    shrink_input(rt, workers, mark, alloc, rules, witness, tree)
 }
 
 /// The plan for the input directory, where the output directory is empty.
-fn shrink_input<F: Fn(&System) -> M<Marked>, T: Tree>(
+fn shrink_input<Rt: Threads + Sync, F: Fn(&System) -> M<Marked>, T: Tree>(
+    rt: &Rt,
+    workers: usize,
     mark: &F,
     alloc: Global,
     rules: &Rules,
@@ -123,11 +142,11 @@ fn shrink_input<F: Fn(&System) -> M<Marked>, T: Tree>(
         (seen (T.files tree.new) (T.faults tree.new) (T.log tree.new)) }
 {
     let inputs = find_files(alloc, &rules.in_dir, tree)?;
-    plan_of(mark, alloc, rules, witness, inputs)
+    plan_of(rt, workers, mark, alloc, rules, witness, inputs)
 }
 
 /// Whether no file lies below a directory.
-fn check_empty<T: Tree>(alloc: Global, directory: &Text, tree: &mut T) -> Result<(), Stop>
+pub fn check_empty<T: Tree>(alloc: Global, directory: &Text, tree: &mut T) -> Result<(), Stop>
     ensures { Finds result (λ fs. IsEmptied fs directory.now)
         (seen (T.files tree.old) (T.faults tree.old) (T.log tree.old))
         (seen (T.files tree.new) (T.faults tree.new) (T.log tree.new)) }

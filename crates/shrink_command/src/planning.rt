@@ -29,11 +29,14 @@ use rename_map::fixed_names;
 use report_text::limit_name;
 use set_shrink::{ShrunkSet, lists_of, shrink_classes, texts_of};
 use std::alloc::Global;
+use std::thread::Threads;
 use tree_io::FileAt;
 use witness_file::Witness;
 
-/// The plan for the class files of an input directory, by rules.
-pub(crate) fn plan_of<F: Fn(&System) -> M<Marked>>(
+/// The plan for the class files of an input directory, by rules. So many workers edit and write classes.
+pub fn plan_of<Rt: Threads + Sync, F: Fn(&System) -> M<Marked>>(
+    rt: &Rt,
+    workers: usize,
     mark: &F,
     alloc: Global,
     rules: &Rules,
@@ -45,11 +48,13 @@ pub(crate) fn plan_of<F: Fn(&System) -> M<Marked>>(
     ensures { Makes result (FollowsInput rules.now witness.now inputs) }
 {
     let set = set_of(alloc, &rules.in_dir, inputs)?;
-    set_plan(mark, alloc, rules, witness, set)
+    set_plan(rt, workers, mark, alloc, rules, witness, set)
 }
 
 /// The plan for a set.
-fn set_plan<F: Fn(&System) -> M<Marked>>(
+fn set_plan<Rt: Threads + Sync, F: Fn(&System) -> M<Marked>>(
+    rt: &Rt,
+    workers: usize,
     mark: &F,
     alloc: Global,
     rules: &Rules,
@@ -62,12 +67,14 @@ fn set_plan<F: Fn(&System) -> M<Marked>>(
 {
     let sys = requirements(alloc, rules, &set)?;
     let marked = mark(&sys)?;
-    kept_plan(alloc, rules, witness, set, &marked)
+    kept_plan(rt, workers, alloc, rules, witness, set, &marked)
 }
 
 /// The plan for a set of which the marked items are kept. The lists are made while the set is whole; that one of them
 /// is too long is told behind the limits of the classes.
-fn kept_plan(
+fn kept_plan<Rt: Threads + Sync>(
+    rt: &Rt,
+    workers: usize,
     alloc: Global,
     rules: &Rules,
     witness: &Text,
@@ -79,13 +86,17 @@ fn kept_plan(
     ensures { Makes result (FollowsMarks rules.now witness.now set marked.now) }
 {
     let lists = lists_of(alloc, &set, marked, rules);
-    let optimised = optimise_if(alloc, rules.optimise, &set, marked)?;
-    codes_plan(alloc, rules, witness, set, marked, optimised, lists)
+    let optimised = optimise_if(rt, workers, alloc, rules.optimise, &set, marked)?;
+    codes_plan(
+        rt, workers, alloc, rules, witness, set, marked, optimised, lists,
+    )
 }
 
 /// The plan for a set, where this becomes of the codes of what is kept. No rule looks at a code, so the names that stay
 /// are those of the set as it was read.
-fn codes_plan(
+fn codes_plan<Rt: Threads + Sync>(
+    rt: &Rt,
+    workers: usize,
     alloc: Global,
     rules: &Rules,
     witness: &Text,
@@ -109,7 +120,7 @@ fn codes_plan(
         fallback,
     } = optimised;
     let classes = with_codes(alloc, set.into_classes(), codes);
-    match shrink_classes(alloc, classes, &fixed, marked, rules) {
+    match shrink_classes(rt, workers, alloc, classes, &fixed, marked, rules) {
         Ok(shrunk) => joined(alloc, rules, witness, shrunk, &edits, fallback, lists),
         Err(Or::Fault(limit)) => {
             Err(Stop::Refused(passed_limit(alloc, limit_name(limit), most_written(limit))?))

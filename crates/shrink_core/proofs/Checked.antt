@@ -59,6 +59,7 @@ no_reason reason.Text h = omega (arith, h)
 no_reason reason.Entry h = omega (arith, h)
 no_reason reason.Differs h = omega (arith, h)
 no_reason reason.Item h = omega (arith, h)
+no_reason reason.Overlap h = omega (arith, h)
 
 no_stop : (stop : Stop) → status_of stop ≡ 0 → ⊥
 no_stop (Refused refusal) h = no_reason refusal.reason h

@@ -1,13 +1,14 @@
 // The command line: words in, a status out.
-ghost use Rattle.std.specs.Prelude.{◌≡◌, ◌⊎◌, ◌<◌, IfOk, Some, codes, false};
+ghost use Rattle.std.specs.Prelude.{◌≡◌, ◌≢◌, ◌⊎◌, ◌<◌, IfOk, Some, codes, false};
 ghost use Rattle.std.specs.Thread.{IsSync};
 ghost use Rattle.mark_core.specs.Marks.{Marks};
 ghost use Rattle.mark_core.specs.Valid.{Valid};
 ghost use Rattle.tree_io.specs.Count.{Rose};
 ghost use Rattle.tree_io.specs.Runs.{memory_faults};
+ghost use Rattle.command_frame.specs.Answer.{Ended};
 ghost use Rattle.command_frame.specs.Output.{SaysLine, outside, output};
 ghost use Rattle.command_words.specs.Words.{commanded};
-ghost use Rattle.shrink_core.specs.Commands.{Does, Ran, is_there};
+ghost use Rattle.shrink_core.specs.Commands.{Does, IsAny, PairIsDue, Ran, is_there};
 
 use check_command::CheckFiles;
 use command_frame::{run_command, say_line, say_no_memory};
@@ -27,7 +28,7 @@ use tree_io::{Gate, Sink, Tree};
 use why_command::WhyFiles;
 
 /// The most workers that there are.
-const MOST_WORKERS: u32 = 64;
+pub(crate) const MOST_WORKERS: u32 = 64;
 
 /// The most pairs of classes that `gen` makes.
 const MOST_PAIRS: u32 = 4000;
@@ -108,11 +109,7 @@ fn run_asked<Rt: Threads + Sync, T: Tree, S: Sink, G: Gate>(
             workers,
         } => {
             let files = ShrinkFiles { config, witness };
-            let mark = |sys: &System| -> M<Marked>
-                requires { IsSync Rt.row × IsSync G.row × Valid sys.now }
-                ensures { IfOk result (Marks sys.now) }
-            { mark_all(rt, alloc, sys, workers.clamp(1, MOST_WORKERS), gate) };
-            run_command(alloc, &Shrinking { files, mark }, tree, out)
+            run_shrink(rt, alloc, files, workers, tree, out, gate)
         }
         Command::Check { config, witness } => {
             run_command(alloc, &CheckFiles { config, witness }, tree, out)
@@ -158,8 +155,41 @@ fn run_asked<Rt: Threads + Sync, T: Tree, S: Sink, G: Gate>(
     }
 }
 
+/// Shrinks by the files that words name, with as many workers as they ask for.
+fn run_shrink<Rt: Threads + Sync, T: Tree, S: Sink, G: Gate>(
+    rt: &Rt,
+    alloc: Global,
+    files: ShrinkFiles,
+    workers: u32,
+    tree: &mut T,
+    out: &mut S,
+    gate: &G,
+) -> u8
+    ensures words { result ≢ 1 }
+    ensures device { result ≡ 7 → Rose (T.faults tree.old) (T.faults tree.new)
+        ⊎ Rose (S.faults out.old) (S.faults out.new) }
+    ensures memory { memory_faults (T.log tree.old) < memory_faults (T.log tree.new) → result ≡ 10 }
+    ensures ended { Ended IsAny (PairIsDue files) result
+        (outside (T.files tree.old) (T.faults tree.old) (T.log tree.old)
+        (output (S.written out.old) (S.faults out.old) (S.log out.old)))
+        (outside (T.files tree.new) (T.faults tree.new) (T.log tree.new)
+        (output (S.written out.new) (S.faults out.new) (S.log out.new))) }
+{
+    let mark = |sys: &System| -> M<Marked>
+        requires { IsSync Rt.row × IsSync G.row × Valid sys.now }
+        ensures { IfOk result (Marks sys.now) }
+    { mark_all(rt, alloc, sys, workers.clamp(1, MOST_WORKERS), gate) };
+    let shrinking = Shrinking {
+        files,
+        rt,
+        workers: workers.clamp(1, MOST_WORKERS) as usize,
+        mark,
+    };
+    run_command(alloc, &shrinking, tree, out)
+}
+
 /// Refuses words that ask for no command.
-fn refuse_words<S: Sink>(out: &mut S) -> u8
+pub(crate) fn refuse_words<S: Sink>(out: &mut S) -> u8
     ensures { SaysLine 1 (codes "error 1 words\n") result
         (output (S.written out.old) (S.faults out.old) (S.log out.old))
         (output (S.written out.new) (S.faults out.new) (S.log out.new)) }

@@ -17,7 +17,7 @@ use Rattle.why_kept.specs.declared.reasons.WhyStep.{WhyStep}
 use Rattle.class_model.specs.declared.class.Class.{Class}
 use Rattle.keep_rules.specs.declared.rules.Rules.{Rules}
 use Rattle.list_texts.specs.ItemTexts.{item_texts}
-use Rattle.require_sys.specs.Required.{required}
+use Rattle.rule_system.specs.Required.{required}
 use Rattle.command_frame.proofs.OneStep.{both_gave, no_err}
 use Rattle.command_frame.specs.Refusal.{passed}
 use Rattle.command_frame.specs.declared.command.Plan.{Plan}

@@ -7,7 +7,7 @@ use Rattle.why_kept.specs.Levels.{level_of}
 use Rattle.class_model.specs.declared.class.Class.{Class}
 use Rattle.keep_rules.specs.declared.rules.Rules.{Rules}
 use Rattle.list_texts.specs.ItemTexts.{item_texts}
-use Rattle.require_sys.specs.Required.{system_due}
+use Rattle.rule_system.specs.Required.{system_due}
 use Rattle.command_frame.proofs.OneStep.{IsOne, one_value, then_one}
 use Rattle.command_steps.proofs.OneStep.{one_configured, one_directory, one_taken}
 use Rattle.command_steps.specs.Config.{IsConfigured}

@@ -5,8 +5,8 @@ use Rattle.class_model.specs.declared.class.Class.{Class}
 use Rattle.keep_rules.specs.declared.rules.Rules.{Rules}
 use Rattle.list_texts.specs.ItemTexts.{item_texts}
 use Rattle.list_texts.proofs.Listing.{all_counted}
-use Rattle.require_sys.specs.Required.{required}
-use Rattle.require_sys.proofs.SystemDue.{due_is}
+use Rattle.rule_system.specs.Required.{required}
+use Rattle.rule_system.proofs.SystemDue.{due_is}
 use Rattle.command_steps.specs.System.{IsSystem}
 use Rattle.command_steps.proofs.Systems.{system_told}
 

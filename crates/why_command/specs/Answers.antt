@@ -11,7 +11,7 @@ use Rattle.class_model.specs.declared.class.Class.{Class}
 use Rattle.keep_rules.specs.declared.rules.Rules.{Rules}
 use Rattle.list_texts.specs.ItemTexts.{item_texts}
 use Rattle.set_read.specs.Accepted.{IsAccepted}
-use Rattle.require_sys.specs.Required.{required}
+use Rattle.rule_system.specs.Required.{required}
 use Rattle.command_frame.specs.declared.command.Plan.{Plan}
 use Rattle.command_steps.specs.Config.{IsConfigured}
 use Rattle.why_command.specs.Due.{AreReasons, IsDue}

@@ -11,7 +11,7 @@ use Rattle.keep_rules.specs.declared.rules.Rules.{Rules}
 use Rattle.mapping_file.specs.declared.mapping.Mapping.{Mapping}
 use Rattle.witness_file.specs.declared.witness.Witness.{Witness}
 use Rattle.attribute_filter.specs.KeptAttributes.{filter_of}
-use Rattle.require_sys.specs.Required.{required}
+use Rattle.rule_system.specs.Required.{required}
 use Rattle.rename_map.specs.Names.{AreFixed}
 use Rattle.pair_clauses.specs.Closing.{lined_items}
 use Rattle.pair_clauses.specs.declared.place.Place.{Place}

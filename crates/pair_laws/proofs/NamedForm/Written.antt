@@ -24,7 +24,7 @@ use Rattle.rename_map.specs.Names.{given_beside}
 use Rattle.rename_map.proofs.Stays.{reserved_class_stays, reserved_method_stays}
 use Rattle.pair_laws.specs.RenamedForm.GivenForm.{HasReserved}
 use Rattle.pair_laws.proofs.RenamedForm.GivenWritable.{given_writable}
-use Rattle.require_sys.specs.Required.{kept_by_rules, required}
+use Rattle.rule_system.specs.Required.{kept_by_rules, required}
 use Rattle.set_shrink.specs.Order.{AreApart}
 use Rattle.set_shrink.specs.ShrunkSet.{renamed_of}
 use Rattle.set_shrink.proofs.AllOrdered.{order_keeps_all}

@@ -22,7 +22,7 @@ use Rattle.pair_clauses.specs.Codes.{CodeDiffers}
 use Rattle.pair_clauses.specs.Members.{MemberDiffers}
 use Rattle.pass_driver.specs.Optimised.{with_codes}
 use Rattle.pass_driver.specs.declared.optimising.Optimised.{Optimised}
-use Rattle.require_sys.specs.Required.{required}
+use Rattle.rule_system.specs.Required.{required}
 use Rattle.set_shrink.specs.ShrunkSet.{left_of, new_names}
 use Rattle.shape_laws.specs.Bare.{bare}
 use Rattle.shape_laws.proofs.BareSets.{same}

@@ -8,7 +8,7 @@ use Rattle.keep_rules.specs.declared.rules.Rules.{Rules}
 use Rattle.optimised_laws.specs.Laws.{SetsByRulesAreSwapped, SetsByRulesAreTyped}
 use Rattle.pass_driver.specs.Optimised.{IsOptimisedIf, with_codes}
 use Rattle.pass_driver.specs.declared.optimising.Optimised.{Optimised}
-use Rattle.require_sys.specs.Required.{kept_by_rules, required}
+use Rattle.rule_system.specs.Required.{kept_by_rules, required}
 use Rattle.require_sys.specs.Requires.{requires}
 use Rattle.require_sys.specs.declared.kept.KeptByRules.{KeptByRules}
 use Rattle.shape_laws.proofs.BareSets.{same}

@@ -19,7 +19,7 @@ use Rattle.keep_rules.specs.declared.rules.Rules.{Rules}
 use Rattle.attribute_filter.specs.Filtered.{filtered}
 use Rattle.attribute_filter.specs.KeptAttributes.{filter_of}
 use Rattle.member_shrink.specs.Shrunk.{is_marked, shrunk}
-use Rattle.require_sys.specs.Required.{kept_by_rules, required}
+use Rattle.rule_system.specs.Required.{kept_by_rules, required}
 use Rattle.image_laws.specs.ShrunkImage.Keeping.{rank}
 use Rattle.image_laws.proofs.ShrunkImage.Classes.{class_at, f, p}
 use Rattle.image_laws.specs.TakenSet.TakenSet.{IsTaken}

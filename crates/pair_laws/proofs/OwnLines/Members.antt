@@ -18,7 +18,7 @@ use Rattle.attribute_filter.specs.Filtered.{without_lines}
 use Rattle.attribute_filter.specs.KeptAttributes.{filter_of}
 use Rattle.attribute_filter.specs.declared.filter.AttributeFilter.{AttributeFilter}
 use Rattle.member_shrink.specs.Shrunk.{is_marked}
-use Rattle.require_sys.specs.Required.{required}
+use Rattle.rule_system.specs.Required.{required}
 use Rattle.image_laws.proofs.ShrunkImage.Kept.{as_filter, kept_of}
 use Rattle.image_laws.specs.TakenSet.TakenSet.{IsTaken}
 use Rattle.mapping_file.specs.declared.mapping.Mapping.{Mapping}

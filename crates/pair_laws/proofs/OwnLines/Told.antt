@@ -22,7 +22,7 @@ use Rattle.class_pool.specs.declared.id.ClassId.TheVariants.{Prog}
 use Rattle.class_pool.proofs.Distinct.{position_at}
 use Rattle.keep_rules.specs.declared.rules.Rules.{Rules}
 use Rattle.member_shrink.specs.Shrunk.{chosen, is_marked, shrunk}
-use Rattle.require_sys.specs.Required.{kept_by_rules, required}
+use Rattle.rule_system.specs.Required.{kept_by_rules, required}
 use Rattle.require_sys.proofs.Closing.{field_in, method_in}
 use Rattle.image_laws.proofs.ShrunkImage.Classes.{f, p}
 use Rattle.image_laws.proofs.ShrunkImage.Kept.{as_filter}

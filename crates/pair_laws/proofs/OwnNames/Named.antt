@@ -34,7 +34,7 @@ use Rattle.rename_map.proofs.Stays.{reserved_method_stays}
 use Rattle.pair_laws.specs.RenamedForm.Form.{KeepsForm}
 use Rattle.pair_laws.proofs.RenamedForm.Given.{given_form}
 use Rattle.pair_laws.specs.RenamedImage.Renaming.{KeepsNamesApart}
-use Rattle.require_sys.specs.Required.{kept_by_rules, required}
+use Rattle.rule_system.specs.Required.{kept_by_rules, required}
 use Rattle.image_laws.specs.TakenSet.TakenSet.{IsTaken}
 use Rattle.pair_laws.specs.OwnNames.Laws.{NewNamesKeepForm, NewNamesStayApart, kept_of}
 use Rattle.pair_laws.proofs.OwnNames.Apart.{AreFieldNames, given_apart, same_apart}

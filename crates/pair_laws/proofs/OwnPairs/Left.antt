@@ -9,7 +9,7 @@ use Rattle.class_pool.specs.Faults.{classes_of}
 use Rattle.class_pool.specs.declared.fault.NamedClass.{NamedClass}
 use Rattle.keep_rules.specs.declared.rules.Rules.{Rules}
 use Rattle.attribute_filter.specs.KeptAttributes.{filter_of}
-use Rattle.require_sys.specs.Required.{kept_by_rules, required}
+use Rattle.rule_system.specs.Required.{kept_by_rules, required}
 use Rattle.class_rename.specs.Names.{Names}
 use Rattle.set_shrink.specs.Order.{class_path}
 use Rattle.set_shrink.specs.ShrunkSet.{left_of, new_names}

@@ -16,7 +16,7 @@ use Rattle.set_shrink.specs.declared.shrunk.ShrunkSet.{ShrunkSet}
 use Rattle.image_laws.specs.TakenSet.TakenSet.{IsTaken}
 use Rattle.type_sound.proofs.Whole.{same_whole}
 use Rattle.removal_laws.proofs.AcceptedSets.Taken.{are_taken}
-use Rattle.require_sys.specs.Required.{required}
+use Rattle.rule_system.specs.Required.{required}
 use Rattle.pair_checker.specs.Clauses.{Finds}
 use Rattle.pair_checker.specs.PairOk.{PairOk}
 use Rattle.pair_checker.specs.declared.answer.Clause.{Clause}

@@ -18,7 +18,7 @@ use Rattle.class_write.proofs.SpellingLaw.{written_spells}
 use Rattle.keep_rules.specs.declared.rules.Rules.{Rules}
 use Rattle.attribute_filter.specs.Filtered.{filtered}
 use Rattle.attribute_filter.specs.KeptAttributes.{filter_of}
-use Rattle.require_sys.specs.Required.{required}
+use Rattle.rule_system.specs.Required.{required}
 use Rattle.set_read.specs.Accepted.{AreRead}
 use Rattle.set_shrink.specs.Order.{class_path, in_order}
 use Rattle.set_shrink.specs.ShrunkSet.{AreFilesOf, left_of, renamed_of}

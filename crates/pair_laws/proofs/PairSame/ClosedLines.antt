@@ -18,8 +18,8 @@ use Rattle.mark_core.specs.declared.system.System.{System}
 use Rattle.class_model.specs.declared.class.Class.{Class}
 use Rattle.class_pool.specs.Count.{item_count, items_of}
 use Rattle.keep_rules.specs.declared.rules.Rules.{Rules}
-use Rattle.require_sys.specs.Required.{required}
-use Rattle.require_sys.proofs.AskedThere.{required_valid}
+use Rattle.rule_system.specs.Required.{required}
+use Rattle.rule_system.proofs.AskedThere.{required_valid}
 use Rattle.require_sys.proofs.Parts.{all_enumerated, all_flat_map}
 use Rattle.new_names.specs.declared.class_names.ClassNames.{ClassNames}
 use Rattle.pair_clauses.specs.Closing.{closed_fault, has_line, lacking, least, lesser, lined_items, lost_seed, needed}

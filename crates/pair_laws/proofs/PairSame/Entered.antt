@@ -10,7 +10,7 @@ use Rattle.new_names.specs.NewNames.{names_of}
 use Rattle.mark_core.specs.Marks.{set_of}
 use Rattle.jvm_model.specs.Value.{Key}
 use Rattle.image_laws.proofs.ViewImage.Naming.{member_is}
-use Rattle.require_sys.specs.Required.{kept_by_rules, required}
+use Rattle.rule_system.specs.Required.{kept_by_rules, required}
 use Rattle.image_laws.specs.ShrunkImage.Keeping.{is_member_kept}
 use Rattle.removal_laws.proofs.RemovalImage.Marked.{member_kept, stands_there}
 use Rattle.image_laws.specs.TakenSet.TakenSet.{IsTaken}

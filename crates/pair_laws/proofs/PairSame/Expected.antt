@@ -24,7 +24,7 @@ use Rattle.attribute_filter.specs.Filtered.{code_kept, without_line, without_lin
 use Rattle.attribute_filter.specs.KeptAttributes.{filter_of}
 use Rattle.attribute_filter.specs.declared.filter.AttributeFilter.{AttributeFilter}
 use Rattle.keep_rules.specs.declared.rules.Rules.{Rules}
-use Rattle.require_sys.specs.Required.{kept_by_rules, required}
+use Rattle.rule_system.specs.Required.{kept_by_rules, required}
 use Rattle.mark_core.specs.Marks.{Closed, set_of}
 use Rattle.member_shrink.specs.Shrunk.{is_marked, shrunk}
 use Rattle.image_laws.proofs.ShrunkImage.Classes.{f}

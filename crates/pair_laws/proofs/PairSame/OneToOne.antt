@@ -10,7 +10,7 @@ use Rattle.class_pool.specs.declared.id.MemberAt.{MemberAt}
 use Rattle.class_rename.specs.Names.{Names}
 use Rattle.lib_table.specs.Library.{library}
 use Rattle.link_check.specs.Profile.{is_of_library}
-use Rattle.require_sys.specs.Required.{kept_by_rules}
+use Rattle.rule_system.specs.Required.{kept_by_rules}
 use Rattle.require_sys.specs.declared.kept.KeptByRules.{KeptByRules}
 use Rattle.set_view.specs.ViewOf.{key_at}
 use Rattle.image_laws.specs.SetImage.Image.{Image}

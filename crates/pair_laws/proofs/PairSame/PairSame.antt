@@ -2,7 +2,7 @@
 use Rattle.class_model.specs.declared.class.Class.{Class}
 use Rattle.keep_rules.specs.declared.rules.Rules.{Rules}
 use Rattle.mapping_file.specs.declared.mapping.Mapping.{Mapping}
-use Rattle.require_sys.specs.Required.{kept_by_rules}
+use Rattle.rule_system.specs.Required.{kept_by_rules}
 use Rattle.std.proofs.Common.{List}
 use Rattle.image_laws.specs.TakenSet.TakenSet.{IsTaken}
 use Rattle.pair_laws.specs.RenamedSame.Laws.{IsLeftUnderNames}

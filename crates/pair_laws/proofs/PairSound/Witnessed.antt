@@ -104,7 +104,7 @@ found_holds P test (x ∷ es) all e h = by (test x) h (found_holds P test es all
 
 -- ---- acts that are legal
 
-legal_right : (p : Pass) (acts : List Act) (code : Code) → AreLegal p acts code → AreRightActs p acts code
+pub legal_right : (p : Pass) (acts : List Act) (code : Code) → AreLegal p acts code → AreRightActs p acts code
 legal_right p acts code h = all_from (IsRightAct p acts code) acts (λ k a at. (h k a at).0)
 
 steps_right : (steps : List PassEdits) (code : Code) → AreLegalSteps steps code → AreRightSteps steps code

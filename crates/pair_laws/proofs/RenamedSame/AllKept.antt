@@ -28,7 +28,7 @@ use Rattle.jvm_model.proofs.Compose.{line_refl}
 use Rattle.member_shrink.specs.Shrunk.{chosen, is_marked, shrunk}
 use Rattle.require_sys.specs.Requires.{requires}
 use Rattle.require_sys.specs.declared.kept.KeptByRules.{KeptByRules}
-use Rattle.require_sys.proofs.Validity.{system_valid}
+use Rattle.rule_system.proofs.Validity.{system_valid}
 use Rattle.image_laws.proofs.ShrunkImage.Classes.{f, p}
 use Rattle.image_laws.proofs.ShrunkImage.Kept.{as_filter, kept_of}
 use Rattle.pair_laws.specs.RenamedImage.Renaming.{IsNewClass, IsNewField, IsNewMethod, IsRenamedSet, KeepsNamesApart}

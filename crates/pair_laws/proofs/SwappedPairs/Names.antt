@@ -16,7 +16,7 @@ use Rattle.link_check.specs.Profile.{is_of_library}
 use Rattle.keep_rules.specs.declared.rules.Rules.{Rules}
 use Rattle.mapping_file.specs.declared.mapping.Mapping.{Mapping}
 use Rattle.member_shrink.specs.Shrunk.{is_marked}
-use Rattle.require_sys.specs.Required.{kept_by_rules, required}
+use Rattle.rule_system.specs.Required.{kept_by_rules, required}
 use Rattle.require_sys.specs.Requires.{seeds_of}
 use Rattle.class_rename.specs.Names as class_rename
 use Rattle.new_names.specs.NewNames.{names_of}

@@ -4,7 +4,7 @@ use Rattle.mark_core.specs.Marks.{Closed, set_of}
 use Rattle.class_model.specs.declared.class.Class.{Class}
 use Rattle.keep_rules.specs.declared.rules.Rules.{Rules}
 use Rattle.attribute_filter.specs.KeptAttributes.{filter_of}
-use Rattle.require_sys.specs.Required.{kept_by_rules, required}
+use Rattle.rule_system.specs.Required.{kept_by_rules, required}
 use Rattle.require_sys.specs.Requires.{requires}
 use Rattle.require_sys.specs.declared.kept.KeptByRules.{KeptByRules}
 use Rattle.mapping_file.specs.declared.mapping.Mapping.{Mapping}

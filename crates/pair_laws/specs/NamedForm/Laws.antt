@@ -16,7 +16,7 @@ use Rattle.image_laws.specs.TakenSet.TakenSet.{IsTaken}
 use Rattle.pass_driver.specs.Optimised.{IsOptimisedIf, with_codes}
 use Rattle.pass_driver.specs.declared.optimising.Optimised.{Optimised}
 use Rattle.rename_map.specs.Names.{AreFixed}
-use Rattle.require_sys.specs.Required.{required}
+use Rattle.rule_system.specs.Required.{required}
 use Rattle.set_shrink.specs.Order.{in_order}
 use Rattle.set_shrink.specs.ShrunkSet.{renamed_of}
 

@@ -10,7 +10,7 @@ use Rattle.class_pool.specs.Count.{item_count}
 use Rattle.class_pool.specs.Items.{class_item}
 use Rattle.keep_rules.specs.declared.rules.Rules.{Rules}
 use Rattle.attribute_filter.specs.KeptAttributes.{filter_of}
-use Rattle.require_sys.specs.Required.{required}
+use Rattle.rule_system.specs.Required.{required}
 use Rattle.member_shrink.specs.Shrunk.{is_marked}
 use Rattle.mapping_file.specs.declared.mapping.Mapping.{Mapping}
 use Rattle.class_rename.specs.Names.{Names}

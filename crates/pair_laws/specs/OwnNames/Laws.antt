@@ -10,7 +10,7 @@ use Rattle.keep_rules.specs.declared.rules.Rules.{Rules}
 use Rattle.member_shrink.specs.Shrunk.{shrunk}
 use Rattle.attribute_filter.specs.Filtered.{filtered}
 use Rattle.attribute_filter.specs.KeptAttributes.{filter_of}
-use Rattle.require_sys.specs.Required.{required}
+use Rattle.rule_system.specs.Required.{required}
 use Rattle.mapping_file.specs.declared.mapping.Mapping.{Mapping}
 use Rattle.image_laws.specs.TakenSet.TakenSet.{IsTaken}
 use Rattle.class_rename.specs.Renamed.{renamed}

@@ -8,7 +8,7 @@ use Rattle.class_pool.specs.Count.{item_count}
 use Rattle.keep_rules.specs.declared.rules.Rules.{Rules}
 use Rattle.pass_driver.specs.Optimised.{IsOptimisedIf, with_codes}
 use Rattle.pass_driver.specs.declared.optimising.Optimised.{Optimised}
-use Rattle.require_sys.specs.Required.{required}
+use Rattle.rule_system.specs.Required.{required}
 use Rattle.set_read.specs.Accepted.{IsAccepted}
 use Rattle.removal_laws.specs.AcceptedSets.Laws.{AreReadable}
 use Rattle.pair_laws.specs.FilesFound.Below.{AreBelow}

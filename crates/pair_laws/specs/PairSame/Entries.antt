@@ -5,7 +5,7 @@ use Rattle.class_model.specs.declared.class.Class.{Class}
 use Rattle.class_pool.specs.Items.{item_of}
 use Rattle.class_pool.specs.declared.id.MemberAt.{MemberAt}
 use Rattle.keep_rules.specs.declared.rules.Rules.{Rules}
-use Rattle.require_sys.specs.Required.{required}
+use Rattle.rule_system.specs.Required.{required}
 use Rattle.jvm_model.specs.Value.{Key}
 use Rattle.set_view.specs.ViewOf.{is_startable, member_of}
 

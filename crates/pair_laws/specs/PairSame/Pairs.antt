@@ -4,7 +4,7 @@ use Rattle.std.specs.Prelude.{◌≡◌, List, None}
 use Rattle.class_model.specs.declared.class.Class.{Class}
 use Rattle.keep_rules.specs.declared.rules.Rules.{Rules}
 use Rattle.attribute_filter.specs.KeptAttributes.{filter_of}
-use Rattle.require_sys.specs.Required.{required}
+use Rattle.rule_system.specs.Required.{required}
 use Rattle.mapping_file.specs.declared.mapping.Mapping.{Mapping}
 use Rattle.pair_clauses.specs.Closing.{closed_fault, seed_fault}
 use Rattle.pair_clauses.specs.Codes.{CodeDiffers}

@@ -1,5 +1,6 @@
 -- What the steps give on the way to what is written of a set (only the proof of shrink_classes needs it).
 use Rattle.std.specs.Prelude.{◌≡◌, ℕ, List, Result, Ok, Err, map}
+use Rattle.std.specs.List.{AllZip}
 use Rattle.jv_base.specs.declared.outcome.Or.{Or}
 use Rattle.jv_base.specs.declared.outcome.Or.TheVariants.{Fault, OutOfMemory}
 use Rattle.tree_io.specs.declared.file_at.FileAt.{FileAt}
@@ -27,6 +28,10 @@ abbrev pub WritesOne : Result FileAt (Or WriteLimit) → Class → List ℕ → 
 WritesOne (Ok f) class directory = IsFileOf directory class f
 WritesOne (Err (Fault limit)) class directory = class_written class ≡ Err limit
 WritesOne (Err OutOfMemory) class directory = Unit {0}
+
+-- for each class its file
+abbrev pub AreEachWritten : List ℕ → List Class → List (Result FileAt (Or WriteLimit)) → Type 0
+AreEachWritten directory classes all = AllZip (λ c file. WritesOne file c directory) classes all
 
 -- the files of classes under new names, in the order of their paths, and the mapping; or the first limit that one
 -- passes

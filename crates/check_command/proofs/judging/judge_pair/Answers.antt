@@ -1,5 +1,5 @@
 use Rattle.std.proofs.Common.{Err, ap}
-use Rattle.require_sys.proofs.SystemDue.{due_is}
+use Rattle.rule_system.proofs.SystemDue.{due_is}
 use Rattle.command_frame.specs.Refusal.{absent_by}
 use Rattle.command_steps.proofs.Systems.{system_told}
 use Rattle.check_command.specs.Due.{differs}

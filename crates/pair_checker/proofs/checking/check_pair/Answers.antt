@@ -1,4 +1,4 @@
-use Rattle.require_sys.proofs.SystemDue.{due_is}
+use Rattle.rule_system.proofs.SystemDue.{due_is}
 use Rattle.pair_checker.proofs.checking.check_pair.Goals as goal
 
 pub check_required-requires-clause-required : goal.check_required-requires-clause-required

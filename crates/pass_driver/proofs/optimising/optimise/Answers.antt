@@ -1,36 +1,76 @@
-use Rattle.std.proofs.Common.{◌≡◌, ◌<◌, List, ◌∙◌, sym, subst, take, length, arith}
-use Rattle.std.specs.Prelude.{slice_index_or}
+use Rattle.std.proofs.Common.{rules, ◌≡◌, [], List, ap, length, refl, subst, sym, ◌∙◌, arith}
 use Rattle.std.specs.List.{AllByRecursion}
-use Rattle.pass_driver.specs.Optimised.{AreDone, spots}
+use Rattle.std.specs.Vec.Iter.{into_iter_items}
+use Rattle.std.proofs.lemmas.List.{nil_from_length}
+use Rattle.pass_driver.specs.Optimised.{as_it_is, spots}
+use Rattle.pass_driver.specs.bodies.Parts.{ArePartsDone}
 use Rattle.pass_driver.specs.bodies.Spotted.{IsSpot}
+use Rattle.pass_driver.specs.declared.optimising.Optimised.{Optimised}
 use Rattle.pass_driver.specs.declared.spots.Spot.{Spot}
-use Rattle.pass_driver.proofs.Spotting.{all_spotted, done_next, few_for, has_at, taken_more}
+use Rattle.pass_driver.proofs.Parting.{IsJoining, joins_all, joins_few, joins_more, joins_none}
+use Rattle.pass_driver.proofs.Spotting.{all_spotted}
 use Rattle.pass_driver.proofs.optimising.optimise.Goals as goal
 
-pub put_spot-requires-clause-there : goal.put_spot-requires-clause-there
-put_spot-requires-clause-there c =
-    let items = c.as_slice-spot-items.result.now in
-    let are : items ≡ spots c.as_slice.result.now c.args.set.now =
-    c.as_slice-spot-items.ensures ∙ c.in_ok-spots.ensures in
-    let lt : c.loop-spot.spot-index < length items = omega (arith, c.loop-spot-test.true) in
-    has_at (IsSpot c.args.set.now) items c.loop-spot.spot-index (record { class = 0; method = 0 })
-    (subst (λ (l : List Spot). AllByRecursion (IsSpot c.args.set.now) l) (sym are)
-    (all_spotted c.as_slice.result.now c.args.set.now))
-    lt
+pub optimise_parts-requires-clause-there : goal.optimise_parts-requires-clause-there
+optimise_parts-requires-clause-there g c κs within =
+    subst (λ (l : List Spot). AllByRecursion (IsSpot c.args.set.now) l)
+    (sym (c.as_slice-2.ensures ∙ c.in_ok-spots.ensures)) (all_spotted c.as_slice.result.now c.args.set.now)
 
-pub loop-spot-preserved : goal.loop-spot-preserved
-loop-spot-preserved c =
-    let items = c.as_slice-spot-items.result.now in
-    let k = c.loop-spot.spot-index in
-    let lt : k < length items = omega (arith, c.loop-spot-test.true) in
-    let s : Spot = slice_index_or items k (record { class = 0; method = 0 }) in
-    let h = c.in_ok-optimised.ensures in
-    let new = c.in_ok-optimised.optimised in
-    let fallback = h.fallback in
-    let few = few_for h.outcome in
+pub loop-part-init : goal.loop-part-init
+loop-part-init g c =
+    let set = c.args.set.now in
+    let all = spots c.args.marked.now set in
+    let are = c.as_slice-2.ensures ∙ c.in_ok-spots.ensures
+    ∙ ap (λ marks. spots marks set) (c.as_slice.ensures ∙ c.marks.ensures) in
+    let parts = c.in_ok-parts.parts.items in
+    let given : into_iter_items c.into_iter-part-iterator.result ≡ parts = c.into_iter-part-iterator.ensures.into_iter_gives.0 in
     record {
-      done = subst (λ (l : List Spot). AreDone c.args.set.now l new.codes new.witness.methods new.fallback)
-          (taken_more items k (record { class = 0; method = 0 }) lt)
-          (done_next c.args.set.now s c.loop-spot.optimised new h (take k items) c.loop-spot.invariant.done);
-      few = omega (arith, fallback, few, c.loop-spot.invariant.few);
+      joining =
+          subst (λ (o : Optimised). IsJoining set all o (into_iter_items c.into_iter-part-iterator.result))
+          (sym c.new-optimised.ensures)
+          (subst (λ (l : List Optimised). IsJoining set all as_it_is l) (sym given)
+          (joins_none set all as_it_is parts (refl, refl, refl)
+          (subst (λ (l : List Spot). ArePartsDone set l parts) are c.in_ok-parts.ensures)));
+      counted = search rules;
     }
+
+pub put_part-requires : goal.put_part-requires
+put_part-requires g c =
+    let o = c.loop-part.optimised in
+    let all = spots c.args.marked.now c.args.set.now in
+    let rest : List Optimised = into_iter_items c.next.new.self in
+    let before = subst (λ (l : List Optimised). IsJoining c.args.set.now all o l) c.in-Some.ensures.steps.0
+    c.loop-part.invariant.joining in
+    let few = joins_few c.args.set.now all o c.in-Some.part rest before in
+    let same = ap (λ (l : List Spot). length l)
+    (c.in_ok-spots.ensures ∙ ap (λ marks. spots marks c.args.set.now) (c.as_slice.ensures ∙ c.marks.ensures)) in
+    omega (arith, few, same, c.len.ensures)
+
+pub loop-part-preserved : goal.loop-part-preserved
+loop-part-preserved g c =
+    let o = c.loop-part.optimised in
+    let all = spots c.args.marked.now c.args.set.now in
+    let rest : List Optimised = into_iter_items c.next.new.self in
+    let before = subst (λ (l : List Optimised). IsJoining c.args.set.now all o l) c.in-Some.ensures.steps.0
+    c.loop-part.invariant.joining in
+    let h = c.in_ok-optimised.ensures in
+    record {
+      joining =
+          joins_more c.args.set.now all o c.in-Some.part rest before c.in_ok-optimised.optimised h.codes h.entries
+          h.fallback;
+      counted = omega (
+        arith,
+        c.in-Some.ensures.steps.1,
+        c.loop-part.invariant.counted,
+        ap length c.in-Some.ensures.steps.0,
+      );
+    }
+
+pub returns : goal.returns
+returns g c =
+    let set = c.args.set.now in
+    let all = spots c.args.marked.now set in
+    let o = c.loop-part.optimised in
+    let left : List Optimised = into_iter_items c.loop-part.part-iterator in
+    let none : left ≡ [] = nil_from_length left (sym c.loop-part.invariant.counted ∙ c.in-None.ensures.steps.0) in
+    joins_all set all o (subst (λ (l : List Optimised). IsJoining set all o l) none c.loop-part.invariant.joining)

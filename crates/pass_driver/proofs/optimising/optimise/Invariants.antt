@@ -1,9 +1,11 @@
-use Rattle.std.proofs.Common.{◌≡◌, ◌≤◌, take}
-use Rattle.pass_driver.specs.Optimised.{AreDone}
+use Rattle.std.proofs.Common.{◌≡◌, length}
+use Rattle.std.specs.Vec.Iter.{into_iter_items, into_iter_len}
+use Rattle.pass_driver.specs.Optimised.{spots}
+use Rattle.pass_driver.proofs.Parting.{IsJoining}
 use Rattle.pass_driver.proofs.optimising.optimise.Given as goal
 
-abbrev pub invariant-loop-spot : goal.invariant-loop-spot
-invariant-loop-spot l = record {
-  done : AreDone l.set (take l.spot-index l.spot-items) l.optimised.codes l.optimised.witness.methods l.optimised.fallback;
-  few : l.optimised.fallback ≤ l.spot-index;
+abbrev pub invariant-loop-part : goal.invariant-loop-part
+invariant-loop-part g l = record {
+  joining : IsJoining l.set (spots l.marked l.set) l.optimised (into_iter_items l.part-iterator);
+  counted : into_iter_len l.part-iterator ≡ length (into_iter_items l.part-iterator);
 }

@@ -8,11 +8,9 @@ use Rattle.class_laws.specs.SpellingLaws.{IsWritable}
 use Rattle.set_shrink.proofs.Kept.{ordered_writable}
 use Rattle.set_shrink.proofs.renaming.written_named.Goals as goal
 
-pub files_of-requires : goal.files_of-requires
-files_of-requires c = record {
-  writable =
-      let filter = c.in_ok-filter.filter in
-      subst (λ (cs : List Class). AllByRecursion IsWritable (map (filtered filter) cs)) (sym c.in_ok-classes.ensures)
-      (ordered_writable filter (map (renamed (names_in c.args.names.now)) c.args.kept) c.in_ok-filter.ensures.name
-      c.requires.writable);
-}
+pub files_of-requires-clause-writable : goal.files_of-requires-clause-writable
+files_of-requires-clause-writable g c κs within =
+    let filter = c.in_ok-filter.filter in
+    subst (λ (cs : List Class). AllByRecursion IsWritable (map (filtered filter) cs)) (sym c.in_ok-classes.ensures)
+    (ordered_writable filter (map (renamed (names_in c.args.names.now)) c.args.kept) c.in_ok-filter.ensures.name
+    c.requires.writable)

@@ -8,22 +8,20 @@ use Rattle.set_shrink.proofs.Named.{named_shrunk, named_stops, named_writable}
 use Rattle.set_shrink.proofs.shrunk.shrink_classes.Goals as goal
 
 pub counts_of-counts-requires : goal.counts_of-counts-requires
-counts_of-counts-requires c = record {
+counts_of-counts-requires g c = record {
   few =
       let few = shrunk_few c.args.classes c.args.marked.now in
       let kept = ap item_count (c.as_slice-2.ensures ∙ c.in_ok-kept.ensures) in
       omega (arith, few, kept, c.requires.few);
 }
 
-pub written_named-requires : goal.written_named-requires
-written_named-requires c = record {
-  writable = named_writable c.args.classes c.args.marked.now c.args.rules.now (names_in c.in_ok-names.names)
-      c.in_ok-kept.kept c.in_ok-kept.ensures
-      (c.in_ok-names.ensures c.args.rules.now c.args.classes c.requires.fixed) c.requires.writable;
-}
+pub written_named-requires-clause-writable : goal.written_named-requires-clause-writable
+written_named-requires-clause-writable g c κs within =
+    named_writable c.args.classes c.args.marked.now c.args.rules.now (names_in c.in_ok-names.names) c.in_ok-kept.kept
+    c.in_ok-kept.ensures (c.in_ok-names.ensures c.args.rules.now c.args.classes c.requires.fixed) c.requires.writable
 
 pub returns-in_err-written : goal.returns-in_err-written
-returns-in_err-written c =
+returns-in_err-written g c =
     let p = err_from_is_err_and c.from_residual-in_err-written.result c.from_residual-in_err-written.ensures.1 in
     record {
       exact = rw (p.1, p.2)
@@ -33,7 +31,7 @@ returns-in_err-written c =
     }
 
 pub returns : goal.returns
-returns c = record {
+returns g c = record {
   exact = named_shrunk c.args.classes c.args.marked.now c.args.rules.now (names_in c.in_ok-names.names)
       c.in_ok-kept.kept c.in_ok-kept.ensures
       (c.in_ok-names.ensures c.args.rules.now c.args.classes c.requires.fixed) c.in_ok-written.written

@@ -17,7 +17,7 @@ use Rattle.shrink_command.proofs.Planned.{codes_so, kept_count}
 use Rattle.shrink_command.proofs.planning.codes_plan.Goals as goal
 
 pub shrink_classes-requires-clause-few : goal.shrink_classes-requires-clause-few
-shrink_classes-requires-clause-few c =
+shrink_classes-requires-clause-few g c κs within =
     let so = codes_so c.optimised_can_be_written.ensures c.args.set c.args.rules.now c.args.marked.now c.args.optimised
     c.requires.given c.requires.kept c.requires.optimised in
     let are = c.with_codes-classes.ensures ∙ ap (with_codes c.args.optimised.codes) c.into_classes.ensures in
@@ -26,14 +26,14 @@ shrink_classes-requires-clause-few c =
     subst (λ (cs : List Class). item_count cs < 4294967295) (sym are) (omega (arith, count, few))
 
 pub shrink_classes-requires-clause-marks : goal.shrink_classes-requires-clause-marks
-shrink_classes-requires-clause-marks c =
+shrink_classes-requires-clause-marks g c κs within =
     let so = codes_so c.optimised_can_be_written.ensures c.args.set c.args.rules.now c.args.marked.now c.args.optimised
     c.requires.given c.requires.kept c.requires.optimised in
     let are = c.with_codes-classes.ensures ∙ ap (with_codes c.args.optimised.codes) c.into_classes.ensures in
     kept_count c.args.rules.now c.args.set c.args.marked.now c.requires.kept ∙ sym so.count ∙ sym (ap item_count are)
 
 pub shrink_classes-requires-clause-fixed : goal.shrink_classes-requires-clause-fixed
-shrink_classes-requires-clause-fixed c =
+shrink_classes-requires-clause-fixed g c κs within =
     let so = codes_so c.optimised_can_be_written.ensures c.args.set c.args.rules.now c.args.marked.now c.args.optimised
     c.requires.given c.requires.kept c.requires.optimised in
     let are = c.with_codes-classes.ensures ∙ ap (with_codes c.args.optimised.codes) c.into_classes.ensures in
@@ -41,7 +41,7 @@ shrink_classes-requires-clause-fixed c =
     (so.fixed c.in_ok-fixed.fixed c.in_ok-fixed.ensures)
 
 pub shrink_classes-requires-clause-writable : goal.shrink_classes-requires-clause-writable
-shrink_classes-requires-clause-writable c =
+shrink_classes-requires-clause-writable g c κs within =
     let so = codes_so c.optimised_can_be_written.ensures c.args.set c.args.rules.now c.args.marked.now c.args.optimised
     c.requires.given c.requires.kept c.requires.optimised in
     let are = c.with_codes-classes.ensures ∙ ap (with_codes c.args.optimised.codes) c.into_classes.ensures in
@@ -49,7 +49,7 @@ shrink_classes-requires-clause-writable c =
     so.writable
 
 pub returns-in-Ok : goal.returns-in-Ok
-returns-in-Ok c =
+returns-in-Ok g c =
     let are = c.with_codes-classes.ensures ∙ ap (with_codes c.args.optimised.codes) c.into_classes.ensures in
     let edits = c.args.optimised.witness in
     then_makes (IsWritten c.args.rules.now (with_codes c.args.optimised.codes c.args.set) c.args.marked.now)
@@ -60,7 +60,7 @@ returns-in-Ok c =
     (c.joined.ensures (lists_due c.args.set c.args.marked.now c.args.rules.now) c.requires.lists)
 
 pub returns-in-Err-Fault : goal.returns-in-Err-Fault
-returns-in-Err-Fault c =
+returns-in-Err-Fault g c =
     let are = c.with_codes-classes.ensures ∙ ap (with_codes c.args.optimised.codes) c.into_classes.ensures in
     let same = c.in_ok-passed_limit-in-Err-Fault.ensures in (
       ap absent_by same,

@@ -6,7 +6,7 @@ use Rattle.shrink_command.proofs.Planned.{given_set}
 use Rattle.shrink_command.proofs.planning.plan_of.Goals as goal
 
 pub set_plan-requires-clause-given : goal.set_plan-requires-clause-given
-set_plan-requires-clause-given g c =
+set_plan-requires-clause-given g c κs within =
     given_set c.args.inputs c.in_ok-set.set c.requires.files c.in_ok-set.ensures.made c.in_ok-set.ensures.writable
 
 pub returns-in_err-set : goal.returns-in_err-set

@@ -8,7 +8,7 @@ use Rattle.shrink_command.proofs.Planned.{kept_by}
 use Rattle.shrink_command.proofs.planning.set_plan.Goals as goal
 
 pub kept_plan-requires-clause-kept : goal.kept_plan-requires-clause-kept
-kept_plan-requires-clause-kept g c =
+kept_plan-requires-clause-kept g c κs within =
     let marks : Marks c.in_ok-sys.sys c.in_ok-marked.marked = search rules in
     kept_by c.args.rules.now c.args.set c.in_ok-sys.sys c.in_ok-marked.marked c.in_ok-sys.ensures.made marks
 

@@ -1,3 +1,5 @@
+use Rattle.batch_command.specs.Batch as batch
+use Rattle.batch_command.proofs.OfJobs as batches
 use Rattle.check_command.specs.Due as check
 use Rattle.command_frame.proofs.LeftFiles.{leaves_told}
 use Rattle.compare_command.specs.Due as comparing
@@ -5,6 +7,7 @@ use Rattle.gen_command.specs.Due as generation
 use Rattle.retrace_command.specs.Due as retrace
 use Rattle.run_command.specs.Due as running
 use Rattle.why_command.specs.Due as why
+use Rattle.shrink_core.specs.Batches.{shrink_parts}
 use Rattle.shrink_core.specs.Checked.{IsOk}
 use Rattle.shrink_core.specs.Commands.{IsAny, IsGenerated, IsSame, IsText, PairIsDue}
 use Rattle.shrink_core.proofs.laws.told_files_are_left_as_due.Goals as goal
@@ -29,3 +32,6 @@ returns-clause-running c = λ named. leaves_told IsText (running.IsDue named)
 
 pub returns-clause-comparing : goal.returns-clause-comparing
 returns-clause-comparing c = λ named. leaves_told IsSame (comparing.IsDue named)
+
+pub returns-clause-batch : goal.returns-clause-batch
+returns-clause-batch c = λ list. batches.leaves_told (batch.IsDue shrink_parts list)

@@ -1,0 +1,5 @@
+pub mod Finding
+pub mod Each
+pub mod Endings
+pub mod OfJobs
+pub mod Joins

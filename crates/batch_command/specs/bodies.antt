@@ -1,0 +1,2 @@
+-- Definitions that the proofs of bodies alone need.
+pub mod Steps

@@ -1,0 +1,6 @@
+mod SharedFrames
+mod CountedLists
+mod Remembering
+mod Stamping
+mod Referring
+mod CalledMethods

@@ -1,0 +1,4 @@
+mod Alike
+mod Shaped
+mod AllMarked
+pub mod Whole

@@ -1,0 +1,5 @@
+use Rattle.mapping_laws.proofs.Whole.{mapped_same}
+use Rattle.mapping_laws.proofs.laws.mapped_classes_keep_same.Goals as goal
+
+pub returns : goal.returns
+returns c = mapped_same

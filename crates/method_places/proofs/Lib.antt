@@ -1,0 +1,4 @@
+mod Grouping
+mod Having
+pub mod InstanceRows
+pub mod Noting

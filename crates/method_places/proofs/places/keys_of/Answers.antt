@@ -1,0 +1,7 @@
+use Rattle.item_numbers.proofs.SortedNeeds.{once_sorted}
+use Rattle.method_places.proofs.places.keys_of.Goals as goal
+
+pub returns : goal.returns
+returns c =
+    once_sorted c.sort_unstable.new.self.items c.dedup.new.self.items c.sort_unstable.ensures.sorted
+    c.dedup.ensures.filtered

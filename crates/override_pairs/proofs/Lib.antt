@@ -1,0 +1,4 @@
+mod OpenAbove
+mod CountedPairs
+mod PackageRows
+mod PackageRuns

@@ -1,0 +1,4 @@
+-- Definitions that the proofs of bodies alone need.
+pub mod Counting
+pub mod Overriding
+pub mod Above

@@ -1,0 +1,7 @@
+//! What a class and a method above it need together: the method that runs.
+#![tactic(auto)]
+
+mod pairs;
+mod receiver;
+
+pub use pairs::{Pairs, pairs_of};

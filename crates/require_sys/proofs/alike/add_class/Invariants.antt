@@ -1,9 +1,0 @@
-use Rattle.std.proofs.Common.{length}
-use Rattle.require_sys.specs.bodies.Alike.{AreClassGrouped, StillKnow}
-use Rattle.require_sys.proofs.alike.add_class.Given as goal
-
-abbrev pub invariant-loop-at : goal.invariant-loop-at
-invariant-loop-at l = record {
-  before : StillKnow l.set l.fn.groups.items l.groups.items;
-  added : AreClassGrouped l.set l.keys l.groups.items l.number (length l.class.fields) l.at;
-}

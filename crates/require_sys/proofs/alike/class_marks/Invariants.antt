@@ -1,6 +1,0 @@
-use Rattle.std.proofs.Common.{◌≡◌, map, take}
-use Rattle.require_sys.specs.bodies.Alike.{mark_in}
-use Rattle.require_sys.proofs.alike.class_marks.Given as goal
-
-abbrev pub invariant-loop-method : goal.invariant-loop-method
-invariant-loop-method l = l.marks ≡ map mark_in (take l.method-index l.class.methods)

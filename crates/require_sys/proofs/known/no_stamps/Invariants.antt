@@ -1,5 +1,0 @@
-use Rattle.std.proofs.Common.{All, ◌≤◌}
-use Rattle.require_sys.proofs.known.no_stamps.Given as goal
-
-abbrev pub invariant-loop : goal.invariant-loop
-invariant-loop l = All (λ stamp. stamp ≤ 0) l.stamps.items

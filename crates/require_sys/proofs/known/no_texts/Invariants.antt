@@ -1,5 +1,0 @@
-use Rattle.std.proofs.Common.{◌≡◌, All, None}
-use Rattle.require_sys.proofs.known.no_texts.Given as goal
-
-abbrev pub invariant-loop : goal.invariant-loop
-invariant-loop l = All (λ row. row ≡ None) l.rows.items

@@ -1,6 +1,0 @@
-use Rattle.std.proofs.Common.{◌≡◌, drop}
-use Rattle.require_sys.specs.bodies.Marks.{with_text}
-use Rattle.require_sys.proofs.marks.with_text.Given as goal
-
-abbrev pub invariant-loop-byte : goal.invariant-loop-byte
-invariant-loop-byte l = with_text l.longer (drop l.byte-index l.text) ≡ with_text l.mark l.text

@@ -1,9 +1,0 @@
-use Rattle.std.proofs.Common.{◌≡◌, take}
-use Rattle.std.specs.List.{flat_map}
-use Rattle.require_sys.specs.Requires.{name_wants}
-use Rattle.require_sys.specs.bodies.Wanting.{wanting}
-use Rattle.require_sys.proofs.named.want_names.Given as goal
-
-abbrev pub invariant-loop-name : goal.invariant-loop-name
-invariant-loop-name l = l.wants ≡ wanting l.fn.wants (flat_map (name_wants l.fn.wants.classes)
-    (take l.name-index l.names))

@@ -1,7 +1,0 @@
-use Rattle.require_sys.proofs.SortedNeeds.{once_sorted}
-use Rattle.require_sys.proofs.places.keys_of.Goals as goal
-
-pub returns : goal.returns
-returns c =
-    once_sorted c.sort_unstable.new.self.items c.dedup.new.self.items c.sort_unstable.ensures.sorted
-    c.dedup.ensures.filtered

@@ -1,8 +1,0 @@
-use Rattle.class_pool.proofs.Packages.{IsLastPart}
-use Rattle.require_sys.proofs.places.package_of.Given as goal
-
-abbrev pub invariant-loop-end : goal.invariant-loop-end
-invariant-loop-end l = IsLastPart l.name l.end
-
-abbrev pub decreases-loop-end : goal.decreases-loop-end
-decreases-loop-end l = l.end

@@ -1,7 +1,0 @@
-use Rattle.std.proofs.Common.{◌≡◌, take}
-use Rattle.std.specs.List.{filter_map}
-use Rattle.require_sys.specs.bodies.Places.{part_row}
-use Rattle.require_sys.proofs.places.part_rows.Given as goal
-
-abbrev pub invariant-loop-row : goal.invariant-loop-row
-invariant-loop-row l = l.placed ≡ filter_map (part_row l.packages l.keys l.part) (take l.row-index l.rows)

@@ -1,8 +1,0 @@
-use Rattle.std.proofs.Common.{◌≡◌, ◌++◌, take}
-use Rattle.std.specs.List.{filter_map}
-use Rattle.require_sys.specs.bodies.Supers.{other_number}
-use Rattle.require_sys.proofs.supers.push_others.Given as goal
-
-abbrev pub invariant-loop-id : goal.invariant-loop-id
-invariant-loop-id l =
-    l.numbers.items ≡ l.fn.numbers.items ++ filter_map (other_number l.own) (take l.id-index l.ids)

@@ -1,9 +1,0 @@
-use Rattle.require_sys.specs.Requires.{requires}
-use Rattle.require_sys.proofs.Limiting.{system_is}
-use Rattle.require_sys.proofs.system.limited_system.Goals as goal
-
-pub returns : goal.returns
-returns c =
-    system_is (requires c.args.numbered.now.set.now c.args.kept.now) c.in_ok-needs.needs c.count.result
-    c.in_ok-seeds.seeds c.in_ok-pairs.pairs c.count.ensures c.in_ok-seeds.ensures c.in_ok-needs.ensures
-    c.in_ok-pairs.ensures
